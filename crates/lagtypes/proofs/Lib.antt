@@ -1,0 +1,3 @@
+pub mod WordLemmas
+pub mod StateLemmas
+pub mod GroupLemmas

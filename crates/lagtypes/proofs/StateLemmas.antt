@@ -1,0 +1,124 @@
+-- A state octet is its eight bits: each case is computed.
+use Rattle.std.proofs.Common.{◌≡◌, ◌<◌, ℕ, zero, suc, Bool, true, false, ◌&&◌, refl, ap, sym, ◌∙◌, arith, nat_eq}
+use Rattle.std.specs.Prelude.{◌==◌, if◌then◌else◌}
+use Rattle.std.specs.Int.RustNames.{bit_or}
+use Rattle.lagtypes.specs.declared.state.State.{State}
+use Rattle.lagtypes.specs.declared.state.StateBits.{StateBits}
+use Rattle.lagtypes.specs.States.{bits_of, state_of}
+
+left : (a b : Bool) → (a && b) ≡ true → a ≡ true
+left true b e = refl
+left false b e = e
+
+right : (a b : Bool) → (a && b) ≡ true → b ≡ true
+right true b e = e
+right false true e = refl
+right false false e = e
+
+-- a test that both values pass
+abbrev both : (Bool → Bool) → Bool
+both p = p true && p false
+
+one_of : (p : Bool → Bool) (b : Bool) → both p ≡ true → p b ≡ true
+one_of p true e = left (p true) (p false) e
+one_of p false e = right (p true) (p false) e
+
+-- a test that all states pass
+abbrev all_states : (StateBits → Bool) → Bool
+all_states p =
+    both (λ a. both (λ t. both (λ g. both (λ s. both (λ c. both (λ d. both (λ f. both (λ e.
+    p (record { activity = a; timeout = t; aggregation = g; synchronization = s; collecting = c; distributing = d; defaulted = f; expired = e })))))))))
+
+one_state : (p : StateBits → Bool) (b : StateBits) → all_states p ≡ true → p b ≡ true
+one_state p b h =
+    let p1 : Bool → Bool = λ a. both (λ t. both (λ g. both (λ s. both (λ c. both (λ d. both (λ f. both (λ e.
+    p (record { activity = a; timeout = t; aggregation = g; synchronization = s; collecting = c; distributing = d; defaulted = f; expired = e })))))))) in
+    let p2 : Bool → Bool = λ t. both (λ g. both (λ s. both (λ c. both (λ d. both (λ f. both (λ e.
+    p (record { activity = b.activity; timeout = t; aggregation = g; synchronization = s; collecting = c; distributing = d; defaulted = f; expired = e }))))))) in
+    let p3 : Bool → Bool = λ g. both (λ s. both (λ c. both (λ d. both (λ f. both (λ e.
+    p (record { activity = b.activity; timeout = b.timeout; aggregation = g; synchronization = s; collecting = c; distributing = d; defaulted = f; expired = e })))))) in
+    let p4 : Bool → Bool = λ s. both (λ c. both (λ d. both (λ f. both (λ e.
+    p (record { activity = b.activity; timeout = b.timeout; aggregation = b.aggregation; synchronization = s; collecting = c; distributing = d; defaulted = f; expired = e }))))) in
+    let p5 : Bool → Bool = λ c. both (λ d. both (λ f. both (λ e.
+    p (record { activity = b.activity; timeout = b.timeout; aggregation = b.aggregation; synchronization = b.synchronization; collecting = c; distributing = d; defaulted = f; expired = e })))) in
+    let p6 : Bool → Bool = λ d. both (λ f. both (λ e.
+    p (record { activity = b.activity; timeout = b.timeout; aggregation = b.aggregation; synchronization = b.synchronization; collecting = b.collecting; distributing = d; defaulted = f; expired = e }))) in
+    let p7 : Bool → Bool = λ f. both (λ e.
+    p (record { activity = b.activity; timeout = b.timeout; aggregation = b.aggregation; synchronization = b.synchronization; collecting = b.collecting; distributing = b.distributing; defaulted = f; expired = e })) in
+    let p8 : Bool → Bool = λ e.
+    p (record { activity = b.activity; timeout = b.timeout; aggregation = b.aggregation; synchronization = b.synchronization; collecting = b.collecting; distributing = b.distributing; defaulted = b.defaulted; expired = e }) in
+    one_of p8 b.expired (one_of p7 b.defaulted (one_of p6 b.distributing (one_of p5 b.collecting
+    (one_of p4 b.synchronization (one_of p3 b.aggregation (one_of p2 b.timeout (one_of p1 b.activity h)))))))
+
+-- what the bits add up to, one by one
+abbrev pub put : Bool → ℕ → ℕ → ℕ
+put on bit n = if on then bit_or n bit else n
+
+abbrev pub added : StateBits → ℕ
+added b =
+    put b.expired 128 (put b.defaulted 64 (put b.distributing 32 (put b.collecting 16
+    (put b.synchronization 8 (put b.aggregation 4 (put b.timeout 2 (put b.activity 1 0)))))))
+
+same : (m n : ℕ) → (m == n) ≡ true → m ≡ n
+same m n e = grind arith
+
+pub added_state : (b : StateBits) → added b ≡ (state_of b).0
+added_state b = same (added b) (state_of b).0 (one_state (λ b. added b == (state_of b).0) b refl)
+
+abbrev alike : Bool → Bool → Bool
+alike true true = true
+alike true false = false
+alike false true = false
+alike false false = true
+
+alike_same : (a b : Bool) → alike a b ≡ true → a ≡ b
+alike_same true true e = refl
+alike_same true false e = sym e
+alike_same false true e = e
+alike_same false false e = refl
+
+abbrev all_alike : StateBits → StateBits → Bool
+all_alike a b =
+    alike a.activity b.activity && (alike a.timeout b.timeout && (alike a.aggregation b.aggregation && (alike a.synchronization b.synchronization
+    && (alike a.collecting b.collecting && (alike a.distributing b.distributing && (alike a.defaulted b.defaulted && alike a.expired b.expired))))))
+
+all_alike_same : (a b : StateBits) → all_alike a b ≡ true → a ≡ b
+all_alike_same a b e =
+    let e2 = right (alike a.activity b.activity) _ e in
+    let e3 = right (alike a.timeout b.timeout) _ e2 in
+    let e4 = right (alike a.aggregation b.aggregation) _ e3 in
+    let e5 = right (alike a.synchronization b.synchronization) _ e4 in
+    let e6 = right (alike a.collecting b.collecting) _ e5 in
+    let e7 = right (alike a.distributing b.distributing) _ e6 in
+    λ i. record {
+      activity = alike_same a.activity b.activity (left (alike a.activity b.activity) _ e) i;
+      timeout = alike_same a.timeout b.timeout (left (alike a.timeout b.timeout) _ e2) i;
+      aggregation = alike_same a.aggregation b.aggregation (left (alike a.aggregation b.aggregation) _ e3) i;
+      synchronization = alike_same a.synchronization b.synchronization (left (alike a.synchronization b.synchronization) _ e4) i;
+      collecting = alike_same a.collecting b.collecting (left (alike a.collecting b.collecting) _ e5) i;
+      distributing = alike_same a.distributing b.distributing (left (alike a.distributing b.distributing) _ e6) i;
+      defaulted = alike_same a.defaulted b.defaulted (left (alike a.defaulted b.defaulted) _ e7) i;
+      expired = alike_same a.expired b.expired (right (alike a.defaulted b.defaulted) _ e7) i;
+    }
+
+-- the bits of a state that is made of bits are these
+pub read_back : (b : StateBits) → bits_of (state_of b) ≡ b
+read_back b = all_alike_same (bits_of (state_of b)) b (one_state (λ b. all_alike (bits_of (state_of b)) b) b refl)
+
+-- a test that all numbers below this one pass
+abbrev below : ℕ → (ℕ → Bool) → Bool
+below zero p = true
+below (suc n) p = p n && below n p
+
+below_is : (k : ℕ) (p : ℕ → Bool) (n : ℕ) → below k p ≡ true → n < k → p n ≡ true
+below_is zero p n e h = absurd (omega (arith, h))
+below_is (suc k) p n e h =
+    elim (nat_eq n k) as (λ b. nat_eq n k ≡ b → p n ≡ true) [
+      | true ↦ λ t. ap p (same n k t) ∙ left (p k) (below k p) e
+      | false ↦ λ f. below_is k p n (right (p k) (below k p) e) (grind (arith, h, f))
+    ] refl
+
+-- the state that is made of the bits of a state octet is that octet
+pub write_back : (s : State) → s.0 < 256 → state_of (bits_of s) ≡ s
+write_back s h =
+    λ i. record { 0 = same (state_of (bits_of s)).0 s.0 (below_is 256 (λ n. (state_of (bits_of (record { 0 = n }))).0 == n) s.0 refl h) i }

@@ -1,0 +1,5 @@
+pub mod Octet
+pub mod States
+pub mod Order
+pub mod Group
+pub mod Texts

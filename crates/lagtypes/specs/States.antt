@@ -1,0 +1,40 @@
+-- The state octet by the names of its bits (6.4.2.3, Actor_State).
+use Rattle.std.specs.Prelude.{ℕ, ◌+◌, ◌==◌, Bool, if◌then◌else◌}
+use Rattle.std.specs.Int.RustNames.{bit_and}
+use Rattle.lagtypes.specs.declared.state.State.{State}
+use Rattle.lagtypes.specs.declared.state.StateBits.{StateBits}
+
+-- whether the state has the bit with this value
+abbrev pub has : State → ℕ → Bool
+has s bit = bit_and s.0 bit == bit
+
+-- bits 0 to 7, the least significant first
+abbrev pub bits_of : State → StateBits
+bits_of s = record {
+  activity = has s 1;
+  timeout = has s 2;
+  aggregation = has s 4;
+  synchronization = has s 8;
+  collecting = has s 16;
+  distributing = has s 32;
+  defaulted = has s 64;
+  expired = has s 128;
+}
+
+abbrev weight : Bool → ℕ → ℕ
+weight set bit = if set then bit else 0
+
+-- the state octet with just these bits
+abbrev pub state_of : StateBits → State
+state_of b = record {
+  0 = weight b.activity 1 + weight b.timeout 2 + weight b.aggregation 4 + weight b.synchronization 8
+      + weight b.collecting 16 + weight b.distributing 32 + weight b.defaulted 64 + weight b.expired 128;
+}
+
+-- the same state but for the bit Synchronization
+abbrev pub with_synchronization : Bool → State → State
+with_synchronization on s = state_of (record (bits_of s) { synchronization = on })
+
+-- the same state but for the bit LACP_Timeout
+abbrev pub with_timeout : Bool → State → State
+with_timeout on s = state_of (record (bits_of s) { timeout = on })

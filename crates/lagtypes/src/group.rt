@@ -1,0 +1,101 @@
+ghost use Rattle.std.specs.Prelude.{◌≡◌, Some};
+ghost use Rattle.std.specs.Ordering.{is_lt};
+ghost use Rattle.lagtypes.specs.Group.{end_of, group_of, individual, lower, upper};
+ghost use Rattle.lagtypes.specs.Order.{end_cmp};
+ghost use Rattle.lagtypes.specs.Texts.{end_text, group_text};
+
+use crate::identifiers::{Key, PortId, SystemId};
+use crate::party::Party;
+use std::fmt;
+
+/// One end of a Link Aggregation Group: system and key, and in an individual link the port too (6.3.6).
+/// Ends compare by system priority, MAC address, key, port priority and port number (profile).
+#[derive(Clone, Copy, Debug, PartialEq, Eq, PartialOrd, Ord, Hash)]
+pub struct End {
+    pub system: SystemId,
+    pub key: Key,
+    pub port: Option<PortId>,
+}
+
+impl End {
+    /// The end that this party is in an individual link, or in another.
+    fn of(party: &Party, individual: bool) -> End
+        ensures { result ≡ end_of individual party.now }
+    {
+        End {
+            system: party.system,
+            key: party.key,
+            port: if individual { Some(party.port) } else { None },
+        }
+    }
+
+    /// Whether this end is the lower one.
+    pub fn is_below(&self, other: &End) -> bool
+        ensures { result ≡ is_lt (end_cmp self.now other.now) }
+    {
+        self.cmp(other).is_lt()
+    }
+}
+
+/// A Link Aggregation Group: the unordered pair of its ends, of which the lower is kept first (6.3.6).
+#[derive(Clone, Copy, Debug, PartialEq, Eq, PartialOrd, Ord, Hash)]
+pub struct Group {
+    lower: End,
+    upper: End,
+}
+
+impl Group {
+    /// The group of the link between two parties, the same whichever is named first. The link is
+    /// individual where either party's Aggregation bit is 0.
+    pub fn of(one: &Party, other: &Party) -> Group
+        ensures { result ≡ group_of one.now other.now }
+    {
+        let individual = !(one.aggregatable && other.aggregatable);
+        let one = End::of(one, individual);
+        let other = End::of(other, individual);
+        if other.is_below(&one) {
+            Group {
+                lower: other,
+                upper: one,
+            }
+        } else {
+            Group {
+                lower: one,
+                upper: other,
+            }
+        }
+    }
+
+    /// The lower end.
+    pub fn lower(&self) -> End
+        ensures { result ≡ lower self.now }
+    {
+        self.lower
+    }
+
+    /// The other end.
+    pub fn upper(&self) -> End
+        ensures { result ≡ upper self.now }
+    {
+        self.upper
+    }
+}
+
+impl fmt::Display for End {
+    ghost output = { λ e. Some (end_text e) };
+
+    fn fmt<W: fmt::Write>(&self, f: &mut fmt::Formatter<W>) -> fmt::Result {
+        match self.port {
+            None => write!(f, "{} key {}", self.system, self.key),
+            Some(port) => write!(f, "{} key {} port {}", self.system, self.key, port),
+        }
+    }
+}
+
+impl fmt::Display for Group {
+    ghost output = { λ g. Some (group_text g) };
+
+    fn fmt<W: fmt::Write>(&self, f: &mut fmt::Formatter<W>) -> fmt::Result {
+        write!(f, "{} <> {}", self.lower, self.upper)
+    }
+}

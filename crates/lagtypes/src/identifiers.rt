@@ -1,0 +1,122 @@
+ghost use Rattle.std.specs.Prelude.{◌≡◌, ◌↔◌, IsTrue, Some, decimal};
+ghost use Rattle.std.specs.Ordering.{is_lt};
+ghost use Rattle.lagtypes.specs.Order.{port_cmp, system_cmp};
+ghost use Rattle.lagtypes.specs.Texts.{hex_text, mac_text, system_text, port_text};
+
+use std::cmp::Ordering;
+use std::fmt;
+
+/// A system: a priority and a MAC address, compared as one unsigned number with the priority the
+/// more significant part. The lower number has the higher priority (6.3.2).
+#[derive(Clone, Copy, Debug, Default, PartialEq, Eq, PartialOrd, Ord, Hash)]
+pub struct SystemId {
+    pub priority: u16,
+    pub mac: [u8; 6],
+}
+
+/// A port of a system, compared as a system is (6.3.4).
+#[derive(Clone, Copy, Debug, Default, PartialEq, Eq, PartialOrd, Ord, Hash)]
+pub struct PortId {
+    pub priority: u16,
+    pub number: u16,
+}
+
+/// Ports of one system with equal keys may be aggregated (6.3.5).
+#[derive(Clone, Copy, Debug, Default, PartialEq, Eq, PartialOrd, Ord, Hash)]
+pub struct Key(pub u16);
+
+/// An aggregator of a system, by its place in the configuration, from 1 (6.3.3).
+#[derive(Clone, Copy, Debug, Default, PartialEq, Eq, PartialOrd, Ord, Hash)]
+pub struct AggId(pub u16);
+
+impl SystemId {
+    /// Whether this is the other system: equal priority and equal MAC address.
+    pub fn is(&self, other: &SystemId) -> bool
+        ensures { IsTrue result ↔ (self.now ≡ other.now) }
+    {
+        *self == *other
+    }
+
+    /// Whether this identifier is the lower number, and so has the higher priority (6.3.2).
+    pub fn is_below(&self, other: &SystemId) -> bool
+        ensures { result ≡ is_lt (system_cmp self.now other.now) }
+    {
+        self.cmp(other) == Ordering::Less
+    }
+}
+
+impl PortId {
+    /// Whether this identifier is the lower number, and so has the higher priority (6.3.4).
+    pub fn is_below(&self, other: &PortId) -> bool
+        ensures { result ≡ is_lt (port_cmp self.now other.now) }
+    {
+        self.cmp(other).is_lt()
+    }
+}
+
+/// An octet as two lower-case hexadecimal digits.
+#[derive(Clone, Copy)]
+pub(crate) struct HexOctet(pub u8);
+
+impl fmt::Display for HexOctet {
+    ghost output = { λ o. Some (hex_text o.0) };
+
+    fn fmt<W: fmt::Write>(&self, f: &mut fmt::Formatter<W>) -> fmt::Result {
+        let octet = self.0;
+        write!(f, "{octet:02x}")
+    }
+}
+
+/// A MAC address as six two-digit lower-case hexadecimal numbers joined by dashes (profile).
+#[derive(Clone, Copy)]
+pub struct MacText<'a>(pub &'a [u8; 6]);
+
+impl fmt::Display for MacText<'_> {
+    ghost output = { λ m. Some (mac_text m.0.now) };
+
+    fn fmt<W: fmt::Write>(&self, f: &mut fmt::Formatter<W>) -> fmt::Result {
+        let [a, b, c, d, e, last] = *self.0;
+        write!(
+            f,
+            "{}-{}-{}-{}-{}-{}",
+            HexOctet(a),
+            HexOctet(b),
+            HexOctet(c),
+            HexOctet(d),
+            HexOctet(e),
+            HexOctet(last)
+        )
+    }
+}
+
+impl fmt::Display for SystemId {
+    ghost output = { λ s. Some (system_text s) };
+
+    fn fmt<W: fmt::Write>(&self, f: &mut fmt::Formatter<W>) -> fmt::Result {
+        write!(f, "{}/{}", self.priority, MacText(&self.mac))
+    }
+}
+
+impl fmt::Display for PortId {
+    ghost output = { λ p. Some (port_text p) };
+
+    fn fmt<W: fmt::Write>(&self, f: &mut fmt::Formatter<W>) -> fmt::Result {
+        write!(f, "{}/{}", self.priority, self.number)
+    }
+}
+
+impl fmt::Display for Key {
+    ghost output = { λ k. Some (decimal k.0) };
+
+    fn fmt<W: fmt::Write>(&self, f: &mut fmt::Formatter<W>) -> fmt::Result {
+        write!(f, "{}", self.0)
+    }
+}
+
+impl fmt::Display for AggId {
+    ghost output = { λ g. Some (decimal g.0) };
+
+    fn fmt<W: fmt::Write>(&self, f: &mut fmt::Formatter<W>) -> fmt::Result {
+        write!(f, "{}", self.0)
+    }
+}

@@ -1,0 +1,4 @@
+use std::alloc::AllocError;
+
+/// Memory was refused: what a call answers where a growth that it needed was not granted.
+pub type NoMemory = AllocError;

@@ -1,0 +1,241 @@
+ghost use Rattle.std.specs.Prelude.{⊤, ◌≡◌, [], ◌∷◌, Some, codes, map, if◌then◌else◌};
+ghost use Rattle.std.specs.Fmt.{DisplaysOnOk};
+ghost use Rattle.std.specs.Int.RustNames.{bit_or};
+ghost use Rattle.lagtypes.specs.States.{bits_of, state_of, with_synchronization, with_timeout};
+ghost use Rattle.lagtypes.specs.Texts.{joined_words, set_words, state_text};
+
+use crate::identifiers::HexOctet;
+use bitflags::{Flag, Flags, bitflag_items};
+use std::fmt;
+
+/// The state octet of one end of a link (6.4.2.3, Actor_State).
+#[derive(Clone, Copy, Debug, Default, PartialEq, Eq, PartialOrd, Ord, Hash)]
+pub struct State(u8);
+
+/// The eight bits of a state octet, from the least significant on.
+#[derive(Clone, Copy, Debug, Default, PartialEq, Eq, Hash)]
+pub struct StateBits {
+    /// LACP_Activity: 1 active, 0 passive.
+    pub activity: bool,
+    /// LACP_Timeout: 1 short, 0 long.
+    pub timeout: bool,
+    /// Aggregation: 1 aggregatable, 0 individual.
+    pub aggregation: bool,
+    /// Synchronization: 1 in the right aggregator.
+    pub synchronization: bool,
+    /// Collecting: 1 frames are taken from the link.
+    pub collecting: bool,
+    /// Distributing: 1 frames are put on the link.
+    pub distributing: bool,
+    /// Defaulted: 1 the partner is the administrative default.
+    pub defaulted: bool,
+    /// Expired: 1 the receive machine is in EXPIRED.
+    pub expired: bool,
+}
+
+bitflag_items! {
+    impl State: u8 {
+        const ACTIVITY = 1;
+        const TIMEOUT = 2;
+        const AGGREGATION = 4;
+        const SYNCHRONIZATION = 8;
+        const COLLECTING = 16;
+        const DISTRIBUTING = 32;
+        const DEFAULTED = 64;
+        const EXPIRED = 128;
+    }
+}
+
+impl Flags for State {
+    type Bits = u8;
+
+    ghost exact = { ⊤ };
+
+    ghost table = { (codes "ACTIVITY", 1) ∷ (codes "TIMEOUT", 2) ∷ (codes "AGGREGATION", 4) ∷ (codes "SYNCHRONIZATION", 8)
+        ∷ (codes "COLLECTING", 16) ∷ (codes "DISTRIBUTING", 32) ∷ (codes "DEFAULTED", 64) ∷ (codes "EXPIRED", 128) ∷ [] };
+
+    ghost set_of = { λ s. s.0 };
+
+    fn flags<'a>() -> &'a [Flag<State>] {
+        State::FLAGS
+    }
+
+    fn bits(&self) -> u8 {
+        self.0
+    }
+
+    fn from_bits_retain(bits: u8) -> State {
+        State(bits)
+    }
+}
+
+impl From<StateBits> for State {
+    ghost from_gives = { λ bits state. state ≡ state_of bits };
+
+    fn from(bits: StateBits) -> State {
+        let mut state = State(0);
+        state.put(State::ACTIVITY, bits.activity);
+        state.put(State::TIMEOUT, bits.timeout);
+        state.put(State::AGGREGATION, bits.aggregation);
+        state.put(State::SYNCHRONIZATION, bits.synchronization);
+        state.put(State::COLLECTING, bits.collecting);
+        state.put(State::DISTRIBUTING, bits.distributing);
+        state.put(State::DEFAULTED, bits.defaulted);
+        state.put(State::EXPIRED, bits.expired);
+        state
+    }
+}
+
+impl State {
+    /// Adds a bit where it is on.
+    fn put(&mut self, flag: State, on: bool)
+        ensures { self.new.0 ≡ (if on then bit_or self.old.0 flag.0 else self.old.0) }
+    {
+        if on {
+            self.insert(flag);
+        }
+    }
+
+    /// The bits by name.
+    pub fn named(self) -> StateBits
+        ensures { result ≡ bits_of self }
+    {
+        StateBits {
+            activity: self.is_active(),
+            timeout: self.is_short(),
+            aggregation: self.is_aggregatable(),
+            synchronization: self.is_synchronized(),
+            collecting: self.is_collecting(),
+            distributing: self.is_distributing(),
+            defaulted: self.is_defaulted(),
+            expired: self.is_expired(),
+        }
+    }
+
+    /// Whether LACP_Activity is 1: the end is active.
+    pub fn is_active(self) -> bool
+        ensures { result ≡ (bits_of self).activity }
+    {
+        self.contains(State::ACTIVITY)
+    }
+
+    /// Whether LACP_Timeout is 1: the end asks for short timeouts.
+    pub fn is_short(self) -> bool
+        ensures { result ≡ (bits_of self).timeout }
+    {
+        self.contains(State::TIMEOUT)
+    }
+
+    /// Whether Aggregation is 1: the end may share an aggregator.
+    pub fn is_aggregatable(self) -> bool
+        ensures { result ≡ (bits_of self).aggregation }
+    {
+        self.contains(State::AGGREGATION)
+    }
+
+    /// Whether Synchronization is 1: the end is in the right aggregator.
+    pub fn is_synchronized(self) -> bool
+        ensures { result ≡ (bits_of self).synchronization }
+    {
+        self.contains(State::SYNCHRONIZATION)
+    }
+
+    /// Whether Collecting is 1: frames are taken from the link.
+    pub fn is_collecting(self) -> bool
+        ensures { result ≡ (bits_of self).collecting }
+    {
+        self.contains(State::COLLECTING)
+    }
+
+    /// Whether Distributing is 1: frames are put on the link.
+    pub fn is_distributing(self) -> bool
+        ensures { result ≡ (bits_of self).distributing }
+    {
+        self.contains(State::DISTRIBUTING)
+    }
+
+    /// Whether Defaulted is 1: the partner is the administrative default.
+    pub fn is_defaulted(self) -> bool
+        ensures { result ≡ (bits_of self).defaulted }
+    {
+        self.contains(State::DEFAULTED)
+    }
+
+    /// Whether Expired is 1: the receive machine is in EXPIRED.
+    pub fn is_expired(self) -> bool
+        ensures { result ≡ (bits_of self).expired }
+    {
+        self.contains(State::EXPIRED)
+    }
+
+    /// The state with this Synchronization and its other bits.
+    pub fn with_synchronization(self, on: bool) -> State
+        ensures { result ≡ with_synchronization on self }
+    {
+        let mut bits = self.named();
+        bits.synchronization = on;
+        State::from(bits)
+    }
+
+    /// The state with this LACP_Timeout and its other bits.
+    pub fn with_timeout(self, on: bool) -> State
+        ensures { result ≡ with_timeout on self }
+    {
+        let mut bits = self.named();
+        bits.timeout = on;
+        State::from(bits)
+    }
+}
+
+/// The name of each bit.
+const WORDS: [(State, &str); 8] = [
+    (State::ACTIVITY, "active"),
+    (State::TIMEOUT, "short"),
+    (State::AGGREGATION, "aggregatable"),
+    (State::SYNCHRONIZATION, "synchronized"),
+    (State::COLLECTING, "collecting"),
+    (State::DISTRIBUTING, "distributing"),
+    (State::DEFAULTED, "defaulted"),
+    (State::EXPIRED, "expired"),
+];
+
+/// Writes a word, and a comma before it where it is not the first.
+fn write_word<W: fmt::Write>(f: &mut fmt::Formatter<W>, is_first: bool, word: &str) -> fmt::Result
+    ensures { DisplaysOnOk W.write_str_gives f.old result (Some (if is_first then word.now else (44 ∷ word.now))) f.new }
+{
+    if !is_first {
+        f.write_str(",")?;
+    }
+    f.write_str(word)
+}
+
+/// Writes the names of the bits that are 1, with commas between, or `none`.
+fn write_words<W: fmt::Write>(
+    f: &mut fmt::Formatter<W>,
+    state: State,
+    words: &[(State, &str)],
+) -> fmt::Result
+    ensures { DisplaysOnOk W.write_str_gives f.old result
+        (Some (joined_words (set_words state.0 (map (λ w. (w.0.0, w.1.now)) words.now)))) f.new }
+{
+    let mut is_first = true;
+    for (flag, word) in words {
+        if state.contains(*flag) {
+            write_word(f, is_first, word)?;
+            is_first = false;
+        }
+    }
+    if is_first {
+        f.write_str("none")?;
+    }
+    Ok(())
+}
+
+impl fmt::Display for State {
+    ghost output = { λ s. Some (state_text s.0) };
+
+    fn fmt<W: fmt::Write>(&self, f: &mut fmt::Formatter<W>) -> fmt::Result {
+        write!(f, "{} ", HexOctet(self.0))?;
+        write_words(f, *self, &WORDS)
+    }
+}
