@@ -1,0 +1,204 @@
+-- Laws of tables of places, over any table.
+use Rattle.std.proofs.Common.{◌≡◌, ◌≤◌, ◌<◌, ◌+◌, ◌-◌, ◌*◌, ◌/◌, ◌^◌, ◌++◌, ℕ, zero, suc, Bool, true, false, cond, List, [], ◌∷◌, length, drop, take, map, filter, ◌⊎◌, slice_index, refl, sym, ap, ◌∙◌, add-zero, arith, inl, inr}
+use Rattle.std.specs.Prelude.{◌&&◌, ◌||◌, nat_le, nat_lt}
+use Rattle.std.specs.List.{AllByRecursion, list_all}
+use Rattle.std.proofs.lemmas.List.{drop-append-le, length-append, length-drop, get_or-drop, get_or-take, get_or_past, length-take, ext_get_or}
+use Rattle.std.proofs.lemmas.Bool.{cases_Bool, cases_lt}
+use Rattle.std.proofs.lemmas.Nat.{div-mul-add}
+use Rattle.byteorder.specs.Endian.{big_from, big_number}
+use Rattle.byteorder.specs.Numbers.{big_from-cons, big_from-lt, big_from-append, big_from-take}
+use Rattle.slowpdu.specs.Layout.{Place, StandsIn, is_within, is_covered, AreOctets, ReadsTable, WritesTable, looked_at, payload_len}
+
+-- what stands in a payload stands in it whatever follows
+pub stands-append : (b rest : List ℕ) (p : Place) → p.offset + p.width ≤ length b → big_number p.width (drop p.offset (b ++ rest)) ≡ big_number p.width (drop p.offset b)
+stands-append b rest p h =
+    let inside : p.offset ≤ length b = omega arith in
+    let long : p.width ≤ length (drop p.offset b) = omega (arith, length-drop p.offset b) in
+    ap (big_number p.width) (drop-append-le p.offset b rest inside) ∙ big_from-append p.width (drop p.offset b) rest long
+
+-- the place ends in a payload
+abbrev pub fits : Place → Bool
+fits p = nat_le (p.offset + p.width) 110
+
+le_of_test : (m n : ℕ) → nat_le m n ≡ true → m ≤ n
+le_of_test m n h = grind arith
+
+both : (a b : Bool) → (a && b) ≡ true → (a ≡ true) × (b ≡ true)
+both true b h = (refl, h)
+both false b h = absurd cc
+
+-- what stands in a payload stands in it with what follows, and the other way round
+pub all_stand-append : (b rest : List ℕ) (places : List Place) → payload_len ≤ length b → list_all fits places ≡ true
+    → AllByRecursion (StandsIn b) places → AllByRecursion (StandsIn (b ++ rest)) places
+all_stand-append b rest [] long fit h = tt
+all_stand-append b rest (p ∷ places) long fit h =
+    let parts = both (fits p) (list_all fits places) fit in
+    let within : p.offset + p.width ≤ 110 = le_of_test (p.offset + p.width) 110 parts.0 in
+    (stands-append b rest p (omega arith) ∙ h.0, all_stand-append b rest places long parts.1 h.1)
+
+all_stood : (b rest : List ℕ) (places : List Place) → payload_len ≤ length b → list_all fits places ≡ true
+    → AllByRecursion (StandsIn (b ++ rest)) places → AllByRecursion (StandsIn b) places
+all_stood b rest [] long fit h = tt
+all_stood b rest (p ∷ places) long fit h =
+    let parts = both (fits p) (list_all fits places) fit in
+    let within : p.offset + p.width ≤ 110 = le_of_test (p.offset + p.width) 110 parts.0 in
+    (sym (stands-append b rest p (omega arith)) ∙ h.0, all_stood b rest places long parts.1 h.1)
+
+-- a table is read in a payload exactly where it is read with what follows
+pub table-append : (b rest : List ℕ) (places : List Place) → payload_len ≤ length b → list_all fits (looked_at places) ≡ true
+    → ReadsTable b places → ReadsTable (b ++ rest) places
+table-append b rest places long fit h = record {
+  long_enough = omega (arith, length-append b rest);
+  stands = all_stand-append b rest (looked_at places) long fit h.stands;
+}
+
+pub table_of_append : (b rest : List ℕ) (places : List Place) → payload_len ≤ length b → list_all fits (looked_at places) ≡ true
+    → ReadsTable (b ++ rest) places → ReadsTable b places
+table_of_append b rest places long fit h = record { long_enough = long; stands = all_stood b rest (looked_at places) long fit h.stands }
+
+choose_all : {X : Type 0} (P : X → Type 0) (t : Bool) (x : X) (xs : List X) → P x → AllByRecursion P xs → AllByRecursion P (cond t (x ∷ xs) xs)
+choose_all P true x xs h rest = (h, rest)
+choose_all P false x xs h rest = rest
+
+all-filter : {X : Type 0} (P : X → Type 0) (test : X → Bool) (xs : List X) → AllByRecursion P xs → AllByRecursion P (filter test xs)
+all-filter P test [] h = tt
+all-filter P test (x ∷ xs) h = choose_all P (test x) x (filter test xs) h.0 (all-filter P test xs h.1)
+
+-- a table that is written is read
+pub written_table : (b : List ℕ) (places : List Place) → WritesTable b places → ReadsTable b places
+written_table b places h = record {
+  long_enough = omega (arith, h.whole);
+  stands = all-filter (StandsIn b) (λ p. p.is_looked_at) places h.stands;
+}
+
+-- a quotient and a remainder are those of one number alone
+split_unique : (a b c d w : ℕ) → b < w → d < w → a * w + b ≡ c * w + d → (a ≡ c) × (b ≡ d)
+split_unique a b c d w hb hd e =
+    let quotients : a ≡ c = sym (div-mul-add a w b hb) ∙ ap (λ (n : ℕ). n / w) e ∙ div-mul-add c w d hd in
+    let products : a * w ≡ c * w = ap (λ (n : ℕ). n * w) quotients in
+    (quotients, omega (arith, products, e))
+
+tail_octets : (x : ℕ) (xs : List ℕ) → AreOctets (x ∷ xs) → AreOctets xs
+tail_octets x xs h i = h (suc i)
+
+-- octets with one number are equal
+pub one_number : (n : ℕ) (xs ys : List ℕ) → length xs ≡ n → length ys ≡ n → AreOctets xs → AreOctets ys
+    → big_number n xs ≡ big_number n ys → xs ≡ ys
+one_number zero [] [] lx ly ox oy e = refl
+one_number zero [] (y ∷ ys) lx ly ox oy e = absurd (omega arith)
+one_number zero (x ∷ xs) ys lx ly ox oy e = absurd (omega arith)
+one_number (suc n) [] ys lx ly ox oy e = absurd (omega arith)
+one_number (suc n) (x ∷ xs) [] lx ly ox oy e = absurd (omega arith)
+one_number (suc n) (x ∷ xs) (y ∷ ys) lx ly ox oy e =
+    let ax = big_from-cons 0 n x xs in
+    let ay = big_from-cons 0 n y ys in
+    let numbers : x * 256 ^ n + big_from 0 n xs ≡ y * 256 ^ n + big_from 0 n ys =
+    ap (λ (r : ℕ). x * 256 ^ n + r) (sym ax) ∙ e ∙ ap (λ (r : ℕ). y * 256 ^ n + r) ay in
+    let tx = tail_octets x xs ox in
+    let ty = tail_octets y ys oy in
+    let parts = split_unique x (big_from 0 n xs) y (big_from 0 n ys) (256 ^ n) (big_from-lt 0 n xs tx) (big_from-lt 0 n ys ty) numbers in
+    let rest = one_number n xs ys (omega arith) (omega arith) tx ty parts.1 in
+    cc (parts.0, rest)
+
+-- the offsets and widths of a table
+abbrev pub shapes : List Place → List (ℕ × ℕ)
+shapes places = map (λ p. (p.offset, p.width)) places
+
+abbrev pub numbers : List Place → List ℕ
+numbers places = map (λ p. p.number) places
+
+same_parts : {X : Type 0} (x y : X) (xs ys : List X) → x ∷ xs ≡ y ∷ ys → (x ≡ y) × (xs ≡ ys)
+same_parts x y xs ys e = (cc, cc)
+
+-- two tables of one shape that stand in one payload have the same numbers
+pub one_table : (b : List ℕ) (ps qs : List Place) → shapes ps ≡ shapes qs
+    → AllByRecursion (StandsIn b) ps → AllByRecursion (StandsIn b) qs → numbers ps ≡ numbers qs
+one_table b [] [] e hp hq = refl
+one_table b [] (q ∷ qs) e hp hq = absurd cc
+one_table b (p ∷ ps) [] e hp hq = absurd cc
+one_table b (p ∷ ps) (q ∷ qs) e hp hq =
+    let parts = same_parts (p.offset, p.width) (q.offset, q.width) (shapes ps) (shapes qs) e in
+    let there : big_number p.width (drop p.offset b) ≡ big_number q.width (drop q.offset b) = ap (λ (s : ℕ × ℕ). big_number s.1 (drop s.0 b)) parts.0 in
+    let first : p.number ≡ q.number = sym hp.0 ∙ there ∙ hq.0 in
+    let others = one_table b ps qs parts.1 hp.1 hq.1 in
+    ap (λ (n : ℕ). n ∷ numbers ps) first ∙ ap (λ (ns : List ℕ). q.number ∷ ns) others
+
+-- one octet is a number of its own
+pub octet_stands : (b : List ℕ) (i : ℕ) → big_number 1 (drop i b) ≡ slice_index b i
+octet_stands b i =
+    let here : slice_index (drop i b) 0 ≡ slice_index b (i + 0) = get_or-drop i b 0 0 in
+    let same : slice_index b (i + 0) ≡ slice_index b i = ap (slice_index b) (add-zero i) in
+    omega (arith, here, same)
+
+-- a number does not look past its end
+pub number_of_taken : (n : ℕ) (b : List ℕ) → big_number n (take n b) ≡ big_number n b
+number_of_taken n b = big_from-take 0 n n b (omega arith)
+
+pub all-append : {X : Type 0} (P : X → Type 0) (xs ys : List X) → AllByRecursion P xs → AllByRecursion P ys → AllByRecursion P (xs ++ ys)
+all-append P [] ys hx hy = hy
+all-append P (x ∷ xs) ys hx hy = (hx.0, all-append P xs ys hx.1 hy)
+
+-- the octets of one place
+abbrev pub cut : List ℕ → Place → List ℕ
+cut b p = take p.width (drop p.offset b)
+
+pub octets-cut : (b : List ℕ) (p : Place) → AreOctets b → AreOctets (cut b p)
+octets-cut b p h i = elim (cases_lt i p.width) [
+  | inl low ↦
+      let e : slice_index (cut b p) i ≡ slice_index b (p.offset + i) = get_or-take p.width (drop p.offset b) i 0 low ∙ get_or-drop p.offset b i 0 in
+      let octet = h (p.offset + i) in
+      omega (arith, e, octet)
+  | inr high ↦
+      let e : slice_index (cut b p) i ≡ 0 = get_or_past (cut b p) i 0 (omega (arith, length-take p.width (drop p.offset b))) in
+      omega (arith, e)
+]
+
+-- the same number stands in two payloads, so the same octets do
+same_cut : (b c : List ℕ) (p : Place) → length b ≡ payload_len → length c ≡ payload_len → AreOctets b → AreOctets c → p.offset + p.width ≤ 110
+    → StandsIn b p → StandsIn c p → cut b p ≡ cut c p
+same_cut b c p lb lc ob oc within hb hc =
+    one_number p.width (cut b p) (cut c p)
+    (omega (arith, length-take p.width (drop p.offset b), length-drop p.offset b)) (omega (arith, length-take p.width (drop p.offset c), length-drop p.offset c))
+    (octets-cut b p ob) (octets-cut c p oc)
+    (number_of_taken p.width (drop p.offset b) ∙ hb ∙ sym hc ∙ sym (number_of_taken p.width (drop p.offset c)))
+
+in_cut : (b : List ℕ) (p : Place) (i : ℕ) → p.offset ≤ i → i < p.offset + p.width → slice_index b i ≡ slice_index (cut b p) (i - p.offset)
+in_cut b p i low high =
+    let within : i - p.offset < p.width = omega arith in
+    let back : p.offset + (i - p.offset) ≡ i = omega arith in
+    sym (get_or-take p.width (drop p.offset b) (i - p.offset) 0 within ∙ get_or-drop p.offset b (i - p.offset) 0 ∙ ap (slice_index b) back)
+
+within_of_test : (i : ℕ) (p : Place) → is_within i p ≡ true → (p.offset ≤ i) × (i < p.offset + p.width)
+within_of_test i p h =
+    let parts = both (nat_le p.offset i) (nat_lt i (p.offset + p.width)) h in
+    (le_of_test p.offset i parts.0, grind (arith, parts.1))
+
+either : (a b : Bool) → (a || b) ≡ true → (a ≡ true) ⊎ (b ≡ true)
+either true b h = inl refl
+either false b h = inr h
+
+-- a covered octet is the same in both
+covered_same : (b c : List ℕ) (places : List Place) (i : ℕ) → length b ≡ payload_len → length c ≡ payload_len → AreOctets b → AreOctets c
+    → list_all fits places ≡ true → AllByRecursion (StandsIn b) places → AllByRecursion (StandsIn c) places
+    → is_covered places i ≡ true → slice_index b i ≡ slice_index c i
+covered_same b c [] i lb lc ob oc fit hb hc h = absurd cc
+covered_same b c (p ∷ places) i lb lc ob oc fit hb hc h =
+    let fit_parts = both (fits p) (list_all fits places) fit in
+    elim (either (is_within i p) (is_covered places i) h) [
+      | inl here ↦
+          let bounds = within_of_test i p here in
+          in_cut b p i bounds.0 bounds.1
+          ∙ ap (λ (xs : List ℕ). slice_index xs (i - p.offset)) (same_cut b c p lb lc ob oc (le_of_test (p.offset + p.width) 110 fit_parts.0) hb.0 hc.0)
+          ∙ sym (in_cut c p i bounds.0 bounds.1)
+      | inr later ↦ covered_same b c places i lb lc ob oc fit_parts.1 hb.1 hc.1 later
+    ]
+
+-- one payload is written by a table
+pub one_payload : (b c : List ℕ) (places : List Place) → list_all fits places ≡ true → WritesTable b places → WritesTable c places → b ≡ c
+one_payload b c places fit hb hc =
+    ext_get_or 0 b c (hb.whole ∙ sym hc.whole) (λ i small.
+    let within : i < payload_len = omega (arith, hb.whole) in
+    elim (cases_Bool (is_covered places i)) [
+      | inl covered ↦ covered_same b c places i hb.whole hc.whole hb.octets hc.octets fit hb.stands hc.stands covered
+      | inr uncovered ↦ hb.others i within uncovered ∙ sym (hc.others i within uncovered)
+    ])

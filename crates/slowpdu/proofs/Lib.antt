@@ -1,0 +1,8 @@
+pub mod LayoutLemmas
+pub mod FaultLemmas
+pub mod LacpduLemmas
+pub mod MarkerLemmas
+pub mod PduLemmas
+pub mod ReadingLemmas
+pub mod WritingLemmas
+pub mod EncodeLemmas

@@ -1,0 +1,101 @@
+-- The readings of a PDU of either kind.
+use Rattle.std.proofs.Common.{◌≡◌, ◌≤◌, ◌<◌, ◌++◌, ◌↔◌, ℕ, List, length, take, drop, Result, Ok, Err, None, Some, refl, sym, ap, ◌∙◌, subst, inl, inr, arith}
+use Rattle.std.proofs.lemmas.Bool.{cases_lt}
+use Rattle.std.proofs.lemmas.List.{take-append-drop, take_all, length-take}
+use Rattle.slowpdu.specs.declared.pdu.Lacpdu.{Lacpdu}
+use Rattle.slowpdu.specs.declared.pdu.Marker.{Marker}
+use Rattle.slowpdu.specs.declared.pdu.Pdu.{Pdu}
+use Rattle.slowpdu.specs.declared.pdu.Pdu.TheVariants as pdu
+use Rattle.slowpdu.specs.declared.fault.WireFault.{WireFault}
+use Rattle.slowpdu.specs.Pdus.{ReadsPdu, WritesPdu, IsDecoded}
+use Rattle.slowpdu.specs.Faults.{fault_of}
+use Rattle.slowpdu.specs.Layout.{payload_len}
+use Rattle.slowpdu.specs.Lacpdus.{lacpdu_table}
+use Rattle.slowpdu.specs.Markers.{marker_table}
+use Rattle.slowpdu.proofs.FaultLemmas.{fault-append}
+use Rattle.slowpdu.proofs.LayoutLemmas.{one_payload}
+use Rattle.slowpdu.proofs.LacpduLemmas.{one_reading, written_reads, no_lacpdu_fault, reads-append, reads_of_append}
+use Rattle.slowpdu.proofs.MarkerLemmas.{one_marker, written_marker, no_marker_fault, not_both, marker-append, marker_of_append}
+
+-- a payload has one reading
+pub one_pdu : (b : List ℕ) (v w : Pdu) → ReadsPdu b v → ReadsPdu b w → w ≡ v
+one_pdu b (pdu.Lacpdu v) (pdu.Lacpdu w) hv hw = ap (λ (u : Lacpdu). pdu.Lacpdu u) (one_reading b v w hv hw)
+one_pdu b (pdu.Lacpdu v) (pdu.Marker w) hv hw = absurd (not_both b v w hv hw)
+one_pdu b (pdu.Marker v) (pdu.Lacpdu w) hv hw = absurd (not_both b w v hw hv)
+one_pdu b (pdu.Marker v) (pdu.Marker w) hv hw = ap (λ (u : Marker). pdu.Marker u) (one_marker b v w hv hw)
+
+-- and is then not refused
+pub no_fault : (b : List ℕ) (v : Pdu) → ReadsPdu b v → fault_of b ≡ None
+no_fault b (pdu.Lacpdu v) h = no_lacpdu_fault b v h
+no_fault b (pdu.Marker m) h = no_marker_fault b m h
+
+-- what follows the first 110 octets changes no reading
+pub reads_pdu-append : (b rest : List ℕ) (v : Pdu) → payload_len ≤ length b → ReadsPdu b v → ReadsPdu (b ++ rest) v
+reads_pdu-append b rest (pdu.Lacpdu v) long h = reads-append b rest v long h
+reads_pdu-append b rest (pdu.Marker m) long h = marker-append b rest m long h
+
+reads_pdu_of_append : (b rest : List ℕ) (v : Pdu) → payload_len ≤ length b → ReadsPdu (b ++ rest) v → ReadsPdu b v
+reads_pdu_of_append b rest (pdu.Lacpdu v) long h = reads_of_append b rest v long h
+reads_pdu_of_append b rest (pdu.Marker m) long h = marker_of_append b rest m long h
+
+pub rest_ignored : (b rest : List ℕ) (v : Pdu) → payload_len ≤ length b → (ReadsPdu (b ++ rest) v ↔ ReadsPdu b v)
+rest_ignored b rest v long = (reads_pdu_of_append b rest v long, reads_pdu-append b rest v long)
+
+-- what is written is read
+pub written_pdu : (b : List ℕ) (v : Pdu) → WritesPdu b v → ReadsPdu b v
+written_pdu b (pdu.Lacpdu v) h = written_reads b v h
+written_pdu b (pdu.Marker m) h = written_marker b m h
+
+written_length : (b : List ℕ) (v : Pdu) → WritesPdu b v → length b ≡ payload_len
+written_length b (pdu.Lacpdu v) h = h.table.whole
+written_length b (pdu.Marker m) h = h.table.whole
+
+-- whatever follows
+pub written_before : (b rest : List ℕ) (v : Pdu) → WritesPdu b v → ReadsPdu (b ++ rest) v
+written_before b rest v h = reads_pdu-append b rest v (omega (arith, written_length b v h)) (written_pdu b v h)
+
+abbrev pub ok : Pdu → Result Pdu WireFault
+ok v = Ok v
+
+abbrev err : WireFault → Result Pdu WireFault
+err e = Err e
+
+-- what is read is not refused
+read_not_refused : {X : Type 0} (b : List ℕ) (v : Pdu) (e : WireFault) → ReadsPdu b v → fault_of b ≡ Some e → X
+read_not_refused b v e hv he = let no = no_fault b v hv in absurd cc
+
+-- a payload decodes to its reading alone
+pub decoded_only : (b : List ℕ) (r : Result Pdu WireFault) → IsDecoded b r → (v : Pdu) → ReadsPdu b v → r ≡ ok v
+decoded_only b (Ok w) h v hv = ap ok (sym (one_pdu b w v h hv))
+decoded_only b (Err e) h v hv = read_not_refused b v e hv h
+
+-- and to its fault alone
+pub refused_only : (b : List ℕ) (r : Result Pdu WireFault) → IsDecoded b r → (e : WireFault) → fault_of b ≡ Some e → r ≡ err e
+refused_only b (Ok v) h e he = read_not_refused b v e h he
+refused_only b (Err f) h e he = cc
+
+-- the first 110 octets and what follows them
+cut_here : (b : List ℕ) → take payload_len b ++ drop payload_len b ≡ b
+cut_here b = take-append-drop payload_len b
+
+short_whole : (b : List ℕ) → length b < payload_len → take payload_len b ≡ b
+short_whole b h = take_all payload_len b (omega arith)
+
+first_of_long : (b : List ℕ) (r : Result Pdu WireFault) → payload_len ≤ length b → IsDecoded b r → IsDecoded (take payload_len b) r
+first_of_long b (Ok v) long h =
+    let enough : payload_len ≤ length (take payload_len b) = omega (arith, length-take payload_len b) in
+    reads_pdu_of_append (take payload_len b) (drop payload_len b) v enough (subst (λ (t : List ℕ). ReadsPdu t v) (sym (cut_here b)) h)
+first_of_long b (Err e) long h =
+    let enough : payload_len ≤ length (take payload_len b) = omega (arith, length-take payload_len b) in
+    sym (fault-append (take payload_len b) (drop payload_len b) enough) ∙ ap fault_of (cut_here b) ∙ h
+
+pub first_decide : (b : List ℕ) (r : Result Pdu WireFault) → IsDecoded b r → IsDecoded (take payload_len b) r
+first_decide b r h = elim (cases_lt (length b) payload_len) [
+  | inl short ↦ subst (λ (t : List ℕ). IsDecoded t r) (sym (short_whole b short)) h
+  | inr long ↦ first_of_long b r long h
+]
+
+-- there is one payload to send
+pub one_written : (b c : List ℕ) (v : Pdu) → WritesPdu b v → WritesPdu c v → b ≡ c
+one_written b c (pdu.Lacpdu v) hb hc = one_payload b c (lacpdu_table v) refl hb.table hc.table
+one_written b c (pdu.Marker m) hb hc = one_payload b c (marker_table m) refl hb.table hc.table

@@ -1,0 +1,14 @@
+use Rattle.std.proofs.Common.{List, ℕ, [], ◌∷◌, ◌++◌, replicate, arith, length-append}
+use Rattle.slowpdu.proofs.WritingLemmas.{all_put, then_put}
+use Rattle.slowpdu.proofs.frames.frame.Goals as goal
+
+pub returns : goal.returns
+returns c =
+    let source = c.args.src in
+    let payload = c.args.payload.now in
+    let group : List ℕ = 0x01 ∷ 0x80 ∷ 0xc2 ∷ 0x00 ∷ 0x00 ∷ 0x02 ∷ [] in
+    let kind : List ℕ = 0x88 ∷ 0x09 ∷ [] in
+    let three = then_put c.put-2.new.payload c.put-3.new.payload c.put-4.new.payload kind payload 12 14 c.put-3.ensures c.put-4.ensures (omega arith) (omega arith) in
+    let two = then_put c.put.new.payload c.put-2.new.payload c.put-4.new.payload source (kind ++ payload) 6 12 c.put-2.ensures three (omega arith) (omega arith) in
+    let one = then_put (replicate 124 0) c.put.new.payload c.put-4.new.payload group (source ++ (kind ++ payload)) 0 6 c.put.ensures two (omega arith) (omega (arith, length-append {A = ℕ})) in
+    all_put (replicate 124 0) c.put-4.new.payload (group ++ (source ++ (kind ++ payload))) one (omega (arith, length-append {A = ℕ}))

@@ -1,0 +1,41 @@
+-- The LACPDU (6.4.2.3; profile: what a receiver looks at).
+use Rattle.std.specs.Prelude.{ℕ, ◌+◌, ◌++◌, List, [], ◌∷◌}
+use Rattle.byteorder.specs.Endian.{big_number}
+use Rattle.lagtypes.specs.Octet.{octet}
+use Rattle.slowpdu.specs.declared.pdu.Info.{Info}
+use Rattle.slowpdu.specs.declared.pdu.Lacpdu.{Lacpdu}
+use Rattle.slowpdu.specs.Layout.{Place, place, unread, IsAddress, ReadsTable, WritesTable}
+
+-- system priority, system, key, port priority, port and state of one end, from this offset on
+abbrev pub info_fields : ℕ → Info → List Place
+info_fields at info =
+    place at 2 info.system.priority
+    ∷ place (at + 2) 6 (big_number 6 info.system.mac)
+    ∷ place (at + 8) 2 info.key.0
+    ∷ place (at + 10) 2 info.port.priority
+    ∷ place (at + 12) 2 info.port.number
+    ∷ place (at + 14) 1 (octet info.state)
+    ∷ []
+
+-- the table of an LACPDU. In its order: subtype and version; type and length of the Actor TLV, and the Actor; the same of the
+-- Partner; type and length of the Collector TLV, and CollectorMaxDelay; type and length of the Terminator
+abbrev pub lacpdu_table : Lacpdu → List Place
+lacpdu_table v =
+    place 0 1 1 ∷ unread 1 1 1
+    ∷ unread 2 1 1 ∷ place 3 1 20 ∷ (info_fields 4 v.actor
+    ++ unread 22 1 2 ∷ place 23 1 20 ∷ (info_fields 24 v.partner
+    ++ unread 42 1 3 ∷ place 43 1 16 ∷ place 44 2 v.max_delay
+    ∷ unread 58 1 0 ∷ unread 59 1 0 ∷ []))
+
+abbrev pub HasAddresses : Lacpdu → Type 0
+HasAddresses v = IsAddress v.actor.system.mac × IsAddress v.partner.system.mac
+
+-- the payload b says v
+pub record Reads (b : List ℕ) (v : Lacpdu) : Type 0 where
+  pub addresses : HasAddresses v
+  pub table : ReadsTable b (lacpdu_table v)
+
+-- b is the payload that is sent for v
+pub record Writes (b : List ℕ) (v : Lacpdu) : Type 0 where
+  pub addresses : HasAddresses v
+  pub table : WritesTable b (lacpdu_table v)

@@ -1,0 +1,39 @@
+-- The Marker PDU and its answer (6.5.3.3, 6.5.4; profile: what a receiver looks at).
+use Rattle.std.specs.Prelude.{ℕ, List, [], ◌∷◌, Option, Some, None}
+use Rattle.byteorder.specs.Endian.{big_number}
+use Rattle.slowpdu.specs.declared.pdu.MarkerKind.{MarkerKind}
+use Rattle.slowpdu.specs.declared.pdu.MarkerKind.TheVariants.{Information, Response}
+use Rattle.slowpdu.specs.declared.pdu.Marker.{Marker}
+use Rattle.slowpdu.specs.Layout.{Place, place, unread, IsAddress, ReadsTable, WritesTable}
+
+-- the TLV type of each kind
+abbrev pub kind_number : MarkerKind → ℕ
+kind_number Information = 1
+kind_number Response = 2
+
+-- the table of a Marker PDU. In its order: subtype and version; type and length of the TLV; Requester_Port, Requester_System,
+-- Requester_Transaction_ID and the pad; type and length of the Terminator
+abbrev pub marker_table : Marker → List Place
+marker_table m =
+    place 0 1 2 ∷ unread 1 1 1
+    ∷ place 2 1 (kind_number m.kind) ∷ place 3 1 16
+    ∷ place 4 2 m.port ∷ place 6 6 (big_number 6 m.system) ∷ place 12 4 m.id ∷ unread 16 2 0
+    ∷ unread 18 1 0 ∷ unread 19 1 0 ∷ []
+
+-- the payload b says m
+pub record ReadsMarker (b : List ℕ) (m : Marker) : Type 0 where
+  pub address : IsAddress m.system
+  pub table : ReadsTable b (marker_table m)
+
+-- b is the payload that is sent for m
+pub record WritesMarker (b : List ℕ) (m : Marker) : Type 0 where
+  pub address : IsAddress m.system
+  pub table : WritesTable b (marker_table m)
+
+-- the same marker with the response type; none for a response
+abbrev pub answer_of : MarkerKind → Marker → Option Marker
+answer_of Information m = Some (record m { kind = Response })
+answer_of Response m = None
+
+abbrev pub response_to : Marker → Option Marker
+response_to m = answer_of m.kind m

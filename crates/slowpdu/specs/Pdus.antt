@@ -1,0 +1,23 @@
+-- The readings and the writings of both kinds of PDU.
+use Rattle.std.specs.Prelude.{◌≡◌, ℕ, List, Some, Result, Ok, Err}
+use Rattle.slowpdu.specs.declared.fault.WireFault.{WireFault}
+use Rattle.slowpdu.specs.Faults.{fault_of}
+use Rattle.slowpdu.specs.declared.pdu.Pdu.{Pdu}
+use Rattle.slowpdu.specs.declared.pdu.Pdu.TheVariants as pdu
+use Rattle.slowpdu.specs.Lacpdus.{Reads, Writes}
+use Rattle.slowpdu.specs.Markers.{ReadsMarker, WritesMarker}
+
+-- the payload says this
+abbrev pub ReadsPdu : List ℕ → Pdu → Type 0
+ReadsPdu b (pdu.Lacpdu v) = Reads b v
+ReadsPdu b (pdu.Marker m) = ReadsMarker b m
+
+-- this is the payload that is sent
+abbrev pub WritesPdu : List ℕ → Pdu → Type 0
+WritesPdu b (pdu.Lacpdu v) = Writes b v
+WritesPdu b (pdu.Marker m) = WritesMarker b m
+
+-- what a payload decodes to: its reading or the fault that refuses it
+abbrev pub IsDecoded : List ℕ → Result Pdu WireFault → Type 0
+IsDecoded b (Ok v) = ReadsPdu b v
+IsDecoded b (Err e) = fault_of b ≡ Some e

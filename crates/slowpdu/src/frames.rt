@@ -1,0 +1,47 @@
+ghost use Rattle.std.specs.Prelude.{◌≡◌, ◌<◌, ◌≤◌, length, drop};
+ghost use Rattle.slowpdu.specs.declared.frames.Kind.TheVariants.{Data, TooShort};
+ghost use Rattle.slowpdu.specs.Frames.{frame_octets, IsControl, IsKind, IsSlow};
+
+use crate::writing::put;
+
+/// What a received frame is (profile).
+#[derive(Clone, Copy, Debug, PartialEq, Eq)]
+pub enum Kind<'a> {
+    /// A frame of the slow protocols, EtherType 0x8809, whatever its destination: what follows
+    /// octet 13.
+    Control(&'a [u8]),
+    /// Any other frame of at least 14 octets.
+    Data,
+    /// Fewer than 14 octets.
+    TooShort,
+}
+
+/// The control frame of 124 octets with this source and payload: destination 01-80-C2-00-00-02,
+/// EtherType 0x8809 (6.4.2.2, 6.5.3.2).
+pub fn frame(src: [u8; 6], payload: &[u8; 110]) -> [u8; 124]
+    ensures { result ≡ frame_octets src payload.now }
+{
+    let mut octets = [0; 124];
+    put(&mut octets, 0, &[0x01, 0x80, 0xc2, 0x00, 0x00, 0x02]);
+    put(&mut octets, 6, &src);
+    put(&mut octets, 12, &[0x88, 0x09]);
+    put(&mut octets, 14, payload);
+    octets
+}
+
+/// What a received frame is. It has no upper length, and its addresses are not looked at
+/// (profile).
+pub fn classify(octets: &[u8]) -> Kind<'_>
+    ensures kind { IsKind octets.now result }
+    ensures too_short { length octets.now < 14 → result ≡ TooShort }
+    ensures control { 14 ≤ length octets.now → IsSlow octets.now → IsControl (drop 14 octets.now) result }
+    ensures data { 14 ≤ length octets.now → (IsSlow octets.now → ⊥) → result ≡ Data }
+{
+    if octets.len() < 14 {
+        Kind::TooShort
+    } else if octets[12] == 0x88 && octets[13] == 0x09 {
+        Kind::Control(&octets[14..])
+    } else {
+        Kind::Data
+    }
+}

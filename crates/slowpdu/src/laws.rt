@@ -1,0 +1,56 @@
+ghost use Rattle.std.specs.Prelude.{◌≡◌, ◌≤◌, ◌++◌, ◌↔◌, ℕ, List, length, drop, None, Ok};
+ghost use Rattle.slowpdu.specs.declared.pdu.Lacpdu.{Lacpdu};
+ghost use Rattle.slowpdu.specs.declared.pdu.Marker.{Marker};
+ghost use Rattle.slowpdu.specs.declared.pdu.Pdu.{Pdu};
+ghost use Rattle.slowpdu.specs.Layout.{AreOctets, payload_len};
+ghost use Rattle.slowpdu.specs.Lacpdus.{Reads};
+ghost use Rattle.slowpdu.specs.Markers.{ReadsMarker};
+ghost use Rattle.slowpdu.specs.Pdus.{ReadsPdu, WritesPdu};
+ghost use Rattle.slowpdu.specs.Faults.{fault_of};
+ghost use Rattle.slowpdu.specs.Frames.{IsSlow, frame_octets};
+
+use crate::fault::WireFault;
+use crate::pdu::Pdu;
+use crate::reading::decode;
+
+/// What is written for a PDU reads as it and as nothing else, whatever follows it.
+pub fn what_is_written_is_read()
+    ensures reads { (b rest : List ℕ) (v : Pdu) → WritesPdu b v → ReadsPdu (b ++ rest) v }
+    ensures only { (b rest : List ℕ) (v w : Pdu) → WritesPdu b v → ReadsPdu (b ++ rest) w → w ≡ v }
+{}
+
+/// There is one payload to send for a PDU.
+pub fn one_payload_is_written()
+    ensures { (b c : List ℕ) (v : Pdu) → WritesPdu b v → WritesPdu c v → b ≡ c }
+{}
+
+/// A payload has one reading or one fault, never both and never neither, and it is no LACPDU and
+/// Marker PDU at once.
+pub fn one_reading_or_one_fault()
+    ensures kinds { (b : List ℕ) (v : Lacpdu) (m : Marker) → Reads b v → ReadsMarker b m → ⊥ }
+    ensures readings { (b : List ℕ) (v w : Pdu) → ReadsPdu b v → ReadsPdu b w → w ≡ v }
+    ensures not_both { (b : List ℕ) (v : Pdu) → ReadsPdu b v → fault_of b ≡ None }
+    ensures not_neither { (b : List ℕ) → AreOctets b → fault_of b ≡ None → ((v : Pdu) × ReadsPdu b v) }
+{}
+
+/// Octets after the first 110 change neither the reading nor the fault.
+pub fn what_follows_is_ignored()
+    ensures readings { (b rest : List ℕ) (v : Pdu) → payload_len ≤ length b → (ReadsPdu (b ++ rest) v ↔ ReadsPdu b v) }
+    ensures faults { (b rest : List ℕ) → payload_len ≤ length b → fault_of (b ++ rest) ≡ fault_of b }
+{}
+
+/// A frame that is made here is a control frame with the payload that it was made of.
+pub fn what_is_framed_is_control()
+    ensures slow { (source payload : List ℕ) → length source ≡ 6 → IsSlow (frame_octets source payload) }
+    ensures payload { (source payload : List ℕ) → length source ≡ 6 → drop 14 (frame_octets source payload) ≡ payload }
+{}
+
+/// Encodes a PDU and decodes the payload: the answer is the PDU.
+pub fn read_back(pdu: &Pdu) -> Result<Pdu, WireFault>
+    ensures { result ≡ Ok pdu.now }
+{
+    match pdu {
+        Pdu::Lacpdu(lacpdu) => decode(&lacpdu.encode()),
+        Pdu::Marker(marker) => decode(&marker.encode()),
+    }
+}

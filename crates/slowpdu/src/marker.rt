@@ -1,0 +1,81 @@
+ghost use Rattle.std.specs.Prelude.{◌≡◌, ◌≤◌, ◌+◌, length, slice_index};
+ghost use Rattle.slowpdu.specs.Layout.{StandsIn, payload_len, place};
+ghost use Rattle.slowpdu.specs.Markers.{WritesMarker, kind_number, response_to};
+ghost use Rattle.slowpdu.specs.Pdus.{IsDecoded};
+
+use crate::fault::WireFault;
+use crate::pdu::{Marker, MarkerKind, Pdu};
+use crate::reading::{expect_length, mac_at, u16_at};
+use crate::writing::{ZEROS, put, put_mac, put_u16, put_u32};
+use byteorder::{BigEndian, ByteOrder};
+
+/// The number in the four octets from this offset on.
+fn u32_at(payload: &[u8], offset: usize) -> u32
+    requires { offset + 4 ≤ length payload.now }
+    ensures { StandsIn payload.now (place offset 4 result) }
+{
+    BigEndian::read_u32(&payload[offset..])
+}
+
+/// Reads the payload of a Marker PDU.
+pub(crate) fn marker_in(payload: &[u8]) -> Result<Pdu, WireFault>
+    requires long_enough { payload_len ≤ length payload.now }
+    requires subtype { slice_index payload.now 0 ≡ 2 }
+    ensures { IsDecoded payload.now result }
+{
+    expect_length(payload, 3, 16)?;
+    let kind = match payload[2] {
+        1 => MarkerKind::Information,
+        2 => MarkerKind::Response,
+        other => return Err(WireFault::MarkerTlv(other)),
+    };
+    Ok(Pdu::Marker(Marker {
+        kind,
+        port: u16_at(payload, 4),
+        system: mac_at(payload, 6),
+        id: u32_at(payload, 12),
+    }))
+}
+
+impl MarkerKind {
+    /// The type of its TLV.
+    fn number(self) -> u8
+        ensures { result ≡ kind_number self }
+    {
+        match self {
+            MarkerKind::Information => 1,
+            MarkerKind::Response => 2,
+        }
+    }
+}
+
+impl Marker {
+    /// The payload that is sent for it, 110 octets: version 1, and zeros in every pad and reserved
+    /// octet (6.5.3.3).
+    pub fn encode(&self) -> [u8; 110]
+        ensures { WritesMarker result self.now }
+    {
+        let port = self.port;
+        let id = self.id;
+        let mut payload = ZEROS;
+        put(&mut payload, 0, &[2, 1, self.kind.number(), 16]);
+        put_u16(&mut payload, 4, port);
+        put_mac(&mut payload, 6, self.system);
+        put_u32(&mut payload, 12, id);
+        payload
+    }
+}
+
+/// The answer to a marker: the same port, system and identifier with the response type. None
+/// exactly for a response (6.5.4).
+pub fn respond(marker: &Marker) -> Option<Marker>
+    ensures { result ≡ response_to marker.now }
+{
+    match marker.kind {
+        MarkerKind::Information => Some(Marker {
+            kind: MarkerKind::Response,
+            ..*marker
+        }),
+        MarkerKind::Response => None,
+    }
+}

@@ -1,0 +1,118 @@
+ghost use Rattle.std.specs.List.{AllByRecursion};
+ghost use Rattle.std.specs.Prelude.{◌≡◌, ◌≢◌, ◌≤◌, ◌<◌, ◌+◌, length, slice_index, take, OnOk, IfOk, IfErr, Some, Ok, Err};
+ghost use Rattle.byteorder.specs.Endian.{big_number};
+ghost use Rattle.slowpdu.specs.declared.pdu.Pdu.{Pdu};
+ghost use Rattle.slowpdu.specs.declared.fault.WireFault.{WireFault};
+ghost use Rattle.slowpdu.specs.declared.fault.WireFault.TheVariants.{BadLength};
+ghost use Rattle.slowpdu.specs.Layout.{IsAddress, StandsIn, payload_len, place};
+ghost use Rattle.slowpdu.specs.Lacpdus.{info_fields};
+ghost use Rattle.slowpdu.specs.Pdus.{IsDecoded, ReadsPdu};
+ghost use Rattle.slowpdu.specs.Faults.{fault_of};
+
+use crate::fault::WireFault;
+use crate::marker::marker_in;
+use crate::pdu::{Info, Lacpdu, Pdu};
+use bitflags::Flags;
+use byteorder::{BigEndian, ByteOrder};
+use lagtypes::{Key, PortId, State, SystemId};
+
+/// How many octets a payload has.
+const PAYLOAD_LEN: usize = 110;
+
+/// The number in the two octets from this offset on.
+pub(crate) fn u16_at(payload: &[u8], offset: usize) -> u16
+    requires { offset + 2 ≤ length payload.now }
+    ensures { StandsIn payload.now (place offset 2 result) }
+{
+    BigEndian::read_u16(&payload[offset..])
+}
+
+/// The MAC address in the six octets from this offset on.
+pub(crate) fn mac_at(payload: &[u8], offset: usize) -> [u8; 6]
+    requires { offset + 6 ≤ length payload.now }
+    ensures address { IsAddress result }
+    ensures number { StandsIn payload.now (place offset 6 (big_number 6 result)) }
+{
+    let mut mac = [0; 6];
+    mac.copy_from_slice(&payload[offset..offset + 6]);
+    mac
+}
+
+/// What a payload says of one end, from this offset on.
+fn info_at(payload: &[u8], offset: usize) -> Info
+    requires { offset + 15 ≤ length payload.now }
+    ensures address { IsAddress result.system.mac }
+    ensures fields { AllByRecursion (StandsIn payload.now) (info_fields offset result) }
+{
+    Info {
+        system: SystemId {
+            priority: u16_at(payload, offset),
+            mac: mac_at(payload, offset + 2),
+        },
+        key: Key(u16_at(payload, offset + 8)),
+        port: PortId {
+            priority: u16_at(payload, offset + 10),
+            number: u16_at(payload, offset + 12),
+        },
+        state: State::from_bits_retain(payload[offset + 14]),
+    }
+}
+
+/// Refuses a payload whose length at this offset is another.
+pub(crate) fn expect_length(payload: &[u8], at: usize, expected: u8) -> Result<(), WireFault>
+    requires { at < length payload.now }
+    ensures ok { OnOk result (slice_index payload.now at ≡ expected) }
+    ensures err { IfErr result (λ e. (slice_index payload.now at ≢ expected) × (e ≡ BadLength at (slice_index payload.now at))) }
+{
+    let found = payload[at];
+    if found == expected {
+        Ok(())
+    } else {
+        Err(WireFault::BadLength { at, found })
+    }
+}
+
+/// Reads the payload of an LACPDU.
+fn lacpdu_in(payload: &[u8]) -> Result<Pdu, WireFault>
+    requires long_enough { payload_len ≤ length payload.now }
+    requires subtype { slice_index payload.now 0 ≡ 1 }
+    ensures { IsDecoded payload.now result }
+{
+    expect_length(payload, 3, 20)?;
+    expect_length(payload, 23, 20)?;
+    expect_length(payload, 43, 16)?;
+    Ok(Pdu::Lacpdu(Lacpdu {
+        actor: info_at(payload, 4),
+        partner: info_at(payload, 24),
+        max_delay: u16_at(payload, 44),
+    }))
+}
+
+/// Reads what follows the EtherType of a control frame (6.4.2.3, 6.5.3.3). It looks at the subtype,
+/// the lengths, a marker's type and the fields; the version, the other types, pad and reserved
+/// octets and all octets after the first 110 may be anything (profile). The refusals are those of
+/// `WireFault`, the first that holds.
+#[inline(always)]
+pub fn decode(payload: &[u8]) -> Result<Pdu, WireFault>
+    // What is answered is what the payload says.
+    ensures found { IfOk result (λ v. ReadsPdu payload.now v) }
+    // And nothing else is.
+    ensures only { (v : Pdu) → ReadsPdu payload.now v → result ≡ Ok v }
+    // A refusal names the first cause.
+    ensures fault { IfErr result (λ e. fault_of payload.now ≡ Some e) }
+    // And where there is a cause, the payload is refused.
+    ensures refused { (e : WireFault) → fault_of payload.now ≡ Some e → result ≡ Err e }
+    // The first 110 octets decide.
+    ensures first_octets { IsDecoded (take payload_len payload.now) result }
+{
+    if payload.len() < PAYLOAD_LEN {
+        return Err(WireFault::Short {
+            have: payload.len(),
+        });
+    }
+    match payload[0] {
+        1 => lacpdu_in(payload),
+        2 => marker_in(payload),
+        other => Err(WireFault::OtherSubtype(other)),
+    }
+}

@@ -1,0 +1,83 @@
+ghost use Rattle.std.specs.Prelude.{◌≡◌, ◌+◌, ◌≤◌, length};
+ghost use Rattle.byteorder.specs.Endian.{big_bytes};
+ghost use Rattle.slowpdu.specs.Layout.{AreOctets, IsAddress};
+ghost use Rattle.slowpdu.specs.Lacpdus.{Writes};
+ghost use Rattle.slowpdu.specs.Writing.{InfoFits, replaced, info_octets};
+
+use crate::pdu::{Info, Lacpdu};
+use bitflags::Flags;
+use byteorder::{BigEndian, ByteOrder};
+
+/// A payload before anything is put into it.
+pub(crate) const ZEROS: [u8; 110] = [0; 110];
+
+/// Puts octets in the place of those from this offset on.
+pub(crate) fn put(payload: &mut [u8], offset: usize, octets: &[u8])
+    requires { offset + length octets.now ≤ length payload.old }
+    ensures { payload.new ≡ replaced payload.old offset octets.now }
+{
+    payload[offset..offset + octets.len()].copy_from_slice(octets);
+}
+
+/// Puts a MAC address in the six octets from this offset on.
+pub(crate) fn put_mac(payload: &mut [u8], offset: usize, mac: [u8; 6])
+    requires { offset + 6 ≤ length payload.old }
+    ensures put { payload.new ≡ replaced payload.old offset mac }
+    ensures address { IsAddress mac }
+{
+    put(payload, offset, &mac);
+}
+
+/// Puts a number in the two octets from this offset on.
+pub(crate) fn put_u16(payload: &mut [u8], offset: usize, number: u16)
+    requires { offset + 2 ≤ length payload.old }
+    ensures put { payload.new ≡ replaced payload.old offset (big_bytes 2 number) }
+    ensures octets { AreOctets payload.new }
+{
+    let mut octets = [0; 2];
+    BigEndian::write_u16(&mut octets, number);
+    put(payload, offset, &octets);
+}
+
+/// Puts a number in the four octets from this offset on.
+pub(crate) fn put_u32(payload: &mut [u8], offset: usize, number: u32)
+    requires { offset + 4 ≤ length payload.old }
+    ensures put { payload.new ≡ replaced payload.old offset (big_bytes 4 number) }
+    ensures octets { AreOctets payload.new }
+{
+    let mut octets = [0; 4];
+    BigEndian::write_u32(&mut octets, number);
+    put(payload, offset, &octets);
+}
+
+/// Puts what is said of one end from this offset on.
+fn put_info(payload: &mut [u8], offset: usize, info: Info)
+    requires { offset + 15 ≤ length payload.old }
+    ensures put { payload.new ≡ replaced payload.old offset (info_octets info) }
+    ensures fits { InfoFits info }
+{
+    put_u16(payload, offset, info.system.priority);
+    put_mac(payload, offset + 2, info.system.mac);
+    put_u16(payload, offset + 8, info.key.0);
+    put_u16(payload, offset + 10, info.port.priority);
+    put_u16(payload, offset + 12, info.port.number);
+    put(payload, offset + 14, &[info.state.bits()]);
+}
+
+impl Lacpdu {
+    /// The payload that is sent for it, 110 octets: version 1, and zeros in every reserved octet
+    /// (6.4.2.3).
+    pub fn encode(&self) -> [u8; 110]
+        ensures { Writes result self.now }
+    {
+        let max_delay = self.max_delay;
+        let mut payload = ZEROS;
+        put(&mut payload, 0, &[1, 1, 1, 20]);
+        put_info(&mut payload, 4, self.actor);
+        put(&mut payload, 22, &[2, 20]);
+        put_info(&mut payload, 24, self.partner);
+        put(&mut payload, 42, &[3, 16]);
+        put_u16(&mut payload, 44, max_delay);
+        payload
+    }
+}
