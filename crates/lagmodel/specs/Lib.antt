@@ -1,0 +1,5 @@
+pub mod View
+pub mod Move
+pub mod World
+pub mod Law
+pub mod Kept

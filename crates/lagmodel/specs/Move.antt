@@ -1,0 +1,201 @@
+-- The free moves of a view. One call of a system is a list of them, each of which may come at any moment (profile): they
+-- know no timer and no machine state, and are free where code has no choice.
+use Rattle.std.specs.Prelude.{◌≡◌, ◌≢◌, ℕ, ◌+◌, ◌<◌, ◌^◌, Bool, true, false, ◌&&◌, cond, eqb, ◌⊎◌, Option, Some, None, option_to_list, IsSome, IsSomeAnd, List, [], ◌∷◌, ◌++◌}
+use Rattle.lagtypes.specs.declared.party.Party.{Party}
+use Rattle.lagtypes.specs.Group.{individual, Pair, SamePair, pair_of}
+use Rattle.lagmodel.specs.View.{zero_party, PortView, Conversation, Free, On, Wanted, Flushing, port_of, Flows, View, Setup, first_view, Lacpdu, Pdu, Lacp, Marker, Response, Call, Receive, Set_link, Force, replies_frame, is_restart, at_port, at_conversation}
+
+-- what others see of a move: a control PDU or a frame of a conversation that goes out on a port, or an LACPDU
+-- that a port took (profile)
+pub data Act : Type 0 where
+  Sends : (port : ℕ) (pdu : Pdu) → Act
+  Sends_frame : (port aggregator conversation : ℕ) → Act
+  Took : (port : ℕ) (pdu : Lacpdu) → Act
+
+-- moves of one port
+pub data PortMove : Type 0 where
+  Stop : PortMove  -- 6.4.15
+  Leave : PortMove  -- 6.4.8, Selected; 6.4.15, DETACHED
+  Desynchronise : PortMove  -- 6.4.12, EXPIRED
+  Reconfigure : (party : Party) → PortMove  -- 6.4.7; 6.4.12, INITIALIZE
+  Default : PortMove  -- 6.4.9, recordDefault; 6.4.12, DEFAULTED
+  Take : (pdu : Lacpdu) (synchronised : Bool) → PortMove  -- 6.4.9, recordPDU and update_Selected; 6.4.12, CURRENT
+  Join : (aggregator : ℕ) → PortMove  -- 6.4.14
+  Distribute : PortMove  -- 6.4.15, COLLECTING_DISTRIBUTING
+  Announce : (synchronised : Bool) → PortMove  -- 6.4.16
+  Respond : (mac : List ℕ) (port identifier : ℕ) → PortMove  -- 6.2.6, 6.5.4
+
+-- the port's group, as a pair of ends: that of its party and its recorded partner (6.3.6)
+abbrev pub group_at : PortView → Pair
+group_at a = pair_of a.party a.partner
+
+-- what the port a may do, at number p among these ports
+abbrev pub PortAllowed : Setup → Call → (ℕ → Option PortView) → ℕ → PortMove → PortView → Type 0
+-- at any moment it stops distributing, leaves its aggregator or loses the record that its partner is synchronised
+PortAllowed u call ports p Stop a = Unit {0}
+PortAllowed u call ports p Leave a = Unit {0}
+PortAllowed u call ports p Desynchronise a = Unit {0}
+-- outside every aggregator it takes another own party, in a configure only, and goes on defaults
+PortAllowed u call ports p (Reconfigure party) a =
+    (call ≡ Call.Configure) × (a.aggregator ≡ None) × (party.system ≡ a.party.system) × (party.port.number ≡ a.party.port.number)
+-- it goes on defaults outside every aggregator, or where its partner is all zero already
+PortAllowed u call ports p Default a = (a.aggregator ≡ None) ⊎ (a.partner ≡ zero_party)
+-- it takes the LACPDU that comes on it, outside every aggregator where that names another partner. The partner
+-- is recorded as synchronised only if the LACPDU says so and names this port's party or has an individual actor
+PortAllowed u call ports p (Take pdu synchronised) a =
+    (call ≡ Receive p (Some (Lacp pdu)))
+    × ((pdu.actor ≡ a.partner) ⊎ (a.aggregator ≡ None))
+    × (synchronised ≡ true → (pdu.synchronised ≡ true) × ((pdu.partner ≡ a.party) ⊎ (pdu.actor.aggregatable ≡ false)))
+-- it joins an aggregator with its key that has no member, or whose members all have its group, which is not individual;
+-- not where its partner is its own system, whose ends a pair without order could not tell apart
+PortAllowed u call ports p (Join g) a =
+    (a.aggregator ≡ None)
+    × (a.partner.system ≢ a.party.system)
+    × (u.key g ≡ Some a.party.key)
+    × (((q : ℕ) (b : PortView) → ports q ≡ Some b → b.aggregator ≢ Some g)
+    ⊎ (((q : ℕ) (b : PortView) → ports q ≡ Some b → b.aggregator ≡ Some g → SamePair (group_at b) (group_at a)) × (individual a.party a.partner ≡ false)))
+-- a member whose partner is recorded as synchronised begins to distribute
+PortAllowed u call ports p Distribute a = IsSome a.aggregator × (a.synchronised ≡ true)
+-- it sends an LACPDU, which names both parties as they are now, and says synchronised only of a member
+PortAllowed u call ports p (Announce synchronised) a = (replies_frame call ≡ true) × (synchronised ≡ true → IsSome a.aggregator)
+-- it answers the marker that comes on it
+PortAllowed u call ports p (Respond mac port identifier) a = call ≡ Receive p (Some (Marker mac port identifier))
+
+abbrev pub port_after : PortMove → PortView → PortView
+port_after Stop a = record a { distributes = false }
+port_after Leave a = record a { aggregator = None; distributes = false }
+port_after Desynchronise a = record a { synchronised = false; distributes = false }
+port_after (Reconfigure party) a = record a { party = party; partner = zero_party; synchronised = true; defaulted = true }
+port_after Default a = record a { partner = zero_party; synchronised = true; defaulted = true }
+port_after (Take pdu synchronised) a =
+    record a { partner = pdu.actor; synchronised = synchronised; defaulted = false; distributes = synchronised && a.distributes }
+port_after (Join g) a = record a { aggregator = Some g }
+port_after Distribute a = record a { distributes = true }
+port_after (Announce synchronised) a = a
+port_after (Respond mac port identifier) a = a
+
+abbrev pub port_act : ℕ → PortMove → PortView → Option Act
+port_act p (Announce synchronised) a = Some (Sends p (Lacp (record { actor = a.party; partner = a.partner; synchronised = synchronised })))
+port_act p (Respond mac port identifier) a = Some (Sends p (Response mac port identifier))
+port_act p (Take pdu synchronised) a = Some (Took p pdu)
+port_act p _ a = None
+
+-- what can become of one conversation while nothing is sent (profile; 6.5.2 tells what markers are for)
+pub data Change : Type 0 where
+  Want : (port : ℕ) → Change
+  Retry : (port identifier : ℕ) → Change
+  Answered : (port identifier : ℕ) → Change  -- 6.5.3.3
+  Down : (port : ℕ) → Change
+  Forced : Change
+
+-- what may become of the conversation c, which is conversation k of aggregator g, of a system with this MAC address
+abbrev pub ChangeAllowed : List ℕ → Call → ℕ → ℕ → Change → Conversation → Type 0
+ChangeAllowed mac call g k (Want p) c = c ≡ On p
+ChangeAllowed mac call g k (Retry p n) c = c ≡ Flushing p n
+-- It becomes free by the response that it waits for, which comes on the port that it names, when its port goes down, or
+-- by force
+ChangeAllowed mac call g k (Answered p n) c = (call ≡ Receive p (Some (Response mac p n))) × (c ≡ Flushing p n)
+ChangeAllowed mac call g k (Down p) c = (call ≡ Set_link p false) × (port_of c ≡ Some p)
+ChangeAllowed mac call g k Forced c = call ≡ Force g k
+
+abbrev pub changed : Change → Conversation
+changed (Want p) = Wanted p
+changed (Retry p n) = Wanted p
+changed (Answered p n) = Free
+changed (Down p) = Free
+changed Forced = Free
+
+-- moves of the conversations
+pub data FlowMove : Type 0 where
+  Send : (aggregator conversation port : ℕ) → FlowMove  -- 6.2.4
+  Mark : (port : ℕ) → FlowMove  -- 6.2.5, 6.5.3.3
+  Become : (aggregator conversation : ℕ) (change : Change) → FlowMove
+
+-- what the conversations may do, of a system with this MAC address whose port p may distribute in aggregator g
+abbrev pub FlowAllowed : List ℕ → Call → (ℕ → ℕ → Type 0) → Flows → FlowMove → Type 0
+-- a free conversation sends on any port that distributes in its aggregator, another one only on the port that it is on
+FlowAllowed mac call Distributes f (Send g k p) =
+    (replies_frame call ≡ true) × (((f.state g k ≡ Free) × Distributes g p) ⊎ (f.state g k ≡ On p))
+-- a marker takes the next identifier, of which none follows 4294967295
+FlowAllowed mac call Distributes f (Mark p) = (replies_frame call ≡ true) × (f.next < 2 ^ 32)
+FlowAllowed mac call Distributes f (Become g k m) = ChangeAllowed mac call g k m (f.state g k)
+
+-- all that are wanted on p wait for the marker n
+abbrev pub flushed : ℕ → ℕ → Conversation → Conversation
+flushed p n Free = Free
+flushed p n (On q) = On q
+flushed p n (Wanted q) = cond (eqb q p) (Flushing q n) (Wanted q)
+flushed p n (Flushing q m) = Flushing q m
+
+abbrev pub flows_after : FlowMove → Flows → Flows
+flows_after (Send g k p) f = record f { state = at_conversation f.state g k (On p) }
+flows_after (Mark p) f = record { state = λ g k. flushed p f.next (f.state g k); next = f.next + 1 }
+flows_after (Become g k m) f = record f { state = at_conversation f.state g k (changed m) }
+
+abbrev pub flow_act : List ℕ → FlowMove → Flows → Option Act
+flow_act mac (Send g k p) f = Some (Sends_frame p g k)
+flow_act mac (Mark p) f = Some (Sends p (Marker mac p f.next))
+flow_act mac (Become g k m) f = None
+
+-- such moves one after another, of which others see just this: what a distributor does in one call
+abbrev pub AllFlowAllowed : List ℕ → Call → (ℕ → ℕ → Type 0) → Flows → List FlowMove → Type 0
+AllFlowAllowed mac call Distributes f [] = Unit {0}
+AllFlowAllowed mac call Distributes f (m ∷ ms) = FlowAllowed mac call Distributes f m × AllFlowAllowed mac call Distributes (flows_after m f) ms
+
+abbrev pub flows_after_all : List FlowMove → Flows → Flows
+flows_after_all [] f = f
+flows_after_all (m ∷ ms) f = flows_after_all ms (flows_after m f)
+
+abbrev pub flow_acts : List ℕ → List FlowMove → Flows → List Act
+flow_acts mac [] f = []
+flow_acts mac (m ∷ ms) f = option_to_list (flow_act mac m f) ++ flow_acts mac ms (flows_after m f)
+
+abbrev pub FlowMoves : List ℕ → Call → (ℕ → ℕ → Type 0) → Flows → List Act → Flows → Type 0
+FlowMoves mac call Distributes old seen new =
+    (moves : List FlowMove) × AllFlowAllowed mac call Distributes old moves × (flow_acts mac moves old ≡ seen) × (new ≡ flows_after_all moves old)
+
+-- a move of the system: of the port with this number, of the conversations, or a restart
+pub data Move : Type 0 where
+  Port : (port : ℕ) (move : PortMove) → Move
+  Flow : (move : FlowMove) → Move
+  Restart : Move
+
+-- port p distributes in aggregator g
+abbrev pub Distributes : (ℕ → Option PortView) → ℕ → ℕ → Type 0
+Distributes ports g p = IsSomeAnd (ports p) (λ a. (a.aggregator ≡ Some g) × (a.distributes ≡ true))
+
+abbrev pub Allowed : Setup → Call → View → Move → Type 0
+Allowed u call v (Port p m) = IsSomeAnd (v.port p) (PortAllowed u call v.port p m)
+Allowed u call v (Flow m) = FlowAllowed u.system.mac call (Distributes v.port) v.flows m
+Allowed u call v Restart = is_restart call ≡ true
+
+abbrev pub after : Setup → Move → View → View
+after u (Port p m) v = record v { port = at_port v.port p (port_after m) }
+after u (Flow m) v = record v { flows = flows_after m v.flows }
+after u Restart v = first_view u
+
+abbrev pub act_of_port : ℕ → PortMove → Option PortView → Option Act
+act_of_port p m None = None
+act_of_port p m (Some a) = port_act p m a
+
+abbrev pub act : Setup → Move → View → Option Act
+act u (Port p m) v = act_of_port p m (v.port p)
+act u (Flow m) v = flow_act u.system.mac m v.flows
+act u Restart v = None
+
+-- moves one after another
+abbrev pub AllAllowed : Setup → Call → View → List Move → Type 0
+AllAllowed u call v [] = Unit {0}
+AllAllowed u call v (m ∷ ms) = Allowed u call v m × AllAllowed u call (after u m v) ms
+
+abbrev pub after_all : Setup → List Move → View → View
+after_all u [] v = v
+after_all u (m ∷ ms) v = after_all u ms (after u m v)
+
+abbrev pub acts : Setup → List Move → View → List Act
+acts u [] v = []
+acts u (m ∷ ms) v = option_to_list (act u m v) ++ acts u ms (after u m v)
+
+-- A call leads from old to new by free moves, of which others see just this.
+abbrev pub FreeMoves : Setup → Call → View → List Act → View → Type 0
+FreeMoves u call old seen new = (moves : List Move) × AllAllowed u call old moves × (acts u moves old ≡ seen) × (new ≡ after_all u moves old)

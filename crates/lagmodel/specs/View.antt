@@ -1,0 +1,134 @@
+-- What the law sees of a system, and the calls of a system. No timer, machine state, octet or preference is part of it.
+use Rattle.std.specs.Prelude.{◌≡◌, ℕ, Bool, true, false, cond, eqb, Option, Some, None, option_map, List, [], ◌∷◌}
+use Rattle.lagtypes.specs.declared.identifiers.SystemId.{SystemId}
+use Rattle.lagtypes.specs.declared.party.Party.{Party}
+use Rattle.lagtypes.specs.declared.identifiers.Key.{Key}
+
+-- the partner of a port that runs on defaults: all zero (profile; 6.4.9, recordDefault)
+abbrev pub zero_party : Party
+zero_party = record {
+  system = record { priority = 0; mac = 0 ∷ 0 ∷ 0 ∷ 0 ∷ 0 ∷ 0 ∷ [] };
+  key = record { 0 = 0 };
+  port = record { priority = 0; number = 0 };
+  aggregatable = false;
+}
+
+-- a port (6.4.7, 6.4.8): its own party, its recorded partner, whether that is recorded as synchronised, whether the
+-- port runs on defaults, the aggregator that it was given, and whether it distributes
+pub record PortView : Type 0 where
+  pub party : Party
+  pub partner : Party
+  pub synchronised : Bool
+  pub defaulted : Bool
+  pub aggregator : Option ℕ
+  pub distributes : Bool
+
+-- a conversation of an aggregator (6.2.4; the four states are of the profile)
+pub data Conversation : Type 0 where
+  Free : Conversation
+  On : (port : ℕ) → Conversation
+  Wanted : (port : ℕ) → Conversation
+  Flushing : (port identifier : ℕ) → Conversation
+
+-- the port that the frames of a conversation went to last
+abbrev pub port_of : Conversation → Option ℕ
+port_of Free = None
+port_of (On p) = Some p
+port_of (Wanted p) = Some p
+port_of (Flushing p n) = Some p
+
+-- what a Frame Distributor keeps (6.2.4, 6.2.5): each conversation, by aggregator and number, and the identifier of the
+-- next marker, which is one above the last that was sent, or the configured first one
+pub record Flows : Type 0 where
+  pub state : ℕ → ℕ → Conversation
+  pub next : ℕ
+
+-- a system: its ports by number, where the configuration has them, and its conversations
+pub record View : Type 0 where
+  pub port : ℕ → Option PortView
+  pub flows : Flows
+
+-- how a system is configured: its identifier (6.3.2), its own party at each of its ports (6.3.4), the key of each of its
+-- aggregators (6.3.5), and the identifier of its first marker (profile)
+pub record Setup : Type 0 where
+  pub system : SystemId
+  pub party : ℕ → Option Party
+  pub key : ℕ → Option Key
+  pub first_marker : ℕ
+
+-- each port's party names the system and that port
+pub record IsSetup (u : Setup) : Type 0 where
+  pub system : (p : ℕ) (a : Party) → u.party p ≡ Some a → a.system ≡ u.system
+  pub number : (p : ℕ) (a : Party) → u.party p ≡ Some a → a.port.number ≡ p
+
+-- a port with its link down, on defaults and with no partner recorded as synchronised (6.4.12, PORT_DISABLED)
+abbrev pub first_port : Party → PortView
+first_port party = record {
+  party = party;
+  partner = zero_party;
+  synchronised = false;
+  defaulted = true;
+  aggregator = None;
+  distributes = false;
+}
+
+-- a system that was just started: all links down, all conversations free
+abbrev pub first_view : Setup → View
+first_view u = record {
+  port = λ p. option_map first_port (u.party p);
+  flows = record { state = λ g k. Free; next = u.first_marker };
+}
+
+-- an LACPDU, as far as the law reads it: both parties, and the actor's Synchronization bit (6.4.2.3)
+pub record Lacpdu : Type 0 where
+  pub actor : Party
+  pub partner : Party
+  pub synchronised : Bool
+
+-- a control PDU: an LACPDU, or a marker or its response with the requester's system, port and transaction (6.5.3.3)
+pub data Pdu : Type 0 where
+  Lacp : (pdu : Lacpdu) → Pdu
+  Marker : (mac : List ℕ) (port identifier : ℕ) → Pdu
+  Response : (mac : List ℕ) (port identifier : ℕ) → Pdu
+
+-- what a configure may change of a port (6.4.7): its key, its priority, and whether it is aggregatable
+pub record PortChange : Type 0 where
+  pub key : Key
+  pub priority : ℕ
+  pub aggregatable : Bool
+
+-- a call of a system, with what its moves look at. A receive brings a control PDU, or something else
+pub data Call : Type 0 where
+  Receive : (port : ℕ) (pdu : Option Pdu) → Call
+  Tick : Call
+  Set_link : (port : ℕ) (up : Bool) → Call
+  Configure : Call
+  Restart : Call
+  Transmit : Call
+  Offer : Call
+  Move_conversation : Call
+  Force : (aggregator conversation : ℕ) → Call
+
+-- Whether the reply of the call can hold a frame to send: what a call sends is what its reply holds. The others send
+-- nothing. Could a configure send, an LACPDU might carry its sender's count and name a party that it had for a moment
+abbrev pub replies_frame : Call → Bool
+replies_frame (Receive p pdu) = true
+replies_frame Transmit = true
+replies_frame Offer = true
+replies_frame Tick = false
+replies_frame (Set_link p up) = false
+replies_frame Configure = false
+replies_frame Restart = false
+replies_frame Move_conversation = false
+replies_frame (Force g k) = false
+
+abbrev pub is_restart : Call → Bool
+is_restart Restart = true
+is_restart _ = false
+
+-- one port, or one conversation, changed
+abbrev pub at_port : (ℕ → Option PortView) → ℕ → (PortView → PortView) → ℕ → Option PortView
+at_port ports p f q = cond (eqb q p) (option_map f (ports q)) (ports q)
+
+abbrev pub at_conversation : (ℕ → ℕ → Conversation) → ℕ → ℕ → Conversation → ℕ → ℕ → Conversation
+at_conversation state g k c h j = cond (eqb h g) (cond (eqb j k) c (state h j)) (state h j)
