@@ -1,0 +1,2 @@
+pub mod AnyCable
+pub mod Cable

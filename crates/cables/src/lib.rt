@@ -1,0 +1,21 @@
+//! Cables that keep the order of what is put on them: without a limit, with one, or either.
+//!
+//! A cable carries `Item`s in one direction. What every kind keeps to is stated once, at the trait
+//! `Cable`: for proofs a cable is a list of items, a limit that never changes, and whether a place
+//! is reserved. `ListCable` takes memory as it fills, `RingCable` all of it when it is made, and
+//! `AnyCable` is one or the other.
+#![tactic(auto)]
+
+mod any;
+mod cable;
+mod item;
+mod list;
+mod ring;
+#[cfg(test)]
+mod tests;
+
+pub use any::AnyCable;
+pub use cable::{Cable, NoMemory};
+pub use item::{Item, Stamp};
+pub use list::ListCable;
+pub use ring::{CableFault, RingCable};

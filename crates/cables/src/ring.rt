@@ -1,0 +1,105 @@
+//! A cable with a limit.
+ghost use Rattle.std.specs.Prelude.{◌≡◌, ◌≢◌, ◌↔◌, [], Some, true, IfOk, IsErrOf};
+ghost use Rattle.cables.specs.declared.ring.CableFault.TheVariants.{Limit, NoMemory as OutOfMemory};
+
+use crate::cable::{Cable, NoMemory};
+use crate::item::Item;
+use circular_buffer::HeapCircularBuffer;
+use std::alloc::{AllocError, Global};
+use std::marker::Model;
+
+/// Why a cable with a limit is not made.
+#[derive(Clone, Copy, Debug, PartialEq, Eq)]
+pub enum CableFault {
+    /// The limit is 0.
+    Limit = 1,
+    /// Memory ran out.
+    NoMemory = 2,
+}
+
+impl From<AllocError> for CableFault {
+    // Refused memory is always `NoMemory`.
+    ghost from_gives = { λ _ fault. fault ≡ OutOfMemory };
+
+    fn from(_: AllocError) -> CableFault {
+        CableFault::NoMemory
+    }
+}
+
+/// A cable with a limit of 1 to 65535 items. It takes memory only when it is made.
+#[derive(Drop)]
+pub struct RingCable {
+    ring: HeapCircularBuffer<Item>,
+}
+
+impl Model for RingCable {
+    ghost use Rattle.std.specs.Prelude.{◌≤◌, length};
+    ghost use Rattle.cables.specs.Cable.{RingView};
+
+    ghost Value = { RingView };
+
+    // The limit is the capacity of the ring.
+    ghost view = { λ c. record { items = c.ring.items; limit = c.ring.capacity } };
+
+    // There are never more items than that.
+    ghost invariant = { λ c. length c.ring.items ≤ c.ring.capacity };
+}
+
+impl RingCable {
+    /// An empty cable for at most `limit` items. `Limit` comes exactly where `limit` is 0, and
+    /// `NoMemory` only where memory ran out for another limit.
+    pub fn new(alloc: Global, limit: u16) -> Result<RingCable, CableFault>
+        // Nothing is on the new cable, and its limit is the one asked for.
+        ensures empty { IfOk result (λ c. ⟦<RingCable as Cable>⟧.items c ≡ []) }
+        ensures limit { IfOk result (λ c. ⟦<RingCable as Cable>⟧.limit c ≡ Some limit) }
+
+        // The one limit that is refused is 0, and want of memory is answered for no other cause.
+        ensures refused { IsErrOf result Limit ↔ (limit ≡ 0) }
+        ensures no_memory { IsErrOf result OutOfMemory → limit ≢ 0 }
+    {
+        if limit == 0 {
+            return Err(CableFault::Limit);
+        }
+        let ring = HeapCircularBuffer::with_capacity(alloc, usize::from(limit))?;
+        Ok(RingCable { ring })
+    }
+}
+
+impl Cable for RingCable {
+    // Its items, in their order.
+    ghost items = { λ c. c.items };
+
+    // Its limit is the one that it was made with.
+    ghost limit = { λ c. Some c.limit };
+
+    // A place is always reserved, since the ring has its whole block from the start.
+    ghost reserved = { λ _. true };
+
+    fn push(&mut self, item: Item) -> Result<(), Item> {
+        self.ring.try_push_back(item)
+    }
+
+    fn reserve_one(&mut self) -> Result<(), NoMemory> {
+        Ok(())
+    }
+
+    fn front(&self) -> Option<&Item> {
+        self.ring.front()
+    }
+
+    fn pop(&mut self) -> Option<Item> {
+        self.ring.pop_front()
+    }
+
+    fn clear(&mut self) {
+        self.ring.clear();
+    }
+
+    fn len(&self) -> usize {
+        self.ring.len()
+    }
+
+    fn limit(&self) -> Option<usize> {
+        Some(self.ring.capacity())
+    }
+}

@@ -1,0 +1,127 @@
+use crate::{AnyCable, Cable, CableFault, Item, ListCable, RingCable, Stamp};
+use std::alloc::{AllocError, Global};
+use std::process::Abort;
+use std::test::Fail;
+
+/// A control frame without octets, told apart by its stamp.
+fn control(alloc: Global, count: u64) -> Item {
+    Item {
+        bytes: Vec::new(alloc),
+        stamp: Stamp::Control(count),
+    }
+}
+
+/// A data frame of conversation 48.
+fn data(alloc: Global) -> Result<Item, AllocError> {
+    let bytes = Vec::from_slice(alloc, &[2, 0, 0, 0, 0, 0x20, 2, 0, 0, 0, 0, 0x10, 8, 0])?;
+    let stamp = Stamp::Data {
+        system: 1,
+        agg: 1,
+        conv: 48,
+        serial: 0,
+    };
+    Ok(Item { bytes, stamp })
+}
+
+/// Makes each call of a cable: puts on items with the stamps from 0 up to `tries`, takes off
+/// those that were kept, then carries a data frame, and clears another.
+fn carries<C: Cable>(
+    rt: &impl Abort,
+    alloc: Global,
+    mut cable: C,
+    limit: Option<u16>,
+    tries: u64,
+) -> Result<(), Fail> {
+    assert_eq!(rt; cable.limit(), limit.map(usize::from));
+    let kept = limit.map_or(tries, u64::from);
+    for count in 0..tries {
+        cable.reserve_one()?;
+        let item = control(alloc, count);
+        let wanted = if count < kept { Ok(()) } else { Err(item) };
+        assert_eq!(rt; cable.push(control(alloc, count)), wanted);
+    }
+    assert_eq!(rt; cable.len() as u64, kept);
+    for count in 0..kept {
+        assert_eq!(rt; cable.front(), Some(&control(alloc, count)));
+        assert_eq!(rt; cable.pop(), Some(control(alloc, count)));
+    }
+    assert_eq!(rt; cable.front(), None);
+    assert_eq!(rt; cable.pop(), None);
+    assert_eq!(rt; cable.push(data(alloc)?), Ok(()));
+    assert_eq!(rt; cable.pop(), Some(data(alloc)?));
+    assert_eq!(rt; cable.push(data(alloc)?), Ok(()));
+    cable.clear();
+    assert_eq!(rt; cable.len(), 0);
+    assert_eq!(rt; cable.limit(), limit.map(usize::from));
+    Ok(())
+}
+
+#[test]
+fn each_kind_is_filled_to_its_limit_and_past_it(rt: HostRuntime) -> Result<(), Fail> {
+    let alloc = rt.alloc();
+    carries(&rt, alloc, ListCable::new(alloc), None, 65_537)?;
+    let either = AnyCable::List(ListCable::new(alloc));
+    carries(&rt, alloc, either, None, 65_537)?;
+    for limit in [1, 2, 65_535] {
+        let tries = u64::from(limit) + 2;
+        let ring = RingCable::new(alloc, limit)?;
+        carries(&rt, alloc, ring, Some(limit), tries)?;
+        let either = AnyCable::Ring(RingCable::new(alloc, limit)?);
+        carries(&rt, alloc, either, Some(limit), tries)?;
+    }
+    Ok(())
+}
+
+#[test]
+fn a_limit_of_0_is_refused(rt: HostRuntime) {
+    let refused = RingCable::new(rt.alloc(), 0).err();
+    assert_eq!(rt; refused, Some(CableFault::Limit));
+    assert_eq!(rt; CableFault::Limit as u8, 1);
+    assert_eq!(rt; CableFault::NoMemory as u8, 2);
+}
+
+#[test]
+fn a_ring_serves_long_after_it_first_was_full(rt: HostRuntime) -> Result<(), Fail> {
+    let alloc = rt.alloc();
+    let mut cable = RingCable::new(alloc, 3)?;
+    for count in 0..3 {
+        assert_eq!(rt; cable.push(control(alloc, count)), Ok(()));
+    }
+    for count in 3..10_000u64 {
+        let back = cable.push(control(alloc, count));
+        assert_eq!(rt; back, Err(control(alloc, count)));
+        assert_eq!(rt; cable.pop(), Some(control(alloc, count - 3)));
+        assert_eq!(rt; cable.push(control(alloc, count)), Ok(()));
+        assert_eq!(rt; cable.len(), 3);
+    }
+    Ok(())
+}
+
+/// Holds whichever allocation is refused.
+#[test]
+fn refused_memory_leaves_the_items(rt: HostRuntime) {
+    let alloc = rt.alloc();
+    let mut list = ListCable::new(alloc);
+    for count in 0..100 {
+        let before = list.len();
+        let reserved = list.reserve_one().is_ok();
+        assert_eq!(rt; list.len(), before);
+        match list.push(control(alloc, count)) {
+            Ok(()) => assert!(rt; list.len() > before),
+            Err(back) => {
+                assert!(rt; !reserved);
+                assert_eq!(rt; back, control(alloc, count));
+                assert_eq!(rt; list.len(), before);
+            }
+        }
+    }
+    match RingCable::new(alloc, 100) {
+        Ok(mut ring) => {
+            for count in 0..100 {
+                assert!(rt; ring.reserve_one().is_ok());
+                assert_eq!(rt; ring.push(control(alloc, count)), Ok(()));
+            }
+        }
+        Err(fault) => assert_eq!(rt; fault, CableFault::NoMemory),
+    }
+}
