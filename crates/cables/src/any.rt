@@ -1,10 +1,10 @@
-//! A cable of either kind.
+//! A cable that may be of either kind.
 use crate::cable::{Cable, NoMemory};
 use crate::item::Item;
 use crate::list::ListCable;
 use crate::ring::RingCable;
 
-/// A cable of either kind.
+/// A cable of either kind (profile).
 #[derive(Drop)]
 pub enum AnyCable {
     /// A cable without a limit.

@@ -4,7 +4,7 @@ ghost use Rattle.std.specs.Prelude.{◌≡◌, ℕ, List, [], ◌∷◌, ◌++�
 use crate::item::Item;
 use std::alloc::AllocError;
 
-/// Memory ran out.
+/// Memory ran out (profile).
 #[derive(Clone, Copy, Debug, PartialEq, Eq)]
 pub struct NoMemory;
 
@@ -40,10 +40,11 @@ pub trait Cable: Drop {
         ensures handed_back { IfErr result (λ back. (back ≡ item) × (items self.new ≡ items self.old)) }
 
         // A full cable hands it back, and no reserved place is lost by that.
-        ensures full { IsTrue (is_full (limit self.old) (length (items self.old))) → IsErr result × (reserved self.new ≡ reserved self.old) }
+        ensures full { IsTrue (is_full (limit self.old) (items self.old)) → IsErr result }
+        ensures untouched { IsTrue (is_full (limit self.old) (items self.old)) → reserved self.new ≡ reserved self.old }
 
         // Where a place is reserved, only a full cable hands it back.
-        ensures place { IsTrue (reserved self.old) → IsErr result → IsTrue (is_full (limit self.old) (length (items self.old))) }
+        ensures place { IsTrue (reserved self.old) → IsErr result → IsTrue (is_full (limit self.old) (items self.old)) }
 
         // The limit never changes.
         ensures limit { limit self.new ≡ limit self.old };

@@ -18,10 +18,10 @@ pub enum Stamp {
     },
 }
 
-/// A frame on a cable, with its stamp.
+/// A frame on a cable, with its stamp (profile).
 #[derive(Debug, PartialEq, Eq, Drop)]
 pub struct Item {
-    /// The octets of the frame.
+    /// The octets of the frame, at which no cable looks.
     pub bytes: Vec<u8>,
     /// What the frame is.
     pub stamp: Stamp,

@@ -7,7 +7,7 @@ use std::alloc::Global;
 use std::collections::VecDeque;
 use std::marker::Model;
 
-/// A cable without a limit. It takes memory as it fills.
+/// A cable without a limit (profile). It takes memory as it fills.
 #[derive(Drop)]
 pub struct ListCable {
     queue: VecDeque<Item>,

@@ -8,7 +8,7 @@ use circular_buffer::HeapCircularBuffer;
 use std::alloc::{AllocError, Global};
 use std::marker::Model;
 
-/// Why a cable with a limit is not made.
+/// Why a cable with a limit is not made (profile).
 #[derive(Clone, Copy, Debug, PartialEq, Eq)]
 pub enum CableFault {
     /// The limit is 0.
@@ -18,7 +18,7 @@ pub enum CableFault {
 }
 
 impl From<AllocError> for CableFault {
-    // Refused memory is always `NoMemory`.
+    // Every refusal of memory becomes `NoMemory`.
     ghost from_gives = { λ _ fault. fault ≡ OutOfMemory };
 
     fn from(_: AllocError) -> CableFault {
@@ -26,7 +26,8 @@ impl From<AllocError> for CableFault {
     }
 }
 
-/// A cable with a limit of 1 to 65535 items. It takes memory only when it is made.
+/// A cable with a limit of 1 to 65535 items (profile). It takes memory only when it is made, so
+/// `reserve_one` never refuses, and `push` only where the cable is full.
 #[derive(Drop)]
 pub struct RingCable {
     ring: HeapCircularBuffer<Item>,
@@ -53,7 +54,7 @@ impl RingCable {
         ensures empty { IfOk result (λ c. ⟦<RingCable as Cable>⟧.items c ≡ []) }
         ensures limit { IfOk result (λ c. ⟦<RingCable as Cable>⟧.limit c ≡ Some limit) }
 
-        // The one limit that is refused is 0, and want of memory is answered for no other cause.
+        // The one limit that is refused is 0, and `NoMemory` is never the answer to it.
         ensures refused { IsErrOf result Limit ↔ (limit ≡ 0) }
         ensures no_memory { IsErrOf result OutOfMemory → limit ≢ 0 }
     {
