@@ -4,15 +4,8 @@ ghost use Rattle.std.specs.Prelude.{◌≡◌, ℕ, List, [], ◌∷◌, ◌++�
 use crate::item::Item;
 use std::alloc::AllocError;
 
-/// Memory ran out (profile).
-#[derive(Clone, Copy, Debug, PartialEq, Eq)]
-pub struct NoMemory;
-
-impl From<AllocError> for NoMemory {
-    fn from(_: AllocError) -> NoMemory {
-        NoMemory
-    }
-}
+/// Memory was refused (profile).
+pub type NoMemory = AllocError;
 
 /// A cable in one direction: the item that went on first comes off first (profile).
 ///

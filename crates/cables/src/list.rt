@@ -51,8 +51,7 @@ impl Cable for ListCable {
     }
 
     fn reserve_one(&mut self) -> Result<(), NoMemory> {
-        self.queue.reserve(1)?;
-        Ok(())
+        self.queue.reserve(1)
     }
 
     fn front(&self) -> Option<&Item> {
