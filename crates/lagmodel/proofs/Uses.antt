@@ -1,4 +1,7 @@
--- What code cites: moves one after another, many changes at once, states that are lists.
+-- What code cites. Moves of a system: moves_joined, moves_port, moves_at (of a port in a list), moves_flows, parties_same.
+-- Moves of conversations: flows_one, flows_joined, flows_become (many at once), flows_weaker. Ports that are a list: find_at,
+-- ports_set, numbered_set. One system: members_moves, members_call. Worlds: end_there, calls_from, no_call, put_on, put_nowhere,
+-- runs_joined, same_view, same_world. What holds after a run: `lawful` of Events, and the lemma of each fact in Laws.
 use Rattle.std.proofs.Common.{◌≡◌, ℕ, zero, suc, Bool, true, false, cond, eqb, ◌&&◌, Option, Some, None, List, [], ◌∷◌, ◌++◌, map, set, sym, refl, ap, ◌∙◌, subst, ◌⊎◌, inl, inr, append_assoc, eqb-true, eq-eqb}
 use Rattle.std.specs.Prelude.{option_map, option_to_list, slice_get, IsSomeAnd}
 use Rattle.std.proofs.lemmas.Bool.{cases_Bool, true≢false}
@@ -6,10 +9,10 @@ use Rattle.std.proofs.lemmas.Option.{none-some, same_Some}
 use Rattle.lagtypes.specs.declared.party.Party.{Party}
 use Rattle.lagmodel.specs.View.{is_restart, PortView, Conversation, Flows, View, Setup, IsSetup, first_view, Call, at_port, at_conversation}
 use Rattle.lagmodel.specs.Move.{Allowed, FlowAllowed, Act, PortMove, PortAllowed, port_after, port_act, ChangeAllowed, changed, FlowMove, flows_after, flow_act, AllFlowAllowed, flows_after_all, flow_acts, FlowMoves, Move, Port, Flow, Restart, Distributes, after, act, act_of_port, AllAllowed, after_all, acts, FreeMoves}
-use Rattle.lagmodel.specs.World.{party_at, Message, Event, Run, put, is_port, at_cable, Side, One, Two, peer, at_side, World, Fixed, moved, AllMoves, all_moved, Counts, Calls}
+use Rattle.lagmodel.specs.World.{party_at, Ends, port_on, end_at, Message, Event, Run, put, is_port, at_cable, Side, One, Two, peer, at_side, World, Fixed, moved, AllMoves, all_moved, Counts, Calls}
 use Rattle.lagmodel.specs.Law.{Members}
 use Rattle.lagmodel.specs.Kept.{Become, find_number, AreNumbered, ports_of, called}
-use Rattle.lagmodel.proofs.Base.{value_of, cond_true, cond_false}
+use Rattle.lagmodel.proofs.Base.{value_of, mapped_some, cond_true, cond_false}
 use Rattle.lagmodel.proofs.Ports.{members_kept, members_first}
 use Rattle.lagmodel.proofs.Lines.{put_cases}
 use Rattle.lagmodel.proofs.Lanes.{conversation_cases}
@@ -77,6 +80,39 @@ moves_flows u call v seen f x = (
     same_view : (ms : List FlowMove) (v : View) → after_all u (map (λ (m : FlowMove). Flow m) ms) v ≡ record v { flows = flows_after_all ms v.flows }
     same_view [] v = refl
     same_view (m ∷ ms) v = same_view ms (record v { flows = flows_after m v.flows })
+
+-- one move of the conversations
+pub flows_one : (mac : List ℕ) (call : Call) (D : ℕ → ℕ → Type 0) (f : Flows) (m : FlowMove) → FlowAllowed mac call D f m → FlowMoves mac call D f (option_to_list (flow_act mac m f)) (flows_after m f)
+flows_one mac call D f m h = (m ∷ [], (h, tt), nothing_more (flow_act mac m f), refl)
+  where
+    nothing_more : (o : Option Act) → option_to_list o ++ [] ≡ option_to_list o
+    nothing_more None = refl
+    nothing_more (Some y) = refl
+
+-- moves of the conversations one after another
+pub flows_joined : (mac : List ℕ) (call : Call) (D : ℕ → ℕ → Type 0) (old mid new : Flows) (seen more : List Act) → FlowMoves mac call D old seen mid → FlowMoves mac call D mid more new → FlowMoves mac call D old (seen ++ more) new
+flows_joined mac call D old mid new seen more a b = (
+  a.0 ++ b.0,
+  allowed a.0 b.0 old a.1 (subst (λ f. AllFlowAllowed mac call D f b.0) a.3 b.1),
+  same_acts a.0 b.0 old
+      ∙ ap (λ (l : List Act). l ++ flow_acts mac b.0 (flows_after_all a.0 old)) a.2
+      ∙ ap (λ (l : List Act). seen ++ l) (ap (flow_acts mac b.0) (sym a.3) ∙ b.2),
+  b.3 ∙ ap (flows_after_all b.0) a.3 ∙ sym (after a.0 b.0 old),
+)
+  where
+    allowed : (xs ys : List FlowMove) (f : Flows) → AllFlowAllowed mac call D f xs → AllFlowAllowed mac call D (flows_after_all xs f) ys → AllFlowAllowed mac call D f (xs ++ ys)
+    allowed [] ys f h i = i
+    allowed (m ∷ xs) ys f h i = (h.0, allowed xs ys (flows_after m f) h.1 i)
+
+    after : (xs ys : List FlowMove) (f : Flows) → flows_after_all (xs ++ ys) f ≡ flows_after_all ys (flows_after_all xs f)
+    after [] ys f = refl
+    after (m ∷ xs) ys f = after xs ys (flows_after m f)
+
+    same_acts : (xs ys : List FlowMove) (f : Flows) → flow_acts mac (xs ++ ys) f ≡ flow_acts mac xs f ++ flow_acts mac ys (flows_after_all xs f)
+    same_acts [] ys f = refl
+    same_acts (m ∷ xs) ys f =
+        ap (λ (l : List Act). option_to_list (flow_act mac m f) ++ l) (same_acts xs ys (flows_after m f))
+        ∙ sym (append_assoc (option_to_list (flow_act mac m f)) (flow_acts mac xs (flows_after m f)) (flow_acts mac ys (flows_after_all xs (flows_after m f))))
 
 -- many conversations changed at once
 pub flows_become : (mac : List ℕ) (call : Call) (D : ℕ → ℕ → Type 0) (keys : List (ℕ × ℕ)) (f : Flows) (new : ℕ → ℕ → Conversation) → Become keys mac call f.state new → FlowMoves mac call D f [] (record f { state = new })
@@ -267,6 +303,11 @@ moves_at number view u call f xs i x y m a h n v allowed =
 -- a call that does nothing, as one that is refused
 pub no_call : (x : Fixed) (s : Side) (call : Call) (stamp : ℕ) (w : World) → Calls x s call stamp w w w
 no_call x s call stamp w = ([], tt, (w.count, (λ t p. inl (refl, refl)), refl))
+
+-- an end of a cable is that of a place of the list
+pub end_there : (cables : List Ends) (s : Side) (c p : ℕ) → end_at cables s c ≡ Some p → (i : ℕ) × (e : Ends) × (c ≡ suc i) × (slice_get cables i ≡ Some e) × (port_on s e ≡ p)
+end_there cables s zero p h = absurd (none-some p h)
+end_there cables s (suc i) p h = let m = mapped_some (port_on s) (slice_get cables i) p h in (i, m.0, refl, m.1, m.2)
 
 -- runs one after another
 pub runs_joined : (x : Fixed) (es fs : List Event) (old mid new : World) → Run x es old mid → Run x fs mid new → Run x (es ++ fs) old new

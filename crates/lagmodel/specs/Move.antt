@@ -46,8 +46,8 @@ PortAllowed u call ports p (Take pdu synchronised) a =
     (call ≡ Receive p (Some (Lacp pdu)))
     × ((pdu.actor ≡ a.partner) ⊎ (a.aggregator ≡ None))
     × (synchronised ≡ true → (pdu.synchronised ≡ true) × ((pdu.partner ≡ a.party) ⊎ (pdu.actor.aggregatable ≡ false)))
--- it joins an aggregator with its key that has no member, or whose members all have its group, which is not individual;
--- not where its partner is its own system, whose ends a pair without order could not tell apart
+-- it joins an aggregator with its key that has no member, or whose members all have its group, which is not individual.
+-- A system is not aggregated with itself (profile)
 PortAllowed u call ports p (Join g) a =
     (a.aggregator ≡ None)
     × (a.partner.system ≢ a.party.system)
