@@ -1,6 +1,6 @@
 -- What code cites. Moves of a system: moves_joined, moves_port, moves_at (of a port in a list), moves_flows, parties_same.
 -- Moves of conversations: flows_one, flows_joined, flows_become (many at once), flows_weaker. Ports that are a list: find_at,
--- ports_set, numbered_set. One system: members_moves, members_call. Worlds: end_there, calls_from, no_call, put_on, put_nowhere,
+-- ports_set, numbered_set. One system: members_moves, members_call, members_driven. Worlds: end_there, calls_from, no_call, put_on, put_nowhere,
 -- runs_joined, same_view, same_world. What holds after a run: `lawful` of Events, and the lemma of each fact in Laws.
 use Rattle.std.proofs.Common.{◌≡◌, ℕ, zero, suc, Bool, true, false, cond, eqb, ◌&&◌, Option, Some, None, List, [], ◌∷◌, ◌++◌, map, set, sym, refl, ap, ◌∙◌, subst, ◌⊎◌, inl, inr, append_assoc, eqb-true, eq-eqb}
 use Rattle.std.specs.Prelude.{option_map, option_to_list, slice_get, IsSomeAnd}
@@ -10,7 +10,7 @@ use Rattle.lagtypes.specs.declared.party.Party.{Party}
 use Rattle.lagmodel.specs.View.{is_restart, PortView, Conversation, Flows, View, Setup, IsSetup, first_view, Call, at_port, at_conversation}
 use Rattle.lagmodel.specs.Move.{Allowed, FlowAllowed, Act, PortMove, PortAllowed, port_after, port_act, ChangeAllowed, changed, FlowMove, flows_after, flow_act, AllFlowAllowed, flows_after_all, flow_acts, FlowMoves, Move, Port, Flow, Restart, Distributes, after, act, act_of_port, AllAllowed, after_all, acts, FreeMoves}
 use Rattle.lagmodel.specs.World.{party_at, Ends, port_on, end_at, Message, Event, Run, put, is_port, at_cable, Side, One, Two, peer, at_side, World, Fixed, moved, AllMoves, all_moved, Counts, Calls}
-use Rattle.lagmodel.specs.Law.{Members}
+use Rattle.lagmodel.specs.Law.{Drives, Members}
 use Rattle.lagmodel.specs.Kept.{Become, find_number, AreNumbered, ports_of, called}
 use Rattle.lagmodel.proofs.Base.{value_of, mapped_some, cond_true, cond_false}
 use Rattle.lagmodel.proofs.Ports.{members_kept, members_first}
@@ -149,6 +149,10 @@ members_moves u call (Restart ∷ ms) v s h i = members_moves u call ms (first_v
 
 pub members_call : (u : Setup) (call : Call) (old new : View) (seen : List Act) → IsSetup u → FreeMoves u call old seen new → Members u old.port → Members u new.port
 members_call u call old new seen s h i = subst (λ (v : View). Members u v.port) (sym h.3) (members_moves u call h.0 old s h.1 i)
+
+pub members_driven : (u : Setup) (calls : List Call) (old new : View) → IsSetup u → Drives u calls old new → Members u old.port → Members u new.port
+members_driven u [] old new s h i = subst (λ (v : View). Members u v.port) (sym h) i
+members_driven u (call ∷ calls) old new s h i = members_driven u calls h.1 new s h.3 (members_call u call old h.1 h.0 s h.2 i)
 
 -- a port of a list is written
 find_set_other : {X : Type 0} (number : X → ℕ) (xs : List X) (i : ℕ) (x y : X) (q : ℕ) → slice_get xs i ≡ Some x → number y ≡ number x → eqb q (number x) ≡ false → find_number number (set xs i y) q ≡ find_number number xs q

@@ -1,8 +1,8 @@
 -- What holds after each event of two systems, whatever the schedule.
 use Rattle.std.specs.Prelude.{◌≡◌, ℕ, ◌<◌, Bool, true, false, ◌&&◌, cond, eqb, ◌⊎◌, Option, Some, IsSome, is_some, List, [], ◌∷◌, ◌++◌, Contains, length, slice_index}
 use Rattle.lagtypes.specs.Group.{individual, SamePair, pair_of}
-use Rattle.lagmodel.specs.View.{PortView, Flushing, port_of, View, Setup, Lacpdu, Lacp, Marker, Response}
-use Rattle.lagmodel.specs.Move.{group_at}
+use Rattle.lagmodel.specs.View.{PortView, Flushing, port_of, View, Setup, Call, Lacpdu, Lacp, Marker, Response}
+use Rattle.lagmodel.specs.Move.{Act, FreeMoves, group_at}
 use Rattle.lagmodel.specs.World.{Side, One, Two, peer, Message, Control, Data, end_at, party_at, Taken, World, Fixed, IsFixed, first_world, Event, Run}
 
 -- xs is what is left of ys when some places are left out
@@ -109,6 +109,11 @@ CollectedThenInFlight w =
 -- The serials that a conversation sent count from 0, so no two of its frames have one serial.
 abbrev pub CountsFromZero : World → Type 0
 CountsFromZero w = (s : Side) (g k i : ℕ) → i < length (w.sent s g k) → slice_index (w.sent s g k) i ≡ i
+
+-- One system makes these calls one after another, each by free moves, whatever others see of it.
+abbrev pub Drives : Setup → List Call → View → View → Type 0
+Drives u [] old new = new ≡ old
+Drives u (call ∷ calls) old new = (seen : List Act) × (mid : View) × FreeMoves u call old seen mid × Drives u calls mid new
 
 -- This holds after each event of each schedule, from the start of each two systems on cables.
 abbrev pub Always : (Fixed → World → Type 0) → Type 0

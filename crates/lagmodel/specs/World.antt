@@ -35,6 +35,7 @@ pub record Ends : Type 0 where
   pub one : ℕ
   pub two : ℕ
 
+-- the end at system s
 abbrev pub port_on : Side → Ends → ℕ
 port_on One e = e.one
 port_on Two e = e.two
@@ -64,11 +65,13 @@ pub record World : Type 0 where
   pub collected : Side → ℕ → ℕ → List ℕ  -- those of them that were handed up at the other system
   pub forced : Side → ℕ → ℕ → Bool  -- whether a conversation was ever forced
 
--- what a world has for good
+-- what a world has for good: both configurations, and the cables
 pub record Fixed : Type 0 where
   pub setup : Side → Setup
   pub cables : List Ends
 
+-- What the law asks of them: parties that name their system and port, and no port with two cables. It asks neither that
+-- the systems differ nor that every cable ends at a port.
 pub record IsFixed (x : Fixed) : Type 0 where
   pub setup : (s : Side) → IsSetup (x.setup s)
   pub cables : IsCabling x.cables
@@ -90,16 +93,18 @@ first_world x = record {
 abbrev pub party_at : View → ℕ → Option Party
 party_at v p = option_map (λ (a : PortView). a.party) (v.port p)
 
+-- the stamp of a control PDU that a port with this change count sends
 abbrev pub stamp_of : Pdu → ℕ → ℕ
 stamp_of (Lacp pdu) count = count
 stamp_of (Marker mac port identifier) count = 0
 stamp_of (Response mac port identifier) count = 0
 
+-- whether a cable's end is port p
 abbrev pub is_port : ℕ → Option ℕ → Bool
 is_port p None = false
 is_port p (Some q) = eqb q p
 
--- m goes onto the cable of port p, if there is one, if that is whole and unless it hands m back
+-- m goes onto the cable of port p, if there is one, if that is whole and unless it hands m back; else m is lost at once
 abbrev pub put : (ℕ → Option ℕ) → (ℕ → Bool) → Bool → ℕ → Message → (ℕ → List Message) → ℕ → List Message
 put ends whole kept p m lines c = cond (kept && (whole c && is_port p (ends c))) (lines c ++ m ∷ []) (lines c)
 
@@ -132,10 +137,12 @@ moved x s stamp m w = record w {
   taken = at_side w.taken s (taken_after stamp (act (x.setup s) m.0 (w.view s)) (w.taken s));
 }
 
+-- moves of system s one after another, each with whether the cable takes what it sends
 abbrev pub AllMoves : Fixed → Side → Call → ℕ → List (Move × Bool) → World → Type 0
 AllMoves x s call stamp [] w = Unit {0}
 AllMoves x s call stamp (m ∷ ms) w = Allowed (x.setup s) call (w.view s) m.0 × AllMoves x s call stamp ms (moved x s stamp m w)
 
+-- and what they lead to
 abbrev pub all_moved : Fixed → Side → ℕ → List (Move × Bool) → World → World
 all_moved x s stamp [] w = w
 all_moved x s stamp (m ∷ ms) w = all_moved x s stamp ms (moved x s stamp m w)
@@ -173,6 +180,7 @@ pub data Event : Type 0 where
   Move_conversation : (s : Side) (aggregator conversation port : ℕ) → Event
   Force : (s : Side) (aggregator conversation : ℕ) → Event
 
+-- f with x at cable c
 abbrev pub at_cable : {X : Type 0} → (ℕ → X) → ℕ → X → ℕ → X
 at_cable f c x d = cond (eqb d c) x (f d)
 
@@ -192,18 +200,20 @@ Receives x s p (Control pdu stamp) old mid new = Calls x s (Call.Receive p (Some
 Receives x s p (Data origin g k serial) old mid new =
     (up : Bool) × Calls x s (Call.Receive p None) 0 old (handed_up up (Data origin g k serial) mid) new
 
--- the first message of a list comes at its end, and is taken away or not
+-- the first message of a list is taken away and comes at the cable's end
 abbrev pub Comes : Fixed → ℕ → Side → Option ℕ → List Message → World → World → Type 0
 Comes x c to port [] old new = new ≡ old
 Comes x c to None (m ∷ ms) old new = ⊥
 Comes x c to (Some p) (m ∷ ms) old new = Receives x to p m old (with_line old c to ms) new
 
+-- the first message of a list comes at the cable's end and stays; a frame is not repeated
 abbrev pub ComesAgain : Fixed → ℕ → Side → Option ℕ → List Message → World → World → Type 0
 ComesAgain x c to port [] old new = new ≡ old
 ComesAgain x c to port (Data origin g k serial ∷ ms) old new = new ≡ old
 ComesAgain x c to None (Control pdu stamp ∷ ms) old new = ⊥
 ComesAgain x c to (Some p) (Control pdu stamp ∷ ms) old new = Receives x to p (Control pdu stamp) old old new
 
+-- the first message of a list is taken away
 abbrev pub IsLost : ℕ → Side → List Message → World → World → Type 0
 IsLost c to [] old new = new ≡ old
 IsLost c to (m ∷ ms) old new = new ≡ with_line old c to ms

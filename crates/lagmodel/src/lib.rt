@@ -26,13 +26,14 @@ pub fn headline()
 ghost use Rattle.std.specs.Prelude.{List};
 ghost use Rattle.lagmodel.specs.View.{View, Setup, IsSetup, Call, first_view};
 ghost use Rattle.lagmodel.specs.Move.{Act, FreeMoves};
-ghost use Rattle.lagmodel.specs.Law.{Members};
+ghost use Rattle.lagmodel.specs.Law.{Drives, Members};
 
-/// One system by itself, whatever reaches it: `Members` holds at first and after each call, and where it holds, ports
-/// that distribute in one aggregator name one partner (6.4.14.1).
+/// One system by itself, whatever reaches it: `Members` holds at first and after each call, so after every list of calls;
+/// and where it holds, ports that distribute in one aggregator name one partner (6.4.14.1).
 pub fn one_system()
     ensures first { (u : Setup) → IsSetup u → Members u (first_view u).port }
     ensures kept { (u : Setup) (call : Call) (old new : View) (seen : List Act) → IsSetup u → FreeMoves u call old seen new → Members u old.port → Members u new.port }
+    ensures always { (u : Setup) (calls : List Call) (v : View) → IsSetup u → Drives u calls (first_view u) v → Members u v.port × OnePartner v }
     ensures one_partner { (u : Setup) (v : View) → Members u v.port → OnePartner v }
 {}
 
