@@ -1,0 +1,68 @@
+-- The command lines of the program, as `clap` reads them (profile).
+use Rattle.std.specs.Prelude.{◌≡◌, ◌≢◌, ⊤, ◌&&◌, if◌then◌else◌, true, false, Bool, List, Option, Some, None, codes, is_some}
+use Rattle.std.specs.Str.{bytes_eq}
+use Rattle.clap.specs.Words.{App, Row, Rule, Text, first_of, new_app, new_rule, with_rule, with_subcommand}
+use Rattle.clap.specs.Words.{IsAmong, Kinds, kind_of}
+use Rattle.clap.specs.declared.error.Error.{Error}
+use Rattle.clap.specs.declared.error.kind.ErrorKind.TheVariants.{DisplayHelp, OutOfMemory}
+use Rattle.lagline.specs.declared.line.LineFault.{LineFault}
+use Rattle.lagline.specs.declared.line.LineFault.TheVariants.{Help, Usage, NoMemory}
+use Rattle.lagline.specs.declared.line.Job.{Job}
+use Rattle.lagline.specs.declared.line.Job.TheVariants.{Decode, Respond}
+
+-- a word that must be given
+abbrev pub word : Text → Rule
+word id = record (new_rule id) { required = true }
+
+abbrev pub decode_line : App
+decode_line = with_rule (new_app (codes "decode")) (word (codes "HEX"))
+
+abbrev pub respond_line : App
+respond_line = with_rule (with_rule (new_app (codes "respond")) (word (codes "MAC"))) (word (codes "HEX"))
+
+-- a subcommand must be given, and none is `help`
+abbrev pub program_alone : App
+program_alone =
+    let a = new_app (codes "lagtool") in
+    record a { top = record a.top { subcommand_required = true; disable_help_subcommand = true } }
+
+-- the program with its subcommands
+abbrev pub lines : App
+lines = with_subcommand (with_subcommand program_alone decode_line.top) respond_line.top
+
+abbrev pub name_of : Job → Text
+name_of (Decode hex) = codes "decode"
+name_of (Respond mac hex) = codes "respond"
+
+-- the job has the values in the rows
+abbrev pub HasValues : Job → List Row → Type 0
+HasValues (Decode hex) rows = first_of (codes "HEX") rows ≡ Some hex.now
+HasValues (Respond mac hex) rows = (first_of (codes "MAC") rows ≡ Some mac.now) × (first_of (codes "HEX") rows ≡ Some hex.now)
+
+-- the job is the subcommand that was found, with its values
+pub record IsJob (found : Option (Text × List Row)) (job : Job) : Type 0 where
+  pub rows : List Row
+  pub named : found ≡ Some (name_of job, rows)
+  pub values : HasValues job rows
+
+abbrev pub has_text : Text → List Row → Bool
+has_text id rows = is_some (first_of id rows)
+
+-- a subcommand of the program was found, with each word that it takes
+abbrev pub is_whole : Option (Text × List Row) → Bool
+is_whole None = false
+is_whole (Some found) =
+    if bytes_eq found.0 (codes "decode") then has_text (codes "HEX") found.1
+    else (bytes_eq found.0 (codes "respond") && (has_text (codes "MAC") found.1 && has_text (codes "HEX") found.1))
+
+-- the fault has the error, by its kind
+abbrev pub KeepsKind : Error → LineFault → Type 0
+KeepsKind e (Help error) = (error ≡ e) × (kind_of e ≡ DisplayHelp)
+KeepsKind e (Usage error) = (error ≡ e) × (kind_of e ≢ DisplayHelp) × (kind_of e ≢ OutOfMemory)
+KeepsKind e NoMemory = kind_of e ≡ OutOfMemory
+
+-- help is shown where the words ask for it, a usage fault is another of the kinds that they give, and memory may run out
+abbrev pub IsCause : Kinds → LineFault → Type 0
+IsCause kinds (Help error) = (kind_of error ≡ DisplayHelp) × IsAmong DisplayHelp kinds
+IsCause kinds (Usage error) = (kind_of error ≢ DisplayHelp) × IsAmong (kind_of error) kinds
+IsCause kinds NoMemory = ⊤

@@ -1,0 +1,122 @@
+ghost use Rattle.std.specs.Prelude.{◌≡◌, [], IfErr, IfOk, OnOk, codes, map, true, false};
+ghost use Rattle.clap.specs.declared.builder.command.Command.TheViews.{out-Command as fields_of};
+ghost use Rattle.clap.specs.Words.{app_of, fault_of, new_app, subcommand_of, subcommand_rows_of, with_rule};
+ghost use Rattle.lagline.specs.declared.line.LineFault.TheVariants.{NoMemory};
+ghost use Rattle.lagline.specs.Lines.{IsCause, IsJob, KeepsKind, is_whole, lines, word};
+
+use clap::error::ErrorKind;
+use clap::{Arg, ArgMatches, Command, Error};
+use std::alloc::{AllocError, Global};
+use std::convert::AsStr;
+
+/// What a command line asks for, with its words as they were given (profile).
+#[derive(Clone, Copy, Debug, PartialEq, Eq)]
+pub enum Job<'a> {
+    /// `lagtool decode HEX`: reads a payload.
+    Decode { hex: &'a str },
+    /// `lagtool respond MAC HEX`: answers a marker frame.
+    Respond { mac: &'a str, hex: &'a str },
+}
+
+/// Why a command line asks for nothing (profile). `Help` and `Usage` carry the text to print.
+#[derive(Debug, Drop)]
+pub enum LineFault {
+    /// The words ask for help.
+    Help(Error),
+    /// The words name no job, or have too few or too many words for it.
+    Usage(Error),
+    /// Memory ran out.
+    NoMemory,
+}
+
+impl From<AllocError> for LineFault {
+    ghost from_gives = { λ _ e. e ≡ NoMemory };
+
+    fn from(_e: AllocError) -> LineFault {
+        LineFault::NoMemory
+    }
+}
+
+/// The fault of an error of `clap`.
+fn fault_in(error: Error) -> LineFault
+    ensures { KeepsKind error result }
+{
+    match error.kind() {
+        ErrorKind::OutOfMemory => LineFault::NoMemory,
+        ErrorKind::DisplayHelp => LineFault::Help(error),
+        _ => LineFault::Usage(error),
+    }
+}
+
+/// A subcommand that takes no words yet.
+fn subcommand<'a>(alloc: Global, name: &'a str, about: &'a str) -> Command<'a>
+    ensures app { app_of result ≡ new_app name.entry.now }
+    ensures local { (fields_of result).has_globals ≡ false }
+{
+    Command::new(alloc, name).about(about)
+}
+
+/// The command with one word more that must be given.
+fn with_word<'a>(
+    command: Command<'a>,
+    alloc: Global,
+    id: &'a str,
+    help: &'a str,
+) -> Result<Command<'a>, AllocError>
+    ensures app { IfOk result (λ c. app_of c ≡ with_rule (app_of command.entry) (word id.entry.now)) }
+    ensures local { IfOk result (λ c. (fields_of command.entry).has_globals ≡ false → (fields_of c).has_globals ≡ false) }
+{
+    command.arg(Arg::new(alloc, id).required(true).help(help))
+}
+
+/// The program with its subcommands.
+fn program<'a>(alloc: Global) -> Result<Command<'a>, AllocError>
+    ensures { IfOk result (λ c. app_of c ≡ lines) }
+{
+    let decode = subcommand(alloc, "decode", "Reads a payload");
+    let decode = with_word(decode, alloc, "HEX", "The payload in hexadecimal")?;
+    let respond = subcommand(alloc, "respond", "Answers a marker frame");
+    let mac = "The source of the answer, twelve hexadecimal digits";
+    let respond = with_word(respond, alloc, "MAC", mac)?;
+    let respond = with_word(respond, alloc, "HEX", "The frame in hexadecimal")?;
+    Command::new(alloc, "lagtool")
+        .bin_name("lagtool")?
+        .subcommand_required(true)
+        .disable_help_subcommand(true)
+        .subcommand(decode)?
+        .subcommand(respond)
+}
+
+/// The job of a subcommand with its values.
+fn job_in<'a>(matches: &ArgMatches<'a>) -> Job<'a>
+    requires { is_whole (subcommand_rows_of matches.now) ≡ true }
+    ensures { IsJob (subcommand_rows_of matches.now) result }
+{
+    let (name, values) = matches.subcommand().unwrap();
+    match name {
+        "decode" => Job::Decode {
+            hex: values.get_str("HEX").unwrap(),
+        },
+        "respond" => Job::Respond {
+            mac: values.get_str("MAC").unwrap(),
+            hex: values.get_str("HEX").unwrap(),
+        },
+        _ => unreachable!(),
+    }
+}
+
+/// Reads the words of a command line, the program's name first (profile). `Help` comes where they
+/// ask for help, `Usage` where they are no line of the program, `NoMemory` where memory ran out.
+pub fn read_line<'a, S: AsStr>(alloc: Global, words: &'a [S]) -> Result<Job<'a>, LineFault>
+    // The job is the subcommand, with the values, that the words name.
+    ensures job { IfOk result (λ job. IsJob (subcommand_of lines (map S.text words.entry.now)) job) }
+    // A line with a fault has no job.
+    ensures faultless { OnOk result (fault_of lines (map S.text words.entry.now) ≡ []) }
+    // Help is shown only where the words ask for it, and a usage fault is one of theirs.
+    ensures fault { IfErr result (λ e. IsCause (fault_of lines (map S.text words.entry.now)) e) }
+{
+    match program(alloc)?.try_get_matches_from(words) {
+        Ok(matches) => Ok(job_in(&matches)),
+        Err(error) => Err(fault_in(error)),
+    }
+}

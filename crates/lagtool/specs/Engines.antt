@@ -1,0 +1,34 @@
+-- How the engines of the program end (profile).
+use Rattle.std.specs.Prelude.{◌≡◌, ⊤, ℕ, Bool, List, Option, Result, Ok, Err, IsErr}
+use Rattle.hex.specs.Hex.{decode_of}
+use Rattle.lagtool.specs.declared.fault.ToolFault.{ToolFault}
+use Rattle.lagtool.specs.declared.fault.ToolFault.TheVariants.{Write, NoMemory, NotHex, NotMac}
+use Rattle.lagtool.specs.Reports.{IsMac, IsReplied, IsShown}
+use Rattle.lagtool.specs.Sinks.{Breaks, SinkState, Takes}
+
+-- why a text in hexadecimal has no octets; memory may run out
+abbrev pub HasNoOctets : List ℕ → ToolFault → Type 0
+HasNoOctets hex NotHex = IsErr (decode_of hex)
+HasNoOctets hex NoMemory = ⊤
+HasNoOctets hex Write = ⊥
+HasNoOctets hex NotMac = ⊥
+
+-- how `show` ends: the text is written whole, a beginning of it, or nothing
+abbrev pub Shows : {W : Type 0} → (W → Option (List ℕ)) → List ℕ → SinkState W → SinkState W → Result Bool ToolFault → Type 0
+Shows contents hex old new (Ok accepted) = (text : List ℕ) × IsShown hex text accepted × Takes contents old new text
+Shows contents hex old new (Err Write) = (text : List ℕ) × (accepted : Bool) × IsShown hex text accepted × Breaks contents old new text
+Shows contents hex old new (Err NoMemory) = new ≡ old
+Shows contents hex old new (Err NotHex) = IsErr (decode_of hex) × (new ≡ old)
+Shows contents hex old new (Err NotMac) = ⊥
+
+-- some address is said by these digits
+abbrev pub SaysMac : List ℕ → Type 0
+SaysMac mac = (source : List ℕ) × IsMac mac source
+
+-- how `reply` ends; the address is looked at before all else
+abbrev pub Replies : {W : Type 0} → (W → Option (List ℕ)) → List ℕ → List ℕ → SinkState W → SinkState W → Result Bool ToolFault → Type 0
+Replies contents mac hex old new (Ok answered) = (text : List ℕ) × IsReplied mac hex text answered × Takes contents old new text
+Replies contents mac hex old new (Err Write) = (text : List ℕ) × (answered : Bool) × IsReplied mac hex text answered × Breaks contents old new text
+Replies contents mac hex old new (Err NoMemory) = SaysMac mac × (new ≡ old)
+Replies contents mac hex old new (Err NotHex) = SaysMac mac × IsErr (decode_of hex) × (new ≡ old)
+Replies contents mac hex old new (Err NotMac) = (SaysMac mac → ⊥) × (new ≡ old)

@@ -1,0 +1,4 @@
+pub mod Texts
+pub mod Sinks
+pub mod Reports
+pub mod Engines

@@ -1,0 +1,52 @@
+-- What the program prints (profile).
+use Rattle.std.specs.Prelude.{ℕ, ◌++◌, List, [], ◌∷◌, codes, decimal}
+use Rattle.lagtypes.specs.Texts.{mac_text, system_text, port_text, state_text}
+use Rattle.lagtypes.specs.Octet.{octet}
+use Rattle.slowpdu.specs.declared.pdu.Info.{Info}
+use Rattle.slowpdu.specs.declared.pdu.Lacpdu.{Lacpdu}
+use Rattle.slowpdu.specs.declared.pdu.MarkerKind.{MarkerKind}
+use Rattle.slowpdu.specs.declared.pdu.MarkerKind.TheVariants.{Information, Response}
+use Rattle.slowpdu.specs.declared.pdu.Marker.{Marker}
+use Rattle.slowpdu.specs.declared.pdu.Pdu.{Pdu}
+use Rattle.slowpdu.specs.declared.pdu.Pdu.TheVariants as pdu
+use Rattle.slowpdu.specs.declared.fault.WireFault.{WireFault}
+use Rattle.slowpdu.specs.declared.fault.WireFault.TheVariants.{Short, OtherSubtype, BadLength, MarkerTlv}
+use Rattle.lagtool.specs.declared.fault.ToolFault.{ToolFault}
+use Rattle.lagtool.specs.declared.fault.ToolFault.TheVariants.{Write, NoMemory, NotHex, NotMac}
+
+-- SYSTEM key K port PORT state HH WORDS
+abbrev pub info_text : Info → List ℕ
+info_text info =
+    system_text info.system ++ (codes " key " ++ (decimal info.key.0 ++ (codes " port " ++ (port_text info.port ++ (codes " state " ++ state_text (octet info.state))))))
+
+-- the four lines of an LACPDU
+abbrev pub lacpdu_text : Lacpdu → List ℕ
+lacpdu_text v =
+    codes "lacpdu\nactor " ++ (info_text v.actor ++ (codes "\npartner " ++ (info_text v.partner ++ (codes "\nmax-delay " ++ (decimal v.max_delay ++ 10 ∷ [])))))
+
+-- the two lines of a Marker PDU
+abbrev pub kind_text : MarkerKind → List ℕ
+kind_text Information = codes "marker"
+kind_text Response = codes "marker-response"
+
+abbrev pub marker_text : Marker → List ℕ
+marker_text m =
+    kind_text m.kind ++ (codes "\nport " ++ (decimal m.port ++ (codes " system " ++ (mac_text m.system ++ (codes " id " ++ (decimal m.id ++ 10 ∷ []))))))
+
+abbrev pub pdu_text : Pdu → List ℕ
+pdu_text (pdu.Lacpdu v) = lacpdu_text v
+pdu_text (pdu.Marker m) = marker_text m
+
+-- the line of a refusal
+abbrev pub wire_fault_text : WireFault → List ℕ
+wire_fault_text (Short have) = codes "refused 1 short have " ++ (decimal have ++ 10 ∷ [])
+wire_fault_text (OtherSubtype n) = codes "refused 2 subtype " ++ (decimal n ++ 10 ∷ [])
+wire_fault_text (BadLength at found) = codes "refused 3 length at " ++ (decimal at ++ (codes " found " ++ (decimal found ++ 10 ∷ [])))
+wire_fault_text (MarkerTlv n) = codes "refused 4 marker-tlv " ++ (decimal n ++ 10 ∷ [])
+
+-- why a line could not be done, as standard error says it behind `lagtool: `
+abbrev pub tool_fault_text : ToolFault → List ℕ
+tool_fault_text Write = codes "cannot write"
+tool_fault_text NoMemory = codes "out of memory"
+tool_fault_text NotHex = codes "not hex"
+tool_fault_text NotMac = codes "not a mac"

@@ -1,0 +1,43 @@
+ghost use Rattle.std.specs.Prelude.{◌≡◌, Some};
+ghost use Rattle.lagtool.specs.declared.fault.ToolFault.TheVariants.{NoMemory};
+ghost use Rattle.lagtool.specs.Texts.{tool_fault_text};
+
+use std::alloc::AllocError;
+use std::error::Error;
+use std::fmt;
+
+/// Why the program could not do what a line asks (profile).
+#[derive(Clone, Copy, Debug, PartialEq, Eq)]
+pub enum ToolFault {
+    /// Standard output failed, or took none of some octets.
+    Write,
+    /// Memory ran out.
+    NoMemory,
+    /// The payload or the frame is not hexadecimal.
+    NotHex,
+    /// The MAC address is not twelve hexadecimal digits.
+    NotMac,
+}
+
+impl fmt::Display for ToolFault {
+    ghost output = { λ e. Some (tool_fault_text e) };
+
+    fn fmt<W: fmt::Write>(&self, f: &mut fmt::Formatter<W>) -> fmt::Result {
+        match self {
+            ToolFault::Write => f.write_str("cannot write"),
+            ToolFault::NoMemory => f.write_str("out of memory"),
+            ToolFault::NotHex => f.write_str("not hex"),
+            ToolFault::NotMac => f.write_str("not a mac"),
+        }
+    }
+}
+
+impl Error for ToolFault {}
+
+impl From<AllocError> for ToolFault {
+    ghost from_gives = { λ _ e. e ≡ NoMemory };
+
+    fn from(_e: AllocError) -> ToolFault {
+        ToolFault::NoMemory
+    }
+}

@@ -1,0 +1,51 @@
+ghost use Rattle.std.specs.Prelude.{◌≡◌, false, Ok, IfOk, IfErr, string_bytes};
+ghost use Rattle.hex.specs.Hex.{decode_of};
+ghost use Rattle.lagtool.specs.Engines.{HasNoOctets, Shows};
+ghost use Rattle.lagtool.specs.Reports.{IsReport};
+
+use crate::fault::ToolFault;
+use crate::sink::Sink;
+use crate::texts::{PduText, WireFaultText};
+use hex::FromHexError;
+use slowpdu::decode;
+use std::alloc::{AllocError, Global};
+use std::io::Write;
+
+/// The octets of a text in hexadecimal digits of either case.
+pub fn octets_of(alloc: Global, text: &str) -> Result<Vec<u8>, ToolFault>
+    ensures ok { IfOk result (λ octets. decode_of text.now ≡ Ok octets.items) }
+    ensures err { IfErr result (HasNoOctets text.now) }
+{
+    match hex::decode(alloc, text) {
+        Ok(octets) => Ok(octets),
+        Err(FromHexError::OutOfMemory) => Err(ToolFault::NoMemory),
+        Err(_) => Err(ToolFault::NotHex),
+    }
+}
+
+/// The text for a payload, and whether it was accepted.
+fn report(alloc: Global, payload: &[u8]) -> Result<(String, bool), AllocError>
+    ensures { IfOk result (λ r. IsReport payload.now (string_bytes r.0) r.1) }
+{
+    match decode(payload) {
+        Ok(pdu) => Ok((format!(in alloc; "{}", PduText(&pdu))?, true)),
+        Err(fault) => Ok((format!(in alloc; "{}", WireFaultText(fault))?, false)),
+    }
+}
+
+/// Writes what a payload in hexadecimal says; true where it is accepted (profile).
+///
+/// `NotHex` comes where the text is not hexadecimal, an odd count of digits among it, `NoMemory`
+/// where memory ran out; nothing is written then. `Write` comes where the sink failed in this
+/// call; nothing or a beginning of the text is written then.
+pub fn show<W: Write>(alloc: Global, hex: &str, sink: &mut Sink<W>) -> Result<bool, ToolFault>
+    requires { sink.old.failed ≡ false }
+    ensures { Shows W.contents hex.now sink.old sink.new result }
+{
+    let octets = octets_of(alloc, hex)?;
+    let (text, accepted) = report(alloc, octets.as_slice())?;
+    match sink.put(text.as_str().as_bytes()) {
+        Ok(()) => Ok(accepted),
+        Err(_) => Err(ToolFault::Write),
+    }
+}

@@ -1,0 +1,81 @@
+ghost use Rattle.std.specs.Prelude.{◌≡◌, ◌≤◌, ◌<◌, length, take, true, false, IfOk, OnOk, OnErr};
+ghost use Rattle.std.specs.Io.KnownBytes.{Appends, Keeps};
+ghost use Rattle.lagtool.specs.Sinks.{Breaks, Takes};
+
+use std::io::Write;
+use std::marker::Model;
+
+/// A writer that remembers whether it failed (profile).
+#[derive(Drop)]
+pub struct Sink<W: Write> {
+    inner: W,
+    failed: bool,
+}
+
+impl<W: Write> Model for Sink<W> {
+    ghost use Rattle.lagtool.specs.Sinks.{SinkState};
+
+    ghost Value = { SinkState W };
+
+    ghost view = { λ s. record { writer = s.inner; failed = s.failed } };
+}
+
+/// The sink took not all of what it was given.
+#[derive(Clone, Copy, Debug, PartialEq, Eq)]
+pub struct WriteFailed;
+
+impl<W: Write> Sink<W> {
+    /// A sink that has not failed.
+    pub fn new(inner: W) -> Self
+        ensures { result ≡ record { writer = inner; failed = false } }
+    {
+        Sink {
+            inner,
+            failed: false,
+        }
+    }
+
+    /// Whether a call of the writer failed, or a write of some octets took none.
+    pub fn failed(&self) -> bool
+        ensures { result ≡ self.now.failed }
+    {
+        self.failed
+    }
+
+    /// Gives the writer back.
+    pub fn into_inner(self) -> W
+        ensures { result ≡ self.writer }
+    {
+        let Sink { inner, failed: _ } = self;
+        inner
+    }
+
+    /// Writes some of the octets.
+    fn put_some(&mut self, octets: &[u8]) -> Result<usize, WriteFailed>
+        requires { 0 < length octets.now }
+        ensures some { IfOk result (λ n. (0 < n) × (n ≤ length octets.now)) }
+        ensures ok { IfOk result (λ n. Takes W.contents self.old self.new (take n octets.now)) }
+        ensures err { OnErr result (Keeps (W.contents self.old.writer) (W.contents self.new.writer) × (self.new.failed ≡ true)) }
+    {
+        match self.inner.write(octets) {
+            Ok(n) if n > 0 => Ok(n),
+            _ => {
+                self.failed = true;
+                Err(WriteFailed)
+            }
+        }
+    }
+
+    /// Writes all of the octets; after a failure a beginning of them is written.
+    pub fn put(&mut self, octets: &[u8]) -> Result<(), WriteFailed>
+        ensures ok { OnOk result (Takes W.contents self.old self.new octets.now) }
+        ensures err { OnErr result (Breaks W.contents self.old self.new octets.now) }
+    {
+        let mut rest = octets;
+        while !rest.is_empty() {
+            let n = self.put_some(rest)?;
+            rest = &rest[n..];
+        }
+        Ok(())
+    }
+}

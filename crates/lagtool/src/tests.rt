@@ -1,0 +1,337 @@
+ghost use Rattle.std.specs.Prelude.{◌≡◌, false};
+
+use crate::fault::ToolFault;
+use crate::reply::reply;
+use crate::show::show;
+use crate::sink::Sink;
+use std::alloc::{AllocError, Global};
+use std::io;
+use std::io::Write;
+use std::test::Fail;
+
+/// A text in hexadecimal: each piece, and how often it stands there.
+type Pieces = &'static [(&'static str, usize)];
+
+/// A payload or a frame, whether it is accepted or answered, and what is printed.
+type Row = (Pieces, bool, &'static str);
+
+const ACTIVE_SHORT: &str = "lacpdu
+actor 32768/02-00-00-00-00-01 key 1 port 128/1 state c7 active,short,aggregatable,defaulted,expired
+partner 0/00-00-00-00-00-00 key 0 port 0/0 state 02 short
+max-delay 0
+";
+
+const ACTOR: &str = "010101148000020000000001000100800001c7000000";
+
+const MARKER: &str = "020101100001020000000001ffffffffbeef";
+
+const LACPDU: Pieces = &[
+    (ACTOR, 1),
+    ("0214", 1),
+    ("00", 14),
+    ("02000000", 1),
+    ("0310", 1),
+    ("00", 66),
+];
+
+const PAYLOADS: [Row; 11] = [
+    (LACPDU, true, ACTIVE_SHORT),
+    // Version 2, other TLV types, and reserved octets that are not zero.
+    (
+        &[
+            ("010209148000020000000001000100800001c7ffffff", 1),
+            ("0914", 1),
+            ("00", 14),
+            ("02ffffff", 1),
+            ("09100000", 1),
+            ("ff", 64),
+        ],
+        true,
+        ACTIVE_SHORT,
+    ),
+    // One octet too few.
+    (
+        &[
+            (ACTOR, 1),
+            ("0214", 1),
+            ("00", 14),
+            ("02000000", 1),
+            ("0310", 1),
+            ("00", 65),
+        ],
+        false,
+        "refused 1 short have 109\n",
+    ),
+    // Octets behind the payload.
+    (
+        &[
+            (ACTOR, 1),
+            ("0214", 1),
+            ("00", 14),
+            ("02000000", 1),
+            ("0310", 1),
+            ("00", 66),
+            ("aa", 40),
+        ],
+        true,
+        ACTIVE_SHORT,
+    ),
+    (&[], false, "refused 1 short have 0\n"),
+    // Two wrong lengths: the lower offset is named.
+    (
+        &[
+            (ACTOR, 1),
+            ("0213", 1),
+            ("00", 14),
+            ("02000000", 1),
+            ("030f", 1),
+            ("00", 66),
+        ],
+        false,
+        "refused 3 length at 23 found 19\n",
+    ),
+    (&[("03", 1), ("00", 109)], false, "refused 2 subtype 3\n"),
+    (
+        &[(MARKER, 1), ("00", 92)],
+        true,
+        "marker\nport 1 system 02-00-00-00-00-01 id 4294967295\n",
+    ),
+    (
+        &[("020102100001020000000001ffffffff", 1), ("00", 94)],
+        true,
+        "marker-response\nport 1 system 02-00-00-00-00-01 id 4294967295\n",
+    ),
+    (
+        &[("020103100001020000000001ffffffffbeef", 1), ("00", 92)],
+        false,
+        "refused 4 marker-tlv 3\n",
+    ),
+    (
+        &[("0201010f0001020000000001ffffffffbeef", 1), ("00", 92)],
+        false,
+        "refused 3 length at 3 found 15\n",
+    ),
+];
+
+const TO_ALL: &str = "0180c2000002";
+
+const SLOW: &str = "8809";
+
+const FRAMES: [(Pieces, &str); 7] = [
+    (
+        &[
+            (TO_ALL, 1),
+            ("020000000002", 1),
+            (SLOW, 1),
+            ("020102100001020000000001ffffffff", 1),
+            ("00", 94),
+        ],
+        "no answer marker-response\n",
+    ),
+    (&[("0200000000200200000000100800", 1)], "no answer data\n"),
+    (&[("02000000002002000000001088", 1)], "no answer runt\n"),
+    (&[], "no answer runt\n"),
+    (
+        &[
+            (TO_ALL, 1),
+            ("020000000001", 1),
+            (SLOW, 1),
+            (ACTOR, 1),
+            ("0214", 1),
+            ("00", 14),
+            ("02000000", 1),
+            ("0310", 1),
+            ("00", 66),
+        ],
+        "no answer lacpdu\n",
+    ),
+    (
+        &[(TO_ALL, 1), ("020000000001", 1), (SLOW, 1)],
+        "refused 1 short have 0\n",
+    ),
+    (
+        &[
+            (TO_ALL, 1),
+            ("020000000001", 1),
+            (SLOW, 1),
+            ("03", 1),
+            ("00", 109),
+        ],
+        "refused 2 subtype 3\n",
+    ),
+];
+
+/// The text that the pieces make.
+fn joined(alloc: Global, pieces: &[(&str, usize)]) -> Result<String, AllocError> {
+    let mut text = String::new(alloc);
+    for (piece, count) in pieces {
+        for _ in 0..*count {
+            text.push_str(piece)?;
+        }
+    }
+    Ok(text)
+}
+
+fn shown(alloc: Global, hex: &str) -> Result<(bool, Vec<u8>), ToolFault> {
+    let mut sink = Sink::new(Vec::new(alloc));
+    let accepted = show(alloc, hex, &mut sink)?;
+    Ok((accepted, sink.into_inner()))
+}
+
+fn replied(alloc: Global, mac: &str, hex: &str) -> Result<(bool, Vec<u8>), ToolFault> {
+    let mut sink = Sink::new(Vec::new(alloc));
+    let answered = reply(alloc, mac, hex, &mut sink)?;
+    Ok((answered, sink.into_inner()))
+}
+
+#[test]
+fn payloads_in_both_cases(rt: HostRuntime) -> Result<(), Fail> {
+    for (pieces, accepted, text) in PAYLOADS {
+        let mut hex = joined(rt.alloc(), pieces)?;
+        let (verdict, written) = shown(rt.alloc(), hex.as_str())?;
+        assert!(rt;
+            verdict == accepted && written.as_slice() == text.as_bytes(),
+            "{hex}"
+        );
+        hex.make_ascii_uppercase();
+        let (verdict, written) = shown(rt.alloc(), hex.as_str())?;
+        assert!(rt;
+            verdict == accepted && written.as_slice() == text.as_bytes(),
+            "{hex}"
+        );
+    }
+    Ok(())
+}
+
+#[test]
+fn a_marker_is_answered(rt: HostRuntime) -> Result<(), Fail> {
+    let alloc = rt.alloc();
+    for (mac, source) in [
+        ("020000000002", "020000000002"),
+        ("02ABCDEF0002", "02abcdef0002"),
+    ] {
+        // Whatever the destination.
+        let marker = [("0200000000090200000000018809", 1), (MARKER, 1), ("00", 92)];
+        let answer = [
+            (TO_ALL, 1),
+            (source, 1),
+            (SLOW, 1),
+            ("020102100001020000000001ffffffff", 1),
+            ("00", 94),
+            ("\n", 1),
+        ];
+        let frame = joined(alloc, &marker)?;
+        let text = joined(alloc, &answer)?;
+        let (answered, written) = replied(alloc, mac, frame.as_str())?;
+        assert!(rt;
+            answered && written.as_slice() == text.as_str().as_bytes(),
+            "{mac}"
+        );
+    }
+    Ok(())
+}
+
+#[test]
+fn other_frames_are_not_answered(rt: HostRuntime) -> Result<(), Fail> {
+    for (pieces, text) in FRAMES {
+        let frame = joined(rt.alloc(), pieces)?;
+        let (answered, written) = replied(rt.alloc(), "020000000002", frame.as_str())?;
+        assert!(rt;
+            !answered && written.as_slice() == text.as_bytes(),
+            "{frame}"
+        );
+    }
+    Ok(())
+}
+
+#[test]
+fn words_that_are_not_hexadecimal(rt: HostRuntime) {
+    let alloc = rt.alloc();
+    for hex in ["0", "010", "zz", "0g", "01 1", "0x01", "é1"] {
+        let said = shown(alloc, hex);
+        assert!(rt; matches!(said, Err(ToolFault::NotHex)), "{hex}");
+        let said = replied(alloc, "020000000002", hex);
+        assert!(rt; matches!(said, Err(ToolFault::NotHex)), "{hex}");
+    }
+}
+
+#[test]
+fn words_that_are_no_address(rt: HostRuntime) {
+    // The frame is no hexadecimal either, and the address is looked at first.
+    for mac in [
+        "",
+        "02000000000",
+        "0200000000021",
+        "02000000000002",
+        "02000000000g",
+    ] {
+        let said = replied(rt.alloc(), mac, "zz");
+        assert!(rt; matches!(said, Err(ToolFault::NotMac)), "{mac}");
+    }
+}
+
+/// A writer that takes one octet at a time while it has room, and then none or an error.
+#[derive(Drop)]
+struct Slow {
+    taken: Vec<u8>,
+    room: usize,
+    errs: bool,
+}
+
+impl Write for Slow {
+    fn write(&mut self, buf: &[u8]) -> io::Result<usize> {
+        if self.taken.len() < self.room && !buf.is_empty() {
+            self.taken.push(buf[0])?;
+            Ok(1)
+        } else if self.errs {
+            Err(io::Error::from(io::ErrorKind::BrokenPipe))
+        } else {
+            Ok(0)
+        }
+    }
+
+    fn flush(&mut self) -> io::Result<()> {
+        Ok(())
+    }
+}
+
+/// A sink with room for so many octets.
+fn sink_of(alloc: Global, room: usize, errs: bool) -> Sink<Slow>
+    ensures { result.failed ≡ false }
+{
+    let taken = Vec::new(alloc);
+    Sink::new(Slow { taken, room, errs })
+}
+
+#[test]
+fn a_sink_that_fails_at_each_octet(rt: HostRuntime) -> Result<(), Fail> {
+    let alloc = rt.alloc();
+    let hex = joined(alloc, LACPDU)?;
+    let text = ACTIVE_SHORT.as_bytes();
+    for room in 0..=text.len() {
+        let fits = room == text.len();
+        let expected = if fits {
+            Ok(true)
+        } else {
+            Err(ToolFault::Write)
+        };
+        for errs in [false, true] {
+            let mut sink = sink_of(alloc, room, errs);
+            let answer = show(alloc, hex.as_str(), &mut sink);
+            assert!(rt; answer == expected && sink.failed() != fits, "at {room}");
+            assert_eq!(rt; sink.into_inner().taken.as_slice(), &text[..room]);
+        }
+    }
+    Ok(())
+}
+
+#[test]
+fn an_answer_into_a_sink_that_fails(rt: HostRuntime) {
+    let text = b"no answer runt\n";
+    for (room, expected) in [(14, Err(ToolFault::Write)), (15, Ok(false))] {
+        let mut sink = sink_of(rt.alloc(), room, false);
+        let answer = reply(rt.alloc(), "020000000002", "00", &mut sink);
+        assert!(rt; answer == expected, "at {room}");
+        assert_eq!(rt; sink.into_inner().taken.as_slice(), &text[..room]);
+    }
+}
