@@ -1,0 +1,3 @@
+pub mod Runs
+pub mod Rest
+pub mod Windows

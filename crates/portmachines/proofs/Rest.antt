@@ -1,0 +1,31 @@
+-- The mux and periodic machines leave the receive machine at rest.
+use Rattle.std.proofs.Common.{◌≡◌, ℕ, Bool, refl, subst, sym}
+use Rattle.portmachines.specs.declared.receive.ReceiveState.{ReceiveState}
+use Rattle.portmachines.specs.Machines.{Machines}
+use Rattle.portmachines.specs.Rows.{AtRest, Reaches}
+use Rattle.portmachines.specs.Receive.{receive_rows}
+use Rattle.portmachines.specs.Periodic.{periodic_rows, RunsPeriodic}
+use Rattle.portmachines.specs.Mux.{mux_rows}
+use Rattle.portmachines.proofs.Runs.{EachKeeps, Reaches-keeps}
+
+-- what the receive rows look at
+abbrev looked_at : Machines → ReceiveState × Bool × ℕ
+looked_at p = (p.receive, p.enabled, p.current_while)
+
+rest-along : (p q : Machines) → looked_at q ≡ looked_at p → AtRest receive_rows p → AtRest receive_rows q
+rest-along p q e rest =
+    subst (λ (s : ReceiveState × Bool × ℕ). AtRest receive_rows (record p { receive = s.0; enabled = s.1; current_while = s.2 })) (sym e) rest
+
+mux-keeps : (ready : Bool) → EachKeeps looked_at (mux_rows ready)
+mux-keeps ready = (λ p. refl, (λ p. refl, (λ p. refl, (λ p. refl, (λ p. refl, (λ p. refl, tt))))))
+
+periodic-keeps : EachKeeps looked_at periodic_rows
+periodic-keeps = (λ p. refl, (λ p. refl, (λ p. refl, (λ p. refl, (λ p. refl, (λ p. refl, (λ p. refl, tt)))))))
+
+pub rest_after_mux : (ready : Bool) (n : ℕ) (p q : Machines) → Reaches (mux_rows ready) n p q → AtRest receive_rows p → AtRest receive_rows q
+rest_after_mux ready n p q run rest = rest-along p q (Reaches-keeps looked_at (mux_rows ready) (mux-keeps ready) n p q run) rest
+
+pub rest_after_periodic : (p q : Machines) → RunsPeriodic p q → AtRest receive_rows p → AtRest receive_rows q
+rest_after_periodic p q h rest =
+    let mid = rest-along p h.0 (Reaches-keeps looked_at periodic_rows periodic-keeps h.1.0 p h.0 h.1.1) rest in
+    subst (AtRest receive_rows) (sym h.2) mid

@@ -1,0 +1,10 @@
+pub mod Machines
+pub mod Rows
+pub mod Matching
+pub mod Receive
+pub mod Periodic
+pub mod Mux
+pub mod Transmit
+pub mod Start
+pub mod Left
+pub mod Window

@@ -1,0 +1,27 @@
+-- The variables of the machines of one port (6.4.4 to 6.4.10).
+use Rattle.std.specs.Prelude.{ℕ, Bool, List}
+use Rattle.lagtypes.specs.declared.party.Party.{Party}
+use Rattle.lagtypes.specs.declared.party.Choice.{Choice}
+use Rattle.slowpdu.specs.declared.pdu.Info.{Info}
+use Rattle.portmachines.specs.declared.receive.ReceiveState.{ReceiveState}
+use Rattle.portmachines.specs.declared.periodic.PeriodicState.{PeriodicState}
+use Rattle.portmachines.specs.declared.mux.MuxState.{MuxState}
+
+-- a timer is the number of ticks that it has left. Ages are the ticks since a send, the oldest first
+pub record Machines : Type 0 where
+  pub party : Party
+  pub active : Bool
+  pub short : Bool
+  pub enabled : Bool
+  pub receive : ReceiveState
+  pub current_while : ℕ
+  pub partner : Info
+  pub defaulted : Bool
+  pub expired : Bool
+  pub periodic : PeriodicState
+  pub periodic_timer : ℕ
+  pub mux : MuxState
+  pub wait_while : ℕ
+  pub choice : Choice
+  pub ntt : Bool
+  pub ages : List ℕ

@@ -1,0 +1,75 @@
+-- Mux machine, coupled control (6.4.15).
+use Rattle.std.specs.Prelude.{Bool, true, false, not, ◌&&◌, ◌||◌, List, [], ◌∷◌}
+use Rattle.lagtypes.specs.States.{bits_of}
+use Rattle.lagtypes.specs.declared.party.Choice.{Choice}
+use Rattle.lagtypes.specs.declared.party.Choice.TheVariants.{Unselected, Selected}
+use Rattle.portmachines.specs.declared.mux.MuxState.{MuxState}
+use Rattle.portmachines.specs.declared.mux.MuxState.TheVariants.{Detached, Waiting, Attached, CollectingDistributing}
+use Rattle.portmachines.specs.Machines.{Machines}
+use Rattle.portmachines.specs.Rows.{Row}
+
+abbrev pub is_mux : MuxState → MuxState → Bool
+is_mux Detached Detached = true
+is_mux Waiting Waiting = true
+is_mux Attached Attached = true
+is_mux CollectingDistributing CollectingDistributing = true
+is_mux _ _ = false
+
+-- the Synchronization of the port's own side
+abbrev pub is_synchronized : MuxState → Bool
+is_synchronized s = is_mux Attached s || is_mux CollectingDistributing s
+
+-- SELECTED
+abbrev pub is_selected : Choice → Bool
+is_selected Unselected = false
+is_selected (Selected agg) = true
+
+-- UNSELECTED
+abbrev pub is_unselected : Choice → Bool
+is_unselected Unselected = true
+is_unselected (Selected agg) = false
+
+abbrev pub selected : Machines → Bool
+selected p = is_selected p.choice
+
+abbrev pub unselected : Machines → Bool
+unselected p = is_unselected p.choice
+
+-- partner Synchronization
+abbrev pub partner_synchronized : Machines → Bool
+partner_synchronized p = (bits_of p.partner.state).synchronization
+
+abbrev pub start_wait_while : Machines → Machines
+start_wait_while p = record p { wait_while = 20 }
+
+abbrev pub set_ntt : Machines → Machines
+set_ntt p = record p { ntt = true }
+
+-- from this state, where the guard holds, to that state, with the effect. Synchronization, Collecting and
+-- Distributing of the port's own side are what the state says
+abbrev pub mux_row : MuxState → (Machines → Bool) → MuxState → (Machines → Machines) → Row
+mux_row from guard to effect =
+    record {
+      enabled = λ p. is_mux from p.mux && guard p;
+      effect = λ p. effect (record p { mux = to });
+    }
+
+abbrev pub mux_rows : Bool → List Row
+mux_rows ready =
+    -- DETACHED; SELECTED; to WAITING; wait_while starts with 20
+    mux_row Detached selected Waiting start_wait_while
+    -- WAITING; UNSELECTED; to DETACHED; NTT true
+    ∷ mux_row Waiting unselected Detached set_ntt
+    -- WAITING; SELECTED and Ready; to ATTACHED; NTT true
+    ∷ mux_row Waiting (λ p. selected p && ready) Attached set_ntt
+    -- ATTACHED; UNSELECTED; to DETACHED; NTT true
+    ∷ mux_row Attached unselected Detached set_ntt
+    -- ATTACHED; SELECTED and partner Synchronization; to COLLECTING_DISTRIBUTING; NTT true
+    ∷ mux_row Attached (λ p. selected p && partner_synchronized p) CollectingDistributing set_ntt
+    -- COLLECTING_DISTRIBUTING; UNSELECTED, or partner Synchronization false; to ATTACHED; NTT true
+    ∷ mux_row CollectingDistributing (λ p. unselected p || not (partner_synchronized p)) Attached set_ntt
+    ∷ []
+
+-- start, or reinit in any state; to DETACHED; NTT true
+abbrev pub start_mux : Machines → Machines
+start_mux p = record p { mux = Detached; ntt = true }

@@ -1,0 +1,63 @@
+-- Periodic machine (6.4.13).
+use Rattle.std.specs.Prelude.{◌≡◌, ℕ, ◌==◌, Bool, true, false, not, ◌&&◌, ◌||◌, List, [], ◌∷◌}
+use Rattle.lagtypes.specs.States.{bits_of}
+use Rattle.portmachines.specs.declared.periodic.PeriodicState.{PeriodicState}
+use Rattle.portmachines.specs.declared.periodic.PeriodicState.TheVariants.{NoPeriodic, Fast, Slow, PeriodicTx}
+use Rattle.portmachines.specs.Machines.{Machines}
+use Rattle.portmachines.specs.Rows.{Row, Settles, in_order}
+use Rattle.portmachines.specs.Mux.{set_ntt}
+
+abbrev pub is_periodic : PeriodicState → PeriodicState → Bool
+is_periodic NoPeriodic NoPeriodic = true
+is_periodic Fast Fast = true
+is_periodic Slow Slow = true
+is_periodic PeriodicTx PeriodicTx = true
+is_periodic _ _ = false
+
+-- the link is not enabled, or actor and partner are both passive
+abbrev pub is_silent : Machines → Bool
+is_silent p = not p.enabled || (not p.active && not (bits_of p.partner.state).activity)
+
+abbrev pub timer_expired : Machines → Bool
+timer_expired p = p.periodic_timer == 0
+
+-- partner Timeout short
+abbrev pub partner_short : Machines → Bool
+partner_short p = (bits_of p.partner.state).timeout
+
+abbrev pub start_periodic : ℕ → Machines → Machines
+start_periodic n p = record p { periodic_timer = n }
+
+abbrev pub periodic_row : (PeriodicState → Bool) → (Machines → Bool) → PeriodicState → (Machines → Machines) → Row
+periodic_row from guard to effect =
+    record {
+      enabled = λ p. from p.periodic && guard p;
+      effect = λ p. effect (record p { periodic = to });
+    }
+
+-- tried in this order (profile)
+abbrev pub periodic_rows : List Row
+periodic_rows = in_order (λ p. false) (
+    -- any but NO_PERIODIC; link not enabled, or both passive; to NO_PERIODIC
+    periodic_row (λ s. not (is_periodic NoPeriodic s)) is_silent NoPeriodic (λ p. p)
+    -- NO_PERIODIC; that does not hold; to FAST; periodic_timer starts with 10
+    ∷ periodic_row (is_periodic NoPeriodic) (λ p. not (is_silent p)) Fast (start_periodic 10)
+    -- FAST; periodic_timer expired; to PERIODIC_TX; NTT true
+    ∷ periodic_row (is_periodic Fast) timer_expired PeriodicTx set_ntt
+    -- FAST; partner Timeout long; to SLOW; periodic_timer starts with 300
+    ∷ periodic_row (is_periodic Fast) (λ p. not (partner_short p)) Slow (start_periodic 300)
+    -- SLOW; periodic_timer expired, or partner Timeout short; to PERIODIC_TX; NTT true
+    ∷ periodic_row (is_periodic Slow) (λ p. timer_expired p || partner_short p) PeriodicTx set_ntt
+    -- PERIODIC_TX; partner Timeout short; to FAST; periodic_timer starts with 10
+    ∷ periodic_row (is_periodic PeriodicTx) partner_short Fast (start_periodic 10)
+    -- PERIODIC_TX; partner Timeout long; to SLOW; periodic_timer starts with 300
+    ∷ periodic_row (is_periodic PeriodicTx) (λ p. not (partner_short p)) Slow (start_periodic 300)
+    ∷ [])
+
+-- NTT is false in NO_PERIODIC (profile)
+abbrev pub clear_ntt : Machines → Machines
+clear_ntt p = record p { ntt = not (is_periodic NoPeriodic p.periodic) && p.ntt }
+
+-- the periodic rows until none is enabled; then NTT is false in NO_PERIODIC
+abbrev pub RunsPeriodic : Machines → Machines → Type 0
+RunsPeriodic old new = (mid : Machines) × Settles periodic_rows old mid × (new ≡ clear_ntt mid)

@@ -1,0 +1,37 @@
+-- How a port starts.
+use Rattle.std.specs.Prelude.{◌≡◌, true, false, []}
+use Rattle.lagtypes.specs.declared.party.Choice.TheVariants.{Unselected}
+use Rattle.portmachines.specs.declared.port.Setup.{Setup}
+use Rattle.portmachines.specs.declared.receive.ReceiveState.TheVariants.{Initialize}
+use Rattle.portmachines.specs.declared.periodic.PeriodicState.TheVariants.{NoPeriodic}
+use Rattle.portmachines.specs.declared.mux.MuxState.TheVariants.{Detached}
+use Rattle.portmachines.specs.Machines.{Machines}
+use Rattle.portmachines.specs.Rows.{Settles}
+use Rattle.portmachines.specs.Receive.{receive_rows, start_receive, default_partner}
+use Rattle.portmachines.specs.Mux.{start_mux}
+
+-- the start rows of the receive and mux machines, or reinit
+abbrev pub Starts : Machines → Machines → Type 0
+Starts old new = (mid : Machines) × Settles receive_rows (start_receive old) mid × (new ≡ start_mux mid)
+
+-- a port before its start rows: the link is down, and every timer is 0
+abbrev pub blank : Setup → Machines
+blank s =
+    record {
+      party = s.party;
+      active = s.active;
+      short = s.short;
+      enabled = false;
+      receive = Initialize;
+      current_while = 0;
+      partner = default_partner;
+      defaulted = true;
+      expired = false;
+      periodic = NoPeriodic;
+      periodic_timer = 0;
+      mux = Detached;
+      wait_while = 0;
+      choice = Unselected;
+      ntt = false;
+      ages = [];
+    }

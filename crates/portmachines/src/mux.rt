@@ -1,0 +1,88 @@
+ghost use Rattle.std.specs.Prelude.{◌≡◌, ◌≤◌, ◌+◌};
+ghost use Rattle.std.specs.Bool.{OnTrue, OnFalse};
+ghost use Rattle.portmachines.specs.Rows.{Fires, AtRest, Reaches};
+ghost use Rattle.portmachines.specs.Mux.{mux_rows, start_mux, is_synchronized};
+ghost use Rattle.portmachines.specs.Left.{left};
+
+use crate::machines::Machines;
+use lagtypes::Choice;
+
+/// The states of the mux machine under coupled control (6.4.15).
+#[derive(Clone, Copy, Debug, PartialEq, Eq)]
+pub enum MuxState {
+    /// In no aggregator.
+    Detached,
+    /// An aggregator is chosen, and wait_while runs or its other ports are waited for.
+    Waiting,
+    /// In its aggregator, not passing frames.
+    Attached,
+    /// In its aggregator, passing frames both ways.
+    CollectingDistributing,
+}
+
+/// Aggregate_Wait_Time, 2 s (6.4.4).
+const AGGREGATE_WAIT_TIME: u8 = 20;
+
+impl MuxState {
+    /// The Synchronization of the port's own side.
+    pub(crate) fn is_synchronized(self) -> bool
+        ensures { result ≡ is_synchronized self }
+    {
+        match self {
+            MuxState::Attached | MuxState::CollectingDistributing => true,
+            MuxState::Detached | MuxState::Waiting => false,
+        }
+    }
+}
+
+impl Machines {
+    /// Fires the mux row that is enabled, if there is one.
+    fn fire_mux(&mut self, ready: bool) -> bool
+        ensures fired { OnTrue result (Fires (mux_rows ready) self.old self.new) }
+        ensures rest { OnFalse result (AtRest (mux_rows ready) self.old) }
+        ensures same { OnFalse result (self.new ≡ self.old) }
+        ensures fewer { OnTrue result (left ready self.new + 1 ≡ left ready self.old) }
+    {
+        let synchronized = self.partner.state.is_synchronized();
+        let next = match (self.mux, self.choice) {
+            (MuxState::Detached, Choice::Selected(_)) => MuxState::Waiting,
+            (MuxState::Waiting, Choice::Selected(_)) if ready => MuxState::Attached,
+            (MuxState::Waiting | MuxState::Attached, Choice::Unselected) => MuxState::Detached,
+            (MuxState::Attached, Choice::Selected(_)) if synchronized => {
+                MuxState::CollectingDistributing
+            }
+            (MuxState::CollectingDistributing, Choice::Unselected) => MuxState::Attached,
+            (MuxState::CollectingDistributing, Choice::Selected(_)) if !synchronized => {
+                MuxState::Attached
+            }
+            _ => return false,
+        };
+        match next {
+            MuxState::Waiting => self.wait_while = AGGREGATE_WAIT_TIME,
+            _ => self.ntt = true,
+        }
+        self.mux = next;
+        true
+    }
+
+    /// Fires mux rows until none is enabled, and answers how many.
+    pub(crate) fn fire_mux_rows(&mut self, ready: bool) -> u8
+        ensures fired { Reaches (mux_rows ready) result self.old self.new }
+        ensures rest { AtRest (mux_rows ready) self.new }
+        ensures few { result ≤ 3 }
+    {
+        let mut fired = 0;
+        while self.fire_mux(ready) {
+            fired += 1;
+        }
+        fired
+    }
+
+    /// Starts the mux machine.
+    pub(crate) fn start_mux(&mut self)
+        ensures { self.new ≡ start_mux self.old }
+    {
+        self.mux = MuxState::Detached;
+        self.ntt = true;
+    }
+}

@@ -1,0 +1,80 @@
+ghost use Rattle.std.specs.Prelude.{◌≡◌, ◌≤◌, ◌+◌};
+ghost use Rattle.std.specs.Bool.{OnTrue, OnFalse};
+ghost use Rattle.portmachines.specs.Rows.{Fires, AtRest, Reaches};
+ghost use Rattle.portmachines.specs.Periodic.{periodic_rows, RunsPeriodic};
+ghost use Rattle.portmachines.specs.Left.{periodic_left};
+
+use crate::machines::Machines;
+
+/// The states of the periodic machine (6.4.13).
+#[derive(Clone, Copy, Debug, PartialEq, Eq)]
+pub enum PeriodicState {
+    /// No periodic LACPDUs: the link is down, or both ends are passive.
+    NoPeriodic,
+    /// An LACPDU each second.
+    Fast,
+    /// An LACPDU each 30 seconds.
+    Slow,
+    /// An LACPDU is due.
+    PeriodicTx,
+}
+
+/// Fast_Periodic_Time, 1 s (6.4.4).
+const FAST_PERIODIC_TIME: u16 = 10;
+/// Slow_Periodic_Time, 30 s (6.4.4).
+const SLOW_PERIODIC_TIME: u16 = 300;
+
+impl Machines {
+    /// Fires the periodic row that is enabled, if there is one.
+    fn fire_periodic(&mut self) -> bool
+        ensures fired { OnTrue result (Fires periodic_rows self.old self.new) }
+        ensures rest { OnFalse result (AtRest periodic_rows self.old) }
+        ensures same { OnFalse result (self.new ≡ self.old) }
+        ensures fewer { OnTrue result (periodic_left self.new + 1 ≡ periodic_left self.old) }
+    {
+        let silent = !self.enabled || (!self.active && !self.partner.state.is_active());
+        let expired = self.periodic_timer == 0;
+        let short = self.partner.state.is_short();
+        let next = match self.periodic {
+            PeriodicState::NoPeriodic if silent => return false,
+            PeriodicState::NoPeriodic => PeriodicState::Fast,
+            _ if silent => PeriodicState::NoPeriodic,
+            PeriodicState::Fast if expired => PeriodicState::PeriodicTx,
+            PeriodicState::Fast if !short => PeriodicState::Slow,
+            PeriodicState::Slow if expired || short => PeriodicState::PeriodicTx,
+            PeriodicState::PeriodicTx if short => PeriodicState::Fast,
+            PeriodicState::PeriodicTx => PeriodicState::Slow,
+            _ => return false,
+        };
+        match next {
+            PeriodicState::NoPeriodic => {}
+            PeriodicState::Fast => self.periodic_timer = FAST_PERIODIC_TIME,
+            PeriodicState::Slow => self.periodic_timer = SLOW_PERIODIC_TIME,
+            PeriodicState::PeriodicTx => self.ntt = true,
+        }
+        self.periodic = next;
+        true
+    }
+
+    /// Fires periodic rows until none is enabled, and answers how many.
+    fn fire_periodic_rows(&mut self) -> u8
+        ensures fired { Reaches periodic_rows result self.old self.new }
+        ensures rest { AtRest periodic_rows self.new }
+    {
+        let mut fired = 0;
+        while self.fire_periodic() {
+            fired += 1;
+        }
+        fired
+    }
+
+    /// Fires periodic rows until none is enabled, then clears NTT in NO_PERIODIC.
+    pub(crate) fn run_periodic(&mut self)
+        ensures { RunsPeriodic self.old self.new }
+    {
+        let _fired = self.fire_periodic_rows();
+        if self.periodic == PeriodicState::NoPeriodic {
+            self.ntt = false;
+        }
+    }
+}

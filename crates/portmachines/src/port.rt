@@ -1,0 +1,252 @@
+ghost use Rattle.std.specs.Prelude.{◌≡◌, ◌≤◌, ◌==◌, if◌then◌else◌, Some, None};
+ghost use Rattle.portmachines.specs.Rows.{AtRest, Reaches, Settles, FiresIfEnabled};
+ghost use Rattle.portmachines.specs.Receive.{receive_rows, taking_rows};
+ghost use Rattle.portmachines.specs.Periodic.{RunsPeriodic};
+ghost use Rattle.portmachines.specs.Mux.{mux_rows, is_mux};
+ghost use Rattle.portmachines.specs.Transmit.{actor_state, count_down, is_due, pdu_of, sent};
+ghost use Rattle.portmachines.specs.Start.{Starts, blank};
+
+use crate::machines::Machines;
+use crate::mux::MuxState;
+use crate::periodic::PeriodicState;
+use crate::receive::{ReceiveState, default_partner};
+use arrayvec::ArrayVec;
+use lagtypes::{Choice, Party, State};
+use slowpdu::{Info, Lacpdu};
+use std::marker::Model;
+
+/// What a port is made from.
+#[derive(Clone, Copy, Debug, PartialEq, Eq)]
+pub struct Setup {
+    /// The port's own parameters.
+    pub party: Party,
+    /// LACP_Activity: false for a passive port.
+    pub active: bool,
+    /// LACP_Timeout: whether the port asks for short timeouts.
+    pub short: bool,
+}
+
+/// One port: its receive, periodic, mux and transmit machines with their variables. Between calls the
+/// receive machine is at rest: none of its rows is enabled.
+#[derive(Drop)]
+pub struct Port {
+    machines: Machines,
+}
+
+impl Model for Port {
+    ghost use Rattle.portmachines.specs.Machines.{Machines};
+    ghost use Rattle.portmachines.specs.Rows.{AtRest};
+    ghost use Rattle.portmachines.specs.Receive.{receive_rows};
+
+    ghost Value = { Machines };
+
+    ghost view = { λ p. p.machines };
+
+    ghost invariant = { λ p. AtRest receive_rows p.machines };
+}
+
+impl Port {
+    /// A port whose link is down and whose machines have started. NTT is set, as the mux machine's start
+    /// sets it.
+    pub fn new(setup: Setup) -> Port
+        ensures { Starts (blank setup) result }
+    {
+        let mut machines = Machines {
+            party: setup.party,
+            active: setup.active,
+            short: setup.short,
+            enabled: false,
+            receive: ReceiveState::Initialize,
+            current_while: 0,
+            partner: default_partner(),
+            defaulted: true,
+            expired: false,
+            periodic: PeriodicState::NoPeriodic,
+            periodic_timer: 0,
+            mux: MuxState::Detached,
+            wait_while: 0,
+            choice: Choice::Unselected,
+            ntt: false,
+            ages: ArrayVec::new(),
+        };
+        machines.start();
+        Port { machines }
+    }
+
+    /// The link is up or down now: the receive rows fire until none is enabled (6.4.12).
+    pub fn set_link(&mut self, enabled: bool)
+        ensures { Settles receive_rows (record self.old { enabled = enabled }) self.new }
+    {
+        self.machines.enabled = enabled;
+        self.machines.settle_receive();
+    }
+
+    /// Takes an LACPDU that came on the port; while the link is down it has no effect (6.4.12).
+    pub fn take(&mut self, pdu: &Lacpdu)
+        ensures { FiresIfEnabled (taking_rows pdu.now) self.old self.new }
+    {
+        self.machines.take_lacpdu(pdu);
+    }
+
+    /// One tick, 100 ms: counts timers and the ages of the window, then fires an expired current_while row.
+    pub fn tick(&mut self)
+        ensures { Settles receive_rows (count_down self.old) self.new }
+    {
+        self.machines.count_down();
+        self.machines.settle_receive();
+    }
+
+    /// Fires mux rows until none is enabled, and answers how many fired, at most 3 (6.4.15). `ready` is
+    /// Ready of the aggregator that the port was given.
+    pub fn mux(&mut self, ready: bool) -> u8
+        ensures fired { Reaches (mux_rows ready) result self.old self.new }
+        ensures rest { AtRest (mux_rows ready) self.new }
+        ensures few { result ≤ 3 }
+    {
+        self.machines.fire_mux_rows(ready)
+    }
+
+    /// Fires periodic rows until none is enabled, then clears NTT in NO_PERIODIC (6.4.13).
+    pub fn periodic(&mut self)
+        ensures { RunsPeriodic self.old self.new }
+    {
+        self.machines.run_periodic();
+    }
+
+    /// Gives the port what the Selection Logic chose (6.4.14).
+    pub fn select(&mut self, choice: Choice)
+        ensures { self.new ≡ record self.old { choice = choice } }
+    {
+        self.machines.choice = choice;
+    }
+
+    /// Starts the receive and mux machines again, as this party. Link, periodic machine and window stay
+    /// (profile).
+    pub fn reinit(&mut self, party: Party)
+        ensures { Starts (record self.old { party = party }) self.new }
+    {
+        self.machines.party = party;
+        self.machines.start();
+    }
+
+    /// The LACPDU that is due: where NTT is set and fewer than three were sent in the last eleven ticks.
+    /// Sending clears NTT. `max_delay` is the CollectorMaxDelay that it carries (6.4.16).
+    pub fn transmit(&mut self, max_delay: u16) -> Option<Lacpdu>
+        ensures pdu { result ≡ (if is_due self.old then Some (pdu_of self.old max_delay) else None) }
+        ensures state { self.new ≡ (if is_due self.old then sent self.old else self.old) }
+    {
+        self.machines.take_due(max_delay)
+    }
+
+    /// The port's own parameters.
+    pub fn party(&self) -> Party
+        ensures { result ≡ self.now.party }
+    {
+        self.machines.party
+    }
+
+    /// The recorded partner.
+    pub fn partner(&self) -> Info
+        ensures { result ≡ self.now.partner }
+    {
+        self.machines.partner
+    }
+
+    /// The state octet of the port's own side (6.4.2.3, Actor_State).
+    pub fn state(&self) -> State
+        ensures { result ≡ actor_state self.now }
+    {
+        self.machines.state()
+    }
+
+    /// Whether the link is up.
+    pub fn is_enabled(&self) -> bool
+        ensures { result ≡ self.now.enabled }
+    {
+        self.machines.enabled
+    }
+
+    /// Whether the recorded partner is the administrative default.
+    pub fn is_defaulted(&self) -> bool
+        ensures { result ≡ self.now.defaulted }
+    {
+        self.machines.defaulted
+    }
+
+    /// The state of the receive machine.
+    pub fn receive_state(&self) -> ReceiveState
+        ensures { result ≡ self.now.receive }
+    {
+        self.machines.receive
+    }
+
+    /// The state of the periodic machine.
+    pub fn periodic_state(&self) -> PeriodicState
+        ensures { result ≡ self.now.periodic }
+    {
+        self.machines.periodic
+    }
+
+    /// The state of the mux machine.
+    pub fn mux_state(&self) -> MuxState
+        ensures { result ≡ self.now.mux }
+    {
+        self.machines.mux
+    }
+
+    /// Whether the port distributes frames to its aggregator.
+    pub fn distributes(&self) -> bool
+        ensures { result ≡ is_mux MuxState.CollectingDistributing self.now.mux }
+    {
+        self.machines.mux == MuxState::CollectingDistributing
+    }
+
+    /// What the Selection Logic chose last, or UNSELECTED.
+    pub fn choice(&self) -> Choice
+        ensures { result ≡ self.now.choice }
+    {
+        self.machines.choice
+    }
+
+    /// NTT: whether an LACPDU is asked for.
+    pub fn ntt(&self) -> bool
+        ensures { result ≡ self.now.ntt }
+    {
+        self.machines.ntt
+    }
+
+    /// The ticks that current_while has left, up to 900.
+    pub fn current_while(&self) -> u16
+        ensures { result ≡ self.now.current_while }
+    {
+        self.machines.current_while
+    }
+
+    /// The ticks that periodic_timer has left, up to 300.
+    pub fn periodic_timer(&self) -> u16
+        ensures { result ≡ self.now.periodic_timer }
+    {
+        self.machines.periodic_timer
+    }
+
+    /// The ticks that wait_while has left, up to 20.
+    pub fn wait_while(&self) -> u8
+        ensures { result ≡ self.now.wait_while }
+    {
+        self.machines.wait_while
+    }
+
+    /// Whether wait_while has expired.
+    pub fn has_waited(&self) -> bool
+        ensures { result ≡ (self.now.wait_while == 0) }
+    {
+        self.machines.wait_while == 0
+    }
+
+    /// How many ticks ago each LACPDU of the window was sent, the oldest first.
+    pub fn ages(&self) -> ArrayVec<u8, 3>
+        ensures { result.items ≡ self.now.ages }
+    {
+        self.machines.kept_ages()
+    }
+}

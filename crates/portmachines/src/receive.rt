@@ -1,0 +1,220 @@
+ghost use Rattle.std.specs.Prelude.{◌≡◌, ◌+◌, if◌then◌else◌, true};
+ghost use Rattle.std.specs.Bool.{OnTrue, OnFalse};
+ghost use Rattle.portmachines.specs.Rows.{Fires, FiresIfEnabled, AtRest, Reaches, Settles};
+ghost use Rattle.portmachines.specs.Receive.{
+  receive_rows,
+  taking_rows,
+  partner_not_synchronized,
+  expire,
+  default,
+  default_partner,
+  update_selected,
+  record_default,
+  record_pdu,
+  start_current_while,
+  start_receive,
+  knows_actor,
+};
+ghost use Rattle.portmachines.specs.Matching.{same_party};
+ghost use Rattle.portmachines.specs.Left.{receive_left};
+
+use crate::machines::Machines;
+use lagtypes::{Choice, Party, State, StateBits};
+use slowpdu::{Info, Lacpdu};
+
+/// The states of the receive machine (6.4.12).
+#[derive(Clone, Copy, Debug, PartialEq, Eq)]
+pub enum ReceiveState {
+    /// The port starts; it is never found here.
+    Initialize,
+    /// The link is down.
+    PortDisabled,
+    /// No LACPDU has come for a timeout; one is waited for.
+    Expired,
+    /// None came: the partner is the administrative default.
+    Defaulted,
+    /// The partner is what the last LACPDU said.
+    Current,
+}
+
+/// Short_Timeout_Time, 3 s (6.4.4).
+const SHORT_TIMEOUT_TIME: u16 = 30;
+/// Long_Timeout_Time, 90 s (6.4.4).
+const LONG_TIMEOUT_TIME: u16 = 900;
+
+impl Machines {
+    /// Fires a receive row that is enabled, if there is one.
+    fn fire_receive(&mut self) -> bool
+        ensures fired { OnTrue result (Fires receive_rows self.old self.new) }
+        ensures rest { OnFalse result (AtRest receive_rows self.old) }
+        ensures same { OnFalse result (self.new ≡ self.old) }
+        ensures fewer { OnTrue result (receive_left self.new + 1 ≡ receive_left self.old) }
+    {
+        let expired = self.current_while == 0;
+        match self.receive {
+            ReceiveState::PortDisabled if self.enabled => self.expire(),
+            ReceiveState::PortDisabled => return false,
+            ReceiveState::Initialize => self.disable(),
+            _ if !self.enabled => self.disable(),
+            ReceiveState::Expired if expired => self.default(),
+            ReceiveState::Current if expired => self.expire(),
+            _ => return false,
+        }
+        true
+    }
+
+    /// Fires receive rows until none is enabled, and answers how many.
+    fn fire_receive_rows(&mut self) -> u8
+        ensures fired { Reaches receive_rows result self.old self.new }
+        ensures rest { AtRest receive_rows self.new }
+    {
+        let mut fired = 0;
+        while self.fire_receive() {
+            fired += 1;
+        }
+        fired
+    }
+
+    /// Fires receive rows until none is enabled.
+    pub(crate) fn settle_receive(&mut self)
+        ensures { Settles receive_rows self.old self.new }
+    {
+        let _fired = self.fire_receive_rows();
+    }
+
+    /// To PORT_DISABLED.
+    fn disable(&mut self)
+        ensures { self.new ≡ partner_not_synchronized (record self.old { receive = ReceiveState.PortDisabled }) }
+    {
+        self.receive = ReceiveState::PortDisabled;
+        self.partner.state = self.partner.state.with_synchronization(false);
+    }
+
+    /// To EXPIRED.
+    fn expire(&mut self)
+        ensures { self.new ≡ expire (record self.old { receive = ReceiveState.Expired }) }
+    {
+        self.receive = ReceiveState::Expired;
+        self.partner.state = self
+            .partner
+            .state
+            .with_synchronization(false)
+            .with_timeout(true);
+        self.current_while = SHORT_TIMEOUT_TIME;
+        self.expired = true;
+    }
+
+    /// To DEFAULTED.
+    fn default(&mut self)
+        ensures { self.new ≡ default (record self.old { receive = ReceiveState.Defaulted }) }
+    {
+        self.receive = ReceiveState::Defaulted;
+        self.update_selected(&default_partner().party());
+        self.record_default();
+        self.expired = false;
+    }
+
+    /// update_Selected and update_Default_Selected (6.4.9).
+    fn update_selected(&mut self, party: &Party)
+        ensures { self.new ≡ update_selected party.now self.old }
+    {
+        if !agree(party, &self.partner.party()) {
+            self.choice = Choice::Unselected;
+        }
+    }
+
+    /// recordDefault (6.4.9).
+    fn record_default(&mut self)
+        ensures { self.new ≡ record_default self.old }
+    {
+        self.partner = default_partner();
+        self.defaulted = true;
+    }
+
+    /// Starts the receive machine.
+    pub(crate) fn start_receive(&mut self)
+        ensures { self.new ≡ start_receive self.old }
+    {
+        self.receive = ReceiveState::Initialize;
+        self.choice = Choice::Unselected;
+        self.record_default();
+        self.expired = false;
+    }
+
+    /// Takes an LACPDU, if the link is up.
+    pub(crate) fn take_lacpdu(&mut self, pdu: &Lacpdu)
+        ensures { FiresIfEnabled (taking_rows pdu.now) self.old self.new }
+    {
+        if !self.enabled {
+            return;
+        }
+        match self.receive {
+            ReceiveState::Expired | ReceiveState::Defaulted | ReceiveState::Current => {
+                self.receive = ReceiveState::Current;
+                self.update_selected(&pdu.actor.party());
+                self.update_ntt(&pdu.partner);
+                self.record_pdu(pdu);
+                self.start_current_while();
+            }
+            ReceiveState::Initialize | ReceiveState::PortDisabled => {}
+        }
+    }
+
+    /// update_NTT (6.4.9), by what an LACPDU says of this port.
+    fn update_ntt(&mut self, told: &Info)
+        ensures { self.new ≡ record self.old { ntt = if knows_actor told.now self.old then self.old.ntt else true } }
+    {
+        let known = agree(&told.party(), &self.party)
+            && told.state.is_active() == self.active
+            && told.state.is_short() == self.short
+            && told.state.is_synchronized() == self.mux.is_synchronized();
+        if !known {
+            self.ntt = true;
+        }
+    }
+
+    /// recordPDU (6.4.9).
+    fn record_pdu(&mut self, pdu: &Lacpdu)
+        ensures { self.new ≡ record_pdu pdu.now self.old }
+    {
+        let maintained = pdu.actor.state.is_active()
+            || (self.active && pdu.partner.state.is_active());
+        let agreed = agree(&pdu.partner.party(), &self.party) || !pdu.actor.state.is_aggregatable();
+        let synchronized = pdu.actor.state.is_synchronized() && maintained && agreed;
+        self.partner = pdu.actor;
+        self.partner.state = pdu.actor.state.with_synchronization(synchronized);
+        self.defaulted = false;
+    }
+
+    /// Starts current_while, by the port's own LACP_Timeout, and with that ends EXPIRED.
+    fn start_current_while(&mut self)
+        ensures { self.new ≡ start_current_while self.old }
+    {
+        self.current_while = if self.short {
+            SHORT_TIMEOUT_TIME
+        } else {
+            LONG_TIMEOUT_TIME
+        };
+        self.expired = false;
+    }
+}
+
+/// Whether two parties match: all six parameters are equal.
+fn agree(one: &Party, other: &Party) -> bool
+    ensures { result ≡ same_party one.now other.now }
+{
+    one.matches(other)
+}
+
+/// The administrative partner: all zero, with state 0x08 (profile).
+pub(crate) fn default_partner() -> Info
+    ensures { result ≡ default_partner }
+{
+    Info {
+        state: State::from(StateBits {
+            synchronization: true,
+            ..StateBits::default()
+        }),
+        ..Info::default()
+    }
+}

@@ -1,0 +1,56 @@
+ghost use Rattle.std.specs.Prelude.{◌≡◌, if◌then◌else◌, Some, None};
+ghost use Rattle.portmachines.specs.Transmit.{aged, is_due, pdu_of, sent};
+ghost use Rattle.portmachines.specs.Window.{WindowLaw};
+
+use crate::machines::Machines;
+use arrayvec::ArrayVec;
+use slowpdu::Lacpdu;
+
+impl Machines {
+    /// The LACPDU that is due, if one is and the window is not full (6.4.16).
+    pub(crate) fn take_due(&mut self, max_delay: u16) -> Option<Lacpdu>
+        ensures pdu { result ≡ (if is_due self.old then Some (pdu_of self.old max_delay) else None) }
+        ensures state { self.new ≡ (if is_due self.old then sent self.old else self.old) }
+    {
+        if !self.ntt || self.ages.is_full() {
+            return None;
+        }
+        self.ages.push(0);
+        self.ntt = false;
+        Some(Lacpdu {
+            actor: self.actor(),
+            partner: self.partner,
+            max_delay,
+        })
+    }
+
+    /// The ages of the window.
+    pub(crate) fn kept_ages(&self) -> ArrayVec<u8, 3>
+        ensures { result.items ≡ self.now.ages }
+    {
+        let mut ages = ArrayVec::new();
+        for age in self.ages.as_slice() {
+            ages.push(*age);
+        }
+        ages
+    }
+}
+
+/// Raises the ages by one; an age of 11 leaves.
+pub(crate) fn grow_older(ages: &mut ArrayVec<u8, 3>)
+    ensures { ages.new.items ≡ aged ages.old.items }
+{
+    let mut kept = ArrayVec::new();
+    for age in ages.as_slice() {
+        if *age < 10 {
+            kept.push(*age + 1);
+        }
+    }
+    *ages = kept;
+}
+
+/// Any eleven consecutive ticks hold at most three sends, over every list of calls of one port, where the
+/// ages that it kept before count as sends so many ticks earlier (6.4.16).
+pub fn window_holds()
+    ensures { WindowLaw }
+{}
