@@ -1,3 +1,4 @@
 pub mod Runs
 pub mod Rest
+pub mod Choices
 pub mod Windows

@@ -11,7 +11,8 @@ use Rattle.portmachines.specs.Mux.{mux_rows}
 use Rattle.portmachines.specs.Transmit.{count_down, aged, is_due, sent}
 use Rattle.portmachines.specs.Start.{Starts}
 use Rattle.portmachines.proofs.Runs.{EachKeeps, Fires-keeps, Reaches-keeps}
-use Rattle.portmachines.specs.Window.{PortCall, Tick, Transmit, Set_link, Take, Mux, Periodic, Select, Reinit, Sends, sent_before, within_eleven, count_of, KeepsWindow, WindowLaw}
+use Rattle.portmachines.specs.Calls.{PortCall, Tick, Transmit, Set_link, Take, Mux, Periodic, Select, Reinit}
+use Rattle.portmachines.specs.Window.{Sends, sent_before, within_eleven, count_of, KeepsWindow, WindowLaw}
 
 -- rows leave the ages as they are
 

@@ -7,4 +7,5 @@ pub mod Mux
 pub mod Transmit
 pub mod Start
 pub mod Left
+pub mod Calls
 pub mod Window

@@ -35,9 +35,8 @@ periodic_row from guard to effect =
       effect = λ p. effect (record p { periodic = to });
     }
 
--- tried in this order (profile)
-abbrev pub periodic_rows : List Row
-periodic_rows = in_order (λ p. false) (
+abbrev pub periodic_table : List Row
+periodic_table =
     -- any but NO_PERIODIC; link not enabled, or both passive; to NO_PERIODIC
     periodic_row (λ s. not (is_periodic NoPeriodic s)) is_silent NoPeriodic (λ p. p)
     -- NO_PERIODIC; that does not hold; to FAST; periodic_timer starts with 10
@@ -52,7 +51,11 @@ periodic_rows = in_order (λ p. false) (
     ∷ periodic_row (is_periodic PeriodicTx) partner_short Fast (start_periodic 10)
     -- PERIODIC_TX; partner Timeout long; to SLOW; periodic_timer starts with 300
     ∷ periodic_row (is_periodic PeriodicTx) (λ p. not (partner_short p)) Slow (start_periodic 300)
-    ∷ [])
+    ∷ []
+
+-- tried in this order (profile)
+abbrev pub periodic_rows : List Row
+periodic_rows = in_order (λ p. false) periodic_table
 
 -- NTT is false in NO_PERIODIC (profile)
 abbrev pub clear_ntt : Machines → Machines

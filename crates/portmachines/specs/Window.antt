@@ -1,38 +1,9 @@
 -- The window of the transmit machine, over all calls of one port.
 use Rattle.std.specs.Prelude.{◌≡◌, ℕ, ◌+◌, ◌-◌, ◌≤◌, Bool, false, ◌&&◌, List, [], ◌∷◌, ◌++◌, length, map, nat_le, nat_lt, if◌then◌else◌}
 use Rattle.std.specs.List.{AllByRecursion}
-use Rattle.lagtypes.specs.declared.party.Party.{Party}
-use Rattle.slowpdu.specs.declared.pdu.Lacpdu.{Lacpdu}
-use Rattle.lagtypes.specs.declared.party.Choice.{Choice}
 use Rattle.portmachines.specs.Machines.{Machines}
-use Rattle.portmachines.specs.Rows.{Settles, FiresIfEnabled}
-use Rattle.portmachines.specs.Receive.{receive_rows, taking_rows}
-use Rattle.portmachines.specs.Periodic.{RunsPeriodic}
-use Rattle.portmachines.specs.Mux.{mux_rows}
-use Rattle.portmachines.specs.Transmit.{count_down, is_due, sent}
-use Rattle.portmachines.specs.Start.{Starts}
-
--- a call of a port
-pub data PortCall : Type 0 where
-  Tick : PortCall
-  Transmit : (max_delay : ℕ) → PortCall
-  Set_link : (enabled : Bool) → PortCall
-  Take : (pdu : Lacpdu) → PortCall
-  Mux : (ready : Bool) → PortCall
-  Periodic : PortCall
-  Select : (choice : Choice) → PortCall
-  Reinit : (party : Party) → PortCall
-
--- what the contract of each call says of the port
-abbrev pub Does : PortCall → Machines → Machines → Type 0
-Does Tick old new = Settles receive_rows (count_down old) new
-Does (Transmit max_delay) old new = new ≡ (if is_due old then sent old else old)
-Does (Set_link enabled) old new = Settles receive_rows (record old { enabled = enabled }) new
-Does (Take pdu) old new = FiresIfEnabled (taking_rows pdu) old new
-Does (Mux ready) old new = Settles (mux_rows ready) old new
-Does Periodic old new = RunsPeriodic old new
-Does (Select choice) old new = new ≡ record old { choice = choice }
-Does (Reinit party) old new = Starts (record old { party = party }) new
+use Rattle.portmachines.specs.Transmit.{is_due}
+use Rattle.portmachines.specs.Calls.{PortCall, Tick, Transmit, Set_link, Take, Mux, Periodic, Select, Reinit, Does}
 
 -- whether the call answers an LACPDU
 abbrev pub sends : PortCall → Machines → Bool

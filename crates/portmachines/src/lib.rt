@@ -13,6 +13,6 @@ mod transmit;
 
 pub use mux::MuxState;
 pub use periodic::PeriodicState;
-pub use port::{Port, Setup};
+pub use port::{Port, Setup, each_call_has_one_effect};
 pub use receive::ReceiveState;
 pub use transmit::window_holds;

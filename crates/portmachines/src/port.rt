@@ -5,6 +5,7 @@ ghost use Rattle.portmachines.specs.Periodic.{RunsPeriodic};
 ghost use Rattle.portmachines.specs.Mux.{mux_rows, is_mux};
 ghost use Rattle.portmachines.specs.Transmit.{actor_state, count_down, is_due, pdu_of, sent};
 ghost use Rattle.portmachines.specs.Start.{Starts, blank};
+ghost use Rattle.portmachines.specs.Calls.{OneEffect};
 
 use crate::machines::Machines;
 use crate::mux::MuxState;
@@ -250,3 +251,8 @@ impl Port {
         self.machines.kept_ages()
     }
 }
+
+/// The rows leave no choice: each call of a port has one effect.
+pub fn each_call_has_one_effect()
+    ensures { OneEffect }
+{}

@@ -1,4 +1,6 @@
-use crate::{MuxState, PeriodicState, Port, ReceiveState, Setup, window_holds};
+use crate::{
+    MuxState, PeriodicState, Port, ReceiveState, Setup, each_call_has_one_effect, window_holds,
+};
 use bitflags::Flags;
 use lagtypes::{AggId, Choice, Key, Party, PortId, State, SystemId};
 use slowpdu::{Info, Lacpdu};
@@ -233,6 +235,7 @@ fn a_full_window(rt: HostRuntime) {
 fn the_whole_lacpdu_and_the_readers(rt: HostRuntime) {
     let mut port = port(true, true);
     window_holds();
+    each_call_has_one_effect();
     assert!(rt; port.ntt());
     assert!(rt; !port.is_enabled());
     assert!(rt; port.is_defaulted());

@@ -1,0 +1,272 @@
+-- The rows leave no choice: each call has one effect.
+use Rattle.std.proofs.Common.{◌≡◌, ℕ, zero, suc, Bool, true, false, cond, not, ◌&&◌, ◌||◌, List, [], ◌∷◌, refl, sym, ◌∙◌, ap, subst, inl, inr}
+use Rattle.lagtypes.specs.declared.party.Choice.{Choice}
+use Rattle.lagtypes.specs.declared.party.Choice.TheVariants.{Unselected, Selected}
+use Rattle.slowpdu.specs.declared.pdu.Lacpdu.{Lacpdu}
+use Rattle.portmachines.specs.declared.mux.MuxState.{MuxState}
+use Rattle.portmachines.specs.declared.mux.MuxState.TheVariants.{Detached, Waiting, Attached, CollectingDistributing}
+use Rattle.portmachines.specs.declared.receive.ReceiveState.{ReceiveState}
+use Rattle.portmachines.specs.declared.receive.ReceiveState.TheVariants.{Initialize, PortDisabled, Expired, Defaulted, Current}
+use Rattle.portmachines.specs.Machines.{Machines}
+use Rattle.portmachines.specs.Rows.{Row, Fires, AtRest, Reaches, Settles, in_order}
+use Rattle.portmachines.specs.Receive.{receive_rows, taking_rows, start_receive, current_while_expired, partner_not_synchronized}
+use Rattle.portmachines.specs.Periodic.{periodic_table, periodic_rows, clear_ntt}
+use Rattle.portmachines.specs.Mux.{mux_rows, start_mux, partner_synchronized}
+use Rattle.portmachines.specs.Transmit.{count_down}
+use Rattle.portmachines.specs.Calls.{Tick, Transmit, Set_link, Take, Mux, Periodic, Select, Reinit, OneEffect}
+
+-- tests
+
+and_left : (x y : Bool) → (x && y) ≡ true → x ≡ true
+and_left true y h = refl
+and_left false y h = h
+
+and_right : (x y : Bool) → (x && y) ≡ true → y ≡ true
+and_right true y h = h
+and_right false y h = cc
+
+not_left : (x y : Bool) → x ≡ false → (x && y) ≡ false
+not_left x y e = rw e refl
+
+not_right : (x y : Bool) → y ≡ false → (x && y) ≡ false
+not_right true y e = e
+not_right false y e = refl
+
+not_true : (x : Bool) → not x ≡ true → x ≡ false
+not_true true h = cc
+not_true false h = refl
+
+or_left : (x y : Bool) → (x || y) ≡ false → x ≡ false
+or_left true y h = h
+or_left false y h = refl
+
+or_right : (x y : Bool) → (x || y) ≡ false → y ≡ false
+or_right true y h = cc
+or_right false y h = h
+
+no : {A : Type 0} (b : Bool) → b ≡ true → b ≡ false → A
+no b t f = let e : false ≡ true = sym f ∙ t in cc
+
+-- runs by their first row
+
+abbrev Goes : List Row → ℕ → Machines → Machines → Type 0
+Goes rows zero old new = new ≡ old
+Goes rows (suc n) old new = (mid : Machines) × Fires rows old mid × Goes rows n mid new
+
+goes-more : (rows : List Row) (n : ℕ) (p q r : Machines) → Goes rows n p q → Fires rows q r → Goes rows (suc n) p r
+goes-more rows zero p q r run fired = (r, subst (λ (x : Machines). Fires rows x r) run fired, refl)
+goes-more rows (suc n) p q r run fired = (run.0, run.1, goes-more rows n run.0 q r run.2 fired)
+
+goes : (rows : List Row) (n : ℕ) (p q : Machines) → Reaches rows n p q → Goes rows n p q
+goes rows zero p q run = run
+goes rows (suc n) p q run = goes-more rows n p run.0 q (goes rows n p run.0 run.1) run.2
+
+none_fires : (rows : List Row) (p q : Machines) → AtRest rows p → Fires rows p q → ⊥
+none_fires [] p q rest fired = fired
+none_fires (row ∷ rows) p q rest fired = elim fired [ inl h ↦ no (row.enabled p) h.0 rest.0 | inr h ↦ none_fires rows p q rest.1 h ]
+
+-- where I holds, all rows that are enabled do the same, and I holds afterwards
+record OneWay (I : Machines → Type 0) (rows : List Row) : Type 0 where
+  same : (p q r : Machines) → I p → Fires rows p q → Fires rows p r → q ≡ r
+  stays : (p q : Machines) → I p → Fires rows p q → I q
+
+one_end : (I : Machines → Type 0) (rows : List Row) → OneWay I rows → (n m : ℕ) (p q r : Machines) → I p → Goes rows n p q → Goes rows m p r → AtRest rows q → AtRest rows r → q ≡ r
+one_end I rows way zero zero p q r i g h a b = g ∙ sym h
+one_end I rows way zero (suc m) p q r i g h a b = absurd (none_fires rows p h.0 (subst (AtRest rows) g a) h.1)
+one_end I rows way (suc n) zero p q r i g h a b = absurd (none_fires rows p g.0 (subst (AtRest rows) h b) g.1)
+one_end I rows way (suc n) (suc m) p q r i g h a b =
+    let e : g.0 ≡ h.0 = way.same p g.0 h.0 i g.1 h.1 in
+    one_end I rows way n m g.0 q r (way.stays p g.0 i g.1) g.2 (subst (λ (x : Machines). Goes rows m x r) (sym e) h.2) a b
+
+settles_one : (I : Machines → Type 0) (rows : List Row) → OneWay I rows → (p q r : Machines) → I p → Settles rows p q → Settles rows p r → q ≡ r
+settles_one I rows way p q r i g h = one_end I rows way g.0 h.0 p q r i (goes rows g.0 p q g.1) (goes rows h.0 p r h.1) g.2 h.2
+
+-- rows of which at most one is enabled
+
+abbrev none : List Bool → Bool
+none [] = true
+none (b ∷ bs) = not b && none bs
+
+abbrev at_most_one : List Bool → Bool
+at_most_one [] = true
+at_most_one (b ∷ bs) = cond b (none bs) true && at_most_one bs
+
+abbrev tests : List Row → Machines → List Bool
+tests [] p = []
+tests (row ∷ rows) p = row.enabled p ∷ tests rows p
+
+none-rest : (rows : List Row) (p : Machines) → none (tests rows p) ≡ true → AtRest rows p
+none-rest [] p h = tt
+none-rest (row ∷ rows) p h =
+    (not_true (row.enabled p) (and_left (not (row.enabled p)) (none (tests rows p)) h), none-rest rows p (and_right (not (row.enabled p)) (none (tests rows p)) h))
+
+cond-then : (b x : Bool) → cond b x true ≡ true → b ≡ true → x ≡ true
+cond-then true x h t = h
+cond-then false x h t = let e : false ≡ true = t in cc
+
+later-rest : (row : Row) (rows : List Row) (p : Machines) → at_most_one (tests (row ∷ rows) p) ≡ true → row.enabled p ≡ true → AtRest rows p
+later-rest row rows p h t =
+    none-rest rows p (cond-then (row.enabled p) (none (tests rows p)) (and_left (cond (row.enabled p) (none (tests rows p)) true) (at_most_one (tests rows p)) h) t)
+
+fires_one : (rows : List Row) (p q r : Machines) → at_most_one (tests rows p) ≡ true → Fires rows p q → Fires rows p r → q ≡ r
+fires_one [] p q r h f g = absurd f
+fires_one (row ∷ rows) p q r h f g =
+    elim f [
+      | inl x ↦ elim g [ inl y ↦ x.1 ∙ sym y.1 | inr y ↦ absurd (none_fires rows p r (later-rest row rows p h x.0) y) ]
+      | inr x ↦ elim g [
+        | inl y ↦ absurd (none_fires rows p q (later-rest row rows p h y.0) x)
+        | inr y ↦ fires_one rows p q r (and_right (cond (row.enabled p) (none (tests rows p)) true) (at_most_one (tests rows p)) h) x y
+      ]
+    ]
+
+-- rows in order
+
+in_order-not : (earlier : Machines → Bool) (rows : List Row) (p q : Machines) → Fires (in_order earlier rows) p q → earlier p ≡ false
+in_order-not earlier [] p q f = absurd f
+in_order-not earlier (row ∷ rows) p q f =
+    elim f [
+      | inl h ↦ not_true (earlier p) (and_left (not (earlier p)) (row.enabled p) h.0)
+      | inr h ↦ or_left (earlier p) (row.enabled p) (in_order-not (λ x. earlier x || row.enabled x) rows p q h)
+    ]
+
+in_order-one : (earlier : Machines → Bool) (rows : List Row) (p q r : Machines) → Fires (in_order earlier rows) p q → Fires (in_order earlier rows) p r → q ≡ r
+in_order-one earlier [] p q r f g = absurd f
+in_order-one earlier (row ∷ rows) p q r f g =
+    let next : Machines → Bool = λ x. earlier x || row.enabled x in
+    elim f [
+      | inl x ↦ elim g [
+        | inl y ↦ x.1 ∙ sym y.1
+        | inr y ↦ no (row.enabled p) (and_right (not (earlier p)) (row.enabled p) x.0) (or_right (earlier p) (row.enabled p) (in_order-not next rows p r y))
+      ]
+      | inr x ↦ elim g [
+        | inl y ↦ no (row.enabled p) (and_right (not (earlier p)) (row.enabled p) y.0) (or_right (earlier p) (row.enabled p) (in_order-not next rows p q x))
+        | inr y ↦ in_order-one next rows p q r x y
+      ]
+    ]
+
+-- the mux rows
+
+third_of_six : (b : Bool) → at_most_one (false ∷ false ∷ b ∷ false ∷ false ∷ false ∷ []) ≡ true
+third_of_six true = refl
+third_of_six false = refl
+
+fifth_of_six : (b : Bool) → at_most_one (false ∷ false ∷ false ∷ false ∷ b ∷ false ∷ []) ≡ true
+fifth_of_six true = refl
+fifth_of_six false = refl
+
+sixth_of_six : (b : Bool) → at_most_one (false ∷ false ∷ false ∷ false ∷ false ∷ b ∷ []) ≡ true
+sixth_of_six true = refl
+sixth_of_six false = refl
+
+mux-tests : (ready : Bool) (p : Machines) (s : MuxState) (c : Choice) → at_most_one (tests (mux_rows ready) (record p { mux = s; choice = c })) ≡ true
+mux-tests ready p Detached Unselected = refl
+mux-tests ready p Detached (Selected agg) = refl
+mux-tests ready p Waiting Unselected = refl
+mux-tests ready p Waiting (Selected agg) = third_of_six ready
+mux-tests ready p Attached Unselected = refl
+mux-tests ready p Attached (Selected agg) = fifth_of_six (partner_synchronized p)
+mux-tests ready p CollectingDistributing Unselected = refl
+mux-tests ready p CollectingDistributing (Selected agg) = sixth_of_six (not (partner_synchronized p))
+
+abbrev Always : Machines → Type 0
+Always p = Unit {0}
+
+mux-way : (ready : Bool) → OneWay Always (mux_rows ready)
+mux-way ready = record {
+  same = λ p q r i f g. fires_one (mux_rows ready) p q r (mux-tests ready p p.mux p.choice) f g;
+  stays = λ p q i f. tt;
+}
+
+periodic-way : OneWay Always periodic_rows
+periodic-way = record { same = λ p q r i f g. in_order-one (λ x. false) periodic_table p q r f g; stays = λ p q i f. tt }
+
+-- the receive rows, where current_while does not expire while the link is down
+
+abbrev safe : ReceiveState → Bool → Bool → Type 0
+safe Initialize enabled expired = Unit {0}
+safe PortDisabled enabled expired = Unit {0}
+safe Expired enabled expired = (expired && not enabled) ≡ false
+safe Defaulted enabled expired = Unit {0}
+safe Current enabled expired = (expired && not enabled) ≡ false
+
+abbrev IsSafe : Machines → Type 0
+IsSafe p = safe p.receive p.enabled (current_while_expired p)
+
+third_of_five : (b : Bool) → at_most_one (false ∷ false ∷ b ∷ false ∷ false ∷ []) ≡ true
+third_of_five true = refl
+third_of_five false = refl
+
+second_of_five : (b : Bool) → at_most_one (false ∷ b ∷ false ∷ false ∷ false ∷ []) ≡ true
+second_of_five true = refl
+second_of_five false = refl
+
+second_or_fourth : (enabled expired : Bool) → (expired && not enabled) ≡ false → at_most_one (false ∷ not enabled ∷ false ∷ expired ∷ false ∷ []) ≡ true
+second_or_fourth true true h = refl
+second_or_fourth true false h = refl
+second_or_fourth false true h = sym h
+second_or_fourth false false h = refl
+
+second_or_fifth : (enabled expired : Bool) → (expired && not enabled) ≡ false → at_most_one (false ∷ not enabled ∷ false ∷ false ∷ expired ∷ []) ≡ true
+second_or_fifth true true h = refl
+second_or_fifth true false h = refl
+second_or_fifth false true h = sym h
+second_or_fifth false false h = refl
+
+-- INITIALIZE has two rows that do the same
+from_start : (p q : Machines) → Fires receive_rows (record p { receive = Initialize }) q → q ≡ partner_not_synchronized (record p { receive = PortDisabled })
+from_start p q f =
+    elim f [ inl h ↦ h.1 | inr f ↦ elim f [ inl h ↦ h.1 | inr f ↦ elim f [ inl h ↦ no false h.0 refl | inr f ↦ elim f [ inl h ↦ no false h.0 refl | inr f ↦ elim f [ inl h ↦ no false h.0 refl | inr f ↦ absurd f ] ] ] ] ]
+
+receive-same : (p : Machines) (s : ReceiveState) (q r : Machines) → safe s p.enabled (current_while_expired p) → Fires receive_rows (record p { receive = s }) q → Fires receive_rows (record p { receive = s }) r → q ≡ r
+receive-same p Initialize q r i f g = from_start p q f ∙ sym (from_start p r g)
+receive-same p PortDisabled q r i f g = fires_one receive_rows (record p { receive = PortDisabled }) q r (third_of_five p.enabled) f g
+receive-same p Expired q r i f g = fires_one receive_rows (record p { receive = Expired }) q r (second_or_fourth p.enabled (current_while_expired p) i) f g
+receive-same p Defaulted q r i f g = fires_one receive_rows (record p { receive = Defaulted }) q r (second_of_five (not p.enabled)) f g
+receive-same p Current q r i f g = fires_one receive_rows (record p { receive = Current }) q r (second_or_fifth p.enabled (current_while_expired p) i) f g
+
+receive-stays : (p q : Machines) → IsSafe p → Fires receive_rows p q → IsSafe q
+receive-stays p q i f =
+    elim f [ inl h ↦ subst IsSafe (sym h.1) tt | inr f ↦ elim f [ inl h ↦ subst IsSafe (sym h.1) tt | inr f ↦ elim f [ inl h ↦ subst IsSafe (sym h.1) refl | inr f ↦ elim f [ inl h ↦ subst IsSafe (sym h.1) tt | inr f ↦ elim f [ inl h ↦ subst IsSafe (sym h.1) refl | inr f ↦ absurd f ] ] ] ] ]
+
+receive-way : OneWay IsSafe receive_rows
+receive-way = record { same = λ p q r i f g. receive-same p p.receive q r i f g; stays = receive-stays }
+
+-- at rest a port is still so after a tick
+rest-counted : (p : Machines) (s : ReceiveState) (expired : Bool) → AtRest receive_rows (record p { receive = s }) → safe s p.enabled expired
+rest-counted p Initialize expired rest = tt
+rest-counted p PortDisabled expired rest = tt
+rest-counted p Expired expired rest = not_right expired (not p.enabled) rest.1.0
+rest-counted p Defaulted expired rest = tt
+rest-counted p Current expired rest = not_right expired (not p.enabled) rest.1.0
+
+-- and after a change of the link
+rest-linked : (p : Machines) (s : ReceiveState) (enabled : Bool) → AtRest receive_rows (record p { receive = s }) → safe s enabled (current_while_expired p)
+rest-linked p Initialize enabled rest = tt
+rest-linked p PortDisabled enabled rest = tt
+rest-linked p Expired enabled rest = not_left (current_while_expired p) (not enabled) rest.1.1.1.0
+rest-linked p Defaulted enabled rest = tt
+rest-linked p Current enabled rest = not_left (current_while_expired p) (not enabled) rest.1.1.1.1.0
+
+taking-one : (pdu : Lacpdu) (p q r : Machines) → Fires (taking_rows pdu) p q → Fires (taking_rows pdu) p r → q ≡ r
+taking-one pdu p q r f g = elim f [ inl x ↦ elim g [ inl y ↦ x.1 ∙ sym y.1 | inr y ↦ absurd y ] | inr x ↦ absurd x ]
+
+-- each call has one effect
+pub one_effect : OneEffect
+one_effect Tick old one other rest h k =
+    settles_one IsSafe receive_rows receive-way (count_down old) one other (rest-counted old old.receive (current_while_expired (count_down old)) rest) h k
+one_effect (Transmit max_delay) old one other rest h k = h ∙ sym k
+one_effect (Set_link enabled) old one other rest h k =
+    settles_one IsSafe receive_rows receive-way (record old { enabled = enabled }) one other (rest-linked old old.receive enabled rest) h k
+one_effect (Take pdu) old one other rest h k =
+    elim h [
+      | inl f ↦ elim k [ inl g ↦ taking-one pdu old one other f g | inr s ↦ absurd (none_fires (taking_rows pdu) old one s.0 f) ]
+      | inr s ↦ elim k [ inl g ↦ absurd (none_fires (taking_rows pdu) old other s.0 g) | inr t ↦ s.1 ∙ sym t.1 ]
+    ]
+one_effect (Mux ready) old one other rest h k = settles_one Always (mux_rows ready) (mux-way ready) old one other tt h k
+one_effect Periodic old one other rest h k =
+    let e : h.0 ≡ k.0 = settles_one Always periodic_rows periodic-way old h.0 k.0 tt h.1 k.1 in
+    h.2 ∙ ap clear_ntt e ∙ sym k.2
+one_effect (Select choice) old one other rest h k = h ∙ sym k
+one_effect (Reinit party) old one other rest h k =
+    let e : h.0 ≡ k.0 = settles_one IsSafe receive_rows receive-way (start_receive (record old { party = party })) h.0 k.0 tt h.1 k.1 in
+    h.2 ∙ ap start_mux e ∙ sym k.2
