@@ -6,17 +6,17 @@ use std::alloc::AllocError;
 use std::error::Error;
 use std::fmt;
 
-/// Why the program could not do what a line asks (profile).
+/// Why the program could not do what a line asks (profile). The numbers 1 and 4 are kept for files and scripts.
 #[derive(Clone, Copy, Debug, PartialEq, Eq)]
 pub enum ToolFault {
     /// Standard output failed, or took none of some octets.
-    Write,
+    Write = 2,
     /// Memory ran out.
-    NoMemory,
+    NoMemory = 3,
     /// The payload or the frame is not hexadecimal.
-    NotHex,
+    NotHex = 5,
     /// The MAC address is not twelve hexadecimal digits.
-    NotMac,
+    NotMac = 6,
 }
 
 impl fmt::Display for ToolFault {
