@@ -2,4 +2,5 @@ pub mod Octet
 pub mod States
 pub mod Order
 pub mod Group
+pub mod Same
 pub mod Texts

@@ -1,4 +1,4 @@
-ghost use Rattle.std.specs.Prelude.{◌≡◌, ◌↔◌, IsTrue, Some, decimal};
+ghost use Rattle.std.specs.Prelude.{◌≡◌, Some, decimal};
 ghost use Rattle.std.specs.Ordering.{is_lt};
 ghost use Rattle.lagtypes.specs.Order.{port_cmp, system_cmp};
 ghost use Rattle.lagtypes.specs.Texts.{hex_text, mac_text, system_text, port_text};
@@ -30,13 +30,6 @@ pub struct Key(pub u16);
 pub struct AggId(pub u16);
 
 impl SystemId {
-    /// Whether this is the other system: equal priority and equal MAC address.
-    pub fn is(&self, other: &SystemId) -> bool
-        ensures { IsTrue result ↔ (self.now ≡ other.now) }
-    {
-        *self == *other
-    }
-
     /// Whether this identifier is the lower number, and so has the higher priority (6.3.2).
     pub fn is_below(&self, other: &SystemId) -> bool
         ensures { result ≡ is_lt (system_cmp self.now other.now) }

@@ -1,4 +1,5 @@
 ghost use Rattle.std.specs.Prelude.{◌≡◌, ◌↔◌, IsTrue};
+ghost use Rattle.lagtypes.specs.Same.{same_party};
 
 use crate::identifiers::{AggId, Key, PortId, SystemId};
 
@@ -18,7 +19,8 @@ pub struct Party {
 impl Party {
     /// Whether the parties match: all six parameters are equal (6.4.9, recordPDU).
     pub fn matches(&self, other: &Party) -> bool
-        ensures { IsTrue result ↔ (self.now ≡ other.now) }
+        ensures test { result ≡ same_party self.now other.now }
+        ensures fact { IsTrue result ↔ (self.now ≡ other.now) }
     {
         *self == *other
     }

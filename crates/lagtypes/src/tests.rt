@@ -59,7 +59,6 @@ fn identifiers_compare_by_priority_first(rt: HostRuntime) {
     };
     assert!(rt; low.is_below(&system(1)));
     assert!(rt; system(1).is_below(&system(2)));
-    assert!(rt; system(1).is(&system(1)));
     let ports = [(1, 9), (128, 1), (128, 2)];
     for pair in ports.windows(2) {
         if let [(a, m), (b, n)] = pair {

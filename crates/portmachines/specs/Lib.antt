@@ -1,6 +1,5 @@
 pub mod Machines
 pub mod Rows
-pub mod Matching
 pub mod Receive
 pub mod Periodic
 pub mod Mux

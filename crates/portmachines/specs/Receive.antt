@@ -10,7 +10,7 @@ use Rattle.portmachines.specs.declared.receive.ReceiveState.{ReceiveState}
 use Rattle.portmachines.specs.declared.receive.ReceiveState.TheVariants.{Initialize, PortDisabled, Expired, Defaulted, Current}
 use Rattle.portmachines.specs.Machines.{Machines}
 use Rattle.portmachines.specs.Rows.{Row}
-use Rattle.portmachines.specs.Matching.{same_party, same_bit}
+use Rattle.lagtypes.specs.Same.{same_party, same_bit}
 use Rattle.portmachines.specs.Mux.{is_synchronized}
 
 -- the administrative partner: all zero, with state 0x08 (profile)

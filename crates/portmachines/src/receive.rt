@@ -15,7 +15,6 @@ ghost use Rattle.portmachines.specs.Receive.{
   start_receive,
   knows_actor,
 };
-ghost use Rattle.portmachines.specs.Matching.{same_party};
 ghost use Rattle.portmachines.specs.Left.{receive_left};
 
 use crate::machines::Machines;
@@ -118,7 +117,7 @@ impl Machines {
     fn update_selected(&mut self, party: &Party)
         ensures { self.new ≡ update_selected party.now self.old }
     {
-        if !agree(party, &self.partner.party()) {
+        if !party.matches(&self.partner.party()) {
             self.choice = Choice::Unselected;
         }
     }
@@ -164,7 +163,7 @@ impl Machines {
     fn update_ntt(&mut self, told: &Info)
         ensures { self.new ≡ record self.old { ntt = if knows_actor told.now self.old then self.old.ntt else true } }
     {
-        let known = agree(&told.party(), &self.party)
+        let known = told.party().matches(&self.party)
             && told.state.is_active() == self.active
             && told.state.is_short() == self.short
             && told.state.is_synchronized() == self.mux.is_synchronized();
@@ -179,7 +178,7 @@ impl Machines {
     {
         let maintained = pdu.actor.state.is_active()
             || (self.active && pdu.partner.state.is_active());
-        let agreed = agree(&pdu.partner.party(), &self.party) || !pdu.actor.state.is_aggregatable();
+        let agreed = pdu.partner.party().matches(&self.party) || !pdu.actor.state.is_aggregatable();
         let synchronized = pdu.actor.state.is_synchronized() && maintained && agreed;
         self.partner = pdu.actor;
         self.partner.state = pdu.actor.state.with_synchronization(synchronized);
@@ -197,13 +196,6 @@ impl Machines {
         };
         self.expired = false;
     }
-}
-
-/// Whether two parties match: all six parameters are equal.
-fn agree(one: &Party, other: &Party) -> bool
-    ensures { result ≡ same_party one.now other.now }
-{
-    one.matches(other)
 }
 
 /// The administrative partner: all zero, with state 0x08 (profile).
