@@ -1,0 +1,220 @@
+-- The choice of a port leads to an aggregator that it may join.
+use Rattle.std.proofs.Common.{◌≡◌, ◌≢◌, ℕ, zero, suc, ◌+◌, ◌-◌, Bool, true, false, not, ◌&&◌, ◌||◌, cond, List, [], ◌∷◌, ◌⊎◌, inl, inr, refl, sym, ◌∙◌, subst, ap, arith, Option, Some, None}
+use Rattle.std.specs.Prelude.{◌==◌, IfSome, IsSomeAnd, if◌then◌else◌, slice_get, find}
+use Rattle.std.specs.List.{All, AllByRecursion, list_all, enumerate_from}
+use Rattle.std.specs.Option.{option_eq, option_map}
+use Rattle.std.specs.Str.{bytes_eq}
+use Rattle.std.proofs.lemmas.Bool.Decides.{Decides-eqb}
+use Rattle.std.proofs.lemmas.Slice.Eq.{bytes_eq-Decides}
+use Rattle.lagtypes.specs.declared.identifiers.AggId.{AggId}
+use Rattle.lagtypes.specs.declared.identifiers.Key.{Key}
+use Rattle.lagtypes.specs.declared.identifiers.PortId.{PortId}
+use Rattle.lagtypes.specs.declared.identifiers.SystemId.{SystemId}
+use Rattle.lagtypes.specs.declared.group.End.{End}
+use Rattle.lagtypes.specs.declared.group.Group.{Group}
+use Rattle.lagtypes.specs.declared.party.Choice.{Choice}
+use Rattle.lagtypes.specs.declared.party.Choice.TheVariants.{Unselected, Selected}
+use Rattle.lagtypes.specs.Group.{SamePair, group_of, individual}
+use Rattle.lagtypes.proofs.GroupLemmas.{pairs_from_groups}
+use Rattle.selection.specs.declared.view.PortView.{PortView}
+use Rattle.selection.specs.Same.{same_end, same_group, same_port, same_system}
+use Rattle.selection.specs.Views.{is_detached, is_eligible, is_given, is_unselected}
+use Rattle.selection.specs.Choice.{choice_for, choice_of_view, given_to, has_group_of, has_member, is_empty, is_joinable, lowest_from, numbered, or_else}
+use Rattle.selection.specs.Joining.{IsEmpty, IsShared, Joins, ends}
+
+-- tests
+
+and_left : (b c : Bool) → (b && c) ≡ true → b ≡ true
+and_left true c h = refl
+and_left false c h = h
+
+and_right : (b c : Bool) → (b && c) ≡ true → c ≡ true
+and_right true c h = h
+and_right false c h = absurd cc
+
+not-true : (b : Bool) → not b ≡ true → b ≡ false
+not-true true h = absurd cc
+not-true false h = refl
+
+or-false_left : (b c : Bool) → (b || c) ≡ false → b ≡ false
+or-false_left true c h = h
+or-false_left false c h = refl
+
+or-false_right : (b c : Bool) → (b || c) ≡ false → c ≡ false
+or-false_right true c h = absurd cc
+or-false_right false c h = h
+
+exact_number : (m n : ℕ) → (m == n) ≡ true → m ≡ n
+exact_number m n h = (Decides-eqb m n).0 h
+
+itself : (n : ℕ) → (n == n) ≡ true
+itself n = (Decides-eqb n n).1 refl
+
+-- equal by test is equal
+
+exact_system : (s t : SystemId) → same_system s t ≡ true → s ≡ t
+exact_system s t h =
+    λ i. record {
+      priority = exact_number s.priority t.priority (and_left (s.priority == t.priority) (bytes_eq s.mac t.mac) h) i;
+      mac = (bytes_eq-Decides s.mac t.mac).0 (and_right (s.priority == t.priority) (bytes_eq s.mac t.mac) h) i;
+    }
+
+system-itself : (s : SystemId) → same_system s s ≡ true
+system-itself s = rw (itself s.priority, (bytes_eq-Decides s.mac s.mac).1 refl) refl
+
+exact_port : (p q : PortId) → same_port p q ≡ true → p ≡ q
+exact_port p q h =
+    λ i. record {
+      priority = exact_number p.priority q.priority (and_left (p.priority == q.priority) (p.number == q.number) h) i;
+      number = exact_number p.number q.number (and_right (p.priority == q.priority) (p.number == q.number) h) i;
+    }
+
+exact_ports : (o p : Option PortId) → option_eq same_port o p ≡ true → o ≡ p
+exact_ports None None h = refl
+exact_ports None (Some q) h = absurd cc
+exact_ports (Some p) None h = absurd cc
+exact_ports (Some p) (Some q) h = ap Some (exact_port p q h)
+
+exact_key : (k l : Key) → (k.0 == l.0) ≡ true → k ≡ l
+exact_key k l h = λ i. record { 0 = exact_number k.0 l.0 h i }
+
+exact_end : (e f : End) → same_end e f ≡ true → e ≡ f
+exact_end e f h =
+    let rest = and_right (same_system e.system f.system) ((e.key.0 == f.key.0) && option_eq same_port e.port f.port) h in
+    λ i. record {
+      system = exact_system e.system f.system (and_left (same_system e.system f.system) _ h) i;
+      key = exact_key e.key f.key (and_left (e.key.0 == f.key.0) (option_eq same_port e.port f.port) rest) i;
+      port = exact_ports e.port f.port (and_right (e.key.0 == f.key.0) (option_eq same_port e.port f.port) rest) i;
+    }
+
+exact_group : (g h : Group) → same_group g h ≡ true → g ≡ h
+exact_group g h t =
+    λ i. record {
+      lower = exact_end g.lower h.lower (and_left (same_end g.lower h.lower) (same_end g.upper h.upper) t) i;
+      upper = exact_end g.upper h.upper (and_right (same_end g.lower h.lower) (same_end g.upper h.upper) t) i;
+    }
+
+-- members
+
+given-member : (agg : AggId) (choice : Choice) → choice ≡ Selected agg → is_given agg choice ≡ true
+given-member agg choice e = rw e (itself agg.0)
+
+all-from_each : (P : PortView → Type 0) (views : List PortView) → AllByRecursion P views → All P views
+all-from_each P [] h k d within = absurd (omega arith)
+all-from_each P (w ∷ ws) h zero d within = h.0
+all-from_each P (w ∷ ws) h (suc k) d within = all-from_each P ws h.1 k d (omega arith)
+
+not_both : (b : Bool) → b ≡ true → b ≡ false → ⊥
+not_both true h k = cc
+not_both false h k = cc
+
+none_is_member : (agg : AggId) (views : List PortView) → has_member views agg ≡ false → AllByRecursion (λ w. w.choice ≢ Selected agg) views
+none_is_member agg [] h = tt
+none_is_member agg (w ∷ ws) h = (
+  λ e. not_both (is_given agg w.choice) (given-member agg w.choice e) (or-false_left (is_given agg w.choice) (has_member ws agg) h),
+  none_is_member agg ws (or-false_right (is_given agg w.choice) (has_member ws agg) h),
+)
+
+-- what all that are kept pass, the first passes if it is kept
+kept_passes : (test : PortView → Bool) (b : Bool) (w : PortView) (rest : List PortView) → list_all test (cond b (w ∷ rest) rest) ≡ true → (b ≡ true → test w ≡ true) × (list_all test rest ≡ true)
+kept_passes test true w rest h = (λ _. and_left (test w) (list_all test rest) h, and_right (test w) (list_all test rest) h)
+kept_passes test false w rest h = (λ k. absurd cc, h)
+
+members_share : (agg : AggId) (v : PortView) (views : List PortView) → list_all (has_group_of v) (given_to agg views) ≡ true → AllByRecursion (λ w. w.choice ≡ Selected agg → SamePair (ends w) (ends v)) views
+members_share agg v [] h = tt
+members_share agg v (w ∷ ws) h =
+    let both = kept_passes (has_group_of v) (is_given agg w.choice) w (given_to agg ws) h in (
+      λ e. pairs_from_groups (ends w) (ends v) (exact_group (group_of w.party w.partner) (group_of v.party v.partner) (both.0 (given-member agg w.choice e))),
+      members_share agg v ws both.1,
+    )
+
+-- the lowest aggregator
+
+-- one with this key passes the test, at this place
+record Found (first : ℕ) (keys : List Key) (key : Key) (test : AggId → Bool) (agg : AggId) : Type 0 where
+  place : ℕ
+  counted : agg.0 ≡ first + place
+  has_key : slice_get keys place ≡ Some key
+  passes : test agg ≡ true
+
+here : (first : ℕ) (k key : Key) (keys : List Key) (test : AggId → Bool) (agg : AggId) (rest : Option (ℕ × Key))
+    → (option_map numbered rest ≡ Some agg → Found (first + 1) keys key test agg)
+    → (b t : Bool) → (k.0 == key.0) ≡ b → test (numbered (first, k)) ≡ t
+    → option_map numbered (cond (b && t) (Some (first, k)) rest) ≡ Some agg → Found first (k ∷ keys) key test agg
+here first k key keys test agg rest later true true same passed e =
+    let is : numbered (first, k) ≡ agg = cc in
+    record { place = 0; counted = omega (arith, ap (λ (a : AggId). a.0) is); has_key = ap Some (exact_key k key same); passes = subst (λ a. test a ≡ true) is passed }
+here first k key keys test agg rest later true false same passed e =
+    let found = later e in record { place = suc found.place; counted = omega (arith, found.counted); has_key = found.has_key; passes = found.passes }
+here first k key keys test agg rest later false t same passed e =
+    let found = later e in record { place = suc found.place; counted = omega (arith, found.counted); has_key = found.has_key; passes = found.passes }
+
+lowest-found : (first : ℕ) (keys : List Key) (key : Key) (test : AggId → Bool) (agg : AggId) → lowest_from first keys key test ≡ Some agg → Found first keys key test agg
+lowest-found first [] key test agg e = absurd cc
+lowest-found first (k ∷ ks) key test agg e =
+    here first k key ks test agg (find (λ row. (row.1.0 == key.0) && test (numbered row)) (enumerate_from (first + 1) ks))
+    (lowest-found (first + 1) ks key test agg) (k.0 == key.0) (test (numbered (first, k))) refl refl e
+
+-- eligible
+
+is-unselected : (choice : Choice) → is_unselected choice ≡ true → choice ≡ Unselected
+is-unselected Unselected h = refl
+is-unselected (Selected given) h = absurd cc
+
+eligible-apart : (v : PortView) → is_eligible v ≡ true → v.partner.system ≢ v.party.system
+eligible-apart v h e =
+    let differs = and_right (((v.enabled && v.settled) && is_detached v.stage) && is_unselected v.choice) (not (same_system v.partner.system v.party.system)) h in
+    not_both (same_system v.partner.system v.party.system) (subst (λ s. same_system v.partner.system s ≡ true) e (system-itself v.partner.system)) (not-true (same_system v.partner.system v.party.system) differs)
+
+eligible-outside : (v : PortView) → is_eligible v ≡ true → v.choice ≡ Unselected
+eligible-outside v h =
+    let first = and_left (((v.enabled && v.settled) && is_detached v.stage) && is_unselected v.choice) (not (same_system v.partner.system v.party.system)) h in
+    is-unselected v.choice (and_right ((v.enabled && v.settled) && is_detached v.stage) (is_unselected v.choice) first)
+
+-- the choice
+
+joins-by : (keys : List Key) (views : List PortView) (v : PortView) (agg : AggId) (test : AggId → Bool) → is_eligible v ≡ true → Found 1 keys v.party.key test agg
+    → (test agg ≡ true → IsEmpty views agg ⊎ IsShared views agg v) → Joins keys views agg v
+joins-by keys views v agg test ok found members =
+    let place : agg.0 - 1 ≡ found.place = omega (arith, found.counted) in
+    record {
+      outside = eligible-outside v ok;
+      apart = eligible-apart v ok;
+      numbered = omega (arith, found.counted);
+      key = subst (λ i. slice_get keys i ≡ Some v.party.key) (sym place) found.has_key;
+      members = members found.passes;
+    }
+
+shared-members : (views : List PortView) (v : PortView) (agg : AggId) → is_joinable views v agg ≡ true → IsShared views agg v
+shared-members views v agg h =
+    let some = and_left (not (individual v.party v.partner) && has_member views agg) (list_all (has_group_of v) (given_to agg views)) h in
+    record {
+      aggregatable = not-true (individual v.party v.partner) (and_left (not (individual v.party v.partner)) (has_member views agg) some);
+      one_group = all-from_each _ views (members_share agg v views (and_right (not (individual v.party v.partner) && has_member views agg) (list_all (has_group_of v) (given_to agg views)) h));
+    }
+
+chosen : (keys : List Key) (views : List PortView) (v : PortView) (agg : AggId) → is_eligible v ≡ true → (o : Option AggId) → lowest_from 1 keys v.party.key (is_joinable views v) ≡ o
+    → or_else o (lowest_from 1 keys v.party.key (is_empty views)) ≡ Some agg → Joins keys views agg v
+chosen keys views v agg ok None none e =
+    joins-by keys views v agg (is_empty views) ok (lowest-found 1 keys v.party.key (is_empty views) agg e)
+    (λ t. inl (all-from_each _ views (none_is_member agg views (not-true (has_member views agg) t))))
+chosen keys views v agg ok (Some a) is e =
+    joins-by keys views v agg (is_joinable views v) ok (lowest-found 1 keys v.party.key (is_joinable views v) agg (is ∙ e))
+    (λ t. inr (shared-members views v agg t))
+
+if-some : (b : Bool) (o : Option AggId) (agg : AggId) → (if b then o else None) ≡ Some agg → (b ≡ true) × (o ≡ Some agg)
+if-some true o agg e = (refl, e)
+if-some false o agg e = absurd cc
+
+-- the port joins what it takes
+pub choice-joins : (keys : List Key) (views : List PortView) (v : PortView) (agg : AggId) → choice_of_view keys views (Some v) ≡ Some agg → Joins keys views agg v
+choice-joins keys views v agg e =
+    let both = if-some (is_eligible v) (choice_for keys views v) agg e in
+    chosen keys views v agg both.0 (lowest_from 1 keys v.party.key (is_joinable views v)) refl both.1
+
+-- the same of what a call answers for the port that it has seen
+pub answer-joins : (keys : List Key) (views : List PortView) (seen : Option PortView) (v : PortView) (answer : Option AggId)
+    → seen ≡ Some v → is_eligible v ≡ true → answer ≡ choice_for keys views v → IfSome answer (λ agg. IsSomeAnd seen (Joins keys views agg))
+answer-joins keys views seen v None is ok e = tt
+answer-joins keys views seen v (Some agg) is ok e =
+    subst (λ o. IsSomeAnd o (Joins keys views agg)) (sym is) (chosen keys views v agg ok (lowest_from 1 keys v.party.key (is_joinable views v)) refl (sym e))

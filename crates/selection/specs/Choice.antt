@@ -1,0 +1,61 @@
+-- Which aggregator a port takes (profile).
+use Rattle.std.specs.Prelude.{ℕ, ◌==◌, nat_le, Bool, not, ◌&&◌, List, length, filter, find, if◌then◌else◌, Option, Some, None}
+use Rattle.std.specs.List.{list_any, list_all, enumerate_from}
+use Rattle.std.specs.Option.{option_map}
+use Rattle.lagtypes.specs.declared.identifiers.AggId.{AggId}
+use Rattle.lagtypes.specs.declared.identifiers.Key.{Key}
+use Rattle.lagtypes.specs.Group.{group_of, individual}
+use Rattle.selection.specs.declared.view.PortView.{PortView}
+use Rattle.selection.specs.Same.{same_group}
+use Rattle.selection.specs.Views.{is_eligible, is_given, view_of}
+
+-- aggregators are numbered from 1
+abbrev pub is_known : List Key → AggId → Bool
+is_known keys agg = nat_le 1 agg.0 && nat_le agg.0 (length keys)
+
+-- the ports that were given this aggregator
+abbrev pub given_to : AggId → List PortView → List PortView
+given_to agg views = filter (λ w. is_given agg w.choice) views
+
+abbrev pub has_member : List PortView → AggId → Bool
+has_member views agg = list_any (λ w. is_given agg w.choice) views
+
+-- the link of the second port has the group of the first one's
+abbrev pub has_group_of : PortView → PortView → Bool
+has_group_of v w = same_group (group_of w.party w.partner) (group_of v.party v.partner)
+
+-- it has a member, and all its members have the port's group, which is not individual
+abbrev pub is_joinable : List PortView → PortView → AggId → Bool
+is_joinable views v agg =
+    (not (individual v.party v.partner) && has_member views agg) && list_all (has_group_of v) (given_to agg views)
+
+abbrev pub is_empty : List PortView → AggId → Bool
+is_empty views agg = not (has_member views agg)
+
+abbrev pub numbered : ℕ × Key → AggId
+numbered row = record { 0 = row.0 }
+
+-- the lowest aggregator with this key that passes the test, where the first of these is numbered so
+abbrev pub lowest_from : ℕ → List Key → Key → (AggId → Bool) → Option AggId
+lowest_from first keys key test =
+    option_map numbered (find (λ row. (row.1.0 == key.0) && test (numbered row)) (enumerate_from first keys))
+
+abbrev pub lowest : List Key → Key → (AggId → Bool) → Option AggId
+lowest keys key test = lowest_from 1 keys key test
+
+abbrev pub or_else : Option AggId → Option AggId → Option AggId
+or_else None other = other
+or_else (Some agg) other = Some agg
+
+-- the lowest with its key that it can join, else the lowest with its key and no member
+abbrev pub choice_for : List Key → List PortView → PortView → Option AggId
+choice_for keys views v =
+    or_else (lowest keys v.party.key (is_joinable views v)) (lowest keys v.party.key (is_empty views))
+
+abbrev pub choice_of_view : List Key → List PortView → Option PortView → Option AggId
+choice_of_view keys views None = None
+choice_of_view keys views (Some v) = if is_eligible v then choice_for keys views v else None
+
+-- what the port with this number takes
+abbrev pub choice : List Key → List PortView → ℕ → Option AggId
+choice keys views port = choice_of_view keys views (view_of views port)

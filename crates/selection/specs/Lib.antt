@@ -1,0 +1,5 @@
+pub mod Same
+pub mod Views
+pub mod Choice
+pub mod Ready
+pub mod Joining

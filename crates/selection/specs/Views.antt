@@ -1,0 +1,55 @@
+-- What the Selection Logic sees of the ports of one system.
+use Rattle.std.specs.Prelude.{ℕ, ◌≤◌, ◌==◌, Bool, true, false, not, ◌&&◌, List, length, map, find, Option}
+use Rattle.std.specs.List.Sorted.{IsStrictlyIncreasing}
+use Rattle.lagtypes.specs.declared.identifiers.AggId.{AggId}
+use Rattle.lagtypes.specs.declared.party.Choice.{Choice}
+use Rattle.lagtypes.specs.declared.party.Choice.TheVariants.{Unselected, Selected}
+use Rattle.selection.specs.declared.view.PortView.{PortView}
+use Rattle.selection.specs.declared.view.Stage.{Stage}
+use Rattle.selection.specs.declared.view.Stage.TheVariants.{Detached, Waiting, Joined}
+use Rattle.selection.specs.Same.{same_system}
+
+abbrev pub numbers : List PortView → List ℕ
+numbers views = map (λ v. v.number) views
+
+-- at most 64 ports, in strictly ascending order of their numbers
+pub record AreViews (views : List PortView) : Type 0 where
+  pub few : length views ≤ 64
+  pub ascending : IsStrictlyIncreasing (numbers views)
+
+-- the view of the port with this number, if there is one
+abbrev pub view_of : List PortView → ℕ → Option PortView
+view_of views port = find (λ v. v.number == port) views
+
+-- the port is SELECTED and was given this aggregator
+abbrev pub is_given : AggId → Choice → Bool
+is_given agg Unselected = false
+is_given agg (Selected given) = given.0 == agg.0
+
+abbrev pub is_unselected : Choice → Bool
+is_unselected Unselected = true
+is_unselected (Selected given) = false
+
+abbrev pub is_detached : Stage → Bool
+is_detached Detached = true
+is_detached (Waiting expired) = false
+is_detached Joined = false
+
+-- DETACHED or WAITING
+abbrev pub waits : Stage → Bool
+waits Detached = true
+waits (Waiting expired) = true
+waits Joined = false
+
+-- WAITING with wait_while expired
+abbrev pub has_expired : Stage → Bool
+has_expired Detached = false
+has_expired (Waiting expired) = expired
+has_expired Joined = false
+
+-- the port may take an aggregator: the link is enabled, the receive machine is CURRENT or DEFAULTED, the mux machine is
+-- DETACHED, the port is UNSELECTED, and its partner's system is not its own (profile)
+abbrev pub is_eligible : PortView → Bool
+is_eligible v =
+    (((v.enabled && v.settled) && is_detached v.stage) && is_unselected v.choice)
+    && not (same_system v.partner.system v.party.system)

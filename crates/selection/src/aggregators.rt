@@ -1,0 +1,171 @@
+ghost use Rattle.std.specs.Prelude.{◌≡◌, ◌≤◌, IfOk, IfSome, IsSomeAnd, filter, length, take};
+ghost use Rattle.std.specs.List.{list_all, list_any};
+ghost use Rattle.std.specs.List.Sorted.{IsStrictlyIncreasing};
+ghost use Rattle.lagtypes.specs.Group.{group_of};
+ghost use Rattle.selection.specs.Views.{has_expired, waits};
+ghost use Rattle.selection.specs.Choice.{choice_for, given_to, has_member, is_joinable};
+ghost use Rattle.selection.specs.Same.{same_group};
+
+use crate::view::{PortView, view_of};
+use arrayvec::ArrayVec;
+use lagtypes::{AggId, Group, Key, NoMemory};
+use std::alloc::Global;
+use std::marker::Model;
+
+/// The aggregators of a system with their keys; they are numbered from 1.
+#[derive(Debug, Drop)]
+pub struct Aggregators {
+    keys: Vec<Key>,
+}
+
+impl Model for Aggregators {
+    ghost use Rattle.std.specs.Prelude.{◌≤◌, List, length};
+    ghost use Rattle.lagtypes.specs.declared.identifiers.Key.{Key};
+
+    ghost Value = { List Key };
+
+    ghost view = { λ a. a.keys.items };
+
+    ghost invariant = { λ a. length a.keys.items ≤ 65535 };
+}
+
+impl Aggregators {
+    ghost use Rattle.selection.specs.Joining.{Joins};
+    ghost use Rattle.selection.specs.Views.{AreViews, numbers, view_of};
+    ghost use Rattle.selection.specs.Choice.{choice, is_known};
+    ghost use Rattle.selection.specs.Ready.{is_ready, members};
+
+    /// Aggregators 1, 2 and so on with these keys, of which at most the first 65,535 are kept.
+    /// `NoMemory` where memory for them was refused.
+    pub fn new(alloc: Global, keys: &[Key]) -> Result<Aggregators, NoMemory>
+        ensures { IfOk result (λ a. a ≡ take 65535 keys.now) }
+    {
+        let keys = Vec::from_slice(alloc, kept(keys))?;
+        Ok(Aggregators { keys })
+    }
+
+    /// The aggregator that the port with this number takes: the lowest with the port's key and at
+    /// least one member whose members all have the port's group, that group not being individual;
+    /// else the lowest with that key and no member; else none (profile). None also for a port that
+    /// has no view or is not eligible.
+    pub fn choose(&self, views: &[PortView], port: u16) -> Option<AggId>
+        ensures exact { result ≡ choice self.now views.now port }
+        ensures joins { IfSome result (λ agg. IsSomeAnd (view_of views.now port) (Joins self.now views.now agg)) }
+    {
+        match view_of(views, port) {
+            Some(view) if view.is_eligible() => lowest(self.keys.as_slice(), views, &view),
+            _ => None,
+        }
+    }
+
+    /// Whether the aggregator is Ready: at least one member's mux is DETACHED or WAITING, and every
+    /// such member is in WAITING with wait_while expired (6.4.14.1). False for an unknown aggregator.
+    pub fn ready(&self, views: &[PortView], agg: AggId) -> bool
+        ensures { result ≡ is_ready self.now views.now agg }
+    {
+        self.has(agg) && one_waits(views, agg) && all_have_expired(views, agg)
+    }
+
+    /// The numbers of the SELECTED ports that were given this aggregator, ascending. Empty for an
+    /// unknown aggregator.
+    pub fn members(&self, views: &[PortView], agg: AggId) -> ArrayVec<u16, 64>
+        requires { AreViews views.now }
+        ensures exact { result.items ≡ numbers (members self.now views.now agg) }
+        ensures ascending { IsStrictlyIncreasing result.items }
+    {
+        let mut found = ArrayVec::new();
+        if self.has(agg) {
+            for view in views {
+                if view.is_in(agg) {
+                    found.push(view.number);
+                }
+            }
+        }
+        found
+    }
+
+    /// Whether there is such an aggregator.
+    fn has(&self, agg: AggId) -> bool
+        ensures { result ≡ is_known self.now agg }
+    {
+        1 <= agg.0 && agg.0 as usize <= self.keys.len()
+    }
+}
+
+/// The first keys, as many as can be numbered.
+fn kept(keys: &[Key]) -> &[Key]
+    ensures first { result.now ≡ take 65535 keys.now }
+    ensures few { length result.now ≤ 65535 }
+{
+    if keys.len() <= 65535 {
+        keys
+    } else {
+        &keys[..65535]
+    }
+}
+
+fn one_waits(views: &[PortView], agg: AggId) -> bool
+    ensures { result ≡ list_any (λ v. waits v.stage) (given_to agg views.now) }
+{
+    views
+        .iter()
+        .filter(|view| view.is_in(agg))
+        .any(|view| view.waits())
+}
+
+fn all_have_expired(views: &[PortView], agg: AggId) -> bool
+    ensures { result ≡ list_all (λ v. has_expired v.stage) (filter (λ v. waits v.stage) (given_to agg views.now)) }
+{
+    views
+        .iter()
+        .filter(|view| view.is_in(agg))
+        .filter(|view| view.waits())
+        .all(|view| view.has_expired())
+}
+
+fn has_member(views: &[PortView], agg: AggId) -> bool
+    ensures { result ≡ has_member views.now agg }
+{
+    views.iter().any(|view| view.is_in(agg))
+}
+
+/// Whether all members of the aggregator have this group.
+fn all_have(views: &[PortView], agg: AggId, group: &Group) -> bool
+    ensures { result ≡ list_all (λ w. same_group (group_of w.party w.partner) group.now) (given_to agg views.now) }
+{
+    views
+        .iter()
+        .filter(|view| view.is_in(agg))
+        .all(|view| view.has_group(group))
+}
+
+/// Whether the aggregator has a member, and the port may join its members.
+fn is_joinable(views: &[PortView], port: &PortView, group: &Group, agg: AggId) -> bool
+    requires { group.now ≡ group_of port.now.party port.now.partner }
+    ensures { result ≡ is_joinable views.now port.now agg }
+{
+    !port.is_individual() && has_member(views, agg) && all_have(views, agg, group)
+}
+
+/// The lowest aggregator that an eligible port can join, or else the lowest with no member.
+fn lowest(keys: &[Key], views: &[PortView], port: &PortView) -> Option<AggId>
+    requires { length keys.now ≤ 65535 }
+    ensures { result ≡ choice_for keys.now views.now port.now }
+{
+    let group = port.group();
+    let mut empty = None;
+    let mut number = 0;
+    for key in keys {
+        number += 1;
+        let agg = AggId(number);
+        if *key == port.party.key {
+            if is_joinable(views, port, &group, agg) {
+                return Some(agg);
+            }
+            if empty.is_none() && !has_member(views, agg) {
+                empty = Some(agg);
+            }
+        }
+    }
+    empty
+}

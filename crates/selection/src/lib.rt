@@ -1,0 +1,12 @@
+//! The Selection Logic of one system: which aggregator an eligible port takes, which ports are the
+//! members of an aggregator, and when it is Ready (6.4.14, profile).
+#![tactic(auto)]
+
+mod aggregators;
+mod view;
+
+pub use aggregators::Aggregators;
+pub use view::{PortView, Stage, are_views};
+
+#[cfg(test)]
+mod tests;

@@ -1,0 +1,189 @@
+use crate::{Aggregators, PortView, Stage, are_views};
+use lagtypes::{AggId, Choice, Key, NoMemory, Party, PortId, SystemId};
+use std::alloc::Global;
+use std::test::Fail;
+
+const A: u8 = 0xa;
+
+const B: u8 = 0xb;
+
+const C: u8 = 0xc;
+
+/// An aggregatable port with key 1 of the system whose MAC address ends so.
+fn party(system: u8, number: u16) -> Party {
+    Party {
+        system: SystemId {
+            priority: 32768,
+            mac: [2, 0, 0, 0, 0, system],
+        },
+        key: Key(1),
+        port: PortId {
+            priority: 128,
+            number,
+        },
+        aggregatable: true,
+    }
+}
+
+/// An eligible port of system A with a partner in this system.
+fn view(number: u16, partner: u8) -> PortView {
+    PortView {
+        number,
+        party: party(A, number),
+        partner: party(partner, number),
+        enabled: true,
+        settled: true,
+        stage: Stage::Detached,
+        choice: Choice::Unselected,
+    }
+}
+
+fn views() -> [PortView; 3] {
+    [view(1, B), view(2, B), view(3, C)]
+}
+
+fn selected(agg: u16) -> Choice {
+    Choice::Selected(AggId(agg))
+}
+
+/// Ports 1 and 2 are members of an aggregator, with these stages.
+fn members(agg: u16, one: Stage, other: Stage) -> [PortView; 3] {
+    let mut views = views();
+    views[0].choice = selected(agg);
+    views[0].stage = one;
+    views[1].choice = selected(agg);
+    views[1].stage = other;
+    views
+}
+
+/// Aggregators 1 and 2 of key 1, and aggregator 3 of key 2.
+fn aggregators(alloc: Global) -> Result<Aggregators, NoMemory> {
+    Aggregators::new(alloc, &[Key(1), Key(1), Key(2)])
+}
+
+/// Port 1 is a member of aggregator 1.
+fn first_selected() -> [PortView; 3] {
+    let mut views = views();
+    views[0].choice = selected(1);
+    views
+}
+
+/// Besides, the partner of port 2 is individual.
+fn second_individual() -> [PortView; 3] {
+    let mut views = first_selected();
+    views[1].partner.aggregatable = false;
+    views
+}
+
+/// Besides, port 3 is a member of aggregator 2.
+fn both_taken() -> [PortView; 3] {
+    let mut views = second_individual();
+    views[2].choice = selected(2);
+    views
+}
+
+/// The partner of port 2 is its own system.
+fn second_own() -> [PortView; 3] {
+    let mut views = first_selected();
+    views[1].partner = party(A, 2);
+    views
+}
+
+/// Port 2 has another key.
+fn second_other_key() -> [PortView; 3] {
+    let mut views = first_selected();
+    views[1].party.key = Key(2);
+    views
+}
+
+#[test]
+fn chooses_by_key_and_group(rt: HostRuntime) -> Result<(), Fail> {
+    let aggregators = aggregators(rt.alloc())?;
+    let rows = [
+        (views(), 1, 1),
+        (first_selected(), 2, 1),
+        (first_selected(), 3, 2),
+        (second_individual(), 2, 2),
+        (second_other_key(), 2, 3),
+    ];
+    for (views, port, want) in rows {
+        assert_eq!(rt;
+            aggregators.choose(&views, port),
+            Some(AggId(want)),
+            "port {port}"
+        );
+    }
+    Ok(())
+}
+
+#[test]
+fn chooses_none(rt: HostRuntime) -> Result<(), Fail> {
+    let aggregators = aggregators(rt.alloc())?;
+    let rows = [
+        (both_taken(), 2),
+        (second_own(), 2),
+        (first_selected(), 1),
+        (first_selected(), 4),
+    ];
+    for (views, port) in rows {
+        assert_eq!(rt; aggregators.choose(&views, port), None, "port {port}");
+    }
+    Ok(())
+}
+
+#[test]
+fn is_ready_where_all_that_wait_have_waited(rt: HostRuntime) -> Result<(), Fail> {
+    let aggregators = aggregators(rt.alloc())?;
+    let waited = Stage::Waiting { expired: true };
+    let waits = Stage::Waiting { expired: false };
+    let rows = [
+        (members(1, waited, waited), 1, true),
+        (members(1, waited, waits), 1, false),
+        (members(1, waited, Stage::Detached), 1, false),
+        (members(1, Stage::Joined, waited), 1, true),
+        (members(1, Stage::Joined, Stage::Joined), 1, false),
+        (members(1, waited, waited), 2, false),
+        (members(0, waited, waited), 0, false),
+        (members(4, waited, waited), 4, false),
+    ];
+    for (views, agg, want) in rows {
+        assert_eq!(rt;
+            aggregators.ready(&views, AggId(agg)),
+            want,
+            "aggregator {agg}"
+        );
+    }
+    Ok(())
+}
+
+#[test]
+fn lists_members(rt: HostRuntime) -> Result<(), Fail> {
+    let aggregators = aggregators(rt.alloc())?;
+    for (given, asked, want) in [(1, 1, 2), (1, 2, 0), (0, 0, 0), (4, 4, 0)] {
+        let views = members(given, Stage::Joined, Stage::Joined);
+        assert!(rt; are_views(&views));
+        let found = aggregators.members(&views, AggId(asked));
+        assert_eq!(rt; found.as_slice(), &[1, 2][..want]);
+    }
+    Ok(())
+}
+
+/// Views of ports 1, 2 and so on.
+fn ascending<const N: usize>() -> [PortView; N] {
+    let mut views = [view(0, B); N];
+    let mut number: u16 = 0;
+    for view in views.iter_mut() {
+        number = number.wrapping_add(1);
+        view.number = number;
+    }
+    views
+}
+
+#[test]
+fn tells_what_can_be_views(rt: HostRuntime) {
+    assert!(rt; are_views(&[]));
+    assert!(rt; are_views(&ascending::<64>()));
+    assert!(rt; !are_views(&ascending::<65>()));
+    assert!(rt; !are_views(&[view(2, B), view(2, C)]));
+    assert!(rt; !are_views(&[view(2, B), view(1, C)]));
+}
