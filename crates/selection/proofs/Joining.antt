@@ -2,35 +2,20 @@
 use Rattle.std.proofs.Common.{◌≡◌, ◌≢◌, ℕ, zero, suc, ◌+◌, ◌-◌, Bool, true, false, not, ◌&&◌, ◌||◌, cond, List, [], ◌∷◌, ◌⊎◌, inl, inr, refl, sym, ◌∙◌, subst, ap, arith, Option, Some, None}
 use Rattle.std.specs.Prelude.{◌==◌, IfSome, IsSomeAnd, if◌then◌else◌, slice_get, find}
 use Rattle.std.specs.List.{All, AllByRecursion, list_all, enumerate_from}
-use Rattle.std.specs.Option.{option_eq, option_map}
-use Rattle.std.specs.Str.{bytes_eq}
-use Rattle.std.proofs.lemmas.Bool.Decides.{Decides-eqb}
-use Rattle.std.proofs.lemmas.Slice.Eq.{bytes_eq-Decides}
+use Rattle.std.specs.Option.{option_map}
 use Rattle.lagtypes.specs.declared.identifiers.AggId.{AggId}
 use Rattle.lagtypes.specs.declared.identifiers.Key.{Key}
-use Rattle.lagtypes.specs.declared.identifiers.PortId.{PortId}
-use Rattle.lagtypes.specs.declared.identifiers.SystemId.{SystemId}
-use Rattle.lagtypes.specs.declared.group.End.{End}
-use Rattle.lagtypes.specs.declared.group.Group.{Group}
 use Rattle.lagtypes.specs.declared.party.Choice.{Choice}
 use Rattle.lagtypes.specs.declared.party.Choice.TheVariants.{Unselected, Selected}
-use Rattle.lagtypes.specs.Group.{SamePair, group_of, individual}
-use Rattle.lagtypes.proofs.GroupLemmas.{pairs_from_groups}
+use Rattle.lagtypes.specs.Group.{SamePair, individual}
+use Rattle.selection.proofs.Equal.{and_left, and_right, exact_key, group-test, itself, system-itself}
 use Rattle.selection.specs.declared.view.PortView.{PortView}
-use Rattle.selection.specs.Same.{same_end, same_group, same_port, same_system}
+use Rattle.selection.specs.Same.{same_system}
 use Rattle.selection.specs.Views.{is_detached, is_eligible, is_given, is_unselected}
 use Rattle.selection.specs.Choice.{choice_for, choice_of_view, given_to, has_group_of, has_member, is_empty, is_joinable, lowest_from, numbered, or_else}
 use Rattle.selection.specs.Joining.{IsEmpty, IsShared, Joins, ends}
 
 -- tests
-
-and_left : (b c : Bool) → (b && c) ≡ true → b ≡ true
-and_left true c h = refl
-and_left false c h = h
-
-and_right : (b c : Bool) → (b && c) ≡ true → c ≡ true
-and_right true c h = h
-and_right false c h = absurd cc
 
 not-true : (b : Bool) → not b ≡ true → b ≡ false
 not-true true h = absurd cc
@@ -43,56 +28,6 @@ or-false_left false c h = refl
 or-false_right : (b c : Bool) → (b || c) ≡ false → c ≡ false
 or-false_right true c h = absurd cc
 or-false_right false c h = h
-
-exact_number : (m n : ℕ) → (m == n) ≡ true → m ≡ n
-exact_number m n h = (Decides-eqb m n).0 h
-
-itself : (n : ℕ) → (n == n) ≡ true
-itself n = (Decides-eqb n n).1 refl
-
--- equal by test is equal
-
-exact_system : (s t : SystemId) → same_system s t ≡ true → s ≡ t
-exact_system s t h =
-    λ i. record {
-      priority = exact_number s.priority t.priority (and_left (s.priority == t.priority) (bytes_eq s.mac t.mac) h) i;
-      mac = (bytes_eq-Decides s.mac t.mac).0 (and_right (s.priority == t.priority) (bytes_eq s.mac t.mac) h) i;
-    }
-
-system-itself : (s : SystemId) → same_system s s ≡ true
-system-itself s = rw (itself s.priority, (bytes_eq-Decides s.mac s.mac).1 refl) refl
-
-exact_port : (p q : PortId) → same_port p q ≡ true → p ≡ q
-exact_port p q h =
-    λ i. record {
-      priority = exact_number p.priority q.priority (and_left (p.priority == q.priority) (p.number == q.number) h) i;
-      number = exact_number p.number q.number (and_right (p.priority == q.priority) (p.number == q.number) h) i;
-    }
-
-exact_ports : (o p : Option PortId) → option_eq same_port o p ≡ true → o ≡ p
-exact_ports None None h = refl
-exact_ports None (Some q) h = absurd cc
-exact_ports (Some p) None h = absurd cc
-exact_ports (Some p) (Some q) h = ap Some (exact_port p q h)
-
-exact_key : (k l : Key) → (k.0 == l.0) ≡ true → k ≡ l
-exact_key k l h = λ i. record { 0 = exact_number k.0 l.0 h i }
-
-exact_end : (e f : End) → same_end e f ≡ true → e ≡ f
-exact_end e f h =
-    let rest = and_right (same_system e.system f.system) ((e.key.0 == f.key.0) && option_eq same_port e.port f.port) h in
-    λ i. record {
-      system = exact_system e.system f.system (and_left (same_system e.system f.system) _ h) i;
-      key = exact_key e.key f.key (and_left (e.key.0 == f.key.0) (option_eq same_port e.port f.port) rest) i;
-      port = exact_ports e.port f.port (and_right (e.key.0 == f.key.0) (option_eq same_port e.port f.port) rest) i;
-    }
-
-exact_group : (g h : Group) → same_group g h ≡ true → g ≡ h
-exact_group g h t =
-    λ i. record {
-      lower = exact_end g.lower h.lower (and_left (same_end g.lower h.lower) (same_end g.upper h.upper) t) i;
-      upper = exact_end g.upper h.upper (and_right (same_end g.lower h.lower) (same_end g.upper h.upper) t) i;
-    }
 
 -- members
 
@@ -124,7 +59,7 @@ members_share : (agg : AggId) (v : PortView) (views : List PortView) → list_al
 members_share agg v [] h = tt
 members_share agg v (w ∷ ws) h =
     let both = kept_passes (has_group_of v) (is_given agg w.choice) w (given_to agg ws) h in (
-      λ e. pairs_from_groups (ends w) (ends v) (exact_group (group_of w.party w.partner) (group_of v.party v.partner) (both.0 (given-member agg w.choice e))),
+      λ e. (group-test v w).0 (both.0 (given-member agg w.choice e)),
       members_share agg v ws both.1,
     )
 

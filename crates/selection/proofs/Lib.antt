@@ -1,2 +1,3 @@
-pub mod Rising
+pub mod Equal
 pub mod Joining
+pub mod Rising

@@ -35,7 +35,7 @@ is_empty views agg = not (has_member views agg)
 abbrev pub numbered : ℕ × Key → AggId
 numbered row = record { 0 = row.0 }
 
--- the lowest aggregator with this key that passes the test, where the first of these is numbered so
+-- the lowest aggregator with this key that passes the test; the first of these keys is that of aggregator `first`
 abbrev pub lowest_from : ℕ → List Key → Key → (AggId → Bool) → Option AggId
 lowest_from first keys key test =
     option_map numbered (find (λ row. (row.1.0 == key.0) && test (numbered row)) (enumerate_from first keys))

@@ -1,4 +1,4 @@
--- The members of an aggregator, and when it is Ready (6.4.14.1).
+-- The members of an aggregator, and when it is Ready (6.4.14).
 use Rattle.std.specs.Prelude.{Bool, ◌&&◌, List, [], filter, if◌then◌else◌}
 use Rattle.std.specs.List.{list_any, list_all}
 use Rattle.lagtypes.specs.declared.identifiers.AggId.{AggId}

@@ -59,7 +59,7 @@ impl Aggregators {
     }
 
     /// Whether the aggregator is Ready: at least one member's mux is DETACHED or WAITING, and every
-    /// such member is in WAITING with wait_while expired (6.4.14.1). False for an unknown aggregator.
+    /// such member is in WAITING with wait_while expired (6.4.14). False for an unknown aggregator.
     pub fn ready(&self, views: &[PortView], agg: AggId) -> bool
         ensures { result ≡ is_ready self.now views.now agg }
     {

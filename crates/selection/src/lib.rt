@@ -3,9 +3,11 @@
 #![tactic(auto)]
 
 mod aggregators;
+mod laws;
 mod view;
 
 pub use aggregators::Aggregators;
+pub use laws::tests_are_equalities;
 pub use view::{PortView, Stage, are_views};
 
 #[cfg(test)]
