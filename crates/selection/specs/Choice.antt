@@ -1,5 +1,5 @@
 -- Which aggregator a port takes (profile).
-use Rattle.std.specs.Prelude.{ℕ, ◌==◌, nat_le, Bool, not, ◌&&◌, List, length, filter, find, if◌then◌else◌, Option, Some, None}
+use Rattle.std.specs.Prelude.{ℕ, ◌==◌, nat_le, Bool, not, ◌&&◌, List, length, take, filter, find, if◌then◌else◌, Option, Some, None}
 use Rattle.std.specs.List.{list_any, list_all, enumerate_from}
 use Rattle.std.specs.Option.{option_map}
 use Rattle.lagtypes.specs.declared.identifiers.AggId.{AggId}
@@ -8,6 +8,10 @@ use Rattle.lagtypes.specs.Group.{group_of, individual}
 use Rattle.selection.specs.declared.view.PortView.{PortView}
 use Rattle.selection.specs.Same.{same_group}
 use Rattle.selection.specs.Views.{is_eligible, is_given, view_of}
+
+-- as many keys as there are numbers for aggregators, the first of them
+unfoldable pub kept : List Key → List Key
+kept keys = take 65535 keys
 
 -- aggregators are numbered from 1
 abbrev pub is_known : List Key → AggId → Bool

@@ -1,9 +1,9 @@
-ghost use Rattle.std.specs.Prelude.{◌≡◌, ◌≤◌, IfOk, IfSome, IsSomeAnd, filter, length, take};
+ghost use Rattle.std.specs.Prelude.{◌≡◌, ◌≤◌, IfOk, IfSome, IsSomeAnd, filter, length};
 ghost use Rattle.std.specs.List.{list_all, list_any};
 ghost use Rattle.std.specs.List.Sorted.{IsStrictlyIncreasing};
 ghost use Rattle.lagtypes.specs.Group.{group_of};
 ghost use Rattle.selection.specs.Views.{has_expired, waits};
-ghost use Rattle.selection.specs.Choice.{choice_for, given_to, has_member, is_joinable};
+ghost use Rattle.selection.specs.Choice.{choice_for, given_to, has_member, is_joinable, kept};
 ghost use Rattle.selection.specs.Same.{same_group};
 
 use crate::view::{PortView, view_of};
@@ -38,7 +38,8 @@ impl Aggregators {
     /// Aggregators 1, 2 and so on with these keys, of which at most the first 65,535 are kept.
     /// `NoMemory` where memory for them was refused.
     pub fn new(alloc: Global, keys: &[Key]) -> Result<Aggregators, NoMemory>
-        ensures { IfOk result (λ a. a ≡ take 65535 keys.now) }
+        ensures first { IfOk result (λ a. a ≡ kept keys.now) }
+        ensures all { IfOk result (λ a. length keys.now ≤ 65535 → a ≡ keys.now) }
     {
         let keys = Vec::from_slice(alloc, kept(keys))?;
         Ok(Aggregators { keys })
@@ -94,7 +95,8 @@ impl Aggregators {
 
 /// The first keys, as many as can be numbered.
 fn kept(keys: &[Key]) -> &[Key]
-    ensures first { result.now ≡ take 65535 keys.now }
+    ensures first { result.now ≡ kept keys.now }
+    ensures all { length keys.now ≤ 65535 → result.now ≡ keys.now }
     ensures few { length result.now ≤ 65535 }
 {
     if keys.len() <= 65535 {
