@@ -1,0 +1,5 @@
+pub mod Conversations
+pub mod Changes
+pub mod Calls
+pub mod Faults
+pub mod Moves

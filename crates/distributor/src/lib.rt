@@ -1,0 +1,19 @@
+//! The Frame Distributor of each aggregator (IEEE 802.1AX-2014, 6.2.4): which port the frames of a
+//! conversation go on, and how a conversation moves from port to port behind a marker (6.2.5, 6.5),
+//! so that its frames keep their order. It holds for every algorithm that picks ports, and takes
+//! memory in `Distributor::new` alone.
+#![tactic(auto)]
+
+mod assignment;
+mod change;
+mod conversations;
+mod fault;
+mod laws;
+mod table;
+#[cfg(test)]
+mod tests;
+
+pub use assignment::Assignment;
+pub use conversations::Distributor;
+pub use fault::DistFault;
+pub use laws::{calls_are_moves, first_is_the_first_view};
