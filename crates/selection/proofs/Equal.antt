@@ -13,7 +13,7 @@ use Rattle.lagtypes.specs.declared.group.Group.{Group}
 use Rattle.lagtypes.specs.Group.{SamePair, group_of}
 use Rattle.lagtypes.proofs.GroupLemmas.{groups_from_pairs, pairs_from_groups}
 use Rattle.selection.specs.declared.view.PortView.{PortView}
-use Rattle.selection.specs.Same.{same_end, same_group, same_port, same_system}
+use Rattle.lagtypes.specs.Same.{same_end, same_group, same_port, same_system}
 use Rattle.selection.specs.Choice.{has_group_of}
 use Rattle.selection.specs.Joining.{ends}
 

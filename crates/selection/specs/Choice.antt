@@ -6,7 +6,7 @@ use Rattle.lagtypes.specs.declared.identifiers.AggId.{AggId}
 use Rattle.lagtypes.specs.declared.identifiers.Key.{Key}
 use Rattle.lagtypes.specs.Group.{group_of, individual}
 use Rattle.selection.specs.declared.view.PortView.{PortView}
-use Rattle.selection.specs.Same.{same_group}
+use Rattle.lagtypes.specs.Same.{same_group}
 use Rattle.selection.specs.Views.{is_eligible, is_given, view_of}
 
 -- as many keys as there are numbers for aggregators, the first of them

@@ -1,4 +1,3 @@
-pub mod Same
 pub mod Views
 pub mod Choice
 pub mod Ready

@@ -7,7 +7,7 @@ use Rattle.lagtypes.specs.declared.party.Choice.TheVariants.{Unselected, Selecte
 use Rattle.selection.specs.declared.view.PortView.{PortView}
 use Rattle.selection.specs.declared.view.Stage.{Stage}
 use Rattle.selection.specs.declared.view.Stage.TheVariants.{Detached, Waiting, Joined}
-use Rattle.selection.specs.Same.{same_system}
+use Rattle.lagtypes.specs.Same.{same_system}
 
 abbrev pub numbers : List PortView → List ℕ
 numbers views = map (λ v. v.number) views

@@ -4,7 +4,7 @@ ghost use Rattle.std.specs.List.Sorted.{IsStrictlyIncreasing};
 ghost use Rattle.lagtypes.specs.Group.{group_of};
 ghost use Rattle.selection.specs.Views.{has_expired, waits};
 ghost use Rattle.selection.specs.Choice.{choice_for, given_to, has_member, is_joinable, kept};
-ghost use Rattle.selection.specs.Same.{same_group};
+ghost use Rattle.lagtypes.specs.Same.{same_group};
 
 use crate::view::{PortView, view_of};
 use arrayvec::ArrayVec;

@@ -1,7 +1,7 @@
 ghost use Rattle.std.specs.Prelude.{◌≡◌, ◌↔◌, ◌≤◌, IsTrue, find, length};
 ghost use Rattle.std.specs.List.Sorted.{IsStrictlyIncreasing};
 ghost use Rattle.lagtypes.specs.Group.{group_of, individual};
-ghost use Rattle.selection.specs.Same.{same_group, same_system};
+ghost use Rattle.lagtypes.specs.Same.{same_group, same_system};
 ghost use Rattle.selection.specs.Views.{AreViews, has_expired, is_eligible, is_given, numbers, view_of, waits};
 
 use lagtypes::{AggId, Choice, Group, Party};
