@@ -1,0 +1,4 @@
+pub mod Lists
+pub mod SettlingLemmas
+pub mod StateLemmas
+pub mod Keeps

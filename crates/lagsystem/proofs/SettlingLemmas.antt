@@ -1,0 +1,88 @@
+-- What settling does, from what its loops do.
+use Rattle.std.proofs.Common.{◌≡◌, ℕ, Bool, true, false, ◌||◌, ◌&&◌, cond, List, [], ◌∷◌, length, Option, Some, None, refl, sym, ◌∙◌, subst, ap, if◌then◌else◌, slice_get, slice_set, not, ℕ, zero, suc}
+use Rattle.std.proofs.lemmas.Option.{same_Some}
+use Rattle.std.specs.List.{list_any}
+use Rattle.lagtypes.specs.declared.identifiers.AggId.{AggId}
+use Rattle.lagtypes.specs.declared.identifiers.Key.{Key}
+use Rattle.lagtypes.specs.declared.party.Choice.{Choice}
+use Rattle.lagtypes.specs.declared.party.Choice.TheVariants.{Unselected, Selected}
+use Rattle.portmachines.specs.Rows.{Settles}
+use Rattle.portmachines.specs.Mux.{mux_rows}
+use Rattle.portmachines.specs.Periodic.{RunsPeriodic}
+use Rattle.selection.specs.declared.view.PortView.{PortView}
+use Rattle.selection.specs.Views.{is_eligible, is_given, waits}
+use Rattle.selection.specs.Choice.{choice, given_to, is_known}
+use Rattle.lagsystem.specs.declared.slots.Slot.{Slot}
+use Rattle.lagsystem.specs.Views.{view_of, views}
+use Rattle.lagsystem.specs.State.{State, with_slots}
+use Rattle.lagsystem.specs.Settling.{AllMove, Moves, Settling, choose_slot, chosen, given, ready_of, takes}
+use Rattle.lagsystem.proofs.Lists.{AllZip-weaker}
+
+abbrev one_waiting : List PortView → Bool
+one_waiting seen = list_any (λ v. waits v.stage) seen
+
+or_false : (b c : Bool) → (b || c) ≡ false → (b ≡ false) × (c ≡ false)
+or_false true c h = cc
+or_false false c h = (refl, h)
+
+none_filtered : (b : Bool) (v : PortView) (rest : List PortView) → waits v.stage ≡ false → one_waiting rest ≡ false → one_waiting (cond b (v ∷ rest) rest) ≡ false
+none_filtered true v rest h k = ap (λ x. x || one_waiting rest) h ∙ k
+none_filtered false v rest h k = k
+
+none_given : (agg : AggId) (slots : List Slot) → list_any (λ s. waits (view_of s).stage) slots ≡ false → one_waiting (given_to agg (views slots)) ≡ false
+none_given agg [] h = refl
+none_given agg (s ∷ ss) h =
+    let both = or_false (waits (view_of s).stage) (list_any (λ s. waits (view_of s).stage) ss) h in
+    none_filtered (is_given agg s.port.choice) (view_of s) (given_to agg (views ss)) both.0 (none_given agg ss both.1)
+
+none_known : (b : Bool) (xs : List PortView) → one_waiting xs ≡ false → one_waiting (if b then xs else []) ≡ false
+none_known true xs h = h
+none_known false xs h = refl
+
+and_false : (b c : Bool) → b ≡ false → (b && c) ≡ false
+and_false true c h = cc
+and_false false c h = refl
+
+-- where no port waits, no aggregator is Ready
+pub no_ready : (keys : List Key) (slots : List Slot) → list_any (λ s. waits (view_of s).stage) slots ≡ false → (c : Choice) → ready_of keys (views slots) c ≡ false
+no_ready keys slots h Unselected = refl
+no_ready keys slots h (Selected agg) = and_false _ _ (none_known (is_known keys agg) (given_to agg (views slots)) (none_given agg slots h))
+
+pub runs_unready : (keys : List Key) (olds news : List Slot) → list_any (λ s. waits (view_of s).stage) olds ≡ false → AllMove (Settles (mux_rows false)) olds news
+    → AllMove (λ p q. Settles (mux_rows (ready_of keys (views olds) p.choice)) p q) olds news
+runs_unready keys olds news none h =
+    AllZip-weaker (Moves (Settles (mux_rows false))) (Moves (λ p q. Settles (mux_rows (ready_of keys (views olds) p.choice)) p q))
+    (λ x y m. (m.0, subst (λ b. Settles (mux_rows b) x.port y.port) (sym (no_ready keys olds none x.port.choice)) m.1)) olds news h
+
+pub settling_made : (base : State) (keys : List Key) (slots one two four five : List Slot) → base.keys ≡ keys → base.slots ≡ slots
+    → AllMove (Settles (mux_rows false)) slots one → two ≡ chosen keys (length one) one
+    → AllMove (λ p q. Settles (mux_rows (ready_of keys (views two) p.choice)) p q) two four → AllMove RunsPeriodic four five
+    → Settling base (with_slots base five)
+settling_made base keys slots one two four five ek es h1 h2 h4 h5 =
+    let k1 : AllMove (Settles (mux_rows false)) base.slots one = subst (λ l. AllMove (Settles (mux_rows false)) l one) (sym es) h1 in
+    let k2 : two ≡ chosen base.keys (length one) one = h2 ∙ ap (λ k. chosen k (length one) one) (sym ek) in
+    let k4 : AllMove (λ p q. Settles (mux_rows (ready_of base.keys (views two) p.choice)) p q) two four =
+    subst (λ k. AllMove (λ p q. Settles (mux_rows (ready_of k (views two) p.choice)) p q) two four) (sym ek) h4 in
+    (with_slots base one, (k1, refl), (with_slots base two, ap (with_slots base) k2, (with_slots base two, refl, (with_slots base four, (k4, refl), (with_slots base five, (h5, refl), (with_slots base five, refl, refl))))))
+
+pub set_same : (slots : List Slot) (i : ℕ) (s : Slot) → slice_get slots i ≡ Some s → slice_set slots i s ≡ slots
+set_same [] i s e = refl
+set_same (x ∷ xs) zero s e = let same : x ≡ s = cc in cc
+set_same (x ∷ xs) (suc i) s e = ap (λ ys. x ∷ ys) (set_same xs i s e)
+
+pub from_not : (b : Bool) → not b ≡ true → b ≡ false
+from_not true h = cc
+from_not false h = refl
+
+pub none_taken : (keys : List Key) (slots : List Slot) (i : ℕ) (s : Slot) → slice_get slots i ≡ Some s → is_eligible (view_of s) ≡ false → slots ≡ choose_slot keys slots i (slice_get slots i)
+none_taken keys slots i s e h =
+    let none : takes keys slots s ≡ None = ap (λ b. if b then choice keys (views slots) s.number else None) h in
+    subst (λ o. slots ≡ choose_slot keys slots i o) (sym e) (sym (ap (λ o. slice_set slots i (given s o)) none ∙ set_same slots i s e))
+
+pub one_taken : (keys : List Key) (slots : List Slot) (i : ℕ) (s t : Slot) (o : Option AggId) → slice_get slots i ≡ Some s → slice_get slots i ≡ Some t → is_eligible (view_of s) ≡ true
+    → o ≡ choice keys (views slots) t.number → slice_set slots i (given t o) ≡ choose_slot keys slots i (slice_get slots i)
+one_taken keys slots i s t o e f h k =
+    let same : s ≡ t = same_Some s t (sym e ∙ f) in
+    let ok : is_eligible (view_of t) ≡ true = subst (λ x. is_eligible (view_of x) ≡ true) same h in
+    let what : takes keys slots t ≡ o = ap (λ b. if b then choice keys (views slots) t.number else None) ok ∙ sym k in
+    subst (λ p. slice_set slots i (given t o) ≡ choose_slot keys slots i p) (sym f) (sym (ap (λ p. slice_set slots i (given t p)) what))

@@ -1,0 +1,31 @@
+use Rattle.lagsystem.specs.Kept.{state_of}
+use Rattle.std.proofs.Common.{◌≡◌, ◌∙◌, ap, arith, sym, take, None, List}
+use Rattle.std.proofs.lemmas.List.{take_all}
+use Rattle.lagtypes.specs.declared.identifiers.Key.{Key}
+use Rattle.lagsystem.specs.declared.config.PortConfig.{PortConfig}
+use Rattle.lagsystem.specs.First.{refusal, refusal_of, IsNew}
+use Rattle.std.specs.List.{AllZip}
+use Rattle.std.proofs.Common.{subst}
+use Rattle.lagsystem.proofs.Keeps.{accepted_keys_few, configured_made, sound_made}
+use Rattle.lagsystem.proofs.kept.Core.new.Goals as goal
+
+pub returns-clause-configured : goal.returns-clause-configured
+returns-clause-configured c =
+    let config = c.args.config in
+    let accepted : refusal_of config ≡ None =
+    ap (λ (l : List Key). refusal l config.ports.items) (sym c.deref.ensures.value) ∙ ap (λ (l : List PortConfig). refusal c.deref.result.now l) (sym c.deref-2.ensures.value) ∙ sym c.refusal.ensures ∙ c.in-None.is in
+    let few = accepted_keys_few config.aggregators.items config.ports.items accepted in
+    let keys : c.in_ok-aggregators.aggregators ≡ config.aggregators.items =
+    c.in_ok-aggregators.ensures ∙ ap (λ (l : List Key). take 65535 l) c.deref-3.ensures.value ∙ take_all 65535 config.aggregators.items (omega (arith, few)) in
+    configured_made config c.in_ok-aggregators.aggregators c.in_ok-slots.slots.items (state_of c.settle.new.self) keys c.settle.ensures
+
+pub returns-clause-sound : goal.returns-clause-sound
+returns-clause-sound c =
+    let config = c.args.config in
+    let accepted : refusal_of config ≡ None =
+    ap (λ (l : List Key). refusal l config.ports.items) (sym c.deref.ensures.value) ∙ ap (λ (l : List PortConfig). refusal c.deref.result.now l) (sym c.deref-2.ensures.value) ∙ sym c.refusal.ensures ∙ c.in-None.is in
+    let few = accepted_keys_few config.aggregators.items config.ports.items accepted in
+    let keys : c.in_ok-aggregators.aggregators ≡ config.aggregators.items =
+    c.in_ok-aggregators.ensures ∙ ap (λ (l : List Key). take 65535 l) c.deref-3.ensures.value ∙ take_all 65535 config.aggregators.items (omega (arith, few)) in
+    let new : AllZip (IsNew config.system) config.ports.items c.in_ok-slots.slots.items = subst (λ (l : List PortConfig). AllZip (IsNew config.system) l c.in_ok-slots.slots.items) c.deref-4.ensures.value c.in_ok-slots.ensures.new in
+    sound_made config c.in_ok-aggregators.aggregators c.in_ok-slots.slots.items (state_of c.settle.new.self) keys accepted new c.settle.ensures

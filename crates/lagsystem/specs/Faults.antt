@@ -1,0 +1,25 @@
+-- The numbers of the refusals (profile).
+use Rattle.std.specs.Prelude.{ℕ}
+use Rattle.lagsystem.specs.declared.fault.BadConfig.{BadConfig as Reason}
+use Rattle.lagsystem.specs.declared.fault.BadConfig.TheVariants.{Ports, Aggregators, PortNumber}
+use Rattle.lagsystem.specs.declared.fault.SystemFault.{SystemFault}
+use Rattle.lagsystem.specs.declared.fault.SystemFault.TheVariants.{NoPort, NoAggregator, FrameLength, SlowFrame, Held, NoneDistributing, NotDistributing, SamePort, NotAssigned, MarkersSpent, BadConfig, NoMemory}
+
+abbrev pub reason_number : Reason → ℕ
+reason_number Ports = 1
+reason_number Aggregators = 2
+reason_number (PortNumber place) = 3
+
+abbrev pub fault_number : SystemFault → ℕ
+fault_number NoPort = 1
+fault_number NoAggregator = 2
+fault_number FrameLength = 3
+fault_number SlowFrame = 4
+fault_number Held = 5
+fault_number NoneDistributing = 6
+fault_number NotDistributing = 7
+fault_number SamePort = 8
+fault_number NotAssigned = 9
+fault_number MarkersSpent = 10
+fault_number (BadConfig reason) = 11
+fault_number NoMemory = 12

@@ -1,0 +1,9 @@
+pub mod Faults
+pub mod State
+pub mod Views
+pub mod Settling
+pub mod First
+pub mod Calls
+pub mod Sound
+pub mod Readers
+pub mod Kept

@@ -1,0 +1,87 @@
+-- Settling (profile): six steps, each a relation between the state before it and the state after it.
+use Rattle.std.specs.Prelude.{◌≡◌, ℕ, zero, suc, Bool, false, List, [], ◌∷◌, length, if◌then◌else◌, Option, Some, None, slice_get, slice_set}
+use Rattle.std.specs.List.{AllZip}
+use Rattle.lagtypes.specs.declared.identifiers.AggId.{AggId}
+use Rattle.lagtypes.specs.declared.identifiers.Key.{Key}
+use Rattle.lagtypes.specs.declared.party.Choice.{Choice}
+use Rattle.lagtypes.specs.declared.party.Choice.TheVariants.{Unselected, Selected}
+use Rattle.portmachines.specs.Machines.{Machines}
+use Rattle.portmachines.specs.Rows.{Settles}
+use Rattle.portmachines.specs.Mux.{mux_rows}
+use Rattle.portmachines.specs.Periodic.{RunsPeriodic}
+use Rattle.selection.specs.declared.view.PortView.{PortView}
+use Rattle.selection.specs.Views.{is_eligible}
+use Rattle.selection.specs.Choice.{choice}
+use Rattle.selection.specs.Ready.{is_ready}
+use Rattle.lagsystem.specs.declared.slots.Slot.{Slot}
+use Rattle.lagsystem.specs.Views.{view_of, views}
+use Rattle.lagsystem.specs.State.{State, with_slots}
+
+-- the port keeps its number and address, and its machines go on so
+abbrev pub Moves : (Machines → Machines → Type 0) → Slot → Slot → Type 0
+Moves R old new = (new ≡ record old { port = new.port }) × R old.port new.port
+
+abbrev pub AllMove : (Machines → Machines → Type 0) → List Slot → List Slot → Type 0
+AllMove R old new = AllZip (Moves R) old new
+
+-- every port moves so, and nothing else changes
+abbrev pub EachPort : (Machines → Machines → Type 0) → State → State → Type 0
+EachPort R old new = AllMove R old.slots new.slots × (new ≡ with_slots old new.slots)
+
+-- 1. mux rows with Ready false, until none is enabled
+abbrev pub RunsFreeMux : State → State → Type 0
+RunsFreeMux old new = EachPort (Settles (mux_rows false)) old new
+
+abbrev pub given : Slot → Option AggId → Slot
+given slot None = slot
+given slot (Some agg) = record slot { port = record slot.port { choice = Selected agg } }
+
+-- what a port takes, where it is eligible
+abbrev pub takes : List Key → List Slot → Slot → Option AggId
+takes keys slots slot = if is_eligible (view_of slot) then choice keys (views slots) slot.number else None
+
+abbrev pub choose_slot : List Key → List Slot → ℕ → Option Slot → List Slot
+choose_slot keys slots place None = slots
+choose_slot keys slots place (Some slot) = slice_set slots place (given slot (takes keys slots slot))
+
+-- the first n ports have taken their aggregators, one after another; each sees the choices made before it
+abbrev pub chosen : List Key → ℕ → List Slot → List Slot
+chosen keys zero slots = slots
+chosen keys (suc n) slots = choose_slot keys (chosen keys n slots) n (slice_get (chosen keys n slots) n)
+
+-- 2. each eligible port, ascending, takes its aggregator
+abbrev pub Chooses : State → State → Type 0
+Chooses old new = new ≡ with_slots old (chosen old.keys (length old.slots) old.slots)
+
+-- Ready of the aggregator of a port
+abbrev pub ready_of : List Key → List PortView → Choice → Bool
+ready_of keys seen Unselected = false
+ready_of keys seen (Selected agg) = is_ready keys seen agg
+
+-- 3. Ready is taken of each aggregator, as the state has it: step 4 looks at no later one
+abbrev pub TakesReady : State → State → Type 0
+TakesReady old new = new ≡ old
+
+-- 4. mux rows with Ready as it was taken, until none is enabled
+abbrev pub RunsMux : State → State → Type 0
+RunsMux old new = EachPort (λ p q. Settles (mux_rows (ready_of old.keys (views old.slots) p.choice)) p q) old new
+
+-- 5. periodic rows
+abbrev pub RunsAllPeriodic : State → State → Type 0
+RunsAllPeriodic old new = EachPort RunsPeriodic old new
+
+-- 6. conversations leave the ports that do not distribute; as yet a state has no conversations
+abbrev pub LeavesPorts : State → State → Type 0
+LeavesPorts old new = new ≡ old
+
+-- steps one after another
+abbrev pub Follows : List (State → State → Type 0) → State → State → Type 0
+Follows [] old new = new ≡ old
+Follows (step ∷ steps) old new = (mid : State) × step old mid × Follows steps mid new
+
+abbrev pub six_steps : List (State → State → Type 0)
+six_steps = RunsFreeMux ∷ Chooses ∷ TakesReady ∷ RunsMux ∷ RunsAllPeriodic ∷ LeavesPorts ∷ []
+
+-- one settling: seven states, each of which follows from the one before by one of the six steps
+abbrev pub Settling : State → State → Type 0
+Settling old new = Follows six_steps old new

@@ -1,0 +1,32 @@
+-- One system as contracts see it.
+use Rattle.std.specs.Prelude.{ℕ, ◌==◌, List, Option, Some, None, slice_get, position, option_map}
+use Rattle.lagtypes.specs.declared.identifiers.Key.{Key}
+use Rattle.lagtypes.specs.declared.identifiers.SystemId.{SystemId}
+use Rattle.portmachines.specs.Machines.{Machines}
+use Rattle.lagsystem.specs.declared.config.PortConfig.{PortConfig}
+use Rattle.lagsystem.specs.declared.slots.Slot.{Slot}
+
+-- the configuration: identifier, CollectorMaxDelay, identifier of the first marker, keys of the aggregators, and the ports
+-- as they started; and the ports as they are, in the same order
+pub record State : Type 0 where
+  pub system : SystemId
+  pub max_delay : ℕ
+  pub first_marker : ℕ
+  pub keys : List Key
+  pub ports : List PortConfig
+  pub slots : List Slot
+
+abbrev pub with_slots : State → List Slot → State
+with_slots s slots = record s { slots = slots }
+
+-- the place of the port with this number
+abbrev pub place_of : ℕ → List Slot → Option ℕ
+place_of n slots = position (λ s. s.number == n) slots
+
+abbrev pub slot_at : Option ℕ → List Slot → Option Slot
+slot_at None slots = None
+slot_at (Some i) slots = slice_get slots i
+
+-- the port with this number
+abbrev pub port_of : ℕ → State → Option Machines
+port_of n s = option_map (λ x. x.port) (slot_at (place_of n s.slots) s.slots)

@@ -1,0 +1,32 @@
+-- What the Selection Logic sees of the ports.
+use Rattle.std.specs.Prelude.{ℕ, ◌==◌, ◌||◌, List, map}
+use Rattle.slowpdu.specs.Parties.{party_of}
+use Rattle.portmachines.specs.declared.mux.MuxState.{MuxState}
+use Rattle.portmachines.specs.declared.mux.MuxState.TheVariants.{Detached, Waiting, Attached, CollectingDistributing}
+use Rattle.portmachines.specs.declared.receive.ReceiveState.TheVariants.{Defaulted, Current}
+use Rattle.portmachines.specs.Receive.{is_receive}
+use Rattle.selection.specs.declared.view.PortView.{PortView}
+use Rattle.selection.specs.declared.view.Stage.{Stage}
+use Rattle.selection.specs.declared.view.Stage.TheVariants as stage
+use Rattle.lagsystem.specs.declared.slots.Slot.{Slot}
+
+abbrev pub stage_of : MuxState → ℕ → Stage
+stage_of Detached wait_while = stage.Detached
+stage_of Waiting wait_while = stage.Waiting (wait_while == 0)
+stage_of Attached wait_while = stage.Joined
+stage_of CollectingDistributing wait_while = stage.Joined
+
+abbrev pub view_of : Slot → PortView
+view_of s =
+    record {
+      number = s.number;
+      party = s.port.party;
+      partner = party_of s.port.partner;
+      enabled = s.port.enabled;
+      settled = is_receive Current s.port.receive || is_receive Defaulted s.port.receive;
+      stage = stage_of s.port.mux s.port.wait_while;
+      choice = s.port.choice;
+    }
+
+abbrev pub views : List Slot → List PortView
+views slots = map view_of slots

@@ -1,0 +1,69 @@
+ghost use Rattle.std.specs.Prelude.{◌≡◌, length, vec_len, IfOk};
+ghost use Rattle.std.specs.List.{AllZip};
+ghost use Rattle.lagsystem.specs.First.{IsNew, misplaced, numbers_of, refusal};
+
+use crate::config::PortConfig;
+use crate::fault::BadConfig;
+use crate::slots::Slot;
+use lagtypes::{Key, NoMemory, SystemId};
+use std::alloc::Global;
+
+/// The ports of a new system.
+pub(crate) fn new_slots(
+    alloc: Global,
+    system: SystemId,
+    ports: &[PortConfig],
+) -> Result<Vec<Slot>, NoMemory>
+    ensures new { IfOk result (λ slots. AllZip (IsNew system) ports.now slots.items) }
+    ensures count { IfOk result (λ slots. vec_len slots ≡ length ports.now) }
+{
+    let mut slots = Vec::with_capacity(alloc, ports.len())?;
+    for port in ports {
+        slots.push(Slot::new(system, port))?;
+    }
+    Ok(slots)
+}
+
+/// Makes every port anew in its place, without taking memory.
+pub(crate) fn restart_all(system: SystemId, ports: &[PortConfig], slots: &mut [Slot])
+    requires { length slots.old ≡ length ports.now }
+    ensures { AllZip (IsNew system) ports.now slots.new }
+{
+    for place in 0..ports.len() {
+        let config = ports[place];
+        let slot = &mut slots[place];
+        slot.restart(system, &config);
+    }
+}
+
+/// The place, from 1, of the first port whose number is not above the one before it.
+fn misplaced(ports: &[PortConfig]) -> Option<usize>
+    ensures { result ≡ misplaced 1 0 (numbers_of ports.now) }
+{
+    let mut place = 0;
+    let mut low = 0;
+    for port in ports {
+        place += 1;
+        if port.number <= low {
+            return Some(place);
+        }
+        low = port.number;
+    }
+    None
+}
+
+/// The first reason to refuse a configuration.
+pub(crate) fn refusal(keys: &[Key], ports: &[PortConfig]) -> Option<BadConfig>
+    ensures { result ≡ refusal keys.now ports.now }
+{
+    if ports.is_empty() || ports.len() > 64 {
+        return Some(BadConfig::Ports);
+    }
+    if keys.is_empty() || keys.len() > 64 {
+        return Some(BadConfig::Aggregators);
+    }
+    match misplaced(ports) {
+        Some(place) => Some(BadConfig::PortNumber(place)),
+        None => None,
+    }
+}

@@ -1,0 +1,18 @@
+//! One system: its ports, its aggregators, and the settling after a call (IEEE 802.1AX-2014, 6.2 to 6.5).
+#![tactic(auto)]
+
+mod answers;
+mod calls;
+mod config;
+mod fault;
+mod first;
+mod kept;
+mod ports;
+mod readers;
+mod settling;
+mod slots;
+
+pub use answers::Received;
+pub use calls::System;
+pub use config::{Config, PortChange, PortConfig};
+pub use fault::{BadConfig, SystemFault};

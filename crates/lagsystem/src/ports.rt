@@ -1,0 +1,200 @@
+ghost use Rattle.std.specs.Prelude.{◌≡◌, ◌<◌, None, Some, true, length, IfNone, IfSome};
+ghost use Rattle.std.specs.Bool.{OnFalse, OnTrue};
+ghost use Rattle.collector.specs.Collecting.{IsDataFrame};
+ghost use Rattle.slowpdu.specs.Markers.{response_to};
+ghost use Rattle.lagtypes.specs.Same.{same_party};
+ghost use Rattle.portmachines.specs.Receive.{receive_rows};
+ghost use Rattle.portmachines.specs.Rows.{Settles};
+ghost use Rattle.portmachines.specs.Start.{Starts};
+ghost use Rattle.portmachines.specs.Transmit.{count_down};
+ghost use Rattle.lagsystem.specs.Calls.{AnswersMarker, ChangesLink, ChangesParty, Hears, HearsPayload, IsAtPlace, OnPlace, Sends, SendsAt, Takes, changed, collecting, handed};
+ghost use Rattle.lagsystem.specs.Settling.{AllMove, Moves};
+ghost use Rattle.lagsystem.specs.State.{place_of};
+
+use crate::answers::{Heard, Received};
+use crate::config::PortChange;
+use crate::slots::{Slot, place_of};
+use collector::{Taken, answer, collect};
+use lagtypes::{AggId, Choice, Party, PortId};
+use portmachines::{MuxState, Port};
+use slowpdu::{Kind, Lacpdu, Marker, Pdu, classify, decode, frame};
+
+fn tick_slot(slot: &mut Slot)
+    ensures { Moves (λ p q. Settles receive_rows (count_down p) q) slot.old slot.new }
+{
+    slot.port.tick();
+}
+
+/// A tick of every port.
+pub(crate) fn tick_all(slots: &mut [Slot])
+    ensures { AllMove (λ p q. Settles receive_rows (count_down p) q) slots.old slots.new }
+{
+    for slot in slots.iter_mut() {
+        tick_slot(slot);
+    }
+}
+
+/// The link of a port is up or down now; false where there is no such port.
+pub(crate) fn link_port(slots: &mut [Slot], number: u16, up: bool) -> bool
+    ensures acted { OnTrue result (OnPlace (ChangesLink up) (place_of number slots.old) slots.old slots.new) }
+    ensures none { OnFalse result (place_of number slots.old ≡ None) }
+    ensures same { OnFalse result (slots.new ≡ slots.old) }
+{
+    match place_of(slots, number) {
+        Some(place) => {
+            let slot = &mut slots[place];
+            slot.port.set_link(up);
+            true
+        }
+        None => false,
+    }
+}
+
+/// Takes an LACPDU on the port at this place.
+pub(crate) fn take_at(slots: &mut [Slot], place: usize, pdu: &Lacpdu)
+    requires { place < length slots.old }
+    ensures { OnPlace (Takes pdu.now) (Some place) slots.old slots.new }
+{
+    let slot = &mut slots[place];
+    slot.port.take(pdu);
+}
+
+/// The aggregator in which a port is Collecting (6.2.3).
+fn collecting(port: &Port) -> Option<AggId>
+    ensures { result ≡ collecting port.now }
+{
+    match (port.mux_state(), port.choice()) {
+        (MuxState::CollectingDistributing, Choice::Selected(agg)) => Some(agg),
+        _ => None,
+    }
+}
+
+/// What a port makes of a data frame.
+fn hand_up(slot: &Slot, octets: &[u8]) -> Received
+    requires { IsDataFrame octets.now }
+    ensures { result ≡ handed (collecting slot.now.port) }
+{
+    match collect(collecting(&slot.port), octets) {
+        Taken::Up(agg) => Received::Up(agg),
+        Taken::Dropped => Received::Dropped,
+    }
+}
+
+/// What an enabled port answers to a marker or a marker response.
+fn answer_marker(slot: &Slot, marker: &Marker) -> Heard
+    ensures { AnswersMarker slot.now.mac (response_to marker.now) result }
+{
+    match answer(true, marker) {
+        Some(response) => Heard::Answered(Received::Respond(frame(slot.mac, &response.encode()))),
+        None => Heard::Answered(Received::Released(0)),
+    }
+}
+
+/// What an enabled port makes of the payload of a control frame.
+fn hear_payload(slot: &Slot, payload: &[u8]) -> Heard
+    ensures { HearsPayload slot.now payload.now result }
+{
+    match decode(payload) {
+        Ok(Pdu::Lacpdu(pdu)) => Heard::Taken(pdu),
+        Ok(Pdu::Marker(marker)) => answer_marker(slot, &marker),
+        Err(fault) => Heard::Answered(Received::Ignored(fault)),
+    }
+}
+
+/// What a port makes of received octets.
+pub(crate) fn hear(slot: &Slot, octets: &[u8]) -> Heard
+    ensures { Hears slot.now octets.now result }
+{
+    if !slot.port.is_enabled() {
+        return Heard::Answered(Received::Disabled);
+    }
+    match classify(octets) {
+        Kind::TooShort => Heard::Answered(Received::Dropped),
+        Kind::Data => Heard::Answered(hand_up(slot, octets)),
+        Kind::Control(payload) => hear_payload(slot, payload),
+    }
+}
+
+/// The LACPDU that is due on a port whose link is up, as a control frame.
+fn transmit_slot(slot: &mut Slot, max_delay: u16) -> Option<[u8; 124]>
+    ensures kept { slot.new ≡ record slot.old { port = slot.new.port } }
+    ensures sends { Sends max_delay slot.old.mac slot.old.port result slot.new.port }
+{
+    if !slot.port.is_enabled() {
+        return None;
+    }
+    match slot.port.transmit(max_delay) {
+        Some(pdu) => Some(frame(slot.mac, &pdu.encode())),
+        None => None,
+    }
+}
+
+/// What a port sends; None where there is no such port.
+pub(crate) fn transmit_port(
+    slots: &mut [Slot],
+    number: u16,
+    max_delay: u16,
+) -> Option<Option<[u8; 124]>>
+    ensures none { IfNone result (place_of number slots.old ≡ None) }
+    ensures same { IfNone result (slots.new ≡ slots.old) }
+    ensures sends { IfSome result (λ reply. SendsAt max_delay (place_of number slots.old) reply slots.old slots.new) }
+{
+    match place_of(slots, number) {
+        Some(place) => {
+            let slot = &mut slots[place];
+            Some(transmit_slot(slot, max_delay))
+        }
+        None => None,
+    }
+}
+
+/// Gives a port another key, priority or Aggregation bit, and answers whether something differs; None where there is
+/// no such port.
+pub(crate) fn configure_port(slots: &mut [Slot], number: u16, change: PortChange) -> Option<bool>
+    ensures none { IfNone result (place_of number slots.old ≡ None) }
+    ensures same { IfNone result (slots.new ≡ slots.old) }
+    ensures acted { IfSome result (λ did. OnTrue did (OnPlace (ChangesParty change) (place_of number slots.old) slots.old slots.new)) }
+    ensures stays { IfSome result (λ did. OnFalse did (IsAtPlace (λ p. same_party (changed change p.party) p.party ≡ true) (place_of number slots.old) slots.old)) }
+    ensures unchanged { IfSome result (λ did. OnFalse did (slots.new ≡ slots.old)) }
+{
+    match place_of(slots, number) {
+        Some(place) => {
+            if is_same(&slots[place].port, change) {
+                return Some(false);
+            }
+            let slot = &mut slots[place];
+            reinit_slot(slot, change);
+            Some(true)
+        }
+        None => None,
+    }
+}
+
+fn is_same(port: &Port, change: PortChange) -> bool
+    ensures { result ≡ same_party (changed change port.now.party) port.now.party }
+{
+    let party = port.party();
+    changed(change, &party) == party
+}
+
+fn reinit_slot(slot: &mut Slot, change: PortChange)
+    ensures kept { slot.new ≡ record slot.old { port = slot.new.port } }
+    ensures port { Starts (record slot.old.port { party = changed change slot.old.port.party }) slot.new.port }
+{
+    let party = slot.port.party();
+    slot.port.reinit(changed(change, &party));
+}
+
+fn changed(change: PortChange, party: &Party) -> Party
+    ensures { result ≡ changed change party.now }
+{
+    Party {
+        system: party.system,
+        key: change.key,
+        port: PortId {
+            priority: change.priority,
+            number: party.port.number,
+        },
+        aggregatable: change.aggregatable,
+    }
+}

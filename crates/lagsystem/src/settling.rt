@@ -1,0 +1,137 @@
+ghost use Rattle.std.specs.Prelude.{◌≡◌, ◌≤◌, ◌<◌, length, false, slice_get};
+ghost use Rattle.std.specs.List.{list_any};
+ghost use Rattle.portmachines.specs.Rows.{Settles};
+ghost use Rattle.portmachines.specs.Mux.{mux_rows};
+ghost use Rattle.portmachines.specs.Periodic.{RunsPeriodic};
+ghost use Rattle.selection.specs.Views.{waits};
+ghost use Rattle.lagsystem.specs.Views.{view_of, views};
+ghost use Rattle.lagsystem.specs.Settling.{AllMove, Moves, Settling, choose_slot, chosen, ready_of};
+ghost use Rattle.lagsystem.specs.State.{State, with_slots};
+
+use crate::slots::{Slot, is_eligible, views};
+use lagtypes::Choice;
+use portmachines::MuxState;
+use selection::{Aggregators, PortView};
+
+fn settle_mux(slot: &mut Slot, ready: bool)
+    ensures { Moves (Settles (mux_rows ready)) slot.old slot.new }
+{
+    let _fired = slot.port.mux(ready);
+}
+
+/// Step 1: mux rows with Ready false.
+fn run_free_mux(slots: &mut [Slot])
+    ensures { AllMove (Settles (mux_rows false)) slots.old slots.new }
+{
+    for slot in slots.iter_mut() {
+        settle_mux(slot, false);
+    }
+}
+
+/// The port at this place takes its aggregator, where it is eligible.
+fn choose_at(aggregators: &Aggregators, slots: &mut [Slot], place: usize)
+    requires few { length slots.old ≤ 64 }
+    requires within { place < length slots.old }
+    ensures { slots.new ≡ choose_slot aggregators.now slots.old place (slice_get slots.old place) }
+{
+    if !is_eligible(&slots[place]) {
+        return;
+    }
+    let seen = views(slots);
+    let slot = &mut slots[place];
+    match aggregators.choose(seen.as_slice(), slot.number) {
+        Some(agg) => slot.port.select(Choice::Selected(agg)),
+        None => {}
+    }
+}
+
+/// Step 2: each eligible port takes its aggregator, and sees the choices made before.
+fn choose_all(aggregators: &Aggregators, slots: &mut [Slot])
+    requires { length slots.old ≤ 64 }
+    ensures { slots.new ≡ chosen aggregators.now (length slots.old) slots.old }
+{
+    for place in 0..slots.len() {
+        choose_at(aggregators, slots, place);
+    }
+}
+
+fn waits(slot: &Slot) -> bool
+    ensures { result ≡ waits (view_of slot.now).stage }
+{
+    matches!(
+        slot.port.mux_state(),
+        MuxState::Detached | MuxState::Waiting
+    )
+}
+
+/// Whether a port waits for Ready.
+fn one_waits(slots: &[Slot]) -> bool
+    ensures { result ≡ list_any (λ s. waits (view_of s).stage) slots.now }
+{
+    slots.iter().any(|slot| waits(slot))
+}
+
+/// Steps 3 and 4: mux rows, with Ready as it was before them.
+fn run_mux(aggregators: &Aggregators, slots: &mut [Slot])
+    requires { length slots.old ≤ 64 }
+    ensures { AllMove (λ p q. Settles (mux_rows (ready_of aggregators.now (views slots.old) p.choice)) p q) slots.old slots.new }
+{
+    if one_waits(slots) {
+        let seen = views(slots);
+        run_mux_seeing(aggregators, slots, seen.as_slice());
+    } else {
+        // No aggregator is Ready where no port waits.
+        run_free_mux(slots);
+    }
+}
+
+fn run_mux_seeing(aggregators: &Aggregators, slots: &mut [Slot], seen: &[PortView])
+    ensures { AllMove (λ p q. Settles (mux_rows (ready_of aggregators.now seen.now p.choice)) p q) slots.old slots.new }
+{
+    for slot in slots.iter_mut() {
+        settle_mux_seeing(aggregators, slot, seen);
+    }
+}
+
+fn settle_mux_seeing(aggregators: &Aggregators, slot: &mut Slot, seen: &[PortView])
+    ensures { Moves (λ p q. Settles (mux_rows (ready_of aggregators.now seen.now p.choice)) p q) slot.old slot.new }
+{
+    let ready = ready_of(aggregators, seen, slot.port.choice());
+    settle_mux(slot, ready);
+}
+
+fn ready_of(aggregators: &Aggregators, seen: &[PortView], choice: Choice) -> bool
+    ensures { result ≡ ready_of aggregators.now seen.now choice }
+{
+    match choice {
+        Choice::Unselected => false,
+        Choice::Selected(agg) => aggregators.ready(seen, agg),
+    }
+}
+
+fn settle_periodic(slot: &mut Slot)
+    ensures { Moves RunsPeriodic slot.old slot.new }
+{
+    slot.port.periodic();
+}
+
+/// Step 5: periodic rows.
+fn run_periodic(slots: &mut [Slot])
+    ensures { AllMove RunsPeriodic slots.old slots.new }
+{
+    for slot in slots.iter_mut() {
+        settle_periodic(slot);
+    }
+}
+
+/// One settling (profile): six steps over all ports. It looks at each port a bounded number of times, but for ports
+/// that may take an aggregator or that wait for Ready.
+pub(crate) fn settle(aggregators: &Aggregators, slots: &mut [Slot])
+    requires { length slots.old ≤ 64 }
+    ensures { (base : State) → base.keys ≡ aggregators.now → base.slots ≡ slots.old → Settling base (with_slots base slots.new) }
+{
+    run_free_mux(slots);
+    choose_all(aggregators, slots);
+    run_mux(aggregators, slots);
+    run_periodic(slots);
+}

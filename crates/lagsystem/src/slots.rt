@@ -1,0 +1,126 @@
+ghost use Rattle.std.specs.Prelude.{◌≡◌, ◌<◌, ◌≤◌, IfSome, length};
+ghost use Rattle.lagsystem.specs.Views.{stage_of, view_of, views};
+ghost use Rattle.lagsystem.specs.State.{place_of};
+ghost use Rattle.lagsystem.specs.First.{IsNew, setup_of};
+ghost use Rattle.selection.specs.Views.{is_detached, is_eligible, is_unselected};
+
+use crate::config::PortConfig;
+use arrayvec::ArrayVec;
+use lagtypes::{Choice, Party, PortId, SystemId};
+use portmachines::{MuxState, Port, ReceiveState, Setup};
+use selection::{PortView, Stage};
+
+/// One port of a system.
+#[derive(Drop)]
+pub(crate) struct Slot {
+    /// The port number.
+    pub(crate) number: u16,
+    /// The MAC address of the port.
+    pub(crate) mac: [u8; 6],
+    /// Its machines.
+    pub(crate) port: Port,
+}
+
+/// The place of the port with this number.
+pub(crate) fn place_of(slots: &[Slot], number: u16) -> Option<usize>
+    ensures place { result ≡ place_of number slots.now }
+    ensures within { IfSome result (λ place. place < length slots.now) }
+{
+    slots.iter().position(|slot| slot.number == number)
+}
+
+fn stage_of(mux: MuxState, wait_while: u8) -> Stage
+    ensures { result ≡ stage_of mux wait_while }
+{
+    match mux {
+        MuxState::Detached => Stage::Detached,
+        MuxState::Waiting => Stage::Waiting {
+            expired: wait_while == 0,
+        },
+        MuxState::Attached | MuxState::CollectingDistributing => Stage::Joined,
+    }
+}
+
+/// What the Selection Logic sees of a port.
+pub(crate) fn view_of(slot: &Slot) -> PortView
+    ensures { result ≡ view_of slot.now }
+{
+    let port = &slot.port;
+    PortView {
+        number: slot.number,
+        party: port.party(),
+        partner: port.partner().party(),
+        enabled: port.is_enabled(),
+        settled: matches!(
+            port.receive_state(),
+            ReceiveState::Current | ReceiveState::Defaulted
+        ),
+        stage: stage_of(port.mux_state(), port.wait_while()),
+        choice: port.choice(),
+    }
+}
+
+/// What the Selection Logic sees of all ports.
+pub(crate) fn views(slots: &[Slot]) -> ArrayVec<PortView, 64>
+    requires { length slots.now ≤ 64 }
+    ensures { result.items ≡ views slots.now }
+{
+    let mut found = ArrayVec::new();
+    for slot in slots {
+        found.push(view_of(slot));
+    }
+    found
+}
+
+/// Whether a port may take an aggregator now.
+pub(crate) fn is_eligible(slot: &Slot) -> bool
+    ensures { result ≡ is_eligible (view_of slot.now) }
+{
+    let view = view_of(slot);
+    view.enabled
+        && view.settled
+        && matches!(view.stage, Stage::Detached)
+        && matches!(view.choice, Choice::Unselected)
+        && !(view.partner.system == view.party.system)
+}
+
+/// What the machines of a port are made from.
+fn setup_of(system: SystemId, config: &PortConfig) -> Setup
+    ensures { result ≡ setup_of system config.now }
+{
+    Setup {
+        party: Party {
+            system,
+            key: config.key,
+            port: PortId {
+                priority: config.priority,
+                number: config.number,
+            },
+            aggregatable: config.aggregatable,
+        },
+        active: config.active,
+        short: config.short,
+    }
+}
+
+impl Slot {
+    /// A port whose machines have started.
+    pub(crate) fn new(system: SystemId, config: &PortConfig) -> Slot
+        ensures { IsNew system config.now result }
+    {
+        Slot {
+            number: config.number,
+            mac: config.mac,
+            port: Port::new(setup_of(system, config)),
+        }
+    }
+
+    /// Makes the port anew in its place.
+    pub(crate) fn restart(&mut self, system: SystemId, config: &PortConfig)
+        ensures { IsNew system config.now self.new }
+    {
+        self.number = config.number;
+        self.mac = config.mac;
+        self.port = Port::new(setup_of(system, config));
+    }
+}
