@@ -23,7 +23,7 @@ use Rattle.lagsystem.specs.Settling.{AllMove, EachPort, Settling, chosen, choose
 use Rattle.lagsystem.specs.Views.{views}
 use Rattle.lagsystem.specs.First.{IsConfigured, IsFirst, IsNew, numbers_of, refusal, refusal_of, is_count}
 use Rattle.lagsystem.specs.declared.config.Config.{Config}
-use Rattle.lagsystem.specs.Sound.{IsSound, numbers}
+use Rattle.lagsystem.specs.Sound.{HasPorts, numbers}
 use Rattle.lagsystem.specs.Calls.{Call, Tick, Set_link, Receive, Configure, Restart, Transmit, Reply, Ticked, Links, Receives, Configures, Restarted, Transmits, AllTick, ChangesLink, ChangesParty, OnPlace, OnPort, Settled, Takes, Does, SendsAt, Step}
 
 pub record Keeps (old new : State) : Type 0 where
@@ -42,7 +42,7 @@ zip_numbers R [] (y ∷ ys) h = absurd h
 zip_numbers R (x ∷ xs) [] h = absurd h
 zip_numbers R (x ∷ xs) (y ∷ ys) h = λ i. (h.0.0 i).number ∷ zip_numbers R xs ys h.1 i
 
-keeps_each : (R : Machines → Machines → Type 0) (old new : State) → EachPort R old new → Keeps old new
+pub keeps_each : (R : Machines → Machines → Type 0) (old new : State) → EachPort R old new → Keeps old new
 keeps_each R old new h = record { frame = h.1; same = zip_numbers R old.slots new.slots h.0 }
 
 pub numbers_set : (slots : List Slot) (i : ℕ) (s t : Slot) → slice_get slots i ≡ Some s → t.number ≡ s.number → numbers (slice_set slots i t) ≡ numbers slots
@@ -85,10 +85,10 @@ place_numbers : (R : Machines → Machines → Type 0) (o : Option ℕ) (old new
 place_numbers R None old new h = absurd h
 place_numbers R (Some i) old new h = ap numbers h.4 ∙ numbers_set old i h.0 (record h.0 { port = h.1 }) h.2 refl
 
-keeps_place : (R : Machines → Machines → Type 0) (o : Option ℕ) (old new : State) → OnPort o R old new → Keeps old new
+pub keeps_place : (R : Machines → Machines → Type 0) (o : Option ℕ) (old new : State) → OnPort o R old new → Keeps old new
 keeps_place R o old new h = record { frame = h.1; same = place_numbers R o old.slots new.slots h.0 }
 
-keeps_settled : (own : State → State → Type 0) (old new : State) → ((mid : State) → own old mid → Keeps old mid) → Settled own old new → Keeps old new
+pub keeps_settled : (own : State → State → Type 0) (old new : State) → ((mid : State) → own old mid → Keeps old mid) → Settled own old new → Keeps old new
 keeps_settled own old new k h = keeps_joined old h.0 new (k h.0 h.1) (settling_keeps h.0 new h.2)
 
 sends_numbers : (max_delay : ℕ) (o : Option ℕ) (reply : Option (List ℕ)) (old new : List Slot) → SendsAt max_delay o reply old new → numbers new ≡ numbers old
@@ -109,30 +109,47 @@ new_numbers system (p ∷ ps) (s ∷ ss) h = λ i. h.0.0 i ∷ new_numbers syste
 pub first_numbers : (s : State) → IsFirst s → numbers s.slots ≡ numbers_of s.ports
 first_numbers s h = (settling_keeps (with_slots s h.0) s h.2).same ∙ new_numbers s.system s.ports h.0 h.1
 
-pub sound_kept : (old new : State) → Keeps old new → IsSound old → IsSound new
-sound_kept old new k s = record {
+pub ports_kept : (old new : State) → Keeps old new → HasPorts old → HasPorts new
+ports_kept old new k s = record {
   accepted = ap (λ (x : State). refusal x.keys x.ports) k.frame ∙ s.accepted;
-  configured = k.same ∙ s.configured ∙ sym (ap (λ (x : State). numbers_of x.ports) k.frame);
+  same = k.same ∙ s.same ∙ sym (ap (λ (x : State). numbers_of x.ports) k.frame);
 }
 
-pub sound_first : (s : State) → refusal s.keys s.ports ≡ None → IsFirst s → IsSound s
-sound_first s a h = record { accepted = a; configured = first_numbers s h }
+pub ports_first : (s : State) → refusal s.keys s.ports ≡ None → IsFirst s → HasPorts s
+ports_first s a h = record { accepted = a; same = first_numbers s h }
 
-pub Step-sound : (old : State) (call : Call) (reply : Reply) (new : State) → Step old call reply new → IsSound old → IsSound new
-Step-sound old Tick Ticked new h s = sound_kept old new (keeps_settled AllTick old new (λ mid own. keeps_each (λ p q. Settles receive_rows (count_down p) q) old mid own) h) s
-Step-sound old (Set_link n up) (Links (Ok done)) new h s =
-    let o = place_of n old.slots in sound_kept old new (keeps_settled (OnPort o (ChangesLink up)) old new (λ mid own. keeps_place (ChangesLink up) o old mid own) h) s
-Step-sound old (Set_link n up) (Links (Err fault)) new h s = sound_kept old new (keeps_stays old new h.same) s
-Step-sound old (Receive n octets) (Receives (Ok reply)) new h s = sound_kept old new (keeps_does h.1 (place_of n old.slots) old reply new h.4) s
-Step-sound old (Receive n octets) (Receives (Err fault)) new h s = sound_kept old new (keeps_stays old new h.same) s
-Step-sound old (Configure n change) (Configures (Ok true)) new h s =
-    let o = place_of n old.slots in sound_kept old new (keeps_settled (OnPort o (ChangesParty change)) old new (λ mid own. keeps_place (ChangesParty change) o old mid own) h) s
-Step-sound old (Configure n change) (Configures (Ok false)) new h s = sound_kept old new (keeps_stays old new h.1) s
-Step-sound old (Configure n change) (Configures (Err fault)) new h s = sound_kept old new (keeps_stays old new h.same) s
-Step-sound old Restart Restarted new h s = sound_first new (ap (λ (x : State). refusal x.keys x.ports) h.0 ∙ s.accepted) h.1
-Step-sound old (Transmit n) (Transmits (Ok reply)) new h s = sound_kept old new (record { frame = h.1; same = sends_numbers old.max_delay (place_of n old.slots) reply old.slots new.slots h.0 }) s
-Step-sound old (Transmit n) (Transmits (Err fault)) new h s = sound_kept old new (keeps_stays old new h.same) s
-Step-sound old call reply new h s = absurd h
+pub Step-ports : (old : State) (call : Call) (reply : Reply) (new : State) → Step old call reply new → HasPorts old → HasPorts new
+Step-ports old Tick Ticked new h s = ports_kept old new (keeps_settled AllTick old new (λ mid own. keeps_each (λ p q. Settles receive_rows (count_down p) q) old mid own) h) s
+Step-ports old (Set_link n up) (Links (Ok done)) new h s =
+    let o = place_of n old.slots in ports_kept old new (keeps_settled (OnPort o (ChangesLink up)) old new (λ mid own. keeps_place (ChangesLink up) o old mid own) h) s
+Step-ports old (Set_link n up) (Links (Err fault)) new h s = ports_kept old new (keeps_stays old new h.same) s
+Step-ports old (Receive n octets) (Receives (Ok reply)) new h s = ports_kept old new (keeps_does h.1 (place_of n old.slots) old reply new h.4) s
+Step-ports old (Receive n octets) (Receives (Err fault)) new h s = ports_kept old new (keeps_stays old new h.same) s
+Step-ports old (Configure n change) (Configures (Ok true)) new h s =
+    let o = place_of n old.slots in ports_kept old new (keeps_settled (OnPort o (ChangesParty change)) old new (λ mid own. keeps_place (ChangesParty change) o old mid own) h) s
+Step-ports old (Configure n change) (Configures (Ok false)) new h s = ports_kept old new (keeps_stays old new h.1) s
+Step-ports old (Configure n change) (Configures (Err fault)) new h s = ports_kept old new (keeps_stays old new h.same) s
+Step-ports old Restart Restarted new h s = ports_first new (ap (λ (x : State). refusal x.keys x.ports) h.0 ∙ s.accepted) h.1
+Step-ports old (Transmit n) (Transmits (Ok reply)) new h s = ports_kept old new (record { frame = h.1; same = sends_numbers old.max_delay (place_of n old.slots) reply old.slots new.slots h.0 }) s
+Step-ports old (Transmit n) (Transmits (Err fault)) new h s = ports_kept old new (keeps_stays old new h.same) s
+Step-ports old call reply new h s = absurd h
+
+-- and leaves its configuration
+pub Step-frame : (old : State) (call : Call) (reply : Reply) (new : State) → Step old call reply new → new ≡ with_slots old new.slots
+Step-frame old Tick Ticked new h = (keeps_settled AllTick old new (λ mid own. keeps_each (λ p q. Settles receive_rows (count_down p) q) old mid own) h).frame
+Step-frame old (Set_link n up) (Links (Ok done)) new h =
+    let o = place_of n old.slots in (keeps_settled (OnPort o (ChangesLink up)) old new (λ mid own. keeps_place (ChangesLink up) o old mid own) h).frame
+Step-frame old (Set_link n up) (Links (Err fault)) new h = (keeps_stays old new h.same).frame
+Step-frame old (Receive n octets) (Receives (Ok reply)) new h = (keeps_does h.1 (place_of n old.slots) old reply new h.4).frame
+Step-frame old (Receive n octets) (Receives (Err fault)) new h = (keeps_stays old new h.same).frame
+Step-frame old (Configure n change) (Configures (Ok true)) new h =
+    let o = place_of n old.slots in (keeps_settled (OnPort o (ChangesParty change)) old new (λ mid own. keeps_place (ChangesParty change) o old mid own) h).frame
+Step-frame old (Configure n change) (Configures (Ok false)) new h = (keeps_stays old new h.1).frame
+Step-frame old (Configure n change) (Configures (Err fault)) new h = (keeps_stays old new h.same).frame
+Step-frame old Restart Restarted new h = h.0
+Step-frame old (Transmit n) (Transmits (Ok reply)) new h = h.1
+Step-frame old (Transmit n) (Transmits (Err fault)) new h = (keeps_stays old new h.same).frame
+Step-frame old call reply new h = absurd h
 
 and_right : (b c : Bool) → (b && c) ≡ true → c ≡ true
 and_right true c h = h
@@ -153,14 +170,14 @@ same_lengths xs ys e = sym (length_map (λ (s : Slot). s.number) xs) ∙ ap leng
     length_map f (z ∷ zs) = omega (arith, length_map f zs)
 
 -- a system has at most 64 ports, and each is as many in its configuration
-pub sound_same : (s : State) → IsSound s → length s.slots ≡ length s.ports
-sound_same s h = same_lengths s.slots s.ports h.configured
+pub ports_same : (s : State) → HasPorts s → length s.slots ≡ length s.ports
+ports_same s h = same_lengths s.slots s.ports h.same
 
 pub accepted_few : (keys : List Key) (ports : List PortConfig) → refusal keys ports ≡ None → length ports ≤ 64
 accepted_few keys ports h = below (length ports) (is_true (is_count (length ports)) _ _ h)
 
-pub sound_few : (s : State) → IsSound s → length s.slots ≤ 64
-sound_few s h = omega (arith, sound_same s h, accepted_few s.keys s.ports h.accepted)
+pub ports_few : (s : State) → HasPorts s → length s.slots ≤ 64
+ports_few s h = omega (arith, ports_same s h, accepted_few s.keys s.ports h.accepted)
 
 if_then : (b : Bool) (x : Option BadConfig) (y : BadConfig) → (if b then x else Some y) ≡ None → x ≡ None
 if_then true x y h = h
@@ -193,8 +210,8 @@ configured_made config keys start new e k =
       ports = ap (λ (s : State). s.ports) f;
     }
 
-pub sound_made : (config : Config) (keys : List Key) (start : List Slot) (new : State) → keys ≡ config.aggregators.items → refusal_of config ≡ None → AllZip (IsNew config.system) config.ports.items start
-    → Settling (started config keys start) new → IsSound new
-sound_made config keys start new e a h k =
-    sound_kept (started config keys start) new (settling_keeps (started config keys start) new k)
-    (record { accepted = ap (λ l. refusal l config.ports.items) e ∙ a; configured = new_numbers config.system config.ports.items start h })
+pub ports_made : (config : Config) (keys : List Key) (start : List Slot) (new : State) → keys ≡ config.aggregators.items → refusal_of config ≡ None → AllZip (IsNew config.system) config.ports.items start
+    → Settling (started config keys start) new → HasPorts new
+ports_made config keys start new e a h k =
+    ports_kept (started config keys start) new (settling_keeps (started config keys start) new k)
+    (record { accepted = ap (λ l. refusal l config.ports.items) e ∙ a; same = new_numbers config.system config.ports.items start h })

@@ -2,3 +2,12 @@ pub mod Lists
 pub mod SettlingLemmas
 pub mod StateLemmas
 pub mod Keeps
+pub mod Rising
+pub mod OfPort
+pub mod Rows
+pub mod Effects
+pub mod Choose
+pub mod Rest
+pub mod Steps
+pub mod FirstView
+pub mod Sound

@@ -4,6 +4,7 @@ pub mod Views
 pub mod Settling
 pub mod First
 pub mod Calls
-pub mod Sound
 pub mod Readers
+pub mod Shown
+pub mod Sound
 pub mod Kept

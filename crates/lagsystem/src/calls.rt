@@ -1,6 +1,9 @@
 ghost use Rattle.std.specs.Prelude.{◌≡◌, IfErr, IfOk};
 ghost use Rattle.lagsystem.specs.Calls.{Call, Reply, Step};
 ghost use Rattle.lagsystem.specs.First.{IsConfigured, IsFirst, fault_in, refusal_of};
+ghost use Rattle.lagsystem.specs.Shown.{JoinsViews, configured, view_of};
+ghost use Rattle.lagsystem.specs.Sound.{Agrees};
+ghost use Rattle.lagmodel.specs.View.{first_view};
 
 use crate::answers::Received;
 use crate::config::{Config, PortChange};
@@ -35,6 +38,8 @@ impl System {
         ensures first { IfOk result (λ s. IsFirst s) }
         ensures configured { IfOk result (λ s. IsConfigured config s) }
         ensures refused { IfErr result (λ fault. fault ≡ fault_in (refusal_of config)) }
+        ensures shows { IfOk result (λ s. view_of s ≡ first_view (configured s)) }
+        ensures agrees { IfOk result (λ s. Agrees s) }
     {
         let core = Core::new(alloc, config)?;
         Ok(System { core })
@@ -47,6 +52,8 @@ impl System {
     /// `NoPort` where there is no such port (6.2.3, 6.4.12, 6.5.4).
     pub fn receive(&mut self, port: u16, frame: &[u8]) -> Result<Received, SystemFault>
         ensures step { Step self.old (Call.Receive port frame.now) (Reply.Receives result) self.new }
+        ensures moves { JoinsViews self.old (Call.Receive port frame.now) (Reply.Receives result) self.new }
+        ensures agrees { Agrees self.new }
     {
         self.core.receive(port, frame)
     }
@@ -55,6 +62,8 @@ impl System {
     /// follows (6.4.4).
     pub fn tick(&mut self)
         ensures step { Step self.old Call.Tick Reply.Ticked self.new }
+        ensures moves { JoinsViews self.old Call.Tick Reply.Ticked self.new }
+        ensures agrees { Agrees self.new }
     {
         self.core.tick();
     }
@@ -63,6 +72,8 @@ impl System {
     /// no such port (6.4.12).
     pub fn set_link(&mut self, port: u16, up: bool) -> Result<(), SystemFault>
         ensures step { Step self.old (Call.Set_link port up) (Reply.Links result) self.new }
+        ensures moves { JoinsViews self.old (Call.Set_link port up) (Reply.Links result) self.new }
+        ensures agrees { Agrees self.new }
     {
         self.core.set_link(port, up)
     }
@@ -72,6 +83,8 @@ impl System {
     /// (profile).
     pub fn configure(&mut self, port: u16, change: PortChange) -> Result<bool, SystemFault>
         ensures step { Step self.old (Call.Configure port change) (Reply.Configures result) self.new }
+        ensures moves { JoinsViews self.old (Call.Configure port change) (Reply.Configures result) self.new }
+        ensures agrees { Agrees self.new }
     {
         self.core.configure(port, change)
     }
@@ -79,6 +92,8 @@ impl System {
     /// Starts the system again as it was configured: the first state of `new`, all links down. Takes no memory.
     pub fn restart(&mut self)
         ensures step { Step self.old Call.Restart Reply.Restarted self.new }
+        ensures moves { JoinsViews self.old Call.Restart Reply.Restarted self.new }
+        ensures agrees { Agrees self.new }
     {
         self.core.restart();
     }
@@ -88,6 +103,8 @@ impl System {
     /// such port (6.4.16).
     pub fn transmit(&mut self, port: u16) -> Result<Option<[u8; 124]>, SystemFault>
         ensures step { Step self.old (Call.Transmit port) (Reply.Transmits result) self.new }
+        ensures moves { JoinsViews self.old (Call.Transmit port) (Reply.Transmits result) self.new }
+        ensures agrees { Agrees self.new }
     {
         self.core.transmit(port)
     }

@@ -6,7 +6,8 @@ use Rattle.lagsystem.specs.declared.config.PortConfig.{PortConfig}
 use Rattle.lagsystem.specs.First.{refusal, refusal_of, IsNew}
 use Rattle.std.specs.List.{AllZip}
 use Rattle.std.proofs.Common.{subst}
-use Rattle.lagsystem.proofs.Keeps.{accepted_keys_few, configured_made, sound_made}
+use Rattle.lagsystem.proofs.Keeps.{accepted_keys_few, configured_made, first_made, ports_made}
+use Rattle.lagsystem.proofs.Sound.{first_sound}
 use Rattle.lagsystem.proofs.kept.Core.new.Goals as goal
 
 pub returns-clause-configured : goal.returns-clause-configured
@@ -28,4 +29,7 @@ returns-clause-sound c =
     let keys : c.in_ok-aggregators.aggregators ≡ config.aggregators.items =
     c.in_ok-aggregators.ensures ∙ ap (λ (l : List Key). take 65535 l) c.deref-3.ensures.value ∙ take_all 65535 config.aggregators.items (omega (arith, few)) in
     let new : AllZip (IsNew config.system) config.ports.items c.in_ok-slots.slots.items = subst (λ (l : List PortConfig). AllZip (IsNew config.system) l c.in_ok-slots.slots.items) c.deref-4.ensures.value c.in_ok-slots.ensures.new in
-    sound_made config c.in_ok-aggregators.aggregators c.in_ok-slots.slots.items (state_of c.settle.new.self) keys accepted new c.settle.ensures
+    let last = state_of c.settle.new.self in
+    first_sound last
+    (ports_made config c.in_ok-aggregators.aggregators c.in_ok-slots.slots.items last keys accepted new c.settle.ensures)
+    (first_made config c.in_ok-aggregators.aggregators c.in_ok-slots.slots.items last keys new c.settle.ensures)

@@ -1,0 +1,214 @@
+-- What the own effect of a call does to the view of a port.
+use Rattle.std.proofs.Common.{◌≡◌, ◌==◌, ℕ, Bool, true, false, ◌&&◌, ◌||◌, not, Option, Some, None, List, [], ◌∷◌, sym, refl, ap, ◌∙◌, subst, ◌⊎◌, inl, inr, IsSome}
+use Rattle.std.specs.Prelude.{if◌then◌else◌}
+use Rattle.std.specs.Str.{bytes_eq}
+use Rattle.std.proofs.lemmas.Bool.{false≢true}
+use Rattle.std.proofs.lemmas.Bool.Decides.{Decides-eqb}
+use Rattle.std.proofs.lemmas.Slice.Eq.{bytes_eq-Decides}
+use Rattle.lagtypes.specs.declared.identifiers.PortId.{PortId}
+use Rattle.lagtypes.specs.declared.identifiers.SystemId.{SystemId}
+use Rattle.lagtypes.specs.declared.party.Party.{Party}
+use Rattle.lagtypes.specs.declared.party.Choice.{Choice}
+use Rattle.lagtypes.specs.declared.party.Choice.TheVariants.{Unselected}
+use Rattle.lagtypes.specs.declared.state.StateBits.{StateBits}
+use Rattle.lagtypes.specs.States.{bits_of, with_synchronization, with_timeout}
+use Rattle.lagtypes.proofs.StateLemmas.{read_back}
+use Rattle.slowpdu.specs.declared.pdu.Info.{Info}
+use Rattle.slowpdu.specs.declared.pdu.Lacpdu.{Lacpdu}
+use Rattle.slowpdu.specs.Parties.{party_of}
+use Rattle.portmachines.specs.declared.mux.MuxState.TheVariants.{CollectingDistributing}
+use Rattle.portmachines.specs.Machines.{Machines}
+use Rattle.portmachines.specs.Matching.{same_party, same_system, same_port, same_bit}
+use Rattle.portmachines.specs.Mux.{is_mux, is_synchronized, partner_synchronized}
+use Rattle.portmachines.specs.Receive.{receive_rows, taking_rows, default_partner, start_receive, is_maintained, says_synchronized}
+use Rattle.portmachines.specs.Rows.{Fires, Settles}
+use Rattle.portmachines.specs.Transmit.{count_down, pdu_of, sent}
+use Rattle.lagmodel.specs.View.{zero_party, PortView, Setup, Call, Lacp, Receive, replies_frame, Lacpdu as Told_lacpdu}
+use Rattle.lagmodel.specs.Move.{Act, Sends as Shows, Took, PortMove}
+use Rattle.lagsystem.specs.declared.config.PortChange.{PortChange}
+use Rattle.lagsystem.specs.Calls.{ChangesLink, ChangesParty, changed}
+use Rattle.lagsystem.specs.Shown.{aggregator_of, message_of}
+use Rattle.lagsystem.proofs.OfPort.{PortMoves, port_joined}
+use Rattle.lagsystem.proofs.Rows.{quiet, QuietMoves, EachMoves, settles_moves}
+
+-- equal by test is equal
+and_left : (b c : Bool) → (b && c) ≡ true → b ≡ true
+and_left true c h = refl
+and_left false c h = h
+
+and_right : (b c : Bool) → (b && c) ≡ true → c ≡ true
+and_right true c h = h
+and_right false c h = cc
+
+exact_number : (m n : ℕ) → (m == n) ≡ true → m ≡ n
+exact_number m n h = (Decides-eqb m n).0 h
+
+exact_system : (s t : SystemId) → same_system s t ≡ true → s ≡ t
+exact_system s t h =
+    λ i. record {
+      priority = exact_number s.priority t.priority (and_left (s.priority == t.priority) (bytes_eq s.mac t.mac) h) i;
+      mac = (bytes_eq-Decides s.mac t.mac).0 (and_right (s.priority == t.priority) (bytes_eq s.mac t.mac) h) i;
+    }
+
+exact_port : (p q : PortId) → same_port p q ≡ true → p ≡ q
+exact_port p q h =
+    λ i. record {
+      priority = exact_number p.priority q.priority (and_left (p.priority == q.priority) (p.number == q.number) h) i;
+      number = exact_number p.number q.number (and_right (p.priority == q.priority) (p.number == q.number) h) i;
+    }
+
+exact_bit : (a b : Bool) → same_bit a b ≡ true → a ≡ b
+exact_bit true true h = refl
+exact_bit true false h = cc
+exact_bit false true h = cc
+exact_bit false false h = refl
+
+pub exact_party : (a b : Party) → same_party a b ≡ true → a ≡ b
+exact_party a b h =
+    let three = and_left _ _ h in
+    let two = and_left _ _ three in
+    λ i. record {
+      system = exact_system a.system b.system (and_left _ _ two) i;
+      key = record { 0 = exact_number a.key.0 b.key.0 (and_right (same_system a.system b.system) _ two) i };
+      port = exact_port a.port b.port (and_right (same_system a.system b.system && (a.key.0 == b.key.0)) _ three) i;
+      aggregatable = exact_bit a.aggregatable b.aggregatable (and_right ((same_system a.system b.system && (a.key.0 == b.key.0)) && same_port a.port b.port) _ h) i;
+    }
+
+-- a stopped port, by the bits of its partner's state
+abbrev stopped : Party → Party → Bool → Bool → Option ℕ → PortView
+stopped party partner s d g = record { party = party; partner = partner; synchronised = s; defaulted = d; aggregator = g; distributes = false }
+
+abbrev pub named : Info → StateBits → Party
+named info bits = record { system = info.system; key = info.key; port = info.port; aggregatable = bits.aggregation }
+
+abbrev with_bits : Party → Info → Bool → Option ℕ → StateBits → PortView
+with_bits party info d g bits = stopped party (named info bits) bits.synchronization d g
+
+-- update_Default_Selected and recordDefault
+defaulting : (u : Setup) (call : Call) (n : ℕ) (party partner : Party) (s d : Bool) (c : Choice) (b : Bool) → (b ≡ true → zero_party ≡ partner)
+    → PortMoves u call n (stopped party partner s d (aggregator_of c)) [] (stopped party zero_party true true (aggregator_of (if b then c else Unselected)))
+defaulting u call n party partner s d c true h = (PortMove.Default ∷ [], (λ ports. inr (sym (h refl)), tt), refl, refl)
+defaulting u call n party partner s d c false h = (PortMove.Leave ∷ PortMove.Default ∷ [], (λ ports. tt, (λ ports. inl refl, tt)), refl, refl)
+
+abbrev default_bits : StateBits
+default_bits = record { activity = false; timeout = false; aggregation = false; synchronization = true; collecting = false; distributing = false; defaulted = false; expired = false }
+
+-- the administrative partner is all zero, and synchronised
+on_defaults : (party : Party) (d : Bool) (g : Option ℕ) → with_bits party default_partner d g (bits_of default_partner.state) ≡ stopped party zero_party true d g
+on_defaults party d g = ap (with_bits party default_partner d g) (read_back default_bits)
+
+pub zero_named : zero_party ≡ party_of default_partner
+zero_named = sym (ap (named default_partner) (read_back default_bits))
+
+desynchronised : (party : Party) (info : Info) (d : Bool) (g : Option ℕ)
+    → with_bits party info d g (bits_of (with_synchronization false info.state)) ≡ with_bits party info d g (record (bits_of info.state) { synchronization = false })
+desynchronised party info d g = ap (with_bits party info d g) (read_back (record (bits_of info.state) { synchronization = false }))
+
+expiring : (party : Party) (info : Info) (d : Bool) (g : Option ℕ)
+    → with_bits party info d g (bits_of (with_timeout true (with_synchronization false info.state))) ≡ with_bits party info d g (record (bits_of info.state) { synchronization = false })
+expiring party info d g =
+    ap (with_bits party info d g) (read_back (record (bits_of (with_synchronization false info.state)) { timeout = true }))
+    ∙ ap (λ (b : StateBits). with_bits party info d g (record b { timeout = true })) (read_back (record (bits_of info.state) { synchronization = false }))
+
+pub receive_moves : (u : Setup) (call : Call) (n : ℕ) → EachMoves u call n receive_rows
+receive_moves u call n = (
+  λ p h. (PortMove.Desynchronise ∷ [], (λ ports. tt, tt), refl, desynchronised p.party p.partner p.defaulted (aggregator_of p.choice)),
+  (
+    λ p h. (PortMove.Desynchronise ∷ [], (λ ports. tt, tt), refl, desynchronised p.party p.partner p.defaulted (aggregator_of p.choice)),
+    (
+      λ p h. (PortMove.Desynchronise ∷ [], (λ ports. tt, tt), refl, expiring p.party p.partner p.defaulted (aggregator_of p.choice)),
+      (
+        λ p h.
+            let same = same_party (party_of default_partner) (party_of p.partner) in
+            subst (λ v. PortMoves u call n (quiet p) [] v) (sym (on_defaults p.party true (aggregator_of (if same then p.choice else Unselected))))
+            (defaulting u call n p.party (party_of p.partner) (partner_synchronized p) p.defaulted p.choice same (λ t. zero_named ∙ exact_party (party_of default_partner) (party_of p.partner) t)),
+        (λ p h. (PortMove.Desynchronise ∷ [], (λ ports. tt, tt), refl, expiring p.party p.partner p.defaulted (aggregator_of p.choice)), tt),
+      ),
+    ),
+  ),
+)
+
+pub tick_moves : (u : Setup) (call : Call) (n : ℕ) (p q : Machines) → Settles receive_rows (count_down p) q → QuietMoves u call n p [] q
+tick_moves u call n p q h = settles_moves u call n receive_rows (receive_moves u call n) (count_down p) q h
+
+pub links_moves : (u : Setup) (call : Call) (n : ℕ) (up : Bool) (p q : Machines) → ChangesLink up p q → QuietMoves u call n p [] q
+links_moves u call n up p q h = settles_moves u call n receive_rows (receive_moves u call n) (record p { enabled = up }) q h
+
+-- update_Selected and recordPDU
+taking : (u : Setup) (call : Call) (n : ℕ) (party partner : Party) (s d : Bool) (c : Choice) (b : Bool) (v : Told_lacpdu) (t : Bool)
+    → call ≡ Receive n (Some (Lacp v)) → (b ≡ true → v.actor ≡ partner)
+    → (t ≡ true → (v.synchronised ≡ true) × ((v.partner ≡ party) ⊎ (v.actor.aggregatable ≡ false)))
+    → PortMoves u call n (stopped party partner s d (aggregator_of c)) (Took n v ∷ []) (stopped party v.actor t false (aggregator_of (if b then c else Unselected)))
+taking u call n party partner s d c true v t e h k = (PortMove.Take v t ∷ PortMove.Stop ∷ [], (λ ports. (e, inl (h refl), k), (λ ports. tt, tt)), refl, refl)
+taking u call n party partner s d c false v t e h k =
+    (PortMove.Leave ∷ PortMove.Take v t ∷ PortMove.Stop ∷ [], (λ ports. tt, (λ ports. (e, inr refl, k), (λ ports. tt, tt))), refl, refl)
+
+ends_true : (x y z : Bool) → (x && y && z) ≡ true → (x ≡ true) × (z ≡ true)
+ends_true true true z h = (refl, h)
+ends_true true false z h = absurd (false≢true h)
+ends_true false y z h = absurd (false≢true h)
+
+either_way : (x y : Bool) → (x || not y) ≡ true → (x ≡ true) ⊎ (y ≡ false)
+either_way true y h = inl refl
+either_way false true h = absurd (false≢true h)
+either_way false false h = inr refl
+
+says_so : (v : Lacpdu) (p : Machines) → says_synchronized v p ≡ true → ((bits_of v.actor.state).synchronization ≡ true) × ((party_of v.partner ≡ p.party) ⊎ ((party_of v.actor).aggregatable ≡ false))
+says_so v p h =
+    let both = ends_true (bits_of v.actor.state).synchronization (is_maintained v p) (same_party (party_of v.partner) p.party || not (bits_of v.actor.state).aggregation) h in (
+      both.0,
+      elim (either_way (same_party (party_of v.partner) p.party) (bits_of v.actor.state).aggregation both.1) [
+        | inl same ↦ inl (exact_party (party_of v.partner) p.party same)
+        | inr alone ↦ inr alone
+      ],
+    )
+
+pub taking_moves : (u : Setup) (n : ℕ) (v : Lacpdu) (p q : Machines) → Fires (taking_rows v) p q → QuietMoves u (Receive n (Some (Lacp (message_of v)))) n p (Took n (message_of v) ∷ []) q
+taking_moves u n v p q h = elim h [
+  | inl f ↦
+      let call = Receive n (Some (Lacp (message_of v))) in
+      let same = same_party (party_of v.actor) (party_of p.partner) in
+      let t = says_synchronized v p in
+      let taken = taking u call n p.party (party_of p.partner) (partner_synchronized p) p.defaulted p.choice same (message_of v) t refl
+      (exact_party (party_of v.actor) (party_of p.partner)) (says_so v p) in
+      let recorded = ap (with_bits p.party v.actor false (aggregator_of (if same then p.choice else Unselected))) (read_back (record (bits_of v.actor.state) { synchronization = t })) in
+      subst (λ r. QuietMoves u call n p (Took n (message_of v) ∷ []) r) (sym f.1)
+      (subst (λ w. PortMoves u call n (quiet p) (Took n (message_of v) ∷ []) w) (sym recorded) taken)
+  | inr f ↦ absurd f
+]
+
+-- a configure: the port leaves, takes another party, and starts again
+pub configures_moves : (u : Setup) (n : ℕ) (c : PortChange) (p q : Machines) → ChangesParty c p q → QuietMoves u Call.Configure n p [] q
+configures_moves u n c p q h =
+    let again : Machines = start_receive (record p { party = changed c p.party }) in
+    let begin : QuietMoves u Call.Configure n p [] again =
+    (PortMove.Leave ∷ PortMove.Reconfigure (changed c p.party) ∷ [], (λ ports. tt, (λ ports. (refl, refl, refl, refl), tt)), refl, on_defaults (changed c p.party) true None) in
+    let rest : QuietMoves u Call.Configure n again [] h.1.0 = settles_moves u Call.Configure n receive_rows (receive_moves u Call.Configure n) again h.1.0 h.1.1 in
+    subst (λ r. QuietMoves u Call.Configure n p [] r) (sym h.1.2)
+    (port_joined u Call.Configure n (quiet p) (quiet again) (quiet h.1.0) [] [] begin rest)
+
+-- an LACPDU that goes out
+abbrev own_bits : Machines → StateBits
+own_bits p = record {
+  activity = p.active;
+  timeout = p.short;
+  aggregation = p.party.aggregatable;
+  synchronization = is_synchronized p.mux;
+  collecting = is_mux CollectingDistributing p.mux;
+  distributing = is_mux CollectingDistributing p.mux;
+  defaulted = p.defaulted;
+  expired = p.expired;
+}
+
+abbrev announced : ℕ → Machines → StateBits → List Act
+announced n p b =
+    Shows n (Lacp (record {
+      actor = record { system = p.party.system; key = p.party.key; port = p.party.port; aggregatable = b.aggregation };
+      partner = party_of p.partner;
+      synchronised = b.synchronization;
+    })) ∷ []
+
+pub sending : (u : Setup) (call : Call) (n max_delay : ℕ) (p : Machines) → replies_frame call ≡ true → (is_synchronized p.mux ≡ true → IsSome (aggregator_of p.choice))
+    → QuietMoves u call n p (Shows n (Lacp (message_of (pdu_of p max_delay))) ∷ []) (sent p)
+sending u call n max_delay p e k =
+    (PortMove.Announce (is_synchronized p.mux) ∷ [], (λ ports. (e, k), tt), sym (ap (announced n p) (read_back (own_bits p))), refl)

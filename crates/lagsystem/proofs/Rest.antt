@@ -1,0 +1,204 @@
+-- What holds of each port after every call: its machines are at rest.
+use Rattle.std.proofs.Common.{◌≡◌, ℕ, zero, suc, Bool, true, false, Option, Some, None, Ok, Err, List, [], ◌∷◌, length, refl, sym, ◌∙◌, subst, ap, inl, inr}
+use Rattle.std.specs.Prelude.{◌&&◌, ◌||◌, not, if◌then◌else◌, slice_get}
+use Rattle.std.specs.List.{AllZip, AllByRecursion}
+use Rattle.std.proofs.lemmas.Bool.{true≢false}
+use Rattle.lagtypes.specs.declared.identifiers.AggId.{AggId}
+use Rattle.lagtypes.specs.declared.identifiers.Key.{Key}
+use Rattle.lagtypes.specs.declared.party.Choice.{Choice}
+use Rattle.lagtypes.specs.declared.party.Choice.TheVariants.{Unselected, Selected}
+use Rattle.slowpdu.specs.declared.pdu.Lacpdu.{Lacpdu}
+use Rattle.portmachines.specs.declared.mux.MuxState.{MuxState}
+use Rattle.portmachines.specs.declared.mux.MuxState.TheVariants.{Detached, Waiting, Attached, CollectingDistributing}
+use Rattle.portmachines.specs.declared.receive.ReceiveState.{ReceiveState}
+use Rattle.portmachines.specs.declared.receive.ReceiveState.TheVariants.{Initialize, PortDisabled, Expired, Defaulted, Current}
+use Rattle.portmachines.specs.Machines.{Machines}
+use Rattle.portmachines.specs.Mux.{is_mux, is_selected, is_unselected, mux_rows, partner_synchronized}
+use Rattle.portmachines.specs.Periodic.{periodic_rows, RunsPeriodic}
+use Rattle.portmachines.specs.Receive.{is_receive, receive_rows, start_receive}
+use Rattle.portmachines.specs.Rows.{Row, Fires, Reaches, Settles}
+use Rattle.portmachines.specs.Start.{Starts, blank}
+use Rattle.portmachines.specs.Transmit.{count_down, sent}
+use Rattle.lagsystem.specs.declared.answers.Heard.{Heard}
+use Rattle.lagsystem.specs.declared.answers.Heard.TheVariants.{Taken, Answered}
+use Rattle.lagsystem.specs.declared.answers.Received.{Received}
+use Rattle.lagsystem.specs.declared.slots.Slot.{Slot}
+use Rattle.lagsystem.specs.Views.{views}
+use Rattle.lagsystem.specs.State.{State, with_slots, place_of}
+use Rattle.lagsystem.specs.First.{IsFirst, IsNew, setup_of}
+use Rattle.lagsystem.specs.Settling.{Settling, chosen, choose_slot, given, ready_of, takes}
+use Rattle.lagsystem.specs.Calls.{Call, Tick, Set_link, Receive, Configure, Restart, Transmit, Reply, Ticked, Links, Receives, Configures, Restarted, Transmits, AllTick, ChangesLink, ChangesParty, Does, OnPlace, OnPort, Sends, SendsAt, Settled, Takes, changed, Step}
+use Rattle.lagsystem.specs.Shown.{takes_in, awake, steady_of, steady, AreAwake, AreSteady, AreRested}
+use Rattle.lagsystem.proofs.Rising.{all-set, all-get}
+
+-- what every row leaves as it is
+abbrev pub EachSame : {X : Type 0} → (Machines → X) → List Row → Type 0
+EachSame g [] = Unit {0}
+EachSame g (row ∷ rows) = ((p : Machines) → g (row.effect p) ≡ g p) × EachSame g rows
+
+fires_same : {X : Type 0} (g : Machines → X) (rows : List Row) → EachSame g rows → (p q : Machines) → Fires rows p q → g q ≡ g p
+fires_same g [] k p q h = absurd h
+fires_same g (row ∷ rows) k p q h = elim h [ inl f ↦ ap g f.1 ∙ k.0 p | inr f ↦ fires_same g rows k.1 p q f ]
+
+pub reaches_same : {X : Type 0} (g : Machines → X) (rows : List Row) → EachSame g rows → (n : ℕ) (p q : Machines) → Reaches rows n p q → g q ≡ g p
+reaches_same g rows k zero p q run = ap g run
+reaches_same g rows k (suc n) p q run = fires_same g rows k run.0 q run.2 ∙ reaches_same g rows k n p run.0 run.1
+
+mux_awake : (ready : Bool) (p q : Machines) → Settles (mux_rows ready) p q → awake q ≡ awake p
+mux_awake ready p q h = reaches_same awake (mux_rows ready) ((λ p. refl), ((λ p. refl), ((λ p. refl), ((λ p. refl), ((λ p. refl), ((λ p. refl), tt)))))) h.0 p q h.1
+
+periodic_awake : (p q : Machines) → RunsPeriodic p q → awake q ≡ awake p
+periodic_awake p q h = ap awake h.2 ∙ reaches_same awake periodic_rows ((λ p. refl), ((λ p. refl), ((λ p. refl), ((λ p. refl), ((λ p. refl), ((λ p. refl), ((λ p. refl), tt))))))) h.1.0 p h.0 h.1.1
+
+periodic_steady : (p q : Machines) → RunsPeriodic p q → steady q ≡ steady p
+periodic_steady p q h = ap steady h.2 ∙ reaches_same steady periodic_rows ((λ p. refl), ((λ p. refl), ((λ p. refl), ((λ p. refl), ((λ p. refl), ((λ p. refl), ((λ p. refl), tt))))))) h.1.0 p h.0 h.1.1
+
+-- at rest
+rest_awake : (r : ReceiveState) (e : Bool) → (is_receive Initialize r && true) ≡ false → (is_receive PortDisabled r && e) ≡ false → (if e then takes_in r else true) ≡ true
+rest_awake Initialize e h k = absurd (true≢false h)
+rest_awake PortDisabled true h k = absurd (true≢false k)
+rest_awake PortDisabled false h k = refl
+rest_awake Expired true h k = refl
+rest_awake Expired false h k = refl
+rest_awake Defaulted true h k = refl
+rest_awake Defaulted false h k = refl
+rest_awake Current true h k = refl
+rest_awake Current false h k = refl
+
+receive_awake : (p q : Machines) → Settles receive_rows p q → awake q ≡ true
+receive_awake p q h = rest_awake q.receive q.enabled h.2.0 h.2.1.1.0
+
+rest_steady : (m : MuxState) (c : Choice) (s : Bool) → (is_mux Attached m && is_unselected c) ≡ false → (is_mux CollectingDistributing m && (is_unselected c || not s)) ≡ false → steady_of m (is_selected c) s ≡ true
+rest_steady Detached c s h k = refl
+rest_steady Waiting c s h k = refl
+rest_steady Attached (Selected agg) s h k = refl
+rest_steady Attached Unselected s h k = absurd (true≢false h)
+rest_steady CollectingDistributing (Selected agg) true h k = refl
+rest_steady CollectingDistributing (Selected agg) false h k = absurd (true≢false k)
+rest_steady CollectingDistributing Unselected s h k = absurd (true≢false k)
+
+mux_steady : (ready : Bool) (p q : Machines) → Settles (mux_rows ready) p q → steady q ≡ true
+mux_steady ready p q h = rest_steady q.mux q.choice (partner_synchronized q) h.2.1.1.1.0 h.2.1.1.1.1.1.0
+
+-- of each port
+pub zip_all : {X : Type 0} (R : X → Slot → Type 0) (P : Slot → Type 0) → ((x : X) (y : Slot) → R x y → P y) → (xs : List X) (ys : List Slot) → AllZip R xs ys → AllByRecursion P ys
+zip_all R P k [] [] h = tt
+zip_all R P k [] (y ∷ ys) h = absurd h
+zip_all R P k (x ∷ xs) [] h = absurd h
+zip_all R P k (x ∷ xs) (y ∷ ys) h = (k x y h.0, zip_all R P k xs ys h.1)
+
+zip_kept : (R : Slot → Slot → Type 0) (P : Slot → Type 0) → ((x y : Slot) → R x y → P x → P y) → (xs ys : List Slot) → AllZip R xs ys → AllByRecursion P xs → AllByRecursion P ys
+zip_kept R P k [] [] h a = tt
+zip_kept R P k [] (y ∷ ys) h a = absurd h
+zip_kept R P k (x ∷ xs) [] h a = absurd h
+zip_kept R P k (x ∷ xs) (y ∷ ys) h a = (k x y h.0 a.0, zip_kept R P k xs ys h.1 a.1)
+
+given_awake : (s : Slot) (o : Option AggId) → awake (given s o).port ≡ awake s.port
+given_awake s None = refl
+given_awake s (Some agg) = refl
+
+abbrev IsAwake : Slot → Type 0
+IsAwake x = awake x.port ≡ true
+
+abbrev IsSteady : Slot → Type 0
+IsSteady x = steady x.port ≡ true
+
+choose_awake : (keys : List Key) (slots : List Slot) (i : ℕ) (o : Option Slot) → slice_get slots i ≡ o → AreAwake slots → AreAwake (choose_slot keys slots i o)
+choose_awake keys slots i None e a = a
+choose_awake keys slots i (Some s) e a =
+    let o = takes keys slots s in
+    all-set IsAwake slots i (given s o) a (given_awake s o ∙ all-get IsAwake slots i s e a)
+
+chosen_awake : (keys : List Key) (n : ℕ) (slots : List Slot) → AreAwake slots → AreAwake (chosen keys n slots)
+chosen_awake keys zero slots a = a
+chosen_awake keys (suc n) slots a = choose_awake keys (chosen keys n slots) n (slice_get (chosen keys n slots) n) refl (chosen_awake keys n slots a)
+
+-- settling brings every mux machine to rest, and leaves the receive machines
+pub settling_rested : (old new : State) → Settling old new → AreAwake old.slots → AreRested new.slots
+settling_rested old new h a =
+    let one = h.0 in
+    let two = h.2.0 in
+    let three = h.2.2.0 in
+    let four = h.2.2.2.0 in
+    let five = h.2.2.2.2.0 in
+    let a1 : AreAwake one.slots = zip_kept _ IsAwake (λ x y m k. mux_awake false x.port y.port m.1 ∙ k) old.slots one.slots h.1.0 a in
+    let a2 : AreAwake two.slots = subst (λ (s : State). AreAwake s.slots) (sym h.2.1) (chosen_awake one.keys (length one.slots) one.slots a1) in
+    let a3 : AreAwake three.slots = subst (λ (s : State). AreAwake s.slots) (sym h.2.2.1) a2 in
+    let a4 : AreAwake four.slots = zip_kept _ IsAwake (λ x y m k. mux_awake (ready_of three.keys (views three.slots) x.port.choice) x.port y.port m.1 ∙ k) three.slots four.slots h.2.2.2.1.0 a3 in
+    let s4 : AreSteady four.slots = zip_all _ IsSteady (λ x y m. mux_steady (ready_of three.keys (views three.slots) x.port.choice) x.port y.port m.1) three.slots four.slots h.2.2.2.1.0 in
+    let r5 : AreRested five.slots = (
+      zip_kept _ IsAwake (λ x y m k. periodic_awake x.port y.port m.1 ∙ k) four.slots five.slots h.2.2.2.2.1.0 a4,
+      zip_kept _ IsSteady (λ x y m k. periodic_steady x.port y.port m.1 ∙ k) four.slots five.slots h.2.2.2.2.1.0 s4,
+    ) in
+    subst (λ (s : State). AreRested s.slots) (sym (h.2.2.2.2.2.2 ∙ h.2.2.2.2.2.1)) r5
+
+-- the own effects
+place_kept : (P : Slot → Type 0) (R : Machines → Machines → Type 0) (o : Option ℕ) (old new : List Slot)
+    → ((s : Slot) (q : Machines) → R s.port q → P s → P (record s { port = q })) → OnPlace R o old new → AllByRecursion P old → AllByRecursion P new
+place_kept P R None old new k h a = absurd h
+place_kept P R (Some i) old new k h a =
+    subst (AllByRecursion P) (sym h.4) (all-set P old i (record h.0 { port = h.1 }) a (k h.0 h.1 h.3 (all-get P old i h.0 h.2 a)))
+
+settled_rested : (own : State → State → Type 0) (s t : State) → ((mid : State) → own s mid → AreAwake mid.slots) → Settled own s t → AreRested t.slots
+settled_rested own s t k h = settling_rested h.0 t h.2 (k h.0 h.1)
+
+takes_awake : (v : Lacpdu) (p q : Machines) → Takes v p q → awake p ≡ true → awake q ≡ true
+takes_awake v p q h a = elim h [
+  | inl f ↦ elim f [ inl g ↦ ap awake g.1 ∙ whatever p.enabled | inr g ↦ absurd g ]
+  | inr r ↦ ap awake r.1 ∙ a
+]
+  where
+    whatever : (b : Bool) → (if b then true else true) ≡ true
+    whatever true = refl
+    whatever false = refl
+
+starts_awake : (p q : Machines) → Starts p q → awake q ≡ true
+starts_awake p q h = ap awake h.2 ∙ receive_awake (start_receive p) h.0 h.1
+
+sends_same : {X : Type 0} (g : Machines → X) → ((p : Machines) → g (sent p) ≡ g p) → (max_delay : ℕ) (mac : List ℕ) (p q : Machines) (reply : Option (List ℕ)) → Sends max_delay mac p reply q → g q ≡ g p
+sends_same g k max_delay mac p q None h = ap g h.1
+sends_same g k max_delay mac p q (Some octets) h = ap g h.2 ∙ k p
+
+sends_kept : (g : Machines → Bool) → ((p : Machines) → g (sent p) ≡ g p) → (max_delay : ℕ) (o : Option ℕ) (reply : Option (List ℕ)) (old new : List Slot) → SendsAt max_delay o reply old new
+    → AllByRecursion (λ x. g x.port ≡ true) old → AllByRecursion (λ x. g x.port ≡ true) new
+sends_kept g k max_delay None reply old new h a = absurd h
+sends_kept g k max_delay (Some i) reply old new h a =
+    subst (AllByRecursion (λ x. g x.port ≡ true)) (sym h.4)
+    (all-set (λ x. g x.port ≡ true) old i (record h.0 { port = h.1 }) a (sends_same g k max_delay h.0.mac h.0.port h.1 reply h.3 ∙ all-get (λ x. g x.port ≡ true) old i h.0 h.2 a))
+
+same_rested : (s t : State) → t ≡ s → AreRested s.slots → AreRested t.slots
+same_rested s t e a = subst (λ (x : State). AreRested x.slots) (sym e) a
+
+does_rested : (heard : Heard) (o : Option ℕ) (old : State) (reply : Received) (new : State) → Does heard o old reply new → AreRested old.slots → AreRested new.slots
+does_rested (Taken v) o old reply new h a =
+    settled_rested (OnPort o (Takes v)) old new (λ mid own. place_kept IsAwake (Takes v) o old.slots mid.slots (λ s q r k. takes_awake v s.port q r k) own.0 a.0) h.1
+does_rested (Answered answer) o old reply new h a = same_rested old new h.1 a
+
+-- the start
+pub first_rested : (s : State) → IsFirst s → AreRested s.slots
+first_rested s h =
+    settling_rested (with_slots s h.0) s h.2 (zip_all (IsNew s.system) IsAwake (λ c x m. starts_awake (blank (setup_of s.system c)) x.port m.2) s.ports h.0 h.1)
+
+-- every call leaves the machines at rest
+pub Step-rested : (old : State) (call : Call) (reply : Reply) (new : State) → Step old call reply new → AreRested old.slots → AreRested new.slots
+Step-rested old Tick Ticked new h a =
+    settled_rested AllTick old new (λ mid own. zip_all _ IsAwake (λ x y m. receive_awake (count_down x.port) y.port m.1) old.slots mid.slots own.0) h
+Step-rested old (Set_link n up) (Links (Ok done)) new h a =
+    let o = place_of n old.slots in
+    settled_rested (OnPort o (ChangesLink up)) old new (λ mid own. place_kept IsAwake (ChangesLink up) o old.slots mid.slots (λ s q r k. receive_awake (record s.port { enabled = up }) q r) own.0 a.0) h
+Step-rested old (Set_link n up) (Links (Err fault)) new h a = same_rested old new h.same a
+Step-rested old (Receive n octets) (Receives (Ok reply)) new h a = does_rested h.1 (place_of n old.slots) old reply new h.4 a
+Step-rested old (Receive n octets) (Receives (Err fault)) new h a = same_rested old new h.same a
+Step-rested old (Configure n change) (Configures (Ok true)) new h a =
+    let o = place_of n old.slots in
+    settled_rested (OnPort o (ChangesParty change)) old new (λ mid own. place_kept IsAwake (ChangesParty change) o old.slots mid.slots
+    (λ s q r k. starts_awake (record s.port { party = changed change s.port.party }) q r.1) own.0 a.0) h
+Step-rested old (Configure n change) (Configures (Ok false)) new h a = same_rested old new h.1 a
+Step-rested old (Configure n change) (Configures (Err fault)) new h a = same_rested old new h.same a
+Step-rested old Restart Restarted new h a = first_rested new h.1
+Step-rested old (Transmit n) (Transmits (Ok reply)) new h a = (
+  sends_kept awake (λ p. refl) old.max_delay (place_of n old.slots) reply old.slots new.slots h.0 a.0,
+  sends_kept steady (λ p. refl) old.max_delay (place_of n old.slots) reply old.slots new.slots h.0 a.1,
+)
+Step-rested old (Transmit n) (Transmits (Err fault)) new h a = same_rested old new h.same a
+Step-rested old call reply new h a = absurd h

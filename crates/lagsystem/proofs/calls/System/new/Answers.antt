@@ -1,0 +1,10 @@
+use Rattle.lagsystem.specs.Kept.{state_of}
+use Rattle.lagsystem.proofs.FirstView.{first_shows}
+use Rattle.lagsystem.proofs.Sound.{agrees}
+use Rattle.lagsystem.proofs.calls.System.new.Goals as goal
+
+pub returns-clause-shows : goal.returns-clause-shows
+returns-clause-shows c = first_shows (state_of c.in_ok-core.core) c.in_ok-core.ensures.first
+
+pub returns-clause-agrees : goal.returns-clause-agrees
+returns-clause-agrees c = agrees (state_of c.in_ok-core.core) c.in_ok-core.ensures.sound
