@@ -1,6 +1,5 @@
 use Rattle.lagsystem.specs.Kept.{state_of}
-use Rattle.std.proofs.Common.{◌≡◌, ◌∙◌, ap, arith, sym, take, None, List}
-use Rattle.std.proofs.lemmas.List.{take_all}
+use Rattle.std.proofs.Common.{◌≡◌, ◌≤◌, ◌∙◌, ap, arith, length, sym, None, List}
 use Rattle.lagtypes.specs.declared.identifiers.Key.{Key}
 use Rattle.lagsystem.specs.declared.config.PortConfig.{PortConfig}
 use Rattle.lagsystem.specs.First.{refusal, refusal_of, IsNew}
@@ -17,7 +16,8 @@ returns-clause-configured c =
     ap (λ (l : List Key). refusal l config.ports.items) (sym c.deref.ensures.value) ∙ ap (λ (l : List PortConfig). refusal c.deref.result.now l) (sym c.deref-2.ensures.value) ∙ sym c.refusal.ensures ∙ c.in-None.is in
     let few = accepted_keys_few config.aggregators.items config.ports.items accepted in
     let keys : c.in_ok-aggregators.aggregators ≡ config.aggregators.items =
-    c.in_ok-aggregators.ensures ∙ ap (λ (l : List Key). take 65535 l) c.deref-3.ensures.value ∙ take_all 65535 config.aggregators.items (omega (arith, few)) in
+    let within = subst (λ (l : List Key). length l ≤ 65535) (sym c.deref-3.ensures.value) (omega (arith, few)) in
+    c.in_ok-aggregators.ensures.all within ∙ c.deref-3.ensures.value in
     configured_made config c.in_ok-aggregators.aggregators c.in_ok-slots.slots.items (state_of c.settle.new.self) keys c.settle.ensures
 
 pub returns-clause-sound : goal.returns-clause-sound
@@ -27,7 +27,8 @@ returns-clause-sound c =
     ap (λ (l : List Key). refusal l config.ports.items) (sym c.deref.ensures.value) ∙ ap (λ (l : List PortConfig). refusal c.deref.result.now l) (sym c.deref-2.ensures.value) ∙ sym c.refusal.ensures ∙ c.in-None.is in
     let few = accepted_keys_few config.aggregators.items config.ports.items accepted in
     let keys : c.in_ok-aggregators.aggregators ≡ config.aggregators.items =
-    c.in_ok-aggregators.ensures ∙ ap (λ (l : List Key). take 65535 l) c.deref-3.ensures.value ∙ take_all 65535 config.aggregators.items (omega (arith, few)) in
+    let within = subst (λ (l : List Key). length l ≤ 65535) (sym c.deref-3.ensures.value) (omega (arith, few)) in
+    c.in_ok-aggregators.ensures.all within ∙ c.deref-3.ensures.value in
     let new : AllZip (IsNew config.system) config.ports.items c.in_ok-slots.slots.items = subst (λ (l : List PortConfig). AllZip (IsNew config.system) l c.in_ok-slots.slots.items) c.deref-4.ensures.value c.in_ok-slots.ensures.new in
     let last = state_of c.settle.new.self in
     first_sound last
