@@ -15,7 +15,7 @@ use Rattle.portmachines.specs.Mux.{is_mux, is_selected, partner_synchronized}
 use Rattle.selection.specs.declared.view.PortView.{PortView as Seen}
 use Rattle.selection.specs.Choice.{choice, choice_of_view}
 use Rattle.selection.specs.Joining.{Joins, ends}
-use Rattle.selection.specs.Same.{same_system}
+use Rattle.lagtypes.specs.Same.{same_system}
 use Rattle.selection.specs.Views.{is_detached, is_eligible, is_unselected}
 use Rattle.selection.proofs.Joining.{choice-joins}
 use Rattle.lagmodel.specs.View.{PortView, Setup, Call, Flows}

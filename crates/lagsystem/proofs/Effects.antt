@@ -18,7 +18,7 @@ use Rattle.slowpdu.specs.declared.pdu.Lacpdu.{Lacpdu}
 use Rattle.slowpdu.specs.Parties.{party_of}
 use Rattle.portmachines.specs.declared.mux.MuxState.TheVariants.{CollectingDistributing}
 use Rattle.portmachines.specs.Machines.{Machines}
-use Rattle.portmachines.specs.Matching.{same_party, same_system, same_port, same_bit}
+use Rattle.lagtypes.specs.Same.{same_party, same_system, same_port, same_bit}
 use Rattle.portmachines.specs.Mux.{is_mux, is_synchronized, partner_synchronized}
 use Rattle.portmachines.specs.Receive.{receive_rows, taking_rows, default_partner, start_receive, is_maintained, says_synchronized}
 use Rattle.portmachines.specs.Rows.{Fires, Settles}
