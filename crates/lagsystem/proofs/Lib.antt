@@ -11,3 +11,4 @@ pub mod Rest
 pub mod Steps
 pub mod FirstView
 pub mod Sound
+pub mod Windows

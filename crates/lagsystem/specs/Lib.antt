@@ -8,3 +8,4 @@ pub mod Readers
 pub mod Shown
 pub mod Sound
 pub mod Kept
+pub mod Windows

@@ -16,3 +16,7 @@ pub use answers::Received;
 pub use calls::System;
 pub use config::{Config, PortChange, PortConfig};
 pub use fault::{BadConfig, SystemFault};
+
+mod laws;
+
+pub use laws::window_holds;

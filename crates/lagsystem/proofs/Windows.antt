@@ -1,0 +1,353 @@
+-- Any eleven consecutive ticks hold at most three sends of a port, over runs of calls of a system.
+use Rattle.std.proofs.Common.{◌≡◌, ◌&&◌, ◌∙◌, ◌<◌, ◌≤◌, ◌+◌, ◌==◌, ◌++◌, ℕ, zero, suc, Bool, true, false, cond, List, [], ◌∷◌, Option, Some, None, Ok, Err, length, ap, sym, refl, subst, arith, get_or, nat_lt, append_assoc}
+use Rattle.std.specs.Prelude.{if◌then◌else◌, slice_get, slice_set, option_map}
+use Rattle.std.specs.List.{AllByRecursion, AllZip, find, position_or_len}
+use Rattle.std.proofs.lemmas.Bool.{eqb-true}
+use Rattle.std.proofs.lemmas.Bool.Decides.{nat_tests}
+use Rattle.std.proofs.lemmas.List.Folds.{find_at}
+use Rattle.std.proofs.lemmas.List.Quantifiers.{position-Some}
+use Rattle.std.proofs.lemmas.Option.{slice_get_past, get_or_from_slice_get, same_Some}
+use Rattle.lagtypes.specs.declared.identifiers.AggId.{AggId}
+use Rattle.lagtypes.specs.declared.identifiers.Key.{Key}
+use Rattle.lagtypes.specs.declared.identifiers.SystemId.{SystemId}
+use Rattle.lagtypes.specs.declared.party.Choice.TheVariants.{Selected}
+use Rattle.portmachines.specs.Calls as port
+use Rattle.portmachines.specs.Machines.{Machines}
+use Rattle.portmachines.specs.Mux.{mux_rows}
+use Rattle.portmachines.specs.Periodic.{RunsPeriodic, periodic_rows}
+use Rattle.portmachines.specs.Receive.{receive_rows, start_receive}
+use Rattle.portmachines.specs.Rows.{Settles}
+use Rattle.portmachines.specs.Start.{Starts, blank}
+use Rattle.portmachines.specs.Transmit.{count_down, is_due, sent}
+use Rattle.portmachines.specs.Window as window
+use Rattle.portmachines.specs.Window.{KeepsWindow, sent_before}
+use Rattle.portmachines.proofs.Runs.{EachKeeps, Reaches-keeps}
+use Rattle.portmachines.specs.declared.port.Setup.{Setup}
+use Rattle.portmachines.proofs.Windows.{window_law as port_window}
+use Rattle.lagsystem.specs.declared.answers.Heard.{Heard}
+use Rattle.lagsystem.specs.declared.answers.Heard.TheVariants.{Taken, Answered}
+use Rattle.lagsystem.specs.declared.answers.Received.{Received}
+use Rattle.lagsystem.specs.declared.config.PortConfig.{PortConfig}
+use Rattle.lagsystem.specs.declared.slots.Slot.{Slot}
+use Rattle.lagsystem.specs.State.{State, with_slots, place_of, port_of, slot_at}
+use Rattle.lagsystem.specs.Settling.{AllMove, Settling, chosen, choose_slot, given, ready_of, takes}
+use Rattle.lagsystem.specs.Views.{views}
+use Rattle.lagsystem.specs.First.{IsFirst, IsNew, setup_of}
+use Rattle.lagsystem.specs.Calls.{Call, Tick, Set_link, Receive, Configure, Restart, Transmit, Reply, Ticked, Links, Receives, Configures, Restarted, Transmits, ChangesLink, ChangesParty, changed, OnPlace, OnPort, Settled, Takes, Does, SendsAt, Step, Run}
+use Rattle.lagsystem.specs.Windows.{StartsEmpty, WindowFromStart, WindowLaw, KeepsFew, after, kept_sends, later, sent_since}
+
+-- one port
+
+-- after these sends the port keeps the window, whatever calls of it follow
+abbrev Good : ℕ → Machines → List ℕ → Type 0
+Good now p before = (calls : List port.PortCall) (ticks : List ℕ) → window.Sends now calls p ticks → KeepsWindow (before ++ ticks)
+
+good_ages : (now : ℕ) (p : Machines) → AllByRecursion (λ a. a ≤ now) p.ages → length p.ages ≤ 3 → Good now p (sent_before now p.ages)
+good_ages now p kept few calls ticks run = port_window now calls p ticks kept few run
+
+joined : (b : Bool) (now : ℕ) (before ticks : List ℕ) → (before ++ (if b then now ∷ ticks else ticks)) ≡ ((if b then before ++ now ∷ [] else before) ++ ticks)
+joined true now before ticks = sym (append_assoc before (now ∷ []) ticks)
+joined false now before ticks = refl
+
+good_call : (now : ℕ) (call : port.PortCall) (p q : Machines) (before : List ℕ) → port.Does call p q → Good now p before
+    → Good (window.later call now) q (if window.sends call p then before ++ now ∷ [] else before)
+good_call now call p q before does g calls ticks run =
+    let b = window.sends call p in
+    subst KeepsWindow (joined b now before ticks) (g (call ∷ calls) (if b then now ∷ ticks else ticks) (q, ticks, does, run, refl))
+
+append-nil : (xs : List ℕ) → (xs ++ []) ≡ xs
+append-nil [] = refl
+append-nil (x ∷ xs) = ap (λ ys. x ∷ ys) (append-nil xs)
+
+none_sent : KeepsWindow []
+none_sent first = omega arith
+
+-- the port with the number n among those of a system
+
+abbrev port_in : Option Slot → Option Machines
+port_in o = option_map (λ x. x.port) o
+
+abbrev is_numbered : ℕ → Slot → Bool
+is_numbered n s = s.number == n
+
+-- P holds of the port, and N where there is none
+abbrev At : (Machines → Type 0) → Type 0 → Option Machines → Type 0
+At P N None = N
+At P N (Some p) = P p
+
+abbrev In : (Machines → Type 0) → Type 0 → ℕ → List Slot → Type 0
+In P N n slots = At P N (port_in (find (is_numbered n) slots))
+
+abbrev GoodAt : ℕ → List ℕ → Option Machines → Type 0
+GoodAt now before o = At (λ p. Good now p before) (KeepsWindow before) o
+
+abbrev GoodIn : ℕ → ℕ → List ℕ → List Slot → Type 0
+GoodIn n now before slots = In (λ p. Good now p before) (KeepsWindow before) n slots
+
+good_end : (now : ℕ) (before : List ℕ) (o : Option Machines) → GoodAt now before o → KeepsWindow before
+good_end now before None g = g
+good_end now before (Some p) g = subst KeepsWindow (append-nil before) (g [] [] refl)
+
+at_first : (P Q : Machines → Type 0) (N : Type 0) (b : Bool) (x y : Slot) (o u : Option Slot) → (P x.port → Q y.port) → (At P N (port_in o) → At Q N (port_in u))
+    → At P N (port_in (cond b (Some x) o)) → At Q N (port_in (cond b (Some y) u))
+at_first P Q N true x y o u here rest g = here g
+at_first P Q N false x y o u here rest g = rest g
+
+-- the same, where y has the number of x
+at_number : (P Q : Machines → Type 0) (N : Type 0) (n : ℕ) (x y : Slot) (o u : Option Slot) → y.number ≡ x.number → (P x.port → Q y.port) → (At P N (port_in o) → At Q N (port_in u))
+    → At P N (port_in (cond (x.number == n) (Some x) o)) → At Q N (port_in (cond (y.number == n) (Some y) u))
+at_number P Q N n x y o u e here rest g =
+    subst (λ k. At Q N (port_in (cond (k == n) (Some y) u))) (sym e) (at_first P Q N (x.number == n) x y o u here rest g)
+
+in_each : (P Q : Machines → Type 0) (N : Type 0) (R : Machines → Machines → Type 0) (n : ℕ) → ((p q : Machines) → R p q → P p → Q q) → (xs ys : List Slot) → AllMove R xs ys → In P N n xs → In Q N n ys
+in_each P Q N R n move [] [] h g = g
+in_each P Q N R n move [] (y ∷ ys) h g = absurd h
+in_each P Q N R n move (x ∷ xs) [] h g = absurd h
+in_each P Q N R n move (x ∷ xs) (y ∷ ys) h g =
+    at_number P Q N n x y (find (is_numbered n) xs) (find (is_numbered n) ys) (ap (λ (s : Slot). s.number) h.0.0) (move x.port y.port h.0.1) (in_each P Q N R n move xs ys h.1) g
+
+in_set : (P : Machines → Type 0) (N : Type 0) (n : ℕ) (xs : List Slot) (i : ℕ) (s t : Slot) → slice_get xs i ≡ Some s → t.number ≡ s.number → (P s.port → P t.port) → In P N n xs → In P N n (slice_set xs i t)
+in_set P N n [] i s t e k move g = g
+in_set P N n (x ∷ xs) zero s t e k move g =
+    let o = find (is_numbered n) xs in
+    let same : x ≡ s = same_Some x s e in
+    at_number P P N n x t o o (k ∙ sym (ap (λ (y : Slot). y.number) same)) (subst (λ (y : Slot). P y.port → P t.port) (sym same) move) (λ h. h) g
+in_set P N n (x ∷ xs) (suc i) s t e k move g =
+    at_number P P N n x x (find (is_numbered n) xs) (find (is_numbered n) (slice_set xs i t)) refl (λ h. h) (in_set P N n xs i s t e k move) g
+
+-- settling
+
+-- the machines that settling runs keep P
+record IsKept (P : Machines → Type 0) : Type 0 where
+  mux : (ready : Bool) (p q : Machines) → Settles (mux_rows ready) p q → P p → P q
+  periodic : (p q : Machines) → RunsPeriodic p q → P p → P q
+  select : (agg : AggId) (p : Machines) → P p → P (record p { choice = Selected agg })
+
+given_number : (s : Slot) (o : Option AggId) → (given s o).number ≡ s.number
+given_number s None = refl
+given_number s (Some agg) = refl
+
+in_given : (P : Machines → Type 0) → IsKept P → (s : Slot) (o : Option AggId) → P s.port → P (given s o).port
+in_given P kept s None g = g
+in_given P kept s (Some agg) g = kept.select agg s.port g
+
+in_choose : (P : Machines → Type 0) (N : Type 0) (n : ℕ) → IsKept P → (keys : List Key) (slots : List Slot) (i : ℕ) (o : Option Slot) → slice_get slots i ≡ o → In P N n slots → In P N n (choose_slot keys slots i o)
+in_choose P N n kept keys slots i None e g = g
+in_choose P N n kept keys slots i (Some s) e g =
+    let o = takes keys slots s in in_set P N n slots i s (given s o) e (given_number s o) (in_given P kept s o) g
+
+in_chosen : (P : Machines → Type 0) (N : Type 0) (n : ℕ) → IsKept P → (keys : List Key) (k : ℕ) (slots : List Slot) → In P N n slots → In P N n (chosen keys k slots)
+in_chosen P N n kept keys zero slots g = g
+in_chosen P N n kept keys (suc k) slots g =
+    let mid = chosen keys k slots in in_choose P N n kept keys mid k (slice_get mid k) refl (in_chosen P N n kept keys k slots g)
+
+in_same : (P : Machines → Type 0) (N : Type 0) (n : ℕ) (old new : State) → new ≡ old → In P N n old.slots → In P N n new.slots
+in_same P N n old new e g = subst (λ (s : State). In P N n s.slots) (sym e) g
+
+in_settling : (P : Machines → Type 0) (N : Type 0) (n : ℕ) → IsKept P → (old new : State) → Settling old new → In P N n old.slots → In P N n new.slots
+in_settling P N n kept old new h g =
+    let one = h.0 in
+    let two = h.2.0 in
+    let three = h.2.2.0 in
+    let four = h.2.2.2.0 in
+    let five = h.2.2.2.2.0 in
+    let ready = λ (p : Machines). ready_of three.keys (views three.slots) p.choice in
+    let g1 = in_each P P N (Settles (mux_rows false)) n (kept.mux false) old.slots one.slots h.1.0 g in
+    let g2 = in_same P N n (with_slots one (chosen one.keys (length one.slots) one.slots)) two h.2.1 (in_chosen P N n kept one.keys (length one.slots) one.slots g1) in
+    let g3 = in_same P N n two three h.2.2.1 g2 in
+    let g4 = in_each P P N (λ p q. Settles (mux_rows (ready p)) p q) n (λ p q d. kept.mux (ready p) p q d) three.slots four.slots h.2.2.2.1.0 g3 in
+    let g5 = in_each P P N RunsPeriodic n kept.periodic four.slots five.slots h.2.2.2.2.1.0 g4 in
+    in_same P N n five new (h.2.2.2.2.2.2 ∙ h.2.2.2.2.2.1) g5
+
+good_kept : (now : ℕ) (before : List ℕ) → IsKept (λ p. Good now p before)
+good_kept now before = record {
+  mux = λ ready p q d. good_call now (port.Mux ready) p q before d;
+  periodic = λ p q d. good_call now port.Periodic p q before d;
+  select = λ agg p. good_call now (port.Select (Selected agg)) p (record p { choice = Selected agg }) before refl;
+}
+
+good_settling : (n now : ℕ) (before : List ℕ) (old new : State) → Settling old new → GoodIn n now before old.slots → GoodIn n now before new.slots
+good_settling n now before old new h g = in_settling (λ p. Good now p before) (KeepsWindow before) n (good_kept now before) old new h g
+
+good_same : (n now : ℕ) (before : List ℕ) (old new : State) → new ≡ old → GoodIn n now before old.slots → GoodIn n now before new.slots
+good_same n now before old new e g = in_same (λ p. Good now p before) (KeepsWindow before) n old new e g
+
+good_set : (n now : ℕ) (before : List ℕ) (xs : List Slot) (i : ℕ) (s t : Slot) → slice_get xs i ≡ Some s → t.number ≡ s.number → (Good now s.port before → Good now t.port before)
+    → GoodIn n now before xs → GoodIn n now before (slice_set xs i t)
+good_set n now before xs i s t e k move g = in_set (λ p. Good now p before) (KeepsWindow before) n xs i s t e k move g
+
+-- the calls' own effects
+
+good_place : (R : Machines → Machines → Type 0) (n now : ℕ) (before : List ℕ) → ((p q : Machines) → R p q → Good now p before → Good now q before) → (o : Option ℕ) (old new : List Slot) → OnPlace R o old new
+    → GoodIn n now before old → GoodIn n now before new
+good_place R n now before move None old new h g = absurd h
+good_place R n now before move (Some i) old new h g =
+    subst (GoodIn n now before) (sym h.4) (good_set n now before old i h.0 (record h.0 { port = h.1 }) h.2 refl (move h.0.port h.1 h.3) g)
+
+good_on_port : (R : Machines → Machines → Type 0) (n now : ℕ) (before : List ℕ) → ((p q : Machines) → R p q → Good now p before → Good now q before) → (o : Option ℕ) (old new : State) → Settled (OnPort o R) old new
+    → GoodIn n now before old.slots → GoodIn n now before new.slots
+good_on_port R n now before move o old new h g = good_settling n now before h.0 new h.2 (good_place R n now before move o old.slots h.0.slots h.1.0 g)
+
+good_does : (n now : ℕ) (before : List ℕ) (heard : Heard) (o : Option ℕ) (old : State) (reply : Received) (new : State) → Does heard o old reply new → GoodIn n now before old.slots → GoodIn n now before new.slots
+good_does n now before (Taken v) o old reply new h g = good_on_port (Takes v) n now before (λ p q d. good_call now (port.Take v) p q before d) o old new h.1 g
+good_does n now before (Answered answer) o old reply new h g = good_same n now before old new h.1 g
+
+-- sending
+
+-- the place of a number is that of the first port with it
+at_place : (n : ℕ) (xs : List Slot) (b : Bool) (k : ℕ) → nat_lt k (length xs) ≡ b → slot_at (cond b (Some k) None) xs ≡ slice_get xs k
+at_place n xs true k e = refl
+at_place n xs false k e = sym (slice_get_past xs k (grind (arith, nat_tests)))
+
+found : (n : ℕ) (xs : List Slot) → slot_at (place_of n xs) xs ≡ find (is_numbered n) xs
+found n xs = let k = position_or_len (is_numbered n) xs in at_place n xs (nat_lt k (length xs)) k refl ∙ sym (find_at (is_numbered n) xs)
+
+found_set : (p : Slot → Bool) (xs : List Slot) (i : ℕ) (s t : Slot) → slice_get xs i ≡ Some s → ((k : ℕ) → k < i → p (get_or xs k s) ≡ false) → p t ≡ true → find p (slice_set xs i t) ≡ Some t
+found_set p [] i s t e h k = absurd cc
+found_set p (x ∷ xs) zero s t e h k = ap (λ b. cond b (Some t) (find p xs)) k
+found_set p (x ∷ xs) (suc i) s t e h k =
+    ap (λ b. cond b (Some x) (find p (slice_set xs i t))) (h zero (omega arith)) ∙ found_set p xs i s t e (λ j l. h (suc j) (omega (arith, l))) k
+
+found_other : (p : Slot → Bool) (xs : List Slot) (i : ℕ) (s t : Slot) → slice_get xs i ≡ Some s → p s ≡ false → p t ≡ false → find p (slice_set xs i t) ≡ find p xs
+found_other p [] i s t e h k = refl
+found_other p (x ∷ xs) zero s t e h k =
+    let here : p x ≡ false = ap p (same_Some x s e) ∙ h in
+    ap (λ b. cond b (Some t) (find p xs)) k ∙ sym (ap (λ b. cond b (Some x) (find p xs)) here)
+found_other p (x ∷ xs) (suc i) s t e h k = ap (λ o. cond (p x) (Some x) o) (found_other p xs i s t e h k)
+
+good_sent : (m n now : ℕ) (before : List ℕ) (b : Bool) (xs : List Slot) (i : ℕ) (s t : Slot) → (m == n) ≡ b → place_of m xs ≡ Some i → slice_get xs i ≡ Some s → t.number ≡ s.number
+    → (Good now s.port before → Good now t.port (before ++ now ∷ [])) → GoodIn n now before xs → GoodIn n now (if b then before ++ now ∷ [] else before) (slice_set xs i t)
+good_sent m n now before true xs i s t b place at k send g =
+    let same : m ≡ n = eqb-true m n b in
+    let first = position-Some (is_numbered m) xs i s place in
+    let numbered : (s.number == m) ≡ true = ap (is_numbered m) (sym (get_or_from_slice_get xs i s s at)) ∙ first.1 in
+    let old : find (is_numbered m) xs ≡ Some s = sym (found m xs) ∙ ap (λ o. slot_at o xs) place ∙ at in
+    let new : find (is_numbered m) (slice_set xs i t) ≡ Some t = found_set (is_numbered m) xs i s t at first.2 (ap (λ j. j == m) k ∙ numbered) in
+    let g' : GoodIn m now before xs = subst (λ j. GoodIn j now before xs) (sym same) g in
+    subst (λ j. GoodIn j now (before ++ now ∷ []) (slice_set xs i t)) same
+    (subst (λ o. GoodAt now (before ++ now ∷ []) (port_in o)) (sym new) (send (subst (λ o. GoodAt now before (port_in o)) old g')))
+good_sent m n now before false xs i s t b place at k send g =
+    let first = position-Some (is_numbered m) xs i s place in
+    let numbered : s.number ≡ m = eqb-true s.number m (ap (is_numbered m) (sym (get_or_from_slice_get xs i s s at)) ∙ first.1) in
+    let other : (s.number == n) ≡ false = ap (λ j. j == n) numbered ∙ b in
+    subst (λ o. GoodAt now before (port_in o)) (sym (found_other (is_numbered n) xs i s t at other (ap (λ j. j == n) k ∙ other))) g
+
+and_right : (x y : Bool) → (x && y) ≡ true → y ≡ true
+and_right true y h = h
+and_right false y h = cc
+
+good_sends : (now : ℕ) (before : List ℕ) (p : Machines) → is_due p ≡ true → Good now p before → Good now (sent p) (before ++ now ∷ [])
+good_sends now before p due g =
+    subst (λ b. Good now (sent p) (if b then before ++ now ∷ [] else before)) due
+    (good_call now (port.Transmit 0) p (sent p) before (sym (ap (λ b. if b then sent p else p) due)) g)
+
+good_transmit : (m n now : ℕ) (before : List ℕ) (max_delay : ℕ) (o : Option ℕ) (reply : Option (List ℕ)) (old new : List Slot) → place_of m old ≡ o → SendsAt max_delay o reply old new
+    → GoodIn n now before old → GoodIn n now (after n now (Transmit m) (Transmits (Ok reply)) before) new
+good_transmit m n now before max_delay None reply old new e h g = absurd h
+good_transmit m n now before max_delay (Some i) None old new e h g =
+    let same = h.3.1 in
+    subst (GoodIn n now before) (sym h.4) (good_set n now before old i h.0 (record h.0 { port = h.1 }) h.2 refl (subst (λ (p : Machines). Good now p before) (sym same)) g)
+good_transmit m n now before max_delay (Some i) (Some frame) old new e h g =
+    let send = λ (k : Good now h.0.port before). subst (λ (p : Machines). Good now p (before ++ now ∷ [])) (sym h.3.2) (good_sends now before h.0.port (and_right _ _ h.3.0) k) in
+    subst (GoodIn n now (if m == n then before ++ now ∷ [] else before)) (sym h.4)
+    (good_sent m n now before (m == n) old i h.0 (record h.0 { port = h.1 }) refl e h.2 refl send g)
+
+-- a start
+
+abbrev ages_of : Machines → List ℕ
+ages_of p = p.ages
+
+abbrev IsEmpty : Machines → Type 0
+IsEmpty p = p.ages ≡ []
+
+mux_ages : (ready : Bool) → EachKeeps ages_of (mux_rows ready)
+mux_ages ready = (λ p. refl, (λ p. refl, (λ p. refl, (λ p. refl, (λ p. refl, (λ p. refl, tt))))))
+
+periodic_ages : EachKeeps ages_of periodic_rows
+periodic_ages = (λ p. refl, (λ p. refl, (λ p. refl, (λ p. refl, (λ p. refl, (λ p. refl, (λ p. refl, tt)))))))
+
+receive_ages : EachKeeps ages_of receive_rows
+receive_ages = (λ p. refl, (λ p. refl, (λ p. refl, (λ p. refl, (λ p. refl, tt)))))
+
+empty_kept : IsKept IsEmpty
+empty_kept = record {
+  mux = λ ready p q d e. Reaches-keeps ages_of (mux_rows ready) (mux_ages ready) d.0 p q d.1 ∙ e;
+  periodic = λ p q d e. ap ages_of d.2 ∙ Reaches-keeps ages_of periodic_rows periodic_ages d.1.0 p d.0 d.1.1 ∙ e;
+  select = λ agg p e. e;
+}
+
+empty_start : (s : Setup) (p : Machines) → Starts (blank s) p → IsEmpty p
+empty_start s p h = ap ages_of h.2 ∙ Reaches-keeps ages_of receive_rows receive_ages h.1.0 (start_receive (blank s)) h.0 h.1.1
+
+empty_new : (n : ℕ) (system : SystemId) (ports : List PortConfig) (slots : List Slot) → AllZip (IsNew system) ports slots → In IsEmpty Unit n slots
+empty_new n system [] [] h = tt
+empty_new n system [] (s ∷ ss) h = absurd h
+empty_new n system (c ∷ cs) [] h = absurd h
+empty_new n system (c ∷ cs) (s ∷ ss) h =
+    let o = find (is_numbered n) ss in
+    at_first (λ _. Unit) IsEmpty Unit (s.number == n) s s o o (λ _. empty_start (setup_of system c) s.port h.0.2) (λ _. empty_new n system cs ss h.1) (at_unit (port_in (cond (s.number == n) (Some s) o)))
+  where
+    at_unit : (o : Option Machines) → At (λ _. Unit) Unit o
+    at_unit None = tt
+    at_unit (Some p) = tt
+
+empty_first : (n : ℕ) (s : State) → IsFirst s → In IsEmpty Unit n s.slots
+empty_first n s h = in_settling IsEmpty Unit n empty_kept (with_slots s h.0) s h.2 (empty_new n s.system s.ports h.0 h.1)
+
+few_empty : (o : Option Machines) → At IsEmpty Unit o → KeepsFew 0 o
+few_empty None h = tt
+few_empty (Some p) h = subst (λ ages. AllByRecursion (λ a. a ≤ 0) ages × (length ages ≤ 3)) (sym h) (tt, omega arith)
+
+good_few : (now : ℕ) (o : Option Machines) → KeepsFew now o → GoodAt now (kept_sends now o) o
+good_few now None h = none_sent
+good_few now (Some p) h = good_ages now p h.0 h.1
+
+none_kept : (o : Option Machines) → At IsEmpty Unit o → kept_sends 0 o ≡ []
+none_kept None h = refl
+none_kept (Some p) h = ap (sent_before 0) h
+
+good_first : (n : ℕ) (s : State) → IsFirst s → GoodIn n 0 [] s.slots
+good_first n s h =
+    let o = port_in (find (is_numbered n) s.slots) in
+    let e = empty_first n s h in subst (λ before. GoodAt 0 before o) (none_kept o e) (good_few 0 o (few_empty o e))
+
+-- runs
+
+good_step : (n now : ℕ) (before : List ℕ) (old : State) (call : Call) (reply : Reply) (new : State) → Step old call reply new → GoodIn n now before old.slots → GoodIn n (later call now) (after n now call reply before) new.slots
+good_step n now before old Tick Ticked new h g =
+    good_settling n (now + 1) before h.0 new h.2
+    (in_each (λ p. Good now p before) (λ p. Good (now + 1) p before) (KeepsWindow before) (λ p q. Settles receive_rows (count_down p) q) n (λ p q d. good_call now port.Tick p q before d) old.slots h.0.slots h.1.0 g)
+good_step n now before old (Set_link m up) (Links (Ok done)) new h g =
+    good_on_port (ChangesLink up) n now before (λ p q d. good_call now (port.Set_link up) p q before d) (place_of m old.slots) old new h g
+good_step n now before old (Set_link m up) (Links (Err fault)) new h g = good_same n now before old new h.same g
+good_step n now before old (Receive m octets) (Receives (Ok reply)) new h g = good_does n now before h.1 (place_of m old.slots) old reply new h.4 g
+good_step n now before old (Receive m octets) (Receives (Err fault)) new h g = good_same n now before old new h.same g
+good_step n now before old (Configure m change) (Configures (Ok true)) new h g =
+    good_on_port (ChangesParty change) n now before (λ p q d. good_call now (port.Reinit (changed change p.party)) p q before d.1) (place_of m old.slots) old new h g
+good_step n now before old (Configure m change) (Configures (Ok false)) new h g = good_same n now before old new h.1 g
+good_step n now before old (Configure m change) (Configures (Err fault)) new h g = good_same n now before old new h.same g
+good_step n now before old Restart Restarted new h g = good_first n new h.1
+good_step n now before old (Transmit m) (Transmits (Ok reply)) new h g = good_transmit m n now before old.max_delay (place_of m old.slots) reply old.slots new.slots refl h.0 g
+good_step n now before old (Transmit m) (Transmits (Err fault)) new h g = good_same n now before old new h.same g
+good_step n now before old call reply new h g = absurd h
+
+good_run : (n now : ℕ) (before : List ℕ) (old new : State) (calls : List Call) (replies : List Reply) → Run old calls replies new → GoodIn n now before old.slots → KeepsWindow (sent_since n now before calls replies)
+good_run n now before old new [] [] h g = good_end now before (port_in (find (is_numbered n) old.slots)) g
+good_run n now before old new [] (r ∷ rs) h g = absurd h
+good_run n now before old new (c ∷ cs) [] h g = absurd h
+good_run n now before old new (c ∷ cs) (r ∷ rs) h g =
+    good_run n (later c now) (after n now c r before) h.0 new cs rs h.2 (good_step n now before old c r h.0 h.1 g)
+
+pub window_law : WindowLaw
+window_law n now old new calls replies run few =
+    let o = port_of n old in
+    let g = good_few now o few in
+    good_run n now (kept_sends now o) old new calls replies run (subst (λ x. GoodAt now (kept_sends now o) (port_in x)) (found n old.slots) g)
+
+pub window_from_start : WindowFromStart
+window_from_start n old new calls replies first run = good_run n 0 [] old new calls replies run (good_first n old first)
+
+pub starts_empty : StartsEmpty
+starts_empty n s h =
+    let e : At IsEmpty Unit (port_of n s) = subst (λ x. At IsEmpty Unit (port_in x)) (sym (found n s.slots)) (empty_first n s h) in
+    (few_empty (port_of n s) e, none_kept (port_of n s) e)

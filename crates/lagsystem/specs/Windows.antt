@@ -1,0 +1,58 @@
+-- The transmit window of each port over runs of calls (6.4.16). Ticks are counted from the last start of the system.
+use Rattle.std.specs.Prelude.{◌≡◌, ℕ, ◌+◌, ◌≤◌, ◌==◌, Bool, false, List, [], ◌∷◌, ◌++◌, length, if◌then◌else◌, Option, Some, None, Ok}
+use Rattle.std.specs.List.{AllByRecursion}
+use Rattle.portmachines.specs.Machines.{Machines}
+use Rattle.portmachines.specs.Window.{KeepsWindow, sent_before}
+use Rattle.lagsystem.specs.State.{State, port_of}
+use Rattle.lagsystem.specs.First.{IsFirst}
+use Rattle.lagsystem.specs.Calls.{Call, Tick, Restart, Transmit, Reply, Transmits, Run}
+
+-- whether the call answers an LACPDU of the port with the number n
+abbrev pub sends : ℕ → Call → Reply → Bool
+sends n (Transmit port) (Transmits (Ok (Some frame))) = port == n
+sends n call reply = false
+
+-- the number of the tick after the call
+abbrev pub later : Call → ℕ → ℕ
+later Tick now = now + 1
+later Restart now = 0
+later call now = now
+
+-- the ticks at which the port sent, after a call at the tick now: a restart begins anew
+abbrev pub after : ℕ → ℕ → Call → Reply → List ℕ → List ℕ
+after n now Restart reply before = []
+after n now call reply before = if sends n call reply then before ++ now ∷ [] else before
+
+-- the ticks, since the last start, at which the port with the number n has sent LACPDUs after these calls with these
+-- replies: the first call comes at the tick now, and before it the port sent at the ticks before
+abbrev pub sent_since : ℕ → ℕ → List ℕ → List Call → List Reply → List ℕ
+sent_since n now before [] replies = before
+sent_since n now before (call ∷ calls) [] = before
+sent_since n now before (call ∷ calls) (reply ∷ replies) = sent_since n (later call now) (after n now call reply before) calls replies
+
+-- an age that a port keeps at the tick now counts as a send so many ticks earlier
+abbrev pub kept_sends : ℕ → Option Machines → List ℕ
+kept_sends now None = []
+kept_sends now (Some p) = sent_before now p.ages
+
+-- a port keeps at most three ages, none from before the start
+abbrev pub KeepsFew : ℕ → Option Machines → Type 0
+KeepsFew now None = Unit {0}
+KeepsFew now (Some p) = AllByRecursion (λ a. a ≤ now) p.ages × (length p.ages ≤ 3)
+
+-- from any state whose port keeps few ages: any eleven consecutive ticks since the last start hold at most three sends
+abbrev pub WindowLaw : Type 0
+WindowLaw =
+    (n now : ℕ) (old new : State) (calls : List Call) (replies : List Reply)
+    → Run old calls replies new → KeepsFew now (port_of n old)
+    → KeepsWindow (sent_since n now (kept_sends now (port_of n old)) calls replies)
+
+-- a state that has just started is one of these, with no earlier send
+abbrev pub StartsEmpty : Type 0
+StartsEmpty = (n : ℕ) (s : State) → IsFirst s → KeepsFew 0 (port_of n s) × (kept_sends 0 (port_of n s) ≡ [])
+
+-- and so from a start on any eleven consecutive ticks hold at most three sends of a port
+abbrev pub WindowFromStart : Type 0
+WindowFromStart =
+    (n : ℕ) (old new : State) (calls : List Call) (replies : List Reply)
+    → IsFirst old → Run old calls replies new → KeepsWindow (sent_since n 0 [] calls replies)
