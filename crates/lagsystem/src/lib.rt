@@ -11,6 +11,8 @@ mod ports;
 mod readers;
 mod settling;
 mod slots;
+#[cfg(test)]
+mod tests;
 
 pub use answers::Received;
 pub use calls::System;
