@@ -7,6 +7,7 @@ mod config;
 mod fault;
 mod first;
 mod kept;
+mod laws;
 mod ports;
 mod readers;
 mod settling;
@@ -18,7 +19,4 @@ pub use answers::Received;
 pub use calls::System;
 pub use config::{Config, PortChange, PortConfig};
 pub use fault::{BadConfig, SystemFault};
-
-mod laws;
-
 pub use laws::window_holds;
