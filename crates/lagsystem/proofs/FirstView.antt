@@ -213,8 +213,9 @@ composed : {X : Type 0} (f : Party → PortView) (g : X → Party) (o : Option X
 composed f g None = refl
 composed f g (Some x) = refl
 
-pub first_shows : (s : State) → IsFirst s → view_of s ≡ first_view (configured s)
-first_shows s h =
+-- so the periodic rows alone change the ports
+pub first_periodic : (s : State) (h : IsFirst s) → AllMove RunsPeriodic h.0 s.slots
+first_periodic s h =
     let start = h.0 in
     let run = h.2 in
     let one = run.0 in
@@ -231,7 +232,13 @@ first_shows s h =
     let s4 : four.slots ≡ start =
     idle_slots s.system ready (λ party p q a m. idle_mux (ready_of three.keys (views three.slots) p.choice) party p q a m) s.ports start four.slots idle (subst (λ l. AllMove ready l four.slots) s3 run.2.2.2.1.0) in
     let last : s.slots ≡ five.slots = ap (λ (x : State). x.slots) (run.2.2.2.2.2.2 ∙ run.2.2.2.2.2.1) in
-    let m5 : AllMove RunsPeriodic start s.slots = subst (λ l. AllMove RunsPeriodic start l) (sym last) (subst (λ l. AllMove RunsPeriodic l five.slots) s4 run.2.2.2.2.1.0) in
+    subst (λ l. AllMove RunsPeriodic start l) (sym last) (subst (λ l. AllMove RunsPeriodic l five.slots) s4 run.2.2.2.2.1.0)
+
+pub first_shows : (s : State) → IsFirst s → view_of s ≡ first_view (configured s)
+first_shows s h =
+    let start = h.0 in
+    let m5 = first_periodic s h in
+    let idle : AllZip (Idles s.system) s.ports start = zip_weaker (IsNew s.system) (Idles s.system) (λ c x m. (m.0, starts_idle (setup_of s.system c) x.port m.2)) s.ports start h.1 in
     let same_ports : (q : ℕ) → ports_of number shown_slot s.slots q ≡ ports_of number shown_slot start q =
     zip_ports number number shown_slot shown_slot start s.slots (zip_weaker (Moves RunsPeriodic) _ (λ x y m. (ap number m.0, periodic_shown x.port y.port m.1)) start s.slots m5) in
     let first_ports : (q : ℕ) → ports_of number shown_slot start q ≡ ports_of number_of (λ c. first_port (party_in s.system c)) s.ports q =

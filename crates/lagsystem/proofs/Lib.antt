@@ -10,5 +10,6 @@ pub mod Choose
 pub mod Rest
 pub mod Steps
 pub mod FirstView
+pub mod OneStart
 pub mod Sound
 pub mod Windows

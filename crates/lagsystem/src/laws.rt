@@ -1,3 +1,6 @@
+ghost use Rattle.std.specs.Prelude.{◌≡◌};
+ghost use Rattle.lagsystem.specs.First.{IsFirst};
+ghost use Rattle.lagsystem.specs.State.{State, with_slots};
 ghost use Rattle.lagsystem.specs.Windows.{StartsEmpty, WindowFromStart, WindowLaw};
 
 /// Any eleven consecutive ticks since the last start of a system hold at most three LACPDUs of each port, over every
@@ -7,4 +10,9 @@ pub fn window_holds()
     ensures window { WindowLaw }
     ensures empty { StartsEmpty }
     ensures start { WindowFromStart }
+{}
+
+/// A configuration has one first state: a restart gives the system as `new` left it.
+pub fn first_state_is_one()
+    ensures { (s t : State) → t ≡ with_slots s t.slots → IsFirst s → IsFirst t → t ≡ s }
 {}

@@ -19,4 +19,4 @@ pub use answers::Received;
 pub use calls::System;
 pub use config::{Config, PortChange, PortConfig};
 pub use fault::{BadConfig, SystemFault};
-pub use laws::window_holds;
+pub use laws::{first_state_is_one, window_holds};
