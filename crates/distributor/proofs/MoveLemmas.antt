@@ -65,7 +65,7 @@ one_moves : (mac : List ℕ) (call : Call) (t u : Table) (agg conv : ℕ) (s : A
 one_moves mac call t u agg conv s m a e h = (FlowMove.Become agg conv m ∷ [], (a, tt), refl, seen_after t u agg conv s (changed m) h e)
 
 -- what a move makes of a conversation
-is_moved : (next : Option ℕ) (ports : List ℕ) (to : ℕ) (old new : Assignment) → moved next ports to old ≡ Ok new → (p : ℕ) × (conversation_of old ≡ Conversation.On p) × (conversation_of new ≡ Conversation.Wanted p)
+pub is_moved : (next : Option ℕ) (ports : List ℕ) (to : ℕ) (old new : Assignment) → moved next ports to old ≡ Ok new → (p : ℕ) × (conversation_of old ≡ Conversation.On p) × (conversation_of new ≡ Conversation.Wanted p)
 is_moved next ports to (state.Free preferred) new h = absurd cc
 is_moved next ports to (state.Wanted p preferred) new h = absurd cc
 is_moved next ports to (state.Flushing p n preferred age) new h = absurd cc
@@ -84,7 +84,7 @@ move_moves mac call t u agg conv to next ports s e h =
     one_moves mac call t u agg conv s (Change.Want m.0) m.1 m.2 h
 
 -- what force makes of a conversation
-is_forced : (old new : Assignment) → forced old ≡ Ok new → conversation_of new ≡ Conversation.Free
+pub is_forced : (old new : Assignment) → forced old ≡ Ok new → conversation_of new ≡ Conversation.Free
 is_forced (state.Free preferred) new h = absurd cc
 is_forced (state.On p) new h = let same : state.Free None ≡ new = cc in ap conversation_of (sym same)
 is_forced (state.Wanted p preferred) new h = let same : state.Free preferred ≡ new = cc in ap conversation_of (sym same)
@@ -108,25 +108,31 @@ in_records (e ∷ es) g k = elim (cases_Bool (is_of g k e)) [
 ]
 
 -- what one conversation makes of itself
-abbrev Makes : List ℕ → Call → ℕ → ℕ → Assignment → Assignment → Type 0
+abbrev pub Makes : List ℕ → Call → ℕ → ℕ → Assignment → Assignment → Type 0
 Makes mac call g k old new =
     (conversation_of new ≡ conversation_of old) ⊎ ((m : Change) × ChangeAllowed mac call g k m (conversation_of old) × (conversation_of new ≡ changed m))
 
-all_moves : (mac : List ℕ) (call : Call) (t u : Table) (change : Assignment → Assignment) → change (state.Free None) ≡ state.Free None → ((g k : ℕ) (s : Assignment) → Makes mac call g k s (change s)) → Changes t u change
-    → FlowMoves mac call Nowhere (flows_of t) [] (flows_of u)
-all_moves mac call t u change free makes h =
+-- each conversation makes what it makes of itself, by its aggregator and number
+pub each_moves : (mac : List ℕ) (call : Call) (t u : Table) (change : ℕ → ℕ → Assignment → Assignment) → ((g k : ℕ) → change g k (state.Free None) ≡ state.Free None) → ((g k : ℕ) (s : Assignment) → Makes mac call g k s (change g k s))
+    → u.next ≡ t.next → ((g k : ℕ) → state_of u g k ≡ change g k (state_of t g k)) → FlowMoves mac call Nowhere (flows_of t) [] (flows_of u)
+each_moves mac call t u change free makes next states =
     let z = flows_become mac call Nowhere (keys_of t.entries) (flows_of t) (flows_of u).state each in
-    let same : flows_of u ≡ record (flows_of t) { state = (flows_of u).state } = λ i. record { state = (flows_of u).state; next = h.next i } in
+    let same : flows_of u ≡ record (flows_of t) { state = (flows_of u).state } = λ i. record { state = (flows_of u).state; next = next i } in
     (z.0, z.1, z.2, same ∙ z.3)
   where
     each : Become (keys_of t.entries) mac call (flows_of t).state (flows_of u).state
     each g k = elim (makes g k (state_of t g k)) [
-      | inl e ↦ inl (ap conversation_of (h.states g k) ∙ e)
+      | inl e ↦ inl (ap conversation_of (states g k) ∙ e)
       | inr x ↦ elim (in_records t.entries g k) [
-        | inl n ↦ inl (ap conversation_of (h.states g k ∙ ap change n ∙ free ∙ sym n))
-        | inr a ↦ inr (a, (x.0, x.1, ap conversation_of (h.states g k) ∙ x.2))
+        | inl n ↦ inl (ap conversation_of (states g k ∙ ap (change g k) n ∙ free g k ∙ sym n))
+        | inr a ↦ inr (a, (x.0, x.1, ap conversation_of (states g k) ∙ x.2))
       ]
     ]
+
+-- all in the same way
+all_moves : (mac : List ℕ) (call : Call) (t u : Table) (change : Assignment → Assignment) → change (state.Free None) ≡ state.Free None → ((g k : ℕ) (s : Assignment) → Makes mac call g k s (change s)) → Changes t u change
+    → FlowMoves mac call Nowhere (flows_of t) [] (flows_of u)
+all_moves mac call t u change free makes h = each_moves mac call t u (λ g k. change) (λ g k. free) makes h.next h.states
 
 makes_leave : (mac : List ℕ) (call : Call) (port g k : ℕ) (s : Assignment) → Makes mac call g k s (after_leave port s)
 makes_leave mac call port g k (state.Free preferred) = inl refl
