@@ -11,12 +11,14 @@ use Rattle.lagtypes.specs.declared.party.Choice.TheVariants.{Unselected, Selecte
 use Rattle.lagtypes.specs.Group.{SamePair}
 use Rattle.portmachines.specs.declared.mux.MuxState.{MuxState}
 use Rattle.portmachines.specs.declared.mux.MuxState.TheVariants.{Detached, Waiting, Attached, CollectingDistributing}
-use Rattle.portmachines.specs.Mux.{is_mux, is_selected, partner_synchronized}
+use Rattle.lagtypes.specs.Choices.{is_selected}
+use Rattle.portmachines.specs.Mux.{is_mux, partner_synchronized}
 use Rattle.selection.specs.declared.view.PortView.{PortView as Seen}
 use Rattle.selection.specs.Choice.{choice, choice_of_view}
 use Rattle.selection.specs.Joining.{Joins, ends}
 use Rattle.lagtypes.specs.Same.{same_system}
-use Rattle.selection.specs.Views.{is_detached, is_eligible, is_unselected}
+use Rattle.lagtypes.specs.Choices.{is_unselected}
+use Rattle.selection.specs.Views.{is_detached, is_eligible}
 use Rattle.selection.proofs.Joining.{choice-joins}
 use Rattle.lagmodel.specs.View.{PortView, Setup, Call, Flows}
 use Rattle.lagmodel.specs.Move.{PortMove, PortAllowed, port_after, group_at, FreeMoves}
@@ -26,7 +28,7 @@ use Rattle.lagmodel.proofs.Uses.{moves_at, moves_joined}
 use Rattle.lagsystem.specs.declared.slots.Slot.{Slot}
 use Rattle.lagsystem.specs.Settling.{chosen, choose_slot, given, takes}
 use Rattle.lagsystem.specs.Shown.{number, shown_slot, view_at, key_of, aggregator_of}
-use Rattle.lagsystem.specs.Sound.{numbers}
+use Rattle.lagsystem.specs.State.{numbers}
 use Rattle.lagsystem.specs.Views.{views, view_of, stage_of}
 use Rattle.lagsystem.proofs.Keeps.{chosen_numbers}
 use Rattle.lagsystem.proofs.Rising.{Rises, all_found, are_numbered, find_here}

@@ -13,7 +13,8 @@ use Rattle.portmachines.specs.declared.mux.MuxState.TheVariants.{Detached, Waiti
 use Rattle.portmachines.specs.declared.port.Setup.{Setup as Start}
 use Rattle.portmachines.specs.declared.receive.ReceiveState.TheVariants.{Initialize, PortDisabled, Expired, Current}
 use Rattle.portmachines.specs.Machines.{Machines}
-use Rattle.portmachines.specs.Mux.{is_mux, is_selected, mux_rows, partner_synchronized}
+use Rattle.lagtypes.specs.Choices.{is_selected}
+use Rattle.portmachines.specs.Mux.{is_mux, mux_rows, partner_synchronized}
 use Rattle.portmachines.specs.Periodic.{periodic_rows, RunsPeriodic}
 use Rattle.portmachines.specs.Receive.{is_receive, receive_rows, start_receive}
 use Rattle.portmachines.specs.Rows.{AtRest, Fires, Reaches, Row, Settles}
@@ -22,6 +23,7 @@ use Rattle.selection.specs.Choice.{choice}
 use Rattle.selection.specs.Views.{is_eligible}
 use Rattle.lagmodel.specs.View.{PortView, first_port, first_view, IsSetup}
 use Rattle.lagmodel.specs.Kept.{find_number, ports_of}
+use Rattle.distributor.specs.Moves.{flows_of}
 use Rattle.lagmodel.proofs.Base.{mapped_some, chosen as whichever}
 use Rattle.std.proofs.Common.{eqb-true}
 use Rattle.std.proofs.lemmas.Option.{none-some, same_Some}
@@ -30,10 +32,10 @@ use Rattle.lagsystem.specs.declared.slots.Slot.{Slot}
 use Rattle.lagsystem.specs.First.{IsFirst, IsNew, number_of, setup_of}
 use Rattle.lagsystem.specs.Settling.{AllMove, Moves, choose_slot, chosen, given, ready_of, takes}
 use Rattle.lagsystem.specs.Shown.{configured, number, party_in, shown, shown_slot, view_of}
-use Rattle.lagsystem.specs.State.{State}
+use Rattle.lagsystem.specs.State.{State, with_slots}
 use Rattle.lagsystem.specs.Views.{views, view_of as seen_at}
 use Rattle.lagsystem.proofs.Effects.{named, zero_named}
-use Rattle.lagsystem.proofs.Rest.{reaches_same, zip_all}
+use Rattle.lagsystem.proofs.Rest.{last_slots, reaches_same, zip_all}
 use Rattle.lagsystem.proofs.Rising.{all-get}
 use Rattle.lagsystem.proofs.SettlingLemmas.{set_same}
 
@@ -231,8 +233,7 @@ first_periodic s h =
     let ready : Machines → Machines → Type 0 = λ p q. Settles (mux_rows (ready_of three.keys (views three.slots) p.choice)) p q in
     let s4 : four.slots ≡ start =
     idle_slots s.system ready (λ party p q a m. idle_mux (ready_of three.keys (views three.slots) p.choice) party p q a m) s.ports start four.slots idle (subst (λ l. AllMove ready l four.slots) s3 run.2.2.2.1.0) in
-    let last : s.slots ≡ five.slots = ap (λ (x : State). x.slots) (run.2.2.2.2.2.2 ∙ run.2.2.2.2.2.1) in
-    subst (λ l. AllMove RunsPeriodic start l) (sym last) (subst (λ l. AllMove RunsPeriodic l five.slots) s4 run.2.2.2.2.1.0)
+    subst (λ l. AllMove RunsPeriodic start l) (sym (last_slots (with_slots s start) s run)) (subst (λ l. AllMove RunsPeriodic l five.slots) s4 run.2.2.2.2.1.0)
 
 pub first_shows : (s : State) → IsFirst s → view_of s ≡ first_view (configured s)
 first_shows s h =
@@ -245,7 +246,7 @@ first_shows s h =
     zip_ports number_of number (λ c. first_port (party_in s.system c)) shown_slot s.ports start (zip_weaker (Idles s.system) _ (λ c x m. (m.0, m.1.looks)) s.ports start idle) in
     λ i. record {
       port = λ q. (same_ports q ∙ first_ports q ∙ composed first_port (party_in s.system) (find_number number_of s.ports q)) i;
-      flows = (first_view (configured s)).flows;
+      flows = flows_of (h.3 i);
     }
 
 -- a configuration is a setup

@@ -1,5 +1,5 @@
 -- A configuration has one first state.
-use Rattle.std.proofs.Common.{◌≡◌, List, [], ◌∷◌, refl, sym, ◌∙◌, subst, ap}
+use Rattle.std.proofs.Common.{◌≡◌, List, [], ◌∷◌, length, refl, sym, ◌∙◌, subst, ap}
 use Rattle.std.specs.List.{AllZip}
 use Rattle.lagtypes.specs.declared.identifiers.SystemId.{SystemId}
 use Rattle.portmachines.specs.declared.port.Setup.{Setup}
@@ -11,11 +11,12 @@ use Rattle.portmachines.specs.Receive.{receive_rows}
 use Rattle.portmachines.specs.Rows.{AtRest}
 use Rattle.portmachines.specs.Start.{Starts, blank}
 use Rattle.portmachines.proofs.Choices.{one_effect}
+use Rattle.distributor.specs.Conversations.{first_table}
 use Rattle.lagsystem.specs.declared.config.PortConfig.{PortConfig}
 use Rattle.lagsystem.specs.declared.slots.Slot.{Slot}
 use Rattle.lagsystem.specs.First.{IsFirst, IsNew, setup_of}
 use Rattle.lagsystem.specs.Settling.{AllMove}
-use Rattle.lagsystem.specs.State.{State, with_slots}
+use Rattle.lagsystem.specs.State.{State, with_slots, with_table}
 use Rattle.lagsystem.proofs.FirstView.{first_periodic}
 
 one_start : (s : Setup) (p q : Machines) → Starts (blank s) p → Starts (blank s) q → p ≡ q
@@ -55,9 +56,11 @@ one_periodic system (c ∷ cs) (s ∷ ss) (x ∷ xs) (y ∷ ys) a h k =
     λ i. here i ∷ rest i
 
 -- two first states with one configuration are one
-pub one_first : (s t : State) → t ≡ with_slots s t.slots → IsFirst s → IsFirst t → t ≡ s
+pub one_first : (s t : State) → t ≡ with_table (with_slots s t.slots) t.table → IsFirst s → IsFirst t → t ≡ s
 one_first s t e h k =
     let news : AllZip (IsNew s.system) s.ports k.0 = subst (λ (x : State). AllZip (IsNew x.system) x.ports k.0) e k.1 in
     let start : k.0 ≡ h.0 = one_list s.system s.ports k.0 h.0 news h.1 in
     let moves : AllMove RunsPeriodic h.0 t.slots = subst (λ l. AllMove RunsPeriodic l t.slots) start (first_periodic t k) in
-    e ∙ ap (with_slots s) (one_periodic s.system s.ports h.0 t.slots s.slots h.1 moves (first_periodic s h))
+    let slots : t.slots ≡ s.slots = one_periodic s.system s.ports h.0 t.slots s.slots h.1 moves (first_periodic s h) in
+    let table : t.table ≡ s.table = k.3 ∙ ap (λ (x : State). first_table (length x.keys) x.first_marker) e ∙ sym h.3 in
+    e ∙ (λ i. with_table (with_slots s (slots i)) (table i))

@@ -1,5 +1,5 @@
 -- What holds of each port after every call: its machines are at rest.
-use Rattle.std.proofs.Common.{◌≡◌, ℕ, zero, suc, Bool, true, false, Option, Some, None, Ok, Err, List, [], ◌∷◌, length, refl, sym, ◌∙◌, subst, ap, inl, inr}
+use Rattle.std.proofs.Common.{◌≡◌, ℕ, zero, suc, Bool, true, false, Option, Some, None, Result, Ok, Err, List, [], ◌∷◌, length, refl, sym, ◌∙◌, subst, ap, inl, inr}
 use Rattle.std.specs.Prelude.{◌&&◌, ◌||◌, not, if◌then◌else◌, slice_get}
 use Rattle.std.specs.List.{AllZip, AllByRecursion}
 use Rattle.std.proofs.lemmas.Bool.{true≢false}
@@ -8,26 +8,35 @@ use Rattle.lagtypes.specs.declared.identifiers.Key.{Key}
 use Rattle.lagtypes.specs.declared.party.Choice.{Choice}
 use Rattle.lagtypes.specs.declared.party.Choice.TheVariants.{Unselected, Selected}
 use Rattle.slowpdu.specs.declared.pdu.Lacpdu.{Lacpdu}
+use Rattle.slowpdu.specs.declared.pdu.Marker.{Marker}
+use Rattle.distributor.specs.declared.assignment.Assignment.{Assignment}
 use Rattle.portmachines.specs.declared.mux.MuxState.{MuxState}
 use Rattle.portmachines.specs.declared.mux.MuxState.TheVariants.{Detached, Waiting, Attached, CollectingDistributing}
 use Rattle.portmachines.specs.declared.receive.ReceiveState.{ReceiveState}
 use Rattle.portmachines.specs.declared.receive.ReceiveState.TheVariants.{Initialize, PortDisabled, Expired, Defaulted, Current}
 use Rattle.portmachines.specs.Machines.{Machines}
-use Rattle.portmachines.specs.Mux.{is_mux, is_selected, is_unselected, mux_rows, partner_synchronized}
+use Rattle.lagtypes.specs.Choices.{is_selected, is_unselected}
+use Rattle.portmachines.specs.Mux.{is_mux, mux_rows, partner_synchronized}
 use Rattle.portmachines.specs.Periodic.{periodic_rows, RunsPeriodic}
 use Rattle.portmachines.specs.Receive.{is_receive, receive_rows, start_receive}
 use Rattle.portmachines.specs.Rows.{Row, Fires, Reaches, Settles}
 use Rattle.portmachines.specs.Start.{Starts, blank}
-use Rattle.portmachines.specs.Transmit.{count_down, sent}
+use Rattle.portmachines.specs.Transmit.{count_down, is_due, sent}
 use Rattle.lagsystem.specs.declared.answers.Heard.{Heard}
-use Rattle.lagsystem.specs.declared.answers.Heard.TheVariants.{Taken, Answered}
+use Rattle.lagsystem.specs.declared.answers.Heard.TheVariants.{Taken, Response, Answered}
 use Rattle.lagsystem.specs.declared.answers.Received.{Received}
+use Rattle.lagsystem.specs.declared.drive.Reply.{Reply}
+use Rattle.lagsystem.specs.declared.drive.Reply.TheVariants as reply
+use Rattle.lagsystem.specs.declared.fault.SystemFault.{SystemFault}
 use Rattle.lagsystem.specs.declared.slots.Slot.{Slot}
 use Rattle.lagsystem.specs.Views.{views}
 use Rattle.lagsystem.specs.State.{State, with_slots, place_of}
 use Rattle.lagsystem.specs.First.{IsFirst, IsNew, setup_of}
 use Rattle.lagsystem.specs.Settling.{Settling, chosen, choose_slot, given, ready_of, takes}
-use Rattle.lagsystem.specs.Calls.{Call, Tick, Set_link, Receive, Configure, Restart, Transmit, Reply, Ticked, Links, Receives, Configures, Restarted, Transmits, AllTick, ChangesLink, ChangesParty, Does, OnPlace, OnPort, Sends, SendsAt, Settled, Takes, changed, Step}
+use Rattle.lagsystem.specs.Offers.{Becomes, Offers, force_answer, move_answer}
+use Rattle.lagsystem.specs.Sending.{SendsAt, SendsMarkerOf, SendsWhere}
+use Rattle.distributor.specs.Changes.{marker_due}
+use Rattle.lagsystem.specs.Calls.{Call, Tick, Set_link, Receive, Configure, Restart, Transmit, Offer, Move_conversation, Force, AllTick, ChangesLink, ChangesParty, Does, LinksPort, OnPlace, OnPort, Releases, Settled, Takes, changed, is_for, Step}
 use Rattle.lagsystem.specs.Shown.{takes_in, awake, steady_of, steady, AreAwake, AreSteady, AreRested}
 use Rattle.lagsystem.proofs.Rising.{all-set, all-get}
 
@@ -113,6 +122,14 @@ chosen_awake : (keys : List Key) (n : ℕ) (slots : List Slot) → AreAwake slot
 chosen_awake keys zero slots a = a
 chosen_awake keys (suc n) slots a = choose_awake keys (chosen keys n slots) n (slice_get (chosen keys n slots) n) refl (chosen_awake keys n slots a)
 
+-- a state that is the same has the same ports
+pub same_slots : (s t : State) → t ≡ s → t.slots ≡ s.slots
+same_slots s t e = ap (λ (x : State). x.slots) e
+
+-- the last step of settling leaves the ports
+pub last_slots : (old new : State) (h : Settling old new) → new.slots ≡ h.2.2.2.2.0.slots
+last_slots old new h = ap (λ (x : State). x.slots) h.2.2.2.2.2.2 ∙ ap (λ (x : State). x.slots) h.2.2.2.2.2.1.frame
+
 -- settling brings every mux machine to rest, and leaves the receive machines
 pub settling_rested : (old new : State) → Settling old new → AreAwake old.slots → AreRested new.slots
 settling_rested old new h a =
@@ -130,7 +147,7 @@ settling_rested old new h a =
       zip_kept _ IsAwake (λ x y m k. periodic_awake x.port y.port m.1 ∙ k) four.slots five.slots h.2.2.2.2.1.0 a4,
       zip_kept _ IsSteady (λ x y m k. periodic_steady x.port y.port m.1 ∙ k) four.slots five.slots h.2.2.2.2.1.0 s4,
     ) in
-    subst (λ (s : State). AreRested s.slots) (sym (h.2.2.2.2.2.2 ∙ h.2.2.2.2.2.1)) r5
+    subst AreRested (sym (last_slots old new h)) r5
 
 -- the own effects
 place_kept : (P : Slot → Type 0) (R : Machines → Machines → Type 0) (o : Option ℕ) (old new : List Slot)
@@ -155,24 +172,46 @@ takes_awake v p q h a = elim h [
 starts_awake : (p q : Machines) → Starts p q → awake q ≡ true
 starts_awake p q h = ap awake h.2 ∙ receive_awake (start_receive p) h.0 h.1
 
-sends_same : {X : Type 0} (g : Machines → X) → ((p : Machines) → g (sent p) ≡ g p) → (max_delay : ℕ) (mac : List ℕ) (p q : Machines) (reply : Option (List ℕ)) → Sends max_delay mac p reply q → g q ≡ g p
-sends_same g k max_delay mac p q None h = ap g h.1
-sends_same g k max_delay mac p q (Some octets) h = ap g h.2 ∙ k p
+-- what has to do with conversations alone leaves the ports
+pub marker_slots : (o : Option ℕ) (port : ℕ) (mac : List ℕ) (old : State) (answer : Option (List ℕ)) (new : State) → SendsMarkerOf o port mac old answer new → new.slots ≡ old.slots
+marker_slots None port mac old answer new h = ap (λ (x : State). x.slots) h.1
+marker_slots (Some id) port mac old answer new h = ap (λ (x : State). x.slots) h.5
 
-sends_kept : (g : Machines → Bool) → ((p : Machines) → g (sent p) ≡ g p) → (max_delay : ℕ) (o : Option ℕ) (reply : Option (List ℕ)) (old new : List Slot) → SendsAt max_delay o reply old new
-    → AllByRecursion (λ x. g x.port ≡ true) old → AllByRecursion (λ x. g x.port ≡ true) new
-sends_kept g k max_delay None reply old new h a = absurd h
-sends_kept g k max_delay (Some i) reply old new h a =
-    subst (AllByRecursion (λ x. g x.port ≡ true)) (sym h.4)
-    (all-set (λ x. g x.port ≡ true) old i (record h.0 { port = h.1 }) a (sends_same g k max_delay h.0.mac h.0.port h.1 reply h.3 ∙ all-get (λ x. g x.port ≡ true) old i h.0 h.2 a))
+pub releases_slots : (b : Bool) (port : ℕ) (m : Marker) (old : State) (answer : Received) (new : State) → Releases b port m old answer new → new.slots ≡ old.slots
+releases_slots false port m old answer new h = ap (λ (x : State). x.slots) h.1
+releases_slots true port m old answer new h = ap (λ (x : State). x.slots) h.2
 
-same_rested : (s t : State) → t ≡ s → AreRested s.slots → AreRested t.slots
-same_rested s t e a = subst (λ (x : State). AreRested x.slots) (sym e) a
+pub offers_slots : (gives : ℕ → ℕ → ℕ → Type 0) (agg : AggId) (octets : List ℕ) (old : State) (answer : Result ℕ SystemFault) (new : State) → Offers gives agg octets old answer new → new.slots ≡ old.slots
+offers_slots gives agg octets old (Ok port) new h = ap (λ (x : State). x.slots) h.2.1
+offers_slots gives agg octets old (Err fault) new h = ap (λ (x : State). x.slots) h.1
 
-does_rested : (heard : Heard) (o : Option ℕ) (old : State) (reply : Received) (new : State) → Does heard o old reply new → AreRested old.slots → AreRested new.slots
-does_rested (Taken v) o old reply new h a =
+pub becomes_slots : (agg : AggId) (conv : ℕ) (state : Result Assignment SystemFault) (old : State) (answer : Result Unit SystemFault) (new : State) → Becomes agg conv state old answer new → new.slots ≡ old.slots
+becomes_slots agg conv (Ok state) old answer new h = ap (λ (x : State). x.slots) h.1.1
+becomes_slots agg conv (Err fault) old answer new h = ap (λ (x : State). x.slots) h.1
+
+-- sending
+where_kept : (g : Machines → Bool) → ((p : Machines) → g (sent p) ≡ g p) → (up due : Bool) (i : ℕ) (slot : Slot) (old : State) (answer : Option (List ℕ)) (new : State) → slice_get old.slots i ≡ Some slot
+    → SendsWhere up due i slot old answer new → AllByRecursion (λ x. g x.port ≡ true) old.slots → AllByRecursion (λ x. g x.port ≡ true) new.slots
+where_kept g k false due i slot old answer new e h a = subst (AllByRecursion (λ x. g x.port ≡ true)) (sym (same_slots old new h.1)) a
+where_kept g k true true i slot old answer new e h a =
+    subst (AllByRecursion (λ x. g x.port ≡ true)) (sym (ap (λ (x : State). x.slots) h.3))
+    (all-set (λ x. g x.port ≡ true) old.slots i (record slot { port = sent slot.port }) a (k slot.port ∙ all-get (λ x. g x.port ≡ true) old.slots i slot e a))
+where_kept g k true false i slot old answer new e h a =
+    subst (AllByRecursion (λ x. g x.port ≡ true)) (sym (marker_slots (marker_due old.table slot.number) slot.number slot.mac old answer new h)) a
+
+sends_kept : (g : Machines → Bool) → ((p : Machines) → g (sent p) ≡ g p) → (o : Option ℕ) (old : State) (answer : Option (List ℕ)) (new : State) → SendsAt o old answer new
+    → AllByRecursion (λ x. g x.port ≡ true) old.slots → AllByRecursion (λ x. g x.port ≡ true) new.slots
+sends_kept g k None old answer new h a = absurd h
+sends_kept g k (Some i) old answer new h a = where_kept g k h.0.port.enabled (is_due h.0.port) i h.0 old answer new h.1 h.2 a
+
+same_rested : (s t : State) → t.slots ≡ s.slots → AreRested s.slots → AreRested t.slots
+same_rested s t e a = subst AreRested (sym e) a
+
+does_rested : (heard : Heard) (port : ℕ) (o : Option ℕ) (old : State) (answer : Received) (new : State) → Does heard port o old answer new → AreRested old.slots → AreRested new.slots
+does_rested (Taken v) port o old answer new h a =
     settled_rested (OnPort o (Takes v)) old new (λ mid own. place_kept IsAwake (Takes v) o old.slots mid.slots (λ s q r k. takes_awake v s.port q r k) own.0 a.0) h.1
-does_rested (Answered answer) o old reply new h a = same_rested old new h.1 a
+does_rested (Response m) port o old answer new h a = same_rested old new (releases_slots (is_for old port m) port m old answer new h) a
+does_rested (Answered heard) port o old answer new h a = same_rested old new (same_slots old new h.1) a
 
 -- the start
 pub first_rested : (s : State) → IsFirst s → AreRested s.slots
@@ -180,25 +219,27 @@ first_rested s h =
     settling_rested (with_slots s h.0) s h.2 (zip_all (IsNew s.system) IsAwake (λ c x m. starts_awake (blank (setup_of s.system c)) x.port m.2) s.ports h.0 h.1)
 
 -- every call leaves the machines at rest
-pub Step-rested : (old : State) (call : Call) (reply : Reply) (new : State) → Step old call reply new → AreRested old.slots → AreRested new.slots
-Step-rested old Tick Ticked new h a =
+pub Step-rested : (gives : ℕ → ℕ → ℕ → Type 0) (old : State) (call : Call) (answer : Reply) (new : State) → Step gives old call answer new → AreRested old.slots → AreRested new.slots
+Step-rested gives old Tick reply.Tick new h a =
     settled_rested AllTick old new (λ mid own. zip_all _ IsAwake (λ x y m. receive_awake (count_down x.port) y.port m.1) old.slots mid.slots own.0) h
-Step-rested old (Set_link n up) (Links (Ok done)) new h a =
+Step-rested gives old (Set_link n up) (reply.SetLink (Ok done)) new h a =
     let o = place_of n old.slots in
-    settled_rested (OnPort o (ChangesLink up)) old new (λ mid own. place_kept IsAwake (ChangesLink up) o old.slots mid.slots (λ s q r k. receive_awake (record s.port { enabled = up }) q r) own.0 a.0) h
-Step-rested old (Set_link n up) (Links (Err fault)) new h a = same_rested old new h.same a
-Step-rested old (Receive n octets) (Receives (Ok reply)) new h a = does_rested h.1 (place_of n old.slots) old reply new h.4 a
-Step-rested old (Receive n octets) (Receives (Err fault)) new h a = same_rested old new h.same a
-Step-rested old (Configure n change) (Configures (Ok true)) new h a =
+    settled_rested (LinksPort n up) old new (λ mid own. place_kept IsAwake (ChangesLink up) o old.slots mid.slots (λ s q r k. receive_awake (record s.port { enabled = up }) q r) own.0 a.0) h
+Step-rested gives old (Set_link n up) (reply.SetLink (Err fault)) new h a = same_rested old new (same_slots old new h.same) a
+Step-rested gives old (Receive n octets) (reply.Receive (Ok answer)) new h a = does_rested h.1 h.0.number (place_of n old.slots) old answer new h.4 a
+Step-rested gives old (Receive n octets) (reply.Receive (Err fault)) new h a = same_rested old new (same_slots old new h.same) a
+Step-rested gives old (Configure n change) (reply.Configure (Ok true)) new h a =
     let o = place_of n old.slots in
     settled_rested (OnPort o (ChangesParty change)) old new (λ mid own. place_kept IsAwake (ChangesParty change) o old.slots mid.slots
     (λ s q r k. starts_awake (record s.port { party = changed change s.port.party }) q r.1) own.0 a.0) h
-Step-rested old (Configure n change) (Configures (Ok false)) new h a = same_rested old new h.1 a
-Step-rested old (Configure n change) (Configures (Err fault)) new h a = same_rested old new h.same a
-Step-rested old Restart Restarted new h a = first_rested new h.1
-Step-rested old (Transmit n) (Transmits (Ok reply)) new h a = (
-  sends_kept awake (λ p. refl) old.max_delay (place_of n old.slots) reply old.slots new.slots h.0 a.0,
-  sends_kept steady (λ p. refl) old.max_delay (place_of n old.slots) reply old.slots new.slots h.0 a.1,
-)
-Step-rested old (Transmit n) (Transmits (Err fault)) new h a = same_rested old new h.same a
-Step-rested old call reply new h a = absurd h
+Step-rested gives old (Configure n change) (reply.Configure (Ok false)) new h a = same_rested old new (same_slots old new h.1) a
+Step-rested gives old (Configure n change) (reply.Configure (Err fault)) new h a = same_rested old new (same_slots old new h.same) a
+Step-rested gives old Restart reply.Restart new h a = first_rested new h.1
+Step-rested gives old (Transmit n) (reply.Transmit (Ok answer)) new h a =
+    (sends_kept awake (λ p. refl) (place_of n old.slots) old answer new h a.0, sends_kept steady (λ p. refl) (place_of n old.slots) old answer new h a.1)
+Step-rested gives old (Transmit n) (reply.Transmit (Err fault)) new h a = same_rested old new (same_slots old new h.same) a
+Step-rested gives old (Offer agg octets) (reply.Offer answer) new h a = same_rested old new (offers_slots gives agg octets old answer new h) a
+Step-rested gives old (Move_conversation agg conv port) (reply.MoveConversation answer) new h a =
+    same_rested old new (becomes_slots agg conv (move_answer old agg conv port) old answer new h) a
+Step-rested gives old (Force agg conv) (reply.Force answer) new h a = same_rested old new (becomes_slots agg conv (force_answer old agg conv) old answer new h) a
+Step-rested gives old call answer new h a = absurd h

@@ -1,5 +1,5 @@
 -- Ports in ascending order of their numbers.
-use Rattle.std.proofs.Common.{◌≡◌, ℕ, zero, suc, ◌+◌, ◌<◌, ◌==◌, Bool, true, false, cond, eqb, List, [], ◌∷◌, Option, Some, None, refl, ◌∙◌, subst, ap, arith, inl, inr}
+use Rattle.std.proofs.Common.{◌≡◌, ℕ, zero, suc, ◌+◌, ◌<◌, ◌==◌, Bool, true, false, cond, eqb, List, [], ◌∷◌, Option, Some, None, refl, sym, ◌∙◌, subst, ap, arith, inl, inr}
 use Rattle.std.specs.Prelude.{find, if◌then◌else◌, nat_lt, option_map, slice_get, slice_set}
 use Rattle.std.specs.List.{AllByRecursion}
 use Rattle.std.proofs.lemmas.Bool.Decides.{Decides-eqb, nat_tests}
@@ -12,7 +12,8 @@ use Rattle.lagsystem.specs.declared.fault.BadConfig.TheVariants.{PortNumber}
 use Rattle.lagsystem.specs.declared.slots.Slot.{Slot}
 use Rattle.lagsystem.specs.First.{misplaced, numbers_of, refusal}
 use Rattle.lagsystem.specs.Shown.{number}
-use Rattle.lagsystem.specs.Sound.{numbers}
+use Rattle.lagsystem.specs.Sound.{HasPorts}
+use Rattle.lagsystem.specs.State.{State, numbers}
 use Rattle.lagsystem.specs.Views.{view_of, views}
 use Rattle.lagtypes.specs.declared.identifiers.Key.{Key}
 use Rattle.selection.specs.declared.view.PortView.{PortView}
@@ -40,6 +41,9 @@ no_place (Some place) e = cc
 
 pub accepted_rises : (keys : List Key) (ports : List PortConfig) → refusal keys ports ≡ None → Rises 0 (numbers_of ports)
 accepted_rises keys ports h = rises 1 0 (numbers_of ports) (no_place (misplaced 1 0 (numbers_of ports)) (if_then _ _ _ (if_then _ _ _ h)))
+
+pub ports_rise : (s : State) → HasPorts s → Rises 0 (numbers s.slots)
+ports_rise s h = subst (λ ns. Rises 0 ns) (sym h.same) (accepted_rises s.keys s.ports h.accepted)
 
 -- no number twice
 not_found : (low n : ℕ) (slots : List Slot) → Rises low (numbers slots) → n < low + 1 → find_number number slots n ≡ None

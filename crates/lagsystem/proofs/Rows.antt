@@ -7,7 +7,8 @@ use Rattle.lagtypes.specs.declared.party.Choice.TheVariants.{Unselected, Selecte
 use Rattle.portmachines.specs.declared.mux.MuxState.TheVariants.{CollectingDistributing}
 use Rattle.portmachines.specs.Machines.{Machines}
 use Rattle.portmachines.specs.Rows.{Row, Fires, Reaches, Settles}
-use Rattle.portmachines.specs.Mux.{mux_rows, is_mux, is_selected, partner_synchronized}
+use Rattle.lagtypes.specs.Choices.{is_selected}
+use Rattle.portmachines.specs.Mux.{mux_rows, is_mux, partner_synchronized}
 use Rattle.portmachines.specs.Periodic.{periodic_rows, RunsPeriodic}
 use Rattle.lagmodel.specs.View.{PortView, Setup, Call}
 use Rattle.lagmodel.specs.Move.{Act, PortMove}

@@ -15,13 +15,13 @@ use Rattle.selection.specs.Choice.{choice, given_to, is_known}
 use Rattle.lagsystem.specs.declared.slots.Slot.{Slot}
 use Rattle.lagsystem.specs.Views.{view_of, views}
 use Rattle.lagsystem.specs.State.{State, with_slots}
-use Rattle.lagsystem.specs.Settling.{AllMove, Moves, Settling, choose_slot, chosen, given, ready_of, takes}
+use Rattle.lagsystem.specs.Settling.{AllMove, Moves, SettlesPorts, choose_slot, chosen, given, ready_of, takes}
 use Rattle.lagsystem.proofs.Lists.{AllZip-weaker}
 
 abbrev one_waiting : List PortView → Bool
 one_waiting seen = list_any (λ v. waits v.stage) seen
 
-or_false : (b c : Bool) → (b || c) ≡ false → (b ≡ false) × (c ≡ false)
+pub or_false : (b c : Bool) → (b || c) ≡ false → (b ≡ false) × (c ≡ false)
 or_false true c h = cc
 or_false false c h = (refl, h)
 
@@ -57,22 +57,18 @@ runs_unready keys olds news none h =
 pub settling_made : (base : State) (keys : List Key) (slots one two four five : List Slot) → base.keys ≡ keys → base.slots ≡ slots
     → AllMove (Settles (mux_rows false)) slots one → two ≡ chosen keys (length one) one
     → AllMove (λ p q. Settles (mux_rows (ready_of keys (views two) p.choice)) p q) two four → AllMove RunsPeriodic four five
-    → Settling base (with_slots base five)
+    → SettlesPorts base (with_slots base five)
 settling_made base keys slots one two four five ek es h1 h2 h4 h5 =
     let k1 : AllMove (Settles (mux_rows false)) base.slots one = subst (λ l. AllMove (Settles (mux_rows false)) l one) (sym es) h1 in
     let k2 : two ≡ chosen base.keys (length one) one = h2 ∙ ap (λ k. chosen k (length one) one) (sym ek) in
     let k4 : AllMove (λ p q. Settles (mux_rows (ready_of base.keys (views two) p.choice)) p q) two four =
     subst (λ k. AllMove (λ p q. Settles (mux_rows (ready_of k (views two) p.choice)) p q) two four) (sym ek) h4 in
-    (with_slots base one, (k1, refl), (with_slots base two, ap (with_slots base) k2, (with_slots base two, refl, (with_slots base four, (k4, refl), (with_slots base five, (h5, refl), (with_slots base five, refl, refl))))))
+    (with_slots base one, (k1, refl), (with_slots base two, ap (with_slots base) k2, (with_slots base two, refl, (with_slots base four, (k4, refl), (with_slots base five, (h5, refl), refl)))))
 
 pub set_same : (slots : List Slot) (i : ℕ) (s : Slot) → slice_get slots i ≡ Some s → slice_set slots i s ≡ slots
 set_same [] i s e = refl
 set_same (x ∷ xs) zero s e = let same : x ≡ s = cc in cc
 set_same (x ∷ xs) (suc i) s e = ap (λ ys. x ∷ ys) (set_same xs i s e)
-
-pub from_not : (b : Bool) → not b ≡ true → b ≡ false
-from_not true h = cc
-from_not false h = refl
 
 pub none_taken : (keys : List Key) (slots : List Slot) (i : ℕ) (s : Slot) → slice_get slots i ≡ Some s → is_eligible (view_of s) ≡ false → slots ≡ choose_slot keys slots i (slice_get slots i)
 none_taken keys slots i s e h =

@@ -7,17 +7,14 @@ use Rattle.lagsystem.specs.declared.answers.Heard.{Heard}
 use Rattle.portmachines.specs.Machines.{Machines}
 use Rattle.lagsystem.specs.declared.slots.Slot.{Slot}
 use Rattle.lagsystem.specs.State.{State, with_slots}
-use Rattle.lagsystem.specs.Settling.{AllMove, EachPort, Settling}
+use Rattle.lagsystem.specs.Settling.{AllMove, EachPort, SettlesPorts}
 use Rattle.lagsystem.specs.Calls.{OnPlace, OnPort, Faulty, Carries, Hears, HearsPayload, HearsWhere}
-
-pub each_made : (R : Machines → Machines → Type 0) (s : State) (olds ws news : List Slot) → olds ≡ s.slots → news ≡ ws → AllMove R olds ws → EachPort R s (with_slots s news)
-each_made R s olds ws news e w h = (subst (λ l. AllMove R l news) e (subst (λ l. AllMove R olds l) (sym w) h), refl)
 
 pub on_port_made : (R : Machines → Machines → Type 0) (place : List Slot → Option ℕ) (s : State) (olds ws news : List Slot) → olds ≡ s.slots → news ≡ ws → OnPlace R (place olds) olds ws → OnPort (place s.slots) R s (with_slots s news)
 on_port_made R place s olds ws news e w h = (subst (λ l. OnPlace R (place l) l news) e (subst (λ l. OnPlace R (place olds) olds l) (sym w) h), refl)
 
-pub settled_made : (s : State) (ws news : List Slot) → news ≡ ws → Settling s (with_slots s ws) → Settling s (with_slots s news)
-settled_made s ws news w h = subst (λ l. Settling s (with_slots s l)) (sym w) h
+pub settled_made : (s : State) (ws news : List Slot) → news ≡ ws → SettlesPorts s (with_slots s ws) → SettlesPorts s (with_slots s news)
+settled_made s ws news w h = subst (λ l. SettlesPorts s (with_slots s l)) (sym w) h
 
 -- what a port makes of a control frame
 pub hears_control : (slot : Slot) (octets payload : List ℕ) (heard : Heard) → slot.port.enabled ≡ true → 14 ≤ length octets → IsSlow octets → payload ≡ drop 14 octets

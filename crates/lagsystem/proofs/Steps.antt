@@ -1,8 +1,10 @@
 -- Each call of a system is a list of free moves.
-use Rattle.std.proofs.Common.{◌≡◌, ℕ, suc, ◌+◌, arith, ◌==◌, Bool, true, false, cond, not, Option, Some, None, Ok, Err, List, [], ◌∷◌, ◌++◌, length, refl, sym, ◌∙◌, subst, ap, inl, inr, IsSome}
-use Rattle.std.specs.Prelude.{◌&&◌, if◌then◌else◌, slice_get, slice_set}
+use Rattle.std.proofs.Common.{◌≡◌, ℕ, suc, ◌+◌, ◌<◌, ◌^◌, arith, ◌==◌, Bool, true, false, cond, not, Option, Some, None, Result, Ok, Err, List, [], ◌∷◌, ◌++◌, length, refl, sym, ◌∙◌, subst, ap, inl, inr, IsSome}
+use Rattle.std.specs.Prelude.{◌&&◌, if◌then◌else◌, is_some, ltb, nat_lt, slice_get, slice_set}
 use Rattle.std.specs.List.{position_or_len}
-use Rattle.std.proofs.lemmas.Bool.{false≢true}
+use Rattle.std.proofs.lemmas.Bool.{false≢true, ltb-true}
+use Rattle.std.proofs.lemmas.Slice.Eq.{bytes_eq-Decides}
+use Rattle.std.specs.Str.{bytes_eq}
 use Rattle.std.proofs.lemmas.Bool.Decides.{Decides-eqb}
 use Rattle.std.proofs.lemmas.Option.{none-some, same_Some}
 use Rattle.lagtypes.specs.declared.identifiers.AggId.{AggId}
@@ -16,27 +18,44 @@ use Rattle.slowpdu.specs.declared.pdu.Pdu.TheVariants as pdu
 use Rattle.slowpdu.specs.Markers.{answer_of}
 use Rattle.portmachines.specs.declared.mux.MuxState.TheVariants.{CollectingDistributing}
 use Rattle.portmachines.specs.Machines.{Machines}
-use Rattle.portmachines.specs.Mux.{is_mux, is_selected, is_synchronized, mux_rows, partner_synchronized}
+use Rattle.lagtypes.specs.Choices.{is_selected}
+use Rattle.portmachines.specs.Mux.{is_mux, is_synchronized, mux_rows, partner_synchronized}
 use Rattle.portmachines.specs.Periodic.{RunsPeriodic}
 use Rattle.portmachines.specs.Receive.{receive_rows}
 use Rattle.portmachines.specs.Rows.{Settles}
-use Rattle.portmachines.specs.Transmit.{count_down, pdu_of, sent}
+use Rattle.portmachines.specs.Transmit.{count_down, is_due, pdu_of, sent}
+use Rattle.distributor.specs.declared.assignment.Assignment.{Assignment}
+use Rattle.distributor.specs.declared.fault.DistFault.{DistFault}
+use Rattle.distributor.specs.declared.fault.DistFault.TheVariants.{NotAssigned}
+use Rattle.distributor.specs.Calls.{forced, moved}
+use Rattle.distributor.specs.Changes.{Changes, Marks, after_release, marker_due, wants_marker}
+use Rattle.distributor.specs.Conversations.{Table, how_many, next_identifier, state_of}
+use Rattle.distributor.specs.Moves.{flows_of}
+use Rattle.distributor.proofs.MoveLemmas.{down_moves, force_moves, mark_moves, move_moves, release_moves, send_moves, tick_moves as conversations_tick}
 use Rattle.lagmodel.specs.View.{Setup, Flows, Lacp, Pdu as Message, Call as Told, Receive as Told_receive, first_view}
-use Rattle.lagmodel.specs.Move.{Act, Sends as Shows, Took, FreeMoves, PortMove, Move}
+use Rattle.lagmodel.specs.Move.{Act, Sends as Shows, Sends_frame, Took, FreeMoves, PortMove, Move}
 use Rattle.lagmodel.proofs.Base.{chosen as whichever}
 use Rattle.lagmodel.proofs.Uses.{moves_joined}
 use Rattle.lagsystem.specs.declared.answers.Heard.{Heard}
-use Rattle.lagsystem.specs.declared.answers.Heard.TheVariants.{Taken, Answered}
+use Rattle.lagsystem.specs.declared.answers.Heard.TheVariants.{Taken, Response, Answered}
 use Rattle.lagsystem.specs.declared.answers.Received.{Received}
-use Rattle.lagsystem.specs.declared.answers.Received.TheVariants.{Disabled, Dropped, Ignored, TookLacpdu, Released, Up}
+use Rattle.lagsystem.specs.declared.answers.Received.TheVariants.{Disabled, Dropped, Ignored, Released, Up}
 use Rattle.lagsystem.specs.declared.slots.Slot.{Slot}
-use Rattle.lagsystem.specs.State.{State, with_slots, place_of, slot_at}
-use Rattle.lagsystem.specs.Settling.{Moves, AllMove, Settling, ready_of}
+use Rattle.lagsystem.specs.State.{State, with_slots, with_table, place_of, slot_at}
+use Rattle.lagsystem.specs.Settling.{Moves, AllMove, Settling, SettlesPorts, ready_of}
 use Rattle.lagsystem.specs.Views.{views}
-use Rattle.lagsystem.specs.Calls.{Call, Tick, Set_link, Receive, Configure, Restart, Transmit, Reply, Ticked, Links, Receives, Configures, Restarted, Transmits, AllTick, AnswersMarker, ChangesLink, ChangesParty, Does, Frame, Runt, Data_frame, Faulty, Carries, HearsWhere, IsFrame, Makes, OnPlace, OnPort, SendsAt, Settled, Takes, collecting, handed, Step}
-use Rattle.lagsystem.specs.Shown.{JoinsViews, Sees, Tells, aggregator_of, awake, configured, flows_of, message_of, marker_message, number, shown, steady, takes_in, view_at, view_of, AreRested}
-use Rattle.lagsystem.specs.Sound.{numbers}
-use Rattle.lagsystem.proofs.Keeps.{Keeps, keeps_each, keeps_place, keeps_settled, settling_keeps}
+use Rattle.lagsystem.specs.declared.drive.Reply.{Reply}
+use Rattle.lagsystem.specs.declared.drive.Reply.TheVariants as reply
+use Rattle.lagsystem.specs.declared.fault.SystemFault.{SystemFault}
+use Rattle.lagsystem.specs.declared.fault.SystemFault.TheVariants.{NoPort, NoAggregator}
+use Rattle.lagsystem.specs.Readers.{collecting, conversation_of, distributing}
+use Rattle.lagsystem.specs.Offers.{Becomes, Offers, force_answer, has_aggregator, in_system, known, move_answer, state_for}
+use Rattle.lagsystem.specs.Sending.{SendsAt, SendsLacpdu, SendsMarkerOf, SendsWhere, own_marker}
+use Rattle.lagsystem.specs.Calls.{Call, Tick, Set_link, Receive, Configure, Restart, Transmit, Offer, Move_conversation, Force, AllTick, AnswersMarker, ChangesLink, ChangesParty, Does, Frame, Runt, Data_frame, Faulty, Carries, Frees, HearsWhere, IsFrame, LinksPort, Makes, OnPlace, OnPort, Releases, Settled, Takes, handed, is_for, Step}
+use Rattle.lagsystem.specs.Shown.{JoinsViews, Sees, Tells, aggregator_of, awake, configured, message_of, marker_message, number, read_as, shown, steady, takes_in, view_at, view_of, AreRested}
+use Rattle.lagsystem.specs.State.{numbers}
+use Rattle.lagsystem.proofs.Conversing.{and_left, and_right, assigned_may, carrying_moves, leaving_moves, table_moves}
+use Rattle.lagsystem.proofs.Keeps.{Keeps, keeps_each, keeps_link, keeps_place, keeps_tick, ports_keep, ports_table, settling_parts}
 use Rattle.lagsystem.proofs.FirstView.{first_shows}
 use Rattle.lagsystem.proofs.Lists.{AllZip-weaker}
 use Rattle.lagsystem.proofs.Rising.{Rises, all-get, are_numbered}
@@ -59,9 +78,9 @@ rising s t k r = subst (λ ns. Rises 0 ns) (sym k.same) r
 fitting : (u : Setup) (s t : State) → Keeps s t → Fits u s.keys → Fits u t.keys
 fitting u s t k fits = subst (λ (x : State). Fits u x.keys) (sym k.frame) fits
 
--- settling
-pub settling_moves : (u : Setup) (call : Told) (f : Flows) (old new : State) → Fits u old.keys → Rises 0 (numbers old.slots) → Settling old new → FreeMoves u call (view_at f old.slots) [] (view_at f new.slots)
-settling_moves u call f old new fits r h =
+-- the steps of settling that look at ports alone
+ports_moves : (u : Setup) (call : Told) (f : Flows) (old new : State) → Fits u old.keys → Rises 0 (numbers old.slots) → SettlesPorts old new → FreeMoves u call (view_at f old.slots) [] (view_at f new.slots)
+ports_moves u call f old new fits r h =
     let one = h.0 in
     let two = h.2.0 in
     let three = h.2.2.0 in
@@ -73,14 +92,12 @@ settling_moves u call f old new fits r h =
     let r1 = rising old one k1 r in
     let m1 = each_moves u call f free (λ n p q x. settles_moves u call n (mux_rows false) (mux_moves u call n false) p q x) old.slots one.slots r h.1.0 in
     let m2 = chosen_moves u call f one.keys one.slots (length one.slots) (fitting u old one k1 fits) r1 in
-    let same : three.slots ≡ (with_slots one three.slots).slots = refl in
     let there : three ≡ two = h.2.2.1 in
     let m3 : FreeMoves u call (view_at f one.slots) [] (view_at f three.slots) = subst (λ (s : State). FreeMoves u call (view_at f one.slots) [] (view_at f s.slots)) (sym (there ∙ h.2.1)) m2 in
-    let whole : Keeps old new = settling_keeps old new h in
-    let last : new ≡ five = h.2.2.2.2.2.2 ∙ h.2.2.2.2.2.1 in
+    let last : new ≡ five = h.2.2.2.2.2 in
+    let n5 : numbers five.slots ≡ numbers old.slots = ap (λ (s : State). numbers s.slots) (sym last) ∙ (ports_keep old new h).same in
     let k5 : Keeps four five = keeps_each RunsPeriodic four five h.2.2.2.2.1 in
     let k4 : Keeps three four = keeps_each ready three four h.2.2.2.1 in
-    let n5 : numbers five.slots ≡ numbers old.slots = ap (λ (s : State). numbers s.slots) (sym last) ∙ whole.same in
     let r4 : Rises 0 (numbers four.slots) = subst (λ ns. Rises 0 ns) (sym (sym k5.same ∙ n5)) r in
     let r3 : Rises 0 (numbers three.slots) = subst (λ ns. Rises 0 ns) (sym (sym k4.same ∙ sym k5.same ∙ n5)) r in
     let m4 = each_moves u call f ready (λ n p q x. let b = ready_of three.keys (views three.slots) p.choice in settles_moves u call n (mux_rows b) (mux_moves u call n b) p q x) three.slots four.slots r3 h.2.2.2.1.0 in
@@ -90,18 +107,34 @@ settling_moves u call f old new fits r h =
     (moves_joined u call (view_at f three.slots) (view_at f four.slots) (view_at f five.slots) [] [] m4 m5)) in
     subst (λ (s : State). FreeMoves u call (view_at f old.slots) [] (view_at f s.slots)) (sym last) all
 
+-- settling
+pub settling_moves : (u : Setup) (call : Told) (old new : State) → Fits u old.keys → Rises 0 (numbers old.slots) → Settling old new → FreeMoves u call (view_of old) [] (view_of new)
+settling_moves u call old new fits r h =
+    let p = settling_parts old new h in
+    let f = flows_of old.table in
+    let ports = subst (λ (t : Table). FreeMoves u call (view_of old) [] (view_at (flows_of t) p.0.slots)) (sym (ports_table old p.0 p.1)) (ports_moves u call f old p.0 fits r p.1) in
+    moves_joined u call (view_of old) (view_of p.0) (view_of new) [] [] ports (leaving_moves u call p.0 new p.2)
+
 append_nil : (l : List Act) → l ++ [] ≡ l
 append_nil [] = refl
 append_nil (x ∷ xs) = ap (λ (l : List Act). x ∷ l) (append_nil xs)
 
-settled_moves : (u : Setup) (call : Told) (f : Flows) (own : State → State → Type 0) (seen : List Act) (s t : State) → Fits u s.keys → Rises 0 (numbers s.slots)
-    → ((mid : State) → own s mid → Keeps s mid) → ((mid : State) → own s mid → FreeMoves u call (view_at f s.slots) seen (view_at f mid.slots))
-    → Settled own s t → FreeMoves u call (view_at f s.slots) seen (view_at f t.slots)
-settled_moves u call f own seen s t fits r keeps moves h =
+settled_moves : (u : Setup) (call : Told) (own : State → State → Type 0) (seen : List Act) (s t : State) → Fits u s.keys → Rises 0 (numbers s.slots)
+    → ((mid : State) → own s mid → Keeps s mid) → ((mid : State) → own s mid → FreeMoves u call (view_of s) seen (view_of mid))
+    → Settled own s t → FreeMoves u call (view_of s) seen (view_of t)
+settled_moves u call own seen s t fits r keeps moves h =
     let k = keeps h.0 h.1 in
-    subst (λ l. FreeMoves u call (view_at f s.slots) l (view_at f t.slots)) (append_nil seen)
-    (moves_joined u call (view_at f s.slots) (view_at f h.0.slots) (view_at f t.slots) seen [] (moves h.0 h.1)
-    (settling_moves u call f h.0 t (fitting u s h.0 k fits) (rising s h.0 k r) h.2))
+    subst (λ l. FreeMoves u call (view_of s) l (view_of t)) (append_nil seen)
+    (moves_joined u call (view_of s) (view_of h.0) (view_of t) seen [] (moves h.0 h.1)
+    (settling_moves u call h.0 t (fitting u s h.0 k fits) (rising s h.0 k r) h.2))
+
+-- ports alone
+slots_moved : (u : Setup) (call : Told) (seen : List Act) (old mid : State) → mid ≡ with_slots old mid.slots → FreeMoves u call (view_of old) seen (view_at (flows_of old.table) mid.slots) → FreeMoves u call (view_of old) seen (view_of mid)
+slots_moved u call seen old mid e h = subst (λ (t : Table). FreeMoves u call (view_of old) seen (view_at (flows_of t) mid.slots)) (sym (ap (λ (s : State). s.table) e)) h
+
+-- conversations alone
+table_moved : (u : Setup) (call : Told) (seen : List Act) (old new : State) → new ≡ with_table old new.table → FreeMoves u call (view_of old) seen (view_at (flows_of new.table) old.slots) → FreeMoves u call (view_of old) seen (view_of new)
+table_moved u call seen old new e h = subst (λ (l : List Slot). FreeMoves u call (view_of old) seen (view_at (flows_of new.table) l)) (sym (ap (λ (s : State). s.slots) e)) h
 
 -- the port at the place of a number has that number
 prefix_step : (n : ℕ) (x : Slot) (xs : List Slot) (k : ℕ) (s : Slot) → (slice_get xs k ≡ Some s → (s.number == n) ≡ true)
@@ -172,13 +205,23 @@ is_member Unselected h = absurd (false≢true h)
 not_both : (v : Lacpdu) (r : Received) → Taken v ≡ Answered r → ⊥
 not_both v r e = cc
 
+not_taken : (v : Lacpdu) (m : Marker) → Taken v ≡ Response m → ⊥
+not_taken v m e = cc
+
+not_answered : (r : Received) (m : Marker) → Answered r ≡ Response m → ⊥
+not_answered r m e = cc
+
 abbrev taken_or : Lacpdu → Heard → Lacpdu
 taken_or d (Taken v) = v
-taken_or d (Answered r) = d
+taken_or d heard = d
 
 abbrev answer_or : Received → Heard → Received
-answer_or d (Taken v) = d
 answer_or d (Answered r) = r
+answer_or d heard = d
+
+abbrev response_or : Marker → Heard → Marker
+response_or d (Response m) = m
+response_or d heard = d
 
 taken_by : (slot : Slot) (octets : List ℕ) (v : Lacpdu) (frame : Frame) → IsFrame octets frame → Makes slot frame (Taken v) → IsFrame octets (Carries (pdu.Lacpdu v))
 taken_by slot octets v Runt h m = absurd (not_both v Dropped m)
@@ -187,20 +230,41 @@ taken_by slot octets v (Faulty fault) h m = absurd (not_both v (Ignored fault) m
 taken_by slot octets v (Carries (pdu.Lacpdu w)) h m = subst (λ x. IsFrame octets (Carries (pdu.Lacpdu x))) (sym (ap (taken_or v) m)) h
 taken_by slot octets v (Carries (pdu.Marker m)) h k = absurd (no_marker (answer_of m.kind m) k)
   where
-    no_marker : (o : Option Marker) → AnswersMarker slot.mac o (Taken v) → ⊥
-    no_marker None e = not_both v (Released 0) e
+    no_marker : (o : Option Marker) → AnswersMarker slot.mac m o (Taken v) → ⊥
+    no_marker None e = not_taken v m e
     no_marker (Some answer) e = not_both v _ e.2
 
 heard_taken : (slot : Slot) (octets : List ℕ) (v : Lacpdu) (b : Bool) → HearsWhere b slot octets (Taken v) → (b ≡ true) × IsFrame octets (Carries (pdu.Lacpdu v))
 heard_taken slot octets v false h = absurd (not_both v Disabled h)
 heard_taken slot octets v true h = (refl, taken_by slot octets v h.0 h.1 h.2)
 
+-- a response came
+not_marked : (m : Marker) (r : Received) → Response m ≡ Answered r → ⊥
+not_marked m r e = not_answered r m (sym e)
+
+is_response : (k : MarkerKind) (m w : Marker) (mac : List ℕ) → m.kind ≡ k → AnswersMarker mac m (answer_of k m) (Response w) → (w ≡ m) × (m.kind ≡ kind.Response)
+is_response kind.Response m w mac e h = (ap (response_or w) h, e)
+is_response kind.Information m w mac e h = absurd (not_marked w _ h.2)
+
+response_by : (slot : Slot) (octets : List ℕ) (w : Marker) (frame : Frame) → IsFrame octets frame → Makes slot frame (Response w) → IsFrame octets (Carries (pdu.Marker w)) × (w.kind ≡ kind.Response)
+response_by slot octets w Runt h m = absurd (not_marked w Dropped m)
+response_by slot octets w Data_frame h m = absurd (not_marked w (handed (collecting slot.port)) m)
+response_by slot octets w (Faulty fault) h m = absurd (not_marked w (Ignored fault) m)
+response_by slot octets w (Carries (pdu.Lacpdu v)) h m = absurd (not_taken v w (sym m))
+response_by slot octets w (Carries (pdu.Marker m)) h a =
+    let x = is_response m.kind m w slot.mac refl a in
+    (subst (λ y. IsFrame octets (Carries (pdu.Marker y))) (sym x.0) h, ap (λ (y : Marker). y.kind) x.0 ∙ x.1)
+
+heard_response : (slot : Slot) (octets : List ℕ) (w : Marker) (b : Bool) → HearsWhere b slot octets (Response w) → IsFrame octets (Carries (pdu.Marker w)) × (w.kind ≡ kind.Response)
+heard_response slot octets w false h = absurd (not_marked w Disabled h)
+heard_response slot octets w true h = response_by slot octets w h.0 h.1 h.2
+
 -- an answer, without effect
 abbrev Tellable : Setup → Flows → ℕ → List ℕ → List Slot → Received → Type 0
 Tellable u f n octets slots answer =
-    (told : Told) × (seen : List Act) × Tells (Receive n octets) told × Sees (Receive n octets) (Receives (Ok answer)) seen × FreeMoves u told (view_at f slots) seen (view_at f slots)
+    (told : Told) × (seen : List Act) × Tells (Receive n octets) told × Sees (Receive n octets) (reply.Receive (Ok answer)) seen × FreeMoves u told (view_at f slots) seen (view_at f slots)
 
-silent : (u : Setup) (f : Flows) (n : ℕ) (octets : List ℕ) (slots : List Slot) (answer : Received) → Sees (Receive n octets) (Receives (Ok answer)) [] → Tellable u f n octets slots answer
+silent : (u : Setup) (f : Flows) (n : ℕ) (octets : List ℕ) (slots : List Slot) (answer : Received) → Sees (Receive n octets) (reply.Receive (Ok answer)) [] → Tellable u f n octets slots answer
 silent u f n octets slots answer s = (Told_receive n None, [], (None, tt, refl), s, ([], tt, refl, refl))
 
 handed_silently : (u : Setup) (f : Flows) (n : ℕ) (octets : List ℕ) (slots : List Slot) (o : Option AggId) → Tellable u f n octets slots (handed o)
@@ -209,8 +273,8 @@ handed_silently u f n octets slots (Some agg) = silent u f n octets slots (Up ag
 
 -- a marker is answered
 responds : (u : Setup) (f : Flows) (n i : ℕ) (octets : List ℕ) (slots : List Slot) (slot : Slot) (m : Marker) (k : MarkerKind) (answer : Received) → Rises 0 (numbers slots) → place_of n slots ≡ Some i → slice_get slots i ≡ Some slot
-    → m.kind ≡ k → IsFrame octets (Carries (pdu.Marker m)) → AnswersMarker slot.mac (answer_of k m) (Answered answer) → Tellable u f n octets slots answer
-responds u f n i octets slots slot m kind.Response answer r e g is h a = subst (Tellable u f n octets slots) (sym (ap (answer_or answer) a)) (silent u f n octets slots (Released 0) refl)
+    → m.kind ≡ k → IsFrame octets (Carries (pdu.Marker m)) → AnswersMarker slot.mac m (answer_of k m) (Answered answer) → Tellable u f n octets slots answer
+responds u f n i octets slots slot m kind.Response answer r e g is h a = absurd (not_answered answer m a)
 responds u f n i octets slots slot m kind.Information answer r e g is h a =
     let call = Told_receive n (Some (Message.Marker m.system m.port m.id)) in
     let seen : List Act = Shows n (Message.Response m.system m.port m.id) ∷ [] in
@@ -238,105 +302,223 @@ heard_answer : (u : Setup) (f : Flows) (n i : ℕ) (octets : List ℕ) (slots : 
 heard_answer u f n i octets slots slot answer false r e g h = subst (Tellable u f n octets slots) (sym (ap (answer_or answer) h)) (silent u f n octets slots Disabled refl)
 heard_answer u f n i octets slots slot answer true r e g h = answered_by u f n i octets slots slot answer h.0 r e g h.1 h.2
 
--- views of a state and of one with other ports
-abbrev Joins : State → Call → Reply → List Slot → Type 0
-Joins old call reply slots =
-    (told : Told) × (seen : List Act) × Tells call told × Sees call reply seen × FreeMoves (configured old) told (view_of old) seen (view_at (flows_of old) slots)
+-- a frame without effect
+nothing : (old : State) (call : Call) (answer : Reply) (new : State) (told : Told) → Tells call told → Sees call answer [] → new ≡ old → JoinsViews old call answer new
+nothing old call answer new told t s e = (told, [], t, s, ([], tt, refl, ap view_of e))
 
-whole : (old : State) (call : Call) (reply : Reply) (new : State) → new ≡ with_slots old new.slots → Joins old call reply new.slots → JoinsViews old call reply new
-whole old call reply new frame j =
-    (j.0, j.1, j.2, j.3, subst (λ (s : State). FreeMoves (configured old) j.0 (view_of old) j.1 (view_of s)) (sym frame) j.4)
+-- a response for this system frees what waits for it
+names_us : (s : State) (n : ℕ) (m : Marker) → is_for s n m ≡ true → (m.port ≡ n) × (m.system ≡ s.system.mac)
+names_us s n m h = (
+  (Decides-eqb m.port n).0 (and_left (m.port == n) (bytes_eq m.system s.system.mac) h),
+  (bytes_eq-Decides m.system s.system.mac).0 (and_right (m.port == n) (bytes_eq m.system s.system.mac) h),
+)
 
-receives : (old : State) (n : ℕ) (octets : List ℕ) (slot : Slot) (heard : Heard) (reply : Received) (new : State) (i : ℕ) → Rises 0 (numbers old.slots) → AreRested old.slots
-    → place_of n old.slots ≡ Some i → slice_get old.slots i ≡ Some slot → HearsWhere slot.port.enabled slot octets heard → Does heard (Some i) old reply new → JoinsViews old (Receive n octets) (Receives (Ok reply)) new
-receives old n octets slot (Taken v) reply new i r rested e g h d =
+releases : (b : Bool) (n port : ℕ) (octets : List ℕ) (m : Marker) (old : State) (answer : Received) (new : State) → port ≡ n → is_for old port m ≡ b → IsFrame octets (Carries (pdu.Marker m)) → m.kind ≡ kind.Response
+    → Releases b port m old answer new → JoinsViews old (Receive n octets) (reply.Receive (Ok answer)) new
+releases false n port octets m old answer new p b is k h =
+    subst (λ a. JoinsViews old (Receive n octets) (reply.Receive (Ok a)) new) (sym h.0)
+    (nothing old (Receive n octets) (reply.Receive (Ok (Released 0))) new (Told_receive n None) (None, tt, refl) refl h.1)
+releases true n port octets m old answer new p b is k h =
+    let u = configured old in
+    let mac = old.system.mac in
+    let us = names_us old port m b in
+    let call = Told_receive n (Some (Message.Response mac n m.id)) in
+    let brought : Message.Response mac n m.id ≡ read_as (pdu.Marker m) =
+    (λ i. Message.Response (sym us.1 i) (sym (us.0 ∙ p) i) m.id) ∙ ap (λ k. marker_message k m) (sym k) in
+    let moves = release_moves mac old.table new.table n m.id (subst (λ q. Changes old.table new.table (after_release q m.id)) p h.1) in
+    let all = table_moved u call [] old new h.2 (table_moves u call old.slots old.table new.table [] moves) in
+    subst (λ a. JoinsViews old (Receive n octets) (reply.Receive (Ok a)) new) (sym h.0)
+    (call, [], (Some (Message.Response mac n m.id), (pdu.Marker m, is, brought), refl), refl, all)
+
+receives : (old : State) (n : ℕ) (octets : List ℕ) (slot : Slot) (heard : Heard) (answer : Received) (new : State) (i : ℕ) → Rises 0 (numbers old.slots) → AreRested old.slots
+    → place_of n old.slots ≡ Some i → slice_get old.slots i ≡ Some slot → HearsWhere slot.port.enabled slot octets heard → Does heard slot.number (Some i) old answer new → JoinsViews old (Receive n octets) (reply.Receive (Ok answer)) new
+receives old n octets slot (Taken v) answer new i r rested e g h d =
     let x = heard_taken slot octets v slot.port.enabled h in
     let u = configured old in
-    let f = flows_of old in
+    let f = flows_of old.table in
     let call = Told_receive n (Some (Lacp (message_of v))) in
     let seen : List Act = Took n (message_of v) ∷ [] in
-    let one : (mid : State) → OnPort (Some i) (Takes v) old mid → FreeMoves u call (view_at f old.slots) seen (view_at f mid.slots) =
+    let one : (mid : State) → OnPort (Some i) (Takes v) old mid → FreeMoves u call (view_of old) seen (view_of mid) =
     λ mid own.
     let same : slot ≡ own.0.0 = same_Some slot own.0.0 (sym g ∙ own.0.2) in
     let up : own.0.0.port.enabled ≡ true = subst (λ (y : Slot). y.port.enabled ≡ true) same x.0 in
     let quietly = takes_moves u n v own.0.0.port own.0.1 up (all-get (λ y. awake y.port ≡ true) old.slots i own.0.0 own.0.2 rested.0) own.0.3 in
-    subst (λ l. FreeMoves u call (view_at f old.slots) seen (view_at f l)) (sym own.0.4) (one_moves u call f n i old.slots own.0.0 own.0.1 seen r e own.0.2 quietly) in
-    let moves = settled_moves u call f (OnPort (Some i) (Takes v)) seen old new (λ g. refl) r (λ mid own. keeps_place (Takes v) (Some i) old mid own) one d.1 in
-    subst (λ a. JoinsViews old (Receive n octets) (Receives (Ok a)) new) (sym d.0)
-    (whole old (Receive n octets) (Receives (Ok TookLacpdu)) new (keeps_settled (OnPort (Some i) (Takes v)) old new (λ mid own. keeps_place (Takes v) (Some i) old mid own) d.1).frame
-    (call, seen, (Some (Lacp (message_of v)), (pdu.Lacpdu v, x.1, refl), refl), (v, x.1, refl), moves))
-receives old n octets slot (Answered answer) reply new i r rested e g h d =
-    let t = heard_answer (configured old) (flows_of old) n i octets old.slots slot answer slot.port.enabled r e g h in
-    subst (λ (s : State). JoinsViews old (Receive n octets) (Receives (Ok reply)) s) (sym d.1) (subst (λ a. JoinsViews old (Receive n octets) (Receives (Ok a)) old) (sym d.0) t)
+    slots_moved u call seen old mid own.1 (subst (λ l. FreeMoves u call (view_at f old.slots) seen (view_at f l)) (sym own.0.4) (one_moves u call f n i old.slots own.0.0 own.0.1 seen r e own.0.2 quietly)) in
+    let moves = settled_moves u call (OnPort (Some i) (Takes v)) seen old new (λ g. refl) r (λ mid own. keeps_place (Takes v) (Some i) old mid own) one d.1 in
+    subst (λ a. JoinsViews old (Receive n octets) (reply.Receive (Ok a)) new) (sym d.0)
+    (call, seen, (Some (Lacp (message_of v)), (pdu.Lacpdu v, x.1, refl), refl), (v, x.1, refl), moves)
+receives old n octets slot (Response m) answer new i r rested e g h d =
+    let x = heard_response slot octets m slot.port.enabled h in
+    releases (is_for old slot.number m) n slot.number octets m old answer new (found_place n old.slots i slot e g) refl x.0 x.1 d
+receives old n octets slot (Answered a) answer new i r rested e g h d =
+    let t = heard_answer (configured old) (flows_of old.table) n i octets old.slots slot a slot.port.enabled r e g h in
+    subst (λ (s : State). JoinsViews old (Receive n octets) (reply.Receive (Ok answer)) s) (sym d.1) (subst (λ a. JoinsViews old (Receive n octets) (reply.Receive (Ok a)) old) (sym d.0) t)
+
+receives_place : (old : State) (n : ℕ) (octets : List ℕ) (slot : Slot) (heard : Heard) (answer : Received) (new : State) (o : Option ℕ) → Rises 0 (numbers old.slots) → AreRested old.slots
+    → place_of n old.slots ≡ o → slot_at o old.slots ≡ Some slot → HearsWhere slot.port.enabled slot octets heard → Does heard slot.number o old answer new → JoinsViews old (Receive n octets) (reply.Receive (Ok answer)) new
+receives_place old n octets slot heard answer new None r rested e g h d = absurd (none-some slot g)
+receives_place old n octets slot heard answer new (Some i) r rested e g h d = receives old n octets slot heard answer new i r rested e g h d
 
 -- what is sent
-sends_on : (old : State) (n i : ℕ) (reply : Option (List ℕ)) (new : State) → Rises 0 (numbers old.slots) → AreRested old.slots → place_of n old.slots ≡ Some i
-    → SendsAt old.max_delay (Some i) reply old.slots new.slots → Joins old (Transmit n) (Transmits (Ok reply)) new.slots
-sends_on old n i None new r rested e h =
-    let slot = h.0 in
-    let same : new.slots ≡ old.slots = h.4 ∙ ap (λ (p : Machines). slice_set old.slots i (record slot { port = p })) h.3.1 ∙ set_same old.slots i slot h.2 in
-    (Told.Transmit, [], refl, refl, ([], tt, refl, ap (view_at (flows_of old)) same))
-sends_on old n i (Some octets) new r rested e h =
-    let slot = h.0 in
+sends_lacpdu : (old : State) (n i : ℕ) (slot : Slot) (answer : Option (List ℕ)) (new : State) → Rises 0 (numbers old.slots) → AreRested old.slots → place_of n old.slots ≡ Some i → slice_get old.slots i ≡ Some slot
+    → SendsLacpdu i slot old answer new → JoinsViews old (Transmit n) (reply.Transmit (Ok answer)) new
+sends_lacpdu old n i slot answer new r rested e g h =
     let p = slot.port in
     let v = pdu_of p old.max_delay in
     let seen : List Act = Shows n (Lacp (message_of v)) ∷ [] in
     let u = configured old in
-    let f = flows_of old in
-    let member = all-get (λ y. steady y.port ≡ true) old.slots i slot h.2 rested.1 in
+    let f = flows_of old.table in
+    let member = all-get (λ y. steady y.port ≡ true) old.slots i slot g rested.1 in
     let quietly = sending u Told.Transmit n old.max_delay p refl
     (λ says. is_member p.choice (where_member (is_synchronized p.mux) (is_selected p.choice) (if is_mux CollectingDistributing p.mux then partner_synchronized p else true) member says)) in
-    let moves = one_moves u Told.Transmit f n i old.slots slot (sent p) seen r e h.2 quietly in
-    let same : new.slots ≡ slice_set old.slots i (record slot { port = sent p }) = h.4 ∙ ap (λ (q : Machines). slice_set old.slots i (record slot { port = q })) h.3.2 in
-    (Told.Transmit, seen, refl, (v, (slot.mac, h.3.1.0, h.3.1.1, h.3.1.2), refl), subst (λ l. FreeMoves u Told.Transmit (view_of old) seen (view_at f l)) (sym same) moves)
+    let moves = one_moves u Told.Transmit f n i old.slots slot (sent p) seen r e g quietly in
+    let whole = subst (λ (s : State). FreeMoves u Told.Transmit (view_of old) seen (view_of s)) (sym h.3) moves in
+    subst (λ a. JoinsViews old (Transmit n) (reply.Transmit (Ok a)) new) (sym h.2)
+    (Told.Transmit, seen, refl, (pdu.Lacpdu v, (slot.mac, h.1.0, h.1.2, h.1.3), refl), whole)
 
-sends_place : (old : State) (n : ℕ) (o : Option ℕ) (reply : Option (List ℕ)) (new : State) → Rises 0 (numbers old.slots) → AreRested old.slots → place_of n old.slots ≡ o
-    → SendsAt old.max_delay o reply old.slots new.slots → Joins old (Transmit n) (Transmits (Ok reply)) new.slots
-sends_place old n None reply new r rested e h = absurd h
-sends_place old n (Some i) reply new r rested e h = sends_on old n i reply new r rested e h
+below : (o : Option ℕ) (b : Bool) (n id : ℕ) → cond b (cond (ltb n (2 ^ 32)) (Some n) None) None ≡ Some id → id < 2 ^ 32
+below o false n id e = absurd (none-some id e)
+below o true n id e = fits (ltb n (2 ^ 32)) refl e
+  where
+    fits : (b : Bool) → ltb n (2 ^ 32) ≡ b → cond b (Some n) None ≡ Some id → id < 2 ^ 32
+    fits true t x = subst (λ m. m < 2 ^ 32) (same_Some n id x) (ltb-true n (2 ^ 32) t)
+    fits false t x = absurd (none-some id x)
 
-receives_place : (old : State) (n : ℕ) (octets : List ℕ) (slot : Slot) (heard : Heard) (reply : Received) (new : State) (o : Option ℕ) → Rises 0 (numbers old.slots) → AreRested old.slots
-    → place_of n old.slots ≡ o → slot_at o old.slots ≡ Some slot → HearsWhere slot.port.enabled slot octets heard → Does heard o old reply new → JoinsViews old (Receive n octets) (Receives (Ok reply)) new
-receives_place old n octets slot heard reply new None r rested e g h d = absurd (none-some slot g)
-receives_place old n octets slot heard reply new (Some i) r rested e g h d = receives old n octets slot heard reply new i r rested e g h d
+sends_marker : (o : Option ℕ) (old : State) (n port : ℕ) (mac : List ℕ) (answer : Option (List ℕ)) (new : State) → marker_due old.table port ≡ o → port ≡ n
+    → SendsMarkerOf o port mac old answer new → JoinsViews old (Transmit n) (reply.Transmit (Ok answer)) new
+sends_marker None old n port mac answer new d p h =
+    subst (λ a. JoinsViews old (Transmit n) (reply.Transmit (Ok a)) new) (sym h.0) (nothing old (Transmit n) (reply.Transmit (Ok None)) new Told.Transmit refl refl h.1)
+sends_marker (Some id) old n port mac answer new d p h =
+    let u = configured old in
+    let m = own_marker old port id in
+    let seen : List Act = Shows n (Message.Marker old.system.mac n id) ∷ [] in
+    let fits : id < 2 ^ 32 = below None (ltb 0 (how_many (wants_marker port) old.table)) old.table.next id d in
+    let moves = mark_moves old.system.mac Told.Transmit old.table new.table n id refl fits (subst (λ q. Marks old.table new.table q id) p h.4) in
+    let all = table_moved u Told.Transmit seen old new h.5 (table_moves u Told.Transmit old.slots old.table new.table seen moves) in
+    let told : Shows n (Message.Marker old.system.mac n id) ∷ [] ≡ Shows n (read_as (pdu.Marker m)) ∷ [] = λ i. Shows n (Message.Marker old.system.mac (sym p i) id) ∷ [] in
+    subst (λ a. JoinsViews old (Transmit n) (reply.Transmit (Ok a)) new) (sym h.3)
+    (Told.Transmit, seen, refl, (pdu.Marker m, (mac, h.0, h.2, refl), told), all)
 
-nothing : (old : State) (call : Call) (reply : Reply) (new : State) (told : Told) → Tells call told → Sees call reply [] → new ≡ old → JoinsViews old call reply new
-nothing old call reply new told t s e = (told, [], t, s, ([], tt, refl, ap view_of e))
+sends_where : (up due : Bool) (old : State) (n i : ℕ) (slot : Slot) (answer : Option (List ℕ)) (new : State) → Rises 0 (numbers old.slots) → AreRested old.slots → place_of n old.slots ≡ Some i → slice_get old.slots i ≡ Some slot
+    → SendsWhere up due i slot old answer new → JoinsViews old (Transmit n) (reply.Transmit (Ok answer)) new
+sends_where false due old n i slot answer new r rested e g h =
+    subst (λ a. JoinsViews old (Transmit n) (reply.Transmit (Ok a)) new) (sym h.0) (nothing old (Transmit n) (reply.Transmit (Ok None)) new Told.Transmit refl refl h.1)
+sends_where true true old n i slot answer new r rested e g h = sends_lacpdu old n i slot answer new r rested e g h
+sends_where true false old n i slot answer new r rested e g h =
+    sends_marker (marker_due old.table slot.number) old n slot.number slot.mac answer new refl (found_place n old.slots i slot e g) h
+
+sends_place : (old : State) (n : ℕ) (o : Option ℕ) (answer : Option (List ℕ)) (new : State) → Rises 0 (numbers old.slots) → AreRested old.slots → place_of n old.slots ≡ o
+    → SendsAt o old answer new → JoinsViews old (Transmit n) (reply.Transmit (Ok answer)) new
+sends_place old n None answer new r rested e h = absurd h
+sends_place old n (Some i) answer new r rested e h = sends_where h.0.port.enabled (is_due h.0.port) old n i h.0 answer new r rested e h.1 h.2
+
+-- what becomes of a conversation
+offers : (gives : ℕ → ℕ → ℕ → Type 0) (agg : AggId) (octets : List ℕ) (old : State) (answer : Result ℕ SystemFault) (new : State) → Rises 0 (numbers old.slots) → AreRested old.slots
+    → Offers gives agg octets old answer new → JoinsViews old (Offer agg octets) (reply.Offer answer) new
+offers gives agg octets old (Ok port) new r rested h =
+    let u = configured old in
+    let conv = conversation_of octets in
+    let ports = distributing agg old.slots in
+    let may = assigned_may gives conv ports (state_for old agg octets) port h.1 in
+    let seen : List Act = Sends_frame port agg.0 conv ∷ [] in
+    let moves = send_moves old.system.mac Told.Offer old.table new.table agg.0 conv port ports refl may h.2.0 in
+    (Told.Offer, seen, refl, refl, table_moved u Told.Offer seen old new h.2.1 (carrying_moves u Told.Offer agg old.slots old.table new.table seen r rested.1 moves))
+offers gives agg octets old (Err fault) new r rested h = nothing old (Offer agg octets) (reply.Offer (Err fault)) new Told.Offer refl refl h.1
+
+if_ok : (b : Bool) (x : Result Assignment SystemFault) (fault : SystemFault) (s : Assignment) → (if b then x else Err fault) ≡ Ok s → x ≡ Ok s
+if_ok true x fault s e = e
+if_ok false x fault s e = absurd cc
+
+known_ok : (b : Bool) (x : Result Assignment DistFault) (fault : DistFault) (s : Assignment) → in_system (if b then x else Err fault) ≡ Ok s → x ≡ Ok s
+known_ok true (Ok a) fault s e = let same : a ≡ s = cc in ap Ok same
+known_ok true (Err f) fault s e = absurd cc
+known_ok false x fault s e = absurd cc
+
+-- what a conversation that is moved, or freed by force, becomes
+pub moved_to : (agg : AggId) (conv port : ℕ) (old : State) (s : Assignment) → move_answer old agg conv port ≡ Ok s → moved (next_identifier old.table) (distributing agg old.slots) port (state_of old.table agg.0 conv) ≡ Ok s
+moved_to agg conv port old s e =
+    let answer : Result Assignment DistFault = moved (next_identifier old.table) (distributing agg old.slots) port (state_of old.table agg.0 conv) in
+    let inner : Result Assignment SystemFault = in_system (known conv answer) in
+    known_ok (nat_lt conv 256) answer NotAssigned s
+    (if_ok (is_some (place_of port old.slots)) inner NoPort s
+    (if_ok (has_aggregator old agg) (if is_some (place_of port old.slots) then inner else Err NoPort) NoAggregator s e))
+
+pub forced_to : (agg : AggId) (conv : ℕ) (old : State) (s : Assignment) → force_answer old agg conv ≡ Ok s → forced (state_of old.table agg.0 conv) ≡ Ok s
+forced_to agg conv old s e =
+    let answer : Result Assignment DistFault = forced (state_of old.table agg.0 conv) in
+    known_ok (nat_lt conv 256) answer NotAssigned s (if_ok (has_aggregator old agg) (in_system (known conv answer)) NoAggregator s e)
+
+moves_conversation : (agg : AggId) (conv port : ℕ) (what : Result Assignment SystemFault) (old : State) (answer : Result Unit SystemFault) (new : State) → move_answer old agg conv port ≡ what
+    → Becomes agg conv what old answer new → JoinsViews old (Move_conversation agg conv port) (reply.MoveConversation answer) new
+moves_conversation agg conv port (Ok s) old answer new e h =
+    let u = configured old in
+    let call = Told.Move_conversation in
+    let moves = move_moves old.system.mac call old.table new.table agg.0 conv port (next_identifier old.table) (distributing agg old.slots) s (moved_to agg conv port old s e) h.1.0 in
+    subst (λ a. JoinsViews old (Move_conversation agg conv port) (reply.MoveConversation a) new) (sym h.0)
+    (call, [], refl, refl, table_moved u call [] old new h.1.1 (table_moves u call old.slots old.table new.table [] moves))
+moves_conversation agg conv port (Err fault) old answer new e h =
+    subst (λ a. JoinsViews old (Move_conversation agg conv port) (reply.MoveConversation a) new) (sym h.0)
+    (nothing old (Move_conversation agg conv port) (reply.MoveConversation (Err fault)) new Told.Move_conversation refl refl h.1)
+
+forces : (agg : AggId) (conv : ℕ) (what : Result Assignment SystemFault) (old : State) (answer : Result Unit SystemFault) (new : State) → force_answer old agg conv ≡ what
+    → Becomes agg conv what old answer new → JoinsViews old (Force agg conv) (reply.Force answer) new
+forces agg conv (Ok s) old answer new e h =
+    let u = configured old in
+    let call = Told.Force agg.0 conv in
+    let moves = force_moves old.system.mac old.table new.table agg.0 conv s (forced_to agg conv old s e) h.1.0 in
+    subst (λ a. JoinsViews old (Force agg conv) (reply.Force a) new) (sym h.0)
+    (call, [], refl, refl, table_moved u call [] old new h.1.1 (table_moves u call old.slots old.table new.table [] moves))
+forces agg conv (Err fault) old answer new e h =
+    subst (λ a. JoinsViews old (Force agg conv) (reply.Force a) new) (sym h.0)
+    (nothing old (Force agg conv) (reply.Force (Err fault)) new (Told.Force agg.0 conv) refl refl h.1)
+
+-- the own effects of a tick and of a link
+ticks : (u : Setup) (old mid : State) → Rises 0 (numbers old.slots) → AllTick old mid → FreeMoves u Told.Tick (view_of old) [] (view_of mid)
+ticks u old mid r h =
+    let f = flows_of old.table in
+    let own : Machines → Machines → Type 0 = λ p q. Settles receive_rows (count_down p) q in
+    let ports = each_moves u Told.Tick f own (λ n p q y. tick_moves u Told.Tick n p q y) old.slots mid.slots r h.0 in
+    moves_joined u Told.Tick (view_of old) (view_at f mid.slots) (view_of mid) [] [] ports
+    (table_moves u Told.Tick mid.slots old.table mid.table [] (conversations_tick u.system.mac Told.Tick old.table mid.table h.1))
+
+frees : (u : Setup) (n : ℕ) (up : Bool) (slots : List Slot) (t new : Table) → Frees up n t new → FreeMoves u (Told.Set_link n up) (view_at (flows_of t) slots) [] (view_at (flows_of new) slots)
+frees u n true slots t new h = ([], tt, refl, ap (λ (x : Table). view_at (flows_of x) slots) h)
+frees u n false slots t new h = table_moves u (Told.Set_link n false) slots t new [] (down_moves u.system.mac t new n h)
+
+links : (u : Setup) (n : ℕ) (up : Bool) (old mid : State) → Rises 0 (numbers old.slots) → LinksPort n up old mid → FreeMoves u (Told.Set_link n up) (view_of old) [] (view_of mid)
+links u n up old mid r h =
+    let call = Told.Set_link n up in
+    let f = flows_of old.table in
+    let ports = place_moves u call f (ChangesLink up) n old.slots mid.slots [] r (λ s q i at y. links_moves u call n up s.port q y) (place_of n old.slots) refl h.0 in
+    moves_joined u call (view_of old) (view_at f mid.slots) (view_of mid) [] [] ports (frees u n up mid.slots old.table mid.table h.1)
 
 -- a call joins the views
-pub Step-joins : (old : State) (call : Call) (reply : Reply) (new : State) → Rises 0 (numbers old.slots) → AreRested old.slots
-    → Step old call reply new → JoinsViews old call reply new
-Step-joins old Tick Ticked new r rested h =
+pub Step-joins : (gives : ℕ → ℕ → ℕ → Type 0) (old : State) (call : Call) (answer : Reply) (new : State) → Rises 0 (numbers old.slots) → AreRested old.slots
+    → Step gives old call answer new → JoinsViews old call answer new
+Step-joins gives old Tick reply.Tick new r rested h =
     let u = configured old in
-    let f = flows_of old in
-    let own : Machines → Machines → Type 0 = λ p q. Settles receive_rows (count_down p) q in
-    let keeps : (mid : State) → AllTick old mid → Keeps old mid = λ mid x. keeps_each own old mid x in
-    let moves = settled_moves u Told.Tick f AllTick [] old new (λ g. refl) r keeps (λ mid x. each_moves u Told.Tick f own (λ n p q y. tick_moves u Told.Tick n p q y) old.slots mid.slots r x.0) h in
-    whole old Tick Ticked new (keeps_settled AllTick old new keeps h).frame (Told.Tick, [], refl, refl, moves)
-Step-joins old (Set_link n up) (Links (Ok done)) new r rested h =
+    (Told.Tick, [], refl, refl, settled_moves u Told.Tick AllTick [] old new (λ g. refl) r (λ mid x. keeps_tick old mid x) (λ mid x. ticks u old mid r x) h)
+Step-joins gives old (Set_link n up) (reply.SetLink (Ok done)) new r rested h =
     let u = configured old in
-    let f = flows_of old in
-    let o = place_of n old.slots in
     let call = Told.Set_link n up in
-    let keeps : (mid : State) → OnPort o (ChangesLink up) old mid → Keeps old mid = λ mid x. keeps_place (ChangesLink up) o old mid x in
-    let moves = settled_moves u call f (OnPort o (ChangesLink up)) [] old new (λ g. refl) r keeps
-    (λ mid x. place_moves u call f (ChangesLink up) n old.slots mid.slots [] r (λ s q i at y. links_moves u call n up s.port q y) o refl x.0) h in
-    whole old (Set_link n up) (Links (Ok done)) new (keeps_settled (OnPort o (ChangesLink up)) old new keeps h).frame (call, [], refl, refl, moves)
-Step-joins old (Set_link n up) (Links (Err fault)) new r rested h = nothing old (Set_link n up) (Links (Err fault)) new (Told.Set_link n up) refl refl h.same
-Step-joins old (Receive n octets) (Receives (Ok reply)) new r rested h = receives_place old n octets h.0 h.1 reply new (place_of n old.slots) r rested refl h.2 h.3 h.4
-Step-joins old (Receive n octets) (Receives (Err fault)) new r rested h = nothing old (Receive n octets) (Receives (Err fault)) new (Told_receive n None) (None, tt, refl) refl h.same
-Step-joins old (Configure n change) (Configures (Ok true)) new r rested h =
+    (call, [], refl, refl, settled_moves u call (LinksPort n up) [] old new (λ g. refl) r (λ mid x. keeps_link n up old mid x) (λ mid x. links u n up old mid r x) h)
+Step-joins gives old (Set_link n up) (reply.SetLink (Err fault)) new r rested h = nothing old (Set_link n up) (reply.SetLink (Err fault)) new (Told.Set_link n up) refl refl h.same
+Step-joins gives old (Receive n octets) (reply.Receive (Ok answer)) new r rested h = receives_place old n octets h.0 h.1 answer new (place_of n old.slots) r rested refl h.2 h.3 h.4
+Step-joins gives old (Receive n octets) (reply.Receive (Err fault)) new r rested h = nothing old (Receive n octets) (reply.Receive (Err fault)) new (Told_receive n None) (None, tt, refl) refl h.same
+Step-joins gives old (Configure n change) (reply.Configure (Ok true)) new r rested h =
     let u = configured old in
-    let f = flows_of old in
+    let f = flows_of old.table in
     let o = place_of n old.slots in
-    let keeps : (mid : State) → OnPort o (ChangesParty change) old mid → Keeps old mid = λ mid x. keeps_place (ChangesParty change) o old mid x in
-    let moves = settled_moves u Told.Configure f (OnPort o (ChangesParty change)) [] old new (λ g. refl) r keeps
-    (λ mid x. place_moves u Told.Configure f (ChangesParty change) n old.slots mid.slots [] r (λ s q i at y. configures_moves u n change s.port q y) o refl x.0) h in
-    whole old (Configure n change) (Configures (Ok true)) new (keeps_settled (OnPort o (ChangesParty change)) old new keeps h).frame (Told.Configure, [], refl, refl, moves)
-Step-joins old (Configure n change) (Configures (Ok false)) new r rested h = nothing old (Configure n change) (Configures (Ok false)) new Told.Configure refl refl h.1
-Step-joins old (Configure n change) (Configures (Err fault)) new r rested h = nothing old (Configure n change) (Configures (Err fault)) new Told.Configure refl refl h.same
-Step-joins old Restart Restarted new r rested h = (Told.Restart, [], refl, refl, (Move.Restart ∷ [], (refl, tt), refl, first_shows new h.1 ∙ ap (λ (s : State). first_view (configured s)) h.0))
-Step-joins old (Transmit n) (Transmits (Ok reply)) new r rested h =
-    whole old (Transmit n) (Transmits (Ok reply)) new h.1 (sends_place old n (place_of n old.slots) reply new r rested refl h.0)
-Step-joins old (Transmit n) (Transmits (Err fault)) new r rested h = nothing old (Transmit n) (Transmits (Err fault)) new Told.Transmit refl refl h.same
-Step-joins old call reply new r rested h = absurd h
+    let moves = settled_moves u Told.Configure (OnPort o (ChangesParty change)) [] old new (λ g. refl) r (λ mid x. keeps_place (ChangesParty change) o old mid x)
+    (λ mid x. slots_moved u Told.Configure [] old mid x.1 (place_moves u Told.Configure f (ChangesParty change) n old.slots mid.slots [] r (λ s q i at y. configures_moves u n change s.port q y) o refl x.0)) h in
+    (Told.Configure, [], refl, refl, moves)
+Step-joins gives old (Configure n change) (reply.Configure (Ok false)) new r rested h = nothing old (Configure n change) (reply.Configure (Ok false)) new Told.Configure refl refl h.1
+Step-joins gives old (Configure n change) (reply.Configure (Err fault)) new r rested h = nothing old (Configure n change) (reply.Configure (Err fault)) new Told.Configure refl refl h.same
+Step-joins gives old Restart reply.Restart new r rested h =
+    (Told.Restart, [], refl, refl, (Move.Restart ∷ [], (refl, tt), refl, first_shows new h.1 ∙ ap (λ (s : State). first_view (configured s)) h.0))
+Step-joins gives old (Transmit n) (reply.Transmit (Ok answer)) new r rested h = sends_place old n (place_of n old.slots) answer new r rested refl h
+Step-joins gives old (Transmit n) (reply.Transmit (Err fault)) new r rested h = nothing old (Transmit n) (reply.Transmit (Err fault)) new Told.Transmit refl refl h.same
+Step-joins gives old (Offer agg octets) (reply.Offer answer) new r rested h = offers gives agg octets old answer new r rested h
+Step-joins gives old (Move_conversation agg conv port) (reply.MoveConversation answer) new r rested h = moves_conversation agg conv port (move_answer old agg conv port) old answer new refl h
+Step-joins gives old (Force agg conv) (reply.Force answer) new r rested h = forces agg conv (force_answer old agg conv) old answer new refl h
+Step-joins gives old call answer new r rested h = absurd h

@@ -1,5 +1,5 @@
 -- Any eleven consecutive ticks hold at most three sends of a port, over runs of calls of a system.
-use Rattle.std.proofs.Common.{◌≡◌, ◌&&◌, ◌∙◌, ◌<◌, ◌≤◌, ◌+◌, ◌==◌, ◌++◌, ℕ, zero, suc, Bool, true, false, cond, List, [], ◌∷◌, Option, Some, None, Ok, Err, length, ap, sym, refl, subst, arith, get_or, nat_lt, append_assoc}
+use Rattle.std.proofs.Common.{◌≡◌, ◌&&◌, ◌∙◌, ◌<◌, ◌≤◌, ◌+◌, ◌==◌, ◌++◌, ℕ, zero, suc, Bool, true, false, cond, List, [], ◌∷◌, Option, Some, None, Ok, Err, drop, length, ap, sym, refl, subst, arith, get_or, nat_lt, append_assoc}
 use Rattle.std.specs.Prelude.{if◌then◌else◌, slice_get, slice_set, option_map}
 use Rattle.std.specs.List.{AllByRecursion, AllZip, find, position_or_len}
 use Rattle.std.proofs.lemmas.Bool.{eqb-true}
@@ -11,30 +11,40 @@ use Rattle.lagtypes.specs.declared.identifiers.AggId.{AggId}
 use Rattle.lagtypes.specs.declared.identifiers.Key.{Key}
 use Rattle.lagtypes.specs.declared.identifiers.SystemId.{SystemId}
 use Rattle.lagtypes.specs.declared.party.Choice.TheVariants.{Selected}
+use Rattle.slowpdu.specs.Frames.{frame_octets}
+use Rattle.slowpdu.specs.Layout.{IsAddress, StandsIn, place}
+use Rattle.slowpdu.proofs.LayoutLemmas.{octet_stands}
+use Rattle.slowpdu.proofs.WritingLemmas.{framed_payload}
+use Rattle.distributor.specs.Changes.{marker_due}
 use Rattle.portmachines.specs.Calls as port
 use Rattle.portmachines.specs.Machines.{Machines}
 use Rattle.portmachines.specs.Mux.{mux_rows}
-use Rattle.portmachines.specs.Periodic.{RunsPeriodic, periodic_rows}
-use Rattle.portmachines.specs.Receive.{receive_rows, start_receive}
+use Rattle.portmachines.specs.Periodic.{RunsPeriodic}
+use Rattle.portmachines.specs.Receive.{receive_rows}
 use Rattle.portmachines.specs.Rows.{Settles}
 use Rattle.portmachines.specs.Start.{Starts, blank}
 use Rattle.portmachines.specs.Transmit.{count_down, is_due, sent}
 use Rattle.portmachines.specs.Window as window
 use Rattle.portmachines.specs.Window.{KeepsWindow, sent_before}
-use Rattle.portmachines.proofs.Runs.{EachKeeps, Reaches-keeps}
+use Rattle.portmachines.proofs.Runs.{Reaches-keeps}
 use Rattle.portmachines.specs.declared.port.Setup.{Setup}
-use Rattle.portmachines.proofs.Windows.{window_law as port_window}
+use Rattle.portmachines.proofs.Windows.{ages_of, mux-same, periodic-ages, starts-ages, window_law as port_window}
 use Rattle.lagsystem.specs.declared.answers.Heard.{Heard}
-use Rattle.lagsystem.specs.declared.answers.Heard.TheVariants.{Taken, Answered}
+use Rattle.lagsystem.specs.declared.answers.Heard.TheVariants.{Taken, Response, Answered}
 use Rattle.lagsystem.specs.declared.answers.Received.{Received}
 use Rattle.lagsystem.specs.declared.config.PortConfig.{PortConfig}
+use Rattle.lagsystem.specs.declared.drive.Reply.{Reply}
+use Rattle.lagsystem.specs.declared.drive.Reply.TheVariants as reply
 use Rattle.lagsystem.specs.declared.slots.Slot.{Slot}
 use Rattle.lagsystem.specs.State.{State, with_slots, place_of, port_of, slot_at}
 use Rattle.lagsystem.specs.Settling.{AllMove, Settling, chosen, choose_slot, given, ready_of, takes}
 use Rattle.lagsystem.specs.Views.{views}
 use Rattle.lagsystem.specs.First.{IsFirst, IsNew, setup_of}
-use Rattle.lagsystem.specs.Calls.{Call, Tick, Set_link, Receive, Configure, Restart, Transmit, Reply, Ticked, Links, Receives, Configures, Restarted, Transmits, ChangesLink, ChangesParty, changed, OnPlace, OnPort, Settled, Takes, Does, SendsAt, Step, Run}
-use Rattle.lagsystem.specs.Windows.{StartsEmpty, WindowFromStart, WindowLaw, KeepsFew, after, kept_sends, later, sent_since}
+use Rattle.lagsystem.specs.Calls.{Call, Tick, Set_link, Receive, Configure, Restart, Transmit, Offer, Move_conversation, Force, ChangesLink, ChangesParty, changed, is_for, OnPlace, OnPort, Settled, Takes, Does, Step, Run}
+use Rattle.lagsystem.specs.Offers.{force_answer, move_answer}
+use Rattle.lagsystem.specs.Sending.{SendsAt, SendsMarkerOf, SendsWhere}
+use Rattle.lagsystem.specs.Windows.{StartsEmpty, WindowFromStart, WindowLaw, KeepsFew, after, kept_sends, later, sent_since, subtype}
+use Rattle.lagsystem.proofs.Rest.{becomes_slots, last_slots, offers_slots, releases_slots, same_slots}
 
 -- one port
 
@@ -141,8 +151,8 @@ in_chosen P N n kept keys zero slots g = g
 in_chosen P N n kept keys (suc k) slots g =
     let mid = chosen keys k slots in in_choose P N n kept keys mid k (slice_get mid k) refl (in_chosen P N n kept keys k slots g)
 
-in_same : (P : Machines → Type 0) (N : Type 0) (n : ℕ) (old new : State) → new ≡ old → In P N n old.slots → In P N n new.slots
-in_same P N n old new e g = subst (λ (s : State). In P N n s.slots) (sym e) g
+in_same : (P : Machines → Type 0) (N : Type 0) (n : ℕ) (old new : State) → new.slots ≡ old.slots → In P N n old.slots → In P N n new.slots
+in_same P N n old new e g = subst (In P N n) (sym e) g
 
 in_settling : (P : Machines → Type 0) (N : Type 0) (n : ℕ) → IsKept P → (old new : State) → Settling old new → In P N n old.slots → In P N n new.slots
 in_settling P N n kept old new h g =
@@ -153,11 +163,11 @@ in_settling P N n kept old new h g =
     let five = h.2.2.2.2.0 in
     let ready = λ (p : Machines). ready_of three.keys (views three.slots) p.choice in
     let g1 = in_each P P N (Settles (mux_rows false)) n (kept.mux false) old.slots one.slots h.1.0 g in
-    let g2 = in_same P N n (with_slots one (chosen one.keys (length one.slots) one.slots)) two h.2.1 (in_chosen P N n kept one.keys (length one.slots) one.slots g1) in
-    let g3 = in_same P N n two three h.2.2.1 g2 in
+    let g2 = in_same P N n (with_slots one (chosen one.keys (length one.slots) one.slots)) two (same_slots (with_slots one (chosen one.keys (length one.slots) one.slots)) two h.2.1) (in_chosen P N n kept one.keys (length one.slots) one.slots g1) in
+    let g3 = in_same P N n two three (same_slots two three h.2.2.1) g2 in
     let g4 = in_each P P N (λ p q. Settles (mux_rows (ready p)) p q) n (λ p q d. kept.mux (ready p) p q d) three.slots four.slots h.2.2.2.1.0 g3 in
     let g5 = in_each P P N RunsPeriodic n kept.periodic four.slots five.slots h.2.2.2.2.1.0 g4 in
-    in_same P N n five new (h.2.2.2.2.2.2 ∙ h.2.2.2.2.2.1) g5
+    in_same P N n five new (last_slots old new h) g5
 
 good_kept : (now : ℕ) (before : List ℕ) → IsKept (λ p. Good now p before)
 good_kept now before = record {
@@ -169,7 +179,7 @@ good_kept now before = record {
 good_settling : (n now : ℕ) (before : List ℕ) (old new : State) → Settling old new → GoodIn n now before old.slots → GoodIn n now before new.slots
 good_settling n now before old new h g = in_settling (λ p. Good now p before) (KeepsWindow before) n (good_kept now before) old new h g
 
-good_same : (n now : ℕ) (before : List ℕ) (old new : State) → new ≡ old → GoodIn n now before old.slots → GoodIn n now before new.slots
+good_same : (n now : ℕ) (before : List ℕ) (old new : State) → new.slots ≡ old.slots → GoodIn n now before old.slots → GoodIn n now before new.slots
 good_same n now before old new e g = in_same (λ p. Good now p before) (KeepsWindow before) n old new e g
 
 good_set : (n now : ℕ) (before : List ℕ) (xs : List Slot) (i : ℕ) (s t : Slot) → slice_get xs i ≡ Some s → t.number ≡ s.number → (Good now s.port before → Good now t.port before)
@@ -188,9 +198,11 @@ good_on_port : (R : Machines → Machines → Type 0) (n now : ℕ) (before : Li
     → GoodIn n now before old.slots → GoodIn n now before new.slots
 good_on_port R n now before move o old new h g = good_settling n now before h.0 new h.2 (good_place R n now before move o old.slots h.0.slots h.1.0 g)
 
-good_does : (n now : ℕ) (before : List ℕ) (heard : Heard) (o : Option ℕ) (old : State) (reply : Received) (new : State) → Does heard o old reply new → GoodIn n now before old.slots → GoodIn n now before new.slots
-good_does n now before (Taken v) o old reply new h g = good_on_port (Takes v) n now before (λ p q d. good_call now (port.Take v) p q before d) o old new h.1 g
-good_does n now before (Answered answer) o old reply new h g = good_same n now before old new h.1 g
+good_does : (n now : ℕ) (before : List ℕ) (heard : Heard) (number : ℕ) (o : Option ℕ) (old : State) (answer : Received) (new : State) → Does heard number o old answer new
+    → GoodIn n now before old.slots → GoodIn n now before new.slots
+good_does n now before (Taken v) number o old answer new h g = good_on_port (Takes v) n now before (λ p q d. good_call now (port.Take v) p q before d) o old new h.1 g
+good_does n now before (Response m) number o old answer new h g = good_same n now before old new (releases_slots (is_for old number m) number m old answer new h) g
+good_does n now before (Answered heard) number o old answer new h g = good_same n now before old new (same_slots old new h.1) g
 
 -- sending
 
@@ -232,52 +244,82 @@ good_sent m n now before false xs i s t b place at k send g =
     let other : (s.number == n) ≡ false = ap (λ j. j == n) numbered ∙ b in
     subst (λ o. GoodAt now before (port_in o)) (sym (found_other (is_numbered n) xs i s t at other (ap (λ j. j == n) k ∙ other))) g
 
-and_right : (x y : Bool) → (x && y) ≡ true → y ≡ true
-and_right true y h = h
-and_right false y h = cc
-
 good_sends : (now : ℕ) (before : List ℕ) (p : Machines) → is_due p ≡ true → Good now p before → Good now (sent p) (before ++ now ∷ [])
 good_sends now before p due g =
     subst (λ b. Good now (sent p) (if b then before ++ now ∷ [] else before)) due
     (good_call now (port.Transmit 0) p (sent p) before (sym (ap (λ b. if b then sent p else p) due)) g)
 
-good_transmit : (m n now : ℕ) (before : List ℕ) (max_delay : ℕ) (o : Option ℕ) (reply : Option (List ℕ)) (old new : List Slot) → place_of m old ≡ o → SendsAt max_delay o reply old new
-    → GoodIn n now before old → GoodIn n now (after n now (Transmit m) (Transmits (Ok reply)) before) new
-good_transmit m n now before max_delay None reply old new e h g = absurd h
-good_transmit m n now before max_delay (Some i) None old new e h g =
-    let same = h.3.1 in
-    subst (GoodIn n now before) (sym h.4) (good_set n now before old i h.0 (record h.0 { port = h.1 }) h.2 refl (subst (λ (p : Machines). Good now p before) (sym same)) g)
-good_transmit m n now before max_delay (Some i) (Some frame) old new e h g =
-    let send = λ (k : Good now h.0.port before). subst (λ (p : Machines). Good now p (before ++ now ∷ [])) (sym h.3.2) (good_sends now before h.0.port (and_right _ _ h.3.0) k) in
-    subst (GoodIn n now (if m == n then before ++ now ∷ [] else before)) (sym h.4)
-    (good_sent m n now before (m == n) old i h.0 (record h.0 { port = h.1 }) refl e h.2 refl send g)
+-- the octet behind the header of a control frame
+subtype_of : (mac payload : List ℕ) (k : ℕ) → IsAddress mac → StandsIn payload (place 0 1 k) → subtype (frame_octets mac payload) ≡ k
+subtype_of mac payload k a h =
+    let behind : StandsIn (drop 14 (frame_octets mac payload)) (place 0 1 k) = subst (λ b. StandsIn b (place 0 1 k)) (sym (framed_payload mac payload a.0)) h in
+    sym (octet_stands (frame_octets mac payload) 14) ∙ behind
+
+-- a call that answers nothing, or a frame with this subtype
+abbrev after_frame : ℕ → ℕ → List ℕ → ℕ → ℕ → List ℕ
+after_frame m n before now k = if (m == n) && (k == 1) then before ++ now ∷ [] else before
+
+abbrev after_transmit : ℕ → ℕ → ℕ → List ℕ → Option (List ℕ) → List ℕ
+after_transmit m n now before answer = after n now (Transmit m) (reply.Transmit (Ok answer)) before
+
+first_kind : (m n now : ℕ) (before : List ℕ) → after_frame m n before now 1 ≡ (if m == n then before ++ now ∷ [] else before)
+first_kind m n now before = with_true (m == n)
+  where
+    with_true : (b : Bool) → (if b && true then before ++ now ∷ [] else before) ≡ (if b then before ++ now ∷ [] else before)
+    with_true true = refl
+    with_true false = refl
+
+other_kind : (m n now : ℕ) (before : List ℕ) → after_frame m n before now 2 ≡ before
+other_kind m n now before = with_false (m == n)
+  where
+    with_false : (b : Bool) → (if b && false then before ++ now ∷ [] else before) ≡ before
+    with_false true = refl
+    with_false false = refl
+
+good_marker : (m n now : ℕ) (before : List ℕ) (o : Option ℕ) (number : ℕ) (mac : List ℕ) (old : State) (answer : Option (List ℕ)) (new : State) → SendsMarkerOf o number mac old answer new
+    → GoodIn n now before old.slots → GoodIn n now (after_transmit m n now before answer) new.slots
+good_marker m n now before None number mac old answer new h g =
+    subst (λ a. GoodIn n now (after_transmit m n now before a) new.slots) (sym h.0) (good_same n now before old new (same_slots old new h.1) g)
+good_marker m n now before (Some id) number mac old answer new h g =
+    let kind : subtype (frame_octets mac h.0) ≡ 2 = subtype_of mac h.0 2 h.1 h.2.table.stands.0 in
+    let none : after_transmit m n now before (Some (frame_octets mac h.0)) ≡ before = ap (after_frame m n before now) kind ∙ other_kind m n now before in
+    subst (λ a. GoodIn n now (after_transmit m n now before a) new.slots) (sym h.3)
+    (subst (λ sends. GoodIn n now sends new.slots) (sym none) (good_same n now before old new (ap (λ (x : State). x.slots) h.5) g))
+
+good_where : (m n now : ℕ) (before : List ℕ) (up due : Bool) (i : ℕ) (slot : Slot) (old : State) (answer : Option (List ℕ)) (new : State)
+    → is_due slot.port ≡ due → place_of m old.slots ≡ Some i → slice_get old.slots i ≡ Some slot → SendsWhere up due i slot old answer new
+    → GoodIn n now before old.slots → GoodIn n now (after_transmit m n now before answer) new.slots
+good_where m n now before false due i slot old answer new d at e h g =
+    subst (λ a. GoodIn n now (after_transmit m n now before a) new.slots) (sym h.0) (good_same n now before old new (same_slots old new h.1) g)
+good_where m n now before true false i slot old answer new d at e h g = good_marker m n now before (marker_due old.table slot.number) slot.number slot.mac old answer new h g
+good_where m n now before true true i slot old answer new d at e h g =
+    let payload = h.1.0 in
+    let kind : subtype h.0 ≡ 1 = ap subtype h.1.3 ∙ subtype_of slot.mac payload 1 h.1.1 h.1.2.table.stands.0 in
+    let one : after_transmit m n now before (Some h.0) ≡ (if m == n then before ++ now ∷ [] else before) = ap (after_frame m n before now) kind ∙ first_kind m n now before in
+    let set : new.slots ≡ slice_set old.slots i (record slot { port = sent slot.port }) = ap (λ (x : State). x.slots) h.3 in
+    let sent_on = good_sent m n now before (m == n) old.slots i slot (record slot { port = sent slot.port }) refl at e refl (good_sends now before slot.port d) g in
+    subst (λ a. GoodIn n now (after_transmit m n now before a) new.slots) (sym h.2)
+    (subst (λ sends. GoodIn n now sends new.slots) (sym one) (subst (GoodIn n now (if m == n then before ++ now ∷ [] else before)) (sym set) sent_on))
+
+good_transmit : (m n now : ℕ) (before : List ℕ) (o : Option ℕ) (old : State) (answer : Option (List ℕ)) (new : State) → place_of m old.slots ≡ o → SendsAt o old answer new
+    → GoodIn n now before old.slots → GoodIn n now (after_transmit m n now before answer) new.slots
+good_transmit m n now before None old answer new at h g = absurd h
+good_transmit m n now before (Some i) old answer new at h g = good_where m n now before h.0.port.enabled (is_due h.0.port) i h.0 old answer new refl at h.1 h.2 g
 
 -- a start
-
-abbrev ages_of : Machines → List ℕ
-ages_of p = p.ages
 
 abbrev IsEmpty : Machines → Type 0
 IsEmpty p = p.ages ≡ []
 
-mux_ages : (ready : Bool) → EachKeeps ages_of (mux_rows ready)
-mux_ages ready = (λ p. refl, (λ p. refl, (λ p. refl, (λ p. refl, (λ p. refl, (λ p. refl, tt))))))
-
-periodic_ages : EachKeeps ages_of periodic_rows
-periodic_ages = (λ p. refl, (λ p. refl, (λ p. refl, (λ p. refl, (λ p. refl, (λ p. refl, (λ p. refl, tt)))))))
-
-receive_ages : EachKeeps ages_of receive_rows
-receive_ages = (λ p. refl, (λ p. refl, (λ p. refl, (λ p. refl, (λ p. refl, tt)))))
-
 empty_kept : IsKept IsEmpty
 empty_kept = record {
-  mux = λ ready p q d e. Reaches-keeps ages_of (mux_rows ready) (mux_ages ready) d.0 p q d.1 ∙ e;
-  periodic = λ p q d e. ap ages_of d.2 ∙ Reaches-keeps ages_of periodic_rows periodic_ages d.1.0 p d.0 d.1.1 ∙ e;
+  mux = λ ready p q d e. Reaches-keeps ages_of (mux_rows ready) (mux-same ready) d.0 p q d.1 ∙ e;
+  periodic = λ p q d e. periodic-ages p q d ∙ e;
   select = λ agg p e. e;
 }
 
 empty_start : (s : Setup) (p : Machines) → Starts (blank s) p → IsEmpty p
-empty_start s p h = ap ages_of h.2 ∙ Reaches-keeps ages_of receive_rows receive_ages h.1.0 (start_receive (blank s)) h.0 h.1.1
+empty_start s p h = starts-ages (blank s) p h
 
 empty_new : (n : ℕ) (system : SystemId) (ports : List PortConfig) (slots : List Slot) → AllZip (IsNew system) ports slots → In IsEmpty Unit n slots
 empty_new n system [] [] h = tt
@@ -313,39 +355,47 @@ good_first n s h =
 
 -- runs
 
-good_step : (n now : ℕ) (before : List ℕ) (old : State) (call : Call) (reply : Reply) (new : State) → Step old call reply new → GoodIn n now before old.slots → GoodIn n (later call now) (after n now call reply before) new.slots
-good_step n now before old Tick Ticked new h g =
+good_step : (gives : ℕ → ℕ → ℕ → Type 0) (n now : ℕ) (before : List ℕ) (old : State) (call : Call) (answer : Reply) (new : State) → Step gives old call answer new
+    → GoodIn n now before old.slots → GoodIn n (later call now) (after n now call answer before) new.slots
+good_step gives n now before old Tick reply.Tick new h g =
     good_settling n (now + 1) before h.0 new h.2
     (in_each (λ p. Good now p before) (λ p. Good (now + 1) p before) (KeepsWindow before) (λ p q. Settles receive_rows (count_down p) q) n (λ p q d. good_call now port.Tick p q before d) old.slots h.0.slots h.1.0 g)
-good_step n now before old (Set_link m up) (Links (Ok done)) new h g =
-    good_on_port (ChangesLink up) n now before (λ p q d. good_call now (port.Set_link up) p q before d) (place_of m old.slots) old new h g
-good_step n now before old (Set_link m up) (Links (Err fault)) new h g = good_same n now before old new h.same g
-good_step n now before old (Receive m octets) (Receives (Ok reply)) new h g = good_does n now before h.1 (place_of m old.slots) old reply new h.4 g
-good_step n now before old (Receive m octets) (Receives (Err fault)) new h g = good_same n now before old new h.same g
-good_step n now before old (Configure m change) (Configures (Ok true)) new h g =
+good_step gives n now before old (Set_link m up) (reply.SetLink (Ok done)) new h g =
+    good_settling n now before h.0 new h.2
+    (good_place (ChangesLink up) n now before (λ p q d. good_call now (port.Set_link up) p q before d) (place_of m old.slots) old.slots h.0.slots h.1.0 g)
+good_step gives n now before old (Set_link m up) (reply.SetLink (Err fault)) new h g = good_same n now before old new (same_slots old new h.same) g
+good_step gives n now before old (Receive m octets) (reply.Receive (Ok answer)) new h g = good_does n now before h.1 h.0.number (place_of m old.slots) old answer new h.4 g
+good_step gives n now before old (Receive m octets) (reply.Receive (Err fault)) new h g = good_same n now before old new (same_slots old new h.same) g
+good_step gives n now before old (Configure m change) (reply.Configure (Ok true)) new h g =
     good_on_port (ChangesParty change) n now before (λ p q d. good_call now (port.Reinit (changed change p.party)) p q before d.1) (place_of m old.slots) old new h g
-good_step n now before old (Configure m change) (Configures (Ok false)) new h g = good_same n now before old new h.1 g
-good_step n now before old (Configure m change) (Configures (Err fault)) new h g = good_same n now before old new h.same g
-good_step n now before old Restart Restarted new h g = good_first n new h.1
-good_step n now before old (Transmit m) (Transmits (Ok reply)) new h g = good_transmit m n now before old.max_delay (place_of m old.slots) reply old.slots new.slots refl h.0 g
-good_step n now before old (Transmit m) (Transmits (Err fault)) new h g = good_same n now before old new h.same g
-good_step n now before old call reply new h g = absurd h
+good_step gives n now before old (Configure m change) (reply.Configure (Ok false)) new h g = good_same n now before old new (same_slots old new h.1) g
+good_step gives n now before old (Configure m change) (reply.Configure (Err fault)) new h g = good_same n now before old new (same_slots old new h.same) g
+good_step gives n now before old Restart reply.Restart new h g = good_first n new h.1
+good_step gives n now before old (Transmit m) (reply.Transmit (Ok answer)) new h g = good_transmit m n now before (place_of m old.slots) old answer new refl h g
+good_step gives n now before old (Transmit m) (reply.Transmit (Err fault)) new h g = good_same n now before old new (same_slots old new h.same) g
+good_step gives n now before old (Offer agg octets) (reply.Offer answer) new h g = good_same n now before old new (offers_slots gives agg octets old answer new h) g
+good_step gives n now before old (Move_conversation agg conv to) (reply.MoveConversation answer) new h g =
+    good_same n now before old new (becomes_slots agg conv (move_answer old agg conv to) old answer new h) g
+good_step gives n now before old (Force agg conv) (reply.Force answer) new h g =
+    good_same n now before old new (becomes_slots agg conv (force_answer old agg conv) old answer new h) g
+good_step gives n now before old call answer new h g = absurd h
 
-good_run : (n now : ℕ) (before : List ℕ) (old new : State) (calls : List Call) (replies : List Reply) → Run old calls replies new → GoodIn n now before old.slots → KeepsWindow (sent_since n now before calls replies)
-good_run n now before old new [] [] h g = good_end now before (port_in (find (is_numbered n) old.slots)) g
-good_run n now before old new [] (r ∷ rs) h g = absurd h
-good_run n now before old new (c ∷ cs) [] h g = absurd h
-good_run n now before old new (c ∷ cs) (r ∷ rs) h g =
-    good_run n (later c now) (after n now c r before) h.0 new cs rs h.2 (good_step n now before old c r h.0 h.1 g)
+good_run : (gives : ℕ → ℕ → ℕ → Type 0) (n now : ℕ) (before : List ℕ) (old new : State) (calls : List Call) (replies : List Reply) → Run gives old calls replies new
+    → GoodIn n now before old.slots → KeepsWindow (sent_since n now before calls replies)
+good_run gives n now before old new [] [] h g = good_end now before (port_in (find (is_numbered n) old.slots)) g
+good_run gives n now before old new [] (r ∷ rs) h g = absurd h
+good_run gives n now before old new (c ∷ cs) [] h g = absurd h
+good_run gives n now before old new (c ∷ cs) (r ∷ rs) h g =
+    good_run gives n (later c now) (after n now c r before) h.0 new cs rs h.2 (good_step gives n now before old c r h.0 h.1 g)
 
-pub window_law : WindowLaw
-window_law n now old new calls replies run few =
+pub window_law : (gives : ℕ → ℕ → ℕ → Type 0) → WindowLaw gives
+window_law gives old new calls replies run n now few =
     let o = port_of n old in
     let g = good_few now o few in
-    good_run n now (kept_sends now o) old new calls replies run (subst (λ x. GoodAt now (kept_sends now o) (port_in x)) (found n old.slots) g)
+    good_run gives n now (kept_sends now o) old new calls replies run (subst (λ x. GoodAt now (kept_sends now o) (port_in x)) (found n old.slots) g)
 
-pub window_from_start : WindowFromStart
-window_from_start n old new calls replies first run = good_run n 0 [] old new calls replies run (good_first n old first)
+pub window_from_start : (gives : ℕ → ℕ → ℕ → Type 0) → WindowFromStart gives
+window_from_start gives n old new calls replies first run = good_run gives n 0 [] old new calls replies run (good_first n old first)
 
 pub starts_empty : StartsEmpty
 starts_empty n s h =

@@ -1,9 +1,8 @@
 -- What each call of a system does.
-use Rattle.std.specs.Prelude.{◌≡◌, ◌≤◌, ◌<◌, ◌⊎◌, ℕ, Bool, true, false, List, [], ◌∷◌, length, drop, if◌then◌else◌, ◌&&◌, IsTrue, Option, Some, None, slice_get, slice_set, Result, Ok, Err}
+use Rattle.std.specs.Prelude.{◌≡◌, ◌≤◌, ◌<◌, ◌⊎◌, ℕ, Bool, true, false, List, [], ◌∷◌, length, drop, ◌==◌, ◌&&◌, Option, Some, None, slice_get, slice_set, Ok, Err}
 use Rattle.std.specs.Bool.{IsFalse}
+use Rattle.std.specs.Str.{bytes_eq}
 use Rattle.lagtypes.specs.declared.identifiers.AggId.{AggId}
-use Rattle.lagtypes.specs.declared.party.Choice.{Choice}
-use Rattle.lagtypes.specs.declared.party.Choice.TheVariants.{Unselected, Selected}
 use Rattle.lagtypes.specs.declared.party.Party.{Party}
 use Rattle.slowpdu.specs.declared.pdu.Lacpdu.{Lacpdu}
 use Rattle.slowpdu.specs.declared.pdu.Marker.{Marker}
@@ -12,29 +11,33 @@ use Rattle.slowpdu.specs.declared.pdu.Pdu.TheVariants as pdu
 use Rattle.slowpdu.specs.declared.fault.WireFault.{WireFault}
 use Rattle.slowpdu.specs.Faults.{fault_of}
 use Rattle.slowpdu.specs.Frames.{IsSlow, frame_octets}
-use Rattle.slowpdu.specs.Lacpdus.{Writes}
 use Rattle.slowpdu.specs.Markers.{WritesMarker, response_to}
 use Rattle.slowpdu.specs.Pdus.{ReadsPdu}
 use Rattle.collector.specs.Collecting.{IsDataFrame}
-use Rattle.portmachines.specs.declared.mux.MuxState.TheVariants.{CollectingDistributing}
+use Rattle.distributor.specs.Changes.{Changes, after_down, after_release, after_tick, waits_for}
+use Rattle.distributor.specs.Conversations.{Table, how_many}
 use Rattle.portmachines.specs.Machines.{Machines}
 use Rattle.lagtypes.specs.Same.{same_party}
-use Rattle.portmachines.specs.Mux.{is_mux}
 use Rattle.portmachines.specs.Receive.{receive_rows, taking_rows}
 use Rattle.portmachines.specs.Rows.{Settles, FiresIfEnabled}
 use Rattle.portmachines.specs.Start.{Starts}
-use Rattle.portmachines.specs.Transmit.{count_down, is_due, pdu_of, sent}
+use Rattle.portmachines.specs.Transmit.{count_down}
 use Rattle.lagsystem.specs.declared.answers.Heard.{Heard}
-use Rattle.lagsystem.specs.declared.answers.Heard.TheVariants.{Taken, Answered}
+use Rattle.lagsystem.specs.declared.answers.Heard.TheVariants.{Taken, Response, Answered}
 use Rattle.lagsystem.specs.declared.answers.Received.{Received}
 use Rattle.lagsystem.specs.declared.answers.Received.TheVariants.{Disabled, Dropped, Ignored, TookLacpdu, Respond, Released, Up}
 use Rattle.lagsystem.specs.declared.config.PortChange.{PortChange}
+use Rattle.lagsystem.specs.declared.drive.Reply.{Reply}
+use Rattle.lagsystem.specs.declared.drive.Reply.TheVariants as reply
 use Rattle.lagsystem.specs.declared.fault.SystemFault.{SystemFault}
 use Rattle.lagsystem.specs.declared.fault.SystemFault.TheVariants.{NoPort}
 use Rattle.lagsystem.specs.declared.slots.Slot.{Slot}
 use Rattle.lagsystem.specs.First.{IsFirst}
-use Rattle.lagsystem.specs.Settling.{EachPort, Settling}
-use Rattle.lagsystem.specs.State.{State, with_slots, place_of, slot_at}
+use Rattle.lagsystem.specs.Readers.{collecting}
+use Rattle.lagsystem.specs.Offers.{Becomes, Offers, force_answer, move_answer}
+use Rattle.lagsystem.specs.Sending.{SendsAt}
+use Rattle.lagsystem.specs.Settling.{AllMove, Settling}
+use Rattle.lagsystem.specs.State.{State, with_slots, with_table, place_of, slot_at}
 
 -- the calls, with their arguments
 pub data Call : Type 0 where
@@ -44,15 +47,9 @@ pub data Call : Type 0 where
   Configure : (port : ℕ) (change : PortChange) → Call
   Restart : Call
   Transmit : (port : ℕ) → Call
-
--- what each answers
-pub data Reply : Type 0 where
-  Receives : (answer : Result Received SystemFault) → Reply
-  Ticked : Reply
-  Links : (answer : Result Unit SystemFault) → Reply
-  Configures : (answer : Result Bool SystemFault) → Reply
-  Restarted : Reply
-  Transmits : (answer : Result (Option (List ℕ)) SystemFault) → Reply
+  Offer : (agg : AggId) (octets : List ℕ) → Call
+  Move_conversation : (agg : AggId) (conv port : ℕ) → Call
+  Force : (agg : AggId) (conv : ℕ) → Call
 
 -- the port at the place goes on so, and the others stay
 abbrev pub OnPlace : (Machines → Machines → Type 0) → Option ℕ → List Slot → List Slot → Type 0
@@ -83,13 +80,29 @@ pub record Refuses (place : Option ℕ) (fault : SystemFault) (old new : State) 
 abbrev pub Settled : (State → State → Type 0) → State → State → Type 0
 Settled own old new = (mid : State) × own old mid × Settling mid new
 
--- a tick: each port counts down, then fires an expired current_while row
+-- a tick: each port counts down, then fires an expired current_while row; then each conversation that waits for a response
+-- counts
 abbrev pub AllTick : State → State → Type 0
-AllTick old new = EachPort (λ p q. Settles receive_rows (count_down p) q) old new
+AllTick old new =
+    AllMove (λ p q. Settles receive_rows (count_down p) q) old.slots new.slots
+    × Changes old.table new.table after_tick
+    × (new ≡ with_table (with_slots old new.slots) new.table)
 
 -- the receive rows of a port whose link is up or down now
 abbrev pub ChangesLink : Bool → Machines → Machines → Type 0
 ChangesLink up p q = Settles receive_rows (record p { enabled = up }) q
+
+-- what has to do with a port whose link goes down becomes free
+abbrev pub Frees : Bool → ℕ → Table → Table → Type 0
+Frees true port old new = new ≡ old
+Frees false port old new = Changes old new (after_down port)
+
+-- the link of the port with this number is up or down now
+abbrev pub LinksPort : ℕ → Bool → State → State → Type 0
+LinksPort n up old new =
+    OnPlace (ChangesLink up) (place_of n old.slots) old.slots new.slots
+    × Frees up n old.table new.table
+    × (new ≡ with_table (with_slots old new.slots) new.table)
 
 -- the row of an LACPDU
 abbrev pub Takes : Lacpdu → Machines → Machines → Type 0
@@ -125,23 +138,15 @@ IsFrame octets Data_frame = IsDataFrame octets
 IsFrame octets (Faulty fault) = IsControlFrame octets × (fault_of (drop 14 octets) ≡ Some fault)
 IsFrame octets (Carries payload) = IsControlFrame octets × ReadsPdu (drop 14 octets) payload
 
-abbrev pub agg_of : Choice → Option AggId
-agg_of Unselected = None
-agg_of (Selected agg) = Some agg
-
--- the aggregator in which the port collects (6.2.3)
-abbrev pub collecting : Machines → Option AggId
-collecting p = if is_mux CollectingDistributing p.mux then agg_of p.choice else None
-
 -- a data frame is handed up in that aggregator, or dropped
 abbrev pub handed : Option AggId → Received
 handed None = Dropped
 handed (Some agg) = Up agg
 
--- a marker is answered from this address; a response releases nothing, since a state has no conversations as yet
-abbrev pub AnswersMarker : List ℕ → Option Marker → Heard → Type 0
-AnswersMarker mac None heard = heard ≡ Answered (Released 0)
-AnswersMarker mac (Some answer) heard = (payload : List ℕ) × WritesMarker payload answer × (heard ≡ Answered (Respond (frame_octets mac payload)))
+-- a marker is answered from this address; a response is handed on
+abbrev pub AnswersMarker : List ℕ → Marker → Option Marker → Heard → Type 0
+AnswersMarker mac m None heard = heard ≡ Response m
+AnswersMarker mac m (Some answer) heard = (payload : List ℕ) × WritesMarker payload answer × (heard ≡ Answered (Respond (frame_octets mac payload)))
 
 -- what an enabled port makes of a frame
 abbrev pub Makes : Slot → Frame → Heard → Type 0
@@ -149,7 +154,7 @@ Makes slot Runt heard = heard ≡ Answered Dropped
 Makes slot Data_frame heard = heard ≡ Answered (handed (collecting slot.port))
 Makes slot (Faulty fault) heard = heard ≡ Answered (Ignored fault)
 Makes slot (Carries (pdu.Lacpdu v)) heard = heard ≡ Taken v
-Makes slot (Carries (pdu.Marker m)) heard = AnswersMarker slot.mac (response_to m) heard
+Makes slot (Carries (pdu.Marker m)) heard = AnswersMarker slot.mac m (response_to m) heard
 
 -- what it makes of the payload of a control frame
 abbrev pub HearsPayload : Slot → List ℕ → Heard → Type 0
@@ -165,53 +170,55 @@ HearsWhere true slot octets heard = (frame : Frame) × IsFrame octets frame × M
 abbrev pub Hears : Slot → List ℕ → Heard → Type 0
 Hears slot octets heard = HearsWhere slot.port.enabled slot octets heard
 
--- an LACPDU is taken, and nothing else has an effect
-abbrev pub Does : Heard → Option ℕ → State → Received → State → Type 0
-Does (Taken v) place old reply new = (reply ≡ TookLacpdu) × Settled (OnPort place (Takes v)) old new
-Does (Answered answer) place old reply new = (reply ≡ answer) × Stays old new
+-- the response names this system, and the port on which it comes
+abbrev pub is_for : State → ℕ → Marker → Bool
+is_for s port m = (m.port == port) && bytes_eq m.system s.system.mac
+
+-- a response on this port frees the conversations that wait for it, where it is for this system and port
+abbrev pub Releases : Bool → ℕ → Marker → State → Received → State → Type 0
+Releases false port m old reply new = (reply ≡ Released 0) × Stays old new
+Releases true port m old reply new =
+    (reply ≡ Released (how_many (waits_for port m.id) old.table))
+    × Changes old.table new.table (after_release port m.id)
+    × (new ≡ with_table old new.table)
+
+-- an LACPDU is taken, a response releases, and nothing else has an effect
+abbrev pub Does : Heard → ℕ → Option ℕ → State → Received → State → Type 0
+Does (Taken v) port place old reply new = (reply ≡ TookLacpdu) × Settled (OnPort place (Takes v)) old new
+Does (Response m) port place old reply new = Releases (is_for old port m) port m old reply new
+Does (Answered answer) port place old reply new = (reply ≡ answer) × Stays old new
 
 -- the port at the place hears these octets
 abbrev pub ReceivesAt : Option ℕ → List ℕ → State → Received → State → Type 0
 ReceivesAt place octets old reply new =
-    (slot : Slot) × (heard : Heard) × (slot_at place old.slots ≡ Some slot) × Hears slot octets heard × Does heard place old reply new
-
--- what transmit answers for a port with this address: where the link is up and an LACPDU is due, its control frame
-abbrev pub Sends : ℕ → List ℕ → Machines → Option (List ℕ) → Machines → Type 0
-Sends max_delay mac p None q = IsFalse (p.enabled && is_due p) × (q ≡ p)
-Sends max_delay mac p (Some octets) q =
-    IsTrue (p.enabled && is_due p) × ((payload : List ℕ) × Writes payload (pdu_of p max_delay) × (octets ≡ frame_octets mac payload)) × (q ≡ sent p)
-
-abbrev pub SendsAt : ℕ → Option ℕ → Option (List ℕ) → List Slot → List Slot → Type 0
-SendsAt max_delay None reply old new = ⊥
-SendsAt max_delay (Some i) reply old new =
-    (slot : Slot) × (port : Machines) × (slice_get old i ≡ Some slot) × Sends max_delay slot.mac slot.port reply port × (new ≡ slice_set old i (record slot { port = port }))
-
--- the port at the place sends so, and nothing else changes
-abbrev pub SendsOn : Option ℕ → Option (List ℕ) → State → State → Type 0
-SendsOn place reply old new = SendsAt old.max_delay place reply old.slots new.slots × (new ≡ with_slots old new.slots)
+    (slot : Slot) × (heard : Heard) × (slot_at place old.slots ≡ Some slot) × Hears slot octets heard × Does heard slot.number place old reply new
 
 -- the port at the place has the values of the change already
 abbrev pub HasAlready : Option ℕ → PortChange → State → Type 0
 HasAlready place change s = IsAtPlace (λ p. same_party (changed change p.party) p.party ≡ true) place s.slots
 
--- From old, the system answers the call so, and goes on to new.
-abbrev pub Step : State → Call → Reply → State → Type 0
-Step old Tick Ticked new = Settled AllTick old new
-Step old (Set_link n up) (Links (Ok done)) new = Settled (OnPort (place_of n old.slots) (ChangesLink up)) old new
-Step old (Set_link n up) (Links (Err fault)) new = Refuses (place_of n old.slots) fault old new
-Step old (Receive n octets) (Receives (Ok reply)) new = ReceivesAt (place_of n old.slots) octets old reply new
-Step old (Receive n octets) (Receives (Err fault)) new = Refuses (place_of n old.slots) fault old new
-Step old (Configure n change) (Configures (Ok true)) new = Settled (OnPort (place_of n old.slots) (ChangesParty change)) old new
-Step old (Configure n change) (Configures (Ok false)) new = HasAlready (place_of n old.slots) change old × Stays old new
-Step old (Configure n change) (Configures (Err fault)) new = Refuses (place_of n old.slots) fault old new
-Step old Restart Restarted new = (new ≡ with_slots old new.slots) × IsFirst new
-Step old (Transmit n) (Transmits (Ok reply)) new = SendsOn (place_of n old.slots) reply old new
-Step old (Transmit n) (Transmits (Err fault)) new = Refuses (place_of n old.slots) fault old new
-Step old call reply new = ⊥
+-- From old, the system answers the call so, and goes on to new, where the algorithm gives such places.
+abbrev pub Step : (ℕ → ℕ → ℕ → Type 0) → State → Call → Reply → State → Type 0
+Step gives old Tick reply.Tick new = Settled AllTick old new
+Step gives old (Set_link n up) (reply.SetLink (Ok done)) new = Settled (LinksPort n up) old new
+Step gives old (Set_link n up) (reply.SetLink (Err fault)) new = Refuses (place_of n old.slots) fault old new
+Step gives old (Receive n octets) (reply.Receive (Ok answer)) new = ReceivesAt (place_of n old.slots) octets old answer new
+Step gives old (Receive n octets) (reply.Receive (Err fault)) new = Refuses (place_of n old.slots) fault old new
+Step gives old (Configure n change) (reply.Configure (Ok true)) new = Settled (OnPort (place_of n old.slots) (ChangesParty change)) old new
+Step gives old (Configure n change) (reply.Configure (Ok false)) new = HasAlready (place_of n old.slots) change old × Stays old new
+Step gives old (Configure n change) (reply.Configure (Err fault)) new = Refuses (place_of n old.slots) fault old new
+Step gives old Restart reply.Restart new = (new ≡ with_table (with_slots old new.slots) new.table) × IsFirst new
+Step gives old (Transmit n) (reply.Transmit (Ok answer)) new = SendsAt (place_of n old.slots) old answer new
+Step gives old (Transmit n) (reply.Transmit (Err fault)) new = Refuses (place_of n old.slots) fault old new
+Step gives old (Offer agg octets) (reply.Offer answer) new = Offers gives agg octets old answer new
+Step gives old (Move_conversation agg conv port) (reply.MoveConversation answer) new =
+    Becomes agg conv (move_answer old agg conv port) old answer new
+Step gives old (Force agg conv) (reply.Force answer) new = Becomes agg conv (force_answer old agg conv) old answer new
+Step gives old call answer new = ⊥
 
 -- the system may give these replies to these calls, one after another
-abbrev pub Run : State → List Call → List Reply → State → Type 0
-Run old [] [] new = new ≡ old
-Run old (call ∷ calls) (reply ∷ replies) new = (mid : State) × Step old call reply mid × Run mid calls replies new
-Run old [] (reply ∷ replies) new = ⊥
-Run old (call ∷ calls) [] new = ⊥
+abbrev pub Run : (ℕ → ℕ → ℕ → Type 0) → State → List Call → List Reply → State → Type 0
+Run gives old [] [] new = new ≡ old
+Run gives old (call ∷ calls) (answer ∷ answers) new = (mid : State) × Step gives old call answer mid × Run gives mid calls answers new
+Run gives old [] (answer ∷ answers) new = ⊥
+Run gives old (call ∷ calls) [] new = ⊥

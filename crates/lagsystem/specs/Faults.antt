@@ -1,5 +1,7 @@
 -- The numbers of the refusals (profile).
 use Rattle.std.specs.Prelude.{ℕ}
+use Rattle.distributor.specs.declared.fault.DistFault.{DistFault}
+use Rattle.distributor.specs.declared.fault.DistFault.TheVariants as dist
 use Rattle.lagsystem.specs.declared.fault.BadConfig.{BadConfig as Reason}
 use Rattle.lagsystem.specs.declared.fault.BadConfig.TheVariants.{Ports, Aggregators, PortNumber}
 use Rattle.lagsystem.specs.declared.fault.SystemFault.{SystemFault}
@@ -23,3 +25,12 @@ fault_number NotAssigned = 9
 fault_number MarkersSpent = 10
 fault_number (BadConfig reason) = 11
 fault_number NoMemory = 12
+
+-- a refusal of the Frame Distributor as one of the system
+abbrev pub system_fault : DistFault → SystemFault
+system_fault dist.Held = Held
+system_fault dist.NoneDistributing = NoneDistributing
+system_fault dist.NotDistributing = NotDistributing
+system_fault dist.SamePort = SamePort
+system_fault dist.NotAssigned = NotAssigned
+system_fault dist.MarkersSpent = MarkersSpent

@@ -12,6 +12,7 @@ use Rattle.lagsystem.specs.declared.fault.BadConfig.TheVariants.{Ports, Aggregat
 use Rattle.lagsystem.specs.declared.fault.SystemFault.{SystemFault}
 use Rattle.lagsystem.specs.declared.fault.SystemFault.TheVariants.{NoMemory, BadConfig as Bad}
 use Rattle.lagsystem.specs.declared.slots.Slot.{Slot}
+use Rattle.distributor.specs.Conversations.{first_table}
 use Rattle.lagsystem.specs.Settling.{Settling}
 use Rattle.lagsystem.specs.State.{State, with_slots}
 
@@ -27,9 +28,10 @@ setup_of system c =
 abbrev pub IsNew : SystemId → PortConfig → Slot → Type 0
 IsNew system c slot = (slot.number ≡ c.number) × (slot.mac ≡ c.mac) × Starts (blank (setup_of system c)) slot.port
 
--- the start rows of every port, followed by one settling
+-- the start rows of every port, followed by one settling; every conversation is free, and the next marker is the first
 abbrev pub IsFirst : State → Type 0
-IsFirst s = (start : List Slot) × AllZip (IsNew s.system) s.ports start × Settling (with_slots s start) s
+IsFirst s =
+    (start : List Slot) × AllZip (IsNew s.system) s.ports start × Settling (with_slots s start) s × (s.table ≡ first_table (length s.keys) s.first_marker)
 
 -- the state has this configuration
 pub record IsConfigured (config : Config) (s : State) : Type 0 where

@@ -3,9 +3,13 @@ pub mod State
 pub mod Views
 pub mod Settling
 pub mod First
-pub mod Calls
 pub mod Readers
+pub mod Offers
+pub mod Sending
+pub mod Calls
 pub mod Shown
 pub mod Sound
+pub mod Leaving
 pub mod Kept
 pub mod Windows
+pub mod Drives

@@ -14,8 +14,13 @@ use Rattle.selection.specs.Views.{is_eligible}
 use Rattle.selection.specs.Choice.{choice}
 use Rattle.selection.specs.Ready.{is_ready}
 use Rattle.lagsystem.specs.declared.slots.Slot.{Slot}
+use Rattle.distributor.specs.declared.assignment.Assignment.{Assignment}
+use Rattle.distributor.specs.declared.assignment.Assignment.TheVariants.{On, Wanted}
+use Rattle.distributor.specs.Calls.{distributes}
+use Rattle.distributor.specs.Conversations.{state_of}
+use Rattle.lagsystem.specs.Readers.{agg_of_number, distributing}
 use Rattle.lagsystem.specs.Views.{view_of, views}
-use Rattle.lagsystem.specs.State.{State, with_slots}
+use Rattle.lagsystem.specs.State.{State, with_slots, with_table}
 
 -- the port keeps its number and address, and its machines go on so
 abbrev pub Moves : (Machines → Machines → Type 0) → Slot → Slot → Type 0
@@ -70,14 +75,28 @@ RunsMux old new = EachPort (λ p q. Settles (mux_rows (ready_of old.keys (views 
 abbrev pub RunsAllPeriodic : State → State → Type 0
 RunsAllPeriodic old new = EachPort RunsPeriodic old new
 
--- 6. conversations leave the ports that do not distribute; as yet a state has no conversations
-abbrev pub LeavesPorts : State → State → Type 0
-LeavesPorts old new = new ≡ old
+-- a conversation on a port that is not among these becomes wanted on it
+abbrev pub left_on : List ℕ → Assignment → Assignment
+left_on ports (On p) = if distributes ports p then On p else Wanted p None
+left_on ports s = s
+
+-- 6. each conversation on a port that does not distribute in its aggregator becomes wanted on that port, and nothing else
+-- changes
+pub record LeavesPorts (old new : State) : Type 0 where
+  pub frame : new ≡ with_table old new.table
+  pub aggs : new.table.aggs ≡ old.table.aggs
+  pub first : new.table.first ≡ old.table.first
+  pub next : new.table.next ≡ old.table.next
+  pub states : (g k : ℕ) → state_of new.table g k ≡ left_on (distributing (agg_of_number g) old.slots) (state_of old.table g k)
 
 -- steps one after another
 abbrev pub Follows : List (State → State → Type 0) → State → State → Type 0
 Follows [] old new = new ≡ old
 Follows (step ∷ steps) old new = (mid : State) × step old mid × Follows steps mid new
+
+-- the steps that look at ports alone
+abbrev pub SettlesPorts : State → State → Type 0
+SettlesPorts old new = Follows (RunsFreeMux ∷ Chooses ∷ TakesReady ∷ RunsMux ∷ RunsAllPeriodic ∷ []) old new
 
 abbrev pub six_steps : List (State → State → Type 0)
 six_steps = RunsFreeMux ∷ Chooses ∷ TakesReady ∷ RunsMux ∷ RunsAllPeriodic ∷ LeavesPorts ∷ []

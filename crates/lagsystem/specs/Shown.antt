@@ -23,15 +23,19 @@ use Rattle.portmachines.specs.declared.receive.ReceiveState.TheVariants.{Expired
 use Rattle.portmachines.specs.Machines.{Machines}
 use Rattle.portmachines.specs.Mux.{is_mux, is_synchronized, partner_synchronized, selected}
 use Rattle.portmachines.specs.Receive.{is_receive}
-use Rattle.lagmodel.specs.View.{PortView, View, Flows, Setup, Conversation, Pdu as Message, Lacpdu as Told_lacpdu, Lacp, Call as Told}
-use Rattle.lagmodel.specs.Move.{Act, Sends, Took, FreeMoves}
+use Rattle.lagmodel.specs.View.{PortView, View, Flows, Setup, Pdu as Message, Lacpdu as Told_lacpdu, Lacp, Call as Told}
+use Rattle.lagmodel.specs.Move.{Act, Sends, Sends_frame, Took, FreeMoves}
 use Rattle.lagmodel.specs.Kept.{ports_of, find_number}
 use Rattle.lagsystem.specs.declared.answers.Received.TheVariants.{TookLacpdu, Respond}
 use Rattle.lagsystem.specs.declared.config.PortConfig.{PortConfig}
 use Rattle.lagsystem.specs.declared.slots.Slot.{Slot}
+use Rattle.distributor.specs.Moves.{flows_of}
 use Rattle.lagsystem.specs.State.{State}
 use Rattle.lagsystem.specs.First.{setup_of, number_of}
-use Rattle.lagsystem.specs.Calls.{Call, Tick, Set_link, Receive, Configure, Restart, Transmit, Reply, Receives, Transmits, IsFrame, Carries}
+use Rattle.lagsystem.specs.declared.drive.Reply.{Reply}
+use Rattle.lagsystem.specs.declared.drive.Reply.TheVariants as reply
+use Rattle.lagsystem.specs.Calls.{Call, Tick, Set_link, Receive, Configure, Restart, Transmit, Offer, Move_conversation, Force, IsFrame, Carries}
+use Rattle.lagsystem.specs.Readers.{conversation_of}
 
 abbrev pub aggregator_of : Choice → Option ℕ
 aggregator_of Unselected = None
@@ -54,15 +58,11 @@ number s = s.number
 abbrev pub shown_slot : Slot → PortView
 shown_slot s = shown s.port
 
--- as yet a state has no conversations: each is free, and the next marker is the first
-abbrev pub flows_of : State → Flows
-flows_of s = record { state = λ g k. Conversation.Free; next = s.first_marker }
-
 abbrev pub view_at : Flows → List Slot → View
 view_at f slots = record { port = ports_of number shown_slot slots; flows = f }
 
 abbrev pub view_of : State → View
-view_of s = view_at (flows_of s) s.slots
+view_of s = view_at (flows_of s.table) s.slots
 
 -- aggregators count from 1
 abbrev pub key_of : List Key → ℕ → Option Key
@@ -106,17 +106,22 @@ Tells (Receive n octets) told = (o : Option Message) × Brings octets o × (told
 Tells (Configure n change) told = told ≡ Told.Configure
 Tells Restart told = told ≡ Told.Restart
 Tells (Transmit n) told = told ≡ Told.Transmit
+Tells (Offer agg octets) told = told ≡ Told.Offer
+Tells (Move_conversation agg conv port) told = told ≡ Told.Move_conversation
+Tells (Force agg conv) told = told ≡ Told.Force agg.0 conv
 
 -- the octets are a control frame with this PDU
 abbrev pub IsSent : List ℕ → Pdu → Type 0
 IsSent octets payload = (mac : List ℕ) × (written : List ℕ) × WritesPdu written payload × (octets ≡ frame_octets mac written)
 
--- what others see of a call is what its reply holds: the LACPDU that was taken, or the PDU of the frame to send
+-- what others see of a call is what its reply holds: the LACPDU that was taken, the PDU of the frame to send, or the
+-- conversation of a frame and the port that it goes on
 abbrev pub Sees : Call → Reply → List Act → Type 0
-Sees (Receive n octets) (Receives (Ok TookLacpdu)) seen = (v : Lacpdu) × IsFrame octets (Carries (pdu.Lacpdu v)) × (seen ≡ Took n (message_of v) ∷ [])
-Sees (Receive n octets) (Receives (Ok (Respond frame))) seen = (m : Marker) × IsSent frame (pdu.Marker m) × (seen ≡ Sends n (marker_message m.kind m) ∷ [])
-Sees (Transmit n) (Transmits (Ok (Some frame))) seen = (v : Lacpdu) × IsSent frame (pdu.Lacpdu v) × (seen ≡ Sends n (Lacp (message_of v)) ∷ [])
-Sees call reply seen = seen ≡ []
+Sees (Receive n octets) (reply.Receive (Ok TookLacpdu)) seen = (v : Lacpdu) × IsFrame octets (Carries (pdu.Lacpdu v)) × (seen ≡ Took n (message_of v) ∷ [])
+Sees (Receive n octets) (reply.Receive (Ok (Respond frame))) seen = (m : Marker) × IsSent frame (pdu.Marker m) × (seen ≡ Sends n (marker_message m.kind m) ∷ [])
+Sees (Transmit n) (reply.Transmit (Ok (Some frame))) seen = (payload : Pdu) × IsSent frame payload × (seen ≡ Sends n (read_as payload) ∷ [])
+Sees (Offer agg octets) (reply.Offer (Ok port)) seen = seen ≡ Sends_frame port agg.0 (conversation_of octets) ∷ []
+Sees call answer seen = seen ≡ []
 
 -- the views before and after a call are joined by free moves
 abbrev pub JoinsViews : State → Call → Reply → State → Type 0

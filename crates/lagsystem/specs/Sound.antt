@@ -1,26 +1,40 @@
 -- What every system keeps, and what holds of its ports after every call.
-use Rattle.std.specs.Prelude.{◌≡◌, ℕ, List, map, None}
+use Rattle.std.specs.Prelude.{◌≡◌, ℕ, true, List, length, None}
 use Rattle.std.specs.List.{AllByRecursion}
 use Rattle.portmachines.specs.declared.mux.MuxState.TheVariants.{CollectingDistributing}
 use Rattle.portmachines.specs.Mux.{is_mux}
 use Rattle.lagmodel.specs.Law.{Members, OnePartner}
+use Rattle.distributor.specs.declared.assignment.Assignment.TheVariants.{On}
+use Rattle.distributor.specs.Calls.{distributes}
+use Rattle.distributor.specs.Conversations.{state_of}
 use Rattle.lagsystem.specs.declared.slots.Slot.{Slot}
-use Rattle.lagsystem.specs.First.{numbers_of, refusal}
+use Rattle.lagsystem.specs.declared.config.Config.{Config}
+use Rattle.lagsystem.specs.First.{IsConfigured, IsFirst, numbers_of, refusal}
 use Rattle.lagsystem.specs.Shown.{AreRested, configured, shown, view_of}
-use Rattle.lagsystem.specs.State.{State}
-
-abbrev pub numbers : List Slot → List ℕ
-numbers slots = map (λ s. s.number) slots
+use Rattle.lagsystem.specs.Readers.{agg_of_number, distributing}
+use Rattle.lagsystem.specs.State.{State, numbers}
 
 -- its configuration is accepted, and it has the ports of its configuration, in their order
 pub record HasPorts (s : State) : Type 0 where
   pub accepted : refusal s.keys s.ports ≡ None
   pub same : numbers s.slots ≡ numbers_of s.ports
 
+-- a conversation is on a port only while that distributes in its aggregator
+abbrev pub AreCarried : State → Type 0
+AreCarried s = (g k p : ℕ) → state_of s.table g k ≡ On p → distributes (distributing (agg_of_number g) s.slots) p ≡ true
+
 pub record IsSound (s : State) : Type 0 where
   pub ports : HasPorts s
+  pub aggregators : s.table.aggs ≡ length s.keys
+  pub carried : AreCarried s
   pub rested : AreRested s.slots
   pub members : Members (configured s) (view_of s).port
+
+-- what is made of a configuration
+pub record IsMade (config : Config) (s : State) : Type 0 where
+  pub first : IsFirst s
+  pub configured : IsConfigured config s
+  pub sound : IsSound s
 
 -- a port distributes in the view exactly where its mux machine does
 abbrev pub Distribute : List Slot → Type 0

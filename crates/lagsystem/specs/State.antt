@@ -1,13 +1,14 @@
 -- One system as contracts see it.
-use Rattle.std.specs.Prelude.{ℕ, ◌==◌, List, Option, Some, None, slice_get, position, option_map}
+use Rattle.std.specs.Prelude.{ℕ, ◌==◌, List, map, Option, Some, None, slice_get, position, option_map}
 use Rattle.lagtypes.specs.declared.identifiers.Key.{Key}
 use Rattle.lagtypes.specs.declared.identifiers.SystemId.{SystemId}
 use Rattle.portmachines.specs.Machines.{Machines}
+use Rattle.distributor.specs.Conversations.{Table}
 use Rattle.lagsystem.specs.declared.config.PortConfig.{PortConfig}
 use Rattle.lagsystem.specs.declared.slots.Slot.{Slot}
 
 -- the configuration: identifier, CollectorMaxDelay, identifier of the first marker, keys of the aggregators, and the ports
--- as they started; and the ports as they are, in the same order
+-- as they started; the ports as they are, in the same order; and the conversations
 pub record State : Type 0 where
   pub system : SystemId
   pub max_delay : ℕ
@@ -15,9 +16,21 @@ pub record State : Type 0 where
   pub keys : List Key
   pub ports : List PortConfig
   pub slots : List Slot
+  pub table : Table
+
+-- what contracts see of a system: its state, and the algorithm that picks the ports of conversations
+pub record Whole (F : Type 0) : Type 0 where
+  pub state : State
+  pub algorithm : F
 
 abbrev pub with_slots : State → List Slot → State
 with_slots s slots = record s { slots = slots }
+
+abbrev pub with_table : State → Table → State
+with_table s table = record s { table = table }
+
+abbrev pub numbers : List Slot → List ℕ
+numbers slots = map (λ s. s.number) slots
 
 -- the place of the port with this number
 abbrev pub place_of : ℕ → List Slot → Option ℕ

@@ -1,16 +1,22 @@
 -- The transmit window of each port over runs of calls (6.4.16). Ticks are counted from the last start of the system.
-use Rattle.std.specs.Prelude.{◌≡◌, ℕ, ◌+◌, ◌≤◌, ◌==◌, Bool, false, List, [], ◌∷◌, ◌++◌, length, if◌then◌else◌, Option, Some, None, Ok}
+use Rattle.std.specs.Prelude.{◌≡◌, ℕ, ◌+◌, ◌≤◌, ◌==◌, ◌&&◌, Bool, false, slice_index, List, [], ◌∷◌, ◌++◌, length, if◌then◌else◌, Option, Some, None, Ok}
 use Rattle.std.specs.List.{AllByRecursion}
 use Rattle.portmachines.specs.Machines.{Machines}
 use Rattle.portmachines.specs.Window.{KeepsWindow, sent_before}
 use Rattle.lagsystem.specs.State.{State, port_of}
 use Rattle.lagsystem.specs.First.{IsFirst}
-use Rattle.lagsystem.specs.Calls.{Call, Tick, Restart, Transmit, Reply, Transmits, Run}
+use Rattle.lagsystem.specs.declared.drive.Reply.{Reply}
+use Rattle.lagsystem.specs.declared.drive.Reply.TheVariants as reply
+use Rattle.lagsystem.specs.Calls.{Call, Tick, Restart, Transmit, Run}
+
+-- the subtype of the payload of a control frame: 1 in an LACPDU, 2 in a Marker PDU
+abbrev pub subtype : List ℕ → ℕ
+subtype frame = slice_index frame 14
 
 -- whether the call answers an LACPDU of the port with the number n
 abbrev pub sends : ℕ → Call → Reply → Bool
-sends n (Transmit port) (Transmits (Ok (Some frame))) = port == n
-sends n call reply = false
+sends n (Transmit port) (reply.Transmit (Ok (Some frame))) = (port == n) && (subtype frame == 1)
+sends n call answer = false
 
 -- the number of the tick after the call
 abbrev pub later : Call → ℕ → ℕ
@@ -40,19 +46,22 @@ abbrev pub KeepsFew : ℕ → Option Machines → Type 0
 KeepsFew now None = Unit {0}
 KeepsFew now (Some p) = AllByRecursion (λ a. a ≤ now) p.ages × (length p.ages ≤ 3)
 
--- from any state whose port keeps few ages: any eleven consecutive ticks since the last start hold at most three sends
-abbrev pub WindowLaw : Type 0
-WindowLaw =
-    (n now : ℕ) (old new : State) (calls : List Call) (replies : List Reply)
-    → Run old calls replies new → KeepsFew now (port_of n old)
-    → KeepsWindow (sent_since n now (kept_sends now (port_of n old)) calls replies)
+-- after these calls with these replies, from a state whose ports keep few ages: any eleven consecutive ticks since the last
+-- start hold at most three sends of a port
+abbrev pub AreWindowed : State → List Call → List Reply → Type 0
+AreWindowed old calls replies =
+    (n now : ℕ) → KeepsFew now (port_of n old) → KeepsWindow (sent_since n now (kept_sends now (port_of n old)) calls replies)
+
+-- so it is of every run, whatever places the algorithm gives
+abbrev pub WindowLaw : (ℕ → ℕ → ℕ → Type 0) → Type 0
+WindowLaw gives = (old new : State) (calls : List Call) (replies : List Reply) → Run gives old calls replies new → AreWindowed old calls replies
 
 -- a state that has just started is one of these, with no earlier send
 abbrev pub StartsEmpty : Type 0
 StartsEmpty = (n : ℕ) (s : State) → IsFirst s → KeepsFew 0 (port_of n s) × (kept_sends 0 (port_of n s) ≡ [])
 
 -- and so from a start on any eleven consecutive ticks hold at most three sends of a port
-abbrev pub WindowFromStart : Type 0
-WindowFromStart =
+abbrev pub WindowFromStart : (ℕ → ℕ → ℕ → Type 0) → Type 0
+WindowFromStart gives =
     (n : ℕ) (old new : State) (calls : List Call) (replies : List Reply)
-    → IsFirst old → Run old calls replies new → KeepsWindow (sent_since n 0 [] calls replies)
+    → IsFirst old → Run gives old calls replies new → KeepsWindow (sent_since n 0 [] calls replies)

@@ -1,5 +1,5 @@
 use lagtypes::AggId;
-use slowpdu::{Lacpdu, WireFault};
+use slowpdu::{Lacpdu, Marker, WireFault};
 
 /// What became of a received frame.
 #[derive(Clone, Copy, Debug, PartialEq, Eq)]
@@ -25,6 +25,8 @@ pub enum Received {
 pub(crate) enum Heard {
     /// An LACPDU is to be taken.
     Taken(Lacpdu),
+    /// A marker response came.
+    Response(Marker),
     /// This is answered, and nothing else is done.
     Answered(Received),
 }

@@ -1,7 +1,8 @@
 ghost use Rattle.std.specs.Prelude.{◌≡◌};
-ghost use Rattle.lagsystem.specs.Faults.{fault_number, reason_number};
+ghost use Rattle.lagsystem.specs.Faults.{fault_number, reason_number, system_fault};
 ghost use Rattle.lagsystem.specs.declared.fault.SystemFault.{SystemFault};
 
+use distributor::DistFault;
 use lagtypes::NoMemory;
 
 /// Why a configuration is refused, in the order of checking (profile).
@@ -84,5 +85,20 @@ impl From<NoMemory> for SystemFault {
 
     fn from(_refused: NoMemory) -> SystemFault {
         SystemFault::NoMemory
+    }
+}
+
+impl From<DistFault> for SystemFault {
+    ghost from_gives = { λ refused fault. fault ≡ system_fault refused };
+
+    fn from(refused: DistFault) -> SystemFault {
+        match refused {
+            DistFault::Held => SystemFault::Held,
+            DistFault::NoneDistributing => SystemFault::NoneDistributing,
+            DistFault::NotDistributing => SystemFault::NotDistributing,
+            DistFault::SamePort => SystemFault::SamePort,
+            DistFault::NotAssigned => SystemFault::NotAssigned,
+            DistFault::MarkersSpent => SystemFault::MarkersSpent,
+        }
     }
 }

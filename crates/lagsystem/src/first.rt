@@ -1,4 +1,4 @@
-ghost use Rattle.std.specs.Prelude.{◌≡◌, length, vec_len, IfOk};
+ghost use Rattle.std.specs.Prelude.{◌≡◌, ◌≤◌, length, vec_len, IfOk};
 ghost use Rattle.std.specs.List.{AllZip};
 ghost use Rattle.lagsystem.specs.First.{IsNew, misplaced, numbers_of, refusal};
 
@@ -66,4 +66,12 @@ pub(crate) fn refusal(keys: &[Key], ports: &[PortConfig]) -> Option<BadConfig>
         Some(place) => Some(BadConfig::PortNumber(place)),
         None => None,
     }
+}
+
+/// How many aggregators an accepted configuration has.
+pub(crate) fn count_of(keys: &[Key]) -> u16
+    requires { length keys.now ≤ 64 }
+    ensures { result ≡ length keys.now }
+{
+    keys.len() as u16
 }

@@ -1,40 +1,54 @@
-ghost use Rattle.std.specs.Prelude.{◌≡◌, ◌<◌, ◌≤◌, IfErr, IfOk, Some, length, vec_len};
-ghost use Rattle.lagsystem.specs.Calls.{Call, ReceivesAt, Reply, Step};
-ghost use Rattle.lagsystem.specs.First.{IsConfigured, IsFirst, fault_in, refusal_of};
+ghost use Rattle.std.specs.Prelude.{◌≡◌, ◌<◌, ◌≤◌, IfErr, IfOk, IsTrue, Some, length, map, vec_len};
+ghost use Rattle.distributor.specs.Calls.{PicksPlaces};
+ghost use Rattle.lagsystem.specs.Calls.{Call, ReceivesAt, Releases, Step, is_for};
+ghost use Rattle.lagsystem.specs.First.{fault_in, refusal_of};
 ghost use Rattle.lagsystem.specs.Kept.{state_of};
-ghost use Rattle.lagsystem.specs.Settling.{Settling};
-ghost use Rattle.lagsystem.specs.Sound.{IsSound};
+ghost use Rattle.lagsystem.specs.Leaving.{WereCarried, carriers};
+ghost use Rattle.lagsystem.specs.Offers.{has_aggregator};
+ghost use Rattle.lagsystem.specs.Sending.{SendsMarker};
+ghost use Rattle.lagsystem.specs.Settling.{Settling, SettlesPorts};
+ghost use Rattle.lagsystem.specs.Sound.{IsMade, IsSound};
+ghost use Rattle.lagsystem.specs.declared.answers.Received.{Received};
+ghost use Rattle.lagsystem.specs.declared.drive.Reply.{Reply};
 
 use crate::answers::{Heard, Received};
 use crate::config::{Config, PortChange, PortConfig};
 use crate::fault::SystemFault;
-use crate::first::{new_slots, refusal, restart_all};
-use crate::ports::{configure_port, hear, link_port, take_at, tick_all, transmit_port};
+use crate::first::{count_of, new_slots, refusal, restart_all};
+use crate::leaving::{carriers, free_where_down, leave_ports};
+use crate::offers::{check_offer, conversation_of};
+use crate::ports::{
+    configure_port, control_frame, hear, link_port, take_at, tick_all, transmit_at,
+};
+use crate::readers::distributing;
 use crate::settling::settle;
 use crate::slots::{Slot, place_of};
-use lagtypes::SystemId;
+use distributor::Distributor;
+use lagtypes::{AggId, SystemId};
 use selection::Aggregators;
+use slowpdu::{Marker, MarkerKind};
 use std::alloc::Global;
 
 /// What a system keeps.
 #[derive(Drop)]
-pub(crate) struct Core {
+pub(crate) struct Core<F> {
     pub(crate) system: SystemId,
     pub(crate) max_delay: u16,
-    pub(crate) first_marker: u32,
     pub(crate) aggregators: Aggregators,
     /// The ports as they were configured, to which a restart goes back.
     pub(crate) ports: Vec<PortConfig>,
     /// The ports as they are, in the same order.
     pub(crate) slots: Vec<Slot>,
+    /// The conversations.
+    pub(crate) distributor: Distributor<F>,
 }
 
-impl Core {
+impl<F: Fn(u16, usize) -> usize + Drop> Core<F> {
     /// A system whose links are down.
-    pub(crate) fn new(alloc: Global, config: Config) -> Result<Core, SystemFault>
-        ensures first { IfOk result (λ core. IsFirst (state_of core)) }
-        ensures configured { IfOk result (λ core. IsConfigured config (state_of core)) }
-        ensures sound { IfOk result (λ core. IsSound (state_of core)) }
+    pub(crate) fn new(alloc: Global, config: Config, algorithm: F) -> Result<Core<F>, SystemFault>
+        requires usable { PicksPlaces (F.pre algorithm) (F.post algorithm) }
+        ensures made { IfOk result (λ core. IsMade config (state_of core)) }
+        ensures algorithm { IfOk result (λ core. core.distributor.algorithm ≡ algorithm) }
         ensures refused { IfErr result (λ fault. fault ≡ fault_in (refusal_of config)) }
     {
         match refusal(&config.aggregators, &config.ports) {
@@ -45,53 +59,72 @@ impl Core {
             system,
             max_delay,
             first_marker,
-            aggregators,
+            aggregators: keys,
             ports,
         } = config;
-        let aggregators = Aggregators::new(alloc, &aggregators)?;
+        let aggregators = Aggregators::new(alloc, &keys)?;
         let slots = new_slots(alloc, system, &ports)?;
+        let distributor = Distributor::new(alloc, count_of(&keys), first_marker, algorithm)?;
         let mut core = Core {
             system,
             max_delay,
-            first_marker,
             aggregators,
             ports,
             slots,
+            distributor,
         };
-        core.settle();
+        core.settle_ports();
         Ok(core)
     }
 
-    /// One settling.
-    pub(crate) fn settle(&mut self)
+    /// The steps of a settling that look at ports alone.
+    fn settle_ports(&mut self)
         requires { vec_len self.old.slots ≤ 64 }
-        ensures { Settling (state_of self.old) (state_of self.new) }
+        ensures settled { SettlesPorts (state_of self.old) (state_of self.new) }
+        ensures distributor { self.new.distributor ≡ self.old.distributor }
     {
         settle(&self.aggregators, &mut self.slots);
     }
 
-    pub(crate) fn tick(&mut self)
-        requires { vec_len self.old.slots ≤ 64 }
-        ensures { Step (state_of self.old) Call.Tick Reply.Ticked (state_of self.new) }
+    /// One settling, by the aggregators in which the ports distributed before the call.
+    fn settle(&mut self, before: &[Option<AggId>])
+        requires { WereCarried before.now (state_of self.old) }
+        ensures settled { Settling (state_of self.old) (state_of self.new) }
+        ensures algorithm { self.new.distributor.algorithm ≡ self.old.distributor.algorithm }
     {
+        self.settle_ports();
+        leave_ports(&mut self.distributor, &self.slots, before);
+    }
+
+    pub(crate) fn tick(&mut self)
+        requires { IsSound (state_of self.old) }
+        ensures step { Step (F.post self.old.distributor.algorithm) (state_of self.old) Call.Tick Reply.Tick (state_of self.new) }
+        ensures algorithm { self.new.distributor.algorithm ≡ self.old.distributor.algorithm }
+    {
+        let before = carriers(&self.slots);
         tick_all(&mut self.slots);
-        self.settle();
+        self.distributor.tick();
+        self.settle(before.as_slice());
     }
 
     pub(crate) fn set_link(&mut self, number: u16, up: bool) -> Result<(), SystemFault>
-        requires { vec_len self.old.slots ≤ 64 }
-        ensures { Step (state_of self.old) (Call.Set_link number up) (Reply.Links result) (state_of self.new) }
+        requires { IsSound (state_of self.old) }
+        ensures step { Step (F.post self.old.distributor.algorithm) (state_of self.old) (Call.Set_link number up) (Reply.SetLink result) (state_of self.new) }
+        ensures algorithm { self.new.distributor.algorithm ≡ self.old.distributor.algorithm }
     {
+        let before = carriers(&self.slots);
         if !link_port(&mut self.slots, number, up) {
             return Err(SystemFault::NoPort);
         }
-        self.settle();
+        free_where_down(&mut self.distributor, number, up);
+        self.settle(before.as_slice());
         Ok(())
     }
 
     pub(crate) fn receive(&mut self, number: u16, octets: &[u8]) -> Result<Received, SystemFault>
-        requires { vec_len self.old.slots ≤ 64 }
-        ensures { Step (state_of self.old) (Call.Receive number octets.now) (Reply.Receives result) (state_of self.new) }
+        requires { IsSound (state_of self.old) }
+        ensures step { Step (F.post self.old.distributor.algorithm) (state_of self.old) (Call.Receive number octets.now) (Reply.Receive result) (state_of self.new) }
+        ensures algorithm { self.new.distributor.algorithm ≡ self.old.distributor.algorithm }
     {
         match place_of(&self.slots, number) {
             Some(place) => Ok(self.receive_at(place, octets)),
@@ -100,50 +133,149 @@ impl Core {
     }
 
     fn receive_at(&mut self, place: usize, octets: &[u8]) -> Received
-        requires few { vec_len self.old.slots ≤ 64 }
+        requires sound { IsSound (state_of self.old) }
         requires within { place < length self.old.slots.items }
-        ensures { ReceivesAt (Some place) octets.now (state_of self.old) result (state_of self.new) }
+        ensures received { ReceivesAt (Some place) octets.now (state_of self.old) result (state_of self.new) }
+        ensures algorithm { self.new.distributor.algorithm ≡ self.old.distributor.algorithm }
     {
+        let number = self.slots[place].number;
         match hear(&self.slots[place], octets) {
             Heard::Taken(pdu) => {
+                let before = carriers(&self.slots);
                 take_at(&mut self.slots, place, &pdu);
-                self.settle();
+                self.settle(before.as_slice());
                 Received::TookLacpdu
             }
+            Heard::Response(marker) => Received::Released(self.release(number, &marker)),
             Heard::Answered(reply) => reply,
         }
     }
 
-    pub(crate) fn configure(&mut self, number: u16, change: PortChange) -> Result<bool, SystemFault>
-        requires { vec_len self.old.slots ≤ 64 }
-        ensures { Step (state_of self.old) (Call.Configure number change) (Reply.Configures result) (state_of self.new) }
+    /// How many conversations a response frees that comes on a port.
+    fn release(&mut self, number: u16, response: &Marker) -> u32
+        ensures released { Releases (is_for (state_of self.old) number response.now) number response.now (state_of self.old) (Received.Released result) (state_of self.new) }
+        ensures algorithm { self.new.distributor.algorithm ≡ self.old.distributor.algorithm }
     {
+        if response.port == number && response.system == self.system.mac {
+            self.distributor.response(number, response.id)
+        } else {
+            0
+        }
+    }
+
+    pub(crate) fn configure(&mut self, number: u16, change: PortChange) -> Result<bool, SystemFault>
+        requires { IsSound (state_of self.old) }
+        ensures step { Step (F.post self.old.distributor.algorithm) (state_of self.old) (Call.Configure number change) (Reply.Configure result) (state_of self.new) }
+        ensures algorithm { self.new.distributor.algorithm ≡ self.old.distributor.algorithm }
+    {
+        let before = carriers(&self.slots);
         match configure_port(&mut self.slots, number, change) {
             None => Err(SystemFault::NoPort),
             Some(false) => Ok(false),
             Some(true) => {
-                self.settle();
+                self.settle(before.as_slice());
                 Ok(true)
             }
         }
     }
 
     pub(crate) fn restart(&mut self)
-        requires few { vec_len self.old.slots ≤ 64 }
-        requires same { vec_len self.old.slots ≡ vec_len self.old.ports }
-        ensures { Step (state_of self.old) Call.Restart Reply.Restarted (state_of self.new) }
+        requires { IsSound (state_of self.old) }
+        ensures step { Step (F.post self.old.distributor.algorithm) (state_of self.old) Call.Restart Reply.Restart (state_of self.new) }
+        ensures algorithm { self.new.distributor.algorithm ≡ self.old.distributor.algorithm }
     {
         restart_all(self.system, &self.ports, &mut self.slots);
-        self.settle();
+        self.distributor.clear();
+        self.settle_ports();
     }
 
     pub(crate) fn transmit(&mut self, number: u16) -> Result<Option<[u8; 124]>, SystemFault>
-        requires { vec_len self.old.slots ≤ 64 }
-        ensures { Step (state_of self.old) (Call.Transmit number) (Reply.Transmits result) (state_of self.new) }
+        ensures step { Step (F.post self.old.distributor.algorithm) (state_of self.old) (Call.Transmit number) (Reply.Transmit result) (state_of self.new) }
+        ensures algorithm { self.new.distributor.algorithm ≡ self.old.distributor.algorithm }
     {
-        match transmit_port(&mut self.slots, number, self.max_delay) {
-            Some(frame) => Ok(frame),
-            None => Err(SystemFault::NoPort),
+        let Some(place) = place_of(&self.slots, number) else {
+            return Err(SystemFault::NoPort);
+        };
+        if !self.slots[place].port.is_enabled() {
+            return Ok(None);
         }
+        if let Some(frame) = transmit_at(&mut self.slots, place, self.max_delay) {
+            return Ok(Some(frame));
+        }
+        let mac = self.slots[place].mac;
+        Ok(self.transmit_marker(number, mac))
+    }
+
+    /// The marker that is due on a port, as a control frame.
+    fn transmit_marker(&mut self, number: u16, mac: [u8; 6]) -> Option<[u8; 124]>
+        ensures sends { SendsMarker number mac (state_of self.old) result (state_of self.new) }
+        ensures algorithm { self.new.distributor.algorithm ≡ self.old.distributor.algorithm }
+    {
+        let id = self.distributor.marker_for(number)?;
+        let marker = Marker {
+            kind: MarkerKind::Information,
+            port: number,
+            system: self.system.mac,
+            id,
+        };
+        Some(control_frame(mac, &marker.encode()))
+    }
+
+    /// Whether there is such an aggregator.
+    fn has_aggregator(&self, agg: AggId) -> bool
+        requires { IsSound (state_of self.now) }
+        ensures { result ≡ has_aggregator (state_of self.now) agg }
+    {
+        self.distributor.is_conversation(agg, 0)
+    }
+
+    pub(crate) fn offer(&mut self, agg: AggId, octets: &[u8]) -> Result<u16, SystemFault>
+        requires usable { PicksPlaces (F.pre self.old.distributor.algorithm) (F.post self.old.distributor.algorithm) }
+        requires sound { IsSound (state_of self.old) }
+        ensures step { Step (F.post self.old.distributor.algorithm) (state_of self.old) (Call.Offer agg octets.now) (Reply.Offer result) (state_of self.new) }
+        ensures algorithm { self.new.distributor.algorithm ≡ self.old.distributor.algorithm }
+    {
+        if !self.has_aggregator(agg) {
+            return Err(SystemFault::NoAggregator);
+        }
+        check_offer(octets)?;
+        let ports = distributing(&self.slots, agg);
+        let port = self
+            .distributor
+            .assign(agg, conversation_of(octets), ports.as_slice())?;
+        Ok(port)
+    }
+
+    pub(crate) fn move_conversation(
+        &mut self,
+        agg: AggId,
+        conv: u16,
+        port: u16,
+    ) -> Result<(), SystemFault>
+        requires { IsSound (state_of self.old) }
+        ensures step { Step (F.post self.old.distributor.algorithm) (state_of self.old) (Call.Move_conversation agg conv port) (Reply.MoveConversation result) (state_of self.new) }
+        ensures algorithm { self.new.distributor.algorithm ≡ self.old.distributor.algorithm }
+    {
+        if !self.has_aggregator(agg) {
+            return Err(SystemFault::NoAggregator);
+        }
+        if place_of(&self.slots, port).is_none() {
+            return Err(SystemFault::NoPort);
+        }
+        let ports = distributing(&self.slots, agg);
+        self.distributor.move_to(agg, conv, port, ports.as_slice())?;
+        Ok(())
+    }
+
+    pub(crate) fn force(&mut self, agg: AggId, conv: u16) -> Result<(), SystemFault>
+        requires { IsSound (state_of self.old) }
+        ensures step { Step (F.post self.old.distributor.algorithm) (state_of self.old) (Call.Force agg conv) (Reply.Force result) (state_of self.new) }
+        ensures algorithm { self.new.distributor.algorithm ≡ self.old.distributor.algorithm }
+    {
+        if !self.has_aggregator(agg) {
+            return Err(SystemFault::NoAggregator);
+        }
+        self.distributor.force(agg, conv)?;
+        Ok(())
     }
 }

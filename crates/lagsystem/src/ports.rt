@@ -1,13 +1,17 @@
 ghost use Rattle.std.specs.Prelude.{◌≡◌, ◌<◌, None, Some, true, length, IfNone, IfSome};
 ghost use Rattle.std.specs.Bool.{OnFalse, OnTrue};
 ghost use Rattle.collector.specs.Collecting.{IsDataFrame};
+ghost use Rattle.slowpdu.specs.Frames.{frame_octets};
+ghost use Rattle.slowpdu.specs.Layout.{IsAddress};
 ghost use Rattle.slowpdu.specs.Markers.{response_to};
 ghost use Rattle.lagtypes.specs.Same.{same_party};
 ghost use Rattle.portmachines.specs.Receive.{receive_rows};
 ghost use Rattle.portmachines.specs.Rows.{Settles};
 ghost use Rattle.portmachines.specs.Start.{Starts};
 ghost use Rattle.portmachines.specs.Transmit.{count_down};
-ghost use Rattle.lagsystem.specs.Calls.{AnswersMarker, ChangesLink, ChangesParty, Hears, HearsPayload, IsAtPlace, OnPlace, Sends, SendsAt, Takes, changed, collecting, handed};
+ghost use Rattle.lagsystem.specs.Calls.{AnswersMarker, ChangesLink, ChangesParty, Hears, HearsPayload, IsAtPlace, OnPlace, Takes, changed, handed};
+ghost use Rattle.lagsystem.specs.Readers.{collecting};
+ghost use Rattle.lagsystem.specs.Sending.{Sends, SlotSends};
 ghost use Rattle.lagsystem.specs.Settling.{AllMove, Moves};
 ghost use Rattle.lagsystem.specs.State.{place_of};
 
@@ -60,7 +64,7 @@ pub(crate) fn take_at(slots: &mut [Slot], place: usize, pdu: &Lacpdu)
 }
 
 /// The aggregator in which a port is Collecting (6.2.3).
-fn collecting(port: &Port) -> Option<AggId>
+pub(crate) fn collecting(port: &Port) -> Option<AggId>
     ensures { result ≡ collecting port.now }
 {
     match (port.mux_state(), port.choice()) {
@@ -82,11 +86,11 @@ fn hand_up(slot: &Slot, octets: &[u8]) -> Received
 
 /// What an enabled port answers to a marker or a marker response.
 fn answer_marker(slot: &Slot, marker: &Marker) -> Heard
-    ensures { AnswersMarker slot.now.mac (response_to marker.now) result }
+    ensures { AnswersMarker slot.now.mac marker.now (response_to marker.now) result }
 {
     match answer(true, marker) {
         Some(response) => Heard::Answered(Received::Respond(frame(slot.mac, &response.encode()))),
-        None => Heard::Answered(Received::Released(0)),
+        None => Heard::Response(*marker),
     }
 }
 
@@ -115,37 +119,33 @@ pub(crate) fn hear(slot: &Slot, octets: &[u8]) -> Heard
     }
 }
 
-/// The LACPDU that is due on a port whose link is up, as a control frame.
+/// The control frame from a port's address with this payload.
+pub(crate) fn control_frame(mac: [u8; 6], payload: &[u8; 110]) -> [u8; 124]
+    ensures octets { result ≡ frame_octets mac payload.now }
+    ensures address { IsAddress mac }
+{
+    frame(mac, payload)
+}
+
+/// The LACPDU that is due on a port, as a control frame.
 fn transmit_slot(slot: &mut Slot, max_delay: u16) -> Option<[u8; 124]>
     ensures kept { slot.new ≡ record slot.old { port = slot.new.port } }
-    ensures sends { Sends max_delay slot.old.mac slot.old.port result slot.new.port }
+    ensures sends { Sends max_delay slot.old result slot.new.port }
 {
-    if !slot.port.is_enabled() {
-        return None;
-    }
+    let mac = slot.mac;
     match slot.port.transmit(max_delay) {
-        Some(pdu) => Some(frame(slot.mac, &pdu.encode())),
+        Some(pdu) => Some(control_frame(mac, &pdu.encode())),
         None => None,
     }
 }
 
-/// What a port sends; None where there is no such port.
-pub(crate) fn transmit_port(
-    slots: &mut [Slot],
-    number: u16,
-    max_delay: u16,
-) -> Option<Option<[u8; 124]>>
-    ensures none { IfNone result (place_of number slots.old ≡ None) }
-    ensures same { IfNone result (slots.new ≡ slots.old) }
-    ensures sends { IfSome result (λ reply. SendsAt max_delay (place_of number slots.old) reply slots.old slots.new) }
+/// The LACPDU that is due on the port at this place, as a control frame.
+pub(crate) fn transmit_at(slots: &mut [Slot], place: usize, max_delay: u16) -> Option<[u8; 124]>
+    requires { place < length slots.old }
+    ensures { SlotSends max_delay place result slots.old slots.new }
 {
-    match place_of(slots, number) {
-        Some(place) => {
-            let slot = &mut slots[place];
-            Some(transmit_slot(slot, max_delay))
-        }
-        None => None,
-    }
+    let slot = &mut slots[place];
+    transmit_slot(slot, max_delay)
 }
 
 /// Gives a port another key, priority or Aggregation bit, and answers whether something differs; None where there is

@@ -3,9 +3,10 @@ ghost use Rattle.lagtypes.specs.Group.{group_of};
 ghost use Rattle.portmachines.specs.Mux.{is_mux};
 ghost use Rattle.slowpdu.specs.Parties.{party_of};
 ghost use Rattle.lagsystem.specs.State.{place_of, port_of, slot_at};
-ghost use Rattle.lagsystem.specs.Readers.{distributes_in, group_at};
+ghost use Rattle.lagsystem.specs.Readers.{conversation_in, distributes_in, distributing, group_at};
 
 use crate::calls::System;
+use crate::offers::conversation_of;
 use crate::slots::{Slot, place_of};
 use arrayvec::ArrayVec;
 use lagtypes::{AggId, Choice, Group, Party};
@@ -23,7 +24,7 @@ fn slot_of(slots: &[Slot], number: u16) -> Option<&Slot>
 }
 
 /// Whether a port distributes in this aggregator.
-fn distributes_in(slot: &Slot, agg: AggId) -> bool
+pub(crate) fn distributes_in(slot: &Slot, agg: AggId) -> bool
     ensures { result ≡ distributes_in agg slot.now }
 {
     match slot.port.choice() {
@@ -33,9 +34,9 @@ fn distributes_in(slot: &Slot, agg: AggId) -> bool
 }
 
 /// The numbers of the ports that distribute in this aggregator.
-fn distributing(slots: &[Slot], agg: AggId) -> ArrayVec<u16, 64>
+pub(crate) fn distributing(slots: &[Slot], agg: AggId) -> ArrayVec<u16, 64>
     requires { length slots.now ≤ 64 }
-    ensures { result.items ≡ map (λ s. s.number) (filter (distributes_in agg) slots.now) }
+    ensures { result.items ≡ distributing agg slots.now }
 {
     let mut found = ArrayVec::new();
     for slot in slots {
@@ -46,10 +47,10 @@ fn distributing(slots: &[Slot], agg: AggId) -> ArrayVec<u16, 64>
     found
 }
 
-impl System {
+impl<F: Fn(u16, usize) -> usize + Drop> System<F> {
     /// The own parameters of a port; None where there is no such port.
     pub fn party(&self, port: u16) -> Option<Party>
-        ensures { result ≡ option_map (λ p. p.party) (port_of port self.now) }
+        ensures { result ≡ option_map (λ p. p.party) (port_of port self.now.state) }
     {
         match slot_of(&self.core.slots, port) {
             Some(slot) => Some(slot.port.party()),
@@ -59,7 +60,7 @@ impl System {
 
     /// The recorded partner of a port (6.4.7); None where there is no such port.
     pub fn partner(&self, port: u16) -> Option<Info>
-        ensures { result ≡ option_map (λ p. p.partner) (port_of port self.now) }
+        ensures { result ≡ option_map (λ p. p.partner) (port_of port self.now.state) }
     {
         match slot_of(&self.core.slots, port) {
             Some(slot) => Some(slot.port.partner()),
@@ -70,7 +71,7 @@ impl System {
     /// The Link Aggregation Group of a port: that of its party and its recorded partner's (6.3.6); None where there is
     /// no such port.
     pub fn group(&self, port: u16) -> Option<Group>
-        ensures { result ≡ option_map group_at (port_of port self.now) }
+        ensures { result ≡ option_map group_at (port_of port self.now.state) }
     {
         match slot_of(&self.core.slots, port) {
             Some(slot) => Some(Group::of(&slot.port.party(), &slot.port.partner().party())),
@@ -80,7 +81,7 @@ impl System {
 
     /// Whether the recorded partner of a port is the administrative default; None where there is no such port.
     pub fn defaulted(&self, port: u16) -> Option<bool>
-        ensures { result ≡ option_map (λ p. p.defaulted) (port_of port self.now) }
+        ensures { result ≡ option_map (λ p. p.defaulted) (port_of port self.now.state) }
     {
         match slot_of(&self.core.slots, port) {
             Some(slot) => Some(slot.port.is_defaulted()),
@@ -90,7 +91,7 @@ impl System {
 
     /// Whether a port distributes; None where there is no such port.
     pub fn distributes(&self, port: u16) -> Option<bool>
-        ensures { result ≡ option_map (λ p. is_mux MuxState.CollectingDistributing p.mux) (port_of port self.now) }
+        ensures { result ≡ option_map (λ p. is_mux MuxState.CollectingDistributing p.mux) (port_of port self.now.state) }
     {
         match slot_of(&self.core.slots, port) {
             Some(slot) => Some(slot.port.distributes()),
@@ -100,7 +101,7 @@ impl System {
 
     /// What the Selection Logic gave a port (6.4.8, Selected); None where there is no such port.
     pub fn choice(&self, port: u16) -> Option<Choice>
-        ensures { result ≡ option_map (λ p. p.choice) (port_of port self.now) }
+        ensures { result ≡ option_map (λ p. p.choice) (port_of port self.now.state) }
     {
         match slot_of(&self.core.slots, port) {
             Some(slot) => Some(slot.port.choice()),
@@ -110,7 +111,7 @@ impl System {
 
     /// The state of the mux machine of a port (6.4.15); None where there is no such port.
     pub fn mux_state(&self, port: u16) -> Option<MuxState>
-        ensures { result ≡ option_map (λ p. p.mux) (port_of port self.now) }
+        ensures { result ≡ option_map (λ p. p.mux) (port_of port self.now.state) }
     {
         match slot_of(&self.core.slots, port) {
             Some(slot) => Some(slot.port.mux_state()),
@@ -120,8 +121,19 @@ impl System {
 
     /// The numbers of the ports that distribute in an aggregator, ascending; empty where there is no such aggregator.
     pub fn distributing(&self, agg: AggId) -> ArrayVec<u16, 64>
-        ensures { result.items ≡ map (λ s. s.number) (filter (distributes_in agg) self.now.slots) }
+        ensures { result.items ≡ distributing agg self.now.state.slots }
     {
         distributing(&self.core.slots, agg)
+    }
+
+    /// The conversation of a frame in its aggregator, 0 to 255: octet 5 exclusive-or octet 11; None below 14 octets
+    /// (profile).
+    pub fn conversation(&self, frame: &[u8]) -> Option<u16>
+        ensures { result ≡ conversation_in frame.now }
+    {
+        if frame.len() < 14 {
+            return None;
+        }
+        Some(conversation_of(frame))
     }
 }

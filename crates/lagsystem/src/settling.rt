@@ -3,9 +3,9 @@ ghost use Rattle.std.specs.List.{list_any};
 ghost use Rattle.portmachines.specs.Rows.{Settles};
 ghost use Rattle.portmachines.specs.Mux.{mux_rows};
 ghost use Rattle.portmachines.specs.Periodic.{RunsPeriodic};
-ghost use Rattle.selection.specs.Views.{waits};
+ghost use Rattle.selection.specs.Views.{is_eligible, waits};
 ghost use Rattle.lagsystem.specs.Views.{view_of, views};
-ghost use Rattle.lagsystem.specs.Settling.{AllMove, Moves, Settling, choose_slot, chosen, ready_of};
+ghost use Rattle.lagsystem.specs.Settling.{AllMove, Moves, SettlesPorts, choose_slot, chosen, ready_of};
 ghost use Rattle.lagsystem.specs.State.{State, with_slots};
 
 use crate::slots::{Slot, is_eligible, views};
@@ -28,20 +28,39 @@ fn run_free_mux(slots: &mut [Slot])
     }
 }
 
-/// The port at this place takes its aggregator, where it is eligible.
-fn choose_at(aggregators: &Aggregators, slots: &mut [Slot], place: usize)
-    requires few { length slots.old ≤ 64 }
+fn one_is_eligible(slots: &[Slot]) -> bool
+    ensures { result ≡ list_any (λ s. is_eligible (view_of s)) slots.now }
+{
+    slots.iter().any(|slot| is_eligible(slot))
+}
+
+/// The port at this place takes its aggregator, where it is eligible; what is seen of the ports goes with them.
+fn choose_at(aggregators: &Aggregators, slots: &mut [Slot], seen: &mut [PortView], place: usize)
+    requires seen { seen.old ≡ views slots.old }
     requires within { place < length slots.old }
-    ensures { slots.new ≡ choose_slot aggregators.now slots.old place (slice_get slots.old place) }
+    ensures chosen { slots.new ≡ choose_slot aggregators.now slots.old place (slice_get slots.old place) }
+    ensures seen { seen.new ≡ views slots.new }
 {
     if !is_eligible(&slots[place]) {
         return;
     }
-    let seen = views(slots);
     let slot = &mut slots[place];
-    match aggregators.choose(seen.as_slice(), slot.number) {
-        Some(agg) => slot.port.select(Choice::Selected(agg)),
+    match aggregators.choose(seen, slot.number) {
+        Some(agg) => {
+            let choice = Choice::Selected(agg);
+            slot.port.select(choice);
+            seen[place].choice = choice;
+        }
         None => {}
+    }
+}
+
+fn choose_all_seeing(aggregators: &Aggregators, slots: &mut [Slot], seen: &mut [PortView])
+    requires { seen.old ≡ views slots.old }
+    ensures { slots.new ≡ chosen aggregators.now (length slots.old) slots.old }
+{
+    for place in 0..slots.len() {
+        choose_at(aggregators, slots, seen, place);
     }
 }
 
@@ -50,8 +69,9 @@ fn choose_all(aggregators: &Aggregators, slots: &mut [Slot])
     requires { length slots.old ≤ 64 }
     ensures { slots.new ≡ chosen aggregators.now (length slots.old) slots.old }
 {
-    for place in 0..slots.len() {
-        choose_at(aggregators, slots, place);
+    if one_is_eligible(slots) {
+        let mut seen = views(slots);
+        choose_all_seeing(aggregators, slots, seen.as_mut_slice());
     }
 }
 
@@ -124,11 +144,12 @@ fn run_periodic(slots: &mut [Slot])
     }
 }
 
-/// One settling (profile): six steps over all ports. It looks at each port a bounded number of times, but for ports
-/// that may take an aggregator or that wait for Ready.
+/// The steps of one settling (profile) that look at ports alone. It looks at each port a bounded number of times; where a
+/// port may take an aggregator, and where one waits for Ready, it lists once what is seen of the ports, and selection
+/// searches that list.
 pub(crate) fn settle(aggregators: &Aggregators, slots: &mut [Slot])
     requires { length slots.old ≤ 64 }
-    ensures { (base : State) → base.keys ≡ aggregators.now → base.slots ≡ slots.old → Settling base (with_slots base slots.new) }
+    ensures { (base : State) → base.keys ≡ aggregators.now → base.slots ≡ slots.old → SettlesPorts base (with_slots base slots.new) }
 {
     run_free_mux(slots);
     choose_all(aggregators, slots);

@@ -2,7 +2,8 @@ ghost use Rattle.std.specs.Prelude.{◌≡◌, ◌<◌, ◌≤◌, IfSome, lengt
 ghost use Rattle.lagsystem.specs.Views.{stage_of, view_of, views};
 ghost use Rattle.lagsystem.specs.State.{place_of};
 ghost use Rattle.lagsystem.specs.First.{IsNew, setup_of};
-ghost use Rattle.selection.specs.Views.{is_detached, is_eligible, is_unselected};
+ghost use Rattle.lagtypes.specs.Choices.{is_unselected};
+ghost use Rattle.selection.specs.Views.{is_detached, is_eligible};
 
 use crate::config::PortConfig;
 use arrayvec::ArrayVec;

@@ -1,12 +1,18 @@
+ghost use Rattle.std.specs.Prelude.{◌≡◌, ◌<◌, IfOk};
+ghost use Rattle.distributor.specs.Calls.{PicksPlaces};
+
+mod conversations;
+mod memory;
+
 use crate::{BadConfig, Config, PortChange, PortConfig, Received, System, SystemFault};
 use bitflags::Flags;
 use lagtypes::{AggId, Choice, Group, Key, NoMemory, Party, PortId, State, SystemId};
 use portmachines::MuxState;
-use slowpdu::{Info, Lacpdu, WireFault, frame};
+use slowpdu::{Info, Lacpdu, Marker, MarkerKind, WireFault, frame};
 use std::alloc::Global;
 use std::test::Fail;
 
-/// A data frame.
+/// A data frame of conversation 48.
 const DATA: [u8; 14] = [2, 0, 0, 0, 0, 0x20, 2, 0, 0, 0, 0, 0x10, 8, 0];
 
 /// A call, or several, with what it answers; or what a reader tells then.
@@ -29,6 +35,15 @@ enum Row<'a> {
     Mux(u16, MuxState),
     Defaulted(u16, bool),
     Distributing(u16, &'a [u16]),
+    /// `offer` of a frame in an aggregator answers so.
+    Offers(u16, &'a [u8], Result<u16, SystemFault>),
+    /// `move_conversation` to a port answers so.
+    Moves(u16, u16, u16, Result<(), SystemFault>),
+    Forces(u16, u16, Result<(), SystemFault>),
+    /// `transmit` is the marker of this identifier.
+    Marks(u16, u32),
+    /// This marker response comes on a port and frees so many conversations.
+    Releases(u16, Marker, u32),
 }
 
 /// What the readers tell of a port.
@@ -43,7 +58,18 @@ struct Seen {
     mux: Option<MuxState>,
 }
 
-fn look(system: &System, port: u16) -> Seen {
+/// The algorithm of the tests.
+fn modulo(conv: u16, count: usize) -> usize
+    ensures { 0 < count → result < count }
+{
+    if count == 0 {
+        0
+    } else {
+        usize::from(conv) % count
+    }
+}
+
+fn look<F: Fn(u16, usize) -> usize + Drop>(system: &System<F>, port: u16) -> Seen {
     Seen {
         party: system.party(port),
         partner: system.partner(port),
@@ -75,6 +101,16 @@ fn zero(state: u8) -> Info {
     Info {
         state: State::from_bits_retain(state),
         ..Info::default()
+    }
+}
+
+/// A marker of the system with this number.
+fn marker(kind: MarkerKind, port: u16, system: u8, id: u32) -> Marker {
+    Marker {
+        kind,
+        port,
+        system: [2, 0, 0, 0, 0, system],
+        id,
     }
 }
 
@@ -136,55 +172,195 @@ fn number_all(numbers: &mut [u16]) {
     }
 }
 
-fn made(alloc: Global, numbers: &[u16], keys: usize) -> Result<System, SystemFault> {
-    System::new(alloc, config(alloc, numbers, keys)?)
+fn made<F: Fn(u16, usize) -> usize + Drop>(
+    alloc: Global,
+    numbers: &[u16],
+    keys: usize,
+    algorithm: F,
+) -> Result<System<F>, SystemFault>
+    requires usable { PicksPlaces (F.pre algorithm) (F.post algorithm) }
+    ensures algorithm { IfOk result (λ s. s.algorithm ≡ algorithm) }
+{
+    System::new(alloc, config(alloc, numbers, keys)?, algorithm)
 }
 
-fn tick(system: &mut System, ticks: u16) {
+/// Makes so many ticks, which answer nothing.
+fn tick<F: Fn(u16, usize) -> usize + Drop>(system: &mut System<F>, ticks: u16) -> bool
+    ensures algorithm { system.new.algorithm ≡ system.old.algorithm }
+{
     for _ in 0..ticks {
         system.tick();
     }
+    true
 }
 
-fn quiet(system: &mut System, port: u16, ticks: u16) -> bool {
+fn restart<F: Fn(u16, usize) -> usize + Drop>(system: &mut System<F>) -> bool
+    ensures algorithm { system.new.algorithm ≡ system.old.algorithm }
+{
+    system.restart();
+    true
+}
+
+/// Makes a tick, and answers whether `transmit` is None then.
+fn is_quiet<F: Fn(u16, usize) -> usize + Drop>(system: &mut System<F>, port: u16) -> bool
+    ensures algorithm { system.new.algorithm ≡ system.old.algorithm }
+{
+    system.tick();
+    system.transmit(port) == Ok(None)
+}
+
+fn quiet<F: Fn(u16, usize) -> usize + Drop>(system: &mut System<F>, port: u16, ticks: u16) -> bool
+    ensures algorithm { system.new.algorithm ≡ system.old.algorithm }
+{
     for _ in 0..ticks {
-        system.tick();
-        if system.transmit(port) != Ok(None) {
+        if !is_quiet(system, port) {
             return false;
         }
     }
     true
 }
 
-/// Makes the calls of a row, and answers whether it went as it says.
-fn passes(system: &mut System, row: Row<'_>) -> bool {
+/// Whether `transmit` is a control frame of this payload.
+fn sends<F: Fn(u16, usize) -> usize + Drop>(
+    system: &mut System<F>,
+    port: u16,
+    payload: &[u8; 110],
+) -> bool
+    ensures algorithm { system.new.algorithm ≡ system.old.algorithm }
+{
+    system.transmit(port) == Ok(Some(frame(mac(port), payload)))
+}
+
+/// Whether `transmit` is the marker of this identifier.
+fn marks<F: Fn(u16, usize) -> usize + Drop>(system: &mut System<F>, port: u16, id: u32) -> bool
+    ensures algorithm { system.new.algorithm ≡ system.old.algorithm }
+{
+    sends(
+        system,
+        port,
+        &marker(MarkerKind::Information, port, 1, id).encode(),
+    )
+}
+
+/// Whether a control frame of this payload from the peer is answered so.
+fn hears<F: Fn(u16, usize) -> usize + Drop>(
+    system: &mut System<F>,
+    port: u16,
+    payload: &[u8; 110],
+    answer: Received,
+) -> bool
+    ensures algorithm { system.new.algorithm ≡ system.old.algorithm }
+{
+    system.receive(port, &frame(mac(9), payload)) == Ok(answer)
+}
+
+fn links<F: Fn(u16, usize) -> usize + Drop>(system: &mut System<F>, port: u16, up: bool) -> bool
+    ensures algorithm { system.new.algorithm ≡ system.old.algorithm }
+{
+    system.set_link(port, up) == Ok(())
+}
+
+/// Whether these octets on a port are answered so.
+fn receives<F: Fn(u16, usize) -> usize + Drop>(
+    system: &mut System<F>,
+    port: u16,
+    octets: &[u8],
+    answer: Received,
+) -> bool
+    ensures algorithm { system.new.algorithm ≡ system.old.algorithm }
+{
+    system.receive(port, octets) == Ok(answer)
+}
+
+fn is_silent<F: Fn(u16, usize) -> usize + Drop>(system: &mut System<F>, port: u16) -> bool
+    ensures algorithm { system.new.algorithm ≡ system.old.algorithm }
+{
+    system.transmit(port) == Ok(None)
+}
+
+fn offers<F: Fn(u16, usize) -> usize + Drop>(
+    system: &mut System<F>,
+    agg: u16,
+    octets: &[u8],
+    answer: Result<u16, SystemFault>,
+) -> bool
+    requires usable { PicksPlaces (F.pre system.old.algorithm) (F.post system.old.algorithm) }
+    ensures algorithm { system.new.algorithm ≡ system.old.algorithm }
+{
+    system.offer(AggId(agg), octets) == answer
+}
+
+fn moves<F: Fn(u16, usize) -> usize + Drop>(
+    system: &mut System<F>,
+    agg: u16,
+    conv: u16,
+    port: u16,
+    answer: Result<(), SystemFault>,
+) -> bool
+    ensures algorithm { system.new.algorithm ≡ system.old.algorithm }
+{
+    system.move_conversation(AggId(agg), conv, port) == answer
+}
+
+fn forces<F: Fn(u16, usize) -> usize + Drop>(
+    system: &mut System<F>,
+    agg: u16,
+    conv: u16,
+    answer: Result<(), SystemFault>,
+) -> bool
+    ensures algorithm { system.new.algorithm ≡ system.old.algorithm }
+{
+    system.force(AggId(agg), conv) == answer
+}
+
+/// Whether the readers tell what a row says.
+fn shows<F: Fn(u16, usize) -> usize + Drop>(system: &System<F>, row: Row<'_>) -> bool {
     match row {
-        Row::Link(port, up) => return system.set_link(port, up) == Ok(()),
+        Row::Chosen(port, choice) => system.choice(port) == Some(choice),
+        Row::Mux(port, state) => system.mux_state(port) == Some(state),
+        Row::Defaulted(port, defaulted) => system.defaulted(port) == Some(defaulted),
+        Row::Distributing(agg, ports) => system.distributing(AggId(agg)).as_slice() == ports,
+        _ => false,
+    }
+}
+
+/// Makes the calls of a row, and answers whether it went as it says.
+fn passes<F: Fn(u16, usize) -> usize + Drop>(system: &mut System<F>, row: Row<'_>) -> bool
+    requires usable { PicksPlaces (F.pre system.old.algorithm) (F.post system.old.algorithm) }
+    ensures algorithm { system.new.algorithm ≡ system.old.algorithm }
+{
+    match row {
+        Row::Link(port, up) => links(system, port, up),
         Row::Ticks(ticks) => tick(system, ticks),
-        Row::Restart => system.restart(),
+        Row::Restart => restart(system),
         Row::Takes(port, actor, partner) => {
-            let octets = frame(mac(9), &lacpdu(actor, partner));
-            return system.receive(port, &octets) == Ok(Received::TookLacpdu);
+            hears(system, port, &lacpdu(actor, partner), Received::TookLacpdu)
         }
-        Row::Data(port, answer) => return system.receive(port, &DATA) == Ok(answer),
-        Row::Silent(port) => return system.transmit(port) == Ok(None),
-        Row::Quiet(port, ticks) => return quiet(system, port, ticks),
-        Row::Sends(port, actor, partner) => {
-            let octets = frame(mac(port), &lacpdu(actor, partner));
-            return system.transmit(port) == Ok(Some(octets));
+        Row::Data(port, answer) => receives(system, port, &DATA, answer),
+        Row::Silent(port) => is_silent(system, port),
+        Row::Quiet(port, ticks) => quiet(system, port, ticks),
+        Row::Sends(port, actor, partner) => sends(system, port, &lacpdu(actor, partner)),
+        Row::Offers(agg, octets, answer) => offers(system, agg, octets, answer),
+        Row::Moves(agg, conv, port, answer) => moves(system, agg, conv, port, answer),
+        Row::Forces(agg, conv, answer) => forces(system, agg, conv, answer),
+        Row::Marks(port, id) => marks(system, port, id),
+        Row::Releases(port, response, count) => {
+            hears(system, port, &response.encode(), Received::Released(count))
         }
-        Row::Chosen(port, choice) => return system.choice(port) == Some(choice),
-        Row::Mux(port, state) => return system.mux_state(port) == Some(state),
-        Row::Defaulted(port, defaulted) => return system.defaulted(port) == Some(defaulted),
-        Row::Distributing(agg, ports) => {
-            return system.distributing(AggId(agg)).as_slice() == ports;
+        Row::Chosen(..) | Row::Mux(..) | Row::Defaulted(..) | Row::Distributing(..) => {
+            shows(system, row)
         }
     }
-    true
 }
 
 /// The place of the first row that does not go as it says.
-fn first_other(system: &mut System, rows: &[Row<'_>]) -> Option<usize> {
+fn first_other<F: Fn(u16, usize) -> usize + Drop>(
+    system: &mut System<F>,
+    rows: &[Row<'_>],
+) -> Option<usize>
+    requires usable { PicksPlaces (F.pre system.old.algorithm) (F.post system.old.algorithm) }
+    ensures algorithm { system.new.algorithm ≡ system.old.algorithm }
+{
     for (place, row) in rows.iter().enumerate() {
         if !passes(system, *row) {
             return Some(place);
@@ -195,7 +371,7 @@ fn first_other(system: &mut System, rows: &[Row<'_>]) -> Option<usize> {
 
 #[test]
 fn three_answers_then_the_window_then_a_restart(rt: HostRuntime) -> Result<(), Fail> {
-    let mut system = made(rt.alloc(), &[1], 1)?;
+    let mut system = made(rt.alloc(), &[1], 1, modulo)?;
     let fresh = look(&system, 1);
     let theirs = end(2, 1, 1, 0x07);
     let takes = Row::Takes(1, theirs, zero(0));
@@ -229,7 +405,7 @@ fn three_answers_then_the_window_then_a_restart(rt: HostRuntime) -> Result<(), F
 
 #[test]
 fn another_key_of_the_partner(rt: HostRuntime) -> Result<(), Fail> {
-    let mut system = made(rt.alloc(), &[1, 2], 2)?;
+    let mut system = made(rt.alloc(), &[1, 2], 2, modulo)?;
     let rows = [
         Row::Link(1, true),
         Row::Link(2, true),
@@ -254,7 +430,7 @@ fn another_key_of_the_partner(rt: HostRuntime) -> Result<(), Fail> {
 
 #[test]
 fn an_lacpdu_of_the_own_system(rt: HostRuntime) -> Result<(), Fail> {
-    let mut system = made(rt.alloc(), &[1], 1)?;
+    let mut system = made(rt.alloc(), &[1], 1, modulo)?;
     let rows = [
         Row::Link(1, true),
         Row::Takes(1, end(1, 1, 1, 0x07), zero(0)),
@@ -276,7 +452,7 @@ fn an_lacpdu_of_the_own_system(rt: HostRuntime) -> Result<(), Fail> {
 
 #[test]
 fn frames_that_change_nothing(rt: HostRuntime) -> Result<(), Fail> {
-    let mut system = made(rt.alloc(), &[2], 1)?;
+    let mut system = made(rt.alloc(), &[2], 1, modulo)?;
     assert_eq!(rt; system.receive(2, &DATA), Ok(Received::Disabled));
     assert_eq!(rt; system.set_link(2, true), Ok(()));
     let before = look(&system, 2);
@@ -316,7 +492,7 @@ fn frames_that_change_nothing(rt: HostRuntime) -> Result<(), Fail> {
 
 #[test]
 fn a_port_is_given_another_key(rt: HostRuntime) -> Result<(), Fail> {
-    let mut system = made(rt.alloc(), &[1], 1)?;
+    let mut system = made(rt.alloc(), &[1], 1, modulo)?;
     let theirs = end(2, 1, 1, 0x07);
     assert_eq!(rt; system.set_link(1, true), Ok(()));
     assert!(rt; passes(&mut system, Row::Takes(1, theirs, zero(0))));
@@ -349,7 +525,7 @@ fn a_port_is_given_another_key(rt: HostRuntime) -> Result<(), Fail> {
 
 #[test]
 fn a_port_that_is_not_there(rt: HostRuntime) -> Result<(), Fail> {
-    let mut system = made(rt.alloc(), &[1, 3], 1)?;
+    let mut system = made(rt.alloc(), &[1, 3], 1, modulo)?;
     let change = PortChange {
         key: Key(2),
         priority: 128,
@@ -381,7 +557,7 @@ fn configurations_are_refused_in_order(rt: HostRuntime) -> Result<(), Fail> {
     let mut many = [0; 65];
     number_all(&mut most);
     number_all(&mut many);
-    let system = made(rt.alloc(), &most, 64)?;
+    let system = made(rt.alloc(), &most, 64, modulo)?;
     assert_eq!(rt; system.choice(64), Some(Choice::Unselected));
     let rows: [(&[u16], usize, BadConfig); 8] = [
         (&[], 0, BadConfig::Ports),
@@ -394,7 +570,7 @@ fn configurations_are_refused_in_order(rt: HostRuntime) -> Result<(), Fail> {
         (&[65535, 1], 1, BadConfig::PortNumber(2)),
     ];
     for (numbers, keys, reason) in rows {
-        let refused = made(rt.alloc(), numbers, keys).err();
+        let refused = made(rt.alloc(), numbers, keys, modulo).err();
         assert_eq!(rt; refused, Some(SystemFault::BadConfig(reason)));
     }
     Ok(())

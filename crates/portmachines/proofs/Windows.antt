@@ -16,7 +16,7 @@ use Rattle.portmachines.specs.Window.{Sends, sent_before, within_eleven, count_o
 
 -- rows leave the ages as they are
 
-abbrev ages_of : Machines → List ℕ
+abbrev pub ages_of : Machines → List ℕ
 ages_of p = p.ages
 
 receive-same : EachKeeps ages_of receive_rows
@@ -25,7 +25,7 @@ receive-same = (λ p. refl, (λ p. refl, (λ p. refl, (λ p. refl, (λ p. refl, 
 settles-same : (p q : Machines) → Settles receive_rows p q → q.ages ≡ p.ages
 settles-same p q h = Reaches-keeps ages_of receive_rows receive-same h.0 p q h.1
 
-mux-same : (ready : Bool) → EachKeeps ages_of (mux_rows ready)
+pub mux-same : (ready : Bool) → EachKeeps ages_of (mux_rows ready)
 mux-same ready = (λ p. refl, (λ p. refl, (λ p. refl, (λ p. refl, (λ p. refl, (λ p. refl, tt))))))
 
 periodic-same : EachKeeps ages_of periodic_rows
@@ -166,11 +166,11 @@ taking-ages : (pdu : Lacpdu) (p q : Machines) → FiresIfEnabled (taking_rows pd
 taking-ages pdu p q h =
     elim h [ inl fired ↦ Fires-keeps ages_of (taking_rows pdu) (taking-same pdu) p q fired | inr rest ↦ ap (λ (x : Machines). x.ages) rest.1 ]
 
-periodic-ages : (p q : Machines) → RunsPeriodic p q → q.ages ≡ p.ages
+pub periodic-ages : (p q : Machines) → RunsPeriodic p q → q.ages ≡ p.ages
 periodic-ages p q h =
     ap (λ (x : Machines). x.ages) h.2 ∙ Reaches-keeps ages_of periodic_rows periodic-same h.1.0 p h.0 h.1.1
 
-starts-ages : (p q : Machines) → Starts p q → q.ages ≡ p.ages
+pub starts-ages : (p q : Machines) → Starts p q → q.ages ≡ p.ages
 starts-ages p q h = ap (λ (x : Machines). x.ages) h.2 ∙ settles-same (start_receive p) h.0 h.1
 
 append-nil : (xs : List ℕ) → xs ++ [] ≡ xs

@@ -1,8 +1,7 @@
 -- Mux machine, coupled control (6.4.15).
 use Rattle.std.specs.Prelude.{Bool, true, false, not, ◌&&◌, ◌||◌, List, [], ◌∷◌}
 use Rattle.lagtypes.specs.States.{bits_of}
-use Rattle.lagtypes.specs.declared.party.Choice.{Choice}
-use Rattle.lagtypes.specs.declared.party.Choice.TheVariants.{Unselected, Selected}
+use Rattle.lagtypes.specs.Choices.{is_selected, is_unselected}
 use Rattle.portmachines.specs.declared.mux.MuxState.{MuxState}
 use Rattle.portmachines.specs.declared.mux.MuxState.TheVariants.{Detached, Waiting, Attached, CollectingDistributing}
 use Rattle.portmachines.specs.Machines.{Machines}
@@ -18,16 +17,6 @@ is_mux _ _ = false
 -- the Synchronization of the port's own side
 abbrev pub is_synchronized : MuxState → Bool
 is_synchronized s = is_mux Attached s || is_mux CollectingDistributing s
-
--- SELECTED
-abbrev pub is_selected : Choice → Bool
-is_selected Unselected = false
-is_selected (Selected agg) = true
-
--- UNSELECTED
-abbrev pub is_unselected : Choice → Bool
-is_unselected Unselected = true
-is_unselected (Selected agg) = false
 
 abbrev pub selected : Machines → Bool
 selected p = is_selected p.choice

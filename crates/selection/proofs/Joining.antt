@@ -11,7 +11,8 @@ use Rattle.lagtypes.specs.Group.{SamePair, individual}
 use Rattle.selection.proofs.Equal.{and_left, and_right, exact_key, group-test, itself, system-itself}
 use Rattle.selection.specs.declared.view.PortView.{PortView}
 use Rattle.lagtypes.specs.Same.{same_system}
-use Rattle.selection.specs.Views.{is_detached, is_eligible, is_given, is_unselected}
+use Rattle.lagtypes.specs.Choices.{is_unselected}
+use Rattle.selection.specs.Views.{is_detached, is_eligible, is_given}
 use Rattle.selection.specs.Choice.{choice_for, choice_of_view, given_to, has_group_of, has_member, is_empty, is_joinable, lowest_from, numbered, or_else}
 use Rattle.selection.specs.Joining.{IsEmpty, IsShared, Joins, ends}
 

@@ -7,6 +7,7 @@ use Rattle.lagtypes.specs.declared.party.Choice.TheVariants.{Unselected, Selecte
 use Rattle.selection.specs.declared.view.PortView.{PortView}
 use Rattle.selection.specs.declared.view.Stage.{Stage}
 use Rattle.selection.specs.declared.view.Stage.TheVariants.{Detached, Waiting, Joined}
+use Rattle.lagtypes.specs.Choices.{is_unselected}
 use Rattle.lagtypes.specs.Same.{same_system}
 
 abbrev pub numbers : List PortView → List ℕ
@@ -25,10 +26,6 @@ view_of views port = find (λ v. v.number == port) views
 abbrev pub is_given : AggId → Choice → Bool
 is_given agg Unselected = false
 is_given agg (Selected given) = given.0 == agg.0
-
-abbrev pub is_unselected : Choice → Bool
-is_unselected Unselected = true
-is_unselected (Selected given) = false
 
 abbrev pub is_detached : Stage → Bool
 is_detached Detached = true

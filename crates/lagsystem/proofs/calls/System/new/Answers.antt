@@ -4,7 +4,7 @@ use Rattle.lagsystem.proofs.Sound.{agrees}
 use Rattle.lagsystem.proofs.calls.System.new.Goals as goal
 
 pub returns-clause-shows : goal.returns-clause-shows
-returns-clause-shows c = first_shows (state_of c.in_ok-core.core) c.in_ok-core.ensures.first
+returns-clause-shows g c = first_shows (state_of c.in_ok-core.core) c.in_ok-core.ensures.made.first
 
 pub returns-clause-agrees : goal.returns-clause-agrees
-returns-clause-agrees c = agrees (state_of c.in_ok-core.core) c.in_ok-core.ensures.sound
+returns-clause-agrees g c = agrees (state_of c.in_ok-core.core) c.in_ok-core.ensures.made.sound

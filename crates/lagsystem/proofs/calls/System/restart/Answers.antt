@@ -1,17 +1,22 @@
 use Rattle.std.proofs.Common.{subst}
-use Rattle.lagsystem.specs.Calls.{Call, Reply}
+use Rattle.lagsystem.specs.declared.drive.Reply.{Reply}
+use Rattle.lagsystem.specs.Calls.{Call}
 use Rattle.lagsystem.specs.Kept.{state_of}
 use Rattle.lagsystem.specs.Shown.{JoinsViews}
+use Rattle.lagsystem.specs.State.{Whole}
 use Rattle.lagsystem.proofs.Sound.{Step-sound, agrees, joins}
 use Rattle.lagsystem.proofs.calls.System.restart.Goals as goal
 
 pub invariant_of-self : goal.invariant_of-self
-invariant_of-self c = Step-sound (state_of c.self.inside.core) (Call.Restart) (Reply.Restarted) (state_of c.restart.new.self) c.restart.ensures c.self.invariant
+invariant_of-self g c =
+    Step-sound (λ conv count place. g.F.Fn.post c.self.inside.core.distributor.algorithm (conv, (count, tt)) place) (state_of c.self.inside.core) (Call.Restart) (Reply.Restart) (state_of c.restart.new.self)
+    c.restart.ensures.step c.self.invariant
 
 pub returns-clause-moves : goal.returns-clause-moves
-returns-clause-moves c =
-    subst (λ s. JoinsViews s (Call.Restart) (Reply.Restarted) (state_of c.restart.new.self)) (c.self.view_is)
-    (joins (state_of c.self.inside.core) (Call.Restart) (Reply.Restarted) (state_of c.restart.new.self) c.restart.ensures c.self.invariant)
+returns-clause-moves g c =
+    subst (λ (w : Whole g.row.F.Denot). JoinsViews w.state (Call.Restart) (Reply.Restart) (state_of c.restart.new.self)) c.self.view_is
+    (joins (λ conv count place. g.F.Fn.post c.self.inside.core.distributor.algorithm (conv, (count, tt)) place) (state_of c.self.inside.core) (Call.Restart) (Reply.Restart) (state_of c.restart.new.self)
+    c.restart.ensures.step c.self.invariant)
 
 pub returns-clause-agrees : goal.returns-clause-agrees
-returns-clause-agrees c = agrees (state_of c.restart.new.self) (invariant_of-self c)
+returns-clause-agrees g c = agrees (state_of c.restart.new.self) (invariant_of-self g c)

@@ -4,7 +4,7 @@ use Rattle.lagsystem.specs.Kept.{state_of}
 use Rattle.lagsystem.specs.State.{place_of}
 use Rattle.lagsystem.proofs.kept.Core.receive.Goals as goal
 
-pub returns-in-Some : goal.returns-in-Some
-returns-in-Some c =
+pub returns-in-Some-clause-step : goal.returns-in-Some-clause-step
+returns-in-Some-clause-step g c =
     subst (λ o. ReceivesAt o c.args.octets.now (state_of c.args.self.now) c.receive_at.result (state_of c.receive_at.new.self))
-    (c.in-Some.ensures.place ∙ ap (place_of c.args.number) c.deref.ensures.value) c.receive_at.ensures
+    (c.in-Some.ensures.place ∙ ap (place_of c.args.number) c.deref.ensures.value) c.receive_at.ensures.received

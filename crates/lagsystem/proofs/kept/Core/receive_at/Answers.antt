@@ -1,42 +1,70 @@
-use Rattle.std.proofs.Common.{◌∙◌, Some, arith, ap, refl, subst, sym}
+use Rattle.std.proofs.Common.{◌≡◌, ◌∙◌, Some, arith, ap, refl, subst, sym, slice_get}
 use Rattle.std.specs.Vec.{with_items}
 use Rattle.std.proofs.lemmas.List.{with_items_is}
-use Rattle.std.proofs.lemmas.Option.{slice_get-get_or}
-use Rattle.lagsystem.specs.declared.answers.Heard.TheVariants.{Taken, Answered}
+use Rattle.std.proofs.lemmas.Option.{same_Some, slice_get-get_or}
+use Rattle.lagsystem.specs.declared.answers.Heard.TheVariants.{Taken, Response, Answered}
+use Rattle.lagsystem.specs.declared.answers.Received.TheVariants.{Released}
 use Rattle.lagsystem.specs.declared.slots.Slot.{Slot}
-use Rattle.lagsystem.specs.Calls.{Hears, Takes}
+use Rattle.lagsystem.specs.Calls.{Hears, Releases, Takes, is_for}
 use Rattle.lagsystem.specs.Kept.{state_of}
+use Rattle.lagsystem.specs.Leaving.{carriers}
 use Rattle.lagsystem.specs.State.{with_slots}
+use Rattle.lagsystem.proofs.Settled.{place_carried}
 use Rattle.lagsystem.proofs.StateLemmas.{on_port_made}
 use Rattle.lagsystem.proofs.kept.Core.receive_at.Goals as goal
 
-pub returns-in-Taken : goal.returns-in-Taken
-returns-in-Taken c =
+pub settle-requires : goal.settle-requires
+settle-requires g c =
+    let s = state_of c.args.self.now in
+    let v = c.args.self.now.slots in
+    let ws = c.take_at.new.slots in
+    let news = (with_items v ws).items in
+    let own = on_port_made (Takes c.in-Taken.pdu) (λ l. Some c.args.place) s c.deref_mut.result.now ws news c.deref_mut.ensures.value (with_items_is v ws (omega arith)) c.take_at.ensures in
+    place_carried (Takes c.in-Taken.pdu) (Some c.args.place) s (with_slots s news) c.as_slice.result.now c.requires.sound own (c.as_slice.ensures.value ∙ c.carriers-before.ensures ∙ ap carriers c.deref.ensures.value)
+
+pub returns-in-Taken-clause-received : goal.returns-in-Taken-clause-received
+returns-in-Taken-clause-received g c =
     let v = c.args.self.now.slots in
     let s = state_of c.args.self.now in
     let ws = c.take_at.new.slots in
     let news = (with_items v ws).items in
-    let slot = c.index.result.now in (
+    let slot = c.index-2.result.now in (
       slot,
       Taken c.in-Taken.pdu,
-      slice_get-get_or v.items c.args.place slot c.requires.within ∙ ap (λ (x : Slot). Some x) (sym c.index.ensures),
+      slice_get-get_or v.items c.args.place slot c.requires.within ∙ ap (λ (x : Slot). Some x) (sym c.index-2.ensures),
       subst (λ h. Hears slot c.args.octets.now h) c.in-Taken.is c.hear.ensures,
       (
         refl,
         (
           with_slots s news,
           on_port_made (Takes c.in-Taken.pdu) (λ l. Some c.args.place) s c.deref_mut.result.now ws news c.deref_mut.ensures.value (with_items_is v ws (omega arith)) c.take_at.ensures,
-          c.settle.ensures,
+          c.settle.ensures.settled,
         ),
       ),
     )
 
-pub returns-in-Answered : goal.returns-in-Answered
-returns-in-Answered c =
-    let slot = c.index.result.now in (
+pub returns-in-Response-clause-received : goal.returns-in-Response-clause-received
+returns-in-Response-clause-received g c =
+    let items = c.args.self.now.slots.items in
+    let one = c.index.result.now in
+    let slot = c.index-2.result.now in
+    let m = c.in-Response.marker in
+    let here : slice_get items c.args.place ≡ Some one = slice_get-get_or items c.args.place one c.requires.within ∙ ap (λ (x : Slot). Some x) (sym c.index.ensures) in
+    let there : slice_get items c.args.place ≡ Some slot = slice_get-get_or items c.args.place slot c.requires.within ∙ ap (λ (x : Slot). Some x) (sym c.index-2.ensures) in
+    let same : one ≡ slot = same_Some one slot (sym here ∙ there) in (
+      slot,
+      Response m,
+      there,
+      subst (λ h. Hears slot c.args.octets.now h) c.in-Response.is c.hear.ensures,
+      subst (λ (x : Slot). Releases (is_for (state_of c.args.self.now) x.number m) x.number m (state_of c.args.self.now) (Released c.release.result) (state_of c.release.new.self)) same c.release.ensures.released,
+    )
+
+pub returns-in-Answered-clause-received : goal.returns-in-Answered-clause-received
+returns-in-Answered-clause-received g c =
+    let slot = c.index-2.result.now in (
       slot,
       Answered c.in-Answered.reply,
-      slice_get-get_or c.args.self.now.slots.items c.args.place slot c.requires.within ∙ ap (λ (x : Slot). Some x) (sym c.index.ensures),
+      slice_get-get_or c.args.self.now.slots.items c.args.place slot c.requires.within ∙ ap (λ (x : Slot). Some x) (sym c.index-2.ensures),
       subst (λ h. Hears slot c.args.octets.now h) c.in-Answered.is c.hear.ensures,
       (refl, refl),
     )

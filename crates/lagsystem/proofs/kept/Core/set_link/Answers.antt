@@ -1,19 +1,29 @@
-use Rattle.std.proofs.Common.{arith}
+use Rattle.std.proofs.Common.{◌∙◌, ap, arith, refl}
 use Rattle.std.specs.Vec.{with_items}
 use Rattle.std.proofs.lemmas.List.{with_items_is}
-use Rattle.lagsystem.specs.Calls.{ChangesLink}
 use Rattle.lagsystem.specs.Kept.{state_of}
-use Rattle.lagsystem.specs.State.{with_slots, place_of}
-use Rattle.lagsystem.proofs.StateLemmas.{on_port_made}
+use Rattle.lagsystem.specs.Leaving.{carriers}
+use Rattle.lagsystem.proofs.Settled.{link_carried, link_made, moved_on}
 use Rattle.lagsystem.proofs.kept.Core.set_link.Goals as goal
 
-pub returns : goal.returns
-returns c =
-    let v = c.args.self.now.slots in
+pub settle-requires : goal.settle-requires
+settle-requires g c =
     let s = state_of c.args.self.now in
+    let v = c.args.self.now.slots in
     let ws = c.link_port.new.slots in
-    let news = (with_items v ws).items in (
-      with_slots s news,
-      on_port_made (ChangesLink c.args.up) (place_of c.args.number) s c.deref_mut.result.now ws news c.deref_mut.ensures.value (with_items_is v ws (omega arith)) (c.if-not-link_port.ensures.acted),
-      c.settle.ensures,
+    let news = (with_items v ws).items in
+    let t = c.free_where_down.new.distributor.table in
+    let own = link_made c.args.number c.args.up s c.deref_mut.result.now ws news t c.deref_mut.ensures.value (with_items_is v ws (omega arith)) refl c.if-not-link_port.ensures.acted c.free_where_down.ensures.frees in
+    link_carried c.args.number c.args.up s (moved_on s news t) c.as_slice.result.now c.requires own (c.as_slice.ensures.value ∙ c.carriers-before.ensures ∙ ap carriers c.deref.ensures.value)
+
+pub returns-clause-step : goal.returns-clause-step
+returns-clause-step g c =
+    let s = state_of c.args.self.now in
+    let v = c.args.self.now.slots in
+    let ws = c.link_port.new.slots in
+    let news = (with_items v ws).items in
+    let t = c.free_where_down.new.distributor.table in (
+      moved_on s news t,
+      link_made c.args.number c.args.up s c.deref_mut.result.now ws news t c.deref_mut.ensures.value (with_items_is v ws (omega arith)) refl c.if-not-link_port.ensures.acted c.free_where_down.ensures.frees,
+      c.settle.ensures.settled,
     )

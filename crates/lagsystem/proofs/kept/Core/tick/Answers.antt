@@ -1,21 +1,29 @@
-use Rattle.std.proofs.Common.{arith}
+use Rattle.std.proofs.Common.{◌∙◌, ap, arith, refl}
 use Rattle.std.specs.Vec.{with_items}
 use Rattle.std.proofs.lemmas.List.{with_items_is}
-use Rattle.portmachines.specs.Rows.{Settles}
-use Rattle.portmachines.specs.Receive.{receive_rows}
-use Rattle.portmachines.specs.Transmit.{count_down}
 use Rattle.lagsystem.specs.Kept.{state_of}
-use Rattle.lagsystem.specs.State.{with_slots}
-use Rattle.lagsystem.proofs.StateLemmas.{each_made}
+use Rattle.lagsystem.specs.Leaving.{carriers}
+use Rattle.lagsystem.proofs.Settled.{moved_on, tick_carried, tick_made}
 use Rattle.lagsystem.proofs.kept.Core.tick.Goals as goal
 
-pub returns : goal.returns
-returns c =
-    let v = c.args.self.now.slots in
+pub settle-requires : goal.settle-requires
+settle-requires g c =
     let s = state_of c.args.self.now in
+    let v = c.args.self.now.slots in
     let ws = c.tick_all.new.slots in
-    let news = (with_items v ws).items in (
-      with_slots s news,
-      each_made (λ p q. Settles receive_rows (count_down p) q) s c.deref_mut.result.now ws news c.deref_mut.ensures.value (with_items_is v ws (omega arith)) (c.tick_all.ensures),
-      c.settle.ensures,
+    let news = (with_items v ws).items in
+    let t = c.tick.new.self.table in
+    let own = tick_made s c.deref_mut.result.now ws news t c.deref_mut.ensures.value (with_items_is v ws (omega arith)) refl c.tick_all.ensures c.tick.ensures.changed in
+    tick_carried s (moved_on s news t) c.as_slice.result.now c.requires own (c.as_slice.ensures.value ∙ c.carriers-before.ensures ∙ ap carriers c.deref.ensures.value)
+
+pub returns-clause-step : goal.returns-clause-step
+returns-clause-step g c =
+    let s = state_of c.args.self.now in
+    let v = c.args.self.now.slots in
+    let ws = c.tick_all.new.slots in
+    let news = (with_items v ws).items in
+    let t = c.tick.new.self.table in (
+      moved_on s news t,
+      tick_made s c.deref_mut.result.now ws news t c.deref_mut.ensures.value (with_items_is v ws (omega arith)) refl c.tick_all.ensures c.tick.ensures.changed,
+      c.settle.ensures.settled,
     )

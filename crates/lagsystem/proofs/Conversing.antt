@@ -1,0 +1,159 @@
+-- What calls do to the conversations of a system are free moves.
+use Rattle.std.proofs.Common.{◌≡◌, ◌∙◌, ℕ, zero, suc, Bool, true, false, cond, List, [], ◌∷◌, Option, Some, None, Result, Ok, Err, refl, sym, ap, subst, arith, inl, inr, eqb, eqb-true, eq-eqb}
+use Rattle.std.specs.Prelude.{◌&&◌, ◌||◌, if◌then◌else◌, option_map, slice_get, IsSomeAnd, MatchOption}
+use Rattle.std.proofs.lemmas.Bool.{cases_Bool, false≢true}
+use Rattle.std.proofs.lemmas.Bool.Decides.{Decides-eqb}
+use Rattle.std.proofs.lemmas.Option.{none-some, same_Some}
+use Rattle.lagtypes.specs.declared.identifiers.AggId.{AggId}
+use Rattle.lagtypes.specs.declared.party.Choice.{Choice}
+use Rattle.lagtypes.specs.declared.party.Choice.TheVariants.{Unselected, Selected}
+use Rattle.portmachines.specs.declared.mux.MuxState.{MuxState}
+use Rattle.portmachines.specs.declared.mux.MuxState.TheVariants.{Detached, Waiting, Attached, CollectingDistributing}
+use Rattle.portmachines.specs.Mux.{is_mux, partner_synchronized, selected}
+use Rattle.selection.specs.Views.{is_given}
+use Rattle.distributor.specs.declared.assignment.Assignment.{Assignment}
+use Rattle.distributor.specs.declared.assignment.Assignment.TheVariants.{Free, On, Wanted, Flushing}
+use Rattle.distributor.specs.declared.fault.DistFault.{DistFault}
+use Rattle.distributor.specs.Calls.{Assigns, MaySend, PicksPort, distributes}
+use Rattle.distributor.specs.Conversations.{Table}
+use Rattle.distributor.specs.Moves.{Among, Nowhere, flows_of}
+use Rattle.distributor.proofs.MoveLemmas.{Makes, each_moves}
+use Rattle.lagmodel.specs.View.{Call as Told, PortView, Setup}
+use Rattle.lagmodel.specs.Move.{Act, Change, Distributes, FlowMoves, FreeMoves}
+use Rattle.lagmodel.specs.Kept.{find_number}
+use Rattle.lagmodel.proofs.Base.{cond_false, cond_true}
+use Rattle.lagmodel.proofs.Uses.{flows_weaker, moves_flows}
+use Rattle.lagsystem.specs.declared.slots.Slot.{Slot}
+use Rattle.lagsystem.specs.Readers.{agg_of_number, distributes_in, distributing}
+use Rattle.lagsystem.specs.Settling.{LeavesPorts, left_on}
+use Rattle.lagsystem.specs.Shown.{AreSteady, aggregator_of, number, shown_slot, steady_of, view_at, view_of}
+use Rattle.lagsystem.specs.State.{State, numbers}
+use Rattle.lagsystem.proofs.Stopped.{from_here, from_rest, none_on, on, on_more}
+use Rattle.lagsystem.proofs.Rising.{Rises}
+
+-- moves of the conversations, whatever the ports do
+pub table_moves : (u : Setup) (call : Told) (slots : List Slot) (t new : Table) (seen : List Act) → FlowMoves u.system.mac call Nowhere (flows_of t) seen (flows_of new)
+    → FreeMoves u call (view_at (flows_of t) slots) seen (view_at (flows_of new) slots)
+table_moves u call slots t new seen h =
+    let v = view_at (flows_of t) slots in
+    moves_flows u call v seen (flows_of new) (flows_weaker u.system.mac call Nowhere (Distributes v.port) (flows_of t) (flows_of new) seen (λ g p x. absurd x) h)
+
+-- step 6 of settling
+leaves_one : (mac : List ℕ) (call : Told) (ports : List ℕ) (g k : ℕ) (a : Assignment) → Makes mac call g k a (left_on ports a)
+leaves_one mac call ports g k (Free preferred) = inl refl
+leaves_one mac call ports g k (Wanted p preferred) = inl refl
+leaves_one mac call ports g k (Flushing p id preferred age) = inl refl
+leaves_one mac call ports g k (On p) = either (distributes ports p)
+  where
+    either : (b : Bool) → Makes mac call g k (On p) (if b then On p else Wanted p None)
+    either true = inl refl
+    either false = inr (Change.Want p, refl, refl)
+
+pub leaving_moves : (u : Setup) (call : Told) (old new : State) → LeavesPorts old new → FreeMoves u call (view_of old) [] (view_of new)
+leaving_moves u call old new h =
+    let ports : ℕ → List ℕ = λ g. distributing (agg_of_number g) old.slots in
+    let moves = each_moves u.system.mac call old.table new.table (λ g k. left_on (ports g)) (λ g k. refl) (λ g k a. leaves_one u.system.mac call (ports g) g k a) h.next h.states in
+    subst (λ l. FreeMoves u call (view_of old) [] (view_at (flows_of new.table) l)) (sym (ap (λ (s : State). s.slots) h.frame)) (table_moves u call old.slots old.table new.table [] moves)
+
+-- at rest a port distributes exactly where its mux machine does
+pub rest_distributes : (m : MuxState) (x s : Bool) → steady_of m x s ≡ true → (s && (x && is_mux CollectingDistributing m)) ≡ is_mux CollectingDistributing m
+rest_distributes Detached true true h = refl
+rest_distributes Detached true false h = refl
+rest_distributes Detached false true h = refl
+rest_distributes Detached false false h = refl
+rest_distributes Waiting true true h = refl
+rest_distributes Waiting true false h = refl
+rest_distributes Waiting false true h = refl
+rest_distributes Waiting false false h = refl
+rest_distributes Attached true true h = refl
+rest_distributes Attached true false h = refl
+rest_distributes Attached false s h = absurd (false≢true h)
+rest_distributes CollectingDistributing true true h = refl
+rest_distributes CollectingDistributing true false h = absurd (false≢true h)
+rest_distributes CollectingDistributing false s h = absurd (false≢true h)
+
+-- a port that distributes in an aggregator is seen to do so
+pub and_left : (b c : Bool) → (b && c) ≡ true → b ≡ true
+and_left true c h = refl
+and_left false c h = h
+
+pub and_right : (b c : Bool) → (b && c) ≡ true → c ≡ true
+and_right true c h = h
+and_right false c h = absurd (false≢true h)
+
+given_number : (agg : AggId) (c : Choice) → is_given agg c ≡ true → aggregator_of c ≡ Some agg.0
+given_number agg Unselected h = absurd (false≢true h)
+given_number agg (Selected a) h = ap (λ n. Some n) ((Decides-eqb a.0 agg.0).0 h)
+
+seen_there : (agg : AggId) (s : Slot) → (steady_of s.port.mux (selected s.port) (partner_synchronized s.port) ≡ true) → distributes_in agg s ≡ true
+    → ((shown_slot s).aggregator ≡ Some agg.0) × ((shown_slot s).distributes ≡ true)
+seen_there agg s h d = (
+  given_number agg s.port.choice (and_left (is_given agg s.port.choice) (is_mux CollectingDistributing s.port.mux) d),
+  rest_distributes s.port.mux (selected s.port) (partner_synchronized s.port) h ∙ and_right (is_given agg s.port.choice) (is_mux CollectingDistributing s.port.mux) d,
+)
+
+flipped : (m n : ℕ) → eqb m n ≡ true → eqb n m ≡ true
+flipped m n h = eq-eqb n m (sym (eqb-true m n h))
+
+unflipped : (m n : ℕ) → eqb m n ≡ false → eqb n m ≡ false
+unflipped m n h = elim (cases_Bool (eqb n m)) [ inl t ↦ absurd (false≢true (sym h ∙ flipped n m t)) | inr f ↦ f ]
+
+abbrev Sees : AggId → Option Slot → Type 0
+Sees agg o = IsSomeAnd (option_map shown_slot o) (λ (a : PortView). (a.aggregator ≡ Some agg.0) × (a.distributes ≡ true))
+
+pub seen_distributing : (agg : AggId) (p low : ℕ) (slots : List Slot) → Rises low (numbers slots) → AreSteady slots → on agg slots p ≡ true → Sees agg (find_number number slots p)
+seen_distributing agg p low [] r a h = absurd (false≢true h)
+seen_distributing agg p low (s ∷ slots) r a h = elim (cases_Bool (eqb s.number p)) [
+  | inl t ↦ (let none = none_on agg s.number slots p r.1 (let same = eqb-true s.number p t in omega (arith, same)) in
+      let here = from_here (distributes_in agg s) (eqb s.number p) (on agg slots p) t none (sym (on_more agg s slots p) ∙ h) in
+      subst (Sees agg) (sym (cond_true (eqb p s.number) (Some s) (find_number number slots p) (flipped s.number p t))) (seen_there agg s a.0 here))
+  | inr f ↦ (let rest = sym (from_rest (distributes_in agg s) (eqb s.number p) (on agg slots p) f) ∙ sym (on_more agg s slots p) ∙ h in
+      subst (Sees agg) (sym (cond_false (eqb p s.number) (Some s) (find_number number slots p) (unflipped s.number p f))) (seen_distributing agg p s.number slots r.1 a.1 rest))
+]
+
+-- moves of the conversations, where a port may carry one that distributes in its aggregator
+pub carrying_moves : (u : Setup) (call : Told) (agg : AggId) (slots : List Slot) (t new : Table) (seen : List Act) → Rises 0 (numbers slots) → AreSteady slots
+    → FlowMoves u.system.mac call (Among agg.0 (distributing agg slots)) (flows_of t) seen (flows_of new) → FreeMoves u call (view_at (flows_of t) slots) seen (view_at (flows_of new) slots)
+carrying_moves u call agg slots t new seen r a h =
+    let v = view_at (flows_of t) slots in
+    moves_flows u call v seen (flows_of new)
+    (flows_weaker u.system.mac call (Among agg.0 (distributing agg slots)) (Distributes v.port) (flows_of t) (flows_of new) seen
+    (λ g p x. subst (λ m. Distributes v.port m p) (sym x.0) (seen_distributing agg p 0 slots r a x.1)) h)
+
+-- the port that the distributor answers may carry the frame
+among : (xs : List ℕ) (i q : ℕ) → slice_get xs i ≡ Some q → distributes xs q ≡ true
+among [] i q e = absurd (none-some q e)
+among (x ∷ xs) zero q e = here (eqb x q) (distributes xs q) (eq-eqb x q (same_Some x q e))
+  where
+    here : (a b : Bool) → a ≡ true → (a || b) ≡ true
+    here true b h = refl
+    here false b h = absurd (false≢true h)
+among (x ∷ xs) (suc i) q e = there (eqb x q) (distributes xs q) (among xs i q e)
+  where
+    there : (a b : Bool) → b ≡ true → (a || b) ≡ true
+    there true b h = refl
+    there false b h = h
+
+abbrev port_answer : ℕ → Result ℕ DistFault
+port_answer p = Ok p
+
+same_Ok : (p q : ℕ) → port_answer p ≡ Ok q → p ≡ q
+same_Ok p q e = cc
+
+no_Ok : (p : ℕ) (fault : DistFault) → port_answer p ≡ Err fault → ⊥
+no_Ok p fault e = cc
+
+picked_may : (gives : ℕ → ℕ → ℕ → Type 0) (conv : ℕ) (ports : List ℕ) (port : ℕ) → PicksPort gives conv ports (Ok port) → distributes ports port ≡ true
+picked_may gives conv [] port h = absurd (no_Ok port DistFault.NoneDistributing h)
+picked_may gives conv (p ∷ ports) port h = subst (λ q. distributes (p ∷ ports) q ≡ true) (sym (same_Ok port h.1 h.4)) (among (p ∷ ports) h.0 h.1 h.3)
+
+pub assigned_may : (gives : ℕ → ℕ → ℕ → Type 0) (conv : ℕ) (ports : List ℕ) (s : Assignment) (port : ℕ) → Assigns gives conv ports s (Ok port) → MaySend ports s port
+assigned_may gives conv ports (Free None) port h = picked_may gives conv ports port h
+assigned_may gives conv ports (Free (Some p)) port h = preferred (distributes ports p) refl h
+  where
+    preferred : (b : Bool) → distributes ports p ≡ b → MatchOption (cond b (Some p) None) (PicksPort gives conv ports (Ok port)) (λ q. port_answer port ≡ Ok q) → distributes ports port ≡ true
+    preferred true e a = subst (λ q. distributes ports q ≡ true) (sym (same_Ok port p a)) e
+    preferred false e a = picked_may gives conv ports port a
+assigned_may gives conv ports (On p) port h = same_Ok port p h
+assigned_may gives conv ports (Wanted p preferred) port h = absurd (no_Ok port DistFault.Held h)
+assigned_may gives conv ports (Flushing p id preferred age) port h = absurd (no_Ok port DistFault.Held h)

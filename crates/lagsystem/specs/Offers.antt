@@ -1,0 +1,93 @@
+-- What the calls of a system do to its conversations (6.2.4; profile).
+use Rattle.std.specs.Prelude.{◌≡◌, ℕ, Bool, IsTrue, ◌&&◌, List, length, nat_le, nat_lt, if◌then◌else◌, is_some, Result, Ok, Err}
+use Rattle.std.specs.Bool.{IsFalse}
+use Rattle.lagtypes.specs.declared.identifiers.AggId.{AggId}
+use Rattle.slowpdu.specs.Frames.{IsSlow}
+use Rattle.distributor.specs.declared.assignment.Assignment.{Assignment}
+use Rattle.distributor.specs.declared.assignment.Assignment.TheVariants.{On}
+use Rattle.distributor.specs.declared.fault.DistFault.{DistFault}
+use Rattle.distributor.specs.declared.fault.DistFault.TheVariants as dist
+use Rattle.distributor.specs.Calls.{Assigns, forced, moved}
+use Rattle.distributor.specs.Changes.{Sets}
+use Rattle.distributor.specs.Conversations.{next_identifier, state_of}
+use Rattle.lagsystem.specs.declared.fault.SystemFault.{SystemFault}
+use Rattle.lagsystem.specs.declared.fault.SystemFault.TheVariants.{NoPort, NoAggregator, FrameLength, SlowFrame}
+use Rattle.lagsystem.specs.Faults.{system_fault}
+use Rattle.lagsystem.specs.Readers.{conversation_of, distributing}
+use Rattle.lagsystem.specs.State.{State, with_table, place_of}
+
+-- the longest frame that may be offered: a full frame with one VLAN tag, in octets
+unfoldable pub longest_frame : ℕ
+longest_frame = 1518
+
+abbrev pub has_aggregator : State → AggId → Bool
+has_aggregator s agg = nat_lt 0 agg.0 && nat_le agg.0 (length s.keys)
+
+abbrev pub is_frame_length : List ℕ → Bool
+is_frame_length octets = nat_le 14 (length octets) && nat_le (length octets) longest_frame
+
+-- what the conversation of a frame is doing
+abbrev pub state_for : State → AggId → List ℕ → Assignment
+state_for s agg octets = state_of s.table agg.0 (conversation_of octets)
+
+-- one conversation takes this state, and nothing else changes
+abbrev pub TakesState : AggId → ℕ → Assignment → State → State → Type 0
+TakesState agg conv state old new = Sets old.table new.table agg.0 conv state × (new ≡ with_table old new.table)
+
+-- a frame that may be offered: its length is allowed, and it is not of the slow protocols
+abbrev pub MayBeSent : List ℕ → Type 0
+MayBeSent octets = IsTrue (is_frame_length octets) × (IsSlow octets → ⊥)
+
+-- a frame that may not, with the first cause that holds
+abbrev pub RefusesFrame : List ℕ → SystemFault → Type 0
+RefusesFrame octets FrameLength = IsFalse (is_frame_length octets)
+RefusesFrame octets SlowFrame = IsTrue (is_frame_length octets) × IsSlow octets
+RefusesFrame octets fault = ⊥
+
+-- such a frame for an aggregator that there is
+abbrev pub IsOffered : State → AggId → List ℕ → Type 0
+IsOffered s agg octets = IsTrue (has_aggregator s agg) × MayBeSent octets
+
+-- what the distributor answers for it: the ports that distribute in the aggregator may carry it
+abbrev pub Distributes : (ℕ → ℕ → ℕ → Type 0) → State → AggId → List ℕ → Result ℕ DistFault → Type 0
+Distributes gives s agg octets answer = Assigns gives (conversation_of octets) (distributing agg s.slots) (state_for s agg octets) answer
+
+-- a frame is refused with the first cause that holds
+abbrev pub RefusesOffer : (ℕ → ℕ → ℕ → Type 0) → State → AggId → List ℕ → SystemFault → Type 0
+RefusesOffer gives s agg octets NoAggregator = IsFalse (has_aggregator s agg)
+RefusesOffer gives s agg octets FrameLength = IsTrue (has_aggregator s agg) × RefusesFrame octets FrameLength
+RefusesOffer gives s agg octets SlowFrame = IsTrue (has_aggregator s agg) × RefusesFrame octets SlowFrame
+RefusesOffer gives s agg octets fault =
+    (cause : DistFault) × IsOffered s agg octets × Distributes gives s agg octets (Err cause) × (fault ≡ system_fault cause)
+
+-- a frame goes on a port, and its conversation is then on that port; or it is refused, and nothing changes
+abbrev pub Offers : (ℕ → ℕ → ℕ → Type 0) → AggId → List ℕ → State → Result ℕ SystemFault → State → Type 0
+Offers gives agg octets old (Ok port) new =
+    IsOffered old agg octets × Distributes gives old agg octets (Ok port) × TakesState agg (conversation_of octets) (On port) old new
+Offers gives agg octets old (Err fault) new = RefusesOffer gives old agg octets fault × (new ≡ old)
+
+-- the answer of the distributor, of a conversation below 256
+abbrev pub known : ℕ → Result Assignment DistFault → Result Assignment DistFault
+known conv answer = if nat_lt conv 256 then answer else Err dist.NotAssigned
+
+abbrev pub in_system : Result Assignment DistFault → Result Assignment SystemFault
+in_system (Ok state) = Ok state
+in_system (Err fault) = Err (system_fault fault)
+
+-- what a conversation becomes that is moved to a port, or why it is not moved
+abbrev pub move_answer : State → AggId → ℕ → ℕ → Result Assignment SystemFault
+move_answer s agg conv port =
+    if has_aggregator s agg
+    then (if is_some (place_of port s.slots)
+    then in_system (known conv (moved (next_identifier s.table) (distributing agg s.slots) port (state_of s.table agg.0 conv)))
+    else Err NoPort)
+    else Err NoAggregator
+
+-- what a conversation becomes that is freed by force, or why it is not freed
+abbrev pub force_answer : State → AggId → ℕ → Result Assignment SystemFault
+force_answer s agg conv = if has_aggregator s agg then in_system (known conv (forced (state_of s.table agg.0 conv))) else Err NoAggregator
+
+-- the conversation takes this state; or this is refused, and nothing changes
+abbrev pub Becomes : AggId → ℕ → Result Assignment SystemFault → State → Result Unit SystemFault → State → Type 0
+Becomes agg conv (Ok state) old answer new = (answer ≡ Ok tt) × TakesState agg conv state old new
+Becomes agg conv (Err fault) old answer new = (answer ≡ Err fault) × (new ≡ old)

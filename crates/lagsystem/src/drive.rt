@@ -1,0 +1,108 @@
+ghost use Rattle.std.specs.Prelude.{◌≡◌, IfOk, OnErr, map};
+ghost use Rattle.distributor.specs.Calls.{PicksPlaces};
+ghost use Rattle.lagsystem.specs.Calls.{Step};
+ghost use Rattle.lagsystem.specs.Drives.{Drives, call_of};
+ghost use Rattle.lagsystem.specs.Shown.{JoinsViews};
+ghost use Rattle.lagsystem.specs.Sound.{Agrees};
+ghost use Rattle.lagsystem.specs.Windows.{AreWindowed};
+
+use crate::answers::Received;
+use crate::calls::System;
+use crate::config::PortChange;
+use crate::fault::SystemFault;
+use lagtypes::{AggId, NoMemory};
+use std::alloc::Global;
+
+/// A call of a system, with its arguments.
+#[derive(Debug, Drop)]
+pub enum Call {
+    /// `receive`: the port, and the octets that come on it.
+    Receive(u16, Vec<u8>),
+    /// `tick`.
+    Tick,
+    /// `set_link`: the port, and whether its link is up.
+    SetLink(u16, bool),
+    /// `configure`: the port, and what it is given.
+    Configure(u16, PortChange),
+    /// `restart`.
+    Restart,
+    /// `transmit`: the port.
+    Transmit(u16),
+    /// `offer`: the aggregator, and the frame.
+    Offer(AggId, Vec<u8>),
+    /// `move_conversation`: the aggregator, the conversation, and the port to move to.
+    MoveConversation(AggId, u16, u16),
+    /// `force`: the aggregator, and the conversation.
+    Force(AggId, u16),
+}
+
+/// What a call answers.
+#[derive(Clone, Copy, Debug, PartialEq, Eq)]
+pub enum Reply {
+    /// Of `receive`.
+    Receive(Result<Received, SystemFault>),
+    /// Of `tick`, which answers nothing.
+    Tick,
+    /// Of `set_link`.
+    SetLink(Result<(), SystemFault>),
+    /// Of `configure`.
+    Configure(Result<bool, SystemFault>),
+    /// Of `restart`, which answers nothing.
+    Restart,
+    /// Of `transmit`.
+    Transmit(Result<Option<[u8; 124]>, SystemFault>),
+    /// Of `offer`.
+    Offer(Result<u16, SystemFault>),
+    /// Of `move_conversation`.
+    MoveConversation(Result<(), SystemFault>),
+    /// Of `force`.
+    Force(Result<(), SystemFault>),
+}
+
+impl<F: Fn(u16, usize) -> usize + Drop> System<F> {
+    /// Makes these calls one after another and answers their replies, one for each. `NoMemory` where the answer could not
+    /// be reserved, and then no call was made.
+    pub fn drive(&mut self, alloc: Global, calls: &[Call]) -> Result<Vec<Reply>, NoMemory>
+        requires usable { PicksPlaces (F.pre self.old.algorithm) (F.post self.old.algorithm) }
+        ensures driven { IfOk result (λ replies. Drives (F.post self.old.algorithm) self.old.state (map call_of calls.now) replies.items self.new.state) }
+        ensures window { IfOk result (λ replies. AreWindowed self.old.state (map call_of calls.now) replies.items) }
+        ensures refused { OnErr result (self.new ≡ self.old) }
+        ensures algorithm { self.new.algorithm ≡ self.old.algorithm }
+    {
+        let mut replies = Vec::with_capacity(alloc, calls.len())?;
+        for call in calls {
+            let reply = self.answer(call);
+            replies.push_reserved(reply);
+        }
+        Ok(replies)
+    }
+
+    /// Makes one call.
+    fn answer(&mut self, call: &Call) -> Reply
+        requires usable { PicksPlaces (F.pre self.old.algorithm) (F.post self.old.algorithm) }
+        ensures step { Step (F.post self.old.algorithm) self.old.state (call_of call.now) result self.new.state }
+        ensures moves { JoinsViews self.old.state (call_of call.now) result self.new.state }
+        ensures agrees { Agrees self.new.state }
+        ensures algorithm { self.new.algorithm ≡ self.old.algorithm }
+    {
+        match call {
+            Call::Receive(port, octets) => Reply::Receive(self.receive(*port, octets)),
+            Call::Tick => {
+                self.tick();
+                Reply::Tick
+            }
+            Call::SetLink(port, up) => Reply::SetLink(self.set_link(*port, *up)),
+            Call::Configure(port, change) => Reply::Configure(self.configure(*port, *change)),
+            Call::Restart => {
+                self.restart();
+                Reply::Restart
+            }
+            Call::Transmit(port) => Reply::Transmit(self.transmit(*port)),
+            Call::Offer(agg, octets) => Reply::Offer(self.offer(*agg, octets)),
+            Call::MoveConversation(agg, conv, port) => {
+                Reply::MoveConversation(self.move_conversation(*agg, *conv, *port))
+            }
+            Call::Force(agg, conv) => Reply::Force(self.force(*agg, *conv)),
+        }
+    }
+}

@@ -1,0 +1,65 @@
+ghost use Rattle.std.specs.Prelude.{◌≡◌, ◌≤◌, length};
+ghost use Rattle.distributor.specs.Changes.{Changes};
+ghost use Rattle.lagsystem.specs.Calls.{Frees};
+ghost use Rattle.lagsystem.specs.Leaving.{after_leaving, carriers, has_stopped, stopped};
+
+use crate::ports::collecting;
+use crate::readers::distributes_in;
+use crate::slots::Slot;
+use arrayvec::ArrayVec;
+use distributor::Distributor;
+use lagtypes::AggId;
+
+/// The aggregator in which each port distributes, in their order.
+pub(crate) fn carriers(slots: &[Slot]) -> ArrayVec<Option<AggId>, 64>
+    requires { length slots.now ≤ 64 }
+    ensures { result.items ≡ carriers slots.now }
+{
+    let mut found = ArrayVec::new();
+    for slot in slots {
+        found.push(collecting(&slot.port));
+    }
+    found
+}
+
+/// Whether a port no longer distributes in the aggregator in which it did.
+fn has_stopped(was: Option<AggId>, slot: &Slot) -> bool
+    ensures { result ≡ has_stopped was slot.now }
+{
+    match was {
+        Some(agg) => !distributes_in(slot, agg),
+        None => false,
+    }
+}
+
+/// Step 6 of settling: conversations leave each port that stopped, by the aggregators in which the ports distributed before.
+pub(crate) fn leave_ports<F: Fn(u16, usize) -> usize + Drop>(
+    distributor: &mut Distributor<F>,
+    slots: &[Slot],
+    before: &[Option<AggId>],
+)
+    requires { length before.now ≡ length slots.now }
+    ensures changed { Changes distributor.old.table distributor.new.table (after_leaving (stopped before.now slots.now)) }
+    ensures algorithm { distributor.new.algorithm ≡ distributor.old.algorithm }
+{
+    for place in 0..before.len() {
+        let slot = &slots[place];
+        if has_stopped(before[place], slot) {
+            distributor.leave(slot.number);
+        }
+    }
+}
+
+/// The conversations of a port whose link is up or down now: where it is down, they are free.
+pub(crate) fn free_where_down<F: Fn(u16, usize) -> usize + Drop>(
+    distributor: &mut Distributor<F>,
+    port: u16,
+    up: bool,
+)
+    ensures frees { Frees up port distributor.old.table distributor.new.table }
+    ensures algorithm { distributor.new.algorithm ≡ distributor.old.algorithm }
+{
+    if !up {
+        distributor.down(port);
+    }
+}

@@ -1,0 +1,215 @@
+ghost use Rattle.std.specs.Prelude.{◌≡◌};
+ghost use Rattle.distributor.specs.Calls.{PicksPlaces};
+
+use crate::tests::{DATA, Row, config, end, first_other, made, marker, modulo};
+use crate::{Received, System, SystemFault};
+use slowpdu::{Marker, MarkerKind};
+use std::test::Fail;
+
+/// A data frame of conversation 49.
+const NEXT: [u8; 14] = [2, 0, 0, 0, 0, 0x21, 2, 0, 0, 0, 0, 0x10, 8, 0];
+
+/// A data frame of conversation 50.
+const THIRD: [u8; 14] = [2, 0, 0, 0, 0, 0x22, 2, 0, 0, 0, 0, 0x10, 8, 0];
+
+/// The response to a marker of system 1.
+fn response(port: u16, id: u32) -> Marker {
+    marker(MarkerKind::Response, port, 1, id)
+}
+
+/// Brings up ports 1 and 2: both distribute in aggregator 1 towards system 2, nothing is due, and both transmit windows
+/// are empty. Answers the place of the first call that does not go so.
+fn comes_up<F: Fn(u16, usize) -> usize + Drop>(system: &mut System<F>) -> Option<usize>
+    requires usable { PicksPlaces (F.pre system.old.algorithm) (F.post system.old.algorithm) }
+    ensures algorithm { system.new.algorithm ≡ system.old.algorithm }
+{
+    let rows = [
+        Row::Link(1, true),
+        Row::Link(2, true),
+        Row::Takes(1, end(2, 1, 1, 0x05), end(1, 1, 1, 0x07)),
+        Row::Takes(2, end(2, 2, 1, 0x05), end(1, 2, 1, 0x07)),
+        Row::Ticks(20),
+        Row::Sends(1, end(1, 1, 1, 0x0f), end(2, 1, 1, 0x05)),
+        Row::Sends(2, end(1, 2, 1, 0x0f), end(2, 2, 1, 0x05)),
+        Row::Takes(1, end(2, 1, 1, 0x0d), end(1, 1, 1, 0x0f)),
+        Row::Takes(2, end(2, 2, 1, 0x0d), end(1, 2, 1, 0x0f)),
+        Row::Sends(1, end(1, 1, 1, 0x3f), end(2, 1, 1, 0x0d)),
+        Row::Sends(2, end(1, 2, 1, 0x3f), end(2, 2, 1, 0x0d)),
+        Row::Takes(1, end(2, 1, 1, 0x0d), end(1, 1, 1, 0x3f)),
+        Row::Takes(2, end(2, 2, 1, 0x0d), end(1, 2, 1, 0x3f)),
+        Row::Ticks(11),
+        Row::Silent(1),
+        Row::Silent(2),
+        Row::Distributing(1, &[1, 2]),
+    ];
+    first_other(system, &rows)
+}
+
+#[test]
+fn a_conversation_leaves_a_port_behind_its_marker(rt: HostRuntime) -> Result<(), Fail> {
+    let mut system = made(rt.alloc(), &[1, 2], 2, modulo)?;
+    assert_eq!(rt; comes_up(&mut system), None);
+    assert_eq!(rt; system.conversation(&DATA), Some(48));
+    assert_eq!(rt; system.conversation(&NEXT), Some(49));
+    assert_eq!(rt; system.conversation(&[0; 13]), None);
+    let theirs = end(2, 1, 2, 0x0d);
+    let rows = [
+        Row::Offers(1, &DATA, Ok(1)),
+        Row::Offers(1, &NEXT, Ok(2)),
+        // the partner has another key, and nothing else is new
+        Row::Takes(1, theirs, end(1, 1, 1, 0x3f)),
+        Row::Distributing(1, &[2]),
+        Row::Offers(1, &DATA, Err(SystemFault::Held)),
+        Row::Offers(1, &NEXT, Ok(2)),
+        Row::Sends(1, end(1, 1, 1, 0x07), theirs),
+        Row::Marks(1, 1),
+        Row::Silent(1),
+        Row::Releases(1, response(1, 1), 1),
+        Row::Offers(1, &DATA, Ok(2)),
+    ];
+    assert_eq!(rt; first_other(&mut system, &rows), None);
+    Ok(())
+}
+
+#[test]
+fn offers_are_refused_in_order(rt: HostRuntime) -> Result<(), Fail> {
+    let mut system = made(rt.alloc(), &[1, 2], 2, modulo)?;
+    let slow = [2, 0, 0, 0, 0, 0x20, 2, 0, 0, 0, 0, 0x10, 0x88, 9];
+    let rows = [
+        Row::Offers(0, &[0; 13], Err(SystemFault::NoAggregator)),
+        Row::Offers(3, &[0; 13], Err(SystemFault::NoAggregator)),
+        Row::Offers(1, &[0; 13], Err(SystemFault::FrameLength)),
+        Row::Offers(1, &[0; 1519], Err(SystemFault::FrameLength)),
+        Row::Offers(1, &slow, Err(SystemFault::SlowFrame)),
+        Row::Offers(1, &DATA, Err(SystemFault::NoneDistributing)),
+        Row::Offers(2, &[0; 1518], Err(SystemFault::NoneDistributing)),
+    ];
+    assert_eq!(rt; first_other(&mut system, &rows), None);
+    Ok(())
+}
+
+#[test]
+fn moves_are_refused_in_order(rt: HostRuntime) -> Result<(), Fail> {
+    // the link of port 3 stays down
+    let mut system = made(rt.alloc(), &[1, 2, 3], 2, modulo)?;
+    assert_eq!(rt; comes_up(&mut system), None);
+    let rows = [
+        Row::Offers(1, &DATA, Ok(1)),
+        Row::Moves(0, 48, 4, Err(SystemFault::NoAggregator)),
+        Row::Moves(3, 48, 4, Err(SystemFault::NoAggregator)),
+        Row::Moves(1, 48, 4, Err(SystemFault::NoPort)),
+        Row::Moves(1, 49, 4, Err(SystemFault::NoPort)),
+        Row::Moves(1, 49, 3, Err(SystemFault::NotAssigned)),
+        Row::Moves(2, 48, 3, Err(SystemFault::NotAssigned)),
+        Row::Moves(1, 256, 3, Err(SystemFault::NotAssigned)),
+        Row::Moves(1, 48, 3, Err(SystemFault::NotDistributing)),
+        Row::Moves(1, 48, 1, Err(SystemFault::SamePort)),
+        Row::Moves(1, 48, 2, Ok(())),
+        Row::Moves(1, 48, 3, Err(SystemFault::Held)),
+        Row::Moves(1, 48, 1, Err(SystemFault::Held)),
+        Row::Offers(1, &DATA, Err(SystemFault::Held)),
+        Row::Forces(0, 48, Err(SystemFault::NoAggregator)),
+        Row::Forces(3, 256, Err(SystemFault::NoAggregator)),
+        Row::Forces(1, 49, Err(SystemFault::NotAssigned)),
+        Row::Forces(1, 256, Err(SystemFault::NotAssigned)),
+        Row::Forces(1, 48, Ok(())),
+        Row::Forces(1, 48, Err(SystemFault::NotAssigned)),
+        // no marker is due any more, and the port that was asked for is kept
+        Row::Silent(1),
+        Row::Offers(1, &DATA, Ok(2)),
+    ];
+    assert_eq!(rt; first_other(&mut system, &rows), None);
+    Ok(())
+}
+
+#[test]
+fn responses_that_are_not_for_the_port(rt: HostRuntime) -> Result<(), Fail> {
+    let mut system = made(rt.alloc(), &[1, 2], 2, modulo)?;
+    assert_eq!(rt; comes_up(&mut system), None);
+    let rows = [
+        Row::Offers(1, &DATA, Ok(1)),
+        Row::Moves(1, 48, 2, Ok(())),
+        Row::Silent(2),
+        Row::Marks(1, 1),
+        Row::Releases(1, marker(MarkerKind::Response, 1, 2, 1), 0),
+        Row::Releases(1, response(2, 1), 0),
+        Row::Releases(2, response(1, 1), 0),
+        Row::Releases(2, response(2, 1), 0),
+        Row::Releases(1, response(1, 2), 0),
+        Row::Offers(1, &DATA, Err(SystemFault::Held)),
+        Row::Releases(1, response(1, 1), 1),
+        Row::Releases(1, response(1, 1), 0),
+        Row::Offers(1, &DATA, Ok(2)),
+    ];
+    assert_eq!(rt; first_other(&mut system, &rows), None);
+    Ok(())
+}
+
+#[test]
+fn a_link_that_goes_down_frees_its_conversations(rt: HostRuntime) -> Result<(), Fail> {
+    let mut system = made(rt.alloc(), &[1, 2], 2, modulo)?;
+    assert_eq!(rt; comes_up(&mut system), None);
+    let rows = [
+        Row::Offers(1, &DATA, Ok(1)),
+        Row::Moves(1, 48, 2, Ok(())),
+        Row::Link(1, false),
+        Row::Silent(1),
+        Row::Data(1, Received::Disabled),
+        Row::Offers(1, &DATA, Ok(2)),
+    ];
+    assert_eq!(rt; first_other(&mut system, &rows), None);
+    Ok(())
+}
+
+#[test]
+fn identifiers_end_and_a_restart_begins_anew(rt: HostRuntime) -> Result<(), Fail> {
+    let mut given = config(rt.alloc(), &[1, 2], 2)?;
+    given.first_marker = 4294967295;
+    let mut system = System::new(rt.alloc(), given, modulo)?;
+    for _ in 0..2 {
+        assert_eq!(rt; comes_up(&mut system), None);
+        let rows = [
+            Row::Offers(1, &DATA, Ok(1)),
+            Row::Offers(1, &THIRD, Ok(1)),
+            Row::Moves(1, 48, 2, Ok(())),
+            Row::Marks(1, 4294967295),
+            Row::Moves(1, 50, 2, Err(SystemFault::MarkersSpent)),
+            Row::Silent(1),
+            // conversation 50 wants a marker, and none is left
+            Row::Takes(1, end(2, 1, 2, 0x0d), end(1, 1, 1, 0x3f)),
+            Row::Offers(1, &THIRD, Err(SystemFault::Held)),
+            Row::Sends(1, end(1, 1, 1, 0x07), end(2, 1, 2, 0x0d)),
+            Row::Silent(1),
+            Row::Restart,
+            Row::Forces(1, 48, Err(SystemFault::NotAssigned)),
+            Row::Forces(1, 50, Err(SystemFault::NotAssigned)),
+        ];
+        assert_eq!(rt; first_other(&mut system, &rows), None);
+    }
+    Ok(())
+}
+
+#[test]
+fn a_marker_without_a_response_is_sent_again(rt: HostRuntime) -> Result<(), Fail> {
+    let mut system = made(rt.alloc(), &[1, 2], 2, modulo)?;
+    assert_eq!(rt; comes_up(&mut system), None);
+    let rows = [
+        Row::Offers(1, &DATA, Ok(1)),
+        Row::Moves(1, 48, 2, Ok(())),
+        Row::Marks(1, 1),
+        Row::Quiet(1, 10),
+        // the partner is heard again, so that both ports stay in the aggregator
+        Row::Takes(1, end(2, 1, 1, 0x0d), end(1, 1, 1, 0x3f)),
+        Row::Takes(2, end(2, 2, 1, 0x0d), end(1, 2, 1, 0x3f)),
+        Row::Quiet(1, 19),
+        Row::Ticks(1),
+        Row::Marks(1, 2),
+        Row::Releases(1, response(1, 1), 0),
+        Row::Offers(1, &DATA, Err(SystemFault::Held)),
+        Row::Releases(1, response(1, 2), 1),
+        Row::Offers(1, &DATA, Ok(2)),
+        Row::Distributing(1, &[1, 2]),
+    ];
+    assert_eq!(rt; first_other(&mut system, &rows), None);
+    Ok(())
+}

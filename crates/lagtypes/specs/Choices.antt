@@ -1,0 +1,14 @@
+-- What the Selection Logic gave a port (6.4.8, Selected).
+use Rattle.std.specs.Prelude.{Bool, true, false}
+use Rattle.lagtypes.specs.declared.party.Choice.{Choice}
+use Rattle.lagtypes.specs.declared.party.Choice.TheVariants.{Unselected, Selected}
+
+-- SELECTED
+abbrev pub is_selected : Choice → Bool
+is_selected Unselected = false
+is_selected (Selected agg) = true
+
+-- UNSELECTED
+abbrev pub is_unselected : Choice → Bool
+is_unselected Unselected = true
+is_unselected (Selected agg) = false
