@@ -7,7 +7,7 @@ use Rattle.lagsystem.specs.declared.answers.Heard.{Heard}
 use Rattle.portmachines.specs.Machines.{Machines}
 use Rattle.lagsystem.specs.declared.slots.Slot.{Slot}
 use Rattle.lagsystem.specs.State.{State, with_slots}
-use Rattle.lagsystem.specs.Settling.{AllMove, EachPort, SettlesPorts}
+use Rattle.lagsystem.specs.Settling.{SettlesPorts}
 use Rattle.lagsystem.specs.Calls.{OnPlace, OnPort, Faulty, Carries, Hears, HearsPayload, HearsWhere}
 
 pub on_port_made : (R : Machines → Machines → Type 0) (place : List Slot → Option ℕ) (s : State) (olds ws news : List Slot) → olds ≡ s.slots → news ≡ ws → OnPlace R (place olds) olds ws → OnPort (place s.slots) R s (with_slots s news)

@@ -1,16 +1,18 @@
-ghost use Rattle.std.specs.Prelude.{◌≡◌, ◌<◌, IfOk};
+ghost use Rattle.std.specs.Prelude.{◌≡◌, ◌<◌};
 ghost use Rattle.distributor.specs.Calls.{PicksPlaces};
 
+mod configurations;
 mod conversations;
+mod driven;
+mod frames;
 mod memory;
 
-use crate::{BadConfig, Config, PortChange, PortConfig, Received, System, SystemFault};
+use crate::{Config, PortChange, PortConfig, Received, System, SystemFault};
 use bitflags::Flags;
 use lagtypes::{AggId, Choice, Group, Key, NoMemory, Party, PortId, State, SystemId};
 use portmachines::MuxState;
-use slowpdu::{Info, Lacpdu, Marker, MarkerKind, WireFault, frame};
+use slowpdu::{Info, Lacpdu, Marker, MarkerKind, frame};
 use std::alloc::Global;
-use std::test::Fail;
 
 /// A data frame of conversation 48.
 const DATA: [u8; 14] = [2, 0, 0, 0, 0, 0x20, 2, 0, 0, 0, 0, 0x10, 8, 0];
@@ -23,14 +25,22 @@ enum Row<'a> {
     Restart,
     /// An LACPDU of this actor and partner is taken on a port.
     Takes(u16, Info, Info),
-    /// The data frame on a port is answered so.
-    Data(u16, Received),
+    /// This frame on a port is answered so.
+    Hears(u16, &'a [u8], Received),
+    /// This frame on a port is answered so, and the readers tell of the port what they told before.
+    Keeps(u16, &'a [u8], Received),
+    /// `configure` to this key, and else as before, answers so.
+    Configures(u16, u16, bool),
     /// `transmit` is None.
     Silent(u16),
     /// So many times a tick, and each time `transmit` is None.
     Quiet(u16, u16),
     /// `transmit` is an LACPDU of this actor and partner.
     Sends(u16, Info, Info),
+    /// The readers tell this of a port.
+    Shows(u16, Seen),
+    /// The calls refuse this port, and the readers know it not.
+    Unknown(u16),
     Chosen(u16, Choice),
     Mux(u16, MuxState),
     Defaulted(u16, bool),
@@ -44,6 +54,8 @@ enum Row<'a> {
     Marks(u16, u32),
     /// This marker response comes on a port and frees so many conversations.
     Releases(u16, Marker, u32),
+    /// `conversation` of a frame is this.
+    Conversation(&'a [u8], Option<u16>),
 }
 
 /// What the readers tell of a port.
@@ -57,6 +69,17 @@ struct Seen {
     choice: Option<Choice>,
     mux: Option<MuxState>,
 }
+
+/// What the readers tell of a port that is not there.
+const NOTHING: Seen = Seen {
+    party: None,
+    partner: None,
+    group: None,
+    defaulted: None,
+    distributes: None,
+    choice: None,
+    mux: None,
+};
 
 /// The algorithm of the tests.
 fn modulo(conv: u16, count: usize) -> usize
@@ -129,13 +152,18 @@ fn mac(number: u16) -> [u8; 6] {
     [2, 0, 0, 0, 0, low]
 }
 
-/// These octets, and zeros after them.
-fn padded(head: &[u8]) -> [u8; 124] {
-    let mut octets = [0; 124];
-    for (place, octet) in octets.iter_mut().zip(head) {
-        *place = *octet;
+/// What the readers tell of port 1 of system 1, of this key, while it has this partner and was never selected.
+fn unheard(key: u16, partner: Info) -> Seen {
+    let party = end(1, 1, key, 0x04).party();
+    Seen {
+        party: Some(party),
+        partner: Some(partner),
+        group: Some(Group::of(&zero(0).party(), &party)),
+        defaulted: Some(true),
+        distributes: Some(false),
+        choice: Some(Choice::Unselected),
+        mux: Some(MuxState::Detached),
     }
-    octets
 }
 
 /// System 1 with active, short ports of key 1, and so many aggregators of key 1.
@@ -163,25 +191,6 @@ fn config(alloc: Global, numbers: &[u16], keys: usize) -> Result<Config, NoMemor
         aggregators,
         ports,
     })
-}
-
-/// Writes the numbers from 1 on.
-fn number_all(numbers: &mut [u16]) {
-    for (number, place) in (1..).zip(numbers.iter_mut()) {
-        *place = number;
-    }
-}
-
-fn made<F: Fn(u16, usize) -> usize + Drop>(
-    alloc: Global,
-    numbers: &[u16],
-    keys: usize,
-    algorithm: F,
-) -> Result<System<F>, SystemFault>
-    requires usable { PicksPlaces (F.pre algorithm) (F.post algorithm) }
-    ensures algorithm { IfOk result (λ s. s.algorithm ≡ algorithm) }
-{
-    System::new(alloc, config(alloc, numbers, keys)?, algorithm)
 }
 
 /// Makes so many ticks, which answer nothing.
@@ -272,6 +281,46 @@ fn receives<F: Fn(u16, usize) -> usize + Drop>(
     system.receive(port, octets) == Ok(answer)
 }
 
+/// Whether a frame is answered so, and the readers tell of the port what they told before.
+fn keeps<F: Fn(u16, usize) -> usize + Drop>(
+    system: &mut System<F>,
+    port: u16,
+    octets: &[u8],
+    answer: Received,
+) -> bool
+    ensures algorithm { system.new.algorithm ≡ system.old.algorithm }
+{
+    let before = look(system, port);
+    receives(system, port, octets, answer) && look(system, port) == before
+}
+
+fn configures<F: Fn(u16, usize) -> usize + Drop>(
+    system: &mut System<F>,
+    port: u16,
+    key: u16,
+    answer: Result<bool, SystemFault>,
+) -> bool
+    ensures algorithm { system.new.algorithm ≡ system.old.algorithm }
+{
+    let change = PortChange {
+        key: Key(key),
+        priority: 128,
+        aggregatable: true,
+    };
+    system.configure(port, change) == answer
+}
+
+/// Whether the calls refuse a port, and the readers know it not.
+fn is_unknown<F: Fn(u16, usize) -> usize + Drop>(system: &mut System<F>, port: u16) -> bool
+    ensures algorithm { system.new.algorithm ≡ system.old.algorithm }
+{
+    system.receive(port, &DATA) == Err(SystemFault::NoPort)
+        && system.set_link(port, true) == Err(SystemFault::NoPort)
+        && configures(system, port, 2, Err(SystemFault::NoPort))
+        && system.transmit(port) == Err(SystemFault::NoPort)
+        && look(system, port) == NOTHING
+}
+
 fn is_silent<F: Fn(u16, usize) -> usize + Drop>(system: &mut System<F>, port: u16) -> bool
     ensures algorithm { system.new.algorithm ≡ system.old.algorithm }
 {
@@ -313,9 +362,11 @@ fn forces<F: Fn(u16, usize) -> usize + Drop>(
     system.force(AggId(agg), conv) == answer
 }
 
-/// Whether the readers tell what a row says.
-fn shows<F: Fn(u16, usize) -> usize + Drop>(system: &System<F>, row: Row<'_>) -> bool {
+/// Whether a reader tells what a row says.
+fn tells<F: Fn(u16, usize) -> usize + Drop>(system: &System<F>, row: Row<'_>) -> bool {
     match row {
+        Row::Shows(port, seen) => look(system, port) == seen,
+        Row::Conversation(octets, answer) => system.conversation(octets) == answer,
         Row::Chosen(port, choice) => system.choice(port) == Some(choice),
         Row::Mux(port, state) => system.mux_state(port) == Some(state),
         Row::Defaulted(port, defaulted) => system.defaulted(port) == Some(defaulted),
@@ -336,7 +387,10 @@ fn passes<F: Fn(u16, usize) -> usize + Drop>(system: &mut System<F>, row: Row<'_
         Row::Takes(port, actor, partner) => {
             hears(system, port, &lacpdu(actor, partner), Received::TookLacpdu)
         }
-        Row::Data(port, answer) => receives(system, port, &DATA, answer),
+        Row::Hears(port, octets, answer) => receives(system, port, octets, answer),
+        Row::Keeps(port, octets, answer) => keeps(system, port, octets, answer),
+        Row::Configures(port, key, answer) => configures(system, port, key, Ok(answer)),
+        Row::Unknown(port) => is_unknown(system, port),
         Row::Silent(port) => is_silent(system, port),
         Row::Quiet(port, ticks) => quiet(system, port, ticks),
         Row::Sends(port, actor, partner) => sends(system, port, &lacpdu(actor, partner)),
@@ -347,9 +401,7 @@ fn passes<F: Fn(u16, usize) -> usize + Drop>(system: &mut System<F>, row: Row<'_
         Row::Releases(port, response, count) => {
             hears(system, port, &response.encode(), Received::Released(count))
         }
-        Row::Chosen(..) | Row::Mux(..) | Row::Defaulted(..) | Row::Distributing(..) => {
-            shows(system, row)
-        }
+        _ => tells(system, row),
     }
 }
 
@@ -369,238 +421,18 @@ fn first_other<F: Fn(u16, usize) -> usize + Drop>(
     None
 }
 
-#[test]
-fn three_answers_then_the_window_then_a_restart(rt: HostRuntime) -> Result<(), Fail> {
-    let mut system = made(rt.alloc(), &[1], 1, modulo)?;
-    let fresh = look(&system, 1);
-    let theirs = end(2, 1, 1, 0x07);
-    let takes = Row::Takes(1, theirs, zero(0));
-    let answers = Row::Sends(1, end(1, 1, 1, 0x07), theirs);
-    let rows = [
-        Row::Link(1, true),
-        takes,
-        answers,
-        takes,
-        answers,
-        takes,
-        answers,
-        takes,
-        Row::Silent(1),
-        Row::Quiet(1, 10),
-        Row::Ticks(1),
-        answers,
-        Row::Restart,
-    ];
-    assert_eq!(rt; first_other(&mut system, &rows), None);
-    assert_eq!(rt; look(&system, 1), fresh);
-    let rows = [
-        Row::Silent(1),
-        Row::Link(1, true),
-        Row::Ticks(10),
-        Row::Sends(1, end(1, 1, 1, 0xc7), zero(0x02)),
-    ];
-    assert_eq!(rt; first_other(&mut system, &rows), None);
-    Ok(())
-}
-
-#[test]
-fn another_key_of_the_partner(rt: HostRuntime) -> Result<(), Fail> {
-    let mut system = made(rt.alloc(), &[1, 2], 2, modulo)?;
-    let rows = [
-        Row::Link(1, true),
-        Row::Link(2, true),
-        Row::Data(1, Received::Dropped),
-        Row::Takes(1, end(2, 1, 1, 0x0d), end(1, 1, 1, 0x07)),
-        Row::Takes(2, end(2, 2, 1, 0x0d), end(1, 2, 1, 0x07)),
-        Row::Ticks(19),
-        Row::Distributing(1, &[]),
-        Row::Data(1, Received::Dropped),
-        Row::Ticks(1),
-        Row::Distributing(1, &[1, 2]),
-        Row::Data(1, Received::Up(AggId(1))),
-        Row::Takes(1, end(2, 1, 2, 0x0d), end(1, 1, 1, 0x07)),
-        Row::Distributing(1, &[2]),
-        Row::Distributing(2, &[]),
-        Row::Chosen(1, Choice::Selected(AggId(2))),
-        Row::Mux(1, MuxState::Waiting),
-    ];
-    assert_eq!(rt; first_other(&mut system, &rows), None);
-    Ok(())
-}
-
-#[test]
-fn an_lacpdu_of_the_own_system(rt: HostRuntime) -> Result<(), Fail> {
-    let mut system = made(rt.alloc(), &[1], 1, modulo)?;
-    let rows = [
-        Row::Link(1, true),
-        Row::Takes(1, end(1, 1, 1, 0x07), zero(0)),
-        Row::Ticks(29),
-        Row::Chosen(1, Choice::Unselected),
-        Row::Distributing(1, &[]),
-        Row::Ticks(30),
-        Row::Defaulted(1, false),
-        Row::Ticks(1),
-        Row::Defaulted(1, true),
-        Row::Ticks(19),
-        Row::Distributing(1, &[]),
-        Row::Ticks(1),
-        Row::Distributing(1, &[1]),
-    ];
-    assert_eq!(rt; first_other(&mut system, &rows), None);
-    Ok(())
-}
-
-#[test]
-fn frames_that_change_nothing(rt: HostRuntime) -> Result<(), Fail> {
-    let mut system = made(rt.alloc(), &[2], 1, modulo)?;
-    assert_eq!(rt; system.receive(2, &DATA), Ok(Received::Disabled));
-    assert_eq!(rt; system.set_link(2, true), Ok(()));
-    let before = look(&system, 2);
-    let mut payload = lacpdu(end(1, 1, 1, 0xc7), zero(0x02));
-    payload[0] = 3;
-    let marker = padded(&[
-        1, 0x80, 0xc2, 0, 0, 2, 2, 0, 0, 0, 0, 1, 0x88, 9, 2, 1, 1, 16, 0, 1, 2, 0, 0, 0, 0, 1,
-        255, 255, 255, 255, 0xbe, 0xef,
-    ]);
-    let response = padded(&[
-        1, 0x80, 0xc2, 0, 0, 2, 2, 0, 0, 0, 0, 2, 0x88, 9, 2, 1, 2, 16, 0, 1, 2, 0, 0, 0, 0, 1,
-        255, 255, 255, 255,
-    ]);
-    let rows = [
-        (
-            frame(mac(1), &payload),
-            Received::Ignored(WireFault::OtherSubtype(3)),
-        ),
-        (marker, Received::Respond(response)),
-        (response, Received::Released(0)),
-    ];
-    for (octets, answer) in rows {
-        assert_eq!(rt; system.receive(2, &octets), Ok(answer));
-        assert_eq!(rt; look(&system, 2), before);
+/// Plays lists of rows, one after another, on a new system; answers the list, and the place in it, of the first row that
+/// does not go as it says.
+fn plays(
+    alloc: Global,
+    given: Config,
+    lists: &[&[Row<'_>]],
+) -> Result<Option<(usize, usize)>, SystemFault> {
+    let mut system = System::new(alloc, given, modulo)?;
+    for (list, rows) in lists.iter().enumerate() {
+        if let Some(place) = first_other(&mut system, rows) {
+            return Ok(Some((list, place)));
+        }
     }
-    for count in 0..124 {
-        let answer = if count < 14 {
-            Received::Dropped
-        } else {
-            Received::Ignored(WireFault::Short { have: count - 14 })
-        };
-        assert_eq!(rt; system.receive(2, &response[..count]), Ok(answer));
-        assert_eq!(rt; look(&system, 2), before);
-    }
-    Ok(())
-}
-
-#[test]
-fn a_port_is_given_another_key(rt: HostRuntime) -> Result<(), Fail> {
-    let mut system = made(rt.alloc(), &[1], 1, modulo)?;
-    let theirs = end(2, 1, 1, 0x07);
-    assert_eq!(rt; system.set_link(1, true), Ok(()));
-    assert!(rt; passes(&mut system, Row::Takes(1, theirs, zero(0))));
-    let before = look(&system, 1);
-    let mut change = PortChange {
-        key: Key(1),
-        priority: 128,
-        aggregatable: true,
-    };
-    assert_eq!(rt; system.configure(1, change), Ok(false));
-    assert_eq!(rt; look(&system, 1), before);
-    assert_eq!(rt; before.choice, Some(Choice::Selected(AggId(1))));
-    assert_eq!(rt; before.partner, Some(theirs));
-    change.key = Key(2);
-    assert_eq!(rt; system.configure(1, change), Ok(true));
-    let party = end(1, 1, 2, 0x04).party();
-    let after = Seen {
-        party: Some(party),
-        partner: Some(zero(0x02)),
-        group: Some(Group::of(&zero(0).party(), &party)),
-        defaulted: Some(true),
-        distributes: Some(false),
-        choice: Some(Choice::Unselected),
-        mux: Some(MuxState::Detached),
-    };
-    assert_eq!(rt; look(&system, 1), after);
-    assert!(rt; passes(&mut system, Row::Sends(1, end(1, 1, 2, 0xc7), zero(0x02))));
-    Ok(())
-}
-
-#[test]
-fn a_port_that_is_not_there(rt: HostRuntime) -> Result<(), Fail> {
-    let mut system = made(rt.alloc(), &[1, 3], 1, modulo)?;
-    let change = PortChange {
-        key: Key(2),
-        priority: 128,
-        aggregatable: true,
-    };
-    for port in [0, 2, 4] {
-        assert_eq!(rt; system.receive(port, &DATA), Err(SystemFault::NoPort));
-        assert_eq!(rt; system.set_link(port, true), Err(SystemFault::NoPort));
-        assert_eq!(rt; system.configure(port, change), Err(SystemFault::NoPort));
-        assert_eq!(rt; system.transmit(port), Err(SystemFault::NoPort));
-        let nothing = Seen {
-            party: None,
-            partner: None,
-            group: None,
-            defaulted: None,
-            distributes: None,
-            choice: None,
-            mux: None,
-        };
-        assert_eq!(rt; look(&system, port), nothing);
-    }
-    assert!(rt; system.distributing(AggId(2)).is_empty());
-    Ok(())
-}
-
-#[test]
-fn configurations_are_refused_in_order(rt: HostRuntime) -> Result<(), Fail> {
-    let mut most = [0; 64];
-    let mut many = [0; 65];
-    number_all(&mut most);
-    number_all(&mut many);
-    let system = made(rt.alloc(), &most, 64, modulo)?;
-    assert_eq!(rt; system.choice(64), Some(Choice::Unselected));
-    let rows: [(&[u16], usize, BadConfig); 8] = [
-        (&[], 0, BadConfig::Ports),
-        (&many, 65, BadConfig::Ports),
-        (&[0], 0, BadConfig::Aggregators),
-        (&[0], 65, BadConfig::Aggregators),
-        (&[0, 0], 1, BadConfig::PortNumber(1)),
-        (&[1, 1, 0], 1, BadConfig::PortNumber(2)),
-        (&[1, 3, 2], 64, BadConfig::PortNumber(3)),
-        (&[65535, 1], 1, BadConfig::PortNumber(2)),
-    ];
-    for (numbers, keys, reason) in rows {
-        let refused = made(rt.alloc(), numbers, keys, modulo).err();
-        assert_eq!(rt; refused, Some(SystemFault::BadConfig(reason)));
-    }
-    Ok(())
-}
-
-#[test]
-fn refusals_have_numbers(rt: HostRuntime) {
-    let reasons = [
-        BadConfig::Ports,
-        BadConfig::Aggregators,
-        BadConfig::PortNumber(7),
-    ];
-    for (number, reason) in (1..).zip(reasons) {
-        assert_eq!(rt; reason.number(), number);
-    }
-    let faults = [
-        SystemFault::NoPort,
-        SystemFault::NoAggregator,
-        SystemFault::FrameLength,
-        SystemFault::SlowFrame,
-        SystemFault::Held,
-        SystemFault::NoneDistributing,
-        SystemFault::NotDistributing,
-        SystemFault::SamePort,
-        SystemFault::NotAssigned,
-        SystemFault::MarkersSpent,
-        SystemFault::BadConfig(BadConfig::Ports),
-        SystemFault::NoMemory,
-    ];
-    for (number, fault) in (1..).zip(faults) {
-        assert_eq!(rt; fault.number(), number);
-    }
+    Ok(None)
 }

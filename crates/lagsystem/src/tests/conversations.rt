@@ -1,8 +1,5 @@
-ghost use Rattle.std.specs.Prelude.{◌≡◌};
-ghost use Rattle.distributor.specs.Calls.{PicksPlaces};
-
-use crate::tests::{DATA, Row, config, end, first_other, made, marker, modulo};
-use crate::{Received, System, SystemFault};
+use crate::tests::{DATA, Row, config, end, marker, plays};
+use crate::{Received, SystemFault};
 use slowpdu::{Marker, MarkerKind};
 use std::test::Fail;
 
@@ -18,12 +15,9 @@ fn response(port: u16, id: u32) -> Marker {
 }
 
 /// Brings up ports 1 and 2: both distribute in aggregator 1 towards system 2, nothing is due, and both transmit windows
-/// are empty. Answers the place of the first call that does not go so.
-fn comes_up<F: Fn(u16, usize) -> usize + Drop>(system: &mut System<F>) -> Option<usize>
-    requires usable { PicksPlaces (F.pre system.old.algorithm) (F.post system.old.algorithm) }
-    ensures algorithm { system.new.algorithm ≡ system.old.algorithm }
-{
-    let rows = [
+/// are empty.
+fn coming_up() -> [Row<'static>; 17] {
+    [
         Row::Link(1, true),
         Row::Link(2, true),
         Row::Takes(1, end(2, 1, 1, 0x05), end(1, 1, 1, 0x07)),
@@ -41,19 +35,16 @@ fn comes_up<F: Fn(u16, usize) -> usize + Drop>(system: &mut System<F>) -> Option
         Row::Silent(1),
         Row::Silent(2),
         Row::Distributing(1, &[1, 2]),
-    ];
-    first_other(system, &rows)
+    ]
 }
 
 #[test]
 fn a_conversation_leaves_a_port_behind_its_marker(rt: HostRuntime) -> Result<(), Fail> {
-    let mut system = made(rt.alloc(), &[1, 2], 2, modulo)?;
-    assert_eq!(rt; comes_up(&mut system), None);
-    assert_eq!(rt; system.conversation(&DATA), Some(48));
-    assert_eq!(rt; system.conversation(&NEXT), Some(49));
-    assert_eq!(rt; system.conversation(&[0; 13]), None);
     let theirs = end(2, 1, 2, 0x0d);
     let rows = [
+        Row::Conversation(&DATA, Some(48)),
+        Row::Conversation(&NEXT, Some(49)),
+        Row::Conversation(&[0; 13], None),
         Row::Offers(1, &DATA, Ok(1)),
         Row::Offers(1, &NEXT, Ok(2)),
         // the partner has another key, and nothing else is new
@@ -67,13 +58,13 @@ fn a_conversation_leaves_a_port_behind_its_marker(rt: HostRuntime) -> Result<(),
         Row::Releases(1, response(1, 1), 1),
         Row::Offers(1, &DATA, Ok(2)),
     ];
-    assert_eq!(rt; first_other(&mut system, &rows), None);
+    let given = config(rt.alloc(), &[1, 2], 2)?;
+    assert_eq!(rt; plays(rt.alloc(), given, &[&coming_up(), &rows])?, None);
     Ok(())
 }
 
 #[test]
 fn offers_are_refused_in_order(rt: HostRuntime) -> Result<(), Fail> {
-    let mut system = made(rt.alloc(), &[1, 2], 2, modulo)?;
     let slow = [2, 0, 0, 0, 0, 0x20, 2, 0, 0, 0, 0, 0x10, 0x88, 9];
     let rows = [
         Row::Offers(0, &[0; 13], Err(SystemFault::NoAggregator)),
@@ -84,15 +75,14 @@ fn offers_are_refused_in_order(rt: HostRuntime) -> Result<(), Fail> {
         Row::Offers(1, &DATA, Err(SystemFault::NoneDistributing)),
         Row::Offers(2, &[0; 1518], Err(SystemFault::NoneDistributing)),
     ];
-    assert_eq!(rt; first_other(&mut system, &rows), None);
+    let given = config(rt.alloc(), &[1, 2], 2)?;
+    assert_eq!(rt; plays(rt.alloc(), given, &[&rows])?, None);
     Ok(())
 }
 
 #[test]
 fn moves_are_refused_in_order(rt: HostRuntime) -> Result<(), Fail> {
     // the link of port 3 stays down
-    let mut system = made(rt.alloc(), &[1, 2, 3], 2, modulo)?;
-    assert_eq!(rt; comes_up(&mut system), None);
     let rows = [
         Row::Offers(1, &DATA, Ok(1)),
         Row::Moves(0, 48, 4, Err(SystemFault::NoAggregator)),
@@ -118,14 +108,13 @@ fn moves_are_refused_in_order(rt: HostRuntime) -> Result<(), Fail> {
         Row::Silent(1),
         Row::Offers(1, &DATA, Ok(2)),
     ];
-    assert_eq!(rt; first_other(&mut system, &rows), None);
+    let given = config(rt.alloc(), &[1, 2, 3], 2)?;
+    assert_eq!(rt; plays(rt.alloc(), given, &[&coming_up(), &rows])?, None);
     Ok(())
 }
 
 #[test]
 fn responses_that_are_not_for_the_port(rt: HostRuntime) -> Result<(), Fail> {
-    let mut system = made(rt.alloc(), &[1, 2], 2, modulo)?;
-    assert_eq!(rt; comes_up(&mut system), None);
     let rows = [
         Row::Offers(1, &DATA, Ok(1)),
         Row::Moves(1, 48, 2, Ok(())),
@@ -141,23 +130,23 @@ fn responses_that_are_not_for_the_port(rt: HostRuntime) -> Result<(), Fail> {
         Row::Releases(1, response(1, 1), 0),
         Row::Offers(1, &DATA, Ok(2)),
     ];
-    assert_eq!(rt; first_other(&mut system, &rows), None);
+    let given = config(rt.alloc(), &[1, 2], 2)?;
+    assert_eq!(rt; plays(rt.alloc(), given, &[&coming_up(), &rows])?, None);
     Ok(())
 }
 
 #[test]
 fn a_link_that_goes_down_frees_its_conversations(rt: HostRuntime) -> Result<(), Fail> {
-    let mut system = made(rt.alloc(), &[1, 2], 2, modulo)?;
-    assert_eq!(rt; comes_up(&mut system), None);
     let rows = [
         Row::Offers(1, &DATA, Ok(1)),
         Row::Moves(1, 48, 2, Ok(())),
         Row::Link(1, false),
         Row::Silent(1),
-        Row::Data(1, Received::Disabled),
+        Row::Hears(1, &DATA, Received::Disabled),
         Row::Offers(1, &DATA, Ok(2)),
     ];
-    assert_eq!(rt; first_other(&mut system, &rows), None);
+    let given = config(rt.alloc(), &[1, 2], 2)?;
+    assert_eq!(rt; plays(rt.alloc(), given, &[&coming_up(), &rows])?, None);
     Ok(())
 }
 
@@ -165,34 +154,29 @@ fn a_link_that_goes_down_frees_its_conversations(rt: HostRuntime) -> Result<(), 
 fn identifiers_end_and_a_restart_begins_anew(rt: HostRuntime) -> Result<(), Fail> {
     let mut given = config(rt.alloc(), &[1, 2], 2)?;
     given.first_marker = 4294967295;
-    let mut system = System::new(rt.alloc(), given, modulo)?;
-    for _ in 0..2 {
-        assert_eq!(rt; comes_up(&mut system), None);
-        let rows = [
-            Row::Offers(1, &DATA, Ok(1)),
-            Row::Offers(1, &THIRD, Ok(1)),
-            Row::Moves(1, 48, 2, Ok(())),
-            Row::Marks(1, 4294967295),
-            Row::Moves(1, 50, 2, Err(SystemFault::MarkersSpent)),
-            Row::Silent(1),
-            // conversation 50 wants a marker, and none is left
-            Row::Takes(1, end(2, 1, 2, 0x0d), end(1, 1, 1, 0x3f)),
-            Row::Offers(1, &THIRD, Err(SystemFault::Held)),
-            Row::Sends(1, end(1, 1, 1, 0x07), end(2, 1, 2, 0x0d)),
-            Row::Silent(1),
-            Row::Restart,
-            Row::Forces(1, 48, Err(SystemFault::NotAssigned)),
-            Row::Forces(1, 50, Err(SystemFault::NotAssigned)),
-        ];
-        assert_eq!(rt; first_other(&mut system, &rows), None);
-    }
+    let up = coming_up();
+    let rows = [
+        Row::Offers(1, &DATA, Ok(1)),
+        Row::Offers(1, &THIRD, Ok(1)),
+        Row::Moves(1, 48, 2, Ok(())),
+        Row::Marks(1, 4294967295),
+        Row::Moves(1, 50, 2, Err(SystemFault::MarkersSpent)),
+        Row::Silent(1),
+        // conversation 50 wants a marker, and none is left
+        Row::Takes(1, end(2, 1, 2, 0x0d), end(1, 1, 1, 0x3f)),
+        Row::Offers(1, &THIRD, Err(SystemFault::Held)),
+        Row::Sends(1, end(1, 1, 1, 0x07), end(2, 1, 2, 0x0d)),
+        Row::Silent(1),
+        Row::Restart,
+        Row::Forces(1, 48, Err(SystemFault::NotAssigned)),
+        Row::Forces(1, 50, Err(SystemFault::NotAssigned)),
+    ];
+    assert_eq!(rt; plays(rt.alloc(), given, &[&up, &rows, &up, &rows])?, None);
     Ok(())
 }
 
 #[test]
 fn a_marker_without_a_response_is_sent_again(rt: HostRuntime) -> Result<(), Fail> {
-    let mut system = made(rt.alloc(), &[1, 2], 2, modulo)?;
-    assert_eq!(rt; comes_up(&mut system), None);
     let rows = [
         Row::Offers(1, &DATA, Ok(1)),
         Row::Moves(1, 48, 2, Ok(())),
@@ -210,6 +194,7 @@ fn a_marker_without_a_response_is_sent_again(rt: HostRuntime) -> Result<(), Fail
         Row::Offers(1, &DATA, Ok(2)),
         Row::Distributing(1, &[1, 2]),
     ];
-    assert_eq!(rt; first_other(&mut system, &rows), None);
+    let given = config(rt.alloc(), &[1, 2], 2)?;
+    assert_eq!(rt; plays(rt.alloc(), given, &[&coming_up(), &rows])?, None);
     Ok(())
 }

@@ -1,48 +1,21 @@
-use crate::tests::{look, made, modulo};
-use crate::{Call, Reply, SystemFault};
-use std::alloc::Global;
-use std::process::Abort;
+use crate::SystemFault;
+use crate::tests::Row;
+use crate::tests::driven::drives;
 
-/// Makes a system and drives it. Where memory for the replies is refused, the system has to be as before.
-fn drives(rt: &impl Abort, alloc: Global) -> Result<(), SystemFault> {
-    let mut system = made(alloc, &[1, 2], 2, modulo)?;
-    let before = [look(&system, 1), look(&system, 2)];
-    let calls = [
-        Call::SetLink(1, true),
-        Call::SetLink(2, true),
-        Call::SetLink(3, true),
-        Call::Tick,
-    ];
-    let replies = [
-        Reply::SetLink(Ok(())),
-        Reply::SetLink(Ok(())),
-        Reply::SetLink(Err(SystemFault::NoPort)),
-        Reply::Tick,
-    ];
-    match system.drive(alloc, &calls) {
-        Ok(answers) => {
-            assert_eq!(rt; answers.as_slice(), replies.as_slice());
-            assert_ne!(rt; look(&system, 1), before[0]);
-            assert_ne!(rt; look(&system, 2), before[1]);
-            Ok(())
-        }
-        Err(refused) => {
-            assert_eq!(rt; [look(&system, 1), look(&system, 2)], before);
-            Err(SystemFault::from(refused))
-        }
-    }
-}
+/// Two ports come up, and time passes.
+const ROWS: [Row<'static>; 3] = [Row::Link(1, true), Row::Link(2, true), Row::Ticks(1)];
 
 /// Fails where an allocation is refused.
 #[test]
 fn memory_is_granted(rt: HostRuntime) {
-    assert_eq!(rt; drives(&rt, rt.alloc()), Ok(()));
+    assert_eq!(rt; drives(rt.alloc(), &ROWS), Ok(true));
 }
 
 /// Holds whichever allocation is refused.
 #[test]
 fn refused_memory_leaves_the_system(rt: HostRuntime) {
-    if let Err(fault) = drives(&rt, rt.alloc()) {
-        assert_eq!(rt; fault, SystemFault::NoMemory);
+    match drives(rt.alloc(), &ROWS) {
+        Ok(holds) => assert!(rt; holds),
+        Err(fault) => assert_eq!(rt; fault, SystemFault::NoMemory),
     }
 }

@@ -1,0 +1,188 @@
+use crate::Received;
+use crate::tests::{DATA, Row, Seen, config, end, lacpdu, mac, plays, unheard, zero};
+use lagtypes::{AggId, Choice, Group};
+use portmachines::MuxState;
+use slowpdu::{WireFault, frame};
+use std::test::Fail;
+
+/// These octets, and zeros after them.
+fn padded(head: &[u8]) -> [u8; 124] {
+    let mut octets = [0; 124];
+    for (place, octet) in octets.iter_mut().zip(head) {
+        *place = *octet;
+    }
+    octets
+}
+
+/// A marker of system 1 that comes from its port 1, with two octets after it.
+fn marker_frame() -> [u8; 124] {
+    padded(&[
+        1, 0x80, 0xc2, 0, 0, 2, 2, 0, 0, 0, 0, 1, 0x88, 9, 2, 1, 1, 16, 0, 1, 2, 0, 0, 0, 0, 1,
+        255, 255, 255, 255, 0xbe, 0xef,
+    ])
+}
+
+/// The response of port 2 to it.
+fn response_frame() -> [u8; 124] {
+    padded(&[
+        1, 0x80, 0xc2, 0, 0, 2, 2, 0, 0, 0, 0, 2, 0x88, 9, 2, 1, 2, 16, 0, 1, 2, 0, 0, 0, 0, 1,
+        255, 255, 255, 255,
+    ])
+}
+
+#[test]
+fn three_answers_then_the_window_then_a_restart(rt: HostRuntime) -> Result<(), Fail> {
+    let theirs = end(2, 1, 1, 0x07);
+    let takes = Row::Takes(1, theirs, zero(0));
+    let answers = Row::Sends(1, end(1, 1, 1, 0x07), theirs);
+    let rows = [
+        Row::Shows(1, unheard(1, zero(0))),
+        Row::Link(1, true),
+        takes,
+        answers,
+        takes,
+        answers,
+        takes,
+        answers,
+        takes,
+        Row::Silent(1),
+        Row::Quiet(1, 10),
+        Row::Ticks(1),
+        answers,
+        Row::Restart,
+        Row::Shows(1, unheard(1, zero(0))),
+        Row::Silent(1),
+        Row::Link(1, true),
+        Row::Ticks(10),
+        Row::Sends(1, end(1, 1, 1, 0xc7), zero(0x02)),
+    ];
+    let given = config(rt.alloc(), &[1], 1)?;
+    assert_eq!(rt; plays(rt.alloc(), given, &[&rows])?, None);
+    Ok(())
+}
+
+#[test]
+fn another_key_of_the_partner(rt: HostRuntime) -> Result<(), Fail> {
+    let rows = [
+        Row::Link(1, true),
+        Row::Link(2, true),
+        Row::Hears(1, &DATA, Received::Dropped),
+        Row::Takes(1, end(2, 1, 1, 0x0d), end(1, 1, 1, 0x07)),
+        Row::Takes(2, end(2, 2, 1, 0x0d), end(1, 2, 1, 0x07)),
+        Row::Ticks(19),
+        Row::Distributing(1, &[]),
+        Row::Hears(1, &DATA, Received::Dropped),
+        Row::Ticks(1),
+        Row::Distributing(1, &[1, 2]),
+        Row::Hears(1, &DATA, Received::Up(AggId(1))),
+        Row::Takes(1, end(2, 1, 2, 0x0d), end(1, 1, 1, 0x07)),
+        Row::Distributing(1, &[2]),
+        Row::Distributing(2, &[]),
+        Row::Chosen(1, Choice::Selected(AggId(2))),
+        Row::Mux(1, MuxState::Waiting),
+    ];
+    let given = config(rt.alloc(), &[1, 2], 2)?;
+    assert_eq!(rt; plays(rt.alloc(), given, &[&rows])?, None);
+    Ok(())
+}
+
+#[test]
+fn an_lacpdu_of_the_own_system(rt: HostRuntime) -> Result<(), Fail> {
+    let rows = [
+        Row::Link(1, true),
+        Row::Takes(1, end(1, 1, 1, 0x07), zero(0)),
+        Row::Ticks(29),
+        Row::Chosen(1, Choice::Unselected),
+        Row::Distributing(1, &[]),
+        Row::Ticks(30),
+        Row::Defaulted(1, false),
+        Row::Ticks(1),
+        Row::Defaulted(1, true),
+        Row::Ticks(19),
+        Row::Distributing(1, &[]),
+        Row::Ticks(1),
+        Row::Distributing(1, &[1]),
+    ];
+    let given = config(rt.alloc(), &[1], 1)?;
+    assert_eq!(rt; plays(rt.alloc(), given, &[&rows])?, None);
+    Ok(())
+}
+
+#[test]
+fn frames_that_change_nothing(rt: HostRuntime) -> Result<(), Fail> {
+    let mut other = lacpdu(end(1, 1, 1, 0xc7), zero(0x02));
+    other[0] = 3;
+    let other = frame(mac(1), &other);
+    let marker = marker_frame();
+    let response = response_frame();
+    let rows = [
+        Row::Keeps(2, &DATA, Received::Disabled),
+        Row::Link(2, true),
+        Row::Keeps(2, &other, Received::Ignored(WireFault::OtherSubtype(3))),
+        Row::Keeps(2, &marker, Received::Respond(response)),
+        Row::Keeps(2, &response, Received::Released(0)),
+    ];
+    let given = config(rt.alloc(), &[2], 1)?;
+    assert_eq!(rt; plays(rt.alloc(), given, &[&rows])?, None);
+    Ok(())
+}
+
+#[test]
+fn frames_that_are_cut_short(rt: HostRuntime) -> Result<(), Fail> {
+    let response = response_frame();
+    for count in 0..124 {
+        let answer = if count < 14 {
+            Received::Dropped
+        } else {
+            Received::Ignored(WireFault::Short { have: count - 14 })
+        };
+        let rows = [
+            Row::Link(2, true),
+            Row::Keeps(2, &response[..count], answer),
+        ];
+        let given = config(rt.alloc(), &[2], 1)?;
+        assert_eq!(rt; plays(rt.alloc(), given, &[&rows])?, None);
+    }
+    Ok(())
+}
+
+#[test]
+fn a_port_is_given_another_key(rt: HostRuntime) -> Result<(), Fail> {
+    let theirs = end(2, 1, 1, 0x07);
+    let party = end(1, 1, 1, 0x04).party();
+    let chosen = Seen {
+        party: Some(party),
+        partner: Some(theirs),
+        group: Some(Group::of(&party, &theirs.party())),
+        defaulted: Some(false),
+        distributes: Some(false),
+        choice: Some(Choice::Selected(AggId(1))),
+        mux: Some(MuxState::Waiting),
+    };
+    let rows = [
+        Row::Link(1, true),
+        Row::Takes(1, theirs, zero(0)),
+        Row::Shows(1, chosen),
+        Row::Configures(1, 1, false),
+        Row::Shows(1, chosen),
+        Row::Configures(1, 2, true),
+        Row::Shows(1, unheard(2, zero(0x02))),
+        Row::Sends(1, end(1, 1, 2, 0xc7), zero(0x02)),
+    ];
+    let given = config(rt.alloc(), &[1], 1)?;
+    assert_eq!(rt; plays(rt.alloc(), given, &[&rows])?, None);
+    Ok(())
+}
+
+#[test]
+fn a_port_that_is_not_there(rt: HostRuntime) -> Result<(), Fail> {
+    let rows = [
+        Row::Unknown(0),
+        Row::Unknown(2),
+        Row::Unknown(4),
+        Row::Distributing(2, &[]),
+    ];
+    let given = config(rt.alloc(), &[1, 3], 1)?;
+    assert_eq!(rt; plays(rt.alloc(), given, &[&rows])?, None);
+    Ok(())
+}
