@@ -1,5 +1,5 @@
 -- Every call keeps a system sound, and a sound system agrees.
-use Rattle.std.proofs.Common.{ℕ, List, [], ◌∷◌, sym, subst, ap}
+use Rattle.std.proofs.Common.{ℕ, List, [], ◌∷◌, sym, subst, ap, refl}
 use Rattle.portmachines.specs.Mux.{partner_synchronized, selected}
 use Rattle.distributor.specs.Conversations.{Table}
 use Rattle.lagmodel.specs.Law.{Members}
@@ -13,6 +13,7 @@ use Rattle.lagsystem.specs.First.{IsFirst}
 use Rattle.lagsystem.specs.Shown.{AreSteady, JoinsViews, configured, view_of}
 use Rattle.lagsystem.specs.Sound.{Agrees, Distribute, HasPorts, IsSound}
 use Rattle.lagsystem.specs.State.{State}
+use Rattle.lagsystem.specs.Windows.{AreWindowed}
 use Rattle.lagsystem.proofs.FirstView.{configured_setup, first_shows}
 use Rattle.lagsystem.proofs.Keeps.{Step-aggregators, Step-frame, Step-ports}
 use Rattle.lagsystem.proofs.OnPorts.{Step-carried, first_carried}
@@ -20,6 +21,7 @@ use Rattle.lagsystem.proofs.Conversing.{rest_distributes}
 use Rattle.lagsystem.proofs.Rest.{Step-rested, first_rested}
 use Rattle.lagsystem.proofs.Rising.{ports_rise}
 use Rattle.lagsystem.proofs.Steps.{Step-joins}
+use Rattle.lagsystem.proofs.Windows.{Step-three, first_three, window_law}
 
 pub first_sound : (s : State) → HasPorts s → IsFirst s → IsSound s
 first_sound s p h = record {
@@ -27,6 +29,7 @@ first_sound s p h = record {
   aggregators = ap (λ (t : Table). t.aggs) h.3;
   carried = first_carried s h;
   rested = first_rested s h;
+  windowed = first_three s h;
   members = subst (λ (v : View). Members (configured s) v.port) (sym (first_shows s h)) (members_first (configured s) (configured_setup s));
 }
 
@@ -41,6 +44,7 @@ Step-sound gives old call answer new h s =
       aggregators = Step-aggregators gives old call answer new h s.aggregators;
       carried = Step-carried gives old call answer new h s.carried;
       rested = Step-rested gives old call answer new h s.rested;
+      windowed = Step-three gives old call answer new h s.windowed;
       members = subst (λ u. Members u (view_of new).port) (sym (ap configured (Step-frame gives old call answer new h))) kept;
     }
 
@@ -50,4 +54,14 @@ all_distribute [] h = tt
 all_distribute (x ∷ xs) h = (rest_distributes x.port.mux (selected x.port) (partner_synchronized x.port) h.0, all_distribute xs h.1)
 
 pub agrees : (s : State) → IsSound s → Agrees s
-agrees s h = record { members = h.members; one_partner = one_partner (configured s) (view_of s) h.members; distribute = all_distribute s.slots h.rested.1 }
+agrees s h = record {
+  ports = h.ports;
+  windowed = h.windowed;
+  members = h.members;
+  one_partner = one_partner (configured s) (view_of s) h.members;
+  distribute = all_distribute s.slots h.rested.1;
+}
+
+-- a single call keeps the window
+pub one_windowed : (gives : ℕ → ℕ → ℕ → Type 0) (old : State) (call : Call) (answer : Reply) (new : State) → Step gives old call answer new → IsSound old → AreWindowed old (call ∷ []) (answer ∷ [])
+one_windowed gives old call answer new h s = window_law gives old new (call ∷ []) (answer ∷ []) s.windowed (new, h, refl)

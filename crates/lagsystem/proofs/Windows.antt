@@ -2,8 +2,10 @@
 use Rattle.std.proofs.Common.{◌≡◌, ◌&&◌, ◌∙◌, ◌<◌, ◌≤◌, ◌+◌, ◌==◌, ◌++◌, ℕ, zero, suc, Bool, true, false, cond, List, [], ◌∷◌, Option, Some, None, Ok, Err, drop, length, ap, sym, refl, subst, arith, get_or, nat_lt, append_assoc}
 use Rattle.std.specs.Prelude.{if◌then◌else◌, slice_get, slice_set, option_map}
 use Rattle.std.specs.List.{AllByRecursion, AllZip, find, position_or_len}
-use Rattle.std.proofs.lemmas.Bool.{eqb-true}
+use Rattle.slowpdu.specs.declared.pdu.Lacpdu.{Lacpdu}
+use Rattle.std.proofs.lemmas.Bool.{and_parts, eqb-true}
 use Rattle.std.proofs.lemmas.Bool.Decides.{nat_tests}
+use Rattle.std.proofs.lemmas.List.{length-append}
 use Rattle.std.proofs.lemmas.List.Folds.{find_at}
 use Rattle.std.proofs.lemmas.List.Quantifiers.{position-Some}
 use Rattle.std.proofs.lemmas.Option.{slice_get_past, get_or_from_slice_get, same_Some}
@@ -23,15 +25,16 @@ use Rattle.portmachines.specs.Periodic.{RunsPeriodic}
 use Rattle.portmachines.specs.Receive.{receive_rows}
 use Rattle.portmachines.specs.Rows.{Settles}
 use Rattle.portmachines.specs.Start.{Starts, blank}
-use Rattle.portmachines.specs.Transmit.{count_down, is_due, sent}
+use Rattle.portmachines.specs.Transmit.{aged, count_down, is_due, sent}
 use Rattle.portmachines.specs.Window as window
 use Rattle.portmachines.specs.Window.{KeepsWindow, sent_before}
 use Rattle.portmachines.proofs.Runs.{Reaches-keeps}
 use Rattle.portmachines.specs.declared.port.Setup.{Setup}
-use Rattle.portmachines.proofs.Windows.{ages_of, mux-same, periodic-ages, starts-ages, window_law as port_window}
+use Rattle.portmachines.proofs.Windows.{ages_of, mux-same, periodic-ages, settles-same, starts-ages, taking-ages, window_law as port_window}
 use Rattle.lagsystem.specs.declared.answers.Heard.{Heard}
 use Rattle.lagsystem.specs.declared.answers.Heard.TheVariants.{Taken, Response, Answered}
 use Rattle.lagsystem.specs.declared.answers.Received.{Received}
+use Rattle.lagsystem.specs.declared.config.PortChange.{PortChange}
 use Rattle.lagsystem.specs.declared.config.PortConfig.{PortConfig}
 use Rattle.lagsystem.specs.declared.drive.Reply.{Reply}
 use Rattle.lagsystem.specs.declared.drive.Reply.TheVariants as reply
@@ -43,7 +46,7 @@ use Rattle.lagsystem.specs.First.{IsFirst, IsNew, setup_of}
 use Rattle.lagsystem.specs.Calls.{Call, Tick, Set_link, Receive, Configure, Restart, Transmit, Offer, Move_conversation, Force, ChangesLink, ChangesParty, changed, is_for, OnPlace, OnPort, Settled, Takes, Does, Step, Run}
 use Rattle.lagsystem.specs.Offers.{force_answer, move_answer}
 use Rattle.lagsystem.specs.Sending.{SendsAt, SendsMarkerOf, SendsWhere}
-use Rattle.lagsystem.specs.Windows.{StartsEmpty, WindowFromStart, WindowLaw, KeepsFew, after, kept_sends, later, sent_since, subtype}
+use Rattle.lagsystem.specs.Windows.{KeepThree, KeepsThree, KeptSince, StartsEmpty, StaysWindowed, WindowFromStart, WindowLaw, after, kept_sends, later, subtype}
 use Rattle.lagsystem.proofs.Rest.{becomes_slots, last_slots, offers_slots, releases_slots, same_slots}
 
 -- one port
@@ -127,11 +130,14 @@ in_set P N n (x ∷ xs) (suc i) s t e k move g =
 
 -- settling
 
--- the machines that settling runs keep P
+-- the machines keep P, but for a tick and a send
 record IsKept (P : Machines → Type 0) : Type 0 where
   mux : (ready : Bool) (p q : Machines) → Settles (mux_rows ready) p q → P p → P q
   periodic : (p q : Machines) → RunsPeriodic p q → P p → P q
   select : (agg : AggId) (p : Machines) → P p → P (record p { choice = Selected agg })
+  link : (up : Bool) (p q : Machines) → ChangesLink up p q → P p → P q
+  take : (v : Lacpdu) (p q : Machines) → Takes v p q → P p → P q
+  party : (change : PortChange) (p q : Machines) → ChangesParty change p q → P p → P q
 
 given_number : (s : Slot) (o : Option AggId) → (given s o).number ≡ s.number
 given_number s None = refl
@@ -174,35 +180,59 @@ good_kept now before = record {
   mux = λ ready p q d. good_call now (port.Mux ready) p q before d;
   periodic = λ p q d. good_call now port.Periodic p q before d;
   select = λ agg p. good_call now (port.Select (Selected agg)) p (record p { choice = Selected agg }) before refl;
+  link = λ up p q d. good_call now (port.Set_link up) p q before d;
+  take = λ v p q d. good_call now (port.Take v) p q before d;
+  party = λ change p q d. good_call now (port.Reinit (changed change p.party)) p q before d.1;
 }
+
+-- the calls' own effects
+
+in_place : (P : Machines → Type 0) (N : Type 0) (n : ℕ) (R : Machines → Machines → Type 0) → ((p q : Machines) → R p q → P p → P q) → (o : Option ℕ) (old new : List Slot) → OnPlace R o old new → In P N n old → In P N n new
+in_place P N n R move None old new h g = absurd h
+in_place P N n R move (Some i) old new h g =
+    subst (In P N n) (sym h.4) (in_set P N n old i h.0 (record h.0 { port = h.1 }) h.2 refl (move h.0.port h.1 h.3) g)
+
+in_on_port : (P : Machines → Type 0) (N : Type 0) (n : ℕ) → IsKept P → (R : Machines → Machines → Type 0) → ((p q : Machines) → R p q → P p → P q) → (o : Option ℕ) (old new : State) → Settled (OnPort o R) old new
+    → In P N n old.slots → In P N n new.slots
+in_on_port P N n kept R move o old new h g = in_settling P N n kept h.0 new h.2 (in_place P N n R move o old.slots h.0.slots h.1.0 g)
+
+in_does : (P : Machines → Type 0) (N : Type 0) (n : ℕ) → IsKept P → (heard : Heard) (number : ℕ) (o : Option ℕ) (old : State) (answer : Received) (new : State) → Does heard number o old answer new
+    → In P N n old.slots → In P N n new.slots
+in_does P N n kept (Taken v) number o old answer new h g = in_on_port P N n kept (Takes v) (kept.take v) o old new h.1 g
+in_does P N n kept (Response m) number o old answer new h g = in_same P N n old new (releases_slots (is_for old number m) number m old answer new h) g
+in_does P N n kept (Answered heard) number o old answer new h g = in_same P N n old new (same_slots old new h.1) g
+
+-- neither a tick nor a send nor a restart
+abbrev IsOther : Call → Type 0
+IsOther Tick = ⊥
+IsOther Restart = ⊥
+IsOther (Transmit m) = ⊥
+IsOther call = Unit {0}
+
+in_step : (P : Machines → Type 0) (N : Type 0) (n : ℕ) → IsKept P → (gives : ℕ → ℕ → ℕ → Type 0) (old : State) (call : Call) (answer : Reply) (new : State) → IsOther call → Step gives old call answer new
+    → In P N n old.slots → In P N n new.slots
+in_step P N n kept gives old (Set_link m up) (reply.SetLink (Ok done)) new o h g =
+    in_settling P N n kept h.0 new h.2 (in_place P N n (ChangesLink up) (kept.link up) (place_of m old.slots) old.slots h.0.slots h.1.0 g)
+in_step P N n kept gives old (Set_link m up) (reply.SetLink (Err fault)) new o h g = in_same P N n old new (same_slots old new h.same) g
+in_step P N n kept gives old (Receive m octets) (reply.Receive (Ok answer)) new o h g = in_does P N n kept h.1 h.0.number (place_of m old.slots) old answer new h.4 g
+in_step P N n kept gives old (Receive m octets) (reply.Receive (Err fault)) new o h g = in_same P N n old new (same_slots old new h.same) g
+in_step P N n kept gives old (Configure m change) (reply.Configure (Ok true)) new o h g = in_on_port P N n kept (ChangesParty change) (kept.party change) (place_of m old.slots) old new h g
+in_step P N n kept gives old (Configure m change) (reply.Configure (Ok false)) new o h g = in_same P N n old new (same_slots old new h.1) g
+in_step P N n kept gives old (Configure m change) (reply.Configure (Err fault)) new o h g = in_same P N n old new (same_slots old new h.same) g
+in_step P N n kept gives old (Offer agg octets) (reply.Offer answer) new o h g = in_same P N n old new (offers_slots gives agg octets old answer new h) g
+in_step P N n kept gives old (Move_conversation agg conv to) (reply.MoveConversation answer) new o h g =
+    in_same P N n old new (becomes_slots agg conv (move_answer old agg conv to) old answer new h) g
+in_step P N n kept gives old (Force agg conv) (reply.Force answer) new o h g = in_same P N n old new (becomes_slots agg conv (force_answer old agg conv) old answer new h) g
+in_step P N n kept gives old Tick answer new o h g = absurd o
+in_step P N n kept gives old Restart answer new o h g = absurd o
+in_step P N n kept gives old (Transmit m) answer new o h g = absurd o
+in_step P N n kept gives old call answer new o h g = absurd h
 
 good_settling : (n now : ℕ) (before : List ℕ) (old new : State) → Settling old new → GoodIn n now before old.slots → GoodIn n now before new.slots
 good_settling n now before old new h g = in_settling (λ p. Good now p before) (KeepsWindow before) n (good_kept now before) old new h g
 
 good_same : (n now : ℕ) (before : List ℕ) (old new : State) → new.slots ≡ old.slots → GoodIn n now before old.slots → GoodIn n now before new.slots
 good_same n now before old new e g = in_same (λ p. Good now p before) (KeepsWindow before) n old new e g
-
-good_set : (n now : ℕ) (before : List ℕ) (xs : List Slot) (i : ℕ) (s t : Slot) → slice_get xs i ≡ Some s → t.number ≡ s.number → (Good now s.port before → Good now t.port before)
-    → GoodIn n now before xs → GoodIn n now before (slice_set xs i t)
-good_set n now before xs i s t e k move g = in_set (λ p. Good now p before) (KeepsWindow before) n xs i s t e k move g
-
--- the calls' own effects
-
-good_place : (R : Machines → Machines → Type 0) (n now : ℕ) (before : List ℕ) → ((p q : Machines) → R p q → Good now p before → Good now q before) → (o : Option ℕ) (old new : List Slot) → OnPlace R o old new
-    → GoodIn n now before old → GoodIn n now before new
-good_place R n now before move None old new h g = absurd h
-good_place R n now before move (Some i) old new h g =
-    subst (GoodIn n now before) (sym h.4) (good_set n now before old i h.0 (record h.0 { port = h.1 }) h.2 refl (move h.0.port h.1 h.3) g)
-
-good_on_port : (R : Machines → Machines → Type 0) (n now : ℕ) (before : List ℕ) → ((p q : Machines) → R p q → Good now p before → Good now q before) → (o : Option ℕ) (old new : State) → Settled (OnPort o R) old new
-    → GoodIn n now before old.slots → GoodIn n now before new.slots
-good_on_port R n now before move o old new h g = good_settling n now before h.0 new h.2 (good_place R n now before move o old.slots h.0.slots h.1.0 g)
-
-good_does : (n now : ℕ) (before : List ℕ) (heard : Heard) (number : ℕ) (o : Option ℕ) (old : State) (answer : Received) (new : State) → Does heard number o old answer new
-    → GoodIn n now before old.slots → GoodIn n now before new.slots
-good_does n now before (Taken v) number o old answer new h g = good_on_port (Takes v) n now before (λ p q d. good_call now (port.Take v) p q before d) o old new h.1 g
-good_does n now before (Response m) number o old answer new h g = good_same n now before old new (releases_slots (is_for old number m) number m old answer new h) g
-good_does n now before (Answered heard) number o old answer new h g = good_same n now before old new (same_slots old new h.1) g
 
 -- sending
 
@@ -308,15 +338,22 @@ good_transmit m n now before (Some i) old answer new at h g = good_where m n now
 
 -- a start
 
+-- only a tick and a send change the ages
+ages_kept : (Q : List ℕ → Type 0) → IsKept (λ p. Q p.ages)
+ages_kept Q = record {
+  mux = λ ready p q d g. subst Q (sym (Reaches-keeps ages_of (mux_rows ready) (mux-same ready) d.0 p q d.1)) g;
+  periodic = λ p q d g. subst Q (sym (periodic-ages p q d)) g;
+  select = λ agg p g. g;
+  link = λ up p q d g. subst Q (sym (settles-same (record p { enabled = up }) q d)) g;
+  take = λ v p q d g. subst Q (sym (taking-ages v p q d)) g;
+  party = λ change p q d g. subst Q (sym (starts-ages (record p { party = changed change p.party }) q d.1)) g;
+}
+
 abbrev IsEmpty : Machines → Type 0
 IsEmpty p = p.ages ≡ []
 
 empty_kept : IsKept IsEmpty
-empty_kept = record {
-  mux = λ ready p q d e. Reaches-keeps ages_of (mux_rows ready) (mux-same ready) d.0 p q d.1 ∙ e;
-  periodic = λ p q d e. periodic-ages p q d ∙ e;
-  select = λ agg p e. e;
-}
+empty_kept = ages_kept (λ ages. ages ≡ [])
 
 empty_start : (s : Setup) (p : Machines) → Starts (blank s) p → IsEmpty p
 empty_start s p h = starts-ages (blank s) p h
@@ -336,13 +373,17 @@ empty_new n system (c ∷ cs) (s ∷ ss) h =
 empty_first : (n : ℕ) (s : State) → IsFirst s → In IsEmpty Unit n s.slots
 empty_first n s h = in_settling IsEmpty Unit n empty_kept (with_slots s h.0) s h.2 (empty_new n s.system s.ports h.0 h.1)
 
-few_empty : (o : Option Machines) → At IsEmpty Unit o → KeepsFew 0 o
-few_empty None h = tt
-few_empty (Some p) h = subst (λ ages. AllByRecursion (λ a. a ≤ 0) ages × (length ages ≤ 3)) (sym h) (tt, omega arith)
+since_empty : (o : Option Machines) → At IsEmpty Unit o → KeptSince 0 o
+since_empty None h = tt
+since_empty (Some p) h = subst (λ ages. AllByRecursion (λ a. a ≤ 0) ages) (sym h) tt
 
-good_few : (now : ℕ) (o : Option Machines) → KeepsFew now o → GoodAt now (kept_sends now o) o
-good_few now None h = none_sent
-good_few now (Some p) h = good_ages now p h.0 h.1
+three_empty : (o : Option Machines) → At IsEmpty Unit o → KeepsThree o
+three_empty None h = tt
+three_empty (Some p) h = subst (λ ages. length ages ≤ 3) (sym h) (omega arith)
+
+good_few : (now : ℕ) (o : Option Machines) → KeptSince now o → KeepsThree o → GoodAt now (kept_sends now o) o
+good_few now None h k = none_sent
+good_few now (Some p) h k = good_ages now p h k
 
 none_kept : (o : Option Machines) → At IsEmpty Unit o → kept_sends 0 o ≡ []
 none_kept None h = refl
@@ -351,7 +392,7 @@ none_kept (Some p) h = ap (sent_before 0) h
 good_first : (n : ℕ) (s : State) → IsFirst s → GoodIn n 0 [] s.slots
 good_first n s h =
     let o = port_in (find (is_numbered n) s.slots) in
-    let e = empty_first n s h in subst (λ before. GoodAt 0 before o) (none_kept o e) (good_few 0 o (few_empty o e))
+    let e = empty_first n s h in subst (λ before. GoodAt 0 before o) (none_kept o e) (good_few 0 o (since_empty o e) (three_empty o e))
 
 -- runs
 
@@ -360,44 +401,117 @@ good_step : (gives : ℕ → ℕ → ℕ → Type 0) (n now : ℕ) (before : Lis
 good_step gives n now before old Tick reply.Tick new h g =
     good_settling n (now + 1) before h.0 new h.2
     (in_each (λ p. Good now p before) (λ p. Good (now + 1) p before) (KeepsWindow before) (λ p q. Settles receive_rows (count_down p) q) n (λ p q d. good_call now port.Tick p q before d) old.slots h.0.slots h.1.0 g)
-good_step gives n now before old (Set_link m up) (reply.SetLink (Ok done)) new h g =
-    good_settling n now before h.0 new h.2
-    (good_place (ChangesLink up) n now before (λ p q d. good_call now (port.Set_link up) p q before d) (place_of m old.slots) old.slots h.0.slots h.1.0 g)
-good_step gives n now before old (Set_link m up) (reply.SetLink (Err fault)) new h g = good_same n now before old new (same_slots old new h.same) g
-good_step gives n now before old (Receive m octets) (reply.Receive (Ok answer)) new h g = good_does n now before h.1 h.0.number (place_of m old.slots) old answer new h.4 g
-good_step gives n now before old (Receive m octets) (reply.Receive (Err fault)) new h g = good_same n now before old new (same_slots old new h.same) g
-good_step gives n now before old (Configure m change) (reply.Configure (Ok true)) new h g =
-    good_on_port (ChangesParty change) n now before (λ p q d. good_call now (port.Reinit (changed change p.party)) p q before d.1) (place_of m old.slots) old new h g
-good_step gives n now before old (Configure m change) (reply.Configure (Ok false)) new h g = good_same n now before old new (same_slots old new h.1) g
-good_step gives n now before old (Configure m change) (reply.Configure (Err fault)) new h g = good_same n now before old new (same_slots old new h.same) g
 good_step gives n now before old Restart reply.Restart new h g = good_first n new h.1
 good_step gives n now before old (Transmit m) (reply.Transmit (Ok answer)) new h g = good_transmit m n now before (place_of m old.slots) old answer new refl h g
 good_step gives n now before old (Transmit m) (reply.Transmit (Err fault)) new h g = good_same n now before old new (same_slots old new h.same) g
-good_step gives n now before old (Offer agg octets) (reply.Offer answer) new h g = good_same n now before old new (offers_slots gives agg octets old answer new h) g
-good_step gives n now before old (Move_conversation agg conv to) (reply.MoveConversation answer) new h g =
-    good_same n now before old new (becomes_slots agg conv (move_answer old agg conv to) old answer new h) g
-good_step gives n now before old (Force agg conv) (reply.Force answer) new h g =
-    good_same n now before old new (becomes_slots agg conv (force_answer old agg conv) old answer new h) g
+good_step gives n now before old (Set_link m up) answer new h g = in_step (λ p. Good now p before) (KeepsWindow before) n (good_kept now before) gives old (Set_link m up) answer new tt h g
+good_step gives n now before old (Receive m octets) answer new h g = in_step (λ p. Good now p before) (KeepsWindow before) n (good_kept now before) gives old (Receive m octets) answer new tt h g
+good_step gives n now before old (Configure m change) answer new h g = in_step (λ p. Good now p before) (KeepsWindow before) n (good_kept now before) gives old (Configure m change) answer new tt h g
+good_step gives n now before old (Offer agg octets) answer new h g = in_step (λ p. Good now p before) (KeepsWindow before) n (good_kept now before) gives old (Offer agg octets) answer new tt h g
+good_step gives n now before old (Move_conversation agg conv to) answer new h g =
+    in_step (λ p. Good now p before) (KeepsWindow before) n (good_kept now before) gives old (Move_conversation agg conv to) answer new tt h g
+good_step gives n now before old (Force agg conv) answer new h g = in_step (λ p. Good now p before) (KeepsWindow before) n (good_kept now before) gives old (Force agg conv) answer new tt h g
 good_step gives n now before old call answer new h g = absurd h
 
 good_run : (gives : ℕ → ℕ → ℕ → Type 0) (n now : ℕ) (before : List ℕ) (old new : State) (calls : List Call) (replies : List Reply) → Run gives old calls replies new
-    → GoodIn n now before old.slots → KeepsWindow (sent_since n now before calls replies)
+    → GoodIn n now before old.slots → StaysWindowed n now before calls replies
 good_run gives n now before old new [] [] h g = good_end now before (port_in (find (is_numbered n) old.slots)) g
 good_run gives n now before old new [] (r ∷ rs) h g = absurd h
 good_run gives n now before old new (c ∷ cs) [] h g = absurd h
 good_run gives n now before old new (c ∷ cs) (r ∷ rs) h g =
-    good_run gives n (later c now) (after n now c r before) h.0 new cs rs h.2 (good_step gives n now before old c r h.0 h.1 g)
+    (good_end now before (port_in (find (is_numbered n) old.slots)) g, good_run gives n (later c now) (after n now c r before) h.0 new cs rs h.2 (good_step gives n now before old c r h.0 h.1 g))
 
 pub window_law : (gives : ℕ → ℕ → ℕ → Type 0) → WindowLaw gives
-window_law gives old new calls replies run n now few =
+window_law gives old new calls replies three run n now since =
     let o = port_of n old in
-    let g = good_few now o few in
+    let g = good_few now o since (three n) in
     good_run gives n now (kept_sends now o) old new calls replies run (subst (λ x. GoodAt now (kept_sends now o) (port_in x)) (found n old.slots) g)
 
 pub window_from_start : (gives : ℕ → ℕ → ℕ → Type 0) → WindowFromStart gives
 window_from_start gives n old new calls replies first run = good_run gives n 0 [] old new calls replies run (good_first n old first)
 
+empty_of : (n : ℕ) (s : State) → IsFirst s → At IsEmpty Unit (port_of n s)
+empty_of n s h = subst (λ x. At IsEmpty Unit (port_in x)) (sym (found n s.slots)) (empty_first n s h)
+
 pub starts_empty : StartsEmpty
-starts_empty n s h =
-    let e : At IsEmpty Unit (port_of n s) = subst (λ x. At IsEmpty Unit (port_in x)) (sym (found n s.slots)) (empty_first n s h) in
-    (few_empty (port_of n s) e, none_kept (port_of n s) e)
+starts_empty n s h = let e = empty_of n s h in (since_empty (port_of n s) e, none_kept (port_of n s) e)
+
+-- each port keeps at most three ages
+
+abbrev IsFew : Machines → Type 0
+IsFew p = length p.ages ≤ 3
+
+aged_first : (b : Bool) (a n : ℕ) (more : List ℕ) → length more ≤ n → length (cond b (a ∷ more) more) ≤ n + 1
+aged_first true a n more h = omega (arith, h)
+aged_first false a n more h = omega (arith, h)
+
+aged_few : (ages : List ℕ) → length (aged ages) ≤ length ages
+aged_few [] = omega arith
+aged_few (a ∷ more) = omega (arith, aged_first (nat_lt (a + 1) 11) (a + 1) (length more) (aged more) (aged_few more))
+
+tick_few : (p q : Machines) → Settles receive_rows (count_down p) q → IsFew p → IsFew q
+tick_few p q d h = subst (λ ages. length ages ≤ 3) (sym (settles-same (count_down p) q d)) (omega (arith, aged_few p.ages, h))
+
+sent_few : (p : Machines) → is_due p ≡ true → IsFew (sent p)
+sent_few p due =
+    let below : nat_lt (length p.ages) 3 ≡ true = (and_parts p.ntt (nat_lt (length p.ages) 3) due).1 in
+    let few : length p.ages < 3 = grind (arith, nat_tests) in
+    omega (arith, few, length-append p.ages (0 ∷ []))
+
+abbrev FewIn : ℕ → List Slot → Type 0
+FewIn n slots = In IsFew Unit n slots
+
+few_same : (n : ℕ) (old new : State) → new.slots ≡ old.slots → FewIn n old.slots → FewIn n new.slots
+few_same n old new e g = in_same IsFew Unit n old new e g
+
+few_marker : (n : ℕ) (o : Option ℕ) (number : ℕ) (mac : List ℕ) (old : State) (answer : Option (List ℕ)) (new : State) → SendsMarkerOf o number mac old answer new → FewIn n old.slots → FewIn n new.slots
+few_marker n None number mac old answer new h g = few_same n old new (same_slots old new h.1) g
+few_marker n (Some id) number mac old answer new h g = few_same n old new (ap (λ (x : State). x.slots) h.5) g
+
+few_where : (n : ℕ) (up due : Bool) (i : ℕ) (slot : Slot) (old : State) (answer : Option (List ℕ)) (new : State) → is_due slot.port ≡ due → slice_get old.slots i ≡ Some slot → SendsWhere up due i slot old answer new
+    → FewIn n old.slots → FewIn n new.slots
+few_where n false due i slot old answer new d e h g = few_same n old new (same_slots old new h.1) g
+few_where n true false i slot old answer new d e h g = few_marker n (marker_due old.table slot.number) slot.number slot.mac old answer new h g
+few_where n true true i slot old answer new d e h g =
+    let set : new.slots ≡ slice_set old.slots i (record slot { port = sent slot.port }) = ap (λ (x : State). x.slots) h.3 in
+    subst (FewIn n) (sym set) (in_set IsFew Unit n old.slots i slot (record slot { port = sent slot.port }) e refl (λ _. sent_few slot.port d) g)
+
+few_transmit : (n : ℕ) (o : Option ℕ) (old : State) (answer : Option (List ℕ)) (new : State) → SendsAt o old answer new → FewIn n old.slots → FewIn n new.slots
+few_transmit n None old answer new h g = absurd h
+few_transmit n (Some i) old answer new h g = few_where n h.0.port.enabled (is_due h.0.port) i h.0 old answer new refl h.1 h.2 g
+
+at_few : (o : Option Machines) → At IsEmpty Unit o → At IsFew Unit o
+at_few None h = tt
+at_few (Some p) h = subst (λ ages. length ages ≤ 3) (sym h) (omega arith)
+
+few_kept : IsKept IsFew
+few_kept = ages_kept (λ ages. length ages ≤ 3)
+
+few_step : (n : ℕ) (gives : ℕ → ℕ → ℕ → Type 0) (old : State) (call : Call) (answer : Reply) (new : State) → Step gives old call answer new → FewIn n old.slots → FewIn n new.slots
+few_step n gives old Tick reply.Tick new h g = in_settling IsFew Unit n few_kept h.0 new h.2 (in_each IsFew IsFew Unit (λ p q. Settles receive_rows (count_down p) q) n tick_few old.slots h.0.slots h.1.0 g)
+few_step n gives old Restart reply.Restart new h g = at_few (port_in (find (is_numbered n) new.slots)) (empty_first n new h.1)
+few_step n gives old (Transmit m) (reply.Transmit (Ok answer)) new h g = few_transmit n (place_of m old.slots) old answer new h g
+few_step n gives old (Transmit m) (reply.Transmit (Err fault)) new h g = few_same n old new (same_slots old new h.same) g
+few_step n gives old (Set_link m up) answer new h g = in_step IsFew Unit n few_kept gives old (Set_link m up) answer new tt h g
+few_step n gives old (Receive m octets) answer new h g = in_step IsFew Unit n few_kept gives old (Receive m octets) answer new tt h g
+few_step n gives old (Configure m change) answer new h g = in_step IsFew Unit n few_kept gives old (Configure m change) answer new tt h g
+few_step n gives old (Offer agg octets) answer new h g = in_step IsFew Unit n few_kept gives old (Offer agg octets) answer new tt h g
+few_step n gives old (Move_conversation agg conv to) answer new h g = in_step IsFew Unit n few_kept gives old (Move_conversation agg conv to) answer new tt h g
+few_step n gives old (Force agg conv) answer new h g = in_step IsFew Unit n few_kept gives old (Force agg conv) answer new tt h g
+few_step n gives old call answer new h g = absurd h
+
+three_from : (o : Option Machines) → At IsFew Unit o → KeepsThree o
+three_from None h = tt
+three_from (Some p) h = h
+
+few_from : (o : Option Machines) → KeepsThree o → At IsFew Unit o
+few_from None h = tt
+few_from (Some p) h = h
+
+pub first_three : (s : State) → IsFirst s → KeepThree s
+first_three s h n = three_empty (port_of n s) (empty_of n s h)
+
+pub Step-three : (gives : ℕ → ℕ → ℕ → Type 0) (old : State) (call : Call) (answer : Reply) (new : State) → Step gives old call answer new → KeepThree old → KeepThree new
+Step-three gives old call answer new h three n =
+    let before : FewIn n old.slots = subst (λ x. At IsFew Unit (port_in x)) (found n old.slots) (few_from (port_of n old) (three n)) in
+    three_from (port_of n new) (subst (λ x. At IsFew Unit (port_in x)) (sym (found n new.slots)) (few_step n gives old call answer new h before))

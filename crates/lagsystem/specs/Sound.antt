@@ -13,6 +13,7 @@ use Rattle.lagsystem.specs.First.{IsConfigured, IsFirst, numbers_of, refusal}
 use Rattle.lagsystem.specs.Shown.{AreRested, configured, shown, view_of}
 use Rattle.lagsystem.specs.Readers.{agg_of_number, distributing}
 use Rattle.lagsystem.specs.State.{State, numbers}
+use Rattle.lagsystem.specs.Windows.{KeepThree}
 
 -- its configuration is accepted, and it has the ports of its configuration, in their order
 pub record HasPorts (s : State) : Type 0 where
@@ -28,6 +29,7 @@ pub record IsSound (s : State) : Type 0 where
   pub aggregators : s.table.aggs ≡ length s.keys
   pub carried : AreCarried s
   pub rested : AreRested s.slots
+  pub windowed : KeepThree s
   pub members : Members (configured s) (view_of s).port
 
 -- what is made of a configuration
@@ -41,8 +43,11 @@ abbrev pub Distribute : List Slot → Type 0
 Distribute slots = AllByRecursion (λ x. (shown x.port).distributes ≡ is_mux CollectingDistributing x.port.mux) slots
 
 -- The members of an aggregator have its key and one group, which is not individual where they are two or more; ports that
--- distribute in one aggregator name one partner system and key (6.4.14.1)
+-- distribute in one aggregator name one partner system and key (6.4.14.1). The ports are those of an accepted configuration,
+-- and each keeps at most three ages of its transmit window (6.4.16).
 pub record Agrees (s : State) : Type 0 where
+  pub ports : HasPorts s
+  pub windowed : KeepThree s
   pub members : Members (configured s) (view_of s).port
   pub one_partner : OnePartner (view_of s)
   pub distribute : Distribute s.slots

@@ -29,39 +29,47 @@ abbrev pub after : ℕ → ℕ → Call → Reply → List ℕ → List ℕ
 after n now Restart reply before = []
 after n now call reply before = if sends n call reply then before ++ now ∷ [] else before
 
--- the ticks, since the last start, at which the port with the number n has sent LACPDUs after these calls with these
--- replies: the first call comes at the tick now, and before it the port sent at the ticks before
-abbrev pub sent_since : ℕ → ℕ → List ℕ → List Call → List Reply → List ℕ
-sent_since n now before [] replies = before
-sent_since n now before (call ∷ calls) [] = before
-sent_since n now before (call ∷ calls) (reply ∷ replies) = sent_since n (later call now) (after n now call reply before) calls replies
+-- before each of these calls with these replies, and after the last one, any eleven consecutive ticks since the last start
+-- hold at most three LACPDUs of the port with the number n: the first call comes at the tick now, and before it the port sent at
+-- the ticks before
+abbrev pub StaysWindowed : ℕ → ℕ → List ℕ → List Call → List Reply → Type 0
+StaysWindowed n now before [] replies = KeepsWindow before
+StaysWindowed n now before (call ∷ calls) [] = KeepsWindow before
+StaysWindowed n now before (call ∷ calls) (reply ∷ replies) = KeepsWindow before × StaysWindowed n (later call now) (after n now call reply before) calls replies
 
 -- an age that a port keeps at the tick now counts as a send so many ticks earlier
 abbrev pub kept_sends : ℕ → Option Machines → List ℕ
 kept_sends now None = []
 kept_sends now (Some p) = sent_before now p.ages
 
--- a port keeps at most three ages, none from before the start
-abbrev pub KeepsFew : ℕ → Option Machines → Type 0
-KeepsFew now None = Unit {0}
-KeepsFew now (Some p) = AllByRecursion (λ a. a ≤ now) p.ages × (length p.ages ≤ 3)
+-- the port keeps no age from before the start, where it is so many ticks since then
+abbrev pub KeptSince : ℕ → Option Machines → Type 0
+KeptSince now None = Unit {0}
+KeptSince now (Some p) = AllByRecursion (λ a. a ≤ now) p.ages
 
--- after these calls with these replies, from a state whose ports keep few ages: any eleven consecutive ticks since the last
--- start hold at most three sends of a port
+-- the port keeps at most three ages
+abbrev pub KeepsThree : Option Machines → Type 0
+KeepsThree None = Unit {0}
+KeepsThree (Some p) = length p.ages ≤ 3
+
+-- so does each port
+abbrev pub KeepThree : State → Type 0
+KeepThree s = (n : ℕ) → KeepsThree (port_of n s)
+
+-- each port stays windowed over these calls with these replies, from a state on
 abbrev pub AreWindowed : State → List Call → List Reply → Type 0
-AreWindowed old calls replies =
-    (n now : ℕ) → KeepsFew now (port_of n old) → KeepsWindow (sent_since n now (kept_sends now (port_of n old)) calls replies)
+AreWindowed old calls replies = (n now : ℕ) → KeptSince now (port_of n old) → StaysWindowed n now (kept_sends now (port_of n old)) calls replies
 
 -- so it is of every run, whatever places the algorithm gives
 abbrev pub WindowLaw : (ℕ → ℕ → ℕ → Type 0) → Type 0
-WindowLaw gives = (old new : State) (calls : List Call) (replies : List Reply) → Run gives old calls replies new → AreWindowed old calls replies
+WindowLaw gives = (old new : State) (calls : List Call) (replies : List Reply) → KeepThree old → Run gives old calls replies new → AreWindowed old calls replies
 
--- a state that has just started is one of these, with no earlier send
+-- a state that has just started keeps no age
 abbrev pub StartsEmpty : Type 0
-StartsEmpty = (n : ℕ) (s : State) → IsFirst s → KeepsFew 0 (port_of n s) × (kept_sends 0 (port_of n s) ≡ [])
+StartsEmpty = (n : ℕ) (s : State) → IsFirst s → KeptSince 0 (port_of n s) × (kept_sends 0 (port_of n s) ≡ [])
 
--- and so from a start on any eleven consecutive ticks hold at most three sends of a port
+-- and so it is of every run from a start
 abbrev pub WindowFromStart : (ℕ → ℕ → ℕ → Type 0) → Type 0
 WindowFromStart gives =
     (n : ℕ) (old new : State) (calls : List Call) (replies : List Reply)
-    → IsFirst old → Run gives old calls replies new → KeepsWindow (sent_since n 0 [] calls replies)
+    → IsFirst old → Run gives old calls replies new → StaysWindowed n 0 [] calls replies

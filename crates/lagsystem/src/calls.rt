@@ -1,9 +1,10 @@
-ghost use Rattle.std.specs.Prelude.{◌≡◌, IfErr, IfOk};
+ghost use Rattle.std.specs.Prelude.{◌≡◌, [], ◌∷◌, IfErr, IfOk, None};
 ghost use Rattle.distributor.specs.Calls.{PicksPlaces};
 ghost use Rattle.lagsystem.specs.Calls.{Call, Step};
 ghost use Rattle.lagsystem.specs.First.{IsConfigured, IsFirst, fault_in, refusal_of};
 ghost use Rattle.lagsystem.specs.Shown.{JoinsViews, configured, view_of};
 ghost use Rattle.lagsystem.specs.Sound.{Agrees};
+ghost use Rattle.lagsystem.specs.Windows.{AreWindowed};
 ghost use Rattle.lagsystem.specs.declared.drive.Reply.{Reply};
 ghost use Rattle.lagmodel.specs.View.{first_view};
 
@@ -43,6 +44,7 @@ impl<F: Fn(u16, usize) -> usize + Drop> System<F> {
     pub fn new(alloc: Global, config: Config, algorithm: F) -> Result<System<F>, SystemFault>
         requires usable { PicksPlaces (F.pre algorithm) (F.post algorithm) }
         ensures first { IfOk result (λ s. IsFirst s.state) }
+        ensures accepted { IfOk result (λ s. refusal_of config ≡ None) }
         ensures configured { IfOk result (λ s. IsConfigured config s.state) }
         ensures algorithm { IfOk result (λ s. s.algorithm ≡ algorithm) }
         ensures refused { IfErr result (λ fault. fault ≡ fault_in (refusal_of config)) }
@@ -62,6 +64,7 @@ impl<F: Fn(u16, usize) -> usize + Drop> System<F> {
     pub fn receive(&mut self, port: u16, frame: &[u8]) -> Result<Received, SystemFault>
         ensures step { Step (F.post self.old.algorithm) self.old.state (Call.Receive port frame.now) (Reply.Receive result) self.new.state }
         ensures moves { JoinsViews self.old.state (Call.Receive port frame.now) (Reply.Receive result) self.new.state }
+        ensures window { AreWindowed self.old.state (Call.Receive port frame.now ∷ []) (Reply.Receive result ∷ []) }
         ensures agrees { Agrees self.new.state }
         ensures algorithm { self.new.algorithm ≡ self.old.algorithm }
     {
@@ -73,6 +76,7 @@ impl<F: Fn(u16, usize) -> usize + Drop> System<F> {
     pub fn tick(&mut self)
         ensures step { Step (F.post self.old.algorithm) self.old.state Call.Tick Reply.Tick self.new.state }
         ensures moves { JoinsViews self.old.state Call.Tick Reply.Tick self.new.state }
+        ensures window { AreWindowed self.old.state (Call.Tick ∷ []) (Reply.Tick ∷ []) }
         ensures agrees { Agrees self.new.state }
         ensures algorithm { self.new.algorithm ≡ self.old.algorithm }
     {
@@ -84,6 +88,7 @@ impl<F: Fn(u16, usize) -> usize + Drop> System<F> {
     pub fn set_link(&mut self, port: u16, up: bool) -> Result<(), SystemFault>
         ensures step { Step (F.post self.old.algorithm) self.old.state (Call.Set_link port up) (Reply.SetLink result) self.new.state }
         ensures moves { JoinsViews self.old.state (Call.Set_link port up) (Reply.SetLink result) self.new.state }
+        ensures window { AreWindowed self.old.state (Call.Set_link port up ∷ []) (Reply.SetLink result ∷ []) }
         ensures agrees { Agrees self.new.state }
         ensures algorithm { self.new.algorithm ≡ self.old.algorithm }
     {
@@ -96,6 +101,7 @@ impl<F: Fn(u16, usize) -> usize + Drop> System<F> {
     pub fn configure(&mut self, port: u16, change: PortChange) -> Result<bool, SystemFault>
         ensures step { Step (F.post self.old.algorithm) self.old.state (Call.Configure port change) (Reply.Configure result) self.new.state }
         ensures moves { JoinsViews self.old.state (Call.Configure port change) (Reply.Configure result) self.new.state }
+        ensures window { AreWindowed self.old.state (Call.Configure port change ∷ []) (Reply.Configure result ∷ []) }
         ensures agrees { Agrees self.new.state }
         ensures algorithm { self.new.algorithm ≡ self.old.algorithm }
     {
@@ -106,6 +112,7 @@ impl<F: Fn(u16, usize) -> usize + Drop> System<F> {
     pub fn restart(&mut self)
         ensures step { Step (F.post self.old.algorithm) self.old.state Call.Restart Reply.Restart self.new.state }
         ensures moves { JoinsViews self.old.state Call.Restart Reply.Restart self.new.state }
+        ensures window { AreWindowed self.old.state (Call.Restart ∷ []) (Reply.Restart ∷ []) }
         ensures agrees { Agrees self.new.state }
         ensures algorithm { self.new.algorithm ≡ self.old.algorithm }
     {
@@ -119,6 +126,7 @@ impl<F: Fn(u16, usize) -> usize + Drop> System<F> {
     pub fn transmit(&mut self, port: u16) -> Result<Option<[u8; 124]>, SystemFault>
         ensures step { Step (F.post self.old.algorithm) self.old.state (Call.Transmit port) (Reply.Transmit result) self.new.state }
         ensures moves { JoinsViews self.old.state (Call.Transmit port) (Reply.Transmit result) self.new.state }
+        ensures window { AreWindowed self.old.state (Call.Transmit port ∷ []) (Reply.Transmit result ∷ []) }
         ensures agrees { Agrees self.new.state }
         ensures algorithm { self.new.algorithm ≡ self.old.algorithm }
     {
@@ -133,6 +141,7 @@ impl<F: Fn(u16, usize) -> usize + Drop> System<F> {
         requires usable { PicksPlaces (F.pre self.old.algorithm) (F.post self.old.algorithm) }
         ensures step { Step (F.post self.old.algorithm) self.old.state (Call.Offer agg frame.now) (Reply.Offer result) self.new.state }
         ensures moves { JoinsViews self.old.state (Call.Offer agg frame.now) (Reply.Offer result) self.new.state }
+        ensures window { AreWindowed self.old.state (Call.Offer agg frame.now ∷ []) (Reply.Offer result ∷ []) }
         ensures agrees { Agrees self.new.state }
         ensures algorithm { self.new.algorithm ≡ self.old.algorithm }
     {
@@ -146,6 +155,7 @@ impl<F: Fn(u16, usize) -> usize + Drop> System<F> {
     pub fn move_conversation(&mut self, agg: AggId, conv: u16, port: u16) -> Result<(), SystemFault>
         ensures step { Step (F.post self.old.algorithm) self.old.state (Call.Move_conversation agg conv port) (Reply.MoveConversation result) self.new.state }
         ensures moves { JoinsViews self.old.state (Call.Move_conversation agg conv port) (Reply.MoveConversation result) self.new.state }
+        ensures window { AreWindowed self.old.state (Call.Move_conversation agg conv port ∷ []) (Reply.MoveConversation result ∷ []) }
         ensures agrees { Agrees self.new.state }
         ensures algorithm { self.new.algorithm ≡ self.old.algorithm }
     {
@@ -157,6 +167,7 @@ impl<F: Fn(u16, usize) -> usize + Drop> System<F> {
     pub fn force(&mut self, agg: AggId, conv: u16) -> Result<(), SystemFault>
         ensures step { Step (F.post self.old.algorithm) self.old.state (Call.Force agg conv) (Reply.Force result) self.new.state }
         ensures moves { JoinsViews self.old.state (Call.Force agg conv) (Reply.Force result) self.new.state }
+        ensures window { AreWindowed self.old.state (Call.Force agg conv ∷ []) (Reply.Force result ∷ []) }
         ensures agrees { Agrees self.new.state }
         ensures algorithm { self.new.algorithm ≡ self.old.algorithm }
     {

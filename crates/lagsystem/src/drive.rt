@@ -4,7 +4,7 @@ ghost use Rattle.lagsystem.specs.Calls.{Step};
 ghost use Rattle.lagsystem.specs.Drives.{Drives, call_of};
 ghost use Rattle.lagsystem.specs.Shown.{JoinsViews};
 ghost use Rattle.lagsystem.specs.Sound.{Agrees};
-ghost use Rattle.lagsystem.specs.Windows.{AreWindowed};
+ghost use Rattle.lagsystem.specs.Windows.{AreWindowed, KeepThree};
 
 use crate::answers::Received;
 use crate::calls::System;
@@ -69,12 +69,20 @@ impl<F: Fn(u16, usize) -> usize + Drop> System<F> {
         ensures refused { OnErr result (self.new ≡ self.old) }
         ensures algorithm { self.new.algorithm ≡ self.old.algorithm }
     {
+        self.keeps_three();
         let mut replies = Vec::with_capacity(alloc, calls.len())?;
         for call in calls {
             let reply = self.answer(call);
             replies.push_reserved(reply);
         }
         Ok(replies)
+    }
+
+    /// Tells nothing but what its contract says: it opens the system for the prover.
+    fn keeps_three(&self)
+        ensures { KeepThree self.now.state }
+    {
+        let _core = &self.core;
     }
 
     /// Makes one call.

@@ -22,7 +22,7 @@ ages_of p = p.ages
 receive-same : EachKeeps ages_of receive_rows
 receive-same = (λ p. refl, (λ p. refl, (λ p. refl, (λ p. refl, (λ p. refl, tt)))))
 
-settles-same : (p q : Machines) → Settles receive_rows p q → q.ages ≡ p.ages
+pub settles-same : (p q : Machines) → Settles receive_rows p q → q.ages ≡ p.ages
 settles-same p q h = Reaches-keeps ages_of receive_rows receive-same h.0 p q h.1
 
 pub mux-same : (ready : Bool) → EachKeeps ages_of (mux_rows ready)
@@ -162,7 +162,7 @@ Inv-send now ages ticks few i = record {
 Inv-same : (now : ℕ) (p q : Machines) (ticks : List ℕ) → q.ages ≡ p.ages → Inv now p.ages ticks → Inv now q.ages ticks
 Inv-same now p q ticks e i = subst (λ ages. Inv now ages ticks) (sym e) i
 
-taking-ages : (pdu : Lacpdu) (p q : Machines) → FiresIfEnabled (taking_rows pdu) p q → q.ages ≡ p.ages
+pub taking-ages : (pdu : Lacpdu) (p q : Machines) → FiresIfEnabled (taking_rows pdu) p q → q.ages ≡ p.ages
 taking-ages pdu p q h =
     elim h [ inl fired ↦ Fires-keeps ages_of (taking_rows pdu) (taking-same pdu) p q fired | inr rest ↦ ap (λ (x : Machines). x.ages) rest.1 ]
 

@@ -40,4 +40,4 @@ returns-clause-window g c =
     let old = c.args.self.now.state in
     let new = c.loop-call.self.state in
     let calls = map call_of c.args.calls.now in
-    window_law gives old new calls c.loop-call.replies.items (driven_runs gives old new calls c.loop-call.replies.items (returns-clause-driven g c))
+    window_law gives old new calls c.loop-call.replies.items c.keeps_three.ensures (driven_runs gives old new calls c.loop-call.replies.items (returns-clause-driven g c))
