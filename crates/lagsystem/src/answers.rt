@@ -1,7 +1,7 @@
 use lagtypes::AggId;
 use slowpdu::{Lacpdu, Marker, WireFault};
 
-/// What became of a received frame.
+/// What became of a received frame: the first that holds (6.2.3, 6.4.12, 6.5.4; profile).
 #[derive(Clone, Copy, Debug, PartialEq, Eq)]
 pub enum Received {
     /// The link of the port is down.

@@ -16,7 +16,7 @@ use lagtypes::AggId;
 use std::alloc::Global;
 use std::marker::Model;
 
-/// One system: its ports, aggregators and conversations, and the algorithm that picks the ports of conversations. Bytes
+/// One system (6.2): its ports, aggregators and conversations, and the algorithm that picks the ports of conversations. Bytes
 /// and ticks go in, frames come out; it has no clock and no link of its own. The algorithm is asked with the number of a
 /// conversation and a count of ports, at most 64, and its answer is a place among them, from 0: below the count where that
 /// is above 0.
@@ -72,7 +72,7 @@ impl<F: Fn(u16, usize) -> usize + Drop> System<F> {
     }
 
     /// One tick, 100 ms: every timer of every port counts down and expired current_while rows fire; a conversation whose
-    /// marker was sent 30 ticks ago is Wanted again; and one settling follows (6.4.4; profile).
+    /// marker was sent 30 ticks ago is Wanted again; and one settling follows (6.4.10; profile).
     pub fn tick(&mut self)
         ensures step { Step (F.post self.old.algorithm) self.old.state Call.Tick Reply.Tick self.new.state }
         ensures moves { JoinsViews self.old.state Call.Tick Reply.Tick self.new.state }
@@ -108,7 +108,7 @@ impl<F: Fn(u16, usize) -> usize + Drop> System<F> {
         self.core.configure(port, change)
     }
 
-    /// Starts the system again as it was configured: the first state of `new`, all links down. Takes no memory.
+    /// Starts the system again as it was configured: the first state of `new`, all links down. Takes no memory (profile).
     pub fn restart(&mut self)
         ensures step { Step (F.post self.old.algorithm) self.old.state Call.Restart Reply.Restart self.new.state }
         ensures moves { JoinsViews self.old.state Call.Restart Reply.Restart self.new.state }
@@ -135,7 +135,7 @@ impl<F: Fn(u16, usize) -> usize + Drop> System<F> {
 
     /// The port to send a frame on, in an aggregator; its conversation is then on that port. Refused in this order:
     /// `NoAggregator`, `FrameLength` outside 14 to 1518 octets, `SlowFrame` for EtherType 0x8809, `Held` while the
-    /// conversation is moving, `NoneDistributing` where it is free and no port distributes in the aggregator (6.2.4;
+    /// conversation is Wanted or Flushing, `NoneDistributing` where it is free and no port distributes in the aggregator (6.2.4;
     /// profile).
     pub fn offer(&mut self, agg: AggId, frame: &[u8]) -> Result<u16, SystemFault>
         requires usable { PicksPlaces (F.pre self.old.algorithm) (F.post self.old.algorithm) }
@@ -149,8 +149,8 @@ impl<F: Fn(u16, usize) -> usize + Drop> System<F> {
     }
 
     /// Moves a conversation of an aggregator to a port, behind a marker on the port that it is on: its frames are held until
-    /// the response comes. Refused in this order: `NoAggregator`, `NoPort`, `NotAssigned` where the conversation is free or
-    /// there is none of this number, `Held` while it is moving, `NotDistributing` where the port does not distribute in the
+    /// the response comes, or until `force`, a link that goes down or a restart frees it. Refused in this order: `NoAggregator`, `NoPort`, `NotAssigned` where the conversation is free or
+    /// there is none of this number, `Held` while it is Wanted or Flushing, `NotDistributing` where the port does not distribute in the
     /// aggregator, `SamePort`, `MarkersSpent` (6.2.5; profile).
     pub fn move_conversation(&mut self, agg: AggId, conv: u16, port: u16) -> Result<(), SystemFault>
         ensures step { Step (F.post self.old.algorithm) self.old.state (Call.Move_conversation agg conv port) (Reply.MoveConversation result) self.new.state }
@@ -162,7 +162,8 @@ impl<F: Fn(u16, usize) -> usize + Drop> System<F> {
         self.core.move_conversation(agg, conv, port)
     }
 
-    /// Frees a conversation of an aggregator at once, so that its frames may overtake one another. Refused in this order:
+    /// Frees a conversation of an aggregator at once, so that its frames may overtake one another. One that is Wanted or
+    /// Flushing keeps the port that it prefers. Refused in this order:
     /// `NoAggregator`, `NotAssigned` where the conversation is free or there is none of this number (profile).
     pub fn force(&mut self, agg: AggId, conv: u16) -> Result<(), SystemFault>
         ensures step { Step (F.post self.old.algorithm) self.old.state (Call.Force agg conv) (Reply.Force result) self.new.state }

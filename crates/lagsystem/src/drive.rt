@@ -13,7 +13,7 @@ use crate::fault::SystemFault;
 use lagtypes::{AggId, NoMemory};
 use std::alloc::Global;
 
-/// A call of a system, with its arguments.
+/// A call of a system, with its arguments (profile).
 #[derive(Debug, Drop)]
 pub enum Call {
     /// `receive`: the port, and the octets that come on it.
@@ -36,7 +36,7 @@ pub enum Call {
     Force(AggId, u16),
 }
 
-/// What a call answers.
+/// What a call answers (profile).
 #[derive(Clone, Copy, Debug, PartialEq, Eq)]
 pub enum Reply {
     /// Of `receive`.
@@ -61,7 +61,7 @@ pub enum Reply {
 
 impl<F: Fn(u16, usize) -> usize + Drop> System<F> {
     /// Makes these calls one after another and answers their replies, one for each. `NoMemory` where the answer could not
-    /// be reserved, and then no call was made.
+    /// be reserved, and then no call was made (profile).
     pub fn drive(&mut self, alloc: Global, calls: &[Call]) -> Result<Vec<Reply>, NoMemory>
         requires usable { PicksPlaces (F.pre self.old.algorithm) (F.post self.old.algorithm) }
         ensures driven { IfOk result (λ replies. Drives (F.post self.old.algorithm) self.old.state (map call_of calls.now) replies.items self.new.state) }

@@ -27,9 +27,9 @@ pub enum SystemFault {
     FrameLength,
     /// 4: an offered frame is one of the slow protocols, EtherType 0x8809.
     SlowFrame,
-    /// 5: the frames of the conversation are held.
+    /// 5: the conversation is Wanted or Flushing, so its frames are held.
     Held,
-    /// 6: no port distributes in the aggregator.
+    /// 6: the conversation is free, and no port distributes in the aggregator.
     NoneDistributing,
     /// 7: the port to move to does not distribute in the aggregator.
     NotDistributing,
@@ -41,7 +41,7 @@ pub enum SystemFault {
     MarkersSpent,
     /// 11: the configuration is refused.
     BadConfig(BadConfig),
-    /// 12: memory was refused.
+    /// 12: memory was refused. Only `System::new` answers it, after the reasons to refuse the configuration.
     NoMemory,
 }
 

@@ -1,4 +1,4 @@
-//! One system: its ports, its aggregators, and the settling after a call (IEEE 802.1AX-2014, 6.2 to 6.5).
+//! One system: its ports, its aggregators, its conversations, and the settling after a call (IEEE 802.1AX-2014, 6.2 to 6.5).
 #![tactic(auto)]
 
 mod answers;

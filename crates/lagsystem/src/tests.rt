@@ -421,6 +421,22 @@ fn first_other<F: Fn(u16, usize) -> usize + Drop>(
     None
 }
 
+/// The list, and the place in it, of the first row that does not go as it says, of lists one after another.
+fn first_place<F: Fn(u16, usize) -> usize + Drop>(
+    system: &mut System<F>,
+    lists: &[&[Row<'_>]],
+) -> Option<(usize, usize)>
+    requires usable { PicksPlaces (F.pre system.old.algorithm) (F.post system.old.algorithm) }
+    ensures algorithm { system.new.algorithm ≡ system.old.algorithm }
+{
+    for (list, rows) in lists.iter().enumerate() {
+        if let Some(place) = first_other(system, rows) {
+            return Some((list, place));
+        }
+    }
+    None
+}
+
 /// Plays lists of rows, one after another, on a new system; answers the list, and the place in it, of the first row that
 /// does not go as it says.
 fn plays(
@@ -429,10 +445,5 @@ fn plays(
     lists: &[&[Row<'_>]],
 ) -> Result<Option<(usize, usize)>, SystemFault> {
     let mut system = System::new(alloc, given, modulo)?;
-    for (list, rows) in lists.iter().enumerate() {
-        if let Some(place) = first_other(&mut system, rows) {
-            return Ok(Some((list, place)));
-        }
-    }
-    Ok(None)
+    Ok(first_place(&mut system, lists))
 }

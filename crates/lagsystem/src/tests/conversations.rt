@@ -16,7 +16,7 @@ fn response(port: u16, id: u32) -> Marker {
 
 /// Brings up ports 1 and 2: both distribute in aggregator 1 towards system 2, nothing is due, and both transmit windows
 /// are empty.
-fn coming_up() -> [Row<'static>; 17] {
+pub(crate) fn coming_up() -> [Row<'static>; 17] {
     [
         Row::Link(1, true),
         Row::Link(2, true),
@@ -38,10 +38,10 @@ fn coming_up() -> [Row<'static>; 17] {
     ]
 }
 
-#[test]
-fn a_conversation_leaves_a_port_behind_its_marker(rt: HostRuntime) -> Result<(), Fail> {
+/// Behind these, port 1 leaves the aggregator, and conversation 48 goes on on port 2 once its marker is answered.
+pub(crate) fn leaving() -> [Row<'static>; 14] {
     let theirs = end(2, 1, 2, 0x0d);
-    let rows = [
+    [
         Row::Conversation(&DATA, Some(48)),
         Row::Conversation(&NEXT, Some(49)),
         Row::Conversation(&[0; 13], None),
@@ -57,9 +57,16 @@ fn a_conversation_leaves_a_port_behind_its_marker(rt: HostRuntime) -> Result<(),
         Row::Silent(1),
         Row::Releases(1, response(1, 1), 1),
         Row::Offers(1, &DATA, Ok(2)),
-    ];
+    ]
+}
+
+#[test]
+fn a_conversation_leaves_a_port_behind_its_marker(rt: HostRuntime) -> Result<(), Fail> {
     let given = config(rt.alloc(), &[1, 2], 2)?;
-    assert_eq!(rt; plays(rt.alloc(), given, &[&coming_up(), &rows])?, None);
+    assert_eq!(rt;
+        plays(rt.alloc(), given, &[&coming_up(), &leaving()])?,
+        None
+    );
     Ok(())
 }
 

@@ -1,4 +1,5 @@
-use crate::tests::{DATA, Row, Seen, config, end, first_other, lacpdu, look, mac, marker, modulo};
+use crate::tests::conversations::{coming_up, leaving};
+use crate::tests::{DATA, Row, Seen, config, end, first_place, lacpdu, look, mac, marker, modulo};
 use crate::{Call, PortChange, Received, Reply, System, SystemFault};
 use lagtypes::{AggId, Key, NoMemory};
 use slowpdu::{Marker, MarkerKind, frame};
@@ -85,15 +86,22 @@ impl Plan {
         }
         Ok(())
     }
+
+    fn add_all(&mut self, alloc: Global, rows: &[Row<'_>]) -> Result<(), NoMemory> {
+        for row in rows {
+            self.add(alloc, *row)?;
+        }
+        Ok(())
+    }
 }
 
-fn plan_of(alloc: Global, rows: &[Row<'_>]) -> Result<Plan, NoMemory> {
+fn plan_of(alloc: Global, lists: &[&[Row<'_>]]) -> Result<Plan, NoMemory> {
     let mut plan = Plan {
         calls: Vec::new(alloc),
         replies: Vec::new(alloc),
     };
-    for row in rows {
-        plan.add(alloc, *row)?;
+    for rows in lists {
+        plan.add_all(alloc, rows)?;
     }
     Ok(plan)
 }
@@ -102,17 +110,17 @@ fn looks<F: Fn(u16, usize) -> usize + Drop>(system: &System<F>) -> [Seen; 2] {
     [look(system, 1), look(system, 2)]
 }
 
-/// Drives a system with the calls of these rows, and plays them on another one: whether the replies are those that the rows
+/// Drives a system with the calls of lists of rows, and plays them on another one: whether the replies are those that the rows
 /// say, and the readers tell the same of both. Where memory for the replies is refused, the system has to be as before.
-pub(crate) fn drives(alloc: Global, rows: &[Row<'_>]) -> Result<bool, SystemFault> {
+pub(crate) fn drives(alloc: Global, lists: &[&[Row<'_>]]) -> Result<bool, SystemFault> {
     let mut driven = System::new(alloc, config(alloc, &[1, 2], 2)?, modulo)?;
     let mut single = System::new(alloc, config(alloc, &[1, 2], 2)?, modulo)?;
-    let plan = plan_of(alloc, rows)?;
+    let plan = plan_of(alloc, lists)?;
     let before = looks(&driven);
     match driven.drive(alloc, &plan.calls) {
         Ok(replies) => Ok(
             replies.as_slice() == plan.replies.as_slice()
-                && first_other(&mut single, rows) == None
+                && first_place(&mut single, lists) == None
                 && looks(&driven) == looks(&single),
         ),
         Err(_) if looks(&driven) != before => Ok(false),
@@ -142,7 +150,13 @@ fn every_kind_of_call(rt: HostRuntime) -> Result<(), Fail> {
         Row::Restart,
         Row::Silent(1),
     ];
-    assert_eq!(rt; drives(rt.alloc(), &rows)?, true);
+    assert_eq!(rt; drives(rt.alloc(), &[&rows])?, true);
+    Ok(())
+}
+
+#[test]
+fn a_conversation_leaves_a_port(rt: HostRuntime) -> Result<(), Fail> {
+    assert_eq!(rt; drives(rt.alloc(), &[&coming_up(), &leaving()])?, true);
     Ok(())
 }
 
