@@ -1,6 +1,6 @@
 -- Choosing an aggregator is the move that joins it.
 use Rattle.std.proofs.Common.{◌≡◌, ◌≢◌, ℕ, zero, suc, ◌<◌, ◌-◌, Bool, true, false, List, [], ◌∷◌, inl, inr, refl, sym, ◌∙◌, subst, ap, arith, Option, Some, None}
-use Rattle.std.specs.Prelude.{◌&&◌, if◌then◌else◌, slice_get, slice_set, not}
+use Rattle.std.specs.Prelude.{◌&&◌, slice_get, slice_set, not}
 use Rattle.std.specs.List.{All, AllByRecursion}
 use Rattle.std.proofs.lemmas.Bool.{false≢true}
 use Rattle.std.proofs.lemmas.Option.{none-some, same_Some}
@@ -19,7 +19,7 @@ use Rattle.selection.specs.Joining.{Joins, ends}
 use Rattle.lagtypes.specs.Same.{same_system}
 use Rattle.lagtypes.specs.Choices.{is_unselected}
 use Rattle.selection.specs.Views.{is_detached, is_eligible}
-use Rattle.selection.proofs.Joining.{choice-joins}
+use Rattle.selection.proofs.Joining.{choice-joins, if-some}
 use Rattle.lagmodel.specs.View.{PortView, Setup, Call, Flows}
 use Rattle.lagmodel.specs.Move.{PortMove, PortAllowed, port_after, group_at, FreeMoves}
 use Rattle.lagmodel.specs.Kept.{find_number, ports_of}
@@ -107,15 +107,11 @@ joined s agg ok =
     let view : Bool → PortView = λ d. record (shown_slot s) { aggregator = Some agg.0; distributes = d } in
     ap view (still sync true (is_mux CollectingDistributing s.port.mux) mux ∙ sym (still sync (is_selected s.port.choice) (is_mux CollectingDistributing s.port.mux) mux))
 
-if_some : (b : Bool) (o : Option AggId) (agg : AggId) → (if b then o else None) ≡ Some agg → (b ≡ true) × (o ≡ Some agg)
-if_some true o agg h = (refl, h)
-if_some false o agg h = cc
-
 given_moves : (u : Setup) (call : Call) (f : Flows) (keys : List Key) (slots : List Slot) (i : ℕ) (slot : Slot) (o : Option AggId) → Fits u keys → Rises 0 (numbers slots) → slice_get slots i ≡ Some slot
     → takes keys slots slot ≡ o → FreeMoves u call (view_at f slots) [] (view_at f (slice_set slots i (given slot o)))
 given_moves u call f keys slots i slot None fits r h k = ([], tt, refl, ap (view_at f) (set_same slots i slot h))
 given_moves u call f keys slots i slot (Some agg) fits r h k =
-    let x = if_some (is_eligible (view_of slot)) (choice keys (views slots) slot.number) agg k in
+    let x = if-some (is_eligible (view_of slot)) (choice keys (views slots) slot.number) agg k in
     let j = choice-joins keys (views slots) (view_of slot) agg (sym (ap (choice_of_view keys (views slots)) (find_here 0 slots i slot r h)) ∙ x.1) in
     moves_at number shown_slot u call f slots i slot (given slot (Some agg)) (PortMove.Join agg.0) (are_numbered 0 slots r) h refl (joined slot agg x.0) (join_allowed u call keys slots slot agg fits j)
 

@@ -35,7 +35,8 @@ use Rattle.lagsystem.specs.Shown.{configured, number, party_in, shown, shown_slo
 use Rattle.lagsystem.specs.State.{State, with_slots}
 use Rattle.lagsystem.specs.Views.{views, view_of as seen_at}
 use Rattle.lagsystem.proofs.Effects.{named, zero_named}
-use Rattle.lagsystem.proofs.Rest.{last_slots, reaches_same, zip_all}
+use Rattle.portmachines.proofs.Runs.{Reaches-keeps}
+use Rattle.lagsystem.proofs.Rest.{last_slots, zip_all}
 use Rattle.lagsystem.proofs.Rising.{all-get}
 use Rattle.lagsystem.proofs.SettlingLemmas.{set_same}
 
@@ -203,7 +204,7 @@ chosen_idle keys (suc n) slots down =
     ap (λ (l : List Slot). choose_slot keys l n (slice_get l n)) (chosen_idle keys n slots down) ∙ choose_idle keys slots n (slice_get slots n) refl down
 
 periodic_shown : (p q : Machines) → RunsPeriodic p q → shown q ≡ shown p
-periodic_shown p q h = ap shown h.2 ∙ reaches_same shown periodic_rows ((λ p. refl), ((λ p. refl), ((λ p. refl), ((λ p. refl), ((λ p. refl), ((λ p. refl), ((λ p. refl), tt))))))) h.1.0 p h.0 h.1.1
+periodic_shown p q h = ap shown h.2 ∙ Reaches-keeps shown periodic_rows ((λ p. refl), ((λ p. refl), ((λ p. refl), ((λ p. refl), ((λ p. refl), ((λ p. refl), ((λ p. refl), tt))))))) h.1.0 p h.0 h.1.1
 
 zip_weaker : {X Y : Type 0} (R S : X → Y → Type 0) → ((x : X) (y : Y) → R x y → S x y) → (xs : List X) (ys : List Y) → AllZip R xs ys → AllZip S xs ys
 zip_weaker R S w [] [] h = tt

@@ -1,8 +1,8 @@
 -- Every call keeps the configuration of a system, and the numbers of its ports.
 use Rattle.std.proofs.Common.{◌≡◌, ◌∙◌, ℕ, zero, suc, ◌≤◌, Bool, true, false, List, [], ◌∷◌, Option, Some, None, Result, Ok, Err, ◌⊎◌, inl, inr, length, ap, sym, refl, subst, arith}
-use Rattle.std.specs.Prelude.{◌&&◌, if◌then◌else◌, nat_le, slice_get, slice_set}
+use Rattle.std.specs.Prelude.{if◌then◌else◌, nat_le, slice_get, slice_set}
 use Rattle.std.specs.List.{AllZip}
-use Rattle.std.proofs.lemmas.Bool.{false≢true}
+use Rattle.std.proofs.lemmas.Bool.{and_parts, false≢true}
 use Rattle.std.proofs.lemmas.Bool.Decides.{nat_tests}
 use Rattle.lagtypes.specs.declared.identifiers.AggId.{AggId}
 use Rattle.lagtypes.specs.declared.identifiers.Key.{Key}
@@ -38,6 +38,7 @@ use Rattle.lagsystem.specs.declared.fault.SystemFault.{SystemFault}
 use Rattle.lagsystem.specs.Offers.{Becomes, Offers, force_answer, move_answer}
 use Rattle.lagsystem.specs.Sending.{SendsAt, SendsMarkerOf, SendsWhere}
 use Rattle.lagsystem.specs.Calls.{Call, Tick, Set_link, Receive, Configure, Restart, Transmit, Offer, Move_conversation, Force, AllTick, ChangesLink, ChangesParty, Frees, LinksPort, OnPlace, OnPort, Releases, Settled, Takes, Does, Step, is_for}
+use Rattle.lagsystem.proofs.Rising.{if_then}
 
 pub record Keeps (old new : State) : Type 0 where
   pub frame : new ≡ with_table (with_slots old new.slots) new.table
@@ -83,7 +84,7 @@ numbers_set [] i s t e n = refl
 numbers_set (x ∷ xs) zero s t e n = let same : x ≡ s = cc in let here : x.number ≡ s.number = ap (λ (y : Slot). y.number) same in cc
 numbers_set (x ∷ xs) (suc i) s t e n = ap (λ ns. x.number ∷ ns) (numbers_set xs i s t e n)
 
-given_number : (s : Slot) (o : Option AggId) → (given s o).number ≡ s.number
+pub given_number : (s : Slot) (o : Option AggId) → (given s o).number ≡ s.number
 given_number s None = refl
 given_number s (Some agg) = refl
 
@@ -268,20 +269,12 @@ Step-aggregators gives old call answer new h e = elim (restart_or_not call) [
   | inr n ↦ (let k = Step-keeps gives old call answer new n h in k.aggs ∙ e ∙ sym (ap (λ (s : State). length s.keys) k.frame))
 ]
 
-and_right : (b c : Bool) → (b && c) ≡ true → c ≡ true
-and_right true c h = h
-and_right false c h = cc
-
 is_true : (b : Bool) (x : Option BadConfig) (y : BadConfig) → (if b then x else Some y) ≡ None → b ≡ true
 is_true true x y h = refl
 is_true false x y h = cc
 
 below : (n : ℕ) → is_count n ≡ true → n ≤ 64
-below n h = let k : nat_le n 64 ≡ true = and_right (nat_le 1 n) (nat_le n 64) h in grind (arith, nat_tests)
-
-if_then : (b : Bool) (x : Option BadConfig) (y : BadConfig) → (if b then x else Some y) ≡ None → x ≡ None
-if_then true x y h = h
-if_then false x y h = cc
+below n h = let k : nat_le n 64 ≡ true = (and_parts (nat_le 1 n) (nat_le n 64) h).1 in grind (arith, nat_tests)
 
 pub accepted_keys_few : (keys : List Key) (ports : List PortConfig) → refusal keys ports ≡ None → length keys ≤ 64
 accepted_keys_few keys ports h = below (length keys) (is_true (is_count (length keys)) _ _ (if_then (is_count (length ports)) _ _ h))

@@ -19,7 +19,7 @@ use Rattle.lagtypes.specs.Choices.{is_selected, is_unselected}
 use Rattle.portmachines.specs.Mux.{is_mux, mux_rows, partner_synchronized}
 use Rattle.portmachines.specs.Periodic.{periodic_rows, RunsPeriodic}
 use Rattle.portmachines.specs.Receive.{is_receive, receive_rows, start_receive}
-use Rattle.portmachines.specs.Rows.{Row, Fires, Reaches, Settles}
+use Rattle.portmachines.specs.Rows.{Settles}
 use Rattle.portmachines.specs.Start.{Starts, blank}
 use Rattle.portmachines.specs.Transmit.{count_down, is_due, sent}
 use Rattle.lagsystem.specs.declared.answers.Heard.{Heard}
@@ -38,29 +38,17 @@ use Rattle.lagsystem.specs.Sending.{SendsAt, SendsMarkerOf, SendsWhere}
 use Rattle.distributor.specs.Changes.{marker_due}
 use Rattle.lagsystem.specs.Calls.{Call, Tick, Set_link, Receive, Configure, Restart, Transmit, Offer, Move_conversation, Force, AllTick, ChangesLink, ChangesParty, Does, LinksPort, OnPlace, OnPort, Releases, Settled, Takes, changed, is_for, Step}
 use Rattle.lagsystem.specs.Shown.{takes_in, awake, steady_of, steady, AreAwake, AreSteady, AreRested}
+use Rattle.portmachines.proofs.Runs.{Reaches-keeps}
 use Rattle.lagsystem.proofs.Rising.{all-set, all-get}
 
--- what every row leaves as it is
-abbrev pub EachSame : {X : Type 0} → (Machines → X) → List Row → Type 0
-EachSame g [] = Unit {0}
-EachSame g (row ∷ rows) = ((p : Machines) → g (row.effect p) ≡ g p) × EachSame g rows
-
-fires_same : {X : Type 0} (g : Machines → X) (rows : List Row) → EachSame g rows → (p q : Machines) → Fires rows p q → g q ≡ g p
-fires_same g [] k p q h = absurd h
-fires_same g (row ∷ rows) k p q h = elim h [ inl f ↦ ap g f.1 ∙ k.0 p | inr f ↦ fires_same g rows k.1 p q f ]
-
-pub reaches_same : {X : Type 0} (g : Machines → X) (rows : List Row) → EachSame g rows → (n : ℕ) (p q : Machines) → Reaches rows n p q → g q ≡ g p
-reaches_same g rows k zero p q run = ap g run
-reaches_same g rows k (suc n) p q run = fires_same g rows k run.0 q run.2 ∙ reaches_same g rows k n p run.0 run.1
-
 mux_awake : (ready : Bool) (p q : Machines) → Settles (mux_rows ready) p q → awake q ≡ awake p
-mux_awake ready p q h = reaches_same awake (mux_rows ready) ((λ p. refl), ((λ p. refl), ((λ p. refl), ((λ p. refl), ((λ p. refl), ((λ p. refl), tt)))))) h.0 p q h.1
+mux_awake ready p q h = Reaches-keeps awake (mux_rows ready) ((λ p. refl), ((λ p. refl), ((λ p. refl), ((λ p. refl), ((λ p. refl), ((λ p. refl), tt)))))) h.0 p q h.1
 
 periodic_awake : (p q : Machines) → RunsPeriodic p q → awake q ≡ awake p
-periodic_awake p q h = ap awake h.2 ∙ reaches_same awake periodic_rows ((λ p. refl), ((λ p. refl), ((λ p. refl), ((λ p. refl), ((λ p. refl), ((λ p. refl), ((λ p. refl), tt))))))) h.1.0 p h.0 h.1.1
+periodic_awake p q h = ap awake h.2 ∙ Reaches-keeps awake periodic_rows ((λ p. refl), ((λ p. refl), ((λ p. refl), ((λ p. refl), ((λ p. refl), ((λ p. refl), ((λ p. refl), tt))))))) h.1.0 p h.0 h.1.1
 
 periodic_steady : (p q : Machines) → RunsPeriodic p q → steady q ≡ steady p
-periodic_steady p q h = ap steady h.2 ∙ reaches_same steady periodic_rows ((λ p. refl), ((λ p. refl), ((λ p. refl), ((λ p. refl), ((λ p. refl), ((λ p. refl), ((λ p. refl), tt))))))) h.1.0 p h.0 h.1.1
+periodic_steady p q h = ap steady h.2 ∙ Reaches-keeps steady periodic_rows ((λ p. refl), ((λ p. refl), ((λ p. refl), ((λ p. refl), ((λ p. refl), ((λ p. refl), ((λ p. refl), tt))))))) h.1.0 p h.0 h.1.1
 
 -- at rest
 rest_awake : (r : ReceiveState) (e : Bool) → (is_receive Initialize r && true) ≡ false → (is_receive PortDisabled r && e) ≡ false → (if e then takes_in r else true) ≡ true

@@ -2,8 +2,10 @@
 use Rattle.std.proofs.Common.{◌≡◌, ℕ, zero, suc, ◌+◌, ◌<◌, ◌==◌, Bool, true, false, cond, eqb, List, [], ◌∷◌, Option, Some, None, refl, sym, ◌∙◌, subst, ap, arith, inl, inr}
 use Rattle.std.specs.Prelude.{find, if◌then◌else◌, nat_lt, option_map, slice_get, slice_set}
 use Rattle.std.specs.List.{AllByRecursion}
+use Rattle.std.proofs.lemmas.Bool.{eqb-true}
 use Rattle.std.proofs.lemmas.Bool.Decides.{Decides-eqb, nat_tests}
-use Rattle.std.proofs.lemmas.Option.{none-some, same_Some}
+use Rattle.std.proofs.lemmas.List.Quantifiers.{position-Some}
+use Rattle.std.proofs.lemmas.Option.{get_or_from_slice_get, none-some, same_Some}
 use Rattle.lagmodel.specs.Kept.{AreNumbered, find_number}
 use Rattle.lagmodel.proofs.Base.{chosen as whichever, cond_false}
 use Rattle.lagsystem.specs.declared.config.PortConfig.{PortConfig}
@@ -13,7 +15,7 @@ use Rattle.lagsystem.specs.declared.slots.Slot.{Slot}
 use Rattle.lagsystem.specs.First.{misplaced, numbers_of, refusal}
 use Rattle.lagsystem.specs.Shown.{number}
 use Rattle.lagsystem.specs.Sound.{HasPorts}
-use Rattle.lagsystem.specs.State.{State, numbers}
+use Rattle.lagsystem.specs.State.{State, numbers, place_of}
 use Rattle.lagsystem.specs.Views.{view_of, views}
 use Rattle.lagtypes.specs.declared.identifiers.Key.{Key}
 use Rattle.selection.specs.declared.view.PortView.{PortView}
@@ -31,7 +33,7 @@ rises : (place low : ℕ) (ns : List ℕ) → misplaced place low ns ≡ None �
 rises place low [] e = tt
 rises place low (n ∷ ns) e = let both = rises_on place low n ns (nat_lt low n) refl e in (both.0, rises (place + 1) n ns both.1)
 
-if_then : (b : Bool) (x : Option BadConfig) (y : BadConfig) → (if b then x else Some y) ≡ None → x ≡ None
+pub if_then : (b : Bool) (x : Option BadConfig) (y : BadConfig) → (if b then x else Some y) ≡ None → x ≡ None
 if_then true x y h = h
 if_then false x y h = cc
 
@@ -100,3 +102,9 @@ all_found P (t ∷ ts) all q s e = elim (whichever (eqb q (number t)) (Some t) (
   | inl h ↦ subst P (same_Some t s h.1) all.0
   | inr h ↦ all_found P ts all.1 q s h.1
 ]
+
+-- the port at the place of a number has that number
+pub found_place : (n : ℕ) (slots : List Slot) (i : ℕ) (s : Slot) → place_of n slots ≡ Some i → slice_get slots i ≡ Some s → s.number ≡ n
+found_place n slots i s e at =
+    let found = position-Some (λ (x : Slot). x.number == n) slots i s e in
+    eqb-true s.number n (subst (λ (x : Slot). (x.number == n) ≡ true) (get_or_from_slice_get slots i s s at) found.1)

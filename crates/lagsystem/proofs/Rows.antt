@@ -1,6 +1,7 @@
 -- What rows do to the view of a port.
-use Rattle.std.proofs.Common.{◌≡◌, ℕ, zero, suc, Bool, true, false, ◌&&◌, Option, List, [], ◌∷◌, ◌++◌, sym, refl, ap, subst, inl, inr, IsTrue, IsSome}
+use Rattle.std.proofs.Common.{◌≡◌, ℕ, zero, suc, Bool, true, false, ◌&&◌, Option, List, [], ◌∷◌, sym, refl, ap, subst, inl, inr, IsTrue, IsSome}
 use Rattle.std.proofs.lemmas.Bool.{false≢true}
+use Rattle.std.proofs.lemmas.List.{append-nil}
 use Rattle.lagtypes.specs.declared.party.Party.{Party}
 use Rattle.lagtypes.specs.declared.party.Choice.{Choice}
 use Rattle.lagtypes.specs.declared.party.Choice.TheVariants.{Unselected, Selected}
@@ -37,12 +38,8 @@ pub loudly : (u : Setup) (call : Call) (n : ℕ) (p q : Machines) (seen : List A
 loudly u call n p q seen h =
     let stop : PortMoves u call n (shown p) [] (quiet p) = (PortMove.Stop ∷ [], (λ ports. tt, tt), refl, refl) in
     let begin = begins u call n q.party (shown q).partner (shown q).synchronised q.defaulted (aggregator_of q.choice) (shown q).distributes (may_begin (partner_synchronized q) q.choice (is_mux CollectingDistributing q.mux)) in
-    subst (λ l. PortMoves u call n (shown p) l (shown q)) (append_nil seen)
+    subst (λ l. PortMoves u call n (shown p) l (shown q)) (append-nil seen)
     (port_joined u call n (shown p) (quiet q) (shown q) seen [] (port_joined u call n (shown p) (quiet p) (quiet q) [] seen stop h) begin)
-  where
-    append_nil : (l : List Act) → l ++ [] ≡ l
-    append_nil [] = refl
-    append_nil (x ∷ xs) = ap (λ (l : List Act). x ∷ l) (append_nil xs)
 
 -- rows whose effects others do not see
 abbrev pub EachMoves : Setup → Call → ℕ → List Row → Type 0

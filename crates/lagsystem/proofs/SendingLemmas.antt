@@ -1,8 +1,7 @@
 -- What a system sends on a port.
-use Rattle.std.proofs.Common.{◌≡◌, ◌∙◌, ◌==◌, ℕ, true, false, Bool, List, Option, Some, None, if◌then◌else◌, ap, refl, subst, sym, slice_get, slice_set, length, get_or, ◌<◌}
-use Rattle.std.proofs.lemmas.Bool.{cond-true, eqb-true}
-use Rattle.std.proofs.lemmas.List.Quantifiers.{position-Some}
-use Rattle.std.proofs.lemmas.Option.{cond_some, get_or_from_slice_get, same_Some, slice_get-get_or}
+use Rattle.std.proofs.Common.{◌≡◌, ◌∙◌, ℕ, true, false, Bool, List, Option, Some, None, if◌then◌else◌, ap, refl, subst, sym, slice_get, slice_set, length, get_or, ◌<◌}
+use Rattle.std.proofs.lemmas.Bool.{cond-true}
+use Rattle.std.proofs.lemmas.Option.{cond_some, same_Some, slice_get-get_or}
 use Rattle.slowpdu.specs.declared.pdu.Lacpdu.{Lacpdu}
 use Rattle.slowpdu.specs.Frames.{frame_octets}
 use Rattle.slowpdu.specs.Lacpdus.{Writes}
@@ -12,6 +11,7 @@ use Rattle.portmachines.specs.Transmit.{is_due, pdu_of, sent}
 use Rattle.lagsystem.specs.declared.slots.Slot.{Slot}
 use Rattle.lagsystem.specs.State.{State, place_of, with_slots}
 use Rattle.lagsystem.specs.Sending.{Sends, SendsAt, SendsLacpdu, SendsMarker, SendsWhere, SlotSends}
+use Rattle.lagsystem.proofs.Rising.{found_place}
 use Rattle.lagsystem.proofs.SettlingLemmas.{set_same}
 
 -- a port whose transmit machine gives an LACPDU sends that
@@ -50,11 +50,6 @@ sends_lacpdu s place i slot octets olds ws news ep at up eo ew h =
           (octets, sends.1, refl, ap (with_slots s) set),
     )
 
-place_number : (n : ℕ) (slots : List Slot) (i : ℕ) (slot : Slot) → place_of n slots ≡ Some i → slice_get slots i ≡ Some slot → slot.number ≡ n
-place_number n slots i slot e at =
-    let found = position-Some (λ (x : Slot). x.number == n) slots i slot e in
-    eqb-true slot.number n (subst (λ (x : Slot). (x.number == n) ≡ true) (get_or_from_slice_get slots i slot slot at) found.1)
-
 -- the port at the place with the link up has no LACPDU to send, and so a marker goes that is due
 pub sends_marker : (s : State) (number i : ℕ) (slot second : Slot) (olds ws news : List Slot) (answer : Option (List ℕ)) (new : State) → place_of number s.slots ≡ Some i
     → i < length s.slots → slice_get s.slots i ≡ Some slot → slot.port.enabled ≡ true → olds ≡ s.slots → news ≡ ws → SlotSends s.max_delay i None olds ws
@@ -65,7 +60,7 @@ sends_marker s number i slot second olds ws news answer new ep within at up eo e
     let stays : news ≡ s.slots = ew ∙ h.4 ∙ ap (λ (p : Machines). slice_set olds i (record h.0 { port = p })) h.3.1 ∙ set_same olds i h.0 h.2 ∙ eo in
     let there : second ≡ slot =
     same_Some second slot (ap (λ (x : Slot). Some x) (read ∙ ap (λ (l : List Slot). get_or l i second) stays) ∙ sym (slice_get-get_or s.slots i second within) ∙ at) in
-    let numbered : slot.number ≡ number = place_number number s.slots i slot ep at in
+    let numbered : slot.number ≡ number = found_place number s.slots i slot ep at in
     let unmoved : SendsMarker number second.mac s answer new = subst (λ (l : List Slot). SendsMarker number second.mac (with_slots s l) answer new) stays m in
     let of_slot : SendsMarker number slot.mac s answer new = subst (λ (x : Slot). SendsMarker number x.mac s answer new) there unmoved in
     let mine : SendsMarker slot.number slot.mac s answer new = subst (λ n. SendsMarker n slot.mac s answer new) (sym numbered) of_slot in

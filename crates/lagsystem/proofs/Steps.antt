@@ -1,11 +1,11 @@
 -- Each call of a system is a list of free moves.
-use Rattle.std.proofs.Common.{◌≡◌, ℕ, suc, ◌+◌, ◌<◌, ◌^◌, arith, ◌==◌, Bool, true, false, cond, not, Option, Some, None, Result, Ok, Err, List, [], ◌∷◌, ◌++◌, length, refl, sym, ◌∙◌, subst, ap, inl, inr, IsSome}
+use Rattle.std.proofs.Common.{◌≡◌, ℕ, ◌<◌, ◌^◌, ◌==◌, Bool, true, false, cond, Option, Some, None, Result, Ok, Err, List, [], ◌∷◌, length, refl, sym, ◌∙◌, subst, ap, inl, inr, IsSome}
 use Rattle.std.specs.Prelude.{◌&&◌, if◌then◌else◌, is_some, ltb, nat_lt, slice_get, slice_set}
-use Rattle.std.specs.List.{position_or_len}
 use Rattle.std.proofs.lemmas.Bool.{false≢true, ltb-true}
 use Rattle.std.proofs.lemmas.Slice.Eq.{bytes_eq-Decides}
 use Rattle.std.specs.Str.{bytes_eq}
 use Rattle.std.proofs.lemmas.Bool.Decides.{Decides-eqb}
+use Rattle.std.proofs.lemmas.List.{append-nil}
 use Rattle.std.proofs.lemmas.Option.{none-some, same_Some}
 use Rattle.lagtypes.specs.declared.identifiers.AggId.{AggId}
 use Rattle.lagtypes.specs.declared.party.Choice.{Choice}
@@ -34,7 +34,6 @@ use Rattle.distributor.specs.Moves.{flows_of}
 use Rattle.distributor.proofs.MoveLemmas.{down_moves, force_moves, mark_moves, move_moves, release_moves, send_moves, tick_moves as conversations_tick}
 use Rattle.lagmodel.specs.View.{Setup, Flows, Lacp, Pdu as Message, Call as Told, Receive as Told_receive, first_view}
 use Rattle.lagmodel.specs.Move.{Act, Sends as Shows, Sends_frame, Took, FreeMoves, PortMove, Move}
-use Rattle.lagmodel.proofs.Base.{chosen as whichever}
 use Rattle.lagmodel.proofs.Uses.{moves_joined}
 use Rattle.lagsystem.specs.declared.answers.Heard.{Heard}
 use Rattle.lagsystem.specs.declared.answers.Heard.TheVariants.{Taken, Response, Answered}
@@ -58,7 +57,7 @@ use Rattle.lagsystem.proofs.Conversing.{and_left, and_right, assigned_may, carry
 use Rattle.lagsystem.proofs.Keeps.{Keeps, keeps_each, keeps_link, keeps_place, keeps_tick, ports_keep, ports_table, settling_parts}
 use Rattle.lagsystem.proofs.FirstView.{first_shows}
 use Rattle.lagsystem.proofs.Lists.{AllZip-weaker}
-use Rattle.lagsystem.proofs.Rising.{Rises, all-get, are_numbered}
+use Rattle.lagsystem.proofs.Rising.{Rises, all-get, are_numbered, found_place}
 use Rattle.lagsystem.proofs.SettlingLemmas.{set_same}
 use Rattle.lagsystem.proofs.OfPort.{PortMoves, SlotMoves, slot_moves, all_slots_move}
 use Rattle.lagsystem.proofs.Rows.{QuietMoves, loudly, settles_moves, mux_moves, runs_periodic_moves}
@@ -115,16 +114,12 @@ settling_moves u call old new fits r h =
     let ports = subst (λ (t : Table). FreeMoves u call (view_of old) [] (view_at (flows_of t) p.0.slots)) (sym (ports_table old p.0 p.1)) (ports_moves u call f old p.0 fits r p.1) in
     moves_joined u call (view_of old) (view_of p.0) (view_of new) [] [] ports (leaving_moves u call p.0 new p.2)
 
-append_nil : (l : List Act) → l ++ [] ≡ l
-append_nil [] = refl
-append_nil (x ∷ xs) = ap (λ (l : List Act). x ∷ l) (append_nil xs)
-
 settled_moves : (u : Setup) (call : Told) (own : State → State → Type 0) (seen : List Act) (s t : State) → Fits u s.keys → Rises 0 (numbers s.slots)
     → ((mid : State) → own s mid → Keeps s mid) → ((mid : State) → own s mid → FreeMoves u call (view_of s) seen (view_of mid))
     → Settled own s t → FreeMoves u call (view_of s) seen (view_of t)
 settled_moves u call own seen s t fits r keeps moves h =
     let k = keeps h.0 h.1 in
-    subst (λ l. FreeMoves u call (view_of s) l (view_of t)) (append_nil seen)
+    subst (λ l. FreeMoves u call (view_of s) l (view_of t)) (append-nil seen)
     (moves_joined u call (view_of s) (view_of h.0) (view_of t) seen [] (moves h.0 h.1)
     (settling_moves u call h.0 t (fitting u s h.0 k fits) (rising s h.0 k r) h.2))
 
@@ -137,25 +132,6 @@ table_moved : (u : Setup) (call : Told) (seen : List Act) (old new : State) → 
 table_moved u call seen old new e h = subst (λ (l : List Slot). FreeMoves u call (view_of old) seen (view_at (flows_of new.table) l)) (sym (ap (λ (s : State). s.slots) e)) h
 
 -- the port at the place of a number has that number
-prefix_step : (n : ℕ) (x : Slot) (xs : List Slot) (k : ℕ) (s : Slot) → (slice_get xs k ≡ Some s → (s.number == n) ≡ true)
-    → (b : Bool) → (x.number == n) ≡ b → slice_get (x ∷ xs) (cond (not b) (1 + k) 0) ≡ Some s → (s.number == n) ≡ true
-prefix_step n x xs k s later true h e = subst (λ (y : Slot). (y.number == n) ≡ true) (same_Some x s e) h
-prefix_step n x xs k s later false h e =
-    let next : 1 + k ≡ suc k = omega arith in
-    later (subst (λ m. slice_get (x ∷ xs) m ≡ Some s) next e)
-
-at_prefix : (n : ℕ) (slots : List Slot) (s : Slot) → slice_get slots (position_or_len (λ (x : Slot). x.number == n) slots) ≡ Some s → (s.number == n) ≡ true
-at_prefix n [] s e = absurd (none-some s e)
-at_prefix n (x ∷ xs) s e = prefix_step n x xs (position_or_len (λ (x : Slot). x.number == n) xs) s (at_prefix n xs s) (x.number == n) refl e
-
-pub found_place : (n : ℕ) (slots : List Slot) (i : ℕ) (s : Slot) → place_of n slots ≡ Some i → slice_get slots i ≡ Some s → s.number ≡ n
-found_place n slots i s e h =
-    let k = position_or_len (λ (x : Slot). x.number == n) slots in
-    elim (whichever _ (Some k) None (Some i) e) [
-      | inl x ↦ (Decides-eqb s.number n).0 (at_prefix n slots s (subst (λ j. slice_get slots j ≡ Some s) (sym (same_Some k i x.1)) h))
-      | inr x ↦ absurd (none-some i x.1)
-    ]
-
 -- the port with a number moves
 one_moves : (u : Setup) (call : Told) (f : Flows) (n i : ℕ) (slots : List Slot) (s : Slot) (q : Machines) (seen : List Act) → Rises 0 (numbers slots) → place_of n slots ≡ Some i → slice_get slots i ≡ Some s
     → QuietMoves u call n s.port seen q → FreeMoves u call (view_at f slots) seen (view_at f (slice_set slots i (record s { port = q })))

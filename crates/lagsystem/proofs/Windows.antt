@@ -5,7 +5,7 @@ use Rattle.std.specs.List.{AllByRecursion, AllZip, find, position_or_len}
 use Rattle.slowpdu.specs.declared.pdu.Lacpdu.{Lacpdu}
 use Rattle.std.proofs.lemmas.Bool.{and_parts, eqb-true}
 use Rattle.std.proofs.lemmas.Bool.Decides.{nat_tests}
-use Rattle.std.proofs.lemmas.List.{length-append}
+use Rattle.std.proofs.lemmas.List.{append-nil, length-append}
 use Rattle.std.proofs.lemmas.List.Folds.{find_at}
 use Rattle.std.proofs.lemmas.List.Quantifiers.{position-Some}
 use Rattle.std.proofs.lemmas.Option.{slice_get_past, get_or_from_slice_get, same_Some}
@@ -47,6 +47,7 @@ use Rattle.lagsystem.specs.Calls.{Call, Tick, Set_link, Receive, Configure, Rest
 use Rattle.lagsystem.specs.Offers.{force_answer, move_answer}
 use Rattle.lagsystem.specs.Sending.{SendsAt, SendsMarkerOf, SendsWhere}
 use Rattle.lagsystem.specs.Windows.{KeepThree, KeepsThree, KeptSince, StartsEmpty, StaysWindowed, WindowFromStart, WindowLaw, after, kept_sends, later, subtype}
+use Rattle.lagsystem.proofs.Keeps.{given_number}
 use Rattle.lagsystem.proofs.Rest.{becomes_slots, last_slots, offers_slots, releases_slots, same_slots}
 
 -- one port
@@ -67,10 +68,6 @@ good_call : (now : ℕ) (call : port.PortCall) (p q : Machines) (before : List �
 good_call now call p q before does g calls ticks run =
     let b = window.sends call p in
     subst KeepsWindow (joined b now before ticks) (g (call ∷ calls) (if b then now ∷ ticks else ticks) (q, ticks, does, run, refl))
-
-append-nil : (xs : List ℕ) → (xs ++ []) ≡ xs
-append-nil [] = refl
-append-nil (x ∷ xs) = ap (λ ys. x ∷ ys) (append-nil xs)
 
 none_sent : KeepsWindow []
 none_sent first = omega arith
@@ -138,10 +135,6 @@ record IsKept (P : Machines → Type 0) : Type 0 where
   link : (up : Bool) (p q : Machines) → ChangesLink up p q → P p → P q
   take : (v : Lacpdu) (p q : Machines) → Takes v p q → P p → P q
   party : (change : PortChange) (p q : Machines) → ChangesParty change p q → P p → P q
-
-given_number : (s : Slot) (o : Option AggId) → (given s o).number ≡ s.number
-given_number s None = refl
-given_number s (Some agg) = refl
 
 in_given : (P : Machines → Type 0) → IsKept P → (s : Slot) (o : Option AggId) → P s.port → P (given s o).port
 in_given P kept s None g = g

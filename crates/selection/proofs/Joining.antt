@@ -138,7 +138,7 @@ chosen keys views v agg ok (Some a) is e =
     joins-by keys views v agg (is_joinable views v) ok (lowest-found 1 keys v.party.key (is_joinable views v) agg (is ∙ e))
     (λ t. inr (shared-members views v agg t))
 
-if-some : (b : Bool) (o : Option AggId) (agg : AggId) → (if b then o else None) ≡ Some agg → (b ≡ true) × (o ≡ Some agg)
+pub if-some : (b : Bool) (o : Option AggId) (agg : AggId) → (if b then o else None) ≡ Some agg → (b ≡ true) × (o ≡ Some agg)
 if-some true o agg e = (refl, e)
 if-some false o agg e = absurd cc
 
