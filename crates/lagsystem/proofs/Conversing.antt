@@ -1,7 +1,7 @@
 -- What calls do to the conversations of a system are free moves.
 use Rattle.std.proofs.Common.{◌≡◌, ◌∙◌, ℕ, zero, suc, Bool, true, false, cond, List, [], ◌∷◌, Option, Some, None, Result, Ok, Err, refl, sym, ap, subst, arith, inl, inr, eqb, eqb-true, eq-eqb}
 use Rattle.std.specs.Prelude.{◌&&◌, ◌||◌, if◌then◌else◌, option_map, slice_get, IsSomeAnd, MatchOption}
-use Rattle.std.proofs.lemmas.Bool.{cases_Bool, false≢true}
+use Rattle.std.proofs.lemmas.Bool.{and_parts, cases_Bool, false≢true}
 use Rattle.std.proofs.lemmas.Bool.Decides.{Decides-eqb}
 use Rattle.std.proofs.lemmas.Option.{none-some, same_Some}
 use Rattle.lagtypes.specs.declared.identifiers.AggId.{AggId}
@@ -73,14 +73,6 @@ rest_distributes CollectingDistributing true false h = absurd (false≢true h)
 rest_distributes CollectingDistributing false s h = absurd (false≢true h)
 
 -- a port that distributes in an aggregator is seen to do so
-pub and_left : (b c : Bool) → (b && c) ≡ true → b ≡ true
-and_left true c h = refl
-and_left false c h = h
-
-pub and_right : (b c : Bool) → (b && c) ≡ true → c ≡ true
-and_right true c h = h
-and_right false c h = absurd (false≢true h)
-
 given_number : (agg : AggId) (c : Choice) → is_given agg c ≡ true → aggregator_of c ≡ Some agg.0
 given_number agg Unselected h = absurd (false≢true h)
 given_number agg (Selected a) h = ap (λ n. Some n) ((Decides-eqb a.0 agg.0).0 h)
@@ -88,8 +80,8 @@ given_number agg (Selected a) h = ap (λ n. Some n) ((Decides-eqb a.0 agg.0).0 h
 seen_there : (agg : AggId) (s : Slot) → (steady_of s.port.mux (selected s.port) (partner_synchronized s.port) ≡ true) → distributes_in agg s ≡ true
     → ((shown_slot s).aggregator ≡ Some agg.0) × ((shown_slot s).distributes ≡ true)
 seen_there agg s h d = (
-  given_number agg s.port.choice (and_left (is_given agg s.port.choice) (is_mux CollectingDistributing s.port.mux) d),
-  rest_distributes s.port.mux (selected s.port) (partner_synchronized s.port) h ∙ and_right (is_given agg s.port.choice) (is_mux CollectingDistributing s.port.mux) d,
+  given_number agg s.port.choice ((and_parts (is_given agg s.port.choice) (is_mux CollectingDistributing s.port.mux) d).0),
+  rest_distributes s.port.mux (selected s.port) (partner_synchronized s.port) h ∙ (and_parts (is_given agg s.port.choice) (is_mux CollectingDistributing s.port.mux) d).1,
 )
 
 flipped : (m n : ℕ) → eqb m n ≡ true → eqb n m ≡ true

@@ -1,24 +1,20 @@
 -- What the own effect of a call does to the view of a port.
-use Rattle.std.proofs.Common.{◌≡◌, ◌==◌, ℕ, Bool, true, false, ◌&&◌, ◌||◌, not, Option, Some, None, List, [], ◌∷◌, sym, refl, ap, ◌∙◌, subst, ◌⊎◌, inl, inr, IsSome}
+use Rattle.std.proofs.Common.{◌≡◌, ℕ, Bool, true, false, ◌&&◌, ◌||◌, not, Option, Some, None, List, [], ◌∷◌, sym, refl, ap, ◌∙◌, subst, ◌⊎◌, inl, inr, IsSome}
 use Rattle.std.specs.Prelude.{if◌then◌else◌}
-use Rattle.std.specs.Str.{bytes_eq}
 use Rattle.std.proofs.lemmas.Bool.{false≢true}
-use Rattle.std.proofs.lemmas.Bool.Decides.{Decides-eqb}
-use Rattle.std.proofs.lemmas.Slice.Eq.{bytes_eq-Decides}
-use Rattle.lagtypes.specs.declared.identifiers.PortId.{PortId}
-use Rattle.lagtypes.specs.declared.identifiers.SystemId.{SystemId}
 use Rattle.lagtypes.specs.declared.party.Party.{Party}
 use Rattle.lagtypes.specs.declared.party.Choice.{Choice}
 use Rattle.lagtypes.specs.declared.party.Choice.TheVariants.{Unselected}
 use Rattle.lagtypes.specs.declared.state.StateBits.{StateBits}
 use Rattle.lagtypes.specs.States.{bits_of, with_synchronization, with_timeout}
+use Rattle.lagtypes.proofs.SameLemmas.{exact_party}
 use Rattle.lagtypes.proofs.StateLemmas.{read_back}
 use Rattle.slowpdu.specs.declared.pdu.Info.{Info}
 use Rattle.slowpdu.specs.declared.pdu.Lacpdu.{Lacpdu}
 use Rattle.slowpdu.specs.Parties.{party_of}
 use Rattle.portmachines.specs.declared.mux.MuxState.TheVariants.{CollectingDistributing}
 use Rattle.portmachines.specs.Machines.{Machines}
-use Rattle.lagtypes.specs.Same.{same_party, same_system, same_port, same_bit}
+use Rattle.lagtypes.specs.Same.{same_party}
 use Rattle.portmachines.specs.Mux.{is_mux, is_synchronized, partner_synchronized}
 use Rattle.portmachines.specs.Receive.{receive_rows, taking_rows, default_partner, start_receive, is_maintained, says_synchronized}
 use Rattle.portmachines.specs.Rows.{Fires, Settles}
@@ -30,49 +26,6 @@ use Rattle.lagsystem.specs.Calls.{ChangesLink, ChangesParty, changed}
 use Rattle.lagsystem.specs.Shown.{aggregator_of, message_of}
 use Rattle.lagsystem.proofs.OfPort.{PortMoves, port_joined}
 use Rattle.lagsystem.proofs.Rows.{quiet, QuietMoves, EachMoves, settles_moves}
-
--- equal by test is equal
-and_left : (b c : Bool) → (b && c) ≡ true → b ≡ true
-and_left true c h = refl
-and_left false c h = h
-
-and_right : (b c : Bool) → (b && c) ≡ true → c ≡ true
-and_right true c h = h
-and_right false c h = cc
-
-exact_number : (m n : ℕ) → (m == n) ≡ true → m ≡ n
-exact_number m n h = (Decides-eqb m n).0 h
-
-exact_system : (s t : SystemId) → same_system s t ≡ true → s ≡ t
-exact_system s t h =
-    λ i. record {
-      priority = exact_number s.priority t.priority (and_left (s.priority == t.priority) (bytes_eq s.mac t.mac) h) i;
-      mac = (bytes_eq-Decides s.mac t.mac).0 (and_right (s.priority == t.priority) (bytes_eq s.mac t.mac) h) i;
-    }
-
-exact_port : (p q : PortId) → same_port p q ≡ true → p ≡ q
-exact_port p q h =
-    λ i. record {
-      priority = exact_number p.priority q.priority (and_left (p.priority == q.priority) (p.number == q.number) h) i;
-      number = exact_number p.number q.number (and_right (p.priority == q.priority) (p.number == q.number) h) i;
-    }
-
-exact_bit : (a b : Bool) → same_bit a b ≡ true → a ≡ b
-exact_bit true true h = refl
-exact_bit true false h = cc
-exact_bit false true h = cc
-exact_bit false false h = refl
-
-pub exact_party : (a b : Party) → same_party a b ≡ true → a ≡ b
-exact_party a b h =
-    let three = and_left _ _ h in
-    let two = and_left _ _ three in
-    λ i. record {
-      system = exact_system a.system b.system (and_left _ _ two) i;
-      key = record { 0 = exact_number a.key.0 b.key.0 (and_right (same_system a.system b.system) _ two) i };
-      port = exact_port a.port b.port (and_right (same_system a.system b.system && (a.key.0 == b.key.0)) _ three) i;
-      aggregatable = exact_bit a.aggregatable b.aggregatable (and_right ((same_system a.system b.system && (a.key.0 == b.key.0)) && same_port a.port b.port) _ h) i;
-    }
 
 -- a stopped port, by the bits of its partner's state
 abbrev stopped : Party → Party → Bool → Bool → Option ℕ → PortView

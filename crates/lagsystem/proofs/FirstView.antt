@@ -2,7 +2,7 @@
 use Rattle.std.proofs.Common.{◌≡◌, ℕ, zero, suc, Bool, true, false, cond, eqb, Option, Some, None, List, [], ◌∷◌, length, refl, sym, ◌∙◌, subst, ap, ◌⊎◌, inl, inr}
 use Rattle.std.specs.Prelude.{◌&&◌, if◌then◌else◌, option_map, slice_get, slice_set}
 use Rattle.std.specs.List.{AllZip, AllByRecursion}
-use Rattle.std.proofs.lemmas.Bool.{true≢false}
+use Rattle.std.proofs.lemmas.Bool.{and_parts, true≢false}
 use Rattle.lagtypes.specs.declared.identifiers.Key.{Key}
 use Rattle.lagtypes.specs.declared.identifiers.SystemId.{SystemId}
 use Rattle.lagtypes.specs.declared.party.Party.{Party}
@@ -43,14 +43,6 @@ use Rattle.lagsystem.proofs.SettlingLemmas.{set_same}
 clash : (b : Bool) → b ≡ true → b ≡ false → ⊥
 clash true h k = cc
 clash false h k = cc
-
-and_left : (b c : Bool) → (b && c) ≡ true → b ≡ true
-and_left true c h = refl
-and_left false c h = h
-
-and_right : (b c : Bool) → (b && c) ≡ true → c ≡ true
-and_right true c h = h
-and_right false c h = cc
 
 -- lists that are alike in numbers and views show the same ports
 pushed : {X : Type 0} (v : X → PortView) (b : Bool) (x : X) (o : Option X) → option_map v (cond b (Some x) o) ≡ cond b (Some (v x)) (option_map v o)
@@ -97,11 +89,11 @@ begins_on party p q h x = elim h [
   | inr h ↦ elim h [
     | inl f ↦ disabled_now party p q f.1 x
     | inr h ↦ elim h [
-      | inl f ↦ absurd (clash p.enabled (and_right (is_receive PortDisabled p.receive) p.enabled f.0) x.down)
+      | inl f ↦ absurd (clash p.enabled ((and_parts (is_receive PortDisabled p.receive) p.enabled f.0).1) x.down)
       | inr h ↦ elim h [
-        | inl f ↦ absurd (clash (is_receive Expired p.receive) (and_left (is_receive Expired p.receive) _ f.0) (elim x.where_ [ inl e ↦ ap (is_receive Expired) e | inr e ↦ ap (is_receive Expired) e.0 ]))
+        | inl f ↦ absurd (clash (is_receive Expired p.receive) ((and_parts (is_receive Expired p.receive) _ f.0).0) (elim x.where_ [ inl e ↦ ap (is_receive Expired) e | inr e ↦ ap (is_receive Expired) e.0 ]))
         | inr h ↦ elim h [
-          | inl f ↦ absurd (clash (is_receive Current p.receive) (and_left (is_receive Current p.receive) _ f.0) (elim x.where_ [ inl e ↦ ap (is_receive Current) e | inr e ↦ ap (is_receive Current) e.0 ]))
+          | inl f ↦ absurd (clash (is_receive Current p.receive) ((and_parts (is_receive Current p.receive) _ f.0).0) (elim x.where_ [ inl e ↦ ap (is_receive Current) e | inr e ↦ ap (is_receive Current) e.0 ]))
           | inr h ↦ absurd h
         ]
       ]

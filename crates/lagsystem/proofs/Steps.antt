@@ -1,7 +1,7 @@
 -- Each call of a system is a list of free moves.
 use Rattle.std.proofs.Common.{◌≡◌, ℕ, ◌<◌, ◌^◌, ◌==◌, Bool, true, false, cond, Option, Some, None, Result, Ok, Err, List, [], ◌∷◌, length, refl, sym, ◌∙◌, subst, ap, inl, inr, IsSome}
 use Rattle.std.specs.Prelude.{◌&&◌, if◌then◌else◌, is_some, ltb, nat_lt, slice_get, slice_set}
-use Rattle.std.proofs.lemmas.Bool.{false≢true, ltb-true}
+use Rattle.std.proofs.lemmas.Bool.{and_parts, false≢true, ltb-true}
 use Rattle.std.proofs.lemmas.Slice.Eq.{bytes_eq-Decides}
 use Rattle.std.specs.Str.{bytes_eq}
 use Rattle.std.proofs.lemmas.Bool.Decides.{Decides-eqb}
@@ -53,7 +53,7 @@ use Rattle.lagsystem.specs.Sending.{SendsAt, SendsLacpdu, SendsMarkerOf, SendsWh
 use Rattle.lagsystem.specs.Calls.{Call, Tick, Set_link, Receive, Configure, Restart, Transmit, Offer, Move_conversation, Force, AllTick, AnswersMarker, ChangesLink, ChangesParty, Does, Frame, Runt, Data_frame, Faulty, Carries, Frees, HearsWhere, IsFrame, LinksPort, Makes, OnPlace, OnPort, Releases, Settled, Takes, handed, is_for, Step}
 use Rattle.lagsystem.specs.Shown.{JoinsViews, Sees, Tells, aggregator_of, awake, configured, message_of, marker_message, number, read_as, shown, steady, takes_in, view_at, view_of, AreRested}
 use Rattle.lagsystem.specs.State.{numbers}
-use Rattle.lagsystem.proofs.Conversing.{and_left, and_right, assigned_may, carrying_moves, leaving_moves, table_moves}
+use Rattle.lagsystem.proofs.Conversing.{assigned_may, carrying_moves, leaving_moves, table_moves}
 use Rattle.lagsystem.proofs.Keeps.{Keeps, keeps_each, keeps_link, keeps_place, keeps_tick, ports_keep, ports_table, settling_parts}
 use Rattle.lagsystem.proofs.FirstView.{first_shows}
 use Rattle.lagsystem.proofs.Lists.{AllZip-weaker}
@@ -285,8 +285,8 @@ nothing old call answer new told t s e = (told, [], t, s, ([], tt, refl, ap view
 -- a response for this system frees what waits for it
 names_us : (s : State) (n : ℕ) (m : Marker) → is_for s n m ≡ true → (m.port ≡ n) × (m.system ≡ s.system.mac)
 names_us s n m h = (
-  (Decides-eqb m.port n).0 (and_left (m.port == n) (bytes_eq m.system s.system.mac) h),
-  (bytes_eq-Decides m.system s.system.mac).0 (and_right (m.port == n) (bytes_eq m.system s.system.mac) h),
+  (Decides-eqb m.port n).0 ((and_parts (m.port == n) (bytes_eq m.system s.system.mac) h).0),
+  (bytes_eq-Decides m.system s.system.mac).0 ((and_parts (m.port == n) (bytes_eq m.system s.system.mac) h).1),
 )
 
 releases : (b : Bool) (n port : ℕ) (octets : List ℕ) (m : Marker) (old : State) (answer : Received) (new : State) → port ≡ n → is_for old port m ≡ b → IsFrame octets (Carries (pdu.Marker m)) → m.kind ≡ kind.Response

@@ -1,3 +1,4 @@
 pub mod WordLemmas
+pub mod SameLemmas
 pub mod StateLemmas
 pub mod GroupLemmas

@@ -8,7 +8,9 @@ use Rattle.lagtypes.specs.declared.identifiers.Key.{Key}
 use Rattle.lagtypes.specs.declared.party.Choice.{Choice}
 use Rattle.lagtypes.specs.declared.party.Choice.TheVariants.{Unselected, Selected}
 use Rattle.lagtypes.specs.Group.{SamePair, individual}
-use Rattle.selection.proofs.Equal.{and_left, and_right, exact_key, group-test, itself, system-itself}
+use Rattle.std.proofs.lemmas.Bool.{and_parts}
+use Rattle.lagtypes.proofs.SameLemmas.{exact_key, itself, system-itself}
+use Rattle.selection.proofs.Equal.{group-test}
 use Rattle.selection.specs.declared.view.PortView.{PortView}
 use Rattle.lagtypes.specs.Same.{same_system}
 use Rattle.lagtypes.specs.Choices.{is_unselected}
@@ -53,7 +55,7 @@ none_is_member agg (w ∷ ws) h = (
 
 -- what all that are kept pass, the first passes if it is kept
 kept_passes : (test : PortView → Bool) (b : Bool) (w : PortView) (rest : List PortView) → list_all test (cond b (w ∷ rest) rest) ≡ true → (b ≡ true → test w ≡ true) × (list_all test rest ≡ true)
-kept_passes test true w rest h = (λ _. and_left (test w) (list_all test rest) h, and_right (test w) (list_all test rest) h)
+kept_passes test true w rest h = (λ _. (and_parts (test w) (list_all test rest) h).0, (and_parts (test w) (list_all test rest) h).1)
 kept_passes test false w rest h = (λ k. absurd cc, h)
 
 members_share : (agg : AggId) (v : PortView) (views : List PortView) → list_all (has_group_of v) (given_to agg views) ≡ true → AllByRecursion (λ w. w.choice ≡ Selected agg → SamePair (ends w) (ends v)) views
@@ -99,13 +101,13 @@ is-unselected (Selected given) h = absurd cc
 
 eligible-apart : (v : PortView) → is_eligible v ≡ true → v.partner.system ≢ v.party.system
 eligible-apart v h e =
-    let differs = and_right (((v.enabled && v.settled) && is_detached v.stage) && is_unselected v.choice) (not (same_system v.partner.system v.party.system)) h in
+    let differs = (and_parts (((v.enabled && v.settled) && is_detached v.stage) && is_unselected v.choice) (not (same_system v.partner.system v.party.system)) h).1 in
     not_both (same_system v.partner.system v.party.system) (subst (λ s. same_system v.partner.system s ≡ true) e (system-itself v.partner.system)) (not-true (same_system v.partner.system v.party.system) differs)
 
 eligible-outside : (v : PortView) → is_eligible v ≡ true → v.choice ≡ Unselected
 eligible-outside v h =
-    let first = and_left (((v.enabled && v.settled) && is_detached v.stage) && is_unselected v.choice) (not (same_system v.partner.system v.party.system)) h in
-    is-unselected v.choice (and_right ((v.enabled && v.settled) && is_detached v.stage) (is_unselected v.choice) first)
+    let first = (and_parts (((v.enabled && v.settled) && is_detached v.stage) && is_unselected v.choice) (not (same_system v.partner.system v.party.system)) h).0 in
+    is-unselected v.choice ((and_parts ((v.enabled && v.settled) && is_detached v.stage) (is_unselected v.choice) first).1)
 
 -- the choice
 
@@ -123,10 +125,10 @@ joins-by keys views v agg test ok found members =
 
 shared-members : (views : List PortView) (v : PortView) (agg : AggId) → is_joinable views v agg ≡ true → IsShared views agg v
 shared-members views v agg h =
-    let some = and_left (not (individual v.party v.partner) && has_member views agg) (list_all (has_group_of v) (given_to agg views)) h in
+    let some = (and_parts (not (individual v.party v.partner) && has_member views agg) (list_all (has_group_of v) (given_to agg views)) h).0 in
     record {
-      aggregatable = not-true (individual v.party v.partner) (and_left (not (individual v.party v.partner)) (has_member views agg) some);
-      one_group = all-from_each _ views (members_share agg v views (and_right (not (individual v.party v.partner) && has_member views agg) (list_all (has_group_of v) (given_to agg views)) h));
+      aggregatable = not-true (individual v.party v.partner) ((and_parts (not (individual v.party v.partner)) (has_member views agg) some).0);
+      one_group = all-from_each _ views (members_share agg v views ((and_parts (not (individual v.party v.partner) && has_member views agg) (list_all (has_group_of v) (given_to agg views)) h).1));
     }
 
 chosen : (keys : List Key) (views : List PortView) (v : PortView) (agg : AggId) → is_eligible v ≡ true → (o : Option AggId) → lowest_from 1 keys v.party.key (is_joinable views v) ≡ o
