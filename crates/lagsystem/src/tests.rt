@@ -166,12 +166,17 @@ fn unheard(key: u16, partner: Info) -> Seen {
     }
 }
 
-/// System 1 with active, short ports of key 1, and so many aggregators of key 1.
-fn config(alloc: Global, numbers: &[u16], keys: usize) -> Result<Config, NoMemory> {
-    let mut aggregators = Vec::with_capacity(alloc, keys)?;
-    for _ in 0..keys {
-        aggregators.push(Key(1))?;
+/// So many aggregators of key 1.
+fn aggregators(alloc: Global, count: usize) -> Result<Vec<Key>, NoMemory> {
+    let mut keys = Vec::with_capacity(alloc, count)?;
+    for _ in 0..count {
+        keys.push(Key(1))?;
     }
+    Ok(keys)
+}
+
+/// Active, short ports of key 1 with these numbers.
+fn ports(alloc: Global, numbers: &[u16]) -> Result<Vec<PortConfig>, NoMemory> {
     let mut ports = Vec::with_capacity(alloc, numbers.len())?;
     for number in numbers {
         ports.push(PortConfig {
@@ -184,12 +189,17 @@ fn config(alloc: Global, numbers: &[u16], keys: usize) -> Result<Config, NoMemor
             short: true,
         })?;
     }
+    Ok(ports)
+}
+
+/// System 1 with such ports, and so many aggregators.
+fn config(alloc: Global, numbers: &[u16], count: usize) -> Result<Config, NoMemory> {
     Ok(Config {
         system: end(1, 1, 1, 0).system,
         max_delay: 0,
         first_marker: 1,
-        aggregators,
-        ports,
+        aggregators: aggregators(alloc, count)?,
+        ports: ports(alloc, numbers)?,
     })
 }
 

@@ -43,7 +43,7 @@ fn configurations_are_refused_in_order(rt: HostRuntime) -> Result<(), Fail> {
 }
 
 #[test]
-fn refusals_have_numbers(rt: HostRuntime) {
+fn reasons_have_numbers(rt: HostRuntime) {
     let reasons = [
         BadConfig::Ports,
         BadConfig::Aggregators,
@@ -52,6 +52,10 @@ fn refusals_have_numbers(rt: HostRuntime) {
     for (number, reason) in (1..).zip(reasons) {
         assert_eq!(rt; reason.number(), number);
     }
+}
+
+#[test]
+fn refusals_have_numbers(rt: HostRuntime) {
     let faults = [
         SystemFault::NoPort,
         SystemFault::NoAggregator,
