@@ -132,6 +132,34 @@ fn chooses_none(rt: HostRuntime) -> Result<(), Fail> {
 }
 
 #[test]
+fn tells_which_port_is_eligible(rt: HostRuntime) {
+    let eligible = view(1, B);
+    let down = PortView {
+        enabled: false,
+        ..eligible
+    };
+    assert!(rt; eligible.is_eligible());
+    assert!(rt; !down.is_eligible());
+}
+
+#[test]
+fn tells_which_port_has_waited(rt: HostRuntime) {
+    let rows = [
+        (Stage::Detached, false),
+        (Stage::Waiting { expired: false }, false),
+        (Stage::Waiting { expired: true }, true),
+        (Stage::Joined, false),
+    ];
+    for (stage, want) in rows {
+        let view = PortView {
+            stage,
+            ..view(1, B)
+        };
+        assert_eq!(rt; view.has_expired(), want);
+    }
+}
+
+#[test]
 fn is_ready_where_all_that_wait_have_waited(rt: HostRuntime) -> Result<(), Fail> {
     let aggregators = aggregators(rt.alloc())?;
     let waited = Stage::Waiting { expired: true };

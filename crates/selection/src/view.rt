@@ -1,4 +1,4 @@
-ghost use Rattle.std.specs.Prelude.{◌≡◌, ◌↔◌, ◌≤◌, IsTrue, find, length};
+ghost use Rattle.std.specs.Prelude.{◌≡◌, ◌↔◌, IsTrue};
 ghost use Rattle.std.specs.List.Sorted.{IsStrictlyIncreasing};
 ghost use Rattle.lagtypes.specs.Group.{group_of, individual};
 ghost use Rattle.lagtypes.specs.Same.{same_group, same_system};
@@ -64,8 +64,10 @@ impl PortView {
         }
     }
 
-    /// Whether the port may take an aggregator now.
-    pub(crate) fn is_eligible(&self) -> bool
+    /// Whether the port may take an aggregator now: its link is enabled, its receive machine is
+    /// CURRENT or DEFAULTED, its mux machine is DETACHED, it is UNSELECTED, and its partner's system
+    /// is not its own (6.4.14, profile).
+    pub fn is_eligible(&self) -> bool
         ensures { result ≡ is_eligible self.now }
     {
         self.enabled
@@ -87,7 +89,8 @@ impl PortView {
         self.stage.waits()
     }
 
-    pub(crate) fn has_expired(&self) -> bool
+    /// Whether the port is in WAITING and wait_while has expired (6.4.14).
+    pub fn has_expired(&self) -> bool
         ensures { result ≡ has_expired self.now.stage }
     {
         self.stage.has_expired()
