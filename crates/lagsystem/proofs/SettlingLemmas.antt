@@ -1,7 +1,7 @@
 -- What settling does, from what its loops do.
-use Rattle.std.proofs.Common.{◌≡◌, ℕ, Bool, true, false, ◌||◌, ◌&&◌, cond, List, [], ◌∷◌, length, Option, Some, None, refl, sym, ◌∙◌, subst, ap, if◌then◌else◌, slice_get, slice_set, ℕ, zero, suc}
+use Rattle.std.proofs.Common.{◌≡◌, ℕ, Bool, true, false, ◌||◌, ◌&&◌, cond, List, [], ◌∷◌, length, Option, Some, None, refl, sym, ◌∙◌, subst, ap, if◌then◌else◌, filter, slice_get, slice_set, ℕ, zero, suc}
 use Rattle.std.proofs.lemmas.Option.{same_Some}
-use Rattle.std.specs.List.{list_any}
+use Rattle.std.specs.List.{list_all, list_any}
 use Rattle.lagtypes.specs.declared.identifiers.AggId.{AggId}
 use Rattle.lagtypes.specs.declared.identifiers.Key.{Key}
 use Rattle.lagtypes.specs.declared.party.Choice.{Choice}
@@ -10,45 +10,59 @@ use Rattle.portmachines.specs.Rows.{Settles}
 use Rattle.portmachines.specs.Mux.{mux_rows}
 use Rattle.portmachines.specs.Periodic.{RunsPeriodic}
 use Rattle.selection.specs.declared.view.PortView.{PortView}
-use Rattle.selection.specs.Views.{is_eligible, is_given, waits}
+use Rattle.selection.specs.Views.{has_expired, is_eligible, is_given, waits}
 use Rattle.selection.specs.Choice.{choice, given_to, is_known}
+use Rattle.selection.specs.Ready.{members}
 use Rattle.lagsystem.specs.declared.slots.Slot.{Slot}
 use Rattle.lagsystem.specs.Views.{view_of, views}
 use Rattle.lagsystem.specs.State.{State, with_slots}
 use Rattle.lagsystem.specs.Settling.{AllMove, Moves, SettlesPorts, choose_slot, chosen, given, ready_of, takes}
 use Rattle.lagsystem.proofs.Lists.{AllZip-weaker}
 
-abbrev one_waiting : List PortView → Bool
-one_waiting seen = list_any (λ v. waits v.stage) seen
+abbrev one_expired : List PortView → Bool
+one_expired seen = list_any (λ v. has_expired v.stage) seen
+
+-- one of them waits, and each that does has waited long enough
+abbrev have_waited : List PortView → Bool
+have_waited seen = list_any (λ v. waits v.stage) seen && list_all (λ v. has_expired v.stage) (filter (λ v. waits v.stage) seen)
 
 pub or_false : (b c : Bool) → (b || c) ≡ false → (b ≡ false) × (c ≡ false)
 or_false true c h = cc
 or_false false c h = (refl, h)
 
-none_filtered : (b : Bool) (v : PortView) (rest : List PortView) → waits v.stage ≡ false → one_waiting rest ≡ false → one_waiting (cond b (v ∷ rest) rest) ≡ false
-none_filtered true v rest h k = ap (λ x. x || one_waiting rest) h ∙ k
+none_filtered : (b : Bool) (v : PortView) (rest : List PortView) → has_expired v.stage ≡ false → one_expired rest ≡ false → one_expired (cond b (v ∷ rest) rest) ≡ false
+none_filtered true v rest h k = ap (λ x. x || one_expired rest) h ∙ k
 none_filtered false v rest h k = k
 
-none_given : (agg : AggId) (slots : List Slot) → list_any (λ s. waits (view_of s).stage) slots ≡ false → one_waiting (given_to agg (views slots)) ≡ false
+none_given : (agg : AggId) (slots : List Slot) → list_any (λ s. has_expired (view_of s).stage) slots ≡ false → one_expired (given_to agg (views slots)) ≡ false
 none_given agg [] h = refl
 none_given agg (s ∷ ss) h =
-    let both = or_false (waits (view_of s).stage) (list_any (λ s. waits (view_of s).stage) ss) h in
+    let both = or_false (has_expired (view_of s).stage) (list_any (λ s. has_expired (view_of s).stage) ss) h in
     none_filtered (is_given agg s.port.choice) (view_of s) (given_to agg (views ss)) both.0 (none_given agg ss both.1)
 
-none_known : (b : Bool) (xs : List PortView) → one_waiting xs ≡ false → one_waiting (if b then xs else []) ≡ false
+none_known : (b : Bool) (xs : List PortView) → one_expired xs ≡ false → one_expired (if b then xs else []) ≡ false
 none_known true xs h = h
 none_known false xs h = refl
 
-and_false : (b c : Bool) → b ≡ false → (b && c) ≡ false
-and_false true c h = cc
-and_false false c h = refl
+first_has_not : (b : Bool) (v : PortView) (rest : List PortView) → has_expired v.stage ≡ false → have_waited rest ≡ false
+    → ((b || list_any (λ w. waits w.stage) rest)
+    && list_all (λ w. has_expired w.stage) (cond b (v ∷ filter (λ w. waits w.stage) rest) (filter (λ w. waits w.stage) rest))) ≡ false
+first_has_not true v rest h k = ap (λ x. x && list_all (λ w. has_expired w.stage) (filter (λ w. waits w.stage) rest)) h
+first_has_not false v rest h k = k
 
--- where no port waits, no aggregator is Ready
-pub no_ready : (keys : List Key) (slots : List Slot) → list_any (λ s. waits (view_of s).stage) slots ≡ false → (c : Choice) → ready_of keys (views slots) c ≡ false
+none_has_waited : (seen : List PortView) → one_expired seen ≡ false → have_waited seen ≡ false
+none_has_waited [] h = refl
+none_has_waited (v ∷ vs) h =
+    let both = or_false (has_expired v.stage) (one_expired vs) h in
+    first_has_not (waits v.stage) v vs both.0 (none_has_waited vs both.1)
+
+-- where no port has waited long enough, no aggregator is Ready
+pub no_ready : (keys : List Key) (slots : List Slot) → list_any (λ s. has_expired (view_of s).stage) slots ≡ false → (c : Choice) → ready_of keys (views slots) c ≡ false
 no_ready keys slots h Unselected = refl
-no_ready keys slots h (Selected agg) = and_false _ _ (none_known (is_known keys agg) (given_to agg (views slots)) (none_given agg slots h))
+no_ready keys slots h (Selected agg) =
+    none_has_waited (members keys (views slots) agg) (none_known (is_known keys agg) (given_to agg (views slots)) (none_given agg slots h))
 
-pub runs_unready : (keys : List Key) (olds news : List Slot) → list_any (λ s. waits (view_of s).stage) olds ≡ false → AllMove (Settles (mux_rows false)) olds news
+pub runs_unready : (keys : List Key) (olds news : List Slot) → list_any (λ s. has_expired (view_of s).stage) olds ≡ false → AllMove (Settles (mux_rows false)) olds news
     → AllMove (λ p q. Settles (mux_rows (ready_of keys (views olds) p.choice)) p q) olds news
 runs_unready keys olds news none h =
     AllZip-weaker (Moves (Settles (mux_rows false))) (Moves (λ p q. Settles (mux_rows (ready_of keys (views olds) p.choice)) p q))

@@ -3,14 +3,13 @@ ghost use Rattle.std.specs.List.{list_any};
 ghost use Rattle.portmachines.specs.Rows.{Settles};
 ghost use Rattle.portmachines.specs.Mux.{mux_rows};
 ghost use Rattle.portmachines.specs.Periodic.{RunsPeriodic};
-ghost use Rattle.selection.specs.Views.{is_eligible, waits};
+ghost use Rattle.selection.specs.Views.{has_expired, is_eligible};
 ghost use Rattle.lagsystem.specs.Views.{view_of, views};
 ghost use Rattle.lagsystem.specs.Settling.{AllMove, Moves, SettlesPorts, choose_slot, chosen, ready_of};
 ghost use Rattle.lagsystem.specs.State.{State, with_slots};
 
-use crate::slots::{Slot, is_eligible, views};
+use crate::slots::{Slot, has_expired, is_eligible, views};
 use lagtypes::Choice;
-use portmachines::MuxState;
 use selection::{Aggregators, PortView};
 
 fn settle_mux(slot: &mut Slot, ready: bool)
@@ -45,13 +44,10 @@ fn choose_at(aggregators: &Aggregators, slots: &mut [Slot], seen: &mut [PortView
         return;
     }
     let slot = &mut slots[place];
-    match aggregators.choose(seen, slot.number) {
-        Some(agg) => {
-            let choice = Choice::Selected(agg);
-            slot.port.select(choice);
-            seen[place].choice = choice;
-        }
-        None => {}
+    if let Some(agg) = aggregators.choose(seen, slot.number) {
+        let choice = Choice::Selected(agg);
+        slot.port.select(choice);
+        seen[place].choice = choice;
     }
 }
 
@@ -75,20 +71,11 @@ fn choose_all(aggregators: &Aggregators, slots: &mut [Slot])
     }
 }
 
-fn waits(slot: &Slot) -> bool
-    ensures { result ≡ waits (view_of slot.now).stage }
+/// Whether a port has waited for Ready as long as it must.
+fn one_has_waited(slots: &[Slot]) -> bool
+    ensures { result ≡ list_any (λ s. has_expired (view_of s).stage) slots.now }
 {
-    matches!(
-        slot.port.mux_state(),
-        MuxState::Detached | MuxState::Waiting
-    )
-}
-
-/// Whether a port waits for Ready.
-fn one_waits(slots: &[Slot]) -> bool
-    ensures { result ≡ list_any (λ s. waits (view_of s).stage) slots.now }
-{
-    slots.iter().any(|slot| waits(slot))
+    slots.iter().any(|slot| has_expired(slot))
 }
 
 /// Steps 3 and 4: mux rows, with Ready as it was before them.
@@ -96,11 +83,11 @@ fn run_mux(aggregators: &Aggregators, slots: &mut [Slot])
     requires { length slots.old ≤ 64 }
     ensures { AllMove (λ p q. Settles (mux_rows (ready_of aggregators.now (views slots.old) p.choice)) p q) slots.old slots.new }
 {
-    if one_waits(slots) {
+    if one_has_waited(slots) {
         let seen = views(slots);
         run_mux_seeing(aggregators, slots, seen.as_slice());
     } else {
-        // No aggregator is Ready where no port waits.
+        // An aggregator is Ready only where a member has waited long enough.
         run_free_mux(slots);
     }
 }
@@ -144,9 +131,10 @@ fn run_periodic(slots: &mut [Slot])
     }
 }
 
-/// The steps of one settling (profile) that look at ports alone. It looks at each port a bounded number of times; where a
-/// port may take an aggregator, and where one waits for Ready, it lists once what is seen of the ports, and selection
-/// searches that list.
+/// The steps of one settling (profile) that look at ports alone. It looks at each port a bounded number of times, unless a
+/// port is eligible or is in WAITING with wait_while expired: then what is seen of the ports is listed, once for the choice
+/// and once for Ready, and selection searches that list for each eligible port, or for the aggregator of each SELECTED one.
+/// For an eligible port that finds no aggregator the list is searched again in each settling.
 pub(crate) fn settle(aggregators: &Aggregators, slots: &mut [Slot])
     requires { length slots.old ≤ 64 }
     ensures { (base : State) → base.keys ≡ aggregators.now → base.slots ≡ slots.old → SettlesPorts base (with_slots base slots.new) }

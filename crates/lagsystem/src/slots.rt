@@ -2,12 +2,11 @@ ghost use Rattle.std.specs.Prelude.{◌≡◌, ◌<◌, ◌≤◌, IfSome, lengt
 ghost use Rattle.lagsystem.specs.Views.{stage_of, view_of, views};
 ghost use Rattle.lagsystem.specs.State.{place_of};
 ghost use Rattle.lagsystem.specs.First.{IsNew, setup_of};
-ghost use Rattle.lagtypes.specs.Choices.{is_unselected};
-ghost use Rattle.selection.specs.Views.{is_detached, is_eligible};
+ghost use Rattle.selection.specs.Views.{has_expired, is_eligible};
 
 use crate::config::PortConfig;
 use arrayvec::ArrayVec;
-use lagtypes::{Choice, Party, PortId, SystemId};
+use lagtypes::{Party, PortId, SystemId};
 use portmachines::{MuxState, Port, ReceiveState, Setup};
 use selection::{PortView, Stage};
 
@@ -77,12 +76,14 @@ pub(crate) fn views(slots: &[Slot]) -> ArrayVec<PortView, 64>
 pub(crate) fn is_eligible(slot: &Slot) -> bool
     ensures { result ≡ is_eligible (view_of slot.now) }
 {
-    let view = view_of(slot);
-    view.enabled
-        && view.settled
-        && matches!(view.stage, Stage::Detached)
-        && matches!(view.choice, Choice::Unselected)
-        && !(view.partner.system == view.party.system)
+    view_of(slot).is_eligible()
+}
+
+/// Whether a port is in WAITING and wait_while has expired.
+pub(crate) fn has_expired(slot: &Slot) -> bool
+    ensures { result ≡ has_expired (view_of slot.now).stage }
+{
+    view_of(slot).has_expired()
 }
 
 /// What the machines of a port are made from.

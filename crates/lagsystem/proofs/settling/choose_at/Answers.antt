@@ -36,8 +36,8 @@ returns-in-Some-clause-seen c =
     seen_taken c.args.seen.now slots i _ c.index-slots-place-2.result c.in-Some.agg c.requires.seen c.requires.within
     ∙ ap (λ (p : Machines). views (slice_set slots i (record t { port = p }))) (sym c.select.ensures)
 
-pub returns-in-None-clause-chosen : goal.returns-in-None-clause-chosen
-returns-in-None-clause-chosen c =
+pub returns-in_default-clause-chosen : goal.returns-in_default-clause-chosen
+returns-in_default-clause-chosen c =
     let slots = c.args.slots.now in
     let i = c.args.place in
     let d = c.index-slots-place.result in
@@ -45,4 +45,4 @@ returns-in-None-clause-chosen c =
     one_taken c.args.aggregators.now slots i (get_or slots i d) t None
     (slice_get-get_or slots i d c.requires.within) (slice_get-get_or slots i c.index-slots-place-2.result c.requires.within)
     (sym c.is_eligible.ensures ∙ c.if-not-is_eligible.false)
-    (sym c.in-None.is ∙ c.choose.ensures.exact ∙ ap (λ (l : List PortView). choice c.args.aggregators.now l t.number) c.requires.seen)
+    (sym c.in_default.is ∙ c.choose.ensures.exact ∙ ap (λ (l : List PortView). choice c.args.aggregators.now l t.number) c.requires.seen)
