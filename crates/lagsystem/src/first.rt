@@ -62,10 +62,7 @@ pub(crate) fn refusal(keys: &[Key], ports: &[PortConfig]) -> Option<BadConfig>
     if keys.is_empty() || keys.len() > 64 {
         return Some(BadConfig::Aggregators);
     }
-    match misplaced(ports) {
-        Some(place) => Some(BadConfig::PortNumber(place)),
-        None => None,
-    }
+    misplaced(ports).map(BadConfig::PortNumber)
 }
 
 /// How many aggregators an accepted configuration has.

@@ -1,4 +1,4 @@
-ghost use Rattle.std.specs.Prelude.{◌≡◌, ◌≤◌, ◌<◌, length, IfErr, IfOk, IsTrue};
+ghost use Rattle.std.specs.Prelude.{◌≡◌, ◌≤◌, ◌<◌, length, IfErr, IfOk};
 ghost use Rattle.lagsystem.specs.Offers.{MayBeSent, RefusesFrame};
 ghost use Rattle.lagsystem.specs.Readers.{conversation_of};
 

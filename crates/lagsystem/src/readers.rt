@@ -1,7 +1,5 @@
-ghost use Rattle.std.specs.Prelude.{◌≡◌, ◌≤◌, None, Some, MatchOption, filter, length, map, option_map};
-ghost use Rattle.lagtypes.specs.Group.{group_of};
+ghost use Rattle.std.specs.Prelude.{◌≡◌, ◌≤◌, None, Some, MatchOption, length, option_map};
 ghost use Rattle.portmachines.specs.Mux.{is_mux};
-ghost use Rattle.slowpdu.specs.Parties.{party_of};
 ghost use Rattle.lagsystem.specs.State.{place_of, port_of, slot_at};
 ghost use Rattle.lagsystem.specs.Readers.{conversation_in, distributes_in, distributing, group_at};
 
