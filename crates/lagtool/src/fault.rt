@@ -1,12 +1,13 @@
 ghost use Rattle.std.specs.Prelude.{◌≡◌, Some};
-ghost use Rattle.lagtool.specs.declared.fault.ToolFault.TheVariants.{NoMemory};
+ghost use Rattle.lagtool.specs.declared.fault.ToolFault.TheVariants.{NoMemory, Write};
 ghost use Rattle.lagtool.specs.Texts.{tool_fault_text};
 
+use crate::sink::WriteFailed;
 use std::alloc::AllocError;
 use std::error::Error;
 use std::fmt;
 
-/// Why the program could not do what a line asks (profile). The numbers 1 and 4 are kept for files and scripts.
+/// Why the program could not do what a line asks; each has a number, 2, 3, 5 or 6 (profile).
 #[derive(Clone, Copy, Debug, PartialEq, Eq)]
 pub enum ToolFault {
     /// Standard output failed, or took none of some octets.
@@ -39,5 +40,13 @@ impl From<AllocError> for ToolFault {
 
     fn from(_e: AllocError) -> ToolFault {
         ToolFault::NoMemory
+    }
+}
+
+impl From<WriteFailed> for ToolFault {
+    ghost from_gives = { λ _ e. e ≡ Write };
+
+    fn from(_e: WriteFailed) -> ToolFault {
+        ToolFault::Write
     }
 }

@@ -6,6 +6,7 @@
 
 mod fault;
 mod reply;
+mod report;
 mod show;
 mod sink;
 #[cfg(test)]

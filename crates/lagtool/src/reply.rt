@@ -5,6 +5,7 @@ ghost use Rattle.lagtool.specs.declared.fault.ToolFault.TheVariants.{NotMac};
 ghost use Rattle.slowpdu.specs.Markers.{response_to};
 
 use crate::fault::ToolFault;
+use crate::report::Report;
 use crate::show::octets_of;
 use crate::sink::Sink;
 use crate::texts::WireFaultText;
@@ -24,38 +25,52 @@ fn mac_of(text: &str) -> Result<[u8; 6], ToolFault>
     }
 }
 
-/// The line for a marker, and whether it is answered.
-fn answer(alloc: Global, mac: [u8; 6], marker: &Marker) -> Result<(String, bool), AllocError>
-    ensures { IfOk result (λ r. IsAnswer mac (string_bytes r.0) r.1 (response_to marker.now)) }
+/// The report of a frame that is not answered, with the line that says why.
+fn declined(text: String) -> Report
+    ensures { result ≡ record { text = text; accepted = false } }
+{
+    Report {
+        text,
+        accepted: false,
+    }
+}
+
+/// What is printed for a marker.
+fn answer(alloc: Global, mac: [u8; 6], marker: &Marker) -> Result<Report, AllocError>
+    ensures { IfOk result (λ r. IsAnswer mac (string_bytes r.text) r.accepted (response_to marker.now)) }
 {
     match respond(marker) {
         Some(response) => {
             let octets = frame(mac, &response.encode());
             let digits = hex::encode(alloc, octets.as_slice())?;
-            Ok((format!(in alloc; "{digits}\n")?, true))
+            let text = format!(in alloc; "{digits}\n")?;
+            Ok(Report {
+                text,
+                accepted: true,
+            })
         }
-        None => Ok((format!(in alloc; "no answer marker-response\n")?, false)),
+        None => Ok(declined(format!(in alloc; "no answer marker-response\n")?)),
     }
 }
 
-/// The line for the payload of a control frame, and whether it is answered.
-fn answer_payload(alloc: Global, mac: [u8; 6], payload: &[u8]) -> Result<(String, bool), AllocError>
-    ensures { IfOk result (λ r. RepliesTo mac payload.now (string_bytes r.0) r.1) }
+/// What is printed for the payload of a control frame.
+fn answer_payload(alloc: Global, mac: [u8; 6], payload: &[u8]) -> Result<Report, AllocError>
+    ensures { IfOk result (λ r. RepliesTo mac payload.now (string_bytes r.text) r.accepted) }
 {
     match decode(payload) {
         Ok(Pdu::Marker(marker)) => answer(alloc, mac, &marker),
-        Ok(Pdu::Lacpdu(_)) => Ok((format!(in alloc; "no answer lacpdu\n")?, false)),
-        Err(fault) => Ok((format!(in alloc; "{}", WireFaultText(fault))?, false)),
+        Ok(Pdu::Lacpdu(_)) => Ok(declined(format!(in alloc; "no answer lacpdu\n")?)),
+        Err(fault) => Ok(declined(format!(in alloc; "{}", WireFaultText(fault))?)),
     }
 }
 
-/// The line for a frame, and whether it is answered.
-fn answer_frame(alloc: Global, mac: [u8; 6], octets: &[u8]) -> Result<(String, bool), AllocError>
-    ensures { IfOk result (λ r. IsReply mac octets.now (string_bytes r.0) r.1) }
+/// What is printed for a frame.
+fn answer_frame(alloc: Global, mac: [u8; 6], octets: &[u8]) -> Result<Report, AllocError>
+    ensures { IfOk result (λ r. IsReply mac octets.now (string_bytes r.text) r.accepted) }
 {
     match classify(octets) {
-        Kind::TooShort => Ok((format!(in alloc; "no answer runt\n")?, false)),
-        Kind::Data => Ok((format!(in alloc; "no answer data\n")?, false)),
+        Kind::TooShort => Ok(declined(format!(in alloc; "no answer runt\n")?)),
+        Kind::Data => Ok(declined(format!(in alloc; "no answer data\n")?)),
         Kind::Control(payload) => answer_payload(alloc, mac, payload),
     }
 }
@@ -78,9 +93,7 @@ pub fn reply<W: Write>(
 {
     let source = mac_of(mac)?;
     let octets = octets_of(alloc, hex)?;
-    let (text, answered) = answer_frame(alloc, source, octets.as_slice())?;
-    match sink.put(text.as_str().as_bytes()) {
-        Ok(()) => Ok(answered),
-        Err(_) => Err(ToolFault::Write),
-    }
+    let report = answer_frame(alloc, source, octets.as_slice())?;
+    sink.put(report.text.as_str().as_bytes())?;
+    Ok(report.accepted)
 }

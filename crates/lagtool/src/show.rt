@@ -4,6 +4,7 @@ ghost use Rattle.lagtool.specs.Engines.{HasNoOctets, Shows};
 ghost use Rattle.lagtool.specs.Reports.{IsReport};
 
 use crate::fault::ToolFault;
+use crate::report::Report;
 use crate::sink::Sink;
 use crate::texts::{PduText, WireFaultText};
 use hex::FromHexError;
@@ -23,13 +24,19 @@ pub fn octets_of(alloc: Global, text: &str) -> Result<Vec<u8>, ToolFault>
     }
 }
 
-/// The text for a payload, and whether it was accepted.
-fn report(alloc: Global, payload: &[u8]) -> Result<(String, bool), AllocError>
-    ensures { IfOk result (λ r. IsReport payload.now (string_bytes r.0) r.1) }
+/// What is printed for a payload.
+fn report_on(alloc: Global, payload: &[u8]) -> Result<Report, AllocError>
+    ensures { IfOk result (λ r. IsReport payload.now (string_bytes r.text) r.accepted) }
 {
     match decode(payload) {
-        Ok(pdu) => Ok((format!(in alloc; "{}", PduText(&pdu))?, true)),
-        Err(fault) => Ok((format!(in alloc; "{}", WireFaultText(fault))?, false)),
+        Ok(pdu) => Ok(Report {
+            text: format!(in alloc; "{}", PduText(&pdu))?,
+            accepted: true,
+        }),
+        Err(fault) => Ok(Report {
+            text: format!(in alloc; "{}", WireFaultText(fault))?,
+            accepted: false,
+        }),
     }
 }
 
@@ -43,9 +50,7 @@ pub fn show<W: Write>(alloc: Global, hex: &str, sink: &mut Sink<W>) -> Result<bo
     ensures { Shows W.contents hex.now sink.old sink.new result }
 {
     let octets = octets_of(alloc, hex)?;
-    let (text, accepted) = report(alloc, octets.as_slice())?;
-    match sink.put(text.as_str().as_bytes()) {
-        Ok(()) => Ok(accepted),
-        Err(_) => Err(ToolFault::Write),
-    }
+    let report = report_on(alloc, octets.as_slice())?;
+    sink.put(report.text.as_str().as_bytes())?;
+    Ok(report.accepted)
 }

@@ -21,18 +21,13 @@ partner 0/00-00-00-00-00-00 key 0 port 0/0 state 02 short
 max-delay 0
 ";
 
-const ACTOR: &str = "010101148000020000000001000100800001c7000000";
+/// The first 44 octets of an LACPDU, of which the other 66 are zeros.
+const HEAD: &str =
+    "010101148000020000000001000100800001c700000002140000000000000000000000000000020000000310";
 
 const MARKER: &str = "020101100001020000000001ffffffffbeef";
 
-const LACPDU: Pieces = &[
-    (ACTOR, 1),
-    ("0214", 1),
-    ("00", 14),
-    ("02000000", 1),
-    ("0310", 1),
-    ("00", 66),
-];
+const LACPDU: Pieces = &[(HEAD, 1), ("00", 66)];
 
 const PAYLOADS: [Row; 11] = [
     (LACPDU, true, ACTIVE_SHORT),
@@ -51,36 +46,17 @@ const PAYLOADS: [Row; 11] = [
     ),
     // One octet too few.
     (
-        &[
-            (ACTOR, 1),
-            ("0214", 1),
-            ("00", 14),
-            ("02000000", 1),
-            ("0310", 1),
-            ("00", 65),
-        ],
+        &[(HEAD, 1), ("00", 65)],
         false,
         "refused 1 short have 109\n",
     ),
     // Octets behind the payload.
-    (
-        &[
-            (ACTOR, 1),
-            ("0214", 1),
-            ("00", 14),
-            ("02000000", 1),
-            ("0310", 1),
-            ("00", 66),
-            ("aa", 40),
-        ],
-        true,
-        ACTIVE_SHORT,
-    ),
+    (&[(HEAD, 1), ("00", 66), ("aa", 40)], true, ACTIVE_SHORT),
     (&[], false, "refused 1 short have 0\n"),
     // Two wrong lengths: the lower offset is named.
     (
         &[
-            (ACTOR, 1),
+            ("010101148000020000000001000100800001c7000000", 1),
             ("0213", 1),
             ("00", 14),
             ("02000000", 1),
@@ -136,11 +112,7 @@ const FRAMES: [(Pieces, &str); 7] = [
             (TO_ALL, 1),
             ("020000000001", 1),
             (SLOW, 1),
-            (ACTOR, 1),
-            ("0214", 1),
-            ("00", 14),
-            ("02000000", 1),
-            ("0310", 1),
+            (HEAD, 1),
             ("00", 66),
         ],
         "no answer lacpdu\n",
@@ -334,4 +306,18 @@ fn an_answer_into_a_sink_that_fails(rt: HostRuntime) {
         assert!(rt; answer == expected, "at {room}");
         assert_eq!(rt; sink.into_inner().taken.as_slice(), &text[..room]);
     }
+}
+
+#[test]
+fn faults_have_numbers_and_texts(rt: HostRuntime) -> Result<(), Fail> {
+    for (fault, number, text) in [
+        (ToolFault::Write, 2, "cannot write"),
+        (ToolFault::NoMemory, 3, "out of memory"),
+        (ToolFault::NotHex, 5, "not hex"),
+        (ToolFault::NotMac, 6, "not a mac"),
+    ] {
+        assert_eq!(rt; fault as u8, number);
+        assert_eq!(rt; format!(in rt.alloc(); "{fault}")?.as_str(), text);
+    }
+    Ok(())
 }
