@@ -1,9 +1,9 @@
 -- Laws of tables of places, over any table.
-use Rattle.std.proofs.Common.{◌≡◌, ◌≤◌, ◌<◌, ◌+◌, ◌-◌, ◌*◌, ◌/◌, ◌^◌, ◌++◌, ℕ, zero, suc, Bool, true, false, cond, List, [], ◌∷◌, length, drop, take, map, filter, ◌⊎◌, slice_index, refl, sym, ap, ◌∙◌, add-zero, arith, inl, inr}
-use Rattle.std.specs.Prelude.{◌&&◌, ◌||◌, nat_le, nat_lt}
+use Rattle.std.proofs.Common.{◌≡◌, ◌≤◌, ◌<◌, ◌+◌, ◌-◌, ◌*◌, ◌/◌, ◌^◌, ◌++◌, ℕ, zero, suc, Bool, true, false, cond, List, [], ◌∷◌, length, drop, take, map, filter, slice_index, refl, sym, ap, ◌∙◌, add-zero, arith, inl, inr}
+use Rattle.std.specs.Prelude.{nat_le, nat_lt}
 use Rattle.std.specs.List.{AllByRecursion, list_all}
 use Rattle.std.proofs.lemmas.List.{drop-append-le, length-append, length-drop, get_or-drop, get_or-take, get_or_past, length-take, ext_get_or}
-use Rattle.std.proofs.lemmas.Bool.{cases_Bool, cases_lt}
+use Rattle.std.proofs.lemmas.Bool.{and_parts, cases_Bool, cases_lt, or_cases}
 use Rattle.std.proofs.lemmas.Nat.{div-mul-add}
 use Rattle.byteorder.specs.Endian.{big_from, big_number}
 use Rattle.byteorder.specs.Numbers.{big_from-cons, big_from-lt, big_from-append, big_from-take}
@@ -23,16 +23,12 @@ fits p = nat_le (p.offset + p.width) 110
 le_of_test : (m n : ℕ) → nat_le m n ≡ true → m ≤ n
 le_of_test m n h = grind arith
 
-both : (a b : Bool) → (a && b) ≡ true → (a ≡ true) × (b ≡ true)
-both true b h = (refl, h)
-both false b h = absurd cc
-
 -- what stands in a payload stands in it with what follows, and the other way round
 pub all_stand-append : (b rest : List ℕ) (places : List Place) → payload_len ≤ length b → list_all fits places ≡ true
     → AllByRecursion (StandsIn b) places → AllByRecursion (StandsIn (b ++ rest)) places
 all_stand-append b rest [] long fit h = tt
 all_stand-append b rest (p ∷ places) long fit h =
-    let parts = both (fits p) (list_all fits places) fit in
+    let parts = and_parts (fits p) (list_all fits places) fit in
     let within : p.offset + p.width ≤ 110 = le_of_test (p.offset + p.width) 110 parts.0 in
     (stands-append b rest p (omega arith) ∙ h.0, all_stand-append b rest places long parts.1 h.1)
 
@@ -40,7 +36,7 @@ all_stood : (b rest : List ℕ) (places : List Place) → payload_len ≤ length
     → AllByRecursion (StandsIn (b ++ rest)) places → AllByRecursion (StandsIn b) places
 all_stood b rest [] long fit h = tt
 all_stood b rest (p ∷ places) long fit h =
-    let parts = both (fits p) (list_all fits places) fit in
+    let parts = and_parts (fits p) (list_all fits places) fit in
     let within : p.offset + p.width ≤ 110 = le_of_test (p.offset + p.width) 110 parts.0 in
     (sym (stands-append b rest p (omega arith)) ∙ h.0, all_stood b rest places long parts.1 h.1)
 
@@ -170,12 +166,8 @@ in_cut b p i low high =
 
 within_of_test : (i : ℕ) (p : Place) → is_within i p ≡ true → (p.offset ≤ i) × (i < p.offset + p.width)
 within_of_test i p h =
-    let parts = both (nat_le p.offset i) (nat_lt i (p.offset + p.width)) h in
+    let parts = and_parts (nat_le p.offset i) (nat_lt i (p.offset + p.width)) h in
     (le_of_test p.offset i parts.0, grind (arith, parts.1))
-
-either : (a b : Bool) → (a || b) ≡ true → (a ≡ true) ⊎ (b ≡ true)
-either true b h = inl refl
-either false b h = inr h
 
 -- a covered octet is the same in both
 covered_same : (b c : List ℕ) (places : List Place) (i : ℕ) → length b ≡ payload_len → length c ≡ payload_len → AreOctets b → AreOctets c
@@ -183,8 +175,8 @@ covered_same : (b c : List ℕ) (places : List Place) (i : ℕ) → length b ≡
     → is_covered places i ≡ true → slice_index b i ≡ slice_index c i
 covered_same b c [] i lb lc ob oc fit hb hc h = absurd cc
 covered_same b c (p ∷ places) i lb lc ob oc fit hb hc h =
-    let fit_parts = both (fits p) (list_all fits places) fit in
-    elim (either (is_within i p) (is_covered places i) h) [
+    let fit_parts = and_parts (fits p) (list_all fits places) fit in
+    elim (or_cases (is_within i p) (is_covered places i) h) [
       | inl here ↦
           let bounds = within_of_test i p here in
           in_cut b p i bounds.0 bounds.1

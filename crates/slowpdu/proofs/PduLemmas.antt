@@ -57,9 +57,6 @@ written_before b rest v h = reads_pdu-append b rest v (omega (arith, written_len
 abbrev pub ok : Pdu → Result Pdu WireFault
 ok v = Ok v
 
-abbrev err : WireFault → Result Pdu WireFault
-err e = Err e
-
 -- what is read is not refused
 read_not_refused : {X : Type 0} (b : List ℕ) (v : Pdu) (e : WireFault) → ReadsPdu b v → fault_of b ≡ Some e → X
 read_not_refused b v e hv he = let no = no_fault b v hv in absurd cc
@@ -68,11 +65,6 @@ read_not_refused b v e hv he = let no = no_fault b v hv in absurd cc
 pub decoded_only : (b : List ℕ) (r : Result Pdu WireFault) → IsDecoded b r → (v : Pdu) → ReadsPdu b v → r ≡ ok v
 decoded_only b (Ok w) h v hv = ap ok (sym (one_pdu b w v h hv))
 decoded_only b (Err e) h v hv = read_not_refused b v e hv h
-
--- and to its fault alone
-pub refused_only : (b : List ℕ) (r : Result Pdu WireFault) → IsDecoded b r → (e : WireFault) → fault_of b ≡ Some e → r ≡ err e
-refused_only b (Ok v) h e he = read_not_refused b v e h he
-refused_only b (Err f) h e he = cc
 
 -- the first 110 octets and what follows them
 cut_here : (b : List ℕ) → take payload_len b ++ drop payload_len b ≡ b

@@ -1,6 +1,7 @@
 -- Octets put into a payload, one after the other.
 use Rattle.std.proofs.Common.{◌≡◌, ◌≤◌, ◌<◌, ◌+◌, ℕ, zero, suc, Bool, true, false, List, [], ◌∷◌, ◌++◌, length, take, drop, slice_index, refl, sym, ap, subst, ◌∙◌, append_assoc, append-nil, add-zero, zero-add, arith}
 use Rattle.std.specs.Prelude.{◌&&◌, ◌||◌, ◌==◌}
+use Rattle.std.proofs.lemmas.Bool.{and_parts}
 use Rattle.std.proofs.lemmas.List.{take_at, drop_at, drop-drop, drop_all, length-append, length-take}
 use Rattle.slowpdu.specs.Layout.{Place, is_covered, payload_len}
 use Rattle.slowpdu.specs.Frames.{IsSlow, frame_octets}
@@ -27,10 +28,6 @@ abbrev pub others_are_zero : List Place → ℕ → List ℕ → Bool
 others_are_zero places k [] = true
 others_are_zero places k (x ∷ xs) = (is_covered places k || x == 0) && others_are_zero places (suc k) xs
 
-both : (a b : Bool) → (a && b) ≡ true → (a ≡ true) × (b ≡ true)
-both true b h = (refl, h)
-both false b h = absurd cc
-
 second : (a b : Bool) → (a || b) ≡ true → a ≡ false → b ≡ true
 second true b h e = absurd cc
 second false b h e = h
@@ -39,12 +36,12 @@ pub other_is_zero : (places : List Place) (k : ℕ) (b : List ℕ) → others_ar
     → (i : ℕ) → is_covered places (k + i) ≡ false → slice_index b i ≡ 0
 other_is_zero places k [] h i e = refl
 other_is_zero places k (x ∷ xs) h zero e =
-    let parts = both (is_covered places k || x == 0) (others_are_zero places (suc k) xs) h in
+    let parts = and_parts (is_covered places k || x == 0) (others_are_zero places (suc k) xs) h in
     let here : is_covered places k ≡ false = sym (ap (is_covered places) (add-zero k)) ∙ e in
     let zero_here : (x == 0) ≡ true = second (is_covered places k) (x == 0) parts.0 here in
     grind (arith, zero_here)
 other_is_zero places k (x ∷ xs) h (suc i) e =
-    let parts = both (is_covered places k || x == 0) (others_are_zero places (suc k) xs) h in
+    let parts = and_parts (is_covered places k || x == 0) (others_are_zero places (suc k) xs) h in
     let moved : suc k + i ≡ k + suc i = omega arith in
     other_is_zero places (suc k) xs parts.1 i (ap (is_covered places) moved ∙ e)
 

@@ -1,4 +1,4 @@
--- The readings and the writings of both kinds of PDU.
+-- The readings and the writings of both kinds of PDU (6.4.2.3, 6.5.3.3; profile: what is refused).
 use Rattle.std.specs.Prelude.{◌≡◌, ℕ, List, Some, Result, Ok, Err}
 use Rattle.slowpdu.specs.declared.fault.WireFault.{WireFault}
 use Rattle.slowpdu.specs.Faults.{fault_of}

@@ -1,4 +1,4 @@
--- Octets put into a payload.
+-- Octets put into a payload (6.4.2.3).
 use Rattle.std.specs.Prelude.{ℕ, ◌+◌, ◌^◌, ◌<◌, List, [], ◌∷◌, ◌++◌, length, take, drop}
 use Rattle.byteorder.specs.Endian.{big_bytes}
 use Rattle.lagtypes.specs.Octet.{octet}

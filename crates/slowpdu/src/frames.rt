@@ -2,6 +2,7 @@ ghost use Rattle.std.specs.Prelude.{◌≡◌, ◌<◌, ◌≤◌, length, drop}
 ghost use Rattle.slowpdu.specs.declared.frames.Kind.TheVariants.{Data, TooShort};
 ghost use Rattle.slowpdu.specs.Frames.{frame_octets, IsControl, IsKind, IsSlow};
 
+use crate::numbers::{FRAME_LEN, HEADER_LEN, SLOW_TYPE};
 use crate::writing::put;
 
 /// What a received frame is (profile).
@@ -21,11 +22,11 @@ pub enum Kind<'a> {
 pub fn frame(src: [u8; 6], payload: &[u8; 110]) -> [u8; 124]
     ensures { result ≡ frame_octets src payload.now }
 {
-    let mut octets = [0; 124];
+    let mut octets = [0; FRAME_LEN];
     put(&mut octets, 0, &[0x01, 0x80, 0xc2, 0x00, 0x00, 0x02]);
     put(&mut octets, 6, &src);
-    put(&mut octets, 12, &[0x88, 0x09]);
-    put(&mut octets, 14, payload);
+    put(&mut octets, 12, &SLOW_TYPE);
+    put(&mut octets, HEADER_LEN, payload);
     octets
 }
 
@@ -37,10 +38,10 @@ pub fn classify(octets: &[u8]) -> Kind<'_>
     ensures control { 14 ≤ length octets.now → IsSlow octets.now → IsControl (drop 14 octets.now) result }
     ensures data { 14 ≤ length octets.now → (IsSlow octets.now → ⊥) → result ≡ Data }
 {
-    if octets.len() < 14 {
+    if octets.len() < HEADER_LEN {
         Kind::TooShort
-    } else if octets[12] == 0x88 && octets[13] == 0x09 {
-        Kind::Control(&octets[14..])
+    } else if octets[12] == SLOW_TYPE[0] && octets[13] == SLOW_TYPE[1] {
+        Kind::Control(&octets[HEADER_LEN..])
     } else {
         Kind::Data
     }

@@ -13,19 +13,20 @@ use crate::fault::WireFault;
 use crate::pdu::Pdu;
 use crate::reading::decode;
 
-/// What is written for a PDU reads as it and as nothing else, whatever follows it.
+/// What is written for a PDU reads as it and as nothing else, whatever follows it (6.4.2.3, 6.5.3.3;
+/// profile).
 pub fn what_is_written_is_read()
     ensures reads { (b rest : List ℕ) (v : Pdu) → WritesPdu b v → ReadsPdu (b ++ rest) v }
     ensures only { (b rest : List ℕ) (v w : Pdu) → WritesPdu b v → ReadsPdu (b ++ rest) w → w ≡ v }
 {}
 
-/// There is one payload to send for a PDU.
+/// There is one payload to send for a PDU (6.4.2.3, 6.5.3.3).
 pub fn one_payload_is_written()
     ensures { (b c : List ℕ) (v : Pdu) → WritesPdu b v → WritesPdu c v → b ≡ c }
 {}
 
 /// A payload has one reading or one fault, never both and never neither, and it is no LACPDU and
-/// Marker PDU at once.
+/// Marker PDU at once (profile).
 pub fn one_reading_or_one_fault()
     ensures kinds { (b : List ℕ) (v : Lacpdu) (m : Marker) → Reads b v → ReadsMarker b m → ⊥ }
     ensures readings { (b : List ℕ) (v w : Pdu) → ReadsPdu b v → ReadsPdu b w → w ≡ v }
@@ -33,19 +34,20 @@ pub fn one_reading_or_one_fault()
     ensures not_neither { (b : List ℕ) → AreOctets b → fault_of b ≡ None → ((v : Pdu) × ReadsPdu b v) }
 {}
 
-/// Octets after the first 110 change neither the reading nor the fault.
+/// Octets after the first 110 change neither the reading nor the fault (profile).
 pub fn what_follows_is_ignored()
     ensures readings { (b rest : List ℕ) (v : Pdu) → payload_len ≤ length b → (ReadsPdu (b ++ rest) v ↔ ReadsPdu b v) }
     ensures faults { (b rest : List ℕ) → payload_len ≤ length b → fault_of (b ++ rest) ≡ fault_of b }
 {}
 
-/// A frame that is made here is a control frame with the payload that it was made of.
+/// A frame that is made here is a control frame with the payload that it was made of (6.4.2.2,
+/// 6.5.3.2).
 pub fn what_is_framed_is_control()
     ensures slow { (source payload : List ℕ) → length source ≡ 6 → IsSlow (frame_octets source payload) }
     ensures payload { (source payload : List ℕ) → length source ≡ 6 → drop 14 (frame_octets source payload) ≡ payload }
 {}
 
-/// Encodes a PDU and decodes the payload: the answer is the PDU.
+/// Encodes a PDU and decodes the payload: the answer is the PDU (6.4.2.3, 6.5.3.3).
 pub fn read_back(pdu: &Pdu) -> Result<Pdu, WireFault>
     ensures { result ≡ Ok pdu.now }
 {

@@ -7,6 +7,7 @@ mod fault;
 mod frames;
 mod laws;
 mod marker;
+mod numbers;
 mod pdu;
 mod reading;
 #[cfg(test)]

@@ -4,6 +4,7 @@ ghost use Rattle.slowpdu.specs.Markers.{WritesMarker, kind_number, response_to};
 ghost use Rattle.slowpdu.specs.Pdus.{IsDecoded};
 
 use crate::fault::WireFault;
+use crate::numbers::{INFORMATION_TYPE, MARKER_LENGTH, MARKER_SUBTYPE, RESPONSE_TYPE, VERSION};
 use crate::pdu::{Marker, MarkerKind, Pdu};
 use crate::reading::{expect_length, mac_at, u16_at};
 use crate::writing::{ZEROS, put, put_mac, put_u16, put_u32};
@@ -23,10 +24,10 @@ pub(crate) fn marker_in(payload: &[u8]) -> Result<Pdu, WireFault>
     requires subtype { slice_index payload.now 0 ≡ 2 }
     ensures { IsDecoded payload.now result }
 {
-    expect_length(payload, 3, 16)?;
+    expect_length(payload, 3, MARKER_LENGTH)?;
     let kind = match payload[2] {
-        1 => MarkerKind::Information,
-        2 => MarkerKind::Response,
+        INFORMATION_TYPE => MarkerKind::Information,
+        RESPONSE_TYPE => MarkerKind::Response,
         other => return Err(WireFault::MarkerTlv(other)),
     };
     Ok(Pdu::Marker(Marker {
@@ -43,8 +44,8 @@ impl MarkerKind {
         ensures { result ≡ kind_number self }
     {
         match self {
-            MarkerKind::Information => 1,
-            MarkerKind::Response => 2,
+            MarkerKind::Information => INFORMATION_TYPE,
+            MarkerKind::Response => RESPONSE_TYPE,
         }
     }
 }
@@ -57,8 +58,9 @@ impl Marker {
     {
         let port = self.port;
         let id = self.id;
+        let head = [MARKER_SUBTYPE, VERSION, self.kind.number(), MARKER_LENGTH];
         let mut payload = ZEROS;
-        put(&mut payload, 0, &[2, 1, self.kind.number(), 16]);
+        put(&mut payload, 0, &head);
         put_u16(&mut payload, 4, port);
         put_mac(&mut payload, 6, self.system);
         put_u32(&mut payload, 12, id);

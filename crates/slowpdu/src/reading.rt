@@ -11,13 +11,11 @@ ghost use Rattle.slowpdu.specs.Faults.{fault_of};
 
 use crate::fault::WireFault;
 use crate::marker::marker_in;
+use crate::numbers::{COLLECTOR_LENGTH, INFO_LENGTH, LACP_SUBTYPE, MARKER_SUBTYPE, PAYLOAD_LEN};
 use crate::pdu::{Info, Lacpdu, Pdu};
 use bitflags::Flags;
 use byteorder::{BigEndian, ByteOrder};
 use lagtypes::{Key, PortId, State, SystemId};
-
-/// How many octets a payload has.
-const PAYLOAD_LEN: usize = 110;
 
 /// The number in the two octets from this offset on.
 pub(crate) fn u16_at(payload: &[u8], offset: usize) -> u16
@@ -78,9 +76,9 @@ fn lacpdu_in(payload: &[u8]) -> Result<Pdu, WireFault>
     requires subtype { slice_index payload.now 0 ≡ 1 }
     ensures { IsDecoded payload.now result }
 {
-    expect_length(payload, 3, 20)?;
-    expect_length(payload, 23, 20)?;
-    expect_length(payload, 43, 16)?;
+    expect_length(payload, 3, INFO_LENGTH)?;
+    expect_length(payload, 23, INFO_LENGTH)?;
+    expect_length(payload, 43, COLLECTOR_LENGTH)?;
     Ok(Pdu::Lacpdu(Lacpdu {
         actor: info_at(payload, 4),
         partner: info_at(payload, 24),
@@ -111,8 +109,8 @@ pub fn decode(payload: &[u8]) -> Result<Pdu, WireFault>
         });
     }
     match payload[0] {
-        1 => lacpdu_in(payload),
-        2 => marker_in(payload),
+        LACP_SUBTYPE => lacpdu_in(payload),
+        MARKER_SUBTYPE => marker_in(payload),
         other => Err(WireFault::OtherSubtype(other)),
     }
 }

@@ -4,12 +4,16 @@ ghost use Rattle.slowpdu.specs.Layout.{AreOctets, IsAddress};
 ghost use Rattle.slowpdu.specs.Lacpdus.{Writes};
 ghost use Rattle.slowpdu.specs.Writing.{InfoFits, replaced, info_octets};
 
+use crate::numbers::{
+    ACTOR_TYPE, COLLECTOR_LENGTH, COLLECTOR_TYPE, INFO_LENGTH, LACP_SUBTYPE, PARTNER_TYPE,
+    PAYLOAD_LEN, VERSION,
+};
 use crate::pdu::{Info, Lacpdu};
 use bitflags::Flags;
 use byteorder::{BigEndian, ByteOrder};
 
 /// A payload before anything is put into it.
-pub(crate) const ZEROS: [u8; 110] = [0; 110];
+pub(crate) const ZEROS: [u8; PAYLOAD_LEN] = [0; PAYLOAD_LEN];
 
 /// Puts octets in the place of those from this offset on.
 pub(crate) fn put(payload: &mut [u8], offset: usize, octets: &[u8])
@@ -71,12 +75,13 @@ impl Lacpdu {
         ensures { Writes result self.now }
     {
         let max_delay = self.max_delay;
+        let head = [LACP_SUBTYPE, VERSION, ACTOR_TYPE, INFO_LENGTH];
         let mut payload = ZEROS;
-        put(&mut payload, 0, &[1, 1, 1, 20]);
+        put(&mut payload, 0, &head);
         put_info(&mut payload, 4, self.actor);
-        put(&mut payload, 22, &[2, 20]);
+        put(&mut payload, 22, &[PARTNER_TYPE, INFO_LENGTH]);
         put_info(&mut payload, 24, self.partner);
-        put(&mut payload, 42, &[3, 16]);
+        put(&mut payload, 42, &[COLLECTOR_TYPE, COLLECTOR_LENGTH]);
         put_u16(&mut payload, 44, max_delay);
         payload
     }
