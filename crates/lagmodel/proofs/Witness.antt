@@ -102,9 +102,6 @@ w₇ = next One 0 ms₇ w₆
 abbrev w₈ : World
 w₈ = next Two 0 [] (handed_up true (Data One 1 48 0) (with_line w₇ 1 Two []))
 
-arrived : w₈.collected One 1 48 ≡ 0 ∷ []
-arrived = refl
-
 -- no port of these is in an aggregator
 abbrev Outside : (ℕ → Option PortView) → Type 0
 Outside ports = (q : ℕ) (b : PortView) → ports q ≡ Some b → b.aggregator ≢ Some 1

@@ -61,6 +61,7 @@ PortAllowed u call ports p (Announce synchronised) a = (replies_frame call ≡ t
 -- it answers the marker that comes on it
 PortAllowed u call ports p (Respond mac port identifier) a = call ≡ Receive p (Some (Marker mac port identifier))
 
+-- the port after its move
 abbrev pub port_after : PortMove → PortView → PortView
 port_after Stop a = record a { distributes = false }
 port_after Leave a = record a { aggregator = None; distributes = false }
@@ -74,6 +75,7 @@ port_after Distribute a = record a { distributes = true }
 port_after (Announce synchronised) a = a
 port_after (Respond mac port identifier) a = a
 
+-- what others see of port p: an LACPDU or a Marker Response PDU that it sends, or an LACPDU that it takes
 abbrev pub port_act : ℕ → PortMove → PortView → Option Act
 port_act p (Announce synchronised) a = Some (Sends p (Lacp (record { actor = a.party; partner = a.partner; synchronised = synchronised })))
 port_act p (Respond mac port identifier) a = Some (Sends p (Response mac port identifier))
@@ -98,6 +100,7 @@ ChangeAllowed mac call g k (Answered p n) c = (call ≡ Receive p (Some (Respons
 ChangeAllowed mac call g k (Down p) c = (call ≡ Set_link p false) × (port_of c ≡ Some p)
 ChangeAllowed mac call g k Forced c = call ≡ Force g k
 
+-- the conversation after its change
 abbrev pub changed : Change → Conversation
 changed (Want p) = Wanted p
 changed (Retry p n) = Wanted p
@@ -127,11 +130,13 @@ flushed p n (On q) = On q
 flushed p n (Wanted q) = cond (eqb q p) (Flushing q n) (Wanted q)
 flushed p n (Flushing q m) = Flushing q m
 
+-- the conversations after their move; a marker takes the next Requester_Transaction_ID
 abbrev pub flows_after : FlowMove → Flows → Flows
 flows_after (Send g k p) f = record f { state = at_conversation f.state g k (On p) }
 flows_after (Mark p) f = record { state = λ g k. flushed p f.next (f.state g k); next = f.next + 1 }
 flows_after (Become g k m) f = record f { state = at_conversation f.state g k (changed m) }
 
+-- what others see of it: a frame of a conversation or a Marker PDU that goes out on a port
 abbrev pub flow_act : List ℕ → FlowMove → Flows → Option Act
 flow_act mac (Send g k p) f = Some (Sends_frame p g k)
 flow_act mac (Mark p) f = Some (Sends p (Marker mac p f.next))
@@ -142,10 +147,12 @@ abbrev pub AllFlowAllowed : List ℕ → Call → (ℕ → ℕ → Type 0) → F
 AllFlowAllowed mac call Distributes f [] = Unit {0}
 AllFlowAllowed mac call Distributes f (m ∷ ms) = FlowAllowed mac call Distributes f m × AllFlowAllowed mac call Distributes (flows_after m f) ms
 
+-- the conversations after all of them
 abbrev pub flows_after_all : List FlowMove → Flows → Flows
 flows_after_all [] f = f
 flows_after_all (m ∷ ms) f = flows_after_all ms (flows_after m f)
 
+-- what others see of all of them
 abbrev pub flow_acts : List ℕ → List FlowMove → Flows → List Act
 flow_acts mac [] f = []
 flow_acts mac (m ∷ ms) f = option_to_list (flow_act mac m f) ++ flow_acts mac ms (flows_after m f)

@@ -5,7 +5,7 @@ use Rattle.distributor.specs.Conversations.{Table}
 use Rattle.lagmodel.specs.Law.{Members}
 use Rattle.lagmodel.specs.View.{View}
 use Rattle.lagmodel.proofs.Ports.{members_first, one_partner}
-use Rattle.lagmodel.proofs.Uses.{members_call}
+use Rattle.lagmodel.proofs.Calls.{members_call}
 use Rattle.lagsystem.specs.declared.slots.Slot.{Slot}
 use Rattle.lagsystem.specs.declared.drive.Reply.{Reply}
 use Rattle.lagsystem.specs.Calls.{Call, Step}

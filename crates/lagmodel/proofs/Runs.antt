@@ -1,0 +1,167 @@
+-- Runs of worlds, for a crate of two systems. A call of one of them as an event: calls_from, no_call. Cables: end_there, put_on,
+-- put_nowhere. Worlds: same_world, same_view, runs_joined. What holds after a run: `lawful` of Events, and the lemma of each fact
+-- in Laws.
+use Rattle.std.proofs.Common.{◌≡◌, ℕ, zero, suc, Bool, true, false, cond, ◌&&◌, Option, Some, None, List, [], ◌∷◌, ◌++◌, map, sym, refl, ap, ◌∙◌, subst, ◌⊎◌, inl, inr, eq-eqb}
+use Rattle.std.specs.Prelude.{option_to_list, slice_get}
+use Rattle.std.proofs.lemmas.Option.{none-some}
+use Rattle.lagmodel.specs.View.{View, Call}
+use Rattle.lagmodel.specs.Move.{Act, Move, after, act, AllAllowed, after_all, acts, FreeMoves}
+use Rattle.lagmodel.specs.World.{Ends, port_on, end_at, Message, Event, Run, put, is_port, at_cable, Side, One, Two, peer, at_side, World, Fixed, moved, AllMoves, all_moved, Counts, Calls}
+use Rattle.lagmodel.specs.Kept.{called}
+use Rattle.lagmodel.proofs.Base.{mapped_some, cond_true}
+use Rattle.lagmodel.proofs.Lines.{put_cases}
+use Rattle.lagmodel.proofs.LaneMoves.{cable_cases}
+
+-- A call in a world: what it was seen to do goes onto the cables.
+itself : {X : Type 0} (f : Side → X) (s t : Side) → f t ≡ at_side f s (f s) t
+itself f One One = refl
+itself f One Two = refl
+itself f Two One = refl
+itself f Two Two = refl
+
+twice : {X : Type 0} (f : Side → X) (s : Side) (x y : X) (t : Side) → at_side (at_side f s x) s y t ≡ at_side f s y t
+twice f One x y One = refl
+twice f One x y Two = refl
+twice f Two x y One = refl
+twice f Two x y Two = refl
+
+none_called : (x : Fixed) (s : Side) (stamp : ℕ) (kept : Bool) (w : World) → w ≡ called x s stamp kept None (w.view s) w
+none_called x s stamp kept w = λ i. record w {
+  view = λ t. itself w.view s t i;
+  line = λ t. itself w.line (peer s) t i;
+  sent = λ t. itself w.sent s t i;
+  taken = λ t. itself w.taken s t i;
+}
+
+self : {X : Type 0} (f : Side → X) (s : Side) (x : X) → at_side f s x s ≡ x
+self f One x = refl
+self f Two x = refl
+
+-- a call that is seen to do nothing changes the view alone
+only_view : (x : Fixed) (s : Side) (stamp : ℕ) (kept : Bool) (v : View) (w : World) → called x s stamp kept None v w ≡ record w { view = at_side w.view s v }
+only_view x s stamp kept v w = λ i. record w {
+  view = at_side w.view s v;
+  line = λ t. sym (itself w.line (peer s) t) i;
+  sent = λ t. sym (itself w.sent s t) i;
+  taken = λ t. sym (itself w.taken s t) i;
+}
+
+before : (x : Fixed) (s : Side) (stamp : ℕ) (kept : Bool) (o : Option Act) (a b : View) (w : World) → called x s stamp kept o b (called x s stamp kept None a w) ≡ called x s stamp kept o b w
+before x s stamp kept o a b w =
+    ap (called x s stamp kept o b) (only_view x s stamp kept a w)
+    ∙ (λ i. record (called x s stamp kept o b w) { view = λ t. twice w.view s a b t i })
+
+behind : (x : Fixed) (s : Side) (stamp : ℕ) (kept : Bool) (o : Option Act) (a b : View) (w : World) → called x s stamp kept None b (called x s stamp kept o a w) ≡ called x s stamp kept o b w
+behind x s stamp kept o a b w =
+    only_view x s stamp kept b (called x s stamp kept o a w)
+    ∙ (λ i. record (called x s stamp kept o b w) { view = λ t. twice w.view s a b t i })
+
+nothing_seen : (y : Act) (ys : List Act) → y ∷ ys ≡ [] → ⊥
+nothing_seen y ys h = cc
+
+one_seen : (y z : Act) (ys : List Act) → y ∷ ys ≡ z ∷ [] → (y ≡ z) × (ys ≡ [])
+one_seen y z ys h = (cc, cc)
+
+called_step : (x : Fixed) (s : Side) (stamp : ℕ) (kept : Bool) (m : Move) (ms : List Move) (w : World) (o a : Option Act) → act (x.setup s) m (w.view s) ≡ a
+    → ((o : Option Act) → acts (x.setup s) ms ((moved x s stamp (m, kept) w).view s) ≡ option_to_list o
+    → all_moved x s stamp (map (λ (m : Move). (m, kept)) ms) (moved x s stamp (m, kept) w) ≡ called x s stamp kept o (after_all (x.setup s) ms ((moved x s stamp (m, kept) w).view s)) (moved x s stamp (m, kept) w))
+    → option_to_list a ++ acts (x.setup s) ms (after (x.setup s) m (w.view s)) ≡ option_to_list o
+    → all_moved x s stamp (map (λ (m : Move). (m, kept)) ms) (moved x s stamp (m, kept) w) ≡ called x s stamp kept o (after_all (x.setup s) ms (after (x.setup s) m (w.view s))) w
+called_step x s stamp kept m ms w o None h ih e =
+    let v : View = after (x.setup s) m (w.view s) in
+    let there = self w.view s v in
+    ih o (ap (acts (x.setup s) ms) there ∙ e)
+    ∙ ap (λ (y : View). called x s stamp kept o (after_all (x.setup s) ms y) (moved x s stamp (m, kept) w)) there
+    ∙ ap (λ (a : Option Act). called x s stamp kept o (after_all (x.setup s) ms v) (called x s stamp kept a v w)) h
+    ∙ before x s stamp kept o v (after_all (x.setup s) ms v) w
+called_step x s stamp kept m ms w None (Some y) h ih e = absurd (nothing_seen y (acts (x.setup s) ms (after (x.setup s) m (w.view s))) e)
+called_step x s stamp kept m ms w (Some z) (Some y) h ih e =
+    let v : View = after (x.setup s) m (w.view s) in
+    let there = self w.view s v in
+    let parts = one_seen y z (acts (x.setup s) ms v) e in
+    ih None (ap (acts (x.setup s) ms) there ∙ parts.1)
+    ∙ ap (λ (y : View). called x s stamp kept None (after_all (x.setup s) ms y) (moved x s stamp (m, kept) w)) there
+    ∙ ap (λ (a : Option Act). called x s stamp kept None (after_all (x.setup s) ms v) (called x s stamp kept a v w)) h
+    ∙ behind x s stamp kept (Some y) v (after_all (x.setup s) ms v) w
+    ∙ ap (λ (y : Act). called x s stamp kept (Some y) (after_all (x.setup s) ms v) w) parts.0
+
+called_moves : (x : Fixed) (s : Side) (stamp : ℕ) (kept : Bool) (ms : List Move) (w : World) (o : Option Act) → acts (x.setup s) ms (w.view s) ≡ option_to_list o
+    → all_moved x s stamp (map (λ (m : Move). (m, kept)) ms) w ≡ called x s stamp kept o (after_all (x.setup s) ms (w.view s)) w
+called_moves x s stamp kept [] w None e = none_called x s stamp kept w
+called_moves x s stamp kept [] w (Some y) e = absurd (nothing_seen y [] (sym e))
+called_moves x s stamp kept (m ∷ ms) w o e =
+    called_step x s stamp kept m ms w o (act (x.setup s) m (w.view s)) refl (λ o. called_moves x s stamp kept ms (moved x s stamp (m, kept) w) o) e
+
+moves_of_world : (x : Fixed) (s : Side) (call : Call) (stamp : ℕ) (kept : Bool) (ms : List Move) (w : World) → AllAllowed (x.setup s) call (w.view s) ms → AllMoves x s call stamp (map (λ (m : Move). (m, kept)) ms) w
+moves_of_world x s call stamp kept [] w h = tt
+moves_of_world x s call stamp kept (m ∷ ms) w h =
+    (h.0, moves_of_world x s call stamp kept ms (moved x s stamp (m, kept) w) (subst (λ v. AllAllowed (x.setup s) call v ms) (sym (self w.view s (after (x.setup s) m (w.view s)))) h.1))
+
+pub calls_from : (x : Fixed) (s : Side) (call : Call) (stamp : ℕ) (old mid new : World) (v : View) (o : Option Act) (kept : Bool) (count : Side → ℕ → ℕ)
+    → FreeMoves (x.setup s) call (mid.view s) (option_to_list o) v → Counts old (called x s stamp kept o v mid) count → new ≡ record (called x s stamp kept o v mid) { count = count } → Calls x s call stamp old mid new
+calls_from x s call stamp old mid new v o kept count h c e =
+    let same : all_moved x s stamp (map (λ (m : Move). (m, kept)) h.0) mid ≡ called x s stamp kept o v mid =
+    called_moves x s stamp kept h.0 mid o h.2 ∙ ap (λ (v : View). called x s stamp kept o v mid) (sym h.3) in (
+      map (λ (m : Move). (m, kept)) h.0,
+      moves_of_world x s call stamp kept h.0 mid h.1,
+      (count, subst (λ w. Counts old w count) (sym same) c, e ∙ ap (λ (w : World). record w { count = count }) (sym same)),
+    )
+
+-- a call that does nothing, as one that is refused
+pub no_call : (x : Fixed) (s : Side) (call : Call) (stamp : ℕ) (w : World) → Calls x s call stamp w w w
+no_call x s call stamp w = ([], tt, (w.count, (λ t p. inl (refl, refl)), refl))
+
+-- an end of a cable is that of a place of the list
+pub end_there : (cables : List Ends) (s : Side) (c p : ℕ) → end_at cables s c ≡ Some p → (i : ℕ) × (e : Ends) × (c ≡ suc i) × (slice_get cables i ≡ Some e) × (port_on s e ≡ p)
+end_there cables s zero p h = absurd (none-some p h)
+end_there cables s (suc i) p h = let m = mapped_some (port_on s) (slice_get cables i) p h in (i, m.0, refl, m.1, m.2)
+
+-- what a message put on the cable of a port leaves, by the port's one cable
+pub put_on : (ends : ℕ → Option ℕ) (whole : ℕ → Bool) (kept : Bool) (p : ℕ) (m : Message) (lines : ℕ → List Message) (c : ℕ)
+    → ((c d p : ℕ) → ends c ≡ Some p → ends d ≡ Some p → c ≡ d) → ends c ≡ Some p
+    → (d : ℕ) → put ends whole kept p m lines d ≡ at_cable lines c (cond (kept && whole c) (lines c ++ m ∷ []) (lines c)) d
+put_on ends whole kept p m lines c one there d = elim (cable_cases lines c (cond (kept && whole c) (lines c ++ m ∷ []) (lines c)) d) [
+  | inl x ↦ subst (λ d. put ends whole kept p m lines d ≡ cond (kept && whole c) (lines c ++ m ∷ []) (lines c)) (sym x.0) (here kept (whole c)) ∙ sym x.1
+  | inr x ↦ elsewhere (put_cases ends whole kept p m lines d) x.0 ∙ sym x.1
+]
+  where
+    is_there : is_port p (ends c) ≡ true
+    is_there = ap (is_port p) there ∙ eq-eqb p p refl
+
+    here : (k w : Bool) → cond (k && (w && is_port p (ends c))) (lines c ++ m ∷ []) (lines c) ≡ cond (k && w) (lines c ++ m ∷ []) (lines c)
+    here true true = cond_true (is_port p (ends c)) _ _ is_there
+    here true false = refl
+    here false true = refl
+    here false false = refl
+
+    elsewhere : ((put ends whole kept p m lines d ≡ lines d ++ m ∷ []) × (whole d ≡ true) × (ends d ≡ Some p)) ⊎ (put ends whole kept p m lines d ≡ lines d) → (d ≡ c → ⊥) → put ends whole kept p m lines d ≡ lines d
+    elsewhere h n = elim h [ inl x ↦ absurd (n (one d c p x.2 there)) | inr x ↦ x ]
+
+-- of a port without a cable
+pub put_nowhere : (ends : ℕ → Option ℕ) (whole : ℕ → Bool) (kept : Bool) (p : ℕ) (m : Message) (lines : ℕ → List Message) → ((c : ℕ) → ends c ≡ Some p → ⊥) → (d : ℕ) → put ends whole kept p m lines d ≡ lines d
+put_nowhere ends whole kept p m lines none d = elim (put_cases ends whole kept p m lines d) [ inl x ↦ absurd (none d x.2) | inr x ↦ x ]
+
+-- worlds that are alike at each place are the same
+pub same_world : (v w : World)
+    → ((s : Side) → v.view s ≡ w.view s) → ((c : ℕ) → v.whole c ≡ w.whole c) → ((s : Side) (c : ℕ) → v.line s c ≡ w.line s c) → ((s : Side) (p : ℕ) → v.count s p ≡ w.count s p)
+    → ((s : Side) (p : ℕ) → v.taken s p ≡ w.taken s p) → ((s : Side) (g k : ℕ) → v.sent s g k ≡ w.sent s g k) → ((s : Side) (g k : ℕ) → v.collected s g k ≡ w.collected s g k)
+    → ((s : Side) (g k : ℕ) → v.forced s g k ≡ w.forced s g k) → v ≡ w
+same_world v w a b c d e f g h = λ i. record {
+  view = λ s. a s i;
+  whole = λ n. b n i;
+  line = λ s n. c s n i;
+  count = λ s p. d s p i;
+  taken = λ s p. e s p i;
+  sent = λ s j k. f s j k i;
+  collected = λ s j k. g s j k i;
+  forced = λ s j k. h s j k i;
+}
+
+-- views that are alike at each place are the same
+pub same_view : (v w : View) → ((p : ℕ) → v.port p ≡ w.port p) → ((g k : ℕ) → v.flows.state g k ≡ w.flows.state g k) → v.flows.next ≡ w.flows.next → v ≡ w
+same_view v w a b c = λ i. record { port = λ p. a p i; flows = record { state = λ g k. b g k i; next = c i } }
+
+-- runs one after another
+pub runs_joined : (x : Fixed) (es fs : List Event) (old mid new : World) → Run x es old mid → Run x fs mid new → Run x (es ++ fs) old new
+runs_joined x [] fs old mid new h i = subst (λ w. Run x fs w new) h i
+runs_joined x (e ∷ es) fs old mid new h i = (h.0, h.1, runs_joined x es fs h.0 mid new h.2 i)
