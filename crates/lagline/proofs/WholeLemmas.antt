@@ -1,5 +1,6 @@
 -- Where `clap` states no fault for the words of a command line, they name a subcommand with each word that it takes.
-use Rattle.std.proofs.Common.{◌≡◌, ◌∙◌, ◌&&◌, ◌||◌, Bool, true, false, cond, not, ap, ap₂, refl, sym, inl, inr, codes, List, [], ◌∷◌, Option, Some, None, is_some, find, option_map}
+use Rattle.std.proofs.Common.{◌≡◌, ◌∙◌, ◌&&◌, Bool, true, false, cond, not, ap, ap₂, refl, sym, inl, inr, codes, List, [], ◌∷◌, Option, Some, None, is_some, find, option_map}
+use Rattle.std.proofs.lemmas.Bool.{not-false, or_parts}
 use Rattle.std.specs.Prelude.{⊤}
 use Rattle.std.specs.List.{list_any}
 use Rattle.std.specs.Option.{option_map_or}
@@ -18,14 +19,6 @@ nothing_missing : (b : Bool) → check_kinds false false b ≡ [] → b ≡ fals
 nothing_missing true e = cc
 nothing_missing false e = refl
 
-neither_holds : (a b : Bool) → (a || b) ≡ false → (a ≡ false) × (b ≡ false)
-neither_holds true b e = cc
-neither_holds false b e = (refl, e)
-
-holds : (b : Bool) → not b ≡ false → b ≡ true
-holds true e = refl
-holds false e = cc
-
 -- an argument that is required was given
 abbrev AllGiven : List Row → List Rule → Type 0
 AllGiven rows [] = ⊤
@@ -34,7 +27,7 @@ AllGiven rows (a ∷ c) = ((a.required && not (is_given a.id rows)) ≡ false) �
 all_given : (rows : List Row) (c : List Rule) → list_any (λ a. a.required && not (is_given a.id rows)) c ≡ false → AllGiven rows c
 all_given rows [] e = tt
 all_given rows (a ∷ c) e =
-    let parts = neither_holds (a.required && not (is_given a.id rows)) (list_any (λ a. a.required && not (is_given a.id rows)) c) e in
+    let parts = or_parts (a.required && not (is_given a.id rows)) (list_any (λ a. a.required && not (is_given a.id rows)) c) e in
     (parts.0, all_given rows c parts.1)
 
 -- a subcommand as it is built
@@ -44,7 +37,7 @@ line_of a = built_leaf (inherited (with_leaf_noted (marked_built lines.top)) a.t
 text_given : (s : Shape) (words : List Text) (id : Text) → AreWordsOrHelp s.rules → level_fault s [] nothing_held words false [] ≡ []
     → not (is_given id (rows_after s.rules [] words)) ≡ false → has_text id (rows_after s.rules [] words) ≡ true
 text_given s words id good e given =
-    ap is_some (given_has_value id (rows_after s.rules [] words) (rows_filled s words good e) (holds _ given)).1
+    ap is_some (given_has_value id (rows_after s.rules [] words) (rows_filled s words good e) (not-false _ given)).1
 
 abbrev IsWholeLine : Shape → Type 0
 IsWholeLine s = (words : List Text) → level_fault s [] nothing_held words false [] ≡ [] → is_whole (Some (rows_at s words)) ≡ true
