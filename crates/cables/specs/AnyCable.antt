@@ -1,4 +1,4 @@
--- A cable of either kind is seen as the one that it holds.
+-- A cable of either kind is seen as the one that it holds (profile).
 use Rattle.std.specs.Prelude.{ℕ, Bool, true, List, Option, None, Some}
 use Rattle.cables.specs.declared.item.Item.{Item}
 use Rattle.cables.specs.declared.any.AnyCable.{AnyCable}

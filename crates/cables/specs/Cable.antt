@@ -1,4 +1,4 @@
--- What is seen of a cable.
+-- What is seen of a cable (profile).
 use Rattle.std.specs.Prelude.{ℕ, Bool, false, ◌==◌, List, length, Option, None, Some}
 use Rattle.cables.specs.declared.item.Item.{Item}
 

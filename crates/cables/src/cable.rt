@@ -9,7 +9,8 @@ pub type NoMemory = AllocError;
 
 /// A cable in one direction: the item that went on first comes off first (profile).
 ///
-/// Want of memory is met by `reserve_one`, and by a `push` without a reserved place, alone.
+/// Want of memory is met by `reserve_one`, and by a `push` without a reserved place, alone. The limit
+/// never changes, and a reserved place is used up by a `push` that keeps its item alone.
 pub trait Cable: Drop {
     ghost use Rattle.cables.specs.declared.item.Item.{Item};
     ghost use Rattle.cables.specs.Cable.{is_full};
@@ -26,66 +27,43 @@ pub trait Cable: Drop {
     /// Puts an item behind the others, or hands it back and changes nothing. It comes back where the
     /// length equals the limit, and else only where memory ran out and no place was reserved.
     fn push(&mut self, item: Item) -> Result<(), Item>
-        // An item that is kept is the last one.
         ensures appended { OnOk result (items self.new ≡ items self.old ++ item ∷ []) }
-
-        // An item that is not kept comes back, and the others stay as they were.
         ensures handed_back { IfErr result (λ back. (back ≡ item) × (items self.new ≡ items self.old)) }
-
-        // A full cable hands it back, and no reserved place is lost by that.
         ensures full { IsTrue (is_full (limit self.old) (items self.old)) → IsErr result }
         ensures untouched { IsTrue (is_full (limit self.old) (items self.old)) → reserved self.new ≡ reserved self.old }
-
-        // Where a place is reserved, only a full cable hands it back.
         ensures place { IsTrue (reserved self.old) → IsErr result → IsTrue (is_full (limit self.old) (items self.old)) }
-
-        // The limit never changes.
         ensures limit { limit self.new ≡ limit self.old };
 
     /// Reserves a place until the next push, which then meets no want of memory. `NoMemory` comes only
     /// where memory ran out and no place was reserved; items and limit are then as they were.
     fn reserve_one(&mut self) -> Result<(), NoMemory>
-        // After a success a place is reserved.
         ensures ok { OnOk result (IsTrue (reserved self.new)) }
-
-        // A cable that has a place reserved does not refuse.
         ensures err { OnErr result (reserved self.old ≡ false) }
-
-        // In both cases items and limit are as they were.
         ensures items { items self.new ≡ items self.old }
         ensures limit { limit self.new ≡ limit self.old };
 
     /// The first item, and `None` where there is none.
     fn front(&self) -> Option<&Item>
-        // It is shown, and stays.
         ensures { option_copied result ≡ slice_get (items self.now) 0 };
 
     /// Takes the first item off, and answers `None` where there is none.
     fn pop(&mut self) -> Option<Item>
-        // The first item is the answer, and the others stay in their order.
         ensures first { result ≡ slice_get (items self.old) 0 }
         ensures rest { items self.new ≡ drop 1 (items self.old) }
-
-        // The limit never changes, and a reserved place stays reserved.
         ensures limit { limit self.new ≡ limit self.old }
         ensures reserved { IsTrue (reserved self.old) → IsTrue (reserved self.new) };
 
     /// Takes every item off.
     fn clear(&mut self)
-        // Nothing is left on the cable.
         ensures empty { items self.new ≡ [] }
-
-        // The limit never changes, and a reserved place stays reserved.
         ensures limit { limit self.new ≡ limit self.old }
         ensures reserved { IsTrue (reserved self.old) → IsTrue (reserved self.new) };
 
     /// How many items there are.
     fn len(&self) -> usize
-        // It is their exact number.
         ensures { result ≡ length (items self.now) };
 
     /// How many items there may be, and `None` where there is no limit.
     fn limit(&self) -> Option<usize>
-        // It is the cable's one limit.
         ensures { result ≡ limit self.now };
 }
