@@ -1,27 +1,19 @@
 -- A state octet is its eight bits: each case is computed.
 use Rattle.std.proofs.Common.{◌≡◌, ◌<◌, ℕ, zero, suc, Bool, true, false, ◌&&◌, refl, ap, sym, ◌∙◌, arith, nat_eq}
+use Rattle.std.proofs.lemmas.Bool.{and_parts}
 use Rattle.std.specs.Prelude.{◌==◌, if◌then◌else◌}
 use Rattle.std.specs.Int.RustNames.{bit_or}
 use Rattle.lagtypes.specs.declared.state.State.{State}
 use Rattle.lagtypes.specs.declared.state.StateBits.{StateBits}
 use Rattle.lagtypes.specs.States.{bits_of, state_of}
 
-left : (a b : Bool) → (a && b) ≡ true → a ≡ true
-left true b e = refl
-left false b e = e
-
-right : (a b : Bool) → (a && b) ≡ true → b ≡ true
-right true b e = e
-right false true e = refl
-right false false e = e
-
 -- a test that both values pass
 abbrev both : (Bool → Bool) → Bool
 both p = p true && p false
 
 one_of : (p : Bool → Bool) (b : Bool) → both p ≡ true → p b ≡ true
-one_of p true e = left (p true) (p false) e
-one_of p false e = right (p true) (p false) e
+one_of p true e = (and_parts (p true) (p false) e).0
+one_of p false e = (and_parts (p true) (p false) e).1
 
 -- a test that all states pass
 abbrev all_states : (StateBits → Bool) → Bool
@@ -84,21 +76,21 @@ all_alike a b =
 
 all_alike_same : (a b : StateBits) → all_alike a b ≡ true → a ≡ b
 all_alike_same a b e =
-    let e2 = right (alike a.activity b.activity) _ e in
-    let e3 = right (alike a.timeout b.timeout) _ e2 in
-    let e4 = right (alike a.aggregation b.aggregation) _ e3 in
-    let e5 = right (alike a.synchronization b.synchronization) _ e4 in
-    let e6 = right (alike a.collecting b.collecting) _ e5 in
-    let e7 = right (alike a.distributing b.distributing) _ e6 in
+    let e2 = (and_parts (alike a.activity b.activity) _ e).1 in
+    let e3 = (and_parts (alike a.timeout b.timeout) _ e2).1 in
+    let e4 = (and_parts (alike a.aggregation b.aggregation) _ e3).1 in
+    let e5 = (and_parts (alike a.synchronization b.synchronization) _ e4).1 in
+    let e6 = (and_parts (alike a.collecting b.collecting) _ e5).1 in
+    let e7 = (and_parts (alike a.distributing b.distributing) _ e6).1 in
     λ i. record {
-      activity = alike_same a.activity b.activity (left (alike a.activity b.activity) _ e) i;
-      timeout = alike_same a.timeout b.timeout (left (alike a.timeout b.timeout) _ e2) i;
-      aggregation = alike_same a.aggregation b.aggregation (left (alike a.aggregation b.aggregation) _ e3) i;
-      synchronization = alike_same a.synchronization b.synchronization (left (alike a.synchronization b.synchronization) _ e4) i;
-      collecting = alike_same a.collecting b.collecting (left (alike a.collecting b.collecting) _ e5) i;
-      distributing = alike_same a.distributing b.distributing (left (alike a.distributing b.distributing) _ e6) i;
-      defaulted = alike_same a.defaulted b.defaulted (left (alike a.defaulted b.defaulted) _ e7) i;
-      expired = alike_same a.expired b.expired (right (alike a.defaulted b.defaulted) _ e7) i;
+      activity = alike_same a.activity b.activity (and_parts (alike a.activity b.activity) _ e).0 i;
+      timeout = alike_same a.timeout b.timeout (and_parts (alike a.timeout b.timeout) _ e2).0 i;
+      aggregation = alike_same a.aggregation b.aggregation (and_parts (alike a.aggregation b.aggregation) _ e3).0 i;
+      synchronization = alike_same a.synchronization b.synchronization (and_parts (alike a.synchronization b.synchronization) _ e4).0 i;
+      collecting = alike_same a.collecting b.collecting (and_parts (alike a.collecting b.collecting) _ e5).0 i;
+      distributing = alike_same a.distributing b.distributing (and_parts (alike a.distributing b.distributing) _ e6).0 i;
+      defaulted = alike_same a.defaulted b.defaulted (and_parts (alike a.defaulted b.defaulted) _ e7).0 i;
+      expired = alike_same a.expired b.expired (and_parts (alike a.defaulted b.defaulted) _ e7).1 i;
     }
 
 -- the bits of a state that is made of bits are these
@@ -114,8 +106,8 @@ below_is : (k : ℕ) (p : ℕ → Bool) (n : ℕ) → below k p ≡ true → n <
 below_is zero p n e h = absurd (omega (arith, h))
 below_is (suc k) p n e h =
     elim (nat_eq n k) as (λ b. nat_eq n k ≡ b → p n ≡ true) [
-      | true ↦ λ t. ap p (same n k t) ∙ left (p k) (below k p) e
-      | false ↦ λ f. below_is k p n (right (p k) (below k p) e) (grind (arith, h, f))
+      | true ↦ λ t. ap p (same n k t) ∙ (and_parts (p k) (below k p) e).0
+      | false ↦ λ f. below_is k p n (and_parts (p k) (below k p) e).1 (grind (arith, h, f))
     ] refl
 
 -- the state that is made of the bits of a state octet is that octet

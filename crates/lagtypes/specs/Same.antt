@@ -1,4 +1,4 @@
--- Equality of identifiers, parties and groups as tests, which filters and guards want.
+-- Equality of identifiers, parties and groups as tests, which filters and guards want (6.3).
 use Rattle.std.specs.Prelude.{◌==◌, ◌&&◌, Bool, true, false}
 use Rattle.std.specs.Option.{option_eq}
 use Rattle.std.specs.Str.{bytes_eq}

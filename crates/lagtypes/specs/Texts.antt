@@ -1,4 +1,4 @@
--- How identifiers print.
+-- How identifiers print (profile).
 use Rattle.std.specs.Prelude.{ℕ, ◌/◌, ◌%◌, ◌++◌, ◌==◌, List, [], ◌∷◌, Option, None, Some, slice_index, map, filter, false, codes, decimal}
 use Rattle.std.specs.Fmt.{digit_glyph}
 use Rattle.std.specs.Int.RustNames.{bit_and}

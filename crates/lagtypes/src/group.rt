@@ -12,8 +12,11 @@ use std::fmt;
 /// Ends compare by system priority, MAC address, key, port priority and port number (profile).
 #[derive(Clone, Copy, Debug, PartialEq, Eq, PartialOrd, Ord, Hash)]
 pub struct End {
+    /// The system, with its priority.
     pub system: SystemId,
+    /// The key of the port, 0 to 65535.
     pub key: Key,
+    /// The port, with its priority, and `None` where the link is not individual.
     pub port: Option<PortId>,
 }
 
@@ -29,7 +32,7 @@ impl End {
         }
     }
 
-    /// Whether this end is the lower one.
+    /// Whether this end is the lower one (profile).
     pub fn is_below(&self, other: &End) -> bool
         ensures { result ≡ is_lt (end_cmp self.now other.now) }
     {
@@ -46,7 +49,7 @@ pub struct Group {
 
 impl Group {
     /// The group of the link between two parties, the same whichever is named first. The link is
-    /// individual where either party's Aggregation bit is 0.
+    /// individual where either party's Aggregation bit is 0 (6.3.6).
     pub fn of(one: &Party, other: &Party) -> Group
         ensures { result ≡ group_of one.now other.now }
     {
@@ -66,14 +69,14 @@ impl Group {
         }
     }
 
-    /// The lower end.
+    /// The lower end (profile).
     pub fn lower(&self) -> End
         ensures { result ≡ lower self.now }
     {
         self.lower
     }
 
-    /// The other end.
+    /// The other end (profile).
     pub fn upper(&self) -> End
         ensures { result ≡ upper self.now }
     {

@@ -3,29 +3,32 @@ ghost use Rattle.std.specs.Ordering.{is_lt};
 ghost use Rattle.lagtypes.specs.Order.{port_cmp, system_cmp};
 ghost use Rattle.lagtypes.specs.Texts.{hex_text, mac_text, system_text, port_text};
 
-use std::cmp::Ordering;
 use std::fmt;
 
 /// A system: a priority and a MAC address, compared as one unsigned number with the priority the
 /// more significant part. The lower number has the higher priority (6.3.2).
 #[derive(Clone, Copy, Debug, Default, PartialEq, Eq, PartialOrd, Ord, Hash)]
 pub struct SystemId {
+    /// The system priority, 0 to 65535.
     pub priority: u16,
+    /// The MAC address, its most significant octet first.
     pub mac: [u8; 6],
 }
 
 /// A port of a system, compared as a system is (6.3.4).
 #[derive(Clone, Copy, Debug, Default, PartialEq, Eq, PartialOrd, Ord, Hash)]
 pub struct PortId {
+    /// The port priority, 0 to 65535.
     pub priority: u16,
+    /// The port number, 0 to 65535. A configuration refuses 0 (profile).
     pub number: u16,
 }
 
-/// Ports of one system with equal keys may be aggregated (6.3.5).
+/// A key, 0 to 65535: ports of one system with equal keys may be aggregated (6.3.5).
 #[derive(Clone, Copy, Debug, Default, PartialEq, Eq, PartialOrd, Ord, Hash)]
 pub struct Key(pub u16);
 
-/// An aggregator of a system, by its place in the configuration, from 1 (6.3.3).
+/// An aggregator of a system, by its place in the configuration, 1 to 65535 (6.3.3; profile).
 #[derive(Clone, Copy, Debug, Default, PartialEq, Eq, PartialOrd, Ord, Hash)]
 pub struct AggId(pub u16);
 
@@ -34,7 +37,7 @@ impl SystemId {
     pub fn is_below(&self, other: &SystemId) -> bool
         ensures { result ≡ is_lt (system_cmp self.now other.now) }
     {
-        self.cmp(other) == Ordering::Less
+        self.cmp(other).is_lt()
     }
 }
 
@@ -102,7 +105,8 @@ impl fmt::Display for Key {
     ghost output = { λ k. Some (decimal k.0) };
 
     fn fmt<W: fmt::Write>(&self, f: &mut fmt::Formatter<W>) -> fmt::Result {
-        write!(f, "{}", self.0)
+        let key = self.0;
+        write!(f, "{key}")
     }
 }
 
@@ -110,6 +114,7 @@ impl fmt::Display for AggId {
     ghost output = { λ g. Some (decimal g.0) };
 
     fn fmt<W: fmt::Write>(&self, f: &mut fmt::Formatter<W>) -> fmt::Result {
-        write!(f, "{}", self.0)
+        let place = self.0;
+        write!(f, "{place}")
     }
 }

@@ -12,7 +12,7 @@ use std::fmt;
 #[derive(Clone, Copy, Debug, Default, PartialEq, Eq, PartialOrd, Ord, Hash)]
 pub struct State(u8);
 
-/// The eight bits of a state octet, from the least significant on.
+/// The eight bits of a state octet, from the least significant on (6.4.2.3).
 #[derive(Clone, Copy, Debug, Default, PartialEq, Eq, Hash)]
 pub struct StateBits {
     /// LACP_Activity: 1 active, 0 passive.
@@ -27,7 +27,7 @@ pub struct StateBits {
     pub collecting: bool,
     /// Distributing: 1 frames are put on the link.
     pub distributing: bool,
-    /// Defaulted: 1 the partner is the administrative default.
+    /// Defaulted: 1 the partner was set by recordDefault, and by no LACPDU since.
     pub defaulted: bool,
     /// Expired: 1 the receive machine is in EXPIRED.
     pub expired: bool,
@@ -96,7 +96,7 @@ impl State {
         }
     }
 
-    /// The bits by name.
+    /// The bits by name (6.4.2.3).
     pub fn named(self) -> StateBits
         ensures { result ≡ bits_of self }
     {
@@ -112,63 +112,63 @@ impl State {
         }
     }
 
-    /// Whether LACP_Activity is 1: the end is active.
+    /// Whether LACP_Activity is 1: the end is active (6.4.2.3).
     pub fn is_active(self) -> bool
         ensures { result ≡ (bits_of self).activity }
     {
         self.contains(State::ACTIVITY)
     }
 
-    /// Whether LACP_Timeout is 1: the end asks for short timeouts.
+    /// Whether LACP_Timeout is 1: the end asks for short timeouts (6.4.2.3).
     pub fn is_short(self) -> bool
         ensures { result ≡ (bits_of self).timeout }
     {
         self.contains(State::TIMEOUT)
     }
 
-    /// Whether Aggregation is 1: the end may share an aggregator.
+    /// Whether Aggregation is 1: the end may share an aggregator (6.4.2.3).
     pub fn is_aggregatable(self) -> bool
         ensures { result ≡ (bits_of self).aggregation }
     {
         self.contains(State::AGGREGATION)
     }
 
-    /// Whether Synchronization is 1: the end is in the right aggregator.
+    /// Whether Synchronization is 1: the end is in the right aggregator (6.4.2.3).
     pub fn is_synchronized(self) -> bool
         ensures { result ≡ (bits_of self).synchronization }
     {
         self.contains(State::SYNCHRONIZATION)
     }
 
-    /// Whether Collecting is 1: frames are taken from the link.
+    /// Whether Collecting is 1: frames are taken from the link (6.4.2.3).
     pub fn is_collecting(self) -> bool
         ensures { result ≡ (bits_of self).collecting }
     {
         self.contains(State::COLLECTING)
     }
 
-    /// Whether Distributing is 1: frames are put on the link.
+    /// Whether Distributing is 1: frames are put on the link (6.4.2.3).
     pub fn is_distributing(self) -> bool
         ensures { result ≡ (bits_of self).distributing }
     {
         self.contains(State::DISTRIBUTING)
     }
 
-    /// Whether Defaulted is 1: the partner is the administrative default.
+    /// Whether Defaulted is 1: the partner was set by recordDefault, and by no LACPDU since (6.4.2.3).
     pub fn is_defaulted(self) -> bool
         ensures { result ≡ (bits_of self).defaulted }
     {
         self.contains(State::DEFAULTED)
     }
 
-    /// Whether Expired is 1: the receive machine is in EXPIRED.
+    /// Whether Expired is 1: the receive machine is in EXPIRED (6.4.2.3).
     pub fn is_expired(self) -> bool
         ensures { result ≡ (bits_of self).expired }
     {
         self.contains(State::EXPIRED)
     }
 
-    /// The state with this Synchronization and its other bits.
+    /// The state with this Synchronization and its other bits (6.4.2.3).
     pub fn with_synchronization(self, on: bool) -> State
         ensures { result ≡ with_synchronization on self }
     {
@@ -177,7 +177,7 @@ impl State {
         State::from(bits)
     }
 
-    /// The state with this LACP_Timeout and its other bits.
+    /// The state with this LACP_Timeout and its other bits (6.4.2.3).
     pub fn with_timeout(self, on: bool) -> State
         ensures { result ≡ with_timeout on self }
     {
