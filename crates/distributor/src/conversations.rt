@@ -1,4 +1,4 @@
-ghost use Rattle.std.specs.Prelude.{◌≡◌, ◌≤◌, ◌↔◌, length, IsTrue, IfOk, OnErr, IfSome, IfNone, MatchResult, MatchOption, None};
+ghost use Rattle.std.specs.Prelude.{◌≡◌, ◌≤◌, ◌↔◌, length, IsTrue, IfOk, OnErr, IfSome, IfNone, MatchResult, None};
 ghost use Rattle.distributor.specs.Conversations.{first_table, state_of, preference_of, how_many, next_identifier, IsConversation};
 ghost use Rattle.distributor.specs.Changes.{Sets, Changes, Marks, after_leave, after_release, after_down, after_tick, waits_for, marker_due};
 ghost use Rattle.distributor.specs.Calls.{PicksPlaces, PicksPort, Assigns, MaySend, moved, forced};
@@ -25,7 +25,7 @@ pub struct Distributor<F> {
 impl<F: Fn(u16, usize) -> usize + Drop> Distributor<F> {
     /// A distributor for aggregators 1 to `aggs`, each conversation free and without a preferred
     /// port. Its first marker is to carry `first_marker`. It takes the memory for all of them at
-    /// once, and is refused only where that is.
+    /// once, and is refused only where that is (profile).
     pub fn new(
         alloc: Global,
         aggs: u16,
@@ -183,7 +183,7 @@ impl<F: Fn(u16, usize) -> usize + Drop> Distributor<F> {
         self.table.change(Change::Down(port));
     }
 
-    /// The identifier of a marker to send on a port: None where no conversation is Wanted on it, or
+    /// The identifier of a marker to send on a port: `None` where no conversation is Wanted on it, or
     /// where no identifier is left. Every conversation Wanted on it is then Flushing with that
     /// identifier, and the next marker's is one higher (profile; 6.5.3 for the marker).
     pub fn marker_for(&mut self, port: u16) -> Option<u32>
@@ -226,28 +226,31 @@ impl<F: Fn(u16, usize) -> usize + Drop> Distributor<F> {
         self.table.clear();
     }
 
-    /// Whether there is such a conversation: of an aggregator from 1 on, with a number below 256.
+    /// Whether there is such a conversation: of an aggregator from 1 to the count given to `new`, and
+    /// a number of 0 to 255 (profile).
     pub fn is_conversation(&self, agg: AggId, conv: u16) -> bool
         ensures { IsTrue result ↔ IsConversation self.now.table agg.0 conv }
     {
         self.table.contains(agg.0, conv)
     }
 
-    /// What a conversation is doing. One that does not exist is free.
+    /// What a conversation is doing. One that does not exist is free, without a preferred port
+    /// (profile).
     pub fn state(&self, agg: AggId, conv: u16) -> Assignment
         ensures { result ≡ state_of self.now.table agg.0 conv }
     {
         self.table.state(agg.0, conv)
     }
 
-    /// The port that a conversation prefers.
+    /// The port that a conversation prefers. `None` where it prefers none or does not exist
+    /// (profile).
     pub fn preferred(&self, agg: AggId, conv: u16) -> Option<u16>
         ensures { result ≡ preference_of (state_of self.now.table agg.0 conv) }
     {
         self.state(agg, conv).preferred()
     }
 
-    /// The identifier of the next marker, 0 to 4294967295. None where none is left.
+    /// The identifier of the next marker, 0 to 4294967295. `None` where none is left (profile).
     pub fn next_marker(&self) -> Option<u32>
         ensures { result ≡ next_identifier self.now.table }
     {

@@ -1,3 +1,6 @@
+ghost use Rattle.std.specs.Prelude.{◌≡◌, ◌<◌};
+ghost use Rattle.distributor.specs.Calls.{PicksPlaces};
+
 use crate::{Assignment, DistFault, Distributor};
 use lagtypes::{AggId, NoMemory};
 use std::alloc::Global;
@@ -20,45 +23,51 @@ enum Row {
     State(u16, Assignment),
 }
 
-/// Makes each call of a list, and answers the place of the first that does not answer as it says.
+/// The algorithm of the tests.
+fn modulo(conv: u16, count: usize) -> usize
+    ensures { 0 < count → result < count }
+{
+    if count == 0 {
+        0
+    } else {
+        usize::from(conv) % count
+    }
+}
+
+fn tick<F: Fn(u16, usize) -> usize + Drop>(d: &mut Distributor<F>, count: u16)
+    ensures algorithm { d.new.algorithm ≡ d.old.algorithm }
+{
+    for _ in 0..count {
+        d.tick();
+    }
+}
+
+/// Makes the call of a row, and answers whether it went as it says.
+fn passes<F: Fn(u16, usize) -> usize + Drop>(d: &mut Distributor<F>, row: Row) -> bool
+    requires usable { PicksPlaces (F.pre d.old.algorithm) (F.post d.old.algorithm) }
+    ensures algorithm { d.new.algorithm ≡ d.old.algorithm }
+{
+    match row {
+        Row::Assign(conv, answer) => return d.assign(AGG, conv, &[1, 2]) == answer,
+        Row::Move(conv, to, answer) => return d.move_to(AGG, conv, to, &[1, 2]) == answer,
+        Row::Force(conv, answer) => return d.force(AGG, conv) == answer,
+        Row::Marker(port, answer) => return d.marker_for(port) == answer,
+        Row::Response(port, id, released) => return d.response(port, id) == released,
+        Row::State(conv, state) => return d.state(AGG, conv) == state,
+        Row::Ticks(count) => tick(d, count),
+        Row::Leave(port) => d.leave(port),
+        Row::Down(port) => d.down(port),
+        Row::Clear => d.clear(),
+    }
+    true
+}
+
+/// Plays the rows on a new distributor, and answers the place of the first that does not go as it says.
 fn first_other(alloc: Global, first: u32, rows: &[Row]) -> Result<Option<usize>, NoMemory> {
-    let modulo = |conv: u16, count: usize| -> usize {
-        if count == 0 {
-            0
-        } else {
-            usize::from(conv) % count
-        }
-    };
     let mut d = Distributor::new(alloc, 1, first, modulo)?;
-    for (i, row) in rows.iter().enumerate() {
-        let same = match *row {
-            Row::Assign(conv, answer) => d.assign(AGG, conv, &[1, 2]) == answer,
-            Row::Move(conv, to, answer) => d.move_to(AGG, conv, to, &[1, 2]) == answer,
-            Row::Force(conv, answer) => d.force(AGG, conv) == answer,
-            Row::Marker(port, answer) => d.marker_for(port) == answer,
-            Row::Response(port, id, released) => d.response(port, id) == released,
-            Row::State(conv, state) => d.state(AGG, conv) == state,
-            Row::Ticks(n) => {
-                for _ in 0..n {
-                    d.tick();
-                }
-                true
-            }
-            Row::Leave(port) => {
-                d.leave(port);
-                true
-            }
-            Row::Down(port) => {
-                d.down(port);
-                true
-            }
-            Row::Clear => {
-                d.clear();
-                true
-            }
-        };
-        if !same {
-            return Ok(Some(i));
+    for (place, row) in rows.iter().enumerate() {
+        if !passes(&mut d, *row) {
+            return Ok(Some(place));
         }
     }
     Ok(None)
@@ -164,13 +173,6 @@ fn preferences_are_kept_and_used_once(rt: HostRuntime) -> Result<(), Fail> {
 
 #[test]
 fn ports_are_picked_by_their_place(rt: HostRuntime) -> Result<(), Fail> {
-    let modulo = |conv: u16, count: usize| -> usize {
-        if count == 0 {
-            0
-        } else {
-            usize::from(conv) % count
-        }
-    };
     let mut d = Distributor::new(rt.alloc(), 2, 1, modulo)?;
     let mut ports = [0; 64];
     for (i, port) in (1000..).zip(ports.iter_mut()) {
