@@ -1,5 +1,6 @@
 -- The rows leave no choice: each call has one effect.
 use Rattle.std.proofs.Common.{◌≡◌, ℕ, zero, suc, Bool, true, false, cond, not, ◌&&◌, ◌||◌, List, [], ◌∷◌, refl, sym, ◌∙◌, ap, subst, inl, inr}
+use Rattle.std.proofs.lemmas.Bool.{and_left, and_right, and_parts, or_parts, not-true}
 use Rattle.lagtypes.specs.declared.party.Choice.{Choice}
 use Rattle.lagtypes.specs.declared.party.Choice.TheVariants.{Unselected, Selected}
 use Rattle.slowpdu.specs.declared.pdu.Lacpdu.{Lacpdu}
@@ -16,33 +17,6 @@ use Rattle.portmachines.specs.Transmit.{count_down}
 use Rattle.portmachines.specs.Calls.{Tick, Transmit, Set_link, Take, Mux, Periodic, Select, Reinit, OneEffect}
 
 -- tests
-
-and_left : (x y : Bool) → (x && y) ≡ true → x ≡ true
-and_left true y h = refl
-and_left false y h = h
-
-and_right : (x y : Bool) → (x && y) ≡ true → y ≡ true
-and_right true y h = h
-and_right false y h = cc
-
-not_left : (x y : Bool) → x ≡ false → (x && y) ≡ false
-not_left x y e = rw e refl
-
-not_right : (x y : Bool) → y ≡ false → (x && y) ≡ false
-not_right true y e = e
-not_right false y e = refl
-
-not_true : (x : Bool) → not x ≡ true → x ≡ false
-not_true true h = cc
-not_true false h = refl
-
-or_left : (x y : Bool) → (x || y) ≡ false → x ≡ false
-or_left true y h = h
-or_left false y h = refl
-
-or_right : (x y : Bool) → (x || y) ≡ false → y ≡ false
-or_right true y h = cc
-or_right false y h = h
 
 no : {A : Type 0} (b : Bool) → b ≡ true → b ≡ false → A
 no b t f = let e : false ≡ true = sym f ∙ t in cc
@@ -98,7 +72,7 @@ tests (row ∷ rows) p = row.enabled p ∷ tests rows p
 none-rest : (rows : List Row) (p : Machines) → none (tests rows p) ≡ true → AtRest rows p
 none-rest [] p h = tt
 none-rest (row ∷ rows) p h =
-    (not_true (row.enabled p) (and_left (not (row.enabled p)) (none (tests rows p)) h), none-rest rows p (and_right (not (row.enabled p)) (none (tests rows p)) h))
+    (not-true (row.enabled p) (and_parts (not (row.enabled p)) (none (tests rows p)) h).0, none-rest rows p (and_parts (not (row.enabled p)) (none (tests rows p)) h).1)
 
 cond-then : (b x : Bool) → cond b x true ≡ true → b ≡ true → x ≡ true
 cond-then true x h t = h
@@ -106,7 +80,7 @@ cond-then false x h t = let e : false ≡ true = t in cc
 
 later-rest : (row : Row) (rows : List Row) (p : Machines) → at_most_one (tests (row ∷ rows) p) ≡ true → row.enabled p ≡ true → AtRest rows p
 later-rest row rows p h t =
-    none-rest rows p (cond-then (row.enabled p) (none (tests rows p)) (and_left (cond (row.enabled p) (none (tests rows p)) true) (at_most_one (tests rows p)) h) t)
+    none-rest rows p (cond-then (row.enabled p) (none (tests rows p)) (and_parts (cond (row.enabled p) (none (tests rows p)) true) (at_most_one (tests rows p)) h).0 t)
 
 fires_one : (rows : List Row) (p q r : Machines) → at_most_one (tests rows p) ≡ true → Fires rows p q → Fires rows p r → q ≡ r
 fires_one [] p q r h f g = absurd f
@@ -115,7 +89,7 @@ fires_one (row ∷ rows) p q r h f g =
       | inl x ↦ elim g [ inl y ↦ x.1 ∙ sym y.1 | inr y ↦ absurd (none_fires rows p r (later-rest row rows p h x.0) y) ]
       | inr x ↦ elim g [
         | inl y ↦ absurd (none_fires rows p q (later-rest row rows p h y.0) x)
-        | inr y ↦ fires_one rows p q r (and_right (cond (row.enabled p) (none (tests rows p)) true) (at_most_one (tests rows p)) h) x y
+        | inr y ↦ fires_one rows p q r (and_parts (cond (row.enabled p) (none (tests rows p)) true) (at_most_one (tests rows p)) h).1 x y
       ]
     ]
 
@@ -125,8 +99,8 @@ in_order-not : (earlier : Machines → Bool) (rows : List Row) (p q : Machines) 
 in_order-not earlier [] p q f = absurd f
 in_order-not earlier (row ∷ rows) p q f =
     elim f [
-      | inl h ↦ not_true (earlier p) (and_left (not (earlier p)) (row.enabled p) h.0)
-      | inr h ↦ or_left (earlier p) (row.enabled p) (in_order-not (λ x. earlier x || row.enabled x) rows p q h)
+      | inl h ↦ not-true (earlier p) (and_parts (not (earlier p)) (row.enabled p) h.0).0
+      | inr h ↦ (or_parts (earlier p) (row.enabled p) (in_order-not (λ x. earlier x || row.enabled x) rows p q h)).0
     ]
 
 in_order-one : (earlier : Machines → Bool) (rows : List Row) (p q r : Machines) → Fires (in_order earlier rows) p q → Fires (in_order earlier rows) p r → q ≡ r
@@ -136,10 +110,10 @@ in_order-one earlier (row ∷ rows) p q r f g =
     elim f [
       | inl x ↦ elim g [
         | inl y ↦ x.1 ∙ sym y.1
-        | inr y ↦ no (row.enabled p) (and_right (not (earlier p)) (row.enabled p) x.0) (or_right (earlier p) (row.enabled p) (in_order-not next rows p r y))
+        | inr y ↦ no (row.enabled p) (and_parts (not (earlier p)) (row.enabled p) x.0).1 (or_parts (earlier p) (row.enabled p) (in_order-not next rows p r y)).1
       ]
       | inr x ↦ elim g [
-        | inl y ↦ no (row.enabled p) (and_right (not (earlier p)) (row.enabled p) y.0) (or_right (earlier p) (row.enabled p) (in_order-not next rows p q x))
+        | inl y ↦ no (row.enabled p) (and_parts (not (earlier p)) (row.enabled p) y.0).1 (or_parts (earlier p) (row.enabled p) (in_order-not next rows p q x)).1
         | inr y ↦ in_order-one next rows p q r x y
       ]
     ]
@@ -235,17 +209,17 @@ receive-way = record { same = λ p q r i f g. receive-same p p.receive q r i f g
 rest-counted : (p : Machines) (s : ReceiveState) (expired : Bool) → AtRest receive_rows (record p { receive = s }) → safe s p.enabled expired
 rest-counted p Initialize expired rest = tt
 rest-counted p PortDisabled expired rest = tt
-rest-counted p Expired expired rest = not_right expired (not p.enabled) rest.1.0
+rest-counted p Expired expired rest = and_right expired (not p.enabled) rest.1.0
 rest-counted p Defaulted expired rest = tt
-rest-counted p Current expired rest = not_right expired (not p.enabled) rest.1.0
+rest-counted p Current expired rest = and_right expired (not p.enabled) rest.1.0
 
 -- and after a change of the link
 rest-linked : (p : Machines) (s : ReceiveState) (enabled : Bool) → AtRest receive_rows (record p { receive = s }) → safe s enabled (current_while_expired p)
 rest-linked p Initialize enabled rest = tt
 rest-linked p PortDisabled enabled rest = tt
-rest-linked p Expired enabled rest = not_left (current_while_expired p) (not enabled) rest.1.1.1.0
+rest-linked p Expired enabled rest = and_left (current_while_expired p) (not enabled) rest.1.1.1.0
 rest-linked p Defaulted enabled rest = tt
-rest-linked p Current enabled rest = not_left (current_while_expired p) (not enabled) rest.1.1.1.1.0
+rest-linked p Current enabled rest = and_left (current_while_expired p) (not enabled) rest.1.1.1.1.0
 
 taking-one : (pdu : Lacpdu) (p q r : Machines) → Fires (taking_rows pdu) p q → Fires (taking_rows pdu) p r → q ≡ r
 taking-one pdu p q r f g = elim f [ inl x ↦ elim g [ inl y ↦ x.1 ∙ sym y.1 | inr y ↦ absurd y ] | inr x ↦ absurd x ]

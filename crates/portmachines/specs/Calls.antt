@@ -1,4 +1,4 @@
--- The calls of a port, and what the contract of each says.
+-- The calls of a port, and what the contract of each says (profile).
 use Rattle.std.specs.Prelude.{◌≡◌, ℕ, Bool, if◌then◌else◌}
 use Rattle.lagtypes.specs.declared.party.Party.{Party}
 use Rattle.lagtypes.specs.declared.party.Choice.{Choice}

@@ -1,4 +1,4 @@
--- How many rows are left to fire.
+-- How many rows are left to fire (profile).
 use Rattle.std.specs.Prelude.{ℕ, Bool, true, false}
 use Rattle.portmachines.specs.declared.mux.MuxState.{MuxState}
 use Rattle.portmachines.specs.declared.mux.MuxState.TheVariants.{Detached, Waiting, Attached, CollectingDistributing}

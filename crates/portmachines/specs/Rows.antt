@@ -1,4 +1,4 @@
--- A machine as a list of rows, and what it is that rows fire.
+-- A machine as a list of rows, and what it is that rows fire (profile).
 use Rattle.std.specs.Prelude.{◌≡◌, ℕ, suc, zero, Bool, not, ◌&&◌, ◌||◌, List, [], ◌∷◌, IsTrue, ◌⊎◌}
 use Rattle.std.specs.Bool.{IsFalse}
 use Rattle.portmachines.specs.Machines.{Machines}

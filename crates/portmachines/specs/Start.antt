@@ -1,4 +1,4 @@
--- How a port starts.
+-- How a port starts (6.4.12, 6.4.15).
 use Rattle.std.specs.Prelude.{◌≡◌, true, false, []}
 use Rattle.lagtypes.specs.declared.party.Choice.TheVariants.{Unselected}
 use Rattle.portmachines.specs.declared.port.Setup.{Setup}

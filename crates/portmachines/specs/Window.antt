@@ -1,4 +1,4 @@
--- The window of the transmit machine, over all calls of one port.
+-- The window of the transmit machine, over all calls of one port (6.4.16).
 use Rattle.std.specs.Prelude.{◌≡◌, ℕ, ◌+◌, ◌-◌, ◌≤◌, Bool, false, ◌&&◌, List, [], ◌∷◌, ◌++◌, length, map, nat_le, nat_lt, if◌then◌else◌}
 use Rattle.std.specs.List.{AllByRecursion}
 use Rattle.portmachines.specs.Machines.{Machines}

@@ -28,7 +28,7 @@ pub(crate) struct Machines {
     pub(crate) current_while: u16,
     /// What was recorded of the partner.
     pub(crate) partner: Info,
-    /// Whether the recorded partner is the administrative default.
+    /// Whether the partner was set by recordDefault, and by no LACPDU since.
     pub(crate) defaulted: bool,
     /// Whether the receive machine is in EXPIRED, as the state octet says it.
     pub(crate) expired: bool,

@@ -1,4 +1,4 @@
-ghost use Rattle.std.specs.Prelude.{◌≡◌, ◌≤◌, ◌+◌};
+ghost use Rattle.std.specs.Prelude.{◌≡◌, ◌+◌};
 ghost use Rattle.std.specs.Bool.{OnTrue, OnFalse};
 ghost use Rattle.portmachines.specs.Rows.{Fires, AtRest, Reaches};
 ghost use Rattle.portmachines.specs.Periodic.{periodic_rows, RunsPeriodic};

@@ -16,7 +16,7 @@ use lagtypes::{Choice, Party, State};
 use slowpdu::{Info, Lacpdu};
 use std::marker::Model;
 
-/// What a port is made from.
+/// What a port is made from (6.4.7).
 #[derive(Clone, Copy, Debug, PartialEq, Eq)]
 pub struct Setup {
     /// The port's own parameters.
@@ -27,8 +27,8 @@ pub struct Setup {
     pub short: bool,
 }
 
-/// One port: its receive, periodic, mux and transmit machines with their variables. Between calls the
-/// receive machine is at rest: none of its rows is enabled.
+/// One port: its receive, periodic, mux and transmit machines with their variables (6.4.12, 6.4.13, 6.4.15,
+/// 6.4.16). Between calls the receive machine is at rest: none of its rows is enabled (profile).
 #[derive(Drop)]
 pub struct Port {
     machines: Machines,
@@ -48,7 +48,7 @@ impl Model for Port {
 
 impl Port {
     /// A port whose link is down and whose machines have started. NTT is set, as the mux machine's start
-    /// sets it.
+    /// sets it (6.4.12, 6.4.15).
     pub fn new(setup: Setup) -> Port
         ensures { Starts (blank setup) result }
     {
@@ -89,7 +89,8 @@ impl Port {
         self.machines.take_lacpdu(pdu);
     }
 
-    /// One tick, 100 ms: counts timers and the ages of the window, then fires an expired current_while row.
+    /// One tick, 100 ms: counts timers and the ages of the window, then fires an expired current_while row
+    /// (6.4.10, 6.4.12, 6.4.16).
     pub fn tick(&mut self)
         ensures { Settles receive_rows (count_down self.old) self.new }
     {
@@ -139,14 +140,14 @@ impl Port {
         self.machines.take_due(max_delay)
     }
 
-    /// The port's own parameters.
+    /// The port's own parameters (6.4.7).
     pub fn party(&self) -> Party
         ensures { result ≡ self.now.party }
     {
         self.machines.party
     }
 
-    /// The recorded partner.
+    /// The recorded partner (6.4.7).
     pub fn partner(&self) -> Info
         ensures { result ≡ self.now.partner }
     {
@@ -160,91 +161,91 @@ impl Port {
         self.machines.state()
     }
 
-    /// Whether the link is up.
+    /// Whether the link is up: port_enabled (6.4.8).
     pub fn is_enabled(&self) -> bool
         ensures { result ≡ self.now.enabled }
     {
         self.machines.enabled
     }
 
-    /// Whether the recorded partner is the administrative default.
+    /// Whether the partner was set by recordDefault, and by no LACPDU since (6.4.2.3).
     pub fn is_defaulted(&self) -> bool
         ensures { result ≡ self.now.defaulted }
     {
         self.machines.defaulted
     }
 
-    /// The state of the receive machine.
+    /// The state of the receive machine (6.4.12).
     pub fn receive_state(&self) -> ReceiveState
         ensures { result ≡ self.now.receive }
     {
         self.machines.receive
     }
 
-    /// The state of the periodic machine.
+    /// The state of the periodic machine (6.4.13).
     pub fn periodic_state(&self) -> PeriodicState
         ensures { result ≡ self.now.periodic }
     {
         self.machines.periodic
     }
 
-    /// The state of the mux machine.
+    /// The state of the mux machine (6.4.15).
     pub fn mux_state(&self) -> MuxState
         ensures { result ≡ self.now.mux }
     {
         self.machines.mux
     }
 
-    /// Whether the port distributes frames to its aggregator.
+    /// Whether the port distributes: its mux machine is in COLLECTING_DISTRIBUTING (6.4.15).
     pub fn distributes(&self) -> bool
         ensures { result ≡ is_mux MuxState.CollectingDistributing self.now.mux }
     {
         self.machines.mux == MuxState::CollectingDistributing
     }
 
-    /// What the Selection Logic chose last, or UNSELECTED.
+    /// What the Selection Logic chose last, or UNSELECTED (6.4.8).
     pub fn choice(&self) -> Choice
         ensures { result ≡ self.now.choice }
     {
         self.machines.choice
     }
 
-    /// NTT: whether an LACPDU is asked for.
+    /// NTT: whether an LACPDU is asked for (6.4.8).
     pub fn ntt(&self) -> bool
         ensures { result ≡ self.now.ntt }
     {
         self.machines.ntt
     }
 
-    /// The ticks that current_while has left, up to 900.
+    /// The ticks that current_while has left, 0 to 900 (6.4.10).
     pub fn current_while(&self) -> u16
         ensures { result ≡ self.now.current_while }
     {
         self.machines.current_while
     }
 
-    /// The ticks that periodic_timer has left, up to 300.
+    /// The ticks that periodic_timer has left, 0 to 300 (6.4.10).
     pub fn periodic_timer(&self) -> u16
         ensures { result ≡ self.now.periodic_timer }
     {
         self.machines.periodic_timer
     }
 
-    /// The ticks that wait_while has left, up to 20.
+    /// The ticks that wait_while has left, 0 to 20 (6.4.10).
     pub fn wait_while(&self) -> u8
         ensures { result ≡ self.now.wait_while }
     {
         self.machines.wait_while
     }
 
-    /// Whether wait_while has expired.
+    /// Whether wait_while has expired: it has no ticks left (6.4.10).
     pub fn has_waited(&self) -> bool
         ensures { result ≡ (self.now.wait_while == 0) }
     {
         self.machines.wait_while == 0
     }
 
-    /// How many ticks ago each LACPDU of the window was sent, the oldest first.
+    /// How many ticks ago each LACPDU of the window was sent, 0 to 10, the oldest first (6.4.16).
     pub fn ages(&self) -> ArrayVec<u8, 3>
         ensures { result.items ≡ self.now.ages }
     {
@@ -252,7 +253,7 @@ impl Port {
     }
 }
 
-/// The rows leave no choice: each call of a port has one effect.
+/// The rows leave no choice: each call of a port has one effect (profile).
 pub fn each_call_has_one_effect()
     ensures { OneEffect }
 {}

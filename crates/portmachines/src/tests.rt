@@ -47,16 +47,8 @@ fn end(system: u8, state: u8) -> Info {
 
 fn zero(state: u8) -> Info {
     Info {
-        system: SystemId {
-            priority: 0,
-            mac: [0; 6],
-        },
-        key: Key(0),
-        port: PortId {
-            priority: 0,
-            number: 0,
-        },
         state: State::from_bits_retain(state),
+        ..Info::default()
     }
 }
 
@@ -250,17 +242,14 @@ fn the_whole_lacpdu_and_the_readers(rt: HostRuntime) {
     assert_eq!(rt; port.current_while(), 30);
     assert_eq!(rt; port.periodic_timer(), 10);
     run(&mut port, 10);
-    match port.transmit(0) {
-        Some(pdu) => {
-            assert_eq!(rt; pdu.actor, end(1, 0xc7));
-            assert_eq!(rt; pdu.partner, zero(2));
-            assert_eq!(rt; pdu.max_delay, 0);
-        }
-        None => assert!(rt; false),
-    }
+    let due = Lacpdu {
+        actor: end(1, 0xc7),
+        partner: zero(2),
+        max_delay: 0,
+    };
+    assert_eq!(rt; port.transmit(0), Some(due));
     run(&mut port, 2);
-    let ages = port.ages();
-    assert_eq!(rt; ages.len(), 1);
+    assert_eq!(rt; port.ages().as_slice(), [2].as_slice());
     port.select(Choice::Selected(AggId(1)));
     assert_eq!(rt; port.mux(false), 1);
     assert_eq!(rt; port.wait_while(), 20);
