@@ -16,10 +16,10 @@ use lagtypes::AggId;
 use std::alloc::Global;
 use std::marker::Model;
 
-/// One system (6.2): its ports, aggregators and conversations, and the algorithm that picks the ports of conversations. Bytes
-/// and ticks go in, frames come out; it has no clock and no link of its own. The algorithm is asked with the number of a
-/// conversation and a count of ports, at most 64, and its answer is a place among them, from 0: below the count where that
-/// is above 0.
+/// One system (6.2): its ports, aggregators and conversations, and the algorithm that picks the ports of conversations.
+/// Bytes and ticks go in, frames come out; it has no clock and no link of its own. The algorithm is asked with the number
+/// of a conversation and a count of ports, at most 64, and its answer is a place among them, from 0: below the count
+/// where that is above 0.
 #[derive(Drop)]
 pub struct System<F> {
     pub(crate) core: Core<F>,
@@ -83,8 +83,8 @@ impl<F: Fn(u16, usize) -> usize + Drop> System<F> {
         self.core.tick();
     }
 
-    /// The link of a port is up or down now: its receive rows fire, conversations on a port that goes down are free, and one
-    /// settling follows. `NoPort` where there is no such port (6.4.12; profile).
+    /// The link of a port is up or down now: its receive rows fire, conversations on a port that goes down are free, and
+    /// one settling follows. `NoPort` where there is no such port (6.4.12; profile).
     pub fn set_link(&mut self, port: u16, up: bool) -> Result<(), SystemFault>
         ensures step { Step (F.post self.old.algorithm) self.old.state (Call.Set_link port up) (Reply.SetLink result) self.new.state }
         ensures moves { JoinsViews self.old.state (Call.Set_link port up) (Reply.SetLink result) self.new.state }
@@ -135,8 +135,8 @@ impl<F: Fn(u16, usize) -> usize + Drop> System<F> {
 
     /// The port to send a frame on, in an aggregator; its conversation is then on that port. Refused in this order:
     /// `NoAggregator`, `FrameLength` outside 14 to 1518 octets, `SlowFrame` for EtherType 0x8809, `Held` while the
-    /// conversation is Wanted or Flushing, `NoneDistributing` where it is free and no port distributes in the aggregator (6.2.4;
-    /// profile).
+    /// conversation is Wanted or Flushing, `NoneDistributing` where it is free and no port distributes in the aggregator
+    /// (6.2.4; profile).
     pub fn offer(&mut self, agg: AggId, frame: &[u8]) -> Result<u16, SystemFault>
         requires usable { PicksPlaces (F.pre self.old.algorithm) (F.post self.old.algorithm) }
         ensures step { Step (F.post self.old.algorithm) self.old.state (Call.Offer agg frame.now) (Reply.Offer result) self.new.state }
@@ -148,10 +148,11 @@ impl<F: Fn(u16, usize) -> usize + Drop> System<F> {
         self.core.offer(agg, frame)
     }
 
-    /// Moves a conversation of an aggregator to a port, behind a marker on the port that it is on: its frames are held until
-    /// the response comes, or until `force`, a link that goes down or a restart frees it. Refused in this order: `NoAggregator`, `NoPort`, `NotAssigned` where the conversation is free or
-    /// there is none of this number, `Held` while it is Wanted or Flushing, `NotDistributing` where the port does not distribute in the
-    /// aggregator, `SamePort`, `MarkersSpent` (6.2.5; profile).
+    /// Moves a conversation of an aggregator to a port, behind a marker on the port that it is on: its frames are held
+    /// until the response comes, or until `force`, a link that goes down or a restart frees it. Refused in this order:
+    /// `NoAggregator`, `NoPort`, `NotAssigned` where the conversation is free or there is none of this number, `Held`
+    /// while it is Wanted or Flushing, `NotDistributing` where the port does not distribute in the aggregator,
+    /// `SamePort`, `MarkersSpent` (6.2.5; profile).
     pub fn move_conversation(&mut self, agg: AggId, conv: u16, port: u16) -> Result<(), SystemFault>
         ensures step { Step (F.post self.old.algorithm) self.old.state (Call.Move_conversation agg conv port) (Reply.MoveConversation result) self.new.state }
         ensures moves { JoinsViews self.old.state (Call.Move_conversation agg conv port) (Reply.MoveConversation result) self.new.state }

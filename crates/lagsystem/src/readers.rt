@@ -77,8 +77,8 @@ impl<F: Fn(u16, usize) -> usize + Drop> System<F> {
         }
     }
 
-    /// Whether recordDefault set the recorded partner of a port and no LACPDU did since (6.4.2.3, Defaulted); None where there is
-    /// no such port.
+    /// Whether recordDefault set the recorded partner of a port and no LACPDU did since (6.4.2.3, Defaulted); None where
+    /// there is no such port.
     pub fn defaulted(&self, port: u16) -> Option<bool>
         ensures { result ≡ option_map (λ p. p.defaulted) (port_of port self.now.state) }
     {
@@ -88,7 +88,8 @@ impl<F: Fn(u16, usize) -> usize + Drop> System<F> {
         }
     }
 
-    /// Whether a port distributes: its mux machine is in COLLECTING_DISTRIBUTING (6.4.15); None where there is no such port.
+    /// Whether a port distributes: its mux machine is in COLLECTING_DISTRIBUTING (6.4.15); None where there is no such
+    /// port.
     pub fn distributes(&self, port: u16) -> Option<bool>
         ensures { result ≡ option_map (λ p. is_mux MuxState.CollectingDistributing p.mux) (port_of port self.now.state) }
     {
@@ -118,7 +119,8 @@ impl<F: Fn(u16, usize) -> usize + Drop> System<F> {
         }
     }
 
-    /// The numbers of the ports that distribute in an aggregator (6.2.4), ascending, at most 64; empty where there is no such aggregator.
+    /// The numbers of the ports that distribute in an aggregator (6.2.4), ascending, at most 64; empty where there is no
+    /// such aggregator.
     pub fn distributing(&self, agg: AggId) -> ArrayVec<u16, 64>
         ensures { result.items ≡ distributing agg self.now.state.slots }
     {
