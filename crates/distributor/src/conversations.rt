@@ -195,6 +195,18 @@ impl<F: Fn(u16, usize) -> usize + Drop> Distributor<F> {
         self.table.mark(port)
     }
 
+    /// The identifier of the marker that `marker_for` would give a port: `None` if no conversation is
+    /// Wanted on it, or no identifier is left (profile; 6.5.3 for the marker).
+    pub fn due_marker(&self, port: u16) -> Option<u32>
+        ensures { result ≡ marker_due self.now.table port }
+    {
+        if self.table.is_wanted_on(port) {
+            self.next_marker()
+        } else {
+            None
+        }
+    }
+
     /// A response to a marker of this system with this identifier, which names this port, comes on
     /// it: frees every conversation that is Flushing on the port with the identifier, keeping its
     /// preferred port, and answers how many (profile).
