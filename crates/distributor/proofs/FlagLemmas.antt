@@ -20,17 +20,6 @@ none_flagged states flags long free = record {
   flagged = λ c k e. absurd (false≢true (sym (ap (flushes_in c) (free k)) ∙ e));
 }
 
--- one state is written that isn't Flushing
-pub set_flagged : (states : List Assignment) (flags : List Bool) (i : ℕ) (s : Assignment) → IsFlagged states flags → i < length states → is_flushing s ≡ false → IsFlagged (set states i s) flags
-set_flagged states flags i s h inside still = record {
-  flags_len = h.flags_len;
-  flagged = λ c k e. ⊎_elim
-      (λ (m : k ≡ i). absurd (false≢true (sym still ∙ sym (ap is_flushing (get_or-set_same states i s (Free None) inside)) ∙ sym (ap (λ x. is_flushing (state_at (set states i s) x)) m)
-      ∙ (and_parts (stands_in c (state_at (set states i s) k)) (is_flushing (state_at (set states i s) k)) e).1)))
-      (λ (n : k ≡ i → ⊥). h.flagged c k (sym (ap (flushes_in c) (get_or-set_other states i k s (Free None) n)) ∙ e))
-      (cases_eq k i);
-}
-
 -- what a change of one chain leaves in another is as it was
 elsewhere : (change : Change) (c d : ℕ) (s : Assignment) → (d ≡ c → ⊥) → stands_in d (within c (after change) s) ≡ true → within c (after change) s ≡ s
 elsewhere change c d s n h = elim (cases_Bool (stands_in c s)) [

@@ -4,5 +4,4 @@ pub mod FlagLemmas
 pub mod TableLemmas
 pub mod TickLemmas
 pub mod PickLemmas
-pub mod ChangeLemmas
 pub mod MoveLemmas

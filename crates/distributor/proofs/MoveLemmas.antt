@@ -7,13 +7,14 @@ use Rattle.std.proofs.lemmas.List.{get_or_past}
 use Rattle.distributor.specs.declared.assignment.Assignment.{Assignment}
 use Rattle.distributor.specs.declared.assignment.Assignment.TheVariants as state
 use Rattle.distributor.specs.declared.fault.DistFault.{DistFault}
-use Rattle.lagmodel.specs.View.{Conversation, Call, Pdu, at_conversation, replies_frame, port_of}
+use Rattle.lagmodel.specs.View.{Conversation, Call, Pdu, Setup, at_conversation, first_view, replies_frame, port_of}
 use Rattle.lagmodel.specs.Move.{Act, Change, ChangeAllowed, changed, FlowMove, FlowMoves, flushed}
 use Rattle.lagmodel.specs.Kept.{IsAmong, Become}
 use Rattle.lagmodel.proofs.Uses.{flows_become}
-use Rattle.distributor.specs.Conversations.{Table, state_of, place_of}
+use Rattle.distributor.specs.Conversations.{Table, first_table, state_of, place_of}
 use Rattle.distributor.specs.Changes.{Sets, Changes, Marks, after_leave, after_mark, after_release, after_down, after_tick}
 use Rattle.distributor.specs.Calls.{MaySend, moved, forced, distributes}
+use Rattle.distributor.proofs.TableLemmas.{first_free}
 use Rattle.distributor.specs.Moves.{conversation_of, flows_of, Among, Nowhere}
 
 eqb_flip : (m n : ℕ) → eqb m n ≡ eqb n m
@@ -225,3 +226,7 @@ mark_moves mac call t u port id r lt h = (
 -- nothing changes
 pub same_moves : (mac : List ℕ) (call : Call) (t u : Table) → u ≡ t → FlowMoves mac call Nowhere (flows_of t) [] (flows_of u)
 same_moves mac call t u e = ([], tt, refl, ap flows_of e)
+
+-- at the start every conversation is free for the law too
+pub first_flows : (u : Setup) (aggs : ℕ) → flows_of (first_table aggs u.first_marker) ≡ (first_view u).flows
+first_flows u aggs = λ i. record { state = λ agg conv. conversation_of (first_free aggs u.first_marker agg conv i); next = u.first_marker }

@@ -6,7 +6,7 @@ use Rattle.distributor.specs.declared.slots.Test.{Test}
 use Rattle.distributor.specs.declared.slots.Test.TheVariants.{WantsMarker, WaitsFor, IsOf}
 use Rattle.distributor.specs.Changes.{wants_marker, waits_for}
 
--- the port that a conversation has to do with
+-- the port on which a conversation is On, Wanted or Flushing
 abbrev pub port_of : Assignment → Option ℕ
 port_of (Free preferred) = None
 port_of (On port) = Some port
@@ -35,18 +35,20 @@ is_flushing (Flushing port id preferred age) = true
 abbrev pub flushes_in : ℕ → Assignment → Bool
 flushes_in chain s = stands_in chain s && is_flushing s
 
--- whether it has to do with the port
+-- whether it is On, Wanted or Flushing on the port
 abbrev pub is_of_port : ℕ → Assignment → Bool
 is_of_port port (Free preferred) = false
 is_of_port port (On p) = eqb p port
 is_of_port port (Wanted p preferred) = eqb p port
 is_of_port port (Flushing p id preferred age) = eqb p port
 
+-- whether it is counted by the test
 abbrev pub passes : Test → Assignment → Bool
 passes (WantsMarker port) s = wants_marker port s
 passes (WaitsFor port id) s = waits_for port id s
 passes (IsOf port) s = is_of_port port s
 
+-- the port of a test: whatever passes is on it
 abbrev pub tested_port : Test → ℕ
 tested_port (WantsMarker port) = port
 tested_port (WaitsFor port id) = port
@@ -85,7 +87,7 @@ pub record IsLinked (count : ℕ) (states : List Assignment) (next prev : List �
   pub joined : (c : ℕ) → c < 64 → Path next prev (count + c) (chains c) (count + c)
   pub homes : (c k : ℕ) → occurs k (chains c) ≡ cond (stands_in c (state_at states k)) 1 0
 
--- The flag of a chain is set where a conversation in it is Flushing.
+-- The flag of a chain is set if a conversation in it is Flushing.
 pub record IsFlagged (states : List Assignment) (flags : List Bool) : Type 0 where
   pub flags_len : length flags ≡ 64
   pub flagged : (c k : ℕ) → flushes_in c (state_at states k) ≡ true → get_or flags c false ≡ true

@@ -41,7 +41,7 @@ impl Assignment {
         }
     }
 
-    /// The port that it has to do with: none where it is free.
+    /// The port on which it is On, Wanted or Flushing: none if it is free.
     pub(crate) fn port(&self) -> Option<u16>
         ensures { result ≡ port_of self.now }
     {
@@ -53,7 +53,7 @@ impl Assignment {
         }
     }
 
-    /// Whether it has to do with this port.
+    /// Whether it is On, Wanted or Flushing on this port.
     pub(crate) fn is_of(&self, port: u16) -> bool
         ensures { result ≡ is_of_port port self.now }
     {

@@ -32,7 +32,7 @@ pub(crate) enum Test {
     WantsMarker(u16),
     /// Whether it is held until this response comes on this port.
     WaitsFor(u16, u32),
-    /// Whether it has to do with this port.
+    /// Whether it is On, Wanted or Flushing on this port.
     IsOf(u16),
 }
 

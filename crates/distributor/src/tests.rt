@@ -305,6 +305,11 @@ fn ports_are_picked_by_their_place(rt: HostRuntime) -> Result<(), Fail> {
     }
     assert_eq!(rt; d.assign(AggId(2), 255, &ports), Ok(1063));
     assert_eq!(rt; d.assign(AggId(2), 64, &ports), Ok(1000));
+    assert_eq!(rt; d.assign(AggId(2), 0, &ports), Ok(1000));
+    // no other conversation has moved, of neither aggregator
+    let free = Assignment::Free { preferred: None };
+    assert_eq!(rt; (d.state(AGG, 255), d.state(AGG, 64)), (free, free));
+    assert_eq!(rt; (d.state(AggId(2), 1), d.load(1000)), (free, 2));
     assert_eq!(rt; d.assign(AGG, 64, &[]), Err(DistFault::NoneDistributing));
     assert_eq!(rt; d.assign(AggId(3), 64, &ports), Err(DistFault::NotAssigned));
     assert_eq!(rt; d.move_to(AggId(2), 64, 1001, &ports), Ok(()));
