@@ -5,6 +5,7 @@ mod configurations;
 mod conversations;
 mod driven;
 mod frames;
+mod load;
 mod memory;
 
 use crate::{Config, PortChange, PortConfig, Received, System, SystemFault};
