@@ -6,6 +6,8 @@ mod load;
 mod memory;
 mod plan;
 
+ghost use Rattle.std.specs.Prelude.{◌<◌};
+
 use crate::tests::plan::plan_of;
 use crate::{
     AggId, Assignment, Choice, Config, Group, Info, Key, MuxState, NoMemory, Party, PortConfig,
