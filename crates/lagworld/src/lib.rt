@@ -1,0 +1,18 @@
+//! Two systems that are joined by cables, and what can happen to them.
+#![tactic(auto)]
+
+mod causes;
+mod fault;
+mod half;
+mod kept;
+mod laws;
+mod line;
+mod logs;
+mod reply;
+mod world;
+
+pub use fault::{RunFault, WorldFault};
+pub use lagscript::{BadWorld, Event, WorldConfig};
+pub use laws::{a_start_is_sound, each_event_happens, each_event_keeps};
+pub use reply::Reply;
+pub use world::World;
