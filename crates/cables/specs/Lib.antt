@@ -1,2 +1,3 @@
 pub mod AnyCable
 pub mod Cable
+pub mod Faults

@@ -2,7 +2,7 @@
 //!
 //! A cable carries `Item`s in one direction. What every kind keeps to is stated once, at the trait
 //! `Cable`: for proofs a cable is a list of items, a limit that never changes, and whether a place
-//! is reserved. `ListCable` takes memory as it fills, `RingCable` all of it when it is made, and
+//! is reserved. `ListCable` takes memory as it fills, on a `RingCable` a place is always reserved, and
 //! `AnyCable` is one or the other. The standard speaks of links alone: all of this is profile.
 #![tactic(auto)]
 

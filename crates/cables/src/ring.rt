@@ -1,20 +1,45 @@
 //! A cable with a limit.
 ghost use Rattle.std.specs.Prelude.{◌≡◌, ◌≢◌, ◌↔◌, [], Some, true, IfOk, IsErrOf};
+ghost use Rattle.cables.specs.Faults.{fault_number, fault_text};
 ghost use Rattle.cables.specs.declared.ring.CableFault.TheVariants.{Limit, NoMemory as OutOfMemory};
 
 use crate::cable::{Cable, NoMemory};
 use crate::item::Item;
 use circular_buffer::HeapCircularBuffer;
 use std::alloc::{AllocError, Global};
+use std::fmt;
 use std::marker::Model;
 
 /// Why a cable with a limit is not made (profile).
 #[derive(Clone, Copy, Debug, PartialEq, Eq)]
 pub enum CableFault {
     /// The limit is 0.
-    Limit = 1,
-    /// Memory ran out.
-    NoMemory = 2,
+    Limit,
+    /// Out of memory.
+    NoMemory,
+}
+
+impl CableFault {
+    /// Its number: 1 for `Limit`, 2 for `NoMemory` (profile).
+    pub fn number(&self) -> u8
+        ensures { result ≡ fault_number self.now }
+    {
+        match self {
+            CableFault::Limit => 1,
+            CableFault::NoMemory => 2,
+        }
+    }
+}
+
+impl fmt::Display for CableFault {
+    ghost output = { λ fault. Some (fault_text fault) };
+
+    fn fmt<W: fmt::Write>(&self, f: &mut fmt::Formatter<W>) -> fmt::Result {
+        match self {
+            CableFault::Limit => f.write_str("the limit is 0"),
+            CableFault::NoMemory => f.write_str("out of memory"),
+        }
+    }
 }
 
 impl From<AllocError> for CableFault {
@@ -26,8 +51,8 @@ impl From<AllocError> for CableFault {
     }
 }
 
-/// A cable with a limit of 1 to 65535 items (profile). It takes memory only when it is made, so
-/// `reserve_one` never refuses, and `push` only where the cable is full.
+/// A cable with a limit of 1 to 65535 items (profile). A place is always reserved, so `reserve_one`
+/// never refuses, and `push` only if the cable is full.
 #[derive(Drop)]
 pub struct RingCable {
     ring: HeapCircularBuffer<Item>,
@@ -73,7 +98,7 @@ impl Cable for RingCable {
     // Its limit is the one that it was made with.
     ghost limit = { λ c. Some c.limit };
 
-    // A place is always reserved, since the ring has its whole block from the start.
+    // A place is always reserved: `new` made the ring for as many items as the limit says.
     ghost reserved = { λ _. true };
 
     fn push(&mut self, item: Item) -> Result<(), Item> {

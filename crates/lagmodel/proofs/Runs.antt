@@ -1,5 +1,5 @@
 -- Runs of worlds, for a crate of two systems. A call of one of them as an event: calls_from, no_call. Cables: end_there, put_on,
--- put_nowhere. Worlds: same_world, same_view, runs_joined. What holds after a run: `lawful` of Events, and the lemma of each fact
+-- put_nowhere. One side: itself, self. Worlds: same_world, same_view, runs_joined. What holds after a run: `lawful` of Events, and the lemma of each fact
 -- in Laws.
 use Rattle.std.proofs.Common.{◌≡◌, ℕ, zero, suc, Bool, true, false, cond, ◌&&◌, Option, Some, None, List, [], ◌∷◌, ◌++◌, map, sym, refl, ap, ◌∙◌, subst, ◌⊎◌, inl, inr, eq-eqb}
 use Rattle.std.specs.Prelude.{option_to_list, slice_get}
@@ -13,7 +13,7 @@ use Rattle.lagmodel.proofs.Lines.{put_cases}
 use Rattle.lagmodel.proofs.LaneMoves.{cable_cases}
 
 -- A call in a world: what it was seen to do goes onto the cables.
-itself : {X : Type 0} (f : Side → X) (s t : Side) → f t ≡ at_side f s (f s) t
+pub itself : {X : Type 0} (f : Side → X) (s t : Side) → f t ≡ at_side f s (f s) t
 itself f One One = refl
 itself f One Two = refl
 itself f Two One = refl
@@ -33,7 +33,7 @@ none_called x s stamp kept w = λ i. record w {
   taken = λ t. itself w.taken s t i;
 }
 
-self : {X : Type 0} (f : Side → X) (s : Side) (x : X) → at_side f s x s ≡ x
+pub self : {X : Type 0} (f : Side → X) (s : Side) (x : X) → at_side f s x s ≡ x
 self f One x = refl
 self f Two x = refl
 

@@ -16,7 +16,7 @@ pub data Act : Type 0 where
 pub data PortMove : Type 0 where
   Stop : PortMove  -- 6.4.15
   Leave : PortMove  -- 6.4.8, Selected; 6.4.15, DETACHED
-  Desynchronise : PortMove  -- 6.4.12, EXPIRED
+  Desynchronise : PortMove  -- 6.4.12, EXPIRED and PORT_DISABLED
   Reconfigure : (party : Party) → PortMove  -- 6.4.7; 6.4.12, INITIALIZE
   Default : PortMove  -- 6.4.9, recordDefault; 6.4.12, DEFAULTED
   Take : (pdu : Lacpdu) (synchronised : Bool) → PortMove  -- 6.4.9, recordPDU and update_Selected; 6.4.12, CURRENT

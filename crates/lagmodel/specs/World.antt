@@ -1,4 +1,4 @@
--- Two systems that are joined by cables, and what can happen to them (profile; 6.4.1 wants full-duplex point-to-point links).
+-- Two systems that are joined by cables, and what can happen to them (profile; links are point-to-point: LACP_Enabled of 6.4.8).
 use Rattle.std.specs.Prelude.{◌≡◌, ◌≢◌, ℕ, zero, suc, Bool, true, false, ◌&&◌, cond, eqb, ◌⊎◌, Option, Some, None, option_map, List, [], ◌∷◌, ◌++◌, length, slice_get}
 use Rattle.lagtypes.specs.declared.party.Party.{Party}
 use Rattle.lagmodel.specs.View.{PortView, PortChange, View, Setup, IsSetup, first_view, Lacpdu, Pdu, Lacp, Marker, Response, Call}

@@ -1,6 +1,6 @@
 -- The first state of a system shows the first view.
 use Rattle.std.proofs.Common.{◌≡◌, ℕ, zero, suc, Bool, true, false, cond, eqb, Option, Some, None, List, [], ◌∷◌, length, refl, sym, ◌∙◌, subst, ap, ◌⊎◌, inl, inr}
-use Rattle.std.specs.Prelude.{◌&&◌, if◌then◌else◌, option_map, slice_get, slice_set}
+use Rattle.std.specs.Prelude.{◌&&◌, not, if◌then◌else◌, option_map, slice_get, slice_set}
 use Rattle.std.specs.List.{AllZip, AllByRecursion}
 use Rattle.std.proofs.lemmas.Bool.{and_parts, true≢false}
 use Rattle.lagtypes.specs.declared.identifiers.Key.{Key}
@@ -13,7 +13,7 @@ use Rattle.portmachines.specs.declared.mux.MuxState.TheVariants.{Detached, Waiti
 use Rattle.portmachines.specs.declared.port.Setup.{Setup as Start}
 use Rattle.portmachines.specs.declared.receive.ReceiveState.TheVariants.{Initialize, PortDisabled, Expired, Current}
 use Rattle.portmachines.specs.Machines.{Machines}
-use Rattle.lagtypes.specs.Choices.{is_selected}
+use Rattle.lagtypes.specs.Choices.{is_selected, is_unselected}
 use Rattle.portmachines.specs.Mux.{is_mux, mux_rows, partner_synchronized}
 use Rattle.portmachines.specs.Periodic.{periodic_rows, RunsPeriodic}
 use Rattle.portmachines.specs.Receive.{is_receive, receive_rows, start_receive}
@@ -147,7 +147,7 @@ and_none false b e = refl
 
 idle_mux : (ready : Bool) (party : Party) (p q : Machines) → Idle party p → Settles (mux_rows ready) p q → q ≡ p
 idle_mux ready party p q x h = stays (mux_rows ready) h.0 p q (
-  and_none (is_mux Detached p.mux) (is_selected p.choice) (ap is_selected x.nobody),
+  and_none (is_mux Detached p.mux) (not (is_unselected p.choice)) (ap (λ c. not (is_unselected c)) x.nobody),
   (
     and_no (is_mux Waiting p.mux) _ (ap (is_mux Waiting) x.detached),
     (

@@ -70,7 +70,7 @@ keeps_table old new e a = record {
 pub keeps_stays : (old new : State) → new ≡ old → Keeps old new
 keeps_stays old new e = keeps_slots old new (e ∙ ap (with_slots old) (sym (ap (λ (s : State). s.slots) e))) (ap (λ (s : State). numbers s.slots) e)
 
-zip_numbers : (R : Machines → Machines → Type 0) (xs ys : List Slot) → AllMove R xs ys → numbers ys ≡ numbers xs
+pub zip_numbers : (R : Machines → Machines → Type 0) (xs ys : List Slot) → AllMove R xs ys → numbers ys ≡ numbers xs
 zip_numbers R [] [] h = refl
 zip_numbers R [] (y ∷ ys) h = absurd h
 zip_numbers R (x ∷ xs) [] h = absurd h

@@ -23,3 +23,12 @@ pub mod OneStart
 pub mod Sound
 pub mod Windows
 pub mod DriveLemmas
+pub mod NoneStays
+pub mod NoneLeft
+pub mod Unready
+pub mod Quieting
+pub mod Skipping
+pub mod StillSteps
+pub mod Seen
+pub mod Distributing
+pub mod Sent

@@ -162,7 +162,7 @@ may_carry old g p port (Flushing q id preferred age) m e = absurd m
 
 offers_carried : (gives : ℕ → ℕ → ℕ → Type 0) (agg : AggId) (octets : List ℕ) (old : State) (answer : Result ℕ SystemFault) (new : State) → Offers gives agg octets old answer new → AreCarried old → AreCarried new
 offers_carried gives agg octets old (Ok port) new h c =
-    let conv = conversation_number octets in
+    let conv = conversation_number old octets in
     let may = assigned_may gives conv (distributing agg old.slots) (state_for old agg octets) port h.1 in
     sets_carried agg conv (On port) old new h.2.0 h.2.1 c (λ p e. may_carry old agg.0 p port (state_for old agg octets) may e)
 offers_carried gives agg octets old (Err fault) new h c = same_carried old new h.1 c

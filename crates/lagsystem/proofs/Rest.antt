@@ -65,7 +65,7 @@ rest_awake Current false h k = refl
 receive_awake : (p q : Machines) → Settles receive_rows p q → awake q ≡ true
 receive_awake p q h = rest_awake q.receive q.enabled h.2.0 h.2.1.1.0
 
-rest_steady : (m : MuxState) (c : Choice) (s : Bool) → (is_mux Attached m && is_unselected c) ≡ false → (is_mux CollectingDistributing m && (is_unselected c || not s)) ≡ false → steady_of m (is_selected c) s ≡ true
+rest_steady : (m : MuxState) (c : Choice) (s : Bool) → (is_mux Attached m && not (is_selected c)) ≡ false → (is_mux CollectingDistributing m && (not (is_selected c) || not s)) ≡ false → steady_of m (is_selected c) s ≡ true
 rest_steady Detached c s h k = refl
 rest_steady Waiting c s h k = refl
 rest_steady Attached (Selected agg) s h k = refl

@@ -11,7 +11,7 @@ use Rattle.lagsystem.specs.declared.drive.Reply.{Reply}
 use Rattle.lagsystem.specs.Calls.{Call, Step}
 use Rattle.lagsystem.specs.First.{IsFirst}
 use Rattle.lagsystem.specs.Shown.{AreSteady, JoinsViews, configured, view_of}
-use Rattle.lagsystem.specs.Sound.{Agrees, Distribute, HasPorts, IsSound}
+use Rattle.lagsystem.specs.Sound.{Agrees, Answers, Distribute, HasPorts, IsSound}
 use Rattle.lagsystem.specs.State.{State}
 use Rattle.lagsystem.specs.Windows.{AreWindowed}
 use Rattle.lagsystem.proofs.FirstView.{configured_setup, first_shows}
@@ -21,6 +21,7 @@ use Rattle.lagsystem.proofs.Conversing.{rest_distributes}
 use Rattle.lagsystem.proofs.Rest.{Step-rested, first_rested}
 use Rattle.lagsystem.proofs.Rising.{ports_rise}
 use Rattle.lagsystem.proofs.Steps.{Step-joins}
+use Rattle.lagsystem.proofs.StillSteps.{Step-quiet, first_quiet}
 use Rattle.lagsystem.proofs.Windows.{Step-three, first_three, window_law}
 
 pub first_sound : (s : State) → HasPorts s → IsFirst s → IsSound s
@@ -31,6 +32,7 @@ first_sound s p h = record {
   rested = first_rested s h;
   windowed = first_three s h;
   members = subst (λ (v : View). Members (configured s) v.port) (sym (first_shows s h)) (members_first (configured s) (configured_setup s));
+  quiet = first_quiet s p h;
 }
 
 pub joins : (gives : ℕ → ℕ → ℕ → Type 0) (old : State) (call : Call) (answer : Reply) (new : State) → Step gives old call answer new → IsSound old → JoinsViews old call answer new
@@ -45,6 +47,7 @@ Step-sound gives old call answer new h s =
       carried = Step-carried gives old call answer new h s.carried;
       rested = Step-rested gives old call answer new h s.rested;
       windowed = Step-three gives old call answer new h s.windowed;
+      quiet = Step-quiet gives old call answer new h s.ports s.quiet;
       members = subst (λ u. Members u (view_of new).port) (sym (ap configured (Step-frame gives old call answer new h))) kept;
     }
 
@@ -65,3 +68,13 @@ agrees s h = record {
 -- a single call keeps the window
 pub one_windowed : (gives : ℕ → ℕ → ℕ → Type 0) (old : State) (call : Call) (answer : Reply) (new : State) → Step gives old call answer new → IsSound old → AreWindowed old (call ∷ []) (answer ∷ [])
 one_windowed gives old call answer new h s = window_law gives old new (call ∷ []) (answer ∷ []) s.windowed (new, h, refl)
+
+-- a step of a sound system is what every call promises
+pub answers : (gives : ℕ → ℕ → ℕ → Type 0) (old : State) (call : Call) (reply : Reply) (new : State) → Step gives old call reply new → IsSound old → Answers gives old call reply new
+answers gives old call reply new h s = record {
+  step = h;
+  moves = joins gives old call reply new h s;
+  window = one_windowed gives old call reply new h s;
+  agrees = agrees new (Step-sound gives old call reply new h s);
+  configured = ap configured (Step-frame gives old call reply new h);
+}

@@ -47,7 +47,7 @@ use Rattle.lagsystem.specs.declared.drive.Reply.{Reply}
 use Rattle.lagsystem.specs.declared.drive.Reply.TheVariants as reply
 use Rattle.lagsystem.specs.declared.fault.SystemFault.{SystemFault}
 use Rattle.lagsystem.specs.declared.fault.SystemFault.TheVariants.{NoPort, NoAggregator}
-use Rattle.lagsystem.specs.Readers.{collecting, conversation_of, distributing}
+use Rattle.lagsystem.specs.Readers.{collecting, conversation_of, conversations, distributing}
 use Rattle.lagsystem.specs.Offers.{Becomes, Offers, force_answer, has_aggregator, in_system, known, move_answer, state_for}
 use Rattle.lagsystem.specs.Sending.{SendsAt, SendsLacpdu, SendsMarkerOf, SendsWhere, own_marker}
 use Rattle.lagsystem.specs.Calls.{Call, Tick, Set_link, Receive, Configure, Restart, Transmit, Offer, Move_conversation, Force, AllTick, AnswersMarker, ChangesLink, ChangesParty, Does, Frame, Runt, Data_frame, Faulty, Carries, Frees, HearsWhere, IsFrame, LinksPort, Makes, OnPlace, OnPort, Releases, Settled, Takes, handed, is_for, Step}
@@ -208,7 +208,7 @@ taken_by slot octets v (Carries (pdu.Marker m)) h k = absurd (no_marker (answer_
   where
     no_marker : (o : Option Marker) → AnswersMarker slot.mac m o (Taken v) → ⊥
     no_marker None e = not_taken v m e
-    no_marker (Some answer) e = not_both v _ e.2
+    no_marker (Some answer) e = not_both v _ e.3
 
 heard_taken : (slot : Slot) (octets : List ℕ) (v : Lacpdu) (b : Bool) → HearsWhere b slot octets (Taken v) → (b ≡ true) × IsFrame octets (Carries (pdu.Lacpdu v))
 heard_taken slot octets v false h = absurd (not_both v Disabled h)
@@ -220,7 +220,7 @@ not_marked m r e = not_answered r m (sym e)
 
 is_response : (k : MarkerKind) (m w : Marker) (mac : List ℕ) → m.kind ≡ k → AnswersMarker mac m (answer_of k m) (Response w) → (w ≡ m) × (m.kind ≡ kind.Response)
 is_response kind.Response m w mac e h = (ap (response_or w) h, e)
-is_response kind.Information m w mac e h = absurd (not_marked w _ h.2)
+is_response kind.Information m w mac e h = absurd (not_marked w _ h.3)
 
 response_by : (slot : Slot) (octets : List ℕ) (w : Marker) (frame : Frame) → IsFrame octets frame → Makes slot frame (Response w) → IsFrame octets (Carries (pdu.Marker w)) × (w.kind ≡ kind.Response)
 response_by slot octets w Runt h m = absurd (not_marked w Dropped m)
@@ -236,50 +236,50 @@ heard_response slot octets w false h = absurd (not_marked w Disabled h)
 heard_response slot octets w true h = response_by slot octets w h.0 h.1 h.2
 
 -- an answer, without effect
-abbrev Tellable : Setup → Flows → ℕ → List ℕ → List Slot → Received → Type 0
-Tellable u f n octets slots answer =
-    (told : Told) × (seen : List Act) × Tells (Receive n octets) told × Sees (Receive n octets) (reply.Receive (Ok answer)) seen × FreeMoves u told (view_at f slots) seen (view_at f slots)
+abbrev Tellable : State → Setup → Flows → ℕ → List ℕ → List Slot → Received → Type 0
+Tellable w u f n octets slots answer =
+    (told : Told) × (seen : List Act) × Tells (Receive n octets) told × Sees w (Receive n octets) (reply.Receive (Ok answer)) seen × FreeMoves u told (view_at f slots) seen (view_at f slots)
 
-silent : (u : Setup) (f : Flows) (n : ℕ) (octets : List ℕ) (slots : List Slot) (answer : Received) → Sees (Receive n octets) (reply.Receive (Ok answer)) [] → Tellable u f n octets slots answer
-silent u f n octets slots answer s = (Told_receive n None, [], (None, tt, refl), s, ([], tt, refl, refl))
+silent : (w : State) (u : Setup) (f : Flows) (n : ℕ) (octets : List ℕ) (slots : List Slot) (answer : Received) → Sees w (Receive n octets) (reply.Receive (Ok answer)) [] → Tellable w u f n octets slots answer
+silent w u f n octets slots answer s = (Told_receive n None, [], (None, tt, refl), s, ([], tt, refl, refl))
 
-handed_silently : (u : Setup) (f : Flows) (n : ℕ) (octets : List ℕ) (slots : List Slot) (o : Option AggId) → Tellable u f n octets slots (handed o)
-handed_silently u f n octets slots None = silent u f n octets slots Dropped refl
-handed_silently u f n octets slots (Some agg) = silent u f n octets slots (Up agg) refl
+handed_silently : (w : State) (u : Setup) (f : Flows) (n : ℕ) (octets : List ℕ) (slots : List Slot) (o : Option AggId) → Tellable w u f n octets slots (handed o)
+handed_silently w u f n octets slots None = silent w u f n octets slots Dropped refl
+handed_silently w u f n octets slots (Some agg) = silent w u f n octets slots (Up agg) refl
 
 -- a marker is answered
-responds : (u : Setup) (f : Flows) (n i : ℕ) (octets : List ℕ) (slots : List Slot) (slot : Slot) (m : Marker) (k : MarkerKind) (answer : Received) → Rises 0 (numbers slots) → place_of n slots ≡ Some i → slice_get slots i ≡ Some slot
-    → m.kind ≡ k → IsFrame octets (Carries (pdu.Marker m)) → AnswersMarker slot.mac m (answer_of k m) (Answered answer) → Tellable u f n octets slots answer
-responds u f n i octets slots slot m kind.Response answer r e g is h a = absurd (not_answered answer m a)
-responds u f n i octets slots slot m kind.Information answer r e g is h a =
+responds : (w : State) (u : Setup) (f : Flows) (n i : ℕ) (octets : List ℕ) (slots : List Slot) (slot : Slot) (m : Marker) (k : MarkerKind) (answer : Received) → Rises 0 (numbers slots) → place_of n slots ≡ Some i → slice_get slots i ≡ Some slot
+    → m.kind ≡ k → IsFrame octets (Carries (pdu.Marker m)) → AnswersMarker slot.mac m (answer_of k m) (Answered answer) → Tellable w u f n octets slots answer
+responds w u f n i octets slots slot m kind.Response answer r e g is h a = absurd (not_answered answer m a)
+responds w u f n i octets slots slot m kind.Information answer r e g is h a =
     let call = Told_receive n (Some (Message.Marker m.system m.port m.id)) in
     let seen : List Act = Shows n (Message.Response m.system m.port m.id) ∷ [] in
     let brought : Message.Marker m.system m.port m.id ≡ marker_message m.kind m = ap (λ k. marker_message k m) (sym is) in
     let moves = one_moves u call f n i slots slot slot.port seen r e g (PortMove.Respond m.system m.port m.id ∷ [], (λ ports. refl, tt), refl, refl) in
     let same : slice_set slots i (record slot { port = slot.port }) ≡ slots = set_same slots i slot g in
-    subst (Tellable u f n octets slots) (sym (ap (answer_or answer) a.2)) (
+    subst (Tellable w u f n octets slots) (sym (ap (answer_or answer) a.3)) (
       call,
       seen,
       (Some (Message.Marker m.system m.port m.id), (pdu.Marker m, h, brought), refl),
-      (record m { kind = kind.Response }, (slot.mac, a.0, a.1, refl), refl),
+      (record m { kind = kind.Response }, (slot.mac, a.0, a.1, a.2, refl), refl),
       subst (λ l. FreeMoves u call (view_at f slots) seen (view_at f l)) same moves,
     )
 
-answered_by : (u : Setup) (f : Flows) (n i : ℕ) (octets : List ℕ) (slots : List Slot) (slot : Slot) (answer : Received) (frame : Frame) → Rises 0 (numbers slots) → place_of n slots ≡ Some i → slice_get slots i ≡ Some slot
-    → IsFrame octets frame → Makes slot frame (Answered answer) → Tellable u f n octets slots answer
-answered_by u f n i octets slots slot answer Runt r e g h m = subst (Tellable u f n octets slots) (sym (ap (answer_or answer) m)) (silent u f n octets slots Dropped refl)
-answered_by u f n i octets slots slot answer Data_frame r e g h m = subst (Tellable u f n octets slots) (sym (ap (answer_or answer) m)) (handed_silently u f n octets slots (collecting slot.port))
-answered_by u f n i octets slots slot answer (Faulty fault) r e g h m = subst (Tellable u f n octets slots) (sym (ap (answer_or answer) m)) (silent u f n octets slots (Ignored fault) refl)
-answered_by u f n i octets slots slot answer (Carries (pdu.Lacpdu w)) r e g h m = absurd (not_both w answer (sym m))
-answered_by u f n i octets slots slot answer (Carries (pdu.Marker m)) r e g h a = responds u f n i octets slots slot m m.kind answer r e g refl h a
+answered_by : (w : State) (u : Setup) (f : Flows) (n i : ℕ) (octets : List ℕ) (slots : List Slot) (slot : Slot) (answer : Received) (frame : Frame) → Rises 0 (numbers slots) → place_of n slots ≡ Some i → slice_get slots i ≡ Some slot
+    → IsFrame octets frame → Makes slot frame (Answered answer) → Tellable w u f n octets slots answer
+answered_by w u f n i octets slots slot answer Runt r e g h m = subst (Tellable w u f n octets slots) (sym (ap (answer_or answer) m)) (silent w u f n octets slots Dropped refl)
+answered_by w u f n i octets slots slot answer Data_frame r e g h m = subst (Tellable w u f n octets slots) (sym (ap (answer_or answer) m)) (handed_silently w u f n octets slots (collecting slot.port))
+answered_by w u f n i octets slots slot answer (Faulty fault) r e g h m = subst (Tellable w u f n octets slots) (sym (ap (answer_or answer) m)) (silent w u f n octets slots (Ignored fault) refl)
+answered_by w u f n i octets slots slot answer (Carries (pdu.Lacpdu v)) r e g h m = absurd (not_both v answer (sym m))
+answered_by w u f n i octets slots slot answer (Carries (pdu.Marker m)) r e g h a = responds w u f n i octets slots slot m m.kind answer r e g refl h a
 
-heard_answer : (u : Setup) (f : Flows) (n i : ℕ) (octets : List ℕ) (slots : List Slot) (slot : Slot) (answer : Received) (b : Bool) → Rises 0 (numbers slots) → place_of n slots ≡ Some i → slice_get slots i ≡ Some slot
-    → HearsWhere b slot octets (Answered answer) → Tellable u f n octets slots answer
-heard_answer u f n i octets slots slot answer false r e g h = subst (Tellable u f n octets slots) (sym (ap (answer_or answer) h)) (silent u f n octets slots Disabled refl)
-heard_answer u f n i octets slots slot answer true r e g h = answered_by u f n i octets slots slot answer h.0 r e g h.1 h.2
+heard_answer : (w : State) (u : Setup) (f : Flows) (n i : ℕ) (octets : List ℕ) (slots : List Slot) (slot : Slot) (answer : Received) (b : Bool) → Rises 0 (numbers slots) → place_of n slots ≡ Some i → slice_get slots i ≡ Some slot
+    → HearsWhere b slot octets (Answered answer) → Tellable w u f n octets slots answer
+heard_answer w u f n i octets slots slot answer false r e g h = subst (Tellable w u f n octets slots) (sym (ap (answer_or answer) h)) (silent w u f n octets slots Disabled refl)
+heard_answer w u f n i octets slots slot answer true r e g h = answered_by w u f n i octets slots slot answer h.0 r e g h.1 h.2
 
 -- a frame without effect
-nothing : (old : State) (call : Call) (answer : Reply) (new : State) (told : Told) → Tells call told → Sees call answer [] → new ≡ old → JoinsViews old call answer new
+nothing : (old : State) (call : Call) (answer : Reply) (new : State) (told : Told) → Tells call told → Sees old call answer [] → new ≡ old → JoinsViews old call answer new
 nothing old call answer new told t s e = (told, [], t, s, ([], tt, refl, ap view_of e))
 
 -- a response for this system frees what waits for it
@@ -327,7 +327,7 @@ receives old n octets slot (Response m) answer new i r rested e g h d =
     let x = heard_response slot octets m slot.port.enabled h in
     releases (is_for old slot.number m) n slot.number octets m old answer new (found_place n old.slots i slot e g) refl x.0 x.1 d
 receives old n octets slot (Answered a) answer new i r rested e g h d =
-    let t = heard_answer (configured old) (flows_of old.table) n i octets old.slots slot a slot.port.enabled r e g h in
+    let t = heard_answer old (configured old) (flows_of old.table) n i octets old.slots slot a slot.port.enabled r e g h in
     subst (λ (s : State). JoinsViews old (Receive n octets) (reply.Receive (Ok answer)) s) (sym d.1) (subst (λ a. JoinsViews old (Receive n octets) (reply.Receive (Ok a)) old) (sym d.0) t)
 
 receives_place : (old : State) (n : ℕ) (octets : List ℕ) (slot : Slot) (heard : Heard) (answer : Received) (new : State) (o : Option ℕ) → Rises 0 (numbers old.slots) → AreRested old.slots
@@ -350,7 +350,7 @@ sends_lacpdu old n i slot answer new r rested e g h =
     let moves = one_moves u Told.Transmit f n i old.slots slot (sent p) seen r e g quietly in
     let whole = subst (λ (s : State). FreeMoves u Told.Transmit (view_of old) seen (view_of s)) (sym h.3) moves in
     subst (λ a. JoinsViews old (Transmit n) (reply.Transmit (Ok a)) new) (sym h.2)
-    (Told.Transmit, seen, refl, (pdu.Lacpdu v, (slot.mac, h.1.0, h.1.2, h.1.3), refl), whole)
+    (Told.Transmit, seen, refl, (pdu.Lacpdu v, (slot.mac, h.1.0, h.1.1, h.1.2, h.1.3), refl), whole)
 
 below : (o : Option ℕ) (b : Bool) (n id : ℕ) → cond b (cond (ltb n (2 ^ 32)) (Some n) None) None ≡ Some id → id < 2 ^ 32
 below o false n id e = absurd (none-some id e)
@@ -373,7 +373,7 @@ sends_marker (Some id) old n port mac answer new d p h =
     let all = table_moved u Told.Transmit seen old new h.5 (table_moves u Told.Transmit old.slots old.table new.table seen moves) in
     let told : Shows n (Message.Marker old.system.mac n id) ∷ [] ≡ Shows n (read_as (pdu.Marker m)) ∷ [] = λ i. Shows n (Message.Marker old.system.mac (sym p i) id) ∷ [] in
     subst (λ a. JoinsViews old (Transmit n) (reply.Transmit (Ok a)) new) (sym h.3)
-    (Told.Transmit, seen, refl, (pdu.Marker m, (mac, h.0, h.2, refl), told), all)
+    (Told.Transmit, seen, refl, (pdu.Marker m, (mac, h.0, h.1, h.2, refl), told), all)
 
 sends_where : (up due : Bool) (old : State) (n i : ℕ) (slot : Slot) (answer : Option (List ℕ)) (new : State) → Rises 0 (numbers old.slots) → AreRested old.slots → place_of n old.slots ≡ Some i → slice_get old.slots i ≡ Some slot
     → SendsWhere up due i slot old answer new → JoinsViews old (Transmit n) (reply.Transmit (Ok answer)) new
@@ -393,7 +393,7 @@ offers : (gives : ℕ → ℕ → ℕ → Type 0) (agg : AggId) (octets : List �
     → Offers gives agg octets old answer new → JoinsViews old (Offer agg octets) (reply.Offer answer) new
 offers gives agg octets old (Ok port) new r rested h =
     let u = configured old in
-    let conv = conversation_of octets in
+    let conv = conversation_of old octets in
     let ports = distributing agg old.slots in
     let may = assigned_may gives conv ports (state_for old agg octets) port h.1 in
     let seen : List Act = Sends_frame port agg.0 conv ∷ [] in
@@ -414,15 +414,15 @@ known_ok false x fault s e = absurd cc
 pub moved_to : (agg : AggId) (conv port : ℕ) (old : State) (s : Assignment) → move_answer old agg conv port ≡ Ok s → moved (next_identifier old.table) (distributing agg old.slots) port (state_of old.table agg.0 conv) ≡ Ok s
 moved_to agg conv port old s e =
     let answer : Result Assignment DistFault = moved (next_identifier old.table) (distributing agg old.slots) port (state_of old.table agg.0 conv) in
-    let inner : Result Assignment SystemFault = in_system (known conv answer) in
-    known_ok (nat_lt conv 256) answer NotAssigned s
+    let inner : Result Assignment SystemFault = in_system (known old conv answer) in
+    known_ok (nat_lt conv (conversations old)) answer NotAssigned s
     (if_ok (is_some (place_of port old.slots)) inner NoPort s
     (if_ok (has_aggregator old agg) (if is_some (place_of port old.slots) then inner else Err NoPort) NoAggregator s e))
 
 pub forced_to : (agg : AggId) (conv : ℕ) (old : State) (s : Assignment) → force_answer old agg conv ≡ Ok s → forced (state_of old.table agg.0 conv) ≡ Ok s
 forced_to agg conv old s e =
     let answer : Result Assignment DistFault = forced (state_of old.table agg.0 conv) in
-    known_ok (nat_lt conv 256) answer NotAssigned s (if_ok (has_aggregator old agg) (in_system (known conv answer)) NoAggregator s e)
+    known_ok (nat_lt conv (conversations old)) answer NotAssigned s (if_ok (has_aggregator old agg) (in_system (known old conv answer)) NoAggregator s e)
 
 moves_conversation : (agg : AggId) (conv port : ℕ) (what : Result Assignment SystemFault) (old : State) (answer : Result Unit SystemFault) (new : State) → move_answer old agg conv port ≡ what
     → Becomes agg conv what old answer new → JoinsViews old (Move_conversation agg conv port) (reply.MoveConversation answer) new

@@ -11,6 +11,7 @@ use Rattle.slowpdu.specs.declared.pdu.Pdu.TheVariants as pdu
 use Rattle.slowpdu.specs.declared.fault.WireFault.{WireFault}
 use Rattle.slowpdu.specs.Faults.{fault_of}
 use Rattle.slowpdu.specs.Frames.{IsSlow, frame_octets}
+use Rattle.slowpdu.specs.Layout.{IsAddress}
 use Rattle.slowpdu.specs.Markers.{WritesMarker, response_to}
 use Rattle.slowpdu.specs.Pdus.{ReadsPdu}
 use Rattle.collector.specs.Collecting.{IsDataFrame}
@@ -146,7 +147,7 @@ handed (Some agg) = Up agg
 -- a marker is answered from this address; a response is handed on
 abbrev pub AnswersMarker : List ℕ → Marker → Option Marker → Heard → Type 0
 AnswersMarker mac m None heard = heard ≡ Response m
-AnswersMarker mac m (Some answer) heard = (payload : List ℕ) × WritesMarker payload answer × (heard ≡ Answered (Respond (frame_octets mac payload)))
+AnswersMarker mac m (Some answer) heard = (payload : List ℕ) × IsAddress mac × WritesMarker payload answer × (heard ≡ Answered (Respond (frame_octets mac payload)))
 
 -- what an enabled port makes of a frame
 abbrev pub Makes : Slot → Frame → Heard → Type 0

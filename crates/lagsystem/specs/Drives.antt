@@ -3,9 +3,8 @@ use Rattle.std.specs.Prelude.{◌≡◌, ℕ, List, [], ◌∷◌}
 use Rattle.lagsystem.specs.declared.drive.Call.{Call as Asked}
 use Rattle.lagsystem.specs.declared.drive.Call.TheVariants as asked
 use Rattle.lagsystem.specs.declared.drive.Reply.{Reply}
-use Rattle.lagsystem.specs.Calls.{Call, Receive, Tick, Set_link, Configure, Restart, Transmit, Offer, Move_conversation, Force, Step}
-use Rattle.lagsystem.specs.Shown.{JoinsViews}
-use Rattle.lagsystem.specs.Sound.{Agrees}
+use Rattle.lagsystem.specs.Calls.{Call, Receive, Tick, Set_link, Configure, Restart, Transmit, Offer, Move_conversation, Force}
+use Rattle.lagsystem.specs.Sound.{Answers}
 use Rattle.lagsystem.specs.State.{State}
 
 -- a call that is handed over
@@ -20,11 +19,10 @@ call_of (asked.Offer agg octets) = Offer agg octets.items
 call_of (asked.MoveConversation agg conv port) = Move_conversation agg conv port
 call_of (asked.Force agg conv) = Force agg conv
 
--- The system gives these replies to these calls: each is a step, joins the views by free moves that others see as its reply
--- has them, and leaves a system whose ports agree.
+-- The system gives these replies to these calls, and each is what a call promises.
 abbrev pub Drives : (ℕ → ℕ → ℕ → Type 0) → State → List Call → List Reply → State → Type 0
 Drives gives old [] [] new = new ≡ old
 Drives gives old (call ∷ calls) (answer ∷ answers) new =
-    (mid : State) × Step gives old call answer mid × JoinsViews old call answer mid × Agrees mid × Drives gives mid calls answers new
+    (mid : State) × Answers gives old call answer mid × Drives gives mid calls answers new
 Drives gives old [] (answer ∷ answers) new = ⊥
 Drives gives old (call ∷ calls) [] new = ⊥

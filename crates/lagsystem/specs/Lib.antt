@@ -13,3 +13,8 @@ pub mod Leaving
 pub mod Kept
 pub mod Windows
 pub mod Drives
+pub mod Quiet
+pub mod Again
+pub mod Hosts
+pub mod Due
+pub mod Texts

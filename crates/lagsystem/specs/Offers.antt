@@ -13,7 +13,7 @@ use Rattle.distributor.specs.Conversations.{next_identifier, state_of}
 use Rattle.lagsystem.specs.declared.fault.SystemFault.{SystemFault}
 use Rattle.lagsystem.specs.declared.fault.SystemFault.TheVariants.{NoPort, NoAggregator, FrameLength, SlowFrame}
 use Rattle.lagsystem.specs.Faults.{system_fault}
-use Rattle.lagsystem.specs.Readers.{conversation_of, distributing}
+use Rattle.lagsystem.specs.Readers.{conversation_of, conversations, distributing}
 use Rattle.lagsystem.specs.State.{State, with_table, place_of}
 
 -- the longest frame that may be offered: a full frame with one VLAN tag, in octets
@@ -28,7 +28,7 @@ is_frame_length octets = nat_le 14 (length octets) && nat_le (length octets) lon
 
 -- what the conversation of a frame is doing
 abbrev pub state_for : State → AggId → List ℕ → Assignment
-state_for s agg octets = state_of s.table agg.0 (conversation_of octets)
+state_for s agg octets = state_of s.table agg.0 (conversation_of s octets)
 
 -- one conversation takes this state, and nothing else changes
 abbrev pub TakesState : AggId → ℕ → Assignment → State → State → Type 0
@@ -50,7 +50,7 @@ IsOffered s agg octets = IsTrue (has_aggregator s agg) × MayBeSent octets
 
 -- what the distributor answers for it: the ports that distribute in the aggregator may carry it
 abbrev pub Distributes : (ℕ → ℕ → ℕ → Type 0) → State → AggId → List ℕ → Result ℕ DistFault → Type 0
-Distributes gives s agg octets answer = Assigns gives (conversation_of octets) (distributing agg s.slots) (state_for s agg octets) answer
+Distributes gives s agg octets answer = Assigns gives (conversation_of s octets) (distributing agg s.slots) (state_for s agg octets) answer
 
 -- a frame is refused with the first cause that holds
 abbrev pub RefusesOffer : (ℕ → ℕ → ℕ → Type 0) → State → AggId → List ℕ → SystemFault → Type 0
@@ -63,12 +63,12 @@ RefusesOffer gives s agg octets fault =
 -- a frame goes on a port, and its conversation is then on that port; or it is refused, and nothing changes
 abbrev pub Offers : (ℕ → ℕ → ℕ → Type 0) → AggId → List ℕ → State → Result ℕ SystemFault → State → Type 0
 Offers gives agg octets old (Ok port) new =
-    IsOffered old agg octets × Distributes gives old agg octets (Ok port) × TakesState agg (conversation_of octets) (On port) old new
+    IsOffered old agg octets × Distributes gives old agg octets (Ok port) × TakesState agg (conversation_of old octets) (On port) old new
 Offers gives agg octets old (Err fault) new = RefusesOffer gives old agg octets fault × (new ≡ old)
 
--- the answer of the distributor, of a conversation below 256
-abbrev pub known : ℕ → Result Assignment DistFault → Result Assignment DistFault
-known conv answer = if nat_lt conv 256 then answer else Err dist.NotAssigned
+-- the answer of the distributor, of a conversation that there is
+abbrev pub known : State → ℕ → Result Assignment DistFault → Result Assignment DistFault
+known s conv answer = if nat_lt conv (conversations s) then answer else Err dist.NotAssigned
 
 abbrev pub in_system : Result Assignment DistFault → Result Assignment SystemFault
 in_system (Ok state) = Ok state
@@ -79,13 +79,13 @@ abbrev pub move_answer : State → AggId → ℕ → ℕ → Result Assignment S
 move_answer s agg conv port =
     if has_aggregator s agg
     then (if is_some (place_of port s.slots)
-    then in_system (known conv (moved (next_identifier s.table) (distributing agg s.slots) port (state_of s.table agg.0 conv)))
+    then in_system (known s conv (moved (next_identifier s.table) (distributing agg s.slots) port (state_of s.table agg.0 conv)))
     else Err NoPort)
     else Err NoAggregator
 
 -- what a conversation becomes that is freed by force, or why it is not freed
 abbrev pub force_answer : State → AggId → ℕ → Result Assignment SystemFault
-force_answer s agg conv = if has_aggregator s agg then in_system (known conv (forced (state_of s.table agg.0 conv))) else Err NoAggregator
+force_answer s agg conv = if has_aggregator s agg then in_system (known s conv (forced (state_of s.table agg.0 conv))) else Err NoAggregator
 
 -- the conversation takes this state; or this is refused, and nothing changes
 abbrev pub Becomes : AggId → ℕ → Result Assignment SystemFault → State → Result Unit SystemFault → State → Type 0

@@ -11,6 +11,7 @@ use Rattle.portmachines.specs.Mux.{is_mux}
 use Rattle.selection.specs.Views.{is_given}
 use Rattle.slowpdu.specs.Parties.{party_of}
 use Rattle.lagsystem.specs.declared.slots.Slot.{Slot}
+use Rattle.lagsystem.specs.State.{State}
 
 -- the group of a port: that of its party and its recorded partner's
 abbrev pub group_at : Machines → Group
@@ -35,9 +36,13 @@ agg_of_number g = record { 0 = g }
 abbrev pub distributing : AggId → List Slot → List ℕ
 distributing agg slots = map (λ s. s.number) (filter (distributes_in agg) slots)
 
--- the conversation of a frame: the last octet of its destination exclusive-or that of its source (profile)
-abbrev pub conversation_of : List ℕ → ℕ
-conversation_of octets = bit_xor (slice_index octets 5) (slice_index octets 11)
+-- how many conversations each aggregator of the system has; they count from 0 (profile)
+abbrev pub conversations : State → ℕ
+conversations s = 256
 
-abbrev pub conversation_in : List ℕ → Option ℕ
-conversation_in octets = if nat_lt (length octets) 14 then None else Some (conversation_of octets)
+-- the conversation of a frame: the last octet of its destination exclusive-or that of its source (profile)
+abbrev pub conversation_of : State → List ℕ → ℕ
+conversation_of s octets = bit_xor (slice_index octets 5) (slice_index octets 11)
+
+abbrev pub conversation_in : State → List ℕ → Option ℕ
+conversation_in s octets = if nat_lt (length octets) 14 then None else Some (conversation_of s octets)

@@ -14,6 +14,7 @@ use Rattle.slowpdu.specs.declared.pdu.MarkerKind.TheVariants as kind
 use Rattle.slowpdu.specs.declared.pdu.Pdu.{Pdu}
 use Rattle.slowpdu.specs.declared.pdu.Pdu.TheVariants as pdu
 use Rattle.slowpdu.specs.Frames.{frame_octets}
+use Rattle.slowpdu.specs.Layout.{IsAddress}
 use Rattle.slowpdu.specs.Pdus.{WritesPdu}
 use Rattle.slowpdu.specs.Parties.{party_of}
 use Rattle.portmachines.specs.declared.mux.MuxState.{MuxState}
@@ -110,23 +111,23 @@ Tells (Offer agg octets) told = told ≡ Told.Offer
 Tells (Move_conversation agg conv port) told = told ≡ Told.Move_conversation
 Tells (Force agg conv) told = told ≡ Told.Force agg.0 conv
 
--- the octets are a control frame with this PDU
+-- the octets are a control frame with this PDU, from an address
 abbrev pub IsSent : List ℕ → Pdu → Type 0
-IsSent octets payload = (mac : List ℕ) × (written : List ℕ) × WritesPdu written payload × (octets ≡ frame_octets mac written)
+IsSent octets payload = (mac : List ℕ) × (written : List ℕ) × IsAddress mac × WritesPdu written payload × (octets ≡ frame_octets mac written)
 
--- what others see of a call is what its reply holds: the LACPDU that was taken, the PDU of the frame to send, or the
--- conversation of a frame and the port that it goes on
-abbrev pub Sees : Call → Reply → List Act → Type 0
-Sees (Receive n octets) (reply.Receive (Ok TookLacpdu)) seen = (v : Lacpdu) × IsFrame octets (Carries (pdu.Lacpdu v)) × (seen ≡ Took n (message_of v) ∷ [])
-Sees (Receive n octets) (reply.Receive (Ok (Respond frame))) seen = (m : Marker) × IsSent frame (pdu.Marker m) × (seen ≡ Sends n (marker_message m.kind m) ∷ [])
-Sees (Transmit n) (reply.Transmit (Ok (Some frame))) seen = (payload : Pdu) × IsSent frame payload × (seen ≡ Sends n (read_as payload) ∷ [])
-Sees (Offer agg octets) (reply.Offer (Ok port)) seen = seen ≡ Sends_frame port agg.0 (conversation_of octets) ∷ []
-Sees call answer seen = seen ≡ []
+-- what others see of a call of a system is what its reply holds: the LACPDU that was taken, the PDU of the frame to send, or
+-- the conversation of a frame and the port that it goes on
+abbrev pub Sees : State → Call → Reply → List Act → Type 0
+Sees s (Receive n octets) (reply.Receive (Ok TookLacpdu)) seen = (v : Lacpdu) × IsFrame octets (Carries (pdu.Lacpdu v)) × (seen ≡ Took n (message_of v) ∷ [])
+Sees s (Receive n octets) (reply.Receive (Ok (Respond frame))) seen = (m : Marker) × IsSent frame (pdu.Marker m) × (seen ≡ Sends n (marker_message m.kind m) ∷ [])
+Sees s (Transmit n) (reply.Transmit (Ok (Some frame))) seen = (payload : Pdu) × IsSent frame payload × (seen ≡ Sends n (read_as payload) ∷ [])
+Sees s (Offer agg octets) (reply.Offer (Ok port)) seen = seen ≡ Sends_frame port agg.0 (conversation_of s octets) ∷ []
+Sees s call answer seen = seen ≡ []
 
 -- the views before and after a call are joined by free moves
 abbrev pub JoinsViews : State → Call → Reply → State → Type 0
 JoinsViews old call reply new =
-    (told : Told) × (seen : List Act) × Tells call told × Sees call reply seen × FreeMoves (configured old) told (view_of old) seen (view_of new)
+    (told : Told) × (seen : List Act) × Tells call told × Sees old call reply seen × FreeMoves (configured old) told (view_of old) seen (view_of new)
 
 -- the receive states in which an LACPDU is taken
 abbrev pub takes_in : ReceiveState → Bool

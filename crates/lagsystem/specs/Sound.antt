@@ -1,5 +1,5 @@
 -- What every system keeps, and what holds of its ports after every call.
-use Rattle.std.specs.Prelude.{◌≡◌, ℕ, true, List, length, None}
+use Rattle.std.specs.Prelude.{◌≡◌, ℕ, true, List, [], ◌∷◌, length, None}
 use Rattle.std.specs.List.{AllByRecursion}
 use Rattle.portmachines.specs.declared.mux.MuxState.TheVariants.{CollectingDistributing}
 use Rattle.portmachines.specs.Mux.{is_mux}
@@ -9,11 +9,14 @@ use Rattle.distributor.specs.Calls.{distributes}
 use Rattle.distributor.specs.Conversations.{state_of}
 use Rattle.lagsystem.specs.declared.slots.Slot.{Slot}
 use Rattle.lagsystem.specs.declared.config.Config.{Config}
+use Rattle.lagsystem.specs.declared.drive.Reply.{Reply}
+use Rattle.lagsystem.specs.Calls.{Call, Step}
 use Rattle.lagsystem.specs.First.{IsConfigured, IsFirst, numbers_of, refusal}
-use Rattle.lagsystem.specs.Shown.{AreRested, configured, shown, view_of}
+use Rattle.lagsystem.specs.Shown.{AreRested, JoinsViews, configured, shown, view_of}
+use Rattle.lagsystem.specs.Quiet.{ArePaced, AreStill}
 use Rattle.lagsystem.specs.Readers.{agg_of_number, distributing}
 use Rattle.lagsystem.specs.State.{State, numbers}
-use Rattle.lagsystem.specs.Windows.{KeepThree}
+use Rattle.lagsystem.specs.Windows.{AreWindowed, KeepThree}
 
 -- its configuration is accepted, and it has the ports of its configuration, in their order
 pub record HasPorts (s : State) : Type 0 where
@@ -31,6 +34,7 @@ pub record IsSound (s : State) : Type 0 where
   pub rested : AreRested s.slots
   pub windowed : KeepThree s
   pub members : Members (configured s) (view_of s).port
+  pub quiet : AreStill s.keys s.slots × ArePaced s.slots
 
 -- what is made of a configuration
 pub record IsMade (config : Config) (s : State) : Type 0 where
@@ -51,3 +55,12 @@ pub record Agrees (s : State) : Type 0 where
   pub members : Members (configured s) (view_of s).port
   pub one_partner : OnePartner (view_of s)
   pub distribute : Distribute s.slots
+
+-- What every call promises: it is a step; the views before and after it are joined by free moves that others see as its reply
+-- has them; each port keeps its transmit window; the ports agree after it; and the configuration stays.
+pub record Answers (gives : ℕ → ℕ → ℕ → Type 0) (old : State) (call : Call) (reply : Reply) (new : State) : Type 0 where
+  pub step : Step gives old call reply new
+  pub moves : JoinsViews old call reply new
+  pub window : AreWindowed old (call ∷ []) (reply ∷ [])
+  pub agrees : Agrees new
+  pub configured : configured new ≡ configured old

@@ -1,10 +1,10 @@
-ghost use Rattle.std.specs.Prelude.{◌≡◌, [], ◌∷◌, IfErr, IfOk, None};
+ghost use Rattle.std.specs.Prelude.{◌≡◌, ◌<◌, IfErr, IfOk, None};
 ghost use Rattle.distributor.specs.Calls.{PicksPlaces};
-ghost use Rattle.lagsystem.specs.Calls.{Call, Step};
+ghost use Rattle.lagsystem.specs.Calls.{Call};
 ghost use Rattle.lagsystem.specs.First.{IsConfigured, IsFirst, fault_in, refusal_of};
-ghost use Rattle.lagsystem.specs.Shown.{JoinsViews, configured, view_of};
-ghost use Rattle.lagsystem.specs.Sound.{Agrees};
-ghost use Rattle.lagsystem.specs.Windows.{AreWindowed};
+ghost use Rattle.lagsystem.specs.Readers.{conversation_of, conversations};
+ghost use Rattle.lagsystem.specs.Shown.{configured, view_of};
+ghost use Rattle.lagsystem.specs.Sound.{Agrees, Answers};
 ghost use Rattle.lagsystem.specs.declared.drive.Reply.{Reply};
 ghost use Rattle.lagmodel.specs.View.{first_view};
 
@@ -62,10 +62,7 @@ impl<F: Fn(u16, usize) -> usize + Drop> System<F> {
     /// port on which it comes frees the conversations that wait for it; nothing else has an effect. `NoPort` where there is
     /// no such port (6.2.3, 6.4.12, 6.5.4).
     pub fn receive(&mut self, port: u16, frame: &[u8]) -> Result<Received, SystemFault>
-        ensures step { Step (F.post self.old.algorithm) self.old.state (Call.Receive port frame.now) (Reply.Receive result) self.new.state }
-        ensures moves { JoinsViews self.old.state (Call.Receive port frame.now) (Reply.Receive result) self.new.state }
-        ensures window { AreWindowed self.old.state (Call.Receive port frame.now ∷ []) (Reply.Receive result ∷ []) }
-        ensures agrees { Agrees self.new.state }
+        ensures answers { Answers (F.post self.old.algorithm) self.old.state (Call.Receive port frame.now) (Reply.Receive result) self.new.state }
         ensures algorithm { self.new.algorithm ≡ self.old.algorithm }
     {
         self.core.receive(port, frame)
@@ -74,10 +71,7 @@ impl<F: Fn(u16, usize) -> usize + Drop> System<F> {
     /// One tick, 100 ms: every timer of every port counts down and expired current_while rows fire; a conversation whose
     /// marker was sent 30 ticks ago is Wanted again; and one settling follows (6.4.10; profile).
     pub fn tick(&mut self)
-        ensures step { Step (F.post self.old.algorithm) self.old.state Call.Tick Reply.Tick self.new.state }
-        ensures moves { JoinsViews self.old.state Call.Tick Reply.Tick self.new.state }
-        ensures window { AreWindowed self.old.state (Call.Tick ∷ []) (Reply.Tick ∷ []) }
-        ensures agrees { Agrees self.new.state }
+        ensures answers { Answers (F.post self.old.algorithm) self.old.state Call.Tick Reply.Tick self.new.state }
         ensures algorithm { self.new.algorithm ≡ self.old.algorithm }
     {
         self.core.tick();
@@ -86,10 +80,7 @@ impl<F: Fn(u16, usize) -> usize + Drop> System<F> {
     /// The link of a port is up or down now: its receive rows fire, conversations on a port that goes down are free, and
     /// one settling follows. `NoPort` where there is no such port (6.4.12; profile).
     pub fn set_link(&mut self, port: u16, up: bool) -> Result<(), SystemFault>
-        ensures step { Step (F.post self.old.algorithm) self.old.state (Call.Set_link port up) (Reply.SetLink result) self.new.state }
-        ensures moves { JoinsViews self.old.state (Call.Set_link port up) (Reply.SetLink result) self.new.state }
-        ensures window { AreWindowed self.old.state (Call.Set_link port up ∷ []) (Reply.SetLink result ∷ []) }
-        ensures agrees { Agrees self.new.state }
+        ensures answers { Answers (F.post self.old.algorithm) self.old.state (Call.Set_link port up) (Reply.SetLink result) self.new.state }
         ensures algorithm { self.new.algorithm ≡ self.old.algorithm }
     {
         self.core.set_link(port, up)
@@ -99,21 +90,17 @@ impl<F: Fn(u16, usize) -> usize + Drop> System<F> {
     /// settling follows. False where nothing differs, and then nothing changes. `NoPort` where there is no such port
     /// (profile).
     pub fn configure(&mut self, port: u16, change: PortChange) -> Result<bool, SystemFault>
-        ensures step { Step (F.post self.old.algorithm) self.old.state (Call.Configure port change) (Reply.Configure result) self.new.state }
-        ensures moves { JoinsViews self.old.state (Call.Configure port change) (Reply.Configure result) self.new.state }
-        ensures window { AreWindowed self.old.state (Call.Configure port change ∷ []) (Reply.Configure result ∷ []) }
-        ensures agrees { Agrees self.new.state }
+        ensures answers { Answers (F.post self.old.algorithm) self.old.state (Call.Configure port change) (Reply.Configure result) self.new.state }
         ensures algorithm { self.new.algorithm ≡ self.old.algorithm }
     {
         self.core.configure(port, change)
     }
 
-    /// Starts the system again as it was configured: the first state of `new`, all links down. Takes no memory (profile).
+    /// Starts the system again as `new` left it: all links down, the ports as they were configured, so that every
+    /// `configure` is forgotten, every conversation free, and the first marker next. Takes no memory (profile).
     pub fn restart(&mut self)
-        ensures step { Step (F.post self.old.algorithm) self.old.state Call.Restart Reply.Restart self.new.state }
-        ensures moves { JoinsViews self.old.state Call.Restart Reply.Restart self.new.state }
-        ensures window { AreWindowed self.old.state (Call.Restart ∷ []) (Reply.Restart ∷ []) }
-        ensures agrees { Agrees self.new.state }
+        ensures answers { Answers (F.post self.old.algorithm) self.old.state Call.Restart Reply.Restart self.new.state }
+        ensures shows { view_of self.new.state ≡ first_view (configured self.old.state) }
         ensures algorithm { self.new.algorithm ≡ self.old.algorithm }
     {
         self.core.restart();
@@ -124,10 +111,7 @@ impl<F: Fn(u16, usize) -> usize + Drop> System<F> {
     /// where a conversation is Wanted on the port and an identifier is left. `NoPort` where there is no such port (6.4.16,
     /// 6.5.3.3; profile).
     pub fn transmit(&mut self, port: u16) -> Result<Option<[u8; 124]>, SystemFault>
-        ensures step { Step (F.post self.old.algorithm) self.old.state (Call.Transmit port) (Reply.Transmit result) self.new.state }
-        ensures moves { JoinsViews self.old.state (Call.Transmit port) (Reply.Transmit result) self.new.state }
-        ensures window { AreWindowed self.old.state (Call.Transmit port ∷ []) (Reply.Transmit result ∷ []) }
-        ensures agrees { Agrees self.new.state }
+        ensures answers { Answers (F.post self.old.algorithm) self.old.state (Call.Transmit port) (Reply.Transmit result) self.new.state }
         ensures algorithm { self.new.algorithm ≡ self.old.algorithm }
     {
         self.core.transmit(port)
@@ -139,10 +123,8 @@ impl<F: Fn(u16, usize) -> usize + Drop> System<F> {
     /// (6.2.4; profile).
     pub fn offer(&mut self, agg: AggId, frame: &[u8]) -> Result<u16, SystemFault>
         requires usable { PicksPlaces (F.pre self.old.algorithm) (F.post self.old.algorithm) }
-        ensures step { Step (F.post self.old.algorithm) self.old.state (Call.Offer agg frame.now) (Reply.Offer result) self.new.state }
-        ensures moves { JoinsViews self.old.state (Call.Offer agg frame.now) (Reply.Offer result) self.new.state }
-        ensures window { AreWindowed self.old.state (Call.Offer agg frame.now ∷ []) (Reply.Offer result ∷ []) }
-        ensures agrees { Agrees self.new.state }
+        ensures answers { Answers (F.post self.old.algorithm) self.old.state (Call.Offer agg frame.now) (Reply.Offer result) self.new.state }
+        ensures within { IfOk result (λ port. conversation_of self.old.state frame.now < conversations self.old.state) }
         ensures algorithm { self.new.algorithm ≡ self.old.algorithm }
     {
         self.core.offer(agg, frame)
@@ -154,10 +136,7 @@ impl<F: Fn(u16, usize) -> usize + Drop> System<F> {
     /// while it is Wanted or Flushing, `NotDistributing` where the port does not distribute in the aggregator,
     /// `SamePort`, `MarkersSpent` (6.2.5; profile).
     pub fn move_conversation(&mut self, agg: AggId, conv: u16, port: u16) -> Result<(), SystemFault>
-        ensures step { Step (F.post self.old.algorithm) self.old.state (Call.Move_conversation agg conv port) (Reply.MoveConversation result) self.new.state }
-        ensures moves { JoinsViews self.old.state (Call.Move_conversation agg conv port) (Reply.MoveConversation result) self.new.state }
-        ensures window { AreWindowed self.old.state (Call.Move_conversation agg conv port ∷ []) (Reply.MoveConversation result ∷ []) }
-        ensures agrees { Agrees self.new.state }
+        ensures answers { Answers (F.post self.old.algorithm) self.old.state (Call.Move_conversation agg conv port) (Reply.MoveConversation result) self.new.state }
         ensures algorithm { self.new.algorithm ≡ self.old.algorithm }
     {
         self.core.move_conversation(agg, conv, port)
@@ -167,10 +146,7 @@ impl<F: Fn(u16, usize) -> usize + Drop> System<F> {
     /// Flushing keeps the port that it prefers. Refused in this order:
     /// `NoAggregator`, `NotAssigned` where the conversation is free or there is none of this number (profile).
     pub fn force(&mut self, agg: AggId, conv: u16) -> Result<(), SystemFault>
-        ensures step { Step (F.post self.old.algorithm) self.old.state (Call.Force agg conv) (Reply.Force result) self.new.state }
-        ensures moves { JoinsViews self.old.state (Call.Force agg conv) (Reply.Force result) self.new.state }
-        ensures window { AreWindowed self.old.state (Call.Force agg conv ∷ []) (Reply.Force result ∷ []) }
-        ensures agrees { Agrees self.new.state }
+        ensures answers { Answers (F.post self.old.algorithm) self.old.state (Call.Force agg conv) (Reply.Force result) self.new.state }
         ensures algorithm { self.new.algorithm ≡ self.old.algorithm }
     {
         self.core.force(agg, conv)

@@ -1,9 +1,7 @@
 ghost use Rattle.std.specs.Prelude.{◌≡◌, IfOk, OnErr, map};
 ghost use Rattle.distributor.specs.Calls.{PicksPlaces};
-ghost use Rattle.lagsystem.specs.Calls.{Step};
 ghost use Rattle.lagsystem.specs.Drives.{Drives, call_of};
-ghost use Rattle.lagsystem.specs.Shown.{JoinsViews};
-ghost use Rattle.lagsystem.specs.Sound.{Agrees};
+ghost use Rattle.lagsystem.specs.Sound.{Answers};
 ghost use Rattle.lagsystem.specs.Windows.{AreWindowed, KeepThree};
 
 use crate::answers::Received;
@@ -88,9 +86,7 @@ impl<F: Fn(u16, usize) -> usize + Drop> System<F> {
     /// Makes one call.
     fn answer(&mut self, call: &Call) -> Reply
         requires usable { PicksPlaces (F.pre self.old.algorithm) (F.post self.old.algorithm) }
-        ensures step { Step (F.post self.old.algorithm) self.old.state (call_of call.now) result self.new.state }
-        ensures moves { JoinsViews self.old.state (call_of call.now) result self.new.state }
-        ensures agrees { Agrees self.new.state }
+        ensures answers { Answers (F.post self.old.algorithm) self.old.state (call_of call.now) result self.new.state }
         ensures algorithm { self.new.algorithm ≡ self.old.algorithm }
     {
         match call {

@@ -1,9 +1,12 @@
-ghost use Rattle.std.specs.Prelude.{◌≡◌};
+ghost use Rattle.std.specs.Prelude.{◌≡◌, Some};
 ghost use Rattle.lagsystem.specs.Faults.{fault_number, reason_number, system_fault};
+ghost use Rattle.lagsystem.specs.Texts.{fault_text, reason_text};
 ghost use Rattle.lagsystem.specs.declared.fault.SystemFault.{SystemFault};
 
 use distributor::DistFault;
 use lagtypes::NoMemory;
+use std::error::Error;
+use std::fmt;
 
 /// Why a configuration is refused, in the order of checking (profile).
 #[derive(Clone, Copy, Debug, PartialEq, Eq)]
@@ -79,6 +82,56 @@ impl SystemFault {
         }
     }
 }
+
+/// Says what is wrong with the configuration, and names the place of a port from 1.
+impl fmt::Display for BadConfig {
+    ghost output = { λ reason. Some (reason_text reason) };
+
+    fn fmt<W: fmt::Write>(&self, f: &mut fmt::Formatter<W>) -> fmt::Result {
+        match self {
+            BadConfig::Ports => f.write_str("the configuration has not 1 to 64 ports"),
+            BadConfig::Aggregators => f.write_str("the configuration has not 1 to 64 aggregators"),
+            BadConfig::PortNumber(place) => write!(
+                f,
+                "the port at place {place} has the number 0 or one that is not above the number before it"
+            ),
+        }
+    }
+}
+
+impl Error for BadConfig {}
+
+/// Says why, without the number; of a configuration, what its reason says.
+impl fmt::Display for SystemFault {
+    ghost output = { λ fault. Some (fault_text fault) };
+
+    fn fmt<W: fmt::Write>(&self, f: &mut fmt::Formatter<W>) -> fmt::Result {
+        match self {
+            SystemFault::NoPort => f.write_str("the system has no port of this number"),
+            SystemFault::NoAggregator => f.write_str("the system has no such aggregator"),
+            SystemFault::FrameLength => f.write_str("an offered frame has not 14 to 1518 octets"),
+            SystemFault::SlowFrame => f.write_str("an offered frame is one of the slow protocols"),
+            SystemFault::Held => f.write_str("the conversation is Wanted or Flushing"),
+            SystemFault::NoneDistributing => {
+                f.write_str("the conversation is free, and no port distributes in the aggregator")
+            }
+            SystemFault::NotDistributing => {
+                f.write_str("the port to move to does not distribute in the aggregator")
+            }
+            SystemFault::SamePort => {
+                f.write_str("the port to move to is the one that the conversation is on")
+            }
+            SystemFault::NotAssigned => {
+                f.write_str("the conversation is free, or there is no such conversation")
+            }
+            SystemFault::MarkersSpent => f.write_str("no marker identifier is left"),
+            SystemFault::BadConfig(reason) => write!(f, "{reason}"),
+            SystemFault::NoMemory => f.write_str("out of memory"),
+        }
+    }
+}
+
+impl Error for SystemFault {}
 
 impl From<NoMemory> for SystemFault {
     ghost from_gives = { λ refused fault. fault ≡ SystemFault.NoMemory };

@@ -1,8 +1,8 @@
 ghost use Rattle.std.specs.Prelude.{◌≡◌, ◌≤◌, length, vec_len, IfOk};
 ghost use Rattle.std.specs.List.{AllZip};
-ghost use Rattle.lagsystem.specs.First.{IsNew, misplaced, numbers_of, refusal};
+ghost use Rattle.lagsystem.specs.First.{IsNew, misplaced, numbers_of, refusal, refusal_of};
 
-use crate::config::PortConfig;
+use crate::config::{Config, PortConfig};
 use crate::fault::BadConfig;
 use crate::slots::Slot;
 use lagtypes::{Key, NoMemory, SystemId};
@@ -53,7 +53,7 @@ fn misplaced(ports: &[PortConfig]) -> Option<usize>
 }
 
 /// The first reason to refuse a configuration.
-pub(crate) fn refusal(keys: &[Key], ports: &[PortConfig]) -> Option<BadConfig>
+fn refusal(keys: &[Key], ports: &[PortConfig]) -> Option<BadConfig>
     ensures { result ≡ refusal keys.now ports.now }
 {
     if ports.is_empty() || ports.len() > 64 {
@@ -63,6 +63,16 @@ pub(crate) fn refusal(keys: &[Key], ports: &[PortConfig]) -> Option<BadConfig>
         return Some(BadConfig::Aggregators);
     }
     misplaced(ports).map(BadConfig::PortNumber)
+}
+
+impl Config {
+    /// Why `System::new` refuses this configuration, the first reason that holds: not 1 to 64 ports, not 1 to 64 aggregators,
+    /// or a port whose number is 0 or not above the one before it. None where it is accepted (profile).
+    pub fn refusal(&self) -> Option<BadConfig>
+        ensures { result ≡ refusal_of self.now }
+    {
+        refusal(&self.aggregators, &self.ports)
+    }
 }
 
 /// How many aggregators an accepted configuration has.

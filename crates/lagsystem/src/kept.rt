@@ -1,10 +1,12 @@
 ghost use Rattle.std.specs.Prelude.{◌≡◌, ◌<◌, ◌≤◌, IfErr, IfOk, Some, length, vec_len};
 ghost use Rattle.distributor.specs.Calls.{PicksPlaces};
-ghost use Rattle.lagsystem.specs.Calls.{Call, ReceivesAt, Releases, Step, is_for};
+ghost use Rattle.lagsystem.specs.Calls.{Call, OnPort, ReceivesAt, Releases, Settled, Step, Takes, is_for};
 ghost use Rattle.lagsystem.specs.First.{fault_in, refusal_of};
+ghost use Rattle.lagsystem.specs.Hosts.{conversation_at, has_due};
 ghost use Rattle.lagsystem.specs.Kept.{state_of};
 ghost use Rattle.lagsystem.specs.Leaving.{WereCarried, carriers};
 ghost use Rattle.lagsystem.specs.Offers.{has_aggregator};
+ghost use Rattle.lagsystem.specs.Readers.{conversation_of, conversations};
 ghost use Rattle.lagsystem.specs.Sending.{SendsMarker};
 ghost use Rattle.lagsystem.specs.Settling.{Settling, SettlesPorts};
 ghost use Rattle.lagsystem.specs.Sound.{IsMade, IsSound};
@@ -14,19 +16,20 @@ ghost use Rattle.lagsystem.specs.declared.drive.Reply.{Reply};
 use crate::answers::{Heard, Received};
 use crate::config::{Config, PortChange, PortConfig};
 use crate::fault::SystemFault;
-use crate::first::{count_of, new_slots, refusal, restart_all};
+use crate::first::{count_of, new_slots, restart_all};
 use crate::leaving::{carriers, free_where_down, leave_ports};
-use crate::offers::{check_offer, conversation_of};
+use crate::offers::check_offer;
 use crate::ports::{
-    configure_port, control_frame, hear, link_port, take_at, tick_all, transmit_at,
+    configure_port, control_frame, hear, is_lacpdu_due, link_port, pace_at, take_at, tick_all,
+    transmit_at,
 };
 use crate::readers::distributing;
 use crate::settling::settle;
 use crate::slots::{Slot, place_of};
-use distributor::Distributor;
+use distributor::{Assignment, Distributor};
 use lagtypes::{AggId, SystemId};
 use selection::Aggregators;
-use slowpdu::{Marker, MarkerKind};
+use slowpdu::{Lacpdu, Marker, MarkerKind};
 use std::alloc::Global;
 
 /// What a system keeps.
@@ -51,7 +54,7 @@ impl<F: Fn(u16, usize) -> usize + Drop> Core<F> {
         ensures algorithm { IfOk result (λ core. core.distributor.algorithm ≡ algorithm) }
         ensures refused { IfErr result (λ fault. fault ≡ fault_in (refusal_of config)) }
     {
-        match refusal(&config.aggregators, &config.ports) {
+        match config.refusal() {
             Some(reason) => return Err(SystemFault::BadConfig(reason)),
             None => {}
         }
@@ -141,13 +144,27 @@ impl<F: Fn(u16, usize) -> usize + Drop> Core<F> {
         let number = self.slots[place].number;
         match hear(&self.slots[place], octets) {
             Heard::Taken(pdu) => {
-                let before = carriers(&self.slots);
-                take_at(&mut self.slots, place, &pdu);
-                self.settle(before.as_slice());
+                self.take_lacpdu(place, &pdu);
                 Received::TookLacpdu
             }
             Heard::Response(marker) => Received::Released(self.release(number, &marker)),
             Heard::Answered(reply) => reply,
+        }
+    }
+
+    /// Takes an LACPDU on the port at this place. Where that leaves the port as others see it, one more settling would find
+    /// nothing to do but the periodic rows of this port.
+    fn take_lacpdu(&mut self, place: usize, pdu: &Lacpdu)
+        requires sound { IsSound (state_of self.old) }
+        requires within { place < length self.old.slots.items }
+        ensures settled { Settled (OnPort (Some place) (Takes pdu.now)) (state_of self.old) (state_of self.new) }
+        ensures algorithm { self.new.distributor.algorithm ≡ self.old.distributor.algorithm }
+    {
+        let before = carriers(&self.slots);
+        if take_at(&mut self.slots, place, pdu) {
+            pace_at(&mut self.slots, place);
+        } else {
+            self.settle(before.as_slice());
         }
     }
 
@@ -229,10 +246,31 @@ impl<F: Fn(u16, usize) -> usize + Drop> Core<F> {
         self.distributor.is_conversation(agg, 0)
     }
 
+    /// What a conversation is doing, if there is one of this number.
+    pub(crate) fn conversation_state(&self, agg: AggId, conv: u16) -> Option<Assignment>
+        requires { IsSound (state_of self.now) }
+        ensures { result ≡ conversation_at (state_of self.now) agg conv }
+    {
+        if self.distributor.is_conversation(agg, conv) {
+            Some(self.distributor.state(agg, conv))
+        } else {
+            None
+        }
+    }
+
+    /// Whether a frame is due on a port.
+    pub(crate) fn has_due(&self, slot: &Slot) -> bool
+        ensures { result ≡ has_due (state_of self.now) slot.now }
+    {
+        slot.port.is_enabled()
+            && (is_lacpdu_due(&slot.port) || self.distributor.due_marker(slot.number).is_some())
+    }
+
     pub(crate) fn offer(&mut self, agg: AggId, octets: &[u8]) -> Result<u16, SystemFault>
         requires usable { PicksPlaces (F.pre self.old.distributor.algorithm) (F.post self.old.distributor.algorithm) }
         requires sound { IsSound (state_of self.old) }
         ensures step { Step (F.post self.old.distributor.algorithm) (state_of self.old) (Call.Offer agg octets.now) (Reply.Offer result) (state_of self.new) }
+        ensures within { IfOk result (λ port. conversation_of (state_of self.old) octets.now < conversations (state_of self.old)) }
         ensures algorithm { self.new.distributor.algorithm ≡ self.old.distributor.algorithm }
     {
         if !self.has_aggregator(agg) {
@@ -240,9 +278,8 @@ impl<F: Fn(u16, usize) -> usize + Drop> Core<F> {
         }
         check_offer(octets)?;
         let ports = distributing(&self.slots, agg);
-        let port = self
-            .distributor
-            .assign(agg, conversation_of(octets), ports.as_slice())?;
+        let conv = self.conversation_of(octets);
+        let port = self.distributor.assign(agg, conv, ports.as_slice())?;
         Ok(port)
     }
 

@@ -1,3 +1,5 @@
+ghost use Rattle.lagsystem.specs.Again.{SettlesOnce};
+ghost use Rattle.lagsystem.specs.Due.{AnswersDue};
 ghost use Rattle.std.specs.Prelude.{◌≡◌};
 ghost use Rattle.lagsystem.specs.First.{IsFirst};
 ghost use Rattle.lagsystem.specs.State.{State, with_slots, with_table};
@@ -16,4 +18,14 @@ pub fn window_holds<F: Fn(u16, usize) -> usize>()
 /// A configuration has one first state: a restart gives the system as `new` left it (profile).
 pub fn first_state_is_one()
     ensures { (s t : State) → t ≡ with_table (with_slots s t.slots) t.table → IsFirst s → IsFirst t → t ≡ s }
+{}
+
+/// A system that was settled stays as it is when it is settled again.
+pub fn settling_again_is_nothing()
+    ensures { SettlesOnce }
+{}
+
+/// `transmit` answers a frame on a port exactly if `is_due` tells that one is due there.
+pub fn transmit_answers_what_is_due()
+    ensures { AnswersDue }
 {}

@@ -19,8 +19,15 @@ mod slots;
 mod tests;
 
 pub use answers::Received;
+pub use arrayvec::ArrayVec;
 pub use calls::System;
 pub use config::{Config, PortChange, PortConfig};
+pub use distributor::Assignment;
 pub use drive::{Call, Reply};
 pub use fault::{BadConfig, SystemFault};
-pub use laws::{first_state_is_one, window_holds};
+pub use lagtypes::{AggId, Choice, Group, Key, NoMemory, Party, PortId, State, SystemId};
+pub use laws::{
+    first_state_is_one, settling_again_is_nothing, transmit_answers_what_is_due, window_holds,
+};
+pub use portmachines::{MuxState, ReceiveState};
+pub use slowpdu::{Info, WireFault};

@@ -1,21 +1,14 @@
 ghost use Rattle.std.specs.Prelude.{◌≡◌, ◌≤◌, ◌<◌, length, IfErr, IfOk};
 ghost use Rattle.lagsystem.specs.Offers.{MayBeSent, RefusesFrame};
-ghost use Rattle.lagsystem.specs.Readers.{conversation_of};
+ghost use Rattle.lagsystem.specs.Kept.{state_of};
+ghost use Rattle.lagsystem.specs.Readers.{conversation_of, conversations};
 
 use crate::fault::SystemFault;
+use crate::kept::Core;
 use slowpdu::{Kind, classify};
 
 /// The longest frame that may be offered, in octets: a full frame with one VLAN tag (profile).
 const LONGEST_FRAME: usize = 1518;
-
-/// The conversation of a frame of at least 14 octets: octet 5 exclusive-or octet 11 (profile).
-pub(crate) fn conversation_of(octets: &[u8]) -> u16
-    requires { 14 ≤ length octets.now }
-    ensures is { result ≡ conversation_of octets.now }
-    ensures within { result < 256 }
-{
-    u16::from(octets[5] ^ octets[11])
-}
 
 /// Refuses octets that are no frame to send.
 pub(crate) fn check_offer(octets: &[u8]) -> Result<(), SystemFault>
@@ -28,5 +21,16 @@ pub(crate) fn check_offer(octets: &[u8]) -> Result<(), SystemFault>
     match classify(octets) {
         Kind::Data => Ok(()),
         Kind::Control(_) | Kind::TooShort => Err(SystemFault::SlowFrame),
+    }
+}
+
+impl<F: Fn(u16, usize) -> usize + Drop> Core<F> {
+    /// The conversation of a frame of at least 14 octets: octet 5 exclusive-or octet 11 (profile).
+    pub(crate) fn conversation_of(&self, octets: &[u8]) -> u16
+        requires { 14 ≤ length octets.now }
+        ensures is { result ≡ conversation_of (state_of self.now) octets.now }
+        ensures within { result < conversations (state_of self.now) }
+    {
+        u16::from(octets[5] ^ octets[11])
     }
 }

@@ -8,8 +8,10 @@ ghost use Rattle.lagtypes.specs.Same.{same_party};
 ghost use Rattle.portmachines.specs.Receive.{receive_rows};
 ghost use Rattle.portmachines.specs.Rows.{Settles};
 ghost use Rattle.portmachines.specs.Start.{Starts};
-ghost use Rattle.portmachines.specs.Transmit.{count_down};
+ghost use Rattle.portmachines.specs.Transmit.{count_down, is_due};
 ghost use Rattle.lagsystem.specs.Calls.{AnswersMarker, ChangesLink, ChangesParty, Hears, HearsPayload, IsAtPlace, OnPlace, Takes, changed, handed};
+ghost use Rattle.portmachines.specs.Periodic.{RunsPeriodic};
+ghost use Rattle.lagsystem.specs.Quiet.{IsSamePartner, Knows, LooksAlike, TakesAt};
 ghost use Rattle.lagsystem.specs.Readers.{collecting};
 ghost use Rattle.lagsystem.specs.Sending.{Sends, SlotSends};
 ghost use Rattle.lagsystem.specs.Settling.{AllMove, Moves};
@@ -20,8 +22,8 @@ use crate::config::PortChange;
 use crate::slots::{Slot, place_of};
 use collector::{Taken, answer, collect};
 use lagtypes::{AggId, Choice, Party, PortId};
-use portmachines::{MuxState, Port};
-use slowpdu::{Kind, Lacpdu, Marker, Pdu, classify, decode, frame};
+use portmachines::{Port, ReceiveState};
+use slowpdu::{Info, Kind, Lacpdu, Marker, Pdu, classify, decode, frame};
 
 fn tick_slot(slot: &mut Slot)
     ensures { Moves (λ p q. Settles receive_rows (count_down p) q) slot.old slot.new }
@@ -54,22 +56,59 @@ pub(crate) fn link_port(slots: &mut [Slot], number: u16, up: bool) -> bool
     }
 }
 
-/// Takes an LACPDU on the port at this place.
-pub(crate) fn take_at(slots: &mut [Slot], place: usize, pdu: &Lacpdu)
+/// Whether a port is CURRENT, and the actor of an LACPDU is the party that it recorded.
+fn knows(slot: &Slot, pdu: &Lacpdu) -> bool
+    ensures { OnTrue result (Knows pdu.now slot.now) }
+{
+    match slot.port.receive_state() {
+        ReceiveState::Current => pdu.actor.party().matches(&slot.port.partner().party()),
+        _ => false,
+    }
+}
+
+fn is_same_partner(now: &Info, was: &Info) -> bool
+    ensures { OnTrue result (IsSamePartner was.now now.now) }
+{
+    now.party().matches(&was.party()) && now.state == was.state
+}
+
+/// Takes an LACPDU, and answers whether the port is seen as before and its partner has the same state.
+fn take_slot(slot: &mut Slot, pdu: &Lacpdu) -> bool
+    ensures taken { Moves (Takes pdu.now) slot.old slot.new }
+    ensures same { OnTrue result (LooksAlike slot.old slot.new) }
+{
+    let was = slot.port.partner();
+    let known = knows(slot, pdu);
+    slot.port.take(pdu);
+    let now = slot.port.partner();
+    known && is_same_partner(&now, &was)
+}
+
+/// Takes an LACPDU on the port at this place, and answers whether that is seen as before.
+pub(crate) fn take_at(slots: &mut [Slot], place: usize, pdu: &Lacpdu) -> bool
     requires { place < length slots.old }
-    ensures { OnPlace (Takes pdu.now) (Some place) slots.old slots.new }
+    ensures { TakesAt pdu.now place slots.old result slots.new }
 {
     let slot = &mut slots[place];
-    slot.port.take(pdu);
+    take_slot(slot, pdu)
+}
+
+/// The periodic rows of the port at this place.
+pub(crate) fn pace_at(slots: &mut [Slot], place: usize)
+    requires { place < length slots.old }
+    ensures { OnPlace RunsPeriodic (Some place) slots.old slots.new }
+{
+    let slot = &mut slots[place];
+    slot.port.periodic();
 }
 
 /// The aggregator in which a port is Collecting (6.2.3).
 pub(crate) fn collecting(port: &Port) -> Option<AggId>
     ensures { result ≡ collecting port.now }
 {
-    match (port.mux_state(), port.choice()) {
-        (MuxState::CollectingDistributing, Choice::Selected(agg)) => Some(agg),
-        _ => None,
+    match port.choice() {
+        Choice::Selected(agg) if port.distributes() => Some(agg),
+        Choice::Selected(_) | Choice::Unselected => None,
     }
 }
 
@@ -89,7 +128,10 @@ fn answer_marker(slot: &Slot, marker: &Marker) -> Heard
     ensures { AnswersMarker slot.now.mac marker.now (response_to marker.now) result }
 {
     match answer(true, marker) {
-        Some(response) => Heard::Answered(Received::Respond(frame(slot.mac, &response.encode()))),
+        Some(response) => {
+            let payload = response.encode();
+            Heard::Answered(Received::Respond(control_frame(slot.mac, &payload)))
+        }
         None => Heard::Response(*marker),
     }
 }
@@ -125,6 +167,16 @@ pub(crate) fn control_frame(mac: [u8; 6], payload: &[u8; 110]) -> [u8; 124]
     ensures address { IsAddress mac }
 {
     frame(mac, payload)
+}
+
+/// How many LACPDUs a port may send in eleven ticks (6.4.16).
+const WINDOW: usize = 3;
+
+/// Whether an LACPDU is due on a port.
+pub(crate) fn is_lacpdu_due(port: &Port) -> bool
+    ensures { result ≡ is_due port.now }
+{
+    port.ntt() && port.ages().len() < WINDOW
 }
 
 /// The LACPDU that is due on a port, as a control frame.

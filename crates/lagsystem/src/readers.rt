@@ -1,14 +1,20 @@
-ghost use Rattle.std.specs.Prelude.{◌≡◌, ◌≤◌, None, Some, MatchOption, length, option_map};
+ghost use Rattle.std.specs.Prelude.{◌≡◌, ◌≤◌, ◌<◌, [], None, Some, IfSome, MatchOption, length, option_map};
+ghost use Rattle.std.specs.Bool.{OnFalse};
+ghost use Rattle.std.specs.List.Sorted.{IsStrictlyIncreasing};
 ghost use Rattle.portmachines.specs.Mux.{is_mux};
-ghost use Rattle.lagsystem.specs.State.{place_of, port_of, slot_at};
-ghost use Rattle.lagsystem.specs.Readers.{conversation_in, distributes_in, distributing, group_at};
+ghost use Rattle.portmachines.specs.Transmit.{actor_state};
+ghost use Rattle.distributor.specs.Conversations.{next_identifier};
+ghost use Rattle.lagsystem.specs.Hosts.{conversation_at, due_of};
+ghost use Rattle.lagsystem.specs.Offers.{has_aggregator};
+ghost use Rattle.lagsystem.specs.State.{numbers, place_of, port_of, slot_at};
+ghost use Rattle.lagsystem.specs.Readers.{conversation_in, conversations, distributes_in, distributing, group_at};
 
 use crate::calls::System;
-use crate::offers::conversation_of;
 use crate::slots::{Slot, place_of};
 use arrayvec::ArrayVec;
-use lagtypes::{AggId, Choice, Group, Party};
-use portmachines::MuxState;
+use distributor::Assignment;
+use lagtypes::{AggId, Choice, Group, Party, State};
+use portmachines::{MuxState, ReceiveState};
 use slowpdu::Info;
 
 /// The port with this number.
@@ -19,6 +25,18 @@ fn slot_of(slots: &[Slot], number: u16) -> Option<&Slot>
         Some(place) => Some(&slots[place]),
         None => None,
     }
+}
+
+/// The numbers of the ports.
+fn numbers(slots: &[Slot]) -> ArrayVec<u16, 64>
+    requires { length slots.now ≤ 64 }
+    ensures { result.items ≡ numbers slots.now }
+{
+    let mut found = ArrayVec::new();
+    for slot in slots {
+        found.push(slot.number);
+    }
+    found
 }
 
 /// Whether a port distributes in this aggregator.
@@ -46,6 +64,63 @@ pub(crate) fn distributing(slots: &[Slot], agg: AggId) -> ArrayVec<u16, 64>
 }
 
 impl<F: Fn(u16, usize) -> usize + Drop> System<F> {
+    /// The numbers of the ports, 1 to 64 of them, ascending.
+    pub fn ports(&self) -> ArrayVec<u16, 64>
+        ensures all { result.items ≡ numbers self.now.state.slots }
+        ensures ascending { IsStrictlyIncreasing result.items }
+    {
+        numbers(&self.core.slots)
+    }
+
+    /// How many aggregators there are, 1 to 64. They are numbered from 1 (6.4.6).
+    pub fn aggregators(&self) -> usize
+        ensures { result ≡ length self.now.state.keys }
+    {
+        self.core.aggregators.count()
+    }
+
+    /// Whether the link of a port is up (6.4.7, port_enabled); None if there is no such port.
+    pub fn is_up(&self, port: u16) -> Option<bool>
+        ensures { result ≡ option_map (λ p. p.enabled) (port_of port self.now.state) }
+    {
+        match slot_of(&self.core.slots, port) {
+            Some(slot) => Some(slot.port.is_enabled()),
+            None => None,
+        }
+    }
+
+    /// The state octet of a port's own side, as its LACPDUs carry it (6.4.2.3, Actor_State); None if there is no such port.
+    pub fn state(&self, port: u16) -> Option<State>
+        ensures { result ≡ option_map actor_state (port_of port self.now.state) }
+    {
+        match slot_of(&self.core.slots, port) {
+            Some(slot) => Some(slot.port.state()),
+            None => None,
+        }
+    }
+
+    /// The state of the receive machine of a port (6.4.12); None if there is no such port.
+    pub fn receive_state(&self, port: u16) -> Option<ReceiveState>
+        ensures { result ≡ option_map (λ p. p.receive) (port_of port self.now.state) }
+    {
+        match slot_of(&self.core.slots, port) {
+            Some(slot) => Some(slot.port.receive_state()),
+            None => None,
+        }
+    }
+
+    /// Whether `transmit` would answer a frame now: the link of the port is up, and NTT is set and fewer than three LACPDUs
+    /// were sent in the last eleven ticks, or a conversation is Wanted on the port and an identifier is left (6.4.16,
+    /// 6.5.3.3; profile). None if there is no such port.
+    pub fn is_due(&self, port: u16) -> Option<bool>
+        ensures { result ≡ due_of port self.now.state }
+    {
+        match slot_of(&self.core.slots, port) {
+            Some(slot) => Some(self.core.has_due(slot)),
+            None => None,
+        }
+    }
+
     /// The own parameters of a port (6.4.7); None where there is no such port.
     pub fn party(&self, port: u16) -> Option<Party>
         ensures { result ≡ option_map (λ p. p.party) (port_of port self.now.state) }
@@ -119,10 +194,12 @@ impl<F: Fn(u16, usize) -> usize + Drop> System<F> {
         }
     }
 
-    /// The numbers of the ports that distribute in an aggregator (6.2.4), ascending, at most 64; empty where there is no
-    /// such aggregator.
+    /// The numbers of the ports that distribute in an aggregator (6.2.4), ascending, at most 64; empty if there is no such
+    /// aggregator.
     pub fn distributing(&self, agg: AggId) -> ArrayVec<u16, 64>
-        ensures { result.items ≡ distributing agg self.now.state.slots }
+        ensures all { result.items ≡ distributing agg self.now.state.slots }
+        ensures ascending { IsStrictlyIncreasing result.items }
+        ensures unknown { OnFalse (has_aggregator self.now.state agg) (result.items ≡ []) }
     {
         distributing(&self.core.slots, agg)
     }
@@ -130,11 +207,27 @@ impl<F: Fn(u16, usize) -> usize + Drop> System<F> {
     /// The conversation of a frame in its aggregator, 0 to 255: octet 5 exclusive-or octet 11; None below 14 octets
     /// (profile).
     pub fn conversation(&self, frame: &[u8]) -> Option<u16>
-        ensures { result ≡ conversation_in frame.now }
+        ensures is { result ≡ conversation_in self.now.state frame.now }
+        ensures within { IfSome result (λ conv. conv < conversations self.now.state) }
     {
         if frame.len() < 14 {
             return None;
         }
-        Some(conversation_of(frame))
+        Some(self.core.conversation_of(frame))
+    }
+
+    /// What a conversation of an aggregator is doing; None if there is no such aggregator, or no conversation of this number,
+    /// 0 to 255 (profile).
+    pub fn conversation_state(&self, agg: AggId, conv: u16) -> Option<Assignment>
+        ensures { result ≡ conversation_at self.now.state agg conv }
+    {
+        self.core.conversation_state(agg, conv)
+    }
+
+    /// The identifier of the next marker, 0 to 4294967295; None if none is left (6.5.3.3; profile).
+    pub fn next_marker(&self) -> Option<u32>
+        ensures { result ≡ next_identifier self.now.state.table }
+    {
+        self.core.distributor.next_marker()
     }
 }

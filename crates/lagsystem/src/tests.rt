@@ -1,24 +1,25 @@
-ghost use Rattle.std.specs.Prelude.{◌≡◌, ◌<◌};
-ghost use Rattle.distributor.specs.Calls.{PicksPlaces};
-
 mod configurations;
 mod conversations;
 mod driven;
 mod frames;
 mod memory;
+mod plan;
 
-use crate::{Config, PortChange, PortConfig, Received, System, SystemFault};
+use crate::tests::plan::plan_of;
+use crate::{
+    AggId, Assignment, Choice, Config, Group, Info, Key, MuxState, NoMemory, Party, PortConfig,
+    PortId, ReceiveState, Received, Reply, State, System, SystemFault, SystemId,
+};
 use bitflags::Flags;
-use lagtypes::{AggId, Choice, Group, Key, NoMemory, Party, PortId, State, SystemId};
-use portmachines::MuxState;
-use slowpdu::{Info, Lacpdu, Marker, MarkerKind, frame};
+use slowpdu::{Lacpdu, Marker, MarkerKind};
 use std::alloc::Global;
+use std::process::Abort;
 
 /// A data frame of conversation 48.
 const DATA: [u8; 14] = [2, 0, 0, 0, 0, 0x20, 2, 0, 0, 0, 0, 0x10, 8, 0];
 
-/// A call, or several, with what it answers; or what a reader tells then.
-#[derive(Clone, Copy)]
+/// A call, or several, with what it answers; or what the readers tell then.
+#[derive(Clone, Copy, Debug)]
 enum Row<'a> {
     Link(u16, bool),
     Ticks(u16),
@@ -27,7 +28,7 @@ enum Row<'a> {
     Takes(u16, Info, Info),
     /// This frame on a port is answered so.
     Hears(u16, &'a [u8], Received),
-    /// This frame on a port is answered so, and the readers tell of the port what they told before.
+    /// The same, and the readers tell of the port what they told before.
     Keeps(u16, &'a [u8], Received),
     /// `configure` to this key, and else as before, answers so.
     Configures(u16, u16, bool),
@@ -37,14 +38,8 @@ enum Row<'a> {
     Quiet(u16, u16),
     /// `transmit` is an LACPDU of this actor and partner.
     Sends(u16, Info, Info),
-    /// The readers tell this of a port.
-    Shows(u16, Seen),
-    /// The calls refuse this port, and the readers know it not.
+    /// The calls refuse this port.
     Unknown(u16),
-    Chosen(u16, Choice),
-    Mux(u16, MuxState),
-    Defaulted(u16, bool),
-    Distributing(u16, &'a [u16]),
     /// `offer` of a frame in an aggregator answers so.
     Offers(u16, &'a [u8], Result<u16, SystemFault>),
     /// `move_conversation` to a port answers so.
@@ -54,8 +49,21 @@ enum Row<'a> {
     Marks(u16, u32),
     /// This marker response comes on a port and frees so many conversations.
     Releases(u16, Marker, u32),
+    /// The readers tell this of a port.
+    Shows(u16, Seen),
+    Chosen(u16, Choice),
+    Mux(u16, MuxState),
+    Defaulted(u16, bool),
+    Due(u16, bool),
+    Distributing(u16, &'a [u16]),
     /// `conversation` of a frame is this.
     Conversation(&'a [u8], Option<u16>),
+    /// `conversation_state` of a conversation of an aggregator is this.
+    Conversing(u16, u16, Option<Assignment>),
+    /// `next_marker` is this.
+    Next(Option<u32>),
+    /// `ports` are these, and so many are the aggregators.
+    Has(&'a [u16], usize),
 }
 
 /// What the readers tell of a port.
@@ -68,6 +76,10 @@ struct Seen {
     distributes: Option<bool>,
     choice: Option<Choice>,
     mux: Option<MuxState>,
+    receive: Option<ReceiveState>,
+    state: Option<State>,
+    up: Option<bool>,
+    due: Option<bool>,
 }
 
 /// What the readers tell of a port that is not there.
@@ -79,6 +91,10 @@ const NOTHING: Seen = Seen {
     distributes: None,
     choice: None,
     mux: None,
+    receive: None,
+    state: None,
+    up: None,
+    due: None,
 };
 
 /// The algorithm of the tests.
@@ -101,6 +117,10 @@ fn look<F: Fn(u16, usize) -> usize + Drop>(system: &System<F>, port: u16) -> See
         distributes: system.distributes(port),
         choice: system.choice(port),
         mux: system.mux_state(port),
+        receive: system.receive_state(port),
+        state: system.state(port),
+        up: system.is_up(port),
+        due: system.is_due(port),
     }
 }
 
@@ -152,17 +172,21 @@ fn mac(number: u16) -> [u8; 6] {
     [2, 0, 0, 0, 0, low]
 }
 
-/// What the readers tell of port 1 of system 1, of this key, while it has this partner and was never selected.
-fn unheard(key: u16, partner: Info) -> Seen {
+/// What the readers tell of port 1 of system 1, of this key, while its link is down and it was never selected.
+fn unheard(key: u16) -> Seen {
     let party = end(1, 1, key, 0x04).party();
     Seen {
         party: Some(party),
-        partner: Some(partner),
+        partner: Some(zero(0)),
         group: Some(Group::of(&zero(0).party(), &party)),
         defaulted: Some(true),
         distributes: Some(false),
         choice: Some(Choice::Unselected),
         mux: Some(MuxState::Detached),
+        receive: Some(ReceiveState::PortDisabled),
+        state: Some(State::from_bits_retain(0x47)),
+        up: Some(false),
+        due: Some(false),
     }
 }
 
@@ -203,257 +227,91 @@ fn config(alloc: Global, numbers: &[u16], count: usize) -> Result<Config, NoMemo
     })
 }
 
-/// Makes so many ticks, which answer nothing.
-fn tick<F: Fn(u16, usize) -> usize + Drop>(system: &mut System<F>, ticks: u16) -> bool
-    ensures algorithm { system.new.algorithm ≡ system.old.algorithm }
-{
-    for _ in 0..ticks {
-        system.tick();
-    }
-    true
-}
-
-fn restart<F: Fn(u16, usize) -> usize + Drop>(system: &mut System<F>) -> bool
-    ensures algorithm { system.new.algorithm ≡ system.old.algorithm }
-{
-    system.restart();
-    true
-}
-
-/// Makes a tick, and answers whether `transmit` is None then.
-fn is_quiet<F: Fn(u16, usize) -> usize + Drop>(system: &mut System<F>, port: u16) -> bool
-    ensures algorithm { system.new.algorithm ≡ system.old.algorithm }
-{
-    system.tick();
-    system.transmit(port) == Ok(None)
-}
-
-fn quiet<F: Fn(u16, usize) -> usize + Drop>(system: &mut System<F>, port: u16, ticks: u16) -> bool
-    ensures algorithm { system.new.algorithm ≡ system.old.algorithm }
-{
-    for _ in 0..ticks {
-        if !is_quiet(system, port) {
-            return false;
-        }
-    }
-    true
-}
-
-/// Whether `transmit` is a control frame of this payload.
-fn sends<F: Fn(u16, usize) -> usize + Drop>(
-    system: &mut System<F>,
-    port: u16,
-    payload: &[u8; 110],
-) -> bool
-    ensures algorithm { system.new.algorithm ≡ system.old.algorithm }
-{
-    system.transmit(port) == Ok(Some(frame(mac(port), payload)))
-}
-
-/// Whether `transmit` is the marker of this identifier.
-fn marks<F: Fn(u16, usize) -> usize + Drop>(system: &mut System<F>, port: u16, id: u32) -> bool
-    ensures algorithm { system.new.algorithm ≡ system.old.algorithm }
-{
-    sends(
-        system,
-        port,
-        &marker(MarkerKind::Information, port, 1, id).encode(),
-    )
-}
-
-/// Whether a control frame of this payload from the peer is answered so.
-fn hears<F: Fn(u16, usize) -> usize + Drop>(
-    system: &mut System<F>,
-    port: u16,
-    payload: &[u8; 110],
-    answer: Received,
-) -> bool
-    ensures algorithm { system.new.algorithm ≡ system.old.algorithm }
-{
-    system.receive(port, &frame(mac(9), payload)) == Ok(answer)
-}
-
-fn links<F: Fn(u16, usize) -> usize + Drop>(system: &mut System<F>, port: u16, up: bool) -> bool
-    ensures algorithm { system.new.algorithm ≡ system.old.algorithm }
-{
-    system.set_link(port, up) == Ok(())
-}
-
-/// Whether these octets on a port are answered so.
-fn receives<F: Fn(u16, usize) -> usize + Drop>(
-    system: &mut System<F>,
-    port: u16,
-    octets: &[u8],
-    answer: Received,
-) -> bool
-    ensures algorithm { system.new.algorithm ≡ system.old.algorithm }
-{
-    system.receive(port, octets) == Ok(answer)
-}
-
-/// Whether a frame is answered so, and the readers tell of the port what they told before.
-fn keeps<F: Fn(u16, usize) -> usize + Drop>(
-    system: &mut System<F>,
-    port: u16,
-    octets: &[u8],
-    answer: Received,
-) -> bool
-    ensures algorithm { system.new.algorithm ≡ system.old.algorithm }
-{
-    let before = look(system, port);
-    receives(system, port, octets, answer) && look(system, port) == before
-}
-
-fn configures<F: Fn(u16, usize) -> usize + Drop>(
-    system: &mut System<F>,
-    port: u16,
-    key: u16,
-    answer: Result<bool, SystemFault>,
-) -> bool
-    ensures algorithm { system.new.algorithm ≡ system.old.algorithm }
-{
-    let change = PortChange {
-        key: Key(key),
-        priority: 128,
-        aggregatable: true,
-    };
-    system.configure(port, change) == answer
-}
-
-/// Whether the calls refuse a port, and the readers know it not.
-fn is_unknown<F: Fn(u16, usize) -> usize + Drop>(system: &mut System<F>, port: u16) -> bool
-    ensures algorithm { system.new.algorithm ≡ system.old.algorithm }
-{
-    system.receive(port, &DATA) == Err(SystemFault::NoPort)
-        && system.set_link(port, true) == Err(SystemFault::NoPort)
-        && configures(system, port, 2, Err(SystemFault::NoPort))
-        && system.transmit(port) == Err(SystemFault::NoPort)
-        && look(system, port) == NOTHING
-}
-
-fn is_silent<F: Fn(u16, usize) -> usize + Drop>(system: &mut System<F>, port: u16) -> bool
-    ensures algorithm { system.new.algorithm ≡ system.old.algorithm }
-{
-    system.transmit(port) == Ok(None)
-}
-
-fn offers<F: Fn(u16, usize) -> usize + Drop>(
-    system: &mut System<F>,
-    agg: u16,
-    octets: &[u8],
-    answer: Result<u16, SystemFault>,
-) -> bool
-    requires usable { PicksPlaces (F.pre system.old.algorithm) (F.post system.old.algorithm) }
-    ensures algorithm { system.new.algorithm ≡ system.old.algorithm }
-{
-    system.offer(AggId(agg), octets) == answer
-}
-
-fn moves<F: Fn(u16, usize) -> usize + Drop>(
-    system: &mut System<F>,
-    agg: u16,
-    conv: u16,
-    port: u16,
-    answer: Result<(), SystemFault>,
-) -> bool
-    ensures algorithm { system.new.algorithm ≡ system.old.algorithm }
-{
-    system.move_conversation(AggId(agg), conv, port) == answer
-}
-
-fn forces<F: Fn(u16, usize) -> usize + Drop>(
-    system: &mut System<F>,
-    agg: u16,
-    conv: u16,
-    answer: Result<(), SystemFault>,
-) -> bool
-    ensures algorithm { system.new.algorithm ≡ system.old.algorithm }
-{
-    system.force(AggId(agg), conv) == answer
-}
-
-/// Whether a reader tells what a row says.
-fn tells<F: Fn(u16, usize) -> usize + Drop>(system: &System<F>, row: Row<'_>) -> bool {
+/// Compares what the readers tell with what a row says of them.
+fn tells<F: Fn(u16, usize) -> usize + Drop>(
+    rt: &impl Abort,
+    system: &System<F>,
+    place: usize,
+    row: Row<'_>,
+) {
     match row {
-        Row::Shows(port, seen) => look(system, port) == seen,
-        Row::Conversation(octets, answer) => system.conversation(octets) == answer,
-        Row::Chosen(port, choice) => system.choice(port) == Some(choice),
-        Row::Mux(port, state) => system.mux_state(port) == Some(state),
-        Row::Defaulted(port, defaulted) => system.defaulted(port) == Some(defaulted),
-        Row::Distributing(agg, ports) => system.distributing(AggId(agg)).as_slice() == ports,
-        _ => false,
+        Row::Shows(port, seen) => assert_eq!(rt; look(system, port), seen, "row {place}"),
+        Row::Chosen(port, choice) => assert_eq!(rt;
+            look(system, port).choice,
+            Some(choice),
+            "row {place}"
+        ),
+        Row::Mux(port, state) => assert_eq!(rt; look(system, port).mux, Some(state), "row {place}"),
+        Row::Defaulted(port, is) => assert_eq!(rt;
+            look(system, port).defaulted,
+            Some(is),
+            "row {place}"
+        ),
+        Row::Due(port, is) => assert_eq!(rt; look(system, port).due, Some(is), "row {place}"),
+        Row::Distributing(agg, ports) => assert_eq!(rt;
+            system.distributing(AggId(agg)).as_slice(),
+            ports,
+            "row {place}"
+        ),
+        Row::Conversation(octets, conv) => assert_eq!(rt;
+            system.conversation(octets),
+            conv,
+            "row {place}"
+        ),
+        Row::Conversing(agg, conv, state) => assert_eq!(rt;
+            system.conversation_state(AggId(agg), conv),
+            state,
+            "row {place}"
+        ),
+        Row::Next(id) => assert_eq!(rt; system.next_marker(), id, "row {place}"),
+        Row::Has(ports, aggregators) => {
+            assert_eq!(rt; system.ports().as_slice(), ports, "row {place}");
+            assert_eq!(rt; system.aggregators(), aggregators, "row {place}");
+        }
+        _ => {}
     }
 }
 
-/// Makes the calls of a row, and answers whether it went as it says.
-fn passes<F: Fn(u16, usize) -> usize + Drop>(system: &mut System<F>, row: Row<'_>) -> bool
-    requires usable { PicksPlaces (F.pre system.old.algorithm) (F.post system.old.algorithm) }
-    ensures algorithm { system.new.algorithm ≡ system.old.algorithm }
-{
+/// Compares the replies to the calls of a row with those that it wants.
+fn compare(rt: &impl Abort, place: usize, row: Row<'_>, replies: &[Reply], wanted: &[Reply]) {
+    assert_eq!(rt; replies.len(), wanted.len(), "row {place}");
+    for (reply, want) in replies.iter().zip(wanted) {
+        assert_eq!(rt; *reply, *want, "row {place}: {row:?}");
+    }
+}
+
+/// The port of which the readers have to tell what they told before; 0, which no port has, if there is none.
+fn kept_port(row: Row<'_>) -> u16 {
     match row {
-        Row::Link(port, up) => links(system, port, up),
-        Row::Ticks(ticks) => tick(system, ticks),
-        Row::Restart => restart(system),
-        Row::Takes(port, actor, partner) => {
-            hears(system, port, &lacpdu(actor, partner), Received::TookLacpdu)
-        }
-        Row::Hears(port, octets, answer) => receives(system, port, octets, answer),
-        Row::Keeps(port, octets, answer) => keeps(system, port, octets, answer),
-        Row::Configures(port, key, answer) => configures(system, port, key, Ok(answer)),
-        Row::Unknown(port) => is_unknown(system, port),
-        Row::Silent(port) => is_silent(system, port),
-        Row::Quiet(port, ticks) => quiet(system, port, ticks),
-        Row::Sends(port, actor, partner) => sends(system, port, &lacpdu(actor, partner)),
-        Row::Offers(agg, octets, answer) => offers(system, agg, octets, answer),
-        Row::Moves(agg, conv, port, answer) => moves(system, agg, conv, port, answer),
-        Row::Forces(agg, conv, answer) => forces(system, agg, conv, answer),
-        Row::Marks(port, id) => marks(system, port, id),
-        Row::Releases(port, response, count) => {
-            hears(system, port, &response.encode(), Received::Released(count))
-        }
-        _ => tells(system, row),
+        Row::Keeps(port, _, _) => port,
+        _ => 0,
     }
 }
 
-/// The place of the first row that does not go as it says.
-fn first_other<F: Fn(u16, usize) -> usize + Drop>(
-    system: &mut System<F>,
-    rows: &[Row<'_>],
-) -> Option<usize>
-    requires usable { PicksPlaces (F.pre system.old.algorithm) (F.post system.old.algorithm) }
-    ensures algorithm { system.new.algorithm ≡ system.old.algorithm }
-{
-    for (place, row) in rows.iter().enumerate() {
-        if !passes(system, *row) {
-            return Some(place);
-        }
-    }
-    None
-}
-
-/// The list, and the place in it, of the first row that does not go as it says, of lists one after another.
-fn first_place<F: Fn(u16, usize) -> usize + Drop>(
-    system: &mut System<F>,
-    lists: &[&[Row<'_>]],
-) -> Option<(usize, usize)>
-    requires usable { PicksPlaces (F.pre system.old.algorithm) (F.post system.old.algorithm) }
-    ensures algorithm { system.new.algorithm ≡ system.old.algorithm }
-{
-    for (list, rows) in lists.iter().enumerate() {
-        if let Some(place) = first_other(system, rows) {
-            return Some((list, place));
-        }
-    }
-    None
-}
-
-/// Plays lists of rows, one after another, on a new system; answers the list, and the place in it, of the first row that
-/// does not go as it says.
+/// Plays rows on a new system, one after another.
 fn plays(
+    rt: &impl Abort,
     alloc: Global,
     given: Config,
-    lists: &[&[Row<'_>]],
-) -> Result<Option<(usize, usize)>, SystemFault> {
+    rows: &[Row<'_>],
+) -> Result<(), SystemFault> {
     let mut system = System::new(alloc, given, modulo)?;
-    Ok(first_place(&mut system, lists))
+    for (place, row) in rows.iter().enumerate() {
+        let plan = plan_of(alloc, *row)?;
+        let before = look(&system, kept_port(*row));
+        let replies = system.drive(alloc, &plan.calls)?;
+        compare(rt, place, *row, &replies, &plan.replies);
+        assert_eq!(rt; look(&system, kept_port(*row)), before, "row {place}");
+        tells(rt, &system, place, *row);
+    }
+    Ok(())
+}
+
+/// Lists of rows, one after another.
+fn joined<'a>(alloc: Global, lists: &[&[Row<'a>]]) -> Result<Vec<Row<'a>>, NoMemory> {
+    let mut all = Vec::new(alloc);
+    for rows in lists {
+        all.extend_from_slice(rows)?;
+    }
+    Ok(all)
 }

@@ -78,9 +78,22 @@ itself n = (Decides-eqb n n).1 refl
 pub system-itself : (s : SystemId) → same_system s s ≡ true
 system-itself s = rw (itself s.priority, (bytes_eq-Decides s.mac s.mac).1 refl) refl
 
+port-itself : (p : PortId) → same_port p p ≡ true
+port-itself p = rw (itself p.priority, itself p.number) refl
+
+bit-itself : (b : Bool) → same_bit b b ≡ true
+bit-itself true = refl
+bit-itself false = refl
+
+pub party_itself : (a : Party) → same_party a a ≡ true
+party_itself a =
+    and_from _ _
+    (and_from _ _ (and_from _ _ (system-itself a.system) (itself a.key.0)) (port-itself a.port))
+    (bit-itself a.aggregatable)
+
 ports-themselves : (o : Option PortId) → option_eq same_port o o ≡ true
 ports-themselves None = refl
-ports-themselves (Some p) = rw (itself p.priority, itself p.number) refl
+ports-themselves (Some p) = port-itself p
 
 end-itself : (e : End) → same_end e e ≡ true
 end-itself e = and_from _ _ (system-itself e.system) (and_from _ _ (itself e.key.0) (ports-themselves e.port))

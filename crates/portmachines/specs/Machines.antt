@@ -1,4 +1,4 @@
--- The variables of the machines of one port (6.4.4 to 6.4.10).
+-- The variables of the machines of one port (6.4.7, 6.4.8, 6.4.10).
 use Rattle.std.specs.Prelude.{ℕ, Bool, List}
 use Rattle.lagtypes.specs.declared.party.Party.{Party}
 use Rattle.lagtypes.specs.declared.party.Choice.{Choice}

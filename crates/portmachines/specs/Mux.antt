@@ -45,18 +45,18 @@ mux_row from guard to effect =
 
 abbrev pub mux_rows : Bool → List Row
 mux_rows ready =
-    -- DETACHED; SELECTED; to WAITING; wait_while starts with 20
-    mux_row Detached selected Waiting start_wait_while
+    -- DETACHED; not UNSELECTED; to WAITING; wait_while starts with 20
+    mux_row Detached (λ p. not (unselected p)) Waiting start_wait_while
     -- WAITING; UNSELECTED; to DETACHED; NTT true
     ∷ mux_row Waiting unselected Detached set_ntt
     -- WAITING; SELECTED and Ready; to ATTACHED; NTT true
     ∷ mux_row Waiting (λ p. selected p && ready) Attached set_ntt
-    -- ATTACHED; UNSELECTED; to DETACHED; NTT true
-    ∷ mux_row Attached unselected Detached set_ntt
+    -- ATTACHED; not SELECTED; to DETACHED; NTT true
+    ∷ mux_row Attached (λ p. not (selected p)) Detached set_ntt
     -- ATTACHED; SELECTED and partner Synchronization; to COLLECTING_DISTRIBUTING; NTT true
     ∷ mux_row Attached (λ p. selected p && partner_synchronized p) CollectingDistributing set_ntt
-    -- COLLECTING_DISTRIBUTING; UNSELECTED, or partner Synchronization false; to ATTACHED; NTT true
-    ∷ mux_row CollectingDistributing (λ p. unselected p || not (partner_synchronized p)) Attached set_ntt
+    -- COLLECTING_DISTRIBUTING; not SELECTED, or partner Synchronization false; to ATTACHED; NTT true
+    ∷ mux_row CollectingDistributing (λ p. not (selected p) || not (partner_synchronized p)) Attached set_ntt
     ∷ []
 
 -- start, or reinit in any state; to DETACHED; NTT true

@@ -11,7 +11,7 @@ use lagtypes::{Choice, Party, State, StateBits};
 use slowpdu::Info;
 use std::marker::Model;
 
-/// The variables of the four machines of one port (6.4.4 to 6.4.10). A timer is the number of ticks
+/// The variables of the four machines of one port (6.4.7, 6.4.8, 6.4.10). A timer is the number of ticks
 /// that it has left, and has expired at 0.
 #[derive(Drop)]
 pub(crate) struct Machines {

@@ -55,7 +55,11 @@ impl Machines {
             (MuxState::CollectingDistributing, Choice::Selected(_)) if !synchronized => {
                 MuxState::Attached
             }
-            _ => return false,
+            (MuxState::Detached, Choice::Unselected)
+            | (
+                MuxState::Waiting | MuxState::Attached | MuxState::CollectingDistributing,
+                Choice::Selected(_),
+            ) => return false,
         };
         match next {
             MuxState::Waiting => self.wait_while = AGGREGATE_WAIT_TIME,

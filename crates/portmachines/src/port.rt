@@ -161,7 +161,7 @@ impl Port {
         self.machines.state()
     }
 
-    /// Whether the link is up: port_enabled (6.4.8).
+    /// Whether the link is up: port_enabled (6.4.7).
     pub fn is_enabled(&self) -> bool
         ensures { result ≡ self.now.enabled }
     {
@@ -210,7 +210,7 @@ impl Port {
         self.machines.choice
     }
 
-    /// NTT: whether an LACPDU is asked for (6.4.8).
+    /// NTT: whether an LACPDU is asked for (6.4.7).
     pub fn ntt(&self) -> bool
         ensures { result ≡ self.now.ntt }
     {

@@ -7,7 +7,7 @@ use slowpdu::{Info, Lacpdu};
 use std::process::Abort;
 
 /// A call, or several, with what it is to answer; or what is to stand in the port then.
-#[derive(Clone, Copy)]
+#[derive(Clone, Copy, Debug, PartialEq, Eq)]
 enum Step {
     Link(bool),
     Periodic,
@@ -20,10 +20,8 @@ enum Step {
     Select(Choice),
     /// `mux` with this Ready answers so many rows.
     Mux(bool, u8),
-    /// `transmit(0)` is None.
-    Silent,
-    /// `transmit(0)` is an LACPDU of this state octet.
-    Sends(u8),
+    /// `transmit(0)` is an LACPDU of this state octet, or None.
+    Sends(Option<u8>),
     /// The state octet.
     State(u8),
     Receive(ReceiveState),
@@ -77,49 +75,44 @@ fn run(port: &mut Port, ticks: u16) {
     }
 }
 
-fn quiet(port: &mut Port, ticks: u16) -> bool {
-    for _tick in 0..ticks {
+/// How many of these ticks pass before an LACPDU is sent.
+fn quiet(port: &mut Port, ticks: u16) -> u16 {
+    for tick in 0..ticks {
         run(port, 1);
         if port.transmit(0).is_some() {
-            return false;
+            return tick;
         }
     }
-    true
+    ticks
 }
 
-fn sends(port: &mut Port, state: u8) -> bool {
-    match port.transmit(0) {
-        Some(pdu) => pdu.actor.state.bits() == state,
-        None => false,
-    }
-}
-
-/// Does a step, and answers whether it went as it says.
-fn passes(port: &mut Port, step: Step) -> bool {
+/// Does a step, and answers it with what came in the place of what was wanted.
+fn done(port: &mut Port, step: Step) -> Step {
     match step {
         Step::Link(enabled) => port.set_link(enabled),
         Step::Periodic => port.periodic(),
         Step::Run(ticks) => run(port, ticks),
-        Step::Quiet(ticks) => return quiet(port, ticks),
+        Step::Quiet(ticks) => return Step::Quiet(quiet(port, ticks)),
         Step::Take(state) => port.take(&Lacpdu {
             actor: end(2, state),
             partner: zero(0),
             max_delay: 0,
         }),
         Step::Select(choice) => port.select(choice),
-        Step::Mux(ready, rows) => return port.mux(ready) == rows,
-        Step::Silent => return port.transmit(0).is_none(),
-        Step::Sends(state) => return sends(port, state),
-        Step::State(state) => return port.state().bits() == state,
-        Step::Receive(state) => return port.receive_state() == state,
-        Step::PeriodicIn(state) => return port.periodic_state() == state,
+        Step::Mux(ready, _) => return Step::Mux(ready, port.mux(ready)),
+        Step::Sends(_) => {
+            return Step::Sends(port.transmit(0).map(|pdu| pdu.actor.state.bits()));
+        }
+        Step::State(_) => return Step::State(port.state().bits()),
+        Step::Receive(_) => return Step::Receive(port.receive_state()),
+        Step::PeriodicIn(_) => return Step::PeriodicIn(port.periodic_state()),
     }
-    true
+    step
 }
 
 fn walk(rt: &impl Abort, mut port: Port, steps: &[Step]) {
     for (place, step) in steps.iter().enumerate() {
-        assert!(rt; passes(&mut port, *step), "at step {place}");
+        assert_eq!(rt; done(&mut port, *step), *step, "step {place}");
     }
 }
 
@@ -133,9 +126,9 @@ fn an_active_port_alone(rt: HostRuntime) {
             Step::Link(true),
             Step::Periodic,
             Step::Run(9),
-            Step::Silent,
+            Step::Sends(None),
             Step::Run(1),
-            Step::Sends(0xc7),
+            Step::Sends(Some(0xc7)),
             Step::Run(20),
             Step::Receive(ReceiveState::Defaulted),
             Step::State(0x47),
@@ -160,11 +153,11 @@ fn a_passive_port_waits_for_a_partner(rt: HostRuntime) {
             Step::Periodic,
             Step::Run(10),
             Step::PeriodicIn(PeriodicState::NoPeriodic),
-            Step::Silent,
+            Step::Sends(None),
             Step::Take(0x07),
             Step::Periodic,
             Step::PeriodicIn(PeriodicState::Fast),
-            Step::Sends(0x06),
+            Step::Sends(Some(0x06)),
         ],
     );
 }
@@ -181,10 +174,10 @@ fn long_timeouts(rt: HostRuntime) {
             Step::Take(0x05),
             Step::Periodic,
             Step::PeriodicIn(PeriodicState::Slow),
-            Step::Sends(0x05),
+            Step::Sends(Some(0x05)),
             Step::Quiet(299),
             Step::Run(1),
-            Step::Sends(0x05),
+            Step::Sends(Some(0x05)),
             Step::Run(599),
             Step::Receive(ReceiveState::Current),
             Step::State(0x05),
@@ -209,54 +202,278 @@ fn a_full_window(rt: HostRuntime) {
             Step::Periodic,
             Step::Link(true),
             Step::Take(0x07),
-            Step::Sends(0x07),
+            Step::Sends(Some(0x07)),
             Step::Take(0x07),
-            Step::Sends(0x07),
+            Step::Sends(Some(0x07)),
             Step::Take(0x07),
-            Step::Sends(0x07),
+            Step::Sends(Some(0x07)),
             Step::Take(0x07),
-            Step::Silent,
+            Step::Sends(None),
             Step::Quiet(10),
             Step::Run(1),
-            Step::Sends(0x07),
+            Step::Sends(Some(0x07)),
         ],
     );
 }
 
 #[test]
-fn the_whole_lacpdu_and_the_readers(rt: HostRuntime) {
+fn attached_is_synchronized_and_passes_no_frames(rt: HostRuntime) {
+    walk(
+        &rt,
+        port(true, true),
+        &[
+            Step::Link(true),
+            Step::Take(0x07),
+            Step::Select(Choice::Selected(AggId(1))),
+            Step::Mux(true, 2),
+            Step::State(0x0f),
+            Step::Select(Choice::Unselected),
+            Step::Mux(true, 1),
+            Step::State(0x07),
+        ],
+    );
+}
+
+#[test]
+fn the_readers_of_a_port(rt: HostRuntime) {
     let mut port = port(true, true);
-    window_holds();
-    each_call_has_one_effect();
-    assert!(rt; port.ntt());
-    assert!(rt; !port.is_enabled());
-    assert!(rt; port.is_defaulted());
-    assert!(rt; port.has_waited());
-    assert_eq!(rt; port.partner(), zero(0));
-    assert_eq!(rt; port.receive_state(), ReceiveState::PortDisabled);
-    assert_eq!(rt; port.mux_state(), MuxState::Detached);
+    assert!(rt; port.ntt(), "ntt after new");
+    assert!(rt; !port.is_enabled(), "is_enabled after new");
+    assert!(rt; port.is_defaulted(), "is_defaulted after new");
+    assert!(rt; port.has_waited(), "has_waited after new");
+    assert_eq!(rt; port.partner(), zero(0), "partner after new");
+    assert_eq!(rt;
+        port.receive_state(),
+        ReceiveState::PortDisabled,
+        "receive_state after new"
+    );
+    assert_eq!(rt; port.mux_state(), MuxState::Detached, "mux_state after new");
     port.periodic();
-    assert!(rt; !port.ntt());
+    assert!(rt; !port.ntt(), "ntt after periodic");
     port.set_link(true);
     port.periodic();
-    assert_eq!(rt; port.current_while(), 30);
-    assert_eq!(rt; port.periodic_timer(), 10);
     run(&mut port, 10);
     let due = Lacpdu {
         actor: end(1, 0xc7),
         partner: zero(2),
         max_delay: 0,
     };
-    assert_eq!(rt; port.transmit(0), Some(due));
+    assert_eq!(rt; port.transmit(0), Some(due), "transmit after ten ticks");
     run(&mut port, 2);
-    assert_eq!(rt; port.ages().as_slice(), [2].as_slice());
+    assert_eq!(rt;
+        port.ages().as_slice(),
+        [2].as_slice(),
+        "ages two ticks later"
+    );
     port.select(Choice::Selected(AggId(1)));
-    assert_eq!(rt; port.mux(false), 1);
-    assert_eq!(rt; port.wait_while(), 20);
-    assert_eq!(rt; port.choice(), Choice::Selected(AggId(1)));
+    assert_eq!(rt; port.mux(false), 1, "mux of a port that is selected");
+    assert_eq!(rt;
+        port.choice(),
+        Choice::Selected(AggId(1)),
+        "choice after select"
+    );
     port.reinit(party(2));
-    assert_eq!(rt; port.party(), party(2));
-    assert_eq!(rt; port.choice(), Choice::Unselected);
-    assert_eq!(rt; port.receive_state(), ReceiveState::Expired);
-    assert!(rt; !port.distributes());
+    assert_eq!(rt; port.party(), party(2), "party after reinit");
+    assert_eq!(rt; port.choice(), Choice::Unselected, "choice after reinit");
+    assert_eq!(rt;
+        port.receive_state(),
+        ReceiveState::Expired,
+        "receive_state after reinit"
+    );
+    assert_eq!(rt; port.ages().as_slice(), [2].as_slice(), "ages after reinit");
+    assert!(rt; port.is_enabled(), "is_enabled after reinit");
+    assert!(rt; !port.distributes(), "distributes after reinit");
+}
+
+/// What the timers of a port have left: current_while, periodic_timer and wait_while.
+fn timers(port: &Port) -> (u16, u16, u8) {
+    (
+        port.current_while(),
+        port.periodic_timer(),
+        port.wait_while(),
+    )
+}
+
+#[test]
+fn each_timer_counts_by_itself(rt: HostRuntime) {
+    let mut port = quiet_port(true, true);
+    port.select(Choice::Selected(AggId(1)));
+    assert_eq!(rt; port.mux(false), 1, "mux of a port that is selected");
+    assert_eq!(rt; timers(&port), (30, 10, 20), "when they start");
+    port.tick();
+    assert_eq!(rt; timers(&port), (29, 9, 19), "a tick later");
+    run(&mut port, 29);
+    assert_eq!(rt; timers(&port), (0, 300, 0), "30 ticks later, on defaults");
+    assert_eq!(rt; port.partner(), zero(0x08), "partner on defaults");
+}
+
+#[test]
+fn each_field_of_an_lacpdu_has_its_source(rt: HostRuntime) {
+    let own = Party {
+        system: SystemId {
+            priority: 4113,
+            mac: [2, 3, 4, 5, 6, 7],
+        },
+        key: Key(8),
+        port: PortId {
+            priority: 9,
+            number: 10,
+        },
+        aggregatable: false,
+    };
+    let mut port = Port::new(Setup {
+        party: own,
+        active: true,
+        short: false,
+    });
+    port.set_link(true);
+    let theirs = Info {
+        system: SystemId {
+            priority: 8225,
+            mac: [0x12, 0x13, 0x14, 0x15, 0x16, 0x17],
+        },
+        key: Key(24),
+        port: PortId {
+            priority: 25,
+            number: 26,
+        },
+        state: State::from_bits_retain(0x06),
+    };
+    port.take(&saying(0x07, zero(0)));
+    port.take(&Lacpdu {
+        actor: theirs,
+        partner: zero(0),
+        max_delay: 27,
+    });
+    port.periodic();
+    let due = Lacpdu {
+        actor: Info {
+            system: own.system,
+            key: own.key,
+            port: own.port,
+            state: State::from_bits_retain(0x01),
+        },
+        partner: theirs,
+        max_delay: 28,
+    };
+    assert_eq!(rt; port.transmit(28), Some(due), "transmit");
+}
+
+#[test]
+fn the_laws_are_called(_rt: HostRuntime) {
+    window_holds();
+    each_call_has_one_effect();
+}
+
+/// An LACPDU of system 2 with this state octet, which says this of the port.
+fn saying(actor: u8, partner: Info) -> Lacpdu {
+    Lacpdu {
+        actor: end(2, actor),
+        partner,
+        max_delay: 0,
+    }
+}
+
+/// A port whose link is up and that has nothing to send.
+fn quiet_port(active: bool, short: bool) -> Port {
+    let mut port = port(active, short);
+    port.periodic();
+    port.set_link(true);
+    port.periodic();
+    port
+}
+
+#[test]
+fn what_is_told_of_the_port_is_compared(rt: HostRuntime) {
+    let other_key = Info {
+        key: Key(2),
+        ..end(1, 0x07)
+    };
+    let rows = [
+        (end(1, 0x07), false),
+        (end(1, 0x06), true),
+        (end(1, 0x05), true),
+        (end(1, 0x0f), true),
+        (end(1, 0x03), true),
+        (other_key, true),
+    ];
+    for (place, (told, ntt)) in rows.into_iter().enumerate() {
+        let mut port = quiet_port(true, true);
+        port.take(&saying(0x07, told));
+        assert_eq!(rt; port.ntt(), ntt, "row {place}: ntt after {told:?} was told");
+    }
+}
+
+#[test]
+fn what_is_recorded_of_synchronization(rt: HostRuntime) {
+    let rows = [
+        // active, and names the port
+        (true, 0x0d, end(1, 0x07), 0x0d),
+        // names another one
+        (true, 0x0d, zero(0x01), 0x05),
+        // an individual link need not name it
+        (true, 0x09, zero(0x01), 0x09),
+        // passive: both the port and what is told of it have to be active
+        (true, 0x0c, end(1, 0x07), 0x0c),
+        (true, 0x0c, end(1, 0x06), 0x04),
+        (false, 0x0c, end(1, 0x07), 0x04),
+    ];
+    for (place, (active, actor, told, recorded)) in rows.into_iter().enumerate() {
+        let mut port = quiet_port(active, true);
+        port.take(&saying(actor, told));
+        let state = port.partner().state.bits();
+        assert_eq!(rt;
+            state,
+            recorded,
+            "row {place}: partner's state after {actor:#04x}"
+        );
+    }
+}
+
+#[test]
+fn timers_by_whose_timeout(rt: HostRuntime) {
+    for (short, actor, ticks) in [(true, 0x05, 30), (false, 0x07, 900)] {
+        let mut port = quiet_port(true, short);
+        port.take(&saying(actor, end(1, 0x07)));
+        assert_eq!(rt; port.current_while(), ticks, "short {short}: current_while");
+    }
+    let mut port = quiet_port(true, true);
+    port.take(&saying(0x05, end(1, 0x07)));
+    port.periodic();
+    assert_eq!(rt;
+        port.periodic_state(),
+        PeriodicState::Slow,
+        "of a long partner"
+    );
+    port.take(&saying(0x07, end(1, 0x07)));
+    port.periodic();
+    assert_eq!(rt;
+        port.periodic_state(),
+        PeriodicState::Fast,
+        "of a short partner"
+    );
+    assert_eq!(rt; port.periodic_timer(), 10, "periodic_timer in FAST");
+}
+
+/// Whether the mux rows that fire set NTT, where it was clear before.
+fn asks(port: &mut Port, ready: bool) -> bool {
+    run(port, 11);
+    let _sent = port.transmit(0);
+    let before = port.ntt();
+    let _fired = port.mux(ready);
+    port.ntt() && !before
+}
+
+#[test]
+fn each_mux_row_but_the_first_asks(rt: HostRuntime) {
+    let mut port = quiet_port(true, true);
+    port.take(&saying(0x05, end(1, 0x07)));
+    port.select(Choice::Selected(AggId(1)));
+    assert!(rt; !asks(&mut port, false), "to WAITING");
+    port.select(Choice::Unselected);
+    assert!(rt; asks(&mut port, false), "from WAITING to DETACHED");
+    port.select(Choice::Selected(AggId(1)));
+    assert!(rt; asks(&mut port, true), "to ATTACHED");
+    port.select(Choice::Unselected);
+    assert!(rt; asks(&mut port, false), "from ATTACHED to DETACHED");
 }

@@ -1,6 +1,6 @@
--- Views in ascending order of their port numbers.
+-- Views in ascending order of their port numbers, and anything else in ascending order of its numbers.
 use Rattle.std.proofs.Common.{◌≡◌, ◌↔◌, ℕ, ◌+◌, ◌<◌, Bool, true, false, List, [], ◌∷◌, length, refl, arith, IsTrue}
-use Rattle.std.specs.Prelude.{filter, nat_lt}
+use Rattle.std.specs.Prelude.{filter, map, nat_lt}
 use Rattle.std.specs.List.{AllPairs, IsAllAdjacentAnswer, slice_index, slice_index_or}
 use Rattle.std.specs.List.Sorted.{IsStrictlyIncreasing}
 use Rattle.std.proofs.lemmas.Bool.Decides.{nat_tests}
@@ -9,33 +9,44 @@ use Rattle.std.proofs.lemmas.List.Kept.{AllPairs-filter, AllPairs-from_increasin
 use Rattle.selection.specs.declared.view.PortView.{PortView}
 use Rattle.selection.specs.Views.{numbers}
 
-length-numbers : (views : List PortView) → length (numbers views) ≡ length views
-length-numbers [] = refl
-length-numbers (v ∷ vs) = omega (arith, length-numbers vs)
+-- Things in ascending order of their numbers, whatever they are.
 
-number-at : (views : List PortView) (k : ℕ) (d : PortView) → k < length views → slice_index (numbers views) k ≡ (slice_index_or views k d).number
-number-at views k d h = get_or-map (λ (v : PortView). v.number) views k d 0 h
+length-counted : {X : Type 0} (number : X → ℕ) (xs : List X) → length (map number xs) ≡ length xs
+length-counted number [] = refl
+length-counted number (x ∷ xs) = omega (arith, length-counted number xs)
 
-abbrev Below : PortView → PortView → Type 0
-Below v w = v.number < w.number
+counted-at : {X : Type 0} (number : X → ℕ) (xs : List X) (k : ℕ) (d : X) → k < length xs → slice_index (map number xs) k ≡ number (slice_index_or xs k d)
+counted-at number xs k d h = get_or-map number xs k d 0 h
 
--- each view's number is below those after it
-pairs-from_rising : (views : List PortView) → IsStrictlyIncreasing (numbers views) → AllPairs Below views
-pairs-from_rising views h i j d lt within =
-    let all = AllPairs-from_increasing (numbers views) h i j 0 lt (omega (arith, length-numbers views)) in
-    let at_i = number-at views i d (omega arith) in
-    let at_j = number-at views j d within in
+-- each number is below those after it
+pairs-from_rising : {X : Type 0} (number : X → ℕ) (xs : List X) → IsStrictlyIncreasing (map number xs) → AllPairs (λ x y. number x < number y) xs
+pairs-from_rising number xs h i j d lt within =
+    let all = AllPairs-from_increasing (map number xs) h i j 0 lt (omega (arith, length-counted number xs)) in
+    let at_i = counted-at number xs i d (omega arith) in
+    let at_j = counted-at number xs j d within in
     omega (arith, all, at_i, at_j)
 
-rising-from_pairs : (views : List PortView) (d : PortView) → AllPairs Below views → IsStrictlyIncreasing (numbers views)
-rising-from_pairs views d h k within =
-    let fits : k + 1 < length views = omega (arith, length-numbers views) in
-    omega (arith, h k (k + 1) d (omega arith) fits, number-at views k d (omega arith), number-at views (k + 1) d fits)
+rising-from_pairs : {X : Type 0} (number : X → ℕ) (xs : List X) (d : X) → AllPairs (λ x y. number x < number y) xs → IsStrictlyIncreasing (map number xs)
+rising-from_pairs number xs d h k within =
+    let fits : k + 1 < length xs = omega (arith, length-counted number xs) in
+    omega (arith, h k (k + 1) d (omega arith) fits, counted-at number xs k d (omega arith), counted-at number xs (k + 1) d fits)
 
--- some of the views keep the order
+-- some of them keep the order
+pub rising-kept : {X : Type 0} (number : X → ℕ) (p : X → Bool) (xs : List X) → IsStrictlyIncreasing (map number xs) → IsStrictlyIncreasing (map number (filter p xs))
+rising-kept number p [] h = h
+rising-kept number p (x ∷ xs) h =
+    rising-from_pairs number (filter p (x ∷ xs)) x (AllPairs-filter (λ x y. number x < number y) p (x ∷ xs) (pairs-from_rising number (x ∷ xs) h))
+
+-- Views.
+
+length-numbers : (views : List PortView) → length (numbers views) ≡ length views
+length-numbers views = length-counted (λ (v : PortView). v.number) views
+
+number-at : (views : List PortView) (k : ℕ) (d : PortView) → k < length views → slice_index (numbers views) k ≡ (slice_index_or views k d).number
+number-at views k d h = counted-at (λ (v : PortView). v.number) views k d h
+
 pub rising-filter : (p : PortView → Bool) (views : List PortView) → IsStrictlyIncreasing (numbers views) → IsStrictlyIncreasing (numbers (filter p views))
-rising-filter p [] h = h
-rising-filter p (v ∷ vs) h = rising-from_pairs (filter p (v ∷ vs)) v (AllPairs-filter Below p (v ∷ vs) (pairs-from_rising (v ∷ vs) h))
+rising-filter p views h = rising-kept (λ (v : PortView). v.number) p views h
 
 abbrev pub below : PortView → PortView → Bool
 below v w = nat_lt v.number w.number

@@ -85,6 +85,13 @@ impl Aggregators {
         found
     }
 
+    /// How many aggregators there are, at most 65,535.
+    pub fn count(&self) -> usize
+        ensures { result ≡ length self.now }
+    {
+        self.keys.len()
+    }
+
     /// Whether there is such an aggregator.
     fn has(&self, agg: AggId) -> bool
         ensures { result ≡ is_known self.now agg }

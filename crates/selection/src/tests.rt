@@ -106,11 +106,12 @@ fn chooses_by_key_and_group(rt: HostRuntime) -> Result<(), Fail> {
         (second_individual(), 2, 2),
         (second_other_key(), 2, 3),
     ];
-    for (views, port, want) in rows {
+    for (place, (views, port, want)) in rows.into_iter().enumerate() {
+        let chosen = aggregators.choose(&views, port);
         assert_eq!(rt;
-            aggregators.choose(&views, port),
+            chosen,
             Some(AggId(want)),
-            "port {port}"
+            "row {place}: choose for port {port}"
         );
     }
     Ok(())
@@ -125,8 +126,9 @@ fn chooses_none(rt: HostRuntime) -> Result<(), Fail> {
         (first_selected(), 1),
         (first_selected(), 4),
     ];
-    for (views, port) in rows {
-        assert_eq!(rt; aggregators.choose(&views, port), None, "port {port}");
+    for (place, (views, port)) in rows.into_iter().enumerate() {
+        let chosen = aggregators.choose(&views, port);
+        assert_eq!(rt; chosen, None, "row {place}: choose for port {port}");
     }
     Ok(())
 }
@@ -134,12 +136,37 @@ fn chooses_none(rt: HostRuntime) -> Result<(), Fail> {
 #[test]
 fn tells_which_port_is_eligible(rt: HostRuntime) {
     let eligible = view(1, B);
+    let with = |stage: Stage, choice: Choice| PortView {
+        stage,
+        choice,
+        ..eligible
+    };
     let down = PortView {
         enabled: false,
         ..eligible
     };
-    assert!(rt; eligible.is_eligible());
-    assert!(rt; !down.is_eligible());
+    let unsettled = PortView {
+        settled: false,
+        ..eligible
+    };
+    let mut other_priority = view(1, A);
+    other_priority.partner.system.priority = 1;
+    let rows = [
+        (eligible, true),
+        (down, false),
+        (unsettled, false),
+        (
+            with(Stage::Waiting { expired: true }, Choice::Unselected),
+            false,
+        ),
+        (with(Stage::Joined, Choice::Unselected), false),
+        (with(Stage::Detached, selected(1)), false),
+        (view(1, A), false),
+        (other_priority, true),
+    ];
+    for (place, (view, want)) in rows.into_iter().enumerate() {
+        assert_eq!(rt; view.is_eligible(), want, "row {place}: is_eligible");
+    }
 }
 
 #[test]
@@ -155,7 +182,7 @@ fn tells_which_port_has_waited(rt: HostRuntime) {
             stage,
             ..view(1, B)
         };
-        assert_eq!(rt; view.has_expired(), want);
+        assert_eq!(rt; view.has_expired(), want, "has_expired in {stage:?}");
     }
 }
 
@@ -174,12 +201,9 @@ fn is_ready_where_all_that_wait_have_waited(rt: HostRuntime) -> Result<(), Fail>
         (members(0, waited, waited), 0, false),
         (members(4, waited, waited), 4, false),
     ];
-    for (views, agg, want) in rows {
-        assert_eq!(rt;
-            aggregators.ready(&views, AggId(agg)),
-            want,
-            "aggregator {agg}"
-        );
+    for (place, (views, agg, want)) in rows.into_iter().enumerate() {
+        let ready = aggregators.ready(&views, AggId(agg));
+        assert_eq!(rt; ready, want, "row {place}: ready of aggregator {agg}");
     }
     Ok(())
 }
@@ -187,11 +211,21 @@ fn is_ready_where_all_that_wait_have_waited(rt: HostRuntime) -> Result<(), Fail>
 #[test]
 fn lists_members(rt: HostRuntime) -> Result<(), Fail> {
     let aggregators = aggregators(rt.alloc())?;
-    for (given, asked, want) in [(1, 1, 2), (1, 2, 0), (0, 0, 0), (4, 4, 0)] {
-        let views = members(given, Stage::Joined, Stage::Joined);
-        assert!(rt; are_views(&views));
+    let rows: [(u16, u16, &[u16]); 5] = [
+        (1, 1, &[5, 9]),
+        (2, 2, &[5, 9]),
+        (1, 2, &[]),
+        (0, 0, &[]),
+        (4, 4, &[]),
+    ];
+    for (given, asked, want) in rows {
+        let mut views = members(given, Stage::Joined, Stage::Joined);
+        views[0].number = 5;
+        views[1].number = 9;
+        views[2].number = 11;
+        assert!(rt; are_views(&views), "are_views of 5, 9, 11");
         let found = aggregators.members(&views, AggId(asked));
-        assert_eq!(rt; found.as_slice(), &[1, 2][..want]);
+        assert_eq!(rt; found.as_slice(), want, "members of {asked}, given {given}");
     }
     Ok(())
 }
@@ -209,9 +243,15 @@ fn ascending<const N: usize>() -> [PortView; N] {
 
 #[test]
 fn tells_what_can_be_views(rt: HostRuntime) {
-    assert!(rt; are_views(&[]));
-    assert!(rt; are_views(&ascending::<64>()));
-    assert!(rt; !are_views(&ascending::<65>()));
-    assert!(rt; !are_views(&[view(2, B), view(2, C)]));
-    assert!(rt; !are_views(&[view(2, B), view(1, C)]));
+    let rows: [(&[PortView], bool); 6] = [
+        (&[], true),
+        (&ascending::<64>(), true),
+        (&ascending::<65>(), false),
+        (&[view(1, B), view(2, C)], true),
+        (&[view(2, B), view(2, C)], false),
+        (&[view(2, B), view(1, C)], false),
+    ];
+    for (place, (views, want)) in rows.into_iter().enumerate() {
+        assert_eq!(rt; are_views(views), want, "row {place}: are_views");
+    }
 }

@@ -46,7 +46,7 @@ pub written_pdu : (b : List ℕ) (v : Pdu) → WritesPdu b v → ReadsPdu b v
 written_pdu b (pdu.Lacpdu v) h = written_reads b v h
 written_pdu b (pdu.Marker m) h = written_marker b m h
 
-written_length : (b : List ℕ) (v : Pdu) → WritesPdu b v → length b ≡ payload_len
+pub written_length : (b : List ℕ) (v : Pdu) → WritesPdu b v → length b ≡ payload_len
 written_length b (pdu.Lacpdu v) h = h.table.whole
 written_length b (pdu.Marker m) h = h.table.whole
 

@@ -3,6 +3,8 @@ pub mod Lacpdus
 pub mod Parties
 pub mod Markers
 pub mod Pdus
+pub mod Readings
 pub mod Faults
+pub mod Texts
 pub mod Writing
 pub mod Frames

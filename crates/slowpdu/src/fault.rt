@@ -1,5 +1,8 @@
-ghost use Rattle.std.specs.Prelude.{◌≡◌};
+ghost use Rattle.std.specs.Prelude.{◌≡◌, Some};
 ghost use Rattle.slowpdu.specs.Faults.{fault_number};
+ghost use Rattle.slowpdu.specs.Texts.{fault_text};
+
+use std::fmt;
 
 /// Why a payload is refused: the first cause that holds, in the order of the variants (profile).
 #[derive(Clone, Copy, Debug, PartialEq, Eq)]
@@ -27,6 +30,27 @@ impl WireFault {
             WireFault::OtherSubtype(_) => 2,
             WireFault::BadLength { .. } => 3,
             WireFault::MarkerTlv(_) => 4,
+        }
+    }
+}
+
+/// What is wrong with the payload, and what stands there (profile).
+impl fmt::Display for WireFault {
+    ghost output = { λ fault. Some (fault_text fault) };
+
+    fn fmt<W: fmt::Write>(&self, f: &mut fmt::Formatter<W>) -> fmt::Result {
+        match self {
+            WireFault::Short { have } => write!(f, "fewer than 110 octets: {have}"),
+            WireFault::OtherSubtype(subtype) => write!(
+                f,
+                "octet 0 names neither LACP (1) nor the Marker protocol (2): {subtype}"
+            ),
+            WireFault::BadLength { at, found } => {
+                write!(f, "the length field at {at} is wrong: {found}")
+            }
+            WireFault::MarkerTlv(kind) => {
+                write!(f, "octet 2 of a Marker PDU is neither 1 nor 2: {kind}")
+            }
         }
     }
 }

@@ -6,6 +6,7 @@ ghost use Rattle.slowpdu.specs.Layout.{AreOctets, payload_len};
 ghost use Rattle.slowpdu.specs.Lacpdus.{Reads};
 ghost use Rattle.slowpdu.specs.Markers.{ReadsMarker};
 ghost use Rattle.slowpdu.specs.Pdus.{ReadsPdu, WritesPdu};
+ghost use Rattle.slowpdu.specs.Readings.{pdu_in};
 ghost use Rattle.slowpdu.specs.Faults.{fault_of};
 ghost use Rattle.slowpdu.specs.Frames.{IsSlow, frame_octets};
 
@@ -26,10 +27,11 @@ pub fn one_payload_is_written()
 {}
 
 /// A payload has one reading or one fault, never both and never neither, and it is no LACPDU and
-/// Marker PDU at once (profile).
+/// Marker PDU at once. The reading is a function of the octets (profile).
 pub fn one_reading_or_one_fault()
     ensures kinds { (b : List ℕ) (v : Lacpdu) (m : Marker) → Reads b v → ReadsMarker b m → ⊥ }
     ensures readings { (b : List ℕ) (v w : Pdu) → ReadsPdu b v → ReadsPdu b w → w ≡ v }
+    ensures as_function { (b : List ℕ) (v : Pdu) → ReadsPdu b v → pdu_in b ≡ v }
     ensures not_both { (b : List ℕ) (v : Pdu) → ReadsPdu b v → fault_of b ≡ None }
     ensures not_neither { (b : List ℕ) → AreOctets b → fault_of b ≡ None → ((v : Pdu) × ReadsPdu b v) }
 {}

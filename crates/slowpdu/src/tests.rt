@@ -5,6 +5,7 @@ use crate::{
 };
 use bitflags::Flags;
 use lagtypes::{Key, Party, PortId, State, SystemId};
+use std::alloc::AllocError;
 
 /// The payload of an LACPDU of system 32768/02-00-00-00-00-01, key 1, port 128/1, state c7, with an
 /// unknown partner of state 02.
@@ -89,10 +90,17 @@ fn first(octets: &[u8], count: usize) -> &[u8] {
 
 #[test]
 fn payloads_are_read_whatever_the_other_octets_are(rt: HostRuntime) {
-    assert_eq!(rt; decode(&lacpdu_payload()), Ok(Pdu::Lacpdu(lacpdu())));
-    assert_eq!(rt; decode(&version_2()), Ok(Pdu::Lacpdu(lacpdu())));
-    assert_eq!(rt; decode(first(&version_2(), 110)), Ok(Pdu::Lacpdu(lacpdu())));
-    assert_eq!(rt; decode(&padded_marker()), Ok(Pdu::Marker(marker())));
+    let longer = version_2();
+    let rows: [(&[u8], Pdu); 5] = [
+        (&lacpdu_payload(), Pdu::Lacpdu(lacpdu())),
+        (&longer, Pdu::Lacpdu(lacpdu())),
+        (first(&longer, 110), Pdu::Lacpdu(lacpdu())),
+        (&marker_payload(), Pdu::Marker(marker())),
+        (&padded_marker(), Pdu::Marker(marker())),
+    ];
+    for (place, (payload, pdu)) in rows.into_iter().enumerate() {
+        assert_eq!(rt; decode(payload), Ok(pdu), "row {place}: decode");
+    }
 }
 
 #[test]
@@ -100,21 +108,27 @@ fn payloads_are_refused_for_the_first_cause(rt: HostRuntime) {
     let lacpdu = lacpdu_payload();
     let marker = marker_payload();
     let bad_length = |at, found| WireFault::BadLength { at, found };
-    for (payload, changes, fault, number) in [
+    let rows = [
         (lacpdu, [(0, 3), (3, 0)], WireFault::OtherSubtype(3), 2),
+        (lacpdu, [(3, 19), (23, 18)], bad_length(3, 19), 3),
         (lacpdu, [(43, 15), (23, 19)], bad_length(23, 19), 3),
         (lacpdu, [(43, 15), (43, 15)], bad_length(43, 15), 3),
         (marker, [(2, 3), (3, 15)], bad_length(3, 15), 3),
         (marker, [(2, 3), (2, 3)], WireFault::MarkerTlv(3), 4),
-    ] {
+    ];
+    for (place, (payload, changes, fault, number)) in rows.into_iter().enumerate() {
         let mut changed = payload;
         for (at, octet) in changes {
-            if let Some(place) = changed.get_mut(at) {
-                *place = octet;
+            if let Some(octet_there) = changed.get_mut(at) {
+                *octet_there = octet;
             }
         }
-        assert_eq!(rt; decode(&changed), Err(fault));
-        assert_eq!(rt; fault.number(), number);
+        assert_eq!(rt;
+            decode(&changed),
+            Err(fault),
+            "row {place}: decode with {changes:?}"
+        );
+        assert_eq!(rt; fault.number(), number, "row {place}: number");
     }
 }
 
@@ -122,26 +136,67 @@ fn payloads_are_refused_for_the_first_cause(rt: HostRuntime) {
 fn payloads_of_fewer_octets_are_short(rt: HostRuntime) {
     for have in [0, 109] {
         let short = WireFault::Short { have };
-        assert_eq!(rt; decode(first(&lacpdu_payload(), have)), Err(short));
-        assert_eq!(rt; short.number(), 1);
+        let answer = decode(first(&lacpdu_payload(), have));
+        assert_eq!(rt; answer, Err(short), "decode of {have} octets");
+        assert_eq!(rt; short.number(), 1, "number");
     }
 }
 
 #[test]
-fn pdus_are_written_as_they_are_read(rt: HostRuntime) {
-    assert_eq!(rt; lacpdu().encode(), lacpdu_payload());
-    assert_eq!(rt; marker().encode(), marker_payload());
-    for pdu in [Pdu::Lacpdu(lacpdu()), Pdu::Marker(marker())] {
-        assert_eq!(rt; read_back(&pdu), Ok(pdu));
+fn refusals_say_what_stands_there(rt: HostRuntime) -> Result<(), AllocError> {
+    let rows = [
+        (WireFault::Short { have: 109 }, "fewer than 110 octets: 109"),
+        (
+            WireFault::OtherSubtype(3),
+            "octet 0 names neither LACP (1) nor the Marker protocol (2): 3",
+        ),
+        (
+            WireFault::BadLength { at: 43, found: 15 },
+            "the length field at 43 is wrong: 15",
+        ),
+        (
+            WireFault::MarkerTlv(255),
+            "octet 2 of a Marker PDU is neither 1 nor 2: 255",
+        ),
+    ];
+    for (fault, text) in rows {
+        let printed = format!(in rt.alloc(); "{fault}")?;
+        assert_eq!(rt; printed.as_str(), text, "{fault:?}");
     }
-    let party = Party {
-        system: lacpdu().actor.system,
-        key: Key(1),
-        port: lacpdu().actor.port,
-        aggregatable: true,
-    };
-    assert_eq!(rt; lacpdu().actor.party(), party);
-    assert_eq!(rt; lacpdu().partner.party(), Party::default());
+    Ok(())
+}
+
+#[test]
+fn pdus_are_written_as_they_are_read(rt: HostRuntime) {
+    assert_eq!(rt; lacpdu().encode(), lacpdu_payload(), "encode of the LACPDU");
+    assert_eq!(rt; marker().encode(), marker_payload(), "encode of the marker");
+    for pdu in [Pdu::Lacpdu(lacpdu()), Pdu::Marker(marker())] {
+        assert_eq!(rt; read_back(&pdu), Ok(pdu), "read_back");
+    }
+}
+
+#[test]
+fn parties_are_what_an_end_names(rt: HostRuntime) {
+    let rows = [(0x1e, true), (0x04, true), (0xfb, false), (0x00, false)];
+    for (octet, aggregatable) in rows {
+        let end = Info {
+            state: State::from_bits_retain(octet),
+            ..each_field(0x10)
+        };
+        let party = Party {
+            system: SystemId {
+                priority: 0x1011,
+                mac: [0x12, 0x13, 0x14, 0x15, 0x16, 0x17],
+            },
+            key: Key(0x1819),
+            port: PortId {
+                priority: 0x1a1b,
+                number: 0x1c1d,
+            },
+            aggregatable,
+        };
+        assert_eq!(rt; end.party(), party, "party of an end of state {octet:#04x}");
+    }
 }
 
 #[test]
@@ -150,21 +205,102 @@ fn markers_are_answered_once(rt: HostRuntime) {
         kind: MarkerKind::Response,
         ..marker()
     };
-    assert_eq!(rt; respond(&marker()), Some(response));
-    assert_eq!(rt; respond(&response), None);
+    assert_eq!(rt; respond(&marker()), Some(response), "respond to a marker");
+    assert_eq!(rt; respond(&response), None, "respond to a response");
 }
 
 #[test]
 fn frames_are_told_apart_by_their_type(rt: HostRuntime) {
     let payload = marker_payload();
-    let mut sent = frame([2, 0, 0, 0, 0, 2], &payload);
-    let header = [0x01, 0x80, 0xc2, 0, 0, 2, 2, 0, 0, 0, 0, 2, 0x88, 0x09];
-    assert_eq!(rt; sent[..14], header[..]);
-    assert_eq!(rt; classify(&sent), Kind::Control(&payload));
-    assert_eq!(rt; classify(&sent[..14]), Kind::Control(&[]));
-    assert_eq!(rt; classify(&sent[..13]), Kind::TooShort);
-    sent[0] = 2;
-    assert_eq!(rt; classify(&sent), Kind::Control(&payload));
-    sent[12] = 8;
-    assert_eq!(rt; classify(&sent), Kind::Data);
+    let sent = frame([2, 0, 0, 0, 0, 3], &payload);
+    let header = [0x01, 0x80, 0xc2, 0, 0, 2, 2, 0, 0, 0, 0, 3, 0x88, 0x09];
+    assert_eq!(rt; sent[..14], header[..], "the header of a frame");
+    assert_eq!(rt; sent[14..], payload[..], "the payload of a frame");
+    let with = |place: usize, octet: u8| {
+        let mut changed = sent;
+        if let Some(there) = changed.get_mut(place) {
+            *there = octet;
+        }
+        changed
+    };
+    let rows: [(&[u8], Kind); 7] = [
+        (&sent, Kind::Control(&payload)),
+        (&sent[..14], Kind::Control(&[])),
+        (&sent[..13], Kind::TooShort),
+        (&with(0, 2), Kind::Control(&payload)),
+        (&with(12, 8), Kind::Data),
+        (&with(12, 0x87), Kind::Data),
+        (&with(13, 0xcc), Kind::Data),
+    ];
+    for (place, (octets, kind)) in rows.into_iter().enumerate() {
+        assert_eq!(rt; classify(octets), kind, "row {place}: classify");
+    }
+}
+
+/// An LACPDU in which no two fields are alike.
+const EACH_FIELD: [u8; 46] = [
+    1, 1, 1, 20, 0x10, 0x11, 0x12, 0x13, 0x14, 0x15, 0x16, 0x17, 0x18, 0x19, 0x1a, 0x1b, 0x1c,
+    0x1d, 0x1e, 0, 0, 0, 2, 20, 0x20, 0x21, 0x22, 0x23, 0x24, 0x25, 0x26, 0x27, 0x28, 0x29, 0x2a,
+    0x2b, 0x2c, 0x2d, 0x2e, 0, 0, 0, 3, 16, 0x30, 0x31,
+];
+
+/// The number in two octets that rise by one.
+fn word(first: u8, place: u8) -> u16 {
+    let high = first.wrapping_add(place);
+    u16::from_be_bytes([high, high.wrapping_add(1)])
+}
+
+/// What it says of an end whose octets begin so.
+fn each_field(first: u8) -> Info {
+    Info {
+        system: SystemId {
+            priority: word(first, 0),
+            mac: [
+                first.wrapping_add(2),
+                first.wrapping_add(3),
+                first.wrapping_add(4),
+                first.wrapping_add(5),
+                first.wrapping_add(6),
+                first.wrapping_add(7),
+            ],
+        },
+        key: Key(word(first, 8)),
+        port: PortId {
+            priority: word(first, 10),
+            number: word(first, 12),
+        },
+        state: State::from_bits_retain(first.wrapping_add(14)),
+    }
+}
+
+#[test]
+fn each_field_has_its_place(rt: HostRuntime) {
+    let mut payload = [0; 110];
+    put(&mut payload, 0, &EACH_FIELD);
+    let said = Lacpdu {
+        actor: each_field(0x10),
+        partner: each_field(0x20),
+        max_delay: 0x3031,
+    };
+    assert_eq!(rt; decode(&payload), Ok(Pdu::Lacpdu(said)), "decode");
+    assert_eq!(rt; said.encode(), payload, "encode");
+}
+
+/// A response in which no two fields are alike.
+const EACH_FIELD_OF_A_MARKER: [u8; 16] = [
+    2, 1, 2, 16, 0x40, 0x41, 0x42, 0x43, 0x44, 0x45, 0x46, 0x47, 0x48, 0x49, 0x4a, 0x4b,
+];
+
+#[test]
+fn each_field_of_a_marker_has_its_place(rt: HostRuntime) {
+    let mut payload = [0; 110];
+    put(&mut payload, 0, &EACH_FIELD_OF_A_MARKER);
+    let said = Marker {
+        kind: MarkerKind::Response,
+        port: 0x4041,
+        system: [0x42, 0x43, 0x44, 0x45, 0x46, 0x47],
+        id: 0x4849_4a4b,
+    };
+    assert_eq!(rt; decode(&payload), Ok(Pdu::Marker(said)), "decode");
+    assert_eq!(rt; said.encode(), payload, "encode");
 }

@@ -1,6 +1,7 @@
-use crate::tests::{Row, config, plays};
-use crate::{BadConfig, SystemFault};
-use lagtypes::Choice;
+use crate::tests::{Row, config, end, lacpdu, mac, modulo, plays, zero};
+use crate::{BadConfig, Choice, Key, PortChange, Received, State, System, SystemFault};
+use bitflags::Flags;
+use slowpdu::{Lacpdu, frame};
 use std::test::Fail;
 
 /// Writes the numbers from 1 on.
@@ -16,7 +17,8 @@ fn the_most_ports_and_aggregators(rt: HostRuntime) -> Result<(), Fail> {
     number_all(&mut most);
     let given = config(rt.alloc(), &most, 64)?;
     let rows = [Row::Chosen(64, Choice::Unselected)];
-    assert_eq!(rt; plays(rt.alloc(), given, &[&rows])?, None);
+    assert_eq!(rt; given.refusal(), None);
+    plays(&rt, rt.alloc(), given, &rows)?;
     Ok(())
 }
 
@@ -36,41 +38,116 @@ fn configurations_are_refused_in_order(rt: HostRuntime) -> Result<(), Fail> {
     ];
     for (numbers, keys, reason) in rows {
         let given = config(rt.alloc(), numbers, keys)?;
-        let refused = plays(rt.alloc(), given, &[]).err();
+        assert_eq!(rt; given.refusal(), Some(reason));
+        let refused = plays(&rt, rt.alloc(), given, &[]).err();
         assert_eq!(rt; refused, Some(SystemFault::BadConfig(reason)));
     }
     Ok(())
 }
 
 #[test]
-fn reasons_have_numbers(rt: HostRuntime) {
+fn reasons_have_numbers_and_texts(rt: HostRuntime) -> Result<(), Fail> {
     let reasons = [
-        BadConfig::Ports,
-        BadConfig::Aggregators,
-        BadConfig::PortNumber(7),
+        (BadConfig::Ports, "the configuration has not 1 to 64 ports"),
+        (
+            BadConfig::Aggregators,
+            "the configuration has not 1 to 64 aggregators",
+        ),
+        (
+            BadConfig::PortNumber(7),
+            "the port at place 7 has the number 0 or one that is not above the number before it",
+        ),
     ];
-    for (number, reason) in (1..).zip(reasons) {
+    for (number, (reason, text)) in (1..).zip(reasons) {
         assert_eq!(rt; reason.number(), number);
+        let printed = format!(in rt.alloc(); "{reason}")?;
+        assert_eq!(rt; printed.as_str(), text);
+        let fault = SystemFault::BadConfig(reason);
+        let printed = format!(in rt.alloc(); "{fault}")?;
+        assert_eq!(rt; printed.as_str(), text);
     }
+    Ok(())
 }
 
 #[test]
-fn refusals_have_numbers(rt: HostRuntime) {
+fn refusals_have_numbers_and_texts(rt: HostRuntime) -> Result<(), Fail> {
     let faults = [
-        SystemFault::NoPort,
-        SystemFault::NoAggregator,
-        SystemFault::FrameLength,
-        SystemFault::SlowFrame,
-        SystemFault::Held,
-        SystemFault::NoneDistributing,
-        SystemFault::NotDistributing,
-        SystemFault::SamePort,
-        SystemFault::NotAssigned,
-        SystemFault::MarkersSpent,
-        SystemFault::BadConfig(BadConfig::Ports),
-        SystemFault::NoMemory,
+        (SystemFault::NoPort, "the system has no port of this number"),
+        (
+            SystemFault::NoAggregator,
+            "the system has no such aggregator",
+        ),
+        (
+            SystemFault::FrameLength,
+            "an offered frame has not 14 to 1518 octets",
+        ),
+        (
+            SystemFault::SlowFrame,
+            "an offered frame is one of the slow protocols",
+        ),
+        (SystemFault::Held, "the conversation is Wanted or Flushing"),
+        (
+            SystemFault::NoneDistributing,
+            "the conversation is free, and no port distributes in the aggregator",
+        ),
+        (
+            SystemFault::NotDistributing,
+            "the port to move to does not distribute in the aggregator",
+        ),
+        (
+            SystemFault::SamePort,
+            "the port to move to is the one that the conversation is on",
+        ),
+        (
+            SystemFault::NotAssigned,
+            "the conversation is free, or there is no such conversation",
+        ),
+        (SystemFault::MarkersSpent, "no marker identifier is left"),
+        (
+            SystemFault::BadConfig(BadConfig::Ports),
+            "the configuration has not 1 to 64 ports",
+        ),
+        (SystemFault::NoMemory, "out of memory"),
     ];
-    for (number, fault) in (1..).zip(faults) {
+    for (number, (fault, text)) in (1..).zip(faults) {
         assert_eq!(rt; fault.number(), number);
+        let printed = format!(in rt.alloc(); "{fault}")?;
+        assert_eq!(rt; printed.as_str(), text);
     }
+    Ok(())
+}
+
+/// A passive, long and individual port of another priority and address, in a system that names a CollectorMaxDelay.
+#[test]
+fn a_port_is_as_it_is_configured(rt: HostRuntime) -> Result<(), Fail> {
+    let mut given = config(rt.alloc(), &[1], 1)?;
+    given.max_delay = 7;
+    given.ports[0].priority = 9;
+    given.ports[0].aggregatable = false;
+    given.ports[0].active = false;
+    given.ports[0].short = false;
+    let theirs = end(2, 1, 1, 0x07);
+    let mut own = end(1, 1, 1, 0x00);
+    own.port.priority = 9;
+    let mut system = System::new(rt.alloc(), given, modulo)?;
+    assert_eq!(rt; system.party(1), Some(own.party()));
+    assert_eq!(rt; system.set_link(1, true), Ok(()));
+    let heard = frame(mac(9), &lacpdu(theirs, zero(0)));
+    assert_eq!(rt; system.receive(1, &heard), Ok(Received::TookLacpdu));
+    let due = Lacpdu {
+        actor: own,
+        partner: theirs,
+        max_delay: 7,
+    };
+    assert_eq!(rt; system.transmit(1), Ok(Some(frame(mac(1), &due.encode()))));
+    let change = PortChange {
+        key: Key(1),
+        priority: 10,
+        aggregatable: true,
+    };
+    assert_eq!(rt; system.configure(1, change), Ok(true));
+    own.port.priority = 10;
+    own.state = State::from_bits_retain(0x04);
+    assert_eq!(rt; system.party(1), Some(own.party()));
+    Ok(())
 }

@@ -1,5 +1,5 @@
-use crate::tests::{DATA, Row, config, end, marker, plays};
-use crate::{Received, SystemFault};
+use crate::tests::{DATA, Row, config, end, joined, marker, plays};
+use crate::{Assignment, Received, SystemFault};
 use slowpdu::{Marker, MarkerKind};
 use std::test::Fail;
 
@@ -63,10 +63,8 @@ pub(crate) fn leaving() -> [Row<'static>; 14] {
 #[test]
 fn a_conversation_leaves_a_port_behind_its_marker(rt: HostRuntime) -> Result<(), Fail> {
     let given = config(rt.alloc(), &[1, 2], 2)?;
-    assert_eq!(rt;
-        plays(rt.alloc(), given, &[&coming_up(), &leaving()])?,
-        None
-    );
+    let rows = joined(rt.alloc(), &[&coming_up(), &leaving()])?;
+    plays(&rt, rt.alloc(), given, &rows)?;
     Ok(())
 }
 
@@ -83,7 +81,7 @@ fn offers_are_refused_in_order(rt: HostRuntime) -> Result<(), Fail> {
         Row::Offers(2, &[0; 1518], Err(SystemFault::NoneDistributing)),
     ];
     let given = config(rt.alloc(), &[1, 2], 2)?;
-    assert_eq!(rt; plays(rt.alloc(), given, &[&rows])?, None);
+    plays(&rt, rt.alloc(), given, &rows)?;
     Ok(())
 }
 
@@ -116,7 +114,8 @@ fn moves_are_refused_in_order(rt: HostRuntime) -> Result<(), Fail> {
         Row::Offers(1, &DATA, Ok(2)),
     ];
     let given = config(rt.alloc(), &[1, 2, 3], 2)?;
-    assert_eq!(rt; plays(rt.alloc(), given, &[&coming_up(), &rows])?, None);
+    let rows = joined(rt.alloc(), &[&coming_up(), &rows])?;
+    plays(&rt, rt.alloc(), given, &rows)?;
     Ok(())
 }
 
@@ -138,7 +137,8 @@ fn responses_that_are_not_for_the_port(rt: HostRuntime) -> Result<(), Fail> {
         Row::Offers(1, &DATA, Ok(2)),
     ];
     let given = config(rt.alloc(), &[1, 2], 2)?;
-    assert_eq!(rt; plays(rt.alloc(), given, &[&coming_up(), &rows])?, None);
+    let rows = joined(rt.alloc(), &[&coming_up(), &rows])?;
+    plays(&rt, rt.alloc(), given, &rows)?;
     Ok(())
 }
 
@@ -153,7 +153,8 @@ fn a_link_that_goes_down_frees_its_conversations(rt: HostRuntime) -> Result<(), 
         Row::Offers(1, &DATA, Ok(2)),
     ];
     let given = config(rt.alloc(), &[1, 2], 2)?;
-    assert_eq!(rt; plays(rt.alloc(), given, &[&coming_up(), &rows])?, None);
+    let rows = joined(rt.alloc(), &[&coming_up(), &rows])?;
+    plays(&rt, rt.alloc(), given, &rows)?;
     Ok(())
 }
 
@@ -166,19 +167,24 @@ fn identifiers_end_and_a_restart_begins_anew(rt: HostRuntime) -> Result<(), Fail
         Row::Offers(1, &DATA, Ok(1)),
         Row::Offers(1, &THIRD, Ok(1)),
         Row::Moves(1, 48, 2, Ok(())),
+        Row::Next(Some(4294967295)),
+        Row::Due(1, true),
         Row::Marks(1, 4294967295),
+        Row::Next(None),
         Row::Moves(1, 50, 2, Err(SystemFault::MarkersSpent)),
         Row::Silent(1),
         // conversation 50 wants a marker, and none is left
         Row::Takes(1, end(2, 1, 2, 0x0d), end(1, 1, 1, 0x3f)),
         Row::Offers(1, &THIRD, Err(SystemFault::Held)),
         Row::Sends(1, end(1, 1, 1, 0x07), end(2, 1, 2, 0x0d)),
+        Row::Due(1, false),
         Row::Silent(1),
         Row::Restart,
         Row::Forces(1, 48, Err(SystemFault::NotAssigned)),
         Row::Forces(1, 50, Err(SystemFault::NotAssigned)),
     ];
-    assert_eq!(rt; plays(rt.alloc(), given, &[&up, &rows, &up, &rows])?, None);
+    let rows = joined(rt.alloc(), &[&up, &rows, &up, &rows])?;
+    plays(&rt, rt.alloc(), given, &rows)?;
     Ok(())
 }
 
@@ -202,6 +208,54 @@ fn a_marker_without_a_response_is_sent_again(rt: HostRuntime) -> Result<(), Fail
         Row::Distributing(1, &[1, 2]),
     ];
     let given = config(rt.alloc(), &[1, 2], 2)?;
-    assert_eq!(rt; plays(rt.alloc(), given, &[&coming_up(), &rows])?, None);
+    let rows = joined(rt.alloc(), &[&coming_up(), &rows])?;
+    plays(&rt, rt.alloc(), given, &rows)?;
+    Ok(())
+}
+
+/// Conversation 48 of aggregator 1 does this.
+fn conversing(state: Assignment) -> Row<'static> {
+    Row::Conversing(1, 48, Some(state))
+}
+
+/// It waits for the response to marker 1 on port 1, sent so many ticks ago.
+fn flushing(age: u8) -> Row<'static> {
+    conversing(Assignment::Flushing {
+        port: 1,
+        id: 1,
+        preferred: Some(2),
+        age,
+    })
+}
+
+#[test]
+fn what_a_host_sees(rt: HostRuntime) -> Result<(), Fail> {
+    let preferred = Some(2);
+    let rows = [
+        Row::Has(&[1, 2], 2),
+        Row::Next(Some(1)),
+        Row::Conversing(0, 48, None),
+        Row::Conversing(3, 48, None),
+        Row::Conversing(1, 256, None),
+        conversing(Assignment::Free { preferred: None }),
+        Row::Offers(1, &DATA, Ok(1)),
+        conversing(Assignment::On(1)),
+        Row::Due(1, false),
+        Row::Moves(1, 48, 2, Ok(())),
+        conversing(Assignment::Wanted { port: 1, preferred }),
+        Row::Due(1, true),
+        Row::Due(2, false),
+        Row::Marks(1, 1),
+        Row::Due(1, false),
+        Row::Next(Some(2)),
+        flushing(0),
+        Row::Ticks(1),
+        flushing(1),
+        Row::Releases(1, response(1, 1), 1),
+        conversing(Assignment::Free { preferred }),
+    ];
+    let given = config(rt.alloc(), &[1, 2], 2)?;
+    let rows = joined(rt.alloc(), &[&coming_up(), &rows])?;
+    plays(&rt, rt.alloc(), given, &rows)?;
     Ok(())
 }

@@ -1,8 +1,7 @@
-use crate::Received;
-use crate::tests::{DATA, Row, Seen, config, end, lacpdu, mac, plays, unheard, zero};
-use lagtypes::{AggId, Choice, Group};
-use portmachines::MuxState;
-use slowpdu::{WireFault, frame};
+use crate::tests::{DATA, NOTHING, Row, Seen, config, end, lacpdu, mac, plays, unheard, zero};
+use crate::{AggId, Choice, Group, MuxState, ReceiveState, Received, State, WireFault};
+use bitflags::Flags;
+use slowpdu::frame;
 use std::test::Fail;
 
 /// These octets, and zeros after them.
@@ -36,7 +35,7 @@ fn three_answers_then_the_window_then_a_restart(rt: HostRuntime) -> Result<(), F
     let takes = Row::Takes(1, theirs, zero(0));
     let answers = Row::Sends(1, end(1, 1, 1, 0x07), theirs);
     let rows = [
-        Row::Shows(1, unheard(1, zero(0))),
+        Row::Shows(1, unheard(1)),
         Row::Link(1, true),
         takes,
         answers,
@@ -45,19 +44,21 @@ fn three_answers_then_the_window_then_a_restart(rt: HostRuntime) -> Result<(), F
         takes,
         answers,
         takes,
+        Row::Due(1, false),
         Row::Silent(1),
         Row::Quiet(1, 10),
         Row::Ticks(1),
+        Row::Due(1, true),
         answers,
         Row::Restart,
-        Row::Shows(1, unheard(1, zero(0))),
+        Row::Shows(1, unheard(1)),
         Row::Silent(1),
         Row::Link(1, true),
         Row::Ticks(10),
         Row::Sends(1, end(1, 1, 1, 0xc7), zero(0x02)),
     ];
     let given = config(rt.alloc(), &[1], 1)?;
-    assert_eq!(rt; plays(rt.alloc(), given, &[&rows])?, None);
+    plays(&rt, rt.alloc(), given, &rows)?;
     Ok(())
 }
 
@@ -82,7 +83,7 @@ fn another_key_of_the_partner(rt: HostRuntime) -> Result<(), Fail> {
         Row::Mux(1, MuxState::Waiting),
     ];
     let given = config(rt.alloc(), &[1, 2], 2)?;
-    assert_eq!(rt; plays(rt.alloc(), given, &[&rows])?, None);
+    plays(&rt, rt.alloc(), given, &rows)?;
     Ok(())
 }
 
@@ -104,7 +105,7 @@ fn an_lacpdu_of_the_own_system(rt: HostRuntime) -> Result<(), Fail> {
         Row::Distributing(1, &[1]),
     ];
     let given = config(rt.alloc(), &[1], 1)?;
-    assert_eq!(rt; plays(rt.alloc(), given, &[&rows])?, None);
+    plays(&rt, rt.alloc(), given, &rows)?;
     Ok(())
 }
 
@@ -123,7 +124,7 @@ fn frames_that_change_nothing(rt: HostRuntime) -> Result<(), Fail> {
         Row::Keeps(2, &response, Received::Released(0)),
     ];
     let given = config(rt.alloc(), &[2], 1)?;
-    assert_eq!(rt; plays(rt.alloc(), given, &[&rows])?, None);
+    plays(&rt, rt.alloc(), given, &rows)?;
     Ok(())
 }
 
@@ -141,7 +142,7 @@ fn frames_that_are_cut_short(rt: HostRuntime) -> Result<(), Fail> {
             Row::Keeps(2, &response[..count], answer),
         ];
         let given = config(rt.alloc(), &[2], 1)?;
-        assert_eq!(rt; plays(rt.alloc(), given, &[&rows])?, None);
+        plays(&rt, rt.alloc(), given, &rows)?;
     }
     Ok(())
 }
@@ -158,6 +159,18 @@ fn a_port_is_given_another_key(rt: HostRuntime) -> Result<(), Fail> {
         distributes: Some(false),
         choice: Some(Choice::Selected(AggId(1))),
         mux: Some(MuxState::Waiting),
+        receive: Some(ReceiveState::Current),
+        state: Some(State::from_bits_retain(0x07)),
+        up: Some(true),
+        due: Some(true),
+    };
+    let again = Seen {
+        partner: Some(zero(0x02)),
+        receive: Some(ReceiveState::Expired),
+        state: Some(State::from_bits_retain(0xc7)),
+        up: Some(true),
+        due: Some(true),
+        ..unheard(2)
     };
     let rows = [
         Row::Link(1, true),
@@ -166,11 +179,11 @@ fn a_port_is_given_another_key(rt: HostRuntime) -> Result<(), Fail> {
         Row::Configures(1, 1, false),
         Row::Shows(1, chosen),
         Row::Configures(1, 2, true),
-        Row::Shows(1, unheard(2, zero(0x02))),
+        Row::Shows(1, again),
         Row::Sends(1, end(1, 1, 2, 0xc7), zero(0x02)),
     ];
     let given = config(rt.alloc(), &[1], 1)?;
-    assert_eq!(rt; plays(rt.alloc(), given, &[&rows])?, None);
+    plays(&rt, rt.alloc(), given, &rows)?;
     Ok(())
 }
 
@@ -180,9 +193,13 @@ fn a_port_that_is_not_there(rt: HostRuntime) -> Result<(), Fail> {
         Row::Unknown(0),
         Row::Unknown(2),
         Row::Unknown(4),
+        Row::Shows(0, NOTHING),
+        Row::Shows(2, NOTHING),
+        Row::Shows(4, NOTHING),
+        Row::Has(&[1, 3], 1),
         Row::Distributing(2, &[]),
     ];
     let given = config(rt.alloc(), &[1, 3], 1)?;
-    assert_eq!(rt; plays(rt.alloc(), given, &[&rows])?, None);
+    plays(&rt, rt.alloc(), given, &rows)?;
     Ok(())
 }

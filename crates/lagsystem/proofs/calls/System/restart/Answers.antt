@@ -1,11 +1,13 @@
-use Rattle.std.proofs.Common.{[], ◌∷◌, subst}
+use Rattle.std.proofs.Common.{◌≡◌, ◌∙◌, ap, subst}
+use Rattle.lagmodel.specs.View.{first_view}
 use Rattle.lagsystem.specs.declared.drive.Reply.{Reply}
 use Rattle.lagsystem.specs.Calls.{Call}
 use Rattle.lagsystem.specs.Kept.{state_of}
-use Rattle.lagsystem.specs.Shown.{JoinsViews}
-use Rattle.lagsystem.specs.State.{Whole}
-use Rattle.lagsystem.specs.Windows.{AreWindowed}
-use Rattle.lagsystem.proofs.Sound.{Step-sound, agrees, joins, one_windowed}
+use Rattle.lagsystem.specs.Shown.{configured, view_of}
+use Rattle.lagsystem.specs.Sound.{Answers}
+use Rattle.lagsystem.specs.State.{State, Whole}
+use Rattle.lagsystem.proofs.FirstView.{first_shows}
+use Rattle.lagsystem.proofs.Sound.{Step-sound, answers}
 use Rattle.lagsystem.proofs.calls.System.restart.Goals as goal
 
 pub invariant_of-self : goal.invariant_of-self
@@ -13,17 +15,14 @@ invariant_of-self g c =
     Step-sound (λ conv count place. g.F.Fn.post c.self.inside.core.distributor.algorithm (conv, (count, tt)) place) (state_of c.self.inside.core) (Call.Restart) (Reply.Restart) (state_of c.restart.new.self)
     c.restart.ensures.step c.self.invariant
 
-pub returns-clause-moves : goal.returns-clause-moves
-returns-clause-moves g c =
-    subst (λ (w : Whole g.row.F.Denot). JoinsViews w.state (Call.Restart) (Reply.Restart) (state_of c.restart.new.self)) c.self.view_is
-    (joins (λ conv count place. g.F.Fn.post c.self.inside.core.distributor.algorithm (conv, (count, tt)) place) (state_of c.self.inside.core) (Call.Restart) (Reply.Restart) (state_of c.restart.new.self)
+pub returns-clause-answers : goal.returns-clause-answers
+returns-clause-answers g c =
+    subst (λ (w : Whole g.row.F.Denot). Answers (λ conv count place. g.F.Fn.post w.algorithm (conv, (count, tt)) place) w.state (Call.Restart) (Reply.Restart) (state_of c.restart.new.self)) c.self.view_is
+    (answers (λ conv count place. g.F.Fn.post c.self.inside.core.distributor.algorithm (conv, (count, tt)) place) (state_of c.self.inside.core) (Call.Restart) (Reply.Restart) (state_of c.restart.new.self)
     c.restart.ensures.step c.self.invariant)
 
-pub returns-clause-window : goal.returns-clause-window
-returns-clause-window g c =
-    subst (λ (w : Whole g.row.F.Denot). AreWindowed w.state (Call.Restart ∷ []) (Reply.Restart ∷ [])) c.self.view_is
-    (one_windowed (λ conv count place. g.F.Fn.post c.self.inside.core.distributor.algorithm (conv, (count, tt)) place) (state_of c.self.inside.core) (Call.Restart) (Reply.Restart) (state_of c.restart.new.self)
-    c.restart.ensures.step c.self.invariant)
-
-pub returns-clause-agrees : goal.returns-clause-agrees
-returns-clause-agrees g c = agrees (state_of c.restart.new.self) (invariant_of-self g c)
+pub returns-clause-shows : goal.returns-clause-shows
+returns-clause-shows g c =
+    let new = state_of c.restart.new.self in
+    subst (λ (w : Whole g.row.F.Denot). view_of new ≡ first_view (configured w.state)) c.self.view_is
+    (first_shows new c.restart.ensures.step.1 ∙ ap (λ (s : State). first_view (configured s)) c.restart.ensures.step.0)

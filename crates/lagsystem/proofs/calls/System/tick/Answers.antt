@@ -1,11 +1,10 @@
-use Rattle.std.proofs.Common.{[], ◌∷◌, subst}
+use Rattle.std.proofs.Common.{subst}
 use Rattle.lagsystem.specs.declared.drive.Reply.{Reply}
 use Rattle.lagsystem.specs.Calls.{Call}
 use Rattle.lagsystem.specs.Kept.{state_of}
-use Rattle.lagsystem.specs.Shown.{JoinsViews}
+use Rattle.lagsystem.specs.Sound.{Answers}
 use Rattle.lagsystem.specs.State.{Whole}
-use Rattle.lagsystem.specs.Windows.{AreWindowed}
-use Rattle.lagsystem.proofs.Sound.{Step-sound, agrees, joins, one_windowed}
+use Rattle.lagsystem.proofs.Sound.{Step-sound, answers}
 use Rattle.lagsystem.proofs.calls.System.tick.Goals as goal
 
 pub invariant_of-self : goal.invariant_of-self
@@ -13,17 +12,8 @@ invariant_of-self g c =
     Step-sound (λ conv count place. g.F.Fn.post c.self.inside.core.distributor.algorithm (conv, (count, tt)) place) (state_of c.self.inside.core) (Call.Tick) (Reply.Tick) (state_of c.tick.new.self)
     c.tick.ensures.step c.self.invariant
 
-pub returns-clause-moves : goal.returns-clause-moves
-returns-clause-moves g c =
-    subst (λ (w : Whole g.row.F.Denot). JoinsViews w.state (Call.Tick) (Reply.Tick) (state_of c.tick.new.self)) c.self.view_is
-    (joins (λ conv count place. g.F.Fn.post c.self.inside.core.distributor.algorithm (conv, (count, tt)) place) (state_of c.self.inside.core) (Call.Tick) (Reply.Tick) (state_of c.tick.new.self)
+pub returns-clause-answers : goal.returns-clause-answers
+returns-clause-answers g c =
+    subst (λ (w : Whole g.row.F.Denot). Answers (λ conv count place. g.F.Fn.post w.algorithm (conv, (count, tt)) place) w.state (Call.Tick) (Reply.Tick) (state_of c.tick.new.self)) c.self.view_is
+    (answers (λ conv count place. g.F.Fn.post c.self.inside.core.distributor.algorithm (conv, (count, tt)) place) (state_of c.self.inside.core) (Call.Tick) (Reply.Tick) (state_of c.tick.new.self)
     c.tick.ensures.step c.self.invariant)
-
-pub returns-clause-window : goal.returns-clause-window
-returns-clause-window g c =
-    subst (λ (w : Whole g.row.F.Denot). AreWindowed w.state (Call.Tick ∷ []) (Reply.Tick ∷ [])) c.self.view_is
-    (one_windowed (λ conv count place. g.F.Fn.post c.self.inside.core.distributor.algorithm (conv, (count, tt)) place) (state_of c.self.inside.core) (Call.Tick) (Reply.Tick) (state_of c.tick.new.self)
-    c.tick.ensures.step c.self.invariant)
-
-pub returns-clause-agrees : goal.returns-clause-agrees
-returns-clause-agrees g c = agrees (state_of c.tick.new.self) (invariant_of-self g c)

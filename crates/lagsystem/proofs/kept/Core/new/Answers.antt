@@ -3,7 +3,7 @@ use Rattle.std.specs.List.{AllZip}
 use Rattle.lagtypes.specs.declared.identifiers.Key.{Key}
 use Rattle.distributor.specs.Conversations.{first_table}
 use Rattle.lagsystem.specs.declared.config.PortConfig.{PortConfig}
-use Rattle.lagsystem.specs.First.{IsNew, refusal, refusal_of}
+use Rattle.lagsystem.specs.First.{IsNew, refusal_of}
 use Rattle.lagsystem.specs.Kept.{state_of}
 use Rattle.lagsystem.proofs.Keeps.{accepted_keys_few, configured_made, first_made, ports_made, started_by}
 use Rattle.lagsystem.proofs.Sound.{first_sound}
@@ -12,25 +12,23 @@ use Rattle.lagsystem.proofs.kept.Core.new.Goals as goal
 pub count_of-requires : goal.count_of-requires
 count_of-requires g c =
     let config = c.args.config in
-    let accepted : refusal_of config ≡ None =
-    ap (λ (l : List Key). refusal l config.ports.items) (sym c.deref.ensures.value) ∙ ap (λ (l : List PortConfig). refusal c.deref.result.now l) (sym c.deref-2.ensures.value) ∙ sym {b = refusal c.deref.result.now c.deref-2.result.now} c.refusal.ensures ∙ c.in-None.is in
+    let accepted : refusal_of config ≡ None = sym {b = refusal_of config} c.refusal.ensures ∙ c.in-None.is in
     let few = accepted_keys_few config.aggregators.items config.ports.items accepted in
-    subst (λ (l : List Key). length l ≤ 64) (sym c.deref-5.ensures.value) few
+    subst (λ (l : List Key). length l ≤ 64) (sym c.deref-3.ensures.value) few
 
 pub returns-clause-made : goal.returns-clause-made
 returns-clause-made g c =
     let config = c.args.config in
     let aggs = c.in_ok-aggregators.aggregators in
-    let accepted : refusal_of config ≡ None =
-    ap (λ (l : List Key). refusal l config.ports.items) (sym c.deref.ensures.value) ∙ ap (λ (l : List PortConfig). refusal c.deref.result.now l) (sym c.deref-2.ensures.value) ∙ sym {b = refusal c.deref.result.now c.deref-2.result.now} c.refusal.ensures ∙ c.in-None.is in
+    let accepted : refusal_of config ≡ None = sym {b = refusal_of config} c.refusal.ensures ∙ c.in-None.is in
     let few = accepted_keys_few config.aggregators.items config.ports.items accepted in
     let keys : aggs ≡ config.aggregators.items =
-    let within = subst (λ (l : List Key). length l ≤ 65535) (sym c.deref-3.ensures.value) (omega (arith, few)) in
-    c.in_ok-aggregators.ensures.all within ∙ c.deref-3.ensures.value in
+    let within = subst (λ (l : List Key). length l ≤ 65535) (sym c.deref.ensures.value) (omega (arith, few)) in
+    c.in_ok-aggregators.ensures.all within ∙ c.deref.ensures.value in
     let slots = c.in_ok-slots.slots.items in
-    let new : AllZip (IsNew config.system) config.ports.items slots = subst (λ (l : List PortConfig). AllZip (IsNew config.system) l slots) c.deref-4.ensures.value c.in_ok-slots.ensures.new in
+    let new : AllZip (IsNew config.system) config.ports.items slots = subst (λ (l : List PortConfig). AllZip (IsNew config.system) l slots) c.deref-2.ensures.value c.in_ok-slots.ensures.new in
     let t = c.in_ok-distributor.distributor.table in
-    let count = c.count_of.ensures ∙ ap (λ (l : List Key). length l) c.deref-5.ensures.value ∙ ap (λ (l : List Key). length l) (sym keys) in
+    let count = c.count_of.ensures ∙ ap (λ (l : List Key). length l) c.deref-3.ensures.value ∙ ap (λ (l : List Key). length l) (sym keys) in
     let table : t ≡ first_table (length aggs) config.first_marker = c.in_ok-distributor.ensures.table ∙ ap (λ n. first_table n config.first_marker) count in
     let last = state_of c.settle_ports.new.self in
     let settles = started_by config aggs slots t last table c.settle_ports.ensures.settled in

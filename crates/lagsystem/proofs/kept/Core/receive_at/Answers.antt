@@ -13,34 +13,15 @@ use Rattle.lagsystem.proofs.Settled.{place_carried}
 use Rattle.lagsystem.proofs.StateLemmas.{on_port_made}
 use Rattle.lagsystem.proofs.kept.Core.receive_at.Goals as goal
 
-pub settle-requires : goal.settle-requires
-settle-requires g c =
-    let s = state_of c.args.self.now in
-    let v = c.args.self.now.slots in
-    let ws = c.take_at.new.slots in
-    let news = (with_items v ws).items in
-    let own = on_port_made (Takes c.in-Taken.pdu) (λ l. Some c.args.place) s c.deref_mut.result.now ws news c.deref_mut.ensures.value (with_items_is v ws (omega arith)) c.take_at.ensures in
-    place_carried (Takes c.in-Taken.pdu) (Some c.args.place) s (with_slots s news) c.as_slice.result.now c.requires.sound own (c.as_slice.ensures.value ∙ c.carriers-before.ensures ∙ ap carriers c.deref.ensures.value)
-
 pub returns-in-Taken-clause-received : goal.returns-in-Taken-clause-received
 returns-in-Taken-clause-received g c =
     let v = c.args.self.now.slots in
-    let s = state_of c.args.self.now in
-    let ws = c.take_at.new.slots in
-    let news = (with_items v ws).items in
     let slot = c.index-2.result.now in (
       slot,
       Taken c.in-Taken.pdu,
       slice_get-get_or v.items c.args.place slot c.requires.within ∙ ap (λ (x : Slot). Some x) (sym c.index-2.ensures),
       subst (λ h. Hears slot c.args.octets.now h) c.in-Taken.is c.hear.ensures,
-      (
-        refl,
-        (
-          with_slots s news,
-          on_port_made (Takes c.in-Taken.pdu) (λ l. Some c.args.place) s c.deref_mut.result.now ws news c.deref_mut.ensures.value (with_items_is v ws (omega arith)) c.take_at.ensures,
-          c.settle.ensures.settled,
-        ),
-      ),
+      (refl, c.take_lacpdu.ensures.settled),
     )
 
 pub returns-in-Response-clause-received : goal.returns-in-Response-clause-received

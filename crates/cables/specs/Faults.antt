@@ -1,0 +1,12 @@
+-- Why a cable with a limit is not made (profile).
+use Rattle.std.specs.Prelude.{ℕ, List, codes}
+use Rattle.cables.specs.declared.ring.CableFault.{CableFault}
+use Rattle.cables.specs.declared.ring.CableFault.TheVariants.{Limit, NoMemory}
+
+abbrev pub fault_number : CableFault → ℕ
+fault_number Limit = 1
+fault_number NoMemory = 2
+
+abbrev pub fault_text : CableFault → List ℕ
+fault_text Limit = codes "the limit is 0"
+fault_text NoMemory = codes "out of memory"

@@ -1,0 +1,62 @@
+-- What readers tell of a port is what the law sees of it.
+use Rattle.std.proofs.Common.{◌≡◌, ◌∙◌, ℕ, suc, ◌+◌, ◌==◌, eqb, Bool, true, false, cond, Option, Some, None, List, [], ◌∷◌, refl, sym, ap, inl, inr, eqb-true, eq-eqb, arith}
+use Rattle.std.specs.Prelude.{not, length, nat_lt, slice_get, option_map}
+use Rattle.std.specs.List.{position_or_len}
+use Rattle.std.proofs.lemmas.Bool.Decides.{nat_tests}
+use Rattle.std.proofs.lemmas.Bool.{cases_Bool, true≢false}
+use Rattle.std.proofs.lemmas.Option.{slice_get_past}
+use Rattle.lagtypes.specs.declared.party.Party.{Party}
+use Rattle.portmachines.specs.Machines.{Machines}
+use Rattle.lagmodel.specs.View.{PortView}
+use Rattle.lagmodel.specs.World.{party_at}
+use Rattle.lagmodel.specs.Kept.{find_number}
+use Rattle.lagmodel.proofs.Base.{cond_true, cond_false}
+use Rattle.lagsystem.specs.declared.slots.Slot.{Slot}
+use Rattle.lagsystem.specs.State.{State, place_of, slot_at, port_of}
+use Rattle.lagsystem.specs.Shown.{number, shown, view_of}
+
+eqb_turned : (m n : ℕ) → eqb m n ≡ eqb n m
+eqb_turned m n = elim (cases_Bool (eqb m n)) [
+  | inl e ↦ e ∙ sym (eq-eqb n m (sym (eqb-true m n e)))
+  | inr e ↦ elim (cases_Bool (eqb n m)) [
+    | inl h ↦ absurd (true≢false (sym (eq-eqb m n (sym (eqb-true n m h))) ∙ e))
+    | inr h ↦ e ∙ sym h
+  ]
+]
+
+at_end : (i : ℕ) (xs : List Slot) (b : Bool) → nat_lt i (length xs) ≡ b → slot_at (cond b (Some i) None) xs ≡ slice_get xs i
+at_end i xs true e = refl
+at_end i xs false e = sym (slice_get_past xs i (grind (arith, nat_tests)))
+
+-- one step of the search, by the rest of it
+there_next : (n : ℕ) (x : Slot) (xs : List Slot) (rest : ℕ) (b : Bool) → slice_get xs rest ≡ find_number number xs n → (x.number == n) ≡ b
+    → slice_get (x ∷ xs) (cond (not b) (1 + rest) 0) ≡ cond (eqb n x.number) (Some x) (find_number number xs n)
+there_next n x xs rest true ih e = sym (cond_true (eqb n x.number) (Some x) (find_number number xs n) (eqb_turned n x.number ∙ e))
+there_next n x xs rest false ih e =
+    let one : 1 + rest ≡ suc rest = omega arith in
+    ap (slice_get (x ∷ xs)) one ∙ ih ∙ sym (cond_false (eqb n x.number) (Some x) (find_number number xs n) (eqb_turned n x.number ∙ e))
+
+first_there : (n : ℕ) (xs : List Slot) → slice_get xs (position_or_len (λ s. s.number == n) xs) ≡ find_number number xs n
+first_there n [] = refl
+first_there n (x ∷ xs) = there_next n x xs (position_or_len (λ s. s.number == n) xs) (x.number == n) (first_there n xs) refl
+
+first_place : (n : ℕ) (xs : List Slot) → slot_at (place_of n xs) xs ≡ find_number number xs n
+first_place n xs = at_end (position_or_len (λ s. s.number == n) xs) xs (nat_lt (position_or_len (λ s. s.number == n) xs) (length xs)) refl ∙ first_there n xs
+
+mapped_twice : (o : Option Slot) → option_map (λ (s : Slot). shown s.port) o ≡ option_map shown (option_map (λ (s : Slot). s.port) o)
+mapped_twice None = refl
+mapped_twice (Some s) = refl
+
+-- the port that readers tell of is the port that the law sees
+pub port_seen : (s : State) (p : ℕ) → (view_of s).port p ≡ option_map shown (port_of p s)
+port_seen s p =
+    ap (option_map (λ (s : Slot). shown s.port)) (sym (first_place p s.slots))
+    ∙ mapped_twice (slot_at (place_of p s.slots) s.slots)
+
+party_shown : (o : Option Machines) → option_map (λ (a : PortView). a.party) (option_map shown o) ≡ option_map (λ (x : Machines). x.party) o
+party_shown None = refl
+party_shown (Some p) = refl
+
+-- so is its party
+pub party_seen : (s : State) (p : ℕ) → party_at (view_of s) p ≡ option_map (λ (x : Machines). x.party) (port_of p s)
+party_seen s p = ap (option_map (λ (a : PortView). a.party)) (port_seen s p) ∙ party_shown (port_of p s)

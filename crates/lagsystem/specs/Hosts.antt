@@ -1,0 +1,23 @@
+-- What a host asks of a system: what a conversation is doing, and whether a frame is due.
+use Rattle.std.specs.Prelude.{ℕ, Bool, ◌&&◌, ◌||◌, Option, Some, None, is_some, nat_lt, if◌then◌else◌, option_map}
+use Rattle.lagtypes.specs.declared.identifiers.AggId.{AggId}
+use Rattle.portmachines.specs.Transmit.{is_due}
+use Rattle.distributor.specs.declared.assignment.Assignment.{Assignment}
+use Rattle.distributor.specs.Changes.{marker_due}
+use Rattle.distributor.specs.Conversations.{state_of}
+use Rattle.lagsystem.specs.declared.slots.Slot.{Slot}
+use Rattle.lagsystem.specs.Offers.{has_aggregator}
+use Rattle.lagsystem.specs.Readers.{conversations}
+use Rattle.lagsystem.specs.State.{State, place_of, slot_at}
+
+-- what a conversation of an aggregator is doing, where there is one of this number
+abbrev pub conversation_at : State → AggId → ℕ → Option Assignment
+conversation_at s agg conv = if has_aggregator s agg && nat_lt conv (conversations s) then Some (state_of s.table agg.0 conv) else None
+
+-- a frame is due on the port: its link is up, and an LACPDU is due or a marker is
+abbrev pub has_due : State → Slot → Bool
+has_due s slot = slot.port.enabled && (is_due slot.port || is_some (marker_due s.table slot.number))
+
+-- the same of the port with this number
+abbrev pub due_of : ℕ → State → Option Bool
+due_of n s = option_map (has_due s) (slot_at (place_of n s.slots) s.slots)

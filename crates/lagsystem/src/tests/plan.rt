@@ -1,0 +1,142 @@
+use crate::tests::{DATA, Row, lacpdu, mac, marker};
+use crate::{AggId, Call, Key, NoMemory, PortChange, Received, Reply, SystemFault};
+use slowpdu::{MarkerKind, frame};
+use std::alloc::Global;
+
+/// Calls, and what they have to answer.
+#[derive(Drop)]
+pub(crate) struct Plan {
+    pub(crate) calls: Vec<Call>,
+    pub(crate) replies: Vec<Reply>,
+}
+
+impl Plan {
+    fn new(alloc: Global) -> Plan {
+        Plan {
+            calls: Vec::new(alloc),
+            replies: Vec::new(alloc),
+        }
+    }
+
+    fn push(&mut self, call: Call, reply: Reply) -> Result<(), NoMemory> {
+        self.calls.push(call)?;
+        self.replies.push(reply)?;
+        Ok(())
+    }
+
+    fn push_ticks(&mut self, ticks: u16) -> Result<(), NoMemory> {
+        for _ in 0..ticks {
+            self.push(Call::Tick, Reply::Tick)?;
+        }
+        Ok(())
+    }
+
+    fn push_quiet_ticks(&mut self, port: u16, ticks: u16) -> Result<(), NoMemory> {
+        for _ in 0..ticks {
+            self.push(Call::Tick, Reply::Tick)?;
+            self.push(Call::Transmit(port), Reply::Transmit(Ok(None)))?;
+        }
+        Ok(())
+    }
+
+    /// The calls of a port that is not there.
+    fn push_unknown(&mut self, alloc: Global, port: u16) -> Result<(), NoMemory> {
+        let none = SystemFault::NoPort;
+        let heard = Call::Receive(port, Vec::from_slice(alloc, &DATA)?);
+        self.push(heard, Reply::Receive(Err(none)))?;
+        self.push(Call::SetLink(port, true), Reply::SetLink(Err(none)))?;
+        self.push(
+            Call::Configure(port, change(2)),
+            Reply::Configure(Err(none)),
+        )?;
+        self.push(Call::Transmit(port), Reply::Transmit(Err(none)))
+    }
+
+    /// The calls of a row, if it makes any.
+    fn push_row(&mut self, alloc: Global, row: Row<'_>) -> Result<(), NoMemory> {
+        match row {
+            Row::Ticks(ticks) => self.push_ticks(ticks),
+            Row::Quiet(port, ticks) => self.push_quiet_ticks(port, ticks),
+            Row::Unknown(port) => self.push_unknown(alloc, port),
+            _ => match call_of(alloc, row)? {
+                Some(call) => self.push(call, reply_of(row)),
+                None => Ok(()),
+            },
+        }
+    }
+}
+
+/// The calls of a row.
+pub(crate) fn plan_of(alloc: Global, row: Row<'_>) -> Result<Plan, NoMemory> {
+    let mut plan = Plan::new(alloc);
+    plan.push_row(alloc, row)?;
+    Ok(plan)
+}
+
+/// The calls of rows, one after another.
+pub(crate) fn plan_of_all(alloc: Global, rows: &[Row<'_>]) -> Result<Plan, NoMemory> {
+    let mut plan = Plan::new(alloc);
+    for row in rows {
+        plan.push_row(alloc, *row)?;
+    }
+    Ok(plan)
+}
+
+/// A change to this key, and else nothing.
+fn change(key: u16) -> PortChange {
+    PortChange {
+        key: Key(key),
+        priority: 128,
+        aggregatable: true,
+    }
+}
+
+/// A control frame of this payload, from the peer.
+fn heard(alloc: Global, port: u16, payload: &[u8; 110]) -> Result<Call, NoMemory> {
+    let octets = Vec::from_slice(alloc, &frame(mac(9), payload))?;
+    Ok(Call::Receive(port, octets))
+}
+
+/// The call that a row makes; None if it makes none.
+fn call_of(alloc: Global, row: Row<'_>) -> Result<Option<Call>, NoMemory> {
+    let call = match row {
+        Row::Link(port, up) => Call::SetLink(port, up),
+        Row::Restart => Call::Restart,
+        Row::Takes(port, actor, partner) => heard(alloc, port, &lacpdu(actor, partner))?,
+        Row::Releases(port, response, _) => heard(alloc, port, &response.encode())?,
+        Row::Hears(port, octets, _) | Row::Keeps(port, octets, _) => {
+            Call::Receive(port, Vec::from_slice(alloc, octets)?)
+        }
+        Row::Configures(port, key, _) => Call::Configure(port, change(key)),
+        Row::Silent(port) | Row::Sends(port, _, _) | Row::Marks(port, _) => Call::Transmit(port),
+        Row::Offers(agg, octets, _) => Call::Offer(AggId(agg), Vec::from_slice(alloc, octets)?),
+        Row::Moves(agg, conv, port, _) => Call::MoveConversation(AggId(agg), conv, port),
+        Row::Forces(agg, conv, _) => Call::Force(AggId(agg), conv),
+        _ => return Ok(None),
+    };
+    Ok(Some(call))
+}
+
+/// What a port sends whose `transmit` answers so.
+fn sent(port: u16, payload: &[u8; 110]) -> Reply {
+    Reply::Transmit(Ok(Some(frame(mac(port), payload))))
+}
+
+/// What the call of a row answers.
+fn reply_of(row: Row<'_>) -> Reply {
+    match row {
+        Row::Link(_, _) => Reply::SetLink(Ok(())),
+        Row::Takes(_, _, _) => Reply::Receive(Ok(Received::TookLacpdu)),
+        Row::Releases(_, _, count) => Reply::Receive(Ok(Received::Released(count))),
+        Row::Hears(_, _, answer) | Row::Keeps(_, _, answer) => Reply::Receive(Ok(answer)),
+        Row::Configures(_, _, answer) => Reply::Configure(Ok(answer)),
+        Row::Silent(_) => Reply::Transmit(Ok(None)),
+        Row::Sends(port, actor, partner) => sent(port, &lacpdu(actor, partner)),
+        Row::Marks(port, id) => sent(port, &marker(MarkerKind::Information, port, 1, id).encode()),
+        Row::Offers(_, _, answer) => Reply::Offer(answer),
+        Row::Moves(_, _, _, answer) => Reply::MoveConversation(answer),
+        Row::Forces(_, _, answer) => Reply::Force(answer),
+        Row::Restart => Reply::Restart,
+        _ => Reply::Tick,
+    }
+}

@@ -1,0 +1,42 @@
+-- The reading of a payload as a function of its octets (6.4.2.3, 6.5.3.3). Of a payload that has a reading it is that reading
+-- (`as_function` of `one_reading_or_one_fault`); of any other it is something that nobody looks at.
+use Rattle.std.specs.Prelude.{ℕ, ◌+◌, ◌==◌, List, drop, if◌then◌else◌}
+use Rattle.std.specs.Int.{bytes_high_first}
+use Rattle.byteorder.specs.Endian.{big_number}
+use Rattle.slowpdu.specs.declared.pdu.Info.{Info}
+use Rattle.slowpdu.specs.declared.pdu.Lacpdu.{Lacpdu}
+use Rattle.slowpdu.specs.declared.pdu.Marker.{Marker}
+use Rattle.slowpdu.specs.declared.pdu.MarkerKind.{MarkerKind}
+use Rattle.slowpdu.specs.declared.pdu.MarkerKind.TheVariants.{Information, Response}
+use Rattle.slowpdu.specs.declared.pdu.Pdu.{Pdu}
+use Rattle.slowpdu.specs.declared.pdu.Pdu.TheVariants as pdu
+
+-- the number in so many octets from this offset on, the most significant first
+abbrev pub number_in : List ℕ → ℕ → ℕ → ℕ
+number_in b at width = big_number width (drop at b)
+
+-- the six octets from this offset on, through their number, so that each of them is below 256
+abbrev pub address_in : List ℕ → ℕ → List ℕ
+address_in b at = bytes_high_first 6 (number_in b at 6)
+
+-- one end in an LACPDU, from this offset on
+abbrev pub info_in : List ℕ → ℕ → Info
+info_in b at = record {
+  system = record { priority = number_in b at 2; mac = address_in b (at + 2) };
+  key = record { 0 = number_in b (at + 8) 2 };
+  port = record { priority = number_in b (at + 10) 2; number = number_in b (at + 12) 2 };
+  state = record { 0 = number_in b (at + 14) 1 };
+}
+
+unfoldable pub lacpdu_in : List ℕ → Lacpdu
+lacpdu_in b = record { actor = info_in b 4; partner = info_in b 24; max_delay = number_in b 44 2 }
+
+abbrev pub kind_in : ℕ → MarkerKind
+kind_in n = if n == 1 then Information else Response
+
+unfoldable pub marker_in : List ℕ → Marker
+marker_in b = record { kind = kind_in (number_in b 2 1); port = number_in b 4 2; system = address_in b 6; id = number_in b 12 4 }
+
+-- an LACPDU where the subtype is 1, else a Marker PDU
+unfoldable pub pdu_in : List ℕ → Pdu
+pdu_in b = if number_in b 0 1 == 1 then pdu.Lacpdu (lacpdu_in b) else pdu.Marker (marker_in b)
