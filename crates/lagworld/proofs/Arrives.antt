@@ -1,16 +1,22 @@
 -- What comes on a port.
-use Rattle.std.proofs.Common.{◌≡◌, ℕ, suc, ◌==◌, eqb, ◌++◌, Bool, true, false, cond, Option, Some, None, IsSome, List, [], ◌∷◌, map, length, sym, refl, ap, ◌∙◌, subst, inl, inr, ◌⊎◌, Ok, Err, Result, eqb-true, eq-eqb}
+use Rattle.std.proofs.Common.{◌≡◌, ℕ, suc, ◌==◌, eqb, ◌++◌, Bool, true, false, cond, Option, Some, None, IsSome, List, [], ◌∷◌, map, sym, refl, ap, ◌∙◌, subst, inl, inr, ◌⊎◌, Ok, Err, Result, eqb-true, eq-eqb}
 use Rattle.std.specs.Prelude.{option_map, option_to_list, slice_get}
 use Rattle.std.proofs.lemmas.Bool.{cases_Bool, true≢false}
 use Rattle.lagtypes.specs.declared.identifiers.AggId.{AggId}
 use Rattle.cables.specs.declared.item.Stamp.{Stamp}
 use Rattle.cables.specs.declared.item.Stamp.TheVariants as stamp
+use Rattle.slowpdu.specs.declared.pdu.Lacpdu.{Lacpdu}
+use Rattle.slowpdu.specs.declared.pdu.Pdu.{Pdu}
 use Rattle.slowpdu.specs.declared.pdu.Pdu.TheVariants as pdu
 use Rattle.slowpdu.specs.Frames.{IsSlow}
+use Rattle.slowpdu.specs.Lacpdus.{Reads}
+use Rattle.slowpdu.specs.Readings.{number_in, pdu_in, lacpdu_in}
+use Rattle.slowpdu.proofs.PduInLemmas.{pdu_read}
 use Rattle.lagmodel.specs.View.{Call as Told, Pdu as Message_pdu}
 use Rattle.lagmodel.specs.Move.{Act, Sends, Took, FreeMoves}
 use Rattle.lagmodel.specs.World.{Side, One, Two, peer, Message, Control, Data, World, Fixed, Ends, IsCabling, end_at, Calls, Event, Happens, with_line, at_side, at_two, handed_up, stamp_of, Comes, ComesAgain, IsLost, Receives}
 use Rattle.lagmodel.proofs.Base.{cond_true, cond_false}
+use Rattle.lagmodel.proofs.Brings.{moves_bring}
 use Rattle.lagmodel.proofs.Runs.{same_world}
 use Rattle.lagsystem.specs.declared.answers.Received.{Received}
 use Rattle.lagsystem.specs.declared.answers.Received.TheVariants as received
@@ -23,13 +29,11 @@ use Rattle.lagworld.specs.declared.reply.Reply.{Reply}
 use Rattle.lagworld.specs.declared.logs.Heard.{Heard}
 use Rattle.lagworld.specs.declared.logs.PortLog.{PortLog}
 use Rattle.lagworld.specs.State.{Carried, Half, Line, Joint, Serials, half, with_half, port_at, towards, with_towards, put, is_kept, log_at, count_in, taken_in, serials_at, sent_in, collected_in, forced_in, with_collected}
-use Rattle.lagworld.specs.Messages.{pdu_in, lacpdu_in, payload_in, message_as, message_of, count_of, side_named}
+use Rattle.lagworld.specs.Messages.{payload_in, message_as, message_of, count_of, side_named}
 use Rattle.lagworld.specs.Calls.{Asks, set_taken}
 use Rattle.lagworld.specs.Events.{set_at, heard_in, set_heard, with_heard, with_flow_of, Arrives, Arrived, DeliversFrom, LosesFrom, RepeatsFrom, RepeatsItem}
 use Rattle.lagworld.specs.Sound.{IsItem, AreItems}
 use Rattle.lagworld.specs.Worlds.{fixed_of, world_of, ends_of, messages, taken_as}
-use Rattle.lagworld.proofs.Reading.{pdu_read, lacpdu_is_read}
-use Rattle.lagworld.proofs.Nothing.{whatever_came}
 use Rattle.lagworld.proofs.Cables.{mapped_set, end_is}
 use Rattle.lagworld.proofs.Flows.{read_changed, read_same}
 use Rattle.lagworld.proofs.OneSystem.{Leaves, after_call, one_call, counts_kept}
@@ -52,34 +56,41 @@ act_of p octets (Ok received.TookLacpdu) = Some (Took p (told_lacpdu (lacpdu_in 
 act_of p octets (Ok (received.Respond frame)) = Some (Sends p (read_as (pdu_in (payload_in frame))))
 act_of p octets _ = None
 
--- the frame that an answer holds has its length
-abbrev pub IsFramed : Result Received SystemFault → Type 0
-IsFramed (Ok (received.Respond frame)) = length frame ≡ 124
-IsFramed _ = Unit {0}
+-- the LACPDU that a payload holds
+abbrev lacpdu_or : Lacpdu → Pdu → Lacpdu
+lacpdu_or v (pdu.Lacpdu w) = w
+lacpdu_or v (pdu.Marker m) = v
+
+holds_lacpdu : (b : List ℕ) → number_in b 0 1 ≡ 1 → pdu_in b ≡ pdu.Lacpdu (lacpdu_in b)
+unfolding pdu_in
+holds_lacpdu b e = rw e refl
+
+pub lacpdu_read : (b : List ℕ) (v : Lacpdu) → Reads b v → lacpdu_in b ≡ v
+lacpdu_read b v h = ap (lacpdu_or v) (sym (holds_lacpdu b h.table.stands.0) ∙ pdu_read b (pdu.Lacpdu v) h)
 
 brought_by : (octets : List ℕ) (st : Stamp) (o : Option Message_pdu) → IsTrue_to octets st → Brings octets o → (o ≡ None) ⊎ (o ≡ brought octets st)
 brought_by octets st None t b = inl refl
 brought_by octets (stamp.Control count) (Some m) t b = inr (ap (λ (m : Message_pdu). Some m) (b.2 ∙ ap read_as (sym (pdu_read (payload_in octets) b.0 b.1.1))))
 brought_by octets (stamp.Data system agg conv serial) (Some m) t b = absurd (t b.1.0.1)
 
-seen_act : (p : ℕ) (octets : List ℕ) (a : Result Received SystemFault) (seen : List Act) → IsFramed a → Sees (Receive p octets) (answer.Receive a) seen → seen ≡ option_to_list (act_of p octets a)
-seen_act p octets (Err fault) seen f h = h
-seen_act p octets (Ok received.Disabled) seen f h = h
-seen_act p octets (Ok received.Dropped) seen f h = h
-seen_act p octets (Ok (received.Ignored fault)) seen f h = h
-seen_act p octets (Ok received.TookLacpdu) seen f h = h.2 ∙ ap (λ v. Took p (told_lacpdu v) ∷ []) (sym (lacpdu_is_read (payload_in octets) h.0 h.1.1))
-seen_act p octets (Ok (received.Respond frame)) seen f h = h.2 ∙ ap (λ v. Sends p (read_as v) ∷ []) (sym (sent_read frame (pdu.Marker h.0) h.1 f))
-seen_act p octets (Ok (received.Released n)) seen f h = h
-seen_act p octets (Ok (received.Up agg)) seen f h = h
+seen_act : (s : State) (p : ℕ) (octets : List ℕ) (a : Result Received SystemFault) (seen : List Act) → Sees s (Receive p octets) (answer.Receive a) seen → seen ≡ option_to_list (act_of p octets a)
+seen_act s p octets (Err fault) seen h = h
+seen_act s p octets (Ok received.Disabled) seen h = h
+seen_act s p octets (Ok received.Dropped) seen h = h
+seen_act s p octets (Ok (received.Ignored fault)) seen h = h
+seen_act s p octets (Ok received.TookLacpdu) seen h = h.2 ∙ ap (λ v. Took p (told_lacpdu v) ∷ []) (sym (lacpdu_read (payload_in octets) h.0 h.1.1))
+seen_act s p octets (Ok (received.Respond frame)) seen h = h.2 ∙ ap (λ v. Sends p (read_as v) ∷ []) (sym (sent_read frame (pdu.Marker h.0) h.1))
+seen_act s p octets (Ok (received.Released n)) seen h = h
+seen_act s p octets (Ok (received.Up agg)) seen h = h
 
 -- What a received item lets a system do, by what it stands for.
-pub told_receive : (p : ℕ) (octets : List ℕ) (st : Stamp) (a : Result Received SystemFault) (old new : State) → IsTrue_to octets st → IsFramed a → JoinsViews old (Receive p octets) (answer.Receive a) new
+pub told_receive : (p : ℕ) (octets : List ℕ) (st : Stamp) (a : Result Received SystemFault) (old new : State) → IsTrue_to octets st → JoinsViews old (Receive p octets) (answer.Receive a) new
     → FreeMoves (configured old) (Told.Receive p (brought octets st)) (view_of old) (option_to_list (act_of p octets a)) (view_of new)
-told_receive p octets st a old new t f h =
+told_receive p octets st a old new t h =
     let moves : FreeMoves (configured old) (Told.Receive p h.2.0) (view_of old) h.1 (view_of new) = subst (λ c. FreeMoves (configured old) c (view_of old) h.1 (view_of new)) h.2.2 h.4 in
-    subst (λ l. FreeMoves (configured old) (Told.Receive p (brought octets st)) (view_of old) l (view_of new)) (seen_act p octets a h.1 f h.3)
+    subst (λ l. FreeMoves (configured old) (Told.Receive p (brought octets st)) (view_of old) l (view_of new)) (seen_act old p octets a h.1 h.3)
     (elim (brought_by octets st h.2.0 t h.2.1) [
-      | inl e ↦ whatever_came (configured old) p (brought octets st) (view_of old) (view_of new) h.1 (subst (λ o. FreeMoves (configured old) (Told.Receive p o) (view_of old) h.1 (view_of new)) e moves)
+      | inl e ↦ moves_bring (configured old) p (brought octets st) (view_of old) (view_of new) h.1 (subst (λ o. FreeMoves (configured old) (Told.Receive p o) (view_of old) h.1 (view_of new)) e moves)
       | inr e ↦ subst (λ o. FreeMoves (configured old) (Told.Receive p o) (view_of old) h.1 (view_of new)) e moves
     ])
 
@@ -128,13 +139,13 @@ taken_heard p heard logs h q = elim (cases_Bool (eqb q p)) [
 
 -- A call that an item made, in j, from which that item was taken away: no answer but `Up` looks at what the item is.
 came : (gives : ℕ → ℕ → ℕ → Type 0) (s : Side) (p : ℕ) (item : Carried) (a : Result Received SystemFault) (mid h : Half) (ls : List Line) (kept : Bool) (j : Joint)
-    → IsTrue_to item.octets item.stamp → IsFramed a → Asks gives (Receive p item.octets) (answer.Receive a) (half s j) mid → h.state ≡ mid.state
+    → IsTrue_to item.octets item.stamp → Asks gives (Receive p item.octets) (answer.Receive a) (half s j) mid → h.state ≡ mid.state
     → ((q : ℕ) → count_in (log_at h.logs q) ≡ count_in (log_at (half s j).logs q))
     → Leaves (fixed_of j) s (count_of item.stamp) kept (act_of p item.octets a) h ls j
     → Calls (fixed_of j) s (Told.Receive p (brought item.octets item.stamp)) (count_of item.stamp) (world_of j) (world_of j) (world_of (after_call s h ls j))
-came gives s p item a mid h ls kept j t f x e counts q =
+came gives s p item a mid h ls kept j t x e counts q =
     let moves = subst (λ (st : State). FreeMoves (configured (half s j).state) (Told.Receive p (brought item.octets item.stamp)) (view_of (half s j).state) (option_to_list (act_of p item.octets a)) (view_of st)) (sym e)
-    (told_receive p item.octets item.stamp a (half s j).state mid.state t f x.joins) in
+    (told_receive p item.octets item.stamp a (half s j).state mid.state t x.answers.moves) in
     one_call (fixed_of j) s (Told.Receive p (brought item.octets item.stamp)) (count_of item.stamp) kept (act_of p item.octets a) h ls j (world_of j) q moves
     (counts_kept s h ls j (Told.Receive p (brought item.octets item.stamp)) (option_to_list (act_of p item.octets a)) (λ e. cc) refl moves counts)
 
@@ -142,11 +153,11 @@ quiet_at : (x : Fixed) (s : Side) (n : ℕ) (h : Half) (j : Joint) → h.flows �
 quiet_at x s n h j e taken = record { away = λ c. refl; towards = λ c. refl; whole = λ c. refl; taken = λ p. ap (option_map taken_as) (taken p); sent = λ g k. ap (λ f. sent_in (serials_at f g k)) e; collected = λ g k. ap (λ f. collected_in (serials_at f g k)) e; forced = λ g k. ap (λ f. forced_in (serials_at f g k)) e }
 
 silent : (gives : ℕ → ℕ → ℕ → Type 0) (s : Side) (p : ℕ) (item : Carried) (a : Result Received SystemFault) (mid : Half) (j new : Joint)
-    → IsTrue_to item.octets item.stamp → IsFramed a → act_of p item.octets a ≡ None → Asks gives (Receive p item.octets) (answer.Receive a) (half s j) mid → new ≡ with_half s mid j
+    → IsTrue_to item.octets item.stamp → act_of p item.octets a ≡ None → Asks gives (Receive p item.octets) (answer.Receive a) (half s j) mid → new ≡ with_half s mid j
     → Calls (fixed_of j) s (Told.Receive p (brought item.octets item.stamp)) (count_of item.stamp) (world_of j) (world_of j) (world_of new)
-silent gives s p item a mid j new t f none x e =
+silent gives s p item a mid j new t none x e =
     subst (λ k. Calls (fixed_of j) s (Told.Receive p (brought item.octets item.stamp)) (count_of item.stamp) (world_of j) (world_of j) (world_of k)) (sym e)
-    (came gives s p item a mid mid j.lines true j t f x refl (λ q. ap (λ (h : Half). count_in (log_at h.logs q)) x.same)
+    (came gives s p item a mid mid j.lines true j t x refl (λ q. ap (λ (h : Half). count_in (log_at h.logs q)) x.same)
     (subst (λ o. Leaves (fixed_of j) s (count_of item.stamp) true o mid j.lines j) (sym none)
     (quiet_at (fixed_of j) s (count_of item.stamp) mid j (ap (λ (h : Half). h.flows) x.same) (λ q. ap (λ (h : Half). taken_in (log_at h.logs q)) x.same))))
 
@@ -158,18 +169,18 @@ is_up _ = false
 arrived : (gives : ℕ → ℕ → ℕ → Type 0) (s : Side) (p : ℕ) (item : Carried) (a : Result Received SystemFault) (mid : Half) (r : Reply) (j new : Joint) → IsCabling (fixed_of j).cables → IsSome (log_at (half s j).logs p)
     → IsTrue_to item.octets item.stamp → is_up a ≡ false → Asks gives (Receive p item.octets) (answer.Receive a) (half s j) mid → Arrived s p item a (with_half s mid j) r new
     → Calls (fixed_of j) s (Told.Receive p (brought item.octets item.stamp)) (count_of item.stamp) (world_of j) (world_of j) (world_of new)
-arrived gives s p item (Err fault) mid r j new one log t u x y = silent gives s p item (Err fault) mid j new t tt refl x y.1
-arrived gives s p item (Ok received.Disabled) mid r j new one log t u x y = silent gives s p item (Ok received.Disabled) mid j new t tt refl x y.1
-arrived gives s p item (Ok received.Dropped) mid r j new one log t u x y = silent gives s p item (Ok received.Dropped) mid j new t tt refl x y.1
-arrived gives s p item (Ok (received.Ignored fault)) mid r j new one log t u x y = silent gives s p item (Ok (received.Ignored fault)) mid j new t tt refl x y.1
-arrived gives s p item (Ok (received.Released n)) mid r j new one log t u x y = silent gives s p item (Ok (received.Released n)) mid j new t tt refl x y.1
+arrived gives s p item (Err fault) mid r j new one log t u x y = silent gives s p item (Err fault) mid j new t refl x y.1
+arrived gives s p item (Ok received.Disabled) mid r j new one log t u x y = silent gives s p item (Ok received.Disabled) mid j new t refl x y.1
+arrived gives s p item (Ok received.Dropped) mid r j new one log t u x y = silent gives s p item (Ok received.Dropped) mid j new t refl x y.1
+arrived gives s p item (Ok (received.Ignored fault)) mid r j new one log t u x y = silent gives s p item (Ok (received.Ignored fault)) mid j new t refl x y.1
+arrived gives s p item (Ok (received.Released n)) mid r j new one log t u x y = silent gives s p item (Ok (received.Released n)) mid j new t refl x y.1
 arrived gives s p item (Ok (received.Up agg)) mid r j new one log t u x y = absurd (true≢false u)
 arrived gives s p item (Ok received.TookLacpdu) mid r j new one log t u x y =
     let h = with_heard p (heard_in item) mid in
     let logs : mid.logs ≡ (half s j).logs = ap (λ (h : Half). h.logs) x.same in
     let flows : mid.flows ≡ (half s j).flows = ap (λ (h : Half). h.flows) x.same in
     subst (λ k. Calls (fixed_of j) s (Told.Receive p (brought item.octets item.stamp)) (count_of item.stamp) (world_of j) (world_of j) (world_of k)) (sym (y.1 ∙ written s (heard_in item) mid j))
-    (came gives s p item (Ok received.TookLacpdu) mid h j.lines true j t tt x refl
+    (came gives s p item (Ok received.TookLacpdu) mid h j.lines true j t x refl
     (λ q. count_heard p (heard_in item) q mid.logs ∙ ap (λ l. count_in (log_at l q)) logs)
     (record {
       away = λ c. refl;
@@ -187,23 +198,23 @@ arrived gives s p item (Ok received.TookLacpdu) mid r j new one log t u x y =
 arrived gives s p item (Ok (received.Respond frame)) mid r j new one log t u x y =
     let reply : Carried = record { octets = frame; stamp = stamp.Control 0 } in
     let v = pdu_in (payload_in frame) in
-    subst (λ k. Calls (fixed_of j) s (Told.Receive p (brought item.octets item.stamp)) (count_of item.stamp) (world_of j) (world_of j) (world_of k)) (sym y.2)
-    (came gives s p item (Ok (received.Respond frame)) mid mid (put s p reply j.lines) (is_kept s p j.lines) j t y.0 x refl (λ q. ap (λ (h : Half). count_in (log_at h.logs q)) x.same)
-    (sends_pdu s p (read_as v) reply ((world_of j).count s p) mid j one (answers x y.0) refl
+    subst (λ k. Calls (fixed_of j) s (Told.Receive p (brought item.octets item.stamp)) (count_of item.stamp) (world_of j) (world_of j) (world_of k)) (sym y.1)
+    (came gives s p item (Ok (received.Respond frame)) mid mid (put s p reply j.lines) (is_kept s p j.lines) j t x refl (λ q. ap (λ (h : Half). count_in (log_at h.logs q)) x.same)
+    (sends_pdu s p (read_as v) reply ((world_of j).count s p) mid j one (answers x) refl
     (ap (λ (h : Half). h.flows) x.same) (λ q. ap (λ (h : Half). taken_in (log_at h.logs q)) x.same) (count_of item.stamp)))
   where
-    answers : Asks gives (Receive p item.octets) (answer.Receive (Ok (received.Respond frame))) (half s j) mid → length frame ≡ 124
+    answers : Asks gives (Receive p item.octets) (answer.Receive (Ok (received.Respond frame))) (half s j) mid
         → message_as frame (stamp.Control 0) ≡ Control (read_as (pdu_in (payload_in frame))) (stamp_of (read_as (pdu_in (payload_in frame))) ((world_of j).count s p))
-    answers x long =
-        let sees = x.joins.3 in
-        let same : pdu_in (payload_in frame) ≡ pdu.Marker sees.0 = sent_read frame (pdu.Marker sees.0) sees.1 long in
+    answers x =
+        let sees = x.answers.moves.3 in
+        let same : pdu_in (payload_in frame) ≡ pdu.Marker sees.0 = sent_read frame (pdu.Marker sees.0) sees.1 in
         stamped frame (pdu.Marker sees.0) ((world_of j).count s p) same ∙ ap (λ v. Control (read_as v) (stamp_of (read_as v) ((world_of j).count s p))) (sym same)
 
 -- a control frame comes
 control_came : (gives : ℕ → ℕ → ℕ → Type 0) (s : Side) (p : ℕ) (octets : List ℕ) (count : ℕ) (a : Result Received SystemFault) (mid : Half) (r : Reply) (j new : Joint) → IsCabling (fixed_of j).cables → IsSome (log_at (half s j).logs p)
     → Asks gives (Receive p octets) (answer.Receive a) (half s j) mid → Arrived s p (record { octets = octets; stamp = stamp.Control count }) a (with_half s mid j) r new
     → Calls (fixed_of j) s (Told.Receive p (Some (read_as (pdu_in (payload_in octets))))) count (world_of j) (world_of j) (world_of new)
-control_came gives s p octets count (Ok (received.Up agg)) mid r j new one log x y = silent gives s p (record { octets = octets; stamp = stamp.Control count }) (Ok (received.Up agg)) mid j new tt tt refl x y.1
+control_came gives s p octets count (Ok (received.Up agg)) mid r j new one log x y = silent gives s p (record { octets = octets; stamp = stamp.Control count }) (Ok (received.Up agg)) mid j new tt refl x y.1
 control_came gives s p octets count (Err fault) mid r j new one log x y = arrived gives s p (record { octets = octets; stamp = stamp.Control count }) (Err fault) mid r j new one log tt refl x y
 control_came gives s p octets count (Ok received.Disabled) mid r j new one log x y = arrived gives s p (record { octets = octets; stamp = stamp.Control count }) (Ok received.Disabled) mid r j new one log tt refl x y
 control_came gives s p octets count (Ok received.Dropped) mid r j new one log x y = arrived gives s p (record { octets = octets; stamp = stamp.Control count }) (Ok received.Dropped) mid r j new one log tt refl x y
@@ -319,7 +330,7 @@ up_came gives s p octets agg conv serial up mid j there plain x =
     let after = after_up (peer s) agg conv serial j in
     let item : Carried = record { octets = octets; stamp = stamp.Data 0 0 0 0 } in
     let asked : Asks gives (Receive p octets) (answer.Receive (Ok (received.Up up))) (half s after) mid = subst (λ h. Asks gives (Receive p octets) (answer.Receive (Ok (received.Up up))) h mid) (sym (half_up s agg conv serial j)) x in
-    let quiet = silent gives s p item (Ok (received.Up up)) mid after (with_half s mid after) plain tt refl asked refl in
+    let quiet = silent gives s p item (Ok (received.Up up)) mid after (with_half s mid after) plain refl asked refl in
     let here = subst (λ w. Calls (fixed_of after) s (Told.Receive p None) 0 w w (world_of (with_half s mid after))) (handed_world (peer s) agg conv serial j there) quiet in
     subst (λ x. Calls x s (Told.Receive p None) 0 (world_of j) (handed_up true (Data (peer s) agg conv serial) (world_of j)) (world_of (after_up (peer s) agg conv serial (with_half s mid j)))) (fixed_up (peer s) agg conv serial j)
     (subst (λ k. Calls (fixed_of after) s (Told.Receive p None) 0 (world_of j) (handed_up true (Data (peer s) agg conv serial) (world_of j)) (world_of k)) (sym (turned s mid agg conv serial j)) here)

@@ -1,12 +1,12 @@
 -- Events that change parties, and the count of changes: a configure and a restart.
-use Rattle.std.proofs.Common.{◌≡◌, ◌≢◌, ℕ, zero, suc, ◌+◌, eqb, ◌==◌, ◌&&◌, Bool, true, false, if◌then◌else◌, Option, Some, None, IsSome, List, [], ◌∷◌, map, sym, refl, ap, ◌∙◌, subst, inl, inr, ◌⊎◌, Result, eqb-true, arith}
+use Rattle.std.proofs.Common.{◌≡◌, ◌≢◌, ℕ, zero, suc, ◌+◌, eqb, Bool, true, if◌then◌else◌, Option, Some, None, IsSome, List, [], ◌∷◌, map, sym, refl, ap, ◌∙◌, subst, inl, inr, ◌⊎◌, Result, eqb-true, arith}
 use Rattle.std.specs.Prelude.{option_map, slice_get, is_some}
 use Rattle.std.proofs.lemmas.Bool.{cases_Bool, true≢false}
 use Rattle.std.proofs.lemmas.Option.{none-some, same_Some}
 use Rattle.lagtypes.specs.declared.party.Party.{Party}
-use Rattle.lagtypes.specs.Same.{same_party, same_port, same_bit, same_system}
-use Rattle.lagtypes.proofs.SameLemmas.{exact_party, system-itself, itself}
-use Rattle.lagmodel.specs.View.{View, PortView, first_view, Call as Told}
+use Rattle.lagtypes.specs.Same.{same_party}
+use Rattle.lagtypes.proofs.SameLemmas.{exact_party, party_itself}
+use Rattle.lagmodel.specs.View.{View, first_view, Call as Told}
 use Rattle.lagmodel.specs.Move.{FreeMoves}
 use Rattle.lagmodel.specs.World.{Side, One, Two, at_side, World, Calls, Counts, party_at, Event, Happens}
 use Rattle.lagmodel.proofs.Base.{cond_true, cond_false, none-is_some}
@@ -20,6 +20,7 @@ use Rattle.lagsystem.specs.Calls.{Call, Configure, Restart}
 use Rattle.lagsystem.specs.Shown.{configured, shown, view_of, JoinsViews}
 use Rattle.lagsystem.specs.State.{State, port_of}
 use Rattle.lagsystem.proofs.FirstView.{first_shows}
+use Rattle.lagsystem.proofs.Seen.{party_seen, port_seen}
 use Rattle.lagworld.specs.declared.reply.Reply.{Reply}
 use Rattle.lagworld.specs.declared.logs.PortLog.{PortLog}
 use Rattle.lagworld.specs.State.{Half, Line, Joint, half, with_half, with_lines, emptied, nth, log_at, count_in, taken_in, serials_at, sent_in, collected_in, forced_in}
@@ -28,31 +29,6 @@ use Rattle.lagworld.specs.Events.{InHalf, told_change}
 use Rattle.lagworld.specs.Sound.{IsKept}
 use Rattle.lagworld.specs.Worlds.{fixed_of, world_of, is_whole, messages, taken_as}
 use Rattle.lagworld.proofs.OneSystem.{after_call, one_call, quietly, configured_kept}
-use Rattle.lagworld.proofs.Sides.{port_seen}
-
-both_true : (x y : Bool) → x ≡ true → y ≡ true → (x && y) ≡ true
-both_true true y h k = k
-both_true false y h k = absurd (true≢false (sym h))
-
-same_bits : (b : Bool) → same_bit b b ≡ true
-same_bits true = refl
-same_bits false = refl
-
-party_itself : (a : Party) → same_party a a ≡ true
-party_itself a =
-    both_true ((same_system a.system a.system && (a.key.0 == a.key.0)) && same_port a.port a.port) (same_bit a.aggregatable a.aggregatable)
-    (both_true (same_system a.system a.system && (a.key.0 == a.key.0)) (same_port a.port a.port)
-    (both_true (same_system a.system a.system) (a.key.0 == a.key.0) (system-itself a.system) (itself a.key.0))
-    (both_true (a.port.priority == a.port.priority) (a.port.number == a.port.number) (itself a.port.priority) (itself a.port.number)))
-    (same_bits a.aggregatable)
-
-party_of_shown : (o : Option Machines) → option_map (λ (a : PortView). a.party) (option_map shown o) ≡ option_map (λ (x : Machines). x.party) o
-party_of_shown None = refl
-party_of_shown (Some p) = refl
-
--- the party that readers tell of is the one that the law sees
-pub party_seen : (s : State) (p : ℕ) → party_at (view_of s) p ≡ party_of_port s p
-party_seen s p = ap (option_map (λ (a : PortView). a.party)) (port_seen s p) ∙ party_of_shown (port_of p s)
 
 pub log_mapped : (s : State) (logs : List PortLog) (q : ℕ) → log_at (map (log_counted s) logs) q ≡ option_map (log_counted s) (log_at logs q)
 log_mapped s [] q = refl
@@ -125,7 +101,7 @@ port_there s p = ap is_some (port_seen s p) ∙ both (port_of p s)
 
 pub same_ports : (gives : ℕ → ℕ → ℕ → Type 0) (call : Call) (a : Answer) (old new : Half) → IsKept old → Asks gives call a old new → (p : ℕ) → is_some (party_of_port new.state p) ≡ is_some (party_of_port old.state p)
 same_ports gives call a old new k x p =
-    sym (port_there new.state p) ∙ x.agrees.members.configured p ∙ ap (λ u. is_some (u.party p)) (configured_kept gives call a old new x) ∙ sym (k.agrees.members.configured p) ∙ port_there old.state p
+    sym (port_there new.state p) ∙ x.answers.agrees.members.configured p ∙ ap (λ u. is_some (u.party p)) (configured_kept gives call a old new x) ∙ sym (k.agrees.members.configured p) ∙ port_there old.state p
 
 pub no_port : (gives : ℕ → ℕ → ℕ → Type 0) (call : Call) (a : Answer) (old new : Half) → IsKept old → Asks gives call a old new → (p : ℕ) → party_of_port old.state p ≡ None → party_of_port new.state p ≡ None
 no_port gives call a old new k x p e = gone (party_of_port new.state p) refl
@@ -155,7 +131,7 @@ configure_happens gives s p change r old new k x =
     subst (λ j. Calls (fixed_of old) s Told.Configure 0 (world_of old) (world_of old) (world_of j)) (sym same)
     (one_call (fixed_of old) s Told.Configure 0 true None (counted mid) old.lines old (world_of old)
     (quietly (fixed_of old) s (counted mid) old (ap (λ (h : Half). h.flows) asked.same) (λ q. taken_counted mid.state mid.logs q ∙ ap (λ (h : Half). taken_in (log_at h.logs q)) asked.same))
-    (told_configure p change a (half s old).state mid.state asked.joins)
+    (told_configure p change a (half s old).state mid.state asked.answers.moves)
     (counts_of s mid old.lines old k (ap (λ (h : Half). h.logs) asked.same) (no_port gives (Configure p change) (answer.Configure a) (half s old) mid k asked)))
 
 -- A restart: the first view, and nothing is left on any cable.
@@ -236,7 +212,7 @@ restart_happens gives s old new k x =
     let asked = x.0.1 in
     let h = counted mid in
     let same : new ≡ after_call s h (map emptied old.lines) old = x.1 ∙ ap (λ h. with_half s h (with_lines old (map emptied old.lines))) x.0.2 in
-    let start : view_of mid.state ≡ first_view (configured (half s old).state) = first_shows mid.state asked.step.1 ∙ ap first_view (configured_kept gives Restart answer.Restart (half s old) mid asked) in
+    let start : view_of mid.state ≡ first_view (configured (half s old).state) = first_shows mid.state asked.answers.step.1 ∙ ap first_view (configured_kept gives Restart answer.Restart (half s old) mid asked) in
     let e = restarted s h (first_view (configured (half s old).state)) old start (ap (λ (h : Half). h.flows) asked.same) (λ q. taken_counted mid.state mid.logs q ∙ ap (λ (h : Half). taken_in (log_at h.logs q)) asked.same) in
     let counts = counts_of s mid (map emptied old.lines) old k (ap (λ (h : Half). h.logs) asked.same) (no_port gives Restart answer.Restart (half s old) mid k asked) in
     let w = world_of (after_call s h (map emptied old.lines) old) in

@@ -125,7 +125,7 @@ with_itself Two j = refl
 forced_by : (gives : ℕ → ℕ → ℕ → Type 0) (s : Side) (agg : AggId) (conv : ℕ) (a : Result Unit SystemFault) (mid : Half) (old : Joint) → ((done : Unit) → a ≡ Ok done → IsSome (serials_at (half s old).flows agg.0 conv))
     → Asks gives (Force agg conv) (answer.Force a) (half s old) mid → Happens (fixed_of old) (Event.Force s agg.0 conv) (world_of old) (world_of (with_half s (forced_where a agg conv mid) old))
 forced_by gives s agg conv (Err fault) mid old there x =
-    let state = refused_same agg conv (force_answer (half s old).state agg conv) fault (half s old).state mid.state x.step in
+    let state = refused_same agg conv (force_answer (half s old).state agg conv) fault (half s old).state mid.state x.answers.step in
     let same : mid ≡ half s old = x.same ∙ ap (λ (st : State). with_state st (half s old)) state in
     inl (ap (λ h. world_of (with_half s h old)) same ∙ ap world_of (with_itself s old))
 forced_by gives s agg conv (Ok done) mid old there x =
@@ -134,7 +134,7 @@ forced_by gives s agg conv (Ok done) mid old there x =
     let j = with_half s (force_flow g conv (half s old)) old in
     let h = force_flow g conv mid in
     let told : Told = Told.Force g conv in
-    let moves = told_force agg conv (Ok done) (half s old).state mid.state x.joins in
+    let moves = told_force agg conv (Ok done) (half s old).state mid.state x.answers.moves in
     let here : FreeMoves ((fixed_of j).setup s) told ((world_of j).view s) [] (view_of h.state) =
     subst (λ u. FreeMoves u told ((world_of j).view s) [] (view_of h.state)) (sym (fixed_force s g conv old s))
     (subst (λ (f : Half). FreeMoves (configured (half s old).state) told (view_of f.state) [] (view_of h.state)) (sym (half_force s g conv old)) moves) in

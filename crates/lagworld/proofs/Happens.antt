@@ -48,7 +48,7 @@ pub sense_happens : (gives : ℕ → ℕ → ℕ → Type 0) (s : Side) (i : ℕ
 sense_happens gives s i l r old new there x =
     let h = half s new in
     let c = quiet_asked gives s (Set_link (port_at s l) l.whole) (answer.SetLink x.0.0) (Told.Set_link (port_at s l) l.whole) h old x.0.1 (λ e. cc) refl
-    (told_link (port_at s l) l.whole x.0.0 (half s old).state h.state x.0.1.joins) in
+    (told_link (port_at s l) l.whole x.0.0 (half s old).state h.state x.0.1.answers.moves) in
     subst (λ o. Told_senses (fixed_of old) s o (is_whole (slice_get old.lines i)) (world_of old) (world_of new)) (sym (end_is s old.lines i l there))
     (subst (λ o. Told_senses (fixed_of old) s (Some (port_at s l)) (is_whole o) (world_of old) (world_of new)) (sym there)
     (subst (λ j. Calls (fixed_of old) s (Told.Set_link (port_at s l) l.whole) 0 (world_of old) (world_of old) (world_of j)) (sym x.1) c))
@@ -61,7 +61,7 @@ pub move_happens : (gives : ℕ → ℕ → ℕ → Type 0) (s : Side) (agg : Ag
 move_happens gives s agg conv p r old new x =
     let h = half s new in
     let c = quiet_asked gives s (Move_conversation agg conv p) (answer.MoveConversation x.0.0) Told.Move_conversation h old x.0.1 (λ e. cc) refl
-    (told_move agg conv p x.0.0 (half s old).state h.state x.0.1.joins) in
+    (told_move agg conv p x.0.0 (half s old).state h.state x.0.1.answers.moves) in
     subst (λ j. Calls (fixed_of old) s Told.Move_conversation 0 (world_of old) (world_of old) (world_of j)) (sym x.1) c
 
 -- Cables that are cut, joined or lose their first item.

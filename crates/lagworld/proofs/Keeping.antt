@@ -8,6 +8,7 @@ use Rattle.cables.specs.declared.item.Stamp.TheVariants as stamp
 use Rattle.slowpdu.specs.declared.pdu.Pdu.{Pdu}
 use Rattle.slowpdu.specs.declared.pdu.Pdu.TheVariants as pdu
 use Rattle.slowpdu.specs.Frames.{IsSlow}
+use Rattle.slowpdu.specs.Readings.{pdu_in}
 use Rattle.lagmodel.specs.World.{Side, One, Two, peer, Fixed, IsCabling, Event as Told, Run, first_world, World, Happens}
 use Rattle.lagmodel.proofs.Base.{value_of}
 use Rattle.lagmodel.proofs.Runs.{runs_joined}
@@ -21,7 +22,7 @@ use Rattle.lagscript.specs.declared.event.Event.{Event}
 use Rattle.lagscript.specs.declared.event.Event.TheVariants as event
 use Rattle.lagworld.specs.declared.reply.Reply.{Reply}
 use Rattle.lagworld.specs.State.{Carried, Half, Line, Joint, half, with_half, with_lines, port_at, towards, with_towards, emptied, cut, joined, serials_at, with_forced, with_sent, with_collected}
-use Rattle.lagworld.specs.Messages.{pdu_in, payload_in, side_named, side_number}
+use Rattle.lagworld.specs.Messages.{payload_in, side_named, side_number}
 use Rattle.lagworld.specs.Calls.{Asks, forced_where}
 use Rattle.lagworld.specs.Events.{Gives, first_cause, side_of, collected, Does, Steps, cause, set_at, puts, stamp_for, transmitted, heard_in, Emitted, Arrives, Arrived, DeliversFrom, LosesFrom, RepeatsItem, RepeatsFrom, Offered, offered, count_sent, told, most_events}
 use Rattle.lagworld.specs.Sound.{IsItem, AreItems, IsSound, Reached}
@@ -49,7 +50,7 @@ control_item s octets (pdu.Marker m) n j = tt
 emitted : (s : Side) (p : ℕ) (a : Result (Option (List ℕ)) SystemFault) (j new : Joint) (r : Reply) → IsShaped j → Emitted s p a j r new → Follows 0 j new
 emitted s p (Err fault) j new r i x = follows_same j new i x.1
 emitted s p (Ok None) j new r i x = follows_same j new i x.1
-emitted s p (Ok (Some frame)) j new r i x = subst (Follows 0 j) (sym x.2) (follows_put s p (transmitted s p frame (half s j)) j i (control_item (peer s) frame (pdu_in (payload_in frame)) _ j))
+emitted s p (Ok (Some frame)) j new r i x = subst (Follows 0 j) (sym x.1) (follows_put s p (transmitted s p frame (half s j)) j i (control_item (peer s) frame (pdu_in (payload_in frame)) _ j))
 
 collected_on : (st : Stamp) (j : Joint) → IsShaped j → Follows 0 j (collected st j)
 collected_on (stamp.Control count) j i = follows_same j j i refl
@@ -61,7 +62,7 @@ arrived s p item (Ok received.Disabled) j new r i x = follows_same j new i x.1
 arrived s p item (Ok received.Dropped) j new r i x = follows_same j new i x.1
 arrived s p item (Ok (received.Ignored fault)) j new r i x = follows_same j new i x.1
 arrived s p item (Ok received.TookLacpdu) j new r i x = subst (Follows 0 j) (sym x.1) (follows_half 0 s _ j i (heard_on p (heard_in item) (half s j) (i.kept s)))
-arrived s p item (Ok (received.Respond frame)) j new r i x = subst (Follows 0 j) (sym x.2) (follows_put s p (record { octets = frame; stamp = stamp.Control 0 }) j i tt)
+arrived s p item (Ok (received.Respond frame)) j new r i x = subst (Follows 0 j) (sym x.1) (follows_put s p (record { octets = frame; stamp = stamp.Control 0 }) j i tt)
 arrived s p item (Ok (received.Released n)) j new r i x = follows_same j new i x.1
 arrived s p item (Ok (received.Up agg)) j new r i x = subst (Follows 0 j) (sym x.1) (collected_on item.stamp j i)
 
@@ -108,12 +109,12 @@ named_number One = refl
 named_number Two = refl
 
 plain : (gives : ℕ → ℕ → ℕ → Type 0) (s : Side) (agg : AggId) (octets : List ℕ) (port : ℕ) (mid : Half) (j : Joint) → Asks gives (Offer agg octets) (answer.Offer (Ok port)) (half s j) mid → IsSlow octets → ⊥
-plain gives s agg octets port mid j x = x.step.0.1.1
+plain gives s agg octets port mid j x = x.answers.step.0.1.1
 
 offered_on : (gives : ℕ → ℕ → ℕ → Type 0) (s : Side) (agg : AggId) (octets : List ℕ) (a : Result ℕ SystemFault) (j mid new : Joint) (r : Reply) → IsShaped mid → ((port : ℕ) → a ≡ Ok port → IsSlow octets → ⊥) → Offered s agg octets a mid r new → Follows 0 mid new
 offered_on gives s agg octets (Err fault) j mid new r i p x = follows_same mid new i x.1
 offered_on gives s agg octets (Ok port) j mid new r i p x =
-    let k = conversation_of octets in
+    let k = conversation_of (half s mid).state octets in
     let sent = follows_half 0 s (count_sent agg octets (half s mid)) mid i (flow_on with_sent agg.0 k (half s mid) (i.kept s)) in
     let after = with_half s (count_sent agg octets (half s mid)) mid in
     let there : IsSome (serials_at (half s after).flows agg.0 k) = subst (λ (h : Half). IsSome (serials_at h.flows agg.0 k)) (sym (half_there s (count_sent agg octets (half s mid)) mid)) ((flow_on with_sent agg.0 k (half s mid) (i.kept s)).flows agg.0 k x.0) in

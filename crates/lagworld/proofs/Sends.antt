@@ -1,5 +1,5 @@
 -- What a system sends goes onto the cable as the message that its octets stand for.
-use Rattle.std.proofs.Common.{◌≡◌, ℕ, ◌++◌, Option, Some, None, IsSome, List, [], ◌∷◌, length, sym, refl, ap, ◌∙◌, subst, Ok, Err, Result, arith, length-append}
+use Rattle.std.proofs.Common.{◌≡◌, ℕ, ◌++◌, Option, Some, None, IsSome, List, [], ◌∷◌, length, sym, refl, ap, ◌∙◌, subst, Ok, Err, Result}
 use Rattle.std.specs.Prelude.{option_map}
 use Rattle.lagtypes.specs.declared.identifiers.AggId.{AggId}
 use Rattle.slowpdu.specs.declared.pdu.Marker.{Marker}
@@ -7,10 +7,9 @@ use Rattle.slowpdu.specs.declared.pdu.MarkerKind.{MarkerKind}
 use Rattle.slowpdu.specs.declared.pdu.MarkerKind.TheVariants as kind
 use Rattle.slowpdu.specs.declared.pdu.Pdu.{Pdu}
 use Rattle.slowpdu.specs.declared.pdu.Pdu.TheVariants as pdu
-use Rattle.slowpdu.specs.Frames.{frame_octets, slow_type}
-use Rattle.slowpdu.specs.Pdus.{WritesPdu}
+use Rattle.slowpdu.specs.Readings.{pdu_in}
 use Rattle.slowpdu.proofs.PduLemmas.{written_pdu}
-use Rattle.slowpdu.proofs.WritingLemmas.{framed_payload}
+use Rattle.slowpdu.proofs.PduInLemmas.{pdu_read}
 use Rattle.lagmodel.specs.View.{Call as Told, Pdu as Message_pdu}
 use Rattle.lagmodel.specs.Move.{Act, Sends, Sends_frame, FreeMoves}
 use Rattle.lagmodel.specs.World.{Side, One, Two, peer, Control, Data, IsCabling, end_at, stamp_of, Calls, Event, Happens, put as put_in}
@@ -20,31 +19,22 @@ use Rattle.lagsystem.specs.Calls.{Transmit, Offer}
 use Rattle.lagsystem.specs.Readers.{conversation_of}
 use Rattle.lagsystem.specs.Shown.{configured, view_of, JoinsViews, Sees, IsSent, read_as, marker_message}
 use Rattle.lagsystem.specs.State.{State}
+use Rattle.lagsystem.proofs.Sent.{sent_payload}
 use Rattle.lagworld.specs.declared.reply.Reply.{Reply}
 use Rattle.lagworld.specs.State.{Carried, Half, Joint, Serials, half, with_half, put, is_kept, log_at, count_in, taken_in, serials_at, sent_in, collected_in, forced_in, at_flow, with_sent}
-use Rattle.lagworld.specs.Messages.{pdu_in, payload_in, message_as, message_of, side_number, side_named}
+use Rattle.lagworld.specs.Messages.{payload_in, message_as, message_of, side_number, side_named}
 use Rattle.lagworld.specs.Calls.{Asks}
 use Rattle.lagworld.specs.Events.{puts, stamp_for, transmitted, Emits, Emitted, Offers, Offered, offered, count_sent}
 use Rattle.lagworld.specs.Worlds.{fixed_of, world_of, taken_as}
-use Rattle.lagworld.proofs.Reading.{pdu_read}
 use Rattle.lagworld.proofs.Cables.{put_away, put_towards, put_whole}
 use Rattle.lagworld.proofs.Flows.{read_changed, read_same}
 use Rattle.lagworld.proofs.OneSystem.{Leaves, after_call, one_call, counts_kept}
 use Rattle.lagworld.proofs.Sides.{half_there}
 use Rattle.lagworld.proofs.Happens.{quiet_asked}
 
-whole_payload : (b : List ℕ) (v : Pdu) → WritesPdu b v → length b ≡ 110
-whole_payload b (pdu.Lacpdu v) h = h.table.whole
-whole_payload b (pdu.Marker m) h = h.table.whole
-
-six_octets : (mac written : List ℕ) → length written ≡ 110 → length (frame_octets mac written) ≡ 124 → length mac ≡ 6
-six_octets mac written w e = let a = length-append mac (slow_type ++ written) in omega (arith, a, w, e)
-
--- a frame of 124 octets that is sent reads as what was sent
-pub sent_read : (frame : List ℕ) (v : Pdu) → IsSent frame v → length frame ≡ 124 → pdu_in (payload_in frame) ≡ v
-sent_read frame v h long =
-    let six = six_octets h.0 h.1 (whole_payload h.1 v h.2) (ap length (sym h.3) ∙ long) in
-    ap (λ b. pdu_in (payload_in b)) h.3 ∙ ap pdu_in (framed_payload h.0 h.1 six) ∙ pdu_read h.1 v (written_pdu h.1 v h.2)
+-- what is sent reads as what was sent
+pub sent_read : (frame : List ℕ) (v : Pdu) → IsSent frame v → pdu_in (payload_in frame) ≡ v
+sent_read frame v h = pdu_read (payload_in frame) v (written_pdu (payload_in frame) v (sent_payload frame v h))
 
 no_stamp : (k : MarkerKind) (m : Marker) (n : ℕ) → stamp_of (marker_message k m) n ≡ 0
 no_stamp kind.Information m n = refl
@@ -71,13 +61,13 @@ sends_pdu s p pdu item count h j one e n flows taken stamp = record {
   forced = λ g k. ap (λ f. forced_in (serials_at f g k)) flows;
 }
 
-told_silence : (n : ℕ) (a : Result (Option (List ℕ)) SystemFault) (old new : State) → ((seen : List Act) → Sees (Transmit n) (answer.Transmit a) seen → seen ≡ []) → JoinsViews old (Transmit n) (answer.Transmit a) new → FreeMoves (configured old) Told.Transmit (view_of old) [] (view_of new)
+told_silence : (n : ℕ) (a : Result (Option (List ℕ)) SystemFault) (old new : State) → ((seen : List Act) → Sees old (Transmit n) (answer.Transmit a) seen → seen ≡ []) → JoinsViews old (Transmit n) (answer.Transmit a) new → FreeMoves (configured old) Told.Transmit (view_of old) [] (view_of new)
 told_silence n a old new none h = subst (λ l. FreeMoves (configured old) Told.Transmit (view_of old) l (view_of new)) (none h.1 h.3) (subst (λ c. FreeMoves (configured old) c (view_of old) h.1 (view_of new)) h.2 h.4)
 
-told_sent : (n : ℕ) (frame : List ℕ) (old new : State) → length frame ≡ 124 → JoinsViews old (Transmit n) (answer.Transmit (Ok (Some frame))) new
+told_sent : (n : ℕ) (frame : List ℕ) (old new : State) → JoinsViews old (Transmit n) (answer.Transmit (Ok (Some frame))) new
     → FreeMoves (configured old) Told.Transmit (view_of old) (Sends n (read_as (pdu_in (payload_in frame))) ∷ []) (view_of new)
-told_sent n frame old new long h =
-    let same = sent_read frame h.3.0 h.3.1 long in
+told_sent n frame old new h =
+    let same = sent_read frame h.3.0 h.3.1 in
     subst (λ l. FreeMoves (configured old) Told.Transmit (view_of old) l (view_of new)) (h.3.2 ∙ ap (λ v. Sends n (read_as v) ∷ []) (sym same)) (subst (λ c. FreeMoves (configured old) c (view_of old) h.1 (view_of new)) h.2 h.4)
 
 emitted : (gives : ℕ → ℕ → ℕ → Type 0) (s : Side) (p : ℕ) (a : Result (Option (List ℕ)) SystemFault) (mid : Half) (r : Reply) (old new : Joint) → IsCabling (fixed_of old).cables
@@ -85,16 +75,16 @@ emitted : (gives : ℕ → ℕ → ℕ → Type 0) (s : Side) (p : ℕ) (a : Res
     → Calls (fixed_of old) s Told.Transmit 0 (world_of old) (world_of old) (world_of new)
 emitted gives s p (Err fault) mid r old new one x y =
     subst (λ j. Calls (fixed_of old) s Told.Transmit 0 (world_of old) (world_of old) (world_of j)) (sym y.1)
-    (quiet_asked gives s (Transmit p) (answer.Transmit (Err fault)) Told.Transmit mid old x (λ e. cc) refl (told_silence p (Err fault) (half s old).state mid.state (λ seen e. e) x.joins))
+    (quiet_asked gives s (Transmit p) (answer.Transmit (Err fault)) Told.Transmit mid old x (λ e. cc) refl (told_silence p (Err fault) (half s old).state mid.state (λ seen e. e) x.answers.moves))
 emitted gives s p (Ok None) mid r old new one x y =
     subst (λ j. Calls (fixed_of old) s Told.Transmit 0 (world_of old) (world_of old) (world_of j)) (sym y.1)
-    (quiet_asked gives s (Transmit p) (answer.Transmit (Ok None)) Told.Transmit mid old x (λ e. cc) refl (told_silence p (Ok None) (half s old).state mid.state (λ seen e. e) x.joins))
+    (quiet_asked gives s (Transmit p) (answer.Transmit (Ok None)) Told.Transmit mid old x (λ e. cc) refl (told_silence p (Ok None) (half s old).state mid.state (λ seen e. e) x.answers.moves))
 emitted gives s p (Ok (Some frame)) mid r old new one x y =
     let v = pdu_in (payload_in frame) in
     let count = count_in (log_at (half s (with_half s mid old)).logs p) in
     let logs : (half s (with_half s mid old)).logs ≡ (half s old).logs = ap (λ (h : Half). h.logs) (half_there s mid old ∙ x.same) in
-    let moves = told_sent p frame (half s old).state mid.state y.0 x.joins in
-    subst (λ j. Calls (fixed_of old) s Told.Transmit 0 (world_of old) (world_of old) (world_of j)) (sym y.2)
+    let moves = told_sent p frame (half s old).state mid.state x.answers.moves in
+    subst (λ j. Calls (fixed_of old) s Told.Transmit 0 (world_of old) (world_of old) (world_of j)) (sym y.1)
     (one_call (fixed_of old) s Told.Transmit 0 (is_kept s p old.lines) (Some (Sends p (read_as v))) mid (put s p (transmitted s p frame (half s (with_half s mid old))) old.lines) old (world_of old)
     (sends_pdu s p (read_as v) (transmitted s p frame (half s (with_half s mid old))) count mid old one (stamped frame v count refl) (ap (λ l. count_in (log_at l p)) logs)
     (ap (λ (h : Half). h.flows) x.same) (λ q. ap (λ (h : Half). taken_in (log_at h.logs q)) x.same) 0)
@@ -107,7 +97,7 @@ pub emit_happens : (gives : Side → ℕ → ℕ → ℕ → Type 0) (s : Side) 
 emit_happens gives s p r old new one x = emitted (gives s) s p x.0 x.1 r old new one x.2 x.3
 
 told_offer : (agg : AggId) (octets : List ℕ) (port : ℕ) (old new : State) → JoinsViews old (Offer agg octets) (answer.Offer (Ok port)) new
-    → FreeMoves (configured old) Told.Offer (view_of old) (Sends_frame port agg.0 (conversation_of octets) ∷ []) (view_of new)
+    → FreeMoves (configured old) Told.Offer (view_of old) (Sends_frame port agg.0 (conversation_of old octets) ∷ []) (view_of new)
 told_offer agg octets port old new h = subst (λ l. FreeMoves (configured old) Told.Offer (view_of old) l (view_of new)) h.3 (subst (λ c. FreeMoves (configured old) c (view_of old) h.1 (view_of new)) h.2 h.4)
 
 told_refused : (agg : AggId) (octets : List ℕ) (fault : SystemFault) (old new : State) → JoinsViews old (Offer agg octets) (answer.Offer (Err fault)) new → FreeMoves (configured old) Told.Offer (view_of old) [] (view_of new)
@@ -134,14 +124,14 @@ offered_calls : (gives : ℕ → ℕ → ℕ → Type 0) (s : Side) (agg : AggId
     → Calls (fixed_of old) s Told.Offer 0 (world_of old) (world_of old) (world_of new)
 offered_calls gives s agg octets (Err fault) mid r old new one x y =
     subst (λ j. Calls (fixed_of old) s Told.Offer 0 (world_of old) (world_of old) (world_of j)) (sym y.1)
-    (quiet_asked gives s (Offer agg octets) (answer.Offer (Err fault)) Told.Offer mid old x (λ e. cc) refl (told_refused agg octets fault (half s old).state mid.state x.joins))
+    (quiet_asked gives s (Offer agg octets) (answer.Offer (Err fault)) Told.Offer mid old x (λ e. cc) refl (told_refused agg octets fault (half s old).state mid.state x.answers.moves))
 offered_calls gives s agg octets (Ok port) mid r old new one x y =
-    let k = conversation_of octets in
+    let k = conversation_of (half s old).state octets in
     let h = count_sent agg octets mid in
     let item = offered s port agg octets mid in
     let flows : mid.flows ≡ (half s old).flows = ap (λ (h : Half). h.flows) x.same in
     let there : IsSome (serials_at (half s old).flows agg.0 k) = subst (λ f. IsSome (serials_at f agg.0 k)) (ap (λ (h : Half). h.flows) (half_there s mid old) ∙ flows) y.0 in
-    let moves = told_offer agg octets port (half s old).state mid.state x.joins in
+    let moves = told_offer agg octets port (half s old).state mid.state x.answers.moves in
     let same : new ≡ after_call s h (put s port item old.lines) old = y.2 ∙ same_joint s agg octets port mid old in
     subst (λ j. Calls (fixed_of old) s Told.Offer 0 (world_of old) (world_of old) (world_of j)) (sym same)
     (one_call (fixed_of old) s Told.Offer 0 (is_kept s port old.lines) (Some (Sends_frame port agg.0 k)) h (put s port item old.lines) old (world_of old)

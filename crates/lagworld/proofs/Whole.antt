@@ -13,6 +13,7 @@ use Rattle.distributor.specs.declared.fault.DistFault.{DistFault}
 use Rattle.distributor.specs.declared.fault.DistFault.TheVariants as dist
 use Rattle.distributor.specs.Calls.{forced}
 use Rattle.distributor.specs.Conversations.{state_of}
+use Rattle.lagsystem.specs.Readers.{conversations}
 use Rattle.lagsystem.specs.Offers.{Becomes, force_answer, has_aggregator, in_system, known}
 use Rattle.lagsystem.specs.State.{State}
 use Rattle.lagscript.specs.declared.event.Event.{Event}
@@ -51,8 +52,8 @@ if_some : (b : Bool) (x : Result Assignment SystemFault) (f : SystemFault) (y : 
 if_some true x f y h = (refl, h)
 if_some false x f y h = absurd (let e = h in cc)
 
-known_below : (conv : ℕ) (o : Result Assignment DistFault) (y : Assignment) → in_system (known conv o) ≡ Ok y → nat_lt conv 256 ≡ true
-known_below conv o y h = below (nat_lt conv 256) h
+known_below : (s : State) (conv : ℕ) (o : Result Assignment DistFault) (y : Assignment) → in_system (known s conv o) ≡ Ok y → nat_lt conv (conversations s) ≡ true
+known_below s conv o y h = below (nat_lt conv (conversations s)) h
   where
     below : (b : Bool) → in_system (if b then o else Err dist.NotAssigned) ≡ Ok y → b ≡ true
     below true h = refl
@@ -69,9 +70,9 @@ parts false y h = absurd (true≢false (sym h))
 forced_there : (h : Half) (agg : AggId) (conv : ℕ) (done : Unit) (new : State) → IsKept h → Becomes agg conv (force_answer h.state agg conv) h.state (Ok done) new → IsSome (serials_at h.flows agg.0 conv)
 forced_there h agg conv done new k x =
     let y = forced_known agg conv (force_answer h.state agg conv) done h.state new x in
-    let both = if_some (has_aggregator h.state agg) (in_system (known conv (forced (state_of h.state.table agg.0 conv)))) NoAggregator y.0 y.1 in
+    let both = if_some (has_aggregator h.state agg) (in_system (known h.state conv (forced (state_of h.state.table agg.0 conv)))) NoAggregator y.0 y.1 in
     let two = parts (nat_lt 0 agg.0) (nat_le agg.0 (length h.state.keys)) both.0 in
-    let small = known_below conv (forced (state_of h.state.table agg.0 conv)) y.0 both.1 in
+    let small = known_below h.state conv (forced (state_of h.state.table agg.0 conv)) y.0 both.1 in
     k.flows agg.0 conv (let e = two.0 in grind (arith, nat_tests)) (let e = two.1 in grind (arith, nat_tests)) (grind (arith, nat_tests))
 
 -- the side that an event names, in what the law is told
@@ -130,7 +131,7 @@ does_happen gives (event.Move n agg conv p) r old new i x =
 does_happen gives (event.Force n agg conv) r old new i x =
     let v = value_of (side_of n) _ x in
     at_named (λ s. Happens (fixed_of old) (Told.Force s agg.0 conv) (world_of old) (world_of new)) n v.0 v.1
-    (force_happens (gives v.0) v.0 agg conv r old new v.2 (λ done e. forced_there (half v.0 old) agg conv done v.2.0.1.state (i.kept v.0) (subst (λ a. Becomes agg conv (force_answer (half v.0 old).state agg conv) (half v.0 old).state a v.2.0.1.state) e v.2.0.2.step)))
+    (force_happens (gives v.0) v.0 agg conv r old new v.2 (λ done e. forced_there (half v.0 old) agg conv done v.2.0.1.state (i.kept v.0) (subst (λ a. Becomes agg conv (force_answer (half v.0 old).state agg conv) (half v.0 old).state a v.2.0.1.state) e v.2.0.2.answers.step)))
 
 -- what is counted is no part of a world of the law
 pub steps_happen : (gives : Gives) (e : Event) (r : Reply) (old new : Joint) → IsSound old → Steps gives old e r new → Happens (fixed_of old) (told e) (world_of old) (world_of new)

@@ -7,9 +7,8 @@ use Rattle.lagsystem.specs.declared.config.PortChange.{PortChange}
 use Rattle.lagsystem.specs.declared.drive.Reply.{Reply as Answer}
 use Rattle.lagsystem.specs.declared.drive.Reply.TheVariants as answer
 use Rattle.lagsystem.specs.declared.fault.SystemFault.{SystemFault}
-use Rattle.lagsystem.specs.Calls.{Call, Tick, Set_link, Configure, Restart, Move_conversation, Force, Step}
-use Rattle.lagsystem.specs.Shown.{JoinsViews}
-use Rattle.lagsystem.specs.Sound.{Agrees}
+use Rattle.lagsystem.specs.Calls.{Call, Tick, Set_link, Configure, Restart, Move_conversation, Force}
+use Rattle.lagsystem.specs.Sound.{Answers}
 use Rattle.lagsystem.specs.State.{State, port_of}
 use Rattle.lagworld.specs.declared.reply.Reply.{Reply}
 use Rattle.lagworld.specs.declared.reply.Reply.TheVariants as reply
@@ -20,11 +19,9 @@ use Rattle.lagworld.specs.State.{Half, at_flow, with_forced}
 abbrev pub with_state : State → Half → Half
 with_state s h = record h { state = s }
 
--- The system answers a call: a step that joins the views by free moves, after which its ports agree. Nothing else changes.
+-- The system answers a call as it promises of every call. Nothing else changes.
 pub record Asks (gives : ℕ → ℕ → ℕ → Type 0) (call : Call) (a : Answer) (old new : Half) : Type 0 where
-  pub step : Step gives old.state call a new.state
-  pub joins : JoinsViews old.state call a new.state
-  pub agrees : Agrees new.state
+  pub answers : Answers gives old.state call a new.state
   pub same : new ≡ with_state new.state old
 
 -- this many ticks, one after another

@@ -5,6 +5,7 @@ use Rattle.cables.specs.declared.item.Stamp.{Stamp}
 use Rattle.cables.specs.declared.item.Stamp.TheVariants as stamp
 use Rattle.slowpdu.specs.declared.pdu.Pdu.{Pdu}
 use Rattle.slowpdu.specs.declared.pdu.Pdu.TheVariants as pdu
+use Rattle.slowpdu.specs.Readings.{pdu_in, lacpdu_in}
 use Rattle.lagmodel.specs.View.{PortChange as Told_change}
 use Rattle.lagmodel.specs.World.{Side, One, Two, Event as Told}
 use Rattle.lagsystem.specs.declared.answers.Received.{Received}
@@ -23,7 +24,7 @@ use Rattle.lagworld.specs.declared.fault.WorldFault.TheVariants.{NoCable, NoSyst
 use Rattle.lagworld.specs.declared.logs.Heard.{Heard}
 use Rattle.lagworld.specs.declared.logs.PortLog.{PortLog}
 use Rattle.lagworld.specs.State.{Carried, Half, Line, Joint, half, with_half, with_lines, port_at, towards, with_towards, emptied, cut, joined, nth, put, is_kept, log_at, count_in, at_flow, with_sent, with_collected, serials_at, sent_in}
-use Rattle.lagworld.specs.Messages.{pdu_in, lacpdu_in, payload_in, side_number, side_named, count_of}
+use Rattle.lagworld.specs.Messages.{payload_in, side_number, side_named, count_of}
 use Rattle.lagworld.specs.Calls.{Asks, Ticks, Senses, Configures, Restarts, Moves, Forces, set_taken}
 
 -- a system by its number, 1 or 2
@@ -68,8 +69,7 @@ abbrev pub Emitted : Side → ℕ → Result (Option (List ℕ)) SystemFault →
 Emitted s p (Err fault) old r new = (r ≡ reply.Refused fault) × (new ≡ old)
 Emitted s p (Ok None) old r new = (r ≡ reply.Nothing) × (new ≡ old)
 Emitted s p (Ok (Some frame)) old r new =
-    (length frame ≡ 124)
-    × (r ≡ sent_reply (pdu_in (payload_in frame)) (is_kept s p old.lines)) × (new ≡ puts s p (transmitted s p frame (half s old)) old)
+    (r ≡ sent_reply (pdu_in (payload_in frame)) (is_kept s p old.lines)) × (new ≡ puts s p (transmitted s p frame (half s old)) old)
 
 abbrev pub Emits : Gives → Side → ℕ → Joint → Reply → Joint → Type 0
 Emits gives s p old r new =
@@ -105,8 +105,7 @@ Arrived s p item (Ok received.Dropped) old r new = (r ≡ reply.Dropped) × (new
 Arrived s p item (Ok (received.Ignored fault)) old r new = (r ≡ reply.Ignored) × (new ≡ old)
 Arrived s p item (Ok received.TookLacpdu) old r new = (r ≡ reply.Took) × (new ≡ with_half s (with_heard p (heard_in item) (half s old)) old)
 Arrived s p item (Ok (received.Respond frame)) old r new =
-    (length frame ≡ 124)
-    × (r ≡ reply.Responded (is_kept s p old.lines)) × (new ≡ puts s p (record { octets = frame; stamp = stamp.Control 0 }) old)
+    (r ≡ reply.Responded (is_kept s p old.lines)) × (new ≡ puts s p (record { octets = frame; stamp = stamp.Control 0 }) old)
 Arrived s p item (Ok (received.Released n)) old r new = (r ≡ reply.Released n) × (new ≡ old)
 Arrived s p item (Ok (received.Up agg)) old r new = (r ≡ reply.Up agg) × (new ≡ collected item.stamp old)
 
@@ -139,17 +138,17 @@ RepeatsFrom gives s l (item ∷ rest) old r new = RepeatsItem gives s (port_at s
 abbrev pub offered : Side → ℕ → AggId → List ℕ → Half → Carried
 offered s port agg octets h = record {
   octets = octets;
-  stamp = stamp.Data (side_number s) agg.0 (conversation_of octets) (length (sent_in (serials_at h.flows agg.0 (conversation_of octets))));
+  stamp = stamp.Data (side_number s) agg.0 (conversation_of h.state octets) (length (sent_in (serials_at h.flows agg.0 (conversation_of h.state octets))));
 }
 
 abbrev pub count_sent : AggId → List ℕ → Half → Half
-count_sent agg octets h = record h { flows = at_flow with_sent agg.0 (conversation_of octets) h.flows }
+count_sent agg octets h = record h { flows = at_flow with_sent agg.0 (conversation_of h.state octets) h.flows }
 
 abbrev pub Offered : Side → AggId → List ℕ → Result ℕ SystemFault → Joint → Reply → Joint → Type 0
 Offered s agg octets (Err fault) old r new = (r ≡ reply.Refused fault) × (new ≡ old)
 Offered s agg octets (Ok port) old r new =
-    IsSome (serials_at (half s old).flows agg.0 (conversation_of octets))
-    × (r ≡ reply.Port port (length (sent_in (serials_at (half s old).flows agg.0 (conversation_of octets)))) (is_kept s port old.lines))
+    IsSome (serials_at (half s old).flows agg.0 (conversation_of (half s old).state octets))
+    × (r ≡ reply.Port port (length (sent_in (serials_at (half s old).flows agg.0 (conversation_of (half s old).state octets)))) (is_kept s port old.lines))
     × (new ≡ puts s port (offered s port agg octets (half s old)) (with_half s (count_sent agg octets (half s old)) old))
 
 abbrev pub Offers : Gives → Side → AggId → List ℕ → Joint → Reply → Joint → Type 0

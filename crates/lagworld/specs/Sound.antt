@@ -8,6 +8,7 @@ use Rattle.lagmodel.specs.Law.{TookSynchronised, NamesPresent, OnItsCable, Flush
 use Rattle.lagmodel.specs.View.{first_view}
 use Rattle.lagsystem.specs.Shown.{configured, view_of}
 use Rattle.lagsystem.specs.Sound.{Agrees}
+use Rattle.lagsystem.specs.Readers.{conversations}
 use Rattle.lagscript.specs.declared.event.Event.{Event}
 use Rattle.lagworld.specs.declared.reply.Reply.{Reply}
 use Rattle.lagworld.specs.declared.fault.RunFault.{RunFault}
@@ -75,7 +76,7 @@ pub record IsKept (h : Half) : Type 0 where
   pub agrees : Agrees h.state
   pub parties : (p : ℕ) (log : PortLog) → log_at h.logs p ≡ Some log → party_of_port h.state p ≡ Some log.party
   pub logged : (p : ℕ) → IsSome (party_of_port h.state p) → IsSome (log_at h.logs p)
-  pub flows : (g k : ℕ) → 0 < g → g ≤ length h.state.keys → k < 256 → IsSome (serials_at h.flows g k)
+  pub flows : (g k : ℕ) → 0 < g → g ≤ length h.state.keys → k < conversations h.state → IsSome (serials_at h.flows g k)
 
 -- no port changed more often than that
 abbrev pub AreBelow : ℕ → List PortLog → Type 0
