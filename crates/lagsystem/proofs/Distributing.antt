@@ -1,5 +1,5 @@
 -- The ports that distribute in an aggregator, and the numbers of ports, in ascending order.
-use Rattle.std.proofs.Common.{◌≡◌, ◌∙◌, ℕ, zero, suc, ◌+◌, ◌<◌, Bool, true, false, cond, Option, Some, None, List, [], ◌∷◌, arith, ap, refl, subst, sym, eq-eqb, eqb}
+use Rattle.std.proofs.Common.{◌≡◌, ◌∙◌, ℕ, zero, suc, ◌+◌, ◌<◌, Bool, true, false, cond, Option, Some, None, List, [], ◌∷◌, arith, ap, refl, subst, sym, eq-eqb}
 use Rattle.std.specs.Prelude.{◌&&◌, ◌||◌, filter, length, nat_le, nat_lt, slice_get, slice_index}
 use Rattle.std.specs.Bool.{OnFalse}
 use Rattle.std.specs.List.Sorted.{IsStrictlyIncreasing}

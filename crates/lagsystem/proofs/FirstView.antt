@@ -32,7 +32,7 @@ use Rattle.lagsystem.specs.declared.slots.Slot.{Slot}
 use Rattle.lagsystem.specs.First.{IsFirst, IsNew, number_of, setup_of}
 use Rattle.lagsystem.specs.Settling.{AllMove, Moves, choose_slot, chosen, given, ready_of, takes}
 use Rattle.lagsystem.specs.Shown.{configured, number, party_in, shown, shown_slot, view_of}
-use Rattle.lagsystem.specs.State.{State, with_slots}
+use Rattle.lagsystem.specs.State.{State, with_slots, with_table}
 use Rattle.lagsystem.specs.Views.{views, view_of as seen_at}
 use Rattle.lagsystem.proofs.Effects.{named, zero_named}
 use Rattle.portmachines.proofs.Runs.{Reaches-keeps}
@@ -241,6 +241,10 @@ first_shows s h =
       port = λ q. (same_ports q ∙ first_ports q ∙ composed first_port (party_in s.system) (find_number number_of s.ports q)) i;
       flows = flows_of (h.3 i);
     }
+
+-- a restart shows the first view
+pub restarted_shows : (old new : State) → new ≡ with_table (with_slots old new.slots) new.table → IsFirst new → view_of new ≡ first_view (configured old)
+restarted_shows old new e h = first_shows new h ∙ ap (λ (s : State). first_view (configured s)) e
 
 -- a configuration is a setup
 number_found : (ports : List PortConfig) (q : ℕ) (c : PortConfig) → find_number number_of ports q ≡ Some c → c.number ≡ q

@@ -1,5 +1,5 @@
 -- When all ports have chosen, none that is still eligible finds an aggregator.
-use Rattle.std.proofs.Common.{◌≡◌, ◌∙◌, ℕ, zero, suc, ◌+◌, ◌<◌, ◌≤◌, Bool, true, false, ◌&&◌, ◌⊎◌, List, [], ◌∷◌, length, Option, Some, None, find, refl, sym, ap, subst, arith, inl, inr, slice_get, slice_set, if◌then◌else◌}
+use Rattle.std.proofs.Common.{◌≡◌, ◌∙◌, ℕ, zero, suc, ◌<◌, Bool, true, false, ◌&&◌, ◌⊎◌, List, [], ◌∷◌, length, Option, Some, None, refl, sym, ap, subst, arith, inl, inr, slice_get, slice_set, if◌then◌else◌}
 use Rattle.std.specs.List.{AllByRecursion}
 use Rattle.std.proofs.lemmas.Option.{same_Some}
 use Rattle.lagtypes.specs.declared.identifiers.AggId.{AggId}
@@ -14,7 +14,7 @@ use Rattle.lagsystem.specs.declared.slots.Slot.{Slot}
 use Rattle.lagsystem.specs.Settling.{choose_slot, chosen, given, takes}
 use Rattle.lagsystem.specs.State.{numbers}
 use Rattle.lagsystem.specs.Views.{view_of, views}
-use Rattle.lagsystem.proofs.Keeps.{chosen_numbers, given_number, numbers_set}
+use Rattle.lagsystem.proofs.Keeps.{chosen_numbers, numbers_set}
 use Rattle.lagsystem.proofs.NoneStays.{none_after}
 use Rattle.lagsystem.proofs.Rising.{Rises, all-get, find_here}
 use Rattle.lagsystem.proofs.SettlingLemmas.{set_same}

@@ -5,7 +5,6 @@ use Rattle.std.specs.List.{position_or_len}
 use Rattle.std.proofs.lemmas.Bool.Decides.{nat_tests}
 use Rattle.std.proofs.lemmas.Bool.{cases_Bool, true≢false}
 use Rattle.std.proofs.lemmas.Option.{slice_get_past}
-use Rattle.lagtypes.specs.declared.party.Party.{Party}
 use Rattle.portmachines.specs.Machines.{Machines}
 use Rattle.lagmodel.specs.View.{PortView}
 use Rattle.lagmodel.specs.World.{party_at}

@@ -1,5 +1,5 @@
 -- An LACPDU that leaves the port as others see it: settling leaves all but the periodic machine of that port.
-use Rattle.std.proofs.Common.{◌≡◌, ◌∙◌, ℕ, zero, suc, Bool, true, false, cond, ◌&&◌, ◌||◌, List, [], ◌∷◌, map, filter, Option, Some, None, refl, sym, ap, subst, inl, inr, slice_get, slice_set, if◌then◌else◌}
+use Rattle.std.proofs.Common.{◌≡◌, ◌∙◌, ℕ, zero, suc, Bool, true, false, cond, ◌||◌, List, [], ◌∷◌, map, filter, Option, Some, None, refl, sym, ap, subst, inl, inr, slice_get, slice_set, if◌then◌else◌}
 use Rattle.std.specs.Bool.{OnTrue}
 use Rattle.std.specs.List.{AllByRecursion}
 use Rattle.std.proofs.lemmas.Option.{same_Some}
@@ -26,9 +26,9 @@ use Rattle.selection.specs.Views.{is_eligible}
 use Rattle.selection.specs.Choice.{choice}
 use Rattle.lagsystem.specs.declared.slots.Slot.{Slot}
 use Rattle.lagsystem.specs.Calls.{OnPlace, OnPort, Settled, Takes}
-use Rattle.lagsystem.specs.Quiet.{ArePaced, AreStill, IsPaced, IsSamePartner, IsStill, Knows, LooksAlike, TakesAt}
+use Rattle.lagsystem.specs.Quiet.{ArePaced, AreStill, IsSamePartner, IsStill, Knows, LooksAlike, TakesAt}
 use Rattle.lagsystem.specs.Readers.{agg_of_number, distributes_in, distributing}
-use Rattle.lagsystem.specs.Settling.{AllMove, LeavesPorts, Moves, Settling, SettlesPorts, left_on, ready_of, takes}
+use Rattle.lagsystem.specs.Settling.{AllMove, LeavesPorts, Moves, Settling, left_on, ready_of}
 use Rattle.lagsystem.specs.Sound.{AreCarried}
 use Rattle.lagsystem.specs.State.{State, with_slots}
 use Rattle.lagsystem.specs.Views.{stage_of, view_of, views}

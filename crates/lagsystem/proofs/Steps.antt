@@ -32,7 +32,7 @@ use Rattle.distributor.specs.Changes.{Changes, Marks, after_release, marker_due,
 use Rattle.distributor.specs.Conversations.{Table, how_many, next_identifier, state_of}
 use Rattle.distributor.specs.Moves.{flows_of}
 use Rattle.distributor.proofs.MoveLemmas.{down_moves, force_moves, mark_moves, move_moves, release_moves, send_moves, tick_moves as conversations_tick}
-use Rattle.lagmodel.specs.View.{Setup, Flows, Lacp, Pdu as Message, Call as Told, Receive as Told_receive, first_view}
+use Rattle.lagmodel.specs.View.{Setup, Flows, Lacp, Pdu as Message, Call as Told, Receive as Told_receive}
 use Rattle.lagmodel.specs.Move.{Act, Sends as Shows, Sends_frame, Took, FreeMoves, PortMove, Move}
 use Rattle.lagmodel.proofs.Uses.{moves_joined}
 use Rattle.lagsystem.specs.declared.answers.Heard.{Heard}
@@ -55,7 +55,7 @@ use Rattle.lagsystem.specs.Shown.{JoinsViews, Sees, Tells, aggregator_of, awake,
 use Rattle.lagsystem.specs.State.{numbers}
 use Rattle.lagsystem.proofs.Conversing.{assigned_may, carrying_moves, leaving_moves, table_moves}
 use Rattle.lagsystem.proofs.Keeps.{Keeps, keeps_each, keeps_link, keeps_place, keeps_tick, ports_keep, ports_table, settling_parts}
-use Rattle.lagsystem.proofs.FirstView.{first_shows}
+use Rattle.lagsystem.proofs.FirstView.{restarted_shows}
 use Rattle.lagsystem.proofs.Lists.{AllZip-weaker}
 use Rattle.lagsystem.proofs.Rising.{Rises, all-get, are_numbered, found_place}
 use Rattle.lagsystem.proofs.SettlingLemmas.{set_same}
@@ -491,7 +491,7 @@ Step-joins gives old (Configure n change) (reply.Configure (Ok true)) new r rest
 Step-joins gives old (Configure n change) (reply.Configure (Ok false)) new r rested h = nothing old (Configure n change) (reply.Configure (Ok false)) new Told.Configure refl refl h.1
 Step-joins gives old (Configure n change) (reply.Configure (Err fault)) new r rested h = nothing old (Configure n change) (reply.Configure (Err fault)) new Told.Configure refl refl h.same
 Step-joins gives old Restart reply.Restart new r rested h =
-    (Told.Restart, [], refl, refl, (Move.Restart ∷ [], (refl, tt), refl, first_shows new h.1 ∙ ap (λ (s : State). first_view (configured s)) h.0))
+    (Told.Restart, [], refl, refl, (Move.Restart ∷ [], (refl, tt), refl, restarted_shows old new h.0 h.1))
 Step-joins gives old (Transmit n) (reply.Transmit (Ok answer)) new r rested h = sends_place old n (place_of n old.slots) answer new r rested refl h
 Step-joins gives old (Transmit n) (reply.Transmit (Err fault)) new r rested h = nothing old (Transmit n) (reply.Transmit (Err fault)) new Told.Transmit refl refl h.same
 Step-joins gives old (Offer agg octets) (reply.Offer answer) new r rested h = offers gives agg octets old answer new r rested h

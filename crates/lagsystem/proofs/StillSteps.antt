@@ -1,8 +1,6 @@
 -- Every call leaves a system in which one more settling finds nothing to do.
-use Rattle.std.proofs.Common.{◌≡◌, ◌∙◌, ℕ, Bool, true, false, not, ◌&&◌, List, [], ◌∷◌, Option, Some, None, Result, Ok, Err, refl, sym, ap, subst, slice_get, slice_set}
-use Rattle.std.specs.List.{AllByRecursion, AllZip}
-use Rattle.portmachines.specs.Machines.{Machines}
-use Rattle.portmachines.specs.Periodic.{clear_ntt, is_periodic}
+use Rattle.std.proofs.Common.{◌≡◌, ℕ, Bool, true, false, not, ◌&&◌, List, Option, Some, None, Ok, Err, refl, sym, ap, subst, slice_get, slice_set}
+use Rattle.portmachines.specs.Periodic.{is_periodic}
 use Rattle.portmachines.specs.declared.periodic.PeriodicState.TheVariants.{NoPeriodic}
 use Rattle.portmachines.specs.Transmit.{is_due, sent}
 use Rattle.distributor.specs.Changes.{marker_due}
@@ -19,7 +17,6 @@ use Rattle.lagsystem.specs.Quiet.{ArePaced, AreStill, IsPaced, IsStill}
 use Rattle.lagsystem.specs.Sending.{SendsAt, SendsWhere}
 use Rattle.lagsystem.specs.Sound.{HasPorts}
 use Rattle.lagsystem.specs.State.{State, numbers, place_of, with_slots}
-use Rattle.lagsystem.specs.Views.{view_of}
 use Rattle.lagsystem.proofs.Keeps.{Keeps, Step-frame, Step-ports, keeps_link, keeps_place, keeps_tick, settling_keeps}
 use Rattle.lagsystem.proofs.Quieting.{settling_quiet}
 use Rattle.lagsystem.proofs.Rest.{becomes_slots, marker_slots, offers_slots, releases_slots, same_slots}

@@ -1,6 +1,6 @@
 -- When mux machines have moved with Ready as it was, no aggregator is Ready.
-use Rattle.std.proofs.Common.{◌≡◌, ◌∙◌, ℕ, zero, suc, ◌==◌, Bool, true, false, cond, not, ◌&&◌, ◌||◌, List, [], ◌∷◌, filter, refl, sym, ap, subst, inl, inr, if◌then◌else◌}
-use Rattle.std.specs.List.{AllZip, list_all, list_any}
+use Rattle.std.proofs.Common.{◌≡◌, ◌∙◌, ℕ, zero, suc, Bool, true, false, cond, not, ◌&&◌, ◌||◌, List, [], ◌∷◌, filter, refl, sym, ap, subst, inl, inr, if◌then◌else◌}
+use Rattle.std.specs.List.{list_all, list_any}
 use Rattle.std.proofs.lemmas.Bool.{eqb-true}
 use Rattle.lagtypes.specs.declared.identifiers.AggId.{AggId}
 use Rattle.lagtypes.specs.declared.identifiers.Key.{Key}
@@ -10,15 +10,15 @@ use Rattle.lagtypes.specs.Choices.{is_selected, is_unselected}
 use Rattle.portmachines.specs.declared.mux.MuxState.{MuxState}
 use Rattle.portmachines.specs.declared.mux.MuxState.TheVariants.{Detached, Waiting, Attached, CollectingDistributing}
 use Rattle.portmachines.specs.Machines.{Machines}
-use Rattle.portmachines.specs.Mux.{is_mux, is_synchronized, mux_rows, partner_synchronized}
-use Rattle.portmachines.specs.Rows.{AtRest, Fires, Reaches, Row, Settles}
+use Rattle.portmachines.specs.Mux.{is_mux, is_synchronized, mux_rows}
+use Rattle.portmachines.specs.Rows.{Fires, Reaches, Row, Settles}
 use Rattle.portmachines.proofs.Runs.{Reaches-keeps}
 use Rattle.selection.specs.declared.view.PortView.{PortView}
 use Rattle.selection.specs.Views.{has_expired, is_given, waits}
 use Rattle.selection.specs.Choice.{given_to, is_known}
 use Rattle.selection.specs.Ready.{is_ready}
 use Rattle.lagsystem.specs.declared.slots.Slot.{Slot}
-use Rattle.lagsystem.specs.Settling.{AllMove, Moves, ready_of}
+use Rattle.lagsystem.specs.Settling.{AllMove, ready_of}
 use Rattle.lagsystem.specs.Views.{stage_of, view_of, views}
 
 -- what rows keep where they are enabled

@@ -1,5 +1,5 @@
 use crate::tests::{Row, config, end, lacpdu, mac, modulo, plays, zero};
-use crate::{BadConfig, Choice, Key, PortChange, Received, State, System, SystemFault};
+use crate::{BadConfig, Choice, Key, PortChange, PortConfig, Received, State, System, SystemFault};
 use bitflags::Flags;
 use slowpdu::{Lacpdu, frame};
 use std::test::Fail;
@@ -122,10 +122,16 @@ fn refusals_have_numbers_and_texts(rt: HostRuntime) -> Result<(), Fail> {
 fn a_port_is_as_it_is_configured(rt: HostRuntime) -> Result<(), Fail> {
     let mut given = config(rt.alloc(), &[1], 1)?;
     given.max_delay = 7;
-    given.ports[0].priority = 9;
-    given.ports[0].aggregatable = false;
-    given.ports[0].active = false;
-    given.ports[0].short = false;
+    let port = PortConfig {
+        number: 1,
+        priority: 9,
+        mac: mac(1),
+        key: Key(1),
+        aggregatable: false,
+        active: false,
+        short: false,
+    };
+    given.ports = Vec::from_slice(rt.alloc(), &[port])?;
     let theirs = end(2, 1, 1, 0x07);
     let mut own = end(1, 1, 1, 0x00);
     own.port.priority = 9;

@@ -1,5 +1,5 @@
-use Rattle.std.proofs.Common.{◌≡◌, ◌∙◌, ℕ, Bool, true, false, List, Option, Some, None, ap, refl, subst, sym}
-use Rattle.std.specs.Prelude.{◌&&◌, ◌||◌, is_some, option_map, slice_get}
+use Rattle.std.proofs.Common.{◌≡◌, ◌∙◌, ℕ, Bool, true, false, List, Option, Some, None, ap, sym}
+use Rattle.std.specs.Prelude.{◌&&◌, ◌||◌, is_some, option_map}
 use Rattle.portmachines.specs.Transmit.{is_due}
 use Rattle.distributor.specs.Changes.{marker_due}
 use Rattle.lagsystem.specs.declared.slots.Slot.{Slot}

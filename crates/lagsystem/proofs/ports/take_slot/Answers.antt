@@ -1,4 +1,4 @@
-use Rattle.std.proofs.Common.{◌≡◌, ◌∙◌, Bool, true, ap, subst, sym}
+use Rattle.std.proofs.Common.{subst}
 use Rattle.std.specs.Bool.{OnTrue}
 use Rattle.slowpdu.specs.declared.pdu.Info.{Info}
 use Rattle.lagsystem.specs.Quiet.{IsSamePartner, Knows, LooksAlike}

@@ -1,4 +1,4 @@
-use Rattle.std.proofs.Common.{◌≡◌, ◌≤◌, take, length}
+use Rattle.std.proofs.Common.{◌≡◌, take}
 use Rattle.lagsystem.specs.State.{numbers}
 use Rattle.lagsystem.proofs.readers.numbers.Given as goal
 

@@ -1,12 +1,12 @@
-use Rattle.std.proofs.Common.{◌≡◌, ◌∙◌, ap, subst}
+use Rattle.std.proofs.Common.{◌≡◌, subst}
 use Rattle.lagmodel.specs.View.{first_view}
 use Rattle.lagsystem.specs.declared.drive.Reply.{Reply}
 use Rattle.lagsystem.specs.Calls.{Call}
 use Rattle.lagsystem.specs.Kept.{state_of}
 use Rattle.lagsystem.specs.Shown.{configured, view_of}
 use Rattle.lagsystem.specs.Sound.{Answers}
-use Rattle.lagsystem.specs.State.{State, Whole}
-use Rattle.lagsystem.proofs.FirstView.{first_shows}
+use Rattle.lagsystem.specs.State.{Whole}
+use Rattle.lagsystem.proofs.FirstView.{restarted_shows}
 use Rattle.lagsystem.proofs.Sound.{Step-sound, answers}
 use Rattle.lagsystem.proofs.calls.System.restart.Goals as goal
 
@@ -25,4 +25,4 @@ pub returns-clause-shows : goal.returns-clause-shows
 returns-clause-shows g c =
     let new = state_of c.restart.new.self in
     subst (λ (w : Whole g.row.F.Denot). view_of new ≡ first_view (configured w.state)) c.self.view_is
-    (first_shows new c.restart.ensures.step.1 ∙ ap (λ (s : State). first_view (configured s)) c.restart.ensures.step.0)
+    (restarted_shows (state_of c.self.inside.core) new c.restart.ensures.step.0 c.restart.ensures.step.1)

@@ -1,16 +1,10 @@
-use Rattle.std.proofs.Common.{◌≡◌, ◌∙◌, Some, arith, ap, refl, subst, sym, slice_get}
-use Rattle.std.specs.Vec.{with_items}
-use Rattle.std.proofs.lemmas.List.{with_items_is}
+use Rattle.std.proofs.Common.{◌≡◌, ◌∙◌, Some, ap, refl, subst, sym, slice_get}
 use Rattle.std.proofs.lemmas.Option.{same_Some, slice_get-get_or}
 use Rattle.lagsystem.specs.declared.answers.Heard.TheVariants.{Taken, Response, Answered}
 use Rattle.lagsystem.specs.declared.answers.Received.TheVariants.{Released}
 use Rattle.lagsystem.specs.declared.slots.Slot.{Slot}
-use Rattle.lagsystem.specs.Calls.{Hears, Releases, Takes, is_for}
+use Rattle.lagsystem.specs.Calls.{Hears, Releases, is_for}
 use Rattle.lagsystem.specs.Kept.{state_of}
-use Rattle.lagsystem.specs.Leaving.{carriers}
-use Rattle.lagsystem.specs.State.{with_slots}
-use Rattle.lagsystem.proofs.Settled.{place_carried}
-use Rattle.lagsystem.proofs.StateLemmas.{on_port_made}
 use Rattle.lagsystem.proofs.kept.Core.receive_at.Goals as goal
 
 pub returns-in-Taken-clause-received : goal.returns-in-Taken-clause-received

@@ -1,7 +1,6 @@
-use Rattle.std.proofs.Common.{◌≡◌, ◌∙◌, Some, true, arith, ap, refl, subst, sym, slice_get, slice_set, ℕ, Bool, List}
+use Rattle.std.proofs.Common.{◌∙◌, Some, true, arith, ap, subst, sym, List}
 use Rattle.std.specs.Vec.{with_items}
 use Rattle.std.proofs.lemmas.List.{with_items_is}
-use Rattle.slowpdu.specs.declared.pdu.Lacpdu.{Lacpdu}
 use Rattle.portmachines.specs.Periodic.{RunsPeriodic}
 use Rattle.lagsystem.specs.declared.slots.Slot.{Slot}
 use Rattle.lagsystem.specs.Calls.{OnPlace, OnPort, Settled, Takes}
