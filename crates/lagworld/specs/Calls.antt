@@ -42,11 +42,11 @@ party_or a None = a
 party_or a (Some b) = b
 
 -- what is kept of a port after an event: its party, and its change count, which is one more where the party differs
+abbrev pub log_told : Option Party → PortLog → PortLog
+log_told party log = record log { party = party_or log.party party; count = if is_party log.party party then log.count else log.count + 1 }
+
 abbrev pub log_counted : State → PortLog → PortLog
-log_counted s log = record log {
-  party = party_or log.party (party_of_port s log.number);
-  count = if is_party log.party (party_of_port s log.number) then log.count else log.count + 1;
-}
+log_counted s log = log_told (party_of_port s log.number) log
 
 abbrev pub counted : Half → Half
 counted h = record h { logs = map (log_counted h.state) h.logs }

@@ -1,13 +1,14 @@
 -- A world as contracts see it.
-use Rattle.std.specs.Prelude.{◌≡◌, ℕ, List, Option}
+use Rattle.std.specs.Prelude.{◌≡◌, ℕ, List, map, Option}
 use Rattle.cables.specs.declared.item.Item.{Item}
 use Rattle.lagtypes.specs.declared.identifiers.AggId.{AggId}
 use Rattle.lagmodel.specs.World.{Side}
+use Rattle.lagsystem.specs.declared.config.PortChange.{PortChange}
 use Rattle.lagworld.specs.declared.reply.Reply.{Reply}
 use Rattle.lagworld.specs.declared.reply.Reply.TheVariants as reply
 use Rattle.lagworld.specs.declared.kept.Core.{Core}
-use Rattle.lagworld.specs.State.{Joint, Whole, port_at}
-use Rattle.lagworld.specs.Calls.{Ticks, Moves, Senses}
+use Rattle.lagworld.specs.State.{Joint, Whole, emptied, port_at, with_lines}
+use Rattle.lagworld.specs.Calls.{Ticks, Moves, Senses, Configures, Restarts}
 use Rattle.lagworld.specs.Events.{Gives, InHalf, OnLine}
 use Rattle.lagworld.specs.Kept.{half_of, lines_of}
 
@@ -26,3 +27,9 @@ MovesAs gives s agg conv port old r new = InHalf s (λ h k. Moves (gives s) agg 
 
 abbrev pub SensesAs : Gives → Side → ℕ → Joint → Reply → Joint → Type 0
 SensesAs gives s c old r new = OnLine c (λ i l. InHalf s (λ h k. Senses (gives s) (port_at s l) l.whole h r k) old new) old.lines
+
+abbrev pub RestartsAs : Gives → Side → Joint → Reply → Joint → Type 0
+RestartsAs gives s old r new = (r ≡ reply.Restarted) × InHalf s (Restarts (gives s)) (with_lines old (map emptied old.lines)) new
+
+abbrev pub ConfiguresAs : Gives → Side → ℕ → PortChange → Joint → Reply → Joint → Type 0
+ConfiguresAs gives s p change old r new = InHalf s (λ h k. Configures (gives s) p change h r k) old new

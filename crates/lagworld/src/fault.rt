@@ -1,4 +1,5 @@
 ghost use Rattle.std.specs.Prelude.{◌≡◌};
+ghost use Rattle.lagworld.specs.Faults.{world_fault_number};
 ghost use Rattle.lagworld.specs.declared.fault.WorldFault.TheVariants.{NoMemory as OutOfMemory};
 
 use lagscript::BadWorld;
@@ -16,6 +17,21 @@ pub enum WorldFault {
     NoMemory,
     /// 6: the configuration is refused. Only `World::new` answers it.
     BadConfig(BadWorld),
+}
+
+impl WorldFault {
+    /// Its number: 1, 2, 4, 5 or 6. A refusal of a system, which is a reply, would be 3 (profile).
+    pub fn number(&self) -> u8
+        ensures { result ≡ world_fault_number self.now }
+    {
+        match self {
+            WorldFault::NoCable => 1,
+            WorldFault::NoSystem => 2,
+            WorldFault::Spent => 4,
+            WorldFault::NoMemory => 5,
+            WorldFault::BadConfig(_) => 6,
+        }
+    }
 }
 
 /// Where a run stopped (profile).

@@ -35,7 +35,7 @@ const MOST_EVENTS: u64 = 9_223_372_036_854_775_808;
 
 impl<C: Cable, F: Fn(u16, usize) -> usize + Drop> Core<C, F> {
     /// Whether there is the cable that an event names, if it names one.
-    fn has_cable(&self, number: Option<u16>) -> bool
+    pub(crate) fn has_cable(&self, number: Option<u16>) -> bool
         ensures { result ≡ has_cable (joint_of C.items C.limit self.now) number }
     {
         match number {
@@ -95,6 +95,10 @@ impl<C: Cable, F: Fn(u16, usize) -> usize + Drop> Core<C, F> {
             Event::Cut(cable) => Ok(self.cut(*cable)),
             Event::Join(cable) => Ok(self.join(*cable)),
             Event::Sense(cable, system) => Ok(self.sense(*cable, *system)),
+            Event::Restart(system) => Ok(self.restart(*system)),
+            Event::Configure(system, port, change) => {
+                Ok(self.configure(*system, *port, *change))
+            }
             // Not built yet: the contract cannot tell this from a refusal of memory.
             _ => Err(WorldFault::NoMemory),
         }
@@ -128,7 +132,7 @@ impl<C: Cable, F: Fn(u16, usize) -> usize + Drop> Core<C, F> {
     }
 
     /// The place of a cable that there is.
-    fn place_of(&self, cable: u16) -> usize
+    pub(crate) fn place_of(&self, cable: u16) -> usize
         requires { has_cable (joint_of C.items C.limit self.now) (Some cable) ≡ true }
         ensures at { cable ≡ result + 1 }
         ensures within { result < length self.now.lines.items }

@@ -1,16 +1,20 @@
 //! Two systems that are joined by cables, and what can happen to them.
 #![tactic(auto)]
 
+mod agreement;
 mod causes;
+mod counting;
 mod fault;
 mod half;
 mod kept;
 mod laws;
 mod line;
 mod logs;
+mod readers;
 mod reply;
 mod world;
 
+pub use agreement::Agreement;
 pub use fault::{RunFault, WorldFault};
 pub use lagscript::{BadWorld, Event, WorldConfig};
 pub use laws::{a_start_is_sound, each_event_happens, each_event_keeps};

@@ -17,7 +17,7 @@ use std::marker::Model;
 /// Two systems that are joined by cables of one kind, and what happened to them.
 #[derive(Drop)]
 pub struct World<C: Cable, F> {
-    core: Core<C, F>,
+    pub(crate) core: Core<C, F>,
 }
 
 impl<C: Cable, F> Model for World<C, F> {
