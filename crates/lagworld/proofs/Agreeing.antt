@@ -21,6 +21,7 @@ use Rattle.lagsystem.specs.Shown.{number, shown, view_of}
 use Rattle.lagsystem.specs.Sound.{Agrees}
 use Rattle.lagsystem.specs.State.{State, port_of, place_of, slot_at}
 use Rattle.lagsystem.proofs.Rising.{all-get}
+use Rattle.lagsystem.proofs.Seen.{port_seen}
 use Rattle.lagworld.specs.declared.agreement.Agreement.{Agreement}
 use Rattle.lagworld.specs.declared.agreement.Agreement.TheVariants.{NotBoth, Defaults, Changed, Same, Differ}
 use Rattle.lagworld.specs.declared.logs.Heard.{Heard}
@@ -29,7 +30,6 @@ use Rattle.lagworld.specs.Agreement.{agreement_at, agreement_of, end_view, first
 use Rattle.lagworld.specs.Sound.{IsSound}
 use Rattle.lagworld.specs.Worlds.{ends_of, fixed_of, world_of, taken_as}
 use Rattle.lagworld.proofs.Running.{agree_of}
-use Rattle.lagworld.proofs.Sides.{port_seen}
 
 -- the answer is the last one only where none of the others holds
 last_of_five : (a b c d : Bool) → first_of_five a b c d ≡ Differ → (a ≡ false) × (b ≡ false) × (c ≡ false) × (d ≡ false)

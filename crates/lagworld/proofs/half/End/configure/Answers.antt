@@ -8,10 +8,10 @@ pub returns-in-Ok-clause-configures : goal.returns-in-Ok-clause-configures
 returns-in-Ok-clause-configures g c =
     let e = c.in-Ok.ensures in
     let mid : Half = with_state c.configure-answer.new.self.state (half_of c.args.self.now) in
-    (Ok c.in-Ok.changed, mid, record { step = e.step; joins = e.moves; agrees = e.agrees; same = refl }, refl, ap (λ l. record mid { logs = l }) c.count_changes.ensures)
+    (Ok c.in-Ok.changed, mid, record { answers = e.answers; same = refl }, refl, ap (λ l. record mid { logs = l }) c.count_changes.ensures)
 
 pub returns-in-Err-clause-configures : goal.returns-in-Err-clause-configures
 returns-in-Err-clause-configures g c =
     let e = c.in-Err.ensures in
     let mid : Half = with_state c.configure-answer.new.self.state (half_of c.args.self.now) in
-    (Err c.in-Err.fault, mid, record { step = e.step; joins = e.moves; agrees = e.agrees; same = refl }, refl, ap (λ l. record mid { logs = l }) c.count_changes.ensures)
+    (Err c.in-Err.fault, mid, record { answers = e.answers; same = refl }, refl, ap (λ l. record mid { logs = l }) c.count_changes.ensures)

@@ -8,4 +8,4 @@ pub returns-clause-restarts : goal.returns-clause-restarts
 returns-clause-restarts g c =
     let e = c.restart.ensures in
     let mid : Half = with_state c.restart.new.self.state (half_of c.args.self.now) in
-    (mid, record { step = e.step; joins = e.moves; agrees = e.agrees; same = refl }, ap (λ l. record mid { logs = l }) c.count_changes.ensures)
+    (mid, record { answers = e.answers; same = refl }, ap (λ l. record mid { logs = l }) c.count_changes.ensures)
