@@ -92,6 +92,9 @@ impl<C: Cable, F: Fn(u16, usize) -> usize + Drop> Core<C, F> {
             Event::Move(system, agg, conv, port) => {
                 Ok(self.move_to(*system, *agg, *conv, *port))
             }
+            Event::Emit(system, port) => self.emit(*system, *port),
+            Event::Offer(system, agg, frame) => self.offer(*system, *agg, frame),
+            Event::Force(system, agg, conv) => Ok(self.force(*system, *agg, *conv)),
             Event::Cut(cable) => Ok(self.cut(*cable)),
             Event::Join(cable) => Ok(self.join(*cable)),
             Event::Sense(cable, system) => Ok(self.sense(*cable, *system)),

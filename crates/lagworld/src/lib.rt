@@ -4,14 +4,18 @@
 mod agreement;
 mod causes;
 mod counting;
+mod emitting;
 mod fault;
 mod half;
 mod kept;
 mod laws;
 mod line;
 mod logs;
+mod offering;
 mod readers;
 mod reply;
+mod sending;
+mod sent;
 mod world;
 
 pub use agreement::Agreement;
