@@ -1,19 +1,18 @@
 -- What becomes of a frame that a system sends.
-use Rattle.std.proofs.Common.{◌≡◌, ℕ, ◌++◌, Bool, Option, Some, None, List, length, sym, refl, ap, ◌∙◌, subst, Ok, Err, Result, IfErr, arith, length-append}
+use Rattle.std.proofs.Common.{◌≡◌, ℕ, Bool, Option, Some, None, List, sym, refl, ap, ◌∙◌, subst, Ok, Err, Result, IfErr}
 use Rattle.slowpdu.specs.declared.pdu.Pdu.{Pdu}
-use Rattle.slowpdu.specs.declared.pdu.Pdu.TheVariants as pdu
-use Rattle.slowpdu.specs.Frames.{frame_octets, slow_type}
-use Rattle.slowpdu.specs.Pdus.{ReadsPdu, WritesPdu}
+use Rattle.slowpdu.specs.Pdus.{ReadsPdu}
+use Rattle.slowpdu.specs.Readings.{pdu_in}
 use Rattle.slowpdu.proofs.PduLemmas.{written_pdu}
-use Rattle.slowpdu.proofs.WritingLemmas.{framed_payload}
 use Rattle.cables.specs.declared.item.Stamp.{Stamp}
 use Rattle.lagmodel.specs.World.{Side}
 use Rattle.lagsystem.specs.declared.fault.SystemFault.{SystemFault}
 use Rattle.lagsystem.specs.Shown.{IsSent}
+use Rattle.lagsystem.proofs.Sent.{sent_payload}
 use Rattle.lagworld.specs.declared.reply.Reply.{Reply}
 use Rattle.lagworld.specs.Asking.{TransmitsAs}
 use Rattle.lagworld.specs.Events.{Gives, Emits, Emitted, sent_reply, stamp_for, transmitted, puts}
-use Rattle.lagworld.specs.Messages.{payload_in, pdu_in}
+use Rattle.lagworld.specs.Messages.{payload_in}
 use Rattle.lagworld.specs.State.{Carried, Half, Line, Joint, half, with_half, with_lines, put, is_kept, count_in, log_at}
 
 abbrev made : List ℕ → Stamp → Carried
@@ -25,11 +24,10 @@ sent_item : (s : Side) (p : ℕ) (frame octets : List ℕ) (v : Pdu) (count : �
 sent_item s p frame octets v count stamp h a b c d =
     ap (λ o. made o stamp) a ∙ ap (made frame) (d ∙ ap (λ v. stamp_for v count) b ∙ ap (stamp_for (pdu_in (payload_in frame))) c)
 
-pub frame_sent : (s : Side) (p : ℕ) (frame octets : List ℕ) (v : Pdu) (count : ℕ) (stamp : Stamp) (kept : Bool) (lines : List Line) (j : Joint) (r : Reply) → length frame ≡ 124 → octets ≡ frame
+pub frame_sent : (s : Side) (p : ℕ) (frame octets : List ℕ) (v : Pdu) (count : ℕ) (stamp : Stamp) (kept : Bool) (lines : List Line) (j : Joint) (r : Reply) → octets ≡ frame
     → v ≡ pdu_in (payload_in frame) → count ≡ count_in (log_at (half s j).logs p) → stamp ≡ stamp_for v count → lines ≡ put s p (made octets stamp) j.lines → kept ≡ is_kept s p j.lines
     → r ≡ sent_reply v kept → Emitted s p (Ok (Some frame)) j r (with_lines j lines)
-frame_sent s p frame octets v count stamp kept lines j r long a b c d e f g = (
-  long,
+frame_sent s p frame octets v count stamp kept lines j r a b c d e f g = (
   g ∙ ap (λ v. sent_reply v kept) b ∙ ap (sent_reply (pdu_in (payload_in frame))) f,
   ap (with_lines j) (e ∙ ap (λ i. put s p i j.lines) (sent_item s p frame octets v count stamp (half s j) a b c d)),
 )
@@ -38,22 +36,13 @@ frame_sent s p frame octets v count stamp kept lines j r long a b c d e f g = (
 pub emits_of : (gives : Gives) (s : Side) (p : ℕ) (a : Result (Option (List ℕ)) SystemFault) (old mid new : Joint) (r : Reply) → TransmitsAs gives s p a old mid → Emitted s p a mid r new → Emits gives s p old r new
 emits_of gives s p a old mid new r x y = (a, half s mid, x.0, subst (λ j. Emitted s p a j r new) x.1 y)
 
-whole_payload : (b : List ℕ) (v : Pdu) → WritesPdu b v → length b ≡ 110
-whole_payload b (pdu.Lacpdu v) h = h.table.whole
-whole_payload b (pdu.Marker m) h = h.table.whole
-
-six_octets : (mac written : List ℕ) → length written ≡ 110 → length (frame_octets mac written) ≡ 124 → length mac ≡ 6
-six_octets mac written w e = let a = length-append mac (slow_type ++ written) in omega (arith, a, w, e)
-
--- a frame of 124 octets that is sent has the PDU that was sent
-pub sent_reads : (frame : List ℕ) (v : Pdu) → IsSent frame v → length frame ≡ 124 → ReadsPdu (payload_in frame) v
-sent_reads frame v h long =
-    let six = six_octets h.0 h.1 (whole_payload h.1 v h.2) (ap length (sym h.3) ∙ long) in
-    subst (λ b. ReadsPdu b v) (sym (ap payload_in h.3 ∙ framed_payload h.0 h.1 six)) (written_pdu h.1 v h.2)
+-- what is sent has the PDU that was sent
+pub sent_reads : (frame : List ℕ) (v : Pdu) → IsSent frame v → ReadsPdu (payload_in frame) v
+sent_reads frame v h = written_pdu (payload_in frame) v (sent_payload frame v h)
 
 -- what a system sends
 pub frame_of : (gives : Gives) (s : Side) (p : ℕ) (frame : List ℕ) (old mid : Joint) → TransmitsAs gives s p (Ok (Some frame)) old mid → (v : Pdu) × IsSent frame v
-frame_of gives s p frame old mid x = let sees = x.0.joins.3 in (sees.0, sees.1)
+frame_of gives s p frame old mid x = let sees = x.0.answers.moves.3 in (sees.0, sees.1)
 
 always : {T E A : Type 0} (r : Result T E) → A → IfErr r (λ e. A)
 always (Ok x) h = tt

@@ -1,8 +1,6 @@
 -- What becomes of a frame that is offered, and of a conversation that is forced.
-use Rattle.std.proofs.Common.{◌≡◌, ◌<◌, ◌≤◌, ℕ, ◌&&◌, Bool, true, false, Option, Some, None, IsSome, List, length, get_or, cond, sym, refl, ap, ◌∙◌, subst, Ok, Err, Result, IsTrue, nat_lt, nat_le, arith}
+use Rattle.std.proofs.Common.{◌≡◌, ◌<◌, ◌≤◌, ℕ, ◌&&◌, Bool, true, false, Option, Some, None, IsSome, List, length, sym, refl, ap, ◌∙◌, subst, Ok, Err, Result, IsTrue, nat_lt, nat_le, arith}
 use Rattle.std.proofs.lemmas.Bool.{true≢false}
-use Rattle.std.proofs.lemmas.Nat.{xor_of_8}
-use Rattle.std.proofs.lemmas.Option.{none-some, same_Some}
 use Rattle.std.proofs.lemmas.Bool.Decides.{nat_tests}
 use Rattle.lagtypes.specs.declared.identifiers.AggId.{AggId}
 use Rattle.cables.specs.declared.item.Item.{Item}
@@ -10,7 +8,7 @@ use Rattle.cables.specs.declared.item.Stamp.{Stamp}
 use Rattle.cables.specs.declared.item.Stamp.TheVariants as stamp
 use Rattle.lagmodel.specs.World.{Side, One, Two}
 use Rattle.lagsystem.specs.declared.fault.SystemFault.{SystemFault}
-use Rattle.lagsystem.specs.Readers.{conversation_of, conversation_in}
+use Rattle.lagsystem.specs.Readers.{conversation_of, conversations}
 use Rattle.lagworld.specs.declared.line.Line.{Line as Cabled}
 use Rattle.lagworld.specs.declared.reply.Reply.{Reply}
 use Rattle.lagworld.specs.declared.reply.Reply.TheVariants as reply
@@ -40,16 +38,16 @@ both false b h = absurd (true≢false (sym h))
 -- a frame that a system takes is long enough for a conversation
 pub long_enough : (gives : Gives) (s : Side) (agg : AggId) (octets : List ℕ) (a : Result ℕ SystemFault) (port : ℕ) (old mid : Joint) → a ≡ Ok port → AssignsAs gives s agg octets a old mid → 14 ≤ length octets
 long_enough gives s agg octets a port old mid e x =
-    let frame = both (nat_le 14 (length octets)) _ (subst (λ a. AssignsAs gives s agg octets a old mid) e x).0.step.0.1.0 in
+    let frame = both (nat_le 14 (length octets)) _ (subst (λ a. AssignsAs gives s agg octets a old mid) e x).0.answers.step.0.1.0 in
     let test = frame.0 in
     grind (arith, nat_tests)
 
 -- and its conversation has its lists
-pub taken_there : (gives : Gives) (s : Side) (agg : AggId) (octets : List ℕ) (a : Result ℕ SystemFault) (port conv : ℕ) (old mid : Joint) → a ≡ Ok port → AssignsAs gives s agg octets a old mid → IsKept (half s old) → conv < 256
+pub taken_there : (gives : Gives) (s : Side) (agg : AggId) (octets : List ℕ) (a : Result ℕ SystemFault) (port conv : ℕ) (old mid : Joint) → a ≡ Ok port → AssignsAs gives s agg octets a old mid → IsKept (half s old) → conv < conversations (half s old).state
     → IsSome (serials_at (half s mid).flows agg.0 conv)
 taken_there gives s agg octets a port conv old mid e x kept below =
     let own = (subst (λ a. AssignsAs gives s agg octets a old mid) e x).0 in
-    let agg_there = both (nat_lt 0 agg.0) (nat_le agg.0 (length (half s old).state.keys)) own.step.0.0 in
+    let agg_there = both (nat_lt 0 agg.0) (nat_le agg.0 (length (half s old).state.keys)) own.answers.step.0.0 in
     let low_test = agg_there.0 in
     let high_test = agg_there.1 in
     let low : 0 < agg.0 = grind (arith, nat_tests) in
@@ -63,27 +61,19 @@ counted_lines : (s : Side) (h : Half) (j : Joint) (lines : List Line) → with_l
 counted_lines s h j lines = refl
 
 -- the frame goes out as the next of its conversation
-pub frame_offered : (s : Side) (agg : AggId) (octets : List ℕ) (port conv serial number : ℕ) (kept : Bool) (lines : List Line) (j new : Joint) → conv ≡ conversation_of octets → IsSome (serials_at (half s j).flows agg.0 conv)
+pub frame_offered : (s : Side) (agg : AggId) (octets : List ℕ) (port conv serial number : ℕ) (kept : Bool) (lines : List Line) (j new : Joint) → conv ≡ conversation_of (half s j).state octets → IsSome (serials_at (half s j).flows agg.0 conv)
     → serial ≡ length (sent_in (serials_at (half s j).flows agg.0 conv)) → number ≡ side_number s → lines ≡ put s port (made octets (stamp.Data number agg.0 conv serial)) j.lines → kept ≡ is_kept s port j.lines
     → new ≡ with_lines (with_half s (count_sent_in agg.0 conv (half s j)) j) lines → Offered s agg octets (Ok port) j (reply.Port port serial kept) new
 frame_offered s agg octets port conv serial number kept lines j new a b c d e f h = (
   subst (λ k. IsSome (serials_at (half s j).flows agg.0 k)) a b,
-  ap (λ n. reply.Port port n kept) (c ∙ ap (λ k. length (sent_in (serials_at (half s j).flows agg.0 k))) a) ∙ ap (reply.Port port (length (sent_in (serials_at (half s j).flows agg.0 (conversation_of octets))))) f,
+  ap (λ n. reply.Port port n kept) (c ∙ ap (λ k. length (sent_in (serials_at (half s j).flows agg.0 k))) a) ∙ ap (reply.Port port (length (sent_in (serials_at (half s j).flows agg.0 (conversation_of (half s j).state octets))))) f,
   h ∙ ap (with_lines (with_half s (count_sent_in agg.0 conv (half s j)) j)) (e ∙ ap (λ t. put s port (made octets t) j.lines) same)
       ∙ ap (λ k. with_lines (with_half s (count_sent_in agg.0 k (half s j)) j) (put s port (offered s port agg octets (half s j)) j.lines)) a,
 )
   where
-    same : stamp.Data number agg.0 conv serial ≡ stamp.Data (side_number s) agg.0 (conversation_of octets) (length (sent_in (serials_at (half s j).flows agg.0 (conversation_of octets))))
+    same : stamp.Data number agg.0 conv serial ≡ stamp.Data (side_number s) agg.0 (conversation_of (half s j).state octets) (length (sent_in (serials_at (half s j).flows agg.0 (conversation_of (half s j).state octets))))
     same = ap (λ n. stamp.Data n agg.0 conv serial) d ∙ ap (λ n. stamp.Data (side_number s) agg.0 conv n) c
         ∙ ap (λ k. stamp.Data (side_number s) agg.0 k (length (sent_in (serials_at (half s j).flows agg.0 k)))) a
-
--- a frame of octets has a conversation below 256
-pub conversation_below : (b : List ℕ) (k : ℕ) → get_or b 5 0 < 256 → get_or b 11 0 < 256 → Some k ≡ conversation_in b → k < 256
-conversation_below b k low high e = by_length (nat_lt (length b) 14) e
-  where
-    by_length : (short : Bool) → Some k ≡ cond short None (Some (conversation_of b)) → k < 256
-    by_length true e = absurd (none-some k (sym e))
-    by_length false e = subst (λ n. n < 256) (sym (same_Some k (conversation_of b) e)) (xor_of_8 (get_or b 5 0) (get_or b 11 0) low high)
 
 -- what is done with an answer to force
 pub freed : (gives : ℕ → ℕ → ℕ → Type 0) (agg : AggId) (conv : ℕ) (a : Result Unit SystemFault) (done : Unit) (old mid new : Half) → a ≡ Ok done → Frees gives agg conv a old mid

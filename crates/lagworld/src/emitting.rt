@@ -1,13 +1,14 @@
 ghost use Rattle.std.specs.Prelude.{◌≡◌, ◌≤◌, ◌+◌, [], length, IfErr, IfOk, Ok, Some, vec_capacity, vec_len};
 ghost use Rattle.slowpdu.specs.declared.pdu.Pdu.{Pdu};
 ghost use Rattle.slowpdu.specs.Pdus.{ReadsPdu};
+ghost use Rattle.slowpdu.specs.Readings.{pdu_in};
 ghost use Rattle.lagsystem.specs.Shown.{IsSent};
 ghost use Rattle.lagworld.specs.declared.fault.WorldFault.TheVariants.{NoMemory as OutOfMemory};
 ghost use Rattle.lagworld.specs.Asking.{Transmits, TransmitsAs};
 ghost use Rattle.lagworld.specs.Events.{Emits, Emitted, sent_reply, stamp_for};
 ghost use Rattle.lagworld.specs.Joints.{joint_of};
 ghost use Rattle.lagworld.specs.Kept.{half_of};
-ghost use Rattle.lagworld.specs.Messages.{payload_in, pdu_in, side_named};
+ghost use Rattle.lagworld.specs.Messages.{payload_in, side_named};
 ghost use Rattle.lagworld.specs.Places.{IsReserved};
 ghost use Rattle.lagworld.specs.Sides.{told_side};
 ghost use Rattle.lagworld.specs.Sound.{gives_by};

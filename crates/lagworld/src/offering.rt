@@ -1,6 +1,6 @@
 ghost use Rattle.std.specs.Prelude.{◌≡◌, ◌<◌, ◌≤◌, IfErr, IfOk, IsSome, Ok, OnOk, length};
 ghost use Rattle.distributor.specs.Calls.{PicksPlaces};
-ghost use Rattle.lagsystem.specs.Readers.{conversation_of};
+ghost use Rattle.lagsystem.specs.Readers.{conversation_of, conversations};
 ghost use Rattle.lagworld.specs.declared.fault.WorldFault.TheVariants.{NoMemory as OutOfMemory};
 ghost use Rattle.lagworld.specs.Asking.{Assigns, AssignsAs, ForcesAs, Frees, count_sent_in};
 ghost use Rattle.lagworld.specs.Calls.{Forces};
@@ -38,8 +38,8 @@ fn side_number(side: Side) -> u8
 impl<F: Fn(u16, usize) -> usize + Drop> End<F> {
     /// The conversation of a frame, 0 to 255, and 0 of octets that are too few for one.
     fn conversation(&self, frame: &[u8]) -> u16
-        ensures is { 14 ≤ length frame.now → result ≡ conversation_of frame.now }
-        ensures within { result < 256 }
+        ensures is { 14 ≤ length frame.now → result ≡ conversation_of self.now.system.state frame.now }
+        ensures within { result < conversations self.now.system.state }
     {
         match self.system.conversation(frame) {
             Some(conv) => conv,
@@ -96,8 +96,8 @@ impl<C: Cable, F: Fn(u16, usize) -> usize + Drop> Core<C, F> {
 
     /// The conversation of a frame at a system.
     fn conversation(&self, side: Side, frame: &[u8]) -> u16
-        ensures is { 14 ≤ length frame.now → result ≡ conversation_of frame.now }
-        ensures within { result < 256 }
+        ensures is { 14 ≤ length frame.now → result ≡ conversation_of (half (told_side side) (joint_of C.items C.limit self.now)).state frame.now }
+        ensures within { result < conversations (half (told_side side) (joint_of C.items C.limit self.now)).state }
     {
         match side {
             Side::One => self.one.conversation(frame),
@@ -163,7 +163,7 @@ impl<C: Cable, F: Fn(u16, usize) -> usize + Drop> Core<C, F> {
         conv: u16,
         octets: Vec<u8>,
     ) -> Reply
-        requires conversation { conv ≡ conversation_of octets.items }
+        requires conversation { conv ≡ conversation_of (half (told_side side) (joint_of C.items C.limit self.old)).state octets.items }
         requires there { IsSome (serials_at (half (told_side side) (joint_of C.items C.limit self.old)).flows agg.0 conv) }
         requires place { AreReserved C.reserved (told_side side) self.old.lines.items }
         requires room { HasRoom agg.0 conv (pick (told_side side) self.old.one.flows.items self.old.two.flows.items) }
@@ -192,8 +192,8 @@ impl<C: Cable, F: Fn(u16, usize) -> usize + Drop> Core<C, F> {
         requires one { PicksPlaces (F.pre self.old.one.system.algorithm) (F.post self.old.one.system.algorithm) }
         requires two { PicksPlaces (F.pre self.old.two.system.algorithm) (F.post self.old.two.system.algorithm) }
         requires sound { IsSound (joint_of C.items C.limit self.old) }
-        requires conversation { 14 ≤ length octets.items → conv ≡ conversation_of octets.items }
-        requires below { conv < 256 }
+        requires conversation { 14 ≤ length octets.items → conv ≡ conversation_of (half (told_side side) (joint_of C.items C.limit self.old)).state octets.items }
+        requires below { conv < conversations (half (told_side side) (joint_of C.items C.limit self.old)).state }
         requires place { AreReserved C.reserved (told_side side) self.old.lines.items }
         requires room { HasRoom agg.0 conv (pick (told_side side) self.old.one.flows.items self.old.two.flows.items) }
         ensures offers { Offers (gives_by (F.post self.old.one.system.algorithm) (F.post self.old.two.system.algorithm)) (told_side side) agg octets.items (joint_of C.items C.limit self.old) result (joint_of C.items C.limit self.new) }
