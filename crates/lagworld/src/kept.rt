@@ -93,6 +93,8 @@ impl<C: Cable, F: Fn(u16, usize) -> usize + Drop> Core<C, F> {
                 Ok(self.move_to(*system, *agg, *conv, *port))
             }
             Event::Emit(system, port) => self.emit(*system, *port),
+            Event::Deliver(cable, system) => self.deliver(*cable, *system),
+            Event::Repeat(cable, system) => self.repeat(*cable, *system),
             Event::Offer(system, agg, frame) => self.offer(*system, *agg, frame),
             Event::Force(system, agg, conv) => Ok(self.force(*system, *agg, *conv)),
             Event::Cut(cable) => Ok(self.cut(*cable)),

@@ -2,7 +2,9 @@
 #![tactic(auto)]
 
 mod agreement;
+mod arriving;
 mod causes;
+mod collecting;
 mod counting;
 mod emitting;
 mod fault;
