@@ -10,14 +10,15 @@ use Rattle.cables.specs.declared.item.Item.{Item}
 use Rattle.cables.specs.declared.item.Stamp.{Stamp}
 use Rattle.cables.specs.declared.item.Stamp.TheVariants as stamp
 use Rattle.slowpdu.specs.declared.pdu.Lacpdu.{Lacpdu}
+use Rattle.slowpdu.specs.Readings.{lacpdu_in}
 use Rattle.lagmodel.specs.World.{Side, One, Two}
 use Rattle.lagsystem.specs.declared.answers.Received.{Received}
 use Rattle.lagsystem.specs.declared.answers.Received.TheVariants as received
 use Rattle.lagsystem.specs.declared.drive.Reply.TheVariants as answer
 use Rattle.lagsystem.specs.declared.fault.SystemFault.{SystemFault}
-use Rattle.lagsystem.specs.Calls.{Receive, Step}
+use Rattle.lagsystem.specs.Calls.{Receive}
 use Rattle.lagsystem.specs.Shown.{JoinsViews}
-use Rattle.lagsystem.specs.Sound.{Agrees}
+use Rattle.lagsystem.specs.Sound.{Answers}
 use Rattle.lagsystem.specs.State.{State}
 use Rattle.lagworld.specs.declared.arriving.Head.{Head}
 use Rattle.lagworld.specs.declared.line.Line.{Line as Cabled}
@@ -27,12 +28,12 @@ use Rattle.lagworld.specs.declared.reply.Reply.{Reply}
 use Rattle.lagworld.specs.State.{Carried, Half, Line, Joint, Serials, half, with_half, with_lines, port_at, towards, with_towards, line_of_port}
 use Rattle.lagworld.specs.Calls.{set_taken, with_state}
 use Rattle.lagworld.specs.Events.{Gives, InHalf, Arrives, Arrived, DeliversFrom, RepeatsFrom, RepeatsItem, heard_in, set_heard}
-use Rattle.lagworld.specs.Messages.{carried, count_of, lacpdu_in, payload_in}
+use Rattle.lagworld.specs.Messages.{carried, count_of, payload_in}
 use Rattle.lagworld.specs.Kept.{line_of, lines_of}
 use Rattle.lagworld.specs.Places.{IsReserved, IsReservedAt, is_reserved}
 use Rattle.lagworld.specs.Arriving.{CarriesLacpdu, Comes, Concludes, DeliversAs, FirstComes, FirstComesIn, IsHeard, RepeatsAs, first_told, head_in, is_data, kept_heard, log_place, logged, without_first}
 use Rattle.lagworld.proofs.LineLemmas.{on_place}
-use Rattle.lagworld.proofs.Reading.{lacpdu_is_read}
+use Rattle.lagworld.proofs.Arrives.{lacpdu_read}
 
 abbrev make_heard : Lacpdu → ℕ → Heard
 make_heard v n = record { pdu = v; stamp = n }
@@ -49,7 +50,7 @@ pub heard_is : (octets b : List ℕ) (st : Stamp) (found v : Lacpdu) (n : ℕ) �
     → Some (make_heard found n) ≡ Some (heard_in (record { octets = octets; stamp = st }))
 heard_is octets b st found v n h same only e =
     let is : found ≡ v = same_Some found v (only v (subst (λ b. CarriesLacpdu b v) (sym same) h)) in
-    ap (λ (x : Heard). Some x) (ap (λ (x : Lacpdu). make_heard x n) (is ∙ sym (lacpdu_is_read (payload_in octets) v h.1)) ∙ ap (make_heard (lacpdu_in (payload_in octets))) e)
+    ap (λ (x : Heard). Some x) (ap (λ (x : Lacpdu). make_heard x n) (is ∙ sym (lacpdu_read (payload_in octets) v h.1)) ∙ ap (make_heard (lacpdu_in (payload_in octets))) e)
 
 pub none_heard : (octets b : List ℕ) (v : Lacpdu) → CarriesLacpdu octets v → b ≡ octets → ((v : Lacpdu) → CarriesLacpdu b v → None ≡ Some v) → ⊥
 none_heard octets b v h same only = none-some v (only v (subst (λ b. CarriesLacpdu b v) (sym same) h))
@@ -103,12 +104,12 @@ logged_is p item (Ok (received.Released n)) heard old state logs j h e = ap (λ 
 logged_is p item (Ok (received.Up agg)) heard old state logs j h e = ap (λ l. make_half state l old.flows) (e ∙ ap (λ o. kept_heard p o old.logs) h)
 
 pub comes_from : (gives : ℕ → ℕ → ℕ → Type 0) (p : ℕ) (item : Carried) (a : Result Received SystemFault) (b : List ℕ) (heard : Option Heard) (old : Half) (state : State) (logs : List PortLog)
-    → b ≡ item.octets → Step gives old.state (Receive p b) (answer.Receive a) state → JoinsViews old.state (Receive p b) (answer.Receive a) state → Agrees state
+    → b ≡ item.octets → Answers gives old.state (Receive p b) (answer.Receive a) state
     → IsHeard a item heard → logs ≡ kept_heard p heard old.logs → Comes gives p item a old (make_half state logs old.flows)
-comes_from gives p item a b heard old state logs same step joins agrees h e =
-    let joined = subst (λ b. JoinsViews old.state (Receive p b) (answer.Receive a) state) same joins in (
-      record { step = subst (λ b. Step gives old.state (Receive p b) (answer.Receive a) state) same step; joins = joined; agrees = agrees; same = refl },
-      logged_is p item a heard old state logs joined h e,
+comes_from gives p item a b heard old state logs same answers h e =
+    let answered = subst (λ b. Answers gives old.state (Receive p b) (answer.Receive a) state) same answers in (
+      record { answers = answered; same = refl },
+      logged_is p item a heard old state logs answered.moves h e,
     )
 
 -- the first item on a cable

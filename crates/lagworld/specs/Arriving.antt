@@ -72,8 +72,7 @@ Concludes s p st (Ok received.Dropped) old r new = (r ≡ reply.Dropped) × (new
 Concludes s p st (Ok (received.Ignored fault)) old r new = (r ≡ reply.Ignored) × (new ≡ old)
 Concludes s p st (Ok received.TookLacpdu) old r new = (r ≡ reply.Took) × (new ≡ old)
 Concludes s p st (Ok (received.Respond frame)) old r new =
-    (length frame ≡ 124)
-    × (r ≡ reply.Responded (is_kept s p old.lines)) × (new ≡ puts s p (record { octets = frame; stamp = stamp.Control 0 }) old)
+    (r ≡ reply.Responded (is_kept s p old.lines)) × (new ≡ puts s p (record { octets = frame; stamp = stamp.Control 0 }) old)
 Concludes s p st (Ok (received.Released n)) old r new = (r ≡ reply.Released n) × (new ≡ old)
 Concludes s p st (Ok (received.Up agg)) old r new = (r ≡ reply.Up agg) × (new ≡ collected st old)
 
