@@ -1,4 +1,7 @@
-use lagsystem::{BadConfig, Config};
+ghost use Rattle.std.specs.Prelude.{◌≡◌, ◌<◌, length};
+ghost use Rattle.lagscript.specs.Configs.{bad_end, has_bad_end, has_port, refusal_of, shares_end};
+
+use lagsystem::{BadConfig, Config, PortConfig};
 
 /// What two systems and their cables are made from (profile).
 #[derive(Debug, Drop)]
@@ -25,4 +28,65 @@ pub enum BadWorld {
     CableEnd(usize),
     /// There are not as many lines as cables, or a line holds something.
     Lines,
+}
+
+fn has_port(ports: &[PortConfig], number: u16) -> bool
+    ensures { result ≡ has_port ports.now number }
+{
+    ports.iter().any(|port| port.number == number)
+}
+
+/// Whether one of these cables has an end of this one.
+fn shares_end(cables: &[(u16, u16)], cable: (u16, u16)) -> bool
+    ensures { result ≡ shares_end cables.now cable }
+{
+    cables.iter().any(|c| c.0 == cable.0 || c.1 == cable.1)
+}
+
+/// Whether the cable of this index, from 0, has an end that is no port of its side, or that an earlier cable has.
+fn has_bad_end(
+    first: &[PortConfig],
+    second: &[PortConfig],
+    cables: &[(u16, u16)],
+    index: usize,
+) -> bool
+    requires { index < length cables.now }
+    ensures { result ≡ has_bad_end first.now second.now cables.now index }
+{
+    let cable = cables[index];
+    let are_ports = has_port(first, cable.0) && has_port(second, cable.1);
+    !are_ports || shares_end(&cables[..index], cable)
+}
+
+/// The place, from 1, of the first cable with a bad end.
+fn bad_end(first: &[PortConfig], second: &[PortConfig], cables: &[(u16, u16)]) -> Option<usize>
+    ensures { result ≡ bad_end first.now second.now cables.now }
+{
+    for index in 0..cables.len() {
+        if has_bad_end(first, second, cables, index) {
+            return Some(index + 1);
+        }
+    }
+    None
+}
+
+impl WorldConfig {
+    /// The first reason to refuse the systems and their cables (profile): what is wrong with system 1, then with
+    /// system 2, equal identifiers, and then the first cable with an end that is no port of its system or that an
+    /// earlier cable has. Of lines it knows nothing.
+    pub fn refusal(&self) -> Option<BadWorld>
+        ensures { result ≡ refusal_of self.now }
+    {
+        let [first, second] = &self.systems;
+        if let Some(reason) = first.refusal() {
+            return Some(BadWorld::System { side: 1, reason });
+        }
+        if let Some(reason) = second.refusal() {
+            return Some(BadWorld::System { side: 2, reason });
+        }
+        if first.system == second.system {
+            return Some(BadWorld::SameSystem);
+        }
+        bad_end(&first.ports, &second.ports, &self.cables).map(BadWorld::CableEnd)
+    }
 }

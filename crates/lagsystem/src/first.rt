@@ -1,8 +1,8 @@
 ghost use Rattle.std.specs.Prelude.{◌≡◌, ◌≤◌, length, vec_len, IfOk};
 ghost use Rattle.std.specs.List.{AllZip};
-ghost use Rattle.lagsystem.specs.First.{IsNew, misplaced, numbers_of, refusal};
+ghost use Rattle.lagsystem.specs.First.{IsNew, misplaced, numbers_of, refusal, refusal_of};
 
-use crate::config::PortConfig;
+use crate::config::{Config, PortConfig};
 use crate::fault::BadConfig;
 use crate::slots::Slot;
 use lagtypes::{Key, NoMemory, SystemId};
@@ -63,6 +63,15 @@ pub(crate) fn refusal(keys: &[Key], ports: &[PortConfig]) -> Option<BadConfig>
         return Some(BadConfig::Aggregators);
     }
     misplaced(ports).map(BadConfig::PortNumber)
+}
+
+impl Config {
+    /// The first reason to refuse the configuration, in the order of checking (profile).
+    pub fn refusal(&self) -> Option<BadConfig>
+        ensures { result ≡ refusal_of self.now }
+    {
+        refusal(&self.aggregators, &self.ports)
+    }
 }
 
 /// How many aggregators an accepted configuration has.
