@@ -17,7 +17,9 @@ use Rattle.lagsystem.specs.First.{IsConfigured, IsFirst, number_of, refusal, set
 use Rattle.lagsystem.specs.Shown.{configured, party_in, view_of}
 use Rattle.lagsystem.specs.Sound.{Agrees}
 use Rattle.lagsystem.specs.State.{State}
+use Rattle.lagsystem.specs.Readers.{conversations as conversations_of}
 use Rattle.lagsystem.proofs.FirstView.{first_shows}
+use Rattle.lagsystem.proofs.Seen.{party_seen}
 use Rattle.lagscript.specs.declared.config.BadWorld.{BadWorld}
 use Rattle.lagscript.specs.declared.config.BadWorld.TheVariants.{SameSystem, CableEnd, System, Lines}
 use Rattle.lagscript.specs.declared.config.WorldConfig.{WorldConfig}
@@ -29,7 +31,6 @@ use Rattle.lagworld.specs.Calls.{party_of_port}
 use Rattle.lagworld.specs.Making.{IsFirstHalf, are_lines, conversations, first_flows, first_line, first_lines, first_log, first_logs, first_row, is_empty, nothing_sent}
 use Rattle.lagworld.specs.Sound.{AreBelow, IsKept, IsStart}
 use Rattle.lagworld.specs.Worlds.{ends_of, fixed_of}
-use Rattle.lagworld.proofs.Counted.{party_seen}
 
 -- what is kept of a port is what its configuration says
 log_found : (system : SystemId) (ports : List PortConfig) (p : ℕ) → log_at (first_logs system ports) p ≡ option_map (first_log system) (find_number number_of ports p)
@@ -75,15 +76,15 @@ flow_empty n (suc g) k x e = by_row (slice_get (first_flows n) g) refl e
     by_row None h e = absurd (none-some x (sym (ap (λ o. serials_in o k) h) ∙ e))
     by_row (Some row) h e = same_item conversations k nothing_sent x (sym (ap (λ r. slice_get r k) (same_item n g first_row row h)) ∙ sym (ap (λ o. serials_in o k) h) ∙ e)
 
-enough : 256 ≤ conversations
+enough : (s : State) → conversations_of s ≤ conversations
 unfolding conversations
-enough = omega arith
+enough s = omega arith
 
-flow_there : (n g k : ℕ) → 0 < g → g ≤ n → k < 256 → IsSome (serials_at (first_flows n) g k)
-flow_there n zero k low high small = absurd (omega arith)
-flow_there n (suc g) k low high small =
+flow_there : (s : State) (n g k : ℕ) → 0 < g → g ≤ n → k < conversations_of s → IsSome (serials_at (first_flows n) g k)
+flow_there s n zero k low high small = absurd (omega arith)
+flow_there s n (suc g) k low high small =
     let row : slice_get (first_flows n) g ≡ Some first_row = item_there n g first_row (omega arith) in
-    let x : slice_get first_row k ≡ Some nothing_sent = item_there conversations k nothing_sent (omega (arith, enough)) in
+    let x : slice_get first_row k ≡ Some nothing_sent = item_there conversations k nothing_sent (omega (arith, enough s)) in
     subst IsSome (sym (ap (λ o. serials_in o k) row ∙ x)) refl
 
 -- what holds of a system that is made
@@ -98,7 +99,7 @@ half_kept config h f a = record {
   agrees = a;
   parties = λ p l e. first_party h.state p shows ∙ log_party h.state.system (find_number number_of h.state.ports p) l (sym (log p) ∙ e);
   logged = λ p x. subst IsSome (sym (log p)) (log_some (party_in h.state.system) h.state.system (find_number number_of h.state.ports p) (subst IsSome (first_party h.state p shows) x));
-  flows = λ g k low high small. subst (λ f. IsSome (serials_at f g k)) (sym (flows_named config h f)) (flow_there (length h.state.keys) g k low high small);
+  flows = λ g k low high small. subst (λ f. IsSome (serials_at f g k)) (sym (flows_named config h f)) (flow_there h.state (length h.state.keys) g k low high small);
 }
   where
     shows : view_of h.state ≡ first_view (configured h.state)

@@ -23,7 +23,7 @@ first_log system c = record { number = c.number; party = (setup_of system c).par
 abbrev pub first_logs : SystemId → List PortConfig → List PortLog
 first_logs system ports = map (first_log system) ports
 
--- how many conversations an aggregator has
+-- how many conversations are kept of an aggregator: as many as it has (conversations of lagsystem)
 unfoldable pub conversations : ℕ
 conversations = 256
 
