@@ -1,5 +1,7 @@
-pub mod RecordLemmas
+pub mod ChainLemmas
+pub mod WalkLemmas
+pub mod FlagLemmas
+pub mod TableLemmas
+pub mod TickLemmas
 pub mod PickLemmas
-pub mod ChangeLemmas
-pub mod CountLemmas
 pub mod MoveLemmas

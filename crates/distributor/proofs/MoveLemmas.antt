@@ -1,18 +1,20 @@
 -- What the calls do to conversations are moves that the law allows.
-use Rattle.std.proofs.Common.{◌≡◌, ℕ, ◌+◌, ◌<◌, ◌^◌, Bool, true, false, cond, ◌&&◌, eqb, Option, Some, None, Ok, Err, List, [], ◌∷◌, map, sym, refl, ap, ◌∙◌, subst, ◌⊎◌, inl, inr}
+use Rattle.std.proofs.Common.{◌≡◌, ℕ, zero, suc, ◌+◌, ◌-◌, ◌*◌, ◌/◌, ◌%◌, ◌<◌, ◌^◌, length, arith, ⊎_elim, Bool, true, false, cond, ◌&&◌, eqb, Option, Some, None, Ok, Err, List, [], ◌∷◌, sym, refl, ap, ◌∙◌, subst, ◌⊎◌, inl, inr}
 use Rattle.std.specs.Prelude.{ltb, is_none}
-use Rattle.std.proofs.lemmas.Bool.{cases_Bool, and_parts, eqb-true, eq-eqb, cond-true, cond-false, false≢true}
+use Rattle.std.proofs.lemmas.Bool.{cases_Bool, and_parts, eqb-true, eq-eqb, cond-true, cond-false, false≢true, cases_eq, ltb-true, ltb-false}
+use Rattle.std.proofs.lemmas.Nat.{mod-mul-add, div-mul-add}
+use Rattle.std.proofs.lemmas.List.{get_or_past}
 use Rattle.distributor.specs.declared.assignment.Assignment.{Assignment}
 use Rattle.distributor.specs.declared.assignment.Assignment.TheVariants as state
 use Rattle.distributor.specs.declared.fault.DistFault.{DistFault}
-use Rattle.distributor.specs.declared.table.Entry.{Entry}
-use Rattle.lagmodel.specs.View.{Conversation, Call, Pdu, at_conversation, replies_frame, port_of}
+use Rattle.lagmodel.specs.View.{Conversation, Call, Pdu, Setup, at_conversation, first_view, replies_frame, port_of}
 use Rattle.lagmodel.specs.Move.{Act, Change, ChangeAllowed, changed, FlowMove, FlowMoves, flushed}
 use Rattle.lagmodel.specs.Kept.{IsAmong, Become}
 use Rattle.lagmodel.proofs.Uses.{flows_become}
-use Rattle.distributor.specs.Conversations.{Table, state_of, find_state, is_of}
+use Rattle.distributor.specs.Conversations.{Table, first_table, state_of, place_of}
 use Rattle.distributor.specs.Changes.{Sets, Changes, Marks, after_leave, after_mark, after_release, after_down, after_tick}
 use Rattle.distributor.specs.Calls.{MaySend, moved, forced, distributes}
+use Rattle.distributor.proofs.TableLemmas.{first_free}
 use Rattle.distributor.specs.Moves.{conversation_of, flows_of, Among, Nowhere}
 
 eqb_flip : (m n : ℕ) → eqb m n ≡ eqb n m
@@ -94,17 +96,26 @@ pub force_moves : (mac : List ℕ) (t u : Table) (agg conv : ℕ) (s : Assignmen
 force_moves mac t u agg conv s e h = one_moves mac (Call.Force agg conv) t u agg conv s Change.Forced refl (is_forced (state_of t agg conv) s e) h
 
 -- Every conversation changes alike.
-abbrev keys_of : List Entry → List (ℕ × ℕ)
-keys_of es = map (λ (e : Entry). (e.agg, e.conv)) es
+keys_of : ℕ → List (ℕ × ℕ)
+keys_of zero = []
+keys_of (suc n) = (n / 256 + 1, n % 256) ∷ keys_of n
 
-in_records : (es : List Entry) (g k : ℕ) → (find_state es g k ≡ state.Free None) ⊎ IsAmong g k (keys_of es)
-in_records [] g k = inl refl
-in_records (e ∷ es) g k = elim (cases_Bool (is_of g k e)) [
-  | inl t ↦ (let p = and_parts (eqb e.agg g) (eqb e.conv k) t in inr (inl (sym (eqb-true _ _ p.0), sym (eqb-true _ _ p.1))))
-  | inr f ↦ elim (in_records es g k) [
-    | inl n ↦ inl (cond-false (is_of g k e) _ _ f ∙ n)
-    | inr a ↦ inr (inr a)
-  ]
+among_keys : (g k n : ℕ) → 0 < g → k < 256 → (g - 1) * 256 + k < n → IsAmong g k (keys_of n)
+unfolding keys_of
+among_keys g k zero p l lt = absurd (omega arith)
+among_keys g k (suc n) p l lt = ⊎_elim
+    (λ (e : (g - 1) * 256 + k ≡ n). inl (omega (arith, e, div-mul-add (g - 1) 256 k l, ap (λ x. x / 256) e), sym (mod-mul-add (g - 1) 256 k l) ∙ ap (λ x. x % 256) e))
+    (λ (m : (g - 1) * 256 + k ≡ n → ⊥). inr (among_keys g k n p l (omega (arith, m))))
+    (cases_eq ((g - 1) * 256 + k) n)
+
+in_states : (t : Table) (g k : ℕ) → (state_of t g k ≡ state.Free None) ⊎ IsAmong g k (keys_of (length t.states))
+in_states t g k = elim (cases_Bool (ltb 0 g && ltb k 256)) [
+  | inl e ↦ (let p = and_parts (ltb 0 g) (ltb k 256) e in
+      elim (cases_Bool (ltb (place_of g k) (length t.states))) [
+        | inl x ↦ inr (among_keys g k (length t.states) (ltb-true 0 g p.0) (ltb-true k 256 p.1) (ltb-true (place_of g k) (length t.states) x))
+        | inr y ↦ inl (cond-true (ltb 0 g && ltb k 256) _ _ e ∙ get_or_past t.states (place_of g k) (state.Free None) (ltb-false (place_of g k) (length t.states) y))
+      ])
+  | inr f ↦ inl (cond-false (ltb 0 g && ltb k 256) _ _ f)
 ]
 
 -- what one conversation makes of itself
@@ -116,14 +127,14 @@ Makes mac call g k old new =
 pub each_moves : (mac : List ℕ) (call : Call) (t u : Table) (change : ℕ → ℕ → Assignment → Assignment) → ((g k : ℕ) → change g k (state.Free None) ≡ state.Free None) → ((g k : ℕ) (s : Assignment) → Makes mac call g k s (change g k s))
     → u.next ≡ t.next → ((g k : ℕ) → state_of u g k ≡ change g k (state_of t g k)) → FlowMoves mac call Nowhere (flows_of t) [] (flows_of u)
 each_moves mac call t u change free makes next states =
-    let z = flows_become mac call Nowhere (keys_of t.entries) (flows_of t) (flows_of u).state each in
+    let z = flows_become mac call Nowhere (keys_of (length t.states)) (flows_of t) (flows_of u).state each in
     let same : flows_of u ≡ record (flows_of t) { state = (flows_of u).state } = λ i. record { state = (flows_of u).state; next = next i } in
     (z.0, z.1, z.2, same ∙ z.3)
   where
-    each : Become (keys_of t.entries) mac call (flows_of t).state (flows_of u).state
+    each : Become (keys_of (length t.states)) mac call (flows_of t).state (flows_of u).state
     each g k = elim (makes g k (state_of t g k)) [
       | inl e ↦ inl (ap conversation_of (states g k) ∙ e)
-      | inr x ↦ elim (in_records t.entries g k) [
+      | inr x ↦ elim (in_states t g k) [
         | inl n ↦ inl (ap conversation_of (states g k ∙ ap (change g k) n ∙ free g k ∙ sym n))
         | inr a ↦ inr (a, (x.0, x.1, ap conversation_of (states g k) ∙ x.2))
       ]
@@ -215,3 +226,7 @@ mark_moves mac call t u port id r lt h = (
 -- nothing changes
 pub same_moves : (mac : List ℕ) (call : Call) (t u : Table) → u ≡ t → FlowMoves mac call Nowhere (flows_of t) [] (flows_of u)
 same_moves mac call t u e = ([], tt, refl, ap flows_of e)
+
+-- at the start every conversation is free for the law too
+pub first_flows : (u : Setup) (aggs : ℕ) → flows_of (first_table aggs u.first_marker) ≡ (first_view u).flows
+first_flows u aggs = λ i. record { state = λ agg conv. conversation_of (first_free aggs u.first_marker agg conv i); next = u.first_marker }

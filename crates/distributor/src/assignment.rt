@@ -1,5 +1,6 @@
 ghost use Rattle.std.specs.Prelude.{◌≡◌};
 ghost use Rattle.distributor.specs.Conversations.{preference_of};
+ghost use Rattle.distributor.specs.Chains.{port_of, is_of_port, is_flushing};
 ghost use Rattle.distributor.specs.Changes.{wants_marker, waits_for};
 
 /// What a conversation is doing (profile). A port stands by its number. A preferred port is the one
@@ -38,6 +39,37 @@ impl Assignment {
             | Assignment::Wanted { preferred, .. }
             | Assignment::Flushing { preferred, .. } => preferred,
         }
+    }
+
+    /// The port on which it is On, Wanted or Flushing: none if it is free.
+    pub(crate) fn port(&self) -> Option<u16>
+        ensures { result ≡ port_of self.now }
+    {
+        match *self {
+            Assignment::Free { .. } => None,
+            Assignment::On(port)
+            | Assignment::Wanted { port, .. }
+            | Assignment::Flushing { port, .. } => Some(port),
+        }
+    }
+
+    /// Whether it is On, Wanted or Flushing on this port.
+    pub(crate) fn is_of(&self, port: u16) -> bool
+        ensures { result ≡ is_of_port port self.now }
+    {
+        match *self {
+            Assignment::Free { .. } => false,
+            Assignment::On(p)
+            | Assignment::Wanted { port: p, .. }
+            | Assignment::Flushing { port: p, .. } => p == port,
+        }
+    }
+
+    /// Whether it is held until the response to a marker comes.
+    pub(crate) fn is_flushing(&self) -> bool
+        ensures { result ≡ is_flushing self.now }
+    {
+        matches!(*self, Assignment::Flushing { .. })
     }
 
     /// Whether it is held until a marker is sent on this port.

@@ -4,16 +4,19 @@
 //! memory in `Distributor::new` alone.
 #![tactic(auto)]
 
+mod algorithm;
 mod assignment;
 mod change;
 mod conversations;
 mod fault;
 mod laws;
+mod slots;
 mod table;
 #[cfg(test)]
 mod tests;
 
+pub use algorithm::by_number;
 pub use assignment::Assignment;
 pub use conversations::Distributor;
 pub use fault::DistFault;
-pub use laws::{calls_are_moves, first_is_the_first_view};
+pub use laws::{by_number_picks_places, calls_are_moves, first_is_the_first_view};

@@ -1,44 +1,36 @@
-ghost use Rattle.std.specs.Prelude.{◌≡◌, ◌≤◌, ◌↔◌, nat_lt, IfOk, IfSome, IfNone, IsTrue, map, position, length, count_by};
-ghost use Rattle.std.specs.List.{list_any};
-ghost use Rattle.distributor.specs.Conversations.{first_table, state_of, how_many, next_identifier, IsConversation, is_of};
-ghost use Rattle.distributor.specs.Changes.{Sets, Changes, Marks, after, changed, wants_marker, waits_for, marker_due};
+ghost use Rattle.std.specs.Prelude.{false, ◌≡◌, ◌≤◌, ◌<◌, ◌+◌, ◌*◌, ◌-◌, ◌↔◌, nat_lt, IfOk, IfSome, IfNone, IsTrue};
+ghost use Rattle.distributor.specs.Conversations.{first_table, state_of, place_of, how_many, next_identifier, IsConversation};
+ghost use Rattle.distributor.specs.Changes.{Sets, Changes, Marks, after, wants_marker, waits_for, marker_due};
+ghost use Rattle.distributor.specs.Chains.{is_of_port, is_flushing};
 
 use crate::assignment::Assignment;
 use crate::change::Change;
+use crate::slots::{Slots, Test};
 use lagtypes::NoMemory;
 use std::alloc::Global;
 use std::marker::Model;
 
 /// How many conversations an aggregator has (profile).
-const CONVERSATIONS: usize = 256;
+const CONVERSATIONS: u32 = 256;
 
-/// The record of a conversation that was assigned once.
-#[derive(Clone, Copy, Debug)]
-pub(crate) struct Entry {
-    agg: u16,
-    conv: u16,
-    state: Assignment,
-}
-
-/// The conversations of every aggregator and the identifier of the next marker. A conversation
-/// without a record is free and prefers no port.
+/// The conversations of every aggregator and the identifier of the next marker.
 #[derive(Drop)]
 pub(crate) struct ConversationTable {
     aggs: u16,
     first: u32,
     next: u64,
-    entries: Vec<Entry>,
+    slots: Slots,
 }
 
 impl Model for ConversationTable {
-    ghost use Rattle.distributor.specs.Conversations.{Table, IsSound};
-    ghost use Rattle.std.specs.Prelude.{vec_capacity};
+    ghost use Rattle.distributor.specs.Conversations.{Table};
+    ghost use Rattle.distributor.specs.Slots.{AreKept};
 
     ghost Value = { Table };
 
-    ghost view = { λ t. record { aggs = t.aggs; first = t.first; next = t.next; entries = t.entries.items } };
+    ghost view = { λ t. record { aggs = t.aggs; first = t.first; next = t.next; states = t.slots.states.items } };
 
-    ghost invariant = { λ t. IsSound t.aggs (vec_capacity t.entries) t.entries.items };
+    ghost invariant = { λ t. AreKept t.aggs t.slots };
 }
 
 impl ConversationTable {
@@ -49,7 +41,7 @@ impl ConversationTable {
             aggs,
             first,
             next: u64::from(first),
-            entries: Vec::with_capacity(alloc, usize::from(aggs) * CONVERSATIONS)?,
+            slots: Slots::new(alloc, u32::from(aggs) * CONVERSATIONS)?,
         })
     }
 
@@ -57,53 +49,61 @@ impl ConversationTable {
     pub(crate) fn clear(&mut self)
         ensures { self.new ≡ first_table self.old.aggs self.old.first }
     {
-        self.entries.clear();
+        self.slots.clear();
         self.next = u64::from(self.first);
     }
 
     pub(crate) fn contains(&self, agg: u16, conv: u16) -> bool
         ensures { IsTrue result ↔ IsConversation self.now agg conv }
     {
-        agg > 0 && agg <= self.aggs && usize::from(conv) < CONVERSATIONS
+        agg > 0 && agg <= self.aggs && u32::from(conv) < CONVERSATIONS
     }
 
     pub(crate) fn state(&self, agg: u16, conv: u16) -> Assignment
         ensures { result ≡ state_of self.now agg conv }
     {
-        match place(&self.entries, agg, conv) {
-            Some(i) => self.entries[i].state,
-            None => Assignment::Free { preferred: None },
+        if agg > 0 && agg <= self.aggs && u32::from(conv) < CONVERSATIONS {
+            return self.slots.state(place(agg, conv));
         }
+        Assignment::Free { preferred: None }
     }
 
     pub(crate) fn set(&mut self, agg: u16, conv: u16, state: Assignment)
-        requires { IsConversation self.old agg conv }
+        requires known { IsConversation self.old agg conv }
+        requires still { is_flushing state ≡ false }
         ensures { Sets self.old self.new agg conv state }
     {
-        match place(&self.entries, agg, conv) {
-            Some(i) => self.entries[i] = Entry { agg, conv, state },
-            None => self.entries.push_reserved(Entry { agg, conv, state }),
-        }
+        self.slots.set(place(agg, conv), state);
     }
 
     pub(crate) fn is_wanted_on(&self, port: u16) -> bool
         ensures { result ≡ nat_lt 0 (how_many (wants_marker port) self.now) }
     {
-        let _aggs = self.aggs;
-        any_wants_marker(&self.entries, port)
+        self.slots.count(Test::WantsMarker(port)) > 0
     }
 
     pub(crate) fn count_waiting(&self, port: u16, id: u32) -> u32
         ensures { result ≡ how_many (waits_for port id) self.now }
     {
-        let _aggs = self.aggs;
-        count_waiting(&self.entries, port, id) as u32
+        self.slots.count(Test::WaitsFor(port, id))
+    }
+
+    pub(crate) fn load(&self, port: u16) -> u32
+        ensures { result ≡ how_many (is_of_port port) self.now }
+    {
+        self.slots.count(Test::IsOf(port))
     }
 
     pub(crate) fn change(&mut self, change: Change)
         ensures { Changes self.old self.new (after change) }
     {
-        change_each(&mut self.entries, change);
+        match change {
+            Change::Leave(port)
+            | Change::Mark(port, _)
+            | Change::Release(port, _)
+            | Change::Down(port) => self.slots.change(port, change),
+            Change::Tick => self.slots.tick(),
+        }
     }
 
     /// The next identifier, where one is left.
@@ -129,36 +129,10 @@ impl ConversationTable {
     }
 }
 
-/// The place of a conversation's record.
-fn place(entries: &[Entry], agg: u16, conv: u16) -> Option<usize>
-    ensures { result ≡ position (is_of agg conv) entries.now }
+/// The slot of a conversation.
+fn place(agg: u16, conv: u16) -> u32
+    requires agg { 0 < agg }
+    ensures { result ≡ place_of agg conv }
 {
-    entries.iter().position(|e| e.agg == agg && e.conv == conv)
-}
-
-/// Changes every record's state alike.
-fn change_each(entries: &mut [Entry], change: Change)
-    ensures { entries.new ≡ map (changed (after change)) entries.old }
-{
-    for e in entries.iter_mut() {
-        e.state = change.apply(e.state);
-    }
-}
-
-/// Whether a record's conversation wants a marker on this port.
-fn any_wants_marker(entries: &[Entry], port: u16) -> bool
-    ensures { result ≡ list_any (λ e. wants_marker port e.state) entries.now }
-{
-    entries.iter().any(|e| e.state.wants_marker(port))
-}
-
-/// How many records' conversations wait for this response on this port.
-fn count_waiting(entries: &[Entry], port: u16, id: u32) -> usize
-    ensures count { result ≡ count_by (λ e. waits_for port id e.state) entries.now }
-    ensures within { result ≤ length entries.now }
-{
-    entries
-        .iter()
-        .filter(|e| e.state.waits_for(port, id))
-        .count()
+    (u32::from(agg) - 1) * CONVERSATIONS + u32::from(conv)
 }

@@ -1,15 +1,16 @@
-ghost use Rattle.std.specs.Prelude.{◌≡◌, ◌<◌};
+ghost use Rattle.std.specs.Prelude.{◌≡◌, ◌≤◌, length};
 ghost use Rattle.distributor.specs.Calls.{PicksPlaces};
 
-use crate::{Assignment, DistFault, Distributor};
+use crate::{Assignment, DistFault, Distributor, by_number};
 use lagtypes::{AggId, NoMemory};
 use std::alloc::Global;
+use std::process::Abort;
 use std::test::Fail;
 
 const AGG: AggId = AggId(1);
 
-/// A call on aggregator 1, with ports 1 and 2 distributing, and what it answers.
-#[derive(Clone, Copy)]
+/// A call on aggregator 1, and what it answers.
+#[derive(Clone, Copy, Debug, PartialEq, Eq)]
 enum Row {
     Assign(u16, Result<u16, DistFault>),
     Move(u16, u16, Result<(), DistFault>),
@@ -21,17 +22,7 @@ enum Row {
     Down(u16),
     Clear,
     State(u16, Assignment),
-}
-
-/// The algorithm of the tests.
-fn modulo(conv: u16, count: usize) -> usize
-    ensures { 0 < count → result < count }
-{
-    if count == 0 {
-        0
-    } else {
-        usize::from(conv) % count
-    }
+    Load(u16, u32),
 }
 
 fn tick<F: Fn(u16, usize) -> usize + Drop>(d: &mut Distributor<F>, count: u16)
@@ -42,35 +33,42 @@ fn tick<F: Fn(u16, usize) -> usize + Drop>(d: &mut Distributor<F>, count: u16)
     }
 }
 
-/// Makes the call of a row, and answers whether it went as it says.
-fn passes<F: Fn(u16, usize) -> usize + Drop>(d: &mut Distributor<F>, row: Row) -> bool
+/// Makes the call of a row while these ports distribute, and answers the row with what came in the
+/// place of what was wanted.
+fn play<F: Fn(u16, usize) -> usize + Drop>(d: &mut Distributor<F>, ports: &[u16], row: Row) -> Row
     requires usable { PicksPlaces (F.pre d.old.algorithm) (F.post d.old.algorithm) }
+    requires few { length ports.now ≤ 64 }
     ensures algorithm { d.new.algorithm ≡ d.old.algorithm }
 {
     match row {
-        Row::Assign(conv, answer) => return d.assign(AGG, conv, &[1, 2]) == answer,
-        Row::Move(conv, to, answer) => return d.move_to(AGG, conv, to, &[1, 2]) == answer,
-        Row::Force(conv, answer) => return d.force(AGG, conv) == answer,
-        Row::Marker(port, answer) => return d.marker_for(port) == answer,
-        Row::Response(port, id, released) => return d.response(port, id) == released,
-        Row::State(conv, state) => return d.state(AGG, conv) == state,
+        Row::Assign(conv, _) => return Row::Assign(conv, d.assign(AGG, conv, ports)),
+        Row::Move(conv, to, _) => return Row::Move(conv, to, d.move_to(AGG, conv, to, ports)),
+        Row::Force(conv, _) => return Row::Force(conv, d.force(AGG, conv)),
+        Row::Marker(port, _) => return Row::Marker(port, d.marker_for(port)),
+        Row::Response(port, id, _) => return Row::Response(port, id, d.response(port, id)),
+        Row::Load(port, _) => return Row::Load(port, d.load(port)),
+        Row::State(conv, _) => return Row::State(conv, d.state(AGG, conv)),
         Row::Ticks(count) => tick(d, count),
         Row::Leave(port) => d.leave(port),
         Row::Down(port) => d.down(port),
         Row::Clear => d.clear(),
     }
-    true
+    row
 }
 
-/// Plays the rows on a new distributor, and answers the place of the first that does not go as it says.
-fn first_other(alloc: Global, first: u32, rows: &[Row]) -> Result<Option<usize>, NoMemory> {
-    let mut d = Distributor::new(alloc, 1, first, modulo)?;
+/// Plays the rows on a new distributor while these two ports distribute.
+fn plays(
+    rt: &impl Abort,
+    alloc: Global,
+    first: u32,
+    ports: [u16; 2],
+    rows: &[Row],
+) -> Result<(), NoMemory> {
+    let mut d = Distributor::new(alloc, 1, first, by_number)?;
     for (place, row) in rows.iter().enumerate() {
-        if !passes(&mut d, *row) {
-            return Ok(Some(place));
-        }
+        assert_eq!(rt; play(&mut d, &ports, *row), *row, "row {place}");
     }
-    Ok(None)
+    Ok(())
 }
 
 #[test]
@@ -91,7 +89,118 @@ fn a_moved_conversation_waits_for_the_response(rt: HostRuntime) -> Result<(), Fa
         Row::Response(1, 2, 1),
         Row::Assign(48, Ok(2)),
     ];
-    assert_eq!(rt; first_other(rt.alloc(), 1, &rows)?, None);
+    plays(&rt, rt.alloc(), 1, [1, 2], &rows)?;
+    Ok(())
+}
+
+#[test]
+fn ports_are_counted(rt: HostRuntime) -> Result<(), Fail> {
+    let rows = [
+        Row::Assign(48, Ok(1)),
+        Row::Assign(49, Ok(2)),
+        Row::Assign(50, Ok(1)),
+        Row::Load(1, 2),
+        Row::Load(2, 1),
+        Row::Load(65, 0),
+        Row::Move(48, 2, Ok(())),
+        Row::Marker(1, Some(1)),
+        Row::Load(1, 2),
+        Row::Response(1, 1, 1),
+        Row::Load(1, 1),
+        Row::Down(1),
+        Row::Load(1, 0),
+        Row::Load(2, 1),
+    ];
+    plays(&rt, rt.alloc(), 1, [1, 2], &rows)?;
+    Ok(())
+}
+
+#[test]
+fn ports_of_one_chain_stay_apart(rt: HostRuntime) -> Result<(), Fail> {
+    let wanted = |preferred: Option<u16>| Assignment::Wanted { port: 1, preferred };
+    let flushing = |age: u8| Assignment::Flushing {
+        port: 1,
+        id: 1,
+        preferred: Some(65),
+        age,
+    };
+    let rows = [
+        Row::Assign(0, Ok(1)),
+        Row::Assign(1, Ok(65)),
+        Row::Assign(2, Ok(1)),
+        Row::Assign(3, Ok(65)),
+        Row::Load(1, 2),
+        Row::Load(65, 2),
+        Row::Move(0, 65, Ok(())),
+        Row::State(0, wanted(Some(65))),
+        Row::Marker(65, None),
+        Row::Marker(1, Some(1)),
+        Row::State(1, Assignment::On(65)),
+        Row::State(2, Assignment::On(1)),
+        Row::State(0, flushing(0)),
+        // what is on port 65 waits, and what is on port 1 does not
+        Row::Leave(65),
+        Row::State(2, Assignment::On(1)),
+        Row::Ticks(1),
+        Row::State(0, flushing(1)),
+        Row::Response(65, 1, 0),
+        Row::Marker(65, Some(2)),
+        Row::Response(1, 2, 0),
+        Row::Load(1, 2),
+        Row::Load(65, 2),
+        Row::Ticks(28),
+        Row::State(0, flushing(29)),
+        Row::Ticks(1),
+        Row::State(0, wanted(Some(65))),
+        Row::Response(65, 2, 2),
+        Row::State(0, wanted(Some(65))),
+        Row::Assign(1, Ok(65)),
+        Row::Down(65),
+        Row::Load(65, 0),
+        Row::Load(1, 2),
+        Row::Force(2, Ok(())),
+        Row::Load(1, 1),
+        Row::Assign(3, Ok(65)),
+        Row::Down(1),
+        Row::Load(1, 0),
+        Row::Load(65, 1),
+        Row::Assign(0, Ok(65)),
+        Row::Load(65, 2),
+        Row::Clear,
+        Row::Load(65, 0),
+    ];
+    plays(&rt, rt.alloc(), 1, [1, 65], &rows)?;
+    Ok(())
+}
+
+#[test]
+fn a_chain_keeps_the_neighbours_of_one_that_leaves(rt: HostRuntime) -> Result<(), Fail> {
+    let rows = [
+        Row::Assign(0, Ok(1)),
+        Row::Assign(2, Ok(1)),
+        Row::Assign(4, Ok(1)),
+        Row::Assign(6, Ok(1)),
+        // from the middle, then from each end
+        Row::Force(2, Ok(())),
+        Row::Load(1, 3),
+        Row::Force(6, Ok(())),
+        Row::Load(1, 2),
+        Row::Force(0, Ok(())),
+        Row::Load(1, 1),
+        Row::Leave(1),
+        Row::State(
+            4,
+            Assignment::Wanted {
+                port: 1,
+                preferred: None,
+            },
+        ),
+        Row::State(2, Assignment::Free { preferred: None }),
+        Row::Marker(1, Some(1)),
+        Row::Response(1, 1, 1),
+        Row::Load(1, 0),
+    ];
+    plays(&rt, rt.alloc(), 1, [1, 2], &rows)?;
     Ok(())
 }
 
@@ -108,7 +217,7 @@ fn identifiers_end_at_the_greatest(rt: HostRuntime) -> Result<(), Fail> {
         Row::Leave(1),
         Row::Marker(1, None),
     ];
-    assert_eq!(rt; first_other(rt.alloc(), 4294967295, &rows)?, None);
+    plays(&rt, rt.alloc(), 4294967295, [1, 2], &rows)?;
     Ok(())
 }
 
@@ -133,7 +242,7 @@ fn refusals_come_in_order(rt: HostRuntime) -> Result<(), Fail> {
         Row::Move(50, 1, Err(DistFault::SamePort)),
         Row::Move(50, 2, Err(DistFault::MarkersSpent)),
     ];
-    assert_eq!(rt; first_other(rt.alloc(), 4294967295, &rows)?, None);
+    plays(&rt, rt.alloc(), 4294967295, [1, 2], &rows)?;
     Ok(())
 }
 
@@ -167,19 +276,40 @@ fn preferences_are_kept_and_used_once(rt: HostRuntime) -> Result<(), Fail> {
         Row::Leave(1),
         Row::Marker(1, Some(7)),
     ];
-    assert_eq!(rt; first_other(rt.alloc(), 7, &rows)?, None);
+    plays(&rt, rt.alloc(), 7, [1, 2], &rows)?;
+    Ok(())
+}
+
+#[test]
+fn a_link_that_goes_down_frees_what_is_on_it(rt: HostRuntime) -> Result<(), Fail> {
+    let free = |preferred: Option<u16>| Assignment::Free { preferred };
+    let rows = [
+        Row::Assign(48, Ok(1)),
+        Row::Assign(50, Ok(1)),
+        Row::Move(50, 2, Ok(())),
+        Row::Marker(1, Some(7)),
+        Row::Down(1),
+        Row::State(48, free(None)),
+        Row::State(50, free(Some(2))),
+    ];
+    plays(&rt, rt.alloc(), 7, [1, 2], &rows)?;
     Ok(())
 }
 
 #[test]
 fn ports_are_picked_by_their_place(rt: HostRuntime) -> Result<(), Fail> {
-    let mut d = Distributor::new(rt.alloc(), 2, 1, modulo)?;
+    let mut d = Distributor::new(rt.alloc(), 2, 1, by_number)?;
     let mut ports = [0; 64];
     for (i, port) in (1000..).zip(ports.iter_mut()) {
         *port = i;
     }
     assert_eq!(rt; d.assign(AggId(2), 255, &ports), Ok(1063));
     assert_eq!(rt; d.assign(AggId(2), 64, &ports), Ok(1000));
+    assert_eq!(rt; d.assign(AggId(2), 0, &ports), Ok(1000));
+    // no other conversation has moved, of neither aggregator
+    let free = Assignment::Free { preferred: None };
+    assert_eq!(rt; (d.state(AGG, 255), d.state(AGG, 64)), (free, free));
+    assert_eq!(rt; (d.state(AggId(2), 1), d.load(1000)), (free, 2));
     assert_eq!(rt; d.assign(AGG, 64, &[]), Err(DistFault::NoneDistributing));
     assert_eq!(rt; d.assign(AggId(3), 64, &ports), Err(DistFault::NotAssigned));
     assert_eq!(rt; d.move_to(AggId(2), 64, 1001, &ports), Ok(()));
@@ -190,16 +320,52 @@ fn ports_are_picked_by_their_place(rt: HostRuntime) -> Result<(), Fail> {
 }
 
 #[test]
-fn refusals_have_numbers(rt: HostRuntime) {
-    let faults = [
-        DistFault::Held,
-        DistFault::NoneDistributing,
-        DistFault::NotDistributing,
-        DistFault::SamePort,
-        DistFault::NotAssigned,
-        DistFault::MarkersSpent,
-    ];
-    for (number, fault) in (1..).zip(faults) {
-        assert_eq!(rt; fault.number(), number);
+fn places_are_numbers_modulo_the_count(rt: HostRuntime) {
+    for (conv, count, place) in [
+        (48, 2, 0),
+        (49, 2, 1),
+        (50, 3, 2),
+        (255, 64, 63),
+        (64, 64, 0),
+        (48, 0, 0),
+    ] {
+        assert_eq!(rt;
+            by_number(conv, count),
+            place,
+            "conversation {conv} among {count}"
+        );
     }
+}
+
+#[test]
+fn refusals_have_numbers_and_texts(rt: HostRuntime) -> Result<(), Fail> {
+    let faults = [
+        (DistFault::Held, "the conversation is Wanted or Flushing"),
+        (
+            DistFault::NoneDistributing,
+            "the conversation is Free, and no port distributes in its aggregator",
+        ),
+        (
+            DistFault::NotDistributing,
+            "the port to move to does not distribute in the aggregator",
+        ),
+        (
+            DistFault::SamePort,
+            "the port to move to is the one that the conversation is on",
+        ),
+        (
+            DistFault::NotAssigned,
+            "there is no such conversation, or the one that is to be moved or forced is Free",
+        ),
+        (
+            DistFault::MarkersSpent,
+            "no identifier is left, since 4294967295 was sent",
+        ),
+    ];
+    for (number, (fault, text)) in (1..).zip(faults) {
+        assert_eq!(rt; fault.number(), number, "{fault:?}");
+        let printed = format!(in rt.alloc(); "{fault}")?;
+        assert_eq!(rt; printed.as_str(), text);
+    }
+    Ok(())
 }

@@ -1,15 +1,20 @@
 -- Where `clap` states no fault for the words of a command line, they name a subcommand with each word that it takes.
-use Rattle.std.proofs.Common.{◌≡◌, ◌∙◌, ◌&&◌, Bool, true, false, cond, not, ap, ap₂, refl, sym, inl, inr, codes, List, [], ◌∷◌, Option, Some, None, is_some, find, option_map}
+use Rattle.std.proofs.Common.{◌≡◌, ◌∙◌, ◌&&◌, Bool, true, false, cond, not, ap, ap₂, refl, subst, sym, inl, inr, codes, List, [], ◌∷◌, Option, Some, None, is_some, find, option_map}
 use Rattle.std.proofs.lemmas.Bool.{not-false, or_parts}
-use Rattle.std.specs.Prelude.{⊤}
+use Rattle.std.specs.Prelude.{◌≢◌, ⊤}
 use Rattle.std.specs.List.{list_any}
 use Rattle.std.specs.Option.{option_map_or}
-use Rattle.clap.specs.Kinds.{check_kinds, or_else}
+use Rattle.clap.specs.Kinds.{HasKind, IsAmong, Kinds, check_kinds, or_else}
+use Rattle.clap.specs.Values.{kind_of}
+use Rattle.clap.specs.declared.error.Error.{Error}
+use Rattle.clap.specs.declared.error.kind.ErrorKind.TheVariants.{DisplayHelp, DisplayVersion, OutOfMemory}
 use Rattle.clap.specs.Faults.{check_fault, defaults_fault, entered_fault, fault_of, level_fault, settle_fault, walk_fault}
 use Rattle.clap.specs.Simple.{App, Shape, argument_words, built, built_leaf, entered, inherited, is_simple, label_of, marked_built, names_of, rows_at, subcommand_of, with_leaf_noted}
 use Rattle.clap.specs.Takes.{is_given}
 use Rattle.clap.specs.Walk.{Row, Rule, Text, answers_to, finished, nothing_held, rows_after, settled, walk, walk_from}
-use Rattle.lagline.specs.Lines.{decode_line, has_text, is_whole, lines, respond_line}
+use Rattle.lagline.specs.Lines.{IsAsked, IsCause, KeepsKind, check_line, decode_line, has_text, is_whole, lines, replay_line, respond_line, vectors_line}
+use Rattle.lagline.specs.declared.line.LineFault.{LineFault}
+use Rattle.lagline.specs.declared.line.LineFault.TheVariants.{Help, Usage, NoMemory}
 use Rattle.clap.specs.Words.{app_of, is_simple_and_free, subcommand_rows_of, HasMatchesOf}
 use Rattle.clap.specs.declared.builder.command.Command.{Command}
 use Rattle.clap.specs.declared.parser.matches.ArgMatches.{ArgMatches}
@@ -55,6 +60,21 @@ respond_whole words e =
     let given = all_given (rows_after s.rules [] words) s.rules (nothing_missing _ (is_checked s words e)) in
     ap₂ (λ x y. x && y) (text_given s words (codes "MAC") good e given.0) (text_given s words (codes "HEX") good e given.1.0)
 
+check_whole : IsWholeLine (line_of check_line)
+check_whole words e =
+    let s = line_of check_line in
+    let given = all_given (rows_after s.rules [] words) s.rules (nothing_missing _ (is_checked s words e)) in
+    text_given s words (codes "FILE") (inl (refl, refl), (inr refl, tt)) e given.0
+
+replay_whole : IsWholeLine (line_of replay_line)
+replay_whole words e =
+    let s = line_of replay_line in
+    let given = all_given (rows_after s.rules [] words) s.rules (nothing_missing _ (is_checked s words e)) in
+    text_given s words (codes "SCRIPT") (inl (refl, refl), (inr refl, tt)) e given.0
+
+vectors_whole : IsWholeLine (line_of vectors_line)
+vectors_whole words e = refl
+
 abbrev AreWholeLines : List Shape → Type 0
 AreWholeLines [] = ⊤
 AreWholeLines (s ∷ ss) = IsWholeLine s × AreWholeLines ss
@@ -72,7 +92,7 @@ whole_found p (s ∷ ss) g = go (p s) (whole_found p ss g.1)
     go false rest = rest
 
 lines_whole : AreWholeLines (built lines).subs
-lines_whole = (decode_whole, (respond_whole, tt))
+lines_whole = (decode_whole, (respond_whole, (check_whole, (replay_whole, (vectors_whole, tt)))))
 
 entered_whole : (found : Option Shape) (words : List Text) → IsWholeIfFound found → option_map_or (λ s. level_fault s [] nothing_held words false []) found [] ≡ []
     → is_some (option_map (λ s. rows_at s words) found) ≡ true → is_whole (option_map (λ s. rows_at s words) found) ≡ true
@@ -117,3 +137,24 @@ pub whole_matches : (c : Command) (words : List Text) (m : ArgMatches) → app_o
 whole_matches c words m shape matches kinds =
     let found = (matches (ap is_simple shape)).1 ∙ ap (λ (a : App). subcommand_of a words) shape in
     ap is_whole found ∙ whole_line words (faultless c words shape kinds)
+
+-- an error of one of the kinds is a cause of the fault that keeps it
+cause_of : (kinds : Kinds) (e : Error) (f : LineFault) → HasKind kinds e → KeepsKind e f → IsCause kinds f
+cause_of kinds e (Help error) h k = subst (λ (x : Error). IsAsked (kind_of x) × IsAmong (kind_of x) kinds) (sym k.0) (k.1, among h k.1)
+  where
+    among : HasKind kinds e → IsAsked (kind_of e) → IsAmong (kind_of e) kinds
+    among (inl o) (inl p) = let bad : OutOfMemory ≡ DisplayHelp = sym o ∙ p in cc
+    among (inl o) (inr p) = let bad : OutOfMemory ≡ DisplayVersion = sym o ∙ p in cc
+    among (inr a) p = a
+cause_of kinds e (Usage error) h k =
+    subst (λ (x : Error). (kind_of x ≢ DisplayHelp) × (kind_of x ≢ DisplayVersion) × IsAmong (kind_of x) kinds) (sym k.0) (k.1, k.2, among h)
+  where
+    among : HasKind kinds e → IsAmong (kind_of e) kinds
+    among (inl o) = absurd (k.3 o)
+    among (inr a) = a
+cause_of kinds e NoMemory h k = tt
+
+-- and so where a parse fails by the program's words
+pub line_cause : (c : Command) (words : List Text) (e : Error) (f : LineFault) → app_of c ≡ lines → (is_simple_and_free (app_of c) ≡ true → HasKind (fault_of (app_of c) words) e)
+    → KeepsKind e f → IsCause (fault_of lines words) f
+line_cause c words e f shape kinds k = cause_of _ e f (subst (λ (a : App). HasKind (fault_of a words) e) shape (kinds (ap is_simple_and_free shape))) k

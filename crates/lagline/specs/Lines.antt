@@ -1,14 +1,15 @@
 -- The command lines of the program, as `clap` reads them (profile).
-use Rattle.std.specs.Prelude.{◌≡◌, ◌≢◌, ⊤, ◌&&◌, if◌then◌else◌, true, false, Bool, List, Option, Some, None, codes, is_some}
+use Rattle.std.specs.Prelude.{◌≡◌, ◌≢◌, ◌⊎◌, ⊤, ◌&&◌, if◌then◌else◌, true, false, Bool, List, Option, Some, None, codes, is_some}
 use Rattle.std.specs.Str.{bytes_eq}
 use Rattle.clap.specs.Words.{App, Row, Rule, Text, first_of, new_app, new_rule, with_rule, with_subcommand}
 use Rattle.clap.specs.Words.{IsAmong, Kinds, kind_of}
 use Rattle.clap.specs.declared.error.Error.{Error}
-use Rattle.clap.specs.declared.error.kind.ErrorKind.TheVariants.{DisplayHelp, OutOfMemory}
+use Rattle.clap.specs.declared.error.kind.ErrorKind.{ErrorKind}
+use Rattle.clap.specs.declared.error.kind.ErrorKind.TheVariants.{DisplayHelp, DisplayVersion, OutOfMemory}
 use Rattle.lagline.specs.declared.line.LineFault.{LineFault}
 use Rattle.lagline.specs.declared.line.LineFault.TheVariants.{Help, Usage, NoMemory}
 use Rattle.lagline.specs.declared.line.Job.{Job}
-use Rattle.lagline.specs.declared.line.Job.TheVariants.{Decode, Respond}
+use Rattle.lagline.specs.declared.line.Job.TheVariants.{Decode, Respond, Check, Replay, Vectors}
 
 -- a word that must be given
 abbrev pub word : Text → Rule
@@ -20,24 +21,41 @@ decode_line = with_rule (new_app (codes "decode")) (word (codes "HEX"))
 abbrev pub respond_line : App
 respond_line = with_rule (with_rule (new_app (codes "respond")) (word (codes "MAC"))) (word (codes "HEX"))
 
--- a subcommand must be given, and none is `help`
+abbrev pub check_line : App
+check_line = with_rule (new_app (codes "check")) (word (codes "FILE"))
+
+abbrev pub replay_line : App
+replay_line = with_rule (new_app (codes "replay")) (word (codes "SCRIPT"))
+
+abbrev pub vectors_line : App
+vectors_line = new_app (codes "vectors")
+
+-- a subcommand must be given, none is `help`, and there is a version
 abbrev pub program_alone : App
 program_alone =
     let a = new_app (codes "lagtool") in
-    record a { top = record a.top { subcommand_required = true; disable_help_subcommand = true } }
+    record a { top = record a.top { subcommand_required = true; disable_help_subcommand = true; has_version = true } }
 
 -- the program with its subcommands
 abbrev pub lines : App
-lines = with_subcommand (with_subcommand program_alone decode_line.top) respond_line.top
+lines =
+    with_subcommand (with_subcommand (with_subcommand (with_subcommand (with_subcommand program_alone decode_line.top) respond_line.top) check_line.top)
+    replay_line.top) vectors_line.top
 
 abbrev pub name_of : Job → Text
 name_of (Decode hex) = codes "decode"
 name_of (Respond mac hex) = codes "respond"
+name_of (Check file) = codes "check"
+name_of (Replay script) = codes "replay"
+name_of Vectors = codes "vectors"
 
 -- the job has the values in the rows
 abbrev pub HasValues : Job → List Row → Type 0
 HasValues (Decode hex) rows = first_of (codes "HEX") rows ≡ Some hex.now
 HasValues (Respond mac hex) rows = (first_of (codes "MAC") rows ≡ Some mac.now) × (first_of (codes "HEX") rows ≡ Some hex.now)
+HasValues (Check file) rows = first_of (codes "FILE") rows ≡ Some file.now
+HasValues (Replay script) rows = first_of (codes "SCRIPT") rows ≡ Some script.now
+HasValues Vectors rows = ⊤
 
 -- the job is the subcommand that was found, with its values
 pub record IsJob (found : Option (Text × List Row)) (job : Job) : Type 0 where
@@ -53,16 +71,23 @@ abbrev pub is_whole : Option (Text × List Row) → Bool
 is_whole None = false
 is_whole (Some found) =
     if bytes_eq found.0 (codes "decode") then has_text (codes "HEX") found.1
-    else (bytes_eq found.0 (codes "respond") && (has_text (codes "MAC") found.1 && has_text (codes "HEX") found.1))
+    else (if bytes_eq found.0 (codes "respond") then has_text (codes "MAC") found.1 && has_text (codes "HEX") found.1
+    else (if bytes_eq found.0 (codes "check") then has_text (codes "FILE") found.1
+    else (if bytes_eq found.0 (codes "replay") then has_text (codes "SCRIPT") found.1
+    else bytes_eq found.0 (codes "vectors"))))
+
+-- help or the version is asked for
+abbrev pub IsAsked : ErrorKind → Type 0
+IsAsked k = (k ≡ DisplayHelp) ⊎ (k ≡ DisplayVersion)
 
 -- the fault has the error, by its kind
 abbrev pub KeepsKind : Error → LineFault → Type 0
-KeepsKind e (Help error) = (error ≡ e) × (kind_of e ≡ DisplayHelp)
-KeepsKind e (Usage error) = (error ≡ e) × (kind_of e ≢ DisplayHelp) × (kind_of e ≢ OutOfMemory)
+KeepsKind e (Help error) = (error ≡ e) × IsAsked (kind_of e)
+KeepsKind e (Usage error) = (error ≡ e) × (kind_of e ≢ DisplayHelp) × (kind_of e ≢ DisplayVersion) × (kind_of e ≢ OutOfMemory)
 KeepsKind e NoMemory = kind_of e ≡ OutOfMemory
 
--- help is shown where the words ask for it, a usage fault is another of the kinds that they give, and memory may run out
+-- help and the version are shown if the words ask for them, a usage fault is another of the kinds that they give, and memory may run out
 abbrev pub IsCause : Kinds → LineFault → Type 0
-IsCause kinds (Help error) = (kind_of error ≡ DisplayHelp) × IsAmong DisplayHelp kinds
-IsCause kinds (Usage error) = (kind_of error ≢ DisplayHelp) × IsAmong (kind_of error) kinds
+IsCause kinds (Help error) = IsAsked (kind_of error) × IsAmong (kind_of error) kinds
+IsCause kinds (Usage error) = (kind_of error ≢ DisplayHelp) × (kind_of error ≢ DisplayVersion) × IsAmong (kind_of error) kinds
 IsCause kinds NoMemory = ⊤

@@ -2,8 +2,9 @@ ghost use Rattle.std.specs.Prelude.{◌≡◌, [], IfErr, IfOk, OnOk, map, true,
 ghost use Rattle.clap.specs.declared.builder.command.Command.TheViews.{out-Command as fields_of};
 ghost use Rattle.clap.specs.Words.{app_of, fault_of, new_app, subcommand_of, subcommand_rows_of, with_rule};
 ghost use Rattle.lagline.specs.declared.line.LineFault.TheVariants.{NoMemory};
-ghost use Rattle.lagline.specs.Lines.{IsCause, IsJob, KeepsKind, is_whole, lines, word};
+ghost use Rattle.lagline.specs.Lines.{IsCause, IsJob, KeepsKind, is_whole, lines, program_alone, word};
 
+use crate::help;
 use clap::error::ErrorKind;
 use clap::{Arg, ArgMatches, Command, Error};
 use std::alloc::{AllocError, Global};
@@ -16,12 +17,18 @@ pub enum Job<'a> {
     Decode { hex: &'a str },
     /// `lagtool respond MAC HEX`: answers a marker frame.
     Respond { mac: &'a str, hex: &'a str },
+    /// `lagtool check FILE`: says of each line of a file what frame it is; `-` is standard input.
+    Check { file: &'a str },
+    /// `lagtool replay SCRIPT`: runs a script; `-` is standard input.
+    Replay { script: &'a str },
+    /// `lagtool vectors`: runs the vectors.
+    Vectors,
 }
 
 /// Why a command line asks for nothing (profile). `Help` and `Usage` carry the text to print.
 #[derive(Debug, Drop)]
 pub enum LineFault {
-    /// The words ask for help.
+    /// The words ask for help or for the version.
     Help(Error),
     /// The words name no job, or have too few or too many words for it.
     Usage(Error),
@@ -43,17 +50,25 @@ fn fault_in(error: Error) -> LineFault
 {
     match error.kind() {
         ErrorKind::OutOfMemory => LineFault::NoMemory,
-        ErrorKind::DisplayHelp => LineFault::Help(error),
+        ErrorKind::DisplayHelp | ErrorKind::DisplayVersion => LineFault::Help(error),
         _ => LineFault::Usage(error),
     }
 }
 
 /// A subcommand that takes no words yet.
-fn subcommand<'a>(alloc: Global, name: &'a str, about: &'a str) -> Command<'a>
+fn subcommand<'a>(alloc: Global, name: &'a str, about: &'a str, after: &'a str) -> Command<'a>
     ensures app { app_of result ≡ new_app name.entry.now }
     ensures local { (fields_of result).has_globals ≡ false }
 {
-    Command::new(alloc, name).about(about)
+    Command::new(alloc, name).about(about).after_help(after)
+}
+
+/// A subcommand that takes no words yet, and that the program's help does not list.
+fn unlisted<'a>(alloc: Global, name: &'a str, about: &'a str) -> Command<'a>
+    ensures app { app_of result ≡ new_app name.entry.now }
+    ensures local { (fields_of result).has_globals ≡ false }
+{
+    Command::new(alloc, name).about(about).hide(true)
 }
 
 /// The command with one word more that must be given.
@@ -69,22 +84,39 @@ fn with_word<'a>(
     command.arg(Arg::new(alloc, id).required(true).help(help))
 }
 
+/// The program without its subcommands.
+fn program_alone<'a>(alloc: Global) -> Result<Command<'a>, AllocError>
+    ensures { IfOk result (λ c. app_of c ≡ program_alone) }
+{
+    Command::new(alloc, "lagtool")
+        .version(help::VERSION)
+        .about(help::ABOUT)
+        .after_help(help::STATUSES)
+        .subcommand_required(true)
+        .disable_help_subcommand(true)
+        .bin_name("lagtool")
+}
+
 /// The program with its subcommands.
 fn program<'a>(alloc: Global) -> Result<Command<'a>, AllocError>
     ensures { IfOk result (λ c. app_of c ≡ lines) }
 {
-    let decode = subcommand(alloc, "decode", "Reads a payload");
-    let decode = with_word(decode, alloc, "HEX", "The payload in hexadecimal")?;
-    let respond = subcommand(alloc, "respond", "Answers a marker frame");
-    let mac = "The source of the answer, twelve hexadecimal digits";
-    let respond = with_word(respond, alloc, "MAC", mac)?;
-    let respond = with_word(respond, alloc, "HEX", "The frame in hexadecimal")?;
-    Command::new(alloc, "lagtool")
-        .bin_name("lagtool")?
-        .subcommand_required(true)
-        .disable_help_subcommand(true)
+    let decode = subcommand(alloc, "decode", help::DECODE, help::DECODE_EXAMPLE);
+    let decode = with_word(decode, alloc, "HEX", help::PAYLOAD)?;
+    let respond = subcommand(alloc, "respond", help::RESPOND, help::RESPOND_EXAMPLE);
+    let respond = with_word(respond, alloc, "MAC", help::SOURCE)?;
+    let respond = with_word(respond, alloc, "HEX", help::FRAME)?;
+    let check = subcommand(alloc, "check", help::CHECK, help::CHECK_EXAMPLE);
+    let check = with_word(check, alloc, "FILE", help::FRAMES)?;
+    let replay = unlisted(alloc, "replay", help::REPLAY);
+    let replay = with_word(replay, alloc, "SCRIPT", help::SCRIPT)?;
+    let vectors = unlisted(alloc, "vectors", help::VECTORS);
+    program_alone(alloc)?
         .subcommand(decode)?
-        .subcommand(respond)
+        .subcommand(respond)?
+        .subcommand(check)?
+        .subcommand(replay)?
+        .subcommand(vectors)
 }
 
 /// The job of a subcommand with its values.
@@ -101,18 +133,26 @@ fn job_in<'a>(matches: &ArgMatches<'a>) -> Job<'a>
             mac: values.get_str("MAC").unwrap(),
             hex: values.get_str("HEX").unwrap(),
         },
+        "check" => Job::Check {
+            file: values.get_str("FILE").unwrap(),
+        },
+        "replay" => Job::Replay {
+            script: values.get_str("SCRIPT").unwrap(),
+        },
+        "vectors" => Job::Vectors,
         _ => unreachable!(),
     }
 }
 
-/// Reads the words of a command line, the program's name first (profile). `Help` comes where they
-/// ask for help, `Usage` where they are no line of the program, `NoMemory` where memory ran out.
+/// Reads the words of a command line, the program's name first (profile). `Help` comes if they
+/// ask for help or for the version, `Usage` if they are no line of the program, `NoMemory` if memory
+/// ran out.
 pub fn read_line<'a, S: AsStr>(alloc: Global, words: &'a [S]) -> Result<Job<'a>, LineFault>
     // The job is the subcommand, with the values, that the words name.
     ensures job { IfOk result (λ job. IsJob (subcommand_of lines (map S.text words.entry.now)) job) }
     // A line with a fault has no job.
     ensures faultless { OnOk result (fault_of lines (map S.text words.entry.now) ≡ []) }
-    // Help is shown only where the words ask for it, and a usage fault is one of theirs.
+    // Help and the version are shown only if the words ask for them, and a usage fault is one of theirs.
     ensures fault { IfErr result (λ e. IsCause (fault_of lines (map S.text words.entry.now)) e) }
 {
     match program(alloc)?.try_get_matches_from(words) {

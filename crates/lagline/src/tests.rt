@@ -1,43 +1,104 @@
 use crate::line::{Job, LineFault, read_line};
-use std::alloc::Global;
+use std::alloc::{AllocError, Global};
+use std::test::Fail;
 
-/// What a line comes to, in a word.
-fn word_of(alloc: Global, words: &[&str]) -> &'static str {
+/// What a line comes to: a job with its words, or a fault.
+fn said_of(alloc: Global, words: &[&str]) -> Result<String, AllocError> {
     match read_line(alloc, words) {
-        Ok(Job::Decode { .. }) => "decode",
-        Ok(Job::Respond { .. }) => "respond",
-        Err(LineFault::Help(_)) => "help",
-        Err(LineFault::Usage(_)) => "usage",
-        Err(LineFault::NoMemory) => "no memory",
+        Ok(job) => format!(in alloc; "{job:?}"),
+        Err(LineFault::Help(_)) => String::from_str(alloc, "help"),
+        Err(LineFault::Usage(_)) => String::from_str(alloc, "usage"),
+        Err(LineFault::NoMemory) => String::from_str(alloc, "no memory"),
     }
 }
 
 #[test]
-fn lines_are_read(rt: HostRuntime) {
-    let alloc = rt.alloc();
-    let decode = ["lagtool", "decode", ""];
-    assert!(rt; matches!(read_line(alloc, &decode), Ok(Job::Decode { hex: "" })));
-    let respond = ["lagtool", "respond", "02", "0180"];
-    assert!(rt;
-        matches!(
-            read_line(alloc, &respond),
-            Ok(Job::Respond {
-                mac: "02",
-                hex: "0180"
-            })
-        )
-    );
+fn lines(rt: HostRuntime) -> Result<(), Fail> {
+    let rows: [(&[&str], &str); 18] = [
+        (&["lagtool", "decode", ""], "Decode { hex: \"\" }"),
+        (
+            &["lagtool", "respond", "02", "0180"],
+            "Respond { mac: \"02\", hex: \"0180\" }",
+        ),
+        (&["lagtool", "check", "-"], "Check { file: \"-\" }"),
+        (
+            &["lagtool", "replay", "a.toml"],
+            "Replay { script: \"a.toml\" }",
+        ),
+        (&["lagtool", "replay", "-"], "Replay { script: \"-\" }"),
+        (&["lagtool", "vectors"], "Vectors"),
+        (&["lagtool", "--help"], "help"),
+        (&["lagtool", "decode", "-h"], "help"),
+        (&["lagtool", "--version"], "help"),
+        (&["lagtool"], "usage"),
+        (&["lagtool", "decode"], "usage"),
+        (&["lagtool", "decode", "01", "02"], "usage"),
+        (&["lagtool", "respond", "02"], "usage"),
+        (&["lagtool", "check"], "usage"),
+        (&["lagtool", "replay", "a", "b"], "usage"),
+        (&["lagtool", "vectors", "1"], "usage"),
+        (&["lagtool", "help"], "usage"),
+        (&["lagtool", "decode", "--version"], "usage"),
+    ];
+    for (words, said) in rows {
+        let seen = said_of(rt.alloc(), words)?;
+        assert_eq!(rt; seen.as_str(), said, "{words:?}");
+    }
+    Ok(())
+}
+
+/// The text of help that a line asks for.
+fn help_of(alloc: Global, words: &[&str]) -> Result<String, AllocError> {
+    match read_line(alloc, words) {
+        Err(LineFault::Help(text)) => format!(in alloc; "{text}"),
+        _ => Ok(String::new(alloc)),
+    }
 }
 
 #[test]
-fn other_lines_are_refused(rt: HostRuntime) {
+fn help_says_what_words_mean(rt: HostRuntime) -> Result<(), Fail> {
     let alloc = rt.alloc();
-    assert_eq!(rt; word_of(alloc, &["lagtool", "--help"]), "help");
-    assert_eq!(rt; word_of(alloc, &["lagtool", "decode", "-h"]), "help");
-    assert_eq!(rt; word_of(alloc, &["lagtool"]), "usage");
-    assert_eq!(rt; word_of(alloc, &["lagtool", "decode"]), "usage");
-    assert_eq!(rt; word_of(alloc, &["lagtool", "decode", "01", "02"]), "usage");
-    assert_eq!(rt; word_of(alloc, &["lagtool", "respond", "02"]), "usage");
-    assert_eq!(rt; word_of(alloc, &["lagtool", "check", "-"]), "usage");
-    assert_eq!(rt; word_of(alloc, &["lagtool", "help"]), "usage");
+    let rows: [(&[&str], &[&str]); 5] = [
+        (
+            &["lagtool", "--help"],
+            &[
+                "LACPDUs", "decode", "respond", "check", "Status 0", "Status 1", "Status 2",
+            ],
+        ),
+        (
+            &["lagtool", "decode", "--help"],
+            &["EtherType 8809", "digits only", "lagtool decode 0101"],
+        ),
+        (
+            &["lagtool", "respond", "--help"],
+            &[
+                "twelve digits, no separators",
+                "a group address is no source",
+                "lagtool respond 02",
+            ],
+        ),
+        (
+            &["lagtool", "check", "--help"],
+            &[
+                "standard input",
+                "a line is a frame",
+                "lagtool check frames.txt",
+            ],
+        ),
+        (&["lagtool", "--version"], &["lagtool 0.1.0"]),
+    ];
+    for (words, parts) in rows {
+        let text = help_of(alloc, words)?;
+        for part in parts {
+            assert!(rt;
+                text.as_str().contains(*part),
+                "{words:?} does not say {part}: {text}"
+            );
+        }
+    }
+    let text = help_of(alloc, &["lagtool", "--help"])?;
+    for part in ["replay", "vectors"] {
+        assert!(rt; !text.as_str().contains(*part), "help lists {part}: {text}");
+    }
+    Ok(())
 }

@@ -1,1 +1,6 @@
 pub mod ConfigLemmas
+pub mod DocumentFaults
+pub mod DocumentLemmas
+pub mod WordLemmas
+pub mod Walks
+pub mod ScriptLemmas

@@ -1,1 +1,9 @@
 pub mod Configs
+pub mod Words
+pub mod Acts
+pub mod Readings
+pub mod Keys
+pub mod Tables
+pub mod Entries
+pub mod Scripts
+pub mod Seen

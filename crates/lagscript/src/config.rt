@@ -30,6 +30,7 @@ pub enum BadWorld {
     Lines,
 }
 
+/// Whether a port of these has this number.
 fn has_port(ports: &[PortConfig], number: u16) -> bool
     ensures { result ≡ has_port ports.now number }
 {

@@ -2,7 +2,20 @@
 #![tactic(auto)]
 
 mod config;
+mod entries;
 mod event;
+mod fault;
+mod lists;
+#[cfg(test)]
+mod reading_tests;
+mod script;
+mod tables;
+#[cfg(test)]
+mod tests;
+mod values;
+mod words;
 
 pub use config::{BadWorld, WorldConfig};
 pub use event::Event;
+pub use fault::{EntryFault, PortKey, ScriptFault, SystemKey};
+pub use script::read_script;

@@ -24,6 +24,7 @@ use Rattle.selection.specs.Views.{is_eligible}
 use Rattle.lagmodel.specs.View.{PortView, first_port, first_view, IsSetup}
 use Rattle.lagmodel.specs.Kept.{find_number, ports_of}
 use Rattle.distributor.specs.Moves.{flows_of}
+use Rattle.distributor.proofs.MoveLemmas.{first_flows}
 use Rattle.lagmodel.proofs.Base.{mapped_some, chosen as whichever}
 use Rattle.std.proofs.Common.{eqb-true}
 use Rattle.std.proofs.lemmas.Option.{none-some, same_Some}
@@ -239,7 +240,7 @@ first_shows s h =
     zip_ports number_of number (λ c. first_port (party_in s.system c)) shown_slot s.ports start (zip_weaker (Idles s.system) _ (λ c x m. (m.0, m.1.looks)) s.ports start idle) in
     λ i. record {
       port = λ q. (same_ports q ∙ first_ports q ∙ composed first_port (party_in s.system) (find_number number_of s.ports q)) i;
-      flows = flows_of (h.3 i);
+      flows = (ap flows_of h.3 ∙ first_flows (configured s) (length s.keys)) i;
     }
 
 -- a restart shows the first view

@@ -18,6 +18,7 @@ use Rattle.distributor.specs.declared.assignment.Assignment.{Assignment}
 use Rattle.distributor.specs.declared.assignment.Assignment.TheVariants.{Free}
 use Rattle.distributor.specs.Changes.{marker_due}
 use Rattle.distributor.specs.Conversations.{Table, first_table, state_of}
+use Rattle.distributor.proofs.TableLemmas.{first_free}
 use Rattle.lagsystem.specs.Readers.{agg_of_number, distributing}
 use Rattle.lagsystem.specs.declared.answers.Heard.{Heard}
 use Rattle.lagsystem.specs.declared.answers.Heard.TheVariants.{Taken, Response, Answered}
@@ -302,7 +303,7 @@ first_leaves aggs first s e = record {
   aggs = refl;
   first = refl;
   next = refl;
-  states = λ g k. (let free : state_of s.table g k ≡ Free None = ap (λ (t : Table). state_of t g k) e in
+  states = λ g k. (let free : state_of s.table g k ≡ Free None = ap (λ (t : Table). state_of t g k) e ∙ first_free aggs first g k in
       free ∙ sym (ap (left_on (distributing (agg_of_number g) s.slots)) free));
 }
 

@@ -1,5 +1,5 @@
 -- After every call a conversation is on a port only while that distributes in its aggregator.
-use Rattle.std.proofs.Common.{◌≡◌, ◌∙◌, ℕ, zero, suc, Bool, true, false, cond, ◌&&◌, eqb, List, [], ◌∷◌, Option, Some, None, Result, Ok, Err, refl, sym, ap, subst, ◌⊎◌, inl, inr}
+use Rattle.std.proofs.Common.{◌≡◌, ◌∙◌, ℕ, zero, suc, Bool, true, false, cond, ◌&&◌, eqb, List, [], ◌∷◌, Option, Some, None, Result, Ok, Err, refl, sym, ap, subst, ◌⊎◌, inl, inr, length}
 use Rattle.std.specs.Prelude.{if◌then◌else◌, slice_get, slice_set, filter, map}
 use Rattle.std.proofs.lemmas.Bool.{and_parts, eqb-true}
 use Rattle.std.proofs.lemmas.Option.{same_Some}
@@ -13,6 +13,7 @@ use Rattle.distributor.specs.Changes.{Sets, after_mark, after_release, marker_du
 use Rattle.distributor.specs.Conversations.{Table, next_identifier, state_of}
 use Rattle.distributor.specs.Moves.{conversation_of}
 use Rattle.distributor.proofs.MoveLemmas.{is_forced, is_moved}
+use Rattle.distributor.proofs.TableLemmas.{first_free}
 use Rattle.lagmodel.specs.View.{Conversation}
 use Rattle.lagsystem.specs.declared.answers.Heard.{Heard}
 use Rattle.lagsystem.specs.declared.answers.Heard.TheVariants.{Taken, Response, Answered}
@@ -40,7 +41,7 @@ not_on : (p : ℕ) (a : Assignment) → a ≡ On p → conversation_of a ≡ Con
 not_on p a e = ap conversation_of e
 
 pub first_carried : (s : State) → IsFirst s → AreCarried s
-first_carried s h g k p e = absurd (free p (sym (ap (λ (t : Table). state_of t g k) h.3) ∙ e))
+first_carried s h g k p e = absurd (free p (sym (ap (λ (t : Table). state_of t g k) h.3 ∙ first_free (length s.keys) s.first_marker g k) ∙ e))
   where
     free : (p : ℕ) → Free None ≡ On p → ⊥
     free p e = cc

@@ -10,6 +10,7 @@ mod first;
 mod kept;
 mod laws;
 mod leaving;
+mod load;
 mod offers;
 mod ports;
 mod readers;

@@ -2,6 +2,7 @@ mod configurations;
 mod conversations;
 mod driven;
 mod frames;
+mod load;
 mod memory;
 mod plan;
 

@@ -2,7 +2,7 @@
 use Rattle.std.specs.Prelude.{◌≡◌, ⊤, ℕ, Bool, List, Option, Result, Ok, Err, IsErr}
 use Rattle.hex.specs.Hex.{decode_of}
 use Rattle.lagtool.specs.declared.fault.ToolFault.{ToolFault}
-use Rattle.lagtool.specs.declared.fault.ToolFault.TheVariants.{Write, NoMemory, NotHex, NotMac}
+use Rattle.lagtool.specs.declared.fault.ToolFault.TheVariants.{Read, Write, NoMemory, NotHex, NotMac}
 use Rattle.lagtool.specs.Reports.{IsMac, IsReplied, IsShown}
 use Rattle.lagtool.specs.Sinks.{Breaks, SinkState, Takes}
 
@@ -10,6 +10,7 @@ use Rattle.lagtool.specs.Sinks.{Breaks, SinkState, Takes}
 abbrev pub HasNoOctets : List ℕ → ToolFault → Type 0
 HasNoOctets hex NotHex = IsErr (decode_of hex)
 HasNoOctets hex NoMemory = ⊤
+HasNoOctets hex Read = ⊥
 HasNoOctets hex Write = ⊥
 HasNoOctets hex NotMac = ⊥
 
@@ -19,6 +20,7 @@ Shows contents hex old new (Ok accepted) = (text : List ℕ) × IsShown hex text
 Shows contents hex old new (Err Write) = (text : List ℕ) × (accepted : Bool) × IsShown hex text accepted × Breaks contents old new text
 Shows contents hex old new (Err NoMemory) = new ≡ old
 Shows contents hex old new (Err NotHex) = IsErr (decode_of hex) × (new ≡ old)
+Shows contents hex old new (Err Read) = ⊥
 Shows contents hex old new (Err NotMac) = ⊥
 
 -- some address is said by these digits
@@ -31,4 +33,5 @@ Replies contents mac hex old new (Ok answered) = (text : List ℕ) × IsReplied 
 Replies contents mac hex old new (Err Write) = (text : List ℕ) × (answered : Bool) × IsReplied mac hex text answered × Breaks contents old new text
 Replies contents mac hex old new (Err NoMemory) = SaysMac mac × (new ≡ old)
 Replies contents mac hex old new (Err NotHex) = SaysMac mac × IsErr (decode_of hex) × (new ≡ old)
+Replies contents mac hex old new (Err Read) = ⊥
 Replies contents mac hex old new (Err NotMac) = (SaysMac mac → ⊥) × (new ≡ old)

@@ -1,4 +1,9 @@
 pub mod Texts
 pub mod Sinks
+pub mod Sources
 pub mod Reports
 pub mod Engines
+pub mod Verdicts
+pub mod Checked
+pub mod Writing
+pub mod Begun

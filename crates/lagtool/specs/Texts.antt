@@ -12,7 +12,7 @@ use Rattle.slowpdu.specs.declared.pdu.Pdu.TheVariants as pdu
 use Rattle.slowpdu.specs.declared.fault.WireFault.{WireFault}
 use Rattle.slowpdu.specs.declared.fault.WireFault.TheVariants.{Short, OtherSubtype, BadLength, MarkerTlv}
 use Rattle.lagtool.specs.declared.fault.ToolFault.{ToolFault}
-use Rattle.lagtool.specs.declared.fault.ToolFault.TheVariants.{Write, NoMemory, NotHex, NotMac}
+use Rattle.lagtool.specs.declared.fault.ToolFault.TheVariants.{Read, Write, NoMemory, NotHex, NotMac}
 
 -- SYSTEM key K port PORT state HH WORDS
 abbrev pub info_text : Info → List ℕ
@@ -37,16 +37,36 @@ abbrev pub pdu_text : Pdu → List ℕ
 pdu_text (pdu.Lacpdu v) = lacpdu_text v
 pdu_text (pdu.Marker m) = marker_text m
 
+-- what is said of a payload that is refused
+abbrev pub refusal_text : WireFault → List ℕ
+refusal_text (Short have) = codes "refused 1 short have " ++ decimal have
+refusal_text (OtherSubtype n) = codes "refused 2 subtype " ++ decimal n
+refusal_text (BadLength at found) = codes "refused 3 length at " ++ (decimal at ++ (codes " found " ++ decimal found))
+refusal_text (MarkerTlv n) = codes "refused 4 marker-tlv " ++ decimal n
+
 -- the line of a refusal
 abbrev pub wire_fault_text : WireFault → List ℕ
-wire_fault_text (Short have) = codes "refused 1 short have " ++ (decimal have ++ 10 ∷ [])
-wire_fault_text (OtherSubtype n) = codes "refused 2 subtype " ++ (decimal n ++ 10 ∷ [])
-wire_fault_text (BadLength at found) = codes "refused 3 length at " ++ (decimal at ++ (codes " found " ++ (decimal found ++ 10 ∷ [])))
-wire_fault_text (MarkerTlv n) = codes "refused 4 marker-tlv " ++ (decimal n ++ 10 ∷ [])
+wire_fault_text e = refusal_text e ++ 10 ∷ []
 
 -- why a line could not be done, as standard error says it behind `lagtool: `
 abbrev pub tool_fault_text : ToolFault → List ℕ
+tool_fault_text Read = codes "cannot read"
 tool_fault_text Write = codes "cannot write"
 tool_fault_text NoMemory = codes "out of memory"
 tool_fault_text NotHex = codes "not hex"
 tool_fault_text NotMac = codes "not a mac"
+
+-- a fault in reading names the file, which is the word of the line
+abbrev pub said_text : ToolFault → List ℕ → List ℕ
+said_text Read file = codes "cannot read " ++ file
+said_text Write file = codes "cannot write"
+said_text NoMemory file = codes "out of memory"
+said_text NotHex file = codes "not hex"
+said_text NotMac file = codes "not a mac"
+
+abbrev pub tool_fault_number : ToolFault → ℕ
+tool_fault_number Read = 1
+tool_fault_number Write = 2
+tool_fault_number NoMemory = 3
+tool_fault_number NotHex = 5
+tool_fault_number NotMac = 6

@@ -1,23 +1,41 @@
 ghost use Rattle.std.specs.Prelude.{◌≡◌, Some};
-ghost use Rattle.lagtool.specs.declared.fault.ToolFault.TheVariants.{NoMemory, Write};
-ghost use Rattle.lagtool.specs.Texts.{tool_fault_text};
+ghost use Rattle.lagtool.specs.declared.fault.ToolFault.TheVariants.{NoMemory, Read, Write};
+ghost use Rattle.lagtool.specs.Texts.{said_text, tool_fault_number, tool_fault_text};
 
 use crate::sink::WriteFailed;
+use crate::source::ReadFailed;
 use std::alloc::AllocError;
 use std::error::Error;
 use std::fmt;
 
-/// Why the program could not do what a line asks; each has a number, 2, 3, 5 or 6 (profile).
+/// Why the program could not do what a line asks (profile).
 #[derive(Clone, Copy, Debug, PartialEq, Eq)]
 pub enum ToolFault {
+    /// The file cannot be opened, or reading it failed.
+    Read,
     /// Standard output failed, or took none of some octets.
-    Write = 2,
+    Write,
     /// Memory ran out.
-    NoMemory = 3,
+    NoMemory,
     /// The payload or the frame is not hexadecimal.
-    NotHex = 5,
+    NotHex,
     /// The MAC address is not twelve hexadecimal digits.
-    NotMac = 6,
+    NotMac,
+}
+
+impl ToolFault {
+    /// Its number, 1, 2, 3, 5 or 6 (profile).
+    pub fn number(&self) -> u8
+        ensures { result ≡ tool_fault_number self.now }
+    {
+        match self {
+            ToolFault::Read => 1,
+            ToolFault::Write => 2,
+            ToolFault::NoMemory => 3,
+            ToolFault::NotHex => 5,
+            ToolFault::NotMac => 6,
+        }
+    }
 }
 
 impl fmt::Display for ToolFault {
@@ -25,6 +43,7 @@ impl fmt::Display for ToolFault {
 
     fn fmt<W: fmt::Write>(&self, f: &mut fmt::Formatter<W>) -> fmt::Result {
         match self {
+            ToolFault::Read => f.write_str("cannot read"),
             ToolFault::Write => f.write_str("cannot write"),
             ToolFault::NoMemory => f.write_str("out of memory"),
             ToolFault::NotHex => f.write_str("not hex"),
@@ -35,11 +54,38 @@ impl fmt::Display for ToolFault {
 
 impl Error for ToolFault {}
 
+/// What is said of a fault, with the file if it is one in reading (profile).
+#[derive(Clone, Copy)]
+pub struct FaultText<'a> {
+    pub fault: ToolFault,
+    /// The file, as the command line names it.
+    pub file: &'a str,
+}
+
+impl fmt::Display for FaultText<'_> {
+    ghost output = { λ t. Some (said_text t.fault t.file.now) };
+
+    fn fmt<W: fmt::Write>(&self, f: &mut fmt::Formatter<W>) -> fmt::Result {
+        match self.fault {
+            ToolFault::Read => write!(f, "cannot read {}", self.file),
+            fault => write!(f, "{fault}"),
+        }
+    }
+}
+
 impl From<AllocError> for ToolFault {
     ghost from_gives = { λ _ e. e ≡ NoMemory };
 
     fn from(_e: AllocError) -> ToolFault {
         ToolFault::NoMemory
+    }
+}
+
+impl From<ReadFailed> for ToolFault {
+    ghost from_gives = { λ _ e. e ≡ Read };
+
+    fn from(_e: ReadFailed) -> ToolFault {
+        ToolFault::Read
     }
 }
 

@@ -1,6 +1,6 @@
 ghost use Rattle.std.specs.Prelude.{◌≡◌, false};
 
-use crate::fault::ToolFault;
+use crate::fault::{FaultText, ToolFault};
 use crate::reply::reply;
 use crate::show::show;
 use crate::sink::Sink;
@@ -8,6 +8,8 @@ use std::alloc::{AllocError, Global};
 use std::io;
 use std::io::Write;
 use std::test::Fail;
+
+mod checks;
 
 /// A text in hexadecimal: each piece, and how often it stands there.
 type Pieces = &'static [(&'static str, usize)];
@@ -29,8 +31,23 @@ const MARKER: &str = "020101100001020000000001ffffffffbeef";
 
 const LACPDU: Pieces = &[(HEAD, 1), ("00", 66)];
 
-const PAYLOADS: [Row; 11] = [
+const PAYLOADS: [Row; 12] = [
     (LACPDU, true, ACTIVE_SHORT),
+    // No two fields are alike.
+    (
+        &[
+            ("01010114101112131415161718191a1b1c1d1e000000", 1),
+            ("0214202122232425262728292a2b2c2d2e0000000310", 1),
+            ("3031", 1),
+            ("00", 64),
+        ],
+        true,
+        "lacpdu
+actor 4113/12-13-14-15-16-17 key 6169 port 6683/7197 state 1e short,aggregatable,synchronized,collecting
+partner 8225/22-23-24-25-26-27 key 10281 port 10795/11309 state 2e short,aggregatable,synchronized,distributing
+max-delay 12337
+",
+    ),
     // Version 2, other TLV types, and reserved octets that are not zero.
     (
         &[
@@ -144,16 +161,18 @@ fn joined(alloc: Global, pieces: &[(&str, usize)]) -> Result<String, AllocError>
     Ok(text)
 }
 
-fn shown(alloc: Global, hex: &str) -> Result<(bool, Vec<u8>), ToolFault> {
+fn shown(alloc: Global, hex: &str) -> Result<(bool, String), ToolFault> {
     let mut sink = Sink::new(Vec::new(alloc));
     let accepted = show(alloc, hex, &mut sink)?;
-    Ok((accepted, sink.into_inner()))
+    let written = String::from_utf8_lossy(alloc, sink.into_inner().as_slice())?;
+    Ok((accepted, written))
 }
 
-fn replied(alloc: Global, mac: &str, hex: &str) -> Result<(bool, Vec<u8>), ToolFault> {
+fn replied(alloc: Global, mac: &str, hex: &str) -> Result<(bool, String), ToolFault> {
     let mut sink = Sink::new(Vec::new(alloc));
     let answered = reply(alloc, mac, hex, &mut sink)?;
-    Ok((answered, sink.into_inner()))
+    let written = String::from_utf8_lossy(alloc, sink.into_inner().as_slice())?;
+    Ok((answered, written))
 }
 
 #[test]
@@ -161,16 +180,12 @@ fn payloads_in_both_cases(rt: HostRuntime) -> Result<(), Fail> {
     for (pieces, accepted, text) in PAYLOADS {
         let mut hex = joined(rt.alloc(), pieces)?;
         let (verdict, written) = shown(rt.alloc(), hex.as_str())?;
-        assert!(rt;
-            verdict == accepted && written.as_slice() == text.as_bytes(),
-            "{hex}"
-        );
+        assert_eq!(rt; written.as_str(), text, "{hex}");
+        assert_eq!(rt; verdict, accepted, "{hex}");
         hex.make_ascii_uppercase();
         let (verdict, written) = shown(rt.alloc(), hex.as_str())?;
-        assert!(rt;
-            verdict == accepted && written.as_slice() == text.as_bytes(),
-            "{hex}"
-        );
+        assert_eq!(rt; written.as_str(), text, "{hex}");
+        assert_eq!(rt; verdict, accepted, "{hex}");
     }
     Ok(())
 }
@@ -195,10 +210,8 @@ fn a_marker_is_answered(rt: HostRuntime) -> Result<(), Fail> {
         let frame = joined(alloc, &marker)?;
         let text = joined(alloc, &answer)?;
         let (answered, written) = replied(alloc, mac, frame.as_str())?;
-        assert!(rt;
-            answered && written.as_slice() == text.as_str().as_bytes(),
-            "{mac}"
-        );
+        assert_eq!(rt; written.as_str(), text.as_str(), "{mac} {frame}");
+        assert!(rt; answered, "{mac} {frame}");
     }
     Ok(())
 }
@@ -208,10 +221,8 @@ fn other_frames_are_not_answered(rt: HostRuntime) -> Result<(), Fail> {
     for (pieces, text) in FRAMES {
         let frame = joined(rt.alloc(), pieces)?;
         let (answered, written) = replied(rt.alloc(), "020000000002", frame.as_str())?;
-        assert!(rt;
-            !answered && written.as_slice() == text.as_bytes(),
-            "{frame}"
-        );
+        assert_eq!(rt; written.as_str(), text, "{frame}");
+        assert!(rt; !answered, "{frame}");
     }
     Ok(())
 }
@@ -221,9 +232,9 @@ fn words_that_are_not_hexadecimal(rt: HostRuntime) {
     let alloc = rt.alloc();
     for hex in ["0", "010", "zz", "0g", "01 1", "0x01", "é1"] {
         let said = shown(alloc, hex);
-        assert!(rt; matches!(said, Err(ToolFault::NotHex)), "{hex}");
+        assert_eq!(rt; said, Err(ToolFault::NotHex), "decode {hex}");
         let said = replied(alloc, "020000000002", hex);
-        assert!(rt; matches!(said, Err(ToolFault::NotHex)), "{hex}");
+        assert_eq!(rt; said, Err(ToolFault::NotHex), "respond 020000000002 {hex}");
     }
 }
 
@@ -238,7 +249,7 @@ fn words_that_are_no_address(rt: HostRuntime) {
         "02000000000g",
     ] {
         let said = replied(rt.alloc(), mac, "zz");
-        assert!(rt; matches!(said, Err(ToolFault::NotMac)), "{mac}");
+        assert_eq!(rt; said, Err(ToolFault::NotMac), "respond {mac} zz");
     }
 }
 
@@ -290,8 +301,10 @@ fn a_sink_that_fails_at_each_octet(rt: HostRuntime) -> Result<(), Fail> {
         for errs in [false, true] {
             let mut sink = sink_of(alloc, room, errs);
             let answer = show(alloc, hex.as_str(), &mut sink);
-            assert!(rt; answer == expected && sink.failed() != fits, "at {room}");
-            assert_eq!(rt; sink.into_inner().taken.as_slice(), &text[..room]);
+            assert_eq!(rt; answer, expected, "room for {room} octets");
+            assert_eq!(rt; sink.failed(), !fits, "room for {room} octets");
+            let taken = sink.into_inner().taken;
+            assert_eq!(rt; taken.as_slice(), &text[..room], "room for {room} octets");
         }
     }
     Ok(())
@@ -303,21 +316,26 @@ fn an_answer_into_a_sink_that_fails(rt: HostRuntime) {
     for (room, expected) in [(14, Err(ToolFault::Write)), (15, Ok(false))] {
         let mut sink = sink_of(rt.alloc(), room, false);
         let answer = reply(rt.alloc(), "020000000002", "00", &mut sink);
-        assert!(rt; answer == expected, "at {room}");
-        assert_eq!(rt; sink.into_inner().taken.as_slice(), &text[..room]);
+        assert_eq!(rt; answer, expected, "room for {room} octets");
+        let taken = sink.into_inner().taken;
+        assert_eq!(rt; taken.as_slice(), &text[..room], "room for {room} octets");
     }
 }
 
 #[test]
 fn faults_have_numbers_and_texts(rt: HostRuntime) -> Result<(), Fail> {
-    for (fault, number, text) in [
-        (ToolFault::Write, 2, "cannot write"),
-        (ToolFault::NoMemory, 3, "out of memory"),
-        (ToolFault::NotHex, 5, "not hex"),
-        (ToolFault::NotMac, 6, "not a mac"),
+    let alloc = rt.alloc();
+    for (fault, number, text, said) in [
+        (ToolFault::Read, 1, "cannot read", "cannot read a b"),
+        (ToolFault::Write, 2, "cannot write", "cannot write"),
+        (ToolFault::NoMemory, 3, "out of memory", "out of memory"),
+        (ToolFault::NotHex, 5, "not hex", "not hex"),
+        (ToolFault::NotMac, 6, "not a mac", "not a mac"),
     ] {
-        assert_eq!(rt; fault as u8, number);
-        assert_eq!(rt; format!(in rt.alloc(); "{fault}")?.as_str(), text);
+        assert_eq!(rt; fault.number(), number, "{fault}");
+        assert_eq!(rt; format!(in alloc; "{fault}")?.as_str(), text);
+        let named = FaultText { fault, file: "a b" };
+        assert_eq!(rt; format!(in alloc; "{named}")?.as_str(), said);
     }
     Ok(())
 }

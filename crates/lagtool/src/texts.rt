@@ -1,5 +1,5 @@
 ghost use Rattle.std.specs.Prelude.{Some};
-ghost use Rattle.lagtool.specs.Texts.{info_text, kind_text, lacpdu_text, marker_text, pdu_text, wire_fault_text};
+ghost use Rattle.lagtool.specs.Texts.{info_text, kind_text, lacpdu_text, marker_text, pdu_text, refusal_text, wire_fault_text};
 
 use lagtypes::MacText;
 use slowpdu::{Info, Lacpdu, Marker, MarkerKind, Pdu, WireFault};
@@ -91,6 +91,25 @@ impl fmt::Display for PduText<'_> {
     }
 }
 
+/// Why a payload is refused (profile).
+#[derive(Clone, Copy)]
+pub struct RefusalText(pub WireFault);
+
+impl fmt::Display for RefusalText {
+    ghost output = { λ t. Some (refusal_text t.0) };
+
+    fn fmt<W: fmt::Write>(&self, f: &mut fmt::Formatter<W>) -> fmt::Result {
+        match self.0 {
+            WireFault::Short { have } => write!(f, "refused 1 short have {have}"),
+            WireFault::OtherSubtype(subtype) => write!(f, "refused 2 subtype {subtype}"),
+            WireFault::BadLength { at, found } => {
+                write!(f, "refused 3 length at {at} found {found}")
+            }
+            WireFault::MarkerTlv(kind) => write!(f, "refused 4 marker-tlv {kind}"),
+        }
+    }
+}
+
 /// The line for a payload that was refused (profile).
 #[derive(Clone, Copy)]
 pub struct WireFaultText(pub WireFault);
@@ -99,13 +118,6 @@ impl fmt::Display for WireFaultText {
     ghost output = { λ t. Some (wire_fault_text t.0) };
 
     fn fmt<W: fmt::Write>(&self, f: &mut fmt::Formatter<W>) -> fmt::Result {
-        match self.0 {
-            WireFault::Short { have } => write!(f, "refused 1 short have {have}\n"),
-            WireFault::OtherSubtype(subtype) => write!(f, "refused 2 subtype {subtype}\n"),
-            WireFault::BadLength { at, found } => {
-                write!(f, "refused 3 length at {at} found {found}\n")
-            }
-            WireFault::MarkerTlv(kind) => write!(f, "refused 4 marker-tlv {kind}\n"),
-        }
+        write!(f, "{}\n", RefusalText(self.0))
     }
 }

@@ -18,6 +18,7 @@ mod readers;
 mod reply;
 mod sending;
 mod sent;
+mod start;
 mod world;
 
 pub use agreement::Agreement;

@@ -3,14 +3,15 @@ ghost use Rattle.distributor.specs.Calls.{PicksPlaces};
 ghost use Rattle.lagmodel.specs.World.{Side, Happens};
 ghost use Rattle.lagmodel.specs.Law.{OnePartner, Agree, InOrder};
 ghost use Rattle.lagworld.specs.Events.{Runs, Steps, cause, fault_for, told};
-ghost use Rattle.lagworld.specs.Sound.{Carries, IsSound, Stops, WorldRun, gives_by};
+ghost use Rattle.lagworld.specs.Making.{IsMade, Refuses, refusal_with};
+ghost use Rattle.lagworld.specs.Sound.{Carries, IsSound, IsStart, Stops, WorldRun, gives_by};
 ghost use Rattle.lagworld.specs.Worlds.{fixed_of, world_of};
 
 use crate::fault::{RunFault, WorldFault};
 use crate::kept::Core;
 use crate::reply::Reply;
 use cables::Cable;
-use lagscript::Event;
+use lagscript::{Event, WorldConfig};
 use std::alloc::Global;
 use std::marker::Model;
 
@@ -33,6 +34,31 @@ impl<C: Cable, F> Model for World<C, F> {
 }
 
 impl<C: Cable, F: Fn(u16, usize) -> usize + Drop> World<C, F> {
+    /// Two systems in their first states, and every cable whole and empty. A cable joins a port of system 1 and one of
+    /// system 2; of its two lines the first leads to system 1. Refused are, in this order, a configuration of system 1 and
+    /// one of system 2 that `System::new` refuses, two systems of one identifier, the first cable with an end that is no
+    /// port or has a cable already, and lines that are not as many as the cables or on which something is. `NoMemory` may
+    /// come before any of these (profile).
+    pub fn new(
+        alloc: Global,
+        config: WorldConfig,
+        one: F,
+        two: F,
+        lines: Vec<(C, C)>,
+    ) -> Result<World<C, F>, WorldFault>
+        requires one { PicksPlaces (F.pre one) (F.post one) }
+        requires two { PicksPlaces (F.pre two) (F.post two) }
+        ensures accepted { IfOk result (λ world. refusal_with C.items config lines.items ≡ None) }
+        ensures made { IfOk result (λ world. IsMade C.items C.limit config lines.items world.joint) }
+        ensures start { IfOk result (λ world. IsStart world.joint) }
+        ensures algorithm_one { IfOk result (λ world. world.one ≡ one) }
+        ensures algorithm_two { IfOk result (λ world. world.two ≡ two) }
+        ensures refused { IfErr result (λ fault. Refuses (refusal_with C.items config lines.items) fault) }
+    {
+        let core = Core::new(alloc, config, one, two, lines)?;
+        Ok(World { core })
+    }
+
     /// One event, and what came of it. It acts or changes nothing. Refused are, in this order, a cable and a system that do
     /// not exist, and any event after 2^63 have acted; `NoMemory` comes before a system refuses.
     pub fn step(&mut self, event: &Event) -> Result<Reply, WorldFault>

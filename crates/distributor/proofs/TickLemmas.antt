@@ -1,0 +1,107 @@
+-- A tick that passes for one chain after the other.
+use Rattle.std.proofs.Common.{ℕ, ◌+◌, ◌<◌, ◌≤◌, ◌≡◌, ◌&&◌, Bool, true, false, cond, eqb, List, length, None, get_or, map, refl, ap, sym, ◌∙◌, arith, inl, inr}
+use Rattle.std.specs.Prelude.{ltb}
+use Rattle.std.proofs.lemmas.Bool.{cases_Bool, cond-true, cond-false, eq-eqb, eqb-true, false≢true, le-ltb, lt-ltb, ltb-false, ltb-true, ne_eqb}
+use Rattle.std.proofs.lemmas.List.{ext_get_or, get_or-map, length-map}
+use Rattle.std.proofs.lemmas.Nat.{mod_below}
+use Rattle.distributor.specs.declared.assignment.Assignment.{Assignment}
+use Rattle.distributor.specs.declared.assignment.Assignment.TheVariants.{Free, On, Wanted, Flushing}
+use Rattle.distributor.specs.Changes.{after_tick}
+use Rattle.distributor.specs.Chains.{chain_of, port_of, stands_in, flushes_in, within, state_at, IsFlagged}
+use Rattle.distributor.proofs.WalkLemmas.{cond_same, stands_alike, tick_port}
+use Rattle.distributor.proofs.TableLemmas.{map_at}
+
+-- a state, where the tick has passed for the chains below this one
+abbrev pub ticked : ℕ → Assignment → Assignment
+ticked chain (Free preferred) = Free preferred
+ticked chain (On port) = On port
+ticked chain (Wanted port preferred) = Wanted port preferred
+ticked chain (Flushing port id preferred age) = cond (ltb (chain_of port) chain) (after_tick (Flushing port id preferred age)) (Flushing port id preferred age)
+
+-- the tick has passed for the chains below this one
+pub record Ticking (chain : ℕ) (olds states : List Assignment) : Type 0 where
+  pub long : length states ≡ length olds
+  pub each : (k : ℕ) → state_at states k ≡ ticked chain (state_at olds k)
+
+ticked_first : (s : Assignment) → s ≡ ticked 0 s
+ticked_first (Free preferred) = refl
+ticked_first (On port) = refl
+ticked_first (Wanted port preferred) = refl
+ticked_first (Flushing port id preferred age) = sym (cond-false (ltb (chain_of port) 0) _ _ (le-ltb (chain_of port) 0 (omega arith)))
+
+ticked_last : (s : Assignment) → ticked 64 s ≡ after_tick s
+ticked_last (Free preferred) = refl
+ticked_last (On port) = refl
+ticked_last (Wanted port preferred) = refl
+ticked_last (Flushing port id preferred age) = cond-true (ltb (chain_of port) 64) _ _ (lt-ltb (chain_of port) 64 (mod_below port 64 (omega arith)))
+
+-- below the next chain is below this one or in it
+next_below : (n c : ℕ) → ltb n c ≡ false → eqb n c ≡ ltb n (c + 1)
+next_below n c g = elim (cases_Bool (eqb n c)) [
+  | inl e ↦ (let here : n < c + 1 = omega (arith, eqb-true n c e) in e ∙ sym (lt-ltb n (c + 1) here))
+  | inr m ↦ (let past : c + 1 ≤ n = omega (arith, ltb-false n c g, apart m) in m ∙ sym (le-ltb n (c + 1) past))
+]
+  where
+    apart : eqb n c ≡ false → n ≡ c → ⊥
+    apart m e = false≢true (sym m ∙ eq-eqb n c e)
+
+-- one more chain
+ticked_more : (c : ℕ) (s : Assignment) → within c after_tick (ticked c s) ≡ ticked (c + 1) s
+ticked_more c (Free preferred) = refl
+ticked_more c (On port) = cond_same (eqb (chain_of port) c) (On port)
+ticked_more c (Wanted port preferred) = cond_same (eqb (chain_of port) c) (Wanted port preferred)
+ticked_more c (Flushing port id preferred age) = elim (cases_Bool (ltb (chain_of port) c)) [
+  | inl e ↦ (let below : chain_of port < c = ltb-true (chain_of port) c e in
+      let apart : chain_of port ≡ c → ⊥ = λ m. omega (arith, m, below) in
+      let out : stands_in c (after_tick (Flushing port id preferred age)) ≡ false = stands_alike c (after_tick (Flushing port id preferred age)) (Flushing port id preferred age) (port_of (Flushing port id preferred age)) (tick_port (Flushing port id preferred age)) refl ∙ ne_eqb (chain_of port) c apart in
+      let more : chain_of port < c + 1 = omega (arith, below) in
+      ap (within c after_tick) (cond-true (ltb (chain_of port) c) (after_tick (Flushing port id preferred age)) (Flushing port id preferred age) e)
+      ∙ cond-false (stands_in c (after_tick (Flushing port id preferred age))) (after_tick (after_tick (Flushing port id preferred age))) (after_tick (Flushing port id preferred age)) out
+      ∙ sym (cond-true (ltb (chain_of port) (c + 1)) (after_tick (Flushing port id preferred age)) (Flushing port id preferred age) (lt-ltb (chain_of port) (c + 1) more)))
+  | inr g ↦ ap (within c after_tick) (cond-false (ltb (chain_of port) c) (after_tick (Flushing port id preferred age)) (Flushing port id preferred age) g)
+      ∙ ap (λ b. cond b (after_tick (Flushing port id preferred age)) (Flushing port id preferred age)) (next_below (chain_of port) c g)
+]
+
+-- a chain in which nothing is Flushing
+ticked_still : (c : ℕ) (s : Assignment) → flushes_in c (ticked c s) ≡ false → ticked c s ≡ ticked (c + 1) s
+ticked_still c (Free preferred) n = refl
+ticked_still c (On port) n = refl
+ticked_still c (Wanted port preferred) n = refl
+ticked_still c (Flushing port id preferred age) n = elim (cases_Bool (ltb (chain_of port) c)) [
+  | inl e ↦ (let more : chain_of port < c + 1 = omega (arith, ltb-true (chain_of port) c e) in
+      cond-true (ltb (chain_of port) c) (after_tick (Flushing port id preferred age)) (Flushing port id preferred age) e
+      ∙ sym (cond-true (ltb (chain_of port) (c + 1)) (after_tick (Flushing port id preferred age)) (Flushing port id preferred age) (lt-ltb (chain_of port) (c + 1) more)))
+  | inr g ↦ (let same = cond-false (ltb (chain_of port) c) (after_tick (Flushing port id preferred age)) (Flushing port id preferred age) g in
+      same ∙ sym (cond-false (ltb (chain_of port) (c + 1)) (after_tick (Flushing port id preferred age)) (Flushing port id preferred age)
+      (sym (next_below (chain_of port) c g) ∙ sym (and_one (eqb (chain_of port) c)) ∙ sym (ap (flushes_in c) same) ∙ n)))
+]
+  where
+    and_one : (b : Bool) → (b && true) ≡ b
+    and_one true = refl
+    and_one false = refl
+
+pub tick_begins : (olds : List Assignment) → Ticking 0 olds olds
+tick_begins olds = record { long = refl; each = λ k. ticked_first (state_at olds k) }
+
+pub tick_walked : (c : ℕ) (olds states news : List Assignment) → Ticking c olds states → news ≡ map (within c after_tick) states → Ticking (c + 1) olds news
+tick_walked c olds states news h is = record {
+  long = ap length is ∙ length-map states (within c after_tick) ∙ h.long;
+  each = λ k. ap (λ l. state_at l k) is ∙ map_at (within c after_tick) refl states k ∙ ap (within c after_tick) (h.each k) ∙ ticked_more c (state_at olds k);
+}
+
+pub tick_passed : (c : ℕ) (olds states : List Assignment) (flags : List Bool) → Ticking c olds states → IsFlagged states flags → get_or flags c false ≡ false → Ticking (c + 1) olds states
+tick_passed c olds states flags h f none = record {
+  long = h.long;
+  each = λ k. h.each k ∙ ticked_still c (state_at olds k) (sym (ap (flushes_in c) (h.each k)) ∙ still k);
+}
+  where
+    still : (k : ℕ) → flushes_in c (state_at states k) ≡ false
+    still k = elim (cases_Bool (flushes_in c (state_at states k))) [
+      | inl e ↦ absurd (false≢true (sym none ∙ f.flagged c k e))
+      | inr g ↦ g
+    ]
+
+pub tick_ends : (olds states : List Assignment) → Ticking 64 olds states → states ≡ map after_tick olds
+tick_ends olds states h = ext_get_or (Free None) states (map after_tick olds) (h.long ∙ sym (length-map olds after_tick))
+    (λ k lt. (let low : k < length olds = omega (arith, lt, h.long) in
+    h.each k ∙ ticked_last (state_at olds k) ∙ sym (get_or-map after_tick olds k (Free None) (Free None) low)))

@@ -1,0 +1,93 @@
+-- How the slots of conversations are chained: each that is not free stands in the chain of its port number modulo 64.
+use Rattle.std.specs.Prelude.{ℕ, ◌+◌, ◌%◌, ◌<◌, ◌^◌, ◌≡◌, ◌&&◌, Bool, true, false, cond, eqb, List, [], ◌∷◌, length, get_or, Option, None, Some}
+use Rattle.distributor.specs.declared.assignment.Assignment.{Assignment}
+use Rattle.distributor.specs.declared.assignment.Assignment.TheVariants.{Free, On, Wanted, Flushing}
+use Rattle.distributor.specs.declared.slots.Test.{Test}
+use Rattle.distributor.specs.declared.slots.Test.TheVariants.{WantsMarker, WaitsFor, IsOf}
+use Rattle.distributor.specs.Changes.{wants_marker, waits_for}
+
+-- the port on which a conversation is On, Wanted or Flushing
+abbrev pub port_of : Assignment → Option ℕ
+port_of (Free preferred) = None
+port_of (On port) = Some port
+port_of (Wanted port preferred) = Some port
+port_of (Flushing port id preferred age) = Some port
+
+-- the chain of a port
+abbrev pub chain_of : ℕ → ℕ
+chain_of port = port % 64
+
+-- whether a conversation in this state stands in the chain
+abbrev pub stands_in : ℕ → Assignment → Bool
+stands_in chain (Free preferred) = false
+stands_in chain (On port) = eqb (chain_of port) chain
+stands_in chain (Wanted port preferred) = eqb (chain_of port) chain
+stands_in chain (Flushing port id preferred age) = eqb (chain_of port) chain
+
+-- whether it waits for a response
+abbrev pub is_flushing : Assignment → Bool
+is_flushing (Free preferred) = false
+is_flushing (On port) = false
+is_flushing (Wanted port preferred) = false
+is_flushing (Flushing port id preferred age) = true
+
+-- whether it stands in the chain and waits for a response
+abbrev pub flushes_in : ℕ → Assignment → Bool
+flushes_in chain s = stands_in chain s && is_flushing s
+
+-- whether it is On, Wanted or Flushing on the port
+abbrev pub is_of_port : ℕ → Assignment → Bool
+is_of_port port (Free preferred) = false
+is_of_port port (On p) = eqb p port
+is_of_port port (Wanted p preferred) = eqb p port
+is_of_port port (Flushing p id preferred age) = eqb p port
+
+-- whether it is counted by the test
+abbrev pub passes : Test → Assignment → Bool
+passes (WantsMarker port) s = wants_marker port s
+passes (WaitsFor port id) s = waits_for port id s
+passes (IsOf port) s = is_of_port port s
+
+-- the port of a test: whatever passes is on it
+abbrev pub tested_port : Test → ℕ
+tested_port (WantsMarker port) = port
+tested_port (WaitsFor port id) = port
+tested_port (IsOf port) = port
+
+-- a change of the states in one chain
+abbrev pub within : ℕ → (Assignment → Assignment) → Assignment → Assignment
+within chain change s = cond (stands_in chain s) (change s) s
+
+-- how often a slot number comes
+abbrev pub occurs : ℕ → List ℕ → ℕ
+occurs k [] = 0
+occurs k (x ∷ xs) = cond (eqb k x) 1 0 + occurs k xs
+
+-- the slot b comes right after the slot a
+abbrev pub Joined : List ℕ → List ℕ → ℕ → ℕ → Type 0
+Joined next prev a b = (get_or next a 0 ≡ b) × (get_or prev b 0 ≡ a)
+
+-- the links lead from a through these slots to b, and back
+abbrev pub Path : List ℕ → List ℕ → ℕ → List ℕ → ℕ → Type 0
+Path next prev a [] b = Joined next prev a b
+Path next prev a (x ∷ xs) b = Joined next prev a x × Path next prev x xs b
+
+-- the state of a slot; past the last one it is free
+abbrev pub state_at : List Assignment → ℕ → Assignment
+state_at states slot = get_or states slot (Free None)
+
+-- The links of 64 chains through the slots. Chain c is a ring that begins and ends at the place after the slots and c more.
+-- A slot comes in the chain in which its state stands, once, and in no other.
+pub record IsLinked (count : ℕ) (states : List Assignment) (next prev : List ℕ) : Type 0 where
+  pub few : count + 64 < 2 ^ 32
+  pub states_len : length states ≡ count
+  pub next_len : length next ≡ count + 64
+  pub prev_len : length prev ≡ count + 64
+  pub chains : ℕ → List ℕ
+  pub joined : (c : ℕ) → c < 64 → Path next prev (count + c) (chains c) (count + c)
+  pub homes : (c k : ℕ) → occurs k (chains c) ≡ cond (stands_in c (state_at states k)) 1 0
+
+-- The flag of a chain is set if a conversation in it is Flushing.
+pub record IsFlagged (states : List Assignment) (flags : List Bool) : Type 0 where
+  pub flags_len : length flags ≡ 64
+  pub flagged : (c k : ℕ) → flushes_in c (state_at states k) ≡ true → get_or flags c false ≡ true

@@ -1,0 +1,15 @@
+-- What is true of the slots of the conversations, 256 an aggregator.
+use Rattle.std.specs.Prelude.{ℕ, ◌*◌, ◌≡◌}
+use Rattle.distributor.specs.declared.slots.Slots.{Slots}
+use Rattle.distributor.specs.Chains.{IsFlagged, IsLinked}
+
+abbrev pub AreLinked : Slots → Type 0
+AreLinked s = IsLinked s.count s.states.items s.next.items s.prev.items
+
+abbrev pub AreFlagged : Slots → Type 0
+AreFlagged s = IsFlagged s.states.items s.flushing.items
+
+pub record AreKept (aggs : ℕ) (s : Slots) : Type 0 where
+  pub count : s.count ≡ aggs * 256
+  pub linked : AreLinked s
+  pub flagged : AreFlagged s

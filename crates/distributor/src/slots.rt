@@ -1,0 +1,295 @@
+ghost use Rattle.std.specs.Prelude.{false, ◌≡◌, ◌+◌, ◌%◌, ◌<◌, ◌≤◌, ◌^◌, length, get_or, set, map, cond, ℕ, None, IfOk, replicate};
+ghost use Rattle.distributor.specs.Chains.{port_of, chain_of, state_at, is_flushing};
+ghost use Rattle.distributor.specs.Slots.{AreLinked, AreFlagged};
+ghost use Rattle.distributor.specs.Changes.{after, after_tick};
+ghost use Rattle.distributor.specs.Chains.{within, passes, tested_port};
+ghost use Rattle.distributor.specs.Conversations.{sum_below};
+ghost use Rattle.distributor.specs.declared.assignment.Assignment.{Assignment};
+
+use crate::assignment::Assignment;
+use crate::change::Change;
+use std::alloc::{AllocError, Global};
+
+/// How many chains there are.
+const CHAINS: u32 = 64;
+
+/// The states of the conversations, one slot each. Each that is not free stands in the chain of its
+/// port number modulo 64, by the numbers of the slots after and before it. A chain begins and ends at
+/// a place of its own after the slots. A chain in which a conversation is Flushing has its flag set.
+#[derive(Drop)]
+pub(crate) struct Slots {
+    count: u32,
+    states: Vec<Assignment>,
+    next: Vec<u32>,
+    prev: Vec<u32>,
+    flushing: Vec<bool>,
+}
+
+/// What a conversation is counted by.
+#[derive(Clone, Copy, Debug)]
+pub(crate) enum Test {
+    /// Whether it is held until a marker is sent on this port.
+    WantsMarker(u16),
+    /// Whether it is held until this response comes on this port.
+    WaitsFor(u16, u32),
+    /// Whether it is On, Wanted or Flushing on this port.
+    IsOf(u16),
+}
+
+impl Test {
+    fn passes(&self, state: Assignment) -> bool
+        ensures { result ≡ passes self.now state }
+    {
+        match *self {
+            Test::WantsMarker(port) => state.wants_marker(port),
+            Test::WaitsFor(port, id) => state.waits_for(port, id),
+            Test::IsOf(port) => state.is_of(port),
+        }
+    }
+
+    fn chain(&self) -> u32
+        ensures chain { result ≡ chain_of (tested_port self.now) }
+        ensures below { result < 64 }
+    {
+        match *self {
+            Test::WantsMarker(port) | Test::WaitsFor(port, _) | Test::IsOf(port) => chain(port),
+        }
+    }
+}
+
+impl Slots {
+    /// So many free slots.
+    pub(crate) fn new(alloc: Global, count: u32) -> Result<Slots, AllocError>
+        requires few { count + 64 < 2 ^ 32 }
+        ensures linked { IfOk result (λ s. AreLinked s) }
+        ensures flagged { IfOk result (λ s. AreFlagged s) }
+        ensures states { IfOk result (λ s. s.states.items ≡ replicate count (Assignment.Free None)) }
+        ensures count { IfOk result (λ s. s.count ≡ count) }
+    {
+        let places = count + CHAINS;
+        let states = vec![in alloc; Assignment::Free { preferred: None }; count as usize]?;
+        let mut next = vec![in alloc; 0; places as usize]?;
+        let mut prev = vec![in alloc; 0; places as usize]?;
+        let flushing = vec![in alloc; false; CHAINS as usize]?;
+        close(&mut next, places);
+        close(&mut prev, places);
+        Ok(Slots {
+            count,
+            states,
+            next,
+            prev,
+            flushing,
+        })
+    }
+
+    pub(crate) fn state(&self, slot: u32) -> Assignment
+        requires linked { AreLinked self.now }
+        requires inside { slot < self.now.count }
+        ensures { result ≡ state_at self.now.states.items slot }
+    {
+        self.states[slot as usize]
+    }
+
+    /// Gives a slot a state that isn't Flushing, in the chain where that stands.
+    pub(crate) fn set(&mut self, slot: u32, state: Assignment)
+        requires linked { AreLinked self.old }
+        requires flagged { AreFlagged self.old }
+        requires inside { slot < self.old.count }
+        requires still { is_flushing state ≡ false }
+        ensures linked { AreLinked self.new }
+        ensures flagged { AreFlagged self.new }
+        ensures states { self.new.states.items ≡ set self.old.states.items slot state }
+        ensures count { self.new.count ≡ self.old.count }
+    {
+        self.vacate(slot);
+        self.fill(slot, state);
+    }
+
+    /// Changes each state that stands in the chain of this port.
+    pub(crate) fn change(&mut self, port: u16, change: Change)
+        requires linked { AreLinked self.old }
+        requires flagged { AreFlagged self.old }
+        ensures linked { AreLinked self.new }
+        ensures flagged { AreFlagged self.new }
+        ensures states { self.new.states.items ≡ map (within (chain_of port) (after change)) self.old.states.items }
+        ensures count { self.new.count ≡ self.old.count }
+    {
+        self.change_chain(chain(port), change);
+    }
+
+    /// Changes each state that stands in this chain, and sets the chain's flag anew.
+    fn change_chain(&mut self, chain: u32, change: Change)
+        requires linked { AreLinked self.old }
+        requires flagged { AreFlagged self.old }
+        requires below { chain < 64 }
+        ensures linked { AreLinked self.new }
+        ensures flagged { AreFlagged self.new }
+        ensures states { self.new.states.items ≡ map (within chain (after change)) self.old.states.items }
+        ensures count { self.new.count ≡ self.old.count }
+    {
+        let end = self.count + chain;
+        let mut at = self.next[end as usize];
+        let mut flushing = false;
+        while at != end {
+            let slot = at;
+            at = self.next[slot as usize];
+            let state = change.apply(self.states[slot as usize]);
+            flushing |= state.is_flushing();
+            match state.port() {
+                None => {
+                    unlink(&mut self.next, &mut self.prev, slot);
+                    self.states[slot as usize] = state;
+                }
+                Some(_) => self.states[slot as usize] = state,
+            }
+        }
+        self.flushing[chain as usize] = flushing;
+    }
+
+    /// How many conversations pass.
+    pub(crate) fn count(&self, test: Test) -> u32
+        requires linked { AreLinked self.now }
+        ensures { result ≡ sum_below (λ k. cond (passes test (state_at self.now.states.items k)) 1 0) self.now.count }
+    {
+        let end = self.count + test.chain();
+        let mut at = self.next[end as usize];
+        let mut count = 0;
+        while at != end {
+            let passes = test.passes(self.states[at as usize]);
+            count += u32::from(passes);
+            at = self.next[at as usize];
+        }
+        count
+    }
+
+    /// A tick passes for each conversation. Only the chains whose flag is set are walked.
+    pub(crate) fn tick(&mut self)
+        requires linked { AreLinked self.old }
+        requires flagged { AreFlagged self.old }
+        ensures linked { AreLinked self.new }
+        ensures flagged { AreFlagged self.new }
+        ensures states { self.new.states.items ≡ map after_tick self.old.states.items }
+        ensures count { self.new.count ≡ self.old.count }
+    {
+        for chain in 0..CHAINS {
+            if self.flushing[chain as usize] {
+                self.change_chain(chain, Change::Tick);
+            }
+        }
+    }
+
+    /// Makes every slot free.
+    pub(crate) fn clear(&mut self)
+        requires linked { AreLinked self.old }
+        requires flagged { AreFlagged self.old }
+        ensures linked { AreLinked self.new }
+        ensures flagged { AreFlagged self.new }
+        ensures states { self.new.states.items ≡ replicate self.old.count (Assignment.Free None) }
+        ensures count { self.new.count ≡ self.old.count }
+    {
+        let places = self.count + CHAINS;
+        free_each(&mut self.states, self.count);
+        close(&mut self.next, places);
+        close(&mut self.prev, places);
+    }
+
+    /// Makes a slot free, out of the chain where it stands.
+    fn vacate(&mut self, slot: u32)
+        requires linked { AreLinked self.old }
+        requires inside { slot < self.old.count }
+        ensures linked { AreLinked self.new }
+        ensures states { self.new.states.items ≡ set self.old.states.items slot (Assignment.Free None) }
+        ensures count { self.new.count ≡ self.old.count }
+        ensures flushing { self.new.flushing ≡ self.old.flushing }
+    {
+        let free = Assignment::Free { preferred: None };
+        let state = self.states[slot as usize];
+        match state.port() {
+            None => self.states[slot as usize] = free,
+            Some(_) => {
+                unlink(&mut self.next, &mut self.prev, slot);
+                self.states[slot as usize] = free;
+            }
+        }
+    }
+
+    /// Gives a free slot a state, in the chain where that stands.
+    fn fill(&mut self, slot: u32, state: Assignment)
+        requires linked { AreLinked self.old }
+        requires inside { slot < self.old.count }
+        requires free { port_of (state_at self.old.states.items slot) ≡ None }
+        ensures linked { AreLinked self.new }
+        ensures states { self.new.states.items ≡ set self.old.states.items slot state }
+        ensures count { self.new.count ≡ self.old.count }
+        ensures flushing { self.new.flushing ≡ self.old.flushing }
+    {
+        match state.port() {
+            None => self.states[slot as usize] = state,
+            Some(port) => {
+                let end = self.count + chain(port);
+                link(&mut self.next, &mut self.prev, end, slot);
+                self.states[slot as usize] = state;
+            }
+        }
+    }
+}
+
+/// Makes each place a ring of its own.
+fn close(links: &mut Vec<u32>, places: u32)
+    requires { length links.old.items ≡ places }
+    ensures len { length links.new.items ≡ places }
+    ensures closed { (k : ℕ) → k < places → get_or links.new.items k 0 ≡ k }
+{
+    for place in 0..places {
+        links[place as usize] = place;
+    }
+}
+
+fn free_each(states: &mut Vec<Assignment>, count: u32)
+    requires { length states.old.items ≡ count }
+    ensures len { length states.new.items ≡ count }
+    ensures freed { (k : ℕ) → k < count → state_at states.new.items k ≡ Assignment.Free None }
+{
+    for slot in 0..count {
+        states[slot as usize] = Assignment::Free { preferred: None };
+    }
+}
+
+/// The chain of a port.
+fn chain(port: u16) -> u32
+    ensures chain { result ≡ chain_of port }
+    ensures below { result < 64 }
+{
+    u32::from(port) % CHAINS
+}
+
+/// Takes a slot out of the ring that it is in.
+fn unlink(next: &mut Vec<u32>, prev: &mut Vec<u32>, slot: u32)
+    requires slot { slot < length next.old.items }
+    requires same { length prev.old.items ≡ length next.old.items }
+    requires after { get_or next.old.items slot 0 < length prev.old.items }
+    requires before { get_or prev.old.items slot 0 < length next.old.items }
+    ensures next { next.new.items ≡ set next.old.items (get_or prev.old.items slot 0) (get_or next.old.items slot 0) }
+    ensures prev { prev.new.items ≡ set prev.old.items (get_or next.old.items slot 0) (get_or prev.old.items slot 0) }
+{
+    let after = next[slot as usize];
+    let before = prev[slot as usize];
+    next[before as usize] = after;
+    prev[after as usize] = before;
+}
+
+/// Puts a slot that is in no ring right after a ring's end.
+fn link(next: &mut Vec<u32>, prev: &mut Vec<u32>, end: u32, slot: u32)
+    requires slot { slot < length next.old.items }
+    requires end { end < length next.old.items }
+    requires same { length prev.old.items ≡ length next.old.items }
+    requires after { get_or next.old.items end 0 < length prev.old.items }
+    ensures next { next.new.items ≡ set (set next.old.items slot (get_or next.old.items end 0)) end slot }
+    ensures prev { prev.new.items ≡ set (set prev.old.items slot end) (get_or next.old.items end 0) slot }
+{
+    let after = next[end as usize];
+    next[slot as usize] = after;
+    next[end as usize] = slot;
+    prev[slot as usize] = end;
+    prev[after as usize] = slot;
+}

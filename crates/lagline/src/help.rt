@@ -1,0 +1,54 @@
+//! What the program's help says.
+
+/// The program's version.
+pub const VERSION: &str = "0.1.0";
+
+pub const ABOUT: &str = "Reads and answers LACPDUs and Marker PDUs (IEEE 802.1AX)";
+
+pub const STATUSES: &str = "\
+Status 0: the payload is accepted, the frame is answered, or no line of the file is a fault.
+Status 1: the payload is refused, the frame is not answered, or a line of the file is a fault.
+Status 2: standard error says why: a wrong command line, a word that is not hexadecimal, a file that
+          cannot be read, output that cannot be written, or no memory.";
+
+pub const DECODE: &str = "Prints the LACPDU or Marker PDU in a payload";
+
+pub const PAYLOAD: &str =
+    "What follows EtherType 8809: 110 octets or more in hexadecimal, digits only (no blanks, no 0x)";
+
+pub const DECODE_EXAMPLE: &str = "\
+Example, the first LACPDU of an active port that knows no partner yet:
+  lagtool decode 010101148000020000000001000100800001c700000002140000000000000000000000000000020\
+000000310000000000000000000000000000000000000000000000000000000000000000000000000000000000000000\
+000000000000000000000000000000000000000000000";
+
+pub const RESPOND: &str = "Prints the frame that answers a marker frame";
+
+pub const SOURCE: &str = "\
+Source address of the answer: twelve digits, no separators; a group address is no source, though it \
+is taken";
+
+pub const FRAME: &str = "The marker frame from its destination address on, digits only";
+
+pub const RESPOND_EXAMPLE: &str = "\
+Example, port 1 of the system 02-00-00-00-00-01 sends marker 1:
+  lagtool respond 020000000002 0180c200000202000000000188090201011000010200000000010000000100000\
+000000000000000000000000000000000000000000000000000000000000000000000000000000000000000000000000\
+000000000000000000000000000000000000000000000000000000000000000000000000000000000000000";
+
+pub const CHECK: &str = "Says of each line of a file what frame it is";
+
+pub const FRAMES: &str = "\
+A file, or - for standard input; a line is a frame from its destination address on, digits only";
+
+pub const CHECK_EXAMPLE: &str = "\
+Prints a line for each line of the file: its number, and lacpdu, marker, marker-response, data, or the
+fault: runt, refused and why, not hex, too long. Last comes a line with the counts.
+
+Example: lagtool check frames.txt";
+
+pub const REPLAY: &str = "Runs a script (not built yet)";
+
+pub const SCRIPT: &str = "A file, or - for standard input";
+
+pub const VECTORS: &str = "Runs the vectors (not built yet)";

@@ -1,0 +1,40 @@
+-- Tables and arrays of a document, from the maps and vectors that hold them.
+use Rattle.std.proofs.Common.{ℕ, ◌≡◌, ◌&&◌, List, [], ◌∷◌, length, Option, None, Some, refl, ap, ap₂, ◌||◌, Bor, string_bytes, String, map, option_map, option_and_then, bytes_eq}
+use Rattle.std.specs.List.{list_all, list_any}
+use Rattle.std.specs.declared.alloc.Global.{Global}
+use Rattle.toml.specs.declared.value.Value.{Value}
+use Rattle.toml.specs.View.{view, members_view, items_view}
+use Rattle.lagscript.specs.Keys.{each_in, keys_among, number_in, pair_of}
+
+-- a test of what the references point to
+any_of : (k : List ℕ) (known : List (Bor (List ℕ))) → list_any (λ name. bytes_eq name.now k) known ≡ list_any (λ name. bytes_eq name k) (map (λ n. n.now) known)
+any_of k [] = refl
+any_of k (n ∷ ns) = ap (λ b. bytes_eq n.now k || b) (any_of k ns)
+
+-- the keys of a map are those of its members
+pub among : (known : List (Bor (List ℕ))) (es : List (String Global × Value))
+    → list_all (λ k. list_any (λ name. bytes_eq name.now (string_bytes k)) known) (map (λ e. e.0) es) ≡ keys_among (map (λ n. n.now) known) (members_view es)
+among known [] = refl
+among known (e ∷ es) = ap₂ (λ a b. a && b) (any_of (string_bytes e.0) known) (among known es)
+
+-- other arrays than those of two have no two ends
+pub not_two : (vs : List Value) → (length vs ≡ 2 → ⊥) → pair_of (each_in (number_in 65536) (items_view vs)) ≡ None
+not_two [] h = refl
+not_two (a ∷ []) h = go (number_in 65536 (view a))
+  where
+    go : (o : Option ℕ) → pair_of (option_and_then (λ x. option_map (λ xs. x ∷ xs) (Some [])) o) ≡ None
+    go None = refl
+    go (Some x) = refl
+not_two (a ∷ b ∷ []) h = absurd (h refl)
+not_two (a ∷ b ∷ c ∷ vs) h =
+    go (number_in 65536 (view a)) (number_in 65536 (view b)) (number_in 65536 (view c)) (each_in (number_in 65536) (items_view vs))
+  where
+    next : Option ℕ → Option (List ℕ) → Option (List ℕ)
+    next o r = option_and_then (λ x. option_map (λ xs. x ∷ xs) r) o
+
+    go : (o p q : Option ℕ) (r : Option (List ℕ)) → pair_of (next o (next p (next q r))) ≡ None
+    go None p q r = refl
+    go (Some x) None q r = refl
+    go (Some x) (Some y) None r = refl
+    go (Some x) (Some y) (Some z) None = refl
+    go (Some x) (Some y) (Some z) (Some zs) = refl

@@ -1,0 +1,87 @@
+-- The script that a text is (profile).
+use Rattle.std.specs.Prelude.{◌≡◌, ⊤, ℕ, List, [], ◌∷◌, codes, length, map, nat_le, if◌then◌else◌, Option, Some, None, option_and_then, Result, Ok, Err, Vec}
+use Rattle.std.specs.declared.alloc.Global.{Global}
+use Rattle.toml.specs.Data.{Data, Members, as_table, as_str}
+use Rattle.toml.specs.Parse.{parse_document}
+use Rattle.lagsystem.specs.declared.fault.BadConfig.TheVariants as bad
+use Rattle.lagscript.specs.Acts.{Act, acts_of}
+use Rattle.lagscript.specs.Configs.{SystemPlan, plan_of, refusal_of_all}
+use Rattle.lagscript.specs.Entries.{acts_from}
+use Rattle.lagscript.specs.Keys.{keys_among, list_in, pair_of, value_at}
+use Rattle.lagscript.specs.Readings.{◌>>=◌, in_place, or_fault, unless}
+use Rattle.lagscript.specs.Tables.{cable_of, system_of}
+use Rattle.lagscript.specs.declared.config.BadWorld.{BadWorld}
+use Rattle.lagscript.specs.declared.config.BadWorld.TheVariants as refused
+use Rattle.lagscript.specs.declared.config.WorldConfig.{WorldConfig}
+use Rattle.lagscript.specs.declared.event.Event.{Event}
+use Rattle.lagscript.specs.declared.fault.ScriptFault.{ScriptFault}
+use Rattle.lagscript.specs.declared.fault.ScriptFault.TheVariants as fault
+
+-- a script: two systems, their cables, and what happens
+pub record Script : Type 0 where
+  pub systems : List SystemPlan
+  pub cables : List (ℕ × ℕ)
+  pub acts : List Act
+
+-- the fault of a script whose configuration is refused for this reason; a script has no lines
+abbrev pub config_fault : BadWorld → Option ScriptFault
+config_fault (refused.System side bad.Ports) = Some (fault.Ports side)
+config_fault (refused.System side bad.Aggregators) = Some (fault.AggregatorCount side)
+config_fault (refused.System side (bad.PortNumber place)) = Some (fault.PortNumber side place)
+config_fault refused.SameSystem = Some fault.SameSystem
+config_fault (refused.CableEnd place) = Some (fault.CableEnd place)
+config_fault refused.Lines = None
+
+-- the value, where there is no fault
+abbrev pub no_fault : {A : Type 0} → Option ScriptFault → A → Result A ScriptFault
+no_fault None x = Ok x
+no_fault (Some e) x = Err e
+
+abbrev pub top_keys : List (List ℕ)
+top_keys = codes "system" ∷ codes "cable" ∷ codes "events" ∷ []
+
+-- just two systems
+abbrev pub two_systems : List Members → Result (List SystemPlan) ScriptFault
+two_systems mss = or_fault fault.Systems (pair_of (Some mss)) >>= λ p. system_of 1 p.0 >>= λ first. system_of 2 p.1 >>= λ second. Ok (first ∷ second ∷ [])
+
+abbrev pub systems_in : Members → Result (List SystemPlan) ScriptFault
+systems_in ms = or_fault fault.Systems (value_at (codes "system") (list_in as_table) None ms) >>= two_systems
+
+abbrev pub cables_in : Members → Result (List (ℕ × ℕ)) ScriptFault
+cables_in ms = or_fault fault.Cables (value_at (codes "cable") (list_in as_table) (Some []) ms) >>= in_place cable_of 1
+
+-- texts, of which there may be 100,000
+abbrev pub up_to_most : List (List ℕ) → Option (List (List ℕ))
+up_to_most texts = if nat_le (length texts) 100000 then Some texts else None
+
+abbrev pub entries_in : Data → Option (List (List ℕ))
+entries_in d = option_and_then up_to_most (list_in as_str d)
+
+abbrev pub acts_in : ℕ → Members → Result (List Act) ScriptFault
+acts_in cables ms = or_fault fault.Events (value_at (codes "events") entries_in (Some []) ms) >>= acts_from cables 1
+
+-- the script of a document, or its first fault
+abbrev pub script_of : Members → Result Script ScriptFault
+script_of ms =
+    unless (keys_among top_keys ms) fault.ExtraKey (
+    systems_in ms >>= λ systems.
+    cables_in ms >>= λ cables.
+    acts_in (length cables) ms >>= λ acts.
+    no_fault (option_and_then config_fault (refusal_of_all systems cables)) (record { systems = systems; cables = cables; acts = acts })
+    )
+
+-- the text has this script
+abbrev pub HasScript : List ℕ → Script → Type 0
+HasScript text s = (ms : Members) × (parse_document text ≡ Some ms) × (script_of ms ≡ Ok s)
+
+-- ---- what is read
+
+abbrev pub script_shown : WorldConfig → List Event → Script
+script_shown c events = record { systems = map plan_of c.systems; cables = c.cables.items; acts = acts_of events }
+
+-- how `read_script` ends
+abbrev pub Reads : List ℕ → Result (WorldConfig × Vec Event Global) ScriptFault → Type 0
+Reads text (Ok read) = HasScript text (script_shown read.0 read.1.items)
+Reads text (Err fault.NotToml) = parse_document text ≡ None
+Reads text (Err fault.NoMemory) = ⊤
+Reads text (Err e) = (ms : Members) × (parse_document text ≡ Some ms) × (script_of ms ≡ Err e)

@@ -1,0 +1,73 @@
+-- The tables of a script: a row for each key, in the order of reading (profile).
+use Rattle.std.specs.Prelude.{ℕ, true, List, [], ◌∷◌, codes, Some, None, Result, Ok}
+use Rattle.toml.specs.Data.{Members, as_table}
+use Rattle.lagtypes.specs.declared.identifiers.Key.{Key}
+use Rattle.lagsystem.specs.declared.config.PortConfig.{PortConfig}
+use Rattle.lagscript.specs.Configs.{SystemPlan}
+use Rattle.lagscript.specs.Keys.{ends_in, flag_in, key_in, keys_among, list_in, mac_in, number_in, value_at}
+use Rattle.lagscript.specs.Readings.{◌>>=◌, in_place, or_fault, unless}
+use Rattle.lagscript.specs.declared.fault.PortKey.TheVariants as port_key
+use Rattle.lagscript.specs.declared.fault.ScriptFault.{ScriptFault}
+use Rattle.lagscript.specs.declared.fault.ScriptFault.TheVariants as fault
+use Rattle.lagscript.specs.declared.fault.SystemKey.TheVariants as system_key
+use Rattle.lagscript.specs.declared.tables.Numbers.{Numbers}
+
+-- ---- ports
+
+abbrev pub port_keys : List (List ℕ)
+port_keys = codes "number" ∷ codes "priority" ∷ codes "mac" ∷ codes "key" ∷ codes "aggregatable" ∷ codes "active" ∷ codes "short" ∷ []
+
+-- the port of a table, whose MAC address is the system's if it is left out
+abbrev pub port_of : ℕ → List ℕ → ℕ → Members → Result PortConfig ScriptFault
+port_of system own place ms =
+    let wrong = fault.PortValue system place in
+    unless (keys_among port_keys ms) (fault.PortExtraKey system place) (
+    or_fault (wrong port_key.Number) (value_at (codes "number") (number_in 65536) None ms) >>= λ number.
+    or_fault (wrong port_key.Priority) (value_at (codes "priority") (number_in 65536) (Some 128) ms) >>= λ priority.
+    or_fault (wrong port_key.Mac) (value_at (codes "mac") mac_in (Some own) ms) >>= λ mac.
+    or_fault (wrong port_key.Key) (value_at (codes "key") (number_in 65536) None ms) >>= λ key.
+    or_fault (wrong port_key.Aggregatable) (value_at (codes "aggregatable") flag_in (Some true) ms) >>= λ aggregatable.
+    or_fault (wrong port_key.Active) (value_at (codes "active") flag_in (Some true) ms) >>= λ active.
+    or_fault (wrong port_key.Short) (value_at (codes "short") flag_in (Some true) ms) >>= λ short.
+    Ok (record { number = number; priority = priority; mac = mac; key = record { 0 = key }; aggregatable = aggregatable; active = active; short = short })
+    )
+
+-- ---- systems
+
+abbrev pub system_keys : List (List ℕ)
+system_keys = codes "priority" ∷ codes "mac" ∷ codes "max_delay" ∷ codes "first_marker" ∷ codes "aggregators" ∷ codes "port" ∷ []
+
+-- what a system has besides its lists
+abbrev pub numbers_in : ℕ → Members → Result Numbers ScriptFault
+numbers_in system ms =
+    let wrong = fault.SystemValue system in
+    unless (keys_among system_keys ms) (fault.SystemExtraKey system) (
+    or_fault (wrong system_key.Priority) (value_at (codes "priority") (number_in 65536) (Some 32768) ms) >>= λ priority.
+    or_fault (wrong system_key.Mac) (value_at (codes "mac") mac_in None ms) >>= λ mac.
+    or_fault (wrong system_key.MaxDelay) (value_at (codes "max_delay") (number_in 65536) (Some 0) ms) >>= λ max_delay.
+    or_fault (wrong system_key.FirstMarker) (value_at (codes "first_marker") (number_in 4294967296) (Some 1) ms) >>= λ first_marker.
+    Ok (record { id = record { priority = priority; mac = mac }; max_delay = max_delay; first_marker = first_marker })
+    )
+
+abbrev pub aggregators_in : ℕ → Members → Result (List Key) ScriptFault
+aggregators_in system ms = or_fault (fault.SystemValue system system_key.Aggregators) (value_at (codes "aggregators") (list_in key_in) None ms)
+
+-- each element is a table, and then each port in its place
+abbrev pub ports_in : ℕ → List ℕ → Members → Result (List PortConfig) ScriptFault
+ports_in system own ms = or_fault (fault.SystemValue system system_key.Port) (value_at (codes "port") (list_in as_table) None ms) >>= in_place (port_of system own) 1
+
+abbrev pub system_of : ℕ → Members → Result SystemPlan ScriptFault
+system_of system ms =
+    numbers_in system ms >>= λ n.
+    aggregators_in system ms >>= λ aggregators.
+    ports_in system n.id.mac ms >>= λ ports.
+    Ok (record { system = n.id; max_delay = n.max_delay; first_marker = n.first_marker; aggregators = aggregators; ports = ports })
+
+-- ---- cables
+
+abbrev pub cable_keys : List (List ℕ)
+cable_keys = codes "ends" ∷ []
+
+abbrev pub cable_of : ℕ → Members → Result (ℕ × ℕ) ScriptFault
+cable_of cable ms =
+    unless (keys_among cable_keys ms) (fault.CableExtraKey cable) (or_fault (fault.CableEnds cable) (value_at (codes "ends") ends_in None ms))

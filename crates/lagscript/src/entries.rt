@@ -1,0 +1,307 @@
+ghost use Rattle.std.specs.Prelude.{◌≡◌, IfOk, map};
+ghost use Rattle.lagscript.specs.Entries.{act_in, act_named, cable_word, configured, five, five_words, four, four_words, hex_word, kind_word, number_word, one, one_word, plain_named, seen, system_word, three, three_words, ticks_word, two, two_words};
+ghost use Rattle.lagscript.specs.Acts as act;
+ghost use Rattle.lagscript.specs.Seen.{Enters, seen_five, seen_four, seen_one, seen_three, seen_two};
+ghost use Rattle.lagscript.specs.declared.entries.EntryError.TheVariants.{Fault, NoMemory as Spent};
+
+use crate::event::Event;
+use crate::fault::EntryFault;
+use crate::words::{NoOctets, number_of, octets_of, words_of};
+use lagsystem::PortChange;
+use lagtypes::{AggId, Key};
+use std::alloc::{AllocError, Global};
+
+/// Why an entry gives no event.
+#[derive(Clone, Copy, Debug, PartialEq, Eq)]
+pub enum EntryError {
+    /// It is no event.
+    Fault(EntryFault),
+    /// Memory was refused.
+    NoMemory,
+}
+
+impl From<EntryFault> for EntryError {
+    ghost from_gives = { λ fault e. e ≡ Fault fault };
+
+    fn from(fault: EntryFault) -> EntryError {
+        EntryError::Fault(fault)
+    }
+}
+
+impl From<AllocError> for EntryError {
+    ghost from_gives = { λ _ e. e ≡ Spent };
+
+    fn from(_e: AllocError) -> EntryError {
+        EntryError::NoMemory
+    }
+}
+
+/// A number of 0 to 65535.
+fn number(word: &str) -> Result<u16, EntryFault>
+    ensures { result ≡ number_word word.now }
+{
+    number_of(word).ok_or(EntryFault::Number)
+}
+
+/// System 1 or 2.
+fn system(word: &str) -> Result<u8, EntryFault>
+    ensures { result ≡ system_word word.now }
+{
+    match number_of(word) {
+        None => Err(EntryFault::Number),
+        Some(1) => Ok(1),
+        Some(2) => Ok(2),
+        Some(_) => Err(EntryFault::System),
+    }
+}
+
+/// A cable of so many.
+fn cable(cables: usize, word: &str) -> Result<u16, EntryFault>
+    ensures { result ≡ cable_word cables word.now }
+{
+    match number_of(word) {
+        None => Err(EntryFault::Number),
+        Some(n) => {
+            if n >= 1 && n as usize <= cables {
+                Ok(n)
+            } else {
+                Err(EntryFault::Cable)
+            }
+        }
+    }
+}
+
+/// A number of ticks, 1 to 65535.
+fn ticks(word: &str) -> Result<u16, EntryFault>
+    ensures { result ≡ ticks_word word.now }
+{
+    match number_of(word) {
+        None | Some(0) => Err(EntryFault::Number),
+        Some(n) => Ok(n),
+    }
+}
+
+/// Whether the link is aggregatable.
+fn kind(word: &str) -> Result<bool, EntryFault>
+    ensures { result ≡ kind_word word.now }
+{
+    match word {
+        "aggregatable" => Ok(true),
+        "individual" => Ok(false),
+        _ => Err(EntryFault::Kind),
+    }
+}
+
+/// The one word that there is.
+fn one_word<'a>(words: &[&'a str]) -> Result<&'a str, EntryFault>
+    ensures { seen_one result ≡ one_word (map (λ w. w.now) words.now) }
+{
+    match words {
+        [a] => Ok(*a),
+        _ => Err(EntryFault::Count),
+    }
+}
+
+/// The two words that there are.
+fn two_words<'a>(words: &[&'a str]) -> Result<(&'a str, &'a str), EntryFault>
+    ensures { seen_two result ≡ two_words (map (λ w. w.now) words.now) }
+{
+    match words {
+        [a, b] => Ok((*a, *b)),
+        _ => Err(EntryFault::Count),
+    }
+}
+
+/// The three words that there are.
+fn three_words<'a>(words: &[&'a str]) -> Result<(&'a str, &'a str, &'a str), EntryFault>
+    ensures { seen_three result ≡ three_words (map (λ w. w.now) words.now) }
+{
+    match words {
+        [a, b, c] => Ok((*a, *b, *c)),
+        _ => Err(EntryFault::Count),
+    }
+}
+
+/// An event of a system and a number.
+fn emit(words: &[&str]) -> Result<Event, EntryFault>
+    ensures { seen result ≡ two system_word number_word act.emit (map (λ w. w.now) words.now) }
+{
+    let (s, port) = two_words(words)?;
+    Ok(Event::Emit(system(s)?, number(port)?))
+}
+
+/// A number of ticks of a system.
+fn tick(words: &[&str]) -> Result<Event, EntryFault>
+    ensures { seen result ≡ two system_word ticks_word act.tick (map (λ w. w.now) words.now) }
+{
+    let (s, n) = two_words(words)?;
+    Ok(Event::Tick(system(s)?, ticks(n)?))
+}
+
+/// The four words that there are.
+fn four_words<'a>(words: &[&'a str]) -> Result<(&'a str, &'a str, &'a str, &'a str), EntryFault>
+    ensures { seen_four result ≡ four_words (map (λ w. w.now) words.now) }
+{
+    match words {
+        [a, b, c, d] => Ok((*a, *b, *c, *d)),
+        _ => Err(EntryFault::Count),
+    }
+}
+
+/// The five words that there are.
+fn five_words<'a>(
+    words: &[&'a str],
+) -> Result<(&'a str, &'a str, &'a str, &'a str, &'a str), EntryFault>
+    ensures { seen_five result ≡ five_words (map (λ w. w.now) words.now) }
+{
+    match words {
+        [a, b, c, d, e] => Ok((*a, *b, *c, *d, *e)),
+        _ => Err(EntryFault::Count),
+    }
+}
+
+fn deliver(cables: usize, words: &[&str]) -> Result<Event, EntryFault>
+    ensures { seen result ≡ two (cable_word cables) system_word act.deliver (map (λ w. w.now) words.now) }
+{
+    let (c, s) = two_words(words)?;
+    Ok(Event::Deliver(cable(cables, c)?, system(s)?))
+}
+
+fn lose(cables: usize, words: &[&str]) -> Result<Event, EntryFault>
+    ensures { seen result ≡ two (cable_word cables) system_word act.lose (map (λ w. w.now) words.now) }
+{
+    let (c, s) = two_words(words)?;
+    Ok(Event::Lose(cable(cables, c)?, system(s)?))
+}
+
+fn repeat(cables: usize, words: &[&str]) -> Result<Event, EntryFault>
+    ensures { seen result ≡ two (cable_word cables) system_word act.repeat (map (λ w. w.now) words.now) }
+{
+    let (c, s) = two_words(words)?;
+    Ok(Event::Repeat(cable(cables, c)?, system(s)?))
+}
+
+fn sense(cables: usize, words: &[&str]) -> Result<Event, EntryFault>
+    ensures { seen result ≡ two (cable_word cables) system_word act.sense (map (λ w. w.now) words.now) }
+{
+    let (c, s) = two_words(words)?;
+    Ok(Event::Sense(cable(cables, c)?, system(s)?))
+}
+
+fn cut(cables: usize, words: &[&str]) -> Result<Event, EntryFault>
+    ensures { seen result ≡ one (cable_word cables) act.cut (map (λ w. w.now) words.now) }
+{
+    let c = one_word(words)?;
+    Ok(Event::Cut(cable(cables, c)?))
+}
+
+fn join(cables: usize, words: &[&str]) -> Result<Event, EntryFault>
+    ensures { seen result ≡ one (cable_word cables) act.join (map (λ w. w.now) words.now) }
+{
+    let c = one_word(words)?;
+    Ok(Event::Join(cable(cables, c)?))
+}
+
+fn restart(words: &[&str]) -> Result<Event, EntryFault>
+    ensures { seen result ≡ one system_word act.restart (map (λ w. w.now) words.now) }
+{
+    let s = one_word(words)?;
+    Ok(Event::Restart(system(s)?))
+}
+
+fn configure(words: &[&str]) -> Result<Event, EntryFault>
+    ensures { seen result ≡ five system_word number_word number_word number_word kind_word configured (map (λ w. w.now) words.now) }
+{
+    let (s, port, key, priority, aggregatable) = five_words(words)?;
+    let s = system(s)?;
+    let port = number(port)?;
+    let key = Key(number(key)?);
+    let priority = number(priority)?;
+    let aggregatable = kind(aggregatable)?;
+    let change = PortChange {
+        key,
+        priority,
+        aggregatable,
+    };
+    Ok(Event::Configure(s, port, change))
+}
+
+fn move_to(words: &[&str]) -> Result<Event, EntryFault>
+    ensures { seen result ≡ four system_word number_word number_word number_word act.move_to (map (λ w. w.now) words.now) }
+{
+    let (s, agg, conv, port) = four_words(words)?;
+    let s = system(s)?;
+    let agg = AggId(number(agg)?);
+    Ok(Event::Move(s, agg, number(conv)?, number(port)?))
+}
+
+fn force(words: &[&str]) -> Result<Event, EntryFault>
+    ensures { seen result ≡ three system_word number_word number_word act.force (map (λ w. w.now) words.now) }
+{
+    let (s, agg, conv) = three_words(words)?;
+    Ok(Event::Force(system(s)?, AggId(number(agg)?), number(conv)?))
+}
+
+/// The event of a first word with those behind it, `offer` apart.
+fn plain_named(cables: usize, name: &str, words: &[&str]) -> Result<Event, EntryFault>
+    ensures { seen result ≡ plain_named cables name.now (map (λ w. w.now) words.now) }
+{
+    match name {
+        "tick" => tick(words),
+        "emit" => emit(words),
+        "deliver" => deliver(cables, words),
+        "lose" => lose(cables, words),
+        "repeat" => repeat(cables, words),
+        "cut" => cut(cables, words),
+        "join" => join(cables, words),
+        "sense" => sense(cables, words),
+        "restart" => restart(words),
+        "configure" => configure(words),
+        "move" => move_to(words),
+        "force" => force(words),
+        _ => Err(EntryFault::Word),
+    }
+}
+
+/// A frame on offer.
+fn offer(alloc: Global, words: &[&str]) -> Result<Event, EntryError>
+    ensures { Enters (three system_word number_word hex_word act.offer (map (λ w. w.now) words.now)) result }
+{
+    let (s, agg, frame) = three_words(words)?;
+    let s = system(s)?;
+    let agg = AggId(number(agg)?);
+    match octets_of(alloc, frame) {
+        Ok(octets) => Ok(Event::Offer(s, agg, octets)),
+        Err(NoOctets::NotHex) => Err(EntryError::Fault(EntryFault::Hex)),
+        Err(NoOctets::NoMemory) => Err(EntryError::NoMemory),
+    }
+}
+
+/// The event of a first word with those behind it.
+fn event_named(
+    alloc: Global,
+    cables: usize,
+    name: &str,
+    words: &[&str],
+) -> Result<Event, EntryError>
+    ensures { Enters (act_named cables name.now (map (λ w. w.now) words.now)) result }
+{
+    if name == "offer" {
+        return offer(alloc, words);
+    }
+    match plain_named(cables, name, words) {
+        Ok(event) => Ok(event),
+        Err(fault) => Err(EntryError::Fault(fault)),
+    }
+}
+
+/// The event of an entry, in a script of so many cables.
+pub fn event_in(alloc: Global, cables: usize, text: &str) -> Result<Event, EntryError>
+    ensures { Enters (act_in cables text.now) result }
+{
+    let words = words_of(alloc, text)?;
+    match words.as_slice() {
+        [name, words @ ..] => event_named(alloc, cables, name, words),
+        [] => Err(EntryError::Fault(EntryFault::Word)),
+    }
+}

@@ -1,0 +1,82 @@
+ghost use Rattle.std.specs.Prelude.{◌≡◌, IfOk, map, option_map};
+ghost use Rattle.toml.specs.Data.{as_str, as_table};
+ghost use Rattle.toml.specs.View.{items_view, table_view, view};
+ghost use Rattle.lagscript.specs.Keys.{each_in, key_in, list_in};
+ghost use Rattle.lagscript.specs.Seen.{table_seen, word_seen};
+
+use crate::values::number_in;
+use lagtypes::Key;
+use std::alloc::{AllocError, Global};
+use toml::{Table, Value};
+
+/// The table of each value, none if one is no table.
+fn each_table<'a>(alloc: Global, values: &'a [Value]) -> Result<Option<Vec<&'a Table>>, AllocError>
+    ensures { IfOk result (λ o. option_map (λ v. map table_seen v.items) o ≡ each_in as_table (items_view values.now)) }
+{
+    let mut tables = Vec::with_capacity(alloc, values.len())?;
+    for value in values {
+        match value.as_table() {
+            Some(table) => tables.push(table)?,
+            None => return Ok(None),
+        }
+    }
+    Ok(Some(tables))
+}
+
+/// The text of each value, none if one is no text.
+fn each_text<'a>(alloc: Global, values: &'a [Value]) -> Result<Option<Vec<&'a str>>, AllocError>
+    ensures { IfOk result (λ o. option_map (λ v. map word_seen v.items) o ≡ each_in as_str (items_view values.now)) }
+{
+    let mut texts = Vec::with_capacity(alloc, values.len())?;
+    for value in values {
+        match value.as_str() {
+            Some(text) => texts.push(text)?,
+            None => return Ok(None),
+        }
+    }
+    Ok(Some(texts))
+}
+
+/// The key of each value, none if one is no number of 0 to 65535.
+fn each_key(alloc: Global, values: &[Value]) -> Result<Option<Vec<Key>>, AllocError>
+    ensures { IfOk result (λ o. option_map (λ v. v.items) o ≡ each_in key_in (items_view values.now)) }
+{
+    let mut keys = Vec::with_capacity(alloc, values.len())?;
+    for value in values {
+        match number_in(value) {
+            Some(number) => keys.push(Key(number))?,
+            None => return Ok(None),
+        }
+    }
+    Ok(Some(keys))
+}
+
+/// The tables of an array, none if it is no array of tables.
+pub fn tables_in<'a>(alloc: Global, value: &'a Value) -> Result<Option<Vec<&'a Table>>, AllocError>
+    ensures { IfOk result (λ o. option_map (λ v. map table_seen v.items) o ≡ list_in as_table (view value.now)) }
+{
+    match value.as_array() {
+        Some(values) => each_table(alloc, values),
+        None => Ok(None),
+    }
+}
+
+/// The texts of an array, none if it is no array of texts.
+pub fn texts_in<'a>(alloc: Global, value: &'a Value) -> Result<Option<Vec<&'a str>>, AllocError>
+    ensures { IfOk result (λ o. option_map (λ v. map word_seen v.items) o ≡ list_in as_str (view value.now)) }
+{
+    match value.as_array() {
+        Some(values) => each_text(alloc, values),
+        None => Ok(None),
+    }
+}
+
+/// The keys of an array, none if it is no array of numbers of 0 to 65535.
+pub fn keys_in(alloc: Global, value: &Value) -> Result<Option<Vec<Key>>, AllocError>
+    ensures { IfOk result (λ o. option_map (λ v. v.items) o ≡ list_in key_in (view value.now)) }
+{
+    match value.as_array() {
+        Some(values) => each_key(alloc, values),
+        None => Ok(None),
+    }
+}

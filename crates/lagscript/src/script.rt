@@ -1,0 +1,190 @@
+ghost use Rattle.std.specs.Prelude.{◌≡◌, IfOk, None, Some, map, option_and_then, option_map};
+ghost use Rattle.toml.specs.View.{table_view};
+ghost use Rattle.lagscript.specs.Acts.{act_of, acts_of};
+ghost use Rattle.lagscript.specs.Configs.{plan_of, refusal_of};
+ghost use Rattle.lagscript.specs.Entries.{act_at, acts_from};
+ghost use Rattle.lagscript.specs.Keys.{pair_of};
+ghost use Rattle.lagscript.specs.Readings.{Answers, in_place};
+ghost use Rattle.lagscript.specs.Scripts.{Reads, acts_in, cables_in, config_fault, script_of, script_shown, systems_in, two_systems};
+ghost use Rattle.lagscript.specs.Tables.{cable_of};
+ghost use Rattle.lagscript.specs.declared.fault.ScriptFault.TheVariants.{NoMemory};
+ghost use Rattle.lagscript.specs.Seen.{table_seen, word_seen};
+
+use crate::config::{BadWorld, WorldConfig};
+use crate::entries::{EntryError, event_in};
+use crate::event::Event;
+use crate::fault::ScriptFault;
+use crate::lists::{tables_in, texts_in};
+use crate::tables::{cable_of, system_of};
+use crate::values::{has_only, member};
+use lagsystem::{BadConfig, Config};
+use std::alloc::Global;
+use toml::Table;
+
+/// The most entries that a script may have.
+const MOST: usize = 100_000;
+
+const TOP_KEYS: [&str; 3] = ["system", "cable", "events"];
+
+/// The fault of a script whose configuration is refused for this reason. A script has no lines.
+fn config_fault(reason: BadWorld) -> Option<ScriptFault>
+    ensures { result ≡ config_fault reason }
+{
+    match reason {
+        BadWorld::System { side, reason } => match reason {
+            BadConfig::Ports => Some(ScriptFault::Ports(side)),
+            BadConfig::Aggregators => Some(ScriptFault::AggregatorCount(side)),
+            BadConfig::PortNumber(place) => Some(ScriptFault::PortNumber(side, place)),
+        },
+        BadWorld::SameSystem => Some(ScriptFault::SameSystem),
+        BadWorld::CableEnd(place) => Some(ScriptFault::CableEnd(place)),
+        BadWorld::Lines => None,
+    }
+}
+
+/// The fault of a script of this configuration.
+fn fault_of(config: &WorldConfig) -> Option<ScriptFault>
+    ensures { result ≡ option_and_then config_fault (refusal_of config.now) }
+{
+    match config.refusal() {
+        Some(reason) => config_fault(reason),
+        None => None,
+    }
+}
+
+/// The cables of these tables, in their order.
+fn each_cable(alloc: Global, tables: &[&Table]) -> Result<Vec<(u16, u16)>, ScriptFault>
+    ensures { Answers NoMemory (λ v. v.items) (in_place cable_of 1 (map table_seen tables.now)) result }
+{
+    let mut cables = Vec::with_capacity(alloc, tables.len())?;
+    let mut place = 0;
+    for table in tables {
+        place += 1;
+        let ends = cable_of(place, *table)?;
+        cables.push(ends)?;
+    }
+    Ok(cables)
+}
+
+/// The cables of a script.
+fn cables_of(alloc: Global, top: &Table) -> Result<Vec<(u16, u16)>, ScriptFault>
+    ensures { Answers NoMemory (λ v. v.items) (cables_in (table_view top.now)) result }
+{
+    match member(top, "cable") {
+        Some(value) => match tables_in(alloc, value)? {
+            Some(tables) => each_cable(alloc, &tables),
+            None => Err(ScriptFault::Cables),
+        },
+        None => Ok(Vec::new(alloc)),
+    }
+}
+
+/// The event of the entry at this place, in a script of so many cables.
+fn event_at(alloc: Global, cables: usize, place: usize, text: &str) -> Result<Event, ScriptFault>
+    ensures { Answers NoMemory act_of (act_at cables place text.now) result }
+{
+    match event_in(alloc, cables, text) {
+        Ok(event) => Ok(event),
+        Err(EntryError::Fault(cause)) => Err(ScriptFault::Entry(place, cause)),
+        Err(EntryError::NoMemory) => Err(ScriptFault::NoMemory),
+    }
+}
+
+/// The events of these entries, in their order.
+fn each_event(alloc: Global, cables: usize, texts: &[&str]) -> Result<Vec<Event>, ScriptFault>
+    ensures { Answers NoMemory (λ v. acts_of v.items) (acts_from cables 1 (map word_seen texts.now)) result }
+{
+    let mut events = Vec::with_capacity(alloc, texts.len())?;
+    let mut place = 0;
+    for text in texts {
+        place += 1;
+        let event = event_at(alloc, cables, place, *text)?;
+        events.push(event)?;
+    }
+    Ok(events)
+}
+
+/// The events of a script of so many cables.
+fn events_of(alloc: Global, cables: usize, top: &Table) -> Result<Vec<Event>, ScriptFault>
+    ensures { Answers NoMemory (λ v. acts_of v.items) (acts_in cables (table_view top.now)) result }
+{
+    match member(top, "events") {
+        Some(value) => match texts_in(alloc, value)? {
+            Some(texts) if texts.len() <= MOST => each_event(alloc, cables, &texts),
+            _ => Err(ScriptFault::Events),
+        },
+        None => Ok(Vec::new(alloc)),
+    }
+}
+
+/// The two tables that there are.
+fn pair<'a>(tables: &[&'a Table]) -> Option<(&'a Table, &'a Table)>
+    ensures { option_map (λ p. (table_seen p.0, table_seen p.1)) result ≡ pair_of (Some (map table_seen tables.now)) }
+{
+    match tables {
+        [first, second] => Some((*first, *second)),
+        _ => None,
+    }
+}
+
+/// The two systems of these tables.
+fn two_systems(alloc: Global, tables: &[&Table]) -> Result<[Config; 2], ScriptFault>
+    ensures { Answers NoMemory (map plan_of) (two_systems (map table_seen tables.now)) result }
+{
+    let (first, second) = pair(tables).ok_or(ScriptFault::Systems)?;
+    let first = system_of(alloc, 1, first)?;
+    let second = system_of(alloc, 2, second)?;
+    Ok([first, second])
+}
+
+/// The two systems of a script.
+fn systems_of(alloc: Global, top: &Table) -> Result<[Config; 2], ScriptFault>
+    ensures { Answers NoMemory (map plan_of) (systems_in (table_view top.now)) result }
+{
+    match member(top, "system") {
+        Some(value) => match tables_in(alloc, value)? {
+            Some(tables) => two_systems(alloc, &tables),
+            None => Err(ScriptFault::Systems),
+        },
+        None => Err(ScriptFault::Systems),
+    }
+}
+
+/// The script of a document.
+fn script_in(alloc: Global, top: &Table) -> Result<(WorldConfig, Vec<Event>), ScriptFault>
+    ensures reads { Answers NoMemory (λ r. script_shown r.0 r.1.items) (script_of (table_view top.now)) result }
+    ensures accepted { IfOk result (λ r. refusal_of r.0 ≡ None) }
+{
+    if !has_only(top, &TOP_KEYS) {
+        return Err(ScriptFault::ExtraKey);
+    }
+    let systems = systems_of(alloc, top)?;
+    let cables = cables_of(alloc, top)?;
+    let events = events_of(alloc, cables.len(), top)?;
+    let config = WorldConfig { systems, cables };
+    match fault_of(&config) {
+        None => Ok((config, events)),
+        Some(fault) => Err(fault),
+    }
+}
+
+/// Reads a script (profile): what two systems and their cables are made from, and what happens to them. The configuration
+/// is one that is not refused, lines aside.
+///
+/// `NotToml` if the text is no TOML, `NoMemory` if memory was refused; any other fault is the first of the document, in
+/// the order of `ScriptFault`.
+pub fn read_script(alloc: Global, text: &str) -> Result<(WorldConfig, Vec<Event>), ScriptFault>
+    ensures reads { Reads text.now result }
+    ensures accepted { IfOk result (λ r. refusal_of r.0 ≡ None) }
+{
+    match toml::table_from_str(alloc, text) {
+        Ok(table) => script_in(alloc, &table),
+        Err(e) => {
+            if e.is_memory() {
+                Err(ScriptFault::NoMemory)
+            } else {
+                Err(ScriptFault::NotToml)
+            }
+        }
+    }
+}

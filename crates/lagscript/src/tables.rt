@@ -1,0 +1,171 @@
+ghost use Rattle.std.specs.Prelude.{◌≡◌, map};
+ghost use Rattle.toml.specs.View.{table_view};
+ghost use Rattle.lagscript.specs.Configs.{plan_of};
+ghost use Rattle.lagscript.specs.Readings.{Answers, in_place};
+ghost use Rattle.lagscript.specs.Tables.{aggregators_in, cable_of, numbers_in, port_of, ports_in, system_of};
+ghost use Rattle.lagscript.specs.declared.fault.ScriptFault.TheVariants.{NoMemory};
+ghost use Rattle.lagscript.specs.Seen.{table_seen};
+
+use crate::fault::{PortKey, ScriptFault, SystemKey};
+use crate::lists::{keys_in, tables_in};
+use crate::values::{ends_at, flag_at, has_only, long_number_at, mac_at, member, number_at};
+use lagsystem::{Config, PortConfig};
+use lagtypes::{Key, SystemId};
+use std::alloc::Global;
+use toml::Table;
+
+const SYSTEM_KEYS: [&str; 6] = [
+    "priority",
+    "mac",
+    "max_delay",
+    "first_marker",
+    "aggregators",
+    "port",
+];
+
+const PORT_KEYS: [&str; 7] = [
+    "number",
+    "priority",
+    "mac",
+    "key",
+    "aggregatable",
+    "active",
+    "short",
+];
+
+const CABLE_KEYS: [&str; 1] = ["ends"];
+
+/// The port at this place of a system, whose MAC address is the system's own if it is left out.
+fn port_of(system: u8, own: [u8; 6], place: usize, table: &Table) -> Result<PortConfig, ScriptFault>
+    ensures { result ≡ port_of system own place (table_view table.now) }
+{
+    if !has_only(table, &PORT_KEYS) {
+        return Err(ScriptFault::PortExtraKey(system, place));
+    }
+    let wrong = |key: PortKey| ScriptFault::PortValue(system, place, key);
+    let number = number_at(table, "number", None).ok_or(wrong(PortKey::Number))?;
+    let priority = number_at(table, "priority", Some(128)).ok_or(wrong(PortKey::Priority))?;
+    let mac = mac_at(table, "mac", Some(own)).ok_or(wrong(PortKey::Mac))?;
+    let key = number_at(table, "key", None).ok_or(wrong(PortKey::Key))?;
+    let aggregatable = flag_at(table, "aggregatable", Some(true)).ok_or(wrong(
+        PortKey::Aggregatable,
+    ))?;
+    let active = flag_at(table, "active", Some(true)).ok_or(wrong(PortKey::Active))?;
+    let short = flag_at(table, "short", Some(true)).ok_or(wrong(PortKey::Short))?;
+    Ok(PortConfig {
+        number,
+        priority,
+        mac,
+        key: Key(key),
+        aggregatable,
+        active,
+        short,
+    })
+}
+
+/// The ports of these tables, in their order.
+fn each_port(
+    alloc: Global,
+    system: u8,
+    own: [u8; 6],
+    tables: &[&Table],
+) -> Result<Vec<PortConfig>, ScriptFault>
+    ensures { Answers NoMemory (λ v. v.items) (in_place (port_of system own) 1 (map table_seen tables.now)) result }
+{
+    let mut ports = Vec::with_capacity(alloc, tables.len())?;
+    let mut place = 0;
+    for table in tables {
+        place += 1;
+        let port = port_of(system, own, place, *table)?;
+        ports.push(port)?;
+    }
+    Ok(ports)
+}
+
+/// The ports of a system.
+fn ports_of(
+    alloc: Global,
+    system: u8,
+    own: [u8; 6],
+    table: &Table,
+) -> Result<Vec<PortConfig>, ScriptFault>
+    ensures { Answers NoMemory (λ v. v.items) (ports_in system own (table_view table.now)) result }
+{
+    let wrong = ScriptFault::SystemValue(system, SystemKey::Port);
+    match member(table, "port") {
+        Some(value) => match tables_in(alloc, value)? {
+            Some(tables) => each_port(alloc, system, own, &tables),
+            None => Err(wrong),
+        },
+        None => Err(wrong),
+    }
+}
+
+/// The keys of a system's aggregators.
+fn aggregators_of(alloc: Global, system: u8, table: &Table) -> Result<Vec<Key>, ScriptFault>
+    ensures { Answers NoMemory (λ v. v.items) (aggregators_in system (table_view table.now)) result }
+{
+    let wrong = ScriptFault::SystemValue(system, SystemKey::Aggregators);
+    match member(table, "aggregators") {
+        Some(value) => match keys_in(alloc, value)? {
+            Some(keys) => Ok(keys),
+            None => Err(wrong),
+        },
+        None => Err(wrong),
+    }
+}
+
+/// What a system has besides its lists.
+#[derive(Clone, Copy, Debug, PartialEq, Eq)]
+struct Numbers {
+    id: SystemId,
+    max_delay: u16,
+    first_marker: u32,
+}
+
+/// What the table of a system says besides its lists.
+fn numbers_of(system: u8, table: &Table) -> Result<Numbers, ScriptFault>
+    ensures { result ≡ numbers_in system (table_view table.now) }
+{
+    if !has_only(table, &SYSTEM_KEYS) {
+        return Err(ScriptFault::SystemExtraKey(system));
+    }
+    let wrong = |key: SystemKey| ScriptFault::SystemValue(system, key);
+    let priority = number_at(table, "priority", Some(32_768)).ok_or(wrong(SystemKey::Priority))?;
+    let mac = mac_at(table, "mac", None).ok_or(wrong(SystemKey::Mac))?;
+    let max_delay = number_at(table, "max_delay", Some(0)).ok_or(wrong(SystemKey::MaxDelay))?;
+    let first_marker = long_number_at(table, "first_marker", Some(1)).ok_or(wrong(
+        SystemKey::FirstMarker,
+    ))?;
+    Ok(Numbers {
+        id: SystemId { priority, mac },
+        max_delay,
+        first_marker,
+    })
+}
+
+/// The configuration of a system of a script.
+pub fn system_of(alloc: Global, system: u8, table: &Table) -> Result<Config, ScriptFault>
+    ensures { Answers NoMemory plan_of (system_of system (table_view table.now)) result }
+{
+    let numbers = numbers_of(system, table)?;
+    let aggregators = aggregators_of(alloc, system, table)?;
+    let ports = ports_of(alloc, system, numbers.id.mac, table)?;
+    Ok(Config {
+        system: numbers.id,
+        max_delay: numbers.max_delay,
+        first_marker: numbers.first_marker,
+        aggregators,
+        ports,
+    })
+}
+
+/// The ends of the cable at this place.
+pub fn cable_of(cable: usize, table: &Table) -> Result<(u16, u16), ScriptFault>
+    ensures { result ≡ cable_of cable (table_view table.now) }
+{
+    if !has_only(table, &CABLE_KEYS) {
+        return Err(ScriptFault::CableExtraKey(cable));
+    }
+    ends_at(table, "ends").ok_or(ScriptFault::CableEnds(cable))
+}

@@ -1,0 +1,430 @@
+use crate::script::read_script;
+use std::alloc::{AllocError, Global};
+use std::test::Fail;
+
+/// Where the texts of rows stand: what is before and behind them, and how their faults begin.
+#[derive(Clone, Copy)]
+pub(crate) struct Frame<'a> {
+    pub before: &'a str,
+    pub behind: &'a str,
+    pub fault: &'a str,
+}
+
+const TOP: Frame = Frame {
+    before: "",
+    behind: "",
+    fault: "",
+};
+
+pub(crate) const SYSTEM_1: Frame = Frame {
+    before: "system = [{",
+    behind: "}, {mac = \"02-00-00-00-00-02\", aggregators = [1], port = [{number = 1, key = 1}]}]",
+    fault: "system 1",
+};
+
+const SYSTEM_2: Frame = Frame {
+    before: "system = [{mac = \"02-00-00-00-00-01\", aggregators = [1], port = [{number = 1, key = 1}]}, {",
+    behind: "}]",
+    fault: "system 2",
+};
+
+const PORT_1_OF_1: Frame = Frame {
+    before: "system = [{mac = \"02-00-00-00-00-01\", aggregators = [1], port = [{",
+    behind: "}]}, {mac = \"02-00-00-00-00-02\", aggregators = [1], port = [{number = 1, key = 1}]}]",
+    fault: "system 1 port 1",
+};
+
+const PORT_2_OF_1: Frame = Frame {
+    before: "system = [{mac = \"02-00-00-00-00-01\", aggregators = [1], port = [{number = 1, key = 1}, {",
+    behind: "}]}, {mac = \"02-00-00-00-00-02\", aggregators = [1], port = [{number = 1, key = 1}]}]",
+    fault: "system 1 port 2",
+};
+
+const PORT_1_OF_2: Frame = Frame {
+    before: "system = [{mac = \"02-00-00-00-00-01\", aggregators = [1], port = [{number = 1, key = 1}]}, {mac = \"02-00-00-00-00-02\", aggregators = [1], port = [{",
+    behind: "}]}]",
+    fault: "system 2 port 1",
+};
+
+const CABLE_1: Frame = Frame {
+    before: "cable = [{",
+    behind: "}]\nsystem = [{mac = \"02-00-00-00-00-01\", aggregators = [1], port = [{number = 1, key = 1}]}, {mac = \"02-00-00-00-00-02\", aggregators = [1], port = [{number = 65535, key = 1}]}]",
+    fault: "cable 1",
+};
+
+const CABLE_2: Frame = Frame {
+    before: "cable = [{ends = [1, 65535]}, {",
+    behind: "}]\nsystem = [{mac = \"02-00-00-00-00-01\", aggregators = [1], port = [{number = 1, key = 1}, {number = 2, key = 1}]}, {mac = \"02-00-00-00-00-02\", aggregators = [1], port = [{number = 1, key = 1}, {number = 65535, key = 1}]}]",
+    fault: "cable 2",
+};
+
+pub(crate) const ENTRY_1: Frame = Frame {
+    before: "events = [\"",
+    behind: "\", \"tick 1 1\"]\ncable = [{ends = [1, 1]}]\nsystem = [{mac = \"02-00-00-00-00-01\", aggregators = [1], port = [{number = 1, key = 1}]}, {mac = \"02-00-00-00-00-02\", aggregators = [1], port = [{number = 1, key = 1}]}]",
+    fault: "event 1",
+};
+
+const ENTRY_2: Frame = Frame {
+    before: "events = [\"cut 1\", \"",
+    behind: "\"]\ncable = [{ends = [1, 1]}]\nsystem = [{mac = \"02-00-00-00-00-01\", aggregators = [1], port = [{number = 1, key = 1}]}, {mac = \"02-00-00-00-00-02\", aggregators = [1], port = [{number = 1, key = 1}]}]",
+    fault: "event 2",
+};
+
+/// A script whose keys before those of the rows are these.
+pub(crate) const MAC: &str = "mac = \"02-00-00-00-00-0f\", ";
+
+pub(crate) const KEYS: &str = "mac = \"02-00-00-00-00-0f\", aggregators = [1], ";
+
+/// What the reading of a text ends with: `read`, or the text of the fault.
+pub(crate) fn outcome(alloc: Global, text: &str) -> Result<String, AllocError> {
+    match read_script(alloc, text) {
+        Ok(_) => format!(in alloc; "read"),
+        Err(fault) => format!(in alloc; "{fault}"),
+    }
+}
+
+/// The first row that ends otherwise: its place, its text, what came and what was wanted.
+pub(crate) fn first_other(
+    alloc: Global,
+    frame: &Frame,
+    given: &str,
+    rows: &[(&str, &str)],
+) -> Result<Option<String>, AllocError> {
+    let (before, behind) = (frame.before, frame.behind);
+    for (place, (text, fault)) in rows.iter().enumerate() {
+        let came = outcome(
+            alloc,
+            format!(in alloc; "{before}{given}{text}{behind}")?.as_str(),
+        )?;
+        let start = if *fault == "read" { "" } else { frame.fault };
+        let wanted = format!(in alloc; "{start}{fault}")?;
+        if came.as_str() != wanted.as_str() {
+            return Ok(Some(format!(in alloc; "row {place}, {text}: {came}, wanted {wanted}")?));
+        }
+    }
+    Ok(None)
+}
+
+#[test]
+fn tops_are_refused(rt: HostRuntime) -> Result<(), Fail> {
+    let rows = [
+        ("x =", "not toml"),
+        ("system = [{}, {}", "not toml"),
+        ("x = 1", "extra key"),
+        ("System = []", "extra key"),
+        ("system = 1\nend = 1", "extra key"),
+        ("", "system"),
+        ("system = 1", "system"),
+        ("[system]", "system"),
+        ("system = []", "system"),
+        ("system = [{}]", "system"),
+        ("system = [{}, {}, {}]", "system"),
+        ("system = [{}, 1]", "system"),
+        ("system = [1, {}]", "system"),
+        ("cable = 1\nevents = 1", "system"),
+        ("cable = 1\nsystem = [{}, {}]", "system 1: mac"),
+        ("system = [{a = 1}, {a = 1}]", "system 1: extra key"),
+    ];
+    assert_eq!(rt; first_other(rt.alloc(), &TOP, "", &rows)?, None);
+    Ok(())
+}
+
+#[test]
+fn systems_are_refused(rt: HostRuntime) -> Result<(), Fail> {
+    let rows = [
+        ("", ": mac"),
+        ("a = 1", ": extra key"),
+        ("limit = 1, priority = -1", ": extra key"),
+        ("priority = -1", ": priority"),
+        ("priority = 65536", ": priority"),
+        ("priority = 1.0", ": priority"),
+        ("priority = \"1\"", ": priority"),
+        ("priority = 0, mac = 1", ": mac"),
+        ("mac = \"\"", ": mac"),
+        ("mac = \"020000000001\"", ": mac"),
+        ("mac = \"02-00-00-00-00-0\"", ": mac"),
+        ("mac = \"02-00-00-00-00-001\"", ": mac"),
+        ("mac = \"02:00-00-00-00-01\"", ": mac"),
+        ("mac = \"02-00-00-00-00:01\"", ": mac"),
+        ("mac = \"02-0000--00-00-01\"", ": mac"),
+        ("mac = \"02-00-00-00-00-0g\"", ": mac"),
+        ("mac = \"02-00-00-00-00-+1\"", ": mac"),
+        ("mac = \" 02-00-00-00-00-01\"", ": mac"),
+        ("max_delay = 65536", ": mac"),
+    ];
+    let alloc = rt.alloc();
+    assert_eq!(rt; first_other(alloc, &SYSTEM_1, "", &rows)?, None);
+    assert_eq!(rt; first_other(alloc, &SYSTEM_2, "", &rows)?, None);
+    Ok(())
+}
+
+#[test]
+fn later_keys_of_systems_are_refused(rt: HostRuntime) -> Result<(), Fail> {
+    let rows = [
+        ("max_delay = -1", ": max_delay"),
+        ("max_delay = 65536", ": max_delay"),
+        ("max_delay = true, first_marker = true", ": max_delay"),
+        ("first_marker = -1", ": first_marker"),
+        ("first_marker = 4294967296", ": first_marker"),
+        ("first_marker = [1], aggregators = 1", ": first_marker"),
+        ("port = []", ": aggregators"),
+        ("aggregators = 1", ": aggregators"),
+        ("aggregators = {}", ": aggregators"),
+        ("aggregators = [-1]", ": aggregators"),
+        ("aggregators = [0, 65536]", ": aggregators"),
+        ("aggregators = [1, \"1\"]", ": aggregators"),
+        ("aggregators = [[1]], port = 1", ": aggregators"),
+        ("aggregators = [1]", ": port"),
+        ("aggregators = [1], port = 1", ": port"),
+        ("aggregators = [1], port = {number = 1, key = 1}", ": port"),
+        (
+            "aggregators = [1], port = [{number = 1, key = 1}, 1]",
+            ": port",
+        ),
+        ("aggregators = [1], port = [{}, 1]", ": port"),
+        ("aggregators = [1], port = [{}]", " port 1: number"),
+        ("aggregators = [], port = [{}]", " port 1: number"),
+        ("aggregators = [], port = []", ": ports"),
+        ("aggregators = [1], port = []", ": ports"),
+        (
+            "aggregators = [], port = [{number = 0, key = 1}]",
+            ": aggregator count",
+        ),
+        (
+            "aggregators = [1], port = [{number = 0, key = 1}]",
+            ": port number 1",
+        ),
+        (
+            "aggregators = [1], port = [{number = 7, key = 1}, {number = 7, key = 1}]",
+            ": port number 2",
+        ),
+        (
+            "aggregators = [1], port = [{number = 7, key = 1}, {number = 8, key = 1}, {number = 1, key = 1}]",
+            ": port number 3",
+        ),
+    ];
+    let alloc = rt.alloc();
+    assert_eq!(rt; first_other(alloc, &SYSTEM_1, MAC, &rows)?, None);
+    assert_eq!(rt; first_other(alloc, &SYSTEM_2, MAC, &rows)?, None);
+    Ok(())
+}
+
+#[test]
+fn ports_are_refused(rt: HostRuntime) -> Result<(), Fail> {
+    let rows = [
+        ("a = 1", ": extra key"),
+        ("", ": number"),
+        ("number = -1", ": number"),
+        ("number = 65536", ": number"),
+        ("number = \"2\", priority = -1", ": number"),
+        ("number = 2", ": key"),
+        ("number = 2, priority = -1", ": priority"),
+        ("number = 2, priority = 65536", ": priority"),
+        ("number = 2, priority = false, mac = false", ": priority"),
+        ("number = 2, mac = 1", ": mac"),
+        ("number = 2, mac = \"02-00-00-00-00\", key = true", ": mac"),
+        ("number = 2, key = -1", ": key"),
+        ("number = 2, key = 65536", ": key"),
+        ("number = 2, key = {}, aggregatable = 1", ": key"),
+        (
+            "number = 2, key = 1, aggregatable = 1, active = 1",
+            ": aggregatable",
+        ),
+        (
+            "number = 2, key = 1, active = \"true\", short = 1",
+            ": active",
+        ),
+        ("number = 2, key = 1, short = 0", ": short"),
+    ];
+    let alloc = rt.alloc();
+    assert_eq!(rt; first_other(alloc, &PORT_1_OF_1, "", &rows)?, None);
+    assert_eq!(rt; first_other(alloc, &PORT_2_OF_1, "", &rows)?, None);
+    assert_eq!(rt; first_other(alloc, &PORT_1_OF_2, "", &rows)?, None);
+    Ok(())
+}
+
+#[test]
+fn cables_are_refused(rt: HostRuntime) -> Result<(), Fail> {
+    let rows = [
+        ("a = 1", ": extra key"),
+        ("ends = [1, 1], a = 1", ": extra key"),
+        ("", ": ends"),
+        ("ends = 1", ": ends"),
+        ("ends = []", ": ends"),
+        ("ends = [1]", ": ends"),
+        ("ends = [1, 1, 1]", ": ends"),
+        ("ends = [1, -1]", ": ends"),
+        ("ends = [65536, 1]", ": ends"),
+        ("ends = [1, \"1\"]", ": ends"),
+        ("ends = [0, 65535]", ": end"),
+        ("ends = [1, 0]", ": end"),
+        ("ends = [65535, 1]", ": end"),
+    ];
+    let alloc = rt.alloc();
+    assert_eq!(rt; first_other(alloc, &CABLE_1, "", &rows)?, None);
+    assert_eq!(rt; first_other(alloc, &CABLE_2, "", &rows)?, None);
+    let taken = [
+        ("ends = [2, 1]", "read"),
+        ("ends = [1, 1]", ": end"),
+        ("ends = [2, 65535]", ": end"),
+        ("ends = [1, 65535]", ": end"),
+    ];
+    assert_eq!(rt; first_other(alloc, &CABLE_2, "", &taken)?, None);
+    Ok(())
+}
+
+#[test]
+fn entries_are_refused(rt: HostRuntime) -> Result<(), Fail> {
+    let rows = [
+        ("", ": word"),
+        ("Tick 1 1", ": word"),
+        (" tick 1 1", ": word"),
+        ("ticks 1 1", ": word"),
+        ("tick", ": count"),
+        ("tick 1", ": count"),
+        ("tick  1 1", ": count"),
+        ("tick 1 1 ", ": count"),
+        ("tick 1 1 1", ": count"),
+        ("tick 3 1", ": system"),
+        ("tick 3 0", ": system"),
+        ("tick 0 x", ": system"),
+        ("tick 65535 1", ": system"),
+        ("tick 65536 1", ": number"),
+        ("tick x 1", ": number"),
+        ("tick 1 0", ": number"),
+        ("tick 1 65536", ": number"),
+        ("tick 1 ", ": number"),
+        ("tick 1 +1", ": number"),
+        ("tick 1 -1", ": number"),
+        ("tick 1 1_0", ": number"),
+        ("tick 1 0x1", ": number"),
+        ("tick 1 18446744073709551617", ": number"),
+        ("emit 1", ": count"),
+        ("emit 1 1 1", ": count"),
+        ("emit 3 x", ": system"),
+        ("emit 2 65536", ": number"),
+    ];
+    let alloc = rt.alloc();
+    assert_eq!(rt; first_other(alloc, &ENTRY_1, "", &rows)?, None);
+    assert_eq!(rt; first_other(alloc, &ENTRY_2, "", &rows)?, None);
+    Ok(())
+}
+
+#[test]
+fn entries_of_cables_are_refused(rt: HostRuntime) -> Result<(), Fail> {
+    let rows = [
+        ("deliver 1", ": count"),
+        ("deliver 2 3", ": cable"),
+        ("deliver 0 1", ": cable"),
+        ("deliver 1 3", ": system"),
+        ("deliver 65536 3", ": number"),
+        ("lose 2 1", ": cable"),
+        ("lose 1 0", ": system"),
+        ("lose 1 1 1", ": count"),
+        ("repeat 1 x", ": number"),
+        ("repeat 0 1", ": cable"),
+        ("repeat 1 3", ": system"),
+        ("cut", ": count"),
+        ("cut 0", ": cable"),
+        ("cut 2", ": cable"),
+        ("cut 65535", ": cable"),
+        ("cut 65536", ": number"),
+        ("cut +1", ": number"),
+        ("cut ", ": number"),
+        ("cut 1 1", ": count"),
+        ("join 0", ": cable"),
+        ("join 2", ": cable"),
+        ("join", ": count"),
+        ("sense 2 1", ": cable"),
+        ("sense 1 3", ": system"),
+        ("sense 1", ": count"),
+    ];
+    let alloc = rt.alloc();
+    assert_eq!(rt; first_other(alloc, &ENTRY_1, "", &rows)?, None);
+    assert_eq!(rt; first_other(alloc, &ENTRY_2, "", &rows)?, None);
+    Ok(())
+}
+
+#[test]
+fn entries_of_systems_are_refused(rt: HostRuntime) -> Result<(), Fail> {
+    let rows = [
+        ("restart", ": count"),
+        ("restart 3", ": system"),
+        ("restart 1 1", ": count"),
+        ("configure 1 1 1 128", ": count"),
+        ("configure 1 1 1 128 both", ": kind"),
+        ("configure 1 1 1 128 ", ": kind"),
+        ("configure 1 1 1 128 Individual", ": kind"),
+        ("configure 1 1 1 65536 both", ": number"),
+        ("configure 1 1 65536 128 both", ": number"),
+        ("configure 1 65536 1 128 both", ": number"),
+        ("configure 0 65536 1 128 both", ": system"),
+        ("offer 1 1", ": count"),
+        ("offer 1 1 0g", ": hex"),
+        ("offer 1 1 0", ": hex"),
+        ("offer 1 1 0x00", ": hex"),
+        ("offer 1 65536 0g", ": number"),
+        ("offer 3 65536 0g", ": system"),
+        ("move 1 1 1", ": count"),
+        ("move 3 1 1 1", ": system"),
+        ("move 1 65536 1 1", ": number"),
+        ("move 1 1 65536 1", ": number"),
+        ("move 1 1 1 65536", ": number"),
+        ("force 1 1", ": count"),
+        ("force 3 1 1", ": system"),
+        ("force 1 65536 1", ": number"),
+        ("force 1 1 65536", ": number"),
+    ];
+    let alloc = rt.alloc();
+    assert_eq!(rt; first_other(alloc, &ENTRY_1, "", &rows)?, None);
+    assert_eq!(rt; first_other(alloc, &ENTRY_2, "", &rows)?, None);
+    Ok(())
+}
+
+#[test]
+fn smallest_and_greatest_are_read(rt: HostRuntime) -> Result<(), Fail> {
+    let alloc = rt.alloc();
+    let systems = [
+        (
+            "priority = 0, max_delay = 0, first_marker = 0, port = [{number = 1, key = 1}]",
+            "read",
+        ),
+        (
+            "priority = 65535, max_delay = 65535, first_marker = 4294967295, port = [{number = 1, key = 1}]",
+            "read",
+        ),
+    ];
+    assert_eq!(rt; first_other(alloc, &SYSTEM_1, KEYS, &systems)?, None);
+    assert_eq!(rt; first_other(alloc, &SYSTEM_2, KEYS, &systems)?, None);
+    let keys = [
+        (
+            "aggregators = [0, 65535], port = [{number = 1, key = 0}]",
+            "read",
+        ),
+        (
+            "aggregators = [1], port = [{number = 65535, key = 65535}]",
+            "read",
+        ),
+    ];
+    assert_eq!(rt; first_other(alloc, &SYSTEM_1, MAC, &keys)?, None);
+    let ports = [
+        ("number = 2, priority = 0, key = 0", "read"),
+        ("number = 65535, priority = 65535, key = 65535", "read"),
+    ];
+    assert_eq!(rt; first_other(alloc, &PORT_2_OF_1, "", &ports)?, None);
+    let entries = [
+        ("tick 1 1", "read"),
+        ("tick 2 65535", "read"),
+        ("tick 00001 000065535", "read"),
+        ("emit 1 0", "read"),
+        ("emit 2 65535", "read"),
+        ("configure 1 0 0 0 individual", "read"),
+        ("configure 2 65535 65535 65535 aggregatable", "read"),
+        ("offer 1 65535 ", "read"),
+        ("move 1 65535 65535 65535", "read"),
+        ("force 1 65535 65535", "read"),
+    ];
+    assert_eq!(rt; first_other(alloc, &ENTRY_1, "", &entries)?, None);
+    assert_eq!(rt; first_other(alloc, &ENTRY_2, "", &entries)?, None);
+    Ok(())
+}

@@ -1,0 +1,73 @@
+ghost use Rattle.std.specs.Prelude.{◌≡◌, Some, None, IfOk, Err, map};
+ghost use Rattle.lagscript.specs.declared.words.NoOctets.TheVariants.{NotHex};
+ghost use Rattle.std.specs.Result.{result_ok};
+ghost use Rattle.lagscript.specs.Words.{is_dashed, mac_of, number_below, octets_of, words_of};
+
+use hex::{FromHex, FromHexError};
+use std::alloc::{AllocError, Global};
+
+/// The words of a text, cut at every single space.
+pub fn words_of<'a>(alloc: Global, text: &'a str) -> Result<Vec<&'a str>, AllocError>
+    ensures { IfOk result (λ words. map (λ w. w.now) words.items ≡ words_of text.now) }
+{
+    text.split(' ').collect(alloc)
+}
+
+/// The number of 0 to 65535 that a word says in decimal digits.
+pub fn number_of(word: &str) -> Option<u16>
+    ensures { result ≡ number_below 65536 word.now }
+{
+    // `parse` takes a plus too.
+    if word.starts_with('+') {
+        return None;
+    }
+    word.parse().ok()
+}
+
+/// Whether dashes stand where they stand in a MAC address.
+fn is_dashed(text: &[u8]) -> bool
+    ensures { result ≡ is_dashed text.now }
+{
+    text.len() == 17
+        && text[2] == b'-'
+        && text[5] == b'-'
+        && text[8] == b'-'
+        && text[11] == b'-'
+        && text[14] == b'-'
+}
+
+/// The address that six two-digit hexadecimal numbers joined by dashes say.
+pub fn mac_of(text: &str) -> Option<[u8; 6]>
+    ensures { result ≡ mac_of text.now }
+{
+    let octets = text.as_bytes();
+    if !is_dashed(octets) {
+        return None;
+    }
+    let digits = [
+        octets[0], octets[1], octets[3], octets[4], octets[6], octets[7], octets[9], octets[10],
+        octets[12], octets[13], octets[15], octets[16],
+    ];
+    <[u8; 6] as FromHex>::from_hex(digits).ok()
+}
+
+/// Why a word gives no octets.
+#[derive(Clone, Copy, Debug, PartialEq, Eq)]
+pub enum NoOctets {
+    /// It is not hexadecimal.
+    NotHex,
+    /// Memory was refused.
+    NoMemory,
+}
+
+/// The octets that a word in hexadecimal says.
+pub fn octets_of(alloc: Global, word: &str) -> Result<Vec<u8>, NoOctets>
+    ensures ok { IfOk result (λ octets. octets_of word.now ≡ Some octets.items) }
+    ensures err { result ≡ Err NotHex → octets_of word.now ≡ None }
+{
+    match hex::decode(alloc, word) {
+        Ok(octets) => Ok(octets),
+        Err(FromHexError::OutOfMemory) => Err(NoOctets::NoMemory),
+        Err(_) => Err(NoOctets::NotHex),
+    }
+}

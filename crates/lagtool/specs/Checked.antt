@@ -1,0 +1,45 @@
+-- The report of `check`: a function of all the octets that it reads (profile).
+use Rattle.std.specs.Prelude.{ℕ, ◌+◌, ◌++◌, ◌==◌, List, [], ◌∷◌, codes, decimal, if◌then◌else◌}
+use Rattle.lagtool.specs.declared.summary.Summary.{Summary}
+use Rattle.lagtool.specs.Verdicts.{is_fault, line_verdict, verdict_text}
+
+-- octets of a line in front of the lines that follow; no line begins where none follows and there is no octet
+abbrev pub close : List ℕ → List (List ℕ)
+close [] = []
+close (x ∷ xs) = (x ∷ xs) ∷ []
+
+abbrev pub prepend : List ℕ → List (List ℕ) → List (List ℕ)
+prepend line [] = close line
+prepend line (l ∷ ls) = (line ++ l) ∷ ls
+
+-- the lines of a text, each up to its newline, which may be missing after the last
+abbrev pub lines_of : List ℕ → List (List ℕ)
+lines_of [] = []
+lines_of (b ∷ bs) = if b == 10 then [] ∷ lines_of bs else prepend (b ∷ []) (lines_of bs)
+
+abbrev pub faults_of : List ℕ → ℕ
+faults_of line = if is_fault (line_verdict line) then 1 else 0
+
+-- the number of a line and its verdict
+abbrev pub numbered : ℕ → List ℕ → List ℕ
+numbered n line = decimal n ++ 32 ∷ (verdict_text (line_verdict line) ++ 10 ∷ [])
+
+abbrev pub counts_text : Summary → List ℕ
+counts_text s = codes "checked " ++ (decimal s.checked ++ (codes " faults " ++ (decimal s.faults ++ 10 ∷ [])))
+
+-- the counts after these lines, so many with so many faults before them
+abbrev pub counted_from : ℕ → ℕ → List (List ℕ) → Summary
+counted_from n k [] = record { checked = n; faults = k }
+counted_from n k (line ∷ lines) = counted_from (n + 1) (k + faults_of line) lines
+
+-- a verdict a line, and then the counts
+abbrev pub report_from : ℕ → ℕ → List (List ℕ) → List ℕ
+report_from n k [] = counts_text (record { checked = n; faults = k })
+report_from n k (line ∷ lines) = numbered (n + 1) line ++ report_from (n + 1) (k + faults_of line) lines
+
+abbrev pub report : List ℕ → List ℕ
+report octets = report_from 0 0 (lines_of octets)
+
+-- how many lines, and how many of them are faults
+abbrev pub summary : List ℕ → Summary
+summary octets = counted_from 0 0 (lines_of octets)

@@ -1,0 +1,53 @@
+ghost use Rattle.std.specs.Prelude.{◌≡◌, false, IfErr, IfOk, OnErr};
+ghost use Rattle.lagtool.specs.Begun.{Checks, Ends, HasCause, Stops};
+
+use crate::fault::ToolFault;
+use crate::scan::Scan;
+use crate::sink::Sink;
+use crate::source::Source;
+use crate::summary::Summary;
+use std::alloc::Global;
+use std::io::{Read, Write};
+
+/// Reads the stream to its end, and writes a verdict a line and then the counts.
+fn check_all<R: Read, W: Write>(
+    alloc: Global,
+    source: &mut Source<R>,
+    sink: &mut Sink<W>,
+) -> Result<Summary, ToolFault>
+    ensures ok { IfOk result (λ s. Ends R.remaining W.contents source.old source.new sink.old sink.new s) }
+    ensures err { OnErr result (Stops R.remaining W.contents source.old source.new sink.old sink.new) }
+    ensures cause { IfErr result (HasCause source.new.failed sink.new.failed) }
+{
+    source.is_bounded();
+    let mut scan = Scan::new(alloc);
+    let mut piece = [0; 4096];
+    loop {
+        let n = match source.read(&mut piece) {
+            Ok(n) => n,
+            Err(_) => return Err(ToolFault::Read),
+        };
+        if n == 0 {
+            break;
+        }
+        scan.feed(alloc, sink, &piece[..n])?;
+    }
+    scan.finish(alloc, sink)
+}
+
+/// Reads frames in hexadecimal, one a line, and writes for each line its number and what frame it
+/// is, and at the end the counts of lines and faults (profile).
+///
+/// `Read` comes if the source failed in this call, `Write` if the sink did, `NoMemory` if memory ran
+/// out; a beginning of the report of what was read is written then.
+pub fn check<R: Read, W: Write>(
+    alloc: Global,
+    source: &mut Source<R>,
+    sink: &mut Sink<W>,
+) -> Result<Summary, ToolFault>
+    requires source { source.old.failed ≡ false }
+    requires sink { sink.old.failed ≡ false }
+    ensures { Checks R.remaining W.contents source.old source.new sink.old sink.new result }
+{
+    check_all(alloc, source, sink)
+}

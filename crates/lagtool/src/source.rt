@@ -1,0 +1,82 @@
+ghost use Rattle.std.specs.Prelude.{◌≡◌, ℕ, ◌≤◌, ◌<◌, ◌^◌, ◌-◌, length, take, true, false, List, IfOk, OnErr};
+ghost use Rattle.std.specs.Io.KnownBytes.{Consumes, IsAtEnd};
+ghost use Rattle.lagtool.specs.Sources.{Gives};
+
+use std::io::Read;
+use std::marker::Model;
+
+/// The most octets that a source gives.
+const MOST: u64 = u64::MAX - 1;
+
+/// A reader that remembers whether it failed, and gives at most 2^64 - 2 octets (profile).
+#[derive(Drop)]
+pub struct Source<R: Read> {
+    inner: R,
+    failed: bool,
+    left: u64,
+}
+
+impl<R: Read> Model for Source<R> {
+    ghost use Rattle.std.specs.Prelude.{◌<◌, ◌^◌, ◌-◌};
+    ghost use Rattle.lagtool.specs.Sources.{SourceState};
+
+    ghost Value = { SourceState R };
+
+    ghost view = { λ s. record { reader = s.inner; failed = s.failed; left = s.left } };
+
+    ghost invariant = { λ s. s.left < 2 ^ 64 - 1 };
+}
+
+/// The source failed.
+#[derive(Clone, Copy, Debug, PartialEq, Eq)]
+pub struct ReadFailed;
+
+impl<R: Read> Source<R> {
+    /// A source that has not failed.
+    pub fn new(inner: R) -> Self
+        ensures reader { result.reader ≡ inner }
+        ensures failed { result.failed ≡ false }
+        ensures left { result.left ≡ 2 ^ 64 - 2 }
+    {
+        Source {
+            inner,
+            failed: false,
+            left: MOST,
+        }
+    }
+
+    /// Whether a call of the reader failed, or gave more than was left.
+    pub fn failed(&self) -> bool
+        ensures { result ≡ self.now.failed }
+    {
+        self.failed
+    }
+
+    /// What it may still give is below 2^64 - 1: a fact for proofs, without effect.
+    pub(crate) fn is_bounded(&self)
+        ensures { self.now.left < 2 ^ 64 - 1 }
+    {
+        let _left = self.left;
+    }
+
+    /// Reads a piece; nothing is left to read where it is empty.
+    pub(crate) fn read(&mut self, piece: &mut [u8]) -> Result<usize, ReadFailed>
+        requires { 0 < length piece.old }
+        ensures bound { IfOk result (λ n. n ≤ length piece.new) }
+        ensures ok { IfOk result (λ n. Gives R.remaining self.old self.new (take n piece.new)) }
+        ensures end { IfOk result (λ n. n ≡ 0 → IsAtEnd (R.remaining self.new.reader)) }
+        ensures err { OnErr result ((octets : List ℕ) × Consumes (R.remaining self.old.reader) (R.remaining self.new.reader) octets) }
+        ensures failed { OnErr result (self.new.failed ≡ true) }
+    {
+        match self.inner.read(piece) {
+            Ok(n) if n as u64 <= self.left => {
+                self.left -= n as u64;
+                Ok(n)
+            }
+            _ => {
+                self.failed = true;
+                Err(ReadFailed)
+            }
+        }
+    }
+}

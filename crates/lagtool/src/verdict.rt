@@ -1,0 +1,119 @@
+ghost use Rattle.std.specs.Prelude.{◌≡◌, ◌≤◌, Some, IfOk, length};
+ghost use Rattle.lagtool.specs.Verdicts.{frame_verdict, is_fault, kind_verdict, line_verdict, longest, payload_verdict, verdict_text, without_return};
+
+use crate::texts::RefusalText;
+use hex::FromHexError;
+use slowpdu::{Kind, MarkerKind, Pdu, WireFault, classify, decode};
+use std::alloc::{AllocError, Global};
+use std::fmt;
+
+/// The most octets of a line, a carriage return counted (profile).
+pub const LONGEST: usize = 65_536;
+
+/// What is said of a line (profile).
+#[derive(Clone, Copy, Debug, PartialEq, Eq)]
+pub enum Verdict {
+    /// A frame with an LACPDU.
+    Lacpdu,
+    /// A frame with a Marker PDU.
+    Marker,
+    /// A frame with a Marker Response PDU.
+    MarkerResponse,
+    /// A frame of another EtherType than 8809.
+    Data,
+    /// Fewer than 14 octets, none among them.
+    Runt,
+    /// A frame of EtherType 8809 whose payload is refused.
+    Refused(WireFault),
+    /// Not hexadecimal, an odd count of digits among it.
+    NotHex,
+    /// More than 65,536 octets, a carriage return counted.
+    TooLong,
+}
+
+impl Verdict {
+    /// Whether the line is a fault: all but the first four are.
+    pub fn is_fault(self) -> bool
+        ensures { result ≡ is_fault self }
+    {
+        match self {
+            Verdict::Lacpdu | Verdict::Marker | Verdict::MarkerResponse | Verdict::Data => false,
+            Verdict::Runt | Verdict::Refused(_) | Verdict::NotHex | Verdict::TooLong => true,
+        }
+    }
+}
+
+impl fmt::Display for Verdict {
+    ghost output = { λ v. Some (verdict_text v) };
+
+    fn fmt<W: fmt::Write>(&self, f: &mut fmt::Formatter<W>) -> fmt::Result {
+        match self {
+            Verdict::Lacpdu => f.write_str("lacpdu"),
+            Verdict::Marker => f.write_str("marker"),
+            Verdict::MarkerResponse => f.write_str("marker-response"),
+            Verdict::Data => f.write_str("data"),
+            Verdict::Runt => f.write_str("runt"),
+            Verdict::Refused(fault) => write!(f, "{}", RefusalText(*fault)),
+            Verdict::NotHex => f.write_str("not hex"),
+            Verdict::TooLong => f.write_str("too long"),
+        }
+    }
+}
+
+/// Of a Marker PDU.
+fn of_kind(kind: MarkerKind) -> Verdict
+    ensures { result ≡ kind_verdict kind }
+{
+    match kind {
+        MarkerKind::Information => Verdict::Marker,
+        MarkerKind::Response => Verdict::MarkerResponse,
+    }
+}
+
+/// Of the payload of a control frame.
+fn of_payload(payload: &[u8]) -> Verdict
+    ensures { result ≡ payload_verdict payload.now }
+{
+    match decode(payload) {
+        Ok(Pdu::Lacpdu(_)) => Verdict::Lacpdu,
+        Ok(Pdu::Marker(marker)) => of_kind(marker.kind),
+        Err(fault) => Verdict::Refused(fault),
+    }
+}
+
+/// Of a frame.
+fn of_frame(octets: &[u8]) -> Verdict
+    ensures { result ≡ frame_verdict octets.now }
+{
+    match classify(octets) {
+        Kind::TooShort => Verdict::Runt,
+        Kind::Data => Verdict::Data,
+        Kind::Control(payload) => of_payload(payload),
+    }
+}
+
+/// The line without one carriage return at its end.
+fn without_return(line: &[u8]) -> &[u8]
+    ensures { result.now ≡ without_return line.now }
+{
+    let len = line.len();
+    if len > 0 && line[len - 1] == b'\r' {
+        &line[..len - 1]
+    } else {
+        line
+    }
+}
+
+/// Of a line.
+pub fn of_line(alloc: Global, line: &[u8]) -> Result<Verdict, AllocError>
+    ensures { IfOk result (λ v. v ≡ line_verdict line.now) }
+{
+    if line.len() > LONGEST {
+        return Ok(Verdict::TooLong);
+    }
+    match hex::decode(alloc, without_return(line)) {
+        Ok(octets) => Ok(of_frame(octets.as_slice())),
+        Err(FromHexError::OutOfMemory) => Err(AllocError),
+        Err(_) => Ok(Verdict::NotHex),
+    }
+}
