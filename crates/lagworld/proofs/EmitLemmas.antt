@@ -1,5 +1,5 @@
 -- What becomes of a frame that a system sends.
-use Rattle.std.proofs.Common.{◌≡◌, ℕ, ◌++◌, Bool, Option, Some, None, List, length, sym, refl, ap, ◌∙◌, subst, Ok, Err, Result, IfErr, arith, length-append}
+use Rattle.std.proofs.Common.{◌≡◌, ℕ, ◌++◌, Bool, Option, Some, List, length, sym, ap, ◌∙◌, subst, Ok, Err, Result, IfErr, arith, length-append}
 use Rattle.slowpdu.specs.declared.pdu.Pdu.{Pdu}
 use Rattle.slowpdu.specs.declared.pdu.Pdu.TheVariants as pdu
 use Rattle.slowpdu.specs.Frames.{frame_octets, slow_type}
@@ -12,9 +12,9 @@ use Rattle.lagsystem.specs.declared.fault.SystemFault.{SystemFault}
 use Rattle.lagsystem.specs.Shown.{IsSent}
 use Rattle.lagworld.specs.declared.reply.Reply.{Reply}
 use Rattle.lagworld.specs.Asking.{TransmitsAs}
-use Rattle.lagworld.specs.Events.{Gives, Emits, Emitted, sent_reply, stamp_for, transmitted, puts}
+use Rattle.lagworld.specs.Events.{Gives, Emits, Emitted, sent_reply, stamp_for, transmitted}
 use Rattle.lagworld.specs.Messages.{payload_in, pdu_in}
-use Rattle.lagworld.specs.State.{Carried, Half, Line, Joint, half, with_half, with_lines, put, is_kept, count_in, log_at}
+use Rattle.lagworld.specs.State.{Carried, Half, Line, Joint, half, with_lines, put, is_kept, count_in, log_at}
 
 abbrev made : List ℕ → Stamp → Carried
 made octets stamp = record { octets = octets; stamp = stamp }
