@@ -1,5 +1,5 @@
 -- The ends of a cable never name two groups where neither earlier answer holds.
-use Rattle.std.proofs.Common.{◌≡◌, ◌≢◌, ℕ, zero, suc, ◌+◌, ◌==◌, ◌&&◌, ◌||◌, Bool, true, false, Option, Some, None, IsSomeAnd, List, map, ap, sym, refl, ◌∙◌, subst, arith, eqb-true}
+use Rattle.std.proofs.Common.{◌≡◌, ◌≢◌, ℕ, zero, suc, ◌+◌, ◌&&◌, ◌||◌, Bool, true, false, Option, Some, None, IsSomeAnd, List, map, ap, sym, refl, ◌∙◌, subst, arith, eqb-true}
 use Rattle.std.specs.Prelude.{not, is_some, option_map, slice_get}
 use Rattle.std.specs.Option.{unwrap_or}
 use Rattle.std.proofs.lemmas.Bool.{and_parts, true≢false}
@@ -17,18 +17,17 @@ use Rattle.lagmodel.specs.World.{Side, One, Two, peer, Taken, end_at, port_on}
 use Rattle.lagmodel.specs.Law.{HearsPresent}
 use Rattle.lagsystem.specs.declared.slots.Slot.{Slot}
 use Rattle.lagsystem.specs.Readers.{group_at}
-use Rattle.lagsystem.specs.Shown.{number, shown, view_of}
+use Rattle.lagsystem.specs.Shown.{shown}
 use Rattle.lagsystem.specs.Sound.{Agrees}
 use Rattle.lagsystem.specs.State.{State, port_of, place_of, slot_at}
 use Rattle.lagsystem.proofs.Rising.{all-get}
 use Rattle.lagsystem.proofs.Seen.{port_seen}
-use Rattle.lagworld.specs.declared.agreement.Agreement.{Agreement}
-use Rattle.lagworld.specs.declared.agreement.Agreement.TheVariants.{NotBoth, Defaults, Changed, Same, Differ}
+use Rattle.lagworld.specs.declared.agreement.Agreement.TheVariants.{Differ}
 use Rattle.lagworld.specs.declared.logs.Heard.{Heard}
-use Rattle.lagworld.specs.State.{Half, Line, Joint, half, port_at, nth, log_at, count_in, taken_in}
+use Rattle.lagworld.specs.State.{Line, Joint, half, port_at, log_at, count_in, taken_in}
 use Rattle.lagworld.specs.Agreement.{agreement_at, agreement_of, end_view, first_of_five, is_stamp, same_groups}
 use Rattle.lagworld.specs.Sound.{IsSound}
-use Rattle.lagworld.specs.Worlds.{ends_of, fixed_of, world_of, taken_as}
+use Rattle.lagworld.specs.Worlds.{ends_of, world_of, taken_as}
 use Rattle.lagworld.proofs.Running.{agree_of}
 
 -- the answer is the last one only where none of the others holds

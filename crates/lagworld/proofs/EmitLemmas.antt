@@ -1,5 +1,5 @@
 -- What becomes of a frame that a system sends.
-use Rattle.std.proofs.Common.{◌≡◌, ℕ, Bool, Option, Some, None, List, sym, refl, ap, ◌∙◌, subst, Ok, Err, Result, IfErr}
+use Rattle.std.proofs.Common.{◌≡◌, ℕ, Bool, Option, Some, List, ap, ◌∙◌, subst, Ok, Err, Result, IfErr}
 use Rattle.slowpdu.specs.declared.pdu.Pdu.{Pdu}
 use Rattle.slowpdu.specs.Pdus.{ReadsPdu}
 use Rattle.slowpdu.specs.Readings.{pdu_in}
@@ -11,9 +11,9 @@ use Rattle.lagsystem.specs.Shown.{IsSent}
 use Rattle.lagsystem.proofs.Sent.{sent_payload}
 use Rattle.lagworld.specs.declared.reply.Reply.{Reply}
 use Rattle.lagworld.specs.Asking.{TransmitsAs}
-use Rattle.lagworld.specs.Events.{Gives, Emits, Emitted, sent_reply, stamp_for, transmitted, puts}
+use Rattle.lagworld.specs.Events.{Gives, Emits, Emitted, sent_reply, stamp_for, transmitted}
 use Rattle.lagworld.specs.Messages.{payload_in}
-use Rattle.lagworld.specs.State.{Carried, Half, Line, Joint, half, with_half, with_lines, put, is_kept, count_in, log_at}
+use Rattle.lagworld.specs.State.{Carried, Half, Line, Joint, half, with_lines, put, is_kept, count_in, log_at}
 
 abbrev made : List ℕ → Stamp → Carried
 made octets stamp = record { octets = octets; stamp = stamp }

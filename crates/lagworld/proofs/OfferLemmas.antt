@@ -1,24 +1,23 @@
 -- What becomes of a frame that is offered, and of a conversation that is forced.
-use Rattle.std.proofs.Common.{◌≡◌, ◌<◌, ◌≤◌, ℕ, ◌&&◌, Bool, true, false, Option, Some, None, IsSome, List, length, sym, refl, ap, ◌∙◌, subst, Ok, Err, Result, IsTrue, nat_lt, nat_le, arith}
+use Rattle.std.proofs.Common.{◌≡◌, ◌<◌, ◌≤◌, ℕ, ◌&&◌, Bool, true, false, Option, Some, None, IsSome, List, length, sym, refl, ap, ◌∙◌, subst, Ok, Err, Result, nat_lt, nat_le, arith}
 use Rattle.std.proofs.lemmas.Bool.{true≢false}
 use Rattle.std.proofs.lemmas.Bool.Decides.{nat_tests}
 use Rattle.lagtypes.specs.declared.identifiers.AggId.{AggId}
-use Rattle.cables.specs.declared.item.Item.{Item}
 use Rattle.cables.specs.declared.item.Stamp.{Stamp}
 use Rattle.cables.specs.declared.item.Stamp.TheVariants as stamp
-use Rattle.lagmodel.specs.World.{Side, One, Two}
+use Rattle.lagmodel.specs.World.{Side}
 use Rattle.lagsystem.specs.declared.fault.SystemFault.{SystemFault}
 use Rattle.lagsystem.specs.Readers.{conversation_of, conversations}
 use Rattle.lagworld.specs.declared.line.Line.{Line as Cabled}
 use Rattle.lagworld.specs.declared.reply.Reply.{Reply}
 use Rattle.lagworld.specs.declared.reply.Reply.TheVariants as reply
 use Rattle.lagworld.specs.Asking.{AssignsAs, Frees, count_sent_in}
-use Rattle.lagworld.specs.Calls.{Forces, or_refused, with_state}
-use Rattle.lagworld.specs.Events.{Gives, Offers, Offered, offered, puts, count_sent}
+use Rattle.lagworld.specs.Calls.{Forces}
+use Rattle.lagworld.specs.Events.{Gives, Offers, Offered, offered}
 use Rattle.lagworld.specs.Messages.{side_number}
 use Rattle.lagworld.specs.Places.{AreReserved, IsReservedAt}
 use Rattle.lagworld.specs.Sound.{IsKept}
-use Rattle.lagworld.specs.State.{Carried, Half, Line, Joint, half, with_half, with_lines, pick, put, is_kept, serials_at, sent_in, at_flow, with_sent, with_forced}
+use Rattle.lagworld.specs.State.{Carried, Half, Line, Joint, half, with_half, with_lines, put, is_kept, serials_at, sent_in, at_flow, with_forced}
 
 -- a place is reserved on any cable
 pub any_reserved : {C : Type 0} (reserved : C → Bool) (s : Side) (ls : List (Cabled C)) → AreReserved reserved s ls → (o : Option ℕ) → IsReservedAt reserved s o ls
@@ -56,9 +55,6 @@ taken_there gives s agg octets a port conv old mid e x kept below =
 
 abbrev made : List ℕ → Stamp → Carried
 made octets stamp = record { octets = octets; stamp = stamp }
-
-counted_lines : (s : Side) (h : Half) (j : Joint) (lines : List Line) → with_lines (with_half s h j) lines ≡ with_half s h (with_lines j lines)
-counted_lines s h j lines = refl
 
 -- the frame goes out as the next of its conversation
 pub frame_offered : (s : Side) (agg : AggId) (octets : List ℕ) (port conv serial number : ℕ) (kept : Bool) (lines : List Line) (j new : Joint) → conv ≡ conversation_of (half s j).state octets → IsSome (serials_at (half s j).flows agg.0 conv)

@@ -1,5 +1,5 @@
 -- What is put on a cable, in code and as contracts see it.
-use Rattle.std.proofs.Common.{◌≡◌, ℕ, zero, suc, ◌+◌, ◌++◌, ◌<◌, ◌≤◌, eqb, inl, inr, eqb-true, eq-eqb, arith, Bool, true, false, not, cond, Option, Some, None, IsSomeAnd, Result, Ok, Err, OnOk, List, [], ◌∷◌, map, length, set, get_or, sym, refl, ap, ◌∙◌, subst, nat_lt}
+use Rattle.std.proofs.Common.{◌≡◌, ℕ, zero, suc, ◌+◌, ◌<◌, ◌≤◌, eqb, inl, inr, eqb-true, eq-eqb, arith, Bool, false, not, cond, Option, Some, None, IsSomeAnd, Result, Ok, Err, OnOk, List, [], ◌∷◌, map, length, set, get_or, sym, refl, ap, ◌∙◌, subst, nat_lt}
 use Rattle.std.specs.Prelude.{slice_get, position, option_map, IfSome}
 use Rattle.std.specs.List.{position_or_len}
 use Rattle.std.proofs.lemmas.List.{length-map, map-set, set-get_or}

@@ -97,6 +97,7 @@ impl<C: Cable, F: Fn(u16, usize) -> usize + Drop> Core<C, F> {
             Event::Repeat(cable, system) => self.repeat(*cable, *system),
             Event::Offer(system, agg, frame) => self.offer(*system, *agg, frame),
             Event::Force(system, agg, conv) => Ok(self.force(*system, *agg, *conv)),
+            Event::Lose(cable, system) => Ok(self.lose(*cable, *system)),
             Event::Cut(cable) => Ok(self.cut(*cable)),
             Event::Join(cable) => Ok(self.join(*cable)),
             Event::Sense(cable, system) => Ok(self.sense(*cable, *system)),
@@ -104,8 +105,6 @@ impl<C: Cable, F: Fn(u16, usize) -> usize + Drop> Core<C, F> {
             Event::Configure(system, port, change) => {
                 Ok(self.configure(*system, *port, *change))
             }
-            // Not built yet: the contract cannot tell this from a refusal of memory.
-            _ => Err(WorldFault::NoMemory),
         }
     }
 

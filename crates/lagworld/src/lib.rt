@@ -13,6 +13,7 @@ mod kept;
 mod laws;
 mod line;
 mod logs;
+mod losing;
 mod offering;
 mod readers;
 mod reply;

@@ -11,7 +11,7 @@ use crate::fault::WorldFault;
 use crate::line::Line;
 use cables::{Cable, Item, NoMemory};
 
-/// Puts an item behind the others: true where the cable has room, and else it is lost.
+/// Puts an item behind the others: true if the cable has room, and otherwise the item is lost.
 fn put_on<C: Cable>(cable: &mut C, item: Item) -> bool
     requires { IsTrue (C.reserved cable.old) }
     ensures kept { result ≡ not (is_full (C.limit cable.old) (length (map carried (C.items cable.old)))) }
@@ -43,7 +43,7 @@ impl<C: Cable> Line<C> {
         }
     }
 
-    /// A system sends an item: true where the cable takes it. It is lost where the cable is cut or its list is full.
+    /// A system sends an item: true if the cable takes it. It is lost if the cable is cut or its list is full.
     fn send(&mut self, side: Side, item: Item) -> bool
         requires { IsTrue (is_reserved C.reserved (told_side side) self.old) }
         ensures sent { line_of C.items C.limit self.new ≡ sent_on (told_side side) (carried item) (line_of C.items C.limit self.old) }
@@ -112,7 +112,7 @@ pub(crate) fn reserve_all<C: Cable>(lines: &mut Vec<Line<C>>, side: Side) -> Res
     Ok(())
 }
 
-/// The cable at a place is sent an item by a system: true where it takes it.
+/// A system sends an item on the cable at a place: true if the cable takes it.
 fn send_at<C: Cable>(lines: &mut Vec<Line<C>>, place: usize, side: Side, item: Item) -> bool
     requires within { place < length lines.old.items }
     requires reserved { IsReservedAt C.reserved (told_side side) (Some place) lines.old.items }
@@ -122,8 +122,8 @@ fn send_at<C: Cable>(lines: &mut Vec<Line<C>>, place: usize, side: Side, item: I
     line.send(side, item)
 }
 
-/// A port of a system sends an item: true where its cable takes it. It is lost at once where the port has no cable, where
-/// that is cut, and where its list has reached its limit (profile).
+/// A port of a system sends an item: true if its cable takes it. It is lost at once if the port has no cable, if the cable
+/// is cut, and if its list has reached its limit (profile).
 pub(crate) fn put<C: Cable>(lines: &mut Vec<Line<C>>, side: Side, port: u16, item: Item) -> bool
     requires { IsReserved C.items C.limit C.reserved (told_side side) port lines.old.items }
     ensures put { lines_of C.items C.limit lines.new.items ≡ put (told_side side) port (carried item) (lines_of C.items C.limit lines.old.items) }

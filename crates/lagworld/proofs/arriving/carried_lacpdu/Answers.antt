@@ -1,4 +1,4 @@
-use Rattle.std.proofs.Common.{◌≡◌, arith, subst, sym}
+use Rattle.std.proofs.Common.{arith, subst, sym}
 use Rattle.slowpdu.specs.Lacpdus.{Reads}
 use Rattle.lagworld.proofs.arriving.carried_lacpdu.Goals as goal
 

@@ -1,4 +1,3 @@
-use Rattle.std.proofs.Common.{subst, sym}
 use Rattle.lagworld.proofs.ArrivingLemmas.{heard_is, none_heard}
 use Rattle.lagworld.proofs.arriving.heard_in.Goals as goal
 

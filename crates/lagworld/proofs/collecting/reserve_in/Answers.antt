@@ -1,4 +1,4 @@
-use Rattle.std.proofs.Common.{◌≡◌, ◌<◌, length, arith}
+use Rattle.std.proofs.Common.{◌<◌, length, arith}
 use Rattle.lagworld.proofs.CollectingLemmas.{same_seen, put_collected, same_serials, room_there}
 use Rattle.lagworld.specs.Kept.{serials_of}
 use Rattle.lagworld.proofs.collecting.reserve_in.Goals as goal

@@ -1,6 +1,5 @@
 use Rattle.std.proofs.Common.{◌≡◌, ◌-◌, ℕ, List, ap, drop, length, length-drop, subst, sym, take, ◌∙◌}
 use Rattle.std.proofs.Math.Seq.{take-length}
-use Rattle.slowpdu.specs.declared.pdu.Pdu.{Pdu}
 use Rattle.slowpdu.specs.Pdus.{ReadsPdu}
 use Rattle.slowpdu.proofs.PduInLemmas.{pdu_read}
 use Rattle.lagworld.specs.Messages.{payload_in}

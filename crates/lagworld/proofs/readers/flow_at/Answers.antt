@@ -1,4 +1,4 @@
-use Rattle.std.proofs.Common.{◌≡◌, ◌<◌, ◌≤◌, Global, List, None, Some, Vec, arith, length, map, subst, suc}
+use Rattle.std.proofs.Common.{◌≡◌, ◌<◌, ◌≤◌, Global, None, Some, Vec, arith, length, map, subst, suc}
 use Rattle.lagworld.specs.declared.logs.Flow.{Flow}
 use Rattle.lagworld.specs.Kept.{serials_of}
 use Rattle.lagworld.specs.State.{serials_at}

@@ -1,8 +1,7 @@
-use Rattle.std.proofs.Common.{◌≡◌, ◌<◌, ◌⊎◌, length, set, subst, inl, inr, ap, sym, ◌∙◌, arith, OnOk}
-use Rattle.lagworld.specs.State.{at_flow, sent_in, serials_at, with_sent, with_forced}
-use Rattle.lagworld.specs.Places.{HasRoom, HasRoomIn, flows_of}
-use Rattle.lagworld.proofs.FlowLemmas.{row_of, row_set, row_read, no_row_set, no_row_read, room_there, room_made, no_room}
-use Rattle.lagworld.proofs.Putting.{same_at, ok_weaker}
+use Rattle.std.proofs.Common.{◌≡◌, ◌<◌, ◌⊎◌, length, set, subst, inl, inr, arith}
+use Rattle.lagworld.specs.State.{at_flow, with_forced}
+use Rattle.lagworld.specs.Places.{flows_of}
+use Rattle.lagworld.proofs.FlowLemmas.{row_set, no_row_set}
 use Rattle.lagworld.proofs.sent.count_forced.Goals as goal
 
 pub returns-in-Some : goal.returns-in-Some

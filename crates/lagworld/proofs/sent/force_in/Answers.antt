@@ -1,6 +1,6 @@
 use Rattle.std.proofs.Common.{arith}
 use Rattle.lagworld.specs.State.{with_forced}
-use Rattle.lagworld.proofs.FlowLemmas.{flow_set, no_flow_set}
+use Rattle.lagworld.proofs.FlowLemmas.{flow_set}
 use Rattle.lagworld.proofs.sent.force_in.Goals as goal
 
 pub returns : goal.returns

@@ -1,7 +1,6 @@
-use Rattle.std.proofs.Common.{◌≡◌, ◌<◌, ◌⊎◌, length, set, subst, inl, inr, ap, sym, ◌∙◌, arith, OnOk}
-use Rattle.lagworld.specs.State.{at_flow, sent_in, serials_at, with_sent, with_forced}
-use Rattle.lagworld.specs.Places.{HasRoom, HasRoomIn, flows_of}
-use Rattle.lagworld.proofs.FlowLemmas.{row_of, row_set, row_read, no_row_set, no_row_read, room_there, room_made, no_room}
+use Rattle.std.proofs.Common.{◌≡◌, ◌<◌, ◌⊎◌, length, set, subst, inl, inr, arith, OnOk}
+use Rattle.lagworld.specs.Places.{HasRoom}
+use Rattle.lagworld.proofs.FlowLemmas.{row_of, room_made, no_room}
 use Rattle.lagworld.proofs.Putting.{same_at, ok_weaker}
 use Rattle.lagworld.proofs.sent.reserve_serial.Goals as goal
 

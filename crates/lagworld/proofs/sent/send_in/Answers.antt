@@ -1,6 +1,6 @@
 use Rattle.std.proofs.Common.{◌∙◌, arith}
 use Rattle.lagworld.specs.State.{with_sent}
-use Rattle.lagworld.proofs.FlowLemmas.{flow_set, flow_read, no_flow_set, no_flow_read}
+use Rattle.lagworld.proofs.FlowLemmas.{flow_set, flow_read}
 use Rattle.lagworld.proofs.sent.send_in.Goals as goal
 
 pub returns-clause-serial : goal.returns-clause-serial

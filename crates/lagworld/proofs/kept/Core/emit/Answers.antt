@@ -2,7 +2,6 @@ use Rattle.std.proofs.Common.{ap, subst}
 use Rattle.lagworld.specs.Events.{Emits}
 use Rattle.lagworld.specs.Joints.{joint_of}
 use Rattle.lagworld.specs.Kept.{lines_of}
-use Rattle.lagworld.specs.Messages.{side_named}
 use Rattle.lagworld.specs.Sides.{told_side}
 use Rattle.lagworld.specs.Sound.{gives_by}
 use Rattle.lagworld.specs.State.{with_lines}

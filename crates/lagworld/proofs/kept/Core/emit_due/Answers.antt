@@ -1,4 +1,4 @@
-use Rattle.std.proofs.Common.{refl, subst, sym, Ok, Err, Some, None, arith}
+use Rattle.std.proofs.Common.{refl, subst, Ok, Err, Some, None}
 use Rattle.lagworld.specs.declared.reply.Reply.TheVariants as reply
 use Rattle.lagworld.specs.Asking.{TransmitsAs}
 use Rattle.lagworld.specs.Joints.{joint_of}

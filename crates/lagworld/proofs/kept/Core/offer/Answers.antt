@@ -1,4 +1,4 @@
-use Rattle.std.proofs.Common.{◌≡◌, ap, subst, sym, ◌∙◌}
+use Rattle.std.proofs.Common.{ap, subst, sym, ◌∙◌}
 use Rattle.lagworld.specs.Events.{Offers}
 use Rattle.distributor.specs.Calls.{PicksPlaces}
 use Rattle.lagworld.specs.Joints.{joint_of}

@@ -1,4 +1,4 @@
-use Rattle.std.proofs.Common.{◌≡◌, refl, subst, sym, ◌∙◌, ap, Ok, Err}
+use Rattle.std.proofs.Common.{refl, subst, Ok, Err}
 use Rattle.lagworld.specs.declared.reply.Reply.TheVariants as reply
 use Rattle.lagworld.specs.Asking.{AssignsAs}
 use Rattle.lagworld.specs.Joints.{joint_of}

@@ -1,4 +1,4 @@
-use Rattle.std.proofs.Common.{◌≡◌, Some, IsSomeAnd, ap, subst, sym, ◌∙◌}
+use Rattle.std.proofs.Common.{Some, IsSomeAnd, subst, sym, ◌∙◌}
 use Rattle.std.specs.Prelude.{slice_get}
 use Rattle.lagworld.specs.State.{port_at, towards}
 use Rattle.lagworld.specs.Events.{Gives}

@@ -1,10 +1,9 @@
 use Rattle.std.proofs.Common.{◌≡◌, ap, sym, ◌∙◌, subst}
-use Rattle.lagworld.specs.Asking.{count_sent_in}
 use Rattle.lagworld.specs.Joints.{joint_of}
 use Rattle.lagworld.specs.Kept.{lines_of}
 use Rattle.lagworld.specs.Places.{AreReserved}
 use Rattle.lagworld.specs.Sides.{told_side}
-use Rattle.lagworld.specs.State.{Joint, half, with_half, with_lines, line_of_port, put, is_kept}
+use Rattle.lagworld.specs.State.{Joint, with_lines, line_of_port, put, is_kept}
 use Rattle.lagworld.proofs.OfferLemmas.{any_reserved, frame_offered}
 use Rattle.lagworld.proofs.kept.Core.send_offered.Goals as goal
 
