@@ -1,5 +1,5 @@
 -- How an item arrives, step by step.
-use Rattle.std.specs.Prelude.{◌≡◌, ◌==◌, ◌<◌, ℕ, Bool, true, false, List, [], ◌∷◌, drop, length, Option, Some, None, IsSomeAnd, Result, Ok, Err, map, position, slice_get, vec_len, vec_capacity}
+use Rattle.std.specs.Prelude.{◌≡◌, ◌==◌, ◌<◌, ℕ, Bool, true, false, List, [], ◌∷◌, drop, Option, Some, None, IsSomeAnd, Result, Ok, Err, map, position, slice_get, vec_len, vec_capacity}
 use Rattle.std.specs.Global.{Vec}
 use Rattle.cables.specs.declared.item.Item.{Item}
 use Rattle.cables.specs.declared.item.Stamp.{Stamp}
