@@ -1,34 +1,33 @@
 -- A world that is made of what is not refused is a start.
-use Rattle.std.proofs.Common.{◌≡◌, ◌≢◌, ◌≤◌, ◌<◌, ℕ, zero, suc, ◌+◌, ◌==◌, eqb, ◌&&◌, ◌||◌, Bool, true, false, cond, if◌then◌else◌, Option, Some, None, IsSome, List, [], ◌∷◌, length, map, take, replicate, get_or, sym, refl, ap, ◌∙◌, subst, inl, inr, ◌⊎◌, eqb-true, eq-eqb, arith}
-use Rattle.std.specs.Prelude.{not, option_map, slice_get, is_some}
-use Rattle.std.specs.List.{list_all, list_any}
+use Rattle.std.proofs.Common.{◌≡◌, ◌≢◌, ◌≤◌, ◌<◌, ℕ, zero, suc, ◌==◌, eqb, ◌&&◌, ◌||◌, Bool, true, false, if◌then◌else◌, Option, Some, None, IsSome, List, [], ◌∷◌, length, map, take, replicate, get_or, sym, refl, ap, ◌∙◌, subst, inl, inr, ◌⊎◌, eqb-true, eq-eqb, arith}
+use Rattle.std.specs.Prelude.{not, option_map, slice_get}
+use Rattle.std.specs.List.{list_all}
 use Rattle.std.proofs.lemmas.Bool.{and_parts, cases_Bool, true≢false}
 use Rattle.std.proofs.lemmas.Option.{none-some, same_Some, slice_get-map, slice_get_within, get_or_from_slice_get}
 use Rattle.cables.specs.declared.item.Item.{Item}
 use Rattle.lagtypes.specs.declared.identifiers.SystemId.{SystemId}
 use Rattle.lagtypes.specs.declared.party.Party.{Party}
-use Rattle.lagmodel.specs.View.{PortView, Setup, first_port, first_view}
-use Rattle.lagmodel.specs.World.{Side, One, Two, Ends, IsCabling, end_at, party_at, port_on}
+use Rattle.lagmodel.specs.View.{PortView, first_port, first_view}
+use Rattle.lagmodel.specs.World.{Side, One, Two, IsCabling, end_at, party_at, port_on}
 use Rattle.lagmodel.specs.Kept.{find_number}
 use Rattle.lagmodel.proofs.Base.{cond_true, cond_false}
 use Rattle.lagsystem.specs.declared.config.Config.{Config}
 use Rattle.lagsystem.specs.declared.config.PortConfig.{PortConfig}
-use Rattle.lagsystem.specs.First.{IsConfigured, IsFirst, number_of, refusal, setup_of}
+use Rattle.lagsystem.specs.First.{number_of, refusal}
 use Rattle.lagsystem.specs.Shown.{configured, party_in, view_of}
 use Rattle.lagsystem.specs.Sound.{Agrees}
 use Rattle.lagsystem.specs.State.{State}
 use Rattle.lagsystem.proofs.FirstView.{first_shows}
-use Rattle.lagscript.specs.declared.config.BadWorld.{BadWorld}
-use Rattle.lagscript.specs.declared.config.BadWorld.TheVariants.{SameSystem, CableEnd, System, Lines}
+use Rattle.lagscript.specs.declared.config.BadWorld.TheVariants.{SameSystem, CableEnd, System}
 use Rattle.lagscript.specs.declared.config.WorldConfig.{WorldConfig}
 use Rattle.lagscript.specs.Configs.{SystemPlan, bad_end, can_join, first_below, has_bad_end, has_port, or_first, plan_of, refusal_of, refusal_of_all, refusal_of_two, same_system, shares_end, system_refusal}
 use Rattle.lagworld.specs.declared.logs.PortLog.{PortLog}
-use Rattle.lagworld.specs.State.{Carried, Half, Joint, Line, Serials, half, port_at, towards, nth, log_at, serials_at, serials_in}
+use Rattle.lagworld.specs.State.{Half, Joint, Line, Serials, half, port_at, towards, log_at, serials_at, serials_in}
 use Rattle.lagworld.specs.Messages.{carried}
 use Rattle.lagworld.specs.Calls.{party_of_port}
 use Rattle.lagworld.specs.Making.{IsFirstHalf, are_lines, conversations, first_flows, first_line, first_lines, first_log, first_logs, first_row, is_empty, nothing_sent}
 use Rattle.lagworld.specs.Sound.{AreBelow, IsKept, IsStart}
-use Rattle.lagworld.specs.Worlds.{ends_of, fixed_of}
+use Rattle.lagworld.specs.Worlds.{ends_of}
 use Rattle.lagworld.proofs.Counted.{party_seen}
 
 -- what is kept of a port is what its configuration says
