@@ -1,10 +1,10 @@
 ghost use Rattle.std.specs.Prelude.{◌≡◌, [], ◌∷◌, None, IfErr, IfOk, IfSome, length, map};
 ghost use Rattle.distributor.specs.Calls.{PicksPlaces};
-ghost use Rattle.lagsystem.specs.First.{IsConfigured, IsFirst, refusal_of as refusal_of_one};
+ghost use Rattle.lagsystem.specs.First.{refusal_of as refusal_of_one};
 ghost use Rattle.lagsystem.specs.Sound.{Agrees};
 ghost use Rattle.lagworld.specs.Joints.{joint_of};
 ghost use Rattle.lagworld.specs.Kept.{half_of, lines_of, serials_of};
-ghost use Rattle.lagworld.specs.Making.{IsFirstHalf, IsMade, Refuses, are_lines, conversations, first_flows, first_line, first_lines, first_log, first_logs, first_row, is_empty, nothing_sent, refusal_with};
+ghost use Rattle.lagworld.specs.Making.{IsFirstHalf, IsMade, Refuses, are_lines, conversations, first_flows, first_lines, first_log, first_logs, first_row, is_empty, nothing_sent, refusal_with};
 ghost use Rattle.lagworld.specs.Sound.{IsStart};
 ghost use Rattle.lagworld.specs.declared.fault.WorldFault.TheVariants.{NoMemory as OutOfMemory};
 
