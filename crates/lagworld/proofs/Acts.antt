@@ -1,0 +1,58 @@
+-- What an event did, by the system or cable that it names.
+use Rattle.std.proofs.Common.{◌≡◌, ℕ, ◌==◌, Bool, true, false, if◌then◌else◌, Some, None, IsSomeAnd, Result, Ok, Err, IfOk, nat_le, sym, refl, subst}
+use Rattle.std.specs.Prelude.{is_some}
+use Rattle.std.specs.Global.{Vec}
+use Rattle.std.proofs.lemmas.Bool.{true≢false}
+use Rattle.lagtypes.specs.declared.identifiers.AggId.{AggId}
+use Rattle.lagmodel.specs.World.{Side, One, Two}
+use Rattle.lagscript.specs.declared.event.Event.{Event}
+use Rattle.lagscript.specs.declared.event.Event.TheVariants as event
+use Rattle.lagworld.specs.declared.fault.WorldFault.{WorldFault}
+use Rattle.lagworld.specs.declared.reply.Reply.{Reply}
+use Rattle.lagworld.specs.Asking.{ForcesAs}
+use Rattle.lagworld.specs.State.{Joint}
+use Rattle.lagworld.specs.Messages.{side_named}
+use Rattle.lagworld.specs.Events.{Gives, Does, Emits, Offers, side_of, cause, first_cause, has_cable, has_system, most_events}
+use Rattle.lagworld.specs.Joints.{TicksAs}
+
+pub second : (a b c : Bool) → first_cause a b c ≡ None → (a ≡ true) × (b ≡ true)
+second true true c h = (refl, refl)
+second true false c h = absurd (let e = h in cc)
+second false b c h = absurd (let e = h in cc)
+
+pub side_there : (n : ℕ) → is_some (side_of n) ≡ true → side_of n ≡ Some (side_named n)
+side_there n h = by_one (n == 1) (n == 2) h
+  where
+    by_one : (a b : Bool) → is_some (if a then Some One else (if b then Some Two else None)) ≡ true → (if a then Some One else (if b then Some Two else None)) ≡ Some (if a then One else Two)
+    by_one true b h = refl
+    by_one false true h = refl
+    by_one false false h = absurd (true≢false (sym h))
+
+pub at_side_of : (n : ℕ) (P : Side → Type 0) → is_some (side_of n) ≡ true → P (side_named n) → IsSomeAnd (side_of n) P
+at_side_of n P h x = subst (λ o. IsSomeAnd o P) (sym (side_there n h)) x
+
+pub tick_does : (gives : Gives) (n count : ℕ) (e : Event) (r : Reply) (old new : Joint) → e ≡ event.Tick n count → cause old e ≡ None → TicksAs gives (side_named n) count old r new → Does gives old e r new
+tick_does gives n count e r old new is c x =
+    subst (λ e. Does gives old e r new) (sym is)
+    (at_side_of n _ (second (has_cable old None) (is_some (side_of n)) _ (subst (λ e. cause old e ≡ None) is c)).1 x)
+
+if_ok : {T E : Type 0} (r : Result T E) (P Q : T → Type 0) → ((x : T) → P x → Q x) → IfOk r P → IfOk r Q
+if_ok (Ok x) P Q f h = f x h
+if_ok (Err e) P Q f h = tt
+
+-- of an event that names a system, and no cable
+there : (j : Joint) (n : ℕ) → first_cause (has_cable j None) (has_system (Some n)) (nat_le most_events j.acted) ≡ None → is_some (side_of n) ≡ true
+there j n h = (second (has_cable j None) (is_some (side_of n)) (nat_le most_events j.acted) h).1
+
+pub emit_does : (gives : Gives) (n p : ℕ) (e : Event) (r : Result Reply WorldFault) (old new : Joint) → e ≡ event.Emit n p → cause old e ≡ None → IfOk r (λ x. Emits gives (side_named n) p old x new) → IfOk r (λ x. Does gives old e x new)
+emit_does gives n p e r old new is c = if_ok r (λ x. Emits gives (side_named n) p old x new) (λ x. Does gives old e x new)
+    (λ x h. subst (λ e. Does gives old e x new) (sym is) (at_side_of n (λ s. Emits gives s p old x new) (there old n (subst (λ e. cause old e ≡ None) is c)) h))
+
+pub offer_does : (gives : Gives) (n : ℕ) (agg : AggId) (octets : Vec ℕ) (e : Event) (r : Result Reply WorldFault) (old new : Joint) → e ≡ event.Offer n agg octets → cause old e ≡ None
+    → IfOk r (λ x. Offers gives (side_named n) agg octets.items old x new) → IfOk r (λ x. Does gives old e x new)
+offer_does gives n agg octets e r old new is c = if_ok r (λ x. Offers gives (side_named n) agg octets.items old x new) (λ x. Does gives old e x new)
+    (λ x h. subst (λ e. Does gives old e x new) (sym is) (at_side_of n (λ s. Offers gives s agg octets.items old x new) (there old n (subst (λ e. cause old e ≡ None) is c)) h))
+
+pub force_does : (gives : Gives) (n : ℕ) (agg : AggId) (conv : ℕ) (e : Event) (r : Reply) (old new : Joint) → e ≡ event.Force n agg conv → cause old e ≡ None → ForcesAs gives (side_named n) agg conv old r new → Does gives old e r new
+force_does gives n agg conv e r old new is c x =
+    subst (λ e. Does gives old e r new) (sym is) (at_side_of n (λ s. ForcesAs gives s agg conv old r new) (there old n (subst (λ e. cause old e ≡ None) is c)) x)

@@ -1,0 +1,364 @@
+-- A world that is made of what is not refused is a start.
+use Rattle.std.proofs.Common.{◌≡◌, ◌≢◌, ◌≤◌, ◌<◌, ℕ, zero, suc, ◌==◌, eqb, ◌&&◌, ◌||◌, Bool, true, false, if◌then◌else◌, Option, Some, None, IsSome, List, [], ◌∷◌, length, map, take, replicate, get_or, sym, refl, ap, ◌∙◌, subst, inl, inr, ◌⊎◌, eqb-true, eq-eqb, arith}
+use Rattle.std.specs.Prelude.{not, option_map, slice_get}
+use Rattle.std.specs.List.{list_all}
+use Rattle.std.proofs.lemmas.Bool.{and_parts, cases_Bool, true≢false}
+use Rattle.std.proofs.lemmas.Option.{none-some, same_Some, slice_get-map, slice_get_within, get_or_from_slice_get}
+use Rattle.cables.specs.declared.item.Item.{Item}
+use Rattle.lagtypes.specs.declared.identifiers.SystemId.{SystemId}
+use Rattle.lagtypes.specs.declared.party.Party.{Party}
+use Rattle.lagmodel.specs.View.{PortView, first_port, first_view}
+use Rattle.lagmodel.specs.World.{Side, One, Two, IsCabling, end_at, party_at, port_on}
+use Rattle.lagmodel.specs.Kept.{find_number}
+use Rattle.lagmodel.proofs.Base.{cond_true, cond_false}
+use Rattle.lagsystem.specs.declared.config.Config.{Config}
+use Rattle.lagsystem.specs.declared.config.PortConfig.{PortConfig}
+use Rattle.lagsystem.specs.First.{number_of, refusal}
+use Rattle.lagsystem.specs.Shown.{configured, party_in, view_of}
+use Rattle.lagsystem.specs.Sound.{Agrees}
+use Rattle.lagsystem.specs.State.{State}
+use Rattle.lagsystem.specs.Readers.{conversations as conversations_of}
+use Rattle.lagsystem.proofs.FirstView.{first_shows}
+use Rattle.lagsystem.proofs.Seen.{party_seen}
+use Rattle.lagscript.specs.declared.config.BadWorld.TheVariants.{SameSystem, CableEnd, System}
+use Rattle.lagscript.specs.declared.config.WorldConfig.{WorldConfig}
+use Rattle.lagscript.specs.Configs.{SystemPlan, bad_end, can_join, first_below, has_bad_end, has_port, or_first, plan_of, refusal_of, refusal_of_all, refusal_of_two, same_system, shares_end, system_refusal}
+use Rattle.lagworld.specs.declared.logs.PortLog.{PortLog}
+use Rattle.lagworld.specs.State.{Half, Joint, Line, Serials, half, port_at, towards, log_at, serials_at, serials_in}
+use Rattle.lagworld.specs.Messages.{carried}
+use Rattle.lagworld.specs.Calls.{party_of_port}
+use Rattle.lagworld.specs.Making.{IsFirstHalf, are_lines, conversations, first_flows, first_line, first_lines, first_log, first_logs, first_row, is_empty, nothing_sent}
+use Rattle.lagworld.specs.Sound.{AreBelow, IsKept, IsStart}
+use Rattle.lagworld.specs.Worlds.{ends_of}
+
+-- what is kept of a port is what its configuration says
+log_found : (system : SystemId) (ports : List PortConfig) (p : ℕ) → log_at (first_logs system ports) p ≡ option_map (first_log system) (find_number number_of ports p)
+log_found system [] p = refl
+log_found system (c ∷ cs) p = elim (cases_Bool (eqb p c.number)) [
+  | inl e ↦ cond_true (eqb p c.number) (Some (first_log system c)) _ e ∙ sym (ap (option_map (first_log system)) (cond_true (eqb p c.number) (Some c) (find_number number_of cs p) e))
+  | inr e ↦ cond_false (eqb p c.number) (Some (first_log system c)) _ e ∙ log_found system cs p ∙ sym (ap (option_map (first_log system)) (cond_false (eqb p c.number) (Some c) (find_number number_of cs p) e))
+]
+
+party_back : (o : Option Party) → option_map (λ (a : PortView). a.party) (option_map first_port o) ≡ o
+party_back None = refl
+party_back (Some a) = refl
+
+-- the party of a port in the first state
+first_party : (s : State) (p : ℕ) → view_of s ≡ first_view (configured s) → party_of_port s p ≡ option_map (party_in s.system) (find_number number_of s.ports p)
+first_party s p e = sym (party_seen s p) ∙ ap (λ v. party_at v p) e ∙ party_back ((configured s).party p)
+
+-- so each log has the party of its port, and each port has a log
+log_party : (system : SystemId) (o : Option PortConfig) (log : PortLog) → option_map (first_log system) o ≡ Some log → option_map (party_in system) o ≡ Some log.party
+log_party system None log e = absurd (none-some log e)
+log_party system (Some c) log e = ap (λ (l : PortLog). Some l.party) (same_Some (first_log system c) log e)
+
+log_some : {X : Type 0} (f : PortConfig → X) (system : SystemId) (o : Option PortConfig) → IsSome (option_map f o) → IsSome (option_map (first_log system) o)
+log_some f system None h = absurd (let e = h in cc)
+log_some f system (Some c) h = refl
+
+-- what is kept of a conversation that there is
+same_item : {X : Type 0} (n i : ℕ) (x y : X) → slice_get (replicate n x) i ≡ Some y → y ≡ x
+same_item zero i x y e = absurd (none-some y e)
+same_item (suc n) zero x y e = sym (same_Some x y e)
+same_item (suc n) (suc i) x y e = same_item n i x y e
+
+item_there : {X : Type 0} (n i : ℕ) (x : X) → i < n → slice_get (replicate n x) i ≡ Some x
+item_there zero i x l = absurd (omega arith)
+item_there (suc n) zero x l = refl
+item_there (suc n) (suc i) x l = item_there n i x (omega arith)
+
+flow_empty : (n g k : ℕ) (x : Serials) → serials_at (first_flows n) g k ≡ Some x → x ≡ nothing_sent
+flow_empty n zero k x e = absurd (none-some x e)
+flow_empty n (suc g) k x e = by_row (slice_get (first_flows n) g) refl e
+  where
+    by_row : (o : Option (List Serials)) → slice_get (first_flows n) g ≡ o → serials_at (first_flows n) (suc g) k ≡ Some x → x ≡ nothing_sent
+    by_row None h e = absurd (none-some x (sym (ap (λ o. serials_in o k) h) ∙ e))
+    by_row (Some row) h e = same_item conversations k nothing_sent x (sym (ap (λ r. slice_get r k) (same_item n g first_row row h)) ∙ sym (ap (λ o. serials_in o k) h) ∙ e)
+
+enough : (s : State) → conversations_of s ≤ conversations
+unfolding conversations
+enough s = omega arith
+
+flow_there : (s : State) (n g k : ℕ) → 0 < g → g ≤ n → k < conversations_of s → IsSome (serials_at (first_flows n) g k)
+flow_there s n zero k low high small = absurd (omega arith)
+flow_there s n (suc g) k low high small =
+    let row : slice_get (first_flows n) g ≡ Some first_row = item_there n g first_row (omega arith) in
+    let x : slice_get first_row k ≡ Some nothing_sent = item_there conversations k nothing_sent (omega (arith, enough s)) in
+    subst IsSome (sym (ap (λ o. serials_in o k) row ∙ x)) refl
+
+-- what holds of a system that is made
+logs_named : (config : Config) (h : Half) → IsFirstHalf config h → h.logs ≡ first_logs h.state.system h.state.ports
+logs_named config h f = f.logs ∙ (λ i. first_logs (sym f.configured.system i) (sym f.configured.ports i))
+
+flows_named : (config : Config) (h : Half) → IsFirstHalf config h → h.flows ≡ first_flows (length h.state.keys)
+flows_named config h f = f.flows ∙ ap (λ keys. first_flows (length keys)) (sym f.configured.keys)
+
+half_kept : (config : Config) (h : Half) → IsFirstHalf config h → Agrees h.state → IsKept h
+half_kept config h f a = record {
+  agrees = a;
+  parties = λ p l e. first_party h.state p shows ∙ log_party h.state.system (find_number number_of h.state.ports p) l (sym (log p) ∙ e);
+  logged = λ p x. subst IsSome (sym (log p)) (log_some (party_in h.state.system) h.state.system (find_number number_of h.state.ports p) (subst IsSome (first_party h.state p shows) x));
+  flows = λ g k low high small. subst (λ f. IsSome (serials_at f g k)) (sym (flows_named config h f)) (flow_there h.state (length h.state.keys) g k low high small);
+}
+  where
+    shows : view_of h.state ≡ first_view (configured h.state)
+    shows = first_shows h.state f.first
+
+    log : (p : ℕ) → log_at h.logs p ≡ option_map (first_log h.state.system) (find_number number_of h.state.ports p)
+    log p = ap (λ l. log_at l p) (logs_named config h f) ∙ log_found h.state.system h.state.ports p
+
+none_counted : (system : SystemId) (ports : List PortConfig) → AreBelow 0 (first_logs system ports)
+none_counted system [] = tt
+none_counted system (c ∷ cs) = (omega arith, none_counted system cs)
+
+log_first : (system : SystemId) (o : Option PortConfig) (log : PortLog) → option_map (first_log system) o ≡ Some log → (log.count ≡ 0) × (log.taken ≡ None)
+log_first system None log e = absurd (none-some log e)
+log_first system (Some c) log e = let same = same_Some (first_log system c) log e in (sym (ap (λ (l : PortLog). l.count) same), sym (ap (λ (l : PortLog). l.taken) same))
+
+-- a port of the configuration has a log
+port_found : (ports : List PortConfig) (p : ℕ) → has_port ports p ≡ true → IsSome (find_number number_of ports p)
+port_found [] p h = absurd (true≢false (sym h))
+port_found (c ∷ cs) p h = elim (cases_Bool (eqb p c.number)) [
+  | inl e ↦ subst IsSome (sym (cond_true (eqb p c.number) (Some c) (find_number number_of cs p) e)) refl
+  | inr e ↦ subst IsSome (sym (cond_false (eqb p c.number) (Some c) (find_number number_of cs p) e)) (port_found cs p (or_second (eqb c.number p) (has_port cs p) (other e) h))
+]
+  where
+    or_second : (a b : Bool) → a ≡ false → (a || b) ≡ true → b ≡ true
+    or_second true b n h = absurd (true≢false n)
+    or_second false b n h = h
+
+    other : eqb p c.number ≡ false → eqb c.number p ≡ false
+    other e = elim (cases_Bool (eqb c.number p)) [
+      | inl t ↦ absurd (true≢false (sym (eq-eqb p c.number (sym (eqb-true c.number p t))) ∙ e))
+      | inr f ↦ f
+    ]
+
+-- the cables that are made
+module _ {C : Type 0} (items : C → List Item) (limit : C → Option ℕ) where
+  emptied_line : (xs : List Item) → (length xs == 0) ≡ true → map carried xs ≡ []
+  emptied_line [] h = refl
+  emptied_line (x ∷ xs) h = let none : length (x ∷ xs) ≡ 0 = eqb-true (length (x ∷ xs)) 0 h in absurd (omega (arith, none))
+
+  pub line_empty : (cables : List (ℕ × ℕ)) (lines : List (C × C)) (i : ℕ) (l : Line) → list_all (is_empty items) lines ≡ true → slice_get (first_lines items limit cables lines) i ≡ Some l → (s : Side) → (towards s l ≡ []) × (l.whole ≡ true)
+  line_empty [] lines i l h e s = absurd (none-some l e)
+  line_empty (c ∷ cs) [] i l h e s = absurd (none-some l e)
+  line_empty (c ∷ cs) (x ∷ xs) zero l h e s =
+      let here = and_parts (is_empty items x) (list_all (is_empty items) xs) h in
+      let both = and_parts (length (items x.0) == 0) (length (items x.1) == 0) here.0 in
+      subst (λ (l : Line). (towards s l ≡ []) × (l.whole ≡ true)) (same_Some (first_line items limit c x) l e) (on_side s both)
+    where
+      on_side : (s : Side) → ((length (items x.0) == 0) ≡ true) × ((length (items x.1) == 0) ≡ true) → (towards s (first_line items limit c x) ≡ []) × ((first_line items limit c x).whole ≡ true)
+      on_side One b = (emptied_line (items x.0) b.0, refl)
+      on_side Two b = (emptied_line (items x.1) b.1, refl)
+  line_empty (c ∷ cs) (x ∷ xs) (suc i) l h e s = line_empty cs xs i l (and_parts (is_empty items x) (list_all (is_empty items) xs) h).1 e s
+
+  -- each joins the ports that the configuration names
+  ends_made : (cables : List (ℕ × ℕ)) (lines : List (C × C)) (i : ℕ) (l : Line) → slice_get (first_lines items limit cables lines) i ≡ Some l → slice_get cables i ≡ Some (l.one, l.two)
+  ends_made [] lines i l e = absurd (none-some l e)
+  ends_made (c ∷ cs) [] i l e = absurd (none-some l e)
+  ends_made (c ∷ cs) (x ∷ xs) zero l e = ap (λ (l : Line). Some (l.one, l.two)) (same_Some (first_line items limit c x) l e)
+  ends_made (c ∷ cs) (x ∷ xs) (suc i) l e = ends_made cs xs i l e
+
+-- the configuration of cables is not refused: each can be joined behind those before it
+abbrev AreJoined : List PortConfig → List PortConfig → List (ℕ × ℕ) → Type 0
+AreJoined first second cables = (i : ℕ) → i < length cables → can_join first second (take i cables) (get_or cables i (0, 0)) ≡ true
+
+none_below : (test : ℕ → Bool) (n i : ℕ) → first_below test n ≡ None → i < n → test i ≡ false
+none_below test zero i h l = absurd (omega arith)
+none_below test (suc n) i h l = elim (cases_Bool (eqb i n)) [
+  | inl e ↦ subst (λ i. test i ≡ false) (sym (eqb-true i n e)) (last (first_below test n) (test n) h)
+  | inr e ↦ none_below test n i (before (first_below test n) (test n) h) (smaller e)
+]
+  where
+    last : (o : Option ℕ) (b : Bool) → or_first o (if b then Some n else None) ≡ None → b ≡ false
+    last None true h = absurd (none-some n (sym h))
+    last None false h = refl
+    last (Some k) b h = absurd (none-some k (sym h))
+
+    before : (o : Option ℕ) (b : Bool) → or_first o (if b then Some n else None) ≡ None → o ≡ None
+    before None b h = refl
+    before (Some k) b h = h
+
+    smaller : eqb i n ≡ false → i < n
+    smaller e = let ne : i ≢ n = λ h. true≢false (sym (eq-eqb i n h) ∙ e) in omega arith
+
+is_false : (b : Bool) → not b ≡ false → b ≡ true
+is_false true h = refl
+is_false false h = absurd (true≢false h)
+
+mapped_none : {X Y : Type 0} (f : X → Y) (o : Option X) → option_map f o ≡ None → o ≡ None
+mapped_none f None h = refl
+mapped_none f (Some x) h = absurd (none-some (f x) (sym h))
+
+first_none : {X : Type 0} (o p : Option X) → or_first o p ≡ None → (o ≡ None) × (p ≡ None)
+first_none None p h = (refl, h)
+first_none (Some x) p h = absurd (none-some x (sym h))
+
+are_joined : (first second : List PortConfig) (cables : List (ℕ × ℕ)) → bad_end first second cables ≡ None → AreJoined first second cables
+are_joined first second cables h i l =
+    is_false (can_join first second (take i cables) (get_or cables i (0, 0)))
+    (none_below (has_bad_end first second cables) (length cables) i (mapped_none suc (first_below (has_bad_end first second cables) (length cables)) h) l)
+
+two_joined : (a b : SystemPlan) (cables : List (ℕ × ℕ)) → refusal_of_two a b cables ≡ None → (refusal a.aggregators a.ports ≡ None) × (refusal b.aggregators b.ports ≡ None) × AreJoined a.ports b.ports cables
+two_joined a b cables h =
+    let one = first_none (system_refusal 1 a) _ h in
+    let two = first_none (system_refusal 2 b) _ one.1 in
+    let same = first_none (if same_system a.system b.system then Some SameSystem else None) _ two.1 in
+    (mapped_none (System 1) (refusal a.aggregators a.ports) one.0, mapped_none (System 2) (refusal b.aggregators b.ports) two.0, are_joined a.ports b.ports cables (mapped_none CableEnd (bad_end a.ports b.ports cables) same.1))
+
+-- a cable that there is can be joined
+joined_at : (first second : List PortConfig) (cables : List (ℕ × ℕ)) (i : ℕ) (c : ℕ × ℕ) → AreJoined first second cables → slice_get cables i ≡ Some c → can_join first second (take i cables) c ≡ true
+joined_at first second cables i c h e = subst (λ c. can_join first second (take i cables) c ≡ true) (get_or_from_slice_get cables i c (0, 0) e) (h i (slice_get_within cables i c e))
+
+is_not : (b : Bool) → not b ≡ true → b ≡ false
+is_not true h = absurd (true≢false (sym h))
+is_not false h = refl
+
+-- no earlier cable has one of its ends
+not_shared : (cables : List (ℕ × ℕ)) (i k : ℕ) (c d : ℕ × ℕ) → shares_end (take k cables) d ≡ false → i < k → slice_get cables i ≡ Some c → ((c.0 == d.0) || (c.1 == d.1)) ≡ false
+not_shared [] i k c d h l e = absurd (none-some c e)
+not_shared (x ∷ xs) i zero c d h l e = absurd (omega arith)
+not_shared (x ∷ xs) zero (suc k) c d h l e = subst (λ (c : ℕ × ℕ). ((c.0 == d.0) || (c.1 == d.1)) ≡ false) (same_Some x c e) (front ((x.0 == d.0) || (x.1 == d.1)) (shares_end (take k xs) d) h)
+  where
+    front : (a b : Bool) → (a || b) ≡ false → a ≡ false
+    front true b h = absurd (true≢false h)
+    front false b h = refl
+not_shared (x ∷ xs) (suc i) (suc k) c d h l e = not_shared xs i k c d (back ((x.0 == d.0) || (x.1 == d.1)) (shares_end (take k xs) d) h) (omega arith) e
+  where
+    back : (a b : Bool) → (a || b) ≡ false → b ≡ false
+    back true b h = absurd (true≢false h)
+    back false b h = h
+
+abbrev end_of_pair : Side → ℕ × ℕ → ℕ
+end_of_pair One c = c.0
+end_of_pair Two c = c.1
+
+apart : (s : Side) (c d : ℕ × ℕ) → ((c.0 == d.0) || (c.1 == d.1)) ≡ false → end_of_pair s c ≡ end_of_pair s d → ⊥
+apart One c d h e = true≢false (sym (one (c.0 == d.0) (c.1 == d.1) (eq-eqb c.0 d.0 e)) ∙ h)
+  where
+    one : (a b : Bool) → a ≡ true → (a || b) ≡ true
+    one true b h = refl
+    one false b h = absurd (true≢false (sym h))
+apart Two c d h e = true≢false (sym (two (c.0 == d.0) (c.1 == d.1) (eq-eqb c.1 d.1 e)) ∙ h)
+  where
+    two : (a b : Bool) → b ≡ true → (a || b) ≡ true
+    two true b h = refl
+    two false true h = refl
+    two false false h = absurd (true≢false (sym h))
+
+below_or : (i k : ℕ) → i ≢ k → (i < k) ⊎ (k < i)
+below_or zero zero ne = absurd (ne refl)
+below_or zero (suc k) ne = inl (omega arith)
+below_or (suc i) zero ne = inr (omega arith)
+below_or (suc i) (suc k) ne = elim (below_or i k (λ e. ne (ap suc e))) [ inl l ↦ inl (omega (arith, l)) | inr l ↦ inr (omega (arith, l)) ]
+
+neither : (i k : ℕ) → i ≢ k → (i < k → ⊥) → (k < i → ⊥) → ⊥
+neither i k ne a b = elim (below_or i k ne) [ inl l ↦ a l | inr l ↦ b l ]
+
+-- so no port has two cables
+one_cable : (first second : List PortConfig) (cables : List (ℕ × ℕ)) (s : Side) (i k : ℕ) (c d : ℕ × ℕ) → AreJoined first second cables → slice_get cables i ≡ Some c → slice_get cables k ≡ Some d → end_of_pair s c ≡ end_of_pair s d → i < k → ⊥
+one_cable first second cables s i k c d h e f same l =
+    let join = and_parts (has_port first d.0 && has_port second d.1) (not (shares_end (take k cables) d)) (joined_at first second cables k d h f) in
+    apart s c d (not_shared cables i k c d (is_not (shares_end (take k cables) d) join.1) l e) same
+
+-- the ports of a cable are ports
+ports_there : (first second : List PortConfig) (cables : List (ℕ × ℕ)) (i : ℕ) (c : ℕ × ℕ) → AreJoined first second cables → slice_get cables i ≡ Some c → (has_port first c.0 ≡ true) × (has_port second c.1 ≡ true)
+ports_there first second cables i c h e = and_parts (has_port first c.0) (has_port second c.1) (and_parts (has_port first c.0 && has_port second c.1) (not (shares_end (take i cables) c)) (joined_at first second cables i c h e)).0
+
+module _ {C : Type 0} (items : C → List Item) (limit : C → Option ℕ) where
+  -- the end of a cable that was made
+  end_made : (cables : List (ℕ × ℕ)) (lines : List (C × C)) (s : Side) (n p : ℕ) → end_at (map ends_of (first_lines items limit cables lines)) s n ≡ Some p → (i : ℕ) × (c : ℕ × ℕ) × (n ≡ suc i) × (slice_get cables i ≡ Some c) × (end_of_pair s c ≡ p)
+  end_made cables lines s zero p e = absurd (none-some p e)
+  end_made cables lines s (suc i) p e = by_line (slice_get ls i) refl (sym (ap (option_map (port_on s)) (slice_get-map ends_of ls i)) ∙ e)
+    where
+      ls : List Line
+      ls = first_lines items limit cables lines
+
+      by_line : (o : Option Line) → slice_get ls i ≡ o → option_map (port_on s) (option_map ends_of o) ≡ Some p → (k : ℕ) × (c : ℕ × ℕ) × (suc i ≡ suc k) × (slice_get cables k ≡ Some c) × (end_of_pair s c ≡ p)
+      by_line None h e = absurd (none-some p e)
+      by_line (Some l) h e = (i, (l.one, l.two), refl, ends_made items limit cables lines i l h, on_side s ∙ same_Some (port_on s (ends_of l)) p e)
+        where
+          on_side : (s : Side) → end_of_pair s (l.one, l.two) ≡ port_on s (ends_of l)
+          on_side One = refl
+          on_side Two = refl
+
+  cabled : (first second : List PortConfig) (cables : List (ℕ × ℕ)) (lines : List (C × C)) → AreJoined first second cables → IsCabling (map ends_of (first_lines items limit cables lines))
+  cabled first second cables lines h s m n p e f =
+      let x = end_made cables lines s m p e in
+      let y = end_made cables lines s n p f in
+      let same : end_of_pair s x.1 ≡ end_of_pair s y.1 = x.4 ∙ sym y.4 in
+      x.2 ∙ ap suc (equal x.0 y.0 (one_cable first second cables s x.0 y.0 x.1 y.1 h x.3 y.3 same) (one_cable first second cables s y.0 x.0 y.1 x.1 h y.3 x.3 (sym same))) ∙ sym y.2
+    where
+      equal : (i k : ℕ) → (i < k → ⊥) → (k < i → ⊥) → i ≡ k
+      equal i k a b = elim (cases_Bool (eqb i k)) [
+        | inl e ↦ eqb-true i k e
+        | inr e ↦ (let ne : i ≢ k = λ h. true≢false (sym (eq-eqb i k h) ∙ e) in absurd (neither i k ne a b))
+      ]
+
+  -- each end of a cable that was made has a log
+  end_logged : (config : Config) (h : Half) (p : ℕ) → IsFirstHalf config h → has_port config.ports.items p ≡ true → IsSome (log_at h.logs p)
+  end_logged config h p f x =
+      subst IsSome (sym (ap (λ l. log_at l p) f.logs ∙ log_found config.system config.ports.items p)) (logged (find_number number_of config.ports.items p) (port_found config.ports.items p x))
+    where
+      logged : (o : Option PortConfig) → IsSome o → IsSome (option_map (first_log config.system) o)
+      logged None e = absurd (let h = e in cc)
+      logged (Some c) e = refl
+
+  pub is_start : (a b : Config) (cables : List (ℕ × ℕ)) (lines : List (C × C)) (j : Joint) → IsFirstHalf a j.one → IsFirstHalf b j.two → Agrees j.one.state → Agrees j.two.state
+      → refusal_of_two (plan_of a) (plan_of b) cables ≡ None → list_all (is_empty items) lines ≡ true → j.lines ≡ first_lines items limit cables lines → j.acted ≡ 0 → IsStart j
+  is_start a b cables lines j f g agrees_one agrees_two accepted empty made acted = record {
+    kept = kept;
+    shows = shows;
+    cabling = subst (λ ls. IsCabling (map ends_of ls)) (sym made) (cabled a.ports.items b.ports.items cables lines joined);
+    empty = λ s i l e. line_empty items limit cables lines i l empty (sym (ap (λ ls. slice_get ls i) made) ∙ e) s;
+    ends = λ s i l e. end_there s l (ports_there a.ports.items b.ports.items cables i (l.one, l.two) joined (ends_made items limit cables lines i l (sym (ap (λ ls. slice_get ls i) made) ∙ e)));
+    counts = counts;
+    logs = logs;
+    flows = flows;
+    acted = acted;
+  }
+    where
+      joined : AreJoined a.ports.items b.ports.items cables
+      joined = (two_joined (plan_of a) (plan_of b) cables accepted).2
+
+      kept : (s : Side) → IsKept (half s j)
+      kept One = half_kept a j.one f agrees_one
+      kept Two = half_kept b j.two g agrees_two
+
+      shows : (s : Side) → view_of (half s j).state ≡ first_view (configured (half s j).state)
+      shows One = first_shows j.one.state f.first
+      shows Two = first_shows j.two.state g.first
+
+      end_there : (s : Side) (l : Line) → (has_port a.ports.items l.one ≡ true) × (has_port b.ports.items l.two ≡ true) → IsSome (log_at (half s j).logs (port_at s l))
+      end_there One l x = end_logged a j.one l.one f x.0
+      end_there Two l x = end_logged b j.two l.two g x.1
+
+      counts : (s : Side) → AreBelow 0 (half s j).logs
+      counts One = subst (AreBelow 0) (sym f.logs) (none_counted a.system a.ports.items)
+      counts Two = subst (AreBelow 0) (sym g.logs) (none_counted b.system b.ports.items)
+
+      logs : (s : Side) (p : ℕ) (log : PortLog) → log_at (half s j).logs p ≡ Some log → (log.count ≡ 0) × (log.taken ≡ None)
+      logs One p log e = log_first a.system (find_number number_of a.ports.items p) log (sym (ap (λ l. log_at l p) f.logs ∙ log_found a.system a.ports.items p) ∙ e)
+      logs Two p log e = log_first b.system (find_number number_of b.ports.items p) log (sym (ap (λ l. log_at l p) g.logs ∙ log_found b.system b.ports.items p) ∙ e)
+
+      nothing : (x : Serials) → x ≡ nothing_sent → (x.sent ≡ []) × (x.collected ≡ []) × (x.forced ≡ false)
+      nothing x e = (ap (λ (x : Serials). x.sent) e, ap (λ (x : Serials). x.collected) e, ap (λ (x : Serials). x.forced) e)
+
+      flows : (s : Side) (n k : ℕ) (x : Serials) → serials_at (half s j).flows n k ≡ Some x → (x.sent ≡ []) × (x.collected ≡ []) × (x.forced ≡ false)
+      flows One n k x e = nothing x (flow_empty (length a.aggregators.items) n k x (sym (ap (λ l. serials_at l n k) f.flows) ∙ e))
+      flows Two n k x e = nothing x (flow_empty (length b.aggregators.items) n k x (sym (ap (λ l. serials_at l n k) g.flows) ∙ e))
+
+-- what was tested of two lists in other places holds of them
+pub same_test : {X Y : Type 0} (f : X → Y → Bool) (x there : X) (y here : Y) (r : Bool) → there ≡ x → here ≡ y → r ≡ f there here → r ≡ true → f x y ≡ true
+same_test f x there y here r e g h t = (λ i. f (sym e i) (sym g i)) ∙ sym h ∙ t
+
+-- what code knows of a world that it made
+module _ {C : Type 0} (items : C → List Item) (limit : C → Option ℕ) where
+  two_accepted : (config : WorldConfig) (a b : Config) → config.systems ≡ a ∷ b ∷ [] → refusal_of config ≡ None → refusal_of_two (plan_of a) (plan_of b) config.cables.items ≡ None
+  two_accepted config a b e h = sym (ap (λ systems. refusal_of_all (map plan_of systems) config.cables.items) e) ∙ h
+
+  pub made_start : (config : WorldConfig) (a b : Config) (lines : List (C × C)) (j : Joint) → config.systems ≡ a ∷ b ∷ [] → refusal_of config ≡ None → are_lines items config.cables.items lines ≡ true
+      → IsFirstHalf a j.one → IsFirstHalf b j.two → Agrees j.one.state → Agrees j.two.state → j.lines ≡ first_lines items limit config.cables.items lines → j.acted ≡ 0 → IsStart j
+  made_start config a b lines j e h fit f g agrees_one agrees_two made acted =
+      is_start items limit a b config.cables.items lines j f g agrees_one agrees_two (two_accepted config a b e h)
+      (and_parts (length lines == length config.cables.items) (list_all (is_empty items) lines) fit).1 made acted

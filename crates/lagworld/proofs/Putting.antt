@@ -1,0 +1,79 @@
+-- What is put on a cable, in code and as contracts see it.
+use Rattle.std.proofs.Common.{◌≡◌, ℕ, zero, suc, ◌+◌, ◌<◌, ◌≤◌, eqb, inl, inr, eqb-true, eq-eqb, arith, Bool, false, not, cond, Option, Some, None, IsSomeAnd, Result, Ok, Err, OnOk, List, [], ◌∷◌, map, length, set, get_or, sym, refl, ap, ◌∙◌, subst, nat_lt}
+use Rattle.std.specs.Prelude.{slice_get, position, option_map, IfSome}
+use Rattle.std.specs.List.{position_or_len}
+use Rattle.std.proofs.lemmas.List.{length-map, map-set, set-get_or}
+use Rattle.std.proofs.lemmas.Bool.{cases_Bool, true≢false}
+use Rattle.std.proofs.lemmas.Option.{slice_get-map, slice_get_read}
+use Rattle.lagmodel.specs.World.{Side}
+use Rattle.lagworld.specs.State.{Carried, Line, takes, sent_on, line_of_port, line_at, set_line, takes_at, put, is_kept}
+
+first_seen : {X Y : Type 0} (f : X → Y) (q : Y → Bool) (xs : List X) → position_or_len q (map f xs) ≡ position_or_len (λ x. q (f x)) xs
+first_seen f q [] = refl
+first_seen f q (x ∷ xs) = ap (λ n. cond (not (q (f x))) (1 + n) 0) (first_seen f q xs)
+
+-- a place that is found in a view of a list
+pub place_seen : {X Y : Type 0} (f : X → Y) (q : Y → Bool) (xs : List X) → position q (map f xs) ≡ position (λ x. q (f x)) xs
+place_seen f q xs =
+    ap (λ n. cond (nat_lt n (length (map f xs))) (Some n) None) (first_seen f q xs)
+    ∙ ap (λ m. cond (nat_lt (position_or_len (λ x. q (f x)) xs) m) (Some (position_or_len (λ x. q (f x)) xs)) None) (length-map xs f)
+
+-- the port has no cable
+pub put_nowhere : (s : Side) (p : ℕ) (item : Carried) (lines : List Line) → line_of_port s p lines ≡ None → (put s p item lines ≡ lines) × (is_kept s p lines ≡ false)
+put_nowhere s p item lines e = (ap (λ o. set_line o (sent_on s item) (line_at o lines) lines) e, ap (λ o. takes_at s (line_at o lines)) e)
+
+-- its cable was sent the item
+pub put_there : (s : Side) (p : ℕ) (item : Carried) (lines new : List Line) (kept : Bool) (i : ℕ) → line_of_port s p lines ≡ Some i
+    → IsSomeAnd (slice_get lines i) (λ l. (new ≡ set lines i (sent_on s item l)) × (kept ≡ takes s l)) → (new ≡ put s p item lines) × (kept ≡ is_kept s p lines)
+put_there s p item lines new kept i e h = at_it (slice_get lines i) refl h
+  where
+    at_it : (o : Option Line) → slice_get lines i ≡ o → IsSomeAnd o (λ l. (new ≡ set lines i (sent_on s item l)) × (kept ≡ takes s l))
+        → (new ≡ put s p item lines) × (kept ≡ is_kept s p lines)
+    at_it None is h = absurd h
+    at_it (Some l) is h = (
+      h.0 ∙ sym (ap (λ o. set_line o (sent_on s item) (line_at o lines) lines) e ∙ ap (λ o. set_line (Some i) (sent_on s item) o lines) is),
+      h.1 ∙ sym (ap (λ o. takes_at s (line_at o lines)) e ∙ ap (takes_at s) is),
+    )
+
+-- the cable at a place was sent the item
+pub sent_at : {X Y : Type 0} (f : X → Y) (h : Y → Y) (t : Y → Bool) (xs : List X) (i : ℕ) (x new : X) (kept : Bool) → i < length xs → x ≡ get_or xs i x → f new ≡ h (f x) → kept ≡ t (f x)
+    → IsSomeAnd (slice_get (map f xs) i) (λ y. (map f (set xs i new) ≡ set (map f xs) i (h y)) × (kept ≡ t y))
+sent_at f h t xs i x new kept lt read e k =
+    let there : slice_get (map f xs) i ≡ Some (f x) = slice_get-map f xs i ∙ ap (option_map f) (slice_get_read xs (length xs) i x refl lt read) in
+    subst (λ o. IsSomeAnd o (λ y. (map f (set xs i new) ≡ set (map f xs) i (h y)) × (kept ≡ t y))) (sym there) (map-set f xs i new ∙ ap (set (map f xs) i) e, k)
+
+-- a write that is not seen
+pub same_at : {X Y : Type 0} (f : X → Y) (xs : List X) (i : ℕ) (x new : X) → x ≡ get_or xs i x → f new ≡ f x → map f (set xs i new) ≡ map f xs
+same_at f xs i x new read e =
+    map-set f xs i new ∙ ap (set (map f xs) i) e ∙ sym (map-set f xs i x) ∙ ap (map f) (ap (set xs i) read ∙ set-get_or xs i x)
+
+-- what is written is there
+pub written_there : {X : Type 0} (P : X → Type 0) (xs : List X) (i : ℕ) (x : X) → P x → IfSome (slice_get (set xs i x) i) P
+written_there P [] i x h = tt
+written_there P (z ∷ xs) zero x h = h
+written_there P (z ∷ xs) (suc i) x h = written_there P xs i x h
+
+pub ok_weaker : {T E A B : Type 0} (r : Result T E) → (A → B) → OnOk r A → OnOk r B
+ok_weaker (Ok x) f h = f h
+ok_weaker (Err e) f h = tt
+
+-- what is written leaves what is before it
+pub before_written : {X : Type 0} (P : X → Type 0) (xs : List X) (i k : ℕ) (x : X) → k < i → IfSome (slice_get xs k) P → IfSome (slice_get (set xs i x) k) P
+before_written P [] i k x lt h = h
+before_written P (z ∷ xs) zero k x lt h = absurd (omega (arith, lt))
+before_written P (z ∷ xs) (suc i) zero x lt h = h
+before_written P (z ∷ xs) (suc i) (suc k) x lt h = before_written P xs i k x (omega (arith, lt)) h
+
+-- one more
+pub one_more_below : (P : ℕ → Type 0) (n : ℕ) → ((i : ℕ) → i < n → P i) → P n → (i : ℕ) → i < n + 1 → P i
+one_more_below P n h here i lt = elim (cases_Bool (eqb i n)) [
+  | inl e ↦ subst P (sym (eqb-true i n e)) here
+  | inr e ↦ h i (let apart : i ≡ n → ⊥ = λ same. true≢false (sym (eq-eqb i n same) ∙ e) in grind (arith))
+]
+
+-- all of a list
+pub each_of : {X : Type 0} (P : X → Type 0) (xs : List X) (n : ℕ) → length xs ≤ n → ((i : ℕ) → i < n → IfSome (slice_get xs i) P) → (i : ℕ) → IfSome (slice_get xs i) P
+each_of P [] n le h i = tt
+each_of P (x ∷ xs) n le h zero = h zero (omega (arith, le))
+each_of P (x ∷ xs) zero le h (suc i) = absurd (omega (arith, le))
+each_of P (x ∷ xs) (suc n) le h (suc i) = each_of P xs n (omega (arith, le)) (λ k lt. h (suc k) (omega (arith, lt))) i

@@ -1,0 +1,254 @@
+-- What each event does to a world: the table run of two systems and their cables.
+use Rattle.std.specs.Prelude.{◌≡◌, ℕ, zero, suc, ◌+◌, ◌==◌, Bool, true, List, [], ◌∷◌, length, map, Option, Some, None, IsSome, IsSomeAnd, is_some, nat_le, Result, Ok, Err, slice_get, slice_set, if◌then◌else◌}
+use Rattle.lagtypes.specs.declared.identifiers.AggId.{AggId}
+use Rattle.cables.specs.declared.item.Stamp.{Stamp}
+use Rattle.cables.specs.declared.item.Stamp.TheVariants as stamp
+use Rattle.slowpdu.specs.declared.pdu.Pdu.{Pdu}
+use Rattle.slowpdu.specs.declared.pdu.Pdu.TheVariants as pdu
+use Rattle.slowpdu.specs.Readings.{pdu_in, lacpdu_in}
+use Rattle.lagmodel.specs.View.{PortChange as Told_change}
+use Rattle.lagmodel.specs.World.{Side, One, Two, Event as Told}
+use Rattle.lagsystem.specs.declared.answers.Received.{Received}
+use Rattle.lagsystem.specs.declared.answers.Received.TheVariants as received
+use Rattle.lagsystem.specs.declared.config.PortChange.{PortChange}
+use Rattle.lagsystem.specs.declared.drive.Reply.TheVariants as answer
+use Rattle.lagsystem.specs.declared.fault.SystemFault.{SystemFault}
+use Rattle.lagsystem.specs.Calls.{Receive, Transmit, Offer}
+use Rattle.lagsystem.specs.Readers.{conversation_of}
+use Rattle.lagscript.specs.declared.event.Event.{Event}
+use Rattle.lagscript.specs.declared.event.Event.TheVariants as event
+use Rattle.lagworld.specs.declared.reply.Reply.{Reply}
+use Rattle.lagworld.specs.declared.reply.Reply.TheVariants as reply
+use Rattle.lagworld.specs.declared.fault.WorldFault.{WorldFault}
+use Rattle.lagworld.specs.declared.fault.WorldFault.TheVariants.{NoCable, NoSystem, Spent, NoMemory}
+use Rattle.lagworld.specs.declared.logs.Heard.{Heard}
+use Rattle.lagworld.specs.declared.logs.PortLog.{PortLog}
+use Rattle.lagworld.specs.State.{Carried, Half, Line, Joint, half, with_half, with_lines, port_at, towards, with_towards, emptied, cut, joined, nth, put, is_kept, log_at, count_in, at_flow, with_sent, with_collected, serials_at, sent_in}
+use Rattle.lagworld.specs.Messages.{payload_in, side_number, side_named, count_of}
+use Rattle.lagworld.specs.Calls.{Asks, Ticks, Senses, Configures, Restarts, Moves, Forces, set_taken}
+
+-- a system by its number, 1 or 2
+abbrev pub side_of : ℕ → Option Side
+side_of n = if n == 1 then Some One else (if n == 2 then Some Two else None)
+
+-- how the algorithm of each system answers
+abbrev pub Gives : Type 1
+Gives = Side → ℕ → ℕ → ℕ → Type 0
+
+-- system s and what is kept of it goes on so, and nothing else changes
+abbrev pub InHalf : Side → (Half → Half → Type 0) → Joint → Joint → Type 0
+InHalf s R old new = R (half s old) (half s new) × (new ≡ with_half s (half s new) old)
+
+-- cable c exists, and so it is with it and its place
+abbrev pub OnLine : ℕ → (ℕ → Line → Type 0) → List Line → Type 0
+OnLine zero P lines = ⊥
+OnLine (suc i) P lines = IsSomeAnd (slice_get lines i) (P i)
+
+-- a cable is changed, and nothing else
+abbrev pub set_at : ℕ → Line → Joint → Joint
+set_at i l j = with_lines j (slice_set j.lines i l)
+
+-- port p of system s sends this: what the cables are afterwards
+abbrev pub puts : Side → ℕ → Carried → Joint → Joint
+puts s p item j = with_lines j (put s p item j.lines)
+
+-- a frame that transmit answers, as it goes onto the cable
+abbrev pub stamp_for : Pdu → ℕ → Stamp
+stamp_for (pdu.Lacpdu v) count = stamp.Control count
+stamp_for (pdu.Marker m) count = stamp.Control 0
+
+abbrev pub sent_reply : Pdu → Bool → Reply
+sent_reply (pdu.Lacpdu v) kept = reply.Lacpdu v.actor.state kept
+sent_reply (pdu.Marker m) kept = reply.Marker m.id kept
+
+abbrev pub transmitted : Side → ℕ → List ℕ → Half → Carried
+transmitted s p frame h = record { octets = frame; stamp = stamp_for (pdu_in (payload_in frame)) (count_in (log_at h.logs p)) }
+
+-- what becomes of an answer to transmit
+abbrev pub Emitted : Side → ℕ → Result (Option (List ℕ)) SystemFault → Joint → Reply → Joint → Type 0
+Emitted s p (Err fault) old r new = (r ≡ reply.Refused fault) × (new ≡ old)
+Emitted s p (Ok None) old r new = (r ≡ reply.Nothing) × (new ≡ old)
+Emitted s p (Ok (Some frame)) old r new =
+    (r ≡ sent_reply (pdu_in (payload_in frame)) (is_kept s p old.lines)) × (new ≡ puts s p (transmitted s p frame (half s old)) old)
+
+abbrev pub Emits : Gives → Side → ℕ → Joint → Reply → Joint → Type 0
+Emits gives s p old r new =
+    (a : Result (Option (List ℕ)) SystemFault) × (mid : Half) × Asks (gives s) (Transmit p) (answer.Transmit a) (half s old) mid
+    × Emitted s p a (with_half s mid old) r new
+
+-- the LACPDU of an item, with its stamp
+abbrev pub heard_in : Carried → Heard
+heard_in item = record { pdu = lacpdu_in (payload_in item.octets); stamp = count_of item.stamp }
+
+-- port p took it
+abbrev pub set_heard : ℕ → Heard → List PortLog → List PortLog
+set_heard p heard [] = []
+set_heard p heard (log ∷ logs) = if log.number == p then set_taken heard log ∷ logs else log ∷ set_heard p heard logs
+
+abbrev pub with_heard : ℕ → Heard → Half → Half
+with_heard p heard h = record h { logs = set_heard p heard h.logs }
+
+abbrev pub with_flow_of : ℕ → ℕ → ℕ → Half → Half
+with_flow_of agg conv serial h = record h { flows = at_flow (with_collected serial) agg conv h.flows }
+
+-- a data frame counts as collected at the system that sent it
+abbrev pub collected : Stamp → Joint → Joint
+collected (stamp.Control count) j = j
+collected (stamp.Data system agg conv serial) j =
+    with_half (side_named system) (with_flow_of agg conv serial (half (side_named system) j)) j
+
+-- what becomes of an answer to an item that came on port p of system s
+abbrev pub Arrived : Side → ℕ → Carried → Result Received SystemFault → Joint → Reply → Joint → Type 0
+Arrived s p item (Err fault) old r new = (r ≡ reply.Refused fault) × (new ≡ old)
+Arrived s p item (Ok received.Disabled) old r new = (r ≡ reply.Disabled) × (new ≡ old)
+Arrived s p item (Ok received.Dropped) old r new = (r ≡ reply.Dropped) × (new ≡ old)
+Arrived s p item (Ok (received.Ignored fault)) old r new = (r ≡ reply.Ignored) × (new ≡ old)
+Arrived s p item (Ok received.TookLacpdu) old r new = (r ≡ reply.Took) × (new ≡ with_half s (with_heard p (heard_in item) (half s old)) old)
+Arrived s p item (Ok (received.Respond frame)) old r new =
+    (r ≡ reply.Responded (is_kept s p old.lines)) × (new ≡ puts s p (record { octets = frame; stamp = stamp.Control 0 }) old)
+Arrived s p item (Ok (received.Released n)) old r new = (r ≡ reply.Released n) × (new ≡ old)
+Arrived s p item (Ok (received.Up agg)) old r new = (r ≡ reply.Up agg) × (new ≡ collected item.stamp old)
+
+-- an item comes on port p of system s
+abbrev pub Arrives : Gives → Side → ℕ → Carried → Joint → Reply → Joint → Type 0
+Arrives gives s p item old r new =
+    (a : Result Received SystemFault) × (mid : Half) × Asks (gives s) (Receive p item.octets) (answer.Receive a) (half s old) mid
+    × Arrived s p item a (with_half s mid old) r new
+
+-- the first item towards s is taken off and comes at the end of cable i
+abbrev pub DeliversFrom : Gives → Side → ℕ → Line → List Carried → Joint → Reply → Joint → Type 0
+DeliversFrom gives s i l [] old r new = (r ≡ reply.Empty) × (new ≡ old)
+DeliversFrom gives s i l (item ∷ rest) old r new = Arrives gives s (port_at s l) item (set_at i (with_towards s rest l) old) r new
+
+abbrev pub LosesFrom : Side → ℕ → Line → List Carried → Joint → Reply → Joint → Type 0
+LosesFrom s i l [] old r new = (r ≡ reply.Empty) × (new ≡ old)
+LosesFrom s i l (item ∷ rest) old r new = (r ≡ reply.Lost) × (new ≡ set_at i (with_towards s rest l) old)
+
+-- the first item comes and stays, unless it is a data frame
+abbrev pub RepeatsItem : Gives → Side → ℕ → List ℕ → Stamp → Joint → Reply → Joint → Type 0
+RepeatsItem gives s p octets (stamp.Control count) old r new =
+    Arrives gives s p (record { octets = octets; stamp = stamp.Control count }) old r new
+RepeatsItem gives s p octets (stamp.Data system agg conv serial) old r new = (r ≡ reply.NotControl) × (new ≡ old)
+
+abbrev pub RepeatsFrom : Gives → Side → Line → List Carried → Joint → Reply → Joint → Type 0
+RepeatsFrom gives s l [] old r new = (r ≡ reply.Empty) × (new ≡ old)
+RepeatsFrom gives s l (item ∷ rest) old r new = RepeatsItem gives s (port_at s l) item.octets item.stamp old r new
+
+-- the frame goes out on the port that the system answers, as the next of its conversation
+abbrev pub offered : Side → ℕ → AggId → List ℕ → Half → Carried
+offered s port agg octets h = record {
+  octets = octets;
+  stamp = stamp.Data (side_number s) agg.0 (conversation_of h.state octets) (length (sent_in (serials_at h.flows agg.0 (conversation_of h.state octets))));
+}
+
+abbrev pub count_sent : AggId → List ℕ → Half → Half
+count_sent agg octets h = record h { flows = at_flow with_sent agg.0 (conversation_of h.state octets) h.flows }
+
+abbrev pub Offered : Side → AggId → List ℕ → Result ℕ SystemFault → Joint → Reply → Joint → Type 0
+Offered s agg octets (Err fault) old r new = (r ≡ reply.Refused fault) × (new ≡ old)
+Offered s agg octets (Ok port) old r new =
+    IsSome (serials_at (half s old).flows agg.0 (conversation_of (half s old).state octets))
+    × (r ≡ reply.Port port (length (sent_in (serials_at (half s old).flows agg.0 (conversation_of (half s old).state octets)))) (is_kept s port old.lines))
+    × (new ≡ puts s port (offered s port agg octets (half s old)) (with_half s (count_sent agg octets (half s old)) old))
+
+abbrev pub Offers : Gives → Side → AggId → List ℕ → Joint → Reply → Joint → Type 0
+Offers gives s agg octets old r new =
+    (a : Result ℕ SystemFault) × (mid : Half) × Asks (gives s) (Offer agg octets) (answer.Offer a) (half s old) mid
+    × Offered s agg octets a (with_half s mid old) r new
+
+-- what the event does, once its system and cable are there
+abbrev pub Does : Gives → Joint → Event → Reply → Joint → Type 0
+Does gives old (event.Tick n count) r new = IsSomeAnd (side_of n) (λ s. InHalf s (Ticks (gives s) count) old new × (r ≡ reply.Ticked))
+Does gives old (event.Emit n p) r new = IsSomeAnd (side_of n) (λ s. Emits gives s p old r new)
+Does gives old (event.Deliver c n) r new =
+    IsSomeAnd (side_of n) (λ s. OnLine c (λ i l. DeliversFrom gives s i l (towards s l) old r new) old.lines)
+Does gives old (event.Lose c n) r new = IsSomeAnd (side_of n) (λ s. OnLine c (λ i l. LosesFrom s i l (towards s l) old r new) old.lines)
+Does gives old (event.Repeat c n) r new =
+    IsSomeAnd (side_of n) (λ s. OnLine c (λ i l. RepeatsFrom gives s l (towards s l) old r new) old.lines)
+Does gives old (event.Cut c) r new = OnLine c (λ i l. (r ≡ reply.Cut) × (new ≡ set_at i (cut l) old)) old.lines
+Does gives old (event.Join c) r new = OnLine c (λ i l. (r ≡ reply.Joined) × (new ≡ set_at i (joined l) old)) old.lines
+Does gives old (event.Sense c n) r new =
+    IsSomeAnd (side_of n) (λ s. OnLine c (λ i l. InHalf s (λ h k. Senses (gives s) (port_at s l) l.whole h r k) old new) old.lines)
+Does gives old (event.Restart n) r new =
+    IsSomeAnd (side_of n) (λ s. (r ≡ reply.Restarted) × InHalf s (Restarts (gives s)) (with_lines old (map emptied old.lines)) new)
+Does gives old (event.Configure n p change) r new = IsSomeAnd (side_of n) (λ s. InHalf s (λ h k. Configures (gives s) p change h r k) old new)
+Does gives old (event.Offer n agg octets) r new = IsSomeAnd (side_of n) (λ s. Offers gives s agg octets.items old r new)
+Does gives old (event.Move n agg conv p) r new = IsSomeAnd (side_of n) (λ s. InHalf s (λ h k. Moves (gives s) agg conv p h r k) old new)
+Does gives old (event.Force n agg conv) r new = IsSomeAnd (side_of n) (λ s. InHalf s (λ h k. Forces (gives s) agg conv h r k) old new)
+
+-- From old, the world answers the event so and goes on to new.
+abbrev pub Steps : Gives → Joint → Event → Reply → Joint → Type 0
+Steps gives old e r new = Does gives old e r (record new { acted = old.acted }) × (new.acted ≡ old.acted + 1)
+
+-- these events with these replies, one after another
+abbrev pub Runs : Gives → Joint → List Event → List Reply → Joint → Type 0
+Runs gives old [] [] new = new ≡ old
+Runs gives old (e ∷ es) (r ∷ rs) new = (mid : Joint) × Steps gives old e r mid × Runs gives mid es rs new
+Runs gives old [] (r ∷ rs) new = ⊥
+Runs gives old (e ∷ es) [] new = ⊥
+
+-- how many events a world may see
+abbrev pub most_events : ℕ
+most_events = 9223372036854775808
+
+abbrev pub cable_named : Event → Option ℕ
+cable_named (event.Deliver c n) = Some c
+cable_named (event.Lose c n) = Some c
+cable_named (event.Repeat c n) = Some c
+cable_named (event.Cut c) = Some c
+cable_named (event.Join c) = Some c
+cable_named (event.Sense c n) = Some c
+cable_named _ = None
+
+abbrev pub system_named : Event → Option ℕ
+system_named (event.Tick n count) = Some n
+system_named (event.Emit n p) = Some n
+system_named (event.Deliver c n) = Some n
+system_named (event.Lose c n) = Some n
+system_named (event.Repeat c n) = Some n
+system_named (event.Cut c) = None
+system_named (event.Join c) = None
+system_named (event.Sense c n) = Some n
+system_named (event.Restart n) = Some n
+system_named (event.Configure n p change) = Some n
+system_named (event.Offer n agg octets) = Some n
+system_named (event.Move n agg conv p) = Some n
+system_named (event.Force n agg conv) = Some n
+
+abbrev pub has_cable : Joint → Option ℕ → Bool
+has_cable j None = true
+has_cable j (Some c) = is_some (nth j.lines c)
+
+abbrev pub has_system : Option ℕ → Bool
+has_system None = true
+has_system (Some n) = is_some (side_of n)
+
+abbrev pub first_cause : Bool → Bool → Bool → Option WorldFault
+first_cause cable system spent = if cable then (if system then (if spent then Some Spent else None) else Some NoSystem) else Some NoCable
+
+-- the first cause that holds to refuse an event, want of memory aside
+abbrev pub cause : Joint → Event → Option WorldFault
+cause j e = first_cause (has_cable j (cable_named e)) (has_system (system_named e)) (nat_le most_events j.acted)
+
+abbrev pub fault_for : Option WorldFault → WorldFault
+fault_for None = NoMemory
+fault_for (Some fault) = fault
+
+-- the event as the law sees it
+abbrev pub told_change : PortChange → Told_change
+told_change c = record { key = c.key; priority = c.priority; aggregatable = c.aggregatable }
+
+abbrev pub told : Event → Told
+told (event.Tick n count) = Told.Tick (side_named n) count
+told (event.Emit n p) = Told.Emit (side_named n) p
+told (event.Deliver c n) = Told.Deliver c (side_named n)
+told (event.Lose c n) = Told.Lose c (side_named n)
+told (event.Repeat c n) = Told.Repeat c (side_named n)
+told (event.Cut c) = Told.Cut c
+told (event.Join c) = Told.Join c
+told (event.Sense c n) = Told.Sense c (side_named n)
+told (event.Restart n) = Told.Restart (side_named n)
+told (event.Configure n p change) = Told.Configure (side_named n) p (told_change change)
+told (event.Offer n agg octets) = Told.Offer (side_named n) agg.0 octets.items
+told (event.Move n agg conv p) = Told.Move_conversation (side_named n) agg.0 conv p
+told (event.Force n agg conv) = Told.Force (side_named n) agg.0 conv

@@ -1,0 +1,108 @@
+-- What every world keeps, and what holds of it after each event.
+use Rattle.std.specs.Prelude.{◌≡◌, ◌≤◌, ◌<◌, ℕ, true, false, List, [], ◌∷◌, length, map, Option, Some, None, IsSome, take, slice_get, ◌⊎◌}
+use Rattle.cables.specs.declared.item.Stamp.{Stamp}
+use Rattle.cables.specs.declared.item.Stamp.TheVariants as stamp
+use Rattle.slowpdu.specs.Frames.{IsSlow}
+use Rattle.lagmodel.specs.World.{Side, One, Two, peer, IsCabling, Event as Told, Run, first_world}
+use Rattle.lagmodel.specs.Law.{TookSynchronised, NamesPresent, OnItsCable, FlushedByMarker, BelowNext, CollectedThenInFlight, CountsFromZero}
+use Rattle.lagmodel.specs.View.{first_view}
+use Rattle.lagsystem.specs.Shown.{configured, view_of}
+use Rattle.lagsystem.specs.Sound.{Agrees}
+use Rattle.lagsystem.specs.Readers.{conversations}
+use Rattle.lagscript.specs.declared.event.Event.{Event}
+use Rattle.lagworld.specs.declared.reply.Reply.{Reply}
+use Rattle.lagworld.specs.declared.fault.RunFault.{RunFault}
+use Rattle.lagworld.specs.declared.fault.WorldFault.{WorldFault}
+use Rattle.lagworld.specs.declared.fault.WorldFault.TheVariants.{NoMemory}
+use Rattle.lagworld.specs.declared.logs.PortLog.{PortLog}
+use Rattle.lagworld.specs.State.{Carried, Half, Serials, Line, Joint, half, port_at, towards, serials_at, log_at}
+use Rattle.lagworld.specs.Calls.{party_of_port}
+use Rattle.lagworld.specs.Events.{Gives, Runs, most_events, cause, told}
+use Rattle.lagworld.specs.Messages.{side_named}
+use Rattle.lagworld.specs.Worlds.{fixed_of, world_of}
+
+abbrev pub gives_by : (ℕ → ℕ → ℕ → Type 0) → (ℕ → ℕ → ℕ → Type 0) → Gives
+gives_by a b One = a
+gives_by a b Two = b
+
+-- the first event that is left
+abbrev pub next_of : List Event → ℕ → Option Event
+next_of es n = slice_get es n
+
+abbrev pub cause_next : Joint → Option Event → Option WorldFault
+cause_next j None = None
+cause_next j (Some e) = cause j e
+
+-- the world run of these events
+abbrev pub WorldRun : Joint → List Event → Joint → Type 0
+WorldRun old es new = Run (fixed_of old) (map told es) (world_of old) (world_of new)
+
+-- A run stopped: as many events as it says acted, and then there was a cause to refuse the next one, or memory was refused.
+pub record Stops (gives : Gives) (old : Joint) (es : List Event) (stop : RunFault) (new : Joint) : Type 0 where
+  pub replies : List Reply
+  pub within : stop.done ≤ length es
+  pub acted : Runs gives old (take stop.done es) replies new
+  pub happened : WorldRun old (take stop.done es) new
+  pub fault : (stop.fault ≡ NoMemory) ⊎ (cause_next new (next_of es stop.done) ≡ Some stop.fault)
+
+-- the facts that carry the headline, of the world as it is
+pub record Carries (j : Joint) : Type 0 where
+  pub took_synchronised : TookSynchronised (world_of j)
+  pub names_present : NamesPresent (fixed_of j) (world_of j)
+  pub on_its_cable : OnItsCable (fixed_of j) (world_of j)
+  pub flushed_by_marker : FlushedByMarker (fixed_of j) (world_of j)
+  pub below_next : BelowNext (world_of j)
+  pub collected_then_in_flight : CollectedThenInFlight (world_of j)
+  pub counts_from_zero : CountsFromZero (world_of j)
+
+-- some run of the law led there from the start of the two systems
+abbrev pub Reached : Joint → Type 0
+Reached j = (events : List Told) × Run (fixed_of j) events (first_world (fixed_of j)) (world_of j)
+
+-- an item towards a system is what its stamp says: a data frame comes from its peer, of a conversation that there is, and is
+-- no control frame
+abbrev pub IsItem : Side → List ℕ → Stamp → Joint → Type 0
+IsItem s octets (stamp.Control count) j = Unit {0}
+IsItem s octets (stamp.Data system agg conv serial) j =
+    (side_named system ≡ peer s) × IsSome (serials_at (half (peer s) j).flows agg conv) × (IsSlow octets → ⊥)
+
+abbrev pub AreItems : Side → List Carried → Joint → Type 0
+AreItems s [] j = Unit {0}
+AreItems s (item ∷ rest) j = IsItem s item.octets item.stamp j × AreItems s rest j
+
+-- what is kept of ports and conversations, of a system in this state: each port has a log with its party, and each
+-- conversation of each aggregator its lists
+pub record IsKept (h : Half) : Type 0 where
+  pub agrees : Agrees h.state
+  pub parties : (p : ℕ) (log : PortLog) → log_at h.logs p ≡ Some log → party_of_port h.state p ≡ Some log.party
+  pub logged : (p : ℕ) → IsSome (party_of_port h.state p) → IsSome (log_at h.logs p)
+  pub flows : (g k : ℕ) → 0 < g → g ≤ length h.state.keys → k < conversations h.state → IsSome (serials_at h.flows g k)
+
+-- no port changed more often than that
+abbrev pub AreBelow : ℕ → List PortLog → Type 0
+AreBelow n [] = Unit {0}
+AreBelow n (log ∷ logs) = (log.count ≤ n) × AreBelow n logs
+
+-- what every world keeps: what it keeps of each system; no port with two cables; items that are what their stamps say; ends
+-- that are ports; counts that cannot overflow; and that a run of the law led there
+pub record IsSound (j : Joint) : Type 0 where
+  pub kept : (s : Side) → IsKept (half s j)
+  pub cabling : IsCabling (fixed_of j).cables
+  pub items : (s : Side) (i : ℕ) (l : Line) → slice_get j.lines i ≡ Some l → AreItems s (towards s l) j
+  pub ends : (s : Side) (i : ℕ) (l : Line) → slice_get j.lines i ≡ Some l → IsSome (log_at (half s j).logs (port_at s l))
+  pub few : j.acted ≤ most_events
+  pub counts : (s : Side) → AreBelow j.acted (half s j).logs
+  pub reached : Reached j
+
+-- a world that has just been made: both systems in their first views, every cable whole and empty, nothing counted, taken, sent,
+-- collected or forced, and no event has acted
+pub record IsStart (j : Joint) : Type 0 where
+  pub kept : (s : Side) → IsKept (half s j)
+  pub shows : (s : Side) → view_of (half s j).state ≡ first_view (configured (half s j).state)
+  pub cabling : IsCabling (fixed_of j).cables
+  pub empty : (s : Side) (i : ℕ) (l : Line) → slice_get j.lines i ≡ Some l → (towards s l ≡ []) × (l.whole ≡ true)
+  pub ends : (s : Side) (i : ℕ) (l : Line) → slice_get j.lines i ≡ Some l → IsSome (log_at (half s j).logs (port_at s l))
+  pub counts : (s : Side) → AreBelow 0 (half s j).logs
+  pub logs : (s : Side) (p : ℕ) (log : PortLog) → log_at (half s j).logs p ≡ Some log → (log.count ≡ 0) × (log.taken ≡ None)
+  pub flows : (s : Side) (g k : ℕ) (x : Serials) → serials_at (half s j).flows g k ≡ Some x → (x.sent ≡ []) × (x.collected ≡ []) × (x.forced ≡ false)
+  pub acted : j.acted ≡ 0

@@ -1,0 +1,406 @@
+ghost use Rattle.std.specs.Prelude.{◌≡◌, ◌+◌, ◌≤◌, ◌<◌, ℕ, [], length, map, option_map, slice_get, slice_set, true, vec_capacity, vec_len, IfErr, IfOk, IfSome, IsSomeAnd, OnOk, Some};
+ghost use Rattle.slowpdu.specs.declared.pdu.Lacpdu.{Lacpdu};
+ghost use Rattle.slowpdu.specs.Lacpdus.{Reads};
+ghost use Rattle.lagworld.specs.declared.fault.WorldFault.TheVariants.{NoMemory as OutOfMemory};
+ghost use Rattle.lagworld.specs.Arriving.{Comes, Concludes, DeliversAs, FirstComes, FirstComesIn, CarriesLacpdu, CanCollectFor, IsHeard, IsReady, RepeatsAs, first_told, head_in, is_data, kept_heard, log_place, without_first};
+ghost use Rattle.lagworld.specs.Events.{collected, has_cable, heard_in, puts, set_heard};
+ghost use Rattle.lagworld.specs.Joints.{joint_of};
+ghost use Rattle.lagworld.specs.Kept.{half_of, line_of, lines_of};
+ghost use Rattle.lagworld.specs.Messages.{carried, count_of, side_named};
+ghost use Rattle.lagworld.specs.Places.{IsReserved, is_reserved};
+ghost use Rattle.lagworld.specs.Sides.{told_side};
+ghost use Rattle.lagworld.specs.Sound.{gives_by};
+ghost use Rattle.lagworld.specs.State.{is_kept, port_at, towards};
+
+use crate::causes::{Side, side_named};
+use crate::collecting::{collect, reserve_collected};
+use crate::emitting::{FRAME_LEN, filled};
+use crate::fault::WorldFault;
+use crate::half::End;
+use crate::kept::Core;
+use crate::line::Line;
+use crate::logs::{Heard, PortLog};
+use crate::reply::Reply;
+use crate::sending::{put, reserve_on};
+use cables::{Cable, Item, Stamp};
+use lagsystem::{Received, SystemFault};
+use slowpdu::{Kind, Lacpdu, Pdu, classify, decode};
+use std::alloc::AllocError;
+
+/// What is told of the first item on a cable towards a system, before it comes: the port that it comes on, and its stamp.
+#[derive(Clone, Copy, Debug, PartialEq, Eq)]
+pub(crate) struct Head {
+    pub(crate) port: u16,
+    pub(crate) stamp: Stamp,
+}
+
+/// Whether an item is a data frame.
+fn is_data(stamp: Stamp) -> bool
+    ensures { result ≡ is_data stamp }
+{
+    match stamp {
+        Stamp::Control(_) => false,
+        Stamp::Data { .. } => true,
+    }
+}
+
+/// The change count with which an item came.
+fn count_of(stamp: Stamp) -> u64
+    ensures { result ≡ count_of stamp }
+{
+    match stamp {
+        Stamp::Control(count) => count,
+        Stamp::Data { .. } => 0,
+    }
+}
+
+/// The LACPDU of a payload, if it is one.
+fn lacpdu_of(payload: &[u8]) -> Option<Lacpdu>
+    ensures { (v : Lacpdu) → Reads payload.now v → result ≡ Some v }
+{
+    match decode(payload) {
+        Ok(Pdu::Lacpdu(pdu)) => Some(pdu),
+        Ok(Pdu::Marker(_)) => None,
+        Err(_) => None,
+    }
+}
+
+/// The LACPDU of a frame, if it carries one.
+fn carried_lacpdu(octets: &[u8]) -> Option<Lacpdu>
+    ensures { (v : Lacpdu) → CarriesLacpdu octets.now v → result ≡ Some v }
+{
+    match classify(octets) {
+        Kind::Control(payload) => lacpdu_of(payload),
+        Kind::Data => None,
+        Kind::TooShort => None,
+    }
+}
+
+/// The LACPDU of an item, if it carries one, with its stamp.
+fn heard_in(item: &Item) -> Option<Heard>
+    ensures { (v : Lacpdu) → CarriesLacpdu item.now.bytes.items v → result ≡ Some (heard_in (carried item.now)) }
+{
+    match carried_lacpdu(&item.bytes) {
+        Some(pdu) => {
+            let stamp = count_of(item.stamp);
+            Some(Heard { pdu, stamp })
+        }
+        None => None,
+    }
+}
+
+/// What is to be kept of an item that was answered so: an LACPDU that was taken.
+fn heard_of(answer: Result<Received, SystemFault>, item: &Item) -> Option<Heard>
+    ensures { IsHeard answer (carried item.now) result }
+{
+    match answer {
+        Ok(Received::TookLacpdu) => heard_in(item),
+        Ok(Received::Disabled) => None,
+        Ok(Received::Dropped) => None,
+        Ok(Received::Ignored(_)) => None,
+        Ok(Received::Respond(_)) => None,
+        Ok(Received::Released(_)) => None,
+        Ok(Received::Up(_)) => None,
+        Err(_) => None,
+    }
+}
+
+/// The place of what is kept of a port.
+fn log_place(logs: &[PortLog], port: u16) -> Option<usize>
+    ensures place { result ≡ log_place port logs.now }
+    ensures within { IfSome result (λ place. place < length logs.now) }
+{
+    logs.iter().position(|log| log.number == port)
+}
+
+/// A port took this LACPDU.
+fn set_heard(logs: &mut Vec<PortLog>, port: u16, heard: Heard)
+    ensures { logs.new.items ≡ set_heard port heard logs.old.items }
+{
+    match log_place(logs, port) {
+        Some(place) => logs[place].taken = Some(heard),
+        None => {}
+    }
+}
+
+/// The same where there is something to be kept.
+fn keep_heard(logs: &mut Vec<PortLog>, port: u16, heard: Option<Heard>)
+    ensures { logs.new.items ≡ kept_heard port heard logs.old.items }
+{
+    match heard {
+        Some(heard) => set_heard(logs, port, heard),
+        None => {}
+    }
+}
+
+impl<F: Fn(u16, usize) -> usize + Drop> End<F> {
+    /// An item comes on a port.
+    fn arrive(&mut self, port: u16, item: &Item) -> Result<Received, SystemFault>
+        ensures comes { Comes (F.post self.old.system.algorithm) port (carried item.now) result (half_of self.old) (half_of self.new) }
+        ensures algorithm { self.new.system.algorithm ≡ self.old.system.algorithm }
+        ensures flows { self.new.flows ≡ self.old.flows }
+    {
+        let answer = self.system.receive(port, &item.bytes);
+        let heard = heard_of(answer, item);
+        keep_heard(&mut self.logs, port, heard);
+        answer
+    }
+
+    /// The first item on a cable comes on a port, if there is one.
+    pub(crate) fn hear<C: Cable>(
+        &mut self,
+        cable: &C,
+        port: u16,
+    ) -> Option<Result<Received, SystemFault>>
+        ensures comes { FirstComes (F.post self.old.system.algorithm) port (map carried (C.items cable.now)) result (half_of self.old) (half_of self.new) }
+        ensures algorithm { self.new.system.algorithm ≡ self.old.system.algorithm }
+        ensures flows { self.new.flows ≡ self.old.flows }
+    {
+        match cable.front() {
+            Some(item) => Some(self.arrive(port, item)),
+            None => None,
+        }
+    }
+}
+
+/// What is told of the first item on a cable, which would come on a port.
+fn first_told<C: Cable>(cable: &C, port: u16) -> Option<Head>
+    ensures { result ≡ first_told port (map carried (C.items cable.now)) }
+{
+    match cable.front() {
+        Some(item) => Some(Head {
+            port,
+            stamp: item.stamp,
+        }),
+        None => None,
+    }
+}
+
+impl<C: Cable> Line<C> {
+    /// What is told of the first item towards a system, if there is one.
+    fn head(&self, side: Side) -> Option<Head>
+        ensures { result ≡ head_in (told_side side) (line_of C.items C.limit self.now) }
+    {
+        match side {
+            Side::One => first_told(&self.to_one, self.one),
+            Side::Two => first_told(&self.to_two, self.two),
+        }
+    }
+
+    /// Takes the first item towards a system off.
+    fn take(&mut self, side: Side) -> Option<Item>
+        ensures first { option_map carried result ≡ slice_get (towards (told_side side) (line_of C.items C.limit self.old)) 0 }
+        ensures rest { line_of C.items C.limit self.new ≡ without_first (told_side side) (line_of C.items C.limit self.old) }
+        ensures reserved { is_reserved C.reserved (told_side side) self.new ≡ is_reserved C.reserved (told_side side) self.old }
+    {
+        match side {
+            Side::One => self.to_one.pop(),
+            Side::Two => self.to_two.pop(),
+        }
+    }
+}
+
+/// What is told of the first item towards a system on the cable at a place.
+fn head_of<C: Cable>(lines: &Vec<Line<C>>, side: Side, place: usize) -> Option<Head>
+    requires { place < length lines.now.items }
+    ensures { IsSomeAnd (slice_get (lines_of C.items C.limit lines.now.items) place) (λ l. result ≡ head_in (told_side side) l) }
+{
+    let line = &lines[place];
+    line.head(side)
+}
+
+/// Takes the first item towards a system off the cable at a place. What is reserved for that system to send stays so.
+pub(crate) fn take_first<C: Cable>(
+    lines: &mut Vec<Line<C>>,
+    side: Side,
+    place: usize,
+) -> Option<Item>
+    requires { place < length lines.old.items }
+    ensures taken { IsSomeAnd (slice_get (lines_of C.items C.limit lines.old.items) place) (λ l. (option_map carried result ≡ slice_get (towards (told_side side) l) 0) × (lines_of C.items C.limit lines.new.items ≡ slice_set (lines_of C.items C.limit lines.old.items) place (without_first (told_side side) l))) }
+    ensures reserved { (p : ℕ) → IsReserved C.items C.limit C.reserved (told_side side) p lines.old.items → IsReserved C.items C.limit C.reserved (told_side side) p lines.new.items }
+{
+    let line = &mut lines[place];
+    line.take(side)
+}
+
+impl<C: Cable, F: Fn(u16, usize) -> usize + Drop> Core<C, F> {
+    /// Reserves a place for the serial of an item among those that were handed up of its conversation.
+    fn reserve_collected(&mut self, stamp: Stamp) -> Result<(), AllocError>
+        ensures same { joint_of C.items C.limit self.new ≡ joint_of C.items C.limit self.old }
+        ensures lines { self.new.lines ≡ self.old.lines }
+        ensures room { OnOk result (CanCollectFor stamp self.new.one.flows.items self.new.two.flows.items) }
+        ensures acted { self.new.acted ≡ self.old.acted }
+        ensures algorithm_one { self.new.one.system.algorithm ≡ self.old.one.system.algorithm }
+        ensures algorithm_two { self.new.two.system.algorithm ≡ self.old.two.system.algorithm }
+    {
+        match stamp {
+            Stamp::Control(_) => Ok(()),
+            Stamp::Data {
+                system,
+                agg,
+                conv,
+                ..
+            } => match side_named(system) {
+                Side::One => reserve_collected(&mut self.one.flows, agg, conv),
+                Side::Two => reserve_collected(&mut self.two.flows, agg, conv),
+            },
+        }
+    }
+
+    /// Reserves all that an item may need that comes: the octets of a response, a place for it on the cable of the port, and
+    /// one for a serial. Answered are the octets.
+    fn make_room(&mut self, side: Side, head: Head) -> Result<Vec<u8>, WorldFault>
+        ensures refused { IfErr result (λ fault. fault ≡ OutOfMemory) }
+        ensures same { joint_of C.items C.limit self.new ≡ joint_of C.items C.limit self.old }
+        ensures ready { OnOk result (IsReady C.items C.limit C.reserved (told_side side) head self.new) }
+        ensures empty { IfOk result (λ bytes. bytes.items ≡ []) }
+        ensures room { IfOk result (λ bytes. vec_len bytes + 124 ≤ vec_capacity bytes) }
+        ensures acted { self.new.acted ≡ self.old.acted }
+        ensures algorithm_one { self.new.one.system.algorithm ≡ self.old.one.system.algorithm }
+        ensures algorithm_two { self.new.two.system.algorithm ≡ self.old.two.system.algorithm }
+    {
+        let bytes = Vec::with_capacity(self.alloc, FRAME_LEN)?;
+        reserve_on(&mut self.lines, side, head.port)?;
+        self.reserve_collected(head.stamp)?;
+        Ok(bytes)
+    }
+
+    /// The first item towards a system on the cable at a place comes, if there is one.
+    fn hear(&mut self, side: Side, place: usize) -> Option<Result<Received, SystemFault>>
+        requires { place < length self.old.lines.items }
+        ensures heard { IsSomeAnd (slice_get (lines_of C.items C.limit self.old.lines.items) place) (λ l. FirstComesIn (gives_by (F.post self.old.one.system.algorithm) (F.post self.old.two.system.algorithm)) (told_side side) (port_at (told_side side) l) (towards (told_side side) l) result (joint_of C.items C.limit self.old) (joint_of C.items C.limit self.new)) }
+        ensures lines { self.new.lines ≡ self.old.lines }
+        ensures flows_one { self.new.one.flows ≡ self.old.one.flows }
+        ensures flows_two { self.new.two.flows ≡ self.old.two.flows }
+        ensures acted { self.new.acted ≡ self.old.acted }
+        ensures algorithm_one { self.new.one.system.algorithm ≡ self.old.one.system.algorithm }
+        ensures algorithm_two { self.new.two.system.algorithm ≡ self.old.two.system.algorithm }
+    {
+        let line = &self.lines[place];
+        match side {
+            Side::One => self.one.hear(&line.to_one, line.one),
+            Side::Two => self.two.hear(&line.to_two, line.two),
+        }
+    }
+
+    /// A response goes onto the cable of a port: true where that takes it.
+    fn respond(&mut self, side: Side, port: u16, bytes: Vec<u8>, frame: [u8; 124]) -> bool
+        requires reserved { IsReserved C.items C.limit C.reserved (told_side side) port self.old.lines.items }
+        requires empty { bytes.items ≡ [] }
+        requires room { vec_len bytes + 124 ≤ vec_capacity bytes }
+        ensures kept { result ≡ is_kept (told_side side) port (lines_of C.items C.limit self.old.lines.items) }
+        ensures put { joint_of C.items C.limit self.new ≡ puts (told_side side) port (record { octets = frame; stamp = Stamp.Control 0 }) (joint_of C.items C.limit self.old) }
+        ensures acted { self.new.acted ≡ self.old.acted }
+        ensures algorithm_one { self.new.one.system.algorithm ≡ self.old.one.system.algorithm }
+        ensures algorithm_two { self.new.two.system.algorithm ≡ self.old.two.system.algorithm }
+    {
+        let item = Item {
+            bytes: filled(bytes, &frame),
+            stamp: Stamp::Control(0),
+        };
+        put(&mut self.lines, side, port, item)
+    }
+
+    /// A data frame was handed up: its serial counts as collected at the system that sent it.
+    fn collect(&mut self, stamp: Stamp)
+        requires { CanCollectFor stamp self.old.one.flows.items self.old.two.flows.items }
+        ensures collected { joint_of C.items C.limit self.new ≡ collected stamp (joint_of C.items C.limit self.old) }
+        ensures acted { self.new.acted ≡ self.old.acted }
+        ensures algorithm_one { self.new.one.system.algorithm ≡ self.old.one.system.algorithm }
+        ensures algorithm_two { self.new.two.system.algorithm ≡ self.old.two.system.algorithm }
+    {
+        match stamp {
+            Stamp::Control(_) => {}
+            Stamp::Data {
+                system,
+                agg,
+                conv,
+                serial,
+            } => match side_named(system) {
+                Side::One => collect(&mut self.one.flows, agg, conv, serial),
+                Side::Two => collect(&mut self.two.flows, agg, conv, serial),
+            },
+        }
+    }
+
+    /// What an answer to an item leads to outside of the system that gave it.
+    fn conclude(
+        &mut self,
+        side: Side,
+        head: Head,
+        answer: Result<Received, SystemFault>,
+        bytes: Vec<u8>,
+    ) -> Reply
+        requires ready { IsReady C.items C.limit C.reserved (told_side side) head self.old }
+        requires empty { bytes.items ≡ [] }
+        requires room { vec_len bytes + 124 ≤ vec_capacity bytes }
+        ensures concludes { Concludes (told_side side) head.port head.stamp answer (joint_of C.items C.limit self.old) result (joint_of C.items C.limit self.new) }
+        ensures acted { self.new.acted ≡ self.old.acted }
+        ensures algorithm_one { self.new.one.system.algorithm ≡ self.old.one.system.algorithm }
+        ensures algorithm_two { self.new.two.system.algorithm ≡ self.old.two.system.algorithm }
+    {
+        match answer {
+            Ok(Received::Disabled) => Reply::Disabled,
+            Ok(Received::Dropped) => Reply::Dropped,
+            Ok(Received::Ignored(_)) => Reply::Ignored,
+            Ok(Received::TookLacpdu) => Reply::Took,
+            Ok(Received::Respond(frame)) => {
+                Reply::Responded(self.respond(side, head.port, bytes, frame))
+            }
+            Ok(Received::Released(count)) => Reply::Released(count),
+            Ok(Received::Up(agg)) => {
+                self.collect(head.stamp);
+                Reply::Up(agg)
+            }
+            Err(fault) => Reply::Refused(fault),
+        }
+    }
+
+    /// The first item towards a system on a cable is taken off and comes.
+    pub(crate) fn deliver(&mut self, cable: u16, system: u8) -> Result<Reply, WorldFault>
+        requires there { has_cable (joint_of C.items C.limit self.old) (Some cable) ≡ true }
+        ensures delivers { IfOk result (λ reply. DeliversAs (gives_by (F.post self.old.one.system.algorithm) (F.post self.old.two.system.algorithm)) (side_named system) cable (joint_of C.items C.limit self.old) reply (joint_of C.items C.limit self.new)) }
+        ensures refused { IfErr result (λ fault. fault ≡ OutOfMemory) }
+        ensures unchanged { IfErr result (λ fault. joint_of C.items C.limit self.new ≡ joint_of C.items C.limit self.old) }
+        ensures acted { self.new.acted ≡ self.old.acted }
+        ensures algorithm_one { self.new.one.system.algorithm ≡ self.old.one.system.algorithm }
+        ensures algorithm_two { self.new.two.system.algorithm ≡ self.old.two.system.algorithm }
+    {
+        let side = side_named(system);
+        let place = self.place_of(cable);
+        let Some(head) = head_of(&self.lines, side, place) else {
+            return Ok(Reply::Empty);
+        };
+        let bytes = self.make_room(side, head)?;
+        let Some(answer) = self.hear(side, place) else {
+            return Ok(Reply::Empty);
+        };
+        take_first(&mut self.lines, side, place);
+        Ok(self.conclude(side, head, answer, bytes))
+    }
+
+    /// The first item towards a system on a cable comes and stays there, unless it is a data frame.
+    pub(crate) fn repeat(&mut self, cable: u16, system: u8) -> Result<Reply, WorldFault>
+        requires there { has_cable (joint_of C.items C.limit self.old) (Some cable) ≡ true }
+        ensures repeats { IfOk result (λ reply. RepeatsAs (gives_by (F.post self.old.one.system.algorithm) (F.post self.old.two.system.algorithm)) (side_named system) cable (joint_of C.items C.limit self.old) reply (joint_of C.items C.limit self.new)) }
+        ensures refused { IfErr result (λ fault. fault ≡ OutOfMemory) }
+        ensures unchanged { IfErr result (λ fault. joint_of C.items C.limit self.new ≡ joint_of C.items C.limit self.old) }
+        ensures acted { self.new.acted ≡ self.old.acted }
+        ensures algorithm_one { self.new.one.system.algorithm ≡ self.old.one.system.algorithm }
+        ensures algorithm_two { self.new.two.system.algorithm ≡ self.old.two.system.algorithm }
+    {
+        let side = side_named(system);
+        let place = self.place_of(cable);
+        let Some(head) = head_of(&self.lines, side, place) else {
+            return Ok(Reply::Empty);
+        };
+        if is_data(head.stamp) {
+            return Ok(Reply::NotControl);
+        }
+        let bytes = self.make_room(side, head)?;
+        let Some(answer) = self.hear(side, place) else {
+            return Ok(Reply::Empty);
+        };
+        Ok(self.conclude(side, head, answer, bytes))
+    }
+}

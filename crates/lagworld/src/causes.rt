@@ -1,0 +1,91 @@
+ghost use Rattle.std.specs.Prelude.{◌≡◌};
+ghost use Rattle.lagworld.specs.Events.{cable_named, system_named, first_cause, has_system};
+ghost use Rattle.lagworld.specs.Messages.{side_named};
+ghost use Rattle.lagworld.specs.Sides.{told_side};
+
+use crate::fault::WorldFault;
+use lagscript::Event;
+
+/// One of the two systems.
+#[derive(Clone, Copy, Debug, PartialEq, Eq)]
+pub(crate) enum Side {
+    /// System 1.
+    One,
+    /// System 2.
+    Two,
+}
+
+/// The system with this number, which is 1 or 2.
+pub(crate) fn side_named(number: u8) -> Side
+    ensures { told_side result ≡ side_named number }
+{
+    if number == 1 { Side::One } else { Side::Two }
+}
+
+/// The cable that an event names.
+pub(crate) fn cable_named(event: &Event) -> Option<u16>
+    ensures { result ≡ cable_named event.now }
+{
+    match event {
+        Event::Deliver(cable, _) => Some(*cable),
+        Event::Lose(cable, _) => Some(*cable),
+        Event::Repeat(cable, _) => Some(*cable),
+        Event::Cut(cable) => Some(*cable),
+        Event::Join(cable) => Some(*cable),
+        Event::Sense(cable, _) => Some(*cable),
+        Event::Tick(_, _) => None,
+        Event::Emit(_, _) => None,
+        Event::Restart(_) => None,
+        Event::Configure(_, _, _) => None,
+        Event::Offer(_, _, _) => None,
+        Event::Move(_, _, _, _) => None,
+        Event::Force(_, _, _) => None,
+    }
+}
+
+/// The system that an event names.
+pub(crate) fn system_named(event: &Event) -> Option<u8>
+    ensures { result ≡ system_named event.now }
+{
+    match event {
+        Event::Tick(system, _) => Some(*system),
+        Event::Emit(system, _) => Some(*system),
+        Event::Deliver(_, system) => Some(*system),
+        Event::Lose(_, system) => Some(*system),
+        Event::Repeat(_, system) => Some(*system),
+        Event::Cut(_) => None,
+        Event::Join(_) => None,
+        Event::Sense(_, system) => Some(*system),
+        Event::Restart(system) => Some(*system),
+        Event::Configure(system, _, _) => Some(*system),
+        Event::Offer(system, _, _) => Some(*system),
+        Event::Move(system, _, _, _) => Some(*system),
+        Event::Force(system, _, _) => Some(*system),
+    }
+}
+
+/// Whether there is the system that an event names, if it names one.
+pub(crate) fn has_system(number: Option<u8>) -> bool
+    ensures { result ≡ has_system number }
+{
+    match number {
+        None => true,
+        Some(number) => number == 1 || number == 2,
+    }
+}
+
+/// The first of three causes that holds.
+pub(crate) fn first_cause(cable: bool, system: bool, spent: bool) -> Option<WorldFault>
+    ensures { result ≡ first_cause cable system spent }
+{
+    if !cable {
+        return Some(WorldFault::NoCable);
+    }
+    if !system {
+        return Some(WorldFault::NoSystem);
+    }
+    if spent {
+        return Some(WorldFault::Spent);
+    }
+    None
+}

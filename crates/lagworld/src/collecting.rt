@@ -1,0 +1,67 @@
+ghost use Rattle.std.specs.Prelude.{◌≡◌, OnOk, slice_get};
+ghost use Rattle.lagworld.specs.Arriving.{CanCollect, CanCollectAt, row_of};
+ghost use Rattle.lagworld.specs.Places.{flows_of};
+ghost use Rattle.lagworld.specs.State.{at_flow, set_serials, with_collected};
+
+use crate::logs::Flow;
+use std::alloc::AllocError;
+
+/// Reserves a place for a serial that is handed up, in a conversation of an aggregator, if there is one.
+fn reserve_in(row: &mut Vec<Flow>, conv: usize) -> Result<(), AllocError>
+    ensures same { row_of row.new ≡ row_of row.old }
+    ensures room { OnOk result (CanCollect (slice_get row.new.items conv)) }
+{
+    if conv >= row.len() {
+        return Ok(());
+    }
+    let flow = &mut row[conv];
+    flow.collected.reserve(1)
+}
+
+/// The same in the conversations of a system. Aggregators count from 1, conversations from 0.
+pub(crate) fn reserve_collected(
+    flows: &mut Vec<Vec<Flow>>,
+    agg: u16,
+    conv: u16,
+) -> Result<(), AllocError>
+    ensures same { flows_of flows.new.items ≡ flows_of flows.old.items }
+    ensures room { OnOk result (CanCollectAt agg conv flows.new.items) }
+{
+    let place = match usize::from(agg).checked_sub(1) {
+        Some(place) => place,
+        None => return Ok(()),
+    };
+    if place >= flows.len() {
+        return Ok(());
+    }
+    let row = &mut flows[place];
+    reserve_in(row, usize::from(conv))
+}
+
+/// A serial of a conversation of an aggregator was handed up, for which a place is reserved.
+fn collect_in(row: &mut Vec<Flow>, conv: usize, serial: u64)
+    requires room { CanCollect (slice_get row.old.items conv) }
+    ensures { row_of row.new ≡ set_serials (with_collected serial) (slice_get (row_of row.old) conv) conv (row_of row.old) }
+{
+    if conv >= row.len() {
+        return;
+    }
+    let flow = &mut row[conv];
+    flow.collected.push_reserved(serial);
+}
+
+/// The same in the conversations of a system.
+pub(crate) fn collect(flows: &mut Vec<Vec<Flow>>, agg: u16, conv: u16, serial: u64)
+    requires room { CanCollectAt agg conv flows.old.items }
+    ensures { flows_of flows.new.items ≡ at_flow (with_collected serial) agg conv (flows_of flows.old.items) }
+{
+    let place = match usize::from(agg).checked_sub(1) {
+        Some(place) => place,
+        None => return,
+    };
+    if place >= flows.len() {
+        return;
+    }
+    let row = &mut flows[place];
+    collect_in(row, usize::from(conv), serial);
+}

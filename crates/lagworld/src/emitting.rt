@@ -1,0 +1,176 @@
+ghost use Rattle.std.specs.Prelude.{◌≡◌, ◌≤◌, ◌+◌, [], length, IfErr, IfOk, Ok, Some, vec_capacity, vec_len};
+ghost use Rattle.slowpdu.specs.declared.pdu.Pdu.{Pdu};
+ghost use Rattle.slowpdu.specs.Pdus.{ReadsPdu};
+ghost use Rattle.slowpdu.specs.Readings.{pdu_in};
+ghost use Rattle.lagsystem.specs.Shown.{IsSent};
+ghost use Rattle.lagworld.specs.declared.fault.WorldFault.TheVariants.{NoMemory as OutOfMemory};
+ghost use Rattle.lagworld.specs.Asking.{Transmits, TransmitsAs};
+ghost use Rattle.lagworld.specs.Events.{Emits, Emitted, sent_reply, stamp_for};
+ghost use Rattle.lagworld.specs.Joints.{joint_of};
+ghost use Rattle.lagworld.specs.Kept.{half_of};
+ghost use Rattle.lagworld.specs.Messages.{payload_in, side_named};
+ghost use Rattle.lagworld.specs.Places.{IsReserved};
+ghost use Rattle.lagworld.specs.Sides.{told_side};
+ghost use Rattle.lagworld.specs.Sound.{gives_by};
+ghost use Rattle.lagworld.specs.State.{count_in, half, log_at};
+
+use crate::causes::{Side, side_named};
+use crate::fault::WorldFault;
+use crate::half::End;
+use crate::kept::Core;
+use crate::logs::{PortLog, log_of};
+use crate::reply::Reply;
+use crate::sending::{put, reserve_on};
+use cables::{Cable, Item, Stamp};
+use lagsystem::SystemFault;
+use slowpdu::{Pdu, decode};
+
+/// The octets of a control frame.
+pub(crate) const FRAME_LEN: usize = 124;
+
+/// Those before its payload.
+const HEADER_LEN: usize = 14;
+
+/// The PDU of a control frame that has one.
+pub(crate) fn pdu_of(octets: &[u8]) -> Pdu
+    requires long { 14 ≤ length octets.now }
+    requires reads { (v : Pdu) × ReadsPdu (payload_in octets.now) v }
+    ensures { result ≡ pdu_in (payload_in octets.now) }
+{
+    match decode(&octets[HEADER_LEN..]) {
+        Ok(pdu) => pdu,
+        Err(_) => unreachable!(),
+    }
+}
+
+/// The stamp of what a port sends: on an LACPDU its change count.
+fn stamp_for(pdu: Pdu, count: u64) -> Stamp
+    ensures { result ≡ stamp_for pdu count }
+{
+    match pdu {
+        Pdu::Lacpdu(_) => Stamp::Control(count),
+        Pdu::Marker(_) => Stamp::Control(0),
+    }
+}
+
+/// What is answered for what a port sends.
+fn sent_reply(pdu: Pdu, kept: bool) -> Reply
+    ensures { result ≡ sent_reply pdu kept }
+{
+    match pdu {
+        Pdu::Lacpdu(lacpdu) => Reply::Lacpdu(lacpdu.actor.state, kept),
+        Pdu::Marker(marker) => Reply::Marker(marker.id, kept),
+    }
+}
+
+/// How many events changed the party of a port: 0 if there is no such port.
+fn count_of(logs: &[PortLog], port: u16) -> u64
+    ensures { result ≡ count_in (log_at logs.now port) }
+{
+    match log_of(logs, port) {
+        Some(log) => log.count,
+        None => 0,
+    }
+}
+
+/// An empty list with room for a frame, filled with it.
+pub(crate) fn filled(octets: Vec<u8>, frame: &[u8]) -> Vec<u8>
+    requires empty { octets.items ≡ [] }
+    requires room { vec_len octets + length frame.now ≤ vec_capacity octets }
+    ensures { result.items ≡ frame.now }
+{
+    let mut octets = octets;
+    match octets.extend_from_slice(frame) {
+        Ok(()) => octets,
+        Err(_) => unreachable!(),
+    }
+}
+
+impl<F: Fn(u16, usize) -> usize + Drop> End<F> {
+    /// The frame that is due on a port.
+    fn transmit(&mut self, port: u16) -> Result<Option<[u8; 124]>, SystemFault>
+        ensures transmits { Transmits (F.post self.old.system.algorithm) port result (half_of self.old) (half_of self.new) }
+        ensures algorithm { self.new.system.algorithm ≡ self.old.system.algorithm }
+    {
+        self.system.transmit(port)
+    }
+}
+
+impl<C: Cable, F: Fn(u16, usize) -> usize + Drop> Core<C, F> {
+    /// The frame that is due on a port of a system.
+    fn transmit(&mut self, side: Side, port: u16) -> Result<Option<[u8; 124]>, SystemFault>
+        ensures transmits { TransmitsAs (gives_by (F.post self.old.one.system.algorithm) (F.post self.old.two.system.algorithm)) (told_side side) port result (joint_of C.items C.limit self.old) (joint_of C.items C.limit self.new) }
+        ensures lines { self.new.lines ≡ self.old.lines }
+        ensures acted { self.new.acted ≡ self.old.acted }
+        ensures algorithm_one { self.new.one.system.algorithm ≡ self.old.one.system.algorithm }
+        ensures algorithm_two { self.new.two.system.algorithm ≡ self.old.two.system.algorithm }
+    {
+        match side {
+            Side::One => self.one.transmit(port),
+            Side::Two => self.two.transmit(port),
+        }
+    }
+
+    /// How many events changed the party of a port of a system.
+    fn count_of(&self, side: Side, port: u16) -> u64
+        ensures { result ≡ count_in (log_at (half (told_side side) (joint_of C.items C.limit self.now)).logs port) }
+    {
+        match side {
+            Side::One => count_of(&self.one.logs, port),
+            Side::Two => count_of(&self.two.logs, port),
+        }
+    }
+
+    /// A port of a system sends a frame that it has to send.
+    fn send(&mut self, side: Side, port: u16, frame: &[u8; 124], octets: Vec<u8>) -> Reply
+        requires sent { (v : Pdu) × IsSent frame.now v }
+        requires place { IsReserved C.items C.limit C.reserved (told_side side) port self.old.lines.items }
+        requires empty { octets.items ≡ [] }
+        requires room { vec_len octets + 124 ≤ vec_capacity octets }
+        ensures emitted { Emitted (told_side side) port (Ok (Some frame.now)) (joint_of C.items C.limit self.old) result (joint_of C.items C.limit self.new) }
+        ensures acted { self.new.acted ≡ self.old.acted }
+        ensures algorithm_one { self.new.one.system.algorithm ≡ self.old.one.system.algorithm }
+        ensures algorithm_two { self.new.two.system.algorithm ≡ self.old.two.system.algorithm }
+    {
+        let pdu = pdu_of(frame);
+        let count = self.count_of(side, port);
+        let item = Item {
+            bytes: filled(octets, frame),
+            stamp: stamp_for(pdu, count),
+        };
+        let kept = put(&mut self.lines, side, port, item);
+        sent_reply(pdu, kept)
+    }
+
+    /// A port of a system sends what is due, when the places that it needs are reserved.
+    fn emit_due(&mut self, side: Side, port: u16, octets: Vec<u8>) -> Reply
+        requires place { IsReserved C.items C.limit C.reserved (told_side side) port self.old.lines.items }
+        requires empty { octets.items ≡ [] }
+        requires room { vec_len octets + 124 ≤ vec_capacity octets }
+        ensures emits { Emits (gives_by (F.post self.old.one.system.algorithm) (F.post self.old.two.system.algorithm)) (told_side side) port (joint_of C.items C.limit self.old) result (joint_of C.items C.limit self.new) }
+        ensures acted { self.new.acted ≡ self.old.acted }
+        ensures algorithm_one { self.new.one.system.algorithm ≡ self.old.one.system.algorithm }
+        ensures algorithm_two { self.new.two.system.algorithm ≡ self.old.two.system.algorithm }
+    {
+        match self.transmit(side, port) {
+            Err(fault) => Reply::Refused(fault),
+            Ok(None) => Reply::Nothing,
+            Ok(Some(frame)) => self.send(side, port, &frame, octets),
+        }
+    }
+
+    /// A port of a system sends what is due.
+    pub(crate) fn emit(&mut self, system: u8, port: u16) -> Result<Reply, WorldFault>
+        ensures emits { IfOk result (λ reply. Emits (gives_by (F.post self.old.one.system.algorithm) (F.post self.old.two.system.algorithm)) (side_named system) port (joint_of C.items C.limit self.old) reply (joint_of C.items C.limit self.new)) }
+        ensures refused { IfErr result (λ fault. fault ≡ OutOfMemory) }
+        ensures unchanged { IfErr result (λ fault. joint_of C.items C.limit self.new ≡ joint_of C.items C.limit self.old) }
+        ensures acted { self.new.acted ≡ self.old.acted }
+        ensures algorithm_one { self.new.one.system.algorithm ≡ self.old.one.system.algorithm }
+        ensures algorithm_two { self.new.two.system.algorithm ≡ self.old.two.system.algorithm }
+    {
+        let side = side_named(system);
+        let octets = Vec::with_capacity(self.alloc, FRAME_LEN)?;
+        reserve_on(&mut self.lines, side, port)?;
+        Ok(self.emit_due(side, port, octets))
+    }
+}

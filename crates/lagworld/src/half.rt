@@ -1,0 +1,52 @@
+ghost use Rattle.std.specs.Prelude.{◌≡◌, ℕ, Bool};
+ghost use Rattle.lagworld.specs.Kept.{half_of};
+ghost use Rattle.lagworld.specs.Calls.{Ticks, Senses, Configures, Restarts, Moves, Forces};
+
+use crate::logs::{Flow, PortLog};
+use crate::reply::Reply;
+use lagsystem::{PortChange, System};
+use lagtypes::AggId;
+
+/// One system, with what is kept of its ports and conversations.
+#[derive(Drop)]
+pub(crate) struct End<F> {
+    pub(crate) system: System<F>,
+    pub(crate) logs: Vec<PortLog>,
+    pub(crate) flows: Vec<Vec<Flow>>,
+}
+
+impl<F: Fn(u16, usize) -> usize + Drop> End<F> {
+    /// So many ticks.
+    pub(crate) fn tick(&mut self, count: u16)
+        ensures ticks { Ticks (F.post self.old.system.algorithm) count (half_of self.old) (half_of self.new) }
+        ensures algorithm { self.new.system.algorithm ≡ self.old.system.algorithm }
+    {
+        let mut done = 0;
+        while done < count {
+            self.system.tick();
+            done += 1;
+        }
+    }
+
+    /// The link of a port is up or down now.
+    pub(crate) fn sense(&mut self, port: u16, up: bool) -> Reply
+        ensures senses { Senses (F.post self.old.system.algorithm) port up (half_of self.old) result (half_of self.new) }
+        ensures algorithm { self.new.system.algorithm ≡ self.old.system.algorithm }
+    {
+        match self.system.set_link(port, up) {
+            Ok(()) => Reply::Sensed(up),
+            Err(fault) => Reply::Refused(fault),
+        }
+    }
+
+    /// Moves a conversation to a port.
+    pub(crate) fn move_to(&mut self, agg: AggId, conv: u16, port: u16) -> Reply
+        ensures moves { Moves (F.post self.old.system.algorithm) agg conv port (half_of self.old) result (half_of self.new) }
+        ensures algorithm { self.new.system.algorithm ≡ self.old.system.algorithm }
+    {
+        match self.system.move_conversation(agg, conv, port) {
+            Ok(()) => Reply::Moved,
+            Err(fault) => Reply::Refused(fault),
+        }
+    }
+}

@@ -1,0 +1,191 @@
+ghost use Rattle.std.specs.Prelude.{◌≡◌, ◌<◌, ◌+◌, IfErr, IfOk, None, Some, true, length};
+ghost use Rattle.lagworld.specs.declared.reply.Reply.{Reply};
+ghost use Rattle.lagworld.specs.Kept.{lines_of};
+ghost use Rattle.lagworld.specs.State.{cut, joined};
+ghost use Rattle.distributor.specs.Calls.{PicksPlaces};
+ghost use Rattle.lagworld.specs.Events.{Does, OnLine, Steps, set_at, cause, fault_for, has_cable};
+ghost use Rattle.lagworld.specs.declared.fault.WorldFault.TheVariants.{NoMemory as OutOfMemory};
+ghost use Rattle.lagworld.specs.Joints.{MovesAs, SensesAs, TicksAs, joint_of};
+ghost use Rattle.lagworld.specs.Messages.{side_named};
+ghost use Rattle.lagworld.specs.Sound.{IsSound, gives_by};
+
+use crate::causes::{Side, cable_named, first_cause, has_system, side_named, system_named};
+use crate::fault::WorldFault;
+use crate::half::End;
+use crate::line::{Line, cut_at, join_at, told_of};
+use crate::reply::Reply;
+use cables::Cable;
+use lagscript::Event;
+use lagtypes::AggId;
+use std::alloc::Global;
+
+/// What a world keeps.
+#[derive(Drop)]
+pub(crate) struct Core<C: Cable, F> {
+    pub(crate) alloc: Global,
+    pub(crate) one: End<F>,
+    pub(crate) two: End<F>,
+    pub(crate) lines: Vec<Line<C>>,
+    /// How many events have acted.
+    pub(crate) acted: u64,
+}
+
+/// After so many events none acts: 2^63.
+const MOST_EVENTS: u64 = 9_223_372_036_854_775_808;
+
+impl<C: Cable, F: Fn(u16, usize) -> usize + Drop> Core<C, F> {
+    /// Whether there is the cable that an event names, if it names one.
+    pub(crate) fn has_cable(&self, number: Option<u16>) -> bool
+        ensures { result ≡ has_cable (joint_of C.items C.limit self.now) number }
+    {
+        match number {
+            None => true,
+            Some(number) => number != 0 && usize::from(number) <= self.lines.len(),
+        }
+    }
+
+    /// The first cause that holds to refuse an event, want of memory aside.
+    fn cause(&self, event: &Event) -> Option<WorldFault>
+        ensures { result ≡ cause (joint_of C.items C.limit self.now) event.now }
+    {
+        let cable = self.has_cable(cable_named(event));
+        let system = has_system(system_named(event));
+        first_cause(cable, system, self.acted >= MOST_EVENTS)
+    }
+
+    /// One event.
+    pub(crate) fn step(&mut self, event: &Event) -> Result<Reply, WorldFault>
+        requires one { PicksPlaces (F.pre self.old.one.system.algorithm) (F.post self.old.one.system.algorithm) }
+        requires two { PicksPlaces (F.pre self.old.two.system.algorithm) (F.post self.old.two.system.algorithm) }
+        requires sound { IsSound (joint_of C.items C.limit self.old) }
+        ensures accepted { IfOk result (λ reply. cause (joint_of C.items C.limit self.old) event.now ≡ None) }
+        ensures steps { IfOk result (λ reply. Steps (gives_by (F.post self.old.one.system.algorithm) (F.post self.old.two.system.algorithm)) (joint_of C.items C.limit self.old) event.now reply (joint_of C.items C.limit self.new)) }
+        ensures refused { IfErr result (λ fault. fault ≡ fault_for (cause (joint_of C.items C.limit self.old) event.now)) }
+        ensures unchanged { IfErr result (λ fault. joint_of C.items C.limit self.new ≡ joint_of C.items C.limit self.old) }
+        ensures algorithm_one { self.new.one.system.algorithm ≡ self.old.one.system.algorithm }
+        ensures algorithm_two { self.new.two.system.algorithm ≡ self.old.two.system.algorithm }
+    {
+        match self.cause(event) {
+            Some(fault) => return Err(fault),
+            None => {}
+        }
+        let reply = self.act(event)?;
+        self.acted += 1;
+        Ok(reply)
+    }
+
+    /// What an event does whose system and cable are there.
+    fn act(&mut self, event: &Event) -> Result<Reply, WorldFault>
+        requires one { PicksPlaces (F.pre self.old.one.system.algorithm) (F.post self.old.one.system.algorithm) }
+        requires two { PicksPlaces (F.pre self.old.two.system.algorithm) (F.post self.old.two.system.algorithm) }
+        requires sound { IsSound (joint_of C.items C.limit self.old) }
+        requires accepted { cause (joint_of C.items C.limit self.old) event.now ≡ None }
+        ensures does { IfOk result (λ reply. Does (gives_by (F.post self.old.one.system.algorithm) (F.post self.old.two.system.algorithm)) (joint_of C.items C.limit self.old) event.now reply (joint_of C.items C.limit self.new)) }
+        ensures refused { IfErr result (λ fault. fault ≡ OutOfMemory) }
+        ensures unchanged { IfErr result (λ fault. joint_of C.items C.limit self.new ≡ joint_of C.items C.limit self.old) }
+        ensures acted { self.new.acted ≡ self.old.acted }
+        ensures algorithm_one { self.new.one.system.algorithm ≡ self.old.one.system.algorithm }
+        ensures algorithm_two { self.new.two.system.algorithm ≡ self.old.two.system.algorithm }
+    {
+        match event {
+            Event::Tick(system, count) => Ok(self.tick(*system, *count)),
+            Event::Move(system, agg, conv, port) => {
+                Ok(self.move_to(*system, *agg, *conv, *port))
+            }
+            Event::Emit(system, port) => self.emit(*system, *port),
+            Event::Deliver(cable, system) => self.deliver(*cable, *system),
+            Event::Repeat(cable, system) => self.repeat(*cable, *system),
+            Event::Offer(system, agg, frame) => self.offer(*system, *agg, frame),
+            Event::Force(system, agg, conv) => Ok(self.force(*system, *agg, *conv)),
+            Event::Lose(cable, system) => Ok(self.lose(*cable, *system)),
+            Event::Cut(cable) => Ok(self.cut(*cable)),
+            Event::Join(cable) => Ok(self.join(*cable)),
+            Event::Sense(cable, system) => Ok(self.sense(*cable, *system)),
+            Event::Restart(system) => Ok(self.restart(*system)),
+            Event::Configure(system, port, change) => {
+                Ok(self.configure(*system, *port, *change))
+            }
+        }
+    }
+
+    /// So many ticks of a system.
+    fn tick(&mut self, system: u8, count: u16) -> Reply
+        ensures acted { self.new.acted ≡ self.old.acted }
+        ensures ticks { TicksAs (gives_by (F.post self.old.one.system.algorithm) (F.post self.old.two.system.algorithm)) (side_named system) count (joint_of C.items C.limit self.old) result (joint_of C.items C.limit self.new) }
+        ensures algorithm_one { self.new.one.system.algorithm ≡ self.old.one.system.algorithm }
+        ensures algorithm_two { self.new.two.system.algorithm ≡ self.old.two.system.algorithm }
+    {
+        match side_named(system) {
+            Side::One => self.one.tick(count),
+            Side::Two => self.two.tick(count),
+        }
+        Reply::Ticked
+    }
+
+    /// A conversation of a system is moved to a port.
+    fn move_to(&mut self, system: u8, agg: AggId, conv: u16, port: u16) -> Reply
+        ensures acted { self.new.acted ≡ self.old.acted }
+        ensures moves { MovesAs (gives_by (F.post self.old.one.system.algorithm) (F.post self.old.two.system.algorithm)) (side_named system) agg conv port (joint_of C.items C.limit self.old) result (joint_of C.items C.limit self.new) }
+        ensures algorithm_one { self.new.one.system.algorithm ≡ self.old.one.system.algorithm }
+        ensures algorithm_two { self.new.two.system.algorithm ≡ self.old.two.system.algorithm }
+    {
+        match side_named(system) {
+            Side::One => self.one.move_to(agg, conv, port),
+            Side::Two => self.two.move_to(agg, conv, port),
+        }
+    }
+
+    /// The place of a cable that there is.
+    pub(crate) fn place_of(&self, cable: u16) -> usize
+        requires { has_cable (joint_of C.items C.limit self.now) (Some cable) ≡ true }
+        ensures at { cable ≡ result + 1 }
+        ensures within { result < length self.now.lines.items }
+    {
+        match usize::from(cable).checked_sub(1) {
+            Some(place) => place,
+            None => 0,
+        }
+    }
+
+    /// A cable is cut.
+    fn cut(&mut self, cable: u16) -> Reply
+        requires there { has_cable (joint_of C.items C.limit self.old) (Some cable) ≡ true }
+        ensures cut { OnLine cable (λ i l. (result ≡ Reply.Cut) × (joint_of C.items C.limit self.new ≡ set_at i (cut l) (joint_of C.items C.limit self.old))) (lines_of C.items C.limit self.old.lines.items) }
+        ensures acted { self.new.acted ≡ self.old.acted }
+        ensures algorithm_one { self.new.one.system.algorithm ≡ self.old.one.system.algorithm }
+        ensures algorithm_two { self.new.two.system.algorithm ≡ self.old.two.system.algorithm }
+    {
+        let place = self.place_of(cable);
+        cut_at(&mut self.lines, place);
+        Reply::Cut
+    }
+
+    /// A cable is joined.
+    fn join(&mut self, cable: u16) -> Reply
+        requires there { has_cable (joint_of C.items C.limit self.old) (Some cable) ≡ true }
+        ensures joined { OnLine cable (λ i l. (result ≡ Reply.Joined) × (joint_of C.items C.limit self.new ≡ set_at i (joined l) (joint_of C.items C.limit self.old))) (lines_of C.items C.limit self.old.lines.items) }
+        ensures acted { self.new.acted ≡ self.old.acted }
+        ensures algorithm_one { self.new.one.system.algorithm ≡ self.old.one.system.algorithm }
+        ensures algorithm_two { self.new.two.system.algorithm ≡ self.old.two.system.algorithm }
+    {
+        let place = self.place_of(cable);
+        join_at(&mut self.lines, place);
+        Reply::Joined
+    }
+
+    /// A system is told whether a cable is whole.
+    fn sense(&mut self, cable: u16, system: u8) -> Reply
+        requires there { has_cable (joint_of C.items C.limit self.old) (Some cable) ≡ true }
+        ensures senses { SensesAs (gives_by (F.post self.old.one.system.algorithm) (F.post self.old.two.system.algorithm)) (side_named system) cable (joint_of C.items C.limit self.old) result (joint_of C.items C.limit self.new) }
+        ensures acted { self.new.acted ≡ self.old.acted }
+        ensures algorithm_one { self.new.one.system.algorithm ≡ self.old.one.system.algorithm }
+        ensures algorithm_two { self.new.two.system.algorithm ≡ self.old.two.system.algorithm }
+    {
+        let place = self.place_of(cable);
+        let told = told_of(&self.lines, place);
+        match side_named(system) {
+            Side::One => self.one.sense(told.one, told.whole),
+            Side::Two => self.two.sense(told.two, told.whole),
+        }
+    }
+}

@@ -1,0 +1,67 @@
+ghost use Rattle.std.specs.Prelude.{◌≡◌, ◌<◌, Some, drop, is_some, length, map, slice_get, slice_set, true, IsSomeAnd};
+ghost use Rattle.lagworld.specs.Asking.{LosesAs, lost_reply, without_first};
+ghost use Rattle.lagworld.specs.Events.{has_cable};
+ghost use Rattle.lagworld.specs.Joints.{joint_of};
+ghost use Rattle.lagworld.specs.Kept.{line_of, lines_of};
+ghost use Rattle.lagworld.specs.Messages.{carried, side_named};
+ghost use Rattle.lagworld.specs.Sides.{told_side};
+ghost use Rattle.lagworld.specs.State.{towards};
+
+use crate::causes::{Side, side_named};
+use crate::kept::Core;
+use crate::line::Line;
+use crate::reply::Reply;
+use cables::Cable;
+
+/// Takes the first item off: whether there was one.
+fn lose_first<C: Cable>(cable: &mut C) -> bool
+    ensures lost { result ≡ is_some (slice_get (map carried (C.items cable.old)) 0) }
+    ensures rest { map carried (C.items cable.new) ≡ drop 1 (map carried (C.items cable.old)) }
+    ensures limit { C.limit cable.new ≡ C.limit cable.old }
+{
+    cable.pop().is_some()
+}
+
+impl<C: Cable> Line<C> {
+    /// The first item towards a system is lost: whether there was one.
+    fn lose(&mut self, side: Side) -> bool
+        ensures rest { line_of C.items C.limit self.new ≡ without_first (told_side side) (line_of C.items C.limit self.old) }
+        ensures lost { result ≡ is_some (slice_get (towards (told_side side) (line_of C.items C.limit self.old)) 0) }
+    {
+        match side {
+            Side::One => lose_first(&mut self.to_one),
+            Side::Two => lose_first(&mut self.to_two),
+        }
+    }
+}
+
+/// The first item towards a system on the cable at a place is lost: whether there was one.
+fn lose_at<C: Cable>(lines: &mut Vec<Line<C>>, place: usize, side: Side) -> bool
+    requires { place < length lines.old.items }
+    ensures { IsSomeAnd (slice_get (lines_of C.items C.limit lines.old.items) place) (λ l. (lines_of C.items C.limit lines.new.items ≡ slice_set (lines_of C.items C.limit lines.old.items) place (without_first (told_side side) l)) × (result ≡ is_some (slice_get (towards (told_side side) l) 0))) }
+{
+    let line = &mut lines[place];
+    line.lose(side)
+}
+
+/// What is answered: that an item was lost, or that there was none.
+fn lost_reply(lost: bool) -> Reply
+    ensures { result ≡ lost_reply lost }
+{
+    if lost { Reply::Lost } else { Reply::Empty }
+}
+
+impl<C: Cable, F: Fn(u16, usize) -> usize + Drop> Core<C, F> {
+    /// The first item towards a system on a cable is lost.
+    pub(crate) fn lose(&mut self, cable: u16, system: u8) -> Reply
+        requires there { has_cable (joint_of C.items C.limit self.old) (Some cable) ≡ true }
+        ensures loses { LosesAs (side_named system) cable (joint_of C.items C.limit self.old) result (joint_of C.items C.limit self.new) }
+        ensures acted { self.new.acted ≡ self.old.acted }
+        ensures algorithm_one { self.new.one.system.algorithm ≡ self.old.one.system.algorithm }
+        ensures algorithm_two { self.new.two.system.algorithm ≡ self.old.two.system.algorithm }
+    {
+        let side = side_named(system);
+        let place = self.place_of(cable);
+        lost_reply(lose_at(&mut self.lines, place, side))
+    }
+}

@@ -1,0 +1,105 @@
+ghost use Rattle.std.specs.Prelude.{◌≡◌, ◌≢◌, None, Some, MatchOption, map};
+ghost use Rattle.lagworld.specs.declared.agreement.Agreement.TheVariants.{Differ};
+ghost use Rattle.lagworld.specs.Agreement.{agreement_at};
+ghost use Rattle.lagworld.specs.Events.{side_of};
+ghost use Rattle.lagworld.specs.Joints.{joint_of};
+ghost use Rattle.lagworld.specs.Kept.{serials_of};
+ghost use Rattle.lagworld.specs.Readers.{serials_of_system, system_at};
+ghost use Rattle.lagworld.specs.State.{collected_in, forced_in, sent_in, serials_at};
+
+use crate::agreement::Agreement;
+use crate::kept::Core;
+use crate::logs::Flow;
+use crate::world::World;
+use cables::Cable;
+use lagsystem::System;
+use lagtypes::AggId;
+
+/// What is kept of a conversation of an aggregator.
+fn flow_at(flows: &[Vec<Flow>], agg: AggId, conv: u16) -> Option<&Flow>
+    ensures { MatchOption result (serials_at (map (λ xs. map serials_of xs.items) flows.now) agg.0 conv ≡ None) (λ flow. serials_at (map (λ xs. map serials_of xs.items) flows.now) agg.0 conv ≡ Some (serials_of flow.now)) }
+{
+    let place = match usize::from(agg.0).checked_sub(1) {
+        Some(place) => place,
+        None => return None,
+    };
+    if place >= flows.len() {
+        return None;
+    }
+    let row = &flows[place];
+    let conv = usize::from(conv);
+    if conv >= row.len() {
+        return None;
+    }
+    Some(&row[conv])
+}
+
+impl<C: Cable, F: Fn(u16, usize) -> usize + Drop> Core<C, F> {
+    /// What is kept of a conversation of an aggregator of a system.
+    fn flow(&self, system: u8, agg: AggId, conv: u16) -> Option<&Flow>
+        ensures { MatchOption result (serials_of_system (side_of system) agg.0 conv (joint_of C.items C.limit self.now) ≡ None) (λ flow. serials_of_system (side_of system) agg.0 conv (joint_of C.items C.limit self.now) ≡ Some (serials_of flow.now)) }
+    {
+        if system == 1 {
+            return flow_at(&self.one.flows, agg, conv);
+        }
+        if system == 2 {
+            return flow_at(&self.two.flows, agg, conv);
+        }
+        None
+    }
+}
+
+impl<C: Cable, F: Fn(u16, usize) -> usize + Drop> World<C, F> {
+    /// How the two ends of a cable stand to one another; None if there is no such cable. It is never `Differ` (6.3.6;
+    /// profile).
+    pub fn agreement(&self, cable: u16) -> Option<Agreement>
+        ensures exact { result ≡ agreement_at self.now.joint cable }
+        ensures never { result ≢ Some Differ }
+    {
+        self.core.agreement(cable)
+    }
+
+    /// The serials of the frames that a conversation of a system sent, those that were lost among them, in order; from 0
+    /// on. Empty if there is no such system, aggregator or conversation (profile).
+    pub fn sent(&self, system: u8, agg: AggId, conv: u16) -> &[u64]
+        ensures { result.now ≡ sent_in (serials_of_system (side_of system) agg.0 conv self.now.joint) }
+    {
+        match self.core.flow(system, agg, conv) {
+            Some(flow) => &flow.sent,
+            None => &[],
+        }
+    }
+
+    /// Those of them that were handed up at the other system, in the order in which they were. Empty if there is no such
+    /// system, aggregator or conversation (profile).
+    pub fn collected(&self, system: u8, agg: AggId, conv: u16) -> &[u64]
+        ensures { result.now ≡ collected_in (serials_of_system (side_of system) agg.0 conv self.now.joint) }
+    {
+        match self.core.flow(system, agg, conv) {
+            Some(flow) => &flow.collected,
+            None => &[],
+        }
+    }
+
+    /// Whether a `Force` event for the conversation was ever accepted. False if there is no such system, aggregator or
+    /// conversation (profile).
+    pub fn forced(&self, system: u8, agg: AggId, conv: u16) -> bool
+        ensures { result ≡ forced_in (serials_of_system (side_of system) agg.0 conv self.now.joint) }
+    {
+        match self.core.flow(system, agg, conv) {
+            Some(flow) => flow.forced,
+            None => false,
+        }
+    }
+
+    /// The system of this number, 1 or 2; None for any other.
+    pub fn system(&self, system: u8) -> Option<&System<F>>
+        ensures { MatchOption result (system_at (side_of system) self.now ≡ None) (λ found. system_at (side_of system) self.now ≡ Some found.now) }
+    {
+        match system {
+            1 => Some(&self.core.one.system),
+            2 => Some(&self.core.two.system),
+            _ => None,
+        }
+    }
+}

@@ -1,0 +1,222 @@
+ghost use Rattle.std.specs.Prelude.{◌≡◌, [], ◌∷◌, None, IfErr, IfOk, IfSome, length, map};
+ghost use Rattle.distributor.specs.Calls.{PicksPlaces};
+ghost use Rattle.lagsystem.specs.First.{refusal_of as refusal_of_one};
+ghost use Rattle.lagsystem.specs.Sound.{Agrees};
+ghost use Rattle.lagworld.specs.Joints.{joint_of};
+ghost use Rattle.lagworld.specs.Kept.{half_of, lines_of, serials_of};
+ghost use Rattle.lagworld.specs.Making.{IsFirstHalf, IsMade, Refuses, are_lines, conversations, first_flows, first_lines, first_log, first_logs, first_row, is_empty, nothing_sent, refusal_with};
+ghost use Rattle.lagworld.specs.Sound.{IsStart};
+ghost use Rattle.lagworld.specs.declared.fault.WorldFault.TheVariants.{NoMemory as OutOfMemory};
+
+use crate::fault::WorldFault;
+use crate::half::End;
+use crate::kept::Core;
+use crate::line::Line;
+use crate::logs::{Flow, PortLog};
+use cables::Cable;
+use lagscript::{BadWorld, WorldConfig};
+use lagsystem::{Config, PortConfig, System};
+use lagtypes::{Party, PortId, SystemId};
+use std::alloc::{AllocError, Global};
+
+/// How many conversations an aggregator has (profile).
+fn conversations() -> usize
+    ensures { result ≡ conversations }
+{
+    256
+}
+
+/// What is kept of a port before any event.
+fn first_log(system: SystemId, port: &PortConfig) -> PortLog
+    ensures { result ≡ first_log system port.now }
+{
+    let party = Party {
+        system,
+        key: port.key,
+        port: PortId {
+            priority: port.priority,
+            number: port.number,
+        },
+        aggregatable: port.aggregatable,
+    };
+    PortLog {
+        number: port.number,
+        party,
+        count: 0,
+        taken: None,
+    }
+}
+
+/// The same of every port, in their order.
+fn first_logs(
+    alloc: Global,
+    system: SystemId,
+    ports: &[PortConfig],
+) -> Result<Vec<PortLog>, AllocError>
+    ensures { IfOk result (λ logs. logs.items ≡ first_logs system ports.now) }
+{
+    let mut logs = Vec::with_capacity(alloc, ports.len())?;
+    for port in ports {
+        logs.push_reserved(first_log(system, port));
+    }
+    Ok(logs)
+}
+
+/// A conversation before any event.
+fn first_flow(alloc: Global) -> Flow
+    ensures { serials_of result ≡ nothing_sent }
+{
+    Flow {
+        sent: Vec::new(alloc),
+        collected: Vec::new(alloc),
+        forced: false,
+    }
+}
+
+/// The conversations of an aggregator before any event.
+fn first_row(alloc: Global) -> Result<Vec<Flow>, AllocError>
+    ensures { IfOk result (λ row. map serials_of row.items ≡ first_row) }
+{
+    let count = conversations();
+    let mut row = Vec::with_capacity(alloc, count)?;
+    let mut made = 0;
+    while made < count {
+        row.push_reserved(first_flow(alloc));
+        made += 1;
+    }
+    Ok(row)
+}
+
+/// Those of so many aggregators.
+fn first_flows(alloc: Global, count: usize) -> Result<Vec<Vec<Flow>>, AllocError>
+    ensures { IfOk result (λ rows. map (λ xs. map serials_of xs.items) rows.items ≡ first_flows count) }
+{
+    let mut rows = Vec::with_capacity(alloc, count)?;
+    let mut made = 0;
+    while made < count {
+        let row = first_row(alloc)?;
+        rows.push_reserved(row);
+        made += 1;
+    }
+    Ok(rows)
+}
+
+impl<F: Fn(u16, usize) -> usize + Drop> End<F> {
+    /// A system in its first state, with what is kept of it, of a configuration that is not refused.
+    fn new(alloc: Global, config: Config, algorithm: F) -> Result<End<F>, WorldFault>
+        requires usable { PicksPlaces (F.pre algorithm) (F.post algorithm) }
+        requires accepted { refusal_of_one config ≡ None }
+        ensures first { IfOk result (λ end. IsFirstHalf config (half_of end)) }
+        ensures agrees { IfOk result (λ end. Agrees end.system.state) }
+        ensures algorithm { IfOk result (λ end. end.system.algorithm ≡ algorithm) }
+        ensures refused { IfErr result (λ fault. fault ≡ OutOfMemory) }
+    {
+        let logs = first_logs(alloc, config.system, &config.ports)?;
+        let flows = first_flows(alloc, config.aggregators.len())?;
+        match System::new(alloc, config, algorithm) {
+            Ok(system) => Ok(End {
+                system,
+                logs,
+                flows,
+            }),
+            Err(_) => Err(WorldFault::NoMemory),
+        }
+    }
+}
+
+/// Whether nothing is on either line of a cable.
+fn is_empty<C: Cable>(line: &(C, C)) -> bool
+    ensures { result ≡ is_empty C.items line.now }
+{
+    line.0.len() == 0 && line.1.len() == 0
+}
+
+/// Whether there are as many lines as cables, and nothing is on any.
+fn are_lines<C: Cable>(cables: &[(u16, u16)], lines: &[(C, C)]) -> bool
+    ensures { result ≡ are_lines C.items cables.now lines.now }
+{
+    if lines.len() != cables.len() {
+        return false;
+    }
+    for line in lines {
+        if !is_empty(line) {
+            return false;
+        }
+    }
+    true
+}
+
+/// Cables that are whole, with their ends and lines.
+fn first_lines<C: Cable>(
+    alloc: Global,
+    cables: &[(u16, u16)],
+    lines: Vec<(C, C)>,
+) -> Result<Vec<Line<C>>, AllocError>
+    requires { length lines.items ≡ length cables.now }
+    ensures { IfOk result (λ made. lines_of C.items C.limit made.items ≡ first_lines C.items C.limit cables.now lines.items) }
+{
+    let mut made = Vec::with_capacity(alloc, cables.len())?;
+    for line in lines {
+        let ends = cables[made.len()];
+        let (to_one, to_two) = line;
+        made.push_reserved(Line {
+            one: ends.0,
+            two: ends.1,
+            whole: true,
+            to_one,
+            to_two,
+        });
+    }
+    Ok(made)
+}
+
+/// The configurations of system 1 and system 2.
+fn both(systems: [Config; 2]) -> Option<(Config, Config)>
+    ensures { IfSome result (λ two. systems ≡ two.0 ∷ two.1 ∷ []) }
+{
+    let mut rest = systems.into_iter();
+    let first = rest.next()?;
+    let second = rest.next()?;
+    Some((first, second))
+}
+
+impl<C: Cable, F: Fn(u16, usize) -> usize + Drop> Core<C, F> {
+    /// Both systems in their first states, and every cable whole and empty.
+    pub(crate) fn new(
+        alloc: Global,
+        config: WorldConfig,
+        one: F,
+        two: F,
+        lines: Vec<(C, C)>,
+    ) -> Result<Core<C, F>, WorldFault>
+        requires one { PicksPlaces (F.pre one) (F.post one) }
+        requires two { PicksPlaces (F.pre two) (F.post two) }
+        ensures accepted { IfOk result (λ core. refusal_with C.items config lines.items ≡ None) }
+        ensures made { IfOk result (λ core. IsMade C.items C.limit config lines.items (joint_of C.items C.limit core)) }
+        ensures start { IfOk result (λ core. IsStart (joint_of C.items C.limit core)) }
+        ensures one { IfOk result (λ core. core.one.system.algorithm ≡ one) }
+        ensures two { IfOk result (λ core. core.two.system.algorithm ≡ two) }
+        ensures refused { IfErr result (λ fault. Refuses (refusal_with C.items config lines.items) fault) }
+    {
+        if let Some(reason) = config.refusal() {
+            return Err(WorldFault::BadConfig(reason));
+        }
+        if !are_lines(&config.cables, &lines) {
+            return Err(WorldFault::BadConfig(BadWorld::Lines));
+        }
+        let lines = first_lines(alloc, &config.cables, lines)?;
+        let (first, second) = match both(config.systems) {
+            Some(systems) => systems,
+            None => return Err(WorldFault::NoMemory),
+        };
+        let one = End::new(alloc, first, one)?;
+        let two = End::new(alloc, second, two)?;
+        Ok(Core {
+            alloc,
+            one,
+            two,
+            lines,
+            acted: 0,
+        })
+    }
+}
