@@ -98,7 +98,7 @@ fn help_says_what_words_mean(rt: HostRuntime) -> Result<(), Fail> {
     }
     let text = help_of(alloc, &["lagtool", "--help"])?;
     for part in ["replay", "vectors"] {
-        assert!(rt; !text.as_str().contains(*part), "help lists {part}: {text}");
+        assert!(rt; !text.as_str().contains(part), "help lists {part}: {text}");
     }
     Ok(())
 }

@@ -1,33 +1,34 @@
 use lagsystem::PortChange;
 use lagtypes::AggId;
 
-/// What may happen next to two systems and their cables. Systems are 1 and 2, cables count from 1 (profile).
+/// An event of two systems and their cables. Its values stand in the order in which its line names them; a system is 1 or 2,
+/// a cable counts from 1, a tick is 100 ms (profile).
 #[derive(Debug, Drop)]
 pub enum Event {
-    /// A system has this many ticks.
+    /// System, ticks: that many ticks of the system, 0 to 65535.
     Tick(u8, u16),
-    /// A port of a system sends what is due.
+    /// System, port: the port sends what is due.
     Emit(u8, u16),
-    /// The first frame on a cable towards a system is received there.
+    /// Cable, system: the first frame on the cable towards the system is received there, and leaves the cable.
     Deliver(u16, u8),
-    /// The first frame on a cable towards a system is lost.
+    /// Cable, system: the first frame on the cable towards the system is lost.
     Lose(u16, u8),
-    /// The first frame on a cable towards a system is received there and stays on the cable, if it is a control frame.
+    /// Cable, system: the first frame on the cable towards the system is received there and stays, if it is a control frame.
     Repeat(u16, u8),
-    /// A cable is cut: what is on it is lost.
+    /// Cable: it is cut, and what is on it is lost.
     Cut(u16),
-    /// A cable is whole again.
+    /// Cable: it is whole again.
     Join(u16),
-    /// The port of a system at a cable is told whether the cable is whole.
+    /// Cable, system: the port of the system at the cable is told whether that is whole (6.4.7, port_enabled).
     Sense(u16, u8),
-    /// A system starts again as it was configured, and what is on its cables is lost.
+    /// System: it starts again as it was configured, and what is on its cables is lost.
     Restart(u8),
-    /// A port of a system gets another key, priority or Aggregation bit.
+    /// System, port, change: the port gets another key, priority or Aggregation bit.
     Configure(u8, u16, PortChange),
-    /// A frame is offered to an aggregator of a system.
+    /// System, aggregator, frame: the frame is offered to the aggregator (6.2.4).
     Offer(u8, AggId, Vec<u8>),
-    /// A conversation of an aggregator of a system is moved to a port.
+    /// System, aggregator, conversation, port: the conversation is moved to the port behind a marker (6.2.5).
     Move(u8, AggId, u16, u16),
-    /// A conversation of an aggregator of a system is freed at once.
+    /// System, aggregator, conversation: the conversation is freed at once; its order is no longer promised.
     Force(u8, AggId, u16),
 }

@@ -1,5 +1,5 @@
 -- What a sound world keeps to, and runs of events.
-use Rattle.std.proofs.Common.{◌≡◌, ◌<◌, ℕ, ◌+◌, ◌++◌, Option, Some, None, List, [], ◌∷◌, map, take, length, get_or, sym, refl, ap, ◌∙◌, subst, inl, inr, ◌⊎◌, Ok, Err, Result, IfOk, IfErr}
+use Rattle.std.proofs.Common.{◌≡◌, ◌<◌, ℕ, ◌+◌, ◌++◌, Option, Some, None, List, [], ◌∷◌, map, take, length, get_or, sym, refl, ap, ◌∙◌, subst, inl, inr, ◌⊎◌, true, Ok, Err, Result, IfOk, IfErr}
 use Rattle.std.proofs.lemmas.List.{take_more, map-append}
 use Rattle.std.proofs.lemmas.Option.{slice_get-get_or}
 use Rattle.lagmodel.specs.World.{Side, World, Fixed, IsFixed, Happens, Run}
@@ -14,8 +14,8 @@ use Rattle.lagworld.specs.declared.reply.Reply.{Reply}
 use Rattle.lagworld.specs.declared.fault.WorldFault.{WorldFault}
 use Rattle.lagworld.specs.declared.fault.WorldFault.TheVariants.{NoMemory}
 use Rattle.lagworld.specs.State.{Joint, half}
-use Rattle.lagworld.specs.Events.{Gives, Steps, Runs, cause, fault_for, told}
-use Rattle.lagworld.specs.Sound.{IsSound, Carries, cause_next, next_of}
+use Rattle.lagworld.specs.Events.{Gives, Steps, Runs, cause, fault_for, may_take_memory, told}
+use Rattle.lagworld.specs.Sound.{IsSound, Carries, RefusesNext, next_of}
 use Rattle.lagworld.specs.Worlds.{fixed_of, world_of}
 use Rattle.lagworld.proofs.Keeping.{steps_sound, steps_fixed}
 use Rattle.lagworld.proofs.Whole.{steps_happen}
@@ -78,9 +78,5 @@ world_on x old mid new es n d l h e =
     (runs_joined x (map told (take n es)) (told (get_or es n d) ∷ []) old mid new h (new, e, refl))
 
 -- why a step was refused
-pub stopped_by : (j : Joint) (es : List Event) (n : ℕ) (d : Event) (fault : WorldFault) → n < length es → fault ≡ fault_for (cause j (get_or es n d)) → (fault ≡ NoMemory) ⊎ (cause_next j (next_of es n) ≡ Some fault)
-stopped_by j es n d fault l h = by_cause (cause j (get_or es n d)) refl
-  where
-    by_cause : (o : Option WorldFault) → cause j (get_or es n d) ≡ o → (fault ≡ NoMemory) ⊎ (cause_next j (next_of es n) ≡ Some fault)
-    by_cause None e = inl (h ∙ ap fault_for e)
-    by_cause (Some f) e = inr (ap (cause_next j) (slice_get-get_or es n d l) ∙ e ∙ ap (λ (f : WorldFault). Some f) (sym (h ∙ ap fault_for e)))
+pub stopped_by : (j : Joint) (es : List Event) (n : ℕ) (d : Event) (fault : WorldFault) → n < length es → fault ≡ fault_for (cause j (get_or es n d)) → (cause j (get_or es n d) ≡ None → may_take_memory (get_or es n d) ≡ true) → RefusesNext j (next_of es n) fault
+stopped_by j es n d fault l h m = subst (λ o. RefusesNext j o fault) (sym (slice_get-get_or es n d l)) (record { named = h; memory = m })

@@ -1,5 +1,5 @@
 -- What each event does to a world: the table run of two systems and their cables.
-use Rattle.std.specs.Prelude.{◌≡◌, ℕ, zero, suc, ◌+◌, ◌==◌, Bool, true, List, [], ◌∷◌, length, map, Option, Some, None, IsSome, IsSomeAnd, is_some, nat_le, Result, Ok, Err, slice_get, slice_set, if◌then◌else◌}
+use Rattle.std.specs.Prelude.{◌≡◌, ℕ, zero, suc, ◌+◌, ◌==◌, Bool, true, false, List, [], ◌∷◌, length, map, Option, Some, None, IsSome, IsSomeAnd, is_some, nat_le, Result, Ok, Err, slice_get, slice_set, if◌then◌else◌}
 use Rattle.lagtypes.specs.declared.identifiers.AggId.{AggId}
 use Rattle.cables.specs.declared.item.Stamp.{Stamp}
 use Rattle.cables.specs.declared.item.Stamp.TheVariants as stamp
@@ -229,6 +229,22 @@ first_cause cable system spent = if cable then (if system then (if spent then So
 -- the first cause that holds to refuse an event, want of memory aside
 abbrev pub cause : Joint → Event → Option WorldFault
 cause j e = first_cause (has_cable j (cable_named e)) (has_system (system_named e)) (nat_le most_events j.acted)
+
+-- the events that may take memory: no other is refused for it
+abbrev pub may_take_memory : Event → Bool
+may_take_memory (event.Tick n count) = false
+may_take_memory (event.Emit n p) = true
+may_take_memory (event.Deliver c n) = true
+may_take_memory (event.Lose c n) = false
+may_take_memory (event.Repeat c n) = true
+may_take_memory (event.Cut c) = false
+may_take_memory (event.Join c) = false
+may_take_memory (event.Sense c n) = false
+may_take_memory (event.Restart n) = false
+may_take_memory (event.Configure n p change) = false
+may_take_memory (event.Offer n agg octets) = true
+may_take_memory (event.Move n agg conv p) = false
+may_take_memory (event.Force n agg conv) = false
 
 abbrev pub fault_for : Option WorldFault → WorldFault
 fault_for None = NoMemory

@@ -17,7 +17,7 @@ use Rattle.lagworld.specs.declared.fault.WorldFault.TheVariants.{NoMemory}
 use Rattle.lagworld.specs.declared.logs.PortLog.{PortLog}
 use Rattle.lagworld.specs.State.{Carried, Half, Serials, Line, Joint, half, port_at, towards, serials_at, log_at}
 use Rattle.lagworld.specs.Calls.{party_of_port}
-use Rattle.lagworld.specs.Events.{Gives, Runs, most_events, cause, told}
+use Rattle.lagworld.specs.Events.{Gives, Runs, most_events, cause, fault_for, may_take_memory, told}
 use Rattle.lagworld.specs.Messages.{side_named}
 use Rattle.lagworld.specs.Worlds.{fixed_of, world_of}
 
@@ -29,21 +29,28 @@ gives_by a b Two = b
 abbrev pub next_of : List Event → ℕ → Option Event
 next_of es n = slice_get es n
 
-abbrev pub cause_next : Joint → Option Event → Option WorldFault
-cause_next j None = None
-cause_next j (Some e) = cause j e
+-- an event is refused with the first cause that holds, or, if none does, for memory, which it may take
+pub record RefusesFor (j : Joint) (e : Event) (fault : WorldFault) : Type 0 where
+  pub named : fault ≡ fault_for (cause j e)
+  pub memory : cause j e ≡ None → may_take_memory e ≡ true
+
+-- the next event is there, and is refused so
+abbrev pub RefusesNext : Joint → Option Event → WorldFault → Type 0
+RefusesNext j None fault = ⊥
+RefusesNext j (Some e) fault = RefusesFor j e fault
 
 -- the world run of these events
 abbrev pub WorldRun : Joint → List Event → Joint → Type 0
 WorldRun old es new = Run (fixed_of old) (map told es) (world_of old) (world_of new)
 
--- A run stopped: as many events as it says acted, and then there was a cause to refuse the next one, or memory was refused.
+-- A run stopped: as many events as it says acted, and then the next one was refused, or no event acted since there was no memory
+-- for the replies.
 pub record Stops (gives : Gives) (old : Joint) (es : List Event) (stop : RunFault) (new : Joint) : Type 0 where
   pub replies : List Reply
   pub within : stop.done ≤ length es
   pub acted : Runs gives old (take stop.done es) replies new
   pub happened : WorldRun old (take stop.done es) new
-  pub fault : (stop.fault ≡ NoMemory) ⊎ (cause_next new (next_of es stop.done) ≡ Some stop.fault)
+  pub fault : ((stop.done ≡ 0) × (stop.fault ≡ NoMemory)) ⊎ RefusesNext new (next_of es stop.done) stop.fault
 
 -- the facts that carry the headline, of the world as it is
 pub record Carries (j : Joint) : Type 0 where

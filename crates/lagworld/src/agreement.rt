@@ -11,14 +11,16 @@ use crate::logs::{Heard, PortLog, log_of};
 use cables::Cable;
 use lagtypes::Group;
 
-/// How the two ends of a cable stand to one another: the first of these that holds (profile).
+/// Whether the two ends of a cable agree on their Link Aggregation Group: the first of these that holds. A port's change
+/// count is how many events changed its own parameters; each LACPDU carries its sender's count as its stamp (profile).
 #[derive(Clone, Copy, Debug, PartialEq, Eq)]
 pub enum Agreement {
     /// An end does not distribute.
     NotBoth,
     /// An end runs on defaults: it has no partner that an LACPDU named.
     Defaults,
-    /// The change count of an end differs from the stamp of the LACPDU that its peer took last, or its peer took none.
+    /// An end changed since it sent the LACPDU that its peer took last (its change count is not that one's stamp), or its
+    /// peer took none.
     Changed,
     /// Both ends name the same Link Aggregation Group (6.3.6).
     Same,
@@ -26,7 +28,7 @@ pub enum Agreement {
     Differ,
 }
 
-/// What is looked at of an end of a cable.
+/// What `agreement` compares of one end.
 #[derive(Clone, Copy, Debug, PartialEq, Eq)]
 pub(crate) struct EndView {
     distributes: bool,
@@ -73,7 +75,7 @@ fn same_groups(one: Option<Group>, two: Option<Group>) -> bool
     }
 }
 
-/// The first answer that holds.
+/// The first answer whose condition holds; `Differ` if none does.
 fn first_of_five(not_both: bool, defaults: bool, changed: bool, same: bool) -> Agreement
     ensures { result ≡ first_of_five not_both defaults changed same }
 {

@@ -4,16 +4,17 @@ ghost use Rattle.lagworld.specs.declared.fault.WorldFault.TheVariants.{NoMemory 
 
 use lagscript::BadWorld;
 
-/// Why a world is not made, or an event did not act (profile).
+/// Why a world is not made, or an event did not act: 1, 2, 4, 5 or 6. What a system refuses would be 3; it is a `Reply`
+/// (profile).
 #[derive(Clone, Copy, Debug, PartialEq, Eq)]
 pub enum WorldFault {
-    /// 1: there is no such cable.
+    /// 1: the event names a cable that does not exist.
     NoCable,
-    /// 2: there is no such system.
+    /// 2: the event names a system that does not exist.
     NoSystem,
     /// 4: 2^63 events have acted.
     Spent,
-    /// 5: memory was refused. It may come before any other reason to refuse a configuration.
+    /// 5: memory was refused. Of an event it comes before a system's refusal; of `World::new` it may come before any reason.
     NoMemory,
     /// 6: the configuration is refused. Only `World::new` answers it.
     BadConfig(BadWorld),
@@ -34,7 +35,7 @@ impl WorldFault {
     }
 }
 
-/// Where a run stopped (profile).
+/// Where a run stopped, and why (profile).
 #[derive(Clone, Copy, Debug, PartialEq, Eq)]
 pub struct RunFault {
     /// How many events acted.

@@ -3,7 +3,7 @@ ghost use Rattle.lagworld.specs.declared.reply.Reply.{Reply};
 ghost use Rattle.lagworld.specs.Kept.{lines_of};
 ghost use Rattle.lagworld.specs.State.{cut, joined};
 ghost use Rattle.distributor.specs.Calls.{PicksPlaces};
-ghost use Rattle.lagworld.specs.Events.{Does, OnLine, Steps, set_at, cause, fault_for, has_cable};
+ghost use Rattle.lagworld.specs.Events.{Does, OnLine, Steps, set_at, cause, fault_for, has_cable, may_take_memory};
 ghost use Rattle.lagworld.specs.declared.fault.WorldFault.TheVariants.{NoMemory as OutOfMemory};
 ghost use Rattle.lagworld.specs.Joints.{MovesAs, SensesAs, TicksAs, joint_of};
 ghost use Rattle.lagworld.specs.Messages.{side_named};
@@ -19,7 +19,7 @@ use lagscript::Event;
 use lagtypes::AggId;
 use std::alloc::Global;
 
-/// What a world keeps.
+/// The fields of a `World`. Its calls are proved on this struct, so that contracts of `World` name no field.
 #[derive(Drop)]
 pub(crate) struct Core<C: Cable, F> {
     pub(crate) alloc: Global,
@@ -44,7 +44,7 @@ impl<C: Cable, F: Fn(u16, usize) -> usize + Drop> Core<C, F> {
         }
     }
 
-    /// The first cause that holds to refuse an event, want of memory aside.
+    /// Why an event is refused, if not for memory: the first cause that holds.
     fn cause(&self, event: &Event) -> Option<WorldFault>
         ensures { result ≡ cause (joint_of C.items C.limit self.now) event.now }
     {
@@ -53,7 +53,7 @@ impl<C: Cable, F: Fn(u16, usize) -> usize + Drop> Core<C, F> {
         first_cause(cable, system, self.acted >= MOST_EVENTS)
     }
 
-    /// One event.
+    /// Refuses an event, or plays it.
     pub(crate) fn step(&mut self, event: &Event) -> Result<Reply, WorldFault>
         requires one { PicksPlaces (F.pre self.old.one.system.algorithm) (F.post self.old.one.system.algorithm) }
         requires two { PicksPlaces (F.pre self.old.two.system.algorithm) (F.post self.old.two.system.algorithm) }
@@ -61,6 +61,7 @@ impl<C: Cable, F: Fn(u16, usize) -> usize + Drop> Core<C, F> {
         ensures accepted { IfOk result (λ reply. cause (joint_of C.items C.limit self.old) event.now ≡ None) }
         ensures steps { IfOk result (λ reply. Steps (gives_by (F.post self.old.one.system.algorithm) (F.post self.old.two.system.algorithm)) (joint_of C.items C.limit self.old) event.now reply (joint_of C.items C.limit self.new)) }
         ensures refused { IfErr result (λ fault. fault ≡ fault_for (cause (joint_of C.items C.limit self.old) event.now)) }
+        ensures memory { IfErr result (λ fault. cause (joint_of C.items C.limit self.old) event.now ≡ None → may_take_memory event.now ≡ true) }
         ensures unchanged { IfErr result (λ fault. joint_of C.items C.limit self.new ≡ joint_of C.items C.limit self.old) }
         ensures algorithm_one { self.new.one.system.algorithm ≡ self.old.one.system.algorithm }
         ensures algorithm_two { self.new.two.system.algorithm ≡ self.old.two.system.algorithm }
@@ -74,7 +75,7 @@ impl<C: Cable, F: Fn(u16, usize) -> usize + Drop> Core<C, F> {
         Ok(reply)
     }
 
-    /// What an event does whose system and cable are there.
+    /// Plays an event whose system and cable exist.
     fn act(&mut self, event: &Event) -> Result<Reply, WorldFault>
         requires one { PicksPlaces (F.pre self.old.one.system.algorithm) (F.post self.old.one.system.algorithm) }
         requires two { PicksPlaces (F.pre self.old.two.system.algorithm) (F.post self.old.two.system.algorithm) }
@@ -82,6 +83,7 @@ impl<C: Cable, F: Fn(u16, usize) -> usize + Drop> Core<C, F> {
         requires accepted { cause (joint_of C.items C.limit self.old) event.now ≡ None }
         ensures does { IfOk result (λ reply. Does (gives_by (F.post self.old.one.system.algorithm) (F.post self.old.two.system.algorithm)) (joint_of C.items C.limit self.old) event.now reply (joint_of C.items C.limit self.new)) }
         ensures refused { IfErr result (λ fault. fault ≡ OutOfMemory) }
+        ensures memory { IfErr result (λ fault. may_take_memory event.now ≡ true) }
         ensures unchanged { IfErr result (λ fault. joint_of C.items C.limit self.new ≡ joint_of C.items C.limit self.old) }
         ensures acted { self.new.acted ≡ self.old.acted }
         ensures algorithm_one { self.new.one.system.algorithm ≡ self.old.one.system.algorithm }

@@ -1,4 +1,7 @@
-//! Two systems that are joined by cables, and what can happen to them.
+//! Two `System`s joined by cables, and every event that can happen to them: ticks, sends, deliveries, losses, repeated control
+//! PDUs, cuts, restarts, changes. A `World` plays events and answers each with a `Reply`. The contract of `World::run` is the
+//! headline: after any list of events ports that distribute in one aggregator have one partner, both ends of a cable that
+//! distribute name one Link Aggregation Group (IEEE 802.1AX-2014, 6.3.6), and unforced conversations keep their order.
 #![tactic(auto)]
 
 mod agreement;
@@ -20,13 +23,13 @@ mod reply;
 mod sending;
 mod sent;
 mod start;
-#[cfg(test)]
-mod tests;
 mod world;
 
 pub use agreement::Agreement;
 pub use fault::{RunFault, WorldFault};
-pub use lagscript::{BadWorld, Event, WorldConfig};
+pub use lagscript::{
+    BadWorld, EntryFault, Event, PortKey, ScriptFault, SystemKey, WorldConfig, read_script,
+};
 pub use laws::{a_start_is_sound, each_event_happens, each_event_keeps};
 pub use reply::Reply;
 pub use world::World;

@@ -59,8 +59,8 @@ impl<C: Cable, F: Fn(u16, usize) -> usize + Drop> World<C, F> {
         self.core.agreement(cable)
     }
 
-    /// The serials of the frames that a conversation of a system sent, those that were lost among them, in order; from 0
-    /// on. Empty if there is no such system, aggregator or conversation (profile).
+    /// The serials of the frames that a conversation of a system sent, lost ones too: 0, 1, 2 and so on. Empty if there is
+    /// no such system, aggregator or conversation (profile).
     pub fn sent(&self, system: u8, agg: AggId, conv: u16) -> &[u64]
         ensures { result.now ≡ sent_in (serials_of_system (side_of system) agg.0 conv self.now.joint) }
     {
@@ -70,7 +70,7 @@ impl<C: Cable, F: Fn(u16, usize) -> usize + Drop> World<C, F> {
         }
     }
 
-    /// Those of them that were handed up at the other system, in the order in which they were. Empty if there is no such
+    /// The serials of this conversation's frames that the other system handed up, in that order. Empty if there is no such
     /// system, aggregator or conversation (profile).
     pub fn collected(&self, system: u8, agg: AggId, conv: u16) -> &[u64]
         ensures { result.now ≡ collected_in (serials_of_system (side_of system) agg.0 conv self.now.joint) }

@@ -1,53 +1,54 @@
 use lagsystem::SystemFault;
 use lagtypes::{AggId, State};
 
-/// What came of it (profile). `bool`: whether a cable took what was sent; otherwise it is lost.
+/// The reply to an event (profile). Where a variant has a last value `kept`, it is false if what was sent was lost at once:
+/// the port has no cable, the cable is cut, or its list has reached its limit.
 #[derive(Clone, Copy, Debug, PartialEq, Eq)]
 pub enum Reply {
-    /// Of `Tick`.
+    /// Of `Tick`: the ticks passed.
     Ticked,
-    /// An LACPDU was sent, with this state of its actor.
+    /// Of `Emit`: an LACPDU was sent; its Actor_State, and `kept`.
     Lacpdu(State, bool),
-    /// A marker was sent, with this identifier.
+    /// Of `Emit`: a marker was sent; its identifier, and `kept`.
     Marker(u32, bool),
-    /// Nothing was due.
+    /// Of `Emit`: nothing was due.
     Nothing,
-    /// An LACPDU was taken.
+    /// Of `Deliver` and `Repeat`: an LACPDU was received (6.4.12).
     Took,
-    /// A marker was answered.
+    /// Of `Deliver` and `Repeat`: a marker was answered; `kept` of the response (6.5.4.2).
     Responded(bool),
-    /// A response freed so many conversations.
+    /// Of `Deliver` and `Repeat`: a marker response came; how many conversations it freed.
     Released(u32),
-    /// A data frame was handed up in this aggregator.
+    /// Of `Deliver`: a data frame was handed up in this aggregator.
     Up(AggId),
-    /// A frame was dropped.
+    /// Of `Deliver` and `Repeat`: fewer than 14 octets, or a data frame on a port that is not Collecting.
     Dropped,
-    /// The link of the port is down.
+    /// Of `Deliver` and `Repeat`: the link of the port is down.
     Disabled,
-    /// The payload of a control frame was refused.
+    /// Of `Deliver` and `Repeat`: the payload of a control frame was refused.
     Ignored,
-    /// Nothing is on the cable towards that system.
+    /// Of `Deliver`, `Lose` and `Repeat`: nothing is on the cable towards that system.
     Empty,
-    /// Of `Lose`.
+    /// Of `Lose`: the first frame is gone.
     Lost,
-    /// The first frame is a data frame.
+    /// Of `Repeat`: the first frame is a data frame, and nothing happened.
     NotControl,
-    /// Of `Cut`.
+    /// Of `Cut`: the cable is cut.
     Cut,
-    /// Of `Join`.
+    /// Of `Join`: the cable is whole.
     Joined,
-    /// Of `Restart`.
+    /// Of `Restart`: the system is as it was made.
     Restarted,
     /// Of `Sense`: whether the cable is whole.
     Sensed(bool),
     /// Of `Configure`: whether something changed.
     Configured(bool),
-    /// The port that an offered frame went out on, and its serial.
+    /// Of `Offer`: the port that the frame went out on, its serial within its conversation, from 0, and `kept`.
     Port(u16, u64, bool),
-    /// Of `Move`.
+    /// Of `Move`: the conversation waits for a marker.
     Moved,
-    /// Of `Force`.
+    /// Of `Force`: the conversation is free.
     Forced,
-    /// The system refused.
+    /// The system refused what the event asks of it, and nothing changed.
     Refused(SystemFault),
 }

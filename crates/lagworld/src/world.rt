@@ -1,8 +1,8 @@
-ghost use Rattle.std.specs.Prelude.{◌≡◌, IfErr, IfOk, OnErr, None};
+ghost use Rattle.std.specs.Prelude.{◌≡◌, IfErr, IfOk, OnErr, None, true};
 ghost use Rattle.distributor.specs.Calls.{PicksPlaces};
 ghost use Rattle.lagmodel.specs.World.{Side, Happens};
 ghost use Rattle.lagmodel.specs.Law.{OnePartner, Agree, InOrder};
-ghost use Rattle.lagworld.specs.Events.{Runs, Steps, cause, fault_for, told};
+ghost use Rattle.lagworld.specs.Events.{Runs, Steps, cause, fault_for, may_take_memory, told};
 ghost use Rattle.lagworld.specs.Making.{IsMade, Refuses, refusal_with};
 ghost use Rattle.lagworld.specs.Sound.{Carries, IsSound, IsStart, Stops, WorldRun, gives_by};
 ghost use Rattle.lagworld.specs.Worlds.{fixed_of, world_of};
@@ -15,7 +15,8 @@ use lagscript::{Event, WorldConfig};
 use std::alloc::Global;
 use std::marker::Model;
 
-/// Two systems that are joined by cables of one kind, and what happened to them.
+/// Two systems, the cables between them, and a record of what was sent, taken and collected. `C` is the kind of each
+/// direction of a cable; `F` is the type of the distribution algorithms, of which each system has one.
 #[derive(Drop)]
 pub struct World<C: Cable, F> {
     pub(crate) core: Core<C, F>,
@@ -34,11 +35,11 @@ impl<C: Cable, F> Model for World<C, F> {
 }
 
 impl<C: Cable, F: Fn(u16, usize) -> usize + Drop> World<C, F> {
-    /// Two systems in their first states, and every cable whole and empty. A cable joins a port of system 1 and one of
-    /// system 2; of its two lines the first leads to system 1. Refused are, in this order, a configuration of system 1 and
-    /// one of system 2 that `System::new` refuses, two systems of one identifier, the first cable with an end that is no
-    /// port or has a cable already, and lines that are not as many as the cables or on which something is. `NoMemory` may
-    /// come before any of these (profile).
+    /// Makes both systems in their first states, and every cable whole and empty. `one` and `two` are the distribution
+    /// algorithms; `lines` has the two directions of each cable, of which the first leads to system 1. Refused is, with
+    /// `BadConfig`, the first of: `System` (what `System::new` refuses, of system 1, then of system 2), `SameSystem` (equal
+    /// identifiers), `CableEnd` (the first cable with an end that is no port, or that an earlier cable has), `Lines` (not as
+    /// many lines as cables, or one that is not empty). `NoMemory` may come before any of these (profile).
     pub fn new(
         alloc: Global,
         config: WorldConfig,
@@ -59,8 +60,9 @@ impl<C: Cable, F: Fn(u16, usize) -> usize + Drop> World<C, F> {
         Ok(World { core })
     }
 
-    /// One event, and what came of it. It acts or changes nothing. Refused are, in this order, a cable and a system that do
-    /// not exist, and any event after 2^63 have acted; `NoMemory` comes before a system refuses.
+    /// Plays one event and answers its reply. Refused are, in this order, `NoCable` and `NoSystem` (the event names one that
+    /// does not exist), `Spent` (2^63 events have acted) and `NoMemory`; nothing has changed then. Only Emit, Deliver, Repeat
+    /// and Offer may take memory. What a system refuses is a reply, `Refused` (profile).
     pub fn step(&mut self, event: &Event) -> Result<Reply, WorldFault>
         requires one { PicksPlaces (F.pre self.old.one) (F.post self.old.one) }
         requires two { PicksPlaces (F.pre self.old.two) (F.post self.old.two) }
@@ -68,6 +70,7 @@ impl<C: Cable, F: Fn(u16, usize) -> usize + Drop> World<C, F> {
         ensures steps { IfOk result (λ reply. Steps (gives_by (F.post self.old.one) (F.post self.old.two)) self.old.joint event.now reply self.new.joint) }
         ensures happens { IfOk result (λ reply. Happens (fixed_of self.old.joint) (told event.now) (world_of self.old.joint) (world_of self.new.joint)) }
         ensures refused { IfErr result (λ fault. fault ≡ fault_for (cause self.old.joint event.now)) }
+        ensures memory { IfErr result (λ fault. cause self.old.joint event.now ≡ None → may_take_memory event.now ≡ true) }
         ensures unchanged { IfErr result (λ fault. self.new.joint ≡ self.old.joint) }
         ensures fixed { fixed_of self.new.joint ≡ fixed_of self.old.joint }
         ensures sound { IsSound self.new.joint }
@@ -77,18 +80,20 @@ impl<C: Cable, F: Fn(u16, usize) -> usize + Drop> World<C, F> {
         self.core.step(event)
     }
 
-    /// The allocator that it keeps.
+    /// The allocator. Reading `core` also shows the prover the invariant, which `run` wants before its first event.
     fn alloc(&self) -> Global
         ensures { IsSound self.now.joint }
     {
         self.core.alloc
     }
 
-    /// Events one after another, and what came of each. `RunFault` says how many acted and why the next one did not; the
-    /// world is then as they left it. Whatever the answer, of the world that is left: ports that distribute in one aggregator
-    /// name one partner system and key; a cable's two distributing ends, neither of which changed since it sent the LACPDU
-    /// that its peer took last, nor runs on defaults, name the same group; and what an unforced conversation collected is a
-    /// subsequence of what it sent.
+    /// Plays events in order and answers their replies. If one is refused it stops: `RunFault` says how many acted and why
+    /// the next did not, and the world is as they left it. Memory for all replies is taken first, so `NoMemory` may come with
+    /// none acted. Whatever the answer, of the world that is left (profile; 6.3.6, 6.2.4):
+    /// - ports that distribute in one aggregator name one partner system and key (`one_partner`);
+    /// - a cable's two distributing ends, neither of which changed since it sent the LACPDU that its peer took last, nor runs
+    ///   on defaults, name the same group (`agree`);
+    /// - what an unforced conversation collected is a subsequence of what it sent (`in_order`).
     pub fn run(&mut self, events: &[Event]) -> Result<Vec<Reply>, RunFault>
         requires one { PicksPlaces (F.pre self.old.one) (F.post self.old.one) }
         requires two { PicksPlaces (F.pre self.old.two) (F.post self.old.two) }
@@ -99,6 +104,7 @@ impl<C: Cable, F: Fn(u16, usize) -> usize + Drop> World<C, F> {
         ensures agree { Agree (fixed_of self.new.joint) (world_of self.new.joint) }
         ensures in_order { InOrder (world_of self.new.joint) }
         ensures carries { Carries self.new.joint }
+        ensures sound { IsSound self.new.joint }
         ensures fixed { fixed_of self.new.joint ≡ fixed_of self.old.joint }
         ensures algorithm_one { self.new.one ≡ self.old.one }
         ensures algorithm_two { self.new.two ≡ self.old.two }

@@ -1,7 +1,11 @@
 use Rattle.std.proofs.Common.{ap, sym, refl, ◌∙◌}
 use Rattle.lagworld.specs.Making.{are_lines, first_lines}
-use Rattle.lagworld.proofs.Making.{made_start, same_test}
+use Rattle.lagworld.proofs.Making.{made_start, same_test, second_accepted}
 use Rattle.lagworld.proofs.kept.Core.new.Goals as goal
+
+pub new-requires-2-clause-accepted : goal.new-requires-2-clause-accepted
+new-requires-2-clause-accepted g c =
+    second_accepted c.args.config c.in-Some-both.systems.0 c.in-Some-both.systems.1 c.in-Some-both.ensures (sym c.refusal.ensures ∙ c.in_default.is)
 
 pub returns-clause-start : goal.returns-clause-start
 returns-clause-start g c =

@@ -1,11 +1,10 @@
-use Rattle.std.proofs.Common.{◌≡◌, ◌⊎◌, ◌∙◌, Some, arith, map, take, subst, sym}
+use Rattle.std.proofs.Common.{◌≡◌, ◌⊎◌, ◌∙◌, None, arith, inr, map, take, subst, sym, true}
 use Rattle.distributor.specs.Calls.{PicksPlaces}
 use Rattle.lagmodel.specs.World.{Run, Happens}
 use Rattle.lagscript.specs.declared.event.Event.{Event}
-use Rattle.lagworld.specs.declared.fault.WorldFault.TheVariants.{NoMemory}
 use Rattle.lagworld.specs.State.{Joint}
-use Rattle.lagworld.specs.Events.{Gives, Runs, Steps, cause, fault_for, told}
-use Rattle.lagworld.specs.Sound.{gives_by, cause_next, next_of}
+use Rattle.lagworld.specs.Events.{Gives, Runs, Steps, cause, fault_for, may_take_memory, told}
+use Rattle.lagworld.specs.Sound.{RefusesNext, gives_by, next_of}
 use Rattle.lagworld.specs.Worlds.{fixed_of, world_of}
 use Rattle.lagworld.proofs.Running.{one_partner_of, agree_of, in_order_of, carries_of, runs_on, world_on, stopped_by}
 use Rattle.lagworld.proofs.world.World.run.Goals as goal
@@ -18,6 +17,9 @@ returns-in-Err-clause-agree g c = agree_of c.args.self.now.joint c.alloc-alloc.e
 
 pub returns-in-Err-clause-in_order : goal.returns-in-Err-clause-in_order
 returns-in-Err-clause-in_order g c = in_order_of c.args.self.now.joint c.alloc-alloc.ensures
+
+pub returns-in-Err-clause-sound : goal.returns-in-Err-clause-sound
+returns-in-Err-clause-sound g c = c.alloc-alloc.ensures
 
 pub returns-in-Err-clause-carries : goal.returns-in-Err-clause-carries
 returns-in-Err-clause-carries g c = carries_of c.args.self.now.joint c.alloc-alloc.ensures
@@ -39,12 +41,13 @@ returns-in-Err-step-clause-stopped g c =
     let e = c.index-events-done.result in
     let same = sym c.in-Err-step.ensures.unchanged in
     let refused = subst (λ (x : Event). c.in-Err-step.fault ≡ fault_for (cause c.loop-done.self.joint x)) c.index-events-done.is c.in-Err-step.ensures.refused in
+    let memory = subst (λ (x : Event). cause c.loop-done.self.joint x ≡ None → may_take_memory x ≡ true) c.index-events-done.is c.in-Err-step.ensures.memory in
     record {
       replies = c.loop-done.replies.items;
       within = c.loop-done.invariant.within;
       acted = subst (λ (j : Joint). Runs gives old (take n es) c.loop-done.replies.items j) same c.loop-done.invariant.ran;
       happened = subst (λ (j : Joint). Run (fixed_of old) (map told (take n es)) (world_of old) (world_of j)) same c.loop-done.invariant.happened;
-      fault = subst (λ (j : Joint). (c.in-Err-step.fault ≡ NoMemory) ⊎ (cause_next j (next_of es n) ≡ Some c.in-Err-step.fault)) same (stopped_by c.loop-done.self.joint es n e c.in-Err-step.fault c.loop-done-test.true refused);
+      fault = inr (subst (λ (j : Joint). RefusesNext j (next_of es n) c.in-Err-step.fault) same (stopped_by c.loop-done.self.joint es n e c.in-Err-step.fault c.loop-done-test.true refused memory));
     }
 
 pub returns-in-Err-step-clause-one_partner : goal.returns-in-Err-step-clause-one_partner
@@ -55,6 +58,9 @@ returns-in-Err-step-clause-agree g c = agree_of c.step.new.self.joint c.step.ens
 
 pub returns-in-Err-step-clause-in_order : goal.returns-in-Err-step-clause-in_order
 returns-in-Err-step-clause-in_order g c = in_order_of c.step.new.self.joint c.step.ensures.sound
+
+pub returns-in-Err-step-clause-sound : goal.returns-in-Err-step-clause-sound
+returns-in-Err-step-clause-sound g c = c.step.ensures.sound
 
 pub returns-in-Err-step-clause-carries : goal.returns-in-Err-step-clause-carries
 returns-in-Err-step-clause-carries g c = carries_of c.step.new.self.joint c.step.ensures.sound
@@ -92,6 +98,9 @@ returns-clause-agree g c = agree_of c.loop-done.self.joint c.loop-done.invariant
 
 pub returns-clause-in_order : goal.returns-clause-in_order
 returns-clause-in_order g c = in_order_of c.loop-done.self.joint c.loop-done.invariant.sound
+
+pub returns-clause-sound : goal.returns-clause-sound
+returns-clause-sound g c = c.loop-done.invariant.sound
 
 pub returns-clause-carries : goal.returns-clause-carries
 returns-clause-carries g c = carries_of c.loop-done.self.joint c.loop-done.invariant.sound
