@@ -1,3 +1,6 @@
+ghost use Rattle.std.specs.Prelude.{◌≡◌, ◌∷◌, []};
+ghost use Rattle.portmachines.specs.Window.{KeepsWindow, within_eleven};
+
 use crate::{
     MuxState, PeriodicState, Port, ReceiveState, Setup, each_call_has_one_effect, window_holds,
 };
@@ -476,4 +479,18 @@ fn each_mux_row_but_the_first_asks(rt: HostRuntime) {
     assert!(rt; asks(&mut port, true), "to ATTACHED");
     port.select(Choice::Unselected);
     assert!(rt; asks(&mut port, false), "from ATTACHED to DETACHED");
+}
+
+/// Eleven ticks from the tick 0 on end with the tick 10.
+fn values_of_the_window()
+    ensures last { within_eleven 0 (0 ∷ 0 ∷ 0 ∷ 10 ∷ []) ≡ 4 }
+    ensures beyond { within_eleven 0 (0 ∷ 0 ∷ 0 ∷ 11 ∷ []) ≡ 3 }
+    ensures earlier { within_eleven 2 (1 ∷ 2 ∷ 12 ∷ 13 ∷ []) ≡ 2 }
+    ensures kept { KeepsWindow (0 ∷ 0 ∷ 0 ∷ 10 ∷ []) → ⊥ }
+{
+}
+
+#[test]
+fn eleven_ticks_are_counted(_rt: HostRuntime) {
+    values_of_the_window();
 }

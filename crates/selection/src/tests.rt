@@ -117,6 +117,28 @@ fn chooses_by_key_and_group(rt: HostRuntime) -> Result<(), Fail> {
     Ok(())
 }
 
+/// 65,537 keys, of which the one at this place alone is that of the ports.
+fn many_keys(alloc: Global, place: usize) -> Result<Vec<Key>, NoMemory> {
+    let mut keys = Vec::new(alloc);
+    for at in 0..65_537 {
+        keys.push(if at == place { Key(1) } else { Key(2) })?;
+    }
+    Ok(keys)
+}
+
+/// The last number of an aggregator is 65,535.
+#[test]
+fn keys_beyond_the_last_number_are_left_out(rt: HostRuntime) -> Result<(), Fail> {
+    for (place, want) in [(65_534, Some(AggId(65_535))), (65_535, None)] {
+        let keys = many_keys(rt.alloc(), place)?;
+        let aggregators = Aggregators::new(rt.alloc(), &keys)?;
+        assert_eq!(rt; aggregators.count(), 65_535, "the key at {place}: count");
+        let chosen = aggregators.choose(&views(), 1);
+        assert_eq!(rt; chosen, want, "the key at {place}: choose");
+    }
+    Ok(())
+}
+
 #[test]
 fn chooses_none(rt: HostRuntime) -> Result<(), Fail> {
     let aggregators = aggregators(rt.alloc())?;
