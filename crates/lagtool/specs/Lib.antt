@@ -5,5 +5,5 @@ pub mod Reports
 pub mod Engines
 pub mod Verdicts
 pub mod Checked
-pub mod Writing
+pub mod Scans
 pub mod Begun
