@@ -23,8 +23,6 @@ mod reply;
 mod sending;
 mod sent;
 mod start;
-#[cfg(test)]
-mod tests;
 mod world;
 
 pub use agreement::Agreement;

@@ -1,9 +1,9 @@
-use crate::tests::Entry::{Configure, Deliver, Emit, Offer, Repeat, Sense, Tick};
-use crate::tests::Want::{Is, Lacpdu};
-use crate::tests::given::ONE;
-use crate::tests::starts::{NONE_DISTRIBUTING, ONE_CABLE, TICKED, TOOK, UP};
-use crate::tests::{Entry, F48, Row, Told, Want, plays, runs, steps};
-use crate::{Agreement, Reply};
+use crate::worlds::Entry::{Configure, Deliver, Emit, Offer, Repeat, Sense, Tick};
+use crate::worlds::Want::{Is, Lacpdu};
+use crate::worlds::given::ONE;
+use crate::worlds::starts::{NONE_DISTRIBUTING, ONE_CABLE, TICKED, TOOK, UP};
+use crate::worlds::{Entry, F48, Row, Told, Want, plays, runs, steps};
+use lagworld::{Agreement, Reply};
 use std::test::Fail;
 
 const ALONE: [(Entry, Want); 12] = [

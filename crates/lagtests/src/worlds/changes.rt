@@ -1,10 +1,10 @@
-use crate::tests::Entry::{Configure, Cut, Deliver, Emit, Move, Offer, Restart, Sense, Tick};
-use crate::tests::Want::{Is, Lacpdu};
-use crate::tests::given::{INDIVIDUAL, Setting, TWO};
-use crate::tests::starts::{COMING_UP, DOWN, HELD, MOVED, NONE_DISTRIBUTING, TAKEN, TICKED, UP};
-use crate::tests::{Entry, F48, F49, F50, Row, Told, Want, plays};
-use crate::{Agreement, Reply};
+use crate::worlds::Entry::{Configure, Cut, Deliver, Emit, Move, Offer, Restart, Sense, Tick};
+use crate::worlds::Want::{Is, Lacpdu};
+use crate::worlds::given::{INDIVIDUAL, Setting, TWO};
+use crate::worlds::starts::{COMING_UP, DOWN, HELD, MOVED, NONE_DISTRIBUTING, TAKEN, TICKED, UP};
+use crate::worlds::{Entry, F48, F49, F50, Row, Told, Want, plays};
 use lagsystem::SystemFault;
+use lagworld::{Agreement, Reply};
 use std::test::Fail;
 
 const TOLD_OF_CUT: [(Entry, Want); 6] = [

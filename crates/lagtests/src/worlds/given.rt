@@ -1,9 +1,9 @@
 ghost use Rattle.std.specs.Prelude.{◌<◌};
 
-use crate::{WorldConfig, WorldFault};
-use cables::{AnyCable, CableFault, ListCable, RingCable};
+use cables::{AnyCable, ListCable, RingCable};
 use lagsystem::{Config, PortConfig};
 use lagtypes::{Key, NoMemory, SystemId};
+use lagworld::{WorldConfig, WorldFault};
 use std::alloc::Global;
 
 /// What systems are made from. Cable 1 joins their ports 1.

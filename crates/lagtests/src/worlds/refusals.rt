@@ -1,14 +1,14 @@
-use crate::tests::Entry::{
+use crate::worlds::Entry::{
     Configure, Cut, Deliver, Emit, Force, Join, Move, Offer, Restart, Sense, Tick,
 };
-use crate::tests::Want::Is;
-use crate::tests::given::{INDIVIDUAL, ONE, cable, joined, lines, modulo, world_config};
-use crate::tests::starts::{HELD, NONE_DISTRIBUTING, TICKED, UP};
-use crate::tests::{Entry, F48, Row, Want, event, plays};
-use crate::{Agreement, BadWorld, Event, Reply, RunFault, World, WorldFault};
+use crate::worlds::Want::Is;
+use crate::worlds::given::{INDIVIDUAL, ONE, cable, joined, lines, modulo, world_config};
+use crate::worlds::starts::{HELD, NONE_DISTRIBUTING, TICKED, UP};
+use crate::worlds::{Entry, F48, Row, Want, event, plays};
 use cables::{AnyCable, Cable, Item, Stamp};
 use lagsystem::{BadConfig, SystemFault};
 use lagtypes::AggId;
+use lagworld::{Agreement, BadWorld, Event, Reply, RunFault, World, WorldFault};
 use std::alloc::Global;
 use std::process::Abort;
 use std::test::Fail;

@@ -5,12 +5,12 @@ mod given;
 mod refusals;
 mod starts;
 
-use crate::tests::given::{Setting, lines, modulo, world_config};
-use crate::{Agreement, Event, Reply, RunFault, World, WorldFault};
+use crate::worlds::given::{Setting, lines, modulo, world_config};
 use bitflags::Flags;
 use cables::AnyCable;
 use lagsystem::PortChange;
 use lagtypes::{AggId, Key, NoMemory, State};
+use lagworld::{Agreement, Event, Reply, RunFault, World, WorldFault};
 use std::alloc::Global;
 use std::process::Abort;
 

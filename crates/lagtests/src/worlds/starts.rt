@@ -1,9 +1,9 @@
-use crate::Reply;
-use crate::tests::Entry::{Deliver, Emit, Move, Sense, Tick};
-use crate::tests::Want::{Is, Lacpdu};
-use crate::tests::{Entry, Want};
+use crate::worlds::Entry::{Deliver, Emit, Move, Sense, Tick};
+use crate::worlds::Want::{Is, Lacpdu};
+use crate::worlds::{Entry, Want};
 use lagsystem::SystemFault;
 use lagtypes::AggId;
+use lagworld::Reply;
 
 pub(crate) const TICKED: Want = Is(Reply::Ticked);
 

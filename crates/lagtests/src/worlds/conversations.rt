@@ -1,9 +1,9 @@
-use crate::tests::Entry::{Cut, Deliver, Emit, Force, Join, Lose, Offer, Repeat, Tick};
-use crate::tests::Want::{Handed, Is, Lacpdu};
-use crate::tests::given::TWO;
-use crate::tests::starts::{COMING_UP, HELD, MOVED, TAKEN, TICKED, TOOK};
-use crate::tests::{Entry, F48, Row, Told, Want, plays, runs, steps};
-use crate::{Agreement, Reply};
+use crate::worlds::Entry::{Cut, Deliver, Emit, Force, Join, Lose, Offer, Repeat, Tick};
+use crate::worlds::Want::{Handed, Is, Lacpdu};
+use crate::worlds::given::TWO;
+use crate::worlds::starts::{COMING_UP, HELD, MOVED, TAKEN, TICKED, TOOK};
+use crate::worlds::{Entry, F48, Row, Told, Want, plays, runs, steps};
+use lagworld::{Agreement, Reply};
 use std::test::Fail;
 
 const MOVES: [(Entry, Want); 16] = [
