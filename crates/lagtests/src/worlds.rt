@@ -1,0 +1,266 @@
+mod agreements;
+mod changes;
+mod conversations;
+mod given;
+mod refusals;
+mod starts;
+
+use crate::worlds::given::{Setting, lines, modulo, world_config};
+use bitflags::Flags;
+use cables::AnyCable;
+use lagsystem::PortChange;
+use lagtypes::{AggId, Key, NoMemory, State};
+use lagworld::{Agreement, Event, Reply, RunFault, World, WorldFault};
+use std::alloc::Global;
+use std::process::Abort;
+
+/// A frame of conversation 48 of system 1.
+const F48: [u8; 14] = [2, 0, 0, 0, 0, 0x20, 2, 0, 0, 0, 0, 0x10, 8, 0];
+
+/// One of conversation 49.
+const F49: [u8; 14] = [2, 0, 0, 0, 0, 0x21, 2, 0, 0, 0, 0, 0x10, 8, 0];
+
+/// One of conversation 50.
+const F50: [u8; 14] = [2, 0, 0, 0, 0, 0x22, 2, 0, 0, 0, 0, 0x10, 8, 0];
+
+/// An event, with the octets that it offers.
+#[derive(Clone, Copy, Debug)]
+enum Entry {
+    Tick(u8, u16),
+    Emit(u8, u16),
+    Deliver(u16, u8),
+    Lose(u16, u8),
+    Repeat(u16, u8),
+    Cut(u16),
+    Join(u16),
+    Sense(u16, u8),
+    Restart(u8),
+    /// Another key and Aggregation bit, at priority 128.
+    Configure(u8, u16, u16, bool),
+    Offer(u8, u16, &'static [u8]),
+    Move(u8, u16, u16, u16),
+    Force(u8, u16, u16),
+}
+
+/// The reply that is wanted.
+#[derive(Clone, Copy)]
+enum Want {
+    /// An LACPDU was sent whose actor has this state, and a cable took it.
+    Lacpdu(u8),
+    /// The same, and no cable took it.
+    Handed(u8),
+    Is(Reply),
+}
+
+/// Events and their replies.
+type Entries = &'static [(Entry, Want)];
+
+/// A conversation of aggregator 1 at the end: how many serials it sent, from 0 on, and which were collected.
+#[derive(Clone, Copy)]
+struct Told {
+    system: u8,
+    conv: u16,
+    sent: usize,
+    collected: &'static [u64],
+    forced: bool,
+}
+
+/// Events and their replies, those of `first` before those of `rest`, and what the readers tell in the end.
+#[derive(Clone, Copy)]
+struct Row {
+    setting: Setting,
+    first: Entries,
+    rest: Entries,
+    /// Of cables.
+    agreements: &'static [(u16, Agreement)],
+    flows: &'static [Told],
+}
+
+fn event(alloc: Global, entry: Entry) -> Result<Event, NoMemory> {
+    Ok(match entry {
+        Entry::Tick(system, count) => Event::Tick(system, count),
+        Entry::Emit(system, port) => Event::Emit(system, port),
+        Entry::Deliver(cable, to) => Event::Deliver(cable, to),
+        Entry::Lose(cable, to) => Event::Lose(cable, to),
+        Entry::Repeat(cable, to) => Event::Repeat(cable, to),
+        Entry::Cut(cable) => Event::Cut(cable),
+        Entry::Join(cable) => Event::Join(cable),
+        Entry::Sense(cable, system) => Event::Sense(cable, system),
+        Entry::Restart(system) => Event::Restart(system),
+        Entry::Configure(system, port, key, aggregatable) => Event::Configure(
+            system,
+            port,
+            PortChange {
+                key: Key(key),
+                priority: 128,
+                aggregatable,
+            },
+        ),
+        Entry::Offer(system, agg, octets) => {
+            Event::Offer(system, AggId(agg), Vec::from_slice(alloc, octets)?)
+        }
+        Entry::Move(system, agg, conv, port) => Event::Move(system, AggId(agg), conv, port),
+        Entry::Force(system, agg, conv) => Event::Force(system, AggId(agg), conv),
+    })
+}
+
+fn reply(want: Want) -> Reply {
+    match want {
+        Want::Lacpdu(octet) => Reply::Lacpdu(State::from_bits_retain(octet), true),
+        Want::Handed(octet) => Reply::Lacpdu(State::from_bits_retain(octet), false),
+        Want::Is(reply) => reply,
+    }
+}
+
+/// The entries of a row, one after another.
+fn entries(alloc: Global, row: &Row) -> Result<Vec<(Entry, Want)>, NoMemory> {
+    let mut entries = Vec::new(alloc);
+    entries.extend_from_slice(row.first)?;
+    entries.extend_from_slice(row.rest)?;
+    Ok(entries)
+}
+
+fn events(alloc: Global, entries: &[(Entry, Want)]) -> Result<Vec<Event>, NoMemory> {
+    let mut events = Vec::new(alloc);
+    for (entry, _) in entries {
+        events.push(event(alloc, *entry)?)?;
+    }
+    Ok(events)
+}
+
+/// Compares the reply to the event at this place, from 1, with the one that is wanted.
+fn compare(
+    rt: &impl Abort,
+    place: usize,
+    entry: Entry,
+    came: Result<Reply, WorldFault>,
+    want: Want,
+) {
+    assert_eq!(rt; came, Ok(reply(want)), "event {place}: {entry:?}");
+}
+
+/// Compares the replies to entries that follow so many others.
+fn compare_all(rt: &impl Abort, before: usize, entries: &[(Entry, Want)], came: &[Reply]) {
+    assert_eq!(rt; came.len(), entries.len(), "behind event {before}");
+    let mut place = before;
+    for ((entry, want), came) in entries.iter().zip(came) {
+        place = place.saturating_add(1);
+        compare(rt, place, *entry, Ok(*came), *want);
+    }
+}
+
+/// Compares what a run answered to entries that follow so many others.
+fn compare_run(
+    rt: &impl Abort,
+    before: usize,
+    entries: &[(Entry, Want)],
+    came: Result<Vec<Reply>, RunFault>,
+) {
+    match came {
+        Ok(replies) => compare_all(rt, before, entries, &replies),
+        Err(stop) => {
+            if let Some((entry, want)) = entries.get(stop.done) {
+                let place = before.saturating_add(stop.done).saturating_add(1);
+                compare(rt, place, *entry, Err(stop.fault), *want);
+            }
+            assert!(rt; false, "behind event {before}: {stop:?}");
+        }
+    }
+}
+
+fn is_from_zero(serials: &[u64]) -> bool {
+    let mut next = 0;
+    for serial in serials {
+        if *serial != next {
+            return false;
+        }
+        next = next.saturating_add(1);
+    }
+    true
+}
+
+/// Compares what was sent and collected of a conversation with what is told of it.
+fn compare_flow(rt: &impl Abort, told: Told, sent: &[u64], collected: &[u64], forced: bool) {
+    let (system, conv) = (told.system, told.conv);
+    assert_eq!(rt;
+        sent.len(),
+        told.sent,
+        "sent: system {system}, conversation {conv}"
+    );
+    assert!(rt;
+        is_from_zero(sent),
+        "sent: system {system}, conversation {conv}: {sent:?}"
+    );
+    assert_eq!(rt;
+        collected,
+        told.collected,
+        "collected: system {system}, conversation {conv}"
+    );
+    assert_eq!(rt;
+        forced,
+        told.forced,
+        "forced: system {system}, conversation {conv}"
+    );
+}
+
+/// Compares what the readers tell with what a row says of them.
+fn tells<F: Fn(u16, usize) -> usize + Drop>(
+    rt: &impl Abort,
+    world: &World<AnyCable, F>,
+    row: &Row,
+) {
+    for (cable, wanted) in row.agreements {
+        assert_eq!(rt;
+            world.agreement(*cable),
+            Some(*wanted),
+            "agreement of cable {cable}"
+        );
+    }
+    for told in row.flows {
+        let sent = world.sent(told.system, AggId(1), told.conv);
+        let collected = world.collected(told.system, AggId(1), told.conv);
+        let forced = world.forced(told.system, AggId(1), told.conv);
+        compare_flow(rt, *told, sent, collected, forced);
+    }
+}
+
+/// Hands the events of a row to `step`, each for itself, on a new world with cables of this limit.
+fn steps(rt: &impl Abort, alloc: Global, row: &Row, limit: Option<u16>) -> Result<(), WorldFault> {
+    let entries = entries(alloc, row)?;
+    let config = world_config(alloc, row.setting)?;
+    let lines = lines(alloc, config.cables.len(), limit)?;
+    let mut world = World::new(alloc, config, modulo, modulo, lines)?;
+    let mut place = 0usize;
+    for (entry, want) in &entries {
+        let came = world.step(&event(alloc, *entry)?);
+        place = place.saturating_add(1);
+        compare(rt, place, *entry, came, *want);
+    }
+    tells(rt, &world, row);
+    Ok(())
+}
+
+/// Hands the events of a row to `run`, so many and then the rest, on a new world with cables of this limit.
+fn runs(
+    rt: &impl Abort,
+    alloc: Global,
+    row: &Row,
+    limit: Option<u16>,
+    cut: usize,
+) -> Result<(), WorldFault> {
+    let entries = entries(alloc, row)?;
+    let events = events(alloc, &entries)?;
+    let config = world_config(alloc, row.setting)?;
+    let lines = lines(alloc, config.cables.len(), limit)?;
+    let mut world = World::new(alloc, config, modulo, modulo, lines)?;
+    let cut = cut.min(events.len()).min(entries.len());
+    compare_run(rt, 0, &entries[..cut], world.run(&events[..cut]));
+    compare_run(rt, cut, &entries[cut..], world.run(&events[cut..]));
+    tells(rt, &world, row);
+    Ok(())
+}
+
+/// The same, all events at once and on cables without a limit.
+fn plays(rt: &impl Abort, alloc: Global, row: &Row) -> Result<(), WorldFault> {
+    runs(rt, alloc, row, None, 0)
+}

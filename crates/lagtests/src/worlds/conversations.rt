@@ -1,0 +1,254 @@
+use crate::worlds::Entry::{Cut, Deliver, Emit, Force, Join, Lose, Offer, Repeat, Tick};
+use crate::worlds::Want::{Handed, Is, Lacpdu};
+use crate::worlds::given::TWO;
+use crate::worlds::starts::{COMING_UP, HELD, MOVED, TAKEN, TICKED, TOOK};
+use crate::worlds::{Entry, F48, Row, Told, Want, plays, runs, steps};
+use lagworld::{Agreement, Reply};
+use std::test::Fail;
+
+const MOVES: [(Entry, Want); 16] = [
+    (Offer(1, 1, &F48), Is(Reply::Port(1, 0, true))),
+    (Offer(1, 1, &F48), Is(Reply::Port(1, 1, true))),
+    (Offer(1, 1, &F48), Is(Reply::Port(1, 2, true))),
+    MOVED,
+    (Offer(1, 1, &F48), HELD),
+    (Emit(1, 1), Lacpdu(0x3d)),
+    (Emit(1, 1), Is(Reply::Marker(1, true))),
+    (Deliver(1, 2), TAKEN),
+    (Deliver(1, 2), TAKEN),
+    (Deliver(1, 2), TAKEN),
+    (Deliver(1, 2), TOOK),
+    (Deliver(1, 2), Is(Reply::Responded(true))),
+    (Offer(1, 1, &F48), HELD),
+    (Deliver(1, 1), Is(Reply::Released(1))),
+    (Offer(1, 1, &F48), Is(Reply::Port(2, 3, true))),
+    (Deliver(2, 2), TAKEN),
+];
+
+const MOVES_ROW: Row = Row {
+    setting: TWO,
+    first: &COMING_UP,
+    rest: &MOVES,
+    agreements: &[(1, Agreement::Same), (2, Agreement::Same)],
+    flows: &[Told {
+        system: 1,
+        conv: 48,
+        sent: 4,
+        collected: &[0, 1, 2, 3],
+        forced: false,
+    }],
+};
+
+#[test]
+fn a_conversation_moves_behind_a_marker(rt: HostRuntime) -> Result<(), Fail> {
+    for cut in 0..41 {
+        runs(&rt, rt.alloc(), &MOVES_ROW, None, cut)?;
+    }
+    Ok(())
+}
+
+#[test]
+fn a_conversation_moves_event_by_event(rt: HostRuntime) -> Result<(), Fail> {
+    steps(&rt, rt.alloc(), &MOVES_ROW, Some(8))?;
+    Ok(())
+}
+
+const LATE: [(Entry, Want); 16] = [
+    (Offer(1, 1, &F48), Is(Reply::Port(1, 0, true))),
+    MOVED,
+    (Emit(1, 1), Lacpdu(0x3d)),
+    (Emit(1, 1), Is(Reply::Marker(1, true))),
+    (Tick(1, 30), TICKED),
+    (Emit(1, 1), Is(Reply::Marker(2, true))),
+    (Deliver(1, 2), TAKEN),
+    (Deliver(1, 2), TOOK),
+    (Deliver(1, 2), Is(Reply::Responded(true))),
+    (Deliver(1, 1), Is(Reply::Released(0))),
+    (Offer(1, 1, &F48), HELD),
+    (Deliver(1, 2), Is(Reply::Responded(true))),
+    (Repeat(1, 1), Is(Reply::Released(1))),
+    (Deliver(1, 1), Is(Reply::Released(0))),
+    (Offer(1, 1, &F48), Is(Reply::Port(2, 1, true))),
+    (Deliver(2, 2), TAKEN),
+];
+
+const LATE_ROW: Row = Row {
+    setting: TWO,
+    first: &COMING_UP,
+    rest: &LATE,
+    agreements: &[],
+    flows: &[Told {
+        system: 1,
+        conv: 48,
+        sent: 2,
+        collected: &[0, 1],
+        forced: false,
+    }],
+};
+
+#[test]
+fn a_late_response_releases_nothing(rt: HostRuntime) -> Result<(), Fail> {
+    plays(&rt, rt.alloc(), &LATE_ROW)?;
+    Ok(())
+}
+
+const LOST: [(Entry, Want); 15] = [
+    (Offer(1, 1, &F48), Is(Reply::Port(1, 0, true))),
+    (Cut(1), Is(Reply::Cut)),
+    (Join(1), Is(Reply::Joined)),
+    (Offer(1, 1, &F48), Is(Reply::Port(1, 1, true))),
+    MOVED,
+    (Emit(1, 1), Lacpdu(0x3d)),
+    (Emit(1, 1), Is(Reply::Marker(1, true))),
+    (Cut(1), Is(Reply::Cut)),
+    (Join(1), Is(Reply::Joined)),
+    (Tick(1, 30), TICKED),
+    (Emit(1, 1), Is(Reply::Marker(2, true))),
+    (Deliver(1, 2), Is(Reply::Responded(true))),
+    (Deliver(1, 1), Is(Reply::Released(1))),
+    (Offer(1, 1, &F48), Is(Reply::Port(2, 2, true))),
+    (Deliver(2, 2), TAKEN),
+];
+
+const LOST_ROW: Row = Row {
+    setting: TWO,
+    first: &COMING_UP,
+    rest: &LOST,
+    agreements: &[],
+    flows: &[Told {
+        system: 1,
+        conv: 48,
+        sent: 3,
+        collected: &[2],
+        forced: false,
+    }],
+};
+
+#[test]
+fn a_cut_loses_what_is_on_the_cable(rt: HostRuntime) -> Result<(), Fail> {
+    plays(&rt, rt.alloc(), &LOST_ROW)?;
+    Ok(())
+}
+
+const FORCED: [(Entry, Want); 6] = [
+    (Offer(1, 1, &F48), Is(Reply::Port(1, 0, true))),
+    MOVED,
+    (Force(1, 1, 48), Is(Reply::Forced)),
+    (Offer(1, 1, &F48), Is(Reply::Port(2, 1, true))),
+    (Deliver(2, 2), TAKEN),
+    (Deliver(1, 2), TAKEN),
+];
+
+const FORCED_ROW: Row = Row {
+    setting: TWO,
+    first: &COMING_UP,
+    rest: &FORCED,
+    agreements: &[],
+    flows: &[Told {
+        system: 1,
+        conv: 48,
+        sent: 2,
+        collected: &[1, 0],
+        forced: true,
+    }],
+};
+
+#[test]
+fn a_forced_conversation_may_overtake(rt: HostRuntime) -> Result<(), Fail> {
+    plays(&rt, rt.alloc(), &FORCED_ROW)?;
+    Ok(())
+}
+
+const DATA: [(Entry, Want); 7] = [
+    (Offer(1, 1, &F48), Is(Reply::Port(1, 0, true))),
+    (Offer(1, 1, &F48), Is(Reply::Port(1, 1, true))),
+    (Offer(1, 1, &F48), Is(Reply::Port(1, 2, true))),
+    (Lose(1, 2), Is(Reply::Lost)),
+    (Deliver(1, 2), TAKEN),
+    (Repeat(1, 2), Is(Reply::NotControl)),
+    (Deliver(1, 2), TAKEN),
+];
+
+const DATA_ROW: Row = Row {
+    setting: TWO,
+    first: &COMING_UP,
+    rest: &DATA,
+    agreements: &[],
+    flows: &[Told {
+        system: 1,
+        conv: 48,
+        sent: 3,
+        collected: &[1, 2],
+        forced: false,
+    }],
+};
+
+#[test]
+fn no_data_frame_is_repeated(rt: HostRuntime) -> Result<(), Fail> {
+    plays(&rt, rt.alloc(), &DATA_ROW)?;
+    Ok(())
+}
+
+const FULL: [(Entry, Want); 6] = [
+    (Offer(1, 1, &F48), Is(Reply::Port(1, 0, true))),
+    (Offer(1, 1, &F48), Is(Reply::Port(1, 1, true))),
+    (Offer(1, 1, &F48), Is(Reply::Port(1, 2, false))),
+    (Deliver(1, 2), TAKEN),
+    (Deliver(1, 2), TAKEN),
+    (Deliver(1, 2), Is(Reply::Empty)),
+];
+
+const FULL_ROW: Row = Row {
+    setting: TWO,
+    first: &COMING_UP,
+    rest: &FULL,
+    agreements: &[],
+    flows: &[Told {
+        system: 1,
+        conv: 48,
+        sent: 3,
+        collected: &[0, 1],
+        forced: false,
+    }],
+};
+
+#[test]
+fn what_a_full_cable_hands_back_is_lost(rt: HostRuntime) -> Result<(), Fail> {
+    runs(&rt, rt.alloc(), &FULL_ROW, Some(2), 0)?;
+    Ok(())
+}
+
+const NARROW: [(Entry, Want); 12] = [
+    (Offer(1, 1, &F48), Is(Reply::Port(1, 0, true))),
+    (Offer(1, 1, &F48), Is(Reply::Port(1, 1, false))),
+    MOVED,
+    (Emit(1, 1), Handed(0x3d)),
+    (Emit(1, 1), Is(Reply::Marker(1, false))),
+    (Deliver(1, 2), TAKEN),
+    (Tick(1, 30), TICKED),
+    (Emit(1, 1), Is(Reply::Marker(2, true))),
+    (Deliver(1, 2), Is(Reply::Responded(true))),
+    (Deliver(1, 1), Is(Reply::Released(1))),
+    (Offer(1, 1, &F48), Is(Reply::Port(2, 2, true))),
+    (Deliver(2, 2), TAKEN),
+];
+
+const NARROW_ROW: Row = Row {
+    setting: TWO,
+    first: &COMING_UP,
+    rest: &NARROW,
+    agreements: &[],
+    flows: &[Told {
+        system: 1,
+        conv: 48,
+        sent: 3,
+        collected: &[0, 2],
+        forced: false,
+    }],
+};
+
+#[test]
+fn a_full_cable_hands_back_a_marker(rt: HostRuntime) -> Result<(), Fail> {
+    runs(&rt, rt.alloc(), &NARROW_ROW, Some(1), 0)?;
+    Ok(())
+}

@@ -1,0 +1,344 @@
+use crate::worlds::Entry::{
+    Configure, Cut, Deliver, Emit, Force, Join, Move, Offer, Restart, Sense, Tick,
+};
+use crate::worlds::Want::Is;
+use crate::worlds::given::{INDIVIDUAL, ONE, cable, joined, lines, modulo, world_config};
+use crate::worlds::starts::{HELD, NONE_DISTRIBUTING, TICKED, UP};
+use crate::worlds::{Entry, F48, Row, Want, event, plays};
+use cables::{AnyCable, Cable, Item, Stamp};
+use lagsystem::{BadConfig, SystemFault};
+use lagtypes::AggId;
+use lagworld::{Agreement, BadWorld, Event, Reply, RunFault, World, WorldFault};
+use std::alloc::Global;
+use std::process::Abort;
+use std::test::Fail;
+
+/// System 1 and the system of this number with these ports, the cables between them, so many lines, and why no world is made
+/// of it.
+#[derive(Clone, Copy)]
+struct Given {
+    first: &'static [u16],
+    second: &'static [u16],
+    number: u8,
+    cables: &'static [(u16, u16)],
+    lines: usize,
+    reason: BadWorld,
+}
+
+const GIVEN: [Given; 7] = [
+    // every later reason holds too, as it does in the rows below
+    Given {
+        first: &[],
+        second: &[],
+        number: 1,
+        cables: &[(1, 9)],
+        lines: 0,
+        reason: BadWorld::System {
+            side: 1,
+            reason: BadConfig::Ports,
+        },
+    },
+    Given {
+        first: &[1],
+        second: &[2, 1],
+        number: 1,
+        cables: &[(1, 9)],
+        lines: 0,
+        reason: BadWorld::System {
+            side: 2,
+            reason: BadConfig::PortNumber(2),
+        },
+    },
+    Given {
+        first: &[1],
+        second: &[1],
+        number: 1,
+        cables: &[(1, 9)],
+        lines: 0,
+        reason: BadWorld::SameSystem,
+    },
+    Given {
+        first: &[1],
+        second: &[1],
+        number: 2,
+        cables: &[(1, 9)],
+        lines: 0,
+        reason: BadWorld::CableEnd(1),
+    },
+    Given {
+        first: &[1, 2],
+        second: &[1, 2],
+        number: 2,
+        cables: &[(1, 1), (2, 1)],
+        lines: 0,
+        reason: BadWorld::CableEnd(2),
+    },
+    Given {
+        first: &[1],
+        second: &[1],
+        number: 2,
+        cables: &[(1, 1)],
+        lines: 0,
+        reason: BadWorld::Lines,
+    },
+    Given {
+        first: &[1],
+        second: &[1],
+        number: 2,
+        cables: &[(1, 1)],
+        lines: 2,
+        reason: BadWorld::Lines,
+    },
+];
+
+/// Why no world is made of this; None if one is.
+fn refusal(alloc: Global, given: Given) -> Result<Option<WorldFault>, WorldFault> {
+    let config = joined(
+        alloc,
+        given.number,
+        given.first,
+        given.second,
+        given.cables,
+        ONE,
+    )?;
+    let lines = lines(alloc, given.lines, None)?;
+    match World::new(alloc, config, modulo, modulo, lines) {
+        Ok(_) => Ok(None),
+        Err(fault) => Ok(Some(fault)),
+    }
+}
+
+fn refuses(rt: &impl Abort, alloc: Global, place: usize) -> Result<(), WorldFault> {
+    assert!(rt; place < GIVEN.len());
+    let given = GIVEN[place];
+    let wanted = Some(WorldFault::BadConfig(given.reason));
+    assert_eq!(rt; refusal(alloc, given)?, wanted, "row {place}");
+    Ok(())
+}
+
+#[test]
+fn every_reason_to_make_no_world(rt: HostRuntime) -> Result<(), Fail> {
+    for place in 0..7 {
+        refuses(&rt, rt.alloc(), place)?;
+    }
+    Ok(())
+}
+
+/// One cable, with an item on its direction to system 1 or not.
+fn line(alloc: Global, full: bool) -> Result<Vec<(AnyCable, AnyCable)>, WorldFault> {
+    let mut to_one = cable(alloc, None)?;
+    let to_two = cable(alloc, None)?;
+    if full {
+        let bytes = Vec::new(alloc);
+        let stamp = Stamp::Control(0);
+        if to_one.push(Item { bytes, stamp }).is_err() {
+            return Err(WorldFault::NoMemory);
+        }
+    }
+    let mut lines = Vec::new(alloc);
+    if lines.push((to_one, to_two)).is_err() {
+        return Err(WorldFault::NoMemory);
+    }
+    Ok(lines)
+}
+
+/// Why no world is made with this line.
+fn line_refusal(alloc: Global, full: bool) -> Result<Option<WorldFault>, WorldFault> {
+    let config = world_config(alloc, ONE)?;
+    let lines = line(alloc, full)?;
+    match World::new(alloc, config, modulo, modulo, lines) {
+        Ok(_) => Ok(None),
+        Err(fault) => Ok(Some(fault)),
+    }
+}
+
+fn line_refused(rt: &impl Abort, alloc: Global) -> Result<(), WorldFault> {
+    let wanted = WorldFault::BadConfig(BadWorld::Lines);
+    assert_eq!(rt; line_refusal(alloc, false)?, None, "an empty line");
+    assert_eq!(rt;
+        line_refusal(alloc, true)?,
+        Some(wanted),
+        "a line with an item"
+    );
+    Ok(())
+}
+
+#[test]
+fn a_line_with_an_item_is_refused(rt: HostRuntime) -> Result<(), Fail> {
+    line_refused(&rt, rt.alloc())?;
+    Ok(())
+}
+
+const NOT_THERE: [(Entry, WorldFault); 6] = [
+    (Cut(0), WorldFault::NoCable),
+    (Join(2), WorldFault::NoCable),
+    (Deliver(2, 3), WorldFault::NoCable),
+    (Tick(0, 1), WorldFault::NoSystem),
+    (Restart(3), WorldFault::NoSystem),
+    (Sense(1, 0), WorldFault::NoSystem),
+];
+
+fn stopped(rt: &impl Abort, entry: Entry, came: Result<Reply, WorldFault>, fault: WorldFault) {
+    assert_eq!(rt; came, Err(fault), "{entry:?}");
+}
+
+/// Hands each to `step` of one world.
+fn not_there(rt: &impl Abort, alloc: Global) -> Result<(), WorldFault> {
+    let config = world_config(alloc, ONE)?;
+    let lines = lines(alloc, 1, None)?;
+    let mut world = World::new(alloc, config, modulo, modulo, lines)?;
+    for (entry, fault) in &NOT_THERE {
+        let came = world.step(&event(alloc, *entry)?);
+        stopped(rt, *entry, came, *fault);
+    }
+    Ok(())
+}
+
+#[test]
+fn events_of_what_does_not_exist(rt: HostRuntime) -> Result<(), Fail> {
+    not_there(&rt, rt.alloc())?;
+    Ok(())
+}
+
+fn stops(rt: &impl Abort, alloc: Global) -> Result<(), WorldFault> {
+    let config = world_config(alloc, ONE)?;
+    let lines = lines(alloc, 1, None)?;
+    let mut world = World::new(alloc, config, modulo, modulo, lines)?;
+    let events = [
+        Event::Tick(1, 0),
+        Event::Cut(1),
+        Event::Cut(2),
+        Event::Join(1),
+    ];
+    let stop = RunFault {
+        done: 2,
+        fault: WorldFault::NoCable,
+    };
+    assert_eq!(rt; world.run(&events).err(), Some(stop));
+    assert_eq!(rt; world.step(&Event::Sense(1, 1)), Ok(Reply::Sensed(false)));
+    Ok(())
+}
+
+#[test]
+fn a_run_stops_at_the_first_refusal(rt: HostRuntime) -> Result<(), Fail> {
+    stops(&rt, rt.alloc())?;
+    Ok(())
+}
+
+/// The first 13 octets of `F48`.
+const SHORT: [u8; 13] = [2, 0, 0, 0, 0, 0x20, 2, 0, 0, 0, 0, 0x10, 8];
+
+const SLOW: [u8; 14] = [1, 0x80, 0xc2, 0, 0, 2, 2, 0, 0, 0, 0, 1, 0x88, 9];
+
+/// What a system refuses before a port distributes.
+const EARLY: [(Entry, Want); 10] = [
+    (Sense(1, 1), UP),
+    (Sense(2, 1), UP),
+    (Emit(1, 9), Is(Reply::Refused(SystemFault::NoPort))),
+    (
+        Configure(1, 9, 1, true),
+        Is(Reply::Refused(SystemFault::NoPort)),
+    ),
+    (Configure(1, 1, 1, false), Is(Reply::Configured(false))),
+    (
+        Offer(1, 2, &F48),
+        Is(Reply::Refused(SystemFault::NoAggregator)),
+    ),
+    (
+        Offer(1, 1, &SHORT),
+        Is(Reply::Refused(SystemFault::FrameLength)),
+    ),
+    (
+        Offer(1, 1, &SLOW),
+        Is(Reply::Refused(SystemFault::SlowFrame)),
+    ),
+    (Offer(1, 1, &F48), NONE_DISTRIBUTING),
+    (
+        Force(1, 1, 48),
+        Is(Reply::Refused(SystemFault::NotAssigned)),
+    ),
+];
+
+const LATE: [(Entry, Want); 6] = [
+    (Tick(1, 50), TICKED),
+    (Offer(1, 1, &F48), Is(Reply::Port(1, 0, true))),
+    (Move(1, 1, 48, 1), Is(Reply::Refused(SystemFault::SamePort))),
+    (
+        Move(1, 1, 48, 2),
+        Is(Reply::Refused(SystemFault::NotDistributing)),
+    ),
+    (Configure(1, 1, 2, false), Is(Reply::Configured(true))),
+    (Offer(1, 1, &F48), HELD),
+];
+
+const REFUSED_ROW: Row = Row {
+    setting: INDIVIDUAL,
+    first: &EARLY,
+    rest: &LATE,
+    agreements: &[(1, Agreement::NotBoth)],
+    flows: &[],
+};
+
+#[test]
+fn every_refusal_of_a_system_is_a_reply(rt: HostRuntime) -> Result<(), Fail> {
+    plays(&rt, rt.alloc(), &REFUSED_ROW)?;
+    Ok(())
+}
+
+/// A system, an aggregator and a conversation, of which one does not exist.
+const NO_FLOWS: [(u8, u16, u16); 5] = [(0, 1, 48), (3, 1, 48), (1, 0, 48), (1, 2, 48), (2, 1, 256)];
+
+/// Compares what the readers of a world with one cable tell of what does not exist.
+fn tells_nothing<F: Fn(u16, usize) -> usize + Drop>(rt: &impl Abort, world: &World<AnyCable, F>) {
+    for cable in [0, 2] {
+        assert_eq!(rt; world.agreement(cable), None, "agreement of cable {cable}");
+    }
+    for (system, agg, conv) in NO_FLOWS {
+        assert_eq!(rt;
+            world.sent(system, AggId(agg), conv).len(),
+            0,
+            "sent: {system} {agg} {conv}"
+        );
+        assert_eq!(rt;
+            world.collected(system, AggId(agg), conv).len(),
+            0,
+            "collected: {system} {agg} {conv}"
+        );
+        assert!(rt;
+            !world.forced(system, AggId(agg), conv),
+            "forced: {system} {agg} {conv}"
+        );
+    }
+    for (number, there) in [(0, false), (1, true), (2, true), (3, false)] {
+        assert_eq!(rt; world.system(number).is_some(), there, "system {number}");
+    }
+}
+
+fn nothing_told(rt: &impl Abort, alloc: Global) -> Result<(), WorldFault> {
+    let config = world_config(alloc, ONE)?;
+    let lines = lines(alloc, 1, None)?;
+    let world = World::new(alloc, config, modulo, modulo, lines)?;
+    tells_nothing(rt, &world);
+    Ok(())
+}
+
+#[test]
+fn readers_of_what_does_not_exist(rt: HostRuntime) -> Result<(), Fail> {
+    nothing_told(&rt, rt.alloc())?;
+    Ok(())
+}
+
+const NUMBERS: [(WorldFault, u8); 5] = [
+    (WorldFault::NoCable, 1),
+    (WorldFault::NoSystem, 2),
+    (WorldFault::Spent, 4),
+    (WorldFault::NoMemory, 5),
+    (WorldFault::BadConfig(BadWorld::Lines), 6),
+];
+
+#[test]
+fn each_fault_has_its_number(rt: HostRuntime) {
+    for (fault, number) in NUMBERS {
+        assert_eq!(rt; fault.number(), number, "{fault:?}");
+    }
+}

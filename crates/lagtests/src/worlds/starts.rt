@@ -1,0 +1,77 @@
+use crate::worlds::Entry::{Deliver, Emit, Move, Sense, Tick};
+use crate::worlds::Want::{Is, Lacpdu};
+use crate::worlds::{Entry, Want};
+use lagsystem::SystemFault;
+use lagtypes::AggId;
+use lagworld::Reply;
+
+pub(crate) const TICKED: Want = Is(Reply::Ticked);
+
+pub(crate) const UP: Want = Is(Reply::Sensed(true));
+
+pub(crate) const DOWN: Want = Is(Reply::Sensed(false));
+
+/// An LACPDU was received.
+pub(crate) const TOOK: Want = Is(Reply::Took);
+
+/// A frame was handed up.
+pub(crate) const TAKEN: Want = Is(Reply::Up(AggId(1)));
+
+pub(crate) const HELD: Want = Is(Reply::Refused(SystemFault::Held));
+
+pub(crate) const NONE_DISTRIBUTING: Want = Is(Reply::Refused(SystemFault::NoneDistributing));
+
+/// Conversation 48 of system 1 is moved to port 2.
+pub(crate) const MOVED: (Entry, Want) = (Move(1, 1, 48, 2), Is(Reply::Moved));
+
+/// Both cables come up between ports with long timeouts: after it all four ports distribute.
+pub(crate) const COMING_UP: [(Entry, Want); 24] = [
+    (Sense(1, 1), UP),
+    (Sense(1, 2), UP),
+    (Sense(2, 1), UP),
+    (Sense(2, 2), UP),
+    (Tick(1, 10), TICKED),
+    (Tick(2, 10), TICKED),
+    (Emit(1, 1), Lacpdu(0xc5)),
+    (Emit(1, 2), Lacpdu(0xc5)),
+    (Deliver(1, 2), TOOK),
+    (Deliver(2, 2), TOOK),
+    (Emit(2, 1), Lacpdu(0x05)),
+    (Emit(2, 2), Lacpdu(0x05)),
+    (Deliver(1, 1), TOOK),
+    (Deliver(2, 1), TOOK),
+    (Tick(1, 20), TICKED),
+    (Tick(2, 20), TICKED),
+    (Emit(1, 1), Lacpdu(0x0d)),
+    (Emit(1, 2), Lacpdu(0x0d)),
+    (Deliver(1, 2), TOOK),
+    (Deliver(2, 2), TOOK),
+    (Emit(2, 1), Lacpdu(0x3d)),
+    (Emit(2, 2), Lacpdu(0x3d)),
+    (Deliver(1, 1), TOOK),
+    (Deliver(2, 1), TOOK),
+];
+
+/// One cable comes up between ports with short timeouts.
+pub(crate) const ONE_CABLE: [(Entry, Want); 20] = [
+    (Sense(1, 1), UP),
+    (Sense(1, 2), UP),
+    (Tick(1, 10), TICKED),
+    (Tick(2, 10), TICKED),
+    (Emit(1, 1), Lacpdu(0xc7)),
+    (Deliver(1, 2), TOOK),
+    (Emit(2, 1), Lacpdu(0x07)),
+    (Deliver(1, 1), TOOK),
+    (Tick(1, 10), TICKED),
+    (Tick(2, 10), TICKED),
+    (Emit(1, 1), Lacpdu(0x07)),
+    (Deliver(1, 2), TOOK),
+    (Tick(1, 10), TICKED),
+    (Tick(2, 10), TICKED),
+    (Emit(1, 1), Lacpdu(0x0f)),
+    (Deliver(1, 2), TOOK),
+    (Emit(2, 1), Lacpdu(0x3f)),
+    (Deliver(1, 1), TOOK),
+    (Emit(1, 1), Lacpdu(0x3f)),
+    (Deliver(1, 2), TOOK),
+];
