@@ -6,12 +6,8 @@ mod entries;
 mod event;
 mod fault;
 mod lists;
-#[cfg(test)]
-mod reading_tests;
 mod script;
 mod tables;
-#[cfg(test)]
-mod tests;
 mod values;
 mod words;
 

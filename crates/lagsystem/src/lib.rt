@@ -16,8 +16,6 @@ mod ports;
 mod readers;
 mod settling;
 mod slots;
-#[cfg(test)]
-mod tests;
 
 pub use answers::Received;
 pub use arrayvec::ArrayVec;

@@ -1,4 +1,6 @@
-use crate::script::read_script;
+mod reading;
+
+use lagscript::read_script;
 use std::alloc::{AllocError, Global};
 use std::test::Fail;
 

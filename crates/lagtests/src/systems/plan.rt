@@ -1,5 +1,5 @@
-use crate::tests::{DATA, Row, lacpdu, mac, marker};
-use crate::{AggId, Call, Key, NoMemory, PortChange, Received, Reply, SystemFault};
+use crate::systems::{DATA, Row, lacpdu, mac, marker};
+use lagsystem::{AggId, Call, Key, NoMemory, PortChange, Received, Reply, SystemFault};
 use slowpdu::{MarkerKind, frame};
 use std::alloc::Global;
 

@@ -1,7 +1,7 @@
-use crate::tests::conversations::{coming_up, leaving};
-use crate::tests::plan::plan_of_all;
-use crate::tests::{DATA, Row, Seen, config, end, joined, look, marker, modulo};
-use crate::{AggId, Received, System, SystemFault};
+use crate::systems::conversations::{coming_up, leaving};
+use crate::systems::plan::plan_of_all;
+use crate::systems::{DATA, Row, Seen, config, end, joined, look, marker, modulo};
+use lagsystem::{AggId, Received, System, SystemFault};
 use slowpdu::MarkerKind;
 use std::alloc::Global;
 use std::test::Fail;

@@ -8,8 +8,8 @@ mod plan;
 
 ghost use Rattle.std.specs.Prelude.{◌<◌};
 
-use crate::tests::plan::plan_of;
-use crate::{
+use crate::systems::plan::plan_of;
+use lagsystem::{
     AggId, Assignment, Choice, Config, Group, Info, Key, MuxState, NoMemory, Party, PortConfig,
     PortId, ReceiveState, Received, Reply, State, System, SystemFault, SystemId,
 };

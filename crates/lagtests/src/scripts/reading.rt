@@ -1,5 +1,5 @@
-use crate::script::read_script;
-use crate::tests::{ENTRY_1, Frame, MAC, SYSTEM_1, first_other, outcome};
+use lagscript::read_script;
+use crate::scripts::{ENTRY_1, Frame, MAC, SYSTEM_1, first_other, outcome};
 use std::alloc::{AllocError, Global};
 use std::test::Fail;
 

@@ -1,5 +1,5 @@
-use crate::tests::{DATA, Row, config, end, joined, marker, plays};
-use crate::{Assignment, Received, SystemFault};
+use crate::systems::{DATA, Row, config, end, joined, marker, plays};
+use lagsystem::{Assignment, Received, SystemFault};
 use slowpdu::{Marker, MarkerKind};
 use std::test::Fail;
 

@@ -1,5 +1,5 @@
-use crate::tests::{DATA, config, modulo};
-use crate::{System, SystemFault};
+use crate::systems::{DATA, config, modulo};
+use lagsystem::{System, SystemFault};
 use lagtypes::AggId;
 use std::test::Fail;
 

@@ -1,5 +1,5 @@
-use crate::tests::{Row, config, end, lacpdu, mac, modulo, plays, zero};
-use crate::{BadConfig, Choice, Key, PortChange, PortConfig, Received, State, System, SystemFault};
+use crate::systems::{Row, config, end, lacpdu, mac, modulo, plays, zero};
+use lagsystem::{BadConfig, Choice, Key, PortChange, PortConfig, Received, State, System, SystemFault};
 use bitflags::Flags;
 use slowpdu::{Lacpdu, frame};
 use std::test::Fail;

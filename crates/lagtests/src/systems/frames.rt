@@ -1,5 +1,5 @@
-use crate::tests::{DATA, NOTHING, Row, Seen, config, end, lacpdu, mac, plays, unheard, zero};
-use crate::{AggId, Choice, Group, MuxState, ReceiveState, Received, State, WireFault};
+use crate::systems::{DATA, NOTHING, Row, Seen, config, end, lacpdu, mac, plays, unheard, zero};
+use lagsystem::{AggId, Choice, Group, MuxState, ReceiveState, Received, State, WireFault};
 use bitflags::Flags;
 use slowpdu::frame;
 use std::test::Fail;
