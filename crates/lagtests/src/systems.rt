@@ -9,11 +9,11 @@ mod plan;
 ghost use Rattle.std.specs.Prelude.{◌<◌};
 
 use crate::systems::plan::plan_of;
+use bitflags::Flags;
 use lagsystem::{
     AggId, Assignment, Choice, Config, Group, Info, Key, MuxState, NoMemory, Party, PortConfig,
     PortId, ReceiveState, Received, Reply, State, System, SystemFault, SystemId,
 };
-use bitflags::Flags;
 use slowpdu::{Lacpdu, Marker, MarkerKind};
 use std::alloc::Global;
 use std::process::Abort;

@@ -487,8 +487,7 @@ fn values_of_the_window()
     ensures beyond { within_eleven 0 (0 ∷ 0 ∷ 0 ∷ 11 ∷ []) ≡ 3 }
     ensures earlier { within_eleven 2 (1 ∷ 2 ∷ 12 ∷ 13 ∷ []) ≡ 2 }
     ensures kept { KeepsWindow (0 ∷ 0 ∷ 0 ∷ 10 ∷ []) → ⊥ }
-{
-}
+{}
 
 #[test]
 fn eleven_ticks_are_counted(_rt: HostRuntime) {

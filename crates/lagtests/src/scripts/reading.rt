@@ -1,5 +1,5 @@
-use lagscript::read_script;
 use crate::scripts::{ENTRY_1, Frame, MAC, SYSTEM_1, first_other, outcome};
+use lagscript::read_script;
 use std::alloc::{AllocError, Global};
 use std::test::Fail;
 

@@ -1,6 +1,8 @@
 use crate::systems::{Row, config, end, lacpdu, mac, modulo, plays, zero};
-use lagsystem::{BadConfig, Choice, Key, PortChange, PortConfig, Received, State, System, SystemFault};
 use bitflags::Flags;
+use lagsystem::{
+    BadConfig, Choice, Key, PortChange, PortConfig, Received, State, System, SystemFault,
+};
 use slowpdu::{Lacpdu, frame};
 use std::test::Fail;
 

@@ -1,6 +1,6 @@
 use crate::systems::{DATA, NOTHING, Row, Seen, config, end, lacpdu, mac, plays, unheard, zero};
-use lagsystem::{AggId, Choice, Group, MuxState, ReceiveState, Received, State, WireFault};
 use bitflags::Flags;
+use lagsystem::{AggId, Choice, Group, MuxState, ReceiveState, Received, State, WireFault};
 use slowpdu::frame;
 use std::test::Fail;
 

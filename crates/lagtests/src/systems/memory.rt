@@ -1,6 +1,6 @@
-use lagsystem::SystemFault;
 use crate::systems::Row;
 use crate::systems::driven::drives;
+use lagsystem::SystemFault;
 
 /// Two ports come up, and time passes.
 const ROWS: [Row<'static>; 3] = [Row::Link(1, true), Row::Link(2, true), Row::Ticks(1)];
