@@ -26,8 +26,8 @@ pub enum BadWorld {
     SameSystem,
     /// The cable at this place, from 1, has an end that is no port of its system, or that has a cable already.
     CableEnd(usize),
-    /// There are not as many lines as cables, or a line is not empty. A line is one direction of a cable; `World::new` alone
-    /// gives this reason.
+    /// There are not as many lines as cables, or a line is not empty. A line is the two directions of a cable; `World::new`
+    /// alone gives this reason.
     Lines,
 }
 

@@ -1,5 +1,5 @@
-//! Tests of crates that stand on others: each drives the public calls of a crate below, and compares what they answer with
-//! values of the standard and the profile. They stand here, so that no crate is proved once more with its tests.
+//! Tests of `lagsystem`, `lagscript` and `lagworld`: each drives their public calls, and compares what they answer with values of
+//! the standard and the profile. They stand here, so that these three are not proved once more with their tests.
 #![tactic(auto)]
 
 #[cfg(test)]

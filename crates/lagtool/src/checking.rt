@@ -38,12 +38,13 @@ fn check_all<R: Read, W: Write>(
 }
 
 /// Reads frames in hexadecimal, one a line, and writes for each line its number and what frame it
-/// is, and at the end the counts of lines and faults (profile). The lines that a read ends are
-/// written before the next read.
+/// is, and at the end the counts of lines and faults (profile). A read asks for 4,096 octets; what is
+/// said of the lines that it ends is written before the next read.
 ///
-/// `Read` comes if the source failed in this call, `Write` if the sink did, and then the other did
-/// not; `NoMemory` if memory ran out, and neither failed. A beginning of the report of what was read
-/// is written then.
+/// Neither stream has failed before. `Read` comes if the source failed in this call, `Write` if the
+/// sink did, and then the other did not; `NoMemory` if memory ran out, and neither failed. A
+/// beginning of the report of what was read is written then; after `NoMemory` it has nothing of the
+/// last read.
 pub fn check<R: Read, W: Write>(
     alloc: Global,
     source: &mut Source<R>,

@@ -1,6 +1,6 @@
 //! `lagtool`: reads and answers PDUs of the slow protocols.
 //!
-//! Status 0: accepted; 1: a refusal or no answer; 2: the line could not be done, and standard
+//! Status 0: accepted; 1: a refusal, no answer, or a line that is a fault; 2: the line could not be done, and standard
 //! error says why.
 #![tactic(auto)]
 

@@ -20,6 +20,7 @@ pub struct Scan {
     faults: u64,
     /// Of a line that is too long, 65,537 octets.
     line: Vec<u8>,
+    /// Whole lines of the report.
     report: String,
 }
 
@@ -47,7 +48,7 @@ impl Scan {
         }
     }
 
-    /// Ends the line: says what it is, and counts it.
+    /// Ends the line: says what it is, and counts it. `AllocError` where memory is refused.
     fn end_line(&mut self, alloc: Global) -> Result<(), AllocError>
         requires { self.old.lines + 1 < 2 ^ 64 }
         ensures said { OnOk result (self.new.said ≡ self.old.said ++ numbered (self.old.lines + 1) self.old.line) }
@@ -66,7 +67,8 @@ impl Scan {
         Ok(())
     }
 
-    /// Keeps more octets of the line. Of one that is too long no more is kept.
+    /// Keeps more octets of the line, without a newline. Of a line that is too long no more is kept. `AllocError` where memory
+    /// is refused.
     fn keep(&mut self, octets: &[u8]) -> Result<(), AllocError>
         requires { Nowhere (Passes (is_byte 10) octets.now) 0 (length octets.now) }
         ensures reads { OnOk result (Reads self.old self.new octets.now) }
@@ -77,7 +79,8 @@ impl Scan {
         self.line.extend_from_slice(&octets[..kept])
     }
 
-    /// Reads a piece of the stream.
+    /// Reads a piece of the stream: ends a line at each newline, and keeps what is behind the last. `AllocError` where memory
+    /// is refused.
     pub fn feed(&mut self, alloc: Global, piece: &[u8]) -> Result<(), AllocError>
         requires { self.old.lines + length piece.now < 2 ^ 64 }
         ensures reads { OnOk result (Reads self.old self.new piece.now) }
@@ -92,7 +95,7 @@ impl Scan {
         self.keep(rest)
     }
 
-    /// Says the counts.
+    /// Says the counts. `AllocError` where memory is refused.
     fn end_report(&mut self) -> Result<Summary, AllocError>
         ensures said { OnOk result (self.new.said ≡ self.old.said ++ counts_text (record { checked = self.old.lines; faults = self.old.faults })) }
         ensures counts { IfOk result (λ s. s ≡ record { checked = self.old.lines; faults = self.old.faults }) }
@@ -102,7 +105,7 @@ impl Scan {
         Ok(Summary { checked, faults })
     }
 
-    /// Ends the stream: octets behind the last newline are a line too.
+    /// Ends the stream: octets behind the last newline are a line too. `AllocError` where memory is refused.
     pub fn finish(&mut self, alloc: Global) -> Result<Summary, AllocError>
         requires { self.old.lines + 1 < 2 ^ 64 }
         ensures said { OnOk result (self.new.said ≡ unwritten self.old []) }
@@ -114,7 +117,7 @@ impl Scan {
         self.end_report()
     }
 
-    /// Writes what is said, in one call of the sink.
+    /// Writes what is said, in one call of the sink. `WriteFailed` where the sink failed.
     pub fn write<W: Write>(&mut self, sink: &mut Sink<W>) -> Result<(), WriteFailed>
         ensures ok { OnOk result (Takes W.contents sink.old sink.new (self.old.said)) }
         ensures err { OnErr result (Breaks W.contents sink.old sink.new (self.old.said)) }

@@ -13,6 +13,7 @@ const MOST: u64 = u64::MAX - 1;
 pub struct Source<R: Read> {
     inner: R,
     failed: bool,
+    /// How many octets it may still give.
     left: u64,
 }
 
@@ -59,7 +60,8 @@ impl<R: Read> Source<R> {
         let _left = self.left;
     }
 
-    /// Reads a piece; nothing is left to read where it is empty.
+    /// Reads to the front of `piece`, which has room for at least one octet, and answers how many octets came: 0 only at the
+    /// end. `ReadFailed` comes if the reader failed, or gave more than the source may still give.
     pub(crate) fn read(&mut self, piece: &mut [u8]) -> Result<usize, ReadFailed>
         requires { 0 < length piece.old }
         ensures bound { IfOk result (λ n. n ≤ length piece.new) }
