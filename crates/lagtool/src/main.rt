@@ -5,9 +5,13 @@
 #![tactic(auto)]
 
 mod checking;
+mod entry_text;
 mod fault;
+mod replay;
 mod reply;
+mod reply_text;
 mod report;
+mod rows;
 mod scan;
 mod show;
 mod sink;
@@ -16,11 +20,14 @@ mod summary;
 #[cfg(test)]
 mod tests;
 mod texts;
+mod vectors;
 mod verdict;
 
 use checking::check;
+use distributor::by_number;
 use fault::{FaultText, ToolFault};
 use lagline::{Job, LineFault, read_line};
+use replay::replay;
 use reply::reply;
 use show::show;
 use sink::Sink;
@@ -29,7 +36,8 @@ use std::fmt::Display;
 use std::fs::{File, Files};
 use std::io::Input;
 use std::process::ExitCode;
-use std::{env, io};
+use std::{env, fs, io};
+use vectors::vectors;
 
 /// The status of a line that could not be done: why not, on standard error.
 fn refused<D: Display + Drop>(rt: &impl Eprint, why: D) -> ExitCode {
@@ -78,6 +86,38 @@ fn check_file<R: Print + Files + Input + AllocGlobal>(
     Ok(summary.faults == 0)
 }
 
+/// The text of a file, or of standard input as `-`.
+fn text_of<R: Files + Input + AllocGlobal>(rt: &R, file: &str) -> Result<String, ToolFault> {
+    let read = if file == "-" {
+        io::read_to_string(rt.alloc(), rt.reader())
+    } else {
+        fs::read_to_string(rt, file)
+    };
+    match read {
+        Ok(text) => Ok(text),
+        Err(error) if error.kind() == io::ErrorKind::OutOfMemory => Err(ToolFault::NoMemory),
+        Err(_) => Err(ToolFault::Read),
+    }
+}
+
+/// Replays the script in a file, or in standard input as `-`; true if it could be.
+fn replay_file<R: Print + Files + Input + AllocGlobal>(
+    rt: &R,
+    file: &str,
+) -> Result<bool, ToolFault> {
+    let text = text_of(rt, file)?;
+    let mut sink = Sink::new(io::writer(rt));
+    replay(rt.alloc(), text.as_str(), by_number, by_number, &mut sink)?;
+    Ok(true)
+}
+
+/// Runs the vectors; true if none failed.
+fn run_vectors<R: Print + AllocGlobal>(rt: &R) -> Result<bool, ToolFault> {
+    let mut sink = Sink::new(io::writer(rt));
+    let summary = vectors(rt.alloc(), &mut sink)?;
+    Ok(summary.faults == 0)
+}
+
 /// The status of a command line.
 fn status<R: Print + Eprint + Files + Input + AllocGlobal>(rt: &R, words: &[String]) -> ExitCode {
     let alloc = rt.alloc();
@@ -91,8 +131,8 @@ fn status<R: Print + Eprint + Files + Input + AllocGlobal>(rt: &R, words: &[Stri
             ended(rt, "", reply(alloc, mac, hex, &mut sink))
         }
         Ok(Job::Check { file }) => ended(rt, file, check_file(rt, file)),
-        Ok(Job::Replay { .. }) => refused(rt, "replay is not built yet"),
-        Ok(Job::Vectors) => refused(rt, "vectors is not built yet"),
+        Ok(Job::Replay { script }) => ended(rt, script, replay_file(rt, script)),
+        Ok(Job::Vectors) => ended(rt, "", run_vectors(rt)),
         Err(fault) => explained(rt, fault),
     }
 }
