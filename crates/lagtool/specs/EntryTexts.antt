@@ -1,6 +1,5 @@
 -- What a replay prints of an entry, of its reply and of an agreement (profile).
-use Rattle.std.specs.Prelude.{ℕ, ◌++◌, Bool, true, false, List, [], ◌∷◌, codes, decimal, if◌then◌else◌}
-use Rattle.hex.specs.Hex.{encode_lower}
+use Rattle.std.specs.Prelude.{ℕ, ◌++◌, Bool, true, false, List, [], ◌∷◌, codes, decimal, flat_map, if◌then◌else◌}
 use Rattle.lagtypes.specs.Octet.{octet}
 use Rattle.lagtypes.specs.Texts.{hex_text}
 use Rattle.lagsystem.specs.declared.config.PortChange.{PortChange}
@@ -32,6 +31,10 @@ kind_text aggregatable = if aggregatable then codes "aggregatable" else codes "i
 abbrev pub change_text : PortChange → List ℕ
 change_text c = two_text c.key.0 c.priority ++ 32 ∷ kind_text c.aggregatable
 
+-- each octet as two digits
+abbrev pub frame_text : List ℕ → List ℕ
+frame_text octets = flat_map hex_text octets
+
 -- the entry of an event: numbers without leading zeros, octets in lower case
 abbrev pub act_text : Act → List ℕ
 act_text (tick s n) = codes "tick " ++ two_text s n
@@ -44,7 +47,7 @@ act_text (join c) = codes "join " ++ one_text c
 act_text (sense c s) = codes "sense " ++ two_text c s
 act_text (restart s) = codes "restart " ++ one_text s
 act_text (configure s port change) = codes "configure " ++ (two_text s port ++ 32 ∷ change_text change)
-act_text (offer s agg frame) = codes "offer " ++ (two_text s agg ++ 32 ∷ encode_lower frame)
+act_text (offer s agg frame) = codes "offer " ++ (two_text s agg ++ 32 ∷ frame_text frame)
 act_text (move_to s agg conv port) = codes "move " ++ four_text s agg conv port
 act_text (force s agg conv) = codes "force " ++ three_text s agg conv
 

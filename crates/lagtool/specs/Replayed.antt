@@ -1,5 +1,5 @@
 -- The report of a replay: what its entries are answered, and what the world tells in the end (profile).
-use Rattle.std.specs.Prelude.{◌≡◌, ⊤, ⊥, ℕ, ◌+◌, ◌++◌, ◌==◌, Bool, true, List, [], ◌∷◌, flat_map, length, map, if◌then◌else◌, codes, decimal, Option, Some, None, Result, Ok, Err}
+use Rattle.std.specs.Prelude.{◌≡◌, ⊤, ℕ, ◌+◌, ◌++◌, ◌==◌, Bool, true, List, [], ◌∷◌, flat_map, length, map, if◌then◌else◌, codes, decimal, Option, Some, None, Result, Ok, Err}
 use Rattle.std.specs.List.{range_with_len}
 use Rattle.lagsystem.specs.declared.config.Config.{Config}
 use Rattle.lagscript.specs.Acts.{act_of}
@@ -35,9 +35,13 @@ abbrev pub agreement_line : ℕ → Option Agreement → List ℕ
 agreement_line c None = []
 agreement_line c (Some a) = codes "cable " ++ (decimal c ++ (codes " agreement " ++ (agreement_text a ++ 10 ∷ [])))
 
--- a line for each of so many cables
-abbrev pub agreements_text : Joint → ℕ → List ℕ
-agreements_text j cables = flat_map (λ c. agreement_line c (agreement_at j c)) (range_with_len 1 cables)
+-- how many numbers a cable may have, from 1 on
+unfoldable pub cable_numbers : ℕ
+cable_numbers = 65535
+
+-- a line for each cable that there is
+abbrev pub agreements_text : Joint → List ℕ
+agreements_text j = flat_map (λ c. agreement_line c (agreement_at j c)) (range_with_len 1 cable_numbers)
 
 -- the serials, each behind a space
 abbrev pub collected_text : List ℕ → List ℕ
@@ -66,10 +70,9 @@ abbrev pub both_flows_text : Joint → List Config → List ℕ
 both_flows_text j (a ∷ b ∷ []) = flows_text j 1 (length a.aggregators.items) ++ flows_text j 2 (length b.aggregators.items)
 both_flows_text j _ = []
 
--- the report of these events with these replies, after which the world is so
-abbrev pub report_text : WorldConfig → List Event → List Reply → Joint → List ℕ
-report_text config events replies j =
-    entries_text 1 events replies ++ (agreements_text j (length config.cables.items) ++ both_flows_text j config.systems)
+-- the report of these events with these replies, after which the world of these systems is so
+abbrev pub report_text : List Config → List Event → List Reply → Joint → List ℕ
+report_text systems events replies j = entries_text 1 events replies ++ (agreements_text j ++ both_flows_text j systems)
 
 -- a cable before any event: whole, empty and without a limit
 abbrev pub first_cable : ℕ × ℕ → Line
@@ -90,7 +93,7 @@ pub record IsReport (gives : Gives) (config : WorldConfig) (events : List Event)
   pub replies : List Reply
   pub to : Joint
   pub played : IsPlayed gives config events replies to
-  pub says : report ≡ report_text config events replies to
+  pub says : report ≡ report_text config.systems events replies to
 
 -- the report of the script that a text is
 pub record IsReplayed (gives : Gives) (text report : List ℕ) : Type 0 where

@@ -1,5 +1,5 @@
 -- What `vectors` prints (profile).
-use Rattle.std.specs.Prelude.{◌≡◌, ⊤, ⊥, ℕ, ◌+◌, ◌++◌, Bool, List, [], ◌∷◌, Option, Result, Ok, Err, codes, decimal, length, if◌then◌else◌}
+use Rattle.std.specs.Prelude.{◌≡◌, ⊤, ℕ, ◌+◌, ◌++◌, Bool, List, [], ◌∷◌, Option, Result, Ok, Err, codes, count_by, decimal, length, not, if◌then◌else◌}
 use Rattle.lagtool.specs.Sinks.{Breaks, SinkState, Takes}
 use Rattle.lagtool.specs.declared.fault.ToolFault.{ToolFault}
 use Rattle.lagtool.specs.declared.fault.ToolFault.TheVariants.{Read, Write, NoMemory, Script, NotHex, NotMac}
@@ -7,8 +7,7 @@ use Rattle.lagtool.specs.declared.summary.Summary.{Summary}
 
 -- how many of these failed
 abbrev pub failures : List Bool → ℕ
-failures [] = 0
-failures (pass ∷ passed) = if pass then failures passed else failures passed + 1
+failures passed = count_by (λ pass. not pass) passed
 
 -- VN ok, or VN failed
 abbrev pub vector_line : ℕ → Bool → List ℕ

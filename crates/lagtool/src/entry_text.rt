@@ -1,7 +1,6 @@
 ghost use Rattle.std.specs.Prelude.{Some};
-ghost use Rattle.hex.specs.Hex.{encode_lower};
 ghost use Rattle.lagscript.specs.Acts.{act_of};
-ghost use Rattle.lagtool.specs.EntryTexts.{act_text, change_text};
+ghost use Rattle.lagtool.specs.EntryTexts.{act_text, change_text, frame_text};
 ghost use Rattle.lagtypes.specs.Texts.{hex_text};
 
 use lagsystem::PortChange;
@@ -26,7 +25,7 @@ impl fmt::Display for OctetText {
 struct FrameText<'a>(&'a [u8]);
 
 impl fmt::Display for FrameText<'_> {
-    ghost output = { λ t. Some (encode_lower t.0.now) };
+    ghost output = { λ t. Some (frame_text t.0.now) };
 
     fn fmt<W: fmt::Write>(&self, f: &mut fmt::Formatter<W>) -> fmt::Result {
         for octet in self.0 {

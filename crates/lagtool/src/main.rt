@@ -4,9 +4,11 @@
 //! error says why.
 #![tactic(auto)]
 
+mod algorithm;
 mod checking;
 mod entry_text;
 mod fault;
+mod laws;
 mod replay;
 mod reply;
 mod reply_text;
@@ -23,8 +25,8 @@ mod texts;
 mod vectors;
 mod verdict;
 
+use algorithm::by_number;
 use checking::check;
-use distributor::by_number;
 use fault::{FaultText, ToolFault};
 use lagline::{Job, LineFault, read_line};
 use replay::replay;

@@ -1,13 +1,14 @@
-ghost use Rattle.std.specs.Prelude.{◌≡◌, ◌≤◌, ◌++◌, None, OnOk, IfOk, IfErr, false, length, string_bytes};
+ghost use Rattle.std.specs.Prelude.{◌≡◌, ◌≤◌, ◌++◌, None, Some, OnOk, IfOk, IfErr, false, length, string_bytes};
 ghost use Rattle.cables.specs.AnyCable.{any_items, any_limit};
 ghost use Rattle.distributor.specs.Calls.{PicksPlaces};
 ghost use Rattle.lagscript.specs.Configs.{refusal_of};
+ghost use Rattle.lagsystem.specs.First.{refusal_of as refusal_of_one};
 ghost use Rattle.lagworld.specs.Events.{side_of};
-ghost use Rattle.lagworld.specs.Making.{conversations};
+ghost use Rattle.lagworld.specs.Making.{conversations, first_line};
 ghost use Rattle.lagworld.specs.Readers.{serials_of_system};
 ghost use Rattle.lagworld.specs.Sound.{gives_by};
-ghost use Rattle.lagtool.specs.Replayed.{IsReport, Replays, agreements_text, collected_text, entries_text, entry_line, flow_line, flows_text, row_text};
-ghost use Rattle.lagtool.specs.Reporting.{AreFirstLines, Measures, reported};
+ghost use Rattle.lagtool.specs.Replayed.{IsReport, Replays, agreement_line, agreements_text, collected_text, entries_text, entry_line, first_cable, flow_line, flows_text, row_text};
+ghost use Rattle.lagtool.specs.Reporting.{AreFirstLines, Counts, reported};
 ghost use Rattle.lagtool.specs.declared.fault.ToolFault.TheVariants.{NoMemory};
 
 use crate::entry_text::EntryText;
@@ -15,8 +16,9 @@ use crate::fault::ToolFault;
 use crate::reply_text::{AgreementText, ReplyText};
 use crate::sink::Sink;
 use cables::{AnyCable, ListCable};
+use lagsystem::Config;
 use lagtypes::AggId;
-use lagworld::{Event, Reply, World, WorldConfig, read_script};
+use lagworld::{Agreement, Event, Reply, World, WorldConfig, read_script};
 use std::alloc::{AllocError, Global};
 use std::io::Write;
 
@@ -55,21 +57,29 @@ fn push_entries(text: &mut String, events: &[Event], replies: &[Reply]) -> Resul
     Ok(())
 }
 
-/// A line a cable.
+/// The line of a cable.
+fn push_agreement(text: &mut String, cable: u16, agreement: Agreement) -> Result<(), AllocError>
+    ensures { OnOk result (string_bytes text.new ≡ string_bytes text.old ++ agreement_line cable (Some agreement)) }
+{
+    write!(
+        text,
+        "cable {cable} agreement {}\n",
+        AgreementText(agreement)
+    )
+}
+
+/// A line a cable, from 1 on until there is none.
 fn push_agreements<F: Fn(u16, usize) -> usize + Drop>(
     text: &mut String,
     world: &World<AnyCable, F>,
-    cables: u16,
 ) -> Result<(), AllocError>
-    ensures { OnOk result (string_bytes text.new ≡ string_bytes text.old ++ agreements_text world.now.joint cables) }
+    ensures { OnOk result (string_bytes text.new ≡ string_bytes text.old ++ agreements_text world.now.joint) }
 {
-    for cable in 1..=cables {
-        if let Some(agreement) = world.agreement(cable) {
-            write!(
-                text,
-                "cable {cable} agreement {}\n",
-                AgreementText(agreement)
-            )?;
+    for place in 0..u16::MAX {
+        let cable = place + 1;
+        match world.agreement(cable) {
+            Some(agreement) => push_agreement(text, cable, agreement)?,
+            None => return Ok(()),
         }
     }
     Ok(())
@@ -134,62 +144,66 @@ fn push_flows<F: Fn(u16, usize) -> usize + Drop>(
 ) -> Result<(), AllocError>
     ensures { OnOk result (string_bytes text.new ≡ string_bytes text.old ++ flows_text world.now.joint system aggs) }
 {
-    for agg in 1..=aggs {
-        push_row(text, world, system, agg)?;
+    for place in 0..aggs {
+        push_row(text, world, system, place + 1)?;
     }
     Ok(())
 }
 
-/// The two directions of each of so many cables without a limit.
-fn lines_of(alloc: Global, count: usize) -> Result<Vec<(AnyCable, AnyCable)>, AllocError>
+/// The two directions of a cable without a limit.
+#[tactic(auto, using(crate::proofs::StartLemmas::empty_line))]
+fn first_line(alloc: Global) -> (AnyCable, AnyCable)
+    ensures { first_line any_items any_limit (0, 0) result ≡ first_cable (0, 0) }
+{
+    let to_one = ListCable::new(alloc);
+    let to_two = ListCable::new(alloc);
+    (AnyCable::List(to_one), AnyCable::List(to_two))
+}
+
+/// Those of so many cables.
+fn first_lines(alloc: Global, count: usize) -> Result<Vec<(AnyCable, AnyCable)>, AllocError>
     ensures { IfOk result (λ lines. AreFirstLines count lines.items) }
 {
     let mut lines = Vec::with_capacity(alloc, count)?;
-    for _ in 0..count {
-        let to_one = AnyCable::List(ListCable::new(alloc));
-        let to_two = AnyCable::List(ListCable::new(alloc));
-        lines.push_reserved((to_one, to_two));
+    for _made in 0..count {
+        lines.push_reserved(first_line(alloc));
     }
     Ok(lines)
 }
 
-/// How much a report is to tell of: cables, and aggregators of system 1 and of system 2.
-#[derive(Clone, Copy)]
-struct Extent {
-    cables: u16,
-    first: u16,
-    second: u16,
+/// How many aggregators a system has whose configuration is not refused.
+fn count_of(config: &Config) -> u16
+    requires { refusal_of_one config.now ≡ None }
+    ensures { result ≡ length config.now.aggregators.items }
+{
+    config.aggregators.len() as u16
 }
 
-/// How much there is of two systems and their cables.
-fn extent_of(config: &WorldConfig) -> Extent
+/// How many aggregators system 1 and system 2 have.
+fn counts_of(config: &WorldConfig) -> (u16, u16)
     requires { refusal_of config.now ≡ None }
-    ensures { Measures config.now result }
+    ensures { Counts result.0 result.1 config.now.systems }
 {
     let [first, second] = &config.systems;
-    Extent {
-        cables: config.cables.len() as u16,
-        first: first.aggregators.len() as u16,
-        second: second.aggregators.len() as u16,
-    }
+    (count_of(first), count_of(second))
 }
 
 /// The report of a run: its entries with their replies, and what the world tells in the end.
 fn report_of<F: Fn(u16, usize) -> usize + Drop>(
     alloc: Global,
     world: &World<AnyCable, F>,
-    extent: Extent,
+    counts: (u16, u16),
     events: &[Event],
     replies: &[Reply],
 ) -> Result<String, AllocError>
     requires { length replies.now ≡ length events.now }
-    ensures { IfOk result (λ text. string_bytes text ≡ reported extent events.now replies.now world.now.joint) }
+    ensures { IfOk result (λ text. string_bytes text ≡ reported counts.0 counts.1 events.now replies.now world.now.joint) }
 {
     let mut text = String::new(alloc);
     push_entries(&mut text, events, replies)?;
-    push_agreements(&mut text, world, extent.cables)?;
-    push_flows(&mut text, world, 1, extent.first)?;
-    push_flows(&mut text, world, 2, extent.second)?;
+    push_agreements(&mut text, world)?;
+    push_flows(&mut text, world, 1, counts.0)?;
+    push_flows(&mut text, world, 2, counts.1)?;
     Ok(text)
 }
 
@@ -207,8 +221,8 @@ fn played<F: Fn(u16, usize) -> usize + Drop>(
     ensures ok { IfOk result (λ report. IsReport (gives_by (F.post one) (F.post two)) config events.now (string_bytes report)) }
     ensures err { IfErr result (λ fault. fault ≡ NoMemory) }
 {
-    let extent = extent_of(&config);
-    let lines = lines_of(alloc, config.cables.len())?;
+    let counts = counts_of(&config);
+    let lines = first_lines(alloc, config.cables.len())?;
     // The configuration of a script is not refused, and its entries name what there is: only memory
     // is left to be refused.
     let Ok(mut world) = World::new(alloc, config, one, two, lines) else {
@@ -217,7 +231,7 @@ fn played<F: Fn(u16, usize) -> usize + Drop>(
     let Ok(replies) = world.run(events) else {
         return Err(ToolFault::NoMemory);
     };
-    Ok(report_of(alloc, &world, extent, events, &replies)?)
+    Ok(report_of(alloc, &world, counts, events, &replies)?)
 }
 
 /// Runs a script on two systems with these distribution algorithms, and then writes its entries

@@ -1,6 +1,7 @@
 ghost use Rattle.std.specs.Prelude.{◌≡◌, ◌++◌, false, IfOk, OnOk, length, string_bytes};
 ghost use Rattle.lagtool.specs.Vectors.{Runs, failures, vector_line, lines_from, vectors_text};
 
+use crate::algorithm::by_number;
 use crate::fault::ToolFault;
 use crate::replay::replay;
 use crate::reply::reply;
@@ -9,7 +10,6 @@ use crate::rows::Pieces;
 use crate::show::{octets_of, show};
 use crate::sink::Sink;
 use crate::summary::Summary;
-use distributor::by_number;
 use lagsystem::{Config, PortConfig, Received, System};
 use lagtypes::{Key, SystemId};
 use slowpdu::{Pdu, WireFault, decode};
