@@ -1,5 +1,5 @@
 -- A world before any event, and its report as that of a text.
-use Rattle.std.proofs.Common.{◌≡◌, ◌×◌, ◌+◌, ◌++◌, ℕ, zero, suc, List, [], ◌∷◌, length, map, get_or, drop, replicate, refl, ap, ap₂, sym, ◌∙◌, subst, arith, true, None}
+use Rattle.std.proofs.Common.{◌≡◌, ◌+◌, ◌++◌, ℕ, zero, suc, List, [], ◌∷◌, length, map, get_or, drop, replicate, refl, ap, ap₂, sym, ◌∙◌, subst, arith, true, None}
 use Rattle.std.specs.Prelude.{⊤, IsErrAnd, Option, Result, Ok, Err}
 use Rattle.std.proofs.lemmas.List.{map-append, replicate_more}
 use Rattle.cables.specs.AnyCable.{any_items, any_limit}
@@ -21,7 +21,7 @@ use Rattle.lagtool.specs.Sinks.{Breaks, SinkState}
 use Rattle.lagtool.specs.declared.fault.ToolFault.{ToolFault}
 use Rattle.lagtool.specs.declared.fault.ToolFault.TheVariants.{Write}
 
-with_ends : ℕ × ℕ → Line → Line
+abbrev with_ends : ℕ × ℕ → Line → Line
 with_ends ends l = record l { one = ends.0; two = ends.1 }
 
 -- as many empty lines as there are cables

@@ -1,5 +1,5 @@
 -- How the engines of the program end (profile).
-use Rattle.std.specs.Prelude.{◌≡◌, ⊤, ℕ, Bool, List, Option, Result, Ok, Err, IsErr}
+use Rattle.std.specs.Prelude.{◌≡◌, ⊤, ℕ, Bool, List, Option, Result, Ok, Err, IsErr, if◌then◌else◌}
 use Rattle.hex.specs.Hex.{decode_of}
 use Rattle.lagtool.specs.declared.fault.ToolFault.{ToolFault}
 use Rattle.lagtool.specs.declared.fault.ToolFault.TheVariants.{Read, Write, NoMemory, Script, NotHex, NotMac}
@@ -38,3 +38,8 @@ Replies contents mac hex old new (Err NotHex) = SaysMac mac × IsErr (decode_of 
 Replies contents mac hex old new (Err Read) = ⊥
 Replies contents mac hex old new (Err (Script fault)) = ⊥
 Replies contents mac hex old new (Err NotMac) = (SaysMac mac → ⊥) × (new ≡ old)
+
+-- the status of the program after an engine ended so
+abbrev pub status_of : Result Bool ToolFault → ℕ
+status_of (Ok accepted) = if accepted then 0 else 1
+status_of (Err fault) = 2

@@ -4,6 +4,9 @@
 //! error says why.
 #![tactic(auto)]
 
+ghost use Rattle.std.specs.Prelude.{◌≡◌};
+ghost use Rattle.lagtool.specs.Engines.{status_of};
+
 mod algorithm;
 mod checking;
 mod entry_text;
@@ -62,13 +65,24 @@ fn explained(rt: &(impl Print + Eprint), fault: LineFault) -> ExitCode {
     }
 }
 
-/// The status of what a line asked for.
-fn ended(rt: &impl Eprint, file: &str, accepted: Result<bool, ToolFault>) -> ExitCode {
+/// The status of what a line asked for: 0 accepted, 1 not, 2 it could not be done (profile).
+fn status_of(accepted: &Result<bool, ToolFault>) -> u8
+    ensures { result ≡ status_of accepted.now }
+{
     match accepted {
-        Ok(true) => ExitCode::SUCCESS,
-        Ok(false) => ExitCode::FAILURE,
-        Err(fault) => refused(rt, FaultText { fault, file }),
+        Ok(true) => 0,
+        Ok(false) => 1,
+        Err(_) => 2,
     }
+}
+
+/// The status of what a line asked for; standard error says why it could not be done.
+fn ended(rt: &impl Eprint, file: &str, accepted: Result<bool, ToolFault>) -> ExitCode {
+    let status = status_of(&accepted);
+    if let Err(fault) = accepted {
+        let _ = eprintln!(rt; "lagtool: {}", FaultText { fault, file });
+    }
+    ExitCode::from(status)
 }
 
 /// Checks a file, or standard input as `-`; true if no line is a fault.
