@@ -14,7 +14,7 @@ fn said_of(alloc: Global, words: &[&str]) -> Result<String, AllocError> {
 
 #[test]
 fn lines(rt: HostRuntime) -> Result<(), Fail> {
-    let rows: [(&[&str], &str); 18] = [
+    let rows: [(&[&str], &str); 22] = [
         (&["lagtool", "decode", ""], "Decode { hex: \"\" }"),
         (
             &["lagtool", "respond", "02", "0180"],
@@ -27,6 +27,8 @@ fn lines(rt: HostRuntime) -> Result<(), Fail> {
         ),
         (&["lagtool", "replay", "-"], "Replay { script: \"-\" }"),
         (&["lagtool", "vectors"], "Vectors"),
+        (&["lagtool", "replay", "-h"], "help"),
+        (&["lagtool", "vectors", "-h"], "help"),
         (&["lagtool", "--help"], "help"),
         (&["lagtool", "decode", "-h"], "help"),
         (&["lagtool", "--version"], "help"),
@@ -35,6 +37,8 @@ fn lines(rt: HostRuntime) -> Result<(), Fail> {
         (&["lagtool", "decode", "01", "02"], "usage"),
         (&["lagtool", "respond", "02"], "usage"),
         (&["lagtool", "check"], "usage"),
+        (&["lagtool", "check", "-", "-"], "usage"),
+        (&["lagtool", "replay"], "usage"),
         (&["lagtool", "replay", "a", "b"], "usage"),
         (&["lagtool", "vectors", "1"], "usage"),
         (&["lagtool", "help"], "usage"),

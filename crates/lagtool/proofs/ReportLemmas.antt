@@ -1,243 +1,243 @@
 -- The report so far and what is still to come.
-use Rattle.std.proofs.Common.{ℕ, ◌+◌, ◌<◌, ◌≡◌, ◌++◌, ◌==◌, true, false, cond, List, [], ◌∷◌, Option, length, refl, sym, ap, ◌∙◌, append_assoc, arith, subst, take, drop, get_or, Result, Ok, Err, OnErr, is_err}
-use Rattle.std.proofs.lemmas.List.{take_at, length-append, append-nil, take_more, take-append-drop, drop_more}
-use Rattle.std.proofs.lemmas.Bool.{lt-ltb}
+use Rattle.std.proofs.Common.{ℕ, suc, ◌+◌, ◌-◌, ◌<◌, ◌≤◌, ◌≡◌, ◌++◌, ◌==◌, min, true, false, cond, Bool, List, [], ◌∷◌, Option, get_or, inl, inr, length, refl, sym, ap, ◌∙◌, append_assoc, arith, subst, take, drop}
+use Rattle.std.proofs.lemmas.List.{append-nil, drop_more, get_or-take, length-append, length-drop, length-take-le, take_rest, take-append-drop, take_all, take_at}
+use Rattle.std.proofs.lemmas.Bool.{cases_lt, eqb-true, lt-ltb}
+use Rattle.std.specs.Prelude.{IfErr, IfOk, OnErr, OnOk, Result, Ok, Err, is_ok}
 use Rattle.std.specs.Fmt.{decimal}
 use Rattle.std.specs.Io.KnownBytes.{Appends, Consumes, IsAtEnd}
-use Rattle.lagtool.specs.Writing.{AppendsBeginning, Starts, Writes, counted, pending}
-use Rattle.lagtool.specs.Checked.{counted_from, counts_text, faults_of, lines_of, numbered, prepend, report, report_from, summary}
-use Rattle.lagtool.specs.Verdicts.{hex_verdict, is_fault, line_verdict, verdict_text, without_return}
-use Rattle.lagtool.specs.Sinks.{Breaks, SinkState}
-use Rattle.lagtool.specs.Sources.{SourceState}
+use Rattle.memchr.specs.Find.{Nowhere, Passes, is_byte}
+use Rattle.hex.specs.Hex.{decode_of}
 use Rattle.lagtool.specs.Begun.{Checks, Ends, HasCause, Stops}
+use Rattle.lagtool.specs.Checked.{close, counted_from, counts_text, faults_of, lines_of, numbered, prepend, report, report_from, summary}
+use Rattle.lagtool.specs.Scans.{Reads, ScanState, counted, unwritten}
+use Rattle.lagtool.specs.Sinks.{Begins, SinkState, Takes}
+use Rattle.lagtool.specs.Sources.{SourceState}
+use Rattle.lagtool.specs.Verdicts.{hex_verdict, is_fault, line_verdict, verdict_text, without_return}
 use Rattle.lagtool.specs.declared.fault.ToolFault.{ToolFault}
-use Rattle.std.specs.Prelude.{IfErr, IfOk, OnOk}
 use Rattle.lagtool.specs.declared.summary.Summary.{Summary}
 use Rattle.lagtool.specs.declared.verdict.Verdict.{Verdict}
 use Rattle.lagtool.specs.declared.verdict.Verdict.TheVariants.{TooLong}
-use Rattle.hex.specs.Hex.{decode_of}
-use Rattle.lagtool.proofs.OctetLemmas.{appends_none, appends_both, consumes_none, consumes_both}
-
-prepend_push : (line : List ℕ) (b : ℕ) (ls : List (List ℕ)) → prepend line (prepend (b ∷ []) ls) ≡ prepend (line ++ b ∷ []) ls
-prepend_push [] b [] = refl
-prepend_push [] b (l ∷ ls) = refl
-prepend_push (x ∷ xs) b [] = refl
-prepend_push (x ∷ xs) b (l ∷ ls) = ap (λ m. (x ∷ m) ∷ ls) (sym (append_assoc xs (b ∷ []) l))
+use Rattle.lagtool.proofs.OctetLemmas.{appends_both, appends_none, consumes_both, consumes_none}
 
 prepend_none : (ls : List (List ℕ)) → prepend [] ls ≡ ls
 prepend_none [] = refl
 prepend_none (l ∷ ls) = refl
 
-lines_push : (b : ℕ) (bs : List ℕ) → (b == 10) ≡ false → lines_of (b ∷ bs) ≡ prepend (b ∷ []) (lines_of bs)
-lines_push b bs h = ap (λ t. cond t ([] ∷ lines_of bs) (prepend (b ∷ []) (lines_of bs))) h
+prepend_both : (line xs : List ℕ) (ls : List (List ℕ)) → prepend line (prepend xs ls) ≡ prepend (line ++ xs) ls
+prepend_both line [] [] = ap close (sym (append-nil line))
+prepend_both [] (x ∷ xs) [] = refl
+prepend_both (y ∷ ys) (x ∷ xs) [] = refl
+prepend_both line xs (l ∷ ls) = ap (λ m. m ∷ ls) (sym (append_assoc line xs l))
 
-pub pending_newline : (n k : ℕ) (line rest : List ℕ) → pending n k line (10 ∷ rest) ≡ numbered (n + 1) line ++ pending (n + 1) (k + faults_of line) [] rest
-pending_newline n k line rest =
-    ap (λ l. numbered (n + 1) l ++ report_from (n + 1) (k + faults_of l) (lines_of rest)) (append-nil line)
-    ∙ ap (λ ls. numbered (n + 1) line ++ report_from (n + 1) (k + faults_of line) ls) (sym (prepend_none (lines_of rest)))
+not_true : (t : Bool) → (t ≡ true → ⊥) → t ≡ false
+not_true true h = absurd (h refl)
+not_true false h = refl
 
-pub pending_push : (n k b : ℕ) (line rest : List ℕ) → (b == 10) ≡ false → pending n k line (b ∷ rest) ≡ pending n k (line ++ b ∷ []) rest
-pending_push n k b line rest h =
-    ap (λ ls. report_from n k (prepend line ls)) (lines_push b rest h) ∙ ap (report_from n k) (prepend_push line b (lines_of rest))
+-- no newline is among them
+abbrev pub InOneLine : List ℕ → Type 0
+InOneLine xs = Nowhere (Passes (is_byte 10) xs) 0 (length xs)
 
-abbrev pub counts_of : ℕ → ℕ → List ℕ
-counts_of n k = counts_text (record { checked = n; faults = k })
+lines_joined : (xs rest : List ℕ) → InOneLine xs → lines_of (xs ++ rest) ≡ prepend xs (lines_of rest)
+lines_joined [] rest h = sym (prepend_none (lines_of rest))
+lines_joined (b ∷ bs) rest h =
+    let first : (b == 10) ≡ false = not_true (b == 10) (h 0 (omega arith) (omega arith)) in
+    let later = lines_joined bs rest (λ k low high. h (suc k) (omega arith) (omega (arith, high))) in
+    ap (λ t. cond t ([] ∷ lines_of (bs ++ rest)) (prepend (b ∷ []) (lines_of (bs ++ rest)))) first ∙ ap (prepend (b ∷ [])) later ∙ prepend_both (b ∷ []) bs (lines_of rest)
+
+-- what stands before the first newline
+pub before_newline : (xs : List ℕ) (n : ℕ) → n ≤ length xs → Nowhere (Passes (is_byte 10) xs) 0 n → InOneLine (take n xs)
+before_newline xs n le h k low high is =
+    let lt : k < n = omega (arith, length-take-le n xs le, high) in
+    h k low lt (ap (λ b. b == 10) (sym (get_or-take n xs k 0 lt)) ∙ is)
 
 long_line : (l : List ℕ) → 65536 < length l → line_verdict l ≡ TooLong
 long_line l h = ap (λ t. cond t TooLong (hex_verdict (decode_of (without_return l)))) (lt-ltb 65536 (length l) h)
 
-same_long : (n k : ℕ) (l m : List ℕ) (ls : List (List ℕ)) → 65536 < length l → 65536 < length m → report_from n k (l ∷ ls) ≡ report_from n k (m ∷ ls)
-same_long n k l m ls h j =
-    ap (λ (v : Verdict). (decimal (n + 1) ++ 32 ∷ (verdict_text v ++ 10 ∷ [])) ++ report_from (n + 1) (k + cond (is_fault v) 1 0) ls) (long_line l h ∙ sym (long_line m j))
+-- what is said of lines, where it depends on the verdict on the first
+module _ {X : Type 0} (F : List (List ℕ) → X) (by_verdict : (l m : List ℕ) (ls : List (List ℕ)) → line_verdict l ≡ line_verdict m → F (l ∷ ls) ≡ F (m ∷ ls)) where
+  same_long : (l m : List ℕ) (ls : List (List ℕ)) → 65536 < length l → 65536 < length m → F (prepend l ls) ≡ F (prepend m ls)
+  same_long [] m ls h j = absurd (omega arith)
+  same_long (x ∷ l) [] ls h j = absurd (omega arith)
+  same_long (x ∷ l) (y ∷ m) [] h j = by_verdict (x ∷ l) (y ∷ m) [] (long_line (x ∷ l) h ∙ sym (long_line (y ∷ m) j))
+  same_long (x ∷ l) (y ∷ m) (k ∷ ls) h j =
+      by_verdict ((x ∷ l) ++ k) ((y ∷ m) ++ k) ls (long_line ((x ∷ l) ++ k) (simp length-append (omega arith)) ∙ sym (long_line ((y ∷ m) ++ k) (simp length-append (omega arith))))
 
-same_counts : (n k : ℕ) (l m : List ℕ) (ls : List (List ℕ)) → 65536 < length l → 65536 < length m → counted_from n k (l ∷ ls) ≡ counted_from n k (m ∷ ls)
-same_counts n k l m ls h j = ap (λ (v : Verdict). counted_from (n + 1) (k + cond (is_fault v) 1 0) ls) (long_line l h ∙ sym (long_line m j))
+  more_of_line : (line xs rest : List ℕ) → InOneLine xs → F (prepend line (lines_of (xs ++ rest))) ≡ F (prepend (line ++ xs) (lines_of rest))
+  more_of_line line xs rest h = ap (λ ls. F (prepend line ls)) (lines_joined xs rest h) ∙ ap F (prepend_both line xs (lines_of rest))
 
-skip_counts : (n k b : ℕ) (line : List ℕ) (ls : List (List ℕ)) → 65536 < length line → counted_from n k (prepend (line ++ b ∷ []) ls) ≡ counted_from n k (prepend line ls)
-skip_counts n k b [] [] h = absurd (omega arith)
-skip_counts n k b (x ∷ xs) [] h = same_counts n k ((x ∷ xs) ++ b ∷ []) (x ∷ xs) [] (simp length-append (omega arith)) h
-skip_counts n k b line (l ∷ ls) h = same_counts n k ((line ++ b ∷ []) ++ l) (line ++ l) ls (simp length-append (omega arith)) (simp length-append (omega arith))
+  kept_part : (line xs rest : List ℕ) (n : ℕ) → InOneLine xs → n ≤ length xs → length line + n ≡ 65537 → F (prepend line (lines_of (xs ++ rest))) ≡ F (prepend (line ++ take n xs) (lines_of rest))
+  kept_part line xs rest n h le long =
+      more_of_line line xs rest h
+      ∙ same_long (line ++ xs) (line ++ take n xs) (lines_of rest) (simp length-append (omega arith)) (simp length-append (omega (arith, length-take-le n xs le)))
 
-pub counted_newline : (n k : ℕ) (line rest : List ℕ) → counted n k line (10 ∷ rest) ≡ counted (n + 1) (k + faults_of line) [] rest
-counted_newline n k line rest =
-    ap (λ l. counted_from (n + 1) (k + faults_of l) (lines_of rest)) (append-nil line) ∙ ap (counted_from (n + 1) (k + faults_of line)) (sym (prepend_none (lines_of rest)))
+  kept_line : (line xs rest : List ℕ) (n : ℕ) → InOneLine xs → length line ≤ 65537 → n ≡ min (length xs) (65537 - length line)
+      → F (prepend line (lines_of (xs ++ rest))) ≡ F (prepend (line ++ take n xs) (lines_of rest))
+  kept_line line xs rest n h short is = elim (cases_lt (65537 - length line) (length xs)) [
+    | inl less ↦ kept_part line xs rest n h (omega (arith, is)) (omega (arith, is))
+    | inr more ↦ more_of_line line xs rest h ∙ ap (λ ys. F (prepend (line ++ ys) (lines_of rest))) (sym (take_all n xs (omega (arith, is))))
+  ]
 
-pub counted_push : (n k b : ℕ) (line rest : List ℕ) → (b == 10) ≡ false → counted n k line (b ∷ rest) ≡ counted n k (line ++ b ∷ []) rest
-counted_push n k b line rest h =
-    ap (λ ls. counted_from n k (prepend line ls)) (lines_push b rest h) ∙ ap (counted_from n k) (prepend_push line b (lines_of rest))
+-- what is still to come after n lines with k faults, and some octets of the next
+abbrev pub pending : ℕ → ℕ → List ℕ → List ℕ → List ℕ
+pending n k line rest = report_from n k (prepend line (lines_of rest))
 
-pub counted_skip : (n k b : ℕ) (line rest : List ℕ) → (b == 10) ≡ false → 65536 < length line → counted n k line (b ∷ rest) ≡ counted n k line rest
-counted_skip n k b line rest h j = counted_push n k b line rest h ∙ skip_counts n k b line (lines_of rest) j
+abbrev pub counts : ℕ → ℕ → List ℕ → List ℕ → Summary
+counts n k line rest = counted_from n k (prepend line (lines_of rest))
 
-pub counted_end : (n k : ℕ) (line : List ℕ) → 0 < length line → counted n k line [] ≡ record { checked = n + 1; faults = k + faults_of line }
-counted_end n k [] h = absurd (omega arith)
-counted_end n k (x ∷ xs) h = refl
+same_report : (n k : ℕ) (l m : List ℕ) (ls : List (List ℕ)) → line_verdict l ≡ line_verdict m → report_from n k (l ∷ ls) ≡ report_from n k (m ∷ ls)
+same_report n k l m ls e = ap (λ (v : Verdict). (decimal (n + 1) ++ 32 ∷ (verdict_text v ++ 10 ∷ [])) ++ report_from (n + 1) (k + cond (is_fault v) 1 0) ls) e
 
-pub counted_end_empty : (n k : ℕ) (line : List ℕ) → length line ≡ 0 → counted n k line [] ≡ record { checked = n; faults = k }
-counted_end_empty n k [] h = refl
-counted_end_empty n k (x ∷ xs) h = absurd (omega arith)
+same_counts : (n k : ℕ) (l m : List ℕ) (ls : List (List ℕ)) → line_verdict l ≡ line_verdict m → counted_from n k (l ∷ ls) ≡ counted_from n k (m ∷ ls)
+same_counts n k l m ls e = ap (λ (v : Verdict). counted_from (n + 1) (k + cond (is_fault v) 1 0) ls) e
 
--- one more octet of a piece
-pub counted_more : (f g h : List ℕ → Summary) (piece : List ℕ) (i : ℕ) → i < length piece → ((rest : List ℕ) → f (take i piece ++ rest) ≡ g rest)
-    → ((rest : List ℕ) → g (get_or piece i 0 ∷ rest) ≡ h rest) → (rest : List ℕ) → f (take (i + 1) piece ++ rest) ≡ h rest
-counted_more f g h piece i lt p q rest =
-    ap (λ xs. f (xs ++ rest)) (take_more piece i 0 lt) ∙ ap f (append_assoc (take i piece) (get_or piece i 0 ∷ []) rest) ∙ p (get_or piece i 0 ∷ rest) ∙ q rest
+same_unwritten : (a b : List ℕ) (n m k j : ℕ) (l o rest : List ℕ) → a ≡ b → n ≡ m → k ≡ j → l ≡ o → a ++ pending n k l rest ≡ b ++ pending m j o rest
+same_unwritten a b n m k j l o rest e f g h = rw (e, f, g, h) refl
 
--- a sink that failed took a beginning
-pub begun : {W : Type 0} (contents : W → Option (List ℕ)) (a b : SinkState W) (text : List ℕ) → Breaks contents a b text → AppendsBeginning (contents a.writer) (contents b.writer) text
-begun contents a b text h = (take h.written.0 text, drop h.written.0 text, sym (take-append-drop h.written.0 text), h.written.1)
+same_counted : (n m k j : ℕ) (l o rest : List ℕ) → n ≡ m → k ≡ j → l ≡ o → counts n k l rest ≡ counts m j o rest
+same_counted n m k j l o rest f g h = rw (f, g, h) refl
 
-skip_lines : (n k b : ℕ) (line : List ℕ) (ls : List (List ℕ)) → 65536 < length line → report_from n k (prepend (line ++ b ∷ []) ls) ≡ report_from n k (prepend line ls)
-skip_lines n k b [] [] h = absurd (omega arith)
-skip_lines n k b (x ∷ xs) [] h = same_long n k ((x ∷ xs) ++ b ∷ []) (x ∷ xs) [] (simp length-append (omega arith)) h
-skip_lines n k b line (l ∷ ls) h = same_long n k ((line ++ b ∷ []) ++ l) (line ++ l) ls (simp length-append (omega arith)) (simp length-append (omega arith))
+pub on_ok : {T E P : Type 0} (r : Result T E) → (is_ok r ≡ true → P) → OnOk r P
+on_ok (Ok x) h = h refl
+on_ok (Err e) h = tt
 
--- an octet of a line that is too long already
-pub pending_skip : (n k b : ℕ) (line rest : List ℕ) → (b == 10) ≡ false → 65536 < length line → pending n k line (b ∷ rest) ≡ pending n k line rest
-pending_skip n k b line rest h j = pending_push n k b line rest h ∙ skip_lines n k b line (lines_of rest) j
-
-pub writes_none : (o : Option (List ℕ)) (f g : List ℕ → List ℕ) → ((rest : List ℕ) → f rest ≡ g rest) → Writes o o f g
-writes_none o f g h = ([], appends_none o, h)
-
-pub writes_both : (o m n : Option (List ℕ)) (f g h : List ℕ → List ℕ) → Writes o m f g → Writes m n g h → Writes o n f h
-writes_both o m n f g h p q =
-    (p.0 ++ q.0, appends_both o m n p.0 q.0 p.1 q.1, λ rest. p.2 rest ∙ ap (λ zs. p.0 ++ zs) (q.2 rest) ∙ sym (append_assoc p.0 q.0 (h rest)))
-
-pub writes_begins : (o m n : Option (List ℕ)) (f g : List ℕ → List ℕ) → Writes o m f g → Starts m n g → Starts o n f
-writes_begins o m n f g p q = (
-  p.0 ++ q.0,
-  appends_both o m n p.0 q.0 p.1 q.1,
-  λ rest. let t = q.2 rest in (t.0, p.2 rest ∙ ap (λ zs. p.0 ++ zs) t.1 ∙ sym (append_assoc p.0 q.0 t.0)),
-)
-
-pub writes_first : (o m : Option (List ℕ)) (f g : List ℕ → List ℕ) → Writes o m f g → Starts o m f
-writes_first o m f g p = (p.0, p.1, λ rest. (g rest, p.2 rest))
-
--- a beginning of the first part of what is to come
-pub begins_part : (o n : Option (List ℕ)) (f g : List ℕ → List ℕ) (bs : List ℕ) → ((rest : List ℕ) → f rest ≡ bs ++ g rest) → AppendsBeginning o n bs → Starts o n f
-begins_part o n f g bs h p =
-    (p.0, p.3, λ rest. (p.1 ++ g rest, h rest ∙ ap (λ zs. zs ++ g rest) p.2 ∙ append_assoc p.0 p.1 (g rest)))
-
--- one more octet of a piece
-pub writes_more : (o m n : Option (List ℕ)) (f g h : List ℕ → List ℕ) (piece : List ℕ) (i : ℕ) → i < length piece
-    → Writes o m (λ rest. f (take i piece ++ rest)) g → Writes m n (λ rest. g (get_or piece i 0 ∷ rest)) h → Writes o n (λ rest. f (take (i + 1) piece ++ rest)) h
-writes_more o m n f g h piece i lt p q = (
-  p.0 ++ q.0,
-  appends_both o m n p.0 q.0 p.1 q.1,
-  λ rest. ap (λ xs. f (xs ++ rest)) (take_more piece i 0 lt) ∙ ap f (append_assoc (take i piece) (get_or piece i 0 ∷ []) rest)
-      ∙ p.2 (get_or piece i 0 ∷ rest) ∙ ap (λ zs. p.0 ++ zs) (q.2 rest) ∙ sym (append_assoc p.0 q.0 (h rest)),
-)
-
--- a fault at an octet of a piece
-pub begins_more : (o m n : Option (List ℕ)) (f g : List ℕ → List ℕ) (piece : List ℕ) (i : ℕ) → i < length piece
-    → Writes o m (λ rest. f (take i piece ++ rest)) g → Starts m n (λ rest. g (get_or piece i 0 ∷ rest)) → Starts o n (λ rest. f (piece ++ rest))
-begins_more o m n f g piece i lt p q = (
-  p.0 ++ q.0,
-  appends_both o m n p.0 q.0 p.1 q.1,
-  λ rest. let t = q.2 (drop (i + 1) piece ++ rest) in (
-    t.0,
-    ap (λ xs. f (xs ++ rest)) (sym (take-append-drop i piece)) ∙ ap f (append_assoc (take i piece) (drop i piece) rest) ∙ p.2 (drop i piece ++ rest)
-        ∙ ap (λ zs. p.0 ++ g (zs ++ rest)) (drop_more piece i 0 lt) ∙ ap (λ zs. p.0 ++ zs) t.1 ∙ sym (append_assoc p.0 q.0 t.0),
-  ),
-)
-
-pub on_err : {T E : Type 0} (r : Result T E) (P : Type 0) → P → OnErr r P
-on_err (Ok x) P p = tt
-on_err (Err e) P p = p
-
-pub pending_end : (n k : ℕ) (line : List ℕ) → 0 < length line → pending n k line [] ≡ numbered (n + 1) line ++ counts_of (n + 1) (k + faults_of line)
-pending_end n k [] h = absurd (omega arith)
-pending_end n k (x ∷ xs) h = refl
-
-pub pending_end_empty : (n k : ℕ) (line : List ℕ) → length line ≡ 0 → pending n k line [] ≡ counts_of n k
-pending_end_empty n k [] h = refl
-pending_end_empty n k (x ∷ xs) h = absurd (omega arith)
-
-pub begin_first : (o n : Option (List ℕ)) (xs ys zs : List ℕ) → zs ≡ xs ++ ys → AppendsBeginning o n xs → AppendsBeginning o n zs
-begin_first o n xs ys zs e h = (h.0, h.1 ++ ys, e ∙ ap (λ u. u ++ ys) h.2 ∙ append_assoc h.0 h.1 ys, h.3)
-
-pub begin_second : (o m n : Option (List ℕ)) (xs ys zs : List ℕ) → zs ≡ xs ++ ys → Appends o m xs → AppendsBeginning m n ys → AppendsBeginning o n zs
-begin_second o m n xs ys zs e h k =
-    (xs ++ k.0, k.1, e ∙ ap (λ u. xs ++ u) k.2 ∙ sym (append_assoc xs k.0 k.1), appends_both o m n xs k.0 h k.3)
-
--- what was read so far, and what was written of its report
-pub record Told (ro rn wo wn : Option (List ℕ)) (after : List ℕ → List ℕ) (counts : List ℕ → Summary) : Type 0 where
-  pub octets : List ℕ
-  pub read : Consumes ro rn octets
-  pub written : Writes wo wn (λ rest. report (octets ++ rest)) after
-  pub counted : (rest : List ℕ) → summary (octets ++ rest) ≡ counts rest
-
-pub told_none : (r w : Option (List ℕ)) → Told r r w w (λ rest. pending 0 0 [] rest) (λ rest. counted 0 0 [] rest)
-told_none r w = record {
-  octets = [];
-  read = consumes_none r;
-  written = writes_none w _ _ (λ rest. ap (report_from 0 0) (sym (prepend_none (lines_of rest))));
-  counted = λ rest. ap (counted_from 0 0) (sym (prepend_none (lines_of rest)));
+-- more octets of a line were kept
+pub keeps : (s t : ScanState) (xs : List ℕ) (n : ℕ) → t.said ≡ s.said → t.lines ≡ s.lines → t.faults ≡ s.faults → t.line ≡ s.line ++ take n xs
+    → InOneLine xs → length s.line ≤ 65537 → n ≡ min (length xs) (65537 - length s.line) → Reads s t xs
+keeps s t xs n e f g h in_line short is = record {
+  report = λ rest. ap (λ zs. s.said ++ zs) (kept_line (report_from s.lines s.faults) (same_report s.lines s.faults) s.line xs rest n in_line short is)
+      ∙ sym (same_unwritten _ _ _ _ _ _ _ _ rest e f g h);
+  counts = λ rest. kept_line (counted_from s.lines s.faults) (same_counts s.lines s.faults) s.line xs rest n in_line short is ∙ sym (same_counted _ _ _ _ _ _ rest f g h);
 }
 
-module _ (ro rm rn wo wm wn : Option (List ℕ)) (f : List ℕ → List ℕ) (k : List ℕ → Summary) (p : Told ro rm wo wm f k) where
-  pub told_more : (g : List ℕ → List ℕ) (m : List ℕ → Summary) (ys : List ℕ) → Consumes rm rn ys → Writes wm wn (λ rest. f (ys ++ rest)) g → ((rest : List ℕ) → k (ys ++ rest) ≡ m rest) → Told ro rn wo wn g m
-  told_more g m ys c q e = record {
+-- a newline ended a line
+pub ends_line : (s t : ScanState) → t.said ≡ s.said ++ numbered (s.lines + 1) s.line → t.lines ≡ s.lines + 1
+    → t.faults ≡ s.faults + faults_of s.line → t.line ≡ [] → Reads s t (10 ∷ [])
+ends_line s t e f g h = record {
+  report = λ rest. ap (λ l. s.said ++ report_from s.lines s.faults (l ∷ lines_of rest)) (append-nil s.line)
+      ∙ sym (append_assoc s.said (numbered (s.lines + 1) s.line) (report_from (s.lines + 1) (s.faults + faults_of s.line) (lines_of rest)))
+      ∙ ap (λ ls. (s.said ++ numbered (s.lines + 1) s.line) ++ report_from (s.lines + 1) (s.faults + faults_of s.line) ls) (sym (prepend_none (lines_of rest)))
+      ∙ sym (same_unwritten _ _ _ _ _ _ _ _ rest e f g h);
+  counts = λ rest. ap (λ l. counted_from s.lines s.faults (l ∷ lines_of rest)) (append-nil s.line)
+      ∙ ap (counted_from (s.lines + 1) (s.faults + faults_of s.line)) (sym (prepend_none (lines_of rest)))
+      ∙ sym (same_counted _ _ _ _ _ _ rest f g h);
+}
+
+-- the octets of a piece that are done, a line more
+pub line_done : (all done rest : List ℕ) (n : ℕ) → all ≡ done ++ rest → n < length rest → (get_or rest n 0 == 10) ≡ true
+    → all ≡ (done ++ (take n rest ++ 10 ∷ [])) ++ take (length rest - (n + 1)) (drop (n + 1) rest)
+line_done all done rest n e lt is =
+    let later = drop (n + 1) rest in
+    let here : drop n rest ≡ 10 ∷ later = drop_more rest n 0 lt ∙ ap (λ b. b ∷ later) (eqb-true (get_or rest n 0) 10 is) in
+    let split : rest ≡ (take n rest ++ 10 ∷ []) ++ later = sym (take-append-drop n rest) ∙ ap (λ xs. take n rest ++ xs) here ∙ sym (append_assoc (take n rest) (10 ∷ []) later) in
+    e ∙ ap (λ xs. done ++ xs) split ∙ sym (append_assoc done (take n rest ++ 10 ∷ []) later) ∙ ap (λ xs. (done ++ (take n rest ++ 10 ∷ [])) ++ xs) (sym (take_rest rest (n + 1)))
+
+pub rest_length : (rest : List ℕ) (n : ℕ) → n < length rest → length (take (length rest - (n + 1)) (drop (n + 1) rest)) + (n + 1) ≡ length rest
+rest_length rest n lt = ap (λ xs. length xs + (n + 1)) (take_rest rest (n + 1)) ∙ ap (λ m. m + (n + 1)) (length-drop (n + 1) rest) ∙ omega arith
+
+pub reads_none : (s : ScanState) → Reads s s []
+reads_none s = record { report = λ rest. refl; counts = λ rest. refl }
+
+pub reads_both : (a b c : ScanState) (xs ys : List ℕ) → Reads a b xs → Reads b c ys → Reads a c (xs ++ ys)
+reads_both a b c xs ys p q = record {
+  report = λ rest. ap (unwritten a) (append_assoc xs ys rest) ∙ p.report (ys ++ rest) ∙ q.report rest;
+  counts = λ rest. ap (counted a) (append_assoc xs ys rest) ∙ p.counts (ys ++ rest) ∙ q.counts rest;
+}
+
+-- the stream ends behind some octets of a line, or behind none
+pub last_line : (n k : ℕ) (line : List ℕ) → 0 < length line
+    → (pending n k line [] ≡ numbered (n + 1) line ++ counts_text (record { checked = n + 1; faults = k + faults_of line })) × (counts n k line [] ≡ record { checked = n + 1; faults = k + faults_of line })
+last_line n k [] h = absurd (omega arith)
+last_line n k (x ∷ xs) h = (refl, refl)
+
+pub no_last_line : (n k : ℕ) (line : List ℕ) → length line ≡ 0
+    → (pending n k line [] ≡ counts_text (record { checked = n; faults = k })) × (counts n k line [] ≡ record { checked = n; faults = k })
+no_last_line n k [] h = (refl, refl)
+no_last_line n k (x ∷ xs) h = absurd (omega arith)
+
+-- what was read so far, and what was written of its report
+pub record Told (ro rn wo wn : Option (List ℕ)) (s : ScanState) : Type 0 where
+  pub octets : List ℕ
+  pub read : Consumes ro rn octets
+  pub out : List ℕ
+  pub appended : Appends wo wn out
+  pub report_is : (rest : List ℕ) → report (octets ++ rest) ≡ out ++ unwritten s rest
+  pub counts_are : (rest : List ℕ) → summary (octets ++ rest) ≡ counted s rest
+
+pub told_none : (r w : Option (List ℕ)) (s : ScanState) → s.said ≡ [] → s.lines ≡ 0 → s.faults ≡ 0 → s.line ≡ [] → Told r r w w s
+told_none r w s e f g h = record {
+  octets = [];
+  read = consumes_none r;
+  out = [];
+  appended = appends_none w;
+  report_is = λ rest. ap (report_from 0 0) (sym (prepend_none (lines_of rest))) ∙ sym (same_unwritten _ [] _ 0 _ 0 _ [] rest e f g h);
+  counts_are = λ rest. ap (counted_from 0 0) (sym (prepend_none (lines_of rest))) ∙ sym (same_counted _ 0 _ 0 _ [] rest f g h);
+}
+
+module _ (ro rm rn wo wm wn : Option (List ℕ)) (s t : ScanState) (p : Told ro rm wo wm s) where
+  pub told_reads : (ys : List ℕ) → Consumes rm rn ys → Reads s t ys → Told ro rn wo wm t
+  told_reads ys c q = record {
     octets = p.octets ++ ys;
     read = consumes_both ro rm rn p.octets ys p.read c;
-    written = (
-      p.written.0 ++ q.0,
-      appends_both wo wm wn p.written.0 q.0 p.written.1 q.1,
-      λ rest. ap report (append_assoc p.octets ys rest) ∙ p.written.2 (ys ++ rest) ∙ ap (λ zs. p.written.0 ++ zs) (q.2 rest) ∙ sym (append_assoc p.written.0 q.0 (g rest)),
-    );
-    counted = λ rest. ap summary (append_assoc p.octets ys rest) ∙ p.counted (ys ++ rest) ∙ e rest;
+    out = p.out;
+    appended = p.appended;
+    report_is = λ rest. ap report (append_assoc p.octets ys rest) ∙ p.report_is (ys ++ rest) ∙ ap (λ zs. p.out ++ zs) (q.report rest);
+    counts_are = λ rest. ap summary (append_assoc p.octets ys rest) ∙ p.counts_are (ys ++ rest) ∙ q.counts rest;
   }
 
-abbrev pub Faulted : Option (List ℕ) → Option (List ℕ) → Option (List ℕ) → Option (List ℕ) → Type 0
-Faulted ro rn wo wn = (octets : List ℕ) × Consumes ro rn octets × AppendsBeginning wo wn (report octets)
+  pub told_writes : Appends wm wn s.said → t ≡ record s { said = [] } → Told ro rm wo wn t
+  told_writes a e = record {
+    octets = p.octets;
+    read = p.read;
+    out = p.out ++ s.said;
+    appended = appends_both wo wm wn p.out s.said p.appended a;
+    report_is = λ rest. p.report_is rest ∙ sym (append_assoc p.out s.said (pending s.lines s.faults s.line rest))
+        ∙ ap (λ zs. (p.out ++ s.said) ++ zs) (sym (ap (λ v. unwritten v rest) e));
+    counts_are = λ rest. p.counts_are rest ∙ sym (ap (λ v. counted v rest) e);
+  }
 
-module _ (ro rm rn wo wm wn : Option (List ℕ)) (f : List ℕ → List ℕ) (k : List ℕ → Summary) (p : Told ro rm wo wm f k) where
-  pub told_fault : (ys : List ℕ) → Consumes rm rn ys → Starts wm wn (λ rest. f (ys ++ rest)) → Faulted ro rn wo wn
-  told_fault ys c q =
-      let t = q.2 [] in (
-        p.octets ++ ys,
-        consumes_both ro rm rn p.octets ys p.read c,
-        (
-          p.written.0 ++ q.0,
-          t.0,
-          ap (λ zs. report (p.octets ++ zs)) (sym (append-nil ys)) ∙ p.written.2 (ys ++ []) ∙ ap (λ zs. p.written.0 ++ zs) t.1 ∙ sym (append_assoc p.written.0 q.0 t.0),
-          appends_both wo wm wn p.written.0 q.0 p.written.1 q.1,
-        ),
-      )
+-- an empty piece
+pub told_still : (ro rm rn wo wm : Option (List ℕ)) (s : ScanState) (n : ℕ) (piece : List ℕ) → Told ro rm wo wm s → Consumes rm rn (take n piece) → n ≡ 0 → Told ro rn wo wm s
+told_still ro rm rn wo wm s n piece p c e =
+    let none : take n piece ≡ [] = ap (λ i. take i piece) e in
+    told_reads ro rm rn wo wm wm s s p (take n piece) c (subst (Reads s s) (sym none) (reads_none s))
 
-  pub told_read : (bs : List ℕ) → Consumes rm rn bs → Faulted ro rn wo wm
-  told_read bs c = (p.octets ++ bs, consumes_both ro rm rn p.octets bs p.read c, (p.written.0, f bs, p.written.2 bs, p.written.1))
+module _ {R W : Type 0} (remaining : R → Option (List ℕ)) (contents : W → Option (List ℕ)) (from mid to : SourceState R) (old half new : SinkState W) where
+  stops_at : (octets out tail : List ℕ) → Consumes (remaining from.reader) (remaining to.reader) octets → Appends (contents old.writer) (contents new.writer) out → report octets ≡ out ++ tail
+      → Stops remaining contents from to old new
+  stops_at octets out tail c a e =
+      let front : take (length out) (report octets) ≡ out = ap (take (length out)) e ∙ take_at out tail (length out) refl in
+      record { octets = octets; read = c; written = (length out, subst (Appends (contents old.writer) (contents new.writer)) (sym front) a) }
 
-  pub told_end_fault : AppendsBeginning wm wn (f []) → Faulted ro rm wo wn
-  told_end_fault a =
-      (p.octets, p.read, begin_second wo wm wn p.written.0 (f []) (report p.octets) (ap report (sym (append-nil p.octets)) ∙ p.written.2 []) p.written.1 a)
+  -- some octets were read, of which nothing is written
+  pub stops_reading : (s : ScanState) (ys : List ℕ) → Told (remaining from.reader) (remaining mid.reader) (contents old.writer) (contents new.writer) s → Consumes (remaining mid.reader) (remaining to.reader) ys
+      → Stops remaining contents from to old new
+  stops_reading s ys p c = stops_at (p.octets ++ ys) p.out (unwritten s ys) (consumes_both _ _ _ p.octets ys p.read c) p.appended (p.report_is ys)
 
-  pub told_end : Appends wm wn (f []) → Appends wo wn (report p.octets)
-  told_end a = subst (Appends wo wn) (sym (ap report (sym (append-nil p.octets)) ∙ p.written.2 [])) (appends_both wo wm wn p.written.0 (f []) p.written.1 a)
+  -- a beginning of what was said is written
+  pub stops_writing : (s : ScanState) (said tail : List ℕ) → Told (remaining from.reader) (remaining to.reader) (contents old.writer) (contents half.writer) s → unwritten s [] ≡ said ++ tail
+      → Begins (contents half.writer) (contents new.writer) said → Stops remaining contents from to old new
+  stops_writing s said tail p e b =
+      let n = b.0 in
+      stops_at p.octets (p.out ++ take n said) (drop n said ++ tail) p.read (appends_both _ _ _ p.out (take n said) p.appended b.1)
+      (ap report (sym (append-nil p.octets)) ∙ p.report_is [] ∙ ap (λ zs. p.out ++ zs) (e ∙ ap (λ zs. zs ++ tail) (sym (take-append-drop n said)) ∙ append_assoc (take n said) (drop n said) tail)
+      ∙ sym (append_assoc p.out (take n said) (drop n said ++ tail)))
 
-  pub told_counts : summary p.octets ≡ k []
-  told_counts = ap summary (sym (append-nil p.octets)) ∙ p.counted []
-
--- nothing was written yet
-pub begins_nothing : (o : Option (List ℕ)) (bs : List ℕ) → AppendsBeginning o o bs
-begins_nothing o bs = ([], bs, refl, appends_none o)
-
--- what an `Err` says, where there is one
-pub of_err : {T E P : Type 0} (r : Result T E) → OnErr r P → is_err r ≡ true → P
-of_err (Ok x) p e = cc
-of_err (Err e) p is = p
-
-pub begun_as : {W : Type 0} (contents : W → Option (List ℕ)) (a b : SinkState W) (text said : List ℕ) → Breaks contents a b text → text ≡ said
-    → AppendsBeginning (contents a.writer) (contents b.writer) said
-begun_as contents a b text said h e = begin_first _ _ text [] said (sym e ∙ sym (append-nil text)) (begun contents a b text h)
-
--- from octets that were consumed, and a beginning of their report, to how `check` says it
-pub stops_from : {R W : Type 0} (remaining : R → Option (List ℕ)) (contents : W → Option (List ℕ)) (from to : SourceState R) (old new : SinkState W)
-    → Faulted (remaining from.reader) (remaining to.reader) (contents old.writer) (contents new.writer) → Stops remaining contents from to old new
-stops_from remaining contents from to old new h =
-    let out = h.2.0 in
-    let front : take (length out) (report h.0) ≡ out = ap (take (length out)) h.2.2 ∙ take_at out h.2.1 (length out) refl in
-    record { octets = h.0; read = h.1; written = (length out, subst (Appends (contents old.writer) (contents new.writer)) (sym front) h.2.3) }
+  -- all is written
+  pub ends : (s : ScanState) (said : List ℕ) (counts : Summary) → Told (remaining from.reader) (remaining to.reader) (contents old.writer) (contents half.writer) s → said ≡ unwritten s []
+      → counts ≡ counted s [] → IsAtEnd (remaining to.reader) → to.failed ≡ from.failed → half.failed ≡ old.failed → Takes contents half new said → Ends remaining contents from to old new counts
+  ends s said counts p e k end unfailed same a =
+      let whole : report p.octets ≡ p.out ++ said = ap report (sym (append-nil p.octets)) ∙ p.report_is [] ∙ ap (λ zs. p.out ++ zs) (sym e) in
+      record {
+        octets = p.octets;
+        read = p.read;
+        unfailed = unfailed;
+        end = end;
+        written = record {
+          written = subst (Appends (contents old.writer) (contents new.writer)) (sym whole) (appends_both _ _ _ p.out said p.appended a.written);
+          failed = a.failed ∙ same;
+        };
+        counts_are = k ∙ sym (p.counts_are []) ∙ ap summary (append-nil p.octets);
+      }
 
 -- how `check` ends, by the clauses on its fault
 pub ends_by : {R W : Type 0} (remaining : R → Option (List ℕ)) (contents : W → Option (List ℕ)) (from to : SourceState R) (old new : SinkState W) (r : Result Summary ToolFault)
@@ -245,26 +245,3 @@ pub ends_by : {R W : Type 0} (remaining : R → Option (List ℕ)) (contents : W
     → Checks remaining contents from to old new r
 ends_by remaining contents from to old new (Ok s) ok err cause = ok
 ends_by remaining contents from to old new (Err e) ok err cause = (err, cause)
-
--- an empty piece
-pub told_stay : (ro rm rn wo wm : Option (List ℕ)) (f : List ℕ → List ℕ) (k : List ℕ → Summary) (n : ℕ) (piece : List ℕ) → Told ro rm wo wm f k → Consumes rm rn (take n piece) → n ≡ 0 → Told ro rn wo wm f k
-told_stay ro rm rn wo wm f k n piece p c e =
-    let none : take n piece ≡ [] = ap (λ i. take i piece) e in
-    told_more ro rm rn wo wm wm f k p f k [] (subst (Consumes rm rn) none c) (writes_none wm (λ rest. f ([] ++ rest)) f (λ rest. refl)) (λ rest. refl)
-
--- the whole report is written
-pub ends_ok : {R W : Type 0} (remaining : R → Option (List ℕ)) (contents : W → Option (List ℕ)) (from to : SourceState R) (old mid new : SinkState W) (f : List ℕ → List ℕ) (k : List ℕ → Summary)
-    (r : Result Summary ToolFault) → Told (remaining from.reader) (remaining to.reader) (contents old.writer) (contents mid.writer) f k → IsAtEnd (remaining to.reader) → to.failed ≡ from.failed
-    → OnOk r (Appends (contents mid.writer) (contents new.writer) (f [])) → IfOk r (λ s. s ≡ k []) → OnOk r (new.failed ≡ old.failed) → IfOk r (λ s. Ends remaining contents from to old new s)
-ends_ok remaining contents from to old mid new f k (Ok s) p end unfailed a e same =
-    let ro = remaining from.reader in
-    let rm = remaining to.reader in
-    record {
-      octets = p.octets;
-      read = p.read;
-      unfailed = unfailed;
-      end = end;
-      written = record { written = told_end ro rm rm (contents old.writer) (contents mid.writer) (contents new.writer) f k p a; failed = same };
-      counts_are = e ∙ sym (told_counts ro rm rm (contents old.writer) (contents mid.writer) (contents new.writer) f k p);
-    }
-ends_ok remaining contents from to old mid new f k (Err x) p end unfailed a e same = tt

@@ -1,5 +1,5 @@
 -- How `check` ends (profile).
-use Rattle.std.specs.Prelude.{◌≡◌, ⊤, ℕ, Bool, true, List, Option, Result, Ok, Err}
+use Rattle.std.specs.Prelude.{◌≡◌, ℕ, Bool, true, false, List, Option, Result, Ok, Err}
 use Rattle.std.specs.Io.KnownBytes.{Consumes, IsAtEnd}
 use Rattle.lagtool.specs.Checked.{report, summary}
 use Rattle.lagtool.specs.Sinks.{Begins, SinkState, Takes}
@@ -8,11 +8,11 @@ use Rattle.lagtool.specs.declared.summary.Summary.{Summary}
 use Rattle.lagtool.specs.declared.fault.ToolFault.{ToolFault}
 use Rattle.lagtool.specs.declared.fault.ToolFault.TheVariants.{Read, Write, NoMemory, Script, NotHex, NotMac}
 
--- the fault comes only where the source, or the sink, has failed; memory may run out
+-- the fault comes only where the source, or the sink, has failed, and the other has not; memory may run out where neither has
 abbrev pub HasCause : Bool → Bool → ToolFault → Type 0
-HasCause source sink Read = source ≡ true
-HasCause source sink Write = sink ≡ true
-HasCause source sink NoMemory = ⊤
+HasCause source sink Read = (source ≡ true) × (sink ≡ false)
+HasCause source sink Write = (source ≡ false) × (sink ≡ true)
+HasCause source sink NoMemory = (source ≡ false) × (sink ≡ false)
 HasCause source sink (Script fault) = ⊥
 HasCause source sink NotHex = ⊥
 HasCause source sink NotMac = ⊥

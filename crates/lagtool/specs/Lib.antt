@@ -5,7 +5,7 @@ pub mod Reports
 pub mod Engines
 pub mod Verdicts
 pub mod Checked
-pub mod Writing
+pub mod Scans
 pub mod Begun
 pub mod EntryTexts
 pub mod Replayed

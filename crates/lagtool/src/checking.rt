@@ -15,6 +15,8 @@ fn check_all<R: Read, W: Write>(
     source: &mut Source<R>,
     sink: &mut Sink<W>,
 ) -> Result<Summary, ToolFault>
+    requires source { source.old.failed ≡ false }
+    requires sink { sink.old.failed ≡ false }
     ensures ok { IfOk result (λ s. Ends R.remaining W.contents source.old source.new sink.old sink.new s) }
     ensures err { OnErr result (Stops R.remaining W.contents source.old source.new sink.old sink.new) }
     ensures cause { IfErr result (HasCause source.new.failed sink.new.failed) }
@@ -23,23 +25,25 @@ fn check_all<R: Read, W: Write>(
     let mut scan = Scan::new(alloc);
     let mut piece = [0; 4096];
     loop {
-        let n = match source.read(&mut piece) {
-            Ok(n) => n,
-            Err(_) => return Err(ToolFault::Read),
-        };
+        let n = source.read(&mut piece)?;
         if n == 0 {
             break;
         }
-        scan.feed(alloc, sink, &piece[..n])?;
+        scan.feed(alloc, &piece[..n])?;
+        scan.write(sink)?;
     }
-    scan.finish(alloc, sink)
+    let summary = scan.finish(alloc)?;
+    scan.write(sink)?;
+    Ok(summary)
 }
 
 /// Reads frames in hexadecimal, one a line, and writes for each line its number and what frame it
-/// is, and at the end the counts of lines and faults (profile).
+/// is, and at the end the counts of lines and faults (profile). The lines that a read ends are
+/// written before the next read.
 ///
-/// `Read` comes if the source failed in this call, `Write` if the sink did, `NoMemory` if memory ran
-/// out; a beginning of the report of what was read is written then.
+/// `Read` comes if the source failed in this call, `Write` if the sink did, and then the other did
+/// not; `NoMemory` if memory ran out, and neither failed. A beginning of the report of what was read
+/// is written then.
 pub fn check<R: Read, W: Write>(
     alloc: Global,
     source: &mut Source<R>,

@@ -1,176 +1,127 @@
-ghost use Rattle.std.specs.Prelude.{decimal, ◌≡◌, ℕ, ◌+◌, ◌<◌, ◌≤◌, ◌^◌, ◌++◌, List, [], ◌∷◌, length, string_bytes, vec_len, IfOk, OnOk, IfErr};
-ghost use Rattle.std.specs.Prelude.{OnErr, false};
-ghost use Rattle.std.specs.Io.KnownBytes.{Appends};
-ghost use Rattle.lagtool.specs.Begun.{HasCause};
+ghost use Rattle.std.specs.Prelude.{◌≡◌, ◌+◌, ◌<◌, ◌≤◌, ◌^◌, ◌++◌, [], length, IfOk, OnOk, OnErr};
+ghost use Rattle.memchr.specs.Find.{Nowhere, Passes, is_byte};
 ghost use Rattle.lagtool.specs.Checked.{counts_text, faults_of, numbered};
-ghost use Rattle.lagtool.specs.Verdicts.{verdict_text};
-ghost use Rattle.lagtool.specs.Writing.{AppendsBeginning, Starts, Writes, counted, pending};
+ghost use Rattle.lagtool.specs.Scans.{Reads, counted, unwritten};
+ghost use Rattle.lagtool.specs.Sinks.{Breaks, Takes};
 
-use crate::fault::ToolFault;
-use crate::sink::Sink;
+use crate::sink::{Sink, WriteFailed};
 use crate::summary::Summary;
-use crate::verdict::{LONGEST, Verdict, of_line};
+use crate::verdict::{LONGEST, of_line};
+use memchr::memchr;
 use std::alloc::{AllocError, Global};
 use std::io::Write;
+use std::marker::Model;
 
-/// How many lines were read, how many of them are faults, and what was read of the next.
+/// How many lines were read, how many of them are faults, what was read of the next, and what is
+/// said but not written yet.
 #[derive(Drop)]
 pub struct Scan {
     lines: u64,
     faults: u64,
     /// Of a line that is too long, 65,537 octets.
     line: Vec<u8>,
-    ghost few: { faults ≤ lines },
-    ghost short: { vec_len line ≤ 65537 },
+    report: String,
 }
 
-/// The line of the report for a line.
-fn numbered_text(alloc: Global, number: u64, verdict: Verdict) -> Result<String, AllocError>
-    ensures { IfOk result (λ text. string_bytes text ≡ decimal number ++ 32 ∷ (verdict_text verdict ++ 10 ∷ [])) }
-{
-    format!(in alloc; "{number} {verdict}\n")
-}
+impl Model for Scan {
+    ghost use Rattle.std.specs.Prelude.{◌≤◌, string_bytes, vec_len};
+    ghost use Rattle.lagtool.specs.Scans.{ScanState};
 
-/// The last line of the report.
-fn counts_text(alloc: Global, summary: Summary) -> Result<String, AllocError>
-    ensures { IfOk result (λ text. string_bytes text ≡ counts_text summary) }
-{
-    let Summary { checked, faults } = summary;
-    format!(in alloc; "checked {checked} faults {faults}\n")
+    ghost Value = { ScanState };
+
+    ghost view = { λ s. record { lines = s.lines; faults = s.faults; line = s.line.items; said = string_bytes s.report } };
+
+    ghost invariant = { λ s. (s.faults ≤ s.lines) × (vec_len s.line ≤ 65537) };
 }
 
 impl Scan {
     /// Before anything is read.
     pub fn new(alloc: Global) -> Scan
-        ensures lines { result.lines ≡ 0 }
-        ensures faults { result.faults ≡ 0 }
-        ensures line { result.line.items ≡ [] }
+        ensures { result ≡ record { lines = 0; faults = 0; line = []; said = [] } }
     {
         Scan {
             lines: 0,
             faults: 0,
             line: Vec::new(alloc),
+            report: String::new(alloc),
         }
     }
 
-    /// Ends the line: writes what it is, and counts it.
-    fn end_line<W: Write>(&mut self, alloc: Global, sink: &mut Sink<W>) -> Result<(), ToolFault>
+    /// Ends the line: says what it is, and counts it.
+    fn end_line(&mut self, alloc: Global) -> Result<(), AllocError>
         requires { self.old.lines + 1 < 2 ^ 64 }
-        ensures text { OnOk result (Appends (W.contents sink.old.writer) (W.contents sink.new.writer) (numbered (self.old.lines + 1) self.old.line.items)) }
-        ensures same { OnOk result (sink.new.failed ≡ sink.old.failed) }
-        ensures err { OnErr result (AppendsBeginning (W.contents sink.old.writer) (W.contents sink.new.writer) (numbered (self.old.lines + 1) self.old.line.items)) }
-        ensures cause { IfErr result (HasCause false sink.new.failed) }
+        ensures said { OnOk result (self.new.said ≡ self.old.said ++ numbered (self.old.lines + 1) self.old.line) }
         ensures lines { OnOk result (self.new.lines ≡ self.old.lines + 1) }
-        ensures faults { OnOk result (self.new.faults ≡ self.old.faults + faults_of self.old.line.items) }
-        ensures line { OnOk result (self.new.line.items ≡ []) }
+        ensures faults { OnOk result (self.new.faults ≡ self.old.faults + faults_of self.old.line) }
+        ensures line { OnOk result (self.new.line ≡ []) }
     {
         let verdict = of_line(alloc, &self.line)?;
-        let text = numbered_text(alloc, self.lines + 1, verdict)?;
-        if sink.put(text.as_bytes()).is_err() {
-            return Err(ToolFault::Write);
-        }
+        let number = self.lines + 1;
+        write!(self.report, "{number} {verdict}\n")?;
         if verdict.is_fault() {
             self.faults += 1;
         }
-        self.lines += 1;
+        self.lines = number;
         self.line.clear();
         Ok(())
     }
 
-    /// Reads an octet. Of a line that is too long no more is kept.
-    fn take<W: Write>(
-        &mut self,
-        alloc: Global,
-        sink: &mut Sink<W>,
-        octet: u8,
-    ) -> Result<(), ToolFault>
-        requires { self.old.lines + 1 < 2 ^ 64 }
-        ensures ok { OnOk result (Writes (W.contents sink.old.writer) (W.contents sink.new.writer)
-            (λ rest. pending self.old.lines self.old.faults self.old.line.items (octet ∷ rest))
-            (λ rest. pending self.new.lines self.new.faults self.new.line.items rest)) }
-        ensures counts { OnOk result ((rest : List ℕ) → counted self.old.lines self.old.faults self.old.line.items (octet ∷ rest) ≡ counted self.new.lines self.new.faults self.new.line.items rest) }
-        ensures same { OnOk result (sink.new.failed ≡ sink.old.failed) }
-        ensures err { OnErr result (Starts (W.contents sink.old.writer) (W.contents sink.new.writer)
-            (λ rest. pending self.old.lines self.old.faults self.old.line.items (octet ∷ rest))) }
-        ensures cause { IfErr result (HasCause false sink.new.failed) }
-        ensures lines { OnOk result (self.new.lines ≤ self.old.lines + 1) }
+    /// Keeps more octets of the line. Of one that is too long no more is kept.
+    fn keep(&mut self, octets: &[u8]) -> Result<(), AllocError>
+        requires { Nowhere (Passes (is_byte 10) octets.now) 0 (length octets.now) }
+        ensures reads { OnOk result (Reads self.old self.new octets.now) }
+        ensures lines { OnOk result (self.new.lines ≡ self.old.lines) }
     {
-        if octet == b'\n' {
-            return self.end_line(alloc, sink);
-        }
-        if self.line.len() <= LONGEST {
-            match self.line.push(octet) {
-                Ok(()) => {}
-                Err(_) => return Err(ToolFault::NoMemory),
-            }
-        }
-        Ok(())
+        let room = LONGEST + 1 - self.line.len();
+        let kept = octets.len().min(room);
+        self.line.extend_from_slice(&octets[..kept])
     }
 
     /// Reads a piece of the stream.
-    pub fn feed<W: Write>(
-        &mut self,
-        alloc: Global,
-        sink: &mut Sink<W>,
-        piece: &[u8],
-    ) -> Result<(), ToolFault>
+    pub fn feed(&mut self, alloc: Global, piece: &[u8]) -> Result<(), AllocError>
         requires { self.old.lines + length piece.now < 2 ^ 64 }
-        ensures ok { OnOk result (Writes (W.contents sink.old.writer) (W.contents sink.new.writer)
-            (λ rest. pending self.old.lines self.old.faults self.old.line.items (piece.now ++ rest))
-            (λ rest. pending self.new.lines self.new.faults self.new.line.items rest)) }
-        ensures counts { OnOk result ((rest : List ℕ) → counted self.old.lines self.old.faults self.old.line.items (piece.now ++ rest) ≡ counted self.new.lines self.new.faults self.new.line.items rest) }
-        ensures same { OnOk result (sink.new.failed ≡ sink.old.failed) }
-        ensures err { OnErr result (Starts (W.contents sink.old.writer) (W.contents sink.new.writer)
-            (λ rest. pending self.old.lines self.old.faults self.old.line.items (piece.now ++ rest))) }
-        ensures cause { IfErr result (HasCause false sink.new.failed) }
+        ensures reads { OnOk result (Reads self.old self.new piece.now) }
         ensures lines { OnOk result (self.new.lines ≤ self.old.lines + length piece.now) }
     {
-        for octet in piece {
-            self.take(alloc, sink, *octet)?;
+        let mut rest = piece;
+        while let Some(n) = memchr(b'\n', rest) {
+            self.keep(&rest[..n])?;
+            self.end_line(alloc)?;
+            rest = &rest[n + 1..];
         }
-        Ok(())
+        self.keep(rest)
     }
 
-    /// Writes the counts.
-    fn write_counts<W: Write>(
-        &self,
-        alloc: Global,
-        sink: &mut Sink<W>,
-    ) -> Result<Summary, ToolFault>
-        ensures ok { OnOk result (Appends (W.contents sink.old.writer) (W.contents sink.new.writer) (counts_text (record { checked = self.now.lines; faults = self.now.faults }))) }
-        ensures counts { IfOk result (λ s. s ≡ record { checked = self.now.lines; faults = self.now.faults }) }
-        ensures same { OnOk result (sink.new.failed ≡ sink.old.failed) }
-        ensures err { OnErr result (AppendsBeginning (W.contents sink.old.writer) (W.contents sink.new.writer) (counts_text (record { checked = self.now.lines; faults = self.now.faults }))) }
-        ensures cause { IfErr result (HasCause false sink.new.failed) }
+    /// Says the counts.
+    fn end_report(&mut self) -> Result<Summary, AllocError>
+        ensures said { OnOk result (self.new.said ≡ self.old.said ++ counts_text (record { checked = self.old.lines; faults = self.old.faults })) }
+        ensures counts { IfOk result (λ s. s ≡ record { checked = self.old.lines; faults = self.old.faults }) }
     {
-        let summary = Summary {
-            checked: self.lines,
-            faults: self.faults,
-        };
-        let text = counts_text(alloc, summary)?;
-        match sink.put(text.as_bytes()) {
-            Ok(()) => Ok(summary),
-            Err(_) => Err(ToolFault::Write),
-        }
+        let (checked, faults) = (self.lines, self.faults);
+        write!(self.report, "checked {checked} faults {faults}\n")?;
+        Ok(Summary { checked, faults })
     }
 
-    /// Ends the last line, if there is one, and writes the counts.
-    pub fn finish<W: Write>(
-        &mut self,
-        alloc: Global,
-        sink: &mut Sink<W>,
-    ) -> Result<Summary, ToolFault>
+    /// Ends the stream: octets behind the last newline are a line too.
+    pub fn finish(&mut self, alloc: Global) -> Result<Summary, AllocError>
         requires { self.old.lines + 1 < 2 ^ 64 }
-        ensures ok { OnOk result (Appends (W.contents sink.old.writer) (W.contents sink.new.writer) (pending self.old.lines self.old.faults self.old.line.items [])) }
-        ensures counts { IfOk result (λ s. s ≡ counted self.old.lines self.old.faults self.old.line.items []) }
-        ensures same { OnOk result (sink.new.failed ≡ sink.old.failed) }
-        ensures err { OnErr result (AppendsBeginning (W.contents sink.old.writer) (W.contents sink.new.writer) (pending self.old.lines self.old.faults self.old.line.items [])) }
-        ensures cause { IfErr result (HasCause false sink.new.failed) }
+        ensures said { OnOk result (self.new.said ≡ unwritten self.old []) }
+        ensures counts { IfOk result (λ s. s ≡ counted self.old []) }
     {
-        if self.line.is_empty() {
-            return self.write_counts(alloc, sink);
+        if !self.line.is_empty() {
+            self.end_line(alloc)?;
         }
-        self.end_line(alloc, sink)?;
-        self.write_counts(alloc, sink)
+        self.end_report()
+    }
+
+    /// Writes what is said, in one call of the sink.
+    pub fn write<W: Write>(&mut self, sink: &mut Sink<W>) -> Result<(), WriteFailed>
+        ensures ok { OnOk result (Takes W.contents sink.old sink.new (self.old.said)) }
+        ensures err { OnErr result (Breaks W.contents sink.old sink.new (self.old.said)) }
+        ensures said { OnOk result (self.new ≡ record self.old { said = [] }) }
+    {
+        sink.put(self.report.as_bytes())?;
+        self.report.clear();
+        Ok(())
     }
 }

@@ -1,6 +1,6 @@
-ghost use Rattle.std.specs.Prelude.{◌≡◌, ℕ, ◌≤◌, ◌<◌, ◌^◌, ◌-◌, length, take, true, false, List, IfOk, OnErr};
-ghost use Rattle.std.specs.Io.KnownBytes.{Consumes, IsAtEnd};
-ghost use Rattle.lagtool.specs.Sources.{Gives};
+ghost use Rattle.std.specs.Prelude.{◌≡◌, ◌≤◌, ◌<◌, ◌^◌, ◌-◌, length, take, false, IfOk, OnErr};
+ghost use Rattle.std.specs.Io.KnownBytes.{IsAtEnd};
+ghost use Rattle.lagtool.specs.Sources.{Fails, Gives};
 
 use std::io::Read;
 use std::marker::Model;
@@ -65,8 +65,7 @@ impl<R: Read> Source<R> {
         ensures bound { IfOk result (λ n. n ≤ length piece.new) }
         ensures ok { IfOk result (λ n. Gives R.remaining self.old self.new (take n piece.new)) }
         ensures end { IfOk result (λ n. n ≡ 0 → IsAtEnd (R.remaining self.new.reader)) }
-        ensures err { OnErr result ((octets : List ℕ) × Consumes (R.remaining self.old.reader) (R.remaining self.new.reader) octets) }
-        ensures failed { OnErr result (self.new.failed ≡ true) }
+        ensures err { OnErr result (Fails R.remaining self.old self.new) }
     {
         match self.inner.read(piece) {
             Ok(n) if n as u64 <= self.left => {

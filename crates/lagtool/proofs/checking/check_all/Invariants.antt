@@ -1,16 +1,14 @@
-use Rattle.std.proofs.Common.{◌≡◌, ◌+◌, ◌≤◌}
-use Rattle.lagtool.specs.Writing.{counted, pending}
+use Rattle.std.proofs.Common.{◌≡◌, ◌+◌, ◌≤◌, false}
 use Rattle.lagtool.proofs.ReportLemmas.{Told}
 use Rattle.lagtool.proofs.checking.check_all.Given as goal
 
-abbrev pub invariant-loop-n : goal.invariant-loop-n
-invariant-loop-n g l = record {
-  told : Told (g.R.Read.remaining l.initial.source.reader) (g.R.Read.remaining l.source.reader) (g.W.Write.contents l.initial.sink.writer) (g.W.Write.contents l.sink.writer)
-      (λ rest. pending l.scan.lines l.scan.faults l.scan.line.items rest) (λ rest. counted l.scan.lines l.scan.faults l.scan.line.items rest);
-  source : l.source.failed ≡ l.initial.source.failed;
-  sink : l.sink.failed ≡ l.initial.sink.failed;
+abbrev pub invariant-loop-scan : goal.invariant-loop-scan
+invariant-loop-scan g l = record {
+  told : Told (g.R.Read.remaining l.initial.source.reader) (g.R.Read.remaining l.source.reader) (g.W.Write.contents l.initial.sink.writer) (g.W.Write.contents l.sink.writer) l.scan;
+  source : l.source.failed ≡ false;
+  sink : l.sink.failed ≡ false;
   left : l.scan.lines + l.source.left ≤ l.initial.source.left;
 }
 
-abbrev pub decreases-loop-n : goal.decreases-loop-n
-decreases-loop-n g l = l.source.left
+abbrev pub decreases-loop-scan : goal.decreases-loop-scan
+decreases-loop-scan g l = l.source.left

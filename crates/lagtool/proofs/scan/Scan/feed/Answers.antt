@@ -1,22 +1,16 @@
-use Rattle.std.proofs.Common.{arith, ◌∙◌}
-use Rattle.lagtool.specs.Writing.{counted, pending}
-use Rattle.lagtool.proofs.ReportLemmas.{begins_more, counted_more, on_err, writes_more}
+use Rattle.std.proofs.Common.{◌++◌, ◌∷◌, [], arith, take}
+use Rattle.lagtool.proofs.ReportLemmas.{ends_line, line_done, reads_both, rest_length}
 use Rattle.lagtool.proofs.scan.Scan.feed.Goals as goal
 
-pub returns-in_err-take-clause-err : goal.returns-in_err-take-clause-err
-returns-in_err-take-clause-err g c =
-    let s = c.args.self.now in
-    let t = c.loop-octet.self in
-    on_err c.from_residual.result _ (begins_more _ _ _ (λ xs. pending s.lines s.faults s.line.items xs) (λ xs. pending t.lines t.faults t.line.items xs) c.args.piece.now c.loop-octet.octet-index (omega arith) c.loop-octet.invariant.told c.in_err-take.ensures.err)
-
-pub loop-octet-preserved : goal.loop-octet-preserved
-loop-octet-preserved g c =
-    let s = c.args.self.now in
-    let t = c.loop-octet.self in
-    let u = c.take.new.self in
-    record {
-      told = writes_more _ _ _ (λ xs. pending s.lines s.faults s.line.items xs) (λ xs. pending t.lines t.faults t.line.items xs) (λ xs. pending u.lines u.faults u.line.items xs) c.args.piece.now c.loop-octet.octet-index (omega arith) c.loop-octet.invariant.told c.in_ok-take.ensures.ok;
-      counts = counted_more (λ xs. counted s.lines s.faults s.line.items xs) (λ xs. counted t.lines t.faults t.line.items xs) (λ xs. counted u.lines u.faults u.line.items xs) c.args.piece.now c.loop-octet.octet-index (omega arith) c.loop-octet.invariant.counts c.in_ok-take.ensures.counts;
-      same = c.in_ok-take.ensures.same ∙ c.loop-octet.invariant.same;
-      lines = omega (arith, c.in_ok-take.ensures.lines, c.loop-octet.invariant.lines);
-    }
+pub loop-n-preserved : goal.loop-n-preserved
+loop-n-preserved c =
+    let (done, split, reads, few) = c.loop-n.invariant in
+    let rest = c.loop-n.rest.now in
+    let n = c.in-Some.n in
+    let found = c.in-Some.ensures in
+    let e = c.in_ok-end_line.ensures in (
+      done ++ (take n rest ++ 10 ∷ []),
+      line_done c.args.piece.now done rest n split found.0.high found.1,
+      reads_both _ _ _ done (take n rest ++ 10 ∷ []) reads (reads_both _ _ _ (take n rest) (10 ∷ []) c.in_ok-keep.ensures.reads (ends_line _ _ e.said e.lines e.faults e.line)),
+      omega (arith, few, e.lines, c.in_ok-keep.ensures.lines, rest_length rest n found.0.high),
+    )

@@ -1,14 +1,11 @@
-use Rattle.std.proofs.Common.{ℕ, List, ◌≡◌, ◌++◌, ◌≤◌, ◌+◌, take}
-use Rattle.lagtool.specs.Writing.{Writes, counted, pending}
+-- What is gone from `rest` was read.
+use Rattle.std.proofs.Common.{ℕ, List, ◌≡◌, ◌+◌, ◌++◌, ◌≤◌, length}
+use Rattle.lagtool.specs.Scans.{Reads}
 use Rattle.lagtool.proofs.scan.Scan.feed.Given as goal
 
-abbrev pub invariant-loop-octet : goal.invariant-loop-octet
-invariant-loop-octet g l = record {
-  told : Writes (g.W.Write.contents l.initial.sink.writer) (g.W.Write.contents l.sink.writer)
-      (λ rest. pending l.initial.self.lines l.initial.self.faults l.initial.self.line.items (take l.octet-index l.piece ++ rest))
-      (λ rest. pending l.self.lines l.self.faults l.self.line.items rest);
-  counts : (rest : List ℕ) → counted l.initial.self.lines l.initial.self.faults l.initial.self.line.items (take l.octet-index l.piece ++ rest)
-      ≡ counted l.self.lines l.self.faults l.self.line.items rest;
-  same : l.sink.failed ≡ l.initial.sink.failed;
-  lines : l.self.lines ≤ l.initial.self.lines + l.octet-index;
-}
+abbrev pub invariant-loop-n : goal.invariant-loop-n
+invariant-loop-n l =
+    (done : List ℕ) × (l.piece ≡ done ++ l.rest) × Reads l.initial.self l.self done × (l.self.lines + length l.rest ≤ l.initial.self.lines + length l.piece)
+
+abbrev pub decreases-loop-n : goal.decreases-loop-n
+decreases-loop-n l = length l.rest
