@@ -22,12 +22,12 @@ abbrev pub vectors_text : List Bool → List ℕ
 vectors_text passed = lines_from 1 passed ++ (codes "vectors " ++ (decimal (length passed) ++ (codes " failed " ++ (decimal (failures passed) ++ 10 ∷ []))))
 
 -- how `vectors` ends, with ten answers whether a vector passes
-abbrev pub Runs : {W : Type 0} → (W → Option (List ℕ)) → SinkState W → SinkState W → Result Summary ToolFault → Type 0
-Runs contents old new (Ok summary) =
+abbrev pub RunsVectors : {W : Type 0} → (W → Option (List ℕ)) → SinkState W → SinkState W → Result Summary ToolFault → Type 0
+RunsVectors contents old new (Ok summary) =
     (passed : List Bool) × (length passed ≡ 10) × Takes contents old new (vectors_text passed) × (summary ≡ record { checked = 10; faults = failures passed })
-Runs contents old new (Err Write) = (passed : List Bool) × (length passed ≡ 10) × Breaks contents old new (vectors_text passed)
-Runs contents old new (Err NoMemory) = new ≡ old
-Runs contents old new (Err Read) = ⊥
-Runs contents old new (Err (Script fault)) = ⊥
-Runs contents old new (Err NotHex) = ⊥
-Runs contents old new (Err NotMac) = ⊥
+RunsVectors contents old new (Err Write) = (passed : List Bool) × (length passed ≡ 10) × Breaks contents old new (vectors_text passed)
+RunsVectors contents old new (Err NoMemory) = new ≡ old
+RunsVectors contents old new (Err Read) = ⊥
+RunsVectors contents old new (Err (Script fault)) = ⊥
+RunsVectors contents old new (Err NotHex) = ⊥
+RunsVectors contents old new (Err NotMac) = ⊥

@@ -1,5 +1,5 @@
 ghost use Rattle.std.specs.Prelude.{◌≡◌, ◌++◌, false, IfOk, OnOk, length, string_bytes};
-ghost use Rattle.lagtool.specs.Vectors.{Runs, failures, vector_line, lines_from, vectors_text};
+ghost use Rattle.lagtool.specs.Vectors.{RunsVectors, failures, vector_line, lines_from, vectors_text};
 
 use crate::algorithm::by_number;
 use crate::fault::ToolFault;
@@ -247,14 +247,14 @@ fn vectors_text(alloc: Global, passed: &[bool], failed: usize) -> Result<String,
     Ok(text)
 }
 
-/// Runs the vectors, known inputs with what is to come of them, and writes for each whether it
+/// RunsVectors the vectors, known inputs with what is to come of them, and writes for each whether it
 /// passes, and then how many there are and how many failed (profile).
 ///
 /// `NoMemory` comes if memory was refused; nothing is written then. `Write` comes if the sink failed
 /// in this call; nothing or a beginning of the text is written then.
 pub fn vectors<W: Write>(alloc: Global, sink: &mut Sink<W>) -> Result<Summary, ToolFault>
     requires { sink.old.failed ≡ false }
-    ensures { Runs W.contents sink.old sink.new result }
+    ensures { RunsVectors W.contents sink.old sink.new result }
 {
     let passed = passed(alloc)?;
     let failed = failures(&passed);
