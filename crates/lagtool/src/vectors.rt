@@ -247,7 +247,7 @@ fn vectors_text(alloc: Global, passed: &[bool], failed: usize) -> Result<String,
     Ok(text)
 }
 
-/// RunsVectors the vectors, known inputs with what is to come of them, and writes for each whether it
+/// Runs the vectors, known inputs with what is to come of them, and writes for each whether it
 /// passes, and then how many there are and how many failed (profile).
 ///
 /// `NoMemory` comes if memory was refused; nothing is written then. `Write` comes if the sink failed
