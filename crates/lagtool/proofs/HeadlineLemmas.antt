@@ -1,5 +1,5 @@
 -- What a report tells is what holds of every world.
-use Rattle.std.proofs.Common.{◌≡◌, ◌<◌, ℕ, List, [], ◌∷◌, Option, Some, None, false, length, get_or, refl, sym, ap, ◌∙◌, subst, arith}
+use Rattle.std.proofs.Common.{◌≡◌, ◌<◌, ◌+◌, ℕ, List, [], ◌∷◌, Option, Some, None, false, length, get_or, refl, sym, ap, ◌∙◌, subst, arith}
 use Rattle.std.specs.Prelude.{Result, Ok, Err}
 use Rattle.std.specs.List.{range_with_len}
 use Rattle.std.proofs.lemmas.List.{ext_get_or}
@@ -20,7 +20,8 @@ use Rattle.lagtool.specs.Replayed.{HasNoScript}
 
 counted : (xs : List ℕ) → ((i : ℕ) → i < length xs → get_or xs i 0 ≡ i) → xs ≡ range_with_len 0 (length xs)
 counted xs h =
-    ext_get_or 0 xs (range_with_len 0 (length xs)) (sym (length-range_with_len 0 (length xs))) (λ k lt. h k lt ∙ sym (get_or-range_with_len 0 (length xs) k 0 lt))
+    ext_get_or 0 xs (range_with_len 0 (length xs)) (sym (length-range_with_len 0 (length xs)))
+    (λ k lt. let at : 0 + k ≡ k = omega arith in h k lt ∙ sym (get_or-range_with_len 0 (length xs) k 0 lt ∙ at))
 
 -- a flow of a sound world that was not forced
 pub flow_in_order : (j : Joint) (o : Option Side) (agg conv : ℕ) → IsSound j → forced_in (serials_of_system o agg conv j) ≡ false

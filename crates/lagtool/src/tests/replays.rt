@@ -1,10 +1,10 @@
+use crate::algorithm::by_number;
 use crate::fault::{FaultText, ToolFault};
 use crate::replay::replay;
 use crate::rows;
 use crate::sink::Sink;
 use crate::tests::sink_of;
 use crate::vectors::vectors;
-use distributor::by_number;
 use lagworld::{EntryFault, ScriptFault};
 use std::alloc::Global;
 use std::test::Fail;
