@@ -6,13 +6,14 @@ use Rattle.lagtool.specs.Sinks.{Begins, SinkState, Takes}
 use Rattle.lagtool.specs.Sources.{SourceState}
 use Rattle.lagtool.specs.declared.summary.Summary.{Summary}
 use Rattle.lagtool.specs.declared.fault.ToolFault.{ToolFault}
-use Rattle.lagtool.specs.declared.fault.ToolFault.TheVariants.{Read, Write, NoMemory, NotHex, NotMac}
+use Rattle.lagtool.specs.declared.fault.ToolFault.TheVariants.{Read, Write, NoMemory, Script, NotHex, NotMac}
 
 -- the fault comes only where the source, or the sink, has failed, and the other has not; memory may run out where neither has
 abbrev pub HasCause : Bool → Bool → ToolFault → Type 0
 HasCause source sink Read = (source ≡ true) × (sink ≡ false)
 HasCause source sink Write = (source ≡ false) × (sink ≡ true)
 HasCause source sink NoMemory = (source ≡ false) × (sink ≡ false)
+HasCause source sink (Script fault) = ⊥
 HasCause source sink NotHex = ⊥
 HasCause source sink NotMac = ⊥
 
