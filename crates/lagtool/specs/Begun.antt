@@ -26,7 +26,7 @@ module _ {R W : Type 0} (remaining : R → Option (List ℕ)) (contents : W → 
     pub fails : Fails remaining before to
     pub written : Takes contents old new (ended_text octets)
 
-  -- memory ran out: nothing is written of what one read gave, and what the report says of the lines that were ended before it is written
+  -- memory ran out: the same without a last part of the octets, no longer than one read
   pub record StopsShort (from to : SourceState R) (old new : SinkState W) : Type 0 where
     pub octets : List ℕ
     pub last : List ℕ
@@ -34,7 +34,7 @@ module _ {R W : Type 0} (remaining : R → Option (List ℕ)) (contents : W → 
     pub one_read : length last ≤ 4096
     pub written : Takes contents old new (ended_text octets)
 
-  -- the sink failed: what is written is a beginning of the report of what was read, and lacks nothing that was to be written before one read
+  -- the sink failed: what is written is a beginning of the report of what was read, and lacks no line that was ended before a last part of it, no longer than one read
   pub record StopsWriting (from to : SourceState R) (old new : SinkState W) : Type 0 where
     pub octets : List ℕ
     pub last : List ℕ
