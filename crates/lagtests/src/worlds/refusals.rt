@@ -3,7 +3,7 @@ use crate::worlds::Entry::{
 };
 use crate::worlds::Want::Is;
 use crate::worlds::given::{INDIVIDUAL, ONE, cable, joined, lines, modulo, world_config};
-use crate::worlds::starts::{HELD, NONE_DISTRIBUTING, TICKED, UP};
+use crate::worlds::starts::{HELD, LINK_UP, NONE_DISTRIBUTING, TICKED};
 use crate::worlds::{Entry, F48, Row, Want, event, events, plays};
 use cables::{AnyCable, Cable, Item, Stamp};
 use lagsystem::{BadConfig, SystemFault};
@@ -15,7 +15,7 @@ use std::test::Fail;
 
 /// System 1 and the system of this number with these ports, the cables between them, so many lines, and why no world is made
 /// of it.
-#[derive(Clone, Copy)]
+#[derive(Clone, Copy, Debug)]
 struct Given {
     first: &'static [u16],
     second: &'static [u16],
@@ -25,8 +25,8 @@ struct Given {
     reason: BadWorld,
 }
 
+/// Of each the later reasons hold too.
 const GIVEN: [Given; 7] = [
-    // every later reason holds too, as it does in the rows below
     Given {
         first: &[],
         second: &[],
@@ -112,7 +112,7 @@ fn refuses(rt: &impl Abort, alloc: Global, place: usize) -> Result<(), WorldFaul
     assert!(rt; place < GIVEN.len());
     let given = GIVEN[place];
     let wanted = Some(WorldFault::BadConfig(given.reason));
-    assert_eq!(rt; refusal(alloc, given)?, wanted, "row {place}");
+    assert_eq!(rt; refusal(alloc, given)?, wanted, "{given:?}");
     Ok(())
 }
 
@@ -223,7 +223,7 @@ fn stops(rt: &impl Abort, alloc: Global) -> Result<(), WorldFault> {
 }
 
 #[test]
-fn a_run_stops_at_the_first_refusal(rt: HostRuntime) -> Result<(), Fail> {
+fn a_run_stops_at_the_first_fault(rt: HostRuntime) -> Result<(), Fail> {
     stops(&rt, rt.alloc())?;
     Ok(())
 }
@@ -235,8 +235,8 @@ const SLOW: [u8; 14] = [1, 0x80, 0xc2, 0, 0, 2, 2, 0, 0, 0, 0, 1, 0x88, 9];
 
 /// What a system refuses before a port distributes.
 const EARLY: [(Entry, Want); 10] = [
-    (Sense(1, 1), UP),
-    (Sense(2, 1), UP),
+    (Sense(1, 1), LINK_UP),
+    (Sense(2, 1), LINK_UP),
     (Emit(1, 9), Is(Reply::Refused(SystemFault::NoPort))),
     (
         Configure(1, 9, 1, true),
@@ -283,7 +283,7 @@ const REFUSED_ROW: Row = Row {
 };
 
 #[test]
-fn every_refusal_of_a_system_is_a_reply(rt: HostRuntime) -> Result<(), Fail> {
+fn refusals_of_a_system_are_replies(rt: HostRuntime) -> Result<(), Fail> {
     plays(&rt, rt.alloc(), &REFUSED_ROW)?;
     Ok(())
 }
