@@ -6,10 +6,12 @@ pub const VERSION: &str = "0.1.0";
 pub const ABOUT: &str = "Reads and answers LACPDUs and Marker PDUs (IEEE 802.1AX)";
 
 pub const STATUSES: &str = "\
-Status 0: the payload is accepted, the frame is answered, or no line of the file is a fault.
-Status 1: the payload is refused, the frame is not answered, or a line of the file is a fault.
+Status 0: the payload is accepted, the frame is answered, no line of the file is a fault, the script
+          was run, or no vector failed.
+Status 1: the payload is refused, the frame is not answered, a line of the file is a fault, or a vector
+          failed.
 Status 2: standard error says why: a wrong command line, a word that is not hexadecimal, a file that
-          cannot be read, output that cannot be written, or no memory.";
+          cannot be read or is no script, output that cannot be written, or no memory.";
 
 pub const DECODE: &str = "Prints the LACPDU or Marker PDU in a payload";
 
@@ -47,8 +49,18 @@ fault: runt, refused and why, not hex, too long. Last comes a line with the coun
 
 Example: lagtool check frames.txt";
 
-pub const REPLAY: &str = "Runs a script (not built yet)";
+pub const REPLAY: &str = "Runs a script of two systems and their cables, and prints its report";
 
-pub const SCRIPT: &str = "A file, or - for standard input";
+pub const SCRIPT: &str =
+    "A file in TOML, or - for standard input; docs/PROFILE.md has its keys and entries";
 
-pub const VECTORS: &str = "Runs the vectors (not built yet)";
+pub const REPLAY_EXAMPLE: &str = "\
+Prints a line for each entry, with its reply; how the ends of each cable agree in the end; and for
+each conversation that sent frames their count, and the serials that arrived.
+
+Example: lagtool replay examples/two-switches-come-up.toml";
+
+pub const VECTORS: &str = "Runs known inputs and says whether each comes to what it is to come to";
+
+pub const VECTORS_LINES: &str =
+    "Prints a line for each of V1 to V10, ok or failed, and then the counts.";

@@ -63,14 +63,6 @@ fn subcommand<'a>(alloc: Global, name: &'a str, about: &'a str, after: &'a str) 
     Command::new(alloc, name).about(about).after_help(after)
 }
 
-/// A subcommand that takes no words yet, and that the program's help does not list.
-fn unlisted<'a>(alloc: Global, name: &'a str, about: &'a str) -> Command<'a>
-    ensures app { app_of result ≡ new_app name.entry.now }
-    ensures local { (fields_of result).has_globals ≡ false }
-{
-    Command::new(alloc, name).about(about).hide(true)
-}
-
 /// The command with one word more that must be given.
 fn with_word<'a>(
     command: Command<'a>,
@@ -108,9 +100,9 @@ fn program<'a>(alloc: Global) -> Result<Command<'a>, AllocError>
     let respond = with_word(respond, alloc, "HEX", help::FRAME)?;
     let check = subcommand(alloc, "check", help::CHECK, help::CHECK_EXAMPLE);
     let check = with_word(check, alloc, "FILE", help::FRAMES)?;
-    let replay = unlisted(alloc, "replay", help::REPLAY);
+    let replay = subcommand(alloc, "replay", help::REPLAY, help::REPLAY_EXAMPLE);
     let replay = with_word(replay, alloc, "SCRIPT", help::SCRIPT)?;
-    let vectors = unlisted(alloc, "vectors", help::VECTORS);
+    let vectors = subcommand(alloc, "vectors", help::VECTORS, help::VECTORS_LINES);
     program_alone(alloc)?
         .subcommand(decode)?
         .subcommand(respond)?

@@ -62,11 +62,12 @@ fn help_of(alloc: Global, words: &[&str]) -> Result<String, AllocError> {
 #[test]
 fn help_says_what_words_mean(rt: HostRuntime) -> Result<(), Fail> {
     let alloc = rt.alloc();
-    let rows: [(&[&str], &[&str]); 5] = [
+    let rows: [(&[&str], &[&str]); 7] = [
         (
             &["lagtool", "--help"],
             &[
-                "LACPDUs", "decode", "respond", "check", "Status 0", "Status 1", "Status 2",
+                "LACPDUs", "decode", "respond", "check", "replay", "vectors", "Status 0",
+                "Status 1", "Status 2",
             ],
         ),
         (
@@ -89,6 +90,11 @@ fn help_says_what_words_mean(rt: HostRuntime) -> Result<(), Fail> {
                 "lagtool check frames.txt",
             ],
         ),
+        (
+            &["lagtool", "replay", "--help"],
+            &["TOML", "standard input", "lagtool replay examples/"],
+        ),
+        (&["lagtool", "vectors", "--help"], &["V1 to V10"]),
         (&["lagtool", "--version"], &["lagtool 0.1.0"]),
     ];
     for (words, parts) in rows {
@@ -99,10 +105,6 @@ fn help_says_what_words_mean(rt: HostRuntime) -> Result<(), Fail> {
                 "{words:?} does not say {part}: {text}"
             );
         }
-    }
-    let text = help_of(alloc, &["lagtool", "--help"])?;
-    for part in ["replay", "vectors"] {
-        assert!(rt; !text.as_str().contains(part), "help lists {part}: {text}");
     }
     Ok(())
 }

@@ -1,23 +1,25 @@
 -- The report so far and what is still to come.
-use Rattle.std.proofs.Common.{ℕ, suc, ◌+◌, ◌-◌, ◌<◌, ◌≤◌, ◌≡◌, ◌++◌, ◌==◌, min, true, false, cond, Bool, List, [], ◌∷◌, Option, get_or, inl, inr, length, refl, sym, ap, ◌∙◌, append_assoc, arith, subst, take, drop}
-use Rattle.std.proofs.lemmas.List.{append-nil, drop_more, get_or-take, length-append, length-drop, length-take-le, take_rest, take-append-drop, take_all, take_at}
+use Rattle.std.proofs.Common.{ℕ, zero, suc, ◌+◌, ◌-◌, ◌<◌, ◌≤◌, ◌≡◌, ◌++◌, ◌==◌, min, true, false, cond, Bool, List, [], ◌∷◌, Option, get_or, inl, inr, length, refl, sym, ap, ◌∙◌, append_assoc, arith, subst, take, drop}
+use Rattle.std.proofs.lemmas.List.{append-nil, drop_more, get_or-take, length-append, length-drop, length-take-le, take_rest, take-append-drop, take_all}
 use Rattle.std.proofs.lemmas.Bool.{cases_lt, eqb-true, lt-ltb}
-use Rattle.std.specs.Prelude.{IfErr, IfOk, OnErr, OnOk, Result, Ok, Err, is_ok}
+use Rattle.std.specs.Prelude.{IfErr, IfOk, IsErrAnd, OnOk, Result, Ok, Err, is_ok}
 use Rattle.std.specs.Fmt.{decimal}
-use Rattle.std.specs.Io.KnownBytes.{Appends, Consumes, IsAtEnd}
+use Rattle.std.specs.Io.KnownBytes.{Appends, IsAtEnd}
 use Rattle.memchr.specs.Find.{Nowhere, Passes, is_byte}
 use Rattle.hex.specs.Hex.{decode_of}
 use Rattle.lagtool.specs.Begun.{Checks, Ends, HasCause, Stops}
-use Rattle.lagtool.specs.Checked.{close, counted_from, counts_text, faults_of, lines_of, numbered, prepend, report, report_from, summary}
-use Rattle.lagtool.specs.Scans.{Reads, ScanState, counted, unwritten}
+use Rattle.lagtool.specs.Checked.{close, counted_from, counts_text, ended_text, faults_of, lines_of, newlines, numbered, prepend, report, report_from, summary, verdicts_from}
+use Rattle.lagtool.specs.Scans.{Reads, ScanState, counted, said_after, unwritten}
 use Rattle.lagtool.specs.Sinks.{Begins, SinkState, Takes}
-use Rattle.lagtool.specs.Sources.{SourceState}
+use Rattle.lagtool.specs.Sources.{Fails, Gives, SourceState}
 use Rattle.lagtool.specs.Verdicts.{hex_verdict, is_fault, line_verdict, verdict_text, without_return}
 use Rattle.lagtool.specs.declared.fault.ToolFault.{ToolFault}
+use Rattle.lagtool.specs.declared.fault.ToolFault.TheVariants.{NoMemory, Read, Write}
 use Rattle.lagtool.specs.declared.summary.Summary.{Summary}
 use Rattle.lagtool.specs.declared.verdict.Verdict.{Verdict}
 use Rattle.lagtool.specs.declared.verdict.Verdict.TheVariants.{TooLong}
 use Rattle.lagtool.proofs.OctetLemmas.{appends_both, appends_none, consumes_both, consumes_none}
+use Rattle.lagtool.proofs.SinkLemmas.{takes_more}
 
 prepend_none : (ls : List (List ℕ)) → prepend [] ls ≡ ls
 prepend_none [] = refl
@@ -77,6 +79,12 @@ module _ {X : Type 0} (F : List (List ℕ) → X) (by_verdict : (l m : List ℕ)
     | inr more ↦ more_of_line line xs rest h ∙ ap (λ ys. F (prepend (line ++ ys) (lines_of rest))) (sym (take_all n xs (omega (arith, is))))
   ]
 
+newlines_joined : (xs rest : List ℕ) → InOneLine xs → newlines (xs ++ rest) ≡ newlines rest
+newlines_joined [] rest h = refl
+newlines_joined (b ∷ bs) rest h =
+    let first : (b == 10) ≡ false = not_true (b == 10) (h 0 (omega arith) (omega arith)) in
+    ap (λ t. cond t (suc (newlines (bs ++ rest))) (newlines (bs ++ rest))) first ∙ newlines_joined bs rest (λ k low high. h (suc k) (omega arith) (omega (arith, high)))
+
 -- what is still to come after n lines with k faults, and some octets of the next
 abbrev pub pending : ℕ → ℕ → List ℕ → List ℕ → List ℕ
 pending n k line rest = report_from n k (prepend line (lines_of rest))
@@ -84,14 +92,25 @@ pending n k line rest = report_from n k (prepend line (lines_of rest))
 abbrev pub counts : ℕ → ℕ → List ℕ → List ℕ → Summary
 counts n k line rest = counted_from n k (prepend line (lines_of rest))
 
+-- what is said of the lines that these octets end, after n lines and some octets of the next
+abbrev pub ended : ℕ → List ℕ → List ℕ → List ℕ
+ended n line rest = verdicts_from n (take (newlines rest) (prepend line (lines_of rest)))
+
 same_report : (n k : ℕ) (l m : List ℕ) (ls : List (List ℕ)) → line_verdict l ≡ line_verdict m → report_from n k (l ∷ ls) ≡ report_from n k (m ∷ ls)
 same_report n k l m ls e = ap (λ (v : Verdict). (decimal (n + 1) ++ 32 ∷ (verdict_text v ++ 10 ∷ [])) ++ report_from (n + 1) (k + cond (is_fault v) 1 0) ls) e
 
 same_counts : (n k : ℕ) (l m : List ℕ) (ls : List (List ℕ)) → line_verdict l ≡ line_verdict m → counted_from n k (l ∷ ls) ≡ counted_from n k (m ∷ ls)
 same_counts n k l m ls e = ap (λ (v : Verdict). counted_from (n + 1) (k + cond (is_fault v) 1 0) ls) e
 
+same_verdicts : (n c : ℕ) (l m : List ℕ) (ls : List (List ℕ)) → line_verdict l ≡ line_verdict m → verdicts_from n (take c (l ∷ ls)) ≡ verdicts_from n (take c (m ∷ ls))
+same_verdicts n zero l m ls e = refl
+same_verdicts n (suc c) l m ls e = ap (λ (v : Verdict). (decimal (n + 1) ++ 32 ∷ (verdict_text v ++ 10 ∷ [])) ++ verdicts_from (n + 1) (take c ls)) e
+
 same_unwritten : (a b : List ℕ) (n m k j : ℕ) (l o rest : List ℕ) → a ≡ b → n ≡ m → k ≡ j → l ≡ o → a ++ pending n k l rest ≡ b ++ pending m j o rest
 same_unwritten a b n m k j l o rest e f g h = rw (e, f, g, h) refl
+
+same_said : (a b : List ℕ) (n m : ℕ) (l o rest : List ℕ) → a ≡ b → n ≡ m → l ≡ o → a ++ ended n l rest ≡ b ++ ended m o rest
+same_said a b n m l o rest e f h = rw (e, f, h) refl
 
 same_counted : (n m k j : ℕ) (l o rest : List ℕ) → n ≡ m → k ≡ j → l ≡ o → counts n k l rest ≡ counts m j o rest
 same_counted n m k j l o rest f g h = rw (f, g, h) refl
@@ -106,6 +125,9 @@ pub keeps : (s t : ScanState) (xs : List ℕ) (n : ℕ) → t.said ≡ s.said �
 keeps s t xs n e f g h in_line short is = record {
   report = λ rest. ap (λ zs. s.said ++ zs) (kept_line (report_from s.lines s.faults) (same_report s.lines s.faults) s.line xs rest n in_line short is)
       ∙ sym (same_unwritten _ _ _ _ _ _ _ _ rest e f g h);
+  said = λ rest. ap (λ c. s.said ++ verdicts_from s.lines (take c (prepend s.line (lines_of (xs ++ rest))))) (newlines_joined xs rest in_line)
+      ∙ ap (λ zs. s.said ++ zs) (kept_line (λ ls. verdicts_from s.lines (take (newlines rest) ls)) (same_verdicts s.lines (newlines rest)) s.line xs rest n in_line short is)
+      ∙ sym (same_said _ _ _ _ _ _ rest e f h);
   counts = λ rest. kept_line (counted_from s.lines s.faults) (same_counts s.lines s.faults) s.line xs rest n in_line short is ∙ sym (same_counted _ _ _ _ _ _ rest f g h);
 }
 
@@ -117,6 +139,10 @@ ends_line s t e f g h = record {
       ∙ sym (append_assoc s.said (numbered (s.lines + 1) s.line) (report_from (s.lines + 1) (s.faults + faults_of s.line) (lines_of rest)))
       ∙ ap (λ ls. (s.said ++ numbered (s.lines + 1) s.line) ++ report_from (s.lines + 1) (s.faults + faults_of s.line) ls) (sym (prepend_none (lines_of rest)))
       ∙ sym (same_unwritten _ _ _ _ _ _ _ _ rest e f g h);
+  said = λ rest. ap (λ l. s.said ++ (numbered (s.lines + 1) l ++ verdicts_from (s.lines + 1) (take (newlines rest) (lines_of rest)))) (append-nil s.line)
+      ∙ sym (append_assoc s.said (numbered (s.lines + 1) s.line) (verdicts_from (s.lines + 1) (take (newlines rest) (lines_of rest))))
+      ∙ ap (λ ls. (s.said ++ numbered (s.lines + 1) s.line) ++ verdicts_from (s.lines + 1) (take (newlines rest) ls)) (sym (prepend_none (lines_of rest)))
+      ∙ sym (same_said _ _ _ _ _ _ rest e f h);
   counts = λ rest. ap (λ l. counted_from s.lines s.faults (l ∷ lines_of rest)) (append-nil s.line)
       ∙ ap (counted_from (s.lines + 1) (s.faults + faults_of s.line)) (sym (prepend_none (lines_of rest)))
       ∙ sym (same_counted _ _ _ _ _ _ rest f g h);
@@ -135,13 +161,22 @@ pub rest_length : (rest : List ℕ) (n : ℕ) → n < length rest → length (ta
 rest_length rest n lt = ap (λ xs. length xs + (n + 1)) (take_rest rest (n + 1)) ∙ ap (λ m. m + (n + 1)) (length-drop (n + 1) rest) ∙ omega arith
 
 pub reads_none : (s : ScanState) → Reads s s []
-reads_none s = record { report = λ rest. refl; counts = λ rest. refl }
+reads_none s = record { report = λ rest. refl; said = λ rest. refl; counts = λ rest. refl }
 
 pub reads_both : (a b c : ScanState) (xs ys : List ℕ) → Reads a b xs → Reads b c ys → Reads a c (xs ++ ys)
 reads_both a b c xs ys p q = record {
   report = λ rest. ap (unwritten a) (append_assoc xs ys rest) ∙ p.report (ys ++ rest) ∙ q.report rest;
+  said = λ rest. ap (said_after a) (append_assoc xs ys rest) ∙ p.said (ys ++ rest) ∙ q.said rest;
   counts = λ rest. ap (counted a) (append_assoc xs ys rest) ∙ p.counts (ys ++ rest) ∙ q.counts rest;
 }
+
+-- what a write leaves
+pub all_said : (s t : ScanState) → t ≡ record s { said = [] } → (t.said ≡ []) × (t.lines ≡ s.lines)
+all_said s t e = (ap (λ v. v.said) e, ap (λ v. v.lines) e)
+
+pub reads_rest : {T E : Type 0} (r : Result T E) (a b c : ScanState) (all done rest : List ℕ) → all ≡ done ++ rest → Reads a b done → OnOk r (Reads b c rest) → OnOk r (Reads a c all)
+reads_rest (Ok x) a b c all done rest e p q = subst (Reads a c) (sym e) (reads_both a b c done rest p q)
+reads_rest (Err x) a b c all done rest e p q = tt
 
 -- the stream ends behind some octets of a line, or behind none
 pub last_line : (n k : ℕ) (line : List ℕ) → 0 < length line
@@ -154,94 +189,119 @@ pub no_last_line : (n k : ℕ) (line : List ℕ) → length line ≡ 0
 no_last_line n k [] h = (refl, refl)
 no_last_line n k (x ∷ xs) h = absurd (omega arith)
 
--- what was read so far, and what was written of its report
-pub record Told (ro rn wo wn : Option (List ℕ)) (s : ScanState) : Type 0 where
-  pub octets : List ℕ
-  pub read : Consumes ro rn octets
-  pub out : List ℕ
-  pub appended : Appends wo wn out
-  pub report_is : (rest : List ℕ) → report (octets ++ rest) ≡ out ++ unwritten s rest
-  pub counts_are : (rest : List ℕ) → summary (octets ++ rest) ≡ counted s rest
+module _ {R W : Type 0} (remaining : R → Option (List ℕ)) (contents : W → Option (List ℕ)) where
+  -- what was read so far, and what was written of its report
+  pub record Told (from to : SourceState R) (old new : SinkState W) (s : ScanState) : Type 0 where
+    pub octets : List ℕ
+    pub read : Gives remaining from to octets
+    pub out : List ℕ
+    pub written : Takes contents old new out
+    pub report_is : (rest : List ℕ) → report (octets ++ rest) ≡ out ++ unwritten s rest
+    pub said_is : (rest : List ℕ) → ended_text (octets ++ rest) ≡ out ++ said_after s rest
+    pub counts_are : (rest : List ℕ) → summary (octets ++ rest) ≡ counted s rest
 
-pub told_none : (r w : Option (List ℕ)) (s : ScanState) → s.said ≡ [] → s.lines ≡ 0 → s.faults ≡ 0 → s.line ≡ [] → Told r r w w s
-told_none r w s e f g h = record {
-  octets = [];
-  read = consumes_none r;
-  out = [];
-  appended = appends_none w;
-  report_is = λ rest. ap (report_from 0 0) (sym (prepend_none (lines_of rest))) ∙ sym (same_unwritten _ [] _ 0 _ 0 _ [] rest e f g h);
-  counts_are = λ rest. ap (counted_from 0 0) (sym (prepend_none (lines_of rest))) ∙ sym (same_counted _ 0 _ 0 _ [] rest f g h);
-}
-
-module _ (ro rm rn wo wm wn : Option (List ℕ)) (s t : ScanState) (p : Told ro rm wo wm s) where
-  pub told_reads : (ys : List ℕ) → Consumes rm rn ys → Reads s t ys → Told ro rn wo wm t
-  told_reads ys c q = record {
-    octets = p.octets ++ ys;
-    read = consumes_both ro rm rn p.octets ys p.read c;
-    out = p.out;
-    appended = p.appended;
-    report_is = λ rest. ap report (append_assoc p.octets ys rest) ∙ p.report_is (ys ++ rest) ∙ ap (λ zs. p.out ++ zs) (q.report rest);
-    counts_are = λ rest. ap summary (append_assoc p.octets ys rest) ∙ p.counts_are (ys ++ rest) ∙ q.counts rest;
+  pub told_none : (r : SourceState R) (w : SinkState W) (s : ScanState) → s.said ≡ [] → s.lines ≡ 0 → s.faults ≡ 0 → s.line ≡ [] → Told r r w w s
+  told_none r w s e f g h = record {
+    octets = [];
+    read = record { read = consumes_none (remaining r.reader); failed = refl; left = omega arith };
+    out = [];
+    written = record { written = appends_none (contents w.writer); failed = refl };
+    report_is = λ rest. ap (report_from 0 0) (sym (prepend_none (lines_of rest))) ∙ sym (same_unwritten _ [] _ 0 _ 0 _ [] rest e f g h);
+    said_is = λ rest. ap (λ ls. verdicts_from 0 (take (newlines rest) ls)) (sym (prepend_none (lines_of rest))) ∙ sym (same_said _ [] _ 0 _ [] rest e f h);
+    counts_are = λ rest. ap (counted_from 0 0) (sym (prepend_none (lines_of rest))) ∙ sym (same_counted _ 0 _ 0 _ [] rest f g h);
   }
 
-  pub told_writes : Appends wm wn s.said → t ≡ record s { said = [] } → Told ro rm wo wn t
-  told_writes a e = record {
-    octets = p.octets;
-    read = p.read;
-    out = p.out ++ s.said;
-    appended = appends_both wo wm wn p.out s.said p.appended a;
-    report_is = λ rest. p.report_is rest ∙ sym (append_assoc p.out s.said (pending s.lines s.faults s.line rest))
-        ∙ ap (λ zs. (p.out ++ s.said) ++ zs) (sym (ap (λ v. unwritten v rest) e));
-    counts_are = λ rest. p.counts_are rest ∙ sym (ap (λ v. counted v rest) e);
+  gives_both : (a b c : SourceState R) (xs ys : List ℕ) → Gives remaining a b xs → Gives remaining b c ys → Gives remaining a c (xs ++ ys)
+  gives_both a b c xs ys p q = record {
+    read = consumes_both _ _ _ xs ys p.read q.read;
+    failed = q.failed ∙ p.failed;
+    left = simp length-append (omega (arith, p.left, q.left));
   }
 
--- an empty piece
-pub told_still : (ro rm rn wo wm : Option (List ℕ)) (s : ScanState) (n : ℕ) (piece : List ℕ) → Told ro rm wo wm s → Consumes rm rn (take n piece) → n ≡ 0 → Told ro rn wo wm s
-told_still ro rm rn wo wm s n piece p c e =
-    let none : take n piece ≡ [] = ap (λ i. take i piece) e in
-    told_reads ro rm rn wo wm wm s s p (take n piece) c (subst (Reads s s) (sym none) (reads_none s))
+  module _ (from mid to : SourceState R) (old half new : SinkState W) (s : ScanState) where
+    pub told_reads : (t : ScanState) (ys : List ℕ) → Told from mid old half s → Gives remaining mid to ys → Reads s t ys → Told from to old half t
+    told_reads t ys p c q = record {
+      octets = p.octets ++ ys;
+      read = gives_both from mid to p.octets ys p.read c;
+      out = p.out;
+      written = p.written;
+      report_is = λ rest. ap report (append_assoc p.octets ys rest) ∙ p.report_is (ys ++ rest) ∙ ap (λ zs. p.out ++ zs) (q.report rest);
+      said_is = λ rest. ap ended_text (append_assoc p.octets ys rest) ∙ p.said_is (ys ++ rest) ∙ ap (λ zs. p.out ++ zs) (q.said rest);
+      counts_are = λ rest. ap summary (append_assoc p.octets ys rest) ∙ p.counts_are (ys ++ rest) ∙ q.counts rest;
+    }
 
-module _ {R W : Type 0} (remaining : R → Option (List ℕ)) (contents : W → Option (List ℕ)) (from mid to : SourceState R) (old half new : SinkState W) where
-  stops_at : (octets out tail : List ℕ) → Consumes (remaining from.reader) (remaining to.reader) octets → Appends (contents old.writer) (contents new.writer) out → report octets ≡ out ++ tail
-      → Stops remaining contents from to old new
-  stops_at octets out tail c a e =
-      let front : take (length out) (report octets) ≡ out = ap (take (length out)) e ∙ take_at out tail (length out) refl in
-      record { octets = octets; read = c; written = (length out, subst (Appends (contents old.writer) (contents new.writer)) (sym front) a) }
+    pub told_writes : (t : ScanState) → Told from mid old half s → Takes contents half new s.said → t ≡ record s { said = [] } → Told from mid old new t
+    told_writes t p a e = record {
+      octets = p.octets;
+      read = p.read;
+      out = p.out ++ s.said;
+      written = takes_more contents _ _ _ _ _ p.written a;
+      report_is = λ rest. p.report_is rest ∙ sym (append_assoc p.out s.said (pending s.lines s.faults s.line rest))
+          ∙ ap (λ zs. (p.out ++ s.said) ++ zs) (sym (ap (λ v. unwritten v rest) e));
+      said_is = λ rest. p.said_is rest ∙ sym (append_assoc p.out s.said (ended s.lines s.line rest))
+          ∙ ap (λ zs. (p.out ++ s.said) ++ zs) (sym (ap (λ v. said_after v rest) e));
+      counts_are = λ rest. p.counts_are rest ∙ sym (ap (λ v. counted v rest) e);
+    }
 
-  -- some octets were read, of which nothing is written
-  pub stops_reading : (s : ScanState) (ys : List ℕ) → Told (remaining from.reader) (remaining mid.reader) (contents old.writer) (contents new.writer) s → Consumes (remaining mid.reader) (remaining to.reader) ys
-      → Stops remaining contents from to old new
-  stops_reading s ys p c = stops_at (p.octets ++ ys) p.out (unwritten s ys) (consumes_both _ _ _ p.octets ys p.read c) p.appended (p.report_is ys)
+    -- an empty piece
+    pub told_still : (ys : List ℕ) → Told from mid old half s → Gives remaining mid to ys → ys ≡ [] → Told from to old half s
+    told_still ys p c none = told_reads s ys p c (subst (Reads s s) (sym none) (reads_none s))
 
-  -- a beginning of what was said is written
-  pub stops_writing : (s : ScanState) (said tail : List ℕ) → Told (remaining from.reader) (remaining to.reader) (contents old.writer) (contents half.writer) s → unwritten s [] ≡ said ++ tail
-      → Begins (contents half.writer) (contents new.writer) said → Stops remaining contents from to old new
-  stops_writing s said tail p e b =
-      let n = b.0 in
-      stops_at p.octets (p.out ++ take n said) (drop n said ++ tail) p.read (appends_both _ _ _ p.out (take n said) p.appended b.1)
-      (ap report (sym (append-nil p.octets)) ∙ p.report_is [] ∙ ap (λ zs. p.out ++ zs) (e ∙ ap (λ zs. zs ++ tail) (sym (take-append-drop n said)) ∙ append_assoc (take n said) (drop n said) tail)
-      ∙ sym (append_assoc p.out (take n said) (drop n said ++ tail)))
+    -- where nothing is said but not written, all is written of the lines that were ended
+    all_written : (p : Told from mid old half s) → s.said ≡ [] → p.out ≡ ended_text p.octets
+    all_written p e = sym (ap ended_text (sym (append-nil p.octets)) ∙ p.said_is [] ∙ ap (λ zs. p.out ++ (zs ++ [])) e ∙ append-nil p.out)
 
-  -- all is written
-  pub ends : (s : ScanState) (said : List ℕ) (counts : Summary) → Told (remaining from.reader) (remaining to.reader) (contents old.writer) (contents half.writer) s → said ≡ unwritten s []
-      → counts ≡ counted s [] → IsAtEnd (remaining to.reader) → to.failed ≡ from.failed → half.failed ≡ old.failed → Takes contents half new said → Ends remaining contents from to old new counts
-  ends s said counts p e k end unfailed same a =
-      let whole : report p.octets ≡ p.out ++ said = ap report (sym (append-nil p.octets)) ∙ p.report_is [] ∙ ap (λ zs. p.out ++ zs) (sym e) in
-      record {
-        octets = p.octets;
-        read = p.read;
-        unfailed = unfailed;
-        end = end;
-        written = record {
-          written = subst (Appends (contents old.writer) (contents new.writer)) (sym whole) (appends_both _ _ _ p.out said p.appended a.written);
-          failed = a.failed ∙ same;
-        };
-        counts_are = k ∙ sym (p.counts_are []) ∙ ap summary (append-nil p.octets);
-      }
+    pub stops_reading : Told from mid old half s → s.said ≡ [] → Fails remaining mid to → Stops remaining contents from to old half Read
+    stops_reading p e fails = record { octets = p.octets; before = mid; read = p.read; fails = fails; written = subst (Takes contents old half) (all_written p e) p.written }
+
+    pub stops_short : (ys : List ℕ) → Told from mid old half s → s.said ≡ [] → Gives remaining mid to ys → length ys ≤ 4096 → Stops remaining contents from to old half NoMemory
+    stops_short ys p e c short = record {
+      octets = p.octets;
+      last = ys;
+      read = gives_both from mid to p.octets ys p.read c;
+      one_read = short;
+      written = subst (Takes contents old half) (all_written p e) p.written;
+    }
+
+    -- a beginning of what was said is written
+    pub stops_writing : (ys said tail : List ℕ) → Told from mid old half s → s.said ≡ [] → Gives remaining mid to ys → length ys ≤ 4096 → unwritten s ys ≡ said ++ tail
+        → Begins (contents half.writer) (contents new.writer) said → Stops remaining contents from to old new Write
+    stops_writing ys said tail p e c short is b =
+        let n = b.0 in
+        let out = all_written p e in record {
+          octets = p.octets;
+          last = ys;
+          read = gives_both from mid to p.octets ys p.read c;
+          one_read = short;
+          more = take n said;
+          unsaid = drop n said ++ tail;
+          written = subst (λ o. Appends (contents old.writer) (contents new.writer) (o ++ take n said)) out (appends_both _ _ _ p.out (take n said) p.written.written b.1);
+          report_is = p.report_is ys ∙ ap (λ zs. p.out ++ zs) (is ∙ ap (λ zs. zs ++ tail) (sym (take-append-drop n said)) ∙ append_assoc (take n said) (drop n said) tail)
+              ∙ sym (append_assoc p.out (take n said) (drop n said ++ tail)) ∙ ap (λ o. (o ++ take n said) ++ (drop n said ++ tail)) out;
+        }
+
+    -- all is written
+    pub ends : (said : List ℕ) (counts : Summary) → Told from mid old half s → said ≡ unwritten s [] → counts ≡ counted s [] → IsAtEnd (remaining mid.reader)
+        → Takes contents half new said → Ends remaining contents from mid old new counts
+    ends said counts p e k end a =
+        let whole : report p.octets ≡ p.out ++ said = ap report (sym (append-nil p.octets)) ∙ p.report_is [] ∙ ap (λ zs. p.out ++ zs) (sym e) in
+        record {
+          octets = p.octets;
+          read = p.read.read;
+          unfailed = p.read.failed;
+          end = end;
+          written = subst (Takes contents old new) (sym whole) (takes_more contents _ _ _ _ _ p.written a);
+          counts_are = k ∙ sym (p.counts_are []) ∙ ap summary (append-nil p.octets);
+        }
+
+-- the fault of a call that ends in it
+pub on_fault : {T : Type 0} (P : ToolFault → Type 0) (f : ToolFault) (r : Result T ToolFault) → IsErrAnd r (λ e. e ≡ f) → P f → IfErr r P
+on_fault P f (Ok x) e p = tt
+on_fault P f (Err x) e p = subst P (sym e) p
 
 -- how `check` ends, by the clauses on its fault
 pub ends_by : {R W : Type 0} (remaining : R → Option (List ℕ)) (contents : W → Option (List ℕ)) (from to : SourceState R) (old new : SinkState W) (r : Result Summary ToolFault)
-    → IfOk r (λ s. Ends remaining contents from to old new s) → OnErr r (Stops remaining contents from to old new) → IfErr r (HasCause to.failed new.failed)
+    → IfOk r (λ s. Ends remaining contents from to old new s) → IfErr r (Stops remaining contents from to old new) → IfErr r (HasCause to.failed new.failed)
     → Checks remaining contents from to old new r
 ends_by remaining contents from to old new (Ok s) ok err cause = ok
 ends_by remaining contents from to old new (Err e) ok err cause = (err, cause)

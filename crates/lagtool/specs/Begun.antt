@@ -1,27 +1,57 @@
 -- How `check` ends (profile).
-use Rattle.std.specs.Prelude.{◌≡◌, ℕ, Bool, true, false, List, Option, Result, Ok, Err}
-use Rattle.std.specs.Io.KnownBytes.{Consumes, IsAtEnd}
-use Rattle.lagtool.specs.Checked.{report, summary}
-use Rattle.lagtool.specs.Sinks.{Begins, SinkState, Takes}
-use Rattle.lagtool.specs.Sources.{SourceState}
+use Rattle.std.specs.Prelude.{◌≡◌, ◌≤◌, ◌++◌, ℕ, Bool, true, false, List, length, Option, Result, Ok, Err}
+use Rattle.std.specs.Io.KnownBytes.{Appends, Consumes, IsAtEnd}
+use Rattle.lagtool.specs.Checked.{ended_text, report, summary}
+use Rattle.lagtool.specs.Sinks.{SinkState, Takes}
+use Rattle.lagtool.specs.Sources.{Fails, Gives, SourceState}
 use Rattle.lagtool.specs.declared.summary.Summary.{Summary}
 use Rattle.lagtool.specs.declared.fault.ToolFault.{ToolFault}
-use Rattle.lagtool.specs.declared.fault.ToolFault.TheVariants.{Read, Write, NoMemory, NotHex, NotMac}
+use Rattle.lagtool.specs.declared.fault.ToolFault.TheVariants.{Read, Write, NoMemory, Script, NotHex, NotMac}
 
 -- the fault comes only where the source, or the sink, has failed, and the other has not; memory may run out where neither has
 abbrev pub HasCause : Bool → Bool → ToolFault → Type 0
 HasCause source sink Read = (source ≡ true) × (sink ≡ false)
 HasCause source sink Write = (source ≡ false) × (sink ≡ true)
 HasCause source sink NoMemory = (source ≡ false) × (sink ≡ false)
+HasCause source sink (Script fault) = ⊥
 HasCause source sink NotHex = ⊥
 HasCause source sink NotMac = ⊥
 
 module _ {R W : Type 0} (remaining : R → Option (List ℕ)) (contents : W → Option (List ℕ)) where
-  -- a beginning of the report of what was read is written
-  pub record Stops (from to : SourceState R) (old new : SinkState W) : Type 0 where
+  -- the source gave these octets and then failed: of their lines, those that a newline ends are told of, and no more is written
+  pub record StopsReading (from to : SourceState R) (old new : SinkState W) : Type 0 where
     pub octets : List ℕ
-    pub read : Consumes (remaining from.reader) (remaining to.reader) octets
-    pub written : Begins (contents old.writer) (contents new.writer) (report octets)
+    pub before : SourceState R
+    pub read : Gives remaining from before octets
+    pub fails : Fails remaining before to
+    pub written : Takes contents old new (ended_text octets)
+
+  -- memory ran out: nothing is written of what one read gave, and what the report says of the lines that were ended before it is written
+  pub record StopsShort (from to : SourceState R) (old new : SinkState W) : Type 0 where
+    pub octets : List ℕ
+    pub last : List ℕ
+    pub read : Gives remaining from to (octets ++ last)
+    pub one_read : length last ≤ 4096
+    pub written : Takes contents old new (ended_text octets)
+
+  -- the sink failed: what is written is a beginning of the report of what was read, and lacks nothing that was to be written before one read
+  pub record StopsWriting (from to : SourceState R) (old new : SinkState W) : Type 0 where
+    pub octets : List ℕ
+    pub last : List ℕ
+    pub read : Gives remaining from to (octets ++ last)
+    pub one_read : length last ≤ 4096
+    pub more : List ℕ
+    pub unsaid : List ℕ
+    pub written : Appends (contents old.writer) (contents new.writer) (ended_text octets ++ more)
+    pub report_is : report (octets ++ last) ≡ (ended_text octets ++ more) ++ unsaid
+
+  abbrev pub Stops : SourceState R → SourceState R → SinkState W → SinkState W → ToolFault → Type 0
+  Stops from to old new Read = StopsReading from to old new
+  Stops from to old new Write = StopsWriting from to old new
+  Stops from to old new NoMemory = StopsShort from to old new
+  Stops from to old new (Script fault) = ⊥
+  Stops from to old new NotHex = ⊥
+  Stops from to old new NotMac = ⊥
 
   -- the whole report of all that there is to read is written
   pub record Ends (from to : SourceState R) (old new : SinkState W) (counts : Summary) : Type 0 where
@@ -34,4 +64,4 @@ module _ {R W : Type 0} (remaining : R → Option (List ℕ)) (contents : W → 
 
   abbrev pub Checks : SourceState R → SourceState R → SinkState W → SinkState W → Result Summary ToolFault → Type 0
   Checks from to old new (Ok counts) = Ends from to old new counts
-  Checks from to old new (Err fault) = Stops from to old new × HasCause to.failed new.failed fault
+  Checks from to old new (Err fault) = Stops from to old new fault × HasCause to.failed new.failed fault

@@ -1,5 +1,5 @@
 -- The report of `check`: a function of all the octets that it reads (profile).
-use Rattle.std.specs.Prelude.{ℕ, ◌+◌, ◌++◌, ◌==◌, List, [], ◌∷◌, codes, decimal, if◌then◌else◌}
+use Rattle.std.specs.Prelude.{ℕ, suc, ◌+◌, ◌++◌, ◌==◌, List, [], ◌∷◌, codes, decimal, if◌then◌else◌, take}
 use Rattle.lagtool.specs.declared.summary.Summary.{Summary}
 use Rattle.lagtool.specs.Verdicts.{is_fault, line_verdict, verdict_text}
 
@@ -39,6 +39,19 @@ report_from n k (line ∷ lines) = numbered (n + 1) line ++ report_from (n + 1) 
 
 abbrev pub report : List ℕ → List ℕ
 report octets = report_from 0 0 (lines_of octets)
+
+abbrev pub newlines : List ℕ → ℕ
+newlines [] = 0
+newlines (b ∷ bs) = if b == 10 then suc (newlines bs) else newlines bs
+
+-- a verdict a line, so many lines before them
+abbrev pub verdicts_from : ℕ → List (List ℕ) → List ℕ
+verdicts_from n [] = []
+verdicts_from n (line ∷ lines) = numbered (n + 1) line ++ verdicts_from (n + 1) lines
+
+-- what the report says of the lines that a newline ends, which are the first and as many as there are newlines
+abbrev pub ended_text : List ℕ → List ℕ
+ended_text octets = verdicts_from 0 (take (newlines octets) (lines_of octets))
 
 -- how many lines, and how many of them are faults
 abbrev pub summary : List ℕ → Summary

@@ -1,8 +1,8 @@
 -- How the engines of the program end (profile).
-use Rattle.std.specs.Prelude.{◌≡◌, ⊤, ℕ, Bool, List, Option, Result, Ok, Err, IsErr}
+use Rattle.std.specs.Prelude.{◌≡◌, ⊤, ℕ, Bool, List, Option, Result, Ok, Err, IsErr, if◌then◌else◌}
 use Rattle.hex.specs.Hex.{decode_of}
 use Rattle.lagtool.specs.declared.fault.ToolFault.{ToolFault}
-use Rattle.lagtool.specs.declared.fault.ToolFault.TheVariants.{Read, Write, NoMemory, NotHex, NotMac}
+use Rattle.lagtool.specs.declared.fault.ToolFault.TheVariants.{Read, Write, NoMemory, Script, NotHex, NotMac}
 use Rattle.lagtool.specs.Reports.{IsMac, IsReplied, IsShown}
 use Rattle.lagtool.specs.Sinks.{Breaks, SinkState, Takes}
 
@@ -12,6 +12,7 @@ HasNoOctets hex NotHex = IsErr (decode_of hex)
 HasNoOctets hex NoMemory = ⊤
 HasNoOctets hex Read = ⊥
 HasNoOctets hex Write = ⊥
+HasNoOctets hex (Script fault) = ⊥
 HasNoOctets hex NotMac = ⊥
 
 -- how `show` ends: the text is written whole, a beginning of it, or nothing
@@ -21,6 +22,7 @@ Shows contents hex old new (Err Write) = (text : List ℕ) × (accepted : Bool) 
 Shows contents hex old new (Err NoMemory) = new ≡ old
 Shows contents hex old new (Err NotHex) = IsErr (decode_of hex) × (new ≡ old)
 Shows contents hex old new (Err Read) = ⊥
+Shows contents hex old new (Err (Script fault)) = ⊥
 Shows contents hex old new (Err NotMac) = ⊥
 
 -- some address is said by these digits
@@ -34,4 +36,10 @@ Replies contents mac hex old new (Err Write) = (text : List ℕ) × (answered : 
 Replies contents mac hex old new (Err NoMemory) = SaysMac mac × (new ≡ old)
 Replies contents mac hex old new (Err NotHex) = SaysMac mac × IsErr (decode_of hex) × (new ≡ old)
 Replies contents mac hex old new (Err Read) = ⊥
+Replies contents mac hex old new (Err (Script fault)) = ⊥
 Replies contents mac hex old new (Err NotMac) = (SaysMac mac → ⊥) × (new ≡ old)
+
+-- the status of the program after an engine ended so
+abbrev pub status_of : Result Bool ToolFault → ℕ
+status_of (Ok accepted) = if accepted then 0 else 1
+status_of (Err fault) = 2

@@ -7,3 +7,7 @@ pub mod Verdicts
 pub mod Checked
 pub mod Scans
 pub mod Begun
+pub mod EntryTexts
+pub mod Replayed
+pub mod Reporting
+pub mod Vectors

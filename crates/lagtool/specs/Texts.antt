@@ -1,5 +1,5 @@
 -- What the program prints (profile).
-use Rattle.std.specs.Prelude.{ℕ, ◌++◌, List, [], ◌∷◌, codes, decimal}
+use Rattle.std.specs.Prelude.{ℕ, ◌++◌, List, [], ◌∷◌, Option, None, Some, codes, decimal}
 use Rattle.lagtypes.specs.Texts.{mac_text, system_text, port_text, state_text}
 use Rattle.lagtypes.specs.Octet.{octet}
 use Rattle.slowpdu.specs.declared.pdu.Info.{Info}
@@ -12,7 +12,9 @@ use Rattle.slowpdu.specs.declared.pdu.Pdu.TheVariants as pdu
 use Rattle.slowpdu.specs.declared.fault.WireFault.{WireFault}
 use Rattle.slowpdu.specs.declared.fault.WireFault.TheVariants.{Short, OtherSubtype, BadLength, MarkerTlv}
 use Rattle.lagtool.specs.declared.fault.ToolFault.{ToolFault}
-use Rattle.lagtool.specs.declared.fault.ToolFault.TheVariants.{Read, Write, NoMemory, NotHex, NotMac}
+use Rattle.lagtool.specs.declared.fault.ToolFault.TheVariants.{Read, Write, NoMemory, Script, NotHex, NotMac}
+use Rattle.lagscript.specs.declared.fault.ScriptFault.{ScriptFault}
+use Rattle.lagscript.specs.declared.fault.ScriptFault.TheVariants as script
 
 -- SYSTEM key K port PORT state HH WORDS
 abbrev pub info_text : Info → List ℕ
@@ -48,25 +50,29 @@ refusal_text (MarkerTlv n) = codes "refused 4 marker-tlv " ++ decimal n
 abbrev pub wire_fault_text : WireFault → List ℕ
 wire_fault_text e = refusal_text e ++ 10 ∷ []
 
--- why a line could not be done, as standard error says it behind `lagtool: `
-abbrev pub tool_fault_text : ToolFault → List ℕ
-tool_fault_text Read = codes "cannot read"
-tool_fault_text Write = codes "cannot write"
-tool_fault_text NoMemory = codes "out of memory"
-tool_fault_text NotHex = codes "not hex"
-tool_fault_text NotMac = codes "not a mac"
+-- why a line could not be done, as standard error says it behind `lagtool: `; no clause knows the text of a script's fault
+abbrev pub tool_fault_text : ToolFault → Option (List ℕ)
+tool_fault_text Read = Some (codes "cannot read")
+tool_fault_text Write = Some (codes "cannot write")
+tool_fault_text NoMemory = Some (codes "out of memory")
+tool_fault_text (Script fault) = None
+tool_fault_text NotHex = Some (codes "not hex")
+tool_fault_text NotMac = Some (codes "not a mac")
 
 -- a fault in reading names the file, which is the word of the line
-abbrev pub said_text : ToolFault → List ℕ → List ℕ
-said_text Read file = codes "cannot read " ++ file
-said_text Write file = codes "cannot write"
-said_text NoMemory file = codes "out of memory"
-said_text NotHex file = codes "not hex"
-said_text NotMac file = codes "not a mac"
+abbrev pub said_text : ToolFault → List ℕ → Option (List ℕ)
+said_text Read file = Some (codes "cannot read " ++ file)
+said_text fault file = tool_fault_text fault
 
 abbrev pub tool_fault_number : ToolFault → ℕ
 tool_fault_number Read = 1
 tool_fault_number Write = 2
 tool_fault_number NoMemory = 3
+tool_fault_number (Script fault) = 4
 tool_fault_number NotHex = 5
 tool_fault_number NotMac = 6
+
+-- a script's fault; want of memory is that of the program
+abbrev pub of_script : ScriptFault → ToolFault
+of_script script.NoMemory = NoMemory
+of_script fault = Script fault

@@ -1,4 +1,4 @@
-ghost use Rattle.std.specs.Prelude.{◌≡◌, false, IfErr, IfOk, OnErr};
+ghost use Rattle.std.specs.Prelude.{◌≡◌, false, IfErr, IfOk};
 ghost use Rattle.lagtool.specs.Begun.{Checks, Ends, HasCause, Stops};
 
 use crate::fault::ToolFault;
@@ -18,7 +18,7 @@ fn check_all<R: Read, W: Write>(
     requires source { source.old.failed ≡ false }
     requires sink { sink.old.failed ≡ false }
     ensures ok { IfOk result (λ s. Ends R.remaining W.contents source.old source.new sink.old sink.new s) }
-    ensures err { OnErr result (Stops R.remaining W.contents source.old source.new sink.old sink.new) }
+    ensures err { IfErr result (Stops R.remaining W.contents source.old source.new sink.old sink.new) }
     ensures cause { IfErr result (HasCause source.new.failed sink.new.failed) }
 {
     source.is_bounded();
@@ -42,9 +42,10 @@ fn check_all<R: Read, W: Write>(
 /// said of the lines that it ends is written before the next read.
 ///
 /// Neither stream has failed before. `Read` comes if the source failed in this call, `Write` if the
-/// sink did, and then the other did not; `NoMemory` if memory ran out, and neither failed. A
-/// beginning of the report of what was read is written then; after `NoMemory` it has nothing of the
-/// last read.
+/// sink did, and then the other did not; `NoMemory` if memory ran out, and neither failed. After
+/// `Read` just that is written: what the report says of the lines that a newline ends in what the
+/// source gave. After `NoMemory` the same, but for the last read, of which nothing is written. After
+/// `Write` a beginning of the report of what was read, and no less than before the last read.
 pub fn check<R: Read, W: Write>(
     alloc: Global,
     source: &mut Source<R>,

@@ -1,9 +1,10 @@
-ghost use Rattle.std.specs.Prelude.{◌≡◌, Some};
+ghost use Rattle.std.specs.Prelude.{◌≡◌};
 ghost use Rattle.lagtool.specs.declared.fault.ToolFault.TheVariants.{NoMemory, Read, Write};
-ghost use Rattle.lagtool.specs.Texts.{said_text, tool_fault_number, tool_fault_text};
+ghost use Rattle.lagtool.specs.Texts.{of_script, said_text, tool_fault_number, tool_fault_text};
 
 use crate::sink::WriteFailed;
 use crate::source::ReadFailed;
+use lagworld::ScriptFault;
 use std::alloc::AllocError;
 use std::error::Error;
 use std::fmt;
@@ -17,6 +18,8 @@ pub enum ToolFault {
     Write,
     /// Memory ran out.
     NoMemory,
+    /// The text is no script. The fault is never want of memory.
+    Script(ScriptFault),
     /// The payload or the frame is not hexadecimal.
     NotHex,
     /// The MAC address is not twelve hexadecimal digits.
@@ -24,7 +27,7 @@ pub enum ToolFault {
 }
 
 impl ToolFault {
-    /// Its number, 1, 2, 3, 5 or 6 (profile).
+    /// Its number, 1 to 6 (profile).
     pub fn number(&self) -> u8
         ensures { result ≡ tool_fault_number self.now }
     {
@@ -32,6 +35,7 @@ impl ToolFault {
             ToolFault::Read => 1,
             ToolFault::Write => 2,
             ToolFault::NoMemory => 3,
+            ToolFault::Script(_) => 4,
             ToolFault::NotHex => 5,
             ToolFault::NotMac => 6,
         }
@@ -39,13 +43,14 @@ impl ToolFault {
 }
 
 impl fmt::Display for ToolFault {
-    ghost output = { λ e. Some (tool_fault_text e) };
+    ghost output = { λ e. tool_fault_text e };
 
     fn fmt<W: fmt::Write>(&self, f: &mut fmt::Formatter<W>) -> fmt::Result {
         match self {
             ToolFault::Read => f.write_str("cannot read"),
             ToolFault::Write => f.write_str("cannot write"),
             ToolFault::NoMemory => f.write_str("out of memory"),
+            ToolFault::Script(fault) => write!(f, "script: {fault}"),
             ToolFault::NotHex => f.write_str("not hex"),
             ToolFault::NotMac => f.write_str("not a mac"),
         }
@@ -63,7 +68,7 @@ pub struct FaultText<'a> {
 }
 
 impl fmt::Display for FaultText<'_> {
-    ghost output = { λ t. Some (said_text t.fault t.file.now) };
+    ghost output = { λ t. said_text t.fault t.file.now };
 
     fn fmt<W: fmt::Write>(&self, f: &mut fmt::Formatter<W>) -> fmt::Result {
         match self.fault {
@@ -94,5 +99,16 @@ impl From<WriteFailed> for ToolFault {
 
     fn from(_e: WriteFailed) -> ToolFault {
         ToolFault::Write
+    }
+}
+
+impl From<ScriptFault> for ToolFault {
+    ghost from_gives = { λ fault e. e ≡ of_script fault };
+
+    fn from(fault: ScriptFault) -> ToolFault {
+        match fault {
+            ScriptFault::NoMemory => ToolFault::NoMemory,
+            fault => ToolFault::Script(fault),
+        }
     }
 }

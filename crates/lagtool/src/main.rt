@@ -4,10 +4,19 @@
 //! error says why.
 #![tactic(auto)]
 
+ghost use Rattle.std.specs.Prelude.{◌≡◌};
+ghost use Rattle.lagtool.specs.Engines.{status_of};
+
+mod algorithm;
 mod checking;
+mod entry_text;
 mod fault;
+mod laws;
+mod replay;
 mod reply;
+mod reply_text;
 mod report;
+mod rows;
 mod scan;
 mod show;
 mod sink;
@@ -16,11 +25,14 @@ mod summary;
 #[cfg(test)]
 mod tests;
 mod texts;
+mod vectors;
 mod verdict;
 
+use algorithm::by_number;
 use checking::check;
 use fault::{FaultText, ToolFault};
 use lagline::{Job, LineFault, read_line};
+use replay::replay;
 use reply::reply;
 use show::show;
 use sink::Sink;
@@ -29,7 +41,8 @@ use std::fmt::Display;
 use std::fs::{File, Files};
 use std::io::Input;
 use std::process::ExitCode;
-use std::{env, io};
+use std::{env, fs, io};
+use vectors::vectors;
 
 /// The status of a line that could not be done: why not, on standard error.
 fn refused<D: Display + Drop>(rt: &impl Eprint, why: D) -> ExitCode {
@@ -52,13 +65,24 @@ fn explained(rt: &(impl Print + Eprint), fault: LineFault) -> ExitCode {
     }
 }
 
-/// The status of what a line asked for.
-fn ended(rt: &impl Eprint, file: &str, accepted: Result<bool, ToolFault>) -> ExitCode {
+/// The status of what a line asked for: 0 accepted, 1 not, 2 it could not be done (profile).
+fn status_of(accepted: &Result<bool, ToolFault>) -> u8
+    ensures { result ≡ status_of accepted.now }
+{
     match accepted {
-        Ok(true) => ExitCode::SUCCESS,
-        Ok(false) => ExitCode::FAILURE,
-        Err(fault) => refused(rt, FaultText { fault, file }),
+        Ok(true) => 0,
+        Ok(false) => 1,
+        Err(_) => 2,
     }
+}
+
+/// The status of what a line asked for; standard error says why it could not be done.
+fn ended(rt: &impl Eprint, file: &str, accepted: Result<bool, ToolFault>) -> ExitCode {
+    let status = status_of(&accepted);
+    if let Err(fault) = accepted {
+        let _ = eprintln!(rt; "lagtool: {}", FaultText { fault, file });
+    }
+    ExitCode::from(status)
 }
 
 /// Checks a file, or standard input as `-`; true if no line is a fault.
@@ -78,6 +102,38 @@ fn check_file<R: Print + Files + Input + AllocGlobal>(
     Ok(summary.faults == 0)
 }
 
+/// The text of a file, or of standard input as `-`.
+fn text_of<R: Files + Input + AllocGlobal>(rt: &R, file: &str) -> Result<String, ToolFault> {
+    let read = if file == "-" {
+        io::read_to_string(rt.alloc(), rt.reader())
+    } else {
+        fs::read_to_string(rt, file)
+    };
+    match read {
+        Ok(text) => Ok(text),
+        Err(error) if error.kind() == io::ErrorKind::OutOfMemory => Err(ToolFault::NoMemory),
+        Err(_) => Err(ToolFault::Read),
+    }
+}
+
+/// Replays the script in a file, or in standard input as `-`; true if it could be.
+fn replay_file<R: Print + Files + Input + AllocGlobal>(
+    rt: &R,
+    file: &str,
+) -> Result<bool, ToolFault> {
+    let text = text_of(rt, file)?;
+    let mut sink = Sink::new(io::writer(rt));
+    replay(rt.alloc(), text.as_str(), by_number, by_number, &mut sink)?;
+    Ok(true)
+}
+
+/// Runs the vectors; true if none failed.
+fn run_vectors<R: Print + AllocGlobal>(rt: &R) -> Result<bool, ToolFault> {
+    let mut sink = Sink::new(io::writer(rt));
+    let summary = vectors(rt.alloc(), &mut sink)?;
+    Ok(summary.faults == 0)
+}
+
 /// The status of a command line.
 fn status<R: Print + Eprint + Files + Input + AllocGlobal>(rt: &R, words: &[String]) -> ExitCode {
     let alloc = rt.alloc();
@@ -91,8 +147,8 @@ fn status<R: Print + Eprint + Files + Input + AllocGlobal>(rt: &R, words: &[Stri
             ended(rt, "", reply(alloc, mac, hex, &mut sink))
         }
         Ok(Job::Check { file }) => ended(rt, file, check_file(rt, file)),
-        Ok(Job::Replay { .. }) => refused(rt, "replay is not built yet"),
-        Ok(Job::Vectors) => refused(rt, "vectors is not built yet"),
+        Ok(Job::Replay { script }) => ended(rt, script, replay_file(rt, script)),
+        Ok(Job::Vectors) => ended(rt, "", run_vectors(rt)),
         Err(fault) => explained(rt, fault),
     }
 }

@@ -10,6 +10,7 @@ use std::io::Write;
 use std::test::Fail;
 
 mod checks;
+mod replays;
 
 /// A text in hexadecimal: each piece, and how often it stands there.
 type Pieces = &'static [(&'static str, usize)];

@@ -1,71 +1,139 @@
-use Rattle.std.proofs.Common.{◌∙◌, [], ap, append-nil, arith, refl, sym, take}
-use Rattle.lagtool.specs.Scans.{ScanState}
-use Rattle.lagtool.proofs.ReportLemmas.{ends, pending, stops_reading, stops_writing, told_reads, told_still, told_writes}
-use Rattle.lagtool.proofs.SinkLemmas.{on_err}
+use Rattle.std.proofs.Common.{◌∙◌, ◌≡◌, ◌≤◌, [], ap, append-nil, arith, length, sym, take}
+use Rattle.std.proofs.lemmas.List.{length-take-le}
+use Rattle.lagtool.specs.Begun.{Stops}
+use Rattle.lagtool.specs.Scans.{unwritten}
+use Rattle.lagtool.specs.declared.fault.ToolFault.TheVariants.{NoMemory, Read, Write}
+use Rattle.lagtool.proofs.ReportLemmas.{all_said, ends, on_fault, pending, stops_reading, stops_short, stops_writing, told_reads, told_still, told_writes}
 use Rattle.lagtool.proofs.checking.check_all.Goals as goal
 
 pub returns-in_err-n-clause-err : goal.returns-in_err-n-clause-err
 returns-in_err-n-clause-err g c =
-    let e = c.in_err-n.ensures.err in
-    on_err c.from_residual.result (stops_reading g.R.Read.remaining g.W.Write.contents c.args.source.now c.loop-scan.source c.read.new.self c.args.sink.now c.loop-scan.sink c.loop-scan.sink
-    c.loop-scan.scan e.octets c.loop-scan.invariant.told e.read)
+    let r = g.R.Read.remaining in
+    let w = g.W.Write.contents in
+    let from = c.args.source.now in
+    let mid = c.loop-scan.source in
+    let to = c.read.new.self in
+    let old = c.args.sink.now in
+    let half = c.loop-scan.sink in
+    let i = c.loop-scan.invariant in
+    on_fault (Stops r w from to old half) Read c.from_residual.result c.from_residual.ensures.1 (stops_reading r w from mid to old half half c.loop-scan.scan i.told i.said c.in_err-n.ensures.err)
 
 pub returns-in_err-feed-clause-err : goal.returns-in_err-feed-clause-err
 returns-in_err-feed-clause-err g c =
-    on_err c.from_residual-in_err-feed.result (stops_reading g.R.Read.remaining g.W.Write.contents c.args.source.now c.loop-scan.source c.read.new.self c.args.sink.now c.loop-scan.sink c.loop-scan.sink
-    c.loop-scan.scan (take c.in_ok-n.n c.read.new.piece) c.loop-scan.invariant.told c.in_ok-n.ensures.ok.read)
+    let r = g.R.Read.remaining in
+    let w = g.W.Write.contents in
+    let from = c.args.source.now in
+    let mid = c.loop-scan.source in
+    let to = c.read.new.self in
+    let old = c.args.sink.now in
+    let half = c.loop-scan.sink in
+    let i = c.loop-scan.invariant in
+    let n = c.in_ok-n.n in
+    let piece = c.read.new.piece in
+    let bound = c.in_ok-n.ensures.bound in
+    let short : length (take n piece) ≤ 4096 = omega (arith, bound, c.read.auto.piece, length-take-le n piece bound) in
+    on_fault (Stops r w from to old half) NoMemory c.from_residual-in_err-feed.result c.from_residual-in_err-feed.ensures.1
+    (stops_short r w from mid to old half half c.loop-scan.scan (take n piece) i.told i.said c.in_ok-n.ensures.ok short)
 
 pub loop-scan-preserved : goal.loop-scan-preserved
 loop-scan-preserved g c =
     let r = g.R.Read.remaining in
     let w = g.W.Write.contents in
+    let from = c.args.source.now in
+    let mid = c.loop-scan.source in
+    let to = c.read.new.self in
+    let old = c.args.sink.now in
+    let half = c.loop-scan.sink in
+    let new = c.write.new.sink in
+    let i = c.loop-scan.invariant in
     let e = c.in_ok-write.ensures in
-    let wo = w c.args.sink.now.writer in
-    let wm = w c.loop-scan.sink.writer in
-    let ro = r c.args.source.now.reader in
-    let rn = r c.read.new.self.reader in
-    let p = told_reads ro (r c.loop-scan.source.reader) rn wo wm wm c.loop-scan.scan c.feed.new.self c.loop-scan.invariant.told (take c.in_ok-n.n c.read.new.piece) c.in_ok-n.ensures.ok.read c.in_ok-feed.ensures.reads in
+    let gives = c.in_ok-n.ensures.ok in
+    let t = c.feed.new.self in
+    let (none, same) = all_said t c.write.new.self e.said in
+    let p = told_reads r w from mid to old half new c.loop-scan.scan t (take c.in_ok-n.n c.read.new.piece) i.told gives c.in_ok-feed.ensures.reads in
     record {
-      told = told_writes ro rn rn wo wm (w c.write.new.sink.writer) c.feed.new.self c.write.new.self p e.ok.written e.said;
-      source = c.in_ok-n.ensures.ok.failed ∙ c.loop-scan.invariant.source;
-      sink = e.ok.failed ∙ c.loop-scan.invariant.sink;
-      left = omega (arith, ap (λ (v : ScanState). v.lines) e.said, c.in_ok-feed.ensures.lines, c.in_ok-n.ensures.ok.left, c.loop-scan.invariant.left);
+      told = told_writes r w from to to old half new t c.write.new.self p e.ok e.said;
+      said = none;
+      source = gives.failed ∙ i.source;
+      sink = e.ok.failed ∙ i.sink;
+      left = omega (arith, same, c.in_ok-feed.ensures.lines, gives.left, i.left);
     }
 
 pub returns-in_err-write-clause-err : goal.returns-in_err-write-clause-err
 returns-in_err-write-clause-err g c =
     let r = g.R.Read.remaining in
     let w = g.W.Write.contents in
+    let from = c.args.source.now in
+    let mid = c.loop-scan.source in
+    let to = c.read.new.self in
+    let old = c.args.sink.now in
+    let half = c.loop-scan.sink in
+    let new = c.write.new.sink in
+    let i = c.loop-scan.invariant in
+    let n = c.in_ok-n.n in
+    let piece = c.read.new.piece in
+    let bound = c.in_ok-n.ensures.bound in
+    let short : length (take n piece) ≤ 4096 = omega (arith, bound, c.read.auto.piece, length-take-le n piece bound) in
+    let ys = take n piece in
+    let s = c.loop-scan.scan in
     let t = c.feed.new.self in
-    let wm = w c.loop-scan.sink.writer in
-    let p = told_reads (r c.args.source.now.reader) (r c.loop-scan.source.reader) (r c.read.new.self.reader) (w c.args.sink.now.writer) wm wm c.loop-scan.scan t c.loop-scan.invariant.told (take c.in_ok-n.n c.read.new.piece)
-    c.in_ok-n.ensures.ok.read c.in_ok-feed.ensures.reads in
-    on_err c.from_residual-in_err-write.result (stops_writing r w c.args.source.now c.loop-scan.source c.read.new.self c.args.sink.now c.loop-scan.sink c.write.new.sink t t.said (pending t.lines t.faults t.line []) p refl
+    on_fault (Stops r w from to old new) Write c.from_residual-in_err-write.result c.from_residual-in_err-write.ensures.1
+    (stops_writing r w from mid to old half new s ys t.said (pending t.lines t.faults t.line []) i.told i.said c.in_ok-n.ensures.ok short (ap (unwritten s) (sym (append-nil ys)) ∙ c.in_ok-feed.ensures.reads.report [])
     c.in_err-write.ensures.err.written)
 
 pub returns-in_err-summary-clause-err : goal.returns-in_err-summary-clause-err
 returns-in_err-summary-clause-err g c =
-    on_err c.from_residual-in_err-summary.result (stops_reading g.R.Read.remaining g.W.Write.contents c.args.source.now c.loop-scan.source c.read.new.self c.args.sink.now c.loop-scan.sink c.loop-scan.sink
-    c.loop-scan.scan (take c.in_ok-n.n c.read.new.piece) c.loop-scan.invariant.told c.in_ok-n.ensures.ok.read)
+    let r = g.R.Read.remaining in
+    let w = g.W.Write.contents in
+    let from = c.args.source.now in
+    let mid = c.loop-scan.source in
+    let to = c.read.new.self in
+    let old = c.args.sink.now in
+    let half = c.loop-scan.sink in
+    let i = c.loop-scan.invariant in
+    let n = c.in_ok-n.n in
+    let piece = c.read.new.piece in
+    let bound = c.in_ok-n.ensures.bound in
+    let short : length (take n piece) ≤ 4096 = omega (arith, bound, c.read.auto.piece, length-take-le n piece bound) in
+    on_fault (Stops r w from to old half) NoMemory c.from_residual-in_err-summary.result c.from_residual-in_err-summary.ensures.1
+    (stops_short r w from mid to old half half c.loop-scan.scan (take n piece) i.told i.said c.in_ok-n.ensures.ok short)
 
 pub returns-in_err-write-2-clause-err : goal.returns-in_err-write-2-clause-err
 returns-in_err-write-2-clause-err g c =
     let r = g.R.Read.remaining in
     let w = g.W.Write.contents in
+    let from = c.args.source.now in
+    let mid = c.loop-scan.source in
+    let to = c.read.new.self in
+    let old = c.args.sink.now in
+    let half = c.loop-scan.sink in
+    let new = c.write-2.new.sink in
+    let i = c.loop-scan.invariant in
+    let n = c.in_ok-n.n in
+    let piece = c.read.new.piece in
+    let bound = c.in_ok-n.ensures.bound in
+    let short : length (take n piece) ≤ 4096 = omega (arith, bound, c.read.auto.piece, length-take-le n piece bound) in
     let s = c.loop-scan.scan in
     let said = c.finish.new.self.said in
-    let p = told_still (r c.args.source.now.reader) (r c.loop-scan.source.reader) (r c.read.new.self.reader) (w c.args.sink.now.writer) (w c.loop-scan.sink.writer) s c.in_ok-n.n c.read.new.piece c.loop-scan.invariant.told
-    c.in_ok-n.ensures.ok.read c.if-n-eq0.true in
-    on_err c.from_residual-in_err-write-2.result (stops_writing r w c.args.source.now c.loop-scan.source c.read.new.self c.args.sink.now c.loop-scan.sink c.write-2.new.sink s said [] p
-    (sym c.in_ok-summary.ensures.said ∙ sym (append-nil said)) c.in_err-write-2.ensures.err.written)
+    let none : take n piece ≡ [] = ap (λ k. take k piece) c.if-n-eq0.true in
+    on_fault (Stops r w from to old new) Write c.from_residual-in_err-write-2.result c.from_residual-in_err-write-2.ensures.1
+    (stops_writing r w from mid to old half new s (take n piece) said [] i.told i.said c.in_ok-n.ensures.ok short (ap (unwritten s) none ∙ sym c.in_ok-summary.ensures.said ∙ sym (append-nil said))
+    c.in_err-write-2.ensures.err.written)
 
 pub returns-clause-ok : goal.returns-clause-ok
 returns-clause-ok g c =
     let r = g.R.Read.remaining in
     let w = g.W.Write.contents in
-    let s = c.loop-scan.scan in
+    let from = c.args.source.now in
+    let mid = c.loop-scan.source in
+    let to = c.read.new.self in
+    let old = c.args.sink.now in
+    let half = c.loop-scan.sink in
+    let new = c.write-2.new.sink in
     let i = c.loop-scan.invariant in
-    let p = told_still (r c.args.source.now.reader) (r c.loop-scan.source.reader) (r c.read.new.self.reader) (w c.args.sink.now.writer) (w c.loop-scan.sink.writer) s c.in_ok-n.n c.read.new.piece i.told c.in_ok-n.ensures.ok.read
-    c.if-n-eq0.true in
-    ends r w c.args.source.now c.loop-scan.source c.read.new.self c.args.sink.now c.loop-scan.sink c.write-2.new.sink s c.finish.new.self.said c.in_ok-summary.summary p c.in_ok-summary.ensures.said c.in_ok-summary.ensures.counts
-    (c.in_ok-n.ensures.end c.if-n-eq0.true) (c.in_ok-n.ensures.ok.failed ∙ i.source ∙ sym c.requires.source) (i.sink ∙ sym c.requires.sink) c.in_ok-write-2.ensures.ok
+    let n = c.in_ok-n.n in
+    let piece = c.read.new.piece in
+    let s = c.loop-scan.scan in
+    let none : take n piece ≡ [] = ap (λ k. take k piece) c.if-n-eq0.true in
+    let p = told_still r w from mid to old half new s (take n piece) i.told c.in_ok-n.ensures.ok none in
+    ends r w from to to old half new s c.finish.new.self.said c.in_ok-summary.summary p c.in_ok-summary.ensures.said c.in_ok-summary.ensures.counts (c.in_ok-n.ensures.end c.if-n-eq0.true) c.in_ok-write-2.ensures.ok

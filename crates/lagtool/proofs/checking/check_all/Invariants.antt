@@ -1,10 +1,11 @@
-use Rattle.std.proofs.Common.{◌≡◌, ◌+◌, ◌≤◌, false}
+use Rattle.std.proofs.Common.{◌≡◌, ◌+◌, ◌≤◌, [], false}
 use Rattle.lagtool.proofs.ReportLemmas.{Told}
 use Rattle.lagtool.proofs.checking.check_all.Given as goal
 
 abbrev pub invariant-loop-scan : goal.invariant-loop-scan
 invariant-loop-scan g l = record {
-  told : Told (g.R.Read.remaining l.initial.source.reader) (g.R.Read.remaining l.source.reader) (g.W.Write.contents l.initial.sink.writer) (g.W.Write.contents l.sink.writer) l.scan;
+  told : Told g.R.Read.remaining g.W.Write.contents l.initial.source l.source l.initial.sink l.sink l.scan;
+  said : l.scan.said ≡ [];
   source : l.source.failed ≡ false;
   sink : l.sink.failed ≡ false;
   left : l.scan.lines + l.source.left ≤ l.initial.source.left;

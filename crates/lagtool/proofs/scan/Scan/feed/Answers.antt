@@ -1,5 +1,5 @@
 use Rattle.std.proofs.Common.{◌++◌, ◌∷◌, [], arith, take}
-use Rattle.lagtool.proofs.ReportLemmas.{ends_line, line_done, reads_both, rest_length}
+use Rattle.lagtool.proofs.ReportLemmas.{ends_line, line_done, reads_both, reads_rest, rest_length}
 use Rattle.lagtool.proofs.scan.Scan.feed.Goals as goal
 
 pub loop-n-preserved : goal.loop-n-preserved
@@ -14,3 +14,8 @@ loop-n-preserved c =
       reads_both _ _ _ done (take n rest ++ 10 ∷ []) reads (reads_both _ _ _ (take n rest) (10 ∷ []) c.in_ok-keep.ensures.reads (ends_line _ _ e.said e.lines e.faults e.line)),
       omega (arith, few, e.lines, c.in_ok-keep.ensures.lines, rest_length rest n found.0.high),
     )
+
+pub returns-clause-reads : goal.returns-clause-reads
+returns-clause-reads c =
+    let (done, split, reads, few) = c.loop-n.invariant in
+    reads_rest c.keep-2.result c.args.self.now c.loop-n.self c.keep-2.new.self c.args.piece.now done c.loop-n.rest.now split reads c.keep-2.ensures.reads

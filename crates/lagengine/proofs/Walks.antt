@@ -1,0 +1,7 @@
+-- Lists that are read one after another, some of them read already.
+use Rattle.std.proofs.Common.{List, ◌++◌, Result, Ok, Err}
+
+-- what is made already, and then what is read of the rest
+abbrev pub after : {A E : Type 0} → List A → Result (List A) E → Result (List A) E
+after made (Ok xs) = Ok (made ++ xs)
+after made (Err e) = Err e

@@ -1,0 +1,270 @@
+-- The texts of the answers (profile).
+use Rattle.std.specs.Prelude.{ℕ, ◌==◌, ◌++◌, Bool, true, false, List, [], ◌∷◌, codes, decimal, slice_index, if◌then◌else◌, Option, Some, None, Result, Ok, Err}
+use Rattle.hex.specs.Hex.{encode_lower}
+use Rattle.lagtypes.specs.Octet.{octet}
+use Rattle.lagtypes.specs.Texts.{group_text, port_text, state_text, system_text}
+use Rattle.lagtypes.specs.declared.party.Choice.{Choice}
+use Rattle.lagtypes.specs.declared.party.Choice.TheVariants.{Unselected, Selected}
+use Rattle.lagtypes.specs.declared.party.Party.{Party}
+use Rattle.slowpdu.specs.declared.pdu.Info.{Info}
+use Rattle.slowpdu.specs.declared.fault.WireFault.{WireFault}
+use Rattle.slowpdu.specs.declared.fault.WireFault.TheVariants.{Short, OtherSubtype, BadLength, MarkerTlv}
+use Rattle.portmachines.specs.declared.mux.MuxState.{MuxState}
+use Rattle.portmachines.specs.declared.mux.MuxState.TheVariants as mux
+use Rattle.portmachines.specs.declared.receive.ReceiveState.{ReceiveState}
+use Rattle.portmachines.specs.declared.receive.ReceiveState.TheVariants as receive
+use Rattle.distributor.specs.declared.assignment.Assignment.{Assignment}
+use Rattle.distributor.specs.declared.assignment.Assignment.TheVariants.{Free, On, Wanted, Flushing}
+use Rattle.lagsystem.specs.Faults.{fault_number}
+use Rattle.lagsystem.specs.declared.answers.Received.{Received}
+use Rattle.lagsystem.specs.declared.answers.Received.TheVariants.{Disabled, Dropped, Ignored, TookLacpdu, Respond, Released, Up}
+use Rattle.lagsystem.specs.declared.drive.Reply.{Reply}
+use Rattle.lagsystem.specs.declared.drive.Reply.TheVariants as reply
+use Rattle.lagsystem.specs.declared.fault.BadConfig.{BadConfig}
+use Rattle.lagsystem.specs.declared.fault.BadConfig.TheVariants as reason
+use Rattle.lagsystem.specs.declared.fault.SystemFault.{SystemFault}
+use Rattle.lagsystem.specs.declared.fault.SystemFault.TheVariants as system
+use Rattle.lagengine.specs.Looks.{Sharing}
+use Rattle.lagengine.specs.Said.{Said}
+use Rattle.lagengine.specs.Said as said
+use Rattle.lagengine.specs.declared.fault.LineFault.{LineFault}
+use Rattle.lagengine.specs.declared.fault.LineFault.TheVariants as fault
+use Rattle.lagengine.specs.declared.looks.Look.{Look}
+use Rattle.lagengine.specs.declared.looks.PortFact.{PortFact}
+use Rattle.lagengine.specs.declared.looks.PortFact.TheVariants as fact
+use Rattle.lagengine.specs.declared.looks.PortTold.{PortTold}
+use Rattle.lagengine.specs.declared.serve.Stopped.{Stopped}
+use Rattle.lagengine.specs.declared.serve.Stopped.TheVariants as stopped
+
+-- the texts of a list, one behind another
+abbrev pub each_text : {A : Type 0} → (A → List ℕ) → List A → List ℕ
+each_text text [] = []
+each_text text (x ∷ xs) = text x ++ each_text text xs
+
+-- why nothing is done for a line
+abbrev pub line_fault_text : LineFault → List ℕ
+line_fault_text fault.TooLong = codes "too-long"
+line_fault_text fault.NotText = codes "not-text"
+line_fault_text fault.Word = codes "word"
+line_fault_text fault.Count = codes "count"
+line_fault_text fault.Number = codes "number"
+line_fault_text fault.Mac = codes "mac"
+line_fault_text fault.Flag = codes "flag"
+line_fault_text fault.Link = codes "link"
+line_fault_text fault.Kind = codes "kind"
+line_fault_text fault.Hex = codes "hex"
+line_fault_text fault.NoSystem = codes "no-system"
+line_fault_text fault.NotKeeping = codes "not-keeping"
+line_fault_text fault.NoMemory = codes "no-memory"
+
+-- why a system is not made, or refuses a call
+abbrev pub reason_name : BadConfig → List ℕ
+reason_name reason.Ports = codes "ports"
+reason_name reason.Aggregators = codes "aggregators"
+reason_name (reason.PortNumber place) = codes "port-number " ++ decimal place
+
+abbrev pub fault_name : SystemFault → List ℕ
+fault_name system.NoPort = codes "no-port"
+fault_name system.NoAggregator = codes "no-aggregator"
+fault_name system.FrameLength = codes "frame-length"
+fault_name system.SlowFrame = codes "slow-frame"
+fault_name system.Held = codes "held"
+fault_name system.NoneDistributing = codes "none-distributing"
+fault_name system.NotDistributing = codes "not-distributing"
+fault_name system.SamePort = codes "same-port"
+fault_name system.NotAssigned = codes "not-assigned"
+fault_name system.MarkersSpent = codes "markers-spent"
+fault_name (system.BadConfig reason) = codes "bad-config " ++ reason_name reason
+fault_name system.NoMemory = codes "no-memory"
+
+-- refused NUMBER NAME
+abbrev pub refused_text : SystemFault → List ℕ
+refused_text f = codes "refused " ++ (decimal (fault_number f) ++ 32 ∷ fault_name f)
+
+-- ignored, and why
+abbrev pub ignored_text : WireFault → List ℕ
+ignored_text (Short have) = codes "ignored 1 short have " ++ decimal have
+ignored_text (OtherSubtype n) = codes "ignored 2 subtype " ++ decimal n
+ignored_text (BadLength at found) = codes "ignored 3 length at " ++ (decimal at ++ (codes " found " ++ decimal found))
+ignored_text (MarkerTlv n) = codes "ignored 4 marker-tlv " ++ decimal n
+
+-- what became of a frame
+abbrev pub received_text : Received → List ℕ
+received_text Disabled = codes "disabled"
+received_text Dropped = codes "dropped"
+received_text (Ignored f) = ignored_text f
+received_text TookLacpdu = codes "took"
+received_text (Respond octets) = codes "respond " ++ encode_lower octets
+received_text (Released count) = codes "released " ++ decimal count
+received_text (Up agg) = codes "up " ++ decimal agg.0
+
+-- a frame that is sent: the subtype of its payload, and its octets
+abbrev pub sent_word : List ℕ → List ℕ
+sent_word octets = if slice_index octets 14 == 1 then codes "lacpdu " else codes "marker "
+
+abbrev pub sent_text : List ℕ → List ℕ
+sent_text octets = sent_word octets ++ encode_lower octets
+
+-- a call that answers nothing but that it is done, or its refusal
+abbrev pub done_text : Result Unit SystemFault → List ℕ
+done_text (Ok done) = codes "ok"
+done_text (Err f) = refused_text f
+
+-- what a call answers
+abbrev pub reply_text : Reply → List ℕ
+reply_text (reply.Receive (Ok answer)) = received_text answer
+reply_text (reply.Receive (Err f)) = refused_text f
+reply_text reply.Tick = codes "ok"
+reply_text (reply.SetLink answer) = done_text answer
+reply_text (reply.Configure (Ok true)) = codes "ok"
+reply_text (reply.Configure (Ok false)) = codes "unchanged"
+reply_text (reply.Configure (Err f)) = refused_text f
+reply_text reply.Restart = codes "ok"
+reply_text (reply.Transmit (Ok (Some octets))) = sent_text octets
+reply_text (reply.Transmit (Ok None)) = codes "nothing"
+reply_text (reply.Transmit (Err f)) = refused_text f
+reply_text (reply.Offer (Ok port)) = codes "port " ++ decimal port
+reply_text (reply.Offer (Err f)) = refused_text f
+reply_text (reply.MoveConversation answer) = done_text answer
+reply_text (reply.Force answer) = done_text answer
+
+-- each reply with a semicolon behind it
+abbrev pub ended_text : Reply → List ℕ
+ended_text r = reply_text r ++ 59 ∷ []
+
+abbrev pub replies_text : List Reply → List ℕ
+replies_text = each_text ended_text
+
+-- true or false
+abbrev pub flag_text : Bool → List ℕ
+flag_text true = codes "true"
+flag_text false = codes "false"
+
+abbrev pub kind_text : Bool → List ℕ
+kind_text true = codes "aggregatable"
+kind_text false = codes "individual"
+
+-- SYSTEM key KEY port PORT KIND
+abbrev pub party_text : Party → List ℕ
+party_text p = system_text p.system ++ (codes " key " ++ (decimal p.key.0 ++ (codes " port " ++ (port_text p.port ++ 32 ∷ kind_text p.aggregatable))))
+
+-- SYSTEM key KEY port PORT state HH WORDS
+abbrev pub partner_text : Info → List ℕ
+partner_text p = system_text p.system ++ (codes " key " ++ (decimal p.key.0 ++ (codes " port " ++ (port_text p.port ++ (codes " state " ++ state_text (octet p.state))))))
+
+abbrev pub choice_text : Choice → List ℕ
+choice_text Unselected = codes "unselected"
+choice_text (Selected agg) = codes "selected " ++ decimal agg.0
+
+abbrev pub mux_text : MuxState → List ℕ
+mux_text mux.Detached = codes "detached"
+mux_text mux.Waiting = codes "waiting"
+mux_text mux.Attached = codes "attached"
+mux_text mux.CollectingDistributing = codes "collecting-distributing"
+
+abbrev pub receive_text : ReceiveState → List ℕ
+receive_text receive.Initialize = codes "initialize"
+receive_text receive.PortDisabled = codes "port-disabled"
+receive_text receive.Expired = codes "expired"
+receive_text receive.Defaulted = codes "defaulted"
+receive_text receive.Current = codes "current"
+
+-- the two ends, and their group
+abbrev pub ends_text : Look → List ℕ
+ends_text l = codes "party " ++ (party_text l.party ++ (codes "; partner " ++ (partner_text l.partner ++ (codes "; group " ++ group_text l.group))))
+
+-- what the machines hold
+abbrev pub held_text : Look → List ℕ
+held_text l =
+    codes "defaulted " ++ (flag_text l.defaulted ++ (codes "; distributes " ++ (flag_text l.distributes
+    ++ (codes "; " ++ (choice_text l.choice ++ (codes "; mux " ++ mux_text l.mux))))))
+
+abbrev pub look_text : Look → List ℕ
+look_text l = ends_text l ++ (codes "; " ++ held_text l)
+
+-- what is told of a port
+abbrev pub fact_text : PortFact → List ℕ
+fact_text (fact.Look l) = look_text l
+fact_text (fact.Up up) = codes "up " ++ flag_text up
+fact_text (fact.State s) = codes "state " ++ state_text (octet s)
+fact_text (fact.ReceiveState s) = codes "receive-state " ++ receive_text s
+fact_text (fact.Due due) = codes "due " ++ flag_text due
+fact_text (fact.Load load) = codes "load " ++ decimal load
+
+abbrev pub fact_or_none : Option PortFact → List ℕ
+fact_or_none None = codes "none"
+fact_or_none (Some f) = fact_text f
+
+-- port NUMBER: FACT
+abbrev pub told_text : PortTold → List ℕ
+told_text t = codes "port " ++ (decimal t.port ++ (codes ": " ++ fact_or_none t.fact))
+
+-- each number behind a space, or none
+abbrev pub spaced : ℕ → List ℕ
+spaced n = 32 ∷ decimal n
+
+abbrev pub numbers_text : List ℕ → List ℕ
+numbers_text [] = codes " none"
+numbers_text (n ∷ ns) = each_text spaced (n ∷ ns)
+
+-- aggregator NUMBER: PORTS
+abbrev pub sharing_text : Sharing → List ℕ
+sharing_text t = codes "aggregator " ++ (decimal t.agg ++ 58 ∷ numbers_text t.ports)
+
+-- a number or none
+abbrev pub number_text : Option ℕ → List ℕ
+number_text None = codes "none"
+number_text (Some n) = decimal n
+
+-- the port that a conversation prefers
+abbrev pub preferred_text : Option ℕ → List ℕ
+preferred_text None = []
+preferred_text (Some port) = codes " preferred " ++ decimal port
+
+-- what a conversation is doing
+abbrev pub doing_text : Assignment → List ℕ
+doing_text (Free preferred) = codes "free" ++ preferred_text preferred
+doing_text (On port) = codes "on " ++ decimal port
+doing_text (Wanted port preferred) = codes "wanted " ++ (decimal port ++ preferred_text preferred)
+doing_text (Flushing port id preferred age) = codes "flushing " ++ (decimal port ++ (codes " id " ++ (decimal id ++ (codes " age " ++ (decimal age ++ preferred_text preferred)))))
+
+abbrev pub doing_or_none : Option Assignment → List ℕ
+doing_or_none None = codes "none"
+doing_or_none (Some doing) = doing_text doing
+
+-- each port, and a bar behind it; then each aggregator, and a bar before each but the first
+abbrev pub port_bar : PortTold → List ℕ
+port_bar t = told_text t ++ codes " | "
+
+abbrev pub bar_sharing : Sharing → List ℕ
+bar_sharing t = codes " | " ++ sharing_text t
+
+abbrev pub sharings_text : List Sharing → List ℕ
+sharings_text [] = []
+sharings_text (t ∷ ts) = sharing_text t ++ each_text bar_sharing ts
+
+abbrev pub all_text : List PortTold → List Sharing → List ℕ
+all_text ports aggs = each_text port_bar ports ++ sharings_text aggs
+
+-- what is printed for a line, without the end of its line
+abbrev pub said_text : Said → List ℕ
+said_text said.Done = codes "ok"
+said_text said.Kept = codes "kept"
+said_text (said.Replied r) = reply_text r
+said_text (said.Drove replies) = replies_text replies
+said_text (said.Refused f) = refused_text f
+said_text (said.Port t) = told_text t
+said_text (said.Ports ports) = codes "ports:" ++ numbers_text ports
+said_text (said.Aggregators count) = codes "aggregators: " ++ decimal count
+said_text (said.Distributing t) = sharing_text t
+said_text (said.Conversation conv) = number_text conv
+said_text (said.ConversationState doing) = doing_or_none doing
+said_text (said.NextMarker id) = number_text id
+said_text (said.All ports aggs) = all_text ports aggs
+said_text (said.Fault f) = codes "fault " ++ line_fault_text f
+
+-- why the program stops before its input ends, as standard error says it behind `lagengine: `
+abbrev pub stopped_text : Stopped → List ℕ
+stopped_text stopped.Read = codes "cannot read"
+stopped_text stopped.Write = codes "cannot write"
+stopped_text stopped.NoMemory = codes "out of memory"

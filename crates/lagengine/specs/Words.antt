@@ -1,0 +1,90 @@
+-- What one word of a line says, or why it says nothing (profile).
+use Rattle.std.specs.Prelude.{ℕ, ◌==◌, ◌&&◌, Bool, true, false, List, [], ◌∷◌, codes, length, nat_lt, if◌then◌else◌, Option, Some, None, Result, Ok, Err}
+use Rattle.std.specs.List.{slice_split}
+use Rattle.std.specs.Result.{result_ok}
+use Rattle.std.specs.Str.{all_ascii_digits, bytes_eq}
+use Rattle.std.specs.Str.Parse.{digits_value}
+use Rattle.hex.specs.Hex.{decode_of, decode_sized}
+use Rattle.lagtypes.specs.declared.identifiers.Key.{Key}
+use Rattle.lagsystem.specs.declared.config.PortConfig.{PortConfig}
+use Rattle.lagengine.specs.declared.fault.LineFault.{LineFault}
+use Rattle.lagengine.specs.declared.fault.LineFault.TheVariants as fault
+
+-- a value, or the first fault
+infixl 10 ◌>>=◌
+abbrev pub ◌>>=◌ : {A B E : Type 0} → Result A E → (A → Result B E) → Result B E
+Ok x >>= f = f x
+Err e >>= f = Err e
+
+-- the value, or this fault where there is none
+abbrev pub or_fault : {A E : Type 0} → E → Option A → Result A E
+or_fault e None = Err e
+or_fault e (Some x) = Ok x
+
+-- each of a list, read from left to right
+abbrev pub each : {A X E : Type 0} → (X → Result A E) → List X → Result (List A) E
+each f [] = Ok []
+each f (x ∷ rest) = f x >>= λ y. each f rest >>= λ ys. Ok (y ∷ ys)
+
+-- the parts of a text, cut at every octet that is this one
+abbrev pub parts : ℕ → List ℕ → List (List ℕ)
+parts cut text = slice_split (λ b. b == cut) text
+
+-- one or more decimal digits
+abbrev pub is_numeral : List ℕ → Bool
+is_numeral w = nat_lt 0 (length w) && all_ascii_digits w
+
+-- the number below a limit that a word says; leading zeros do not count
+abbrev pub number_below : ℕ → List ℕ → Option ℕ
+number_below limit w = if is_numeral w && nat_lt (digits_value 10 w) limit then Some (digits_value 10 w) else None
+
+abbrev pub number_word : List ℕ → Result ℕ LineFault
+number_word w = or_fault fault.Number (number_below 65536 w)
+
+abbrev pub long_word : List ℕ → Result ℕ LineFault
+long_word w = or_fault fault.Number (number_below 4294967296 w)
+
+-- twelve hexadecimal digits
+abbrev pub mac_word : List ℕ → Result (List ℕ) LineFault
+mac_word w = or_fault fault.Mac (result_ok (decode_sized w 6))
+
+-- one of two words
+abbrev pub one_of : List ℕ → List ℕ → LineFault → List ℕ → Result Bool LineFault
+one_of yes_word no_word e w = if bytes_eq w yes_word then Ok true else if bytes_eq w no_word then Ok false else Err e
+
+abbrev pub flag_word : List ℕ → Result Bool LineFault
+flag_word = one_of (codes "1") (codes "0") fault.Flag
+
+abbrev pub link_word : List ℕ → Result Bool LineFault
+link_word = one_of (codes "up") (codes "down") fault.Link
+
+abbrev pub kind_word : List ℕ → Result Bool LineFault
+kind_word = one_of (codes "aggregatable") (codes "individual") fault.Kind
+
+-- octets in hexadecimal digits of either case; the empty word says none
+abbrev pub hex_word : List ℕ → Result (List ℕ) LineFault
+hex_word w = or_fault fault.Hex (result_ok (decode_of w))
+
+-- keys joined by commas, or a dash for none
+abbrev pub key_word : List ℕ → Result Key LineFault
+key_word w = number_word w >>= λ n. Ok (record { 0 = n })
+
+abbrev pub keys_word : List ℕ → Result (List Key) LineFault
+keys_word w = if bytes_eq w (codes "-") then Ok [] else each key_word (parts 44 w)
+
+-- NUMBER:PRIORITY:MAC:KEY:AGGREGATABLE:ACTIVE:SHORT
+abbrev pub Seven : Type 0
+Seven = List ℕ × List ℕ × List ℕ × List ℕ × List ℕ × List ℕ × List ℕ
+
+abbrev pub seven_fields : List (List ℕ) → Result Seven LineFault
+seven_fields (a ∷ b ∷ c ∷ d ∷ e ∷ f ∷ g ∷ []) = Ok (a, b, c, d, e, f, g)
+seven_fields _ = Err fault.Count
+
+abbrev pub port_fields : List (List ℕ) → Result PortConfig LineFault
+port_fields ws =
+    seven_fields ws >>= λ p. number_word p.0 >>= λ number. number_word p.1 >>= λ priority. mac_word p.2 >>= λ mac. number_word p.3 >>= λ key.
+    flag_word p.4 >>= λ aggregatable. flag_word p.5 >>= λ active. flag_word p.6 >>= λ short.
+    Ok (record { number = number; priority = priority; mac = mac; key = record { 0 = key }; aggregatable = aggregatable; active = active; short = short })
+
+abbrev pub port_word : List ℕ → Result PortConfig LineFault
+port_word w = port_fields (parts 58 w)

@@ -1,0 +1,70 @@
+ghost use Rattle.std.specs.Prelude.{◌≡◌, Some};
+ghost use Rattle.lagengine.specs.Said.{said_of};
+ghost use Rattle.lagengine.specs.Texts.{said_text};
+
+use crate::facts::{DoingText, NumberText, write_all, write_numbers};
+use crate::fault::LineFault;
+use crate::looks::{AggTold, PortTold};
+use crate::replies::{RefusedText, ReplyText, write_replies};
+use arrayvec::ArrayVec;
+use lagsystem::{Assignment, Reply, SystemFault};
+use std::fmt;
+
+/// What is answered to a line (profile).
+#[derive(Debug, Drop)]
+pub enum Answer {
+    /// A system was made, or calls are kept from now on.
+    Done,
+    /// The call was kept.
+    Kept,
+    /// What the call answered.
+    Reply(Reply),
+    /// What each of the calls that were kept answered.
+    Replies(Vec<Reply>),
+    /// Why the system was not made.
+    Refused(SystemFault),
+    /// What a reader tells of a port.
+    Port(PortTold),
+    /// The numbers of the ports.
+    Ports(ArrayVec<u16, 64>),
+    /// How many aggregators there are.
+    Aggregators(usize),
+    /// The ports that distribute in an aggregator.
+    Distributing(AggTold),
+    /// The conversation of a frame.
+    Conversation(Option<u16>),
+    /// What a conversation is doing.
+    ConversationState(Option<Assignment>),
+    /// The identifier of the next marker.
+    NextMarker(Option<u32>),
+    /// What is told of every port and every aggregator.
+    All(Vec<PortTold>, Vec<AggTold>),
+    /// Why nothing is done for the line.
+    Fault(LineFault),
+}
+
+impl fmt::Display for Answer {
+    ghost output = { λ answer. Some (said_text (said_of answer)) };
+
+    fn fmt<W: fmt::Write>(&self, f: &mut fmt::Formatter<W>) -> fmt::Result {
+        match self {
+            Answer::Done => f.write_str("ok"),
+            Answer::Kept => f.write_str("kept"),
+            Answer::Reply(reply) => write!(f, "{}", ReplyText(reply)),
+            Answer::Replies(replies) => write_replies(f, replies.as_slice()),
+            Answer::Refused(fault) => write!(f, "{}", RefusedText(*fault)),
+            Answer::Port(told) => write!(f, "{told}"),
+            Answer::Ports(ports) => {
+                f.write_str("ports:")?;
+                write_numbers(f, ports.as_slice())
+            }
+            Answer::Aggregators(count) => write!(f, "aggregators: {count}"),
+            Answer::Distributing(told) => write!(f, "{told}"),
+            Answer::Conversation(conv) => write!(f, "{}", NumberText(conv.map(u32::from))),
+            Answer::ConversationState(doing) => write!(f, "{}", DoingText(*doing)),
+            Answer::NextMarker(id) => write!(f, "{}", NumberText(*id)),
+            Answer::All(ports, aggs) => write_all(f, ports.as_slice(), aggs.as_slice()),
+            Answer::Fault(fault) => write!(f, "fault {fault}"),
+        }
+    }
+}

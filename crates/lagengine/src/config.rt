@@ -1,0 +1,129 @@
+ghost use Rattle.std.specs.Prelude.{◌≡◌, map};
+ghost use Rattle.lagengine.specs.Requests.{Enters, plan_in, plan_of, seen_seven};
+ghost use Rattle.lagengine.specs.Words.{each, key_word, keys_word, port_fields, port_word, seven_fields};
+
+use crate::fault::{LineError, LineFault};
+use crate::words::{fields_of, flag, items_of, long, mac, number};
+use lagsystem::{Config, Key, PortConfig, SystemId};
+use std::alloc::Global;
+
+/// The key that a word says.
+fn key(word: &str) -> Result<Key, LineFault>
+    ensures { result ≡ key_word word.now }
+{
+    Ok(Key(number(word)?))
+}
+
+/// The keys that these words say.
+fn each_key(alloc: Global, words: &[&str]) -> Result<Vec<Key>, LineError>
+    ensures { Enters (λ v. v.items) (each key_word (map (λ w. w.now) words.now)) result }
+{
+    let mut keys = Vec::with_capacity(alloc, words.len())?;
+    for word in words {
+        let key = key(*word)?;
+        keys.push(key)?;
+    }
+    Ok(keys)
+}
+
+/// The keys of the aggregators: joined by commas, or a dash for none.
+fn keys(alloc: Global, word: &str) -> Result<Vec<Key>, LineError>
+    ensures { Enters (λ v. v.items) (keys_word word.now) result }
+{
+    if word == "-" {
+        return Ok(Vec::new(alloc));
+    }
+    let words = items_of(alloc, word)?;
+    each_key(alloc, words.as_slice())
+}
+
+/// The seven fields that there are.
+fn seven_fields<'a>(
+    fields: &[&'a str],
+) -> Result<
+    (
+        &'a str,
+        &'a str,
+        &'a str,
+        &'a str,
+        &'a str,
+        &'a str,
+        &'a str,
+    ),
+    LineFault,
+>
+    ensures { seen_seven result ≡ seven_fields (map (λ w. w.now) fields.now) }
+{
+    match fields {
+        [a, b, c, d, e, f, g] => Ok((*a, *b, *c, *d, *e, *f, *g)),
+        _ => Err(LineFault::Count),
+    }
+}
+
+/// The port of its seven fields.
+fn port_of(fields: &[&str]) -> Result<PortConfig, LineFault>
+    ensures { result ≡ port_fields (map (λ w. w.now) fields.now) }
+{
+    let (port, priority, address, key, aggregatable, active, short) = seven_fields(fields)?;
+    let number_said = number(port)?;
+    let priority = number(priority)?;
+    let mac = mac(address)?;
+    let key = Key(number(key)?);
+    let aggregatable = flag(aggregatable)?;
+    let active = flag(active)?;
+    let short = flag(short)?;
+    Ok(PortConfig {
+        number: number_said,
+        priority,
+        mac,
+        key,
+        aggregatable,
+        active,
+        short,
+    })
+}
+
+/// The port that a word says.
+fn port(alloc: Global, word: &str) -> Result<PortConfig, LineError>
+    ensures { Enters (λ p. p) (port_word word.now) result }
+{
+    let fields = fields_of(alloc, word)?;
+    let port = port_of(fields.as_slice())?;
+    Ok(port)
+}
+
+/// The ports that these words say.
+fn each_port(alloc: Global, words: &[&str]) -> Result<Vec<PortConfig>, LineError>
+    ensures { Enters (λ v. v.items) (each port_word (map (λ w. w.now) words.now)) result }
+{
+    let mut ports = Vec::with_capacity(alloc, words.len())?;
+    for word in words {
+        let port = port(alloc, *word)?;
+        ports.push(port)?;
+    }
+    Ok(ports)
+}
+
+/// A new system, of PRIORITY MAC MAX_DELAY FIRST_MARKER KEYS PORT .. (profile).
+pub fn system(alloc: Global, words: &[&str]) -> Result<Config, LineError>
+    ensures { Enters plan_of (plan_in (map (λ w. w.now) words.now)) result }
+{
+    match words {
+        [priority, address, delay, marker, aggregators, ports @ ..] => {
+            let priority = number(*priority)?;
+            let mac = mac(*address)?;
+            let max_delay = number(*delay)?;
+            let first_marker = long(*marker)?;
+            let aggregators = keys(alloc, *aggregators)?;
+            let ports = each_port(alloc, ports)?;
+            Ok(Config {
+                system: SystemId { priority, mac },
+                max_delay,
+                first_marker,
+                aggregators,
+                ports,
+            })
+        }
+        _ => Err(LineError::Fault(LineFault::Count)),
+    }
+}

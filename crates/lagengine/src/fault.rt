@@ -1,0 +1,92 @@
+ghost use Rattle.std.specs.Prelude.{◌≡◌, Some};
+ghost use Rattle.lagengine.specs.Texts.{line_fault_text};
+ghost use Rattle.lagengine.specs.declared.fault.LineError.TheVariants.{Fault, NoMemory as Spent};
+
+use std::alloc::{AllocError, AllocFailed};
+use std::fmt;
+
+/// Why nothing is done for a line (profile).
+#[derive(Clone, Copy, Debug, PartialEq, Eq)]
+pub enum LineFault {
+    /// The line has more than 65,536 octets.
+    TooLong,
+    /// The line is not UTF-8.
+    NotText,
+    /// The first word names no request.
+    Word,
+    /// There are too few or too many words, or parts of a word.
+    Count,
+    /// A word is no number, or one that is too large.
+    Number,
+    /// A MAC address is not twelve hexadecimal digits.
+    Mac,
+    /// A word is neither `1` nor `0`.
+    Flag,
+    /// A word is neither `up` nor `down`.
+    Link,
+    /// A word is neither `aggregatable` nor `individual`.
+    Kind,
+    /// Octets are not hexadecimal.
+    Hex,
+    /// There is no system yet.
+    NoSystem,
+    /// No list is kept.
+    NotKeeping,
+    /// Memory was refused.
+    NoMemory,
+}
+
+impl fmt::Display for LineFault {
+    ghost output = { λ fault. Some (line_fault_text fault) };
+
+    fn fmt<W: fmt::Write>(&self, f: &mut fmt::Formatter<W>) -> fmt::Result {
+        f.write_str(match self {
+            LineFault::TooLong => "too-long",
+            LineFault::NotText => "not-text",
+            LineFault::Word => "word",
+            LineFault::Count => "count",
+            LineFault::Number => "number",
+            LineFault::Mac => "mac",
+            LineFault::Flag => "flag",
+            LineFault::Link => "link",
+            LineFault::Kind => "kind",
+            LineFault::Hex => "hex",
+            LineFault::NoSystem => "no-system",
+            LineFault::NotKeeping => "not-keeping",
+            LineFault::NoMemory => "no-memory",
+        })
+    }
+}
+
+/// Why a line gives no request.
+#[derive(Clone, Copy, Debug, PartialEq, Eq)]
+pub enum LineError {
+    /// It is none.
+    Fault(LineFault),
+    /// Memory was refused.
+    NoMemory,
+}
+
+impl From<LineFault> for LineError {
+    ghost from_gives = { λ fault e. e ≡ Fault fault };
+
+    fn from(fault: LineFault) -> LineError {
+        LineError::Fault(fault)
+    }
+}
+
+impl From<AllocError> for LineError {
+    ghost from_gives = { λ _ e. e ≡ Spent };
+
+    fn from(_e: AllocError) -> LineError {
+        LineError::NoMemory
+    }
+}
+
+impl<T: Drop> From<AllocFailed<T>> for LineError {
+    ghost from_gives = { λ _ e. e ≡ Spent };
+
+    fn from(_e: AllocFailed<T>) -> LineError {
+        LineError::NoMemory
+    }
+}

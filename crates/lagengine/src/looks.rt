@@ -1,0 +1,150 @@
+ghost use Rattle.std.specs.Prelude.{◌≡◌, IfOk, map, option_map};
+ghost use Rattle.lagengine.specs.Looks.{all_aggregators, all_ports, fact_of, load_of, look_of, port_told, sharing_in, sharing_of};
+ghost use Rattle.lagsystem.specs.State.{port_of};
+
+use crate::request::PortQuestion;
+use arrayvec::ArrayVec;
+use lagsystem::{AggId, Choice, Group, Info, MuxState, Party, ReceiveState, State, System};
+use std::alloc::{AllocError, Global};
+
+/// What `look` tells of a port.
+#[derive(Clone, Copy, Debug, PartialEq, Eq)]
+pub struct Look {
+    pub party: Party,
+    pub partner: Info,
+    pub group: Group,
+    pub defaulted: bool,
+    pub distributes: bool,
+    pub choice: Choice,
+    pub mux: MuxState,
+}
+
+/// What a reader tells of a port.
+#[derive(Clone, Copy, Debug, PartialEq, Eq)]
+pub enum PortFact {
+    /// Party, partner, group, Defaulted, whether it distributes, choice, and mux machine.
+    Look(Look),
+    /// Whether its link is up.
+    Up(bool),
+    /// The state octet of its own side.
+    State(State),
+    /// The state of its receive machine.
+    ReceiveState(ReceiveState),
+    /// Whether a frame is due.
+    Due(bool),
+    /// How many conversations are on it.
+    Load(u32),
+}
+
+/// What is told of a port; no fact where there is no such port.
+#[derive(Clone, Copy, Debug, PartialEq, Eq)]
+pub struct PortTold {
+    pub port: u16,
+    pub fact: Option<PortFact>,
+}
+
+/// The ports that distribute in an aggregator.
+#[derive(Debug, Drop)]
+pub struct AggTold {
+    pub agg: u16,
+    pub ports: ArrayVec<u16, 64>,
+}
+
+/// What `look` tells of a port.
+fn look_at<F: Fn(u16, usize) -> usize + Drop>(system: &System<F>, port: u16) -> Option<Look>
+    ensures { result ≡ option_map look_of (port_of port system.now.state) }
+{
+    Some(Look {
+        party: system.party(port)?,
+        partner: system.partner(port)?,
+        group: system.group(port)?,
+        defaulted: system.defaulted(port)?,
+        distributes: system.distributes(port)?,
+        choice: system.choice(port)?,
+        mux: system.mux_state(port)?,
+    })
+}
+
+/// How many conversations are on a port.
+fn load<F: Fn(u16, usize) -> usize + Drop>(system: &System<F>, port: u16) -> Option<u32>
+    ensures { result ≡ load_of port system.now.state }
+{
+    system.load(port).ok()
+}
+
+/// What a reader tells of a port; none where there is no such port.
+fn fact<F: Fn(u16, usize) -> usize + Drop>(
+    system: &System<F>,
+    asked: PortQuestion,
+    port: u16,
+) -> Option<PortFact>
+    ensures { result ≡ fact_of asked port system.now.state }
+{
+    match asked {
+        PortQuestion::Look => Some(PortFact::Look(look_at(system, port)?)),
+        PortQuestion::Up => Some(PortFact::Up(system.is_up(port)?)),
+        PortQuestion::State => Some(PortFact::State(system.state(port)?)),
+        PortQuestion::ReceiveState => Some(PortFact::ReceiveState(system.receive_state(port)?)),
+        PortQuestion::Due => Some(PortFact::Due(system.is_due(port)?)),
+        PortQuestion::Load => Some(PortFact::Load(load(system, port)?)),
+    }
+}
+
+/// What a reader tells of a port.
+pub fn port_told<F: Fn(u16, usize) -> usize + Drop>(
+    system: &System<F>,
+    asked: PortQuestion,
+    port: u16,
+) -> PortTold
+    ensures { result ≡ port_told asked system.now.state port }
+{
+    PortTold {
+        port,
+        fact: fact(system, asked, port),
+    }
+}
+
+/// The ports that distribute in an aggregator.
+pub fn agg_told<F: Fn(u16, usize) -> usize + Drop>(system: &System<F>, agg: u16) -> AggTold
+    ensures { sharing_of result ≡ sharing_in system.now.state agg }
+{
+    AggTold {
+        agg,
+        ports: system.distributing(AggId(agg)),
+    }
+}
+
+/// What `look` tells of every port.
+pub fn all_ports<F: Fn(u16, usize) -> usize + Drop>(
+    alloc: Global,
+    system: &System<F>,
+) -> Result<Vec<PortTold>, AllocError>
+    ensures { IfOk result (λ told. told.items ≡ all_ports system.now.state) }
+{
+    let ports = system.ports();
+    let mut told = Vec::with_capacity(alloc, ports.len())?;
+    for port in ports.as_slice() {
+        told.push(port_told(system, PortQuestion::Look, *port))?;
+    }
+    Ok(told)
+}
+
+/// The ports that distribute in each aggregator, and before them those of number 0, which is none.
+#[tactic(auto, using(crate::proofs::LookLemmas::sharings_more))]
+pub fn all_aggregators<F: Fn(u16, usize) -> usize + Drop>(
+    alloc: Global,
+    system: &System<F>,
+) -> Result<Vec<AggTold>, AllocError>
+    ensures { IfOk result (λ told. map sharing_of told.items ≡ all_aggregators system.now.state) }
+{
+    // No more than 64 are there, but the contract of `aggregators` bounds no count.
+    let Ok(count) = u16::try_from(system.aggregators()) else {
+        return Err(AllocError);
+    };
+    let mut told = Vec::with_capacity(alloc, 1 + usize::from(count))?;
+    told.push(agg_told(system, 0))?;
+    for agg in 0..count {
+        told.push(agg_told(system, agg + 1))?;
+    }
+    Ok(told)
+}

@@ -1,0 +1,414 @@
+ghost use Rattle.std.specs.Prelude.{◌≡◌};
+
+use crate::by_number;
+use crate::serve::{Stopped, serve};
+use std::alloc::{AllocError, Global};
+use std::io;
+use std::io::{Read, Write};
+use std::process::Abort;
+use std::test::Fail;
+
+/// A line, and what is answered.
+type Row = (&'static str, &'static str);
+
+/// Every form of a request, with its answer.
+const FORMS: [Row; 78] = [
+    (
+        "system 24576 020000000011 1234 7 300,700 3:203:020000001103:300:1:1:0 70:270:020000001146:300:1:1:0",
+        "ok",
+    ),
+    ("ports", "ports: 3 70"),
+    ("aggregators", "aggregators: 2"),
+    ("next-marker", "7"),
+    ("up 3", "port 3: up false"),
+    ("receive-state 3", "port 3: receive-state port-disabled"),
+    ("due 3", "port 3: due false"),
+    ("load 3", "port 3: load 0"),
+    ("up 4", "port 4: none"),
+    ("receive-state 4", "port 4: none"),
+    ("due 4", "port 4: none"),
+    ("load 4", "port 4: none"),
+    ("look 4", "port 4: none"),
+    ("state 4", "port 4: none"),
+    ("conversation-state 1 33", "free"),
+    ("conversation-state 3 33", "none"),
+    ("conversation-state 1 256", "none"),
+    ("conversation 0200000001310200000000100800", "33"),
+    ("conversation 02", "none"),
+    ("link 3 up", "ok"),
+    ("link 70 up", "ok"),
+    ("up 3", "port 3: up true"),
+    ("receive-state 3", "port 3: receive-state expired"),
+    (
+        "receive 3 0180c20000020200000000778809010101141000020000000077012c004000170700000002146000020000000011012c00cb0003c50000000310003200000000000000000000000000000000000000000000000000000000000000000000000000000000000000000000000000000000000000000000000000000000",
+        "took",
+    ),
+    (
+        "receive 70 0180c20000020200000000778809010101141000020000000077012c0040005a0700000002146000020000000011012c010e0046c50000000310003200000000000000000000000000000000000000000000000000000000000000000000000000000000000000000000000000000000000000000000000000000000",
+        "took",
+    ),
+    ("receive-state 3", "port 3: receive-state current"),
+    ("tick", "ok"),
+    ("tick", "ok"),
+    ("tick", "ok"),
+    ("tick", "ok"),
+    ("tick", "ok"),
+    ("tick", "ok"),
+    ("tick", "ok"),
+    ("tick", "ok"),
+    ("tick", "ok"),
+    ("tick", "ok"),
+    ("tick", "ok"),
+    ("tick", "ok"),
+    ("tick", "ok"),
+    ("tick", "ok"),
+    ("tick", "ok"),
+    ("tick", "ok"),
+    ("tick", "ok"),
+    ("tick", "ok"),
+    ("tick", "ok"),
+    ("tick", "ok"),
+    ("tick", "ok"),
+    (
+        "receive 3 0180c20000020200000000778809010101141000020000000077012c004000173d00000002146000020000000011012c00cb00030d0000000310003200000000000000000000000000000000000000000000000000000000000000000000000000000000000000000000000000000000000000000000000000000000",
+        "took",
+    ),
+    (
+        "receive 70 0180c20000020200000000778809010101141000020000000077012c0040005a3d00000002146000020000000011012c010e00460d0000000310003200000000000000000000000000000000000000000000000000000000000000000000000000000000000000000000000000000000000000000000000000000000",
+        "took",
+    ),
+    ("distributing 1", "aggregator 1: 3 70"),
+    ("distributing 2", "aggregator 2: none"),
+    (
+        "state 3",
+        "port 3: state 3d active,aggregatable,synchronized,collecting,distributing",
+    ),
+    ("offer 1 0200000001310200000000100800", "port 70"),
+    ("conversation-state 1 33", "on 70"),
+    ("load 70", "port 70: load 1"),
+    ("due 70", "port 70: due true"),
+    (
+        "transmit 3",
+        "lacpdu 0180c20000020200000011038809010101146000020000000011012c00cb00033d00000002141000020000000077012c004000173d000000031004d200000000000000000000000000000000000000000000000000000000000000000000000000000000000000000000000000000000000000000000000000000000",
+    ),
+    (
+        "transmit 70",
+        "lacpdu 0180c20000020200000011468809010101146000020000000011012c010e00463d00000002141000020000000077012c0040005a3d000000031004d200000000000000000000000000000000000000000000000000000000000000000000000000000000000000000000000000000000000000000000000000000000",
+    ),
+    ("due 70", "port 70: due false"),
+    ("move 1 33 3", "ok"),
+    ("conversation-state 1 33", "wanted 70 preferred 3"),
+    ("due 70", "port 70: due true"),
+    (
+        "transmit 70",
+        "marker 0180c200000202000000114688090201011000460200000000110000000700000000000000000000000000000000000000000000000000000000000000000000000000000000000000000000000000000000000000000000000000000000000000000000000000000000000000000000000000000000000000000000",
+    ),
+    (
+        "conversation-state 1 33",
+        "flushing 70 id 7 age 0 preferred 3",
+    ),
+    ("next-marker", "8"),
+    ("tick", "ok"),
+    (
+        "conversation-state 1 33",
+        "flushing 70 id 7 age 1 preferred 3",
+    ),
+    (
+        "receive 70 0180c200000202000000007788090201021000460200000000110000000700000000000000000000000000000000000000000000000000000000000000000000000000000000000000000000000000000000000000000000000000000000000000000000000000000000000000000000000000000000000000000000",
+        "released 1",
+    ),
+    ("conversation-state 1 33", "free preferred 3"),
+    ("keep", "ok"),
+    ("configure 3 300 203 individual", "kept"),
+    ("restart", "kept"),
+    ("load 70", "port 70: load 0"),
+    ("drive", "ok;ok;"),
+    ("drive", "fault not-keeping"),
+    ("force 1 33", "refused 9 not-assigned"),
+    ("configure 3 301 203 individual", "ok"),
+    ("configure 3 301 203 individual", "unchanged"),
+];
+
+/// Lines for which nothing is done, with their causes; the readers before and behind tell the same.
+const FAULTS: [Row; 33] = [
+    ("ports", "fault no-system"),
+    ("tick", "fault no-system"),
+    ("keep", "fault no-system"),
+    ("drive", "fault no-system"),
+    (
+        "system 32768 020000000001 0 9 5 1:128:020000000001:5:1:1:1",
+        "ok",
+    ),
+    ("", "fault word"),
+    ("ticks", "fault word"),
+    ("Tick", "fault word"),
+    (" tick", "fault word"),
+    ("tick ", "fault count"),
+    ("tick 1", "fault count"),
+    ("link 1", "fault count"),
+    ("link 1  up", "fault count"),
+    ("link +1 up", "fault number"),
+    ("link 65536 up", "fault number"),
+    ("link -1 up", "fault number"),
+    ("link  up", "fault number"),
+    ("transmit x", "fault number"),
+    ("link 3 Up", "fault link"),
+    ("configure 3 300 203 1", "fault kind"),
+    ("receive 3 0", "fault hex"),
+    ("receive 3 0g", "fault hex"),
+    ("offer 1 zz", "fault hex"),
+    ("conversation z", "fault hex"),
+    (
+        "system 1 02000000000 0 1 1 1:128:020000000001:1:1:1:1",
+        "fault mac",
+    ),
+    (
+        "system 1 020000000001 0 4294967296 1 1:128:020000000001:1:1:1:1",
+        "fault number",
+    ),
+    (
+        "system 1 020000000001 0 1 1,,1 1:128:020000000001:1:1:1:1",
+        "fault number",
+    ),
+    (
+        "system 1 020000000001 0 1 1 1:128:020000000001:1:1:1",
+        "fault count",
+    ),
+    (
+        "system 1 020000000001 0 1 1 1:128:020000000001:1:1:1:2",
+        "fault flag",
+    ),
+    ("system 1 020000000001 0 1", "fault count"),
+    ("system 1 020000000001 0 1 -", "refused 11 bad-config ports"),
+    (
+        "system 1 020000000001 0 1 - 1:128:020000000001:1:1:1:1",
+        "refused 11 bad-config aggregators",
+    ),
+    (
+        "system 1 020000000001 0 1 1 0:128:020000000001:1:1:1:1",
+        "refused 11 bad-config port-number 1",
+    ),
+];
+
+/// A reader that gives at most so many octets a read, and fails after so many reads.
+#[derive(Drop)]
+struct Given<'a> {
+    rest: &'a [u8],
+    size: usize,
+    reads: usize,
+}
+
+impl Read for Given<'_> {
+    fn read(&mut self, buf: &mut [u8]) -> io::Result<usize> {
+        if self.reads == 0 {
+            return Err(io::Error::from(io::ErrorKind::BrokenPipe));
+        }
+        self.reads -= 1;
+        let n = self.size.min(self.rest.len()).min(buf.len());
+        let (now, later) = self.rest.split_at(n);
+        buf[..n].copy_from_slice(now);
+        self.rest = later;
+        Ok(n)
+    }
+}
+
+/// A writer that keeps what it is given while it has room for so many octets, and then fails.
+#[derive(Drop)]
+struct Taken {
+    octets: Vec<u8>,
+    room: usize,
+}
+
+impl Write for Taken {
+    fn write(&mut self, buf: &[u8]) -> io::Result<usize> {
+        let n = self.room.min(buf.len());
+        if n == 0 && !buf.is_empty() {
+            return Err(io::Error::from(io::ErrorKind::BrokenPipe));
+        }
+        self.octets.extend_from_slice(&buf[..n])?;
+        self.room -= n;
+        Ok(n)
+    }
+
+    fn flush(&mut self) -> io::Result<()> {
+        Ok(())
+    }
+}
+
+/// How the program ends, and what it wrote.
+#[derive(Debug, PartialEq, Drop)]
+struct Outcome {
+    ended: Result<(), Stopped>,
+    text: String,
+}
+
+/// What comes of the reader's octets, with room for so many octets of answers.
+fn outcome_of(alloc: Global, mut input: Given<'_>, room: usize) -> Result<Outcome, AllocError> {
+    let mut out = Taken {
+        octets: Vec::new(alloc),
+        room,
+    };
+    let ended = serve(alloc, by_number, &mut input, &mut out);
+    let text = String::from_utf8_lossy(alloc, out.octets.as_slice())?;
+    Ok(Outcome { ended, text })
+}
+
+/// The octets in reads of this size, none of which fails.
+fn reader_of(rest: &[u8], size: usize) -> Given<'_> {
+    Given {
+        rest,
+        size,
+        reads: usize::MAX,
+    }
+}
+
+/// What is written for these octets.
+fn said(alloc: Global, octets: &[u8]) -> Result<String, AllocError> {
+    let outcome = outcome_of(alloc, reader_of(octets, usize::MAX), usize::MAX)?;
+    Ok(outcome.text)
+}
+
+/// The lines of the rows, each with its end.
+fn lines_of(alloc: Global, rows: &[Row]) -> Result<String, AllocError> {
+    let mut text = String::new(alloc);
+    for (line, _) in rows {
+        text.push_str(line)?;
+        text.push_str("\n")?;
+    }
+    Ok(text)
+}
+
+/// The line at this place, empty where there is none.
+fn line_at<'a>(lines: &[&'a str], place: usize) -> &'a str {
+    match lines.get(place) {
+        Some(line) => *line,
+        None => "",
+    }
+}
+
+/// Checks what each row of a session is answered.
+fn check(rt: &impl Abort, alloc: Global, rows: &[Row]) -> Result<(), Fail> {
+    let lines = lines_of(alloc, rows)?;
+    let text = said(alloc, lines.as_bytes())?;
+    let answers: Vec<&str> = text.as_str().split('\n').collect(alloc)?;
+    let count = answers.len();
+    assert_eq!(rt;
+        count,
+        rows.len().wrapping_add(1),
+        "lines of answers, the last without octets"
+    );
+    let mut place = 0usize;
+    for (line, wanted) in rows {
+        let answer = line_at(answers.as_slice(), place);
+        assert_eq!(rt; answer, *wanted, "row {place}: {line}");
+        place = place.wrapping_add(1);
+    }
+    Ok(())
+}
+
+#[test]
+fn every_form_of_a_request(rt: HostRuntime) -> Result<(), Fail> {
+    check(&rt, rt.alloc(), &FORMS)
+}
+
+#[test]
+fn lines_that_are_no_requests(rt: HostRuntime) -> Result<(), Fail> {
+    check(&rt, rt.alloc(), &FAULTS)
+}
+
+#[test]
+fn lines_that_are_not_utf_8(rt: HostRuntime) -> Result<(), Fail> {
+    let text = said(rt.alloc(), b"tick\xff\n")?;
+    assert_eq!(rt; text.as_str(), "fault not-text\n");
+    Ok(())
+}
+
+/// So many spaces, then a line end and a tick.
+fn long_line(alloc: Global, count: usize) -> Result<String, AllocError> {
+    let mut text = String::new(alloc);
+    for _ in 0..count {
+        text.push_str(" ")?;
+    }
+    text.push_str("\ntick\n")?;
+    Ok(text)
+}
+
+#[test]
+fn the_longest_line(rt: HostRuntime) -> Result<(), Fail> {
+    let rows = [
+        (65_536, "fault word\nfault no-system\n"),
+        (65_537, "fault too-long\nfault no-system\n"),
+        (70_000, "fault too-long\nfault no-system\n"),
+    ];
+    for (count, wanted) in rows {
+        let line = long_line(rt.alloc(), count)?;
+        let text = said(rt.alloc(), line.as_bytes())?;
+        assert_eq!(rt; text.as_str(), wanted, "{count} octets");
+    }
+    Ok(())
+}
+
+#[test]
+fn the_end_of_the_input(rt: HostRuntime) -> Result<(), Fail> {
+    for (input, wanted) in [
+        ("", ""),
+        ("\n", "fault word\n"),
+        ("tick", "fault no-system\n"),
+        ("tick\n\n", "fault no-system\nfault word\n"),
+    ] {
+        for size in [1, 3, 4096] {
+            let outcome = outcome_of(rt.alloc(), reader_of(input.as_bytes(), size), usize::MAX)?;
+            assert_eq!(rt; outcome.ended, Ok(()), "{input:?} in pieces of {size}");
+            assert_eq!(rt;
+                outcome.text.as_str(),
+                wanted,
+                "{input:?} in pieces of {size}"
+            );
+        }
+    }
+    Ok(())
+}
+
+#[test]
+fn a_reader_that_fails(rt: HostRuntime) -> Result<(), Fail> {
+    let input = Given {
+        rest: b"tick\ntick\n",
+        size: 5,
+        reads: 1,
+    };
+    let outcome = outcome_of(rt.alloc(), input, usize::MAX)?;
+    assert_eq!(rt; outcome.ended, Err(Stopped::Read));
+    assert_eq!(rt; outcome.text.as_str(), "fault no-system\n");
+    Ok(())
+}
+
+#[test]
+fn a_writer_that_fails(rt: HostRuntime) -> Result<(), Fail> {
+    for room in [0, 6, 15] {
+        let outcome = outcome_of(rt.alloc(), reader_of(b"tick\ntick\n", 4096), room)?;
+        assert_eq!(rt;
+            outcome.ended,
+            Err(Stopped::Write),
+            "room for {room} octets"
+        );
+        assert_eq!(rt;
+            outcome.text.as_str(),
+            &"fault no-system\n"[..room],
+            "room for {room} octets"
+        );
+    }
+    Ok(())
+}
+
+#[test]
+fn why_it_stops(rt: HostRuntime) -> Result<(), Fail> {
+    for (why, text) in [
+        (Stopped::Read, "cannot read"),
+        (Stopped::Write, "cannot write"),
+        (Stopped::NoMemory, "out of memory"),
+    ] {
+        let said = format!(in rt.alloc(); "{why}")?;
+        assert_eq!(rt; said.as_str(), text);
+    }
+    Ok(())
+}

@@ -1,0 +1,116 @@
+ghost use Rattle.std.specs.Prelude.{◌≡◌, IfOk, map};
+ghost use Rattle.lagengine.specs.Requests.{Enters};
+ghost use Rattle.lagengine.specs.Words.{flag_word, hex_word, kind_word, link_word, long_word, mac_word, number_below, number_word, parts};
+
+use crate::fault::{LineError, LineFault};
+use hex::{FromHex, FromHexError};
+use std::alloc::{AllocError, Global};
+
+/// The words of a line, cut at every single space.
+pub fn words_of<'a>(alloc: Global, text: &'a str) -> Result<Vec<&'a str>, AllocError>
+    ensures { IfOk result (λ words. map (λ w. w.now) words.items ≡ parts 32 text.now) }
+{
+    text.split(' ').collect(alloc)
+}
+
+/// The parts of a word between colons.
+pub fn fields_of<'a>(alloc: Global, word: &'a str) -> Result<Vec<&'a str>, AllocError>
+    ensures { IfOk result (λ words. map (λ w. w.now) words.items ≡ parts 58 word.now) }
+{
+    word.split(':').collect(alloc)
+}
+
+/// The parts of a word between commas.
+pub fn items_of<'a>(alloc: Global, word: &'a str) -> Result<Vec<&'a str>, AllocError>
+    ensures { IfOk result (λ words. map (λ w. w.now) words.items ≡ parts 44 word.now) }
+{
+    word.split(',').collect(alloc)
+}
+
+/// The number of 16 bits that a word says in decimal digits.
+fn number_of(word: &str) -> Option<u16>
+    ensures { result ≡ number_below 65536 word.now }
+{
+    // `parse` takes a plus too.
+    if word.starts_with('+') {
+        return None;
+    }
+    word.parse().ok()
+}
+
+/// The number of 32 bits that a word says in decimal digits.
+fn long_of(word: &str) -> Option<u32>
+    ensures { result ≡ number_below 4294967296 word.now }
+{
+    if word.starts_with('+') {
+        return None;
+    }
+    word.parse().ok()
+}
+
+/// A number of 0 to 65535 in decimal digits.
+pub fn number(word: &str) -> Result<u16, LineFault>
+    ensures { result ≡ number_word word.now }
+{
+    number_of(word).ok_or(LineFault::Number)
+}
+
+/// A number of 0 to 4294967295 in decimal digits.
+pub fn long(word: &str) -> Result<u32, LineFault>
+    ensures { result ≡ long_word word.now }
+{
+    long_of(word).ok_or(LineFault::Number)
+}
+
+/// A MAC address in twelve hexadecimal digits.
+pub fn mac(word: &str) -> Result<[u8; 6], LineFault>
+    ensures { result ≡ mac_word word.now }
+{
+    <[u8; 6] as FromHex>::from_hex(word)
+        .ok()
+        .ok_or(LineFault::Mac)
+}
+
+/// True as `1`, false as `0`.
+pub fn flag(word: &str) -> Result<bool, LineFault>
+    ensures { result ≡ flag_word word.now }
+{
+    match word {
+        "1" => Ok(true),
+        "0" => Ok(false),
+        _ => Err(LineFault::Flag),
+    }
+}
+
+/// Whether a link is up.
+pub fn link(word: &str) -> Result<bool, LineFault>
+    ensures { result ≡ link_word word.now }
+{
+    match word {
+        "up" => Ok(true),
+        "down" => Ok(false),
+        _ => Err(LineFault::Link),
+    }
+}
+
+/// Whether a port is aggregatable.
+pub fn kind(word: &str) -> Result<bool, LineFault>
+    ensures { result ≡ kind_word word.now }
+{
+    match word {
+        "aggregatable" => Ok(true),
+        "individual" => Ok(false),
+        _ => Err(LineFault::Kind),
+    }
+}
+
+/// Octets in hexadecimal digits.
+pub fn octets(alloc: Global, word: &str) -> Result<Vec<u8>, LineError>
+    ensures { Enters (λ v. v.items) (hex_word word.now) result }
+{
+    match hex::decode(alloc, word) {
+        Ok(octets) => Ok(octets),
+        Err(FromHexError::OutOfMemory) => Err(LineError::NoMemory),
+        Err(_) => Err(LineError::Fault(LineFault::Hex)),
+    }
+}

@@ -1,0 +1,7 @@
+use Rattle.std.proofs.Common.{refl}
+use Rattle.lagworld.specs.Making.{conversations}
+use Rattle.lagtool.proofs.replay.conversations.Goals as goal
+
+pub returns : goal.returns
+unfolding conversations
+returns c = refl

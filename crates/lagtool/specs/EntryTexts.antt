@@ -1,0 +1,103 @@
+-- What a replay prints of an entry, of its reply and of an agreement (profile).
+use Rattle.std.specs.Prelude.{ℕ, ◌++◌, Bool, true, false, List, [], ◌∷◌, codes, decimal, flat_map, if◌then◌else◌}
+use Rattle.lagtypes.specs.Octet.{octet}
+use Rattle.lagtypes.specs.Texts.{hex_text}
+use Rattle.lagsystem.specs.declared.config.PortChange.{PortChange}
+use Rattle.lagsystem.specs.declared.fault.SystemFault.{SystemFault}
+use Rattle.lagsystem.specs.declared.fault.SystemFault.TheVariants as refusal
+use Rattle.lagscript.specs.Acts.{Act, tick, emit, deliver, lose, repeat, cut, join, sense, restart, configure, offer, move_to, force}
+use Rattle.lagworld.specs.declared.agreement.Agreement.{Agreement}
+use Rattle.lagworld.specs.declared.agreement.Agreement.TheVariants as agreement
+use Rattle.lagworld.specs.declared.reply.Reply.{Reply}
+use Rattle.lagworld.specs.declared.reply.Reply.TheVariants as reply
+
+-- one to four numbers
+abbrev pub one_text : ℕ → List ℕ
+one_text a = decimal a
+
+abbrev pub two_text : ℕ → ℕ → List ℕ
+two_text a b = decimal a ++ 32 ∷ decimal b
+
+abbrev pub three_text : ℕ → ℕ → ℕ → List ℕ
+three_text a b c = decimal a ++ 32 ∷ (decimal b ++ 32 ∷ decimal c)
+
+abbrev pub four_text : ℕ → ℕ → ℕ → ℕ → List ℕ
+four_text a b c d = decimal a ++ 32 ∷ (decimal b ++ 32 ∷ (decimal c ++ 32 ∷ decimal d))
+
+abbrev pub kind_text : Bool → List ℕ
+kind_text aggregatable = if aggregatable then codes "aggregatable" else codes "individual"
+
+-- KEY PRIORITY KIND
+abbrev pub change_text : PortChange → List ℕ
+change_text c = two_text c.key.0 c.priority ++ 32 ∷ kind_text c.aggregatable
+
+-- each octet as two digits
+abbrev pub frame_text : List ℕ → List ℕ
+frame_text octets = flat_map hex_text octets
+
+-- the entry of an event: numbers without leading zeros, octets in lower case
+abbrev pub act_text : Act → List ℕ
+act_text (tick s n) = codes "tick " ++ two_text s n
+act_text (emit s port) = codes "emit " ++ two_text s port
+act_text (deliver c s) = codes "deliver " ++ two_text c s
+act_text (lose c s) = codes "lose " ++ two_text c s
+act_text (repeat c s) = codes "repeat " ++ two_text c s
+act_text (cut c) = codes "cut " ++ one_text c
+act_text (join c) = codes "join " ++ one_text c
+act_text (sense c s) = codes "sense " ++ two_text c s
+act_text (restart s) = codes "restart " ++ one_text s
+act_text (configure s port change) = codes "configure " ++ (two_text s port ++ 32 ∷ change_text change)
+act_text (offer s agg frame) = codes "offer " ++ (two_text s agg ++ 32 ∷ frame_text frame)
+act_text (move_to s agg conv port) = codes "move " ++ four_text s agg conv port
+act_text (force s agg conv) = codes "force " ++ three_text s agg conv
+
+-- whether a cable took what was sent
+abbrev pub kept_text : Bool → List ℕ
+kept_text kept = if kept then codes "sent" else codes "lost"
+
+-- the number of a refusal and its name
+abbrev pub refused_text : SystemFault → List ℕ
+refused_text refusal.NoPort = codes "refused 1 no-port"
+refused_text refusal.NoAggregator = codes "refused 2 no-aggregator"
+refused_text refusal.FrameLength = codes "refused 3 frame-length"
+refused_text refusal.SlowFrame = codes "refused 4 slow-frame"
+refused_text refusal.Held = codes "refused 5 held"
+refused_text refusal.NoneDistributing = codes "refused 6 none-distributing"
+refused_text refusal.NotDistributing = codes "refused 7 not-distributing"
+refused_text refusal.SamePort = codes "refused 8 same-port"
+refused_text refusal.NotAssigned = codes "refused 9 not-assigned"
+refused_text refusal.MarkersSpent = codes "refused 10 markers-spent"
+refused_text (refusal.BadConfig reason) = codes "refused 11 bad-config"
+refused_text refusal.NoMemory = codes "refused 12 no-memory"
+
+abbrev pub reply_text : Reply → List ℕ
+reply_text reply.Ticked = codes "ticked"
+reply_text (reply.Lacpdu state kept) = codes "lacpdu " ++ (hex_text (octet state) ++ 32 ∷ kept_text kept)
+reply_text (reply.Marker id kept) = codes "marker " ++ (decimal id ++ 32 ∷ kept_text kept)
+reply_text reply.Nothing = codes "nothing"
+reply_text reply.Took = codes "took"
+reply_text (reply.Responded kept) = codes "responded " ++ kept_text kept
+reply_text (reply.Released n) = codes "released " ++ decimal n
+reply_text (reply.Up agg) = codes "up " ++ decimal agg.0
+reply_text reply.Dropped = codes "dropped"
+reply_text reply.Disabled = codes "disabled"
+reply_text reply.Ignored = codes "ignored"
+reply_text reply.Empty = codes "empty"
+reply_text reply.Lost = codes "lost"
+reply_text reply.NotControl = codes "not control"
+reply_text reply.Cut = codes "cut"
+reply_text reply.Joined = codes "joined"
+reply_text reply.Restarted = codes "restarted"
+reply_text (reply.Sensed up) = if up then codes "up" else codes "down"
+reply_text (reply.Configured changed) = if changed then codes "configured" else codes "unchanged"
+reply_text (reply.Port port serial kept) = codes "port " ++ (decimal port ++ (codes " serial " ++ (decimal serial ++ 32 ∷ kept_text kept)))
+reply_text reply.Moved = codes "moved"
+reply_text reply.Forced = codes "forced"
+reply_text (reply.Refused fault) = refused_text fault
+
+abbrev pub agreement_text : Agreement → List ℕ
+agreement_text agreement.NotBoth = codes "not-both"
+agreement_text agreement.Defaults = codes "defaults"
+agreement_text agreement.Changed = codes "changed"
+agreement_text agreement.Same = codes "same"
+agreement_text agreement.Differ = codes "differ"

@@ -1,0 +1,117 @@
+-- The report of a replay: what its entries are answered, and what the world tells in the end (profile).
+use Rattle.std.specs.Prelude.{◌≡◌, ⊤, ℕ, ◌+◌, ◌++◌, ◌==◌, Bool, true, List, [], ◌∷◌, flat_map, length, map, if◌then◌else◌, codes, decimal, Option, Some, None, Result, Ok, Err}
+use Rattle.std.specs.List.{range_with_len}
+use Rattle.lagsystem.specs.declared.config.Config.{Config}
+use Rattle.lagscript.specs.Acts.{act_of}
+use Rattle.lagscript.specs.Scripts.{HasScript, Reads, script_shown}
+use Rattle.lagscript.specs.declared.config.WorldConfig.{WorldConfig}
+use Rattle.lagscript.specs.declared.event.Event.{Event}
+use Rattle.lagscript.specs.declared.fault.ScriptFault.{ScriptFault}
+use Rattle.lagscript.specs.declared.fault.ScriptFault.TheVariants as script
+use Rattle.lagworld.specs.Agreement.{agreement_at}
+use Rattle.lagworld.specs.Events.{Gives, Runs, side_of}
+use Rattle.lagworld.specs.Making.{AreFirst, conversations}
+use Rattle.lagworld.specs.Readers.{serials_of_system}
+use Rattle.lagworld.specs.Sound.{IsSound}
+use Rattle.lagworld.specs.State.{Joint, Line, Serials, collected_in, forced_in, sent_in}
+use Rattle.lagworld.specs.declared.agreement.Agreement.{Agreement}
+use Rattle.lagworld.specs.declared.reply.Reply.{Reply}
+use Rattle.lagtool.specs.EntryTexts.{act_text, agreement_text, reply_text}
+use Rattle.lagtool.specs.Sinks.{Breaks, SinkState, Takes}
+use Rattle.lagtool.specs.declared.fault.ToolFault.{ToolFault}
+use Rattle.lagtool.specs.declared.fault.ToolFault.TheVariants.{Read, Write, NoMemory, Script, NotHex, NotMac}
+
+-- N ENTRY -> REPLY
+abbrev pub entry_line : ℕ → Event → Reply → List ℕ
+entry_line n e r = decimal n ++ 32 ∷ (act_text (act_of e) ++ (codes " -> " ++ (reply_text r ++ 10 ∷ [])))
+
+-- a line an entry, the first of them with this number
+abbrev pub entries_text : ℕ → List Event → List Reply → List ℕ
+entries_text n (e ∷ es) (r ∷ rs) = entry_line n e r ++ entries_text (n + 1) es rs
+entries_text n _ _ = []
+
+-- cable C agreement A, if there is such a cable
+abbrev pub agreement_line : ℕ → Option Agreement → List ℕ
+agreement_line c None = []
+agreement_line c (Some a) = codes "cable " ++ (decimal c ++ (codes " agreement " ++ (agreement_text a ++ 10 ∷ [])))
+
+-- how many numbers a cable may have, from 1 on
+unfoldable pub cable_numbers : ℕ
+cable_numbers = 65535
+
+-- a line for each cable that there is
+abbrev pub agreements_text : Joint → List ℕ
+agreements_text j = flat_map (λ c. agreement_line c (agreement_at j c)) (range_with_len 1 cable_numbers)
+
+-- the serials, each behind a space
+abbrev pub collected_text : List ℕ → List ℕ
+collected_text [] = codes " none"
+collected_text (n ∷ ns) = flat_map (λ serial. 32 ∷ decimal serial) (n ∷ ns)
+
+abbrev pub forced_text : Bool → List ℕ
+forced_text forced = if forced then codes " forced" else []
+
+-- flow S/AGG/CONV sent N collected LIST, and whether it was forced; nothing if no frame was sent
+abbrev pub flow_line : ℕ → ℕ → ℕ → Option Serials → List ℕ
+flow_line s agg conv x =
+    if length (sent_in x) == 0 then []
+    else codes "flow " ++ (decimal s ++ 47 ∷ (decimal agg ++ 47 ∷ (decimal conv ++ (codes " sent " ++ (decimal (length (sent_in x)) ++ (codes " collected"
+    ++ (collected_text (collected_in x) ++ (forced_text (forced_in x) ++ 10 ∷ []))))))))
+
+-- the conversations of an aggregator, and of the so many aggregators of a system
+abbrev pub row_text : Joint → ℕ → ℕ → List ℕ
+row_text j s agg = flat_map (λ conv. flow_line s agg conv (serials_of_system (side_of s) agg conv j)) (range_with_len 0 conversations)
+
+abbrev pub flows_text : Joint → ℕ → ℕ → List ℕ
+flows_text j s aggs = flat_map (row_text j s) (range_with_len 1 aggs)
+
+-- of system 1 and then of system 2
+abbrev pub both_flows_text : Joint → List Config → List ℕ
+both_flows_text j (a ∷ b ∷ []) = flows_text j 1 (length a.aggregators.items) ++ flows_text j 2 (length b.aggregators.items)
+both_flows_text j _ = []
+
+-- the report of these events with these replies, after which the world of these systems is so
+abbrev pub report_text : List Config → List Event → List Reply → Joint → List ℕ
+report_text systems events replies j = entries_text 1 events replies ++ (agreements_text j ++ both_flows_text j systems)
+
+-- a cable before any event: whole, empty and without a limit
+abbrev pub first_cable : ℕ × ℕ → Line
+first_cable ends =
+    record { one = ends.0; two = ends.1; whole = true; to_one = []; to_two = []; limit_one = None; limit_two = None }
+
+-- the table run of these events, from the start of two systems and their cables, whose end has the facts of every world
+pub record IsPlayed (gives : Gives) (config : WorldConfig) (events : List Event) (replies : List Reply) (to : Joint) : Type 0 where
+  pub from : Joint
+  pub systems : AreFirst config.systems from
+  pub lines : from.lines ≡ map first_cable config.cables.items
+  pub acted : from.acted ≡ 0
+  pub runs : Runs gives from events replies to
+  pub sound : IsSound to
+
+-- the report of a run of these events
+pub record IsReport (gives : Gives) (config : WorldConfig) (events : List Event) (report : List ℕ) : Type 0 where
+  pub replies : List Reply
+  pub to : Joint
+  pub played : IsPlayed gives config events replies to
+  pub says : report ≡ report_text config.systems events replies to
+
+-- the report of the script that a text is
+pub record IsReplayed (gives : Gives) (text report : List ℕ) : Type 0 where
+  pub config : WorldConfig
+  pub events : List Event
+  pub script : HasScript text (script_shown config events)
+  pub is_report : IsReport gives config events report
+
+-- the text is no script, and this is why
+abbrev pub HasNoScript : List ℕ → ScriptFault → Type 0
+HasNoScript text fault = (fault ≡ script.NoMemory → ⊥) × Reads text (Err fault)
+
+-- how `replay` ends: the report is written whole, a beginning of it, or nothing
+abbrev pub Replays : {W : Type 0} → (W → Option (List ℕ)) → Gives → List ℕ → SinkState W → SinkState W → Result ⊤ ToolFault → Type 0
+Replays contents gives text old new (Ok done) = (report : List ℕ) × IsReplayed gives text report × Takes contents old new report
+Replays contents gives text old new (Err Write) = (report : List ℕ) × IsReplayed gives text report × Breaks contents old new report
+Replays contents gives text old new (Err NoMemory) = new ≡ old
+Replays contents gives text old new (Err (Script fault)) = HasNoScript text fault × (new ≡ old)
+Replays contents gives text old new (Err Read) = ⊥
+Replays contents gives text old new (Err NotHex) = ⊥
+Replays contents gives text old new (Err NotMac) = ⊥

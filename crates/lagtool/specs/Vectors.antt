@@ -1,0 +1,33 @@
+-- What `vectors` prints (profile).
+use Rattle.std.specs.Prelude.{◌≡◌, ⊤, ℕ, ◌+◌, ◌++◌, Bool, List, [], ◌∷◌, Option, Result, Ok, Err, codes, count_by, decimal, length, not, if◌then◌else◌}
+use Rattle.lagtool.specs.Sinks.{Breaks, SinkState, Takes}
+use Rattle.lagtool.specs.declared.fault.ToolFault.{ToolFault}
+use Rattle.lagtool.specs.declared.fault.ToolFault.TheVariants.{Read, Write, NoMemory, Script, NotHex, NotMac}
+use Rattle.lagtool.specs.declared.summary.Summary.{Summary}
+
+-- how many of these failed
+abbrev pub failures : List Bool → ℕ
+failures passed = count_by (λ pass. not pass) passed
+
+-- VN ok, or VN failed
+abbrev pub vector_line : ℕ → Bool → List ℕ
+vector_line n pass = 86 ∷ (decimal n ++ (if pass then codes " ok\n" else codes " failed\n"))
+
+-- a line a vector, the first of them with this number
+abbrev pub lines_from : ℕ → List Bool → List ℕ
+lines_from n [] = []
+lines_from n (pass ∷ passed) = vector_line n pass ++ lines_from (n + 1) passed
+
+abbrev pub vectors_text : List Bool → List ℕ
+vectors_text passed = lines_from 1 passed ++ (codes "vectors " ++ (decimal (length passed) ++ (codes " failed " ++ (decimal (failures passed) ++ 10 ∷ []))))
+
+-- how `vectors` ends, with ten answers whether a vector passes
+abbrev pub RunsVectors : {W : Type 0} → (W → Option (List ℕ)) → SinkState W → SinkState W → Result Summary ToolFault → Type 0
+RunsVectors contents old new (Ok summary) =
+    (passed : List Bool) × (length passed ≡ 10) × Takes contents old new (vectors_text passed) × (summary ≡ record { checked = 10; faults = failures passed })
+RunsVectors contents old new (Err Write) = (passed : List Bool) × (length passed ≡ 10) × Breaks contents old new (vectors_text passed)
+RunsVectors contents old new (Err NoMemory) = new ≡ old
+RunsVectors contents old new (Err Read) = ⊥
+RunsVectors contents old new (Err (Script fault)) = ⊥
+RunsVectors contents old new (Err NotHex) = ⊥
+RunsVectors contents old new (Err NotMac) = ⊥

@@ -1,0 +1,189 @@
+//! What the vectors are run on, and what is to come of it.
+
+/// A text in hexadecimal: each piece, and how often it stands there.
+pub type Pieces = &'static [(&'static str, usize)];
+
+/// An LACPDU of an active port that knows no partner.
+pub const LACPDU: Pieces = &[
+    (
+        "010101148000020000000001000100800001c700000002140000000000000000000000000000020000000310",
+        1,
+    ),
+    ("00", 66),
+];
+
+pub const LACPDU_TEXT: &str = "lacpdu
+actor 32768/02-00-00-00-00-01 key 1 port 128/1 state c7 active,short,aggregatable,defaulted,expired
+partner 0/00-00-00-00-00-00 key 0 port 0/0 state 02 short
+max-delay 0
+";
+
+/// The same with version 2, other types, and reserved octets that are not zero.
+pub const LACPDU_OF_VERSION_2: Pieces = &[
+    ("010209148000020000000001000100800001c7ffffff", 1),
+    ("0914", 1),
+    ("00", 14),
+    ("02ffffff", 1),
+    ("09100000", 1),
+    ("ff", 64),
+];
+
+/// The first without its last octet.
+pub const SHORT: Pieces = &[
+    (
+        "010101148000020000000001000100800001c700000002140000000000000000000000000000020000000310",
+        1,
+    ),
+    ("00", 65),
+];
+
+/// The first with octets behind it.
+pub const LACPDU_AND_MORE: Pieces = &[
+    (
+        "010101148000020000000001000100800001c700000002140000000000000000000000000000020000000310",
+        1,
+    ),
+    ("00", 66),
+    ("aa", 40),
+];
+
+/// The first with two wrong lengths.
+pub const TWO_BAD_LENGTHS: Pieces = &[
+    ("010101148000020000000001000100800001c7000000", 1),
+    ("0213", 1),
+    ("00", 14),
+    ("02000000", 1),
+    ("030f", 1),
+    ("00", 66),
+];
+
+/// The first with another subtype.
+pub const SUBTYPE_3: Pieces = &[
+    (
+        "030101148000020000000001000100800001c700000002140000000000000000000000000000020000000310",
+        1,
+    ),
+    ("00", 66),
+];
+
+/// What stands before a payload in a control frame from 02-00-00-00-00-02.
+pub const HEADER: Pieces = &[("0180c20000020200000000028809", 1)];
+
+/// A frame with a marker.
+pub const MARKER_FRAME: Pieces = &[
+    ("0180c20000020200000000018809", 1),
+    ("020101100001020000000001ffffffffbeef", 1),
+    ("00", 92),
+];
+
+/// Its answer.
+pub const RESPONSE_FRAME: Pieces = &[
+    ("0180c20000020200000000028809", 1),
+    ("020102100001020000000001ffffffff", 1),
+    ("00", 94),
+];
+
+/// A data frame.
+pub const DATA_FRAME: Pieces = &[("0200000000200200000000100800", 1)];
+
+/// The payload of the marker with another type.
+pub const MARKER_OF_TYPE_3: Pieces = &[("020103100001020000000001ffffffffbeef", 1), ("00", 92)];
+
+/// Two systems with a port each, and the cable between them.
+pub const ONE_CABLE: &str = r#"
+[[system]]
+mac = "02-00-00-00-00-01"
+aggregators = [1]
+[[system.port]]
+number = 1
+key = 1
+[[system]]
+mac = "02-00-00-00-00-02"
+aggregators = [1]
+[[system.port]]
+number = 1
+key = 1
+[[cable]]
+ends = [1, 1]
+"#;
+
+/// A port without a peer comes to run on defaults.
+pub const ALONE: &str = r#"events = [
+    "sense 1 1",
+    "tick 1 9",
+    "emit 1 1",
+    "tick 1 1",
+    "emit 1 1",
+    "tick 1 20",
+    "emit 1 1",
+    "tick 1 19",
+    "offer 1 1 0200000000200200000000100800",
+    "tick 1 1",
+    "offer 1 1 0200000000200200000000100800",
+    "emit 1 1",
+]
+"#;
+
+pub const ALONE_TEXT: &str = "1 sense 1 1 -> up
+2 tick 1 9 -> ticked
+3 emit 1 1 -> nothing
+4 tick 1 1 -> ticked
+5 emit 1 1 -> lacpdu c7 sent
+6 tick 1 20 -> ticked
+7 emit 1 1 -> lacpdu 47 sent
+8 tick 1 19 -> ticked
+9 offer 1 1 0200000000200200000000100800 -> refused 6 none-distributing
+10 tick 1 1 -> ticked
+11 offer 1 1 0200000000200200000000100800 -> port 1 serial 0 sent
+12 emit 1 1 -> lacpdu 7f sent
+cable 1 agreement not-both
+flow 1/1/48 sent 1 collected none
+";
+
+/// Both ends of a cable come to distribute.
+pub const UP: &str = r#"events = [
+    "sense 1 1",
+    "sense 1 2",
+    "tick 1 10",
+    "tick 2 10",
+    "emit 1 1",
+    "deliver 1 2",
+    "emit 2 1",
+    "deliver 1 1",
+    "tick 1 10",
+    "tick 2 10",
+    "emit 1 1",
+    "deliver 1 2",
+    "tick 1 10",
+    "tick 2 10",
+    "emit 1 1",
+    "deliver 1 2",
+    "emit 2 1",
+    "deliver 1 1",
+    "emit 1 1",
+    "deliver 1 2",
+]
+"#;
+
+pub const UP_TEXT: &str = "1 sense 1 1 -> up
+2 sense 1 2 -> up
+3 tick 1 10 -> ticked
+4 tick 2 10 -> ticked
+5 emit 1 1 -> lacpdu c7 sent
+6 deliver 1 2 -> took
+7 emit 2 1 -> lacpdu 07 sent
+8 deliver 1 1 -> took
+9 tick 1 10 -> ticked
+10 tick 2 10 -> ticked
+11 emit 1 1 -> lacpdu 07 sent
+12 deliver 1 2 -> took
+13 tick 1 10 -> ticked
+14 tick 2 10 -> ticked
+15 emit 1 1 -> lacpdu 0f sent
+16 deliver 1 2 -> took
+17 emit 2 1 -> lacpdu 3f sent
+18 deliver 1 1 -> took
+19 emit 1 1 -> lacpdu 3f sent
+20 deliver 1 2 -> took
+cable 1 agreement same
+";

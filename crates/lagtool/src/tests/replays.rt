@@ -1,0 +1,267 @@
+use crate::algorithm::by_number;
+use crate::fault::{FaultText, ToolFault};
+use crate::replay::replay;
+use crate::rows;
+use crate::sink::Sink;
+use crate::tests::sink_of;
+use crate::vectors::vectors;
+use lagworld::{EntryFault, ScriptFault};
+use std::alloc::Global;
+use std::test::Fail;
+
+/// Two systems with two ports each that ask for long timeouts, and two cables between them.
+const TWO_CABLES: &str = r#"
+[[system]]
+mac = "02-00-00-00-00-01"
+aggregators = [1]
+[[system.port]]
+number = 1
+key = 1
+short = false
+[[system.port]]
+number = 2
+key = 1
+short = false
+[[system]]
+mac = "02-00-00-00-00-02"
+aggregators = [1]
+[[system.port]]
+number = 1
+key = 1
+short = false
+[[system.port]]
+number = 2
+key = 1
+short = false
+[[cable]]
+ends = [1, 1]
+[[cable]]
+ends = [2, 2]
+"#;
+
+/// Both ends of both cables come to distribute.
+const BOTH_UP: &str = r#"events = [
+    "sense 1 1",
+    "sense 1 2",
+    "sense 2 1",
+    "sense 2 2",
+    "tick 1 10",
+    "tick 2 10",
+    "emit 1 1",
+    "emit 1 2",
+    "deliver 1 2",
+    "deliver 2 2",
+    "emit 2 1",
+    "emit 2 2",
+    "deliver 1 1",
+    "deliver 2 1",
+    "tick 1 20",
+    "tick 2 20",
+    "emit 1 1",
+    "emit 1 2",
+    "deliver 1 2",
+    "deliver 2 2",
+    "emit 2 1",
+    "emit 2 2",
+    "deliver 1 1",
+    "deliver 2 1",
+"#;
+
+const BOTH_UP_TEXT: &str = "1 sense 1 1 -> up
+2 sense 1 2 -> up
+3 sense 2 1 -> up
+4 sense 2 2 -> up
+5 tick 1 10 -> ticked
+6 tick 2 10 -> ticked
+7 emit 1 1 -> lacpdu c5 sent
+8 emit 1 2 -> lacpdu c5 sent
+9 deliver 1 2 -> took
+10 deliver 2 2 -> took
+11 emit 2 1 -> lacpdu 05 sent
+12 emit 2 2 -> lacpdu 05 sent
+13 deliver 1 1 -> took
+14 deliver 2 1 -> took
+15 tick 1 20 -> ticked
+16 tick 2 20 -> ticked
+17 emit 1 1 -> lacpdu 0d sent
+18 emit 1 2 -> lacpdu 0d sent
+19 deliver 1 2 -> took
+20 deliver 2 2 -> took
+21 emit 2 1 -> lacpdu 3d sent
+22 emit 2 2 -> lacpdu 3d sent
+23 deliver 1 1 -> took
+24 deliver 2 1 -> took
+";
+
+/// A conversation moves behind a marker.
+const MOVE: &str = r#"    "offer 1 1 0200000000200200000000100800",
+    "offer 1 1 0200000000200200000000100800",
+    "offer 1 1 0200000000200200000000100800",
+    "move 1 1 48 2",
+    "offer 1 1 0200000000200200000000100800",
+    "emit 1 1",
+    "emit 1 1",
+    "deliver 1 2",
+    "deliver 1 2",
+    "deliver 1 2",
+    "deliver 1 2",
+    "deliver 1 2",
+    "offer 1 1 0200000000200200000000100800",
+    "deliver 1 1",
+    "offer 1 1 0200000000200200000000100800",
+    "deliver 2 2",
+]
+"#;
+
+const MOVE_TEXT: &str = "25 offer 1 1 0200000000200200000000100800 -> port 1 serial 0 sent
+26 offer 1 1 0200000000200200000000100800 -> port 1 serial 1 sent
+27 offer 1 1 0200000000200200000000100800 -> port 1 serial 2 sent
+28 move 1 1 48 2 -> moved
+29 offer 1 1 0200000000200200000000100800 -> refused 5 held
+30 emit 1 1 -> lacpdu 3d sent
+31 emit 1 1 -> marker 1 sent
+32 deliver 1 2 -> up 1
+33 deliver 1 2 -> up 1
+34 deliver 1 2 -> up 1
+35 deliver 1 2 -> took
+36 deliver 1 2 -> responded sent
+37 offer 1 1 0200000000200200000000100800 -> refused 5 held
+38 deliver 1 1 -> released 1
+39 offer 1 1 0200000000200200000000100800 -> port 2 serial 3 sent
+40 deliver 2 2 -> up 1
+cable 1 agreement same
+cable 2 agreement same
+flow 1/1/48 sent 4 collected 0 1 2 3
+";
+
+/// What is written of a script of these entries and this configuration.
+fn replayed(alloc: Global, pieces: &[&str]) -> Result<String, ToolFault> {
+    let mut script = String::new(alloc);
+    for piece in pieces {
+        script.push_str(*piece)?;
+    }
+    let mut sink = Sink::new(Vec::new(alloc));
+    replay(alloc, script.as_str(), by_number, by_number, &mut sink)?;
+    Ok(String::from_utf8_lossy(alloc, sink.into_inner().as_slice())?)
+}
+
+#[test]
+fn one_cable(rt: HostRuntime) -> Result<(), Fail> {
+    for (events, text) in [(rows::ALONE, rows::ALONE_TEXT), (rows::UP, rows::UP_TEXT)] {
+        let written = replayed(rt.alloc(), &[events, rows::ONE_CABLE])?;
+        assert_eq!(rt; written.as_str(), text, "{events}");
+    }
+    Ok(())
+}
+
+#[test]
+fn a_conversation_moves(rt: HostRuntime) -> Result<(), Fail> {
+    let alloc = rt.alloc();
+    let written = replayed(alloc, &[BOTH_UP, MOVE, TWO_CABLES])?;
+    let text = format!(in alloc; "{BOTH_UP_TEXT}{MOVE_TEXT}")?;
+    assert_eq!(rt; written.as_str(), text.as_str());
+    Ok(())
+}
+
+/// An entry with leading zeros and upper-case digits, and each event that the others have not.
+const OTHERS: &str = r#"events = [
+    "tick 01 0010",
+    "offer 1 1 0200000000AB",
+    "configure 1 1 2 128 individual",
+    "configure 1 1 2 128 individual",
+    "repeat 1 2",
+    "lose 1 2",
+    "cut 1",
+    "join 1",
+    "sense 1 1",
+    "restart 1",
+    "move 1 1 48 1",
+    "force 1 2 48",
+    "emit 1 9",
+]
+"#;
+
+const OTHERS_TEXT: &str = "1 tick 1 10 -> ticked
+2 offer 1 1 0200000000ab -> refused 3 frame-length
+3 configure 1 1 2 128 individual -> configured
+4 configure 1 1 2 128 individual -> unchanged
+5 repeat 1 2 -> empty
+6 lose 1 2 -> empty
+7 cut 1 -> cut
+8 join 1 -> joined
+9 sense 1 1 -> up
+10 restart 1 -> restarted
+11 move 1 1 48 1 -> refused 9 not-assigned
+12 force 1 2 48 -> refused 2 no-aggregator
+13 emit 1 9 -> refused 1 no-port
+cable 1 agreement not-both
+";
+
+#[test]
+fn other_entries(rt: HostRuntime) -> Result<(), Fail> {
+    let written = replayed(rt.alloc(), &[OTHERS, rows::ONE_CABLE])?;
+    assert_eq!(rt; written.as_str(), OTHERS_TEXT);
+    Ok(())
+}
+
+#[test]
+fn texts_that_are_no_script(rt: HostRuntime) -> Result<(), Fail> {
+    let alloc = rt.alloc();
+    let cable = ScriptFault::Entry(1, EntryFault::Cable);
+    for (events, fault, said) in [
+        ("events = [\"cut 0\"]\n", cable, "script: event 1: cable"),
+        ("events = [", ScriptFault::NotToml, "script: not toml"),
+        ("other = 1\n", ScriptFault::ExtraKey, "script: extra key"),
+    ] {
+        let written = replayed(alloc, &[events, rows::ONE_CABLE]);
+        let wanted = ToolFault::Script(fault);
+        assert_eq!(rt; written, Err(wanted), "{events}");
+        assert_eq!(rt; wanted.number(), 4);
+        let text = FaultText {
+            fault: wanted,
+            file: "a",
+        };
+        assert_eq!(rt; format!(in alloc; "{text}")?.as_str(), said, "{events}");
+    }
+    Ok(())
+}
+
+#[test]
+fn a_report_into_a_sink_that_fails(rt: HostRuntime) {
+    let alloc = rt.alloc();
+    let text = b"cable 1 agreement not-both\n";
+    for room in 0..=text.len() {
+        let fits = room == text.len();
+        let expected = if fits { Ok(()) } else { Err(ToolFault::Write) };
+        for errs in [false, true] {
+            let mut sink = sink_of(alloc, room, errs);
+            let answer = replay(alloc, rows::ONE_CABLE, by_number, by_number, &mut sink);
+            assert_eq!(rt; answer, expected, "room for {room} octets");
+            let taken = sink.into_inner().taken;
+            assert_eq!(rt; taken.as_slice(), &text[..room], "room for {room} octets");
+        }
+    }
+}
+
+#[test]
+fn the_vectors_pass(rt: HostRuntime) -> Result<(), Fail> {
+    let alloc = rt.alloc();
+    let text = "V1 ok
+V2 ok
+V3 ok
+V4 ok
+V5 ok
+V6 ok
+V7 ok
+V8 ok
+V9 ok
+V10 ok
+vectors 10 failed 0
+";
+    let mut sink = Sink::new(Vec::new(alloc));
+    let summary = vectors(alloc, &mut sink)?;
+    assert_eq!(rt; summary.checked, 10);
+    assert_eq!(rt; summary.faults, 0);
+    assert_eq!(rt; sink.into_inner().as_slice(), text.as_bytes());
+    Ok(())
+}
