@@ -14,7 +14,7 @@ use lagworld::{Agreement, Event, Reply, RunFault, World, WorldFault};
 use std::alloc::Global;
 use std::process::Abort;
 
-/// A frame of conversation 48 of system 1.
+/// A frame of conversation 48 of system 1: octet 5 and octet 11 give 0x20 xor 0x10 (profile).
 const F48: [u8; 14] = [2, 0, 0, 0, 0, 0x20, 2, 0, 0, 0, 0, 0x10, 8, 0];
 
 /// One of conversation 49.
@@ -23,7 +23,7 @@ const F49: [u8; 14] = [2, 0, 0, 0, 0, 0x21, 2, 0, 0, 0, 0, 0x10, 8, 0];
 /// One of conversation 50.
 const F50: [u8; 14] = [2, 0, 0, 0, 0, 0x22, 2, 0, 0, 0, 0, 0x10, 8, 0];
 
-/// An event, with the octets that it offers.
+/// An event, with the octets that it offers. Its values stand as in `Event`; a tick is 100 ms.
 #[derive(Clone, Copy, Debug)]
 enum Entry {
     Tick(u8, u16),
@@ -48,7 +48,7 @@ enum Want {
     /// An LACPDU was sent whose actor has this state, and a cable took it.
     Lacpdu(u8),
     /// The same, and no cable took it.
-    Handed(u8),
+    LacpduLost(u8),
     Is(Reply),
 }
 
@@ -57,7 +57,7 @@ type Entries = &'static [(Entry, Want)];
 
 /// A conversation of aggregator 1 at the end: how many serials it sent, from 0 on, and which were collected.
 #[derive(Clone, Copy)]
-struct Told {
+struct Flow {
     system: u8,
     conv: u16,
     sent: usize,
@@ -73,7 +73,7 @@ struct Row {
     rest: Entries,
     /// Of cables.
     agreements: &'static [(u16, Agreement)],
-    flows: &'static [Told],
+    flows: &'static [Flow],
 }
 
 fn event(alloc: Global, entry: Entry) -> Result<Event, NoMemory> {
@@ -107,7 +107,7 @@ fn event(alloc: Global, entry: Entry) -> Result<Event, NoMemory> {
 fn reply(want: Want) -> Reply {
     match want {
         Want::Lacpdu(octet) => Reply::Lacpdu(State::from_bits_retain(octet), true),
-        Want::Handed(octet) => Reply::Lacpdu(State::from_bits_retain(octet), false),
+        Want::LacpduLost(octet) => Reply::Lacpdu(State::from_bits_retain(octet), false),
         Want::Is(reply) => reply,
     }
 }
@@ -180,7 +180,7 @@ fn is_from_zero(serials: &[u64]) -> bool {
 }
 
 /// Compares what was sent and collected of a conversation with what is told of it.
-fn compare_flow(rt: &impl Abort, told: Told, sent: &[u64], collected: &[u64], forced: bool) {
+fn compare_flow(rt: &impl Abort, told: Flow, sent: &[u64], collected: &[u64], forced: bool) {
     let (system, conv) = (told.system, told.conv);
     assert_eq!(rt;
         sent.len(),

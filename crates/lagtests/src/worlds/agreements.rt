@@ -1,13 +1,13 @@
 use crate::worlds::Entry::{Configure, Deliver, Emit, Offer, Repeat, Sense, Tick};
 use crate::worlds::Want::{Is, Lacpdu};
 use crate::worlds::given::ONE;
-use crate::worlds::starts::{NONE_DISTRIBUTING, ONE_CABLE, TICKED, TOOK, UP};
-use crate::worlds::{Entry, F48, Row, Told, Want, plays, runs, steps};
+use crate::worlds::starts::{LINK_UP, NONE_DISTRIBUTING, ONE_CABLE, TICKED, TOOK};
+use crate::worlds::{Entry, F48, Flow, Row, Want, plays, runs, steps};
 use lagworld::{Agreement, Reply};
 use std::test::Fail;
 
 const ALONE: [(Entry, Want); 12] = [
-    (Sense(1, 1), UP),
+    (Sense(1, 1), LINK_UP),
     (Tick(1, 9), TICKED),
     (Emit(1, 1), Is(Reply::Nothing)),
     (Tick(1, 1), TICKED),
@@ -26,7 +26,7 @@ const ALONE_ROW: Row = Row {
     first: &ALONE,
     rest: &[],
     agreements: &[(1, Agreement::NotBoth)],
-    flows: &[Told {
+    flows: &[Flow {
         system: 1,
         conv: 48,
         sent: 1,
@@ -36,7 +36,7 @@ const ALONE_ROW: Row = Row {
 };
 
 #[test]
-fn a_port_alone_sends_when_it_distributes(rt: HostRuntime) -> Result<(), Fail> {
+fn a_port_on_defaults_carries_data_after_50_ticks(rt: HostRuntime) -> Result<(), Fail> {
     plays(&rt, rt.alloc(), &ALONE_ROW)?;
     Ok(())
 }
@@ -90,8 +90,8 @@ fn equal_values_are_not_enough_to_agree(rt: HostRuntime) -> Result<(), Fail> {
 const DEFAULTS_ROW: Row = Row {
     setting: ONE,
     first: &[
-        (Sense(1, 1), UP),
-        (Sense(1, 2), UP),
+        (Sense(1, 1), LINK_UP),
+        (Sense(1, 2), LINK_UP),
         (Tick(1, 50), TICKED),
         (Tick(2, 50), TICKED),
     ],
@@ -108,8 +108,8 @@ fn both_ends_on_defaults(rt: HostRuntime) -> Result<(), Fail> {
 
 /// The cable comes up, and each LACPDU is received twice.
 const REPEATED: [(Entry, Want); 26] = [
-    (Sense(1, 1), UP),
-    (Sense(1, 2), UP),
+    (Sense(1, 1), LINK_UP),
+    (Sense(1, 2), LINK_UP),
     (Tick(1, 10), TICKED),
     (Tick(2, 10), TICKED),
     (Emit(1, 1), Lacpdu(0xc7)),

@@ -1,8 +1,10 @@
 use crate::worlds::Entry::{Configure, Cut, Deliver, Emit, Move, Offer, Restart, Sense, Tick};
 use crate::worlds::Want::{Is, Lacpdu};
 use crate::worlds::given::{INDIVIDUAL, Setting, TWO};
-use crate::worlds::starts::{COMING_UP, DOWN, HELD, MOVED, NONE_DISTRIBUTING, TAKEN, TICKED, UP};
-use crate::worlds::{Entry, F48, F49, F50, Row, Told, Want, plays};
+use crate::worlds::starts::{
+    COMING_UP, HELD, LINK_DOWN, LINK_UP, MOVED, NONE_DISTRIBUTING, TICKED, UP_1,
+};
+use crate::worlds::{Entry, F48, F49, F50, Flow, Row, Want, plays};
 use lagsystem::SystemFault;
 use lagworld::{Agreement, Reply};
 use std::test::Fail;
@@ -11,9 +13,9 @@ const TOLD_OF_CUT: [(Entry, Want); 6] = [
     (Offer(1, 1, &F48), Is(Reply::Port(1, 0, true))),
     (Cut(1), Is(Reply::Cut)),
     (Offer(1, 1, &F48), Is(Reply::Port(1, 1, false))),
-    (Sense(1, 1), DOWN),
+    (Sense(1, 1), LINK_DOWN),
     (Offer(1, 1, &F48), Is(Reply::Port(2, 2, true))),
-    (Deliver(2, 2), TAKEN),
+    (Deliver(2, 2), UP_1),
 ];
 
 const TOLD_OF_CUT_ROW: Row = Row {
@@ -21,7 +23,7 @@ const TOLD_OF_CUT_ROW: Row = Row {
     first: &COMING_UP,
     rest: &TOLD_OF_CUT,
     agreements: &[(1, Agreement::NotBoth), (2, Agreement::Same)],
-    flows: &[Told {
+    flows: &[Flow {
         system: 1,
         conv: 48,
         sent: 3,
@@ -54,14 +56,14 @@ const RESTARTED_ROW: Row = Row {
     rest: &RESTARTED,
     agreements: &[(1, Agreement::NotBoth), (2, Agreement::NotBoth)],
     flows: &[
-        Told {
+        Flow {
             system: 1,
             conv: 48,
             sent: 1,
             collected: &[],
             forced: false,
         },
-        Told {
+        Flow {
             system: 2,
             conv: 48,
             sent: 1,
@@ -78,8 +80,8 @@ fn a_restart_empties_the_cables(rt: HostRuntime) -> Result<(), Fail> {
 }
 
 const CONFIGURED: [(Entry, Want); 9] = [
-    (Sense(1, 1), UP),
-    (Sense(2, 1), UP),
+    (Sense(1, 1), LINK_UP),
+    (Sense(2, 1), LINK_UP),
     (Tick(1, 50), TICKED),
     (Offer(1, 1, &F48), Is(Reply::Port(1, 0, true))),
     (Configure(1, 1, 2, false), Is(Reply::Configured(true))),
@@ -95,14 +97,14 @@ const CONFIGURED_ROW: Row = Row {
     rest: &[],
     agreements: &[],
     flows: &[
-        Told {
+        Flow {
             system: 1,
             conv: 48,
             sent: 1,
             collected: &[],
             forced: false,
         },
-        Told {
+        Flow {
             system: 1,
             conv: 49,
             sent: 1,
@@ -120,7 +122,7 @@ fn a_configure_holds_the_conversations_of_its_port(rt: HostRuntime) -> Result<()
 
 /// Two cables between long ports, and one marker.
 const LAST_MARKER: Setting = Setting {
-    both: true,
+    two_cables: true,
     short: false,
     aggregatable: true,
     first_marker: 4_294_967_295,
@@ -140,11 +142,11 @@ const SPENT: [(Entry, Want); 15] = [
     (Emit(1, 1), Is(Reply::Nothing)),
     (Offer(1, 1, &F48), HELD),
     (Cut(1), Is(Reply::Cut)),
-    (Sense(1, 1), DOWN),
+    (Sense(1, 1), LINK_DOWN),
     (Offer(1, 1, &F48), Is(Reply::Port(2, 1, true))),
     (Offer(1, 1, &F50), Is(Reply::Port(2, 1, true))),
-    (Deliver(2, 2), TAKEN),
-    (Deliver(2, 2), TAKEN),
+    (Deliver(2, 2), UP_1),
+    (Deliver(2, 2), UP_1),
 ];
 
 const SPENT_ROW: Row = Row {
@@ -153,14 +155,14 @@ const SPENT_ROW: Row = Row {
     rest: &SPENT,
     agreements: &[],
     flows: &[
-        Told {
+        Flow {
             system: 1,
             conv: 48,
             sent: 2,
             collected: &[1],
             forced: false,
         },
-        Told {
+        Flow {
             system: 1,
             conv: 50,
             sent: 2,

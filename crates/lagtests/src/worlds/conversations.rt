@@ -1,8 +1,8 @@
 use crate::worlds::Entry::{Cut, Deliver, Emit, Force, Join, Lose, Offer, Repeat, Tick};
-use crate::worlds::Want::{Handed, Is, Lacpdu};
+use crate::worlds::Want::{Is, Lacpdu, LacpduLost};
 use crate::worlds::given::TWO;
-use crate::worlds::starts::{COMING_UP, HELD, MOVED, TAKEN, TICKED, TOOK};
-use crate::worlds::{Entry, F48, Row, Told, Want, plays, runs, steps};
+use crate::worlds::starts::{COMING_UP, HELD, MOVED, TICKED, TOOK, UP_1};
+use crate::worlds::{Entry, F48, Flow, Row, Want, plays, runs, steps};
 use lagworld::{Agreement, Reply};
 use std::test::Fail;
 
@@ -14,15 +14,15 @@ const MOVES: [(Entry, Want); 16] = [
     (Offer(1, 1, &F48), HELD),
     (Emit(1, 1), Lacpdu(0x3d)),
     (Emit(1, 1), Is(Reply::Marker(1, true))),
-    (Deliver(1, 2), TAKEN),
-    (Deliver(1, 2), TAKEN),
-    (Deliver(1, 2), TAKEN),
+    (Deliver(1, 2), UP_1),
+    (Deliver(1, 2), UP_1),
+    (Deliver(1, 2), UP_1),
     (Deliver(1, 2), TOOK),
     (Deliver(1, 2), Is(Reply::Responded(true))),
     (Offer(1, 1, &F48), HELD),
     (Deliver(1, 1), Is(Reply::Released(1))),
     (Offer(1, 1, &F48), Is(Reply::Port(2, 3, true))),
-    (Deliver(2, 2), TAKEN),
+    (Deliver(2, 2), UP_1),
 ];
 
 const MOVES_ROW: Row = Row {
@@ -30,7 +30,7 @@ const MOVES_ROW: Row = Row {
     first: &COMING_UP,
     rest: &MOVES,
     agreements: &[(1, Agreement::Same), (2, Agreement::Same)],
-    flows: &[Told {
+    flows: &[Flow {
         system: 1,
         conv: 48,
         sent: 4,
@@ -60,7 +60,7 @@ const LATE: [(Entry, Want); 16] = [
     (Emit(1, 1), Is(Reply::Marker(1, true))),
     (Tick(1, 30), TICKED),
     (Emit(1, 1), Is(Reply::Marker(2, true))),
-    (Deliver(1, 2), TAKEN),
+    (Deliver(1, 2), UP_1),
     (Deliver(1, 2), TOOK),
     (Deliver(1, 2), Is(Reply::Responded(true))),
     (Deliver(1, 1), Is(Reply::Released(0))),
@@ -69,7 +69,7 @@ const LATE: [(Entry, Want); 16] = [
     (Repeat(1, 1), Is(Reply::Released(1))),
     (Deliver(1, 1), Is(Reply::Released(0))),
     (Offer(1, 1, &F48), Is(Reply::Port(2, 1, true))),
-    (Deliver(2, 2), TAKEN),
+    (Deliver(2, 2), UP_1),
 ];
 
 const LATE_ROW: Row = Row {
@@ -77,7 +77,7 @@ const LATE_ROW: Row = Row {
     first: &COMING_UP,
     rest: &LATE,
     agreements: &[],
-    flows: &[Told {
+    flows: &[Flow {
         system: 1,
         conv: 48,
         sent: 2,
@@ -107,7 +107,7 @@ const LOST: [(Entry, Want); 15] = [
     (Deliver(1, 2), Is(Reply::Responded(true))),
     (Deliver(1, 1), Is(Reply::Released(1))),
     (Offer(1, 1, &F48), Is(Reply::Port(2, 2, true))),
-    (Deliver(2, 2), TAKEN),
+    (Deliver(2, 2), UP_1),
 ];
 
 const LOST_ROW: Row = Row {
@@ -115,7 +115,7 @@ const LOST_ROW: Row = Row {
     first: &COMING_UP,
     rest: &LOST,
     agreements: &[],
-    flows: &[Told {
+    flows: &[Flow {
         system: 1,
         conv: 48,
         sent: 3,
@@ -135,8 +135,8 @@ const FORCED: [(Entry, Want); 6] = [
     MOVED,
     (Force(1, 1, 48), Is(Reply::Forced)),
     (Offer(1, 1, &F48), Is(Reply::Port(2, 1, true))),
-    (Deliver(2, 2), TAKEN),
-    (Deliver(1, 2), TAKEN),
+    (Deliver(2, 2), UP_1),
+    (Deliver(1, 2), UP_1),
 ];
 
 const FORCED_ROW: Row = Row {
@@ -144,7 +144,7 @@ const FORCED_ROW: Row = Row {
     first: &COMING_UP,
     rest: &FORCED,
     agreements: &[],
-    flows: &[Told {
+    flows: &[Flow {
         system: 1,
         conv: 48,
         sent: 2,
@@ -164,9 +164,9 @@ const DATA: [(Entry, Want); 7] = [
     (Offer(1, 1, &F48), Is(Reply::Port(1, 1, true))),
     (Offer(1, 1, &F48), Is(Reply::Port(1, 2, true))),
     (Lose(1, 2), Is(Reply::Lost)),
-    (Deliver(1, 2), TAKEN),
+    (Deliver(1, 2), UP_1),
     (Repeat(1, 2), Is(Reply::NotControl)),
-    (Deliver(1, 2), TAKEN),
+    (Deliver(1, 2), UP_1),
 ];
 
 const DATA_ROW: Row = Row {
@@ -174,7 +174,7 @@ const DATA_ROW: Row = Row {
     first: &COMING_UP,
     rest: &DATA,
     agreements: &[],
-    flows: &[Told {
+    flows: &[Flow {
         system: 1,
         conv: 48,
         sent: 3,
@@ -193,8 +193,8 @@ const FULL: [(Entry, Want); 6] = [
     (Offer(1, 1, &F48), Is(Reply::Port(1, 0, true))),
     (Offer(1, 1, &F48), Is(Reply::Port(1, 1, true))),
     (Offer(1, 1, &F48), Is(Reply::Port(1, 2, false))),
-    (Deliver(1, 2), TAKEN),
-    (Deliver(1, 2), TAKEN),
+    (Deliver(1, 2), UP_1),
+    (Deliver(1, 2), UP_1),
     (Deliver(1, 2), Is(Reply::Empty)),
 ];
 
@@ -203,7 +203,7 @@ const FULL_ROW: Row = Row {
     first: &COMING_UP,
     rest: &FULL,
     agreements: &[],
-    flows: &[Told {
+    flows: &[Flow {
         system: 1,
         conv: 48,
         sent: 3,
@@ -222,15 +222,15 @@ const NARROW: [(Entry, Want); 12] = [
     (Offer(1, 1, &F48), Is(Reply::Port(1, 0, true))),
     (Offer(1, 1, &F48), Is(Reply::Port(1, 1, false))),
     MOVED,
-    (Emit(1, 1), Handed(0x3d)),
+    (Emit(1, 1), LacpduLost(0x3d)),
     (Emit(1, 1), Is(Reply::Marker(1, false))),
-    (Deliver(1, 2), TAKEN),
+    (Deliver(1, 2), UP_1),
     (Tick(1, 30), TICKED),
     (Emit(1, 1), Is(Reply::Marker(2, true))),
     (Deliver(1, 2), Is(Reply::Responded(true))),
     (Deliver(1, 1), Is(Reply::Released(1))),
     (Offer(1, 1, &F48), Is(Reply::Port(2, 2, true))),
-    (Deliver(2, 2), TAKEN),
+    (Deliver(2, 2), UP_1),
 ];
 
 const NARROW_ROW: Row = Row {
@@ -238,7 +238,7 @@ const NARROW_ROW: Row = Row {
     first: &COMING_UP,
     rest: &NARROW,
     agreements: &[],
-    flows: &[Told {
+    flows: &[Flow {
         system: 1,
         conv: 48,
         sent: 3,

@@ -10,34 +10,34 @@ use std::alloc::Global;
 #[derive(Clone, Copy)]
 pub(crate) struct Setting {
     /// Whether cable 2 joins ports 2.
-    pub both: bool,
+    pub two_cables: bool,
     /// LACP_Timeout of every port.
     pub short: bool,
     /// Aggregation of the ports of system 1.
     pub aggregatable: bool,
-    /// The first marker of system 1.
+    /// The identifier of the first marker of system 1.
     pub first_marker: u32,
 }
 
-/// One cable between short ports.
+/// One cable between ports with short LACP_Timeout.
 pub(crate) const ONE: Setting = Setting {
-    both: false,
+    two_cables: false,
     short: true,
     aggregatable: true,
     first_marker: 1,
 };
 
-/// Two cables between long ports.
+/// Two cables between ports with long LACP_Timeout.
 pub(crate) const TWO: Setting = Setting {
-    both: true,
+    two_cables: true,
     short: false,
     aggregatable: true,
     first_marker: 1,
 };
 
-/// Two cables between short ports, of which those of system 1 are individual.
+/// Two cables between ports with short LACP_Timeout, of which those of system 1 are individual.
 pub(crate) const INDIVIDUAL: Setting = Setting {
-    both: true,
+    two_cables: true,
     short: true,
     aggregatable: false,
     first_marker: 1,
@@ -113,7 +113,7 @@ pub(crate) fn joined(
 }
 
 pub(crate) fn world_config(alloc: Global, setting: Setting) -> Result<WorldConfig, NoMemory> {
-    if setting.both {
+    if setting.two_cables {
         joined(alloc, 2, &[1, 2], &[1, 2], &[(1, 1), (2, 2)], setting)
     } else {
         joined(alloc, 2, &[1], &[1], &[(1, 1)], setting)

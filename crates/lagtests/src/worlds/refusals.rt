@@ -3,8 +3,8 @@ use crate::worlds::Entry::{
 };
 use crate::worlds::Want::Is;
 use crate::worlds::given::{INDIVIDUAL, ONE, cable, joined, lines, modulo, world_config};
-use crate::worlds::starts::{HELD, NONE_DISTRIBUTING, TICKED, UP};
-use crate::worlds::{Entry, F48, Row, Want, event, plays};
+use crate::worlds::starts::{HELD, LINK_UP, NONE_DISTRIBUTING, TICKED};
+use crate::worlds::{Entry, F48, Row, Want, event, events, plays};
 use cables::{AnyCable, Cable, Item, Stamp};
 use lagsystem::{BadConfig, SystemFault};
 use lagtypes::AggId;
@@ -15,7 +15,7 @@ use std::test::Fail;
 
 /// System 1 and the system of this number with these ports, the cables between them, so many lines, and why no world is made
 /// of it.
-#[derive(Clone, Copy)]
+#[derive(Clone, Copy, Debug)]
 struct Given {
     first: &'static [u16],
     second: &'static [u16],
@@ -25,8 +25,8 @@ struct Given {
     reason: BadWorld,
 }
 
+/// Of each the later reasons hold too.
 const GIVEN: [Given; 7] = [
-    // every later reason holds too, as it does in the rows below
     Given {
         first: &[],
         second: &[],
@@ -112,7 +112,7 @@ fn refuses(rt: &impl Abort, alloc: Global, place: usize) -> Result<(), WorldFaul
     assert!(rt; place < GIVEN.len());
     let given = GIVEN[place];
     let wanted = Some(WorldFault::BadConfig(given.reason));
-    assert_eq!(rt; refusal(alloc, given)?, wanted, "row {place}");
+    assert_eq!(rt; refusal(alloc, given)?, wanted, "{given:?}");
     Ok(())
 }
 
@@ -200,16 +200,19 @@ fn events_of_what_does_not_exist(rt: HostRuntime) -> Result<(), Fail> {
     Ok(())
 }
 
+/// The third names no cable.
+const STOPPING: [(Entry, Want); 4] = [
+    (Tick(1, 0), TICKED),
+    (Cut(1), Is(Reply::Cut)),
+    (Cut(2), Is(Reply::Cut)),
+    (Join(1), Is(Reply::Joined)),
+];
+
 fn stops(rt: &impl Abort, alloc: Global) -> Result<(), WorldFault> {
     let config = world_config(alloc, ONE)?;
     let lines = lines(alloc, 1, None)?;
     let mut world = World::new(alloc, config, modulo, modulo, lines)?;
-    let events = [
-        Event::Tick(1, 0),
-        Event::Cut(1),
-        Event::Cut(2),
-        Event::Join(1),
-    ];
+    let events = events(alloc, &STOPPING)?;
     let stop = RunFault {
         done: 2,
         fault: WorldFault::NoCable,
@@ -220,7 +223,7 @@ fn stops(rt: &impl Abort, alloc: Global) -> Result<(), WorldFault> {
 }
 
 #[test]
-fn a_run_stops_at_the_first_refusal(rt: HostRuntime) -> Result<(), Fail> {
+fn a_run_stops_at_the_first_fault(rt: HostRuntime) -> Result<(), Fail> {
     stops(&rt, rt.alloc())?;
     Ok(())
 }
@@ -232,8 +235,8 @@ const SLOW: [u8; 14] = [1, 0x80, 0xc2, 0, 0, 2, 2, 0, 0, 0, 0, 1, 0x88, 9];
 
 /// What a system refuses before a port distributes.
 const EARLY: [(Entry, Want); 10] = [
-    (Sense(1, 1), UP),
-    (Sense(2, 1), UP),
+    (Sense(1, 1), LINK_UP),
+    (Sense(2, 1), LINK_UP),
     (Emit(1, 9), Is(Reply::Refused(SystemFault::NoPort))),
     (
         Configure(1, 9, 1, true),
@@ -280,7 +283,7 @@ const REFUSED_ROW: Row = Row {
 };
 
 #[test]
-fn every_refusal_of_a_system_is_a_reply(rt: HostRuntime) -> Result<(), Fail> {
+fn refusals_of_a_system_are_replies(rt: HostRuntime) -> Result<(), Fail> {
     plays(&rt, rt.alloc(), &REFUSED_ROW)?;
     Ok(())
 }
@@ -288,27 +291,23 @@ fn every_refusal_of_a_system_is_a_reply(rt: HostRuntime) -> Result<(), Fail> {
 /// A system, an aggregator and a conversation, of which one does not exist.
 const NO_FLOWS: [(u8, u16, u16); 5] = [(0, 1, 48), (3, 1, 48), (1, 0, 48), (1, 2, 48), (2, 1, 256)];
 
-/// Compares what the readers of a world with one cable tell of what does not exist.
-fn tells_nothing<F: Fn(u16, usize) -> usize + Drop>(rt: &impl Abort, world: &World<AnyCable, F>) {
-    for cable in [0, 2] {
-        assert_eq!(rt; world.agreement(cable), None, "agreement of cable {cable}");
-    }
-    for (system, agg, conv) in NO_FLOWS {
-        assert_eq!(rt;
-            world.sent(system, AggId(agg), conv).len(),
-            0,
-            "sent: {system} {agg} {conv}"
-        );
-        assert_eq!(rt;
-            world.collected(system, AggId(agg), conv).len(),
-            0,
-            "collected: {system} {agg} {conv}"
-        );
-        assert!(rt;
-            !world.forced(system, AggId(agg), conv),
-            "forced: {system} {agg} {conv}"
-        );
-    }
+/// Compares what a world tells of a conversation that does not exist.
+fn tells_no_flow<F: Fn(u16, usize) -> usize + Drop>(
+    rt: &impl Abort,
+    world: &World<AnyCable, F>,
+    flow: (u8, u16, u16),
+) {
+    let (system, agg, conv) = flow;
+    let sent = world.sent(system, AggId(agg), conv).len();
+    let collected = world.collected(system, AggId(agg), conv).len();
+    let forced = world.forced(system, AggId(agg), conv);
+    assert_eq!(rt; sent, 0, "sent: {flow:?}");
+    assert_eq!(rt; collected, 0, "collected: {flow:?}");
+    assert_eq!(rt; forced, false, "forced: {flow:?}");
+}
+
+/// Compares which systems a world has.
+fn tells_systems<F: Fn(u16, usize) -> usize + Drop>(rt: &impl Abort, world: &World<AnyCable, F>) {
     for (number, there) in [(0, false), (1, true), (2, true), (3, false)] {
         assert_eq!(rt; world.system(number).is_some(), there, "system {number}");
     }
@@ -318,7 +317,13 @@ fn nothing_told(rt: &impl Abort, alloc: Global) -> Result<(), WorldFault> {
     let config = world_config(alloc, ONE)?;
     let lines = lines(alloc, 1, None)?;
     let world = World::new(alloc, config, modulo, modulo, lines)?;
-    tells_nothing(rt, &world);
+    for cable in [0, 2] {
+        assert_eq!(rt; world.agreement(cable), None, "agreement of cable {cable}");
+    }
+    for flow in NO_FLOWS {
+        tells_no_flow(rt, &world, flow);
+    }
+    tells_systems(rt, &world);
     Ok(())
 }
 

@@ -7,15 +7,15 @@ use lagworld::Reply;
 
 pub(crate) const TICKED: Want = Is(Reply::Ticked);
 
-pub(crate) const UP: Want = Is(Reply::Sensed(true));
+pub(crate) const LINK_UP: Want = Is(Reply::Sensed(true));
 
-pub(crate) const DOWN: Want = Is(Reply::Sensed(false));
+pub(crate) const LINK_DOWN: Want = Is(Reply::Sensed(false));
 
 /// An LACPDU was received.
 pub(crate) const TOOK: Want = Is(Reply::Took);
 
 /// A frame was handed up.
-pub(crate) const TAKEN: Want = Is(Reply::Up(AggId(1)));
+pub(crate) const UP_1: Want = Is(Reply::Up(AggId(1)));
 
 pub(crate) const HELD: Want = Is(Reply::Refused(SystemFault::Held));
 
@@ -24,12 +24,13 @@ pub(crate) const NONE_DISTRIBUTING: Want = Is(Reply::Refused(SystemFault::NoneDi
 /// Conversation 48 of system 1 is moved to port 2.
 pub(crate) const MOVED: (Entry, Want) = (Move(1, 1, 48, 2), Is(Reply::Moved));
 
-/// Both cables come up between ports with long timeouts: after it all four ports distribute.
+/// Both cables come up between ports with long timeouts: after it all four ports distribute (6.4.13, 6.4.15). The octets are
+/// Actor_State (6.4.2.3).
 pub(crate) const COMING_UP: [(Entry, Want); 24] = [
-    (Sense(1, 1), UP),
-    (Sense(1, 2), UP),
-    (Sense(2, 1), UP),
-    (Sense(2, 2), UP),
+    (Sense(1, 1), LINK_UP),
+    (Sense(1, 2), LINK_UP),
+    (Sense(2, 1), LINK_UP),
+    (Sense(2, 2), LINK_UP),
     (Tick(1, 10), TICKED),
     (Tick(2, 10), TICKED),
     (Emit(1, 1), Lacpdu(0xc5)),
@@ -52,10 +53,10 @@ pub(crate) const COMING_UP: [(Entry, Want); 24] = [
     (Deliver(2, 1), TOOK),
 ];
 
-/// One cable comes up between ports with short timeouts.
+/// One cable comes up between ports with short timeouts (6.4.13, 6.4.15).
 pub(crate) const ONE_CABLE: [(Entry, Want); 20] = [
-    (Sense(1, 1), UP),
-    (Sense(1, 2), UP),
+    (Sense(1, 1), LINK_UP),
+    (Sense(1, 2), LINK_UP),
     (Tick(1, 10), TICKED),
     (Tick(2, 10), TICKED),
     (Emit(1, 1), Lacpdu(0xc7)),
