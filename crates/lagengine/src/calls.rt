@@ -123,7 +123,7 @@ fn question_named(name: &str, words: &[&str]) -> Result<Task, LineFault>
 }
 
 /// The call, or what is asked of a reader, by a first word with those behind it.
-pub fn call_named(name: &str, words: &[&str]) -> Result<Task, LineFault>
+pub(crate) fn call_named(name: &str, words: &[&str]) -> Result<Task, LineFault>
     ensures { seen result ≡ call_named name.now (map (λ w. w.now) words.now) }
 {
     match name {

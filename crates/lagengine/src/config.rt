@@ -105,7 +105,7 @@ fn each_port(alloc: Global, words: &[&str]) -> Result<Vec<PortConfig>, LineError
 }
 
 /// A new system, of PRIORITY MAC MAX_DELAY FIRST_MARKER KEYS PORT .. (profile).
-pub fn system(alloc: Global, words: &[&str]) -> Result<Config, LineError>
+pub(crate) fn system(alloc: Global, words: &[&str]) -> Result<Config, LineError>
     ensures { Enters plan_of (plan_in (map (λ w. w.now) words.now)) result }
 {
     match words {

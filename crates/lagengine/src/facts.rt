@@ -208,7 +208,7 @@ impl fmt::Display for PortTold {
 }
 
 /// Writes the numbers of ports, each behind a space, or `none`.
-pub fn write_numbers<W: fmt::Write>(f: &mut fmt::Formatter<W>, ports: &[u16]) -> fmt::Result
+pub(crate) fn write_numbers<W: fmt::Write>(f: &mut fmt::Formatter<W>, ports: &[u16]) -> fmt::Result
     ensures { DisplaysOnOk W.write_str_gives f.old result (Some (numbers_text ports.now)) f.new }
 {
     if ports.is_empty() {
@@ -324,7 +324,7 @@ fn write_aggregators<W: fmt::Write>(f: &mut fmt::Formatter<W>, aggs: &[AggTold])
 }
 
 /// Writes ports and aggregators.
-pub fn write_all<W: fmt::Write>(
+pub(crate) fn write_all<W: fmt::Write>(
     f: &mut fmt::Formatter<W>,
     ports: &[PortTold],
     aggs: &[AggTold],

@@ -91,7 +91,7 @@ fn fact<F: Fn(u16, usize) -> usize + Drop>(
 }
 
 /// What a reader tells of a port.
-pub fn port_told<F: Fn(u16, usize) -> usize + Drop>(
+pub(crate) fn port_told<F: Fn(u16, usize) -> usize + Drop>(
     system: &System<F>,
     asked: PortQuestion,
     port: u16,
@@ -105,7 +105,7 @@ pub fn port_told<F: Fn(u16, usize) -> usize + Drop>(
 }
 
 /// The ports that distribute in an aggregator.
-pub fn agg_told<F: Fn(u16, usize) -> usize + Drop>(system: &System<F>, agg: u16) -> AggTold
+pub(crate) fn agg_told<F: Fn(u16, usize) -> usize + Drop>(system: &System<F>, agg: u16) -> AggTold
     ensures { sharing_of result ≡ sharing_in system.now.state agg }
 {
     AggTold {
@@ -115,7 +115,7 @@ pub fn agg_told<F: Fn(u16, usize) -> usize + Drop>(system: &System<F>, agg: u16)
 }
 
 /// What `look` tells of every port.
-pub fn all_ports<F: Fn(u16, usize) -> usize + Drop>(
+pub(crate) fn all_ports<F: Fn(u16, usize) -> usize + Drop>(
     alloc: Global,
     system: &System<F>,
 ) -> Result<Vec<PortTold>, AllocError>
@@ -131,7 +131,7 @@ pub fn all_ports<F: Fn(u16, usize) -> usize + Drop>(
 
 /// The ports that distribute in each aggregator, and before them those of number 0, which is none.
 #[tactic(auto, using(crate::proofs::LookLemmas::sharings_more))]
-pub fn all_aggregators<F: Fn(u16, usize) -> usize + Drop>(
+pub(crate) fn all_aggregators<F: Fn(u16, usize) -> usize + Drop>(
     alloc: Global,
     system: &System<F>,
 ) -> Result<Vec<AggTold>, AllocError>

@@ -32,11 +32,7 @@ fn by_number(conversation: u16, count: usize) -> usize
     ensures place { result ≡ place_by_number conversation count }
     ensures among { 0 < count → result < count }
 {
-    if count == 0 {
-        0
-    } else {
-        usize::from(conversation) % count
-    }
+    distributor::by_number(conversation, count)
 }
 
 /// Serves standard input and output.

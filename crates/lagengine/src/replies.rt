@@ -178,7 +178,10 @@ impl fmt::Display for ReplyText<'_> {
 }
 
 /// Writes each reply, with a semicolon behind it.
-pub fn write_replies<W: fmt::Write>(f: &mut fmt::Formatter<W>, replies: &[Reply]) -> fmt::Result
+pub(crate) fn write_replies<W: fmt::Write>(
+    f: &mut fmt::Formatter<W>,
+    replies: &[Reply],
+) -> fmt::Result
     ensures { DisplaysOnOk W.write_str_gives f.old result (Some (replies_text replies.now)) f.new }
 {
     for reply in replies {

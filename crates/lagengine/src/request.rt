@@ -76,7 +76,7 @@ pub enum Request {
 }
 
 /// That there are no words.
-pub fn no_words(words: &[&str]) -> Result<(), LineFault>
+pub(crate) fn no_words(words: &[&str]) -> Result<(), LineFault>
     ensures { result ≡ no_words (map (λ w. w.now) words.now) }
 {
     match words {
@@ -86,7 +86,7 @@ pub fn no_words(words: &[&str]) -> Result<(), LineFault>
 }
 
 /// The one word that there is.
-pub fn one_word<'a>(words: &[&'a str]) -> Result<&'a str, LineFault>
+pub(crate) fn one_word<'a>(words: &[&'a str]) -> Result<&'a str, LineFault>
     ensures { asked.seen_one result ≡ asked.one_word (map (λ w. w.now) words.now) }
 {
     match words {
@@ -96,7 +96,7 @@ pub fn one_word<'a>(words: &[&'a str]) -> Result<&'a str, LineFault>
 }
 
 /// The two words that there are.
-pub fn two_words<'a>(words: &[&'a str]) -> Result<(&'a str, &'a str), LineFault>
+pub(crate) fn two_words<'a>(words: &[&'a str]) -> Result<(&'a str, &'a str), LineFault>
     ensures { asked.seen_two result ≡ asked.two_words (map (λ w. w.now) words.now) }
 {
     match words {
@@ -132,7 +132,7 @@ fn conversation(alloc: Global, words: &[&str]) -> Result<Task, LineError>
 }
 
 /// A task that has no words behind its first.
-pub fn alone(task: Task, words: &[&str]) -> Result<Task, LineFault>
+pub(crate) fn alone(task: Task, words: &[&str]) -> Result<Task, LineFault>
     ensures { asked.seen result ≡ none (task_of task) (map (λ w. w.now) words.now) }
 {
     no_words(words)?;
@@ -175,7 +175,7 @@ fn request_of_text(alloc: Global, text: &str) -> Result<Request, LineError>
 }
 
 /// The request of a line, which is given without its end (profile).
-pub fn request_of(alloc: Global, line: &[u8]) -> Result<Request, LineError>
+pub(crate) fn request_of(alloc: Global, line: &[u8]) -> Result<Request, LineError>
     ensures { Enters asked_of (request_in line.now) result }
 {
     if line.len() > LONGEST {

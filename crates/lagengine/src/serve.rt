@@ -92,7 +92,7 @@ impl<F: Fn(u16, usize) -> usize + Copy + Drop, W: Write> Session<'_, F, W> {
 
 /// Answers each line of the input, one line each, and flushes after each; a last line that has no end counts. Ends with the
 /// input, or where it cannot be read, an answer cannot be written, or memory for a line is refused (profile).
-pub fn serve<F: Fn(u16, usize) -> usize + Copy + Drop, R: Read, W: Write>(
+pub(crate) fn serve<F: Fn(u16, usize) -> usize + Copy + Drop, R: Read, W: Write>(
     alloc: Global,
     algorithm: F,
     input: &mut R,

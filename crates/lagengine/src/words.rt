@@ -7,21 +7,21 @@ use hex::{FromHex, FromHexError};
 use std::alloc::{AllocError, Global};
 
 /// The words of a line, cut at every single space.
-pub fn words_of<'a>(alloc: Global, text: &'a str) -> Result<Vec<&'a str>, AllocError>
+pub(crate) fn words_of<'a>(alloc: Global, text: &'a str) -> Result<Vec<&'a str>, AllocError>
     ensures { IfOk result (λ words. map (λ w. w.now) words.items ≡ parts 32 text.now) }
 {
     text.split(' ').collect(alloc)
 }
 
 /// The parts of a word between colons.
-pub fn fields_of<'a>(alloc: Global, word: &'a str) -> Result<Vec<&'a str>, AllocError>
+pub(crate) fn fields_of<'a>(alloc: Global, word: &'a str) -> Result<Vec<&'a str>, AllocError>
     ensures { IfOk result (λ words. map (λ w. w.now) words.items ≡ parts 58 word.now) }
 {
     word.split(':').collect(alloc)
 }
 
 /// The parts of a word between commas.
-pub fn items_of<'a>(alloc: Global, word: &'a str) -> Result<Vec<&'a str>, AllocError>
+pub(crate) fn items_of<'a>(alloc: Global, word: &'a str) -> Result<Vec<&'a str>, AllocError>
     ensures { IfOk result (λ words. map (λ w. w.now) words.items ≡ parts 44 word.now) }
 {
     word.split(',').collect(alloc)
@@ -49,21 +49,21 @@ fn long_of(word: &str) -> Option<u32>
 }
 
 /// A number of 0 to 65535 in decimal digits.
-pub fn number(word: &str) -> Result<u16, LineFault>
+pub(crate) fn number(word: &str) -> Result<u16, LineFault>
     ensures { result ≡ number_word word.now }
 {
     number_of(word).ok_or(LineFault::Number)
 }
 
 /// A number of 0 to 4294967295 in decimal digits.
-pub fn long(word: &str) -> Result<u32, LineFault>
+pub(crate) fn long(word: &str) -> Result<u32, LineFault>
     ensures { result ≡ long_word word.now }
 {
     long_of(word).ok_or(LineFault::Number)
 }
 
 /// A MAC address in twelve hexadecimal digits.
-pub fn mac(word: &str) -> Result<[u8; 6], LineFault>
+pub(crate) fn mac(word: &str) -> Result<[u8; 6], LineFault>
     ensures { result ≡ mac_word word.now }
 {
     <[u8; 6] as FromHex>::from_hex(word)
@@ -72,7 +72,7 @@ pub fn mac(word: &str) -> Result<[u8; 6], LineFault>
 }
 
 /// True as `1`, false as `0`.
-pub fn flag(word: &str) -> Result<bool, LineFault>
+pub(crate) fn flag(word: &str) -> Result<bool, LineFault>
     ensures { result ≡ flag_word word.now }
 {
     match word {
@@ -83,7 +83,7 @@ pub fn flag(word: &str) -> Result<bool, LineFault>
 }
 
 /// Whether a link is up.
-pub fn link(word: &str) -> Result<bool, LineFault>
+pub(crate) fn link(word: &str) -> Result<bool, LineFault>
     ensures { result ≡ link_word word.now }
 {
     match word {
@@ -94,7 +94,7 @@ pub fn link(word: &str) -> Result<bool, LineFault>
 }
 
 /// Whether a port is aggregatable.
-pub fn kind(word: &str) -> Result<bool, LineFault>
+pub(crate) fn kind(word: &str) -> Result<bool, LineFault>
     ensures { result ≡ kind_word word.now }
 {
     match word {
@@ -105,7 +105,7 @@ pub fn kind(word: &str) -> Result<bool, LineFault>
 }
 
 /// Octets in hexadecimal digits.
-pub fn octets(alloc: Global, word: &str) -> Result<Vec<u8>, LineError>
+pub(crate) fn octets(alloc: Global, word: &str) -> Result<Vec<u8>, LineError>
     ensures { Enters (λ v. v.items) (hex_word word.now) result }
 {
     match hex::decode(alloc, word) {

@@ -296,7 +296,7 @@ fn event_named(
 }
 
 /// The event of an entry, in a script of so many cables.
-pub fn event_in(alloc: Global, cables: usize, text: &str) -> Result<Event, EntryError>
+pub(crate) fn event_in(alloc: Global, cables: usize, text: &str) -> Result<Event, EntryError>
     ensures { Enters (act_in cables text.now) result }
 {
     let words = words_of(alloc, text)?;

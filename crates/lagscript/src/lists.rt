@@ -52,7 +52,10 @@ fn each_key(alloc: Global, values: &[Value]) -> Result<Option<Vec<Key>>, AllocEr
 }
 
 /// The tables of an array, none if it is no array of tables.
-pub fn tables_in<'a>(alloc: Global, value: &'a Value) -> Result<Option<Vec<&'a Table>>, AllocError>
+pub(crate) fn tables_in<'a>(
+    alloc: Global,
+    value: &'a Value,
+) -> Result<Option<Vec<&'a Table>>, AllocError>
     ensures { IfOk result (λ o. option_map (λ v. map table_seen v.items) o ≡ list_in as_table (view value.now)) }
 {
     match value.as_array() {
@@ -62,7 +65,10 @@ pub fn tables_in<'a>(alloc: Global, value: &'a Value) -> Result<Option<Vec<&'a T
 }
 
 /// The texts of an array, none if it is no array of texts.
-pub fn texts_in<'a>(alloc: Global, value: &'a Value) -> Result<Option<Vec<&'a str>>, AllocError>
+pub(crate) fn texts_in<'a>(
+    alloc: Global,
+    value: &'a Value,
+) -> Result<Option<Vec<&'a str>>, AllocError>
     ensures { IfOk result (λ o. option_map (λ v. map word_seen v.items) o ≡ list_in as_str (view value.now)) }
 {
     match value.as_array() {
@@ -72,7 +78,7 @@ pub fn texts_in<'a>(alloc: Global, value: &'a Value) -> Result<Option<Vec<&'a st
 }
 
 /// The keys of an array, none if it is no array of numbers of 0 to 65535.
-pub fn keys_in(alloc: Global, value: &Value) -> Result<Option<Vec<Key>>, AllocError>
+pub(crate) fn keys_in(alloc: Global, value: &Value) -> Result<Option<Vec<Key>>, AllocError>
     ensures { IfOk result (λ o. option_map (λ v. v.items) o ≡ list_in key_in (view value.now)) }
 {
     match value.as_array() {

@@ -145,7 +145,7 @@ fn numbers_of(system: u8, table: &Table) -> Result<Numbers, ScriptFault>
 }
 
 /// The configuration of a system of a script.
-pub fn system_of(alloc: Global, system: u8, table: &Table) -> Result<Config, ScriptFault>
+pub(crate) fn system_of(alloc: Global, system: u8, table: &Table) -> Result<Config, ScriptFault>
     ensures { Answers NoMemory plan_of (system_of system (table_view table.now)) result }
 {
     let numbers = numbers_of(system, table)?;
@@ -161,7 +161,7 @@ pub fn system_of(alloc: Global, system: u8, table: &Table) -> Result<Config, Scr
 }
 
 /// The ends of the cable at this place.
-pub fn cable_of(cable: usize, table: &Table) -> Result<(u16, u16), ScriptFault>
+pub(crate) fn cable_of(cable: usize, table: &Table) -> Result<(u16, u16), ScriptFault>
     ensures { result ≡ cable_of cable (table_view table.now) }
 {
     if !has_only(table, &CABLE_KEYS) {

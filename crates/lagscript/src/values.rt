@@ -24,21 +24,21 @@ fn are_among(known: &[&str], table: &Table) -> bool
 }
 
 /// Whether the table has no other keys than these.
-pub fn has_only(table: &Table, known: &[&str]) -> bool
+pub(crate) fn has_only(table: &Table, known: &[&str]) -> bool
     ensures { result ≡ keys_among (map (λ k. k.now) known.now) (table_view table.now) }
 {
     are_among(known, table)
 }
 
 /// The value at a key.
-pub fn member<'a>(table: &'a Table, key: &str) -> Option<&'a Value>
+pub(crate) fn member<'a>(table: &'a Table, key: &str) -> Option<&'a Value>
     ensures { option_map (λ v. view v.now) result ≡ get_member key.now (table_view table.now) }
 {
     table.get(key)
 }
 
 /// A number of 0 to 65535.
-pub fn number_in(value: &Value) -> Option<u16>
+pub(crate) fn number_in(value: &Value) -> Option<u16>
     ensures { result ≡ number_in 65536 (view value.now) }
 {
     match value {
@@ -48,7 +48,7 @@ pub fn number_in(value: &Value) -> Option<u16>
 }
 
 /// A number of 0 to 4294967295.
-pub fn long_number_in(value: &Value) -> Option<u32>
+pub(crate) fn long_number_in(value: &Value) -> Option<u32>
     ensures { result ≡ number_in 4294967296 (view value.now) }
 {
     match value {
@@ -68,7 +68,7 @@ fn flag_in(value: &Value) -> Option<bool>
 }
 
 /// A MAC address.
-pub fn mac_in(value: &Value) -> Option<[u8; 6]>
+pub(crate) fn mac_in(value: &Value) -> Option<[u8; 6]>
     ensures { result ≡ mac_in (view value.now) }
 {
     match value.as_str() {
@@ -78,7 +78,7 @@ pub fn mac_in(value: &Value) -> Option<[u8; 6]>
 }
 
 /// The number at a key, or this if it is left out.
-pub fn number_at(table: &Table, key: &str, default: Option<u16>) -> Option<u16>
+pub(crate) fn number_at(table: &Table, key: &str, default: Option<u16>) -> Option<u16>
     ensures { result ≡ value_at key.now (number_in 65536) default (table_view table.now) }
 {
     match member(table, key) {
@@ -88,7 +88,7 @@ pub fn number_at(table: &Table, key: &str, default: Option<u16>) -> Option<u16>
 }
 
 /// The number of 0 to 4294967295 at a key, or this if it is left out.
-pub fn long_number_at(table: &Table, key: &str, default: Option<u32>) -> Option<u32>
+pub(crate) fn long_number_at(table: &Table, key: &str, default: Option<u32>) -> Option<u32>
     ensures { result ≡ value_at key.now (number_in 4294967296) default (table_view table.now) }
 {
     match member(table, key) {
@@ -98,7 +98,7 @@ pub fn long_number_at(table: &Table, key: &str, default: Option<u32>) -> Option<
 }
 
 /// The flag at a key, or this if it is left out.
-pub fn flag_at(table: &Table, key: &str, default: Option<bool>) -> Option<bool>
+pub(crate) fn flag_at(table: &Table, key: &str, default: Option<bool>) -> Option<bool>
     ensures { result ≡ value_at key.now flag_in default (table_view table.now) }
 {
     match member(table, key) {
@@ -108,7 +108,7 @@ pub fn flag_at(table: &Table, key: &str, default: Option<bool>) -> Option<bool>
 }
 
 /// The MAC address at a key, or this if it is left out.
-pub fn mac_at(table: &Table, key: &str, default: Option<[u8; 6]>) -> Option<[u8; 6]>
+pub(crate) fn mac_at(table: &Table, key: &str, default: Option<[u8; 6]>) -> Option<[u8; 6]>
     ensures { result ≡ value_at key.now mac_in default (table_view table.now) }
 {
     match member(table, key) {
@@ -138,7 +138,7 @@ fn ends_in(value: &Value) -> Option<(u16, u16)>
 }
 
 /// The ends at a key.
-pub fn ends_at(table: &Table, key: &str) -> Option<(u16, u16)>
+pub(crate) fn ends_at(table: &Table, key: &str) -> Option<(u16, u16)>
     ensures { result ≡ value_at key.now ends_in None (table_view table.now) }
 {
     match member(table, key) {

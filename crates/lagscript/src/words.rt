@@ -7,14 +7,14 @@ use hex::{FromHex, FromHexError};
 use std::alloc::{AllocError, Global};
 
 /// The words of a text, cut at every single space.
-pub fn words_of<'a>(alloc: Global, text: &'a str) -> Result<Vec<&'a str>, AllocError>
+pub(crate) fn words_of<'a>(alloc: Global, text: &'a str) -> Result<Vec<&'a str>, AllocError>
     ensures { IfOk result (λ words. map (λ w. w.now) words.items ≡ words_of text.now) }
 {
     text.split(' ').collect(alloc)
 }
 
 /// The number of 0 to 65535 that a word says in decimal digits.
-pub fn number_of(word: &str) -> Option<u16>
+pub(crate) fn number_of(word: &str) -> Option<u16>
     ensures { result ≡ number_below 65536 word.now }
 {
     // `parse` takes a plus too.
@@ -37,7 +37,7 @@ fn is_dashed(text: &[u8]) -> bool
 }
 
 /// The address that six two-digit hexadecimal numbers joined by dashes say.
-pub fn mac_of(text: &str) -> Option<[u8; 6]>
+pub(crate) fn mac_of(text: &str) -> Option<[u8; 6]>
     ensures { result ≡ mac_of text.now }
 {
     let octets = text.as_bytes();
@@ -61,7 +61,7 @@ pub enum NoOctets {
 }
 
 /// The octets that a word in hexadecimal says.
-pub fn octets_of(alloc: Global, word: &str) -> Result<Vec<u8>, NoOctets>
+pub(crate) fn octets_of(alloc: Global, word: &str) -> Result<Vec<u8>, NoOctets>
     ensures ok { IfOk result (λ octets. octets_of word.now ≡ Some octets.items) }
     ensures err { result ≡ Err NotHex → octets_of word.now ≡ None }
 {
