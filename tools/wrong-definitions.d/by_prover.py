@@ -1,0 +1,101 @@
+"""The wrong definitions of the law, which the prover refuses."""
+
+import os
+import re
+import shutil
+import subprocess
+
+from edits import CASES, RT, apply, copy_crates, read, read_edit, restore, write
+
+CRATE = "lagmodel"
+
+
+def check(crate):
+    """Whether the crate is proved, and what the prover wrote."""
+    run = subprocess.run([RT, "check"], cwd=crate, stdout=subprocess.PIPE, stderr=subprocess.STDOUT, text=True)
+    return run.returncode == 0 and "logic=proved" in run.stdout.splitlines()[-1], run.stdout
+
+
+def name_at(path, line):
+    """The declaration that the line of a file of antt belongs to, but for those in its `where`."""
+    for text in reversed(read(path).splitlines()[:line]):
+        found = re.match(r" {0,2}(?:pub |abbrev |record )*([^\s:({]+)(?: :| \()", text)
+        if found:
+            return found.group(1)
+    return "?"
+
+
+def refusals(crate, output):
+    """Where the prover refused, as (file, declaration), leaving out what only depends on those."""
+    places = []
+    for line in output.splitlines():
+        found = re.match(r"\./([^:]+):(\d+):\d+: error: (.*)", line)
+        if found and "depends on" not in found.group(3) and "depend on" not in found.group(3):
+            file = found.group(1)
+            place = (file, name_at(os.path.join(crate, file), int(found.group(2))))
+            if place not in places:
+                places.append(place)
+    return places
+
+
+def try_edit(crate, name):
+    says, pairs = read_edit(CRATE, name)
+    was, fault = apply(crate, pairs)
+    if fault:
+        return False, fault
+    try:
+        proved, output = check(crate)
+        if proved:
+            return False, f"PROVED: {says}"
+        places = refusals(crate, output)
+        if not places:
+            return False, "no refusal is printed:\n" + output
+        for file, declaration in places:
+            if not file.startswith("proofs/"):
+                return False, f"{file} does not read any more, at {declaration}"
+        names = ", ".join(f"{file[7:-5]}.{declaration}" for file, declaration in places)
+        return True, f"refused by {names}: {says}"
+    finally:
+        restore(was)
+
+
+def try_counterexample(crate, name):
+    """Proves, under the wrong definition, that the law is false. The proof takes the place of the crate's own."""
+    says, pairs = read_edit(CRATE, name)
+    head, _, proof = read(os.path.join(CASES, CRATE, name + ".counterexample")).partition("---\n")
+    was, fault = apply(crate, pairs)
+    if fault:
+        return False, fault
+    moved = {folder: os.path.join(crate, folder) for folder in ("src", "proofs")}
+    try:
+        for folder, path in moved.items():
+            os.rename(path, path + ".was")
+        body = "pub fn refuted()\n    ensures { " + head.split("ensures: ")[1].strip() + " }\n{\n}\n"
+        uses = "".join(f"ghost use {line[5:]};\n" for line in head.splitlines() if line.startswith("use: "))
+        write(os.path.join(crate, "src", "lib.rt"), "//! A law that is false.\n#![tactic(auto)]\n\n" + uses + "\n" + body)
+        write(os.path.join(crate, "proofs", "Lib.antt"), "pub mod Counterexample\n")
+        write(os.path.join(crate, "proofs", "Counterexample.antt"), proof)
+        answer = "use Rattle.lagmodel.proofs.Counterexample.{refuted}\nuse Rattle.lagmodel.proofs.refuted.Goals as goal\n\n"
+        write(os.path.join(crate, "proofs", "refuted", "Answers.antt"), answer + "pub returns : goal.returns\nreturns c = refuted\n")
+        proved, output = check(crate)
+        return proved, f"refuted, {says}: the law is false of it" if proved else "the counterexample is not proved:\n" + output
+    finally:
+        for path in moved.values():
+            shutil.rmtree(path, ignore_errors=True)
+            os.rename(path + ".was", path)
+        restore(was)
+
+
+def try_all(folder, names):
+    """Tries these edits of the law, one at a time; answers the name of each, whether it passed, and what to print."""
+    if not names:
+        return
+    crate = os.path.join(copy_crates(os.path.join(folder, "law"), [CRATE]), CRATE)
+    proved, output = check(crate)
+    if not proved:
+        yield CRATE, False, "is not proved as it stands:\n" + output
+        return
+    for name in names:
+        yield f"{CRATE}/{name}", *try_edit(crate, name)
+        if os.path.exists(os.path.join(CASES, CRATE, name + ".counterexample")):
+            yield f"{CRATE}/{name}", *try_counterexample(crate, name)
