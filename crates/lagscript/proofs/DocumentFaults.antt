@@ -1,14 +1,14 @@
 -- No fault of a document is that its text is no TOML.
-use Rattle.std.proofs.Common.{ℕ, ◌≡◌, ◌+◌, Bool, true, false, List, [], ◌∷◌, codes, length, Option, None, Some, Result, Ok, Err, option_and_then, ap}
+use Rattle.std.proofs.Common.{ℕ, ◌≡◌, ◌+◌, Bool, true, false, List, [], ◌∷◌, codes, length, Option, None, Some, Result, Ok, Err, option_and_then, option_map, ap}
 use Rattle.toml.specs.Data.{Members, as_table}
 use Rattle.lagsystem.specs.declared.config.PortConfig.{PortConfig}
 use Rattle.lagsystem.specs.declared.fault.BadConfig.TheVariants as bad
 use Rattle.lagscript.specs.Configs.{SystemPlan, refusal_of_all}
 use Rattle.lagscript.specs.Entries.{act_at, act_in, acts_from, at_entry}
-use Rattle.lagscript.specs.Keys.{ends_in, flag_in, key_in, keys_among, list_in, mac_in, number_in, pair_of, value_at}
+use Rattle.lagscript.specs.Keys.{ends_in, flag_in, key_in, keys_among, limit_in, list_in, mac_in, number_in, pair_of, value_at}
 use Rattle.lagscript.specs.Readings.{◌>>=◌, in_place, or_fault, unless}
-use Rattle.lagscript.specs.Scripts.{Script, acts_in, cables_in, config_fault, entries_in, no_fault, script_of, systems_in, top_keys, two_systems}
-use Rattle.lagscript.specs.Tables.{aggregators_in, cable_keys, cable_of, numbers_in, port_keys, port_of, ports_in, system_keys, system_of}
+use Rattle.lagscript.specs.Scripts.{ScriptPlan, acts_in, cables_in, config_fault, ends_of, entries_in, no_fault, plan_in, planned, systems_in, top_keys, two_systems}
+use Rattle.lagscript.specs.Tables.{aggregators_in, cable_keys, cable_of, limit_of, numbers_in, port_keys, port_of, ports_in, system_keys, system_of}
 use Rattle.lagscript.specs.declared.config.BadWorld.{BadWorld}
 use Rattle.lagscript.specs.declared.config.BadWorld.TheVariants as refused
 use Rattle.lagscript.specs.declared.fault.EntryFault.{EntryFault}
@@ -16,6 +16,7 @@ use Rattle.lagscript.specs.declared.fault.PortKey.TheVariants as port_key
 use Rattle.lagscript.specs.declared.fault.ScriptFault.{ScriptFault}
 use Rattle.lagscript.specs.declared.fault.ScriptFault.TheVariants as fault
 use Rattle.lagscript.specs.declared.fault.SystemKey.TheVariants as system_key
+use Rattle.lagscript.specs.declared.tables.CablePlan.{CablePlan}
 use Rattle.lagscript.specs.declared.tables.Numbers.{Numbers}
 
 abbrev Fine : {A : Type 0} → Result A ScriptFault → Type 0
@@ -134,10 +135,17 @@ systems_fine ms =
 
 -- ---- cables and entries
 
+limit_fine : (place : ℕ) (ms : Members) → Fine (limit_of place ms)
+limit_fine place ms = or_fine (fault.CableLimit place) (value_at (codes "limit") (λ d. option_map Some (limit_in d)) (Some None) ms) (λ e. cc)
+
+abbrev joined : ℕ × ℕ → Option ℕ → CablePlan
+joined ends limit = record { ends = ends; limit = limit }
+
 cable_fine : (place : ℕ) (ms : Members) → Fine (cable_of place ms)
 cable_fine place ms =
-    unless_fine (keys_among cable_keys ms) (fault.CableExtraKey place) (or_fault (fault.CableEnds place) (value_at (codes "ends") ends_in None ms)) (λ e. cc)
-    (or_fine (fault.CableEnds place) (value_at (codes "ends") ends_in None ms) (λ e. cc))
+    unless_fine (keys_among cable_keys ms) (fault.CableExtraKey place) (or_fault (fault.CableEnds place) (value_at (codes "ends") ends_in None ms) >>= λ ends. limit_of place ms >>= λ limit. Ok (joined ends limit)) (λ e. cc)
+    (then_fine (or_fault (fault.CableEnds place) (value_at (codes "ends") ends_in None ms)) (λ ends. limit_of place ms >>= λ limit. Ok (joined ends limit)) (or_fine (fault.CableEnds place) (value_at (codes "ends") ends_in None ms) (λ e. cc))
+    (λ ends. then_fine (limit_of place ms) (λ limit. Ok (joined ends limit)) (limit_fine place ms) (λ limit e. cc)))
 
 cables_fine : (ms : Members) → Fine (cables_in ms)
 cables_fine ms =
@@ -164,11 +172,11 @@ config_fine (Some refused.SameSystem) x e = cc
 config_fine (Some (refused.CableEnd place)) x e = cc
 config_fine (Some refused.Lines) x e = cc
 
-pub script_fine : (ms : Members) → script_of ms ≡ Err fault.NotToml → ⊥
-script_fine ms =
+pub plan_fine : (ms : Members) → plan_in ms ≡ Err fault.NotToml → ⊥
+plan_fine ms =
     unless_fine (keys_among top_keys ms) fault.ExtraKey
-    (systems_in ms >>= λ systems. cables_in ms >>= λ cables. acts_in (length cables) ms >>= λ acts. no_fault {A = Script} (option_and_then config_fault (refusal_of_all systems cables)) (record { systems = systems; cables = cables; acts = acts }))
+    (systems_in ms >>= λ systems. cables_in ms >>= λ cables. acts_in (length cables) ms >>= λ acts. no_fault {A = ScriptPlan} (option_and_then config_fault (refusal_of_all systems (ends_of cables))) (planned systems cables acts))
     (λ e. cc)
-    (three_fine {D = Script} (systems_in ms) (λ systems. cables_in ms) (λ systems cables. acts_in (length cables) ms)
-    (λ systems cables acts. no_fault (option_and_then config_fault (refusal_of_all systems cables)) (record { systems = systems; cables = cables; acts = acts })) (systems_fine ms) (λ systems. cables_fine ms)
-    (λ systems cables. acts_fine (length cables) ms) (λ systems cables acts. config_fine {A = Script} (refusal_of_all systems cables) (record { systems = systems; cables = cables; acts = acts })))
+    (three_fine {D = ScriptPlan} (systems_in ms) (λ systems. cables_in ms) (λ systems cables. acts_in (length cables) ms)
+    (λ systems cables acts. no_fault (option_and_then config_fault (refusal_of_all systems (ends_of cables))) (planned systems cables acts)) (systems_fine ms) (λ systems. cables_fine ms)
+    (λ systems cables. acts_fine (length cables) ms) (λ systems cables acts. config_fine {A = ScriptPlan} (refusal_of_all systems (ends_of cables)) (planned systems cables acts)))

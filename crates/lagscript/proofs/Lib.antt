@@ -1,6 +1,7 @@
 pub mod ConfigLemmas
 pub mod DocumentFaults
 pub mod DocumentLemmas
+pub mod LimitLemmas
 pub mod WordLemmas
 pub mod Walks
 pub mod ScriptLemmas

@@ -1,6 +1,5 @@
--- A configuration without a fault is not refused, and a script from its parts.
-use Rattle.std.proofs.Common.{ℕ, ◌≡◌, inl, inr, Bool, true, false, List, [], ◌∷◌, length, Option, None, Some, Result, Ok, Err, Vec, option_and_then, option_map, cond, refl, subst, sym}
-use Rattle.std.specs.declared.alloc.Global.{Global}
+-- A configuration without a fault is not refused, and a plan from its parts.
+use Rattle.std.proofs.Common.{ℕ, ◌≡◌, inl, inr, Bool, true, false, List, [], ◌∷◌, length, Option, None, Some, Result, Ok, Err, option_and_then, option_map, cond, refl, ap, subst, sym}
 use Rattle.toml.specs.Data.{Members}
 use Rattle.toml.specs.Parse.{parse_document}
 use Rattle.lagsystem.specs.First.{refusal}
@@ -9,14 +8,14 @@ use Rattle.lagsystem.specs.declared.fault.BadConfig.TheVariants as bad
 use Rattle.lagscript.specs.Acts.{Act}
 use Rattle.lagscript.specs.Configs.{SystemPlan, bad_end, or_first, refusal_of_all, same_system}
 use Rattle.lagscript.specs.Readings.{◌>>=◌, Answers, unless}
-use Rattle.lagscript.specs.Scripts.{Reads, Script, config_fault, no_fault, script_of, script_shown}
+use Rattle.lagscript.specs.Scripts.{HasPlan, HasScript, IsRefused, ReadsPlan, ScriptPlan, config_fault, ends_of, no_fault, plan_in, plan_shown, planned}
 use Rattle.lagscript.specs.declared.config.BadWorld.{BadWorld}
 use Rattle.lagscript.specs.declared.config.BadWorld.TheVariants.{System, SameSystem, CableEnd}
-use Rattle.lagscript.specs.declared.config.WorldConfig.{WorldConfig}
-use Rattle.lagscript.specs.declared.event.Event.{Event}
 use Rattle.lagscript.specs.declared.fault.ScriptFault.{ScriptFault}
 use Rattle.lagscript.specs.declared.fault.ScriptFault.TheVariants as fault
-use Rattle.lagscript.proofs.DocumentFaults.{script_fine}
+use Rattle.lagscript.specs.declared.plan.Plan.{Plan}
+use Rattle.lagscript.specs.declared.tables.CablePlan.{CablePlan}
+use Rattle.lagscript.proofs.DocumentFaults.{plan_fine}
 
 -- the reasons of two systems and their cables, in their order
 abbrev first_reason : Option BadConfig → Option BadConfig → Bool → Option ℕ → Option BadWorld
@@ -41,24 +40,24 @@ not_refused (a ∷ []) cables h = refl
 not_refused (a ∷ b ∷ []) cables h = no_reason (refusal a.aggregators a.ports) (refusal b.aggregators b.ports) (same_system a.system b.system) (bad_end a.ports b.ports cables) h
 not_refused (a ∷ b ∷ c ∷ rest) cables h = refl
 
--- the steps of a script
-abbrev pub script_steps : Bool → Result (List SystemPlan) ScriptFault → Result (List (ℕ × ℕ)) ScriptFault → (ℕ → Result (List Act) ScriptFault) → Result Script ScriptFault
-script_steps known systems_read cables_read acts_read =
+-- the steps of a plan
+abbrev pub plan_steps : Bool → Result (List SystemPlan) ScriptFault → Result (List CablePlan) ScriptFault → (ℕ → Result (List Act) ScriptFault) → Result ScriptPlan ScriptFault
+plan_steps known systems_read cables_read acts_read =
     unless known fault.ExtraKey (
     systems_read >>= λ systems.
     cables_read >>= λ cables.
     acts_read (length cables) >>= λ acts.
-    no_fault (option_and_then config_fault (refusal_of_all systems cables)) (record { systems = systems; cables = cables; acts = acts })
+    no_fault (option_and_then config_fault (refusal_of_all systems (ends_of cables))) (planned systems cables acts)
     )
 
-pub steps_all : (known : Bool) (rs : Result (List SystemPlan) ScriptFault) (rc : Result (List (ℕ × ℕ)) ScriptFault) (ra : ℕ → Result (List Act) ScriptFault) (systems : List SystemPlan) (cables : List (ℕ × ℕ)) (acts : List Act) (o : Option ScriptFault)
-    → known ≡ true → rs ≡ Ok systems → rc ≡ Ok cables → ra (length cables) ≡ Ok acts → option_and_then config_fault (refusal_of_all systems cables) ≡ o
-    → script_steps known rs rc ra ≡ no_fault o (record { systems = systems; cables = cables; acts = acts })
+pub steps_all : (known : Bool) (rs : Result (List SystemPlan) ScriptFault) (rc : Result (List CablePlan) ScriptFault) (ra : ℕ → Result (List Act) ScriptFault) (systems : List SystemPlan) (cables : List CablePlan) (acts : List Act) (o : Option ScriptFault)
+    → known ≡ true → rs ≡ Ok systems → rc ≡ Ok cables → ra (length cables) ≡ Ok acts → option_and_then config_fault (refusal_of_all systems (ends_of cables)) ≡ o
+    → plan_steps known rs rc ra ≡ no_fault o (planned systems cables acts)
 steps_all known rs rc ra systems cables acts o k s c a f = rw (k, s, c, a, f) refl
 
 -- the fault of a document
-reads_fault : (text : List ℕ) (ms : Members) → parse_document text ≡ Some ms → (e : ScriptFault) → script_of ms ≡ Err e → Reads text (Err e)
-reads_fault text ms p fault.NotToml s = absurd (script_fine ms s)
+reads_fault : (text : List ℕ) (ms : Members) → parse_document text ≡ Some ms → (e : ScriptFault) → plan_in ms ≡ Err e → IsRefused text e
+reads_fault text ms p fault.NotToml s = absurd (plan_fine ms s)
 reads_fault text ms p fault.ExtraKey s = (ms, p, s)
 reads_fault text ms p fault.Systems s = (ms, p, s)
 reads_fault text ms p (fault.SystemExtraKey a) s = (ms, p, s)
@@ -68,6 +67,7 @@ reads_fault text ms p (fault.PortValue a b c) s = (ms, p, s)
 reads_fault text ms p fault.Cables s = (ms, p, s)
 reads_fault text ms p (fault.CableExtraKey a) s = (ms, p, s)
 reads_fault text ms p (fault.CableEnds a) s = (ms, p, s)
+reads_fault text ms p (fault.CableLimit a) s = (ms, p, s)
 reads_fault text ms p fault.Events s = (ms, p, s)
 reads_fault text ms p (fault.Entry a b) s = (ms, p, s)
 reads_fault text ms p (fault.Ports a) s = (ms, p, s)
@@ -78,7 +78,11 @@ reads_fault text ms p (fault.CableEnd a) s = (ms, p, s)
 reads_fault text ms p fault.NoMemory s = tt
 
 -- what is answered of a document is read of its text
-pub reads_script : (text : List ℕ) (ms : Members) (result : Result (WorldConfig × Vec Event Global) ScriptFault) → parse_document text ≡ Some ms → Answers fault.NoMemory (λ r. script_shown r.0 r.1.items) (script_of ms) result → Reads text result
-reads_script text ms (Ok read) p a = (ms, p, a)
-reads_script text ms (Err e) p (inl spent) = subst (λ f. Reads text (Err f)) (sym spent) tt
-reads_script text ms (Err e) p (inr s) = reads_fault text ms p e s
+pub reads_plan : (text : List ℕ) (ms : Members) (result : Result Plan ScriptFault) → parse_document text ≡ Some ms → Answers fault.NoMemory plan_shown (plan_in ms) result → ReadsPlan text result
+reads_plan text ms (Ok plan) p a = (ms, p, a)
+reads_plan text ms (Err e) p (inl spent) = subst (IsRefused text) (sym spent) tt
+reads_plan text ms (Err e) p (inr s) = reads_fault text ms p e s
+
+-- a text with a plan has its script
+pub has_script : (text : List ℕ) (plan : ScriptPlan) → HasPlan text plan → HasScript text plan.script
+has_script text plan (ms, p, s) = (ms, p, ap (λ r. r >>= λ q. Ok q.script) s)

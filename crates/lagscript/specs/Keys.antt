@@ -1,5 +1,5 @@
 -- The keys of a table and their values (profile).
-use Rattle.std.specs.Prelude.{ℕ, ℤ, pos, negsuc, ◌&&◌, Bool, true, List, [], ◌∷◌, nat_lt, if◌then◌else◌, Option, Some, None, option_and_then, option_map}
+use Rattle.std.specs.Prelude.{ℕ, ℤ, pos, negsuc, ◌&&◌, Bool, true, List, [], ◌∷◌, nat_le, nat_lt, if◌then◌else◌, Option, Some, None, option_and_then, option_map}
 use Rattle.std.specs.List.{list_any}
 use Rattle.std.specs.Str.{bytes_eq}
 use Rattle.toml.specs.Data.{Data, integer, boolean, Items, no_items, item, Members, no_members, member, get_member, as_array, as_str}
@@ -28,6 +28,13 @@ natural_below limit (negsuc n) = None
 abbrev pub number_in : ℕ → Data → Option ℕ
 number_in limit (integer z) = natural_below limit z
 number_in limit _ = None
+
+abbrev pub from_one : ℕ → Option ℕ
+from_one n = if nat_le 1 n then Some n else None
+
+-- a number of 1 to 65535
+abbrev pub limit_in : Data → Option ℕ
+limit_in d = option_and_then from_one (number_in 65536 d)
 
 abbrev pub flag_in : Data → Option Bool
 flag_in (boolean b) = Some b

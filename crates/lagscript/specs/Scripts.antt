@@ -1,4 +1,4 @@
--- The script that a text is (profile).
+-- The script that a text is, and its plan (profile).
 use Rattle.std.specs.Prelude.{◌≡◌, ⊤, ℕ, List, [], ◌∷◌, codes, length, map, nat_le, if◌then◌else◌, Option, Some, None, option_and_then, Result, Ok, Err, Vec}
 use Rattle.std.specs.declared.alloc.Global.{Global}
 use Rattle.toml.specs.Data.{Data, Members, as_table, as_str}
@@ -16,12 +16,19 @@ use Rattle.lagscript.specs.declared.config.WorldConfig.{WorldConfig}
 use Rattle.lagscript.specs.declared.event.Event.{Event}
 use Rattle.lagscript.specs.declared.fault.ScriptFault.{ScriptFault}
 use Rattle.lagscript.specs.declared.fault.ScriptFault.TheVariants as fault
+use Rattle.lagscript.specs.declared.plan.Plan.{Plan}
+use Rattle.lagscript.specs.declared.tables.CablePlan.{CablePlan}
 
 -- a script: two systems, their cables, and what happens
 pub record Script : Type 0 where
   pub systems : List SystemPlan
   pub cables : List (ℕ × ℕ)
   pub acts : List Act
+
+-- a plan: a script, and the limit of each of its cables, in their order
+pub record ScriptPlan : Type 0 where
+  pub script : Script
+  pub limits : List (Option ℕ)
 
 -- the fault of a script whose configuration is refused for this reason; a script has no lines
 abbrev pub config_fault : BadWorld → Option ScriptFault
@@ -47,7 +54,7 @@ two_systems mss = or_fault fault.Systems (pair_of (Some mss)) >>= λ p. system_o
 abbrev pub systems_in : Members → Result (List SystemPlan) ScriptFault
 systems_in ms = or_fault fault.Systems (value_at (codes "system") (list_in as_table) None ms) >>= two_systems
 
-abbrev pub cables_in : Members → Result (List (ℕ × ℕ)) ScriptFault
+abbrev pub cables_in : Members → Result (List CablePlan) ScriptFault
 cables_in ms = or_fault fault.Cables (value_at (codes "cable") (list_in as_table) (Some []) ms) >>= in_place cable_of 1
 
 -- texts, of which there may be 100,000
@@ -60,28 +67,58 @@ entries_in d = option_and_then up_to_most (list_in as_str d)
 abbrev pub acts_in : ℕ → Members → Result (List Act) ScriptFault
 acts_in cables ms = or_fault fault.Events (value_at (codes "events") entries_in (Some []) ms) >>= acts_from cables 1
 
--- the script of a document, or its first fault
-abbrev pub script_of : Members → Result Script ScriptFault
-script_of ms =
+abbrev pub ends_of : List CablePlan → List (ℕ × ℕ)
+ends_of cables = map (λ c. c.ends) cables
+
+abbrev pub limits_of : List CablePlan → List (Option ℕ)
+limits_of cables = map (λ c. c.limit) cables
+
+-- the plan that the parts of a document make
+abbrev pub planned : List SystemPlan → List CablePlan → List Act → ScriptPlan
+planned systems cables acts = record { script = record { systems = systems; cables = ends_of cables; acts = acts }; limits = limits_of cables }
+
+-- the plan of a document, or its first fault
+abbrev pub plan_in : Members → Result ScriptPlan ScriptFault
+plan_in ms =
     unless (keys_among top_keys ms) fault.ExtraKey (
     systems_in ms >>= λ systems.
     cables_in ms >>= λ cables.
     acts_in (length cables) ms >>= λ acts.
-    no_fault (option_and_then config_fault (refusal_of_all systems cables)) (record { systems = systems; cables = cables; acts = acts })
+    no_fault (option_and_then config_fault (refusal_of_all systems (ends_of cables))) (planned systems cables acts)
     )
+
+-- the script of a document, which is that of its plan
+abbrev pub script_of : Members → Result Script ScriptFault
+script_of ms = plan_in ms >>= λ plan. Ok plan.script
+
+-- the text has this plan
+abbrev pub HasPlan : List ℕ → ScriptPlan → Type 0
+HasPlan text p = (ms : Members) × (parse_document text ≡ Some ms) × (plan_in ms ≡ Ok p)
 
 -- the text has this script
 abbrev pub HasScript : List ℕ → Script → Type 0
 HasScript text s = (ms : Members) × (parse_document text ≡ Some ms) × (script_of ms ≡ Ok s)
+
+-- the text has no plan, and so no script, and this is why; memory may run out on any text
+abbrev pub IsRefused : List ℕ → ScriptFault → Type 0
+IsRefused text fault.NotToml = parse_document text ≡ None
+IsRefused text fault.NoMemory = ⊤
+IsRefused text e = (ms : Members) × (parse_document text ≡ Some ms) × (plan_in ms ≡ Err e)
 
 -- ---- what is read
 
 abbrev pub script_shown : WorldConfig → List Event → Script
 script_shown c events = record { systems = map plan_of c.systems; cables = c.cables.items; acts = acts_of events }
 
+abbrev pub plan_shown : Plan → ScriptPlan
+plan_shown p = record { script = script_shown p.config p.events.items; limits = p.limits.items }
+
+-- how `read_plan` ends
+abbrev pub ReadsPlan : List ℕ → Result Plan ScriptFault → Type 0
+ReadsPlan text (Ok plan) = HasPlan text (plan_shown plan)
+ReadsPlan text (Err e) = IsRefused text e
+
 -- how `read_script` ends
 abbrev pub Reads : List ℕ → Result (WorldConfig × Vec Event Global) ScriptFault → Type 0
 Reads text (Ok read) = HasScript text (script_shown read.0 read.1.items)
-Reads text (Err fault.NotToml) = parse_document text ≡ None
-Reads text (Err fault.NoMemory) = ⊤
-Reads text (Err e) = (ms : Members) × (parse_document text ≡ Some ms) × (script_of ms ≡ Err e)
+Reads text (Err e) = IsRefused text e

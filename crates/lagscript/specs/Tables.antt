@@ -1,15 +1,16 @@
 -- The tables of a script: a row for each key, in the order of reading (profile).
-use Rattle.std.specs.Prelude.{ℕ, true, List, [], ◌∷◌, codes, Some, None, Result, Ok}
+use Rattle.std.specs.Prelude.{ℕ, true, List, [], ◌∷◌, codes, Option, Some, None, option_map, Result, Ok}
 use Rattle.toml.specs.Data.{Members, as_table}
 use Rattle.lagtypes.specs.declared.identifiers.Key.{Key}
 use Rattle.lagsystem.specs.declared.config.PortConfig.{PortConfig}
 use Rattle.lagscript.specs.Configs.{SystemPlan}
-use Rattle.lagscript.specs.Keys.{ends_in, flag_in, key_in, keys_among, list_in, mac_in, number_in, value_at}
+use Rattle.lagscript.specs.Keys.{ends_in, flag_in, key_in, keys_among, limit_in, list_in, mac_in, number_in, value_at}
 use Rattle.lagscript.specs.Readings.{◌>>=◌, in_place, or_fault, unless}
 use Rattle.lagscript.specs.declared.fault.PortKey.TheVariants as port_key
 use Rattle.lagscript.specs.declared.fault.ScriptFault.{ScriptFault}
 use Rattle.lagscript.specs.declared.fault.ScriptFault.TheVariants as fault
 use Rattle.lagscript.specs.declared.fault.SystemKey.TheVariants as system_key
+use Rattle.lagscript.specs.declared.tables.CablePlan.{CablePlan}
 use Rattle.lagscript.specs.declared.tables.Numbers.{Numbers}
 
 -- ---- ports
@@ -66,8 +67,16 @@ system_of system ms =
 -- ---- cables
 
 abbrev pub cable_keys : List (List ℕ)
-cable_keys = codes "ends" ∷ []
+cable_keys = codes "ends" ∷ codes "limit" ∷ []
 
-abbrev pub cable_of : ℕ → Members → Result (ℕ × ℕ) ScriptFault
+-- the limit of both directions, none if it is left out
+abbrev pub limit_of : ℕ → Members → Result (Option ℕ) ScriptFault
+limit_of cable ms = or_fault (fault.CableLimit cable) (value_at (codes "limit") (λ d. option_map Some (limit_in d)) (Some None) ms)
+
+abbrev pub cable_of : ℕ → Members → Result CablePlan ScriptFault
 cable_of cable ms =
-    unless (keys_among cable_keys ms) (fault.CableExtraKey cable) (or_fault (fault.CableEnds cable) (value_at (codes "ends") ends_in None ms))
+    unless (keys_among cable_keys ms) (fault.CableExtraKey cable) (
+    or_fault (fault.CableEnds cable) (value_at (codes "ends") ends_in None ms) >>= λ ends.
+    limit_of cable ms >>= λ limit.
+    Ok (record { ends = ends; limit = limit })
+    )

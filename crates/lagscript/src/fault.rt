@@ -114,6 +114,9 @@ pub enum ScriptFault {
     /// The ends of a cable are missing, or no array of two numbers of 0 to 65535.
     #[error("cable {0}: ends")]
     CableEnds(usize),
+    /// The limit of a cable is no number of 1 to 65535.
+    #[error("cable {0}: limit")]
+    CableLimit(usize),
     /// `events` is no array of texts, or has more than 100,000.
     #[error("events")]
     Events,

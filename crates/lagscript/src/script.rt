@@ -1,11 +1,11 @@
-ghost use Rattle.std.specs.Prelude.{◌≡◌, IfOk, None, Some, map, option_and_then, option_map};
+ghost use Rattle.std.specs.Prelude.{◌≡◌, ◌≢◌, All, IfOk, None, Some, length, map, option_and_then, option_map};
 ghost use Rattle.toml.specs.View.{table_view};
 ghost use Rattle.lagscript.specs.Acts.{act_of, acts_of};
 ghost use Rattle.lagscript.specs.Configs.{plan_of, refusal_of};
 ghost use Rattle.lagscript.specs.Entries.{act_at, acts_from};
 ghost use Rattle.lagscript.specs.Keys.{pair_of};
 ghost use Rattle.lagscript.specs.Readings.{Answers, in_place};
-ghost use Rattle.lagscript.specs.Scripts.{Reads, acts_in, cables_in, config_fault, script_of, script_shown, systems_in, two_systems};
+ghost use Rattle.lagscript.specs.Scripts.{Reads, ReadsPlan, acts_in, cables_in, config_fault, ends_of, limits_of, plan_in, plan_shown, systems_in, two_systems};
 ghost use Rattle.lagscript.specs.Tables.{cable_of};
 ghost use Rattle.lagscript.specs.declared.fault.ScriptFault.TheVariants.{NoMemory};
 ghost use Rattle.lagscript.specs.Seen.{table_seen, word_seen};
@@ -15,10 +15,11 @@ use crate::entries::{EntryError, event_in};
 use crate::event::Event;
 use crate::fault::ScriptFault;
 use crate::lists::{tables_in, texts_in};
-use crate::tables::{cable_of, system_of};
+use crate::plan::Plan;
+use crate::tables::{CablePlan, cable_of, system_of};
 use crate::values::{has_only, member};
 use lagsystem::{BadConfig, Config};
-use std::alloc::Global;
+use std::alloc::{AllocError, Global};
 use toml::Table;
 
 /// The most entries that a script may have.
@@ -53,21 +54,21 @@ fn fault_of(config: &WorldConfig) -> Option<ScriptFault>
 }
 
 /// The cables of these tables, in their order.
-fn each_cable(alloc: Global, tables: &[&Table]) -> Result<Vec<(u16, u16)>, ScriptFault>
+fn each_cable(alloc: Global, tables: &[&Table]) -> Result<Vec<CablePlan>, ScriptFault>
     ensures { Answers NoMemory (λ v. v.items) (in_place cable_of 1 (map table_seen tables.now)) result }
 {
     let mut cables = Vec::with_capacity(alloc, tables.len())?;
     let mut place = 0;
     for table in tables {
         place += 1;
-        let ends = cable_of(place, *table)?;
-        cables.push(ends)?;
+        let cable = cable_of(place, *table)?;
+        cables.push(cable)?;
     }
     Ok(cables)
 }
 
 /// The cables of a script.
-fn cables_of(alloc: Global, top: &Table) -> Result<Vec<(u16, u16)>, ScriptFault>
+fn cables_of(alloc: Global, top: &Table) -> Result<Vec<CablePlan>, ScriptFault>
     ensures { Answers NoMemory (λ v. v.items) (cables_in (table_view top.now)) result }
 {
     match member(top, "cable") {
@@ -150,10 +151,26 @@ fn systems_of(alloc: Global, top: &Table) -> Result<[Config; 2], ScriptFault>
     }
 }
 
-/// The script of a document.
-fn script_in(alloc: Global, top: &Table) -> Result<(WorldConfig, Vec<Event>), ScriptFault>
-    ensures reads { Answers NoMemory (λ r. script_shown r.0 r.1.items) (script_of (table_view top.now)) result }
-    ensures accepted { IfOk result (λ r. refusal_of r.0 ≡ None) }
+/// The ends of these cables.
+fn ends_of(alloc: Global, cables: &[CablePlan]) -> Result<Vec<(u16, u16)>, AllocError>
+    ensures { IfOk result (λ ends. ends.items ≡ ends_of cables.now) }
+{
+    cables.iter().map(|cable| cable.ends).collect(alloc)
+}
+
+/// The limits of these cables.
+fn limits_of(alloc: Global, cables: &[CablePlan]) -> Result<Vec<Option<u16>>, AllocError>
+    ensures { IfOk result (λ limits. limits.items ≡ limits_of cables.now) }
+{
+    cables.iter().map(|cable| cable.limit).collect(alloc)
+}
+
+/// The plan of a document.
+fn plan_in(alloc: Global, top: &Table) -> Result<Plan, ScriptFault>
+    ensures reads { Answers NoMemory plan_shown (plan_in (table_view top.now)) result }
+    ensures accepted { IfOk result (λ plan. refusal_of plan.config ≡ None) }
+    ensures one_each { IfOk result (λ plan. length plan.limits.items ≡ length plan.config.cables.items) }
+    ensures from_one { IfOk result (λ plan. All (λ limit. limit ≢ Some 0) plan.limits.items) }
 {
     if !has_only(top, &TOP_KEYS) {
         return Err(ScriptFault::ExtraKey);
@@ -161,24 +178,35 @@ fn script_in(alloc: Global, top: &Table) -> Result<(WorldConfig, Vec<Event>), Sc
     let systems = systems_of(alloc, top)?;
     let cables = cables_of(alloc, top)?;
     let events = events_of(alloc, cables.len(), top)?;
-    let config = WorldConfig { systems, cables };
+    let limits = limits_of(alloc, &cables)?;
+    let ends = ends_of(alloc, &cables)?;
+    let config = WorldConfig {
+        systems,
+        cables: ends,
+    };
     match fault_of(&config) {
-        None => Ok((config, events)),
+        None => Ok(Plan {
+            config,
+            limits,
+            events,
+        }),
         Some(fault) => Err(fault),
     }
 }
 
-/// Reads a script (profile): what two systems and their cables are made from, and what happens to them. The configuration
-/// is one that is not refused, lines aside.
+/// Reads a script whole (profile): what two systems and their cables are made from, the limit of each cable, and what
+/// happens to them. The configuration is one that is not refused, lines aside; no limit is 0.
 ///
 /// `NotToml` if the text is no TOML, `NoMemory` if memory was refused; any other fault is the first of the document, in
 /// the order of `ScriptFault`.
-pub fn read_script(alloc: Global, text: &str) -> Result<(WorldConfig, Vec<Event>), ScriptFault>
-    ensures reads { Reads text.now result }
-    ensures accepted { IfOk result (λ r. refusal_of r.0 ≡ None) }
+pub fn read_plan(alloc: Global, text: &str) -> Result<Plan, ScriptFault>
+    ensures reads { ReadsPlan text.now result }
+    ensures accepted { IfOk result (λ plan. refusal_of plan.config ≡ None) }
+    ensures one_each { IfOk result (λ plan. length plan.limits.items ≡ length plan.config.cables.items) }
+    ensures from_one { IfOk result (λ plan. All (λ limit. limit ≢ Some 0) plan.limits.items) }
 {
     match toml::table_from_str(alloc, text) {
-        Ok(table) => script_in(alloc, &table),
+        Ok(table) => plan_in(alloc, &table),
         Err(e) => {
             if e.is_memory() {
                 Err(ScriptFault::NoMemory)
@@ -187,4 +215,14 @@ pub fn read_script(alloc: Global, text: &str) -> Result<(WorldConfig, Vec<Event>
             }
         }
     }
+}
+
+/// Reads a script without the limits of its cables (profile): what two systems and their cables are made from, and what
+/// happens to them. Its faults are those of `read_plan`.
+pub fn read_script(alloc: Global, text: &str) -> Result<(WorldConfig, Vec<Event>), ScriptFault>
+    ensures reads { Reads text.now result }
+    ensures accepted { IfOk result (λ r. refusal_of r.0 ≡ None) }
+{
+    let plan = read_plan(alloc, text)?;
+    Ok((plan.config, plan.events))
 }

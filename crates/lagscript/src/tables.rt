@@ -2,13 +2,15 @@ ghost use Rattle.std.specs.Prelude.{◌≡◌, map};
 ghost use Rattle.toml.specs.View.{table_view};
 ghost use Rattle.lagscript.specs.Configs.{plan_of};
 ghost use Rattle.lagscript.specs.Readings.{Answers, in_place};
-ghost use Rattle.lagscript.specs.Tables.{aggregators_in, cable_of, numbers_in, port_of, ports_in, system_of};
+ghost use Rattle.lagscript.specs.Tables.{aggregators_in, cable_of, limit_of, numbers_in, port_of, ports_in, system_of};
 ghost use Rattle.lagscript.specs.declared.fault.ScriptFault.TheVariants.{NoMemory};
 ghost use Rattle.lagscript.specs.Seen.{table_seen};
 
 use crate::fault::{PortKey, ScriptFault, SystemKey};
 use crate::lists::{keys_in, tables_in};
-use crate::values::{ends_at, flag_at, has_only, long_number_at, mac_at, member, number_at};
+use crate::values::{
+    ends_at, flag_at, has_only, limit_in, long_number_at, mac_at, member, number_at,
+};
 use lagsystem::{Config, PortConfig};
 use lagtypes::{Key, SystemId};
 use std::alloc::Global;
@@ -33,7 +35,7 @@ const PORT_KEYS: [&str; 7] = [
     "short",
 ];
 
-const CABLE_KEYS: [&str; 1] = ["ends"];
+const CABLE_KEYS: [&str; 2] = ["ends", "limit"];
 
 /// The port at this place of a system, whose MAC address is the system's own if it is left out.
 fn port_of(system: u8, own: [u8; 6], place: usize, table: &Table) -> Result<PortConfig, ScriptFault>
@@ -160,12 +162,35 @@ pub(crate) fn system_of(alloc: Global, system: u8, table: &Table) -> Result<Conf
     })
 }
 
-/// The ends of the cable at this place.
-pub(crate) fn cable_of(cable: usize, table: &Table) -> Result<(u16, u16), ScriptFault>
+/// What a script says of a cable.
+#[derive(Clone, Copy, Debug, PartialEq, Eq)]
+pub(crate) struct CablePlan {
+    /// The port of system 1 and the port of system 2 that it joins.
+    pub ends: (u16, u16),
+    /// How many frames each direction may hold, `None` for any number.
+    pub limit: Option<u16>,
+}
+
+/// The limit of the cable at this place, none if it is left out.
+fn limit_of(cable: usize, table: &Table) -> Result<Option<u16>, ScriptFault>
+    ensures { result ≡ limit_of cable (table_view table.now) }
+{
+    match member(table, "limit") {
+        Some(value) => limit_in(value)
+            .map(Some)
+            .ok_or(ScriptFault::CableLimit(cable)),
+        None => Ok(None),
+    }
+}
+
+/// The cable at this place.
+pub(crate) fn cable_of(cable: usize, table: &Table) -> Result<CablePlan, ScriptFault>
     ensures { result ≡ cable_of cable (table_view table.now) }
 {
     if !has_only(table, &CABLE_KEYS) {
         return Err(ScriptFault::CableExtraKey(cable));
     }
-    ends_at(table, "ends").ok_or(ScriptFault::CableEnds(cable))
+    let ends = ends_at(table, "ends").ok_or(ScriptFault::CableEnds(cable))?;
+    let limit = limit_of(cable, table)?;
+    Ok(CablePlan { ends, limit })
 }

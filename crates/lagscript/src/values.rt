@@ -4,7 +4,7 @@ ghost use Rattle.std.specs.List.{list_all, list_any};
 ghost use Rattle.std.specs.Str.{bytes_eq};
 ghost use Rattle.toml.specs.Data.{get_member};
 ghost use Rattle.toml.specs.View.{items_view, table_view, view};
-ghost use Rattle.lagscript.specs.Keys.{each_in, ends_in, flag_in, keys_among, mac_in, number_in, pair_of, value_at};
+ghost use Rattle.lagscript.specs.Keys.{each_in, ends_in, flag_in, keys_among, limit_in, mac_in, number_in, pair_of, value_at};
 
 use crate::words::mac_of;
 use toml::{Table, Value};
@@ -53,6 +53,16 @@ pub(crate) fn long_number_in(value: &Value) -> Option<u32>
 {
     match value {
         Value::Integer(n) => u32::try_from(*n).ok(),
+        _ => None,
+    }
+}
+
+/// A number of 1 to 65535.
+pub(crate) fn limit_in(value: &Value) -> Option<u16>
+    ensures { result ≡ limit_in (view value.now) }
+{
+    match number_in(value) {
+        Some(n) if n >= 1 => Some(n),
         _ => None,
     }
 }

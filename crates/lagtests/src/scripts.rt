@@ -1,3 +1,4 @@
+mod limits;
 mod reading;
 
 use lagscript::read_script;
@@ -48,13 +49,13 @@ const PORT_1_OF_2: Frame = Frame {
     fault: "system 2 port 1",
 };
 
-const CABLE_1: Frame = Frame {
+pub(crate) const CABLE_1: Frame = Frame {
     before: "cable = [{",
     behind: "}]\nsystem = [{mac = \"02-00-00-00-00-01\", aggregators = [1], port = [{number = 1, key = 1}]}, {mac = \"02-00-00-00-00-02\", aggregators = [1], port = [{number = 65535, key = 1}]}]",
     fault: "cable 1",
 };
 
-const CABLE_2: Frame = Frame {
+pub(crate) const CABLE_2: Frame = Frame {
     before: "cable = [{ends = [1, 65535]}, {",
     behind: "}]\nsystem = [{mac = \"02-00-00-00-00-01\", aggregators = [1], port = [{number = 1, key = 1}, {number = 2, key = 1}]}, {mac = \"02-00-00-00-00-02\", aggregators = [1], port = [{number = 1, key = 1}, {number = 65535, key = 1}]}]",
     fault: "cable 2",

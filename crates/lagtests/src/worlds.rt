@@ -2,6 +2,7 @@ mod agreements;
 mod changes;
 mod conversations;
 mod given;
+mod planned;
 mod refusals;
 mod starts;
 

@@ -9,7 +9,8 @@ use Rattle.toml.specs.Data.{Members}
 use Rattle.toml.specs.Parse.{parse_document}
 use Rattle.lagmodel.specs.Law.{IsSubsequence}
 use Rattle.lagmodel.specs.World.{Side}
-use Rattle.lagscript.specs.Scripts.{HasScript, Script, script_of}
+use Rattle.lagscript.specs.Readings.{◌>>=◌}
+use Rattle.lagscript.specs.Scripts.{HasScript, Script, plan_in, script_of}
 use Rattle.lagscript.specs.declared.fault.ScriptFault.{ScriptFault}
 use Rattle.lagscript.specs.declared.fault.ScriptFault.TheVariants as script
 use Rattle.lagworld.proofs.Running.{carries_of, in_order_of}
@@ -32,10 +33,10 @@ flow_in_order j (Some s) agg conv sound free =
     (counted (sent_in (serials_of_system (Some s) agg conv j)) (λ i lt. (carries_of j sound).counts_from_zero s agg conv i lt))
     (in_order_of j sound s agg conv free)
 
-not_both : (text : List ℕ) (fault : ScriptFault) (s : Script) → (ms : Members) × (parse_document text ≡ Some ms) × (script_of ms ≡ Err fault) → HasScript text s → ⊥
+not_both : (text : List ℕ) (fault : ScriptFault) (s : Script) → (ms : Members) × (parse_document text ≡ Some ms) × (plan_in ms ≡ Err fault) → HasScript text s → ⊥
 not_both text fault s (ms, parsed, refused) (ns, again, read) =
     let same : ms ≡ ns = same_Some ms ns (sym parsed ∙ again) in
-    let both : Err fault ≡ Ok s = sym refused ∙ ap script_of same ∙ read in
+    let both : Err fault ≡ Ok s = sym (ap (λ r. r >>= λ plan. Ok plan.script) refused) ∙ ap script_of same ∙ read in
     absurd (let e = both in cc)
 
 none_both : (text : List ℕ) (s : Script) → parse_document text ≡ None → HasScript text s → ⊥
@@ -54,6 +55,7 @@ not_refused text (script.PortValue n p key) s h k = not_both text (script.PortVa
 not_refused text script.Cables s h k = not_both text script.Cables s h.1 k
 not_refused text (script.CableExtraKey c) s h k = not_both text (script.CableExtraKey c) s h.1 k
 not_refused text (script.CableEnds c) s h k = not_both text (script.CableEnds c) s h.1 k
+not_refused text (script.CableLimit c) s h k = not_both text (script.CableLimit c) s h.1 k
 not_refused text script.Events s h k = not_both text script.Events s h.1 k
 not_refused text (script.Entry n why) s h k = not_both text (script.Entry n why) s h.1 k
 not_refused text (script.Ports n) s h k = not_both text (script.Ports n) s h.1 k

@@ -3,11 +3,12 @@ use Rattle.std.specs.Prelude.{◌≡◌, ⊤, ℕ, ◌+◌, ◌++◌, ◌==◌, 
 use Rattle.std.specs.List.{range_with_len}
 use Rattle.lagsystem.specs.declared.config.Config.{Config}
 use Rattle.lagscript.specs.Acts.{act_of}
-use Rattle.lagscript.specs.Scripts.{HasScript, Reads, script_shown}
+use Rattle.lagscript.specs.Scripts.{HasPlan, IsRefused, plan_shown}
 use Rattle.lagscript.specs.declared.config.WorldConfig.{WorldConfig}
 use Rattle.lagscript.specs.declared.event.Event.{Event}
 use Rattle.lagscript.specs.declared.fault.ScriptFault.{ScriptFault}
 use Rattle.lagscript.specs.declared.fault.ScriptFault.TheVariants as script
+use Rattle.lagscript.specs.declared.plan.Plan.{Plan}
 use Rattle.lagworld.specs.Agreement.{agreement_at}
 use Rattle.lagworld.specs.Events.{Gives, Runs, side_of}
 use Rattle.lagworld.specs.Making.{AreFirst, conversations}
@@ -74,37 +75,41 @@ both_flows_text j _ = []
 abbrev pub report_text : List Config → List Event → List Reply → Joint → List ℕ
 report_text systems events replies j = entries_text 1 events replies ++ (agreements_text j ++ both_flows_text j systems)
 
--- a cable before any event: whole, empty and without a limit
-abbrev pub first_cable : ℕ × ℕ → Line
-first_cable ends =
-    record { one = ends.0; two = ends.1; whole = true; to_one = []; to_two = []; limit_one = None; limit_two = None }
+-- a cable before any event: whole and empty, with this limit in each direction
+abbrev pub first_cable : ℕ × ℕ → Option ℕ → Line
+first_cable ends limit =
+    record { one = ends.0; two = ends.1; whole = true; to_one = []; to_two = []; limit_one = limit; limit_two = limit }
 
--- the table run of these events, from the start of two systems and their cables, whose end has the facts of every world
-pub record IsPlayed (gives : Gives) (config : WorldConfig) (events : List Event) (replies : List Reply) (to : Joint) : Type 0 where
+-- each cable with its limit
+abbrev pub first_cables : List (ℕ × ℕ) → List (Option ℕ) → List Line
+first_cables (ends ∷ rest) (limit ∷ limits) = first_cable ends limit ∷ first_cables rest limits
+first_cables _ _ = []
+
+-- the table run of these events, from the start of two systems and their cables with these limits, whose end has the facts of every world
+pub record IsPlayed (gives : Gives) (config : WorldConfig) (limits : List (Option ℕ)) (events : List Event) (replies : List Reply) (to : Joint) : Type 0 where
   pub from : Joint
   pub systems : AreFirst config.systems from
-  pub lines : from.lines ≡ map first_cable config.cables.items
+  pub lines : from.lines ≡ first_cables config.cables.items limits
   pub acted : from.acted ≡ 0
   pub runs : Runs gives from events replies to
   pub sound : IsSound to
 
 -- the report of a run of these events
-pub record IsReport (gives : Gives) (config : WorldConfig) (events : List Event) (report : List ℕ) : Type 0 where
+pub record IsReport (gives : Gives) (config : WorldConfig) (limits : List (Option ℕ)) (events : List Event) (report : List ℕ) : Type 0 where
   pub replies : List Reply
   pub to : Joint
-  pub played : IsPlayed gives config events replies to
+  pub played : IsPlayed gives config limits events replies to
   pub says : report ≡ report_text config.systems events replies to
 
 -- the report of the script that a text is
 pub record IsReplayed (gives : Gives) (text report : List ℕ) : Type 0 where
-  pub config : WorldConfig
-  pub events : List Event
-  pub script : HasScript text (script_shown config events)
-  pub is_report : IsReport gives config events report
+  pub plan : Plan
+  pub has : HasPlan text (plan_shown plan)
+  pub is_report : IsReport gives plan.config plan.limits.items plan.events.items report
 
 -- the text is no script, and this is why
 abbrev pub HasNoScript : List ℕ → ScriptFault → Type 0
-HasNoScript text fault = (fault ≡ script.NoMemory → ⊥) × Reads text (Err fault)
+HasNoScript text fault = (fault ≡ script.NoMemory → ⊥) × IsRefused text fault
 
 -- how `replay` ends: the report is written whole, a beginning of it, or nothing
 abbrev pub Replays : {W : Type 0} → (W → Option (List ℕ)) → Gives → List ℕ → SinkState W → SinkState W → Result ⊤ ToolFault → Type 0

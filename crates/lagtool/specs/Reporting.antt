@@ -1,5 +1,5 @@
 -- What the steps of a replay do.
-use Rattle.std.specs.Prelude.{◌≡◌, ℕ, ◌++◌, List, [], ◌∷◌, length, map, replicate}
+use Rattle.std.specs.Prelude.{◌≡◌, ℕ, ◌++◌, List, [], ◌∷◌, length, map, Option}
 use Rattle.cables.specs.AnyCable.{any_items, any_limit}
 use Rattle.cables.specs.declared.any.AnyCable.{AnyCable}
 use Rattle.lagsystem.specs.declared.config.Config.{Config}
@@ -18,6 +18,6 @@ abbrev pub Counts : ℕ → ℕ → List Config → Type 0
 Counts first second (a ∷ b ∷ []) = (first ≡ length a.aggregators.items) × (second ≡ length b.aggregators.items)
 Counts first second _ = ⊥
 
--- so many cables, of two empty directions without a limit each
-abbrev pub AreFirstLines : ℕ → List (AnyCable × AnyCable) → Type 0
-AreFirstLines n lines = map (first_line any_items any_limit (0, 0)) lines ≡ replicate n (first_cable (0, 0))
+-- cables of two empty directions, with these limits
+abbrev pub AreFirstLines : List (Option ℕ) → List (AnyCable × AnyCable) → Type 0
+AreFirstLines limits lines = map (first_line any_items any_limit (0, 0)) lines ≡ map (first_cable (0, 0)) limits

@@ -12,6 +12,7 @@ mod checking;
 mod entry_text;
 mod fault;
 mod laws;
+mod laying;
 mod replay;
 mod reply;
 mod reply_text;

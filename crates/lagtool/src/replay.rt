@@ -1,24 +1,25 @@
-ghost use Rattle.std.specs.Prelude.{◌≡◌, ◌≤◌, ◌++◌, None, Some, OnOk, IfOk, IfErr, false, length, string_bytes};
-ghost use Rattle.cables.specs.AnyCable.{any_items, any_limit};
+ghost use Rattle.std.specs.Prelude.{◌≡◌, ◌≢◌, ◌≤◌, ◌++◌, All, None, Some, OnOk, IfOk, IfErr, false, length, string_bytes};
 ghost use Rattle.distributor.specs.Calls.{PicksPlaces};
 ghost use Rattle.lagscript.specs.Configs.{refusal_of};
 ghost use Rattle.lagsystem.specs.First.{refusal_of as refusal_of_one};
 ghost use Rattle.lagworld.specs.Events.{side_of};
-ghost use Rattle.lagworld.specs.Making.{conversations, first_line};
+ghost use Rattle.lagworld.specs.Making.{conversations};
 ghost use Rattle.lagworld.specs.Readers.{serials_of_system};
 ghost use Rattle.lagworld.specs.Sound.{gives_by};
-ghost use Rattle.lagtool.specs.Replayed.{IsReport, Replays, agreement_line, agreements_text, collected_text, entries_text, entry_line, first_cable, flow_line, flows_text, row_text};
-ghost use Rattle.lagtool.specs.Reporting.{AreFirstLines, Counts, reported};
+ghost use Rattle.lagtool.specs.Replayed.{IsReport, Replays, agreement_line, agreements_text, collected_text, entries_text, entry_line, flow_line, flows_text, row_text};
+ghost use Rattle.lagtool.specs.Reporting.{Counts, reported};
 ghost use Rattle.lagtool.specs.declared.fault.ToolFault.TheVariants.{NoMemory};
 
 use crate::entry_text::EntryText;
 use crate::fault::ToolFault;
+use crate::laying::first_lines;
 use crate::reply_text::{AgreementText, ReplyText};
 use crate::sink::Sink;
-use cables::{AnyCable, ListCable};
+use cables::AnyCable;
+use lagscript::read_plan;
 use lagsystem::Config;
 use lagtypes::AggId;
-use lagworld::{Agreement, Event, Reply, World, WorldConfig, read_script};
+use lagworld::{Agreement, Event, Reply, World, WorldConfig};
 use std::alloc::{AllocError, Global};
 use std::io::Write;
 
@@ -150,27 +151,6 @@ fn push_flows<F: Fn(u16, usize) -> usize + Drop>(
     Ok(())
 }
 
-/// The two directions of a cable without a limit.
-#[tactic(auto, using(crate::proofs::StartLemmas::empty_line))]
-fn first_line(alloc: Global) -> (AnyCable, AnyCable)
-    ensures { first_line any_items any_limit (0, 0) result ≡ first_cable (0, 0) }
-{
-    let to_one = ListCable::new(alloc);
-    let to_two = ListCable::new(alloc);
-    (AnyCable::List(to_one), AnyCable::List(to_two))
-}
-
-/// Those of so many cables.
-fn first_lines(alloc: Global, count: usize) -> Result<Vec<(AnyCable, AnyCable)>, AllocError>
-    ensures { IfOk result (λ lines. AreFirstLines count lines.items) }
-{
-    let mut lines = Vec::with_capacity(alloc, count)?;
-    for _made in 0..count {
-        lines.push_reserved(first_line(alloc));
-    }
-    Ok(lines)
-}
-
 /// How many aggregators a system has whose configuration is not refused.
 fn count_of(config: &Config) -> u16
     requires { refusal_of_one config.now ≡ None }
@@ -211,6 +191,7 @@ fn report_of<F: Fn(u16, usize) -> usize + Drop>(
 fn played<F: Fn(u16, usize) -> usize + Drop>(
     alloc: Global,
     config: WorldConfig,
+    limits: &[Option<u16>],
     events: &[Event],
     one: F,
     two: F,
@@ -218,13 +199,16 @@ fn played<F: Fn(u16, usize) -> usize + Drop>(
     requires one { PicksPlaces (F.pre one) (F.post one) }
     requires two { PicksPlaces (F.pre two) (F.post two) }
     requires accepted { refusal_of config ≡ None }
-    ensures ok { IfOk result (λ report. IsReport (gives_by (F.post one) (F.post two)) config events.now (string_bytes report)) }
+    requires limits { All (λ limit. limit ≢ Some 0) limits.now }
+    ensures ok { IfOk result (λ report. IsReport (gives_by (F.post one) (F.post two)) config limits.now events.now (string_bytes report)) }
     ensures err { IfErr result (λ fault. fault ≡ NoMemory) }
 {
     let counts = counts_of(&config);
-    let lines = first_lines(alloc, config.cables.len())?;
-    // The configuration of a script is not refused, and its entries name what there is: only memory
-    // is left to be refused.
+    // No limit is 0, the configuration of a script is not refused, and its entries name what there is:
+    // only memory is left to be refused.
+    let Ok(lines) = first_lines(alloc, limits) else {
+        return Err(ToolFault::NoMemory);
+    };
     let Ok(mut world) = World::new(alloc, config, one, two, lines) else {
         return Err(ToolFault::NoMemory);
     };
@@ -253,8 +237,8 @@ pub fn replay<F: Fn(u16, usize) -> usize + Drop, W: Write>(
     requires sink { sink.old.failed ≡ false }
     ensures { Replays W.contents (gives_by (F.post one) (F.post two)) text.now sink.old sink.new result }
 {
-    let (config, events) = read_script(alloc, text)?;
-    let report = played(alloc, config, &events, one, two)?;
+    let plan = read_plan(alloc, text)?;
+    let report = played(alloc, plan.config, &plan.limits, &plan.events, one, two)?;
     sink.put(report.as_bytes())?;
     Ok(())
 }

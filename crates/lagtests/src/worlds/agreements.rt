@@ -41,7 +41,7 @@ fn a_port_on_defaults_carries_data_after_50_ticks(rt: HostRuntime) -> Result<(),
     Ok(())
 }
 
-const ONE_CABLE_ROW: Row = Row {
+pub(crate) const ONE_CABLE_ROW: Row = Row {
     setting: ONE,
     first: &ONE_CABLE,
     rest: &[],

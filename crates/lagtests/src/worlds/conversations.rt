@@ -25,7 +25,7 @@ const MOVES: [(Entry, Want); 16] = [
     (Deliver(2, 2), UP_1),
 ];
 
-const MOVES_ROW: Row = Row {
+pub(crate) const MOVES_ROW: Row = Row {
     setting: TWO,
     first: &COMING_UP,
     rest: &MOVES,
@@ -198,7 +198,7 @@ const FULL: [(Entry, Want); 6] = [
     (Deliver(1, 2), Is(Reply::Empty)),
 ];
 
-const FULL_ROW: Row = Row {
+pub(crate) const FULL_ROW: Row = Row {
     setting: TWO,
     first: &COMING_UP,
     rest: &FULL,
@@ -233,7 +233,7 @@ const NARROW: [(Entry, Want); 12] = [
     (Deliver(2, 2), UP_1),
 ];
 
-const NARROW_ROW: Row = Row {
+pub(crate) const NARROW_ROW: Row = Row {
     setting: TWO,
     first: &COMING_UP,
     rest: &NARROW,

@@ -9,8 +9,8 @@ use lagworld::{EntryFault, ScriptFault};
 use std::alloc::Global;
 use std::test::Fail;
 
-/// Two systems with two ports each that ask for long timeouts, and two cables between them.
-const TWO_CABLES: &str = r#"
+/// Two systems with two ports each that ask for long timeouts.
+const TWO_PORTS: &str = r#"
 [[system]]
 mac = "02-00-00-00-00-01"
 aggregators = [1]
@@ -33,11 +33,40 @@ short = false
 number = 2
 key = 1
 short = false
-[[cable]]
+"#;
+
+const TWO_CABLES: &str = "[[cable]]
 ends = [1, 1]
 [[cable]]
 ends = [2, 2]
-"#;
+";
+
+/// Two cables that a frame fills.
+const LIMIT_1: &str = "[[cable]]
+ends = [1, 1]
+limit = 1
+[[cable]]
+ends = [2, 2]
+limit = 1
+";
+
+/// Two cables that two frames fill.
+const LIMIT_2: &str = "[[cable]]
+ends = [1, 1]
+limit = 2
+[[cable]]
+ends = [2, 2]
+limit = 2
+";
+
+/// Two cables that nothing fills here.
+const LIMIT_8: &str = "[[cable]]
+ends = [1, 1]
+limit = 8
+[[cable]]
+ends = [2, 2]
+limit = 8
+";
 
 /// Both ends of both cables come to distribute.
 const BOTH_UP: &str = r#"events = [
@@ -148,8 +177,10 @@ fn replayed(alloc: Global, pieces: &[&str]) -> Result<String, ToolFault> {
 #[test]
 fn one_cable(rt: HostRuntime) -> Result<(), Fail> {
     for (events, text) in [(rows::ALONE, rows::ALONE_TEXT), (rows::UP, rows::UP_TEXT)] {
-        let written = replayed(rt.alloc(), &[events, rows::ONE_CABLE])?;
-        assert_eq!(rt; written.as_str(), text, "{events}");
+        for limit in ["", "limit = 8\n"] {
+            let written = replayed(rt.alloc(), &[events, rows::ONE_CABLE, limit])?;
+            assert_eq!(rt; written.as_str(), text, "{events}{limit}");
+        }
     }
     Ok(())
 }
@@ -157,9 +188,102 @@ fn one_cable(rt: HostRuntime) -> Result<(), Fail> {
 #[test]
 fn a_conversation_moves(rt: HostRuntime) -> Result<(), Fail> {
     let alloc = rt.alloc();
-    let written = replayed(alloc, &[BOTH_UP, MOVE, TWO_CABLES])?;
     let text = format!(in alloc; "{BOTH_UP_TEXT}{MOVE_TEXT}")?;
-    assert_eq!(rt; written.as_str(), text.as_str());
+    for cables in [TWO_CABLES, LIMIT_8] {
+        let written = replayed(alloc, &[BOTH_UP, MOVE, TWO_PORTS, cables])?;
+        assert_eq!(rt; written.as_str(), text.as_str(), "{cables}");
+    }
+    Ok(())
+}
+
+/// Three frames on a cable that two fill.
+const FULL: &str = r#"    "offer 1 1 0200000000200200000000100800",
+    "offer 1 1 0200000000200200000000100800",
+    "offer 1 1 0200000000200200000000100800",
+    "deliver 1 2",
+    "deliver 1 2",
+    "deliver 1 2",
+]
+"#;
+
+const FULL_TEXT: &str = "25 offer 1 1 0200000000200200000000100800 -> port 1 serial 0 sent
+26 offer 1 1 0200000000200200000000100800 -> port 1 serial 1 sent
+27 offer 1 1 0200000000200200000000100800 -> port 1 serial 2 lost
+28 deliver 1 2 -> up 1
+29 deliver 1 2 -> up 1
+30 deliver 1 2 -> empty
+cable 1 agreement same
+cable 2 agreement same
+flow 1/1/48 sent 3 collected 0 1
+";
+
+/// A marker on a cable that a frame fills.
+const NARROW: &str = r#"    "offer 1 1 0200000000200200000000100800",
+    "offer 1 1 0200000000200200000000100800",
+    "move 1 1 48 2",
+    "emit 1 1",
+    "emit 1 1",
+    "deliver 1 2",
+    "tick 1 30",
+    "emit 1 1",
+    "deliver 1 2",
+    "deliver 1 1",
+    "offer 1 1 0200000000200200000000100800",
+    "deliver 2 2",
+]
+"#;
+
+const NARROW_TEXT: &str = "25 offer 1 1 0200000000200200000000100800 -> port 1 serial 0 sent
+26 offer 1 1 0200000000200200000000100800 -> port 1 serial 1 lost
+27 move 1 1 48 2 -> moved
+28 emit 1 1 -> lacpdu 3d lost
+29 emit 1 1 -> marker 1 lost
+30 deliver 1 2 -> up 1
+31 tick 1 30 -> ticked
+32 emit 1 1 -> marker 2 sent
+33 deliver 1 2 -> responded sent
+34 deliver 1 1 -> released 1
+35 offer 1 1 0200000000200200000000100800 -> port 2 serial 2 sent
+36 deliver 2 2 -> up 1
+cable 1 agreement same
+cable 2 agreement same
+flow 1/1/48 sent 3 collected 0 2
+";
+
+#[test]
+fn a_full_cable_loses_what_is_sent(rt: HostRuntime) -> Result<(), Fail> {
+    let alloc = rt.alloc();
+    for (events, cables, text) in [(FULL, LIMIT_2, FULL_TEXT), (NARROW, LIMIT_1, NARROW_TEXT)] {
+        let written = replayed(alloc, &[BOTH_UP, events, TWO_PORTS, cables])?;
+        let wanted = format!(in alloc; "{BOTH_UP_TEXT}{text}")?;
+        assert_eq!(rt; written.as_str(), wanted.as_str(), "{cables}");
+    }
+    Ok(())
+}
+
+/// Frames of system 2 on a cable that one fills.
+const BACK: &str = r#"    "offer 2 1 0200000000100200000000200800",
+    "offer 2 1 0200000000100200000000200800",
+    "deliver 1 1",
+    "deliver 1 1",
+]
+"#;
+
+const BACK_TEXT: &str = "25 offer 2 1 0200000000100200000000200800 -> port 1 serial 0 sent
+26 offer 2 1 0200000000100200000000200800 -> port 1 serial 1 lost
+27 deliver 1 1 -> up 1
+28 deliver 1 1 -> empty
+cable 1 agreement same
+cable 2 agreement same
+flow 2/1/48 sent 2 collected 0
+";
+
+#[test]
+fn a_limit_is_that_of_both_directions(rt: HostRuntime) -> Result<(), Fail> {
+    let alloc = rt.alloc();
+    let written = replayed(alloc, &[BOTH_UP, BACK, TWO_PORTS, LIMIT_1])?;
+    let wanted = format!(in alloc; "{BOTH_UP_TEXT}{BACK_TEXT}")?;
+    assert_eq!(rt; written.as_str(), wanted.as_str());
     Ok(())
 }
 
@@ -222,6 +346,23 @@ fn texts_that_are_no_script(rt: HostRuntime) -> Result<(), Fail> {
             file: "a",
         };
         assert_eq!(rt; format!(in alloc; "{text}")?.as_str(), said, "{events}");
+    }
+    Ok(())
+}
+
+#[test]
+fn limits_that_are_no_limit(rt: HostRuntime) -> Result<(), Fail> {
+    let alloc = rt.alloc();
+    for limit in ["limit = 0\n", "limit = 65536\n", "limit = \"8\"\n"] {
+        let fault = ToolFault::Script(ScriptFault::CableLimit(1));
+        let written = replayed(alloc, &[rows::ONE_CABLE, limit]);
+        assert_eq!(rt; written, Err(fault), "{limit}");
+        let said = format!(in alloc; "{}", FaultText { fault, file: "a" })?;
+        assert_eq!(rt; said.as_str(), "script: cable 1: limit", "{limit}");
+    }
+    for limit in ["limit = 1\n", "limit = 65535\n"] {
+        let written = replayed(alloc, &[rows::ONE_CABLE, limit])?;
+        assert_eq!(rt; written.as_str(), "cable 1 agreement not-both\n", "{limit}");
     }
     Ok(())
 }

@@ -1,6 +1,6 @@
-use Rattle.toml.specs.View.{table_view}
-use Rattle.lagscript.proofs.ScriptLemmas.{reads_script}
+use Rattle.lagscript.specs.Scripts.{plan_shown}
+use Rattle.lagscript.proofs.ScriptLemmas.{has_script}
 use Rattle.lagscript.proofs.script.read_script.Goals as goal
 
-pub returns-in-Ok-clause-reads : goal.returns-in-Ok-clause-reads
-returns-in-Ok-clause-reads c = reads_script c.args.text.now (table_view c.in-Ok.table) c.script_in.result c.in-Ok.ensures.ok c.script_in.ensures.reads
+pub returns-clause-reads : goal.returns-clause-reads
+returns-clause-reads c = has_script c.args.text.now (plan_shown c.in_ok-plan.plan) c.in_ok-plan.ensures.reads

@@ -1,4 +1,4 @@
-use Rattle.std.proofs.Common.{◌≡◌, List, length, ap, sym, ◌∙◌, subst, arith}
+use Rattle.std.proofs.Common.{◌≡◌, List, length, ap, sym, ◌∙◌, subst}
 use Rattle.distributor.specs.Calls.{PicksPlaces}
 use Rattle.lagworld.specs.Events.{Gives, Runs}
 use Rattle.lagworld.specs.Sound.{gives_by}
@@ -36,7 +36,7 @@ returns-clause-ok g c =
       played = record {
         from = old;
         systems = c.in-Ok.ensures.made.systems;
-        lines = c.in-Ok.ensures.made.lines ∙ first_lines_are c.args.config.cables.items c.in_ok-lines.lines.items c.len.result (omega (arith, c.len.ensures, c.args.config.cables.ok.0)) c.in_ok-lines.ensures;
+        lines = c.in-Ok.ensures.made.lines ∙ first_lines_are c.args.config.cables.items c.in-Ok-first_lines.lines.items c.args.limits.now c.in-Ok-first_lines.ensures.ok;
         acted = c.in-Ok.ensures.made.acted;
         runs = runs_both;
         sound = c.in-Ok-run.ensures.sound;

@@ -7,9 +7,9 @@ pub returns-in_err-put : goal.returns-in_err-put
 returns-in_err-put g c =
     let gives : Gives = gives_by (λ conv count place. g.F.Fn.post c.args.one (conv, (count, tt)) place) (λ conv count place. g.F.Fn.post c.args.two (conv, (count, tt)) place) in
     write_failed g.W.Write.contents gives c.args.text.now c.args.sink.now c.put.new.self c.from_residual-in_err-put.result c.as_bytes.result.now (c.from_residual-in_err-put.ensures.1)
-    (replayed_is gives c.args.text.now c.in_ok-config.config c.in_ok-config.events.items c.deref.result.now _ c.as_bytes.result.now c.in_ok-config.ensures.reads c.deref.ensures.value c.as_bytes.ensures.value c.in_ok-report.ensures.ok) c.in_err-put.ensures.err
+    (replayed_is gives c.args.text.now c.in_ok-plan.plan c.deref.result.now c.deref-2.result.now _ c.as_bytes.result.now c.in_ok-plan.ensures.reads c.deref.ensures.value c.deref-2.ensures.value c.as_bytes.ensures.value c.in_ok-report.ensures.ok) c.in_err-put.ensures.err
 
 pub returns : goal.returns
 returns g c =
     let gives : Gives = gives_by (λ conv count place. g.F.Fn.post c.args.one (conv, (count, tt)) place) (λ conv count place. g.F.Fn.post c.args.two (conv, (count, tt)) place) in
-    (c.as_bytes.result.now, replayed_is gives c.args.text.now c.in_ok-config.config c.in_ok-config.events.items c.deref.result.now _ c.as_bytes.result.now c.in_ok-config.ensures.reads c.deref.ensures.value c.as_bytes.ensures.value c.in_ok-report.ensures.ok, c.in_ok-put.ensures.ok)
+    (c.as_bytes.result.now, replayed_is gives c.args.text.now c.in_ok-plan.plan c.deref.result.now c.deref-2.result.now _ c.as_bytes.result.now c.in_ok-plan.ensures.reads c.deref.ensures.value c.deref-2.ensures.value c.as_bytes.ensures.value c.in_ok-report.ensures.ok, c.in_ok-put.ensures.ok)

@@ -1,0 +1,125 @@
+use crate::scripts::{CABLE_1, CABLE_2, first_other};
+use lagscript::{ScriptFault, read_plan, read_script};
+use std::alloc::{AllocError, Global};
+use std::test::Fail;
+
+#[test]
+fn limits_are_refused(rt: HostRuntime) -> Result<(), Fail> {
+    let rows = [
+        ("limit = 1", ": ends"),
+        ("limit = 0", ": ends"),
+        ("ends = [2], limit = 0", ": ends"),
+        ("ends = [2, 1], limit = 0, a = 1", ": extra key"),
+        ("ends = [2, 1], limit = 1, limits = 1", ": extra key"),
+        ("ends = [2, 1], Limit = 1", ": extra key"),
+        ("ends = [2, 1], limit = 0", ": limit"),
+        ("ends = [2, 1], limit = -1", ": limit"),
+        ("ends = [2, 1], limit = 65536", ": limit"),
+        ("ends = [2, 1], limit = 4294967297", ": limit"),
+        ("ends = [2, 1], limit = \"8\"", ": limit"),
+        ("ends = [2, 1], limit = 8.0", ": limit"),
+        ("ends = [2, 1], limit = true", ": limit"),
+        ("ends = [2, 1], limit = [8, 8]", ": limit"),
+        ("ends = [0, 1], limit = 0", ": limit"),
+        ("ends = [0, 1], limit = 8", ": end"),
+    ];
+    let alloc = rt.alloc();
+    assert_eq!(rt; first_other(alloc, &CABLE_1, "", &rows)?, None);
+    assert_eq!(rt; first_other(alloc, &CABLE_2, "", &rows)?, None);
+    let good = [
+        ("ends = [2, 1], limit = 1", "read"),
+        ("ends = [2, 1], limit = 65535", "read"),
+        ("limit = 8, ends = [2, 1]", "read"),
+    ];
+    assert_eq!(rt; first_other(alloc, &CABLE_2, "", &good)?, None);
+    Ok(())
+}
+
+/// Three ports a side and three cables between them.
+const THREE: &str =
+    "system = [{mac = \"02-00-00-00-00-01\", aggregators = [1], port = [{number = 1, key = 1}, {number = 2, key = 1}, {number = 3, key = 1}]}, {mac = \"02-00-00-00-00-02\", aggregators = [1], port = [{number = 4, key = 1}, {number = 5, key = 1}, {number = 6, key = 1}]}]\n";
+
+/// The cables, their limits and the events of a script, by both readers, or the text of the fault.
+fn read_as(alloc: Global, cables: &str, events: &str) -> Result<String, AllocError> {
+    let text = format!(in alloc; "events = [{events}]\ncable = [{cables}]\n{THREE}")?;
+    match read_plan(alloc, text.as_str()) {
+        Ok(plan) => match read_script(alloc, text.as_str()) {
+            Ok((config, events)) => {
+                format!(in alloc;
+                    "{:?} {:?} {:?}, {:?} {:?}",
+                    plan.config.cables, plan.limits, plan.events, config.cables, events
+                )
+            }
+            Err(fault) => format!(in alloc; "no script: {fault}"),
+        },
+        Err(fault) => format!(in alloc; "{fault}"),
+    }
+}
+
+#[test]
+fn limits_are_read_one_a_cable(rt: HostRuntime) -> Result<(), Fail> {
+    let rows = [
+        ("", "", "[] [] [], [] []"),
+        (
+            "{ends = [1, 4]}",
+            "\"cut 1\"",
+            "[(1, 4)] [None] [Cut(1)], [(1, 4)] [Cut(1)]",
+        ),
+        (
+            "{ends = [1, 4], limit = 1}, {ends = [2, 5], limit = 65535}, {ends = [3, 6], limit = 8}",
+            "\"cut 3\", \"cut 2\"",
+            "[(1, 4), (2, 5), (3, 6)] [Some(1), Some(65535), Some(8)] [Cut(3), Cut(2)], [(1, 4), (2, 5), (3, 6)] [Cut(3), Cut(2)]",
+        ),
+        (
+            "{ends = [3, 4]}, {limit = 2, ends = [1, 5]}, {ends = [2, 6]}",
+            "",
+            "[(3, 4), (1, 5), (2, 6)] [None, Some(2), None] [], [(3, 4), (1, 5), (2, 6)] []",
+        ),
+        (
+            "{ends = [3, 4], limit = 7}, {ends = [1, 5]}, {ends = [2, 6], limit = 9}",
+            "",
+            "[(3, 4), (1, 5), (2, 6)] [Some(7), None, Some(9)] [], [(3, 4), (1, 5), (2, 6)] []",
+        ),
+        (
+            "{ends = [1, 4], limit = 0}, {ends = 1}",
+            "\"cut 3\"",
+            "cable 1: limit",
+        ),
+        (
+            "{ends = 1}, {ends = [1, 4], limit = 0}",
+            "",
+            "cable 1: ends",
+        ),
+        (
+            "{ends = [1, 4]}, {ends = [1, 4], limit = 0}",
+            "\"cut 3\"",
+            "cable 2: limit",
+        ),
+        (
+            "{ends = [1, 4], limit = 9}, {ends = [1, 4], limit = 8}",
+            "\"cut 3\"",
+            "event 1: cable",
+        ),
+    ];
+    let alloc = rt.alloc();
+    for (cables, events, wanted) in rows {
+        let came = read_as(alloc, cables, events)?;
+        assert_eq!(rt; came.as_str(), wanted, "{cables}");
+    }
+    Ok(())
+}
+
+#[test]
+fn both_readers_refuse_alike(rt: HostRuntime) {
+    let alloc = rt.alloc();
+    let rows = [
+        ("x =", ScriptFault::NotToml),
+        ("x = 1", ScriptFault::ExtraKey),
+        ("limit = 8", ScriptFault::ExtraKey),
+        ("", ScriptFault::Systems),
+    ];
+    for (text, fault) in rows {
+        assert_eq!(rt; read_plan(alloc, text).err(), Some(fault), "{text}");
+        assert_eq!(rt; read_script(alloc, text).err(), Some(fault), "{text}");
+    }
+}
