@@ -3,31 +3,26 @@ ghost use Rattle.cables.specs.AnyCable.{any_items, any_limit};
 ghost use Rattle.distributor.specs.Calls.{PicksPlaces};
 ghost use Rattle.lagscript.specs.Configs.{refusal_of};
 ghost use Rattle.lagsystem.specs.First.{refusal_of as refusal_of_one};
-ghost use Rattle.lagworld.specs.Events.{side_of};
-ghost use Rattle.lagworld.specs.Making.{conversations, first_line};
-ghost use Rattle.lagworld.specs.Readers.{serials_of_system};
+ghost use Rattle.lagworld.specs.Events.{most_events};
+ghost use Rattle.lagworld.specs.Making.{first_line};
 ghost use Rattle.lagworld.specs.Sound.{gives_by};
-ghost use Rattle.lagtool.specs.Replayed.{IsReport, Replays, agreement_line, agreements_text, collected_text, entries_text, entry_line, first_cable, flow_line, flows_text, row_text};
+ghost use Rattle.lagtool.specs.Naming.{AllNameExisting};
+ghost use Rattle.lagtool.specs.Offered.{IsSentWhereOffered};
+ghost use Rattle.lagtool.specs.Replayed.{IsReport, Replays, agreement_line, agreements_text, entries_text, entry_line, first_cable};
 ghost use Rattle.lagtool.specs.Reporting.{AreFirstLines, Counts, reported};
 ghost use Rattle.lagtool.specs.declared.fault.ToolFault.TheVariants.{NoMemory};
 
 use crate::entry_text::EntryText;
 use crate::fault::ToolFault;
+use crate::flows::push_flows;
+use crate::playing::{make, play};
 use crate::reply_text::{AgreementText, ReplyText};
 use crate::sink::Sink;
 use cables::{AnyCable, ListCable};
 use lagsystem::Config;
-use lagtypes::AggId;
 use lagworld::{Agreement, Event, Reply, World, WorldConfig, read_script};
 use std::alloc::{AllocError, Global};
 use std::io::Write;
-
-/// How many conversations an aggregator has (profile).
-fn conversations() -> u16
-    ensures { result ≡ conversations }
-{
-    256
-}
 
 /// The line of an entry with its reply.
 fn push_entry(
@@ -85,71 +80,6 @@ fn push_agreements<F: Fn(u16, usize) -> usize + Drop>(
     Ok(())
 }
 
-/// The serials that were collected, each behind a space.
-fn push_collected(text: &mut String, serials: &[u64]) -> Result<(), AllocError>
-    ensures { OnOk result (string_bytes text.new ≡ string_bytes text.old ++ collected_text serials.now) }
-{
-    if serials.is_empty() {
-        return text.push_str(" none");
-    }
-    for serial in serials {
-        write!(text, " {serial}")?;
-    }
-    Ok(())
-}
-
-/// The line of a conversation, if it sent a frame.
-fn push_flow<F: Fn(u16, usize) -> usize + Drop>(
-    text: &mut String,
-    world: &World<AnyCable, F>,
-    system: u8,
-    agg: u16,
-    conv: u16,
-) -> Result<(), AllocError>
-    ensures { OnOk result (string_bytes text.new ≡ string_bytes text.old ++ flow_line system agg conv (serials_of_system (side_of system) agg conv world.now.joint)) }
-{
-    let sent = world.sent(system, AggId(agg), conv).len();
-    if sent == 0 {
-        return Ok(());
-    }
-    write!(text, "flow {system}/{agg}/{conv} sent {sent} collected")?;
-    push_collected(text, world.collected(system, AggId(agg), conv))?;
-    if world.forced(system, AggId(agg), conv) {
-        text.push_str(" forced")?;
-    }
-    text.push_str("\n")
-}
-
-/// The lines of the conversations of an aggregator.
-fn push_row<F: Fn(u16, usize) -> usize + Drop>(
-    text: &mut String,
-    world: &World<AnyCable, F>,
-    system: u8,
-    agg: u16,
-) -> Result<(), AllocError>
-    ensures { OnOk result (string_bytes text.new ≡ string_bytes text.old ++ row_text world.now.joint system agg) }
-{
-    for conv in 0..conversations() {
-        push_flow(text, world, system, agg, conv)?;
-    }
-    Ok(())
-}
-
-/// The lines of the conversations of a system with so many aggregators.
-fn push_flows<F: Fn(u16, usize) -> usize + Drop>(
-    text: &mut String,
-    world: &World<AnyCable, F>,
-    system: u8,
-    aggs: u16,
-) -> Result<(), AllocError>
-    ensures { OnOk result (string_bytes text.new ≡ string_bytes text.old ++ flows_text world.now.joint system aggs) }
-{
-    for place in 0..aggs {
-        push_row(text, world, system, place + 1)?;
-    }
-    Ok(())
-}
-
 /// The two directions of a cable without a limit.
 #[tactic(auto, using(crate::proofs::StartLemmas::empty_line))]
 fn first_line(alloc: Global) -> (AnyCable, AnyCable)
@@ -196,14 +126,15 @@ fn report_of<F: Fn(u16, usize) -> usize + Drop>(
     events: &[Event],
     replies: &[Reply],
 ) -> Result<String, AllocError>
-    requires { length replies.now ≡ length events.now }
+    requires replies { length replies.now ≡ length events.now }
+    requires offered { IsSentWhereOffered events.now world.now.joint }
     ensures { IfOk result (λ text. string_bytes text ≡ reported counts.0 counts.1 events.now replies.now world.now.joint) }
 {
     let mut text = String::new(alloc);
     push_entries(&mut text, events, replies)?;
     push_agreements(&mut text, world)?;
-    push_flows(&mut text, world, 1, counts.0)?;
-    push_flows(&mut text, world, 2, counts.1)?;
+    push_flows(alloc, &mut text, world, events, 1, counts.0)?;
+    push_flows(alloc, &mut text, world, events, 2, counts.1)?;
     Ok(text)
 }
 
@@ -218,17 +149,18 @@ fn played<F: Fn(u16, usize) -> usize + Drop>(
     requires one { PicksPlaces (F.pre one) (F.post one) }
     requires two { PicksPlaces (F.pre two) (F.post two) }
     requires accepted { refusal_of config ≡ None }
+    requires named { AllNameExisting (length config.cables.items) events.now }
+    requires few { length events.now ≤ most_events }
     ensures ok { IfOk result (λ report. IsReport (gives_by (F.post one) (F.post two)) config events.now (string_bytes report)) }
     ensures err { IfErr result (λ fault. fault ≡ NoMemory) }
 {
     let counts = counts_of(&config);
     let lines = first_lines(alloc, config.cables.len())?;
-    // The configuration of a script is not refused, and its entries name what there is: only memory
-    // is left to be refused.
-    let Ok(mut world) = World::new(alloc, config, one, two, lines) else {
+    // Nothing but memory is refused here, as the clauses of both calls say.
+    let Ok(mut world) = make(alloc, config, one, two, lines) else {
         return Err(ToolFault::NoMemory);
     };
-    let Ok(replies) = world.run(events) else {
+    let Ok(replies) = play(&mut world, events) else {
         return Err(ToolFault::NoMemory);
     };
     Ok(report_of(alloc, &world, counts, events, &replies)?)
