@@ -1,5 +1,5 @@
 -- The entries of a script name systems and cables that there are.
-use Rattle.std.proofs.Common.{◌≡◌, ◌==◌, ◌+◌, ◌≤◌, ℕ, suc, arith, Bool, true, false, List, [], ◌∷◌, Option, Some, None, length, map, refl, sym, ap, ◌∙◌, subst, if◌then◌else◌}
+use Rattle.std.proofs.Common.{◌≡◌, ◌==◌, ◌+◌, ◌≤◌, ℕ, suc, arith, Bool, true, false, List, [], ◌∷◌, Option, Some, None, length, refl, sym, ap, ◌∙◌, subst, if◌then◌else◌}
 use Rattle.std.specs.Prelude.{◌&&◌, ◌||◌, Result, Ok, Err, codes, is_some, nat_le, option_and_then}
 use Rattle.std.specs.List.{list_all}
 use Rattle.std.specs.Str.{bytes_eq}
@@ -8,9 +8,9 @@ use Rattle.std.proofs.lemmas.Bool.Decides.{nat_tests}
 use Rattle.std.proofs.lemmas.List.{length-map}
 use Rattle.std.proofs.lemmas.Option.{none-some, same_Some}
 use Rattle.toml.specs.Data.{Data, Members, as_str, get_member}
-use Rattle.lagmodel.specs.World.{Side, One, Two}
+use Rattle.lagmodel.specs.World.{One, Two}
 use Rattle.lagscript.specs.Acts.{Act, act_of, acts_of, tick, emit, deliver, lose, repeat, cut, join, sense, restart, configure, offer, move_to, force}
-use Rattle.lagscript.specs.Entries.{Reader, act_at, act_in, act_named, act_of_words, acts_from, at_entry, cable_word, configured, five, five_words, four, four_words, hex_word, kind_word, number_word, one, one_word, plain_named, system_word, three, three_words, ticks_word, two, two_words}
+use Rattle.lagscript.specs.Entries.{Reader, act_at, act_in, act_of_words, acts_from, at_entry, cable_word, configured, five, five_words, four, four_words, hex_word, kind_word, number_word, one, one_word, plain_named, system_word, three, three_words, ticks_word, two, two_words}
 use Rattle.lagscript.specs.Configs.{SystemPlan, refusal_of_all}
 use Rattle.lagscript.specs.Keys.{keys_among, list_in, value_at, value_or}
 use Rattle.lagscript.specs.Readings.{◌>>=◌, in_place, or_fault, unless}

@@ -15,18 +15,18 @@ use Rattle.lagsystem.specs.declared.answers.Received.TheVariants as received
 use Rattle.lagsystem.specs.declared.drive.Reply.{Reply as Answer}
 use Rattle.lagsystem.specs.declared.drive.Reply.TheVariants as answer
 use Rattle.lagsystem.specs.declared.fault.SystemFault.{SystemFault}
-use Rattle.lagsystem.specs.Calls.{Call, Receive, Set_link, Configure, Restart, Transmit, Offer, Move_conversation, Force}
+use Rattle.lagsystem.specs.Calls.{Call, Receive, Set_link, Transmit, Offer, Move_conversation}
 use Rattle.lagsystem.specs.Readers.{conversation_of}
 use Rattle.lagscript.specs.declared.event.Event.{Event}
 use Rattle.lagscript.specs.declared.event.Event.TheVariants as event
 use Rattle.lagworld.specs.declared.reply.Reply.{Reply}
 use Rattle.lagworld.specs.Calls.{Asks, Ticks, forced_where}
-use Rattle.lagworld.specs.Events.{Gives, Does, Runs, side_of, collected, set_at, puts, transmitted, with_flow_of, with_heard, heard_in, Emitted, Arrives, Arrived, DeliversFrom, LosesFrom, RepeatsItem, RepeatsFrom, Offered, offered, count_sent}
+use Rattle.lagworld.specs.Events.{Gives, Does, Runs, side_of, collected, set_at, puts, transmitted, with_flow_of, with_heard, heard_in, Emitted, Arrives, Arrived, DeliversFrom, LosesFrom, RepeatsItem, RepeatsFrom, Offered, count_sent}
 use Rattle.lagworld.specs.Making.{conversations}
 use Rattle.lagworld.specs.Messages.{side_named, side_number}
 use Rattle.lagworld.specs.Readers.{serials_of_system}
 use Rattle.lagworld.specs.Sound.{IsStart}
-use Rattle.lagworld.specs.State.{Carried, Half, Joint, Line, Serials, half, with_half, with_lines, port_at, towards, with_towards, emptied, serials_at, sent_in, at_flow, with_sent, with_collected, with_forced}
+use Rattle.lagworld.specs.State.{Carried, Half, Joint, Line, Serials, half, with_half, port_at, towards, with_towards, serials_at, sent_in, with_sent, with_collected, with_forced}
 use Rattle.lagworld.proofs.Flows.{flow_other_row, read_same}
 use Rattle.lagworld.proofs.Whole.{on_line}
 use Rattle.lagtool.specs.Offered.{IsQuiet, IsSentWhereOffered, is_offered, offers_to}
@@ -66,9 +66,6 @@ asked gives call a s mid j x = of_half s mid j (same_flows (half s j) mid (ap (�
 ticked : (gives : ℕ → ℕ → ℕ → Type 0) (n : ℕ) (old new : Half) → Ticks gives n old new → new.flows ≡ old.flows
 ticked gives zero old new x = ap (λ (h : Half). h.flows) x
 ticked gives (suc n) old new x = ap (λ (h : Half). h.flows) x.2.same ∙ ticked gives n old x.0 x.1
-
-on_lines : (ls : List Line) (j : Joint) → NoneSent j (with_lines j ls)
-on_lines ls j = λ t g k. refl
 
 emitted : (s : Side) (p : ℕ) (a : Result (Option (List ℕ)) SystemFault) (j new : Joint) (r : Reply) → Emitted s p a j r new → NoneSent j new
 emitted s p (Err fault) j new r x = same j new x.1

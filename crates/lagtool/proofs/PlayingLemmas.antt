@@ -1,6 +1,6 @@
 -- Nothing but memory is refused to a script.
 use Rattle.std.proofs.Common.{◌≡◌, ◌+◌, ◌<◌, ◌≤◌, ◌==◌, ℕ, zero, suc, Bool, true, false, List, [], ◌∷◌, Option, Some, None, length, map, replicate, take, refl, sym, ap, ap₂, ◌∙◌, subst, inl, inr, if◌then◌else◌, arith}
-use Rattle.std.specs.Prelude.{◌&&◌, ◌⊎◌, Result, Ok, Err, is_some, nat_le, slice_get}
+use Rattle.std.specs.Prelude.{◌&&◌, is_some, nat_le, slice_get}
 use Rattle.std.specs.List.{list_all}
 use Rattle.std.proofs.lemmas.Bool.{true≢false}
 use Rattle.std.proofs.lemmas.Bool.Decides.{nat_tests}
@@ -8,7 +8,7 @@ use Rattle.std.proofs.lemmas.List.{length-map, length-take-le}
 use Rattle.std.proofs.lemmas.Option.{none-some, same_Some, slice_get_within}
 use Rattle.cables.specs.AnyCable.{any_items, any_limit}
 use Rattle.cables.specs.declared.any.AnyCable.{AnyCable}
-use Rattle.lagmodel.specs.World.{Ends, Fixed}
+use Rattle.lagmodel.specs.World.{Fixed}
 use Rattle.lagscript.specs.Configs.{or_first}
 use Rattle.lagscript.specs.declared.config.BadWorld.{BadWorld}
 use Rattle.lagscript.specs.declared.config.BadWorld.TheVariants.{Lines}
@@ -17,7 +17,7 @@ use Rattle.lagworld.specs.Events.{Gives, Runs, cable_named, cause, fault_for, fi
 use Rattle.lagworld.specs.Making.{Refuses, are_lines, first_line, is_empty}
 use Rattle.lagworld.specs.Messages.{carried}
 use Rattle.lagworld.specs.Sound.{RefusesNext, Stops, next_of}
-use Rattle.lagworld.specs.State.{Carried, Joint, Line, nth}
+use Rattle.lagworld.specs.State.{Joint, Line}
 use Rattle.lagworld.specs.Worlds.{ends_of, fixed_of}
 use Rattle.lagworld.specs.declared.fault.RunFault.{RunFault}
 use Rattle.lagworld.specs.declared.fault.WorldFault.{WorldFault}
