@@ -58,7 +58,7 @@ entries_more n i es rs e r lt lu =
     let on : i + 1 ≡ suc i = omega arith in
     entries_next n i es rs e r lt lu ∙ ap (λ k. entries_text n (take k es) (take k rs)) (sym on)
 
-empties : (f : ℕ → List ℕ) (a m : ℕ) → ((c : ℕ) → a ≤ c → f c ≡ []) → flat_map f (range_with_len a m) ≡ []
+pub empties : (f : ℕ → List ℕ) (a m : ℕ) → ((c : ℕ) → a ≤ c → f c ≡ []) → flat_map f (range_with_len a m) ≡ []
 empties f a zero h = refl
 empties f a (suc m) h = ap₂ (λ x y. x ++ y) (h a (omega arith)) (empties f (a + 1) m (λ c le. h c (omega arith)))
 

@@ -8,6 +8,8 @@ pub mod Checked
 pub mod Scans
 pub mod Begun
 pub mod EntryTexts
+pub mod Naming
+pub mod Offered
 pub mod Replayed
 pub mod Reporting
 pub mod Vectors

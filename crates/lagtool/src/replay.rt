@@ -2,33 +2,27 @@ ghost use Rattle.std.specs.Prelude.{◌≡◌, ◌≢◌, ◌≤◌, ◌++◌, A
 ghost use Rattle.distributor.specs.Calls.{PicksPlaces};
 ghost use Rattle.lagscript.specs.Configs.{refusal_of};
 ghost use Rattle.lagsystem.specs.First.{refusal_of as refusal_of_one};
-ghost use Rattle.lagworld.specs.Events.{side_of};
-ghost use Rattle.lagworld.specs.Making.{conversations};
-ghost use Rattle.lagworld.specs.Readers.{serials_of_system};
+ghost use Rattle.lagworld.specs.Events.{most_events};
 ghost use Rattle.lagworld.specs.Sound.{gives_by};
-ghost use Rattle.lagtool.specs.Replayed.{IsReport, Replays, agreement_line, agreements_text, collected_text, entries_text, entry_line, flow_line, flows_text, row_text};
+ghost use Rattle.lagtool.specs.Naming.{AllNameExisting};
+ghost use Rattle.lagtool.specs.Offered.{IsSentWhereOffered};
+ghost use Rattle.lagtool.specs.Replayed.{IsReport, Replays, agreement_line, agreements_text, entries_text, entry_line};
 ghost use Rattle.lagtool.specs.Reporting.{Counts, reported};
 ghost use Rattle.lagtool.specs.declared.fault.ToolFault.TheVariants.{NoMemory};
 
 use crate::entry_text::EntryText;
 use crate::fault::ToolFault;
+use crate::flows::push_flows;
 use crate::laying::first_lines;
+use crate::playing::{make, play};
 use crate::reply_text::{AgreementText, ReplyText};
 use crate::sink::Sink;
 use cables::AnyCable;
 use lagscript::read_plan;
 use lagsystem::Config;
-use lagtypes::AggId;
 use lagworld::{Agreement, Event, Reply, World, WorldConfig};
 use std::alloc::{AllocError, Global};
 use std::io::Write;
-
-/// How many conversations an aggregator has (profile).
-fn conversations() -> u16
-    ensures { result ≡ conversations }
-{
-    256
-}
 
 /// The line of an entry with its reply.
 fn push_entry(
@@ -86,71 +80,6 @@ fn push_agreements<F: Fn(u16, usize) -> usize + Drop>(
     Ok(())
 }
 
-/// The serials that were collected, each behind a space.
-fn push_collected(text: &mut String, serials: &[u64]) -> Result<(), AllocError>
-    ensures { OnOk result (string_bytes text.new ≡ string_bytes text.old ++ collected_text serials.now) }
-{
-    if serials.is_empty() {
-        return text.push_str(" none");
-    }
-    for serial in serials {
-        write!(text, " {serial}")?;
-    }
-    Ok(())
-}
-
-/// The line of a conversation, if it sent a frame.
-fn push_flow<F: Fn(u16, usize) -> usize + Drop>(
-    text: &mut String,
-    world: &World<AnyCable, F>,
-    system: u8,
-    agg: u16,
-    conv: u16,
-) -> Result<(), AllocError>
-    ensures { OnOk result (string_bytes text.new ≡ string_bytes text.old ++ flow_line system agg conv (serials_of_system (side_of system) agg conv world.now.joint)) }
-{
-    let sent = world.sent(system, AggId(agg), conv).len();
-    if sent == 0 {
-        return Ok(());
-    }
-    write!(text, "flow {system}/{agg}/{conv} sent {sent} collected")?;
-    push_collected(text, world.collected(system, AggId(agg), conv))?;
-    if world.forced(system, AggId(agg), conv) {
-        text.push_str(" forced")?;
-    }
-    text.push_str("\n")
-}
-
-/// The lines of the conversations of an aggregator.
-fn push_row<F: Fn(u16, usize) -> usize + Drop>(
-    text: &mut String,
-    world: &World<AnyCable, F>,
-    system: u8,
-    agg: u16,
-) -> Result<(), AllocError>
-    ensures { OnOk result (string_bytes text.new ≡ string_bytes text.old ++ row_text world.now.joint system agg) }
-{
-    for conv in 0..conversations() {
-        push_flow(text, world, system, agg, conv)?;
-    }
-    Ok(())
-}
-
-/// The lines of the conversations of a system with so many aggregators.
-fn push_flows<F: Fn(u16, usize) -> usize + Drop>(
-    text: &mut String,
-    world: &World<AnyCable, F>,
-    system: u8,
-    aggs: u16,
-) -> Result<(), AllocError>
-    ensures { OnOk result (string_bytes text.new ≡ string_bytes text.old ++ flows_text world.now.joint system aggs) }
-{
-    for place in 0..aggs {
-        push_row(text, world, system, place + 1)?;
-    }
-    Ok(())
-}
-
 /// How many aggregators a system has whose configuration is not refused.
 fn count_of(config: &Config) -> u16
     requires { refusal_of_one config.now ≡ None }
@@ -176,14 +105,15 @@ fn report_of<F: Fn(u16, usize) -> usize + Drop>(
     events: &[Event],
     replies: &[Reply],
 ) -> Result<String, AllocError>
-    requires { length replies.now ≡ length events.now }
+    requires replies { length replies.now ≡ length events.now }
+    requires offered { IsSentWhereOffered events.now world.now.joint }
     ensures { IfOk result (λ text. string_bytes text ≡ reported counts.0 counts.1 events.now replies.now world.now.joint) }
 {
     let mut text = String::new(alloc);
     push_entries(&mut text, events, replies)?;
     push_agreements(&mut text, world)?;
-    push_flows(&mut text, world, 1, counts.0)?;
-    push_flows(&mut text, world, 2, counts.1)?;
+    push_flows(alloc, &mut text, world, events, 1, counts.0)?;
+    push_flows(alloc, &mut text, world, events, 2, counts.1)?;
     Ok(text)
 }
 
@@ -200,19 +130,21 @@ fn played<F: Fn(u16, usize) -> usize + Drop>(
     requires two { PicksPlaces (F.pre two) (F.post two) }
     requires accepted { refusal_of config ≡ None }
     requires limits { All (λ limit. limit ≢ Some 0) limits.now }
+    requires one_each { length limits.now ≡ length config.cables.items }
+    requires named { AllNameExisting (length config.cables.items) events.now }
+    requires few { length events.now ≤ most_events }
     ensures ok { IfOk result (λ report. IsReport (gives_by (F.post one) (F.post two)) config limits.now events.now (string_bytes report)) }
     ensures err { IfErr result (λ fault. fault ≡ NoMemory) }
 {
     let counts = counts_of(&config);
-    // No limit is 0, the configuration of a script is not refused, and its entries name what there is:
-    // only memory is left to be refused.
+    // Nothing but memory is refused here, as the clauses of the three calls say.
     let Ok(lines) = first_lines(alloc, limits) else {
         return Err(ToolFault::NoMemory);
     };
-    let Ok(mut world) = World::new(alloc, config, one, two, lines) else {
+    let Ok(mut world) = make(alloc, config, one, two, lines) else {
         return Err(ToolFault::NoMemory);
     };
-    let Ok(replies) = world.run(events) else {
+    let Ok(replies) = play(&mut world, events) else {
         return Err(ToolFault::NoMemory);
     };
     Ok(report_of(alloc, &world, counts, events, &replies)?)

@@ -1,7 +1,19 @@
-use Rattle.lagworld.specs.Events.{Gives}
+use Rattle.std.proofs.Common.{◌≤◌, List, length, subst, sym}
+use Rattle.lagscript.specs.declared.event.Event.{Event}
+use Rattle.lagworld.specs.Events.{Gives, most_events}
 use Rattle.lagworld.specs.Sound.{gives_by}
+use Rattle.lagtool.specs.Naming.{AllNameExisting}
+use Rattle.lagtool.proofs.NamingLemmas.{plan_few, plan_names}
 use Rattle.lagtool.proofs.StartLemmas.{replayed_is, write_failed}
 use Rattle.lagtool.proofs.replay.replay.Goals as goal
+
+pub played-requires-clause-named : goal.played-requires-clause-named
+played-requires-clause-named g c =
+    subst (AllNameExisting (length c.in_ok-plan.plan.config.cables.items)) (sym c.deref-2.ensures.value) (plan_names c.args.text.now c.in_ok-plan.plan c.in_ok-plan.ensures.reads)
+
+pub played-requires-clause-few : goal.played-requires-clause-few
+played-requires-clause-few g c =
+    subst (λ (es : List Event). length es ≤ most_events) (sym c.deref-2.ensures.value) (plan_few c.args.text.now c.in_ok-plan.plan c.in_ok-plan.ensures.reads)
 
 pub returns-in_err-put : goal.returns-in_err-put
 returns-in_err-put g c =

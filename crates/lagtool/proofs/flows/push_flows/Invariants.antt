@@ -2,7 +2,7 @@ use Rattle.std.proofs.Common.{◌≡◌, ◌++◌}
 use Rattle.std.specs.Prelude.{flat_map, string_bytes}
 use Rattle.std.specs.List.{range_with_len}
 use Rattle.lagtool.specs.Replayed.{row_text}
-use Rattle.lagtool.proofs.replay.push_flows.Given as goal
+use Rattle.lagtool.proofs.flows.push_flows.Given as goal
 
 abbrev pub invariant-loop-place : goal.invariant-loop-place
 invariant-loop-place g l = string_bytes l.text ≡ string_bytes l.initial.text ++ flat_map (row_text l.world.joint l.system) (range_with_len 1 l.place)

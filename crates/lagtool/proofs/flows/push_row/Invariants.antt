@@ -4,7 +4,7 @@ use Rattle.std.specs.List.{range_with_len}
 use Rattle.lagworld.specs.Events.{side_of}
 use Rattle.lagworld.specs.Readers.{serials_of_system}
 use Rattle.lagtool.specs.Replayed.{flow_line}
-use Rattle.lagtool.proofs.replay.push_row.Given as goal
+use Rattle.lagtool.proofs.flows.push_row.Given as goal
 
 abbrev pub invariant-loop-conv : goal.invariant-loop-conv
 invariant-loop-conv g l =

@@ -3,7 +3,7 @@ use Rattle.lagworld.specs.Events.{side_of}
 use Rattle.lagworld.specs.Readers.{serials_of_system}
 use Rattle.lagtool.specs.Replayed.{flow_line}
 use Rattle.lagtool.proofs.ReplayLemmas.{appended_both, range_more}
-use Rattle.lagtool.proofs.replay.push_row.Goals as goal
+use Rattle.lagtool.proofs.flows.push_row.Goals as goal
 
 pub loop-conv-preserved : goal.loop-conv-preserved
 loop-conv-preserved g c =

@@ -1,0 +1,121 @@
+ghost use Rattle.std.specs.Prelude.{◌≡◌, ◌<◌, ◌+◌, ◌++◌, ◌||◌, ℕ, OnOk, IfOk, false, get_or, length, string_bytes};
+ghost use Rattle.lagworld.specs.Events.{side_of};
+ghost use Rattle.lagworld.specs.Making.{conversations};
+ghost use Rattle.lagworld.specs.Readers.{serials_of_system};
+ghost use Rattle.lagtool.specs.Offered.{AreOffers, IsSentWhereOffered, offers_to};
+ghost use Rattle.lagtool.specs.Replayed.{collected_text, flow_line, flows_text, row_text};
+
+use cables::AnyCable;
+use lagtypes::AggId;
+use lagworld::{Event, World};
+use std::alloc::{AllocError, Global};
+
+/// How many conversations an aggregator has (profile).
+fn conversations() -> u16
+    ensures { result ≡ conversations }
+{
+    256
+}
+
+/// The serials that were collected, each behind a space.
+fn push_collected(text: &mut String, serials: &[u64]) -> Result<(), AllocError>
+    ensures { OnOk result (string_bytes text.new ≡ string_bytes text.old ++ collected_text serials.now) }
+{
+    if serials.is_empty() {
+        return text.push_str(" none");
+    }
+    for serial in serials {
+        write!(text, " {serial}")?;
+    }
+    Ok(())
+}
+
+/// The line of a conversation, if it sent a frame.
+fn push_flow<F: Fn(u16, usize) -> usize + Drop>(
+    text: &mut String,
+    world: &World<AnyCable, F>,
+    system: u8,
+    agg: u16,
+    conv: u16,
+) -> Result<(), AllocError>
+    ensures { OnOk result (string_bytes text.new ≡ string_bytes text.old ++ flow_line system agg conv (serials_of_system (side_of system) agg conv world.now.joint)) }
+{
+    let sent = world.sent(system, AggId(agg), conv).len();
+    if sent == 0 {
+        return Ok(());
+    }
+    write!(text, "flow {system}/{agg}/{conv} sent {sent} collected")?;
+    push_collected(text, world.collected(system, AggId(agg), conv))?;
+    if world.forced(system, AggId(agg), conv) {
+        text.push_str(" forced")?;
+    }
+    text.push_str("\n")
+}
+
+/// The lines of the conversations of an aggregator.
+fn push_row<F: Fn(u16, usize) -> usize + Drop>(
+    text: &mut String,
+    world: &World<AnyCable, F>,
+    system: u8,
+    agg: u16,
+) -> Result<(), AllocError>
+    ensures { OnOk result (string_bytes text.new ≡ string_bytes text.old ++ row_text world.now.joint system agg) }
+{
+    for conv in 0..conversations() {
+        push_flow(text, world, system, agg, conv)?;
+    }
+    Ok(())
+}
+
+/// Notes the aggregator that an event offers a frame to, if it is of this system.
+fn note_offer(flags: &mut [bool], system: u8, event: &Event)
+    ensures length { length flags.new ≡ length flags.old }
+    ensures flags { (agg : ℕ) → agg < length flags.old → get_or flags.new agg false ≡ (get_or flags.old agg false || offers_to system agg event.now) }
+{
+    if let Event::Offer(number, agg, _) = event {
+        let place = usize::from(agg.0);
+        if *number == system && place < flags.len() {
+            flags[place] = true;
+        }
+    }
+}
+
+/// Of each aggregator of a system, by its number, whether an event offers a frame to it. No aggregator has the number 0.
+fn offers_of(
+    alloc: Global,
+    events: &[Event],
+    system: u8,
+    aggs: u16,
+) -> Result<Vec<bool>, AllocError>
+    ensures length { IfOk result (λ flags. length flags.items ≡ aggs + 1) }
+    ensures flags { IfOk result (λ flags. AreOffers system events.now flags.items) }
+{
+    let mut flags = vec![in alloc; false; usize::from(aggs) + 1]?;
+    for event in events {
+        note_offer(&mut flags, system, event);
+    }
+    Ok(flags)
+}
+
+/// The lines of the conversations of a system with so many aggregators, after these events. Only an aggregator that they
+/// offer a frame to is asked.
+pub(crate) fn push_flows<F: Fn(u16, usize) -> usize + Drop>(
+    alloc: Global,
+    text: &mut String,
+    world: &World<AnyCable, F>,
+    events: &[Event],
+    system: u8,
+    aggs: u16,
+) -> Result<(), AllocError>
+    requires { IsSentWhereOffered events.now world.now.joint }
+    ensures { OnOk result (string_bytes text.new ≡ string_bytes text.old ++ flows_text world.now.joint system aggs) }
+{
+    let offers = offers_of(alloc, events, system, aggs)?;
+    for place in 0..aggs {
+        let agg = place + 1;
+        if offers[usize::from(agg)] {
+            push_row(text, world, system, agg)?;
+        }
+    }
+    Ok(())
+}
