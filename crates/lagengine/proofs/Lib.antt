@@ -4,3 +4,7 @@ pub mod LookLemmas
 pub mod LineLemmas
 pub mod EngineLemmas
 pub mod Walks
+pub mod InputLemmas
+pub mod SinkLemmas
+pub mod SessionLemmas
+pub mod ServeLemmas

@@ -5,3 +5,8 @@ pub mod Looks
 pub mod Said
 pub mod Texts
 pub mod Engines
+pub mod Inputs
+pub mod Sources
+pub mod Sinks
+pub mod Sessions
+pub mod Serves

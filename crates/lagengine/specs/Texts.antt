@@ -33,8 +33,8 @@ use Rattle.lagengine.specs.declared.looks.Look.{Look}
 use Rattle.lagengine.specs.declared.looks.PortFact.{PortFact}
 use Rattle.lagengine.specs.declared.looks.PortFact.TheVariants as fact
 use Rattle.lagengine.specs.declared.looks.PortTold.{PortTold}
-use Rattle.lagengine.specs.declared.serve.Stopped.{Stopped}
-use Rattle.lagengine.specs.declared.serve.Stopped.TheVariants as stopped
+use Rattle.lagengine.specs.declared.stopped.Stopped.{Stopped}
+use Rattle.lagengine.specs.declared.stopped.Stopped.TheVariants as stopped
 
 -- the texts of a list, one behind another
 abbrev pub each_text : {A : Type 0} → (A → List ℕ) → List A → List ℕ

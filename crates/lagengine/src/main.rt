@@ -6,6 +6,7 @@
 
 ghost use Rattle.std.specs.Prelude.{◌≡◌, ◌<◌};
 ghost use Rattle.distributor.specs.Calls.{place_by_number};
+ghost use Rattle.lagengine.specs.Serves.{status_of};
 
 mod answer;
 mod calls;
@@ -17,14 +18,21 @@ mod looks;
 mod replies;
 mod request;
 mod serve;
+mod session;
+mod sink;
+mod source;
+mod stopped;
 #[cfg(test)]
 mod tests;
 mod words;
 
-use serve::{Stopped, serve};
+use serve::serve;
+use sink::Sink;
+use source::Source;
 use std::io;
-use std::io::{BufWriter, Input};
+use std::io::Input;
 use std::process::ExitCode;
+use stopped::Stopped;
 
 /// The distribution algorithm of the program: the number of the conversation modulo the count of ports, and 0 if there
 /// are none (profile).
@@ -37,18 +45,26 @@ fn by_number(conversation: u16, count: usize) -> usize
 
 /// Serves standard input and output.
 fn run<R: Print + Input + AllocGlobal>(rt: &R) -> Result<(), Stopped> {
-    match BufWriter::new(rt.alloc(), io::writer(rt)) {
-        Ok(mut out) => serve(rt.alloc(), by_number, &mut rt.reader(), &mut out),
-        Err(_) => Err(Stopped::NoMemory),
+    let mut source = Source::new(rt.reader());
+    let mut sink = Sink::new(io::writer(rt));
+    serve(rt.alloc(), by_number, &mut source, &mut sink)
+}
+
+/// The status of the program: 0 where the input ended, else 2 (profile).
+fn status_of(ended: &Result<(), Stopped>) -> u8
+    ensures { result ≡ status_of ended.now }
+{
+    match ended {
+        Ok(()) => 0,
+        Err(_) => 2,
     }
 }
 
 fn main(rt: HostRuntime) -> ExitCode {
-    match run(&rt) {
-        Ok(()) => ExitCode::SUCCESS,
-        Err(why) => {
-            let _ = eprintln!(rt; "lagengine: {why}");
-            ExitCode::from(2)
-        }
+    let ended = run(&rt);
+    let status = status_of(&ended);
+    if let Err(why) = ended {
+        let _ = eprintln!(rt; "lagengine: {why}");
     }
+    ExitCode::from(status)
 }

@@ -1,7 +1,10 @@
 ghost use Rattle.std.specs.Prelude.{◌≡◌};
 
 use crate::by_number;
-use crate::serve::{Stopped, serve};
+use crate::serve::serve;
+use crate::sink::Sink;
+use crate::source::Source;
+use crate::stopped::Stopped;
 use std::alloc::{AllocError, Global};
 use std::io;
 use std::io::{Read, Write};
@@ -243,12 +246,14 @@ struct Outcome {
 }
 
 /// What comes of the reader's octets, with room for so many octets of answers.
-fn outcome_of(alloc: Global, mut input: Given<'_>, room: usize) -> Result<Outcome, AllocError> {
-    let mut out = Taken {
+fn outcome_of(alloc: Global, input: Given<'_>, room: usize) -> Result<Outcome, AllocError> {
+    let mut source = Source::new(input);
+    let mut sink = Sink::new(Taken {
         octets: Vec::new(alloc),
         room,
-    };
-    let ended = serve(alloc, by_number, &mut input, &mut out);
+    });
+    let ended = serve(alloc, by_number, &mut source, &mut sink);
+    let out = sink.into_inner();
     let text = String::from_utf8_lossy(alloc, out.octets.as_slice())?;
     Ok(Outcome { ended, text })
 }

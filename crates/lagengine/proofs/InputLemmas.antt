@@ -1,0 +1,95 @@
+-- The lines of octets that come one after another, and what they ask for.
+use Rattle.std.proofs.Common.{ℕ, zero, suc, ◌+◌, ◌<◌, ◌≡◌, ◌++◌, ◌==◌, true, false, cond, Bool, List, [], ◌∷◌, length, map, take, refl, sym, ap, ◌∙◌, append_assoc, arith}
+use Rattle.std.proofs.lemmas.List.{append-nil, length-append, map-append, take-map, take_at}
+use Rattle.std.proofs.lemmas.Bool.{eqb-true, lt-ltb}
+use Rattle.std.specs.Prelude.{Result, Err}
+use Rattle.lagengine.specs.Inputs.{close, lines_of, newlines, prepend}
+use Rattle.lagengine.specs.Lines.{longest, request_in}
+use Rattle.lagengine.specs.Requests.{Line}
+use Rattle.lagengine.specs.Sessions.{requests}
+use Rattle.lagengine.specs.declared.fault.LineFault.{LineFault}
+use Rattle.lagengine.specs.declared.fault.LineFault.TheVariants.{TooLong}
+
+pub prepend_none : (ls : List (List ℕ)) → prepend [] ls ≡ ls
+prepend_none [] = refl
+prepend_none (l ∷ ls) = refl
+
+prepend_both : (line xs : List ℕ) (ls : List (List ℕ)) → prepend line (prepend xs ls) ≡ prepend (line ++ xs) ls
+prepend_both line [] [] = ap close (sym (append-nil line))
+prepend_both [] (x ∷ xs) [] = refl
+prepend_both (y ∷ ys) (x ∷ xs) [] = refl
+prepend_both line xs (l ∷ ls) = ap (λ m. m ∷ ls) (sym (append_assoc line xs l))
+
+is_not : (t : Bool) (P : Type 0) → (t ≡ true → P) → (P → ⊥) → t ≡ false
+is_not true P f h = absurd (h (f refl))
+is_not false P f h = refl
+
+pub not_newline : (x : ℕ) → (x ≡ 10 → ⊥) → (x == 10) ≡ false
+not_newline x h = is_not (x == 10) (x ≡ 10) (eqb-true x 10) h
+
+pub is_newline : (x : ℕ) → x ≡ 10 → (x == 10) ≡ true
+is_newline x e = ap (λ n. n == 10) e
+
+-- an octet that is no newline
+pub octet_joined : (line rest : List ℕ) (x : ℕ) → (x == 10) ≡ false → prepend line (lines_of (x ∷ rest)) ≡ prepend (line ++ x ∷ []) (lines_of rest)
+octet_joined line rest x e =
+    ap (λ t. prepend line (cond t ([] ∷ lines_of rest) (prepend (x ∷ []) (lines_of rest)))) e ∙ prepend_both line (x ∷ []) (lines_of rest)
+
+-- a newline
+pub newline_joined : (line rest : List ℕ) (x : ℕ) → (x == 10) ≡ true → prepend line (lines_of (x ∷ rest)) ≡ line ∷ prepend [] (lines_of rest)
+newline_joined line rest x e =
+    ap (λ t. prepend line (cond t ([] ∷ lines_of rest) (prepend (x ∷ []) (lines_of rest)))) e
+    ∙ ap (λ l. l ∷ lines_of rest) (append-nil line) ∙ ap (λ ls. line ∷ ls) (sym (prepend_none (lines_of rest)))
+
+pub one_newline : (x : ℕ) → (x == 10) ≡ true → 1 ≡ newlines (x ∷ [])
+one_newline x e = sym (ap (λ t. cond t (suc (newlines [])) (newlines [])) e)
+
+pub no_newline : (x : ℕ) → (x == 10) ≡ false → 0 ≡ newlines (x ∷ [])
+no_newline x e = sym (ap (λ t. cond t (suc (newlines [])) (newlines [])) e)
+
+pub newlines_both : (xs ys : List ℕ) → newlines (xs ++ ys) ≡ newlines xs + newlines ys
+newlines_both [] ys = omega arith
+newlines_both (x ∷ xs) ys = one_more (x == 10) (newlines (xs ++ ys)) (newlines xs) (newlines ys) (newlines_both xs ys)
+  where
+    one_more : (t : Bool) (n m k : ℕ) → n ≡ m + k → cond t (suc n) n ≡ cond t (suc m) m + k
+    one_more true n m k e = omega (arith, e)
+    one_more false n m k e = e
+
+pub not_zero : (n : ℕ) → (n == 0) ≡ false → 0 < n
+not_zero zero e = absurd (cc)
+not_zero (suc n) e = omega arith
+
+-- a line that ends here
+pub closed : (line : List ℕ) → 0 < length line → close line ≡ line ∷ []
+closed [] h = absurd (omega arith)
+closed (x ∷ xs) h = refl
+
+pub requests_both : (a b : List (List ℕ)) → requests (a ++ b) ≡ requests a ++ requests b
+unfolding requests
+requests_both a b = map-append request_in a b
+
+-- the first lines, where all lines ask for what these and later ones do
+pub first_lines : (all lines later : List (List ℕ)) (n : ℕ) → requests all ≡ requests (lines ++ later) → length lines ≡ n → requests lines ≡ requests (take n all)
+unfolding requests
+first_lines all lines later n e long =
+    sym (ap (map request_in) (take_at lines later n long)) ∙ sym (take-map request_in n (lines ++ later)) ∙ sym (ap (take n) e) ∙ take-map request_in n all
+
+long_line : (line : List ℕ) → longest < length line → request_in line ≡ Err TooLong
+long_line line h = rw (lt-ltb longest (length line) h) refl
+
+-- two first lines that are too long, whatever more of them comes
+same_long : (l m : List ℕ) (ls : List (List ℕ)) → longest < length l → longest < length m → requests (prepend l ls) ≡ requests (prepend m ls)
+unfolding requests
+same_long [] m ls h j = absurd (omega arith)
+same_long (x ∷ l) [] ls h j = absurd (omega arith)
+same_long (x ∷ l) (y ∷ m) [] h j = ap (λ r. r ∷ []) (long_line (x ∷ l) h ∙ sym (long_line (y ∷ m) j))
+same_long (x ∷ l) (y ∷ m) (k ∷ ls) h j =
+    let one : longest < length ((x ∷ l) ++ k) = simp length-append (omega arith) in
+    let other : longest < length ((y ∷ m) ++ k) = simp length-append (omega arith) in
+    ap (λ r. r ∷ map request_in ls) (long_line ((x ∷ l) ++ k) one ∙ sym (long_line ((y ∷ m) ++ k) other))
+
+-- an octet of a line that is too long already
+pub long_joined : (line rest : List ℕ) (x : ℕ) → (x == 10) ≡ false → longest < length line → requests (prepend line (lines_of (x ∷ rest))) ≡ requests (prepend line (lines_of rest))
+long_joined line rest x e h =
+    let more : longest < length (line ++ x ∷ []) = simp length-append (omega arith) in
+    ap requests (octet_joined line rest x e) ∙ same_long (line ++ x ∷ []) line (lines_of rest) more h

@@ -1,0 +1,110 @@
+ghost use Rattle.std.specs.Prelude.{◌≡◌, ◌≤◌, ◌<◌, length, take, true, false, IfOk, OnOk, OnErr};
+ghost use Rattle.std.specs.Io.KnownBytes.{Keeps};
+ghost use Rattle.lagengine.specs.Sinks.{Breaks, Flushes, Sends, Takes};
+
+use std::io::Write;
+use std::marker::Model;
+
+/// A writer that remembers whether it failed, and whether it was flushed (profile).
+#[derive(Drop)]
+pub struct Sink<W: Write> {
+    inner: W,
+    failed: bool,
+    /// Whether it took octets since it was last flushed.
+    unflushed: bool,
+}
+
+impl<W: Write> Model for Sink<W> {
+    ghost use Rattle.lagengine.specs.Sinks.{SinkState};
+
+    ghost Value = { SinkState W };
+
+    ghost view = { λ s. record { writer = s.inner; failed = s.failed; unflushed = s.unflushed } };
+}
+
+/// The sink took not all of what it was given, or was not flushed.
+#[derive(Clone, Copy, Debug, PartialEq, Eq)]
+pub struct WriteFailed;
+
+impl<W: Write> Sink<W> {
+    /// A sink that has not failed.
+    pub fn new(inner: W) -> Self
+        ensures { result ≡ record { writer = inner; failed = false; unflushed = false } }
+    {
+        Sink {
+            inner,
+            failed: false,
+            unflushed: false,
+        }
+    }
+
+    /// Gives the writer back.
+    #[cfg(test)]
+    pub fn into_inner(self) -> W
+        ensures { result ≡ self.writer }
+    {
+        let Sink {
+            inner,
+            failed: _,
+            unflushed: _,
+        } = self;
+        inner
+    }
+
+    /// Writes some of the octets.
+    fn put_some(&mut self, octets: &[u8]) -> Result<usize, WriteFailed>
+        requires { 0 < length octets.now }
+        ensures some { IfOk result (λ n. (0 < n) × (n ≤ length octets.now)) }
+        ensures ok { IfOk result (λ n. Takes W.contents self.old self.new (take n octets.now)) }
+        ensures unflushed { OnOk result (self.new.unflushed ≡ true) }
+        ensures err { OnErr result (Keeps (W.contents self.old.writer) (W.contents self.new.writer) × (self.new.failed ≡ true)) }
+    {
+        match self.inner.write(octets) {
+            Ok(n) if n > 0 => {
+                self.unflushed = true;
+                Ok(n)
+            }
+            _ => {
+                self.failed = true;
+                Err(WriteFailed)
+            }
+        }
+    }
+
+    /// Writes all of the octets; after a failure a beginning of them is written.
+    fn put(&mut self, octets: &[u8]) -> Result<(), WriteFailed>
+        ensures ok { OnOk result (Takes W.contents self.old self.new octets.now) }
+        ensures err { OnErr result (Breaks W.contents self.old self.new octets.now) }
+    {
+        let mut rest = octets;
+        while !rest.is_empty() {
+            let n = self.put_some(rest)?;
+            rest = &rest[n..];
+        }
+        Ok(())
+    }
+
+    /// Lets nothing wait in the writer.
+    fn flush(&mut self) -> Result<(), WriteFailed>
+        ensures ok { OnOk result (Flushes W.contents self.old self.new) }
+        ensures err { OnErr result (Keeps (W.contents self.old.writer) (W.contents self.new.writer) × (self.new.failed ≡ true)) }
+    {
+        if self.inner.flush().is_err() {
+            self.failed = true;
+            return Err(WriteFailed);
+        }
+        self.unflushed = false;
+        Ok(())
+    }
+
+    /// Writes all of the octets at once: none of them waits in the writer. After a failure a beginning of them is written.
+    pub fn send(&mut self, octets: &[u8]) -> Result<(), WriteFailed>
+        ensures ok { OnOk result (Sends W.contents self.old self.new octets.now) }
+        ensures flushed { OnOk result (self.new.unflushed ≡ false) }
+        ensures err { OnErr result (Breaks W.contents self.old self.new octets.now) }
+    {
+        self.put(octets)?;
+        self.flush()?;
+        Ok(())
+    }
+}

@@ -1,0 +1,63 @@
+ghost use Rattle.std.specs.Prelude.{◌≡◌, ◌≤◌, ◌<◌, ◌^◌, ◌-◌, length, take, false, IfOk, OnErr};
+ghost use Rattle.std.specs.Io.KnownBytes.{IsAtEnd};
+ghost use Rattle.lagengine.specs.Sources.{Fails, Gives};
+
+use std::io::Read;
+use std::marker::Model;
+
+/// A reader that remembers whether it failed, and gives at most 2^64 - 1 octets (profile).
+#[derive(Drop)]
+pub struct Source<R: Read> {
+    inner: R,
+    failed: bool,
+    /// How many octets it may still give.
+    left: u64,
+}
+
+impl<R: Read> Model for Source<R> {
+    ghost use Rattle.lagengine.specs.Sources.{SourceState};
+
+    ghost Value = { SourceState R };
+
+    ghost view = { λ s. record { reader = s.inner; failed = s.failed; left = s.left } };
+}
+
+/// The source failed.
+#[derive(Clone, Copy, Debug, PartialEq, Eq)]
+pub struct ReadFailed;
+
+impl<R: Read> Source<R> {
+    /// A source that has not failed.
+    pub fn new(inner: R) -> Self
+        ensures reader { result.reader ≡ inner }
+        ensures failed { result.failed ≡ false }
+        ensures left { result.left ≡ 2 ^ 64 - 1 }
+    {
+        Source {
+            inner,
+            failed: false,
+            left: u64::MAX,
+        }
+    }
+
+    /// Reads to the front of `piece`, which has room for at least one octet, and answers how many octets came: 0 only at the
+    /// end. `ReadFailed` comes if the reader failed, or gave more than the source may still give.
+    pub fn read(&mut self, piece: &mut [u8]) -> Result<usize, ReadFailed>
+        requires { 0 < length piece.old }
+        ensures bound { IfOk result (λ n. n ≤ length piece.new) }
+        ensures ok { IfOk result (λ n. Gives R.remaining self.old self.new (take n piece.new)) }
+        ensures end { IfOk result (λ n. n ≡ 0 → IsAtEnd (R.remaining self.new.reader)) }
+        ensures err { OnErr result (Fails R.remaining self.old self.new) }
+    {
+        match self.inner.read(piece) {
+            Ok(n) if n as u64 <= self.left => {
+                self.left -= n as u64;
+                Ok(n)
+            }
+            _ => {
+                self.failed = true;
+                Err(ReadFailed)
+            }
+        }
+    }
+}
