@@ -2,7 +2,10 @@ mod agreements;
 mod changes;
 mod conversations;
 mod given;
+mod memory;
 mod refusals;
+mod restarts;
+mod scripted;
 mod starts;
 
 use crate::worlds::given::{Setting, lines, modulo, world_config};
