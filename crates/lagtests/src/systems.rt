@@ -2,9 +2,11 @@ mod configurations;
 mod conversations;
 mod driven;
 mod frames;
+mod hostile;
 mod load;
 mod memory;
 mod plan;
+mod truncated;
 
 ghost use Rattle.std.specs.Prelude.{◌<◌};
 
@@ -71,7 +73,7 @@ enum Row<'a> {
 
 /// What the readers tell of a port.
 #[derive(Clone, Copy, Debug, PartialEq, Eq)]
-struct Seen {
+pub(crate) struct Seen {
     party: Option<Party>,
     partner: Option<Info>,
     group: Option<Group>,
@@ -111,7 +113,7 @@ fn modulo(conv: u16, count: usize) -> usize
     }
 }
 
-fn look<F: Fn(u16, usize) -> usize + Drop>(system: &System<F>, port: u16) -> Seen {
+pub(crate) fn look<F: Fn(u16, usize) -> usize + Drop>(system: &System<F>, port: u16) -> Seen {
     Seen {
         party: system.party(port),
         partner: system.partner(port),

@@ -2,8 +2,11 @@ mod agreements;
 mod changes;
 mod conversations;
 mod given;
+mod memory;
 mod planned;
 mod refusals;
+mod restarts;
+mod scripted;
 mod starts;
 
 use crate::worlds::given::{Setting, lines, modulo, world_config};

@@ -10,7 +10,10 @@ use std::io::Write;
 use std::test::Fail;
 
 mod checks;
+mod memory;
 mod replays;
+mod spent;
+mod streams;
 
 /// A text in hexadecimal: each piece, and how often it stands there.
 type Pieces = &'static [(&'static str, usize)];

@@ -22,7 +22,7 @@ fn marker_frame() -> [u8; 124] {
 }
 
 /// The response of port 2 to it.
-fn response_frame() -> [u8; 124] {
+pub(crate) fn response_frame() -> [u8; 124] {
     padded(&[
         1, 0x80, 0xc2, 0, 0, 2, 2, 0, 0, 0, 0, 2, 0x88, 9, 2, 1, 2, 16, 0, 1, 2, 0, 0, 0, 0, 1,
         255, 255, 255, 255,
@@ -62,9 +62,9 @@ fn three_answers_then_the_window_then_a_restart(rt: HostRuntime) -> Result<(), F
     Ok(())
 }
 
-#[test]
-fn another_key_of_the_partner(rt: HostRuntime) -> Result<(), Fail> {
-    let rows = [
+/// Two ports come up in aggregator 1, and the partner of port 1 has another key then.
+pub(crate) fn other_key() -> [Row<'static>; 16] {
+    [
         Row::Link(1, true),
         Row::Link(2, true),
         Row::Hears(1, &DATA, Received::Dropped),
@@ -81,9 +81,13 @@ fn another_key_of_the_partner(rt: HostRuntime) -> Result<(), Fail> {
         Row::Distributing(2, &[]),
         Row::Chosen(1, Choice::Selected(AggId(2))),
         Row::Mux(1, MuxState::Waiting),
-    ];
+    ]
+}
+
+#[test]
+fn another_key_of_the_partner(rt: HostRuntime) -> Result<(), Fail> {
     let given = config(rt.alloc(), &[1, 2], 2)?;
-    plays(&rt, rt.alloc(), given, &rows)?;
+    plays(&rt, rt.alloc(), given, &other_key())?;
     Ok(())
 }
 
@@ -125,25 +129,6 @@ fn frames_that_change_nothing(rt: HostRuntime) -> Result<(), Fail> {
     ];
     let given = config(rt.alloc(), &[2], 1)?;
     plays(&rt, rt.alloc(), given, &rows)?;
-    Ok(())
-}
-
-#[test]
-fn frames_that_are_cut_short(rt: HostRuntime) -> Result<(), Fail> {
-    let response = response_frame();
-    for count in 0..124 {
-        let answer = if count < 14 {
-            Received::Dropped
-        } else {
-            Received::Ignored(WireFault::Short { have: count - 14 })
-        };
-        let rows = [
-            Row::Link(2, true),
-            Row::Keeps(2, &response[..count], answer),
-        ];
-        let given = config(rt.alloc(), &[2], 1)?;
-        plays(&rt, rt.alloc(), given, &rows)?;
-    }
     Ok(())
 }
 

@@ -6,7 +6,7 @@ use crate::worlds::{Entry, F48, Flow, Row, Want, plays, runs, steps};
 use lagworld::{Agreement, Reply};
 use std::test::Fail;
 
-const MOVES: [(Entry, Want); 16] = [
+pub(crate) const MOVES: [(Entry, Want); 16] = [
     (Offer(1, 1, &F48), Is(Reply::Port(1, 0, true))),
     (Offer(1, 1, &F48), Is(Reply::Port(1, 1, true))),
     (Offer(1, 1, &F48), Is(Reply::Port(1, 2, true))),

@@ -8,15 +8,16 @@ use crate::tests::{HEAD, MARKER, Pieces, SLOW, TO_ALL, joined, sink_of};
 use std::alloc::{AllocError, Global};
 use std::io;
 use std::io::Read;
+use std::process::Abort;
 use std::test::Fail;
 
 /// A reader that gives `first` octets, then `size` a read, and fails after so many reads.
 #[derive(Drop)]
-struct Piecewise<'a> {
-    rest: &'a [u8],
-    first: usize,
-    size: usize,
-    reads: usize,
+pub(crate) struct Piecewise<'a> {
+    pub rest: &'a [u8],
+    pub first: usize,
+    pub size: usize,
+    pub reads: usize,
 }
 
 impl Read for Piecewise<'_> {
@@ -35,7 +36,7 @@ impl Read for Piecewise<'_> {
 }
 
 /// The octets in reads of any size, none of which fails.
-fn whole(rest: &[u8]) -> Piecewise<'_> {
+pub(crate) fn whole(rest: &[u8]) -> Piecewise<'_> {
     Piecewise {
         rest,
         first: usize::MAX,
@@ -232,11 +233,8 @@ fn a_line_of_each_length_around_the_limit(rt: HostRuntime) -> Result<(), Fail> {
     Ok(())
 }
 
-/// An LACPDU frame that ends after each octet.
-#[test]
-fn truncated_frames(rt: HostRuntime) -> Result<(), Fail> {
-    let alloc = rt.alloc();
-    let (pieces, _, _) = LINES[0];
+/// A frame that ends after each octet.
+fn truncated(rt: &impl Abort, alloc: Global, pieces: Pieces, kind: &str) -> Result<(), AllocError> {
     let frame = joined(alloc, pieces)?;
     for n in 0u64..=124 {
         let mut line = Vec::new(alloc);
@@ -247,7 +245,7 @@ fn truncated_frames(rt: HostRuntime) -> Result<(), Fail> {
         let have = n.saturating_sub(14);
         let verdict = match n {
             0..=13 => String::from_str(alloc, "runt")?,
-            124 => String::from_str(alloc, "lacpdu")?,
+            124 => String::from_str(alloc, kind)?,
             _ => format!(in alloc; "refused 1 short have {have}")?,
         };
         let seen = outcome_of(alloc, whole(line.as_slice()))?;
@@ -257,7 +255,24 @@ fn truncated_frames(rt: HostRuntime) -> Result<(), Fail> {
     Ok(())
 }
 
-const FILE: &[u8] = b"00\nzz\r\n\n0200000000200200000000100800\r\n0";
+/// The answer to a marker, from port 2.
+const ANSWER: Pieces = &[
+    (TO_ALL, 1),
+    ("020000000002", 1),
+    (SLOW, 1),
+    (RESPONSE, 1),
+    ("00", 94),
+];
+
+#[test]
+fn truncated_frames(rt: HostRuntime) -> Result<(), Fail> {
+    let (lacpdu, _, _) = LINES[0];
+    truncated(&rt, rt.alloc(), lacpdu, "lacpdu")?;
+    truncated(&rt, rt.alloc(), ANSWER, "marker-response")?;
+    Ok(())
+}
+
+pub(crate) const FILE: &[u8] = b"00\nzz\r\n\n0200000000200200000000100800\r\n0";
 
 const VERDICTS: [&str; 5] = ["runt", "not hex", "runt", "data", "not hex"];
 

@@ -10,7 +10,7 @@ use std::alloc::Global;
 use std::test::Fail;
 
 /// Two systems with two ports each that ask for long timeouts.
-const TWO_PORTS: &str = r#"
+pub(crate) const TWO_PORTS: &str = r#"
 [[system]]
 mac = "02-00-00-00-00-01"
 aggregators = [1]
@@ -35,7 +35,7 @@ key = 1
 short = false
 "#;
 
-const TWO_CABLES: &str = "[[cable]]
+pub(crate) const TWO_CABLES: &str = "[[cable]]
 ends = [1, 1]
 [[cable]]
 ends = [2, 2]
@@ -69,7 +69,7 @@ limit = 8
 ";
 
 /// Both ends of both cables come to distribute.
-const BOTH_UP: &str = r#"events = [
+pub(crate) const BOTH_UP: &str = r#"events = [
     "sense 1 1",
     "sense 1 2",
     "sense 2 1",
@@ -96,7 +96,7 @@ const BOTH_UP: &str = r#"events = [
     "deliver 2 1",
 "#;
 
-const BOTH_UP_TEXT: &str = "1 sense 1 1 -> up
+pub(crate) const BOTH_UP_TEXT: &str = "1 sense 1 1 -> up
 2 sense 1 2 -> up
 3 sense 2 1 -> up
 4 sense 2 2 -> up
@@ -123,7 +123,7 @@ const BOTH_UP_TEXT: &str = "1 sense 1 1 -> up
 ";
 
 /// A conversation moves behind a marker.
-const MOVE: &str = r#"    "offer 1 1 0200000000200200000000100800",
+pub(crate) const MOVE: &str = r#"    "offer 1 1 0200000000200200000000100800",
     "offer 1 1 0200000000200200000000100800",
     "offer 1 1 0200000000200200000000100800",
     "move 1 1 48 2",
@@ -142,7 +142,8 @@ const MOVE: &str = r#"    "offer 1 1 0200000000200200000000100800",
 ]
 "#;
 
-const MOVE_TEXT: &str = "25 offer 1 1 0200000000200200000000100800 -> port 1 serial 0 sent
+pub(crate) const MOVE_TEXT: &str =
+    "25 offer 1 1 0200000000200200000000100800 -> port 1 serial 0 sent
 26 offer 1 1 0200000000200200000000100800 -> port 1 serial 1 sent
 27 offer 1 1 0200000000200200000000100800 -> port 1 serial 2 sent
 28 move 1 1 48 2 -> moved
@@ -164,7 +165,7 @@ flow 1/1/48 sent 4 collected 0 1 2 3
 ";
 
 /// What is written of a script of these entries and this configuration.
-fn replayed(alloc: Global, pieces: &[&str]) -> Result<String, ToolFault> {
+pub(crate) fn replayed(alloc: Global, pieces: &[&str]) -> Result<String, ToolFault> {
     let mut script = String::new(alloc);
     for piece in pieces {
         script.push_str(*piece)?;

@@ -1,0 +1,340 @@
+ghost use Rattle.std.specs.Prelude.{◌<◌};
+
+use crate::systems::{config, end, lacpdu, mac, marker, modulo, zero};
+use lagsystem::{AggId, Info, Key, Received, System, SystemFault, SystemId};
+use slowpdu::{MarkerKind, frame};
+use std::process::Abort;
+use std::test::Fail;
+
+/// A linear congruence: the same octets in each run.
+#[derive(Drop)]
+struct Congruence {
+    number: u32,
+}
+
+impl Congruence {
+    fn octet(&mut self) -> u8 {
+        self.number = self
+            .number
+            .wrapping_mul(1_664_525)
+            .wrapping_add(1_013_904_223);
+        let [high, _, _, _] = self.number.to_be_bytes();
+        high
+    }
+
+    fn below(&mut self, count: u8) -> u8
+        requires { 0 < count }
+        ensures { result < count }
+    {
+        self.octet() % count
+    }
+
+    /// True once in so many times.
+    fn one_in(&mut self, count: u8) -> bool
+        requires { 0 < count }
+    {
+        self.below(count) == 0
+    }
+
+    fn port(&mut self) -> u16 {
+        if self.one_in(2) { 1 } else { 2 }
+    }
+
+    fn octets(&mut self) -> [u8; 200] {
+        let mut octets = [0; 200];
+        for octet in octets.iter_mut() {
+            *octet = self.octet();
+        }
+        octets
+    }
+}
+
+/// The peers that the frames speak for: the last octet of the system, and the key, of the one at port 1 and of the one at
+/// port 2.
+#[derive(Clone, Copy)]
+struct Peers {
+    first: (u8, u16),
+    second: (u8, u16),
+}
+
+impl Peers {
+    /// The peer of a port becomes another one, or stays.
+    fn wander(&mut self, draw: &mut Congruence, port: u16) {
+        let system = if draw.one_in(3) { 3 } else { 2 };
+        let key = if draw.one_in(3) { 2 } else { 1 };
+        if port == 1 {
+            self.first = (system, key);
+        } else {
+            self.second = (system, key);
+        }
+    }
+
+    /// The peer of a port, mostly in a state in which the port may distribute.
+    fn actor(&self, draw: &mut Congruence, port: u16) -> Info {
+        let (system, key) = if port == 1 { self.first } else { self.second };
+        let state = if draw.one_in(32) { draw.octet() } else { 0x3f };
+        end(system, port, key, state)
+    }
+}
+
+/// The port as its peer knows it, mostly.
+fn known(draw: &mut Congruence, port: u16) -> Info {
+    if draw.one_in(32) {
+        zero(0)
+    } else {
+        end(1, port, 1, draw.octet() | 0x04)
+    }
+}
+
+/// These octets in the place of the first of the others.
+fn over(octets: [u8; 200], head: &[u8]) -> [u8; 200] {
+    let mut all = octets;
+    for (place, octet) in all.iter_mut().zip(head) {
+        *place = *octet;
+    }
+    all
+}
+
+/// A marker or a response, of this system or another.
+fn marker_frame(draw: &mut Congruence) -> [u8; 124] {
+    let kind = if draw.one_in(2) {
+        MarkerKind::Information
+    } else {
+        MarkerKind::Response
+    };
+    let system = draw.below(3);
+    let id = u32::from(draw.below(4));
+    frame(mac(9), &marker(kind, draw.port(), system, id).encode())
+}
+
+/// Octets that come on a port, and how many of them are the frame.
+fn drawn(draw: &mut Congruence, peers: &Peers, port: u16) -> ([u8; 200], u8) {
+    let octets = draw.octets();
+    let any = draw.below(201);
+    let whole = 124 + draw.below(77);
+    let actor = peers.actor(draw, port);
+    let told = frame(mac(9), &lacpdu(actor, known(draw, port)));
+    match draw.below(32) {
+        0..=19 => (over(octets, &told), whole),
+        20 => (over(octets, &told), any),
+        21 => {
+            let mut other = over(octets, &told);
+            let place = usize::from(draw.below(124));
+            other[place] = draw.octet();
+            (other, whole)
+        }
+        22..=24 => (over(octets, &marker_frame(draw)), whole),
+        // a header of the slow protocols, and octets that nobody meant
+        25 => (over(octets, &told[..14]), any),
+        26 => (over(octets, &told[..15]), any),
+        _ => (octets, any),
+    }
+}
+
+/// In which ticks a port sent its last three LACPDUs, the oldest first.
+#[derive(Clone, Copy)]
+struct Sends {
+    last: [Option<u32>; 3],
+}
+
+impl Sends {
+    /// One more is sent in this tick.
+    fn add(&mut self, now: u32) {
+        let [_, middle, newest] = self.last;
+        self.last = [middle, newest, Some(now)];
+    }
+
+    /// Whether the last three were all sent in this tick or in the ten before it.
+    fn is_full(&self, now: u32) -> bool {
+        match self.last[0] {
+            Some(then) => now.saturating_sub(then) <= 10,
+            None => false,
+        }
+    }
+}
+
+/// How often something happened.
+#[derive(Clone, Copy, Debug)]
+struct Happened {
+    took: u32,
+    ignored: u32,
+    responded: u32,
+    released: u32,
+    up: u32,
+    dropped: u32,
+    /// Frames behind which two ports distribute in one aggregator.
+    together: u32,
+    /// LACPDUs that were sent, and those of them that were the third in eleven ticks.
+    sent: u32,
+    full: u32,
+}
+
+const NOTHING_YET: Happened = Happened {
+    took: 0,
+    ignored: 0,
+    responded: 0,
+    released: 0,
+    up: 0,
+    dropped: 0,
+    together: 0,
+    sent: 0,
+    full: 0,
+};
+
+fn counts(count: &mut u32, one_more: bool) {
+    *count = count.saturating_add(u32::from(one_more));
+}
+
+impl Happened {
+    fn hears(&mut self, answer: Received) {
+        match answer {
+            Received::TookLacpdu => counts(&mut self.took, true),
+            Received::Ignored(_) => counts(&mut self.ignored, true),
+            Received::Respond(_) => counts(&mut self.responded, true),
+            Received::Released(_) => counts(&mut self.released, true),
+            Received::Up(_) => counts(&mut self.up, true),
+            _ => counts(&mut self.dropped, true),
+        }
+    }
+
+    /// What happened least.
+    fn least(&self) -> u32 {
+        let answered = self.took.min(self.ignored).min(self.responded);
+        let data = self.released.min(self.up).min(self.dropped);
+        let sends = self.together.min(self.sent).min(self.full);
+        answered.min(data).min(sends)
+    }
+}
+
+/// The partner that a port names.
+fn partner_of<F: Fn(u16, usize) -> usize + Drop>(
+    system: &System<F>,
+    port: u16,
+) -> Option<(SystemId, Key)> {
+    match system.partner(port) {
+        Some(info) => Some((info.system, info.key)),
+        None => None,
+    }
+}
+
+/// How many ports distribute in an aggregator; they have to name one partner.
+fn one_partner<F: Fn(u16, usize) -> usize + Drop>(
+    rt: &impl Abort,
+    system: &System<F>,
+    agg: u16,
+    place: u32,
+) -> usize {
+    let ports = system.distributing(AggId(agg));
+    let mut named = None;
+    for port in ports.as_slice() {
+        let partner = partner_of(system, *port);
+        assert!(rt; partner.is_some(), "frame {place}: port {port}");
+        if named.is_some() {
+            assert_eq!(rt;
+                partner,
+                named,
+                "frame {place}: port {port} of aggregator {agg}"
+            );
+        }
+        named = partner;
+    }
+    ports.len()
+}
+
+/// What has to hold behind each call; tells whether two ports distribute in one aggregator.
+fn keeps<F: Fn(u16, usize) -> usize + Drop>(
+    rt: &impl Abort,
+    system: &System<F>,
+    place: u32,
+) -> bool {
+    let first = one_partner(rt, system, 1, place);
+    let second = one_partner(rt, system, 2, place);
+    first > 1 || second > 1
+}
+
+/// The ticks, and what the ports sent in them.
+#[derive(Drop)]
+struct Clock {
+    now: u32,
+    first: Sends,
+    second: Sends,
+}
+
+impl Clock {
+    fn start() -> Clock {
+        let none = Sends { last: [None; 3] };
+        Clock {
+            now: 0,
+            first: none,
+            second: none,
+        }
+    }
+
+    fn ticks(&mut self) {
+        counts(&mut self.now, true);
+    }
+
+    /// A port sends an LACPDU, for which there has to be room in the window; whether there is none behind it.
+    fn sends(&mut self, rt: &impl Abort, port: u16, place: u32) -> bool {
+        let now = self.now;
+        let mut sends = if port == 1 { self.first } else { self.second };
+        assert!(rt;
+            !sends.is_full(now),
+            "frame {place}: port {port} in tick {now}"
+        );
+        sends.add(now);
+        if port == 1 {
+            self.first = sends;
+        } else {
+            self.second = sends;
+        }
+        sends.is_full(now)
+    }
+}
+
+/// Whether this is a frame with an LACPDU.
+fn is_lacpdu(answer: Result<Option<[u8; 124]>, SystemFault>) -> bool {
+    match answer {
+        Ok(Some(octets)) => octets[14] == 1,
+        _ => false,
+    }
+}
+
+#[test]
+fn hostile_frames_keep_the_laws(rt: HostRuntime) -> Result<(), Fail> {
+    let mut system = System::new(rt.alloc(), config(rt.alloc(), &[1, 2], 2)?, modulo)?;
+    assert_eq!(rt; system.set_link(1, true), Ok(()));
+    assert_eq!(rt; system.set_link(2, true), Ok(()));
+    let mut draw = Congruence { number: 1 };
+    let mut peers = Peers {
+        first: (2, 1),
+        second: (2, 1),
+    };
+    let mut clock = Clock::start();
+    let mut happened = NOTHING_YET;
+    for place in 0..10_000 {
+        let port = draw.port();
+        if draw.one_in(128) {
+            peers.wander(&mut draw, port);
+        }
+        let (octets, length) = drawn(&mut draw, &peers, port);
+        let count = usize::from(length).min(octets.len());
+        happened.hears(system.receive(port, &octets[..count])?);
+        counts(&mut happened.together, keeps(&rt, &system, place));
+        if draw.one_in(2) {
+            system.tick();
+            clock.ticks();
+            keeps(&rt, &system, place);
+        }
+        if draw.one_in(2) {
+            let port = draw.port();
+            if is_lacpdu(system.transmit(port)) {
+                counts(&mut happened.sent, true);
+                counts(&mut happened.full, clock.sends(&rt, port, place));
+            }
+            keeps(&rt, &system, place);
+        }
+    }
+    assert!(rt; happened.least() > 0, "{happened:?}");
+    Ok(())
+}

@@ -1,0 +1,88 @@
+use crate::systems::conversations::coming_up;
+use crate::systems::frames::response_frame;
+use crate::systems::plan::plan_of_all;
+use crate::systems::{DATA, Row, Seen, config, joined, look, modulo};
+use lagsystem::{AggId, Assignment, NoMemory, Received, System, SystemFault, WireFault};
+use std::alloc::Global;
+use std::test::Fail;
+
+/// What all readers tell of a system with ports 1 and 2 and aggregators 1 and 2.
+#[derive(Debug, PartialEq, Drop)]
+struct Told {
+    ports: Vec<u16>,
+    seen: [Seen; 2],
+    loads: [Result<u32, SystemFault>; 2],
+    aggregators: usize,
+    in_first: Vec<u16>,
+    in_second: Vec<u16>,
+    conversations: Vec<Option<Assignment>>,
+    next_marker: Option<u32>,
+}
+
+/// What the conversations of aggregator 1 do, and then those of aggregator 2.
+fn conversations<F: Fn(u16, usize) -> usize + Drop>(
+    alloc: Global,
+    system: &System<F>,
+) -> Result<Vec<Option<Assignment>>, NoMemory> {
+    let mut all = Vec::with_capacity(alloc, 512)?;
+    for agg in [1, 2] {
+        for conv in 0..256 {
+            all.push(system.conversation_state(AggId(agg), conv))?;
+        }
+    }
+    Ok(all)
+}
+
+fn all_told<F: Fn(u16, usize) -> usize + Drop>(
+    alloc: Global,
+    system: &System<F>,
+) -> Result<Told, NoMemory> {
+    Ok(Told {
+        ports: Vec::from_slice(alloc, system.ports().as_slice())?,
+        seen: [look(system, 1), look(system, 2)],
+        loads: [system.load(1), system.load(2)],
+        aggregators: system.aggregators(),
+        in_first: Vec::from_slice(alloc, system.distributing(AggId(1)).as_slice())?,
+        in_second: Vec::from_slice(alloc, system.distributing(AggId(2)).as_slice())?,
+        conversations: conversations(alloc, system)?,
+        next_marker: system.next_marker(),
+    })
+}
+
+/// What the first octets of a control frame are answered.
+fn answer_to(count: usize) -> Received {
+    if count < 14 {
+        Received::Dropped
+    } else {
+        Received::Ignored(WireFault::Short {
+            have: count.saturating_sub(14),
+        })
+    }
+}
+
+/// The response that a conversation waits for frees it, and no shorter beginning of its frame changes anything.
+#[test]
+fn a_response_cut_at_every_length(rt: HostRuntime) -> Result<(), Fail> {
+    let alloc = rt.alloc();
+    let mut given = config(alloc, &[1, 2], 2)?;
+    given.first_marker = 4_294_967_295;
+    let mut system = System::new(alloc, given, modulo)?;
+    let waiting = [
+        Row::Offers(1, &DATA, Ok(1)),
+        Row::Moves(1, 48, 2, Ok(())),
+        Row::Marks(1, 4_294_967_295),
+    ];
+    let plan = plan_of_all(alloc, &joined(alloc, &[&coming_up(), &waiting])?)?;
+    let replies = system.drive(alloc, &plan.calls)?;
+    assert_eq!(rt; replies.as_slice(), plan.replies.as_slice());
+    let before = all_told(alloc, &system)?;
+    let frame = response_frame();
+    for count in 0..124 {
+        let came = system.receive(1, &frame[..count]);
+        assert_eq!(rt; came, Ok(answer_to(count)), "the first {count} octets");
+        let after = all_told(alloc, &system)?;
+        assert_eq!(rt; after, before, "behind the first {count} octets");
+    }
+    assert_eq!(rt; system.receive(1, &frame), Ok(Received::Released(1)));
+    Ok(())
+}

@@ -1,0 +1,85 @@
+use crate::worlds::conversations::MOVES;
+use crate::worlds::given::{TWO, lines, modulo, world_config};
+use crate::worlds::starts::COMING_UP;
+use crate::worlds::{Entry, event};
+use cables::AnyCable;
+use lagtypes::{AggId, NoMemory};
+use lagworld::{Agreement, Event, World, WorldFault};
+use std::alloc::Global;
+use std::process::Abort;
+use std::test::Fail;
+
+/// The events in which a conversation moves; this system restarts before the one at this place, or behind the last.
+fn with_restart(alloc: Global, system: u8, place: usize) -> Result<Vec<Event>, NoMemory> {
+    let mut events = Vec::new(alloc);
+    for (entry, _) in COMING_UP {
+        events.push(event(alloc, entry)?)?;
+    }
+    for (at, (entry, _)) in MOVES.iter().enumerate() {
+        if at == place {
+            events.push(Event::Restart(system))?;
+        }
+        events.push(event(alloc, *entry)?)?;
+    }
+    if place >= MOVES.len() {
+        events.push(Event::Restart(system))?;
+    }
+    Ok(events)
+}
+
+/// Whether the items of a list stand in another in the same order.
+fn is_subsequence(part: &[u64], whole: &[u64]) -> bool {
+    let mut rest = part;
+    for item in whole {
+        match rest.split_first() {
+            Some((first, later)) if *first == *item => rest = later,
+            _ => {}
+        }
+    }
+    rest.is_empty()
+}
+
+/// What has to hold behind each event: no cable's ends differ, and what system 2 collected came in order.
+fn keeps<F: Fn(u16, usize) -> usize + Drop>(
+    rt: &impl Abort,
+    world: &World<AnyCable, F>,
+    restart: (u8, usize),
+    place: usize,
+) {
+    for cable in [1, 2] {
+        let agreement = world.agreement(cable);
+        assert_ne!(rt;
+            agreement,
+            Some(Agreement::Differ),
+            "restart {restart:?}, event {place}, cable {cable}"
+        );
+    }
+    let sent = world.sent(1, AggId(1), 48);
+    let collected = world.collected(1, AggId(1), 48);
+    assert!(rt;
+        is_subsequence(collected, sent),
+        "restart {restart:?}, event {place}: {collected:?} of {sent:?}"
+    );
+}
+
+/// Restarts this system before the event at this place of the move.
+fn restarts(rt: &impl Abort, alloc: Global, system: u8, place: usize) -> Result<(), WorldFault> {
+    let config = world_config(alloc, TWO)?;
+    let lines = lines(alloc, config.cables.len(), None)?;
+    let mut world = World::new(alloc, config, modulo, modulo, lines)?;
+    let events = with_restart(alloc, system, place)?;
+    for (at, event) in events.iter().enumerate() {
+        world.step(event)?;
+        keeps(rt, &world, (system, place), at);
+    }
+    Ok(())
+}
+
+#[test]
+fn a_restart_at_each_place_of_a_move(rt: HostRuntime) -> Result<(), Fail> {
+    for place in 0..=16 {
+        restarts(&rt, rt.alloc(), 1, place)?;
+        restarts(&rt, rt.alloc(), 2, place)?;
+    }
+    Ok(())
+}

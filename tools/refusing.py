@@ -1,0 +1,38 @@
+"""What refuse-memory and refuse-program share: a program that is run while calls of the C library are refused."""
+
+import os
+import subprocess
+import sys
+import tempfile
+
+TOOLS = os.path.dirname(os.path.abspath(__file__))
+TOP = os.path.dirname(TOOLS)
+# No run takes so long.
+SECONDS = 60
+
+
+class Refuser:
+    """The preloaded library, built in a folder of its own."""
+
+    def __enter__(self):
+        self.folder = tempfile.TemporaryDirectory()
+        self.library = os.path.join(self.folder.name, "refuse.so")
+        cc = os.environ.get("CC", "cc")
+        words = [cc, "-O2", "-Wall", "-fPIC", "-shared", "-o", self.library, os.path.join(TOOLS, "refuse.c")]
+        if subprocess.run(words).returncode:
+            sys.exit("tools/refuse.c could not be built")
+        return self
+
+    def __exit__(self, *_):
+        self.folder.cleanup()
+
+    def run(self, words, calls, **how):
+        """Runs the words with these calls refused, as malloc:3; answers how it ended, and whether such a call came."""
+        seen, told = os.pipe()
+        env = {"LD_PRELOAD": self.library, "REFUSE": calls, "REFUSE_TO": str(told)}
+        try:
+            ended = subprocess.run(words, env=env, pass_fds=[told], capture_output=True, timeout=SECONDS, **how)
+        finally:
+            os.close(told)
+        with open(seen, "rb") as it:
+            return ended, it.read() != b""
