@@ -87,18 +87,29 @@ def try_all(folder, edits, jobs):
         return
     cases = os.path.join(folder, "stored run")
     cut_stored_run(cases)
-    wanted = {look if look != "stored run" else STORED for crate, _ in edits for look in LOOKS[crate]}
+    looks = sorted({look for crate, _ in edits for look in LOOKS[crate]})
+    wanted = sorted(STORED if look == "stored run" else look for look in looks)
     free = queue.Queue()
     for number in range(jobs):
-        free.put(copy_crates(os.path.join(folder, f"copy {number}"), sorted(wanted)))
+        free.put(copy_crates(os.path.join(folder, f"copy {number}"), wanted))
 
-    def run(edit):
+    def with_copy(work):
         crates = free.get()
         try:
-            return try_edit(crates, *edit, cases)
+            return work(crates)
         finally:
             free.put(crates)
 
+    def stands(look):
+        return with_copy(lambda crates: ask(crates, look, cases))
+
+    def run(edit):
+        return with_copy(lambda crates: try_edit(crates, *edit, cases))
+
     with ThreadPoolExecutor(jobs) as pool:
+        for look, (refused, fault) in zip(looks, pool.map(stands, looks)):
+            if refused or fault:
+                yield look, False, f"does not pass as it stands: {refused or fault}"
+                return
         for (crate, name), (right, text) in zip(edits, pool.map(run, edits)):
             yield f"{crate}/{name}", right, text

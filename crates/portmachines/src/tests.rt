@@ -238,7 +238,7 @@ fn attached_is_synchronized_and_passes_no_frames(rt: HostRuntime) {
 }
 
 #[test]
-fn the_readers_of_a_port(rt: HostRuntime) {
+fn a_new_port(rt: HostRuntime) {
     let mut port = port(true, true);
     assert!(rt; port.ntt(), "ntt after new");
     assert!(rt; !port.is_enabled(), "is_enabled after new");
@@ -251,11 +251,30 @@ fn the_readers_of_a_port(rt: HostRuntime) {
         "receive_state after new"
     );
     assert_eq!(rt; port.mux_state(), MuxState::Detached, "mux_state after new");
+    assert_eq!(rt;
+        port.periodic_state(),
+        PeriodicState::NoPeriodic,
+        "periodic_state after new"
+    );
+    assert_eq!(rt; timers(&port), (0, 0, 0), "timers after new");
+    assert!(rt; port.ages().as_slice().is_empty(), "ages after new");
     port.periodic();
     assert!(rt; !port.ntt(), "ntt after periodic");
+}
+
+/// A port whose link came up ten ticks ago.
+fn port_after_a_second() -> Port {
+    let mut port = port(true, true);
+    port.periodic();
     port.set_link(true);
     port.periodic();
     run(&mut port, 10);
+    port
+}
+
+#[test]
+fn the_readers_of_a_port(rt: HostRuntime) {
+    let mut port = port_after_a_second();
     let due = Lacpdu {
         actor: end(1, 0xc7),
         partner: zero(2),
@@ -270,11 +289,22 @@ fn the_readers_of_a_port(rt: HostRuntime) {
     );
     port.select(Choice::Selected(AggId(1)));
     assert_eq!(rt; port.mux(false), 1, "mux of a port that is selected");
+    assert!(rt; !port.ntt(), "ntt in WAITING");
+    assert_eq!(rt; port.state().bits(), 0xc7, "state in WAITING");
     assert_eq!(rt;
         port.choice(),
         Choice::Selected(AggId(1)),
         "choice after select"
     );
+}
+
+#[test]
+fn another_party_starts_the_machines_again(rt: HostRuntime) {
+    let mut port = port_after_a_second();
+    assert!(rt; port.transmit(0).is_some(), "transmit after ten ticks");
+    run(&mut port, 2);
+    port.select(Choice::Selected(AggId(1)));
+    assert_eq!(rt; port.mux(false), 1, "mux of a port that is selected");
     port.reinit(party(2));
     assert_eq!(rt; port.party(), party(2), "party after reinit");
     assert_eq!(rt; port.choice(), Choice::Unselected, "choice after reinit");
@@ -285,6 +315,11 @@ fn the_readers_of_a_port(rt: HostRuntime) {
     );
     assert_eq!(rt; port.ages().as_slice(), [2].as_slice(), "ages after reinit");
     assert!(rt; port.is_enabled(), "is_enabled after reinit");
+    assert_eq!(rt;
+        port.mux_state(),
+        MuxState::Detached,
+        "mux_state after reinit"
+    );
     assert!(rt; !port.distributes(), "distributes after reinit");
 }
 
@@ -303,6 +338,8 @@ fn each_timer_counts_by_itself(rt: HostRuntime) {
     port.select(Choice::Selected(AggId(1)));
     assert_eq!(rt; port.mux(false), 1, "mux of a port that is selected");
     assert_eq!(rt; timers(&port), (30, 10, 20), "when they start");
+    port.set_link(true);
+    assert_eq!(rt; timers(&port), (30, 10, 20), "the link is up as before");
     port.tick();
     assert_eq!(rt; timers(&port), (29, 9, 19), "a tick later");
     run(&mut port, 29);
@@ -394,6 +431,7 @@ fn what_is_told_of_the_port_is_compared(rt: HostRuntime) {
     };
     let rows = [
         (end(1, 0x07), false),
+        (end(1, 0xf7), false),
         (end(1, 0x06), true),
         (end(1, 0x05), true),
         (end(1, 0x0f), true),
@@ -420,6 +458,11 @@ fn what_is_recorded_of_synchronization(rt: HostRuntime) {
         (true, 0x0c, end(1, 0x07), 0x0c),
         (true, 0x0c, end(1, 0x06), 0x04),
         (false, 0x0c, end(1, 0x07), 0x04),
+        // the partner is active: the port need not be
+        (false, 0x0d, end(1, 0x06), 0x0d),
+        // every bit but Synchronization is recorded as it is
+        (true, 0xff, end(1, 0x07), 0xff),
+        (true, 0xf5, end(1, 0x07), 0xf5),
     ];
     for (place, (active, actor, told, recorded)) in rows.into_iter().enumerate() {
         let mut port = quiet_port(active, true);
@@ -479,6 +522,132 @@ fn each_mux_row_but_the_first_asks(rt: HostRuntime) {
     assert!(rt; asks(&mut port, true), "to ATTACHED");
     port.select(Choice::Unselected);
     assert!(rt; asks(&mut port, false), "from ATTACHED to DETACHED");
+}
+
+/// The end with another value of one of its six parameters: of each, one after another.
+fn with_one_changed(end: Info) -> [Info; 6] {
+    let mut ends = [end; 6];
+    ends[0].system.priority = 4113;
+    ends[1].system.mac = [2, 0, 0, 0, 1, 9];
+    ends[2].key = Key(8);
+    ends[3].port.priority = 9;
+    ends[4].port.number = 10;
+    ends[5].state = State::from_bits_retain(end.state.bits() & 0xfb);
+    ends
+}
+
+#[test]
+fn each_parameter_of_the_port_is_compared(rt: HostRuntime) {
+    for (place, told) in with_one_changed(end(1, 0x07)).into_iter().enumerate() {
+        let mut port = quiet_port(true, true);
+        port.take(&saying(0x0d, told));
+        assert!(rt; port.ntt(), "row {place}: ntt after {told:?} was told");
+        let state = port.partner().state.bits();
+        assert_eq!(rt;
+            state,
+            0x05,
+            "row {place}: partner's state after {told:?} was told"
+        );
+    }
+}
+
+#[test]
+fn each_parameter_of_the_partner_is_compared(rt: HostRuntime) {
+    for (place, actor) in with_one_changed(end(2, 0x07)).into_iter().enumerate() {
+        let mut port = quiet_port(true, true);
+        port.take(&saying(0x07, end(1, 0x07)));
+        port.select(Choice::Selected(AggId(1)));
+        port.take(&saying(0x3f, end(1, 0x07)));
+        assert_eq!(rt;
+            port.choice(),
+            Choice::Selected(AggId(1)),
+            "row {place}: choice after the same party"
+        );
+        port.take(&Lacpdu {
+            actor,
+            partner: end(1, 0x07),
+            max_delay: 0,
+        });
+        assert_eq!(rt;
+            port.choice(),
+            Choice::Unselected,
+            "row {place}: choice after {actor:?}"
+        );
+        assert_eq!(rt; port.partner(), actor, "row {place}: partner");
+    }
+}
+
+#[test]
+fn what_is_asked_stays_asked(rt: HostRuntime) {
+    let mut port = quiet_port(true, true);
+    port.take(&saying(0x07, end(1, 0x06)));
+    port.take(&saying(0x07, end(1, 0x07)));
+    assert!(rt; port.ntt(), "ntt after the second LACPDU");
+}
+
+#[test]
+fn a_start_while_the_link_is_down(rt: HostRuntime) {
+    let mut port = quiet_port(true, true);
+    port.take(&saying(0x0d, end(1, 0x07)));
+    run(&mut port, 30);
+    assert_eq!(rt; port.state().bits(), 0x87, "state in EXPIRED");
+    assert_eq!(rt; port.partner(), end(2, 0x07), "partner in EXPIRED");
+    port.set_link(false);
+    let mut other = party(8);
+    other.port.priority = 9;
+    other.aggregatable = false;
+    port.reinit(other);
+    assert_eq!(rt; port.party(), other, "party after reinit");
+    assert_eq!(rt; port.state().bits(), 0x43, "state after reinit");
+    assert_eq!(rt; port.partner(), zero(0), "partner after reinit");
+    assert_eq!(rt; port.periodic_timer(), 10, "periodic_timer after reinit");
+}
+
+/// The port is selected, and its link goes down.
+fn goes_down(port: &mut Port) {
+    port.select(Choice::Selected(AggId(1)));
+    port.periodic();
+    port.set_link(false);
+    port.periodic();
+}
+
+#[test]
+fn a_link_that_goes_down(rt: HostRuntime) {
+    // what the partner says, the ticks since then, and what is recorded of its state
+    let rows = [
+        (0x0d, 0, 0x05),
+        (0x0f, 0, 0x07),
+        (0x0f, 30, 0x07),
+        (0x0f, 60, 0x00),
+    ];
+    for (place, (actor, ticks, recorded)) in rows.into_iter().enumerate() {
+        let mut port = quiet_port(true, true);
+        port.take(&saying(actor, end(1, 0x07)));
+        run(&mut port, ticks);
+        goes_down(&mut port);
+        let state = port.partner().state.bits();
+        assert_eq!(rt; state, recorded, "row {place}: partner's state");
+        assert_eq!(rt;
+            (port.receive_state(), port.periodic_state(), port.choice()),
+            (
+                ReceiveState::PortDisabled,
+                PeriodicState::NoPeriodic,
+                Choice::Selected(AggId(1))
+            ),
+            "row {place}: states and choice"
+        );
+    }
+}
+
+#[test]
+fn ages_stand_in_their_order(rt: HostRuntime) {
+    let mut port = quiet_port(true, true);
+    port.take(&saying(0x07, zero(0)));
+    assert!(rt; port.transmit(0).is_some(), "the first transmit");
+    run(&mut port, 3);
+    port.take(&saying(0x07, zero(0)));
+    assert!(rt; port.transmit(0).is_some(), "the second transmit");
+    assert_eq!(rt; port.ages().as_slice(), [3, 0].as_slice(), "ages");
 }
 
 /// Eleven ticks from the tick 0 on end with the tick 10.

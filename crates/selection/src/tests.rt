@@ -96,6 +96,53 @@ fn second_other_key() -> [PortView; 3] {
     views
 }
 
+/// Port 3 has the partner of the others, and is a member of aggregator 2; aggregator 1 has no member.
+fn second_taken() -> [PortView; 3] {
+    let mut views = [view(1, B), view(2, B), view(3, B)];
+    views[2].choice = selected(2);
+    views
+}
+
+/// Besides, port 1 is a member of aggregator 1.
+fn two_joinable() -> [PortView; 3] {
+    let mut views = second_taken();
+    views[0].choice = selected(1);
+    views
+}
+
+/// Ports 1 and 3, of different partners, are members of aggregator 1.
+fn two_groups() -> [PortView; 3] {
+    let mut views = first_selected();
+    views[2].choice = selected(1);
+    views
+}
+
+/// The partner of port 2 has another key than that of port 1, which is a member of aggregator 1.
+fn second_partner_key() -> [PortView; 3] {
+    let mut views = first_selected();
+    views[1].partner.key = Key(9);
+    views
+}
+
+/// Port 1 is a member of aggregator 1 by an individual link, and port 2 names the same two ends.
+fn same_individual() -> [PortView; 3] {
+    let mut views = first_selected();
+    views[0].partner.aggregatable = false;
+    views[1].party = views[0].party;
+    views[1].partner = views[0].partner;
+    views
+}
+
+/// The same, where it is the own side that is individual.
+fn same_individual_own() -> [PortView; 3] {
+    let mut views = same_individual();
+    views[0].partner.aggregatable = true;
+    views[0].party.aggregatable = false;
+    views[1].party = views[0].party;
+    views[1].partner = views[0].partner;
+    views
+}
+
 #[test]
 fn chooses_by_key_and_group(rt: HostRuntime) -> Result<(), Fail> {
     let aggregators = aggregators(rt.alloc())?;
@@ -105,6 +152,12 @@ fn chooses_by_key_and_group(rt: HostRuntime) -> Result<(), Fail> {
         (first_selected(), 3, 2),
         (second_individual(), 2, 2),
         (second_other_key(), 2, 3),
+        (second_taken(), 1, 2),
+        (two_joinable(), 2, 1),
+        (two_groups(), 2, 2),
+        (second_partner_key(), 2, 2),
+        (same_individual(), 2, 2),
+        (same_individual_own(), 2, 2),
     ];
     for (place, (views, port, want)) in rows.into_iter().enumerate() {
         let chosen = aggregators.choose(&views, port);
@@ -147,6 +200,7 @@ fn chooses_none(rt: HostRuntime) -> Result<(), Fail> {
         (second_own(), 2),
         (first_selected(), 1),
         (first_selected(), 4),
+        (views(), 0),
     ];
     for (place, (views, port)) in rows.into_iter().enumerate() {
         let chosen = aggregators.choose(&views, port);
@@ -222,6 +276,7 @@ fn is_ready_where_all_that_wait_have_waited(rt: HostRuntime) -> Result<(), Fail>
         (members(1, waited, waited), 2, false),
         (members(0, waited, waited), 0, false),
         (members(4, waited, waited), 4, false),
+        (members(3, waited, waited), 3, true),
     ];
     for (place, (views, agg, want)) in rows.into_iter().enumerate() {
         let ready = aggregators.ready(&views, AggId(agg));
@@ -233,12 +288,13 @@ fn is_ready_where_all_that_wait_have_waited(rt: HostRuntime) -> Result<(), Fail>
 #[test]
 fn lists_members(rt: HostRuntime) -> Result<(), Fail> {
     let aggregators = aggregators(rt.alloc())?;
-    let rows: [(u16, u16, &[u16]); 5] = [
+    let rows: [(u16, u16, &[u16]); 6] = [
         (1, 1, &[5, 9]),
         (2, 2, &[5, 9]),
         (1, 2, &[]),
         (0, 0, &[]),
         (4, 4, &[]),
+        (3, 3, &[5, 9]),
     ];
     for (given, asked, want) in rows {
         let mut views = members(given, Stage::Joined, Stage::Joined);

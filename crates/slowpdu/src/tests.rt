@@ -83,6 +83,17 @@ fn padded_marker() -> [u8; 110] {
     payload
 }
 
+/// The same marker of version 2, with ones in the pad, the Terminator and every reserved octet.
+fn marker_of_version_2() -> [u8; 110] {
+    let mut payload = [0xff; 110];
+    put(
+        &mut payload,
+        0,
+        &[2, 2, 1, 16, 0, 1, 2, 0, 0, 0, 0, 1, 255, 255, 255, 255],
+    );
+    payload
+}
+
 /// The first octets, as many as that.
 fn first(octets: &[u8], count: usize) -> &[u8] {
     octets.get(..count).unwrap_or(octets)
@@ -91,12 +102,13 @@ fn first(octets: &[u8], count: usize) -> &[u8] {
 #[test]
 fn payloads_are_read_whatever_the_other_octets_are(rt: HostRuntime) {
     let longer = version_2();
-    let rows: [(&[u8], Pdu); 5] = [
+    let rows: [(&[u8], Pdu); 6] = [
         (&lacpdu_payload(), Pdu::Lacpdu(lacpdu())),
         (&longer, Pdu::Lacpdu(lacpdu())),
         (first(&longer, 110), Pdu::Lacpdu(lacpdu())),
         (&marker_payload(), Pdu::Marker(marker())),
         (&padded_marker(), Pdu::Marker(marker())),
+        (&marker_of_version_2(), Pdu::Marker(marker())),
     ];
     for (place, (payload, pdu)) in rows.into_iter().enumerate() {
         assert_eq!(rt; decode(payload), Ok(pdu), "row {place}: decode");
@@ -139,6 +151,20 @@ fn payloads_of_fewer_octets_are_short(rt: HostRuntime) {
         let answer = decode(first(&lacpdu_payload(), have));
         assert_eq!(rt; answer, Err(short), "decode of {have} octets");
         assert_eq!(rt; short.number(), 1, "number");
+    }
+}
+
+#[test]
+fn a_short_payload_is_short_whatever_stands_there(rt: HostRuntime) {
+    let mut bad_length = lacpdu_payload();
+    put(&mut bad_length, 3, &[19]);
+    for payload in [[3; 110], bad_length] {
+        let answer = decode(first(&payload, 109));
+        assert_eq!(rt;
+            answer,
+            Err(WireFault::Short { have: 109 }),
+            "decode of 109 octets"
+        );
     }
 }
 
