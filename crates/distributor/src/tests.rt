@@ -310,12 +310,30 @@ fn ports_are_picked_by_their_place(rt: HostRuntime) -> Result<(), Fail> {
     let free = Assignment::Free { preferred: None };
     assert_eq!(rt; (d.state(AGG, 255), d.state(AGG, 64)), (free, free));
     assert_eq!(rt; (d.state(AggId(2), 1), d.load(1000)), (free, 2));
+    assert_eq!(rt; d.load(1063), 1);
     assert_eq!(rt; d.assign(AGG, 64, &[]), Err(DistFault::NoneDistributing));
     assert_eq!(rt; d.assign(AggId(3), 64, &ports), Err(DistFault::NotAssigned));
     assert_eq!(rt; d.move_to(AggId(2), 64, 1001, &ports), Ok(()));
     assert_eq!(rt; d.preferred(AggId(2), 64), Some(1001));
     assert_eq!(rt; d.next_marker(), Some(1));
     assert!(rt; d.is_conversation(AggId(2), 255) && !d.is_conversation(AggId(0), 0));
+    Ok(())
+}
+
+#[test]
+fn a_port_that_distributes_no_more(rt: HostRuntime) -> Result<(), Fail> {
+    let mut d = Distributor::new(rt.alloc(), 1, 1, by_number)?;
+    assert_eq!(rt; d.assign(AGG, 48, &[1, 2]), Ok(1));
+    // that it does not distribute comes before that it is the same
+    assert_eq!(rt;
+        d.move_to(AGG, 48, 1, &[2]),
+        Err(DistFault::NotDistributing)
+    );
+    assert_eq!(rt; d.move_to(AGG, 48, 2, &[1, 2]), Ok(()));
+    assert_eq!(rt; d.force(AGG, 48), Ok(()));
+    // the free conversation prefers port 2, which is not among these
+    assert_eq!(rt; d.preferred(AGG, 48), Some(2));
+    assert_eq!(rt; d.assign(AGG, 48, &[3, 4, 5]), Ok(3));
     Ok(())
 }
 
