@@ -4,6 +4,7 @@ use crate::fault::{FaultText, ToolFault};
 use crate::reply::reply;
 use crate::show::show;
 use crate::sink::Sink;
+use crate::status_of;
 use std::alloc::{AllocError, Global};
 use std::io;
 use std::io::Write;
@@ -14,6 +15,7 @@ mod memory;
 mod replays;
 mod spent;
 mod streams;
+mod texts;
 
 /// A text in hexadecimal: each piece, and how often it stands there.
 type Pieces = &'static [(&'static str, usize)];
@@ -323,6 +325,18 @@ fn an_answer_into_a_sink_that_fails(rt: HostRuntime) {
         assert_eq!(rt; answer, expected, "room for {room} octets");
         let taken = sink.into_inner().taken;
         assert_eq!(rt; taken.as_slice(), &text[..room], "room for {room} octets");
+    }
+}
+
+#[test]
+fn statuses(rt: HostRuntime) {
+    for (ended, status) in [
+        (Ok(true), 0),
+        (Ok(false), 1),
+        (Err(ToolFault::Write), 2),
+        (Err(ToolFault::NotHex), 2),
+    ] {
+        assert_eq!(rt; status_of(&ended), status, "{ended:?}");
     }
 }
 

@@ -106,7 +106,7 @@ const FROM_PORT: &str = "020000000001";
 const RESPONSE: &str = "020102100001020000000001ffffffff";
 
 /// A line, what is said of it, and whether it is a fault.
-const LINES: [(Pieces, &str, u64); 12] = [
+const LINES: [(Pieces, &str, u64); 14] = [
     (
         &[
             (TO_ALL, 1),
@@ -141,6 +141,8 @@ const LINES: [(Pieces, &str, u64); 12] = [
         0,
     ),
     (&[(DATA, 1)], "data", 0),
+    (&[("02", 12), ("88cc", 1)], "data", 0),
+    (&[("02", 12), ("0809", 1)], "data", 0),
     (&[("02", 13)], "runt", 1),
     (&[("02", 12), (SLOW, 1)], "refused 1 short have 0", 1),
     (

@@ -288,6 +288,36 @@ fn a_limit_is_that_of_both_directions(rt: HostRuntime) -> Result<(), Fail> {
     Ok(())
 }
 
+/// A conversation is forced, and a later frame of it overtakes an earlier one.
+const FORCE: &str = r#"    "offer 1 1 0200000000200200000000100800",
+    "move 1 1 48 2",
+    "force 1 1 48",
+    "offer 1 1 0200000000200200000000100800",
+    "deliver 2 2",
+    "deliver 1 2",
+]
+"#;
+
+const FORCE_TEXT: &str = "25 offer 1 1 0200000000200200000000100800 -> port 1 serial 0 sent
+26 move 1 1 48 2 -> moved
+27 force 1 1 48 -> forced
+28 offer 1 1 0200000000200200000000100800 -> port 2 serial 1 sent
+29 deliver 2 2 -> up 1
+30 deliver 1 2 -> up 1
+cable 1 agreement same
+cable 2 agreement same
+flow 1/1/48 sent 2 collected 1 0 forced
+";
+
+#[test]
+fn a_forced_conversation_overtakes(rt: HostRuntime) -> Result<(), Fail> {
+    let alloc = rt.alloc();
+    let written = replayed(alloc, &[BOTH_UP, FORCE, TWO_PORTS, TWO_CABLES])?;
+    let text = format!(in alloc; "{BOTH_UP_TEXT}{FORCE_TEXT}")?;
+    assert_eq!(rt; written.as_str(), text.as_str());
+    Ok(())
+}
+
 /// An entry with leading zeros and upper-case digits, and each event that the others have not.
 const OTHERS: &str = r#"events = [
     "tick 01 0010",
