@@ -1,4 +1,4 @@
--- What each call of a system does.
+-- What each call of a system does, as a relation between the states before and after it.
 use Rattle.std.specs.Prelude.{◌≡◌, ◌≤◌, ◌<◌, ◌⊎◌, ℕ, Bool, true, false, List, [], ◌∷◌, length, drop, ◌==◌, ◌&&◌, Option, Some, None, slice_get, slice_set, Ok, Err}
 use Rattle.std.specs.Bool.{IsFalse}
 use Rattle.std.specs.Str.{bytes_eq}
@@ -52,17 +52,17 @@ pub data Call : Type 0 where
   Move_conversation : (agg : AggId) (conv port : ℕ) → Call
   Force : (agg : AggId) (conv : ℕ) → Call
 
--- the port at the place goes on so, and the others stay
+-- in the list, the machines of the port at this index change by the relation, and the other ports stay
 abbrev pub OnPlace : (Machines → Machines → Type 0) → Option ℕ → List Slot → List Slot → Type 0
 OnPlace R None old new = ⊥
 OnPlace R (Some i) old new =
     (slot : Slot) × (port : Machines) × (slice_get old i ≡ Some slot) × R slot.port port × (new ≡ slice_set old i (record slot { port = port }))
 
--- the port at the place goes on so, and nothing else changes
+-- the machines of the port at this index change by the relation, and nothing else changes
 abbrev pub OnPort : Option ℕ → (Machines → Machines → Type 0) → State → State → Type 0
 OnPort place R old new = OnPlace R place old.slots new.slots × (new ≡ with_slots old new.slots)
 
--- the port at the place is so
+-- there is a port at this index, and the predicate holds of its machines
 abbrev pub IsAtPlace : (Machines → Type 0) → Option ℕ → List Slot → Type 0
 IsAtPlace P None slots = ⊥
 IsAtPlace P (Some i) slots = (slot : Slot) × (slice_get slots i ≡ Some slot) × P slot.port
@@ -71,7 +71,7 @@ IsAtPlace P (Some i) slots = (slot : Slot) × (slice_get slots i ≡ Some slot) 
 abbrev pub Stays : State → State → Type 0
 Stays old new = new ≡ old
 
--- there is no such port; nothing changes
+-- there is no such port: the call is refused with NoPort, and nothing changes
 pub record Refuses (place : Option ℕ) (fault : SystemFault) (old new : State) : Type 0 where
   pub cause : place ≡ None
   pub named : fault ≡ NoPort
@@ -81,47 +81,47 @@ pub record Refuses (place : Option ℕ) (fault : SystemFault) (old new : State) 
 abbrev pub Settled : (State → State → Type 0) → State → State → Type 0
 Settled own old new = (mid : State) × own old mid × Settling mid new
 
--- a tick: each port counts down, then fires an expired current_while row; then each conversation that waits for a response
--- counts
+-- a tick: each port counts down, then changes its receive state if current_while expired; then each conversation that
+-- waits for a response counts one tick more
 abbrev pub AllTick : State → State → Type 0
 AllTick old new =
     AllMove (λ p q. Settles receive_rows (count_down p) q) old.slots new.slots
     × Changes old.table new.table after_tick
     × (new ≡ with_table (with_slots old new.slots) new.table)
 
--- the receive rows of a port whose link is up or down now
+-- the receive machine of a port whose link is up or down now runs
 abbrev pub ChangesLink : Bool → Machines → Machines → Type 0
 ChangesLink up p q = Settles receive_rows (record p { enabled = up }) q
 
--- what has to do with a port whose link goes down becomes free
+-- if the link is down, every conversation of the port with this number becomes free
 abbrev pub Frees : Bool → ℕ → Table → Table → Type 0
 Frees true port old new = new ≡ old
 Frees false port old new = Changes old new (after_down port)
 
--- the link of the port with this number is up or down now
+-- port_enabled of the port with this number is set
 abbrev pub LinksPort : ℕ → Bool → State → State → Type 0
 LinksPort n up old new =
     OnPlace (ChangesLink up) (place_of n old.slots) old.slots new.slots
     × Frees up n old.table new.table
     × (new ≡ with_table (with_slots old new.slots) new.table)
 
--- the row of an LACPDU
+-- the row of the receive machine for an LACPDU
 abbrev pub Takes : Lacpdu → Machines → Machines → Type 0
 Takes pdu p q = FiresIfEnabled (taking_rows pdu) p q
 
--- the party with the change
+-- the parameters of the port with the values of the change
 abbrev pub changed : PortChange → Party → Party
 changed c party = record party { key = c.key; port = record party.port { priority = c.priority }; aggregatable = c.aggregatable }
 
--- a value differs
+-- some value of the change differs from the port's
 abbrev pub differs : PortChange → Machines → Type 0
 differs c p = IsFalse (same_party (changed c p.party) p.party)
 
--- the receive and mux machines start again, as another party
+-- the port gets the values of the change, and its receive and mux machines start again
 abbrev pub ChangesParty : PortChange → Machines → Machines → Type 0
 ChangesParty c p q = differs c p × Starts (record p { party = changed c p.party }) q
 
--- what a received frame is
+-- the kinds of received frames
 pub data Frame : Type 0 where
   Runt : Frame
   Data_frame : Frame
@@ -131,25 +131,25 @@ pub data Frame : Type 0 where
 abbrev pub IsControlFrame : List ℕ → Type 0
 IsControlFrame octets = (14 ≤ length octets) × IsSlow octets
 
--- the octets are this frame: fewer than 14 octets, a data frame, or a control frame with a payload that has this fault or
--- this reading
+-- these octets are a frame of this kind: fewer than 14 octets, a data frame, or a control frame whose payload has this
+-- fault or reads as this PDU
 abbrev pub IsFrame : List ℕ → Frame → Type 0
 IsFrame octets Runt = length octets < 14
 IsFrame octets Data_frame = IsDataFrame octets
 IsFrame octets (Faulty fault) = IsControlFrame octets × (fault_of (drop 14 octets) ≡ Some fault)
 IsFrame octets (Carries payload) = IsControlFrame octets × ReadsPdu (drop 14 octets) payload
 
--- a data frame is handed up in that aggregator, or dropped
+-- what becomes of a data frame: it is handed up in that aggregator, or dropped if there is none
 abbrev pub handed : Option AggId → Received
 handed None = Dropped
 handed (Some agg) = Up agg
 
--- a marker is answered from this address; a response is handed on
+-- a Marker PDU is answered by a response from this MAC address; a Marker Response asks for a release
 abbrev pub AnswersMarker : List ℕ → Marker → Option Marker → Heard → Type 0
 AnswersMarker mac m None heard = heard ≡ Response m
 AnswersMarker mac m (Some answer) heard = (payload : List ℕ) × IsAddress mac × WritesMarker payload answer × (heard ≡ Answered (Respond (frame_octets mac payload)))
 
--- what an enabled port makes of a frame
+-- what a frame asks for on a port whose link is up
 abbrev pub Makes : Slot → Frame → Heard → Type 0
 Makes slot Runt heard = heard ≡ Answered Dropped
 Makes slot Data_frame heard = heard ≡ Answered (handed (collecting slot.port))
@@ -157,13 +157,13 @@ Makes slot (Faulty fault) heard = heard ≡ Answered (Ignored fault)
 Makes slot (Carries (pdu.Lacpdu v)) heard = heard ≡ Taken v
 Makes slot (Carries (pdu.Marker m)) heard = AnswersMarker slot.mac m (response_to m) heard
 
--- what it makes of the payload of a control frame
+-- what the payload of a control frame asks for on a port whose link is up
 abbrev pub HearsPayload : Slot → List ℕ → Heard → Type 0
 HearsPayload slot payload heard =
     ((fault : WireFault) × (fault_of payload ≡ Some fault) × Makes slot (Faulty fault) heard)
     ⊎ ((v : Pdu) × ReadsPdu payload v × Makes slot (Carries v) heard)
 
--- what a port makes of octets: nothing while its link is down
+-- what received octets ask for: nothing while the link is down, else what their frame asks for
 abbrev pub HearsWhere : Bool → Slot → List ℕ → Heard → Type 0
 HearsWhere false slot octets heard = heard ≡ Answered Disabled
 HearsWhere true slot octets heard = (frame : Frame) × IsFrame octets frame × Makes slot frame heard
@@ -171,11 +171,12 @@ HearsWhere true slot octets heard = (frame : Frame) × IsFrame octets frame × M
 abbrev pub Hears : Slot → List ℕ → Heard → Type 0
 Hears slot octets heard = HearsWhere slot.port.enabled slot octets heard
 
--- the response names this system, and the port on which it comes
+-- the response names this system and the port on which it came
 abbrev pub is_for : State → ℕ → Marker → Bool
 is_for s port m = (m.port == port) && bytes_eq m.system s.system.mac
 
--- a response on this port frees the conversations that wait for it, where it is for this system and port
+-- a response frees the conversations of this port that wait for it, if it names this system and port; else it frees
+-- none
 abbrev pub Releases : Bool → ℕ → Marker → State → Received → State → Type 0
 Releases false port m old reply new = (reply ≡ Released 0) × Stays old new
 Releases true port m old reply new =
@@ -183,22 +184,23 @@ Releases true port m old reply new =
     × Changes old.table new.table (after_release port m.id)
     × (new ≡ with_table old new.table)
 
--- an LACPDU is taken, a response releases, and nothing else has an effect
+-- what was asked for is done: an LACPDU is processed, a response releases conversations, and nothing else has an effect
 abbrev pub Does : Heard → ℕ → Option ℕ → State → Received → State → Type 0
 Does (Taken v) port place old reply new = (reply ≡ TookLacpdu) × Settled (OnPort place (Takes v)) old new
 Does (Response m) port place old reply new = Releases (is_for old port m) port m old reply new
 Does (Answered answer) port place old reply new = (reply ≡ answer) × Stays old new
 
--- the port at the place hears these octets
+-- these octets are received on the port at this index
 abbrev pub ReceivesAt : Option ℕ → List ℕ → State → Received → State → Type 0
 ReceivesAt place octets old reply new =
     (slot : Slot) × (heard : Heard) × (slot_at place old.slots ≡ Some slot) × Hears slot octets heard × Does heard slot.number place old reply new
 
--- the port at the place has the values of the change already
+-- the port at this index has the values of the change already
 abbrev pub HasAlready : Option ℕ → PortChange → State → Type 0
 HasAlready place change s = IsAtPlace (λ p. same_party (changed change p.party) p.party ≡ true) place s.slots
 
--- From old, the system answers the call so, and goes on to new, where the algorithm gives such places.
+-- In the state old, the call may have this reply and lead to the state new, if the algorithm may return the indices
+-- that the first argument allows.
 abbrev pub Step : (ℕ → ℕ → ℕ → Type 0) → State → Call → Reply → State → Type 0
 Step gives old Tick reply.Tick new = Settled AllTick old new
 Step gives old (Set_link n up) (reply.SetLink (Ok done)) new = Settled (LinksPort n up) old new
@@ -217,7 +219,7 @@ Step gives old (Move_conversation agg conv port) (reply.MoveConversation answer)
 Step gives old (Force agg conv) (reply.Force answer) new = Becomes agg conv (force_answer old agg conv) old answer new
 Step gives old call answer new = ⊥
 
--- the system may give these replies to these calls, one after another
+-- these calls, made one after another from the first state, may have these replies and lead to the last state
 abbrev pub Run : (ℕ → ℕ → ℕ → Type 0) → State → List Call → List Reply → State → Type 0
 Run gives old [] [] new = new ≡ old
 Run gives old (call ∷ calls) (answer ∷ answers) new = (mid : State) × Step gives old call answer mid × Run gives mid calls answers new

@@ -1,4 +1,4 @@
--- A list of calls of a system, one after another.
+-- A list of calls of a system, made one after another by `drive`.
 use Rattle.std.specs.Prelude.{◌≡◌, ℕ, List, [], ◌∷◌}
 use Rattle.lagsystem.specs.declared.drive.Call.{Call as Asked}
 use Rattle.lagsystem.specs.declared.drive.Call.TheVariants as asked
@@ -7,7 +7,7 @@ use Rattle.lagsystem.specs.Calls.{Call, Receive, Tick, Set_link, Configure, Rest
 use Rattle.lagsystem.specs.Sound.{Answers}
 use Rattle.lagsystem.specs.State.{State}
 
--- a call that is handed over
+-- an argument of `drive` as a call
 abbrev pub call_of : Asked → Call
 call_of (asked.Receive port octets) = Receive port octets.items
 call_of asked.Tick = Tick
@@ -19,7 +19,7 @@ call_of (asked.Offer agg octets) = Offer agg octets.items
 call_of (asked.MoveConversation agg conv port) = Move_conversation agg conv port
 call_of (asked.Force agg conv) = Force agg conv
 
--- The system gives these replies to these calls, and each is what a call promises.
+-- These calls may have these replies, and each call keeps what every call promises.
 abbrev pub Drives : (ℕ → ℕ → ℕ → Type 0) → State → List Call → List Reply → State → Type 0
 Drives gives old [] [] new = new ≡ old
 Drives gives old (call ∷ calls) (answer ∷ answers) new =

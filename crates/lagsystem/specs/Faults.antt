@@ -26,7 +26,7 @@ fault_number MarkersSpent = 10
 fault_number (BadConfig reason) = 11
 fault_number NoMemory = 12
 
--- a refusal of the Frame Distributor as one of the system
+-- a refusal of the distributor as a fault of the system
 abbrev pub system_fault : DistFault → SystemFault
 system_fault dist.Held = Held
 system_fault dist.NoneDistributing = NoneDistributing

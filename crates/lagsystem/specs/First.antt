@@ -24,11 +24,11 @@ setup_of system c =
       short = c.short;
     }
 
--- a port after its start rows, with its link down
+-- a port that has just started, with its link down
 abbrev pub IsNew : SystemId → PortConfig → Slot → Type 0
 IsNew system c slot = (slot.number ≡ c.number) × (slot.mac ≡ c.mac) × Starts (blank (setup_of system c)) slot.port
 
--- the start rows of every port, followed by one settling; every conversation is free, and the next marker is the first
+-- every port has just started, and one settling followed; every conversation is free, and the next marker is the first
 abbrev pub IsFirst : State → Type 0
 IsFirst s =
     (start : List Slot) × AllZip (IsNew s.system) s.ports start × Settling (with_slots s start) s × (s.table ≡ first_table (length s.keys) s.first_marker)
@@ -47,7 +47,8 @@ number_of c = c.number
 abbrev pub numbers_of : List PortConfig → List ℕ
 numbers_of ports = map number_of ports
 
--- the place, counted so, of the first number that is not above the one before it
+-- the place, counted from the first argument, of the first number that is not above the one before it; the second
+-- argument is the number before the list
 abbrev pub misplaced : ℕ → ℕ → List ℕ → Option ℕ
 misplaced place low [] = None
 misplaced place low (n ∷ ns) = if nat_lt low n then misplaced (place + 1) n ns else Some place
@@ -63,7 +64,7 @@ refusal keys ports =
 abbrev pub refusal_of : Config → Option BadConfig
 refusal_of config = refusal config.aggregators.items config.ports.items
 
--- why a configuration that is refused for this reason, or for none, makes no system
+-- the fault of `new` if this is the reason to refuse its configuration; without a reason, memory was refused
 abbrev pub fault_in : Option BadConfig → SystemFault
 fault_in None = NoMemory
 fault_in (Some reason) = Bad reason

@@ -1,4 +1,4 @@
--- What a host asks of a system: what a conversation is doing, and whether a frame is due.
+-- What a user of a system asks: the state of a conversation, and whether a frame is due.
 use Rattle.std.specs.Prelude.{ℕ, Bool, ◌&&◌, ◌||◌, Option, Some, None, is_some, nat_lt, if◌then◌else◌, option_map}
 use Rattle.lagtypes.specs.declared.identifiers.AggId.{AggId}
 use Rattle.portmachines.specs.Transmit.{is_due}
@@ -10,7 +10,7 @@ use Rattle.lagsystem.specs.Offers.{has_aggregator}
 use Rattle.lagsystem.specs.Readers.{conversations}
 use Rattle.lagsystem.specs.State.{State, place_of, slot_at}
 
--- what a conversation of an aggregator is doing, where there is one of this number
+-- the state of a conversation of an aggregator; None if there is none of this number
 abbrev pub conversation_at : State → AggId → ℕ → Option Assignment
 conversation_at s agg conv = if has_aggregator s agg && nat_lt conv (conversations s) then Some (state_of s.table agg.0 conv) else None
 
@@ -18,6 +18,6 @@ conversation_at s agg conv = if has_aggregator s agg && nat_lt conv (conversatio
 abbrev pub has_due : State → Slot → Bool
 has_due s slot = slot.port.enabled && (is_due slot.port || is_some (marker_due s.table slot.number))
 
--- the same of the port with this number
+-- whether a frame is due on the port with this number; None if there is none
 abbrev pub due_of : ℕ → State → Option Bool
 due_of n s = option_map (has_due s) (slot_at (place_of n s.slots) s.slots)

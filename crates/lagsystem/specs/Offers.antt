@@ -1,4 +1,4 @@
--- What the calls of a system do to its conversations (6.2.4; profile).
+-- What offer, move_conversation and force do to the conversations (6.2.4; profile).
 use Rattle.std.specs.Prelude.{◌≡◌, ℕ, Bool, IsTrue, ◌&&◌, List, length, nat_le, nat_lt, if◌then◌else◌, is_some, Result, Ok, Err}
 use Rattle.std.specs.Bool.{IsFalse}
 use Rattle.lagtypes.specs.declared.identifiers.AggId.{AggId}
@@ -26,33 +26,33 @@ has_aggregator s agg = nat_lt 0 agg.0 && nat_le agg.0 (length s.keys)
 abbrev pub is_frame_length : List ℕ → Bool
 is_frame_length octets = nat_le 14 (length octets) && nat_le (length octets) longest_frame
 
--- what the conversation of a frame is doing
+-- the state of the conversation of a frame
 abbrev pub state_for : State → AggId → List ℕ → Assignment
 state_for s agg octets = state_of s.table agg.0 (conversation_of s octets)
 
--- one conversation takes this state, and nothing else changes
+-- one conversation gets this state, and nothing else changes
 abbrev pub TakesState : AggId → ℕ → Assignment → State → State → Type 0
 TakesState agg conv state old new = Sets old.table new.table agg.0 conv state × (new ≡ with_table old new.table)
 
--- a frame that may be offered: its length is allowed, and it is not of the slow protocols
+-- a frame that may be offered: 14 to 1518 octets, and not a slow protocols frame
 abbrev pub MayBeSent : List ℕ → Type 0
 MayBeSent octets = IsTrue (is_frame_length octets) × (IsSlow octets → ⊥)
 
--- a frame that may not, with the first cause that holds
+-- a frame that may not be offered, with the first fault that holds
 abbrev pub RefusesFrame : List ℕ → SystemFault → Type 0
 RefusesFrame octets FrameLength = IsFalse (is_frame_length octets)
 RefusesFrame octets SlowFrame = IsTrue (is_frame_length octets) × IsSlow octets
 RefusesFrame octets fault = ⊥
 
--- such a frame for an aggregator that there is
+-- a frame that may be offered, for an aggregator that exists
 abbrev pub IsOffered : State → AggId → List ℕ → Type 0
 IsOffered s agg octets = IsTrue (has_aggregator s agg) × MayBeSent octets
 
--- what the distributor answers for it: the ports that distribute in the aggregator may carry it
+-- what the distributor returns for the frame; it picks among the ports that distribute in the aggregator
 abbrev pub Distributes : (ℕ → ℕ → ℕ → Type 0) → State → AggId → List ℕ → Result ℕ DistFault → Type 0
 Distributes gives s agg octets answer = Assigns gives (conversation_of s octets) (distributing agg s.slots) (state_for s agg octets) answer
 
--- a frame is refused with the first cause that holds
+-- an offered frame is refused with the first fault that holds
 abbrev pub RefusesOffer : (ℕ → ℕ → ℕ → Type 0) → State → AggId → List ℕ → SystemFault → Type 0
 RefusesOffer gives s agg octets NoAggregator = IsFalse (has_aggregator s agg)
 RefusesOffer gives s agg octets FrameLength = IsTrue (has_aggregator s agg) × RefusesFrame octets FrameLength
@@ -60,13 +60,13 @@ RefusesOffer gives s agg octets SlowFrame = IsTrue (has_aggregator s agg) × Ref
 RefusesOffer gives s agg octets fault =
     (cause : DistFault) × IsOffered s agg octets × Distributes gives s agg octets (Err cause) × (fault ≡ system_fault cause)
 
--- a frame goes on a port, and its conversation is then on that port; or it is refused, and nothing changes
+-- a frame is to be sent on a port, and its conversation is now on that port; or it is refused, and nothing changes
 abbrev pub Offers : (ℕ → ℕ → ℕ → Type 0) → AggId → List ℕ → State → Result ℕ SystemFault → State → Type 0
 Offers gives agg octets old (Ok port) new =
     IsOffered old agg octets × Distributes gives old agg octets (Ok port) × TakesState agg (conversation_of old octets) (On port) old new
 Offers gives agg octets old (Err fault) new = RefusesOffer gives old agg octets fault × (new ≡ old)
 
--- the answer of the distributor, of a conversation that there is
+-- the second argument if the conversation has a number from 0 to 255, else NotAssigned
 abbrev pub known : State → ℕ → Result Assignment DistFault → Result Assignment DistFault
 known s conv answer = if nat_lt conv (conversations s) then answer else Err dist.NotAssigned
 
@@ -74,7 +74,7 @@ abbrev pub in_system : Result Assignment DistFault → Result Assignment SystemF
 in_system (Ok state) = Ok state
 in_system (Err fault) = Err (system_fault fault)
 
--- what a conversation becomes that is moved to a port, or why it is not moved
+-- the state of a conversation after it is moved to a port, or why the move is refused
 abbrev pub move_answer : State → AggId → ℕ → ℕ → Result Assignment SystemFault
 move_answer s agg conv port =
     if has_aggregator s agg
@@ -83,11 +83,11 @@ move_answer s agg conv port =
     else Err NoPort)
     else Err NoAggregator
 
--- what a conversation becomes that is freed by force, or why it is not freed
+-- the state of a conversation after it is freed by force, or why that is refused
 abbrev pub force_answer : State → AggId → ℕ → Result Assignment SystemFault
 force_answer s agg conv = if has_aggregator s agg then in_system (known s conv (forced (state_of s.table agg.0 conv))) else Err NoAggregator
 
--- the conversation takes this state; or this is refused, and nothing changes
+-- the conversation gets this state; or the call is refused, and nothing changes
 abbrev pub Becomes : AggId → ℕ → Result Assignment SystemFault → State → Result Unit SystemFault → State → Type 0
 Becomes agg conv (Ok state) old answer new = (answer ≡ Ok tt) × TakesState agg conv state old new
 Becomes agg conv (Err fault) old answer new = (answer ≡ Err fault) × (new ≡ old)

@@ -1,4 +1,4 @@
--- What the readers of a system tell.
+-- What the readers of a system return.
 use Rattle.std.specs.Prelude.{ℕ, Bool, ◌&&◌, List, length, slice_index, bit_xor, filter, map, Option, Some, None, nat_lt, if◌then◌else◌}
 use Rattle.lagtypes.specs.declared.group.Group.{Group}
 use Rattle.lagtypes.specs.declared.identifiers.AggId.{AggId}
@@ -13,7 +13,7 @@ use Rattle.slowpdu.specs.Parties.{party_of}
 use Rattle.lagsystem.specs.declared.slots.Slot.{Slot}
 use Rattle.lagsystem.specs.State.{State}
 
--- the group of a port: that of its party and its recorded partner's
+-- the Link Aggregation Group of a port: from its own and its recorded partner's parameters
 abbrev pub group_at : Machines → Group
 group_at p = group_of p.party (party_of p.partner)
 
@@ -36,11 +36,11 @@ agg_of_number g = record { 0 = g }
 abbrev pub distributing : AggId → List Slot → List ℕ
 distributing agg slots = map (λ s. s.number) (filter (distributes_in agg) slots)
 
--- how many conversations each aggregator of the system has; they count from 0 (profile)
+-- how many conversations each aggregator has; they are numbered from 0 (profile)
 abbrev pub conversations : State → ℕ
 conversations s = 256
 
--- the conversation of a frame: the last octet of its destination exclusive-or that of its source (profile)
+-- the conversation of a frame: the last octet of its destination address exclusive-or that of its source (profile)
 abbrev pub conversation_of : State → List ℕ → ℕ
 conversation_of s octets = bit_xor (slice_index octets 5) (slice_index octets 11)
 

@@ -1,4 +1,4 @@
--- What transmit sends (6.4.16, 6.5.3.3; profile: that an LACPDU goes before a marker).
+-- What transmit returns (6.4.16, 6.5.3.3; that an LACPDU goes before a marker: profile).
 use Rattle.std.specs.Prelude.{◌≡◌, ℕ, Bool, true, false, List, Option, Some, None, slice_get, slice_set}
 use Rattle.slowpdu.specs.declared.pdu.Marker.{Marker}
 use Rattle.slowpdu.specs.declared.pdu.MarkerKind.TheVariants.{Information}
@@ -12,7 +12,7 @@ use Rattle.distributor.specs.Changes.{Marks, marker_due}
 use Rattle.lagsystem.specs.declared.slots.Slot.{Slot}
 use Rattle.lagsystem.specs.State.{State, with_slots, with_table}
 
--- a marker of the system on a port
+-- the Marker PDU of the system with this identifier, for a port
 abbrev pub own_marker : State → ℕ → ℕ → Marker
 own_marker s port id = record { kind = Information; port = port; system = s.system.mac; id = id }
 
@@ -21,20 +21,20 @@ abbrev pub IsLacpduOf : ℕ → Slot → List ℕ → Type 0
 IsLacpduOf max_delay slot octets =
     (payload : List ℕ) × IsAddress slot.mac × Writes payload (pdu_of slot.port max_delay) × (octets ≡ frame_octets slot.mac payload)
 
--- the LACPDU of the port at the place goes out, and nothing else changes
+-- the LACPDU of the port at this index is sent, and nothing else changes
 abbrev pub SendsLacpdu : ℕ → Slot → State → Option (List ℕ) → State → Type 0
 SendsLacpdu i slot old answer new =
     (octets : List ℕ) × IsLacpduOf old.max_delay slot octets × (answer ≡ Some octets)
     × (new ≡ with_slots old (slice_set old.slots i (record slot { port = sent slot.port })))
 
--- the marker with this identifier goes out on the port from this address
+-- a marker with this identifier, if there is one, is sent on the port from this MAC address
 abbrev pub SendsMarkerOf : Option ℕ → ℕ → List ℕ → State → Option (List ℕ) → State → Type 0
 SendsMarkerOf None port mac old answer new = (answer ≡ None) × (new ≡ old)
 SendsMarkerOf (Some id) port mac old answer new =
     (payload : List ℕ) × IsAddress mac × WritesMarker payload (own_marker old port id) × (answer ≡ Some (frame_octets mac payload))
     × Marks old.table new.table port id × (new ≡ with_table old new.table)
 
--- a marker goes out where a conversation is wanted on the port and an identifier is left
+-- a marker is sent if a conversation is Wanted on the port and an identifier is left
 abbrev pub SendsMarker : ℕ → List ℕ → State → Option (List ℕ) → State → Type 0
 SendsMarker port mac old answer new = SendsMarkerOf (marker_due old.table port) port mac old answer new
 
@@ -43,7 +43,7 @@ SendsWhere false due i slot old answer new = (answer ≡ None) × (new ≡ old)
 SendsWhere true true i slot old answer new = SendsLacpdu i slot old answer new
 SendsWhere true false i slot old answer new = SendsMarker slot.number slot.mac old answer new
 
--- while the link is up an LACPDU that is due goes out, else a marker that is due; else nothing does
+-- while the link is up: an LACPDU is sent if one is due, else a marker if one is due, else nothing
 abbrev pub SendsFrom : ℕ → Slot → State → Option (List ℕ) → State → Type 0
 SendsFrom i slot old answer new = SendsWhere slot.port.enabled (is_due slot.port) i slot old answer new
 
@@ -51,7 +51,7 @@ abbrev pub SendsAt : Option ℕ → State → Option (List ℕ) → State → Ty
 SendsAt None old answer new = ⊥
 SendsAt (Some i) old answer new = (slot : Slot) × (slice_get old.slots i ≡ Some slot) × SendsFrom i slot old answer new
 
--- what the transmit machine of a port does: it sends the LACPDU that is due, if one is
+-- the transmit machine of a port: it sends the LACPDU that is due, if one is
 abbrev pub Sends : ℕ → Slot → Option (List ℕ) → Machines → Type 0
 Sends max_delay slot None port = (is_due slot.port ≡ false) × (port ≡ slot.port)
 Sends max_delay slot (Some octets) port = (is_due slot.port ≡ true) × IsLacpduOf max_delay slot octets × (port ≡ sent slot.port)

@@ -1,4 +1,4 @@
--- Settling (profile): six steps, each a relation between the state before it and the state after it.
+-- Settling (profile): six steps after a call. Each is a relation between the states before and after it.
 use Rattle.std.specs.Prelude.{◌≡◌, ℕ, zero, suc, Bool, false, List, [], ◌∷◌, length, if◌then◌else◌, Option, Some, None, slice_get, slice_set}
 use Rattle.std.specs.List.{AllZip}
 use Rattle.lagtypes.specs.declared.identifiers.AggId.{AggId}
@@ -22,18 +22,18 @@ use Rattle.lagsystem.specs.Readers.{agg_of_number, distributing}
 use Rattle.lagsystem.specs.Views.{view_of, views}
 use Rattle.lagsystem.specs.State.{State, with_slots, with_table}
 
--- the port keeps its number and address, and its machines go on so
+-- the port keeps its number and MAC address, and its machines change by the relation
 abbrev pub Moves : (Machines → Machines → Type 0) → Slot → Slot → Type 0
 Moves R old new = (new ≡ record old { port = new.port }) × R old.port new.port
 
 abbrev pub AllMove : (Machines → Machines → Type 0) → List Slot → List Slot → Type 0
 AllMove R old new = AllZip (Moves R) old new
 
--- every port moves so, and nothing else changes
+-- every port changes by the relation, and nothing else changes
 abbrev pub EachPort : (Machines → Machines → Type 0) → State → State → Type 0
 EachPort R old new = AllMove R old.slots new.slots × (new ≡ with_slots old new.slots)
 
--- 1. mux rows with Ready false, until none is enabled
+-- 1. every mux machine runs with Ready false
 abbrev pub RunsFreeMux : State → State → Type 0
 RunsFreeMux old new = EachPort (Settles (mux_rows false)) old new
 
@@ -41,7 +41,7 @@ abbrev pub given : Slot → Option AggId → Slot
 given slot None = slot
 given slot (Some agg) = record slot { port = record slot.port { choice = Selected agg } }
 
--- what a port takes, where it is eligible
+-- the aggregator that a port chooses, if it is eligible
 abbrev pub takes : List Key → List Slot → Slot → Option AggId
 takes keys slots slot = if is_eligible (view_of slot) then choice keys (views slots) slot.number else None
 
@@ -49,39 +49,39 @@ abbrev pub choose_slot : List Key → List Slot → ℕ → Option Slot → List
 choose_slot keys slots place None = slots
 choose_slot keys slots place (Some slot) = slice_set slots place (given slot (takes keys slots slot))
 
--- the first n ports have taken their aggregators, one after another; each sees the choices made before it
+-- the first n ports have chosen their aggregators, one after another; each sees the choices made before it
 abbrev pub chosen : List Key → ℕ → List Slot → List Slot
 chosen keys zero slots = slots
 chosen keys (suc n) slots = choose_slot keys (chosen keys n slots) n (slice_get (chosen keys n slots) n)
 
--- 2. each eligible port, ascending, takes its aggregator
+-- 2. each eligible port, ascending, chooses its aggregator
 abbrev pub Chooses : State → State → Type 0
 Chooses old new = new ≡ with_slots old (chosen old.keys (length old.slots) old.slots)
 
--- Ready of the aggregator of a port
+-- Ready of the aggregator that a port is given
 abbrev pub ready_of : List Key → List PortView → Choice → Bool
 ready_of keys seen Unselected = false
 ready_of keys seen (Selected agg) = is_ready keys seen agg
 
--- 3. Ready is taken of each aggregator, as the state has it: step 4 looks at no later one
+-- 3. Ready is worked out for each aggregator in this state; step 4 uses these values
 abbrev pub TakesReady : State → State → Type 0
 TakesReady old new = new ≡ old
 
--- 4. mux rows with Ready as it was taken, until none is enabled
+-- 4. every mux machine runs with Ready as step 3 worked it out
 abbrev pub RunsMux : State → State → Type 0
 RunsMux old new = EachPort (λ p q. Settles (mux_rows (ready_of old.keys (views old.slots) p.choice)) p q) old new
 
--- 5. periodic rows
+-- 5. every periodic machine runs
 abbrev pub RunsAllPeriodic : State → State → Type 0
 RunsAllPeriodic old new = EachPort RunsPeriodic old new
 
--- a conversation on a port that is not among these becomes wanted on it
+-- a conversation that is On a port that is not in the list becomes Wanted on it
 abbrev pub left_on : List ℕ → Assignment → Assignment
 left_on ports (On p) = if distributes ports p then On p else Wanted p None
 left_on ports s = s
 
--- 6. each conversation on a port that does not distribute in its aggregator becomes wanted on that port, and nothing else
--- changes
+-- 6. each conversation On a port that does not distribute in its aggregator becomes Wanted on that port, and nothing
+-- else changes
 pub record LeavesPorts (old new : State) : Type 0 where
   pub frame : new ≡ with_table old new.table
   pub aggs : new.table.aggs ≡ old.table.aggs
@@ -94,13 +94,13 @@ abbrev pub Follows : List (State → State → Type 0) → State → State → T
 Follows [] old new = new ≡ old
 Follows (step ∷ steps) old new = (mid : State) × step old mid × Follows steps mid new
 
--- the steps that look at ports alone
+-- steps 1 to 5, which read and change ports only
 abbrev pub SettlesPorts : State → State → Type 0
 SettlesPorts old new = Follows (RunsFreeMux ∷ Chooses ∷ TakesReady ∷ RunsMux ∷ RunsAllPeriodic ∷ []) old new
 
 abbrev pub six_steps : List (State → State → Type 0)
 six_steps = RunsFreeMux ∷ Chooses ∷ TakesReady ∷ RunsMux ∷ RunsAllPeriodic ∷ LeavesPorts ∷ []
 
--- one settling: seven states, each of which follows from the one before by one of the six steps
+-- one settling: seven states, each of which follows from the one before it by one of the six steps
 abbrev pub Settling : State → State → Type 0
 Settling old new = Follows six_steps old new

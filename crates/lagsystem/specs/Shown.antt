@@ -1,4 +1,4 @@
--- A system, its calls and its replies, as the law over free moves sees them.
+-- A system, its calls and its replies, as the two-system theorem (lagmodel) sees them.
 use Rattle.std.specs.Prelude.{◌≡◌, ℕ, zero, suc, Bool, true, ◌&&◌, ◌||◌, if◌then◌else◌, Option, Some, None, List, [], ◌∷◌, slice_get, option_map, Ok}
 use Rattle.std.specs.List.{AllByRecursion}
 use Rattle.lagtypes.specs.declared.identifiers.Key.{Key}
@@ -42,7 +42,8 @@ abbrev pub aggregator_of : Choice → Option ℕ
 aggregator_of Unselected = None
 aggregator_of (Selected agg) = Some agg.0
 
--- a port, also in the middle of settling: it distributes where its mux machine does and no mux row stops it
+-- a port in the model, also in the middle of a settling: it distributes if its mux machine does and no mux row is about
+-- to stop it
 abbrev pub shown : Machines → PortView
 shown p = record {
   party = p.party;
@@ -65,7 +66,7 @@ view_at f slots = record { port = ports_of number shown_slot slots; flows = f }
 abbrev pub view_of : State → View
 view_of s = view_at (flows_of s.table) s.slots
 
--- aggregators count from 1
+-- the key of an aggregator; aggregators are numbered from 1
 abbrev pub key_of : List Key → ℕ → Option Key
 key_of keys zero = None
 key_of keys (suc n) = slice_get keys n
@@ -73,7 +74,7 @@ key_of keys (suc n) = slice_get keys n
 abbrev pub party_in : SystemId → PortConfig → Party
 party_in system c = (setup_of system c).party
 
--- how a system is configured
+-- the configuration of a system, as the model has it
 abbrev pub configured : State → Setup
 configured s = record {
   system = s.system;
@@ -82,7 +83,7 @@ configured s = record {
   first_marker = s.first_marker;
 }
 
--- a control PDU as the law reads it
+-- an LACPDU as the model has it
 abbrev pub message_of : Lacpdu → Told_lacpdu
 message_of v = record { actor = party_of v.actor; partner = party_of v.partner; synchronised = (bits_of v.actor.state).synchronization }
 
@@ -94,12 +95,12 @@ abbrev pub read_as : Pdu → Message
 read_as (pdu.Lacpdu v) = Lacp (message_of v)
 read_as (pdu.Marker m) = marker_message m.kind m
 
--- received octets bring this PDU, if any
+-- these received octets are a control frame with this PDU; or they are none, and there is no PDU
 abbrev pub Brings : List ℕ → Option Message → Type 0
 Brings octets None = Unit {0}
 Brings octets (Some message) = (payload : Pdu) × IsFrame octets (Carries payload) × (message ≡ read_as payload)
 
--- the call as the law sees it
+-- the call, as the model has it
 abbrev pub Tells : Call → Told → Type 0
 Tells Tick told = told ≡ Told.Tick
 Tells (Set_link n up) told = told ≡ Told.Set_link n up
@@ -111,12 +112,12 @@ Tells (Offer agg octets) told = told ≡ Told.Offer
 Tells (Move_conversation agg conv port) told = told ≡ Told.Move_conversation
 Tells (Force agg conv) told = told ≡ Told.Force agg.0 conv
 
--- the octets are a control frame with this PDU, from an address
+-- the octets are a control frame with this PDU, from some MAC address
 abbrev pub IsSent : List ℕ → Pdu → Type 0
 IsSent octets payload = (mac : List ℕ) × (written : List ℕ) × IsAddress mac × WritesPdu written payload × (octets ≡ frame_octets mac written)
 
--- what others see of a call of a system is what its reply holds: the LACPDU that was taken, the PDU of the frame to send, or
--- the conversation of a frame and the port that it goes on
+-- the visible acts of a call, as its reply has them: the LACPDU that was processed, the PDU of the frame to send, or
+-- the conversation of a client's frame and the port to send it on
 abbrev pub Sees : State → Call → Reply → List Act → Type 0
 Sees s (Receive n octets) (reply.Receive (Ok TookLacpdu)) seen = (v : Lacpdu) × IsFrame octets (Carries (pdu.Lacpdu v)) × (seen ≡ Took n (message_of v) ∷ [])
 Sees s (Receive n octets) (reply.Receive (Ok (Respond frame))) seen = (m : Marker) × IsSent frame (pdu.Marker m) × (seen ≡ Sends n (marker_message m.kind m) ∷ [])
@@ -124,20 +125,21 @@ Sees s (Transmit n) (reply.Transmit (Ok (Some frame))) seen = (payload : Pdu) ×
 Sees s (Offer agg octets) (reply.Offer (Ok port)) seen = seen ≡ Sends_frame port agg.0 (conversation_of s octets) ∷ []
 Sees s call answer seen = seen ≡ []
 
--- the views before and after a call are joined by free moves
+-- the model allows this call: its free moves lead from the view before the call to the view after it, with just these
+-- visible acts
 abbrev pub JoinsViews : State → Call → Reply → State → Type 0
 JoinsViews old call reply new =
     (told : Told) × (seen : List Act) × Tells call told × Sees old call reply seen × FreeMoves (configured old) told (view_of old) seen (view_of new)
 
--- the receive states in which an LACPDU is taken
+-- the receive states in which an LACPDU is processed
 abbrev pub takes_in : ReceiveState → Bool
 takes_in s = (is_receive Expired s || is_receive Defaulted s) || is_receive Current s
 
--- a port whose link is enabled can take an LACPDU
+-- a port whose link is up is in a state in which it processes LACPDUs
 abbrev pub awake : Machines → Bool
 awake p = if p.enabled then takes_in p.receive else true
 
--- a port that says synchronised is a member, and one that collects and distributes has a synchronised partner
+-- a port that is synchronized is SELECTED, and one that collects and distributes has a synchronized partner
 abbrev pub steady_of : MuxState → Bool → Bool → Bool
 steady_of mux is_member synchronised =
     (if is_synchronized mux then is_member else true) && (if is_mux CollectingDistributing mux then synchronised else true)
@@ -151,6 +153,6 @@ AreAwake slots = AllByRecursion (λ x. awake x.port ≡ true) slots
 abbrev pub AreSteady : List Slot → Type 0
 AreSteady slots = AllByRecursion (λ x. steady x.port ≡ true) slots
 
--- what holds of each port after every call
+-- these hold of each port after every call
 abbrev pub AreRested : List Slot → Type 0
 AreRested slots = AreAwake slots × AreSteady slots

@@ -1,4 +1,4 @@
--- What every system keeps, and what holds of its ports after every call.
+-- The invariant of a system, and what every call promises.
 use Rattle.std.specs.Prelude.{◌≡◌, ℕ, true, List, [], ◌∷◌, length, None}
 use Rattle.std.specs.List.{AllByRecursion}
 use Rattle.portmachines.specs.declared.mux.MuxState.TheVariants.{CollectingDistributing}
@@ -18,12 +18,12 @@ use Rattle.lagsystem.specs.Readers.{agg_of_number, distributing}
 use Rattle.lagsystem.specs.State.{State, numbers}
 use Rattle.lagsystem.specs.Windows.{AreWindowed, KeepThree}
 
--- its configuration is accepted, and it has the ports of its configuration, in their order
+-- the configuration is one that is accepted, and the system has just its ports, in their order
 pub record HasPorts (s : State) : Type 0 where
   pub accepted : refusal s.keys s.ports ≡ None
   pub same : numbers s.slots ≡ numbers_of s.ports
 
--- a conversation is on a port only while that distributes in its aggregator
+-- a conversation is On a port only while the port distributes in its aggregator
 abbrev pub AreCarried : State → Type 0
 AreCarried s = (g k p : ℕ) → state_of s.table g k ≡ On p → distributes (distributing (agg_of_number g) s.slots) p ≡ true
 
@@ -36,19 +36,19 @@ pub record IsSound (s : State) : Type 0 where
   pub members : Members (configured s) (view_of s).port
   pub quiet : AreStill s.keys s.slots × ArePaced s.slots
 
--- what is made of a configuration
+-- the state that `new` makes of a configuration
 pub record IsMade (config : Config) (s : State) : Type 0 where
   pub first : IsFirst s
   pub configured : IsConfigured config s
   pub sound : IsSound s
 
--- a port distributes in the view exactly where its mux machine does
+-- a port distributes in the model's view exactly if its mux machine does
 abbrev pub Distribute : List Slot → Type 0
 Distribute slots = AllByRecursion (λ x. (shown x.port).distributes ≡ is_mux CollectingDistributing x.port.mux) slots
 
--- The members of an aggregator have its key and one group, which is not individual where they are two or more; ports that
--- distribute in one aggregator name one partner system and key (6.4.14.1). The ports are those of an accepted configuration,
--- and each keeps at most three ages of its transmit window (6.4.16).
+-- The members of an aggregator have its key and one group (LAG ID), which is not Individual if they are two or more;
+-- ports that distribute in one aggregator name one partner system and key (6.4.14.1). The ports are those of an
+-- accepted configuration, and each keeps at most three ages of its transmit window (6.4.16).
 pub record Agrees (s : State) : Type 0 where
   pub ports : HasPorts s
   pub windowed : KeepThree s
@@ -56,8 +56,8 @@ pub record Agrees (s : State) : Type 0 where
   pub one_partner : OnePartner (view_of s)
   pub distribute : Distribute s.slots
 
--- What every call promises: it is a step; the views before and after it are joined by free moves that others see as its reply
--- has them; each port keeps its transmit window; the ports agree after it; and the configuration stays.
+-- What every call promises. It is a `Step`; the model allows it, with the visible acts that its reply has; each port
+-- keeps its transmit limit; the ports agree after it (`Agrees`); and the configuration stays.
 pub record Answers (gives : ℕ → ℕ → ℕ → Type 0) (old : State) (call : Call) (reply : Reply) (new : State) : Type 0 where
   pub step : Step gives old call reply new
   pub moves : JoinsViews old call reply new

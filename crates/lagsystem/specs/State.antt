@@ -7,8 +7,8 @@ use Rattle.distributor.specs.Conversations.{Table}
 use Rattle.lagsystem.specs.declared.config.PortConfig.{PortConfig}
 use Rattle.lagsystem.specs.declared.slots.Slot.{Slot}
 
--- the configuration: identifier, CollectorMaxDelay, identifier of the first marker, keys of the aggregators, and the ports
--- as they started; the ports as they are, in the same order; and the conversations
+-- the configuration: system identifier, CollectorMaxDelay, first marker identifier, keys of the aggregators, and the
+-- ports as they were configured; then the ports as they are now, in the same order; and the conversations
 pub record State : Type 0 where
   pub system : SystemId
   pub max_delay : ℕ
@@ -32,7 +32,7 @@ with_table s table = record s { table = table }
 abbrev pub numbers : List Slot → List ℕ
 numbers slots = map (λ s. s.number) slots
 
--- the place of the port with this number
+-- the index of the port with this number
 abbrev pub place_of : ℕ → List Slot → Option ℕ
 place_of n slots = position (λ s. s.number == n) slots
 
@@ -40,6 +40,6 @@ abbrev pub slot_at : Option ℕ → List Slot → Option Slot
 slot_at None slots = None
 slot_at (Some i) slots = slice_get slots i
 
--- the port with this number
+-- the machines of the port with this number
 abbrev pub port_of : ℕ → State → Option Machines
 port_of n s = option_map (λ x. x.port) (slot_at (place_of n s.slots) s.slots)

@@ -1,4 +1,4 @@
--- The texts of the refusals.
+-- The texts of the faults, as Display writes them.
 use Rattle.std.specs.Prelude.{ℕ, List, ◌++◌, codes, decimal}
 use Rattle.lagsystem.specs.declared.fault.BadConfig.{BadConfig as Reason}
 use Rattle.lagsystem.specs.declared.fault.BadConfig.TheVariants.{Ports, Aggregators, PortNumber}

@@ -1,4 +1,4 @@
--- What the Selection Logic sees of the ports.
+-- What the Selection Logic reads of the ports.
 use Rattle.std.specs.Prelude.{ℕ, ◌==◌, ◌||◌, List, map}
 use Rattle.slowpdu.specs.Parties.{party_of}
 use Rattle.portmachines.specs.declared.mux.MuxState.{MuxState}

@@ -16,10 +16,11 @@ use lagtypes::AggId;
 use std::alloc::Global;
 use std::marker::Model;
 
-/// One system (6.2): its ports, aggregators and conversations, and the algorithm that picks the ports of conversations.
-/// Bytes and ticks go in, frames come out; it has no clock and no link of its own. The algorithm is asked with the number
-/// of a conversation and a count of ports, at most 64, and its answer is a place among them, from 0: below the count
-/// where that is above 0.
+/// One system (6.2): its ports, aggregators and conversations, and a distribution algorithm. Octets and ticks of 100 ms
+/// go in, frames come out; it has no clock and no network interface of its own.
+///
+/// `algorithm(conversation, count)` returns the index, below `count`, of the port that a conversation goes on, in the
+/// list of the ports that distribute. `count` is 0 to 64; for 0 any result will do.
 #[derive(Drop)]
 pub struct System<F> {
     pub(crate) core: Core<F>,
@@ -38,9 +39,10 @@ impl<F> Model for System<F> {
 }
 
 impl<F: Fn(u16, usize) -> usize + Drop> System<F> {
-    /// A system with all links down: the start rows of every port, then one settling; every conversation is free. Refused
-    /// are, in this order, a configuration without 1 to 64 ports, one without 1 to 64 aggregators, and one whose port
-    /// numbers do not rise from 1 on; `NoMemory` where memory was refused (profile).
+    /// Makes a system with all links down. Every port starts (BEGIN), one settling follows, and every conversation is
+    /// free. Refused in this order: `BadConfig(Ports)` if there are not 1 to 64 ports, `BadConfig(Aggregators)` if
+    /// there are not 1 to 64 aggregators, `BadConfig(PortNumber)` if the port numbers do not ascend from 1 or more,
+    /// `NoMemory` if memory is refused (profile).
     pub fn new(alloc: Global, config: Config, algorithm: F) -> Result<System<F>, SystemFault>
         requires usable { PicksPlaces (F.pre algorithm) (F.post algorithm) }
         ensures first { IfOk result (λ s. IsFirst s.state) }
@@ -55,12 +57,12 @@ impl<F: Fn(u16, usize) -> usize + Drop> System<F> {
         Ok(System { core })
     }
 
-    /// A frame comes on a port, of any octets. Answered is what became of it: `Disabled` while the link is down; else
-    /// `Dropped` below 14 octets, and for a data frame `Up`, or `Dropped` where the port is not Collecting; and for a
-    /// control frame, EtherType 0x8809, `Ignored` with the fault of its payload, `TookLacpdu`, `Respond` for a marker, and
-    /// `Released` for a marker response. An LACPDU is followed by one settling; a response that names this system and the
-    /// port on which it comes frees the conversations that wait for it; nothing else has an effect. `NoPort` where there is
-    /// no such port (6.2.3, 6.4.12, 6.5.4).
+    /// Takes a frame that came on a port, of any octets, and returns what became of it: `Disabled` while the link is
+    /// down; `Dropped` if it has fewer than 14 octets; for a data frame `Up`, or `Dropped` if the port is not
+    /// Collecting; and for a control frame (EtherType 0x8809) `Ignored` with the fault of its payload, `TookLacpdu`,
+    /// `Respond` for a Marker PDU, or `Released` for a Marker Response. After an LACPDU one settling follows. A
+    /// response that names this system and the port on which it came frees the conversations that wait for it. Nothing
+    /// else changes the system. `NoPort` if there is no such port (6.2.3, 6.4.12, 6.5.4).
     pub fn receive(&mut self, port: u16, frame: &[u8]) -> Result<Received, SystemFault>
         ensures answers { Answers (F.post self.old.algorithm) self.old.state (Call.Receive port frame.now) (Reply.Receive result) self.new.state }
         ensures algorithm { self.new.algorithm ≡ self.old.algorithm }
@@ -68,8 +70,9 @@ impl<F: Fn(u16, usize) -> usize + Drop> System<F> {
         self.core.receive(port, frame)
     }
 
-    /// One tick, 100 ms: every timer of every port counts down and expired current_while rows fire; a conversation whose
-    /// marker was sent 30 ticks ago is Wanted again; and one settling follows (6.4.10; profile).
+    /// One tick, 100 ms. Every timer of every port counts down, and a receive machine whose current_while expired
+    /// changes its state. A conversation whose marker was sent 30 ticks ago is Wanted again. One settling follows
+    /// (6.4.10; profile).
     pub fn tick(&mut self)
         ensures answers { Answers (F.post self.old.algorithm) self.old.state Call.Tick Reply.Tick self.new.state }
         ensures algorithm { self.new.algorithm ≡ self.old.algorithm }
@@ -77,8 +80,9 @@ impl<F: Fn(u16, usize) -> usize + Drop> System<F> {
         self.core.tick();
     }
 
-    /// The link of a port is up or down now: its receive rows fire, conversations on a port that goes down are free, and
-    /// one settling follows. `NoPort` where there is no such port (6.4.12; profile).
+    /// Sets port_enabled: the link of a port is up or down now. Its receive machine runs; if the link went down, every
+    /// conversation of the port is free; one settling follows. `NoPort` if there is no such port (6.4.7, 6.4.12;
+    /// profile).
     pub fn set_link(&mut self, port: u16, up: bool) -> Result<(), SystemFault>
         ensures answers { Answers (F.post self.old.algorithm) self.old.state (Call.Set_link port up) (Reply.SetLink result) self.new.state }
         ensures algorithm { self.new.algorithm ≡ self.old.algorithm }
@@ -86,9 +90,9 @@ impl<F: Fn(u16, usize) -> usize + Drop> System<F> {
         self.core.set_link(port, up)
     }
 
-    /// Gives a port another key, priority or Aggregation bit: its receive and mux machines start again, and one
-    /// settling follows. False where nothing differs, and then nothing changes. `NoPort` where there is no such port
-    /// (profile).
+    /// Gives a port another key, priority or Aggregation bit. Its receive and mux machines start again (BEGIN), and one
+    /// settling follows. Returns false, and changes nothing, if the port has these values already. `NoPort` if there is
+    /// no such port (profile).
     pub fn configure(&mut self, port: u16, change: PortChange) -> Result<bool, SystemFault>
         ensures answers { Answers (F.post self.old.algorithm) self.old.state (Call.Configure port change) (Reply.Configure result) self.new.state }
         ensures algorithm { self.new.algorithm ≡ self.old.algorithm }
@@ -96,8 +100,8 @@ impl<F: Fn(u16, usize) -> usize + Drop> System<F> {
         self.core.configure(port, change)
     }
 
-    /// Starts the system again as `new` left it: all links down, the ports as they were configured, so that every
-    /// `configure` is forgotten, every conversation free, and the first marker next. Takes no memory (profile).
+    /// Goes back to the state that `new` made: all links down, every conversation free, the first marker identifier
+    /// next. What `configure` changed is undone. Takes no memory (profile).
     pub fn restart(&mut self)
         ensures answers { Answers (F.post self.old.algorithm) self.old.state Call.Restart Reply.Restart self.new.state }
         ensures shows { view_of self.new.state ≡ first_view (configured self.old.state) }
@@ -106,10 +110,10 @@ impl<F: Fn(u16, usize) -> usize + Drop> System<F> {
         self.core.restart();
     }
 
-    /// The frame that is due on a port, a control frame of 124 octets from the port's MAC address; None while the link is
-    /// down. First an LACPDU, where NTT is set and fewer than three were sent in the last eleven ticks; else a marker,
-    /// where a conversation is Wanted on the port and an identifier is left. `NoPort` where there is no such port (6.4.16,
-    /// 6.5.3.3; profile).
+    /// Returns the frame that is due on a port, a control frame of 124 octets from the port's MAC address; None while
+    /// the link is down. An LACPDU comes first, if NTT is set and fewer than three were sent in the last eleven ticks;
+    /// else a marker, if a conversation is Wanted on the port and an identifier is left. `NoPort` if there is no such
+    /// port (6.4.16, 6.5.3.3; profile).
     pub fn transmit(&mut self, port: u16) -> Result<Option<[u8; 124]>, SystemFault>
         ensures answers { Answers (F.post self.old.algorithm) self.old.state (Call.Transmit port) (Reply.Transmit result) self.new.state }
         ensures algorithm { self.new.algorithm ≡ self.old.algorithm }
@@ -117,10 +121,10 @@ impl<F: Fn(u16, usize) -> usize + Drop> System<F> {
         self.core.transmit(port)
     }
 
-    /// The port to send a frame on, in an aggregator; its conversation is then on that port. Refused in this order:
-    /// `NoAggregator`, `FrameLength` outside 14 to 1518 octets, `SlowFrame` for EtherType 0x8809, `Held` while the
-    /// conversation is Wanted or Flushing, `NoneDistributing` where it is free and no port distributes in the aggregator
-    /// (6.2.4; profile).
+    /// Returns the number of the port to send a client's frame on, and puts its conversation on that port. Refused in
+    /// this order: `NoAggregator`; `FrameLength` outside 14 to 1518 octets; `SlowFrame` for EtherType 0x8809; `Held`
+    /// while the conversation is Wanted or Flushing; `NoneDistributing` if it is free and no port distributes in the
+    /// aggregator (6.2.4; profile).
     pub fn offer(&mut self, agg: AggId, frame: &[u8]) -> Result<u16, SystemFault>
         requires usable { PicksPlaces (F.pre self.old.algorithm) (F.post self.old.algorithm) }
         ensures answers { Answers (F.post self.old.algorithm) self.old.state (Call.Offer agg frame.now) (Reply.Offer result) self.new.state }
@@ -130,11 +134,11 @@ impl<F: Fn(u16, usize) -> usize + Drop> System<F> {
         self.core.offer(agg, frame)
     }
 
-    /// Moves a conversation of an aggregator to a port, behind a marker on the port that it is on: its frames are held
-    /// until the response comes, or until `force`, a link that goes down or a restart frees it. Refused in this order:
-    /// `NoAggregator`, `NoPort`, `NotAssigned` where the conversation is free or there is none of this number, `Held`
-    /// while it is Wanted or Flushing, `NotDistributing` where the port does not distribute in the aggregator,
-    /// `SamePort`, `MarkersSpent` (6.2.5; profile).
+    /// Moves a conversation of an aggregator to another port. A marker is wanted on its present port, and its frames
+    /// are held until the response comes, or until `force`, `restart` or a link that goes down frees it. Refused in
+    /// this order: `NoAggregator`; `NoPort`; `NotAssigned` if the conversation is free or has no number from 0 to 255;
+    /// `Held` while it is Wanted or Flushing; `NotDistributing` if the port does not distribute in the aggregator;
+    /// `SamePort` if it is on that port; `MarkersSpent` if no marker identifier is left (6.2.5; profile).
     pub fn move_conversation(&mut self, agg: AggId, conv: u16, port: u16) -> Result<(), SystemFault>
         ensures answers { Answers (F.post self.old.algorithm) self.old.state (Call.Move_conversation agg conv port) (Reply.MoveConversation result) self.new.state }
         ensures algorithm { self.new.algorithm ≡ self.old.algorithm }
@@ -142,9 +146,9 @@ impl<F: Fn(u16, usize) -> usize + Drop> System<F> {
         self.core.move_conversation(agg, conv, port)
     }
 
-    /// Frees a conversation of an aggregator at once, so that its frames may overtake one another. One that is Wanted or
-    /// Flushing keeps the port that it prefers. Refused in this order:
-    /// `NoAggregator`, `NotAssigned` where the conversation is free or there is none of this number (profile).
+    /// Frees a conversation of an aggregator at once, so its frames may be reordered. If it is Wanted or Flushing, it
+    /// still prefers the port that it was to move to. Refused in this order: `NoAggregator`; `NotAssigned` if the
+    /// conversation is free or has no number from 0 to 255 (profile).
     pub fn force(&mut self, agg: AggId, conv: u16) -> Result<(), SystemFault>
         ensures answers { Answers (F.post self.old.algorithm) self.old.state (Call.Force agg conv) (Reply.Force result) self.new.state }
         ensures algorithm { self.new.algorithm ≡ self.old.algorithm }

@@ -14,13 +14,13 @@ use std::alloc::Global;
 /// A call of a system, with its arguments (profile).
 #[derive(Debug, Drop)]
 pub enum Call {
-    /// `receive`: the port, and the octets that come on it.
+    /// `receive`: the port, and the octets of the frame.
     Receive(u16, Vec<u8>),
     /// `tick`.
     Tick,
     /// `set_link`: the port, and whether its link is up.
     SetLink(u16, bool),
-    /// `configure`: the port, and what it is given.
+    /// `configure`: the port, and its new values.
     Configure(u16, PortChange),
     /// `restart`.
     Restart,
@@ -34,18 +34,18 @@ pub enum Call {
     Force(AggId, u16),
 }
 
-/// What a call answers (profile).
+/// The result of a call (profile).
 #[derive(Clone, Copy, Debug, PartialEq, Eq)]
 pub enum Reply {
     /// Of `receive`.
     Receive(Result<Received, SystemFault>),
-    /// Of `tick`, which answers nothing.
+    /// Of `tick`, which returns nothing.
     Tick,
     /// Of `set_link`.
     SetLink(Result<(), SystemFault>),
     /// Of `configure`.
     Configure(Result<bool, SystemFault>),
-    /// Of `restart`, which answers nothing.
+    /// Of `restart`, which returns nothing.
     Restart,
     /// Of `transmit`.
     Transmit(Result<Option<[u8; 124]>, SystemFault>),
@@ -58,8 +58,8 @@ pub enum Reply {
 }
 
 impl<F: Fn(u16, usize) -> usize + Drop> System<F> {
-    /// Makes these calls one after another and answers their replies, one for each. `NoMemory` where the answer could not
-    /// be reserved, and then no call was made (profile).
+    /// Makes these calls in order and returns their results, one for each. `NoMemory` if memory for the results is
+    /// refused; then no call was made (profile).
     pub fn drive(&mut self, alloc: Global, calls: &[Call]) -> Result<Vec<Reply>, NoMemory>
         requires usable { PicksPlaces (F.pre self.old.algorithm) (F.post self.old.algorithm) }
         ensures driven { IfOk result (λ replies. Drives (F.post self.old.algorithm) self.old.state (map call_of calls.now) replies.items self.new.state) }
@@ -76,7 +76,8 @@ impl<F: Fn(u16, usize) -> usize + Drop> System<F> {
         Ok(replies)
     }
 
-    /// Tells nothing but what its contract says: it opens the system for the prover.
+    /// Does nothing when it runs. The prover knows the invariant of `System` (at most three ages a port) only where
+    /// `core` is read, and `drive` needs that invariant.
     fn keeps_three(&self)
         ensures { KeepThree self.now.state }
     {

@@ -11,45 +11,45 @@ use std::fmt;
 /// Why a configuration is refused, in the order of checking (profile).
 #[derive(Clone, Copy, Debug, PartialEq, Eq)]
 pub enum BadConfig {
-    /// 1: it has not 1 to 64 ports.
+    /// 1: there are not 1 to 64 ports.
     Ports,
-    /// 2: it has not 1 to 64 aggregators.
+    /// 2: there are not 1 to 64 aggregators.
     Aggregators,
-    /// 3: the port at this place, from 1, has the number 0 or one that is not above the number before it.
+    /// 3: the port at this place, counted from 1, has the number 0, or one that is not above the number before it.
     PortNumber(usize),
 }
 
-/// Why a system is not made, or refuses a call (profile).
+/// Why a system cannot be made, or why it refuses a call (profile).
 #[derive(Clone, Copy, Debug, PartialEq, Eq)]
 pub enum SystemFault {
     /// 1: the system has no port of this number.
     NoPort,
     /// 2: the system has no such aggregator.
     NoAggregator,
-    /// 3: an offered frame has not 14 to 1518 octets.
+    /// 3: an offered frame does not have 14 to 1518 octets.
     FrameLength,
-    /// 4: an offered frame is one of the slow protocols, EtherType 0x8809.
+    /// 4: an offered frame is a slow protocols frame, EtherType 0x8809.
     SlowFrame,
-    /// 5: the conversation is Wanted or Flushing, so its frames are held.
+    /// 5: the conversation is Wanted or Flushing: its frames wait for a Marker Response.
     Held,
-    /// 6: the conversation is free, and no port distributes in the aggregator.
+    /// 6: the conversation is free, but no port distributes in the aggregator.
     NoneDistributing,
     /// 7: the port to move to does not distribute in the aggregator.
     NotDistributing,
-    /// 8: the port to move to is the one that the conversation is on.
+    /// 8: the conversation is on that port already.
     SamePort,
-    /// 9: the conversation is free, or there is no such conversation.
+    /// 9: the conversation is free, or has no number from 0 to 255.
     NotAssigned,
-    /// 10: no marker identifier is left.
+    /// 10: no Marker Transaction Identifier is left.
     MarkersSpent,
     /// 11: the configuration is refused.
     BadConfig(BadConfig),
-    /// 12: memory was refused. Only `System::new` answers it, after the reasons to refuse the configuration.
+    /// 12: memory was refused. Only `System::new` returns it, after it has accepted the configuration.
     NoMemory,
 }
 
 impl BadConfig {
-    /// Its number, 1 to 3 (profile).
+    /// The number of the reason, 1 to 3 (profile).
     pub fn number(&self) -> u8
         ensures { result ≡ reason_number self.now }
     {
@@ -62,7 +62,7 @@ impl BadConfig {
 }
 
 impl SystemFault {
-    /// Its number, 1 to 12 (profile).
+    /// The number of the fault, 1 to 12 (profile).
     pub fn number(&self) -> u8
         ensures { result ≡ fault_number self.now }
     {
@@ -83,7 +83,7 @@ impl SystemFault {
     }
 }
 
-/// Says what is wrong with the configuration, and names the place of a port from 1.
+/// Says what is wrong with the configuration; a port is named by its place in the list, counted from 1.
 impl fmt::Display for BadConfig {
     ghost output = { λ reason. Some (reason_text reason) };
 
@@ -101,7 +101,7 @@ impl fmt::Display for BadConfig {
 
 impl Error for BadConfig {}
 
-/// Says why, without the number; of a configuration, what its reason says.
+/// Says what is wrong, without the number of the fault. `BadConfig` has the text of its reason.
 impl fmt::Display for SystemFault {
     ghost output = { λ fault. Some (fault_text fault) };
 

@@ -8,7 +8,7 @@ use crate::slots::Slot;
 use lagtypes::{Key, NoMemory, SystemId};
 use std::alloc::Global;
 
-/// The ports of a new system.
+/// The ports of a new system, with their machines started.
 pub(crate) fn new_slots(
     alloc: Global,
     system: SystemId,
@@ -24,7 +24,8 @@ pub(crate) fn new_slots(
     Ok(slots)
 }
 
-/// Makes every port anew in its place, without taking memory.
+/// Starts every port again from its configuration, in the same `Vec`, so without taking memory. Values that `configure`
+/// set are lost.
 pub(crate) fn restart_all(system: SystemId, ports: &[PortConfig], slots: &mut [Slot])
     requires { length slots.old ≡ length ports.now }
     ensures { AllZip (IsNew system) ports.now slots.new }
@@ -36,7 +37,7 @@ pub(crate) fn restart_all(system: SystemId, ports: &[PortConfig], slots: &mut [S
     }
 }
 
-/// The place, from 1, of the first port whose number is not above the one before it.
+/// The place, counted from 1, of the first port whose number is not above the one before it, or is 0.
 fn misplaced(ports: &[PortConfig]) -> Option<usize>
     ensures { result ≡ misplaced 1 0 (numbers_of ports.now) }
 {
@@ -52,7 +53,7 @@ fn misplaced(ports: &[PortConfig]) -> Option<usize>
     None
 }
 
-/// The first reason to refuse a configuration.
+/// The first reason to refuse a configuration; None if it is accepted.
 fn refusal(keys: &[Key], ports: &[PortConfig]) -> Option<BadConfig>
     ensures { result ≡ refusal keys.now ports.now }
 {
@@ -66,8 +67,8 @@ fn refusal(keys: &[Key], ports: &[PortConfig]) -> Option<BadConfig>
 }
 
 impl Config {
-    /// Why `System::new` refuses this configuration, the first reason that holds: not 1 to 64 ports, not 1 to 64 aggregators,
-    /// or a port whose number is 0 or not above the one before it. None where it is accepted (profile).
+    /// The first reason for which `System::new` refuses this configuration: not 1 to 64 ports, not 1 to 64 aggregators,
+    /// or a port whose number is 0 or not above the one before it. None if it is accepted (profile).
     pub fn refusal(&self) -> Option<BadConfig>
         ensures { result ≡ refusal_of self.now }
     {
@@ -75,7 +76,7 @@ impl Config {
     }
 }
 
-/// How many aggregators an accepted configuration has.
+/// The number of aggregators, 1 to 64, of a configuration that is accepted.
 pub(crate) fn count_of(keys: &[Key]) -> u16
     requires { length keys.now ≤ 64 }
     ensures { result ≡ length keys.now }

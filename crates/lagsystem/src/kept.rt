@@ -32,22 +32,23 @@ use selection::Aggregators;
 use slowpdu::{Lacpdu, Marker, MarkerKind};
 use std::alloc::Global;
 
-/// What a system keeps.
+/// The fields of a `System`. Its calls are proved on this struct; `System` wraps it, so that contracts do not name the
+/// fields.
 #[derive(Drop)]
 pub(crate) struct Core<F> {
     pub(crate) system: SystemId,
     pub(crate) max_delay: u16,
     pub(crate) aggregators: Aggregators,
-    /// The ports as they were configured, to which a restart goes back.
+    /// The ports as they were configured. `restart` goes back to them.
     pub(crate) ports: Vec<PortConfig>,
-    /// The ports as they are, in the same order.
+    /// The ports as they are now, in the same order.
     pub(crate) slots: Vec<Slot>,
-    /// The conversations.
+    /// The conversations of all aggregators.
     pub(crate) distributor: Distributor<F>,
 }
 
 impl<F: Fn(u16, usize) -> usize + Drop> Core<F> {
-    /// A system whose links are down.
+    /// Makes a system whose links are down, as `System::new` does.
     pub(crate) fn new(alloc: Global, config: Config, algorithm: F) -> Result<Core<F>, SystemFault>
         requires usable { PicksPlaces (F.pre algorithm) (F.post algorithm) }
         ensures made { IfOk result (λ core. IsMade config (state_of core)) }
@@ -80,7 +81,7 @@ impl<F: Fn(u16, usize) -> usize + Drop> Core<F> {
         Ok(core)
     }
 
-    /// The steps of a settling that look at ports alone.
+    /// Steps 1 to 5 of settling, which read and change ports only.
     fn settle_ports(&mut self)
         requires { vec_len self.old.slots ≤ 64 }
         ensures settled { SettlesPorts (state_of self.old) (state_of self.new) }
@@ -89,7 +90,7 @@ impl<F: Fn(u16, usize) -> usize + Drop> Core<F> {
         settle(&self.aggregators, &mut self.slots);
     }
 
-    /// One settling, by the aggregators in which the ports distributed before the call.
+    /// One settling. `before` has for each port the aggregator in which it distributed before the call.
     fn settle(&mut self, before: &[Option<AggId>])
         requires { WereCarried before.now (state_of self.old) }
         ensures settled { Settling (state_of self.old) (state_of self.new) }
@@ -152,8 +153,8 @@ impl<F: Fn(u16, usize) -> usize + Drop> Core<F> {
         }
     }
 
-    /// Takes an LACPDU on the port at this place. Where that leaves the port as others see it, one more settling would find
-    /// nothing to do but the periodic rows of this port.
+    /// Processes an LACPDU on the port at this index, and settles. If the port looks the same to others afterwards,
+    /// only the periodic machine of this port has anything to do, so nothing else is run.
     fn take_lacpdu(&mut self, place: usize, pdu: &Lacpdu)
         requires sound { IsSound (state_of self.old) }
         requires within { place < length self.old.slots.items }
@@ -168,7 +169,7 @@ impl<F: Fn(u16, usize) -> usize + Drop> Core<F> {
         }
     }
 
-    /// How many conversations a response frees that comes on a port.
+    /// Frees the conversations that wait for a Marker Response that came on a port, and returns how many.
     fn release(&mut self, number: u16, response: &Marker) -> u32
         ensures released { Releases (is_for (state_of self.old) number response.now) number response.now (state_of self.old) (Received.Released result) (state_of self.new) }
         ensures algorithm { self.new.distributor.algorithm ≡ self.old.distributor.algorithm }
@@ -223,7 +224,7 @@ impl<F: Fn(u16, usize) -> usize + Drop> Core<F> {
         Ok(self.transmit_marker(number, mac))
     }
 
-    /// The marker that is due on a port, as a control frame.
+    /// The marker that is due on a port, as a control frame of 124 octets.
     fn transmit_marker(&mut self, number: u16, mac: [u8; 6]) -> Option<[u8; 124]>
         ensures sends { SendsMarker number mac (state_of self.old) result (state_of self.new) }
         ensures algorithm { self.new.distributor.algorithm ≡ self.old.distributor.algorithm }
@@ -238,7 +239,7 @@ impl<F: Fn(u16, usize) -> usize + Drop> Core<F> {
         Some(control_frame(mac, &marker.encode()))
     }
 
-    /// Whether there is such an aggregator.
+    /// Whether the system has an aggregator of this number.
     fn has_aggregator(&self, agg: AggId) -> bool
         requires { IsSound (state_of self.now) }
         ensures { result ≡ has_aggregator (state_of self.now) agg }
@@ -246,7 +247,7 @@ impl<F: Fn(u16, usize) -> usize + Drop> Core<F> {
         self.distributor.is_conversation(agg, 0)
     }
 
-    /// What a conversation is doing, if there is one of this number.
+    /// The state of a conversation; None if there is none of this number.
     pub(crate) fn conversation_state(&self, agg: AggId, conv: u16) -> Option<Assignment>
         requires { IsSound (state_of self.now) }
         ensures { result ≡ conversation_at (state_of self.now) agg conv }
@@ -258,7 +259,7 @@ impl<F: Fn(u16, usize) -> usize + Drop> Core<F> {
         }
     }
 
-    /// Whether a frame is due on a port.
+    /// Whether an LACPDU or a marker is due on a port.
     pub(crate) fn has_due(&self, slot: &Slot) -> bool
         ensures { result ≡ has_due (state_of self.now) slot.now }
     {

@@ -5,27 +5,29 @@ ghost use Rattle.lagsystem.specs.First.{IsFirst};
 ghost use Rattle.lagsystem.specs.State.{State, with_slots, with_table};
 ghost use Rattle.lagsystem.specs.Windows.{StartsEmpty, WindowFromStart, WindowLaw};
 
-/// Any eleven consecutive ticks since the last start of a system hold at most three LACPDUs of each port, before and after
-/// each call of every list of calls with their replies: from any state whose ports keep at most three ages, as every system
-/// has it, where these ages count as sends so many ticks earlier; and so from a first state, which keeps none (6.4.16; that a
-/// restart begins anew: profile).
+/// The transmit limit: any eleven consecutive ticks since the last start of a system hold at most three LACPDUs of each
+/// port (6.4.16). This holds before and after each call of every list of calls with their results.
+///
+/// `window`: the list may begin in any state whose ports keep at most three ages, which is true of every system; an age
+/// counts as an LACPDU sent so many ticks earlier. `empty` and `start`: a first state keeps no age. A restart forgets
+/// what was sent before it (profile).
 pub fn window_holds<F: Fn(u16, usize) -> usize>()
     ensures window { (algorithm : F) → WindowLaw (F.post algorithm) }
     ensures empty { StartsEmpty }
     ensures start { (algorithm : F) → WindowFromStart (F.post algorithm) }
 {}
 
-/// A configuration has one first state: a restart gives the system as `new` left it (profile).
+/// A configuration has exactly one first state, so a restart gives the state that `new` made (profile).
 pub fn first_state_is_one()
     ensures { (s t : State) → t ≡ with_table (with_slots s t.slots) t.table → IsFirst s → IsFirst t → t ≡ s }
 {}
 
-/// A system that was settled stays as it is when it is settled again.
+/// A second settling right after a settling changes nothing.
 pub fn settling_again_is_nothing()
     ensures { SettlesOnce }
 {}
 
-/// `transmit` answers a frame on a port exactly if `is_due` tells that one is due there.
+/// `transmit` returns a frame on a port exactly if `is_due` is true there.
 pub fn transmit_answers_what_is_due()
     ensures { AnswersDue }
 {}

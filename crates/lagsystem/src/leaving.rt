@@ -10,7 +10,7 @@ use arrayvec::ArrayVec;
 use distributor::Distributor;
 use lagtypes::AggId;
 
-/// The aggregator in which each port distributes, in their order.
+/// For each port, in order: the aggregator in which it distributes, or None.
 pub(crate) fn carriers(slots: &[Slot]) -> ArrayVec<Option<AggId>, 64>
     requires { length slots.now ≤ 64 }
     ensures { result.items ≡ carriers slots.now }
@@ -22,7 +22,7 @@ pub(crate) fn carriers(slots: &[Slot]) -> ArrayVec<Option<AggId>, 64>
     found
 }
 
-/// Whether a port no longer distributes in the aggregator in which it did.
+/// Whether a port distributed in the aggregator `was`, and no longer does.
 fn has_stopped(was: Option<AggId>, slot: &Slot) -> bool
     ensures { result ≡ has_stopped was slot.now }
 {
@@ -32,7 +32,8 @@ fn has_stopped(was: Option<AggId>, slot: &Slot) -> bool
     }
 }
 
-/// Step 6 of settling: conversations leave each port that stopped, by the aggregators in which the ports distributed before.
+/// Step 6 of settling. Conversations of each port that stopped distributing become Wanted: On becomes Wanted. `before`
+/// has for each port the aggregator in which it distributed before the call.
 pub(crate) fn leave_ports<F: Fn(u16, usize) -> usize + Drop>(
     distributor: &mut Distributor<F>,
     slots: &[Slot],
@@ -50,7 +51,7 @@ pub(crate) fn leave_ports<F: Fn(u16, usize) -> usize + Drop>(
     }
 }
 
-/// The conversations of a port whose link is up or down now: where it is down, they are free.
+/// Frees every conversation of a port if its link went down.
 pub(crate) fn free_where_down<F: Fn(u16, usize) -> usize + Drop>(
     distributor: &mut Distributor<F>,
     port: u16,

@@ -1,4 +1,7 @@
-//! One system: its ports, its aggregators, its conversations, and the settling after a call (IEEE 802.1AX-2014, 6.2 to 6.5).
+//! One system: its ports, aggregators and conversations, and the settling that follows a call (IEEE 802.1AX-2014, 6.2
+//! to 6.5).
+//!
+//! In comments, numbers such as 6.4.12 are sections of that standard, and "profile" is docs/PROFILE.md.
 #![tactic(auto)]
 
 mod answers;

@@ -10,7 +10,7 @@ use slowpdu::{Kind, classify};
 /// The longest frame that may be offered, in octets: a full frame with one VLAN tag (profile).
 const LONGEST_FRAME: usize = 1518;
 
-/// Refuses octets that are no frame to send.
+/// Refuses octets that a client may not send: a wrong length, or a slow protocols frame.
 pub(crate) fn check_offer(octets: &[u8]) -> Result<(), SystemFault>
     ensures ok { IfOk result (λ done. MayBeSent octets.now) }
     ensures err { IfErr result (λ fault. RefusesFrame octets.now fault) }
@@ -25,7 +25,8 @@ pub(crate) fn check_offer(octets: &[u8]) -> Result<(), SystemFault>
 }
 
 impl<F: Fn(u16, usize) -> usize + Drop> Core<F> {
-    /// The conversation of a frame of at least 14 octets: octet 5 exclusive-or octet 11 (profile).
+    /// The number of the conversation of a frame, 0 to 255: octet 5 exclusive-or octet 11, the last octets of the two
+    /// addresses. The frame has at least 14 octets (profile).
     pub(crate) fn conversation_of(&self, octets: &[u8]) -> u16
         requires { 14 ≤ length octets.now }
         ensures is { result ≡ conversation_of (state_of self.now) octets.now }

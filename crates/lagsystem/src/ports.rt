@@ -31,7 +31,7 @@ fn tick_slot(slot: &mut Slot)
     slot.port.tick();
 }
 
-/// A tick of every port.
+/// One tick of every port.
 pub(crate) fn tick_all(slots: &mut [Slot])
     ensures { AllMove (λ p q. Settles receive_rows (count_down p) q) slots.old slots.new }
 {
@@ -40,7 +40,7 @@ pub(crate) fn tick_all(slots: &mut [Slot])
     }
 }
 
-/// The link of a port is up or down now; false where there is no such port.
+/// Sets whether the link of a port is up; false if there is no such port.
 pub(crate) fn link_port(slots: &mut [Slot], number: u16, up: bool) -> bool
     ensures acted { OnTrue result (OnPlace (ChangesLink up) (place_of number slots.old) slots.old slots.new) }
     ensures none { OnFalse result (place_of number slots.old ≡ None) }
@@ -56,7 +56,7 @@ pub(crate) fn link_port(slots: &mut [Slot], number: u16, up: bool) -> bool
     }
 }
 
-/// Whether a port is CURRENT, and the actor of an LACPDU is the party that it recorded.
+/// Whether a port is in CURRENT, and the actor of the LACPDU is the partner that it has recorded.
 fn knows(slot: &Slot, pdu: &Lacpdu) -> bool
     ensures { OnTrue result (Knows pdu.now slot.now) }
 {
@@ -72,7 +72,8 @@ fn is_same_partner(now: &Info, was: &Info) -> bool
     now.party().matches(&was.party()) && now.state == was.state
 }
 
-/// Takes an LACPDU, and answers whether the port is seen as before and its partner has the same state.
+/// Processes an LACPDU, and returns whether the port looks the same to the other ports and its partner's state is
+/// unchanged.
 fn take_slot(slot: &mut Slot, pdu: &Lacpdu) -> bool
     ensures taken { Moves (Takes pdu.now) slot.old slot.new }
     ensures same { OnTrue result (LooksAlike slot.old slot.new) }
@@ -84,7 +85,7 @@ fn take_slot(slot: &mut Slot, pdu: &Lacpdu) -> bool
     known && is_same_partner(&now, &was)
 }
 
-/// Takes an LACPDU on the port at this place, and answers whether that is seen as before.
+/// Processes an LACPDU on the port at this index, and returns whether the port looks the same to the other ports.
 pub(crate) fn take_at(slots: &mut [Slot], place: usize, pdu: &Lacpdu) -> bool
     requires { place < length slots.old }
     ensures { TakesAt pdu.now place slots.old result slots.new }
@@ -93,7 +94,7 @@ pub(crate) fn take_at(slots: &mut [Slot], place: usize, pdu: &Lacpdu) -> bool
     take_slot(slot, pdu)
 }
 
-/// The periodic rows of the port at this place.
+/// Runs the periodic machine of the port at this index.
 pub(crate) fn pace_at(slots: &mut [Slot], place: usize)
     requires { place < length slots.old }
     ensures { OnPlace RunsPeriodic (Some place) slots.old slots.new }
@@ -102,7 +103,7 @@ pub(crate) fn pace_at(slots: &mut [Slot], place: usize)
     slot.port.periodic();
 }
 
-/// The aggregator in which a port is Collecting (6.2.3).
+/// The aggregator in which a port is Collecting, or None (6.2.3).
 pub(crate) fn collecting(port: &Port) -> Option<AggId>
     ensures { result ≡ collecting port.now }
 {
@@ -112,7 +113,7 @@ pub(crate) fn collecting(port: &Port) -> Option<AggId>
     }
 }
 
-/// What a port makes of a data frame.
+/// What a data frame on this port asks for: to be handed up, or dropped.
 fn hand_up(slot: &Slot, octets: &[u8]) -> Received
     requires { IsDataFrame octets.now }
     ensures { result ≡ handed (collecting slot.now.port) }
@@ -123,7 +124,7 @@ fn hand_up(slot: &Slot, octets: &[u8]) -> Received
     }
 }
 
-/// What an enabled port answers to a marker or a marker response.
+/// What a Marker PDU or a Marker Response asks for on a port whose link is up.
 fn answer_marker(slot: &Slot, marker: &Marker) -> Heard
     ensures { AnswersMarker slot.now.mac marker.now (response_to marker.now) result }
 {
@@ -136,7 +137,7 @@ fn answer_marker(slot: &Slot, marker: &Marker) -> Heard
     }
 }
 
-/// What an enabled port makes of the payload of a control frame.
+/// What the payload of a control frame asks for on a port whose link is up.
 fn hear_payload(slot: &Slot, payload: &[u8]) -> Heard
     ensures { HearsPayload slot.now payload.now result }
 {
@@ -147,7 +148,7 @@ fn hear_payload(slot: &Slot, payload: &[u8]) -> Heard
     }
 }
 
-/// What a port makes of received octets.
+/// What a received frame asks for. Changes nothing.
 pub(crate) fn hear(slot: &Slot, octets: &[u8]) -> Heard
     ensures { Hears slot.now octets.now result }
 {
@@ -161,7 +162,7 @@ pub(crate) fn hear(slot: &Slot, octets: &[u8]) -> Heard
     }
 }
 
-/// The control frame from a port's address with this payload.
+/// A control frame of 124 octets from this source address, with this payload.
 pub(crate) fn control_frame(mac: [u8; 6], payload: &[u8; 110]) -> [u8; 124]
     ensures octets { result ≡ frame_octets mac payload.now }
     ensures address { IsAddress mac }
@@ -172,14 +173,14 @@ pub(crate) fn control_frame(mac: [u8; 6], payload: &[u8; 110]) -> [u8; 124]
 /// How many LACPDUs a port may send in eleven ticks (6.4.16).
 const WINDOW: usize = 3;
 
-/// Whether an LACPDU is due on a port.
+/// Whether the port may send an LACPDU now: NTT is set, and the window is not full.
 pub(crate) fn is_lacpdu_due(port: &Port) -> bool
     ensures { result ≡ is_due port.now }
 {
     port.ntt() && port.ages().len() < WINDOW
 }
 
-/// The LACPDU that is due on a port, as a control frame.
+/// The LACPDU that is due on a port, as a control frame; None if none is due.
 fn transmit_slot(slot: &mut Slot, max_delay: u16) -> Option<[u8; 124]>
     ensures kept { slot.new ≡ record slot.old { port = slot.new.port } }
     ensures sends { Sends max_delay slot.old result slot.new.port }
@@ -191,7 +192,7 @@ fn transmit_slot(slot: &mut Slot, max_delay: u16) -> Option<[u8; 124]>
     }
 }
 
-/// The LACPDU that is due on the port at this place, as a control frame.
+/// The LACPDU that is due on the port at this index, as a control frame; None if none is due.
 pub(crate) fn transmit_at(slots: &mut [Slot], place: usize, max_delay: u16) -> Option<[u8; 124]>
     requires { place < length slots.old }
     ensures { SlotSends max_delay place result slots.old slots.new }
@@ -200,8 +201,8 @@ pub(crate) fn transmit_at(slots: &mut [Slot], place: usize, max_delay: u16) -> O
     transmit_slot(slot, max_delay)
 }
 
-/// Gives a port another key, priority or Aggregation bit, and answers whether something differs; None where there is
-/// no such port.
+/// Gives a port another key, priority or Aggregation bit, and returns whether a value differs; None if there is no such
+/// port.
 pub(crate) fn configure_port(slots: &mut [Slot], number: u16, change: PortChange) -> Option<bool>
     ensures none { IfNone result (place_of number slots.old ≡ None) }
     ensures same { IfNone result (slots.new ≡ slots.old) }

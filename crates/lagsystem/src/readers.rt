@@ -27,7 +27,7 @@ fn slot_of(slots: &[Slot], number: u16) -> Option<&Slot>
     }
 }
 
-/// The numbers of the ports.
+/// The numbers of all ports.
 fn numbers(slots: &[Slot]) -> ArrayVec<u16, 64>
     requires { length slots.now ≤ 64 }
     ensures { result.items ≡ numbers slots.now }
@@ -64,7 +64,7 @@ pub(crate) fn distributing(slots: &[Slot], agg: AggId) -> ArrayVec<u16, 64>
 }
 
 impl<F: Fn(u16, usize) -> usize + Drop> System<F> {
-    /// The numbers of the ports, 1 to 64 of them, ascending.
+    /// The numbers of the ports, 1 to 64 of them, ascending (profile).
     pub fn ports(&self) -> ArrayVec<u16, 64>
         ensures all { result.items ≡ numbers self.now.state.slots }
         ensures ascending { IsStrictlyIncreasing result.items }
@@ -79,7 +79,7 @@ impl<F: Fn(u16, usize) -> usize + Drop> System<F> {
         self.core.aggregators.count()
     }
 
-    /// Whether the link of a port is up (6.4.7, port_enabled); None if there is no such port.
+    /// port_enabled: whether the link of a port is up (6.4.7); None if there is no such port.
     pub fn is_up(&self, port: u16) -> Option<bool>
         ensures { result ≡ option_map (λ p. p.enabled) (port_of port self.now.state) }
     {
@@ -109,9 +109,9 @@ impl<F: Fn(u16, usize) -> usize + Drop> System<F> {
         }
     }
 
-    /// Whether `transmit` would answer a frame now: the link of the port is up, and NTT is set and fewer than three LACPDUs
-    /// were sent in the last eleven ticks, or a conversation is Wanted on the port and an identifier is left (6.4.16,
-    /// 6.5.3.3; profile). None if there is no such port.
+    /// Whether `transmit` would return a frame now. The link of the port is up, and either NTT is set and fewer than
+    /// three LACPDUs were sent in the last eleven ticks, or a conversation is Wanted on the port and an identifier is
+    /// left (6.4.16, 6.5.3.3; profile). None if there is no such port.
     pub fn is_due(&self, port: u16) -> Option<bool>
         ensures { result ≡ due_of port self.now.state }
     {
@@ -121,7 +121,7 @@ impl<F: Fn(u16, usize) -> usize + Drop> System<F> {
         }
     }
 
-    /// The own parameters of a port (6.4.7); None where there is no such port.
+    /// The operational parameters of a port's own side, the Actor (6.4.7); None if there is no such port.
     pub fn party(&self, port: u16) -> Option<Party>
         ensures { result ≡ option_map (λ p. p.party) (port_of port self.now.state) }
     {
@@ -131,7 +131,7 @@ impl<F: Fn(u16, usize) -> usize + Drop> System<F> {
         }
     }
 
-    /// The recorded partner of a port (6.4.7); None where there is no such port.
+    /// The operational parameters of a port's Partner, as recorded (6.4.7); None if there is no such port.
     pub fn partner(&self, port: u16) -> Option<Info>
         ensures { result ≡ option_map (λ p. p.partner) (port_of port self.now.state) }
     {
@@ -141,8 +141,8 @@ impl<F: Fn(u16, usize) -> usize + Drop> System<F> {
         }
     }
 
-    /// The Link Aggregation Group of a port: that of its party and its recorded partner's (6.3.6); None where there is
-    /// no such port.
+    /// The Link Aggregation Group of a port, its LAG ID: from its own and its recorded partner's parameters (6.3.6);
+    /// None if there is no such port.
     pub fn group(&self, port: u16) -> Option<Group>
         ensures { result ≡ option_map group_at (port_of port self.now.state) }
     {
@@ -152,8 +152,8 @@ impl<F: Fn(u16, usize) -> usize + Drop> System<F> {
         }
     }
 
-    /// Whether recordDefault set the recorded partner of a port and no LACPDU did since (6.4.2.3, Defaulted); None where
-    /// there is no such port.
+    /// Actor_State.Defaulted: true if the recorded partner was set by recordDefault and not since by an LACPDU
+    /// (6.4.2.3); None if there is no such port.
     pub fn defaulted(&self, port: u16) -> Option<bool>
         ensures { result ≡ option_map (λ p. p.defaulted) (port_of port self.now.state) }
     {
@@ -163,7 +163,7 @@ impl<F: Fn(u16, usize) -> usize + Drop> System<F> {
         }
     }
 
-    /// Whether a port distributes: its mux machine is in COLLECTING_DISTRIBUTING (6.4.15); None where there is no such
+    /// Whether a port distributes: its mux machine is in COLLECTING_DISTRIBUTING (6.4.15); None if there is no such
     /// port.
     pub fn distributes(&self, port: u16) -> Option<bool>
         ensures { result ≡ option_map (λ p. is_mux MuxState.CollectingDistributing p.mux) (port_of port self.now.state) }
@@ -174,7 +174,7 @@ impl<F: Fn(u16, usize) -> usize + Drop> System<F> {
         }
     }
 
-    /// What the Selection Logic gave a port (6.4.8, Selected); None where there is no such port.
+    /// Selected, with the aggregator that the Selection Logic gave the port (6.4.8); None if there is no such port.
     pub fn choice(&self, port: u16) -> Option<Choice>
         ensures { result ≡ option_map (λ p. p.choice) (port_of port self.now.state) }
     {
@@ -184,7 +184,7 @@ impl<F: Fn(u16, usize) -> usize + Drop> System<F> {
         }
     }
 
-    /// The state of the mux machine of a port (6.4.15); None where there is no such port.
+    /// The state of the mux machine of a port (6.4.15); None if there is no such port.
     pub fn mux_state(&self, port: u16) -> Option<MuxState>
         ensures { result ≡ option_map (λ p. p.mux) (port_of port self.now.state) }
     {
@@ -204,8 +204,8 @@ impl<F: Fn(u16, usize) -> usize + Drop> System<F> {
         distributing(&self.core.slots, agg)
     }
 
-    /// The conversation of a frame in its aggregator, 0 to 255: octet 5 exclusive-or octet 11; None below 14 octets
-    /// (profile).
+    /// The conversation of a frame, in whichever aggregator, 0 to 255: octet 5 exclusive-or octet 11. None if the frame
+    /// has fewer than 14 octets (profile).
     pub fn conversation(&self, frame: &[u8]) -> Option<u16>
         ensures is { result ≡ conversation_in self.now.state frame.now }
         ensures within { IfSome result (λ conv. conv < conversations self.now.state) }
@@ -216,15 +216,16 @@ impl<F: Fn(u16, usize) -> usize + Drop> System<F> {
         Some(self.core.conversation_of(frame))
     }
 
-    /// What a conversation of an aggregator is doing; None if there is no such aggregator, or no conversation of this number,
-    /// 0 to 255 (profile).
+    /// The state of a conversation of an aggregator; None if there is no such aggregator, or if `conv` is not 0 to 255
+    /// (profile).
     pub fn conversation_state(&self, agg: AggId, conv: u16) -> Option<Assignment>
         ensures { result ≡ conversation_at self.now.state agg conv }
     {
         self.core.conversation_state(agg, conv)
     }
 
-    /// The identifier of the next marker, 0 to 4294967295; None if none is left (6.5.3.3; profile).
+    /// The Marker Transaction Identifier of the next marker, 0 to 4294967295; None if all are used up (6.5.3.3;
+    /// profile).
     pub fn next_marker(&self) -> Option<u32>
         ensures { result ≡ next_identifier self.now.state.table }
     {

@@ -18,7 +18,7 @@ fn settle_mux(slot: &mut Slot, ready: bool)
     let _fired = slot.port.mux(ready);
 }
 
-/// Step 1: mux rows with Ready false.
+/// Step 1: each mux machine runs with Ready false, so that ports leave their aggregators before any port chooses.
 fn run_free_mux(slots: &mut [Slot])
     ensures { AllMove (Settles (mux_rows false)) slots.old slots.new }
 {
@@ -33,7 +33,8 @@ fn one_is_eligible(slots: &[Slot]) -> bool
     slots.iter().any(|slot| is_eligible(slot))
 }
 
-/// The port at this place takes its aggregator, where it is eligible; what is seen of the ports goes with them.
+/// Lets the port at this index choose an aggregator, if it is eligible. `seen` has the views of all ports, and is kept
+/// equal to them, so that the ports after it see the choice.
 fn choose_at(aggregators: &Aggregators, slots: &mut [Slot], seen: &mut [PortView], place: usize)
     requires seen { seen.old ≡ views slots.old }
     requires within { place < length slots.old }
@@ -60,7 +61,7 @@ fn choose_all_seeing(aggregators: &Aggregators, slots: &mut [Slot], seen: &mut [
     }
 }
 
-/// Step 2: each eligible port takes its aggregator, and sees the choices made before.
+/// Step 2: each eligible port chooses its aggregator, in order; each sees the choices made before it.
 fn choose_all(aggregators: &Aggregators, slots: &mut [Slot])
     requires { length slots.old ≤ 64 }
     ensures { slots.new ≡ chosen aggregators.now (length slots.old) slots.old }
@@ -71,14 +72,14 @@ fn choose_all(aggregators: &Aggregators, slots: &mut [Slot])
     }
 }
 
-/// Whether a port has waited for Ready as long as it must.
+/// Whether some port is in WAITING and its wait_while has expired.
 fn one_has_waited(slots: &[Slot]) -> bool
     ensures { result ≡ list_any (λ s. has_expired (view_of s).stage) slots.now }
 {
     slots.iter().any(|slot| has_expired(slot))
 }
 
-/// Steps 3 and 4: mux rows, with Ready as it was before them.
+/// Steps 3 and 4: Ready is worked out for every aggregator; then each mux machine runs with it.
 fn run_mux(aggregators: &Aggregators, slots: &mut [Slot])
     requires { length slots.old ≤ 64 }
     ensures { AllMove (λ p q. Settles (mux_rows (ready_of aggregators.now (views slots.old) p.choice)) p q) slots.old slots.new }
@@ -87,7 +88,7 @@ fn run_mux(aggregators: &Aggregators, slots: &mut [Slot])
         let seen = views(slots);
         run_mux_seeing(aggregators, slots, seen.as_slice());
     } else {
-        // An aggregator is Ready only where a member has waited long enough.
+        // An aggregator can only be Ready if a member has waited long enough.
         run_free_mux(slots);
     }
 }
@@ -122,7 +123,7 @@ fn settle_periodic(slot: &mut Slot)
     slot.port.periodic();
 }
 
-/// Step 5: periodic rows.
+/// Step 5: each periodic machine runs.
 fn run_periodic(slots: &mut [Slot])
     ensures { AllMove RunsPeriodic slots.old slots.new }
 {
@@ -131,10 +132,10 @@ fn run_periodic(slots: &mut [Slot])
     }
 }
 
-/// The steps of one settling (profile) that look at ports alone. It looks at each port a bounded number of times, unless a
-/// port is eligible or is in WAITING with wait_while expired: then what is seen of the ports is listed, once for the choice
-/// and once for Ready, and selection searches that list for each eligible port, or for the aggregator of each SELECTED one.
-/// For an eligible port that finds no aggregator the list is searched again in each settling.
+/// Steps 1 to 5 of settling (profile), which read and change ports only. The cost is linear in the ports, except in two
+/// cases. For each eligible port the views of all ports are searched for an aggregator; a port that finds none is tried
+/// again in each settling. And if some port is in WAITING with wait_while expired, the views are searched once for each
+/// SELECTED port.
 pub(crate) fn settle(aggregators: &Aggregators, slots: &mut [Slot])
     requires { length slots.old ≤ 64 }
     ensures { (base : State) → base.keys ≡ aggregators.now → base.slots ≡ slots.old → SettlesPorts base (with_slots base slots.new) }

@@ -10,18 +10,18 @@ use lagtypes::{Party, PortId, SystemId};
 use portmachines::{MuxState, Port, ReceiveState, Setup};
 use selection::{PortView, Stage};
 
-/// One port of a system.
+/// One port of a system: its number, its MAC address and its machines.
 #[derive(Drop)]
 pub(crate) struct Slot {
     /// The port number.
     pub(crate) number: u16,
     /// The MAC address of the port.
     pub(crate) mac: [u8; 6],
-    /// Its machines.
+    /// The machines of the port, with their variables.
     pub(crate) port: Port,
 }
 
-/// The place of the port with this number.
+/// The index of the port with this number, or None.
 pub(crate) fn place_of(slots: &[Slot], number: u16) -> Option<usize>
     ensures place { result ≡ place_of number slots.now }
     ensures within { IfSome result (λ place. place < length slots.now) }
@@ -41,7 +41,7 @@ fn stage_of(mux: MuxState, wait_while: u8) -> Stage
     }
 }
 
-/// What the Selection Logic sees of a port.
+/// What the Selection Logic reads of a port.
 pub(crate) fn view_of(slot: &Slot) -> PortView
     ensures { result ≡ view_of slot.now }
 {
@@ -60,7 +60,7 @@ pub(crate) fn view_of(slot: &Slot) -> PortView
     }
 }
 
-/// What the Selection Logic sees of all ports.
+/// What the Selection Logic reads of all ports, in order.
 pub(crate) fn views(slots: &[Slot]) -> ArrayVec<PortView, 64>
     requires { length slots.now ≤ 64 }
     ensures { result.items ≡ views slots.now }
@@ -72,7 +72,7 @@ pub(crate) fn views(slots: &[Slot]) -> ArrayVec<PortView, 64>
     found
 }
 
-/// Whether a port may take an aggregator now.
+/// Whether a port may choose an aggregator now.
 pub(crate) fn is_eligible(slot: &Slot) -> bool
     ensures { result ≡ is_eligible (view_of slot.now) }
 {
@@ -86,7 +86,7 @@ pub(crate) fn has_expired(slot: &Slot) -> bool
     view_of(slot).has_expired()
 }
 
-/// What the machines of a port are made from.
+/// The start values of a port's machines, from its configuration.
 fn setup_of(system: SystemId, config: &PortConfig) -> Setup
     ensures { result ≡ setup_of system config.now }
 {
@@ -106,7 +106,7 @@ fn setup_of(system: SystemId, config: &PortConfig) -> Setup
 }
 
 impl Slot {
-    /// A port whose machines have started.
+    /// A port whose machines have just started, with its link down.
     pub(crate) fn new(system: SystemId, config: &PortConfig) -> Slot
         ensures { IsNew system config.now result }
     {
@@ -117,7 +117,7 @@ impl Slot {
         }
     }
 
-    /// Makes the port anew in its place.
+    /// Starts the port again, in place.
     pub(crate) fn restart(&mut self, system: SystemId, config: &PortConfig)
         ensures { IsNew system config.now self.new }
     {
