@@ -1,6 +1,7 @@
-//! The Frame Collector and the Marker Responder of a port (IEEE 802.1AX-2014, 6.2.3 and 6.5.4):
-//! which received frames are handed up, and how a marker is answered. Every call works on what it
-//! is handed and takes no memory.
+//! The Frame Collector and the Marker Responder of a port (IEEE 802.1AX-2014, 6.2.3 and 6.5.4): which received frames
+//! are handed to the aggregator's client, and how a marker is answered. The functions keep no state and take no memory.
+//!
+//! In comments, "profile" is docs/PROFILE.md.
 #![tactic(auto)]
 
 ghost use Rattle.std.specs.Prelude.{◌≡◌, Some, None};
@@ -14,19 +15,18 @@ mod tests;
 use lagtypes::AggId;
 use slowpdu::{Kind, Marker, classify, respond};
 
-/// What becomes of a received frame.
+/// What is to be done with a received frame.
 #[derive(Clone, Copy, Debug, PartialEq, Eq)]
 pub enum Taken {
-    /// It is handed up in this aggregator.
+    /// Hand it to the client of this aggregator.
     Up(AggId),
-    /// It is not handed up.
+    /// Drop it.
     Dropped,
 }
 
-/// Hands a data frame up in the aggregator in which the port that received it is Collecting, if it
-/// is in one. Every other frame is dropped: one that comes where the port is not Collecting, one of
-/// the slow protocols, which is not for the aggregator's client, and one of fewer than 14 octets,
-/// which is no frame (6.2.3; profile).
+/// Hands a data frame up to the client of the aggregator in which the receiving port is Collecting. Every other frame
+/// is dropped: any frame if the port is not Collecting (`None`), a slow protocols frame (EtherType 0x8809), and one of
+/// fewer than 14 octets, which is no frame (6.2.3; profile).
 pub fn collect(collecting: Option<AggId>, frame: &[u8]) -> Taken
     ensures up { (agg : AggId) → collecting ≡ Some agg → IsDataFrame frame.now → result ≡ Taken.Up agg }
     ensures not_collecting { collecting ≡ None → result ≡ Taken.Dropped }
@@ -38,9 +38,9 @@ pub fn collect(collecting: Option<AggId>, frame: &[u8]) -> Taken
     }
 }
 
-/// The response to a marker that comes on a port: the same port, system and identifier with the
-/// response type, to be sent on the port that received it, whatever its mux machine's state. None
-/// exactly where the port is not enabled or the marker is itself a response (6.5.4; profile).
+/// The Marker Response to a marker that came on a port: the same port, system and identifier, with the response type.
+/// It is to be sent on the same port, in whichever state the mux machine is. None exactly if the link of the port is
+/// down (port_enabled false) or the marker is itself a response (6.5.4; profile).
 pub fn answer(enabled: bool, marker: &Marker) -> Option<Marker>
     ensures { result ≡ answer_to enabled marker.now }
 {

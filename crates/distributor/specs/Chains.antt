@@ -1,4 +1,4 @@
--- How the slots of conversations are chained: each that is not free stands in the chain of its port number modulo 64.
+-- How the slots of conversations are chained: each that is not free is in the chain of its port number modulo 64.
 use Rattle.std.specs.Prelude.{ℕ, ◌+◌, ◌%◌, ◌<◌, ◌^◌, ◌≡◌, ◌&&◌, Bool, true, false, cond, eqb, List, [], ◌∷◌, length, get_or, Option, None, Some}
 use Rattle.distributor.specs.declared.assignment.Assignment.{Assignment}
 use Rattle.distributor.specs.declared.assignment.Assignment.TheVariants.{Free, On, Wanted, Flushing}
@@ -13,57 +13,57 @@ port_of (On port) = Some port
 port_of (Wanted port preferred) = Some port
 port_of (Flushing port id preferred age) = Some port
 
--- the chain of a port
+-- the number of a port's chain
 abbrev pub chain_of : ℕ → ℕ
 chain_of port = port % 64
 
--- whether a conversation in this state stands in the chain
+-- whether a conversation in this state is in the chain
 abbrev pub stands_in : ℕ → Assignment → Bool
 stands_in chain (Free preferred) = false
 stands_in chain (On port) = eqb (chain_of port) chain
 stands_in chain (Wanted port preferred) = eqb (chain_of port) chain
 stands_in chain (Flushing port id preferred age) = eqb (chain_of port) chain
 
--- whether it waits for a response
+-- whether the conversation waits for a Marker Response
 abbrev pub is_flushing : Assignment → Bool
 is_flushing (Free preferred) = false
 is_flushing (On port) = false
 is_flushing (Wanted port preferred) = false
 is_flushing (Flushing port id preferred age) = true
 
--- whether it stands in the chain and waits for a response
+-- whether the conversation is in the chain and waits for a Marker Response
 abbrev pub flushes_in : ℕ → Assignment → Bool
 flushes_in chain s = stands_in chain s && is_flushing s
 
--- whether it is On, Wanted or Flushing on the port
+-- whether the conversation is On, Wanted or Flushing on the port
 abbrev pub is_of_port : ℕ → Assignment → Bool
 is_of_port port (Free preferred) = false
 is_of_port port (On p) = eqb p port
 is_of_port port (Wanted p preferred) = eqb p port
 is_of_port port (Flushing p id preferred age) = eqb p port
 
--- whether it is counted by the test
+-- whether the test counts a conversation in this state
 abbrev pub passes : Test → Assignment → Bool
 passes (WantsMarker port) s = wants_marker port s
 passes (WaitsFor port id) s = waits_for port id s
 passes (IsOf port) s = is_of_port port s
 
--- the port of a test: whatever passes is on it
+-- the port of a test; every conversation that the test counts is on that port
 abbrev pub tested_port : Test → ℕ
 tested_port (WantsMarker port) = port
 tested_port (WaitsFor port id) = port
 tested_port (IsOf port) = port
 
--- a change of the states in one chain
+-- the change, applied only to states in this chain
 abbrev pub within : ℕ → (Assignment → Assignment) → Assignment → Assignment
 within chain change s = cond (stands_in chain s) (change s) s
 
--- how often a slot number comes
+-- how often a slot number occurs in the list
 abbrev pub occurs : ℕ → List ℕ → ℕ
 occurs k [] = 0
 occurs k (x ∷ xs) = cond (eqb k x) 1 0 + occurs k xs
 
--- the slot b comes right after the slot a
+-- the slot b comes right after the slot a, by the links in both directions
 abbrev pub Joined : List ℕ → List ℕ → ℕ → ℕ → Type 0
 Joined next prev a b = (get_or next a 0 ≡ b) × (get_or prev b 0 ≡ a)
 
@@ -72,12 +72,12 @@ abbrev pub Path : List ℕ → List ℕ → ℕ → List ℕ → ℕ → Type 0
 Path next prev a [] b = Joined next prev a b
 Path next prev a (x ∷ xs) b = Joined next prev a x × Path next prev x xs b
 
--- the state of a slot; past the last one it is free
+-- the state of a slot; free if there is no such slot
 abbrev pub state_at : List Assignment → ℕ → Assignment
 state_at states slot = get_or states slot (Free None)
 
--- The links of 64 chains through the slots. Chain c is a ring that begins and ends at the place after the slots and c more.
--- A slot comes in the chain in which its state stands, once, and in no other.
+-- The links of 64 chains through the slots. Chain c is a ring that begins and ends at entry c after the slots. A slot
+-- is once in the chain of its state, and in no other.
 pub record IsLinked (count : ℕ) (states : List Assignment) (next prev : List ℕ) : Type 0 where
   pub few : count + 64 < 2 ^ 32
   pub states_len : length states ≡ count

@@ -1,4 +1,4 @@
--- What is true of the slots of the conversations, 256 an aggregator.
+-- The invariant of the slots of the conversations, 256 for each aggregator.
 use Rattle.std.specs.Prelude.{ℕ, ◌*◌, ◌≡◌}
 use Rattle.distributor.specs.declared.slots.Slots.{Slots}
 use Rattle.distributor.specs.Chains.{IsFlagged, IsLinked}

@@ -3,23 +3,24 @@ ghost use Rattle.distributor.specs.Conversations.{preference_of};
 ghost use Rattle.distributor.specs.Chains.{port_of, is_of_port, is_flushing};
 ghost use Rattle.distributor.specs.Changes.{wants_marker, waits_for};
 
-/// What a conversation is doing (profile). A port stands by its number. A preferred port is the one
-/// that the next frame of a free conversation goes on, where that distributes then.
+/// The state of a conversation (profile). Ports are port numbers. `preferred` is the port that the next frame goes on
+/// once the conversation is free, if that port distributes then.
 #[derive(Clone, Copy, Debug, PartialEq, Eq)]
 pub enum Assignment {
-    /// No port: the next frame may go on any port that distributes in the aggregator.
+    /// The conversation is on no port: its next frame may go on any port that distributes in the aggregator.
     Free {
         preferred: Option<u16>,
     },
-    /// Its frames go on this port.
+    /// The frames of the conversation go on this port.
     On(u16),
-    /// Its frames are held until a marker is sent on this port, where the earlier ones went.
+    /// The conversation is to leave this port: its frames are held until a marker is sent there.
     Wanted {
         port: u16,
         preferred: Option<u16>,
     },
-    /// Its frames are held until the response to the marker `id` comes on this port, or until the
-    /// 30th tick after that marker. `age` is how many ticks have passed since it, 0 to 29.
+    /// A marker with the identifier `id` was sent on this port. Frames are held until its response comes, or until the
+    /// 30th tick after it, when another marker is wanted. `age` is how many ticks have passed since the marker, 0 to
+    /// 29.
     Flushing {
         port: u16,
         id: u32,
@@ -29,7 +30,7 @@ pub enum Assignment {
 }
 
 impl Assignment {
-    /// The preferred port that it keeps.
+    /// The port that the conversation prefers.
     pub(crate) fn preferred(&self) -> Option<u16>
         ensures { result ≡ preference_of self.now }
     {
@@ -41,7 +42,7 @@ impl Assignment {
         }
     }
 
-    /// The port on which it is On, Wanted or Flushing: none if it is free.
+    /// The port on which the conversation is On, Wanted or Flushing; None if it is free.
     pub(crate) fn port(&self) -> Option<u16>
         ensures { result ≡ port_of self.now }
     {
@@ -53,7 +54,7 @@ impl Assignment {
         }
     }
 
-    /// Whether it is On, Wanted or Flushing on this port.
+    /// Whether the conversation is On, Wanted or Flushing on this port.
     pub(crate) fn is_of(&self, port: u16) -> bool
         ensures { result ≡ is_of_port port self.now }
     {
@@ -65,21 +66,21 @@ impl Assignment {
         }
     }
 
-    /// Whether it is held until the response to a marker comes.
+    /// Whether the conversation waits for the response to a marker.
     pub(crate) fn is_flushing(&self) -> bool
         ensures { result ≡ is_flushing self.now }
     {
         matches!(*self, Assignment::Flushing { .. })
     }
 
-    /// Whether it is held until a marker is sent on this port.
+    /// Whether the conversation waits for a marker to be sent on this port.
     pub(crate) fn wants_marker(&self, port: u16) -> bool
         ensures { result ≡ wants_marker port self.now }
     {
         matches!(*self, Assignment::Wanted { port: p, .. } if p == port)
     }
 
-    /// Whether it is held until this response comes on this port.
+    /// Whether the conversation waits for the response to the marker `id` on this port.
     pub(crate) fn waits_for(&self, port: u16, id: u32) -> bool
         ensures { result ≡ waits_for port id self.now }
     {

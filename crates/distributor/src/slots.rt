@@ -10,12 +10,13 @@ use crate::assignment::Assignment;
 use crate::change::Change;
 use std::alloc::{AllocError, Global};
 
-/// How many chains there are.
+/// How many chains there are: one for each port number modulo 64.
 const CHAINS: u32 = 64;
 
-/// The states of the conversations, one slot each. Each that is not free stands in the chain of its
-/// port number modulo 64, by the numbers of the slots after and before it. A chain begins and ends at
-/// a place of its own after the slots. A chain in which a conversation is Flushing has its flag set.
+/// The states of all conversations, one slot each. The slots that are not free are chained by the port number of their
+/// state modulo 64, so that an event of a port need not look at every slot. A chain is a ring, doubly linked by slot
+/// numbers, that begins and ends at an entry of its own after the slots. The flag of a chain is set if one of its
+/// conversations is Flushing.
 #[derive(Drop)]
 pub(crate) struct Slots {
     count: u32,
@@ -25,14 +26,14 @@ pub(crate) struct Slots {
     flushing: Vec<bool>,
 }
 
-/// What a conversation is counted by.
+/// Which conversations are counted.
 #[derive(Clone, Copy, Debug)]
 pub(crate) enum Test {
-    /// Whether it is held until a marker is sent on this port.
+    /// Those that wait for a marker to be sent on this port.
     WantsMarker(u16),
-    /// Whether it is held until this response comes on this port.
+    /// Those that wait for the response to this marker on this port.
     WaitsFor(u16, u32),
-    /// Whether it is On, Wanted or Flushing on this port.
+    /// Those that are On, Wanted or Flushing on this port.
     IsOf(u16),
 }
 
@@ -58,7 +59,7 @@ impl Test {
 }
 
 impl Slots {
-    /// So many free slots.
+    /// This many slots, all free.
     pub(crate) fn new(alloc: Global, count: u32) -> Result<Slots, AllocError>
         requires few { count + 64 < 2 ^ 32 }
         ensures linked { IfOk result (λ s. AreLinked s) }
@@ -90,7 +91,7 @@ impl Slots {
         self.states[slot as usize]
     }
 
-    /// Gives a slot a state that isn't Flushing, in the chain where that stands.
+    /// Gives a slot a state that is not Flushing, and puts it into the chain of that state.
     pub(crate) fn set(&mut self, slot: u32, state: Assignment)
         requires linked { AreLinked self.old }
         requires flagged { AreFlagged self.old }
@@ -105,7 +106,7 @@ impl Slots {
         self.fill(slot, state);
     }
 
-    /// Changes each state that stands in the chain of this port.
+    /// Applies a change to each slot in the chain of this port.
     pub(crate) fn change(&mut self, port: u16, change: Change)
         requires linked { AreLinked self.old }
         requires flagged { AreFlagged self.old }
@@ -117,7 +118,7 @@ impl Slots {
         self.change_chain(chain(port), change);
     }
 
-    /// Changes each state that stands in this chain, and sets the chain's flag anew.
+    /// Applies a change to each slot in this chain, and works out the flag of the chain again.
     fn change_chain(&mut self, chain: u32, change: Change)
         requires linked { AreLinked self.old }
         requires flagged { AreFlagged self.old }
@@ -146,7 +147,7 @@ impl Slots {
         self.flushing[chain as usize] = flushing;
     }
 
-    /// How many conversations pass.
+    /// How many conversations the test counts.
     pub(crate) fn count(&self, test: Test) -> u32
         requires linked { AreLinked self.now }
         ensures { result ≡ sum_below (λ k. cond (passes test (state_at self.now.states.items k)) 1 0) self.now.count }
@@ -162,7 +163,7 @@ impl Slots {
         count
     }
 
-    /// A tick passes for each conversation. Only the chains whose flag is set are walked.
+    /// One tick for each conversation. Only chains whose flag is set are read.
     pub(crate) fn tick(&mut self)
         requires linked { AreLinked self.old }
         requires flagged { AreFlagged self.old }
@@ -193,7 +194,7 @@ impl Slots {
         close(&mut self.prev, places);
     }
 
-    /// Makes a slot free, out of the chain where it stands.
+    /// Makes a slot free, and takes it out of its chain.
     fn vacate(&mut self, slot: u32)
         requires linked { AreLinked self.old }
         requires inside { slot < self.old.count }
@@ -213,7 +214,7 @@ impl Slots {
         }
     }
 
-    /// Gives a free slot a state, in the chain where that stands.
+    /// Gives a free slot a state, and puts it into the chain of that state.
     fn fill(&mut self, slot: u32, state: Assignment)
         requires linked { AreLinked self.old }
         requires inside { slot < self.old.count }
@@ -234,7 +235,7 @@ impl Slots {
     }
 }
 
-/// Makes each place a ring of its own.
+/// Makes each entry a ring of its own, so that every chain is empty.
 fn close(links: &mut Vec<u32>, places: u32)
     requires { length links.old.items ≡ places }
     ensures len { length links.new.items ≡ places }
@@ -255,7 +256,7 @@ fn free_each(states: &mut Vec<Assignment>, count: u32)
     }
 }
 
-/// The chain of a port.
+/// The number of a port's chain, 0 to 63.
 fn chain(port: u16) -> u32
     ensures chain { result ≡ chain_of port }
     ensures below { result < 64 }
@@ -278,7 +279,7 @@ fn unlink(next: &mut Vec<u32>, prev: &mut Vec<u32>, slot: u32)
     prev[after as usize] = before;
 }
 
-/// Puts a slot that is in no ring right after a ring's end.
+/// Puts a slot that is in no ring into a ring, right after the ring's end.
 fn link(next: &mut Vec<u32>, prev: &mut Vec<u32>, end: u32, slot: u32)
     requires slot { slot < length next.old.items }
     requires end { end < length next.old.items }

@@ -45,7 +45,7 @@ impl ConversationTable {
         })
     }
 
-    /// Forgets every conversation and begins again with the first identifier.
+    /// Makes every conversation free, and the next marker the first one again.
     pub(crate) fn clear(&mut self)
         ensures { self.new ≡ first_table self.old.aggs self.old.first }
     {
@@ -106,14 +106,14 @@ impl ConversationTable {
         }
     }
 
-    /// The next identifier, where one is left.
+    /// The identifier of the next marker; None if none is left.
     pub(crate) fn next_identifier(&self) -> Option<u32>
         ensures { result ≡ next_identifier self.now }
     {
         u32::try_from(self.next).ok()
     }
 
-    /// Takes the next identifier for a marker on this port, where a conversation wants one.
+    /// Takes the next identifier for a marker on this port, if a conversation is Wanted there; else None.
     pub(crate) fn mark(&mut self, port: u16) -> Option<u32>
         ensures answer { result ≡ marker_due self.old port }
         ensures some { IfSome result (λ id. Marks self.old self.new port id) }
@@ -129,7 +129,7 @@ impl ConversationTable {
     }
 }
 
-/// The slot of a conversation.
+/// The slot number of a conversation.
 fn place(agg: u16, conv: u16) -> u32
     requires agg { 0 < agg }
     ensures { result ≡ place_of agg conv }

@@ -9,7 +9,7 @@ use std::test::Fail;
 
 const AGG: AggId = AggId(1);
 
-/// A call on aggregator 1, and what it answers.
+/// A call on aggregator 1, with its expected result.
 #[derive(Clone, Copy, Debug, PartialEq, Eq)]
 enum Row {
     Assign(u16, Result<u16, DistFault>),
@@ -33,8 +33,8 @@ fn tick<F: Fn(u16, usize) -> usize + Drop>(d: &mut Distributor<F>, count: u16)
     }
 }
 
-/// Makes the call of a row while these ports distribute, and answers the row with what came in the
-/// place of what was wanted.
+/// Makes the call of a row while these ports distribute, and returns the row with the actual result in the place of the
+/// expected one.
 fn play<F: Fn(u16, usize) -> usize + Drop>(d: &mut Distributor<F>, ports: &[u16], row: Row) -> Row
     requires usable { PicksPlaces (F.pre d.old.algorithm) (F.post d.old.algorithm) }
     requires few { length ports.now ≤ 64 }
@@ -56,7 +56,7 @@ fn play<F: Fn(u16, usize) -> usize + Drop>(d: &mut Distributor<F>, ports: &[u16]
     row
 }
 
-/// Plays the rows on a new distributor while these two ports distribute.
+/// Plays the rows on a new distributor; these two ports distribute.
 fn plays(
     rt: &impl Abort,
     alloc: Global,
@@ -138,7 +138,7 @@ fn ports_of_one_chain_stay_apart(rt: HostRuntime) -> Result<(), Fail> {
         Row::State(1, Assignment::On(65)),
         Row::State(2, Assignment::On(1)),
         Row::State(0, flushing(0)),
-        // what is on port 65 waits, and what is on port 1 does not
+        // what is On port 65 becomes Wanted, and what is On port 1 does not (both are in chain 1)
         Row::Leave(65),
         Row::State(2, Assignment::On(1)),
         Row::Ticks(1),
@@ -180,7 +180,7 @@ fn a_chain_keeps_the_neighbours_of_one_that_leaves(rt: HostRuntime) -> Result<()
         Row::Assign(2, Ok(1)),
         Row::Assign(4, Ok(1)),
         Row::Assign(6, Ok(1)),
-        // from the middle, then from each end
+        // from the middle of the chain, then from each end
         Row::Force(2, Ok(())),
         Row::Load(1, 3),
         Row::Force(6, Ok(())),
@@ -224,20 +224,20 @@ fn identifiers_end_at_the_greatest(rt: HostRuntime) -> Result<(), Fail> {
 #[test]
 fn refusals_come_in_order(rt: HostRuntime) -> Result<(), Fail> {
     let rows = [
-        // no such conversation, or a free one, whatever the port
+        // no such conversation, or a free one, whatever the port is
         Row::Assign(256, Err(DistFault::NotAssigned)),
         Row::Move(256, 3, Err(DistFault::NotAssigned)),
         Row::Move(48, 3, Err(DistFault::NotAssigned)),
         Row::Force(256, Err(DistFault::NotAssigned)),
         Row::Force(48, Err(DistFault::NotAssigned)),
-        // held, before the port is looked at
+        // Held, before the port is looked at
         Row::Assign(48, Ok(1)),
         Row::Assign(50, Ok(1)),
         Row::Move(48, 2, Ok(())),
         Row::Move(48, 3, Err(DistFault::Held)),
         Row::Marker(1, Some(4294967295)),
         Row::Move(48, 1, Err(DistFault::Held)),
-        // no identifier is left: it does not distribute, then the same port, and only then that
+        // no identifier is left; NotDistributing and SamePort come before MarkersSpent
         Row::Move(50, 3, Err(DistFault::NotDistributing)),
         Row::Move(50, 1, Err(DistFault::SamePort)),
         Row::Move(50, 2, Err(DistFault::MarkersSpent)),
@@ -250,7 +250,7 @@ fn refusals_come_in_order(rt: HostRuntime) -> Result<(), Fail> {
 fn preferences_are_kept_and_used_once(rt: HostRuntime) -> Result<(), Fail> {
     let free = |preferred: Option<u16>| Assignment::Free { preferred };
     let rows = [
-        // down keeps the preference, and it is used once
+        // `down` keeps the preferred port, which is used once
         Row::Assign(48, Ok(1)),
         Row::Move(48, 2, Ok(())),
         Row::Down(1),
@@ -259,14 +259,14 @@ fn preferences_are_kept_and_used_once(rt: HostRuntime) -> Result<(), Fail> {
         Row::State(48, Assignment::On(2)),
         Row::Force(48, Ok(())),
         Row::State(48, free(None)),
-        // force keeps the preference of one that waits
+        // `force` keeps the preferred port of a conversation that waits
         Row::Assign(48, Ok(1)),
         Row::Move(48, 2, Ok(())),
         Row::Marker(1, Some(7)),
         Row::Force(48, Ok(())),
         Row::State(48, free(Some(2))),
         Row::Response(1, 7, 0),
-        // a port that merely leaves frees nothing
+        // a port that only stops distributing frees nothing
         Row::Assign(50, Ok(1)),
         Row::Leave(1),
         Row::Assign(50, Err(DistFault::Held)),
@@ -306,7 +306,7 @@ fn ports_are_picked_by_their_place(rt: HostRuntime) -> Result<(), Fail> {
     assert_eq!(rt; d.assign(AggId(2), 255, &ports), Ok(1063));
     assert_eq!(rt; d.assign(AggId(2), 64, &ports), Ok(1000));
     assert_eq!(rt; d.assign(AggId(2), 0, &ports), Ok(1000));
-    // no other conversation has moved, of neither aggregator
+    // no other conversation has changed, in either aggregator
     let free = Assignment::Free { preferred: None };
     assert_eq!(rt; (d.state(AGG, 255), d.state(AGG, 64)), (free, free));
     assert_eq!(rt; (d.state(AggId(2), 1), d.load(1000)), (free, 2));
@@ -324,14 +324,14 @@ fn ports_are_picked_by_their_place(rt: HostRuntime) -> Result<(), Fail> {
 fn a_port_that_distributes_no_more(rt: HostRuntime) -> Result<(), Fail> {
     let mut d = Distributor::new(rt.alloc(), 1, 1, by_number)?;
     assert_eq!(rt; d.assign(AGG, 48, &[1, 2]), Ok(1));
-    // that it does not distribute comes before that it is the same
+    // NotDistributing comes before SamePort
     assert_eq!(rt;
         d.move_to(AGG, 48, 1, &[2]),
         Err(DistFault::NotDistributing)
     );
     assert_eq!(rt; d.move_to(AGG, 48, 2, &[1, 2]), Ok(()));
     assert_eq!(rt; d.force(AGG, 48), Ok(()));
-    // the free conversation prefers port 2, which is not among these
+    // the free conversation prefers port 2, which does not distribute
     assert_eq!(rt; d.preferred(AGG, 48), Some(2));
     assert_eq!(rt; d.assign(AGG, 48, &[3, 4, 5]), Ok(3));
     Ok(())

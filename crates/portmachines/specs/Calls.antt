@@ -1,4 +1,4 @@
--- The calls of a port, and what the contract of each says (profile).
+-- The calls of a port, and the relation that the contract of each states (profile).
 use Rattle.std.specs.Prelude.{◌≡◌, ℕ, Bool, if◌then◌else◌}
 use Rattle.lagtypes.specs.declared.party.Party.{Party}
 use Rattle.lagtypes.specs.declared.party.Choice.{Choice}
@@ -22,7 +22,7 @@ pub data PortCall : Type 0 where
   Select : (choice : Choice) → PortCall
   Reinit : (party : Party) → PortCall
 
--- what the contract of each call says of the port
+-- the relation that the contract of a call states between the port before and after it
 abbrev pub Does : PortCall → Machines → Machines → Type 0
 Does Tick old new = Settles receive_rows (count_down old) new
 Does (Transmit max_delay) old new = new ≡ (if is_due old then sent old else old)
@@ -33,7 +33,7 @@ Does Periodic old new = RunsPeriodic old new
 Does (Select choice) old new = new ≡ record old { choice = choice }
 Does (Reinit party) old new = Starts (record old { party = party }) new
 
--- rows leave no choice: where the receive machine is at rest, each call has one effect
+-- the machines are deterministic: if the receive machine is at rest, each call has exactly one effect
 abbrev pub OneEffect : Type 0
 OneEffect =
     (call : PortCall) (old one other : Machines)

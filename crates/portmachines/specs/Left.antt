@@ -1,4 +1,4 @@
--- How many rows are left to fire (profile).
+-- Bounds on the number of rows that may still fire, by which the loops are shown to end (profile).
 use Rattle.std.specs.Prelude.{ℕ, Bool, true, false}
 use Rattle.portmachines.specs.declared.mux.MuxState.{MuxState}
 use Rattle.portmachines.specs.declared.mux.MuxState.TheVariants.{Detached, Waiting, Attached, CollectingDistributing}
@@ -11,7 +11,7 @@ use Rattle.portmachines.specs.Mux.{selected, partner_synchronized}
 use Rattle.portmachines.specs.Periodic.{is_silent, timer_expired, partner_short}
 use Rattle.portmachines.specs.Receive.{current_while_expired}
 
--- by selected, ready and the partner's Synchronization
+-- of the mux machine, by: SELECTED, Ready, and Synchronization of the partner
 abbrev rows_left : Bool → Bool → Bool → MuxState → ℕ
 rows_left true true true Detached = 3
 rows_left true true false Detached = 2
@@ -28,7 +28,7 @@ rows_left false ready synchronized Waiting = 1
 rows_left false ready synchronized Attached = 1
 rows_left false ready synchronized CollectingDistributing = 2
 
--- by silent, expired and the partner's short timeout
+-- of the periodic machine, by: link down or both ends passive, periodic_timer expired, and Short Timeout of the partner
 abbrev periodic_rows_left : Bool → Bool → Bool → PeriodicState → ℕ
 periodic_rows_left true expired short NoPeriodic = 0
 periodic_rows_left true expired short Fast = 1
@@ -44,7 +44,7 @@ periodic_rows_left false false true Slow = 2
 periodic_rows_left false false false Slow = 0
 periodic_rows_left false expired short PeriodicTx = 1
 
--- by enabled and expired
+-- of the receive machine, by: port_enabled, and current_while expired
 abbrev receive_rows_left : Bool → Bool → ReceiveState → ℕ
 receive_rows_left false expired PortDisabled = 0
 receive_rows_left false expired Initialize = 1
@@ -62,10 +62,10 @@ receive_rows_left true false Current = 0
 abbrev pub left : Bool → Machines → ℕ
 left ready p = rows_left (selected p) ready (partner_synchronized p) p.mux
 
--- a bound on the periodic rows that fire from here
+-- how many periodic rows may still fire
 abbrev pub periodic_left : Machines → ℕ
 periodic_left p = periodic_rows_left (is_silent p) (timer_expired p) (partner_short p) p.periodic
 
--- a bound on the receive rows that fire from here
+-- how many receive rows may still fire
 abbrev pub receive_left : Machines → ℕ
 receive_left p = receive_rows_left p.enabled (current_while_expired p) p.receive

@@ -7,7 +7,8 @@ use Rattle.portmachines.specs.declared.receive.ReceiveState.{ReceiveState}
 use Rattle.portmachines.specs.declared.periodic.PeriodicState.{PeriodicState}
 use Rattle.portmachines.specs.declared.mux.MuxState.{MuxState}
 
--- a timer is the number of ticks that it has left. Ages are the ticks since a send, the oldest first
+-- A timer holds the ticks of 100 ms that it has left. `ages`: how many ticks ago each LACPDU was sent, the oldest
+-- first.
 pub record Machines : Type 0 where
   pub party : Party
   pub active : Bool

@@ -1,4 +1,4 @@
--- Mux machine, coupled control (6.4.15).
+-- The mux machine under coupled control (6.4.15).
 use Rattle.std.specs.Prelude.{Bool, true, false, not, ◌&&◌, ◌||◌, List, [], ◌∷◌}
 use Rattle.lagtypes.specs.States.{bits_of}
 use Rattle.lagtypes.specs.Choices.{is_selected, is_unselected}
@@ -14,7 +14,7 @@ is_mux Attached Attached = true
 is_mux CollectingDistributing CollectingDistributing = true
 is_mux _ _ = false
 
--- the Synchronization of the port's own side
+-- Actor_State.Synchronization in this state
 abbrev pub is_synchronized : MuxState → Bool
 is_synchronized s = is_mux Attached s || is_mux CollectingDistributing s
 
@@ -24,7 +24,7 @@ selected p = is_selected p.choice
 abbrev pub unselected : Machines → Bool
 unselected p = is_unselected p.choice
 
--- partner Synchronization
+-- Partner_Oper_Port_State.Synchronization
 abbrev pub partner_synchronized : Machines → Bool
 partner_synchronized p = (bits_of p.partner.state).synchronization
 
@@ -34,8 +34,8 @@ start_wait_while p = record p { wait_while = 20 }
 abbrev pub set_ntt : Machines → Machines
 set_ntt p = record p { ntt = true }
 
--- from this state, where the guard holds, to that state, with the effect. Synchronization, Collecting and
--- Distributing of the port's own side are what the state says
+-- a row: from this state, if the condition holds, to that state, with the action. Synchronization, Collecting and
+-- Distributing of Actor_State follow from the state.
 abbrev pub mux_row : MuxState → (Machines → Bool) → MuxState → (Machines → Machines) → Row
 mux_row from guard to effect =
     record {
@@ -45,7 +45,7 @@ mux_row from guard to effect =
 
 abbrev pub mux_rows : Bool → List Row
 mux_rows ready =
-    -- DETACHED; not UNSELECTED; to WAITING; wait_while starts with 20
+    -- DETACHED; not UNSELECTED; to WAITING; wait_while starts with 20 ticks
     mux_row Detached (λ p. not (unselected p)) Waiting start_wait_while
     -- WAITING; UNSELECTED; to DETACHED; NTT true
     ∷ mux_row Waiting unselected Detached set_ntt
@@ -59,6 +59,6 @@ mux_rows ready =
     ∷ mux_row CollectingDistributing (λ p. not (selected p) || not (partner_synchronized p)) Attached set_ntt
     ∷ []
 
--- start, or reinit in any state; to DETACHED; NTT true
+-- BEGIN, or reinit in any state; to DETACHED; NTT true
 abbrev pub start_mux : Machines → Machines
 start_mux p = record p { mux = Detached; ntt = true }

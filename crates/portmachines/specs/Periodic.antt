@@ -1,4 +1,4 @@
--- Periodic machine (6.4.13).
+-- The periodic machine (6.4.13).
 use Rattle.std.specs.Prelude.{◌≡◌, ℕ, ◌==◌, Bool, true, false, not, ◌&&◌, ◌||◌, List, [], ◌∷◌}
 use Rattle.lagtypes.specs.States.{bits_of}
 use Rattle.portmachines.specs.declared.periodic.PeriodicState.{PeriodicState}
@@ -14,14 +14,14 @@ is_periodic Slow Slow = true
 is_periodic PeriodicTx PeriodicTx = true
 is_periodic _ _ = false
 
--- the link is not enabled, or actor and partner are both passive
+-- the link is down, or both ends are passive
 abbrev pub is_silent : Machines → Bool
 is_silent p = not p.enabled || (not p.active && not (bits_of p.partner.state).activity)
 
 abbrev pub timer_expired : Machines → Bool
 timer_expired p = p.periodic_timer == 0
 
--- partner Timeout short
+-- the partner has Short Timeout
 abbrev pub partner_short : Machines → Bool
 partner_short p = (bits_of p.partner.state).timeout
 
@@ -37,30 +37,30 @@ periodic_row from guard to effect =
 
 abbrev pub periodic_table : List Row
 periodic_table =
-    -- any but NO_PERIODIC; link not enabled, or both passive; to NO_PERIODIC
+    -- any but NO_PERIODIC; link down, or both ends passive; to NO_PERIODIC
     periodic_row (λ s. not (is_periodic NoPeriodic s)) is_silent NoPeriodic (λ p. p)
-    -- NO_PERIODIC; that does not hold; to FAST; periodic_timer starts with 10
+    -- NO_PERIODIC; link up and one end active; to FAST; periodic_timer starts with 10 ticks
     ∷ periodic_row (is_periodic NoPeriodic) (λ p. not (is_silent p)) Fast (start_periodic 10)
     -- FAST; periodic_timer expired; to PERIODIC_TX; NTT true
     ∷ periodic_row (is_periodic Fast) timer_expired PeriodicTx set_ntt
-    -- FAST; partner Timeout long; to SLOW; periodic_timer starts with 300
+    -- FAST; partner has Long Timeout; to SLOW; periodic_timer starts with 300 ticks
     ∷ periodic_row (is_periodic Fast) (λ p. not (partner_short p)) Slow (start_periodic 300)
-    -- SLOW; periodic_timer expired, or partner Timeout short; to PERIODIC_TX; NTT true
+    -- SLOW; periodic_timer expired, or partner has Short Timeout; to PERIODIC_TX; NTT true
     ∷ periodic_row (is_periodic Slow) (λ p. timer_expired p || partner_short p) PeriodicTx set_ntt
-    -- PERIODIC_TX; partner Timeout short; to FAST; periodic_timer starts with 10
+    -- PERIODIC_TX; partner has Short Timeout; to FAST; periodic_timer starts with 10 ticks
     ∷ periodic_row (is_periodic PeriodicTx) partner_short Fast (start_periodic 10)
-    -- PERIODIC_TX; partner Timeout long; to SLOW; periodic_timer starts with 300
+    -- PERIODIC_TX; partner has Long Timeout; to SLOW; periodic_timer starts with 300 ticks
     ∷ periodic_row (is_periodic PeriodicTx) (λ p. not (partner_short p)) Slow (start_periodic 300)
     ∷ []
 
--- tried in this order (profile)
+-- the rows are tried in this order (profile)
 abbrev pub periodic_rows : List Row
 periodic_rows = in_order (λ p. false) periodic_table
 
--- NTT is false in NO_PERIODIC (profile)
+-- in NO_PERIODIC, NTT becomes false (profile)
 abbrev pub clear_ntt : Machines → Machines
 clear_ntt p = record p { ntt = not (is_periodic NoPeriodic p.periodic) && p.ntt }
 
--- the periodic rows until none is enabled; then NTT is false in NO_PERIODIC
+-- the machine runs until no row is enabled; then, in NO_PERIODIC, NTT becomes false
 abbrev pub RunsPeriodic : Machines → Machines → Type 0
 RunsPeriodic old new = (mid : Machines) × Settles periodic_rows old mid × (new ≡ clear_ntt mid)

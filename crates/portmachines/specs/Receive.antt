@@ -1,4 +1,4 @@
--- Receive machine (6.4.12), with its functions (6.4.9).
+-- The receive machine (6.4.12), with its functions (6.4.9).
 use Rattle.std.specs.Prelude.{◌==◌, Bool, true, false, not, ◌&&◌, ◌||◌, List, [], ◌∷◌, if◌then◌else◌}
 use Rattle.lagtypes.specs.States.{bits_of, state_of, with_synchronization, with_timeout}
 use Rattle.lagtypes.specs.declared.party.Party.{Party}
@@ -13,7 +13,7 @@ use Rattle.portmachines.specs.Rows.{Row}
 use Rattle.lagtypes.specs.Same.{same_party, same_bit}
 use Rattle.portmachines.specs.Mux.{is_synchronized}
 
--- the administrative partner: all zero, with state 0x08 (profile)
+-- the administrative default values of the partner: all zero, but the state is 0x08 (profile)
 abbrev pub default_partner : Info
 default_partner =
     record {
@@ -34,16 +34,17 @@ default_partner =
           });
     }
 
--- recordDefault
+-- recordDefault: the partner gets the administrative default values
 abbrev pub record_default : Machines → Machines
 record_default p = record p { partner = default_partner; defaulted = true }
 
--- partner Synchronization false
+-- Partner_Oper_Port_State.Synchronization false
 abbrev pub partner_not_synchronized : Machines → Machines
 partner_not_synchronized p =
     record p { partner = record p.partner { state = with_synchronization false p.partner.state } }
 
--- partner Synchronization false; partner Timeout short; current_while starts with 30; Expired true
+-- the actions of EXPIRED: partner Synchronization false; partner Timeout short; current_while starts with 30 ticks;
+-- Expired true
 abbrev pub expire : Machines → Machines
 expire p =
     record p {
@@ -52,17 +53,17 @@ expire p =
       expired = true;
     }
 
--- UNSELECTED where this party differs from the partner's: update_Selected of the PDU's actor, and
--- update_Default_Selected of the administrative partner
+-- update_Selected, with the PDU's Actor, and update_Default_Selected, with the administrative default: Selected becomes
+-- UNSELECTED if these parameters differ from the partner's
 abbrev pub update_selected : Party → Machines → Machines
 update_selected party p =
     record p { choice = if same_party party (party_of p.partner) then p.choice else Unselected }
 
--- update_Default_Selected; recordDefault; Expired false
+-- the actions of DEFAULTED: update_Default_Selected; recordDefault; Expired false
 abbrev pub default : Machines → Machines
 default p = record (record_default (update_selected (party_of default_partner) p)) { expired = false }
 
--- start, or reinit in any state; to INITIALIZE; Selected UNSELECTED; recordDefault; Expired false
+-- BEGIN, or reinit in any state; to INITIALIZE; Selected UNSELECTED; recordDefault; Expired false
 abbrev pub start_receive : Machines → Machines
 start_receive p = record (record_default p) { receive = Initialize; choice = Unselected; expired = false }
 
@@ -84,22 +85,23 @@ receive_row from guard to effect =
 abbrev pub current_while_expired : Machines → Bool
 current_while_expired p = p.current_while == 0
 
--- the rows of the receive machine but that of an LACPDU
+-- all rows of the receive machine but that for an LACPDU
 abbrev pub receive_rows : List Row
 receive_rows =
     -- INITIALIZE; at once; to PORT_DISABLED; partner Synchronization false
     receive_row (is_receive Initialize) (λ p. true) PortDisabled partner_not_synchronized
-    -- any but PORT_DISABLED; the link is not enabled; to PORT_DISABLED; partner Synchronization false
+    -- any but PORT_DISABLED; link down; to PORT_DISABLED; partner Synchronization false
     ∷ receive_row (λ s. not (is_receive PortDisabled s)) (λ p. not p.enabled) PortDisabled partner_not_synchronized
-    -- PORT_DISABLED; the link is enabled; to EXPIRED; as expire says
+    -- PORT_DISABLED; link up; to EXPIRED, with its actions
     ∷ receive_row (is_receive PortDisabled) (λ p. p.enabled) Expired expire
-    -- EXPIRED; current_while expired; to DEFAULTED; as default says
+    -- EXPIRED; current_while expired; to DEFAULTED, with its actions
     ∷ receive_row (is_receive Expired) current_while_expired Defaulted default
-    -- CURRENT; current_while expired; to EXPIRED; as expire says
+    -- CURRENT; current_while expired; to EXPIRED, with its actions
     ∷ receive_row (is_receive Current) current_while_expired Expired expire
     ∷ []
 
--- what the PDU says of its partner is so of the actor
+-- the partner's view of this port is up to date: the Partner information of the PDU equals the port's own parameters,
+-- and its Activity, Timeout and Synchronization bits are the port's own
 abbrev pub knows_actor : Info → Machines → Bool
 knows_actor told p =
     same_party (party_of told) p.party
@@ -107,22 +109,23 @@ knows_actor told p =
     && same_bit (bits_of told.state).timeout p.short
     && same_bit (bits_of told.state).synchronization (is_synchronized p.mux)
 
--- update_NTT
+-- update_NTT: NTT becomes true unless the partner's view of this port is up to date
 abbrev pub update_ntt : Lacpdu → Machines → Machines
 update_ntt pdu p = record p { ntt = if knows_actor pdu.partner p then p.ntt else true }
 
--- the link is actively maintained: the PDU's actor is active, or the actor and the PDU's partner are
+-- the link is actively maintained: the PDU's Actor is active, or both this port and the PDU's Partner information are
+-- active
 abbrev pub is_maintained : Lacpdu → Machines → Bool
 is_maintained pdu p = (bits_of pdu.actor.state).activity || (p.active && (bits_of pdu.partner.state).activity)
 
--- what recordPDU says of the partner's Synchronization
+-- the value of the partner's Synchronization that recordPDU records
 abbrev pub says_synchronized : Lacpdu → Machines → Bool
 says_synchronized pdu p =
     (bits_of pdu.actor.state).synchronization
     && is_maintained pdu p
     && (same_party (party_of pdu.partner) p.party || not (bits_of pdu.actor.state).aggregation)
 
--- recordPDU
+-- recordPDU: the partner gets the values of the PDU
 abbrev pub record_pdu : Lacpdu → Machines → Machines
 record_pdu pdu p =
     record p {
@@ -130,15 +133,15 @@ record_pdu pdu p =
       defaulted = false;
     }
 
--- current_while starts with 30 where the actor's Timeout is short, else 900; Expired false
+-- current_while starts with 30 ticks if the port has Short Timeout, else with 900; Expired false
 abbrev pub start_current_while : Machines → Machines
 start_current_while p = record p { current_while = if p.short then 30 else 900; expired = false }
 
--- the row of an LACPDU, which is taken only while the link is enabled
+-- the row for an LACPDU; one is processed only while the link is up
 abbrev pub taking_rows : Lacpdu → List Row
 taking_rows pdu =
-    -- EXPIRED, DEFAULTED, CURRENT; an LACPDU is taken; to CURRENT;
-    -- update_Selected; update_NTT; recordPDU; current_while starts; Expired false
+    -- EXPIRED, DEFAULTED, CURRENT; an LACPDU came; to CURRENT; update_Selected; update_NTT; recordPDU; current_while
+    -- starts; Expired false
     receive_row (λ s. is_receive Expired s || is_receive Defaulted s || is_receive Current s) (λ p. p.enabled) Current
     (λ p. start_current_while (record_pdu pdu (update_ntt pdu (update_selected (party_of pdu.actor) p))))
     ∷ []

@@ -10,11 +10,11 @@ use Rattle.portmachines.specs.Rows.{Settles}
 use Rattle.portmachines.specs.Receive.{receive_rows, start_receive, default_partner}
 use Rattle.portmachines.specs.Mux.{start_mux}
 
--- the start rows of the receive and mux machines, or reinit
+-- the receive and mux machines start (BEGIN, or reinit)
 abbrev pub Starts : Machines → Machines → Type 0
 Starts old new = (mid : Machines) × Settles receive_rows (start_receive old) mid × (new ≡ start_mux mid)
 
--- a port before its start rows: the link is down, and every timer is 0
+-- a port before its machines start: the link is down, and every timer is 0
 abbrev pub blank : Setup → Machines
 blank s =
     record {

@@ -1,4 +1,4 @@
--- Timers, the window and the transmit machine (6.4.16).
+-- Timers, and the transmit machine with its limit (6.4.16).
 use Rattle.std.specs.Prelude.{ℕ, ◌+◌, ◌-◌, Bool, false, ◌&&◌, List, [], ◌∷◌, ◌++◌, length, map, filter, nat_lt}
 use Rattle.lagtypes.specs.States.{state_of}
 use Rattle.lagtypes.specs.declared.state.State.{State}
@@ -8,11 +8,11 @@ use Rattle.portmachines.specs.declared.mux.MuxState.TheVariants.{CollectingDistr
 use Rattle.portmachines.specs.Machines.{Machines}
 use Rattle.portmachines.specs.Mux.{is_mux, is_synchronized}
 
--- ages rise by one, and an age of 11 leaves
+-- each age becomes one tick older; an age of 11 is removed
 abbrev pub aged : List ℕ → List ℕ
 aged ages = filter (λ a. nat_lt a 11) (map (λ a. a + 1) ages)
 
--- every timer counts down by one where it is above 0
+-- each timer above 0 counts down by one tick
 abbrev pub count_down : Machines → Machines
 count_down p =
     record p {
@@ -22,15 +22,15 @@ count_down p =
       ages = aged p.ages;
     }
 
--- an LACPDU may be sent where NTT is set and fewer than three ages are kept
+-- an LACPDU is due: NTT is true, and fewer than three were sent in the last eleven ticks
 abbrev pub is_due : Machines → Bool
 is_due p = p.ntt && nat_lt (length p.ages) 3
 
--- sending adds an age of 0 and clears NTT
+-- sending an LACPDU adds the age 0 and makes NTT false
 abbrev pub sent : Machines → Machines
 sent p = record p { ntt = false; ages = p.ages ++ 0 ∷ [] }
 
--- the state octet of the port's own side
+-- Actor_State: the state octet of the port's own side
 abbrev pub actor_state : Machines → State
 actor_state p =
     state_of
@@ -45,10 +45,10 @@ actor_state p =
       expired = p.expired;
     })
 
--- what an LACPDU says of the port's own side
+-- the Actor's information in an LACPDU of the port
 abbrev pub actor_of : Machines → Info
 actor_of p = record { system = p.party.system; key = p.party.key; port = p.party.port; state = actor_state p }
 
--- the LACPDU of the port
+-- an LACPDU of the port; the number is its CollectorMaxDelay
 abbrev pub pdu_of : Machines → ℕ → Lacpdu
 pdu_of p max_delay = record { actor = actor_of p; partner = p.partner; max_delay = max_delay }

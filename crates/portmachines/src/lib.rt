@@ -1,5 +1,8 @@
-//! The machines of one port: receive, periodic, mux under coupled control, and transmit with its window
-//! (IEEE 802.1AX-2014, 6.4). No call takes memory.
+//! The machines of one port: receive, periodic, mux under coupled control, and transmit with its limit of three LACPDUs
+//! in eleven ticks (IEEE 802.1AX-2014, 6.4). No call takes memory.
+//!
+//! In comments, numbers such as 6.4.12 are sections of that standard, "profile" is docs/PROFILE.md, a tick is 100 ms,
+//! and a row is one transition of a machine: from a state, if a condition holds, to a state, with actions.
 #![tactic(auto)]
 
 mod machines;

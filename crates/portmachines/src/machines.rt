@@ -11,38 +11,38 @@ use lagtypes::{Choice, Party, State, StateBits};
 use slowpdu::Info;
 use std::marker::Model;
 
-/// The variables of the four machines of one port (6.4.7, 6.4.8, 6.4.10). A timer is the number of ticks
-/// that it has left, and has expired at 0.
+/// The variables of the four machines of one port (6.4.7, 6.4.8, 6.4.10). A timer holds the ticks of 100 ms that it has
+/// left; at 0 it has expired.
 #[derive(Drop)]
 pub(crate) struct Machines {
-    /// The port's own parameters.
+    /// The operational parameters of the port's own side, the Actor.
     pub(crate) party: Party,
-    /// LACP_Activity: false where the port is passive.
+    /// LACP_Activity: false if the port is passive.
     pub(crate) active: bool,
-    /// LACP_Timeout: whether the port asks for short timeouts.
+    /// LACP_Timeout: true for Short Timeout, 3 s; false for Long Timeout, 90 s.
     pub(crate) short: bool,
-    /// Whether the link is up (port_enabled).
+    /// port_enabled: whether the link is up.
     pub(crate) enabled: bool,
     pub(crate) receive: ReceiveState,
-    /// Up to 900.
+    /// Ticks until the partner's information times out, 0 to 900.
     pub(crate) current_while: u16,
-    /// What was recorded of the partner.
+    /// The operational parameters of the Partner, as recorded.
     pub(crate) partner: Info,
-    /// Whether the partner was set by recordDefault, and by no LACPDU since.
+    /// Actor_State.Defaulted: whether recordDefault set the partner, and no LACPDU since.
     pub(crate) defaulted: bool,
-    /// Whether the receive machine is in EXPIRED, as the state octet says it.
+    /// Actor_State.Expired: whether the receive machine is in EXPIRED.
     pub(crate) expired: bool,
     pub(crate) periodic: PeriodicState,
-    /// Up to 300.
+    /// Ticks until the next periodic LACPDU, 0 to 300.
     pub(crate) periodic_timer: u16,
     pub(crate) mux: MuxState,
-    /// Up to 20.
+    /// Ticks until the port may attach to its aggregator, 0 to 20.
     pub(crate) wait_while: u8,
-    /// Selected, with its aggregator.
+    /// Selected, with the aggregator that the port was given.
     pub(crate) choice: Choice,
-    /// Need To Transmit.
+    /// NTT, Need To Transmit: an LACPDU is to be sent.
     pub(crate) ntt: bool,
-    /// How many ticks ago each of the last LACPDUs was sent, the oldest first: 0 to 10.
+    /// How many ticks ago each of the last LACPDUs was sent, 0 to 10, the oldest first.
     pub(crate) ages: ArrayVec<u8, 3>,
 }
 
@@ -72,7 +72,7 @@ impl Model for Machines {
 }
 
 impl Machines {
-    /// Counts the timers down, each to 0 at the least, and raises the ages of the window.
+    /// Counts each timer down by one tick, unless it is 0, and makes each age one tick older.
     pub(crate) fn count_down(&mut self)
         ensures { self.new ≡ count_down self.old }
     {
@@ -82,7 +82,7 @@ impl Machines {
         grow_older(&mut self.ages);
     }
 
-    /// Starts the receive and mux machines.
+    /// Starts the receive and mux machines (BEGIN).
     pub(crate) fn start(&mut self)
         ensures { Starts self.old self.new }
     {
@@ -91,7 +91,7 @@ impl Machines {
         self.start_mux();
     }
 
-    /// The state octet of the port's own side.
+    /// Actor_State: the state octet of the port's own side.
     pub(crate) fn state(&self) -> State
         ensures { result ≡ actor_state self.now }
     {
@@ -108,7 +108,7 @@ impl Machines {
         })
     }
 
-    /// What an LACPDU says of the port's own side.
+    /// The Actor's information in an LACPDU of this port.
     pub(crate) fn actor(&self) -> Info
         ensures { result ≡ actor_of self.now }
     {

@@ -10,21 +10,22 @@ use lagtypes::Choice;
 /// The states of the mux machine under coupled control (6.4.15).
 #[derive(Clone, Copy, Debug, PartialEq, Eq)]
 pub enum MuxState {
-    /// In no aggregator.
+    /// The port is in no aggregator.
     Detached,
-    /// An aggregator is chosen, and wait_while runs or its other ports are waited for.
+    /// The port has chosen an aggregator. It waits for wait_while, and then for the other ports that wait for that
+    /// aggregator (Ready).
     Waiting,
-    /// In its aggregator, not passing frames.
+    /// The port is in its aggregator, but neither collects nor distributes.
     Attached,
-    /// In its aggregator, passing frames both ways.
+    /// The port is in its aggregator, and both collects and distributes.
     CollectingDistributing,
 }
 
-/// Aggregate_Wait_Time, 2 s (6.4.4).
+/// Aggregate_Wait_Time, 2 s, in ticks (6.4.4).
 const AGGREGATE_WAIT_TIME: u8 = 20;
 
 impl MuxState {
-    /// The Synchronization of the port's own side.
+    /// Actor_State.Synchronization in this state.
     pub(crate) fn is_synchronized(self) -> bool
         ensures { result ≡ is_synchronized self }
     {
@@ -36,7 +37,7 @@ impl MuxState {
 }
 
 impl Machines {
-    /// Fires the mux row that is enabled, if there is one.
+    /// Fires the mux row that is enabled; returns false if none is.
     fn fire_mux(&mut self, ready: bool) -> bool
         ensures fired { OnTrue result (Fires (mux_rows ready) self.old self.new) }
         ensures rest { OnFalse result (AtRest (mux_rows ready) self.old) }
@@ -69,7 +70,7 @@ impl Machines {
         true
     }
 
-    /// Fires mux rows until none is enabled, and answers how many.
+    /// Fires mux rows until none is enabled, and returns how many fired, at most 3.
     pub(crate) fn fire_mux_rows(&mut self, ready: bool) -> u8
         ensures fired { Reaches (mux_rows ready) result self.old self.new }
         ensures rest { AtRest (mux_rows ready) self.new }
@@ -82,7 +83,7 @@ impl Machines {
         fired
     }
 
-    /// Starts the mux machine.
+    /// Starts the mux machine (BEGIN).
     pub(crate) fn start_mux(&mut self)
         ensures { self.new ≡ start_mux self.old }
     {

@@ -9,23 +9,23 @@ use crate::machines::Machines;
 /// The states of the periodic machine (6.4.13).
 #[derive(Clone, Copy, Debug, PartialEq, Eq)]
 pub enum PeriodicState {
-    /// No periodic LACPDUs: the link is down, or both ends are passive.
+    /// No periodic LACPDUs, since the link is down or both ends are passive.
     NoPeriodic,
-    /// An LACPDU each second.
+    /// A periodic LACPDU every second.
     Fast,
-    /// An LACPDU each 30 seconds.
+    /// A periodic LACPDU every 30 seconds.
     Slow,
-    /// An LACPDU is due.
+    /// A periodic LACPDU is to be sent; the machine leaves this state at once.
     PeriodicTx,
 }
 
-/// Fast_Periodic_Time, 1 s (6.4.4).
+/// Fast_Periodic_Time, 1 s, in ticks (6.4.4).
 const FAST_PERIODIC_TIME: u16 = 10;
-/// Slow_Periodic_Time, 30 s (6.4.4).
+/// Slow_Periodic_Time, 30 s, in ticks (6.4.4).
 const SLOW_PERIODIC_TIME: u16 = 300;
 
 impl Machines {
-    /// Fires the periodic row that is enabled, if there is one.
+    /// Fires the periodic row that is enabled; returns false if none is.
     fn fire_periodic(&mut self) -> bool
         ensures fired { OnTrue result (Fires periodic_rows self.old self.new) }
         ensures rest { OnFalse result (AtRest periodic_rows self.old) }
@@ -56,7 +56,7 @@ impl Machines {
         true
     }
 
-    /// Fires periodic rows until none is enabled, and answers how many.
+    /// Fires periodic rows until none is enabled, and returns how many fired.
     fn fire_periodic_rows(&mut self) -> u8
         ensures fired { Reaches periodic_rows result self.old self.new }
         ensures rest { AtRest periodic_rows self.new }
@@ -68,7 +68,7 @@ impl Machines {
         fired
     }
 
-    /// Fires periodic rows until none is enabled, then clears NTT in NO_PERIODIC.
+    /// Fires periodic rows until none is enabled; then sets NTT to false if the state is NO_PERIODIC.
     pub(crate) fn run_periodic(&mut self)
         ensures { RunsPeriodic self.old self.new }
     {

@@ -16,19 +16,19 @@ use lagtypes::{Choice, Party, State};
 use slowpdu::{Info, Lacpdu};
 use std::marker::Model;
 
-/// What a port is made from (6.4.7).
+/// The start values of a port (6.4.7).
 #[derive(Clone, Copy, Debug, PartialEq, Eq)]
 pub struct Setup {
-    /// The port's own parameters.
+    /// The operational parameters of the port's own side, the Actor.
     pub party: Party,
-    /// LACP_Activity: false for a passive port.
+    /// LACP_Activity: false if the port is passive.
     pub active: bool,
-    /// LACP_Timeout: whether the port asks for short timeouts.
+    /// LACP_Timeout: true for Short Timeout, 3 s; false for Long Timeout, 90 s.
     pub short: bool,
 }
 
-/// One port: its receive, periodic, mux and transmit machines with their variables (6.4.12, 6.4.13, 6.4.15,
-/// 6.4.16). Between calls the receive machine is at rest: none of its rows is enabled (profile).
+/// One port: its receive, periodic, mux and transmit machines with their variables (6.4.12, 6.4.13, 6.4.15, 6.4.16).
+/// After each call the receive machine is at rest: none of its rows is enabled (profile).
 #[derive(Drop)]
 pub struct Port {
     machines: Machines,
@@ -47,8 +47,8 @@ impl Model for Port {
 }
 
 impl Port {
-    /// A port whose link is down and whose machines have started. NTT is set, as the mux machine's start
-    /// sets it (6.4.12, 6.4.15).
+    /// A port whose link is down and whose machines have started (BEGIN). NTT is true, as DETACHED sets it (6.4.12,
+    /// 6.4.15).
     pub fn new(setup: Setup) -> Port
         ensures { Starts (blank setup) result }
     {
@@ -74,7 +74,8 @@ impl Port {
         Port { machines }
     }
 
-    /// The link is up or down now: the receive rows fire until none is enabled (6.4.12).
+    /// Sets port_enabled: the link is up or down now. The receive machine runs until none of its rows is enabled
+    /// (6.4.7, 6.4.12).
     pub fn set_link(&mut self, enabled: bool)
         ensures { Settles receive_rows (record self.old { enabled = enabled }) self.new }
     {
@@ -82,15 +83,15 @@ impl Port {
         self.machines.settle_receive();
     }
 
-    /// Takes an LACPDU that came on the port; while the link is down it has no effect (6.4.12).
+    /// Processes an LACPDU that came on the port; while the link is down this has no effect (6.4.12).
     pub fn take(&mut self, pdu: &Lacpdu)
         ensures { FiresIfEnabled (taking_rows pdu.now) self.old self.new }
     {
         self.machines.take_lacpdu(pdu);
     }
 
-    /// One tick, 100 ms: counts timers and the ages of the window, then fires an expired current_while row
-    /// (6.4.10, 6.4.12, 6.4.16).
+    /// One tick, 100 ms: each timer counts down, each LACPDU sent becomes one tick older, and the receive machine
+    /// changes its state if current_while expired (6.4.10, 6.4.12, 6.4.16).
     pub fn tick(&mut self)
         ensures { Settles receive_rows (count_down self.old) self.new }
     {
@@ -98,8 +99,8 @@ impl Port {
         self.machines.settle_receive();
     }
 
-    /// Fires mux rows until none is enabled, and answers how many fired, at most 3 (6.4.15). `ready` is
-    /// Ready of the aggregator that the port was given.
+    /// Runs the mux machine until none of its rows is enabled, and returns how many fired, at most 3 (6.4.15). `ready`
+    /// is the Ready of the aggregator that the port was given (6.4.8).
     pub fn mux(&mut self, ready: bool) -> u8
         ensures fired { Reaches (mux_rows ready) result self.old self.new }
         ensures rest { AtRest (mux_rows ready) self.new }
@@ -108,22 +109,23 @@ impl Port {
         self.machines.fire_mux_rows(ready)
     }
 
-    /// Fires periodic rows until none is enabled, then clears NTT in NO_PERIODIC (6.4.13).
+    /// Runs the periodic machine until none of its rows is enabled, then sets NTT to false if its state is NO_PERIODIC
+    /// (6.4.13).
     pub fn periodic(&mut self)
         ensures { RunsPeriodic self.old self.new }
     {
         self.machines.run_periodic();
     }
 
-    /// Gives the port what the Selection Logic chose (6.4.14).
+    /// Sets Selected, with the aggregator that the Selection Logic chose (6.4.8, 6.4.14).
     pub fn select(&mut self, choice: Choice)
         ensures { self.new ≡ record self.old { choice = choice } }
     {
         self.machines.choice = choice;
     }
 
-    /// Starts the receive and mux machines again, as this party. Link, periodic machine and window stay
-    /// (profile).
+    /// Starts the receive and mux machines again (BEGIN), with these parameters. The link, the periodic machine and the
+    /// LACPDUs already sent stay (profile).
     pub fn reinit(&mut self, party: Party)
         ensures { Starts (record self.old { party = party }) self.new }
     {
@@ -131,8 +133,8 @@ impl Port {
         self.machines.start();
     }
 
-    /// The LACPDU that is due: where NTT is set and fewer than three were sent in the last eleven ticks.
-    /// Sending clears NTT. `max_delay` is the CollectorMaxDelay that it carries (6.4.16).
+    /// Returns an LACPDU if NTT is true and fewer than three were sent in the last eleven ticks, and sets NTT to false;
+    /// else None. `max_delay` is its CollectorMaxDelay, in tens of microseconds (6.4.16).
     pub fn transmit(&mut self, max_delay: u16) -> Option<Lacpdu>
         ensures pdu { result ≡ (if is_due self.old then Some (pdu_of self.old max_delay) else None) }
         ensures state { self.new ≡ (if is_due self.old then sent self.old else self.old) }
@@ -140,35 +142,35 @@ impl Port {
         self.machines.take_due(max_delay)
     }
 
-    /// The port's own parameters (6.4.7).
+    /// The operational parameters of the port's own side, the Actor (6.4.7).
     pub fn party(&self) -> Party
         ensures { result ≡ self.now.party }
     {
         self.machines.party
     }
 
-    /// The recorded partner (6.4.7).
+    /// The operational parameters of the Partner, as recorded (6.4.7).
     pub fn partner(&self) -> Info
         ensures { result ≡ self.now.partner }
     {
         self.machines.partner
     }
 
-    /// The state octet of the port's own side (6.4.2.3, Actor_State).
+    /// Actor_State: the state octet of the port's own side (6.4.2.3).
     pub fn state(&self) -> State
         ensures { result ≡ actor_state self.now }
     {
         self.machines.state()
     }
 
-    /// Whether the link is up: port_enabled (6.4.7).
+    /// port_enabled: whether the link is up (6.4.7).
     pub fn is_enabled(&self) -> bool
         ensures { result ≡ self.now.enabled }
     {
         self.machines.enabled
     }
 
-    /// Whether the partner was set by recordDefault, and by no LACPDU since (6.4.2.3).
+    /// Actor_State.Defaulted: whether recordDefault set the partner, and no LACPDU since (6.4.2.3).
     pub fn is_defaulted(&self) -> bool
         ensures { result ≡ self.now.defaulted }
     {
@@ -203,35 +205,35 @@ impl Port {
         self.machines.mux == MuxState::CollectingDistributing
     }
 
-    /// What the Selection Logic chose last, or UNSELECTED (6.4.8).
+    /// Selected, with the aggregator that the Selection Logic chose last (6.4.8).
     pub fn choice(&self) -> Choice
         ensures { result ≡ self.now.choice }
     {
         self.machines.choice
     }
 
-    /// NTT: whether an LACPDU is asked for (6.4.7).
+    /// NTT: whether an LACPDU is to be sent (6.4.7).
     pub fn ntt(&self) -> bool
         ensures { result ≡ self.now.ntt }
     {
         self.machines.ntt
     }
 
-    /// The ticks that current_while has left, 0 to 900 (6.4.10).
+    /// How many ticks current_while has left, 0 to 900 (6.4.10).
     pub fn current_while(&self) -> u16
         ensures { result ≡ self.now.current_while }
     {
         self.machines.current_while
     }
 
-    /// The ticks that periodic_timer has left, 0 to 300 (6.4.10).
+    /// How many ticks periodic_timer has left, 0 to 300 (6.4.10).
     pub fn periodic_timer(&self) -> u16
         ensures { result ≡ self.now.periodic_timer }
     {
         self.machines.periodic_timer
     }
 
-    /// The ticks that wait_while has left, 0 to 20 (6.4.10).
+    /// How many ticks wait_while has left, 0 to 20 (6.4.10).
     pub fn wait_while(&self) -> u8
         ensures { result ≡ self.now.wait_while }
     {
@@ -245,7 +247,8 @@ impl Port {
         self.machines.wait_while == 0
     }
 
-    /// How many ticks ago each LACPDU of the window was sent, 0 to 10, the oldest first (6.4.16).
+    /// How many ticks ago each LACPDU of the last eleven ticks was sent, 0 to 10, the oldest first; at most three
+    /// (6.4.16).
     pub fn ages(&self) -> ArrayVec<u8, 3>
         ensures { result.items ≡ self.now.ages }
     {
@@ -253,7 +256,7 @@ impl Port {
     }
 }
 
-/// The rows leave no choice: each call of a port has one effect (profile).
+/// The machines are deterministic: each call of a port has exactly one effect (profile).
 pub fn each_call_has_one_effect()
     ensures { OneEffect }
 {}

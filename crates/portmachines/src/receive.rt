@@ -24,25 +24,25 @@ use slowpdu::{Info, Lacpdu};
 /// The states of the receive machine (6.4.12).
 #[derive(Clone, Copy, Debug, PartialEq, Eq)]
 pub enum ReceiveState {
-    /// The port starts; it is never found here.
+    /// The port starts. The machine leaves this state within the call that enters it, so a caller never sees it.
     Initialize,
     /// The link is down.
     PortDisabled,
-    /// No LACPDU has come for a timeout; one is waited for.
+    /// current_while expired, or the link has just come up: an LACPDU is awaited for one more short timeout.
     Expired,
-    /// None came: the partner is the administrative default.
+    /// No LACPDU came: the partner has the administrative default values.
     Defaulted,
-    /// The partner is what the last LACPDU said.
+    /// The partner has the values of the last LACPDU.
     Current,
 }
 
-/// Short_Timeout_Time, 3 s (6.4.4).
+/// Short_Timeout_Time, 3 s, in ticks (6.4.4).
 const SHORT_TIMEOUT_TIME: u16 = 30;
-/// Long_Timeout_Time, 90 s (6.4.4).
+/// Long_Timeout_Time, 90 s, in ticks (6.4.4).
 const LONG_TIMEOUT_TIME: u16 = 900;
 
 impl Machines {
-    /// Fires a receive row that is enabled, if there is one.
+    /// Fires a receive row that is enabled; returns false if none is.
     fn fire_receive(&mut self) -> bool
         ensures fired { OnTrue result (Fires receive_rows self.old self.new) }
         ensures rest { OnFalse result (AtRest receive_rows self.old) }
@@ -62,7 +62,7 @@ impl Machines {
         true
     }
 
-    /// Fires receive rows until none is enabled, and answers how many.
+    /// Fires receive rows until none is enabled, and returns how many fired.
     fn fire_receive_rows(&mut self) -> u8
         ensures fired { Reaches receive_rows result self.old self.new }
         ensures rest { AtRest receive_rows self.new }
@@ -81,7 +81,7 @@ impl Machines {
         let _fired = self.fire_receive_rows();
     }
 
-    /// To PORT_DISABLED.
+    /// The row to PORT_DISABLED.
     fn disable(&mut self)
         ensures { self.new ≡ partner_not_synchronized (record self.old { receive = ReceiveState.PortDisabled }) }
     {
@@ -89,7 +89,7 @@ impl Machines {
         self.partner.state = self.partner.state.with_synchronization(false);
     }
 
-    /// To EXPIRED.
+    /// The row to EXPIRED.
     fn expire(&mut self)
         ensures { self.new ≡ expire (record self.old { receive = ReceiveState.Expired }) }
     {
@@ -103,7 +103,7 @@ impl Machines {
         self.expired = true;
     }
 
-    /// To DEFAULTED.
+    /// The row to DEFAULTED.
     fn default(&mut self)
         ensures { self.new ≡ default (record self.old { receive = ReceiveState.Defaulted }) }
     {
@@ -113,7 +113,8 @@ impl Machines {
         self.expired = false;
     }
 
-    /// update_Selected and update_Default_Selected (6.4.9).
+    /// update_Selected and update_Default_Selected (6.4.9): Selected becomes UNSELECTED if these parameters differ from
+    /// the partner's.
     fn update_selected(&mut self, party: &Party)
         ensures { self.new ≡ update_selected party.now self.old }
     {
@@ -122,7 +123,7 @@ impl Machines {
         }
     }
 
-    /// recordDefault (6.4.9).
+    /// recordDefault (6.4.9): the partner gets the administrative default values.
     fn record_default(&mut self)
         ensures { self.new ≡ record_default self.old }
     {
@@ -130,7 +131,7 @@ impl Machines {
         self.defaulted = true;
     }
 
-    /// Starts the receive machine.
+    /// Starts the receive machine (BEGIN).
     pub(crate) fn start_receive(&mut self)
         ensures { self.new ≡ start_receive self.old }
     {
@@ -140,7 +141,7 @@ impl Machines {
         self.expired = false;
     }
 
-    /// Takes an LACPDU, if the link is up.
+    /// Processes an LACPDU, if the link is up.
     pub(crate) fn take_lacpdu(&mut self, pdu: &Lacpdu)
         ensures { FiresIfEnabled (taking_rows pdu.now) self.old self.new }
     {
@@ -159,7 +160,8 @@ impl Machines {
         }
     }
 
-    /// update_NTT (6.4.9), by what an LACPDU says of this port.
+    /// update_NTT (6.4.9): sets NTT unless the partner's view of this port is up to date. `told` is the Partner
+    /// information of the LACPDU.
     fn update_ntt(&mut self, told: &Info)
         ensures { self.new ≡ record self.old { ntt = if knows_actor told.now self.old then self.old.ntt else true } }
     {
@@ -172,7 +174,7 @@ impl Machines {
         }
     }
 
-    /// recordPDU (6.4.9).
+    /// recordPDU (6.4.9): the partner gets the values of the LACPDU.
     fn record_pdu(&mut self, pdu: &Lacpdu)
         ensures { self.new ≡ record_pdu pdu.now self.old }
     {
@@ -185,7 +187,7 @@ impl Machines {
         self.defaulted = false;
     }
 
-    /// Starts current_while, by the port's own LACP_Timeout, and with that ends EXPIRED.
+    /// Starts current_while, with 3 s or 90 s by the port's own LACP_Timeout, and clears Actor_State.Expired.
     fn start_current_while(&mut self)
         ensures { self.new ≡ start_current_while self.old }
     {
@@ -198,7 +200,7 @@ impl Machines {
     }
 }
 
-/// The administrative partner: all zero, with state 0x08 (profile).
+/// The administrative default values of the partner: all zero, but the state is 0x08 (Aggregation) (profile).
 pub(crate) fn default_partner() -> Info
     ensures { result ≡ default_partner }
 {

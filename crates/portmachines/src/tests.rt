@@ -9,23 +9,23 @@ use lagtypes::{AggId, Choice, Key, Party, PortId, State, SystemId};
 use slowpdu::{Info, Lacpdu};
 use std::process::Abort;
 
-/// A call, or several, with what it is to answer; or what is to stand in the port then.
+/// A call of a port, or several, with the expected result; or an expected value of a variable.
 #[derive(Clone, Copy, Debug, PartialEq, Eq)]
 enum Step {
     Link(bool),
     Periodic,
-    /// So many times `tick`, `periodic`.
+    /// `tick` and `periodic`, this many times.
     Run(u16),
-    /// So many times `tick`, `periodic`, and each time `transmit(0)` is None.
+    /// `tick` and `periodic`, this many times; each time `transmit(0)` returns None.
     Quiet(u16),
-    /// The LACPDU of system 2 with this state octet and a partner that is all zero.
+    /// The port gets an LACPDU of system 2 with this Actor_State and a Partner that is all zero.
     Take(u8),
     Select(Choice),
-    /// `mux` with this Ready answers so many rows.
+    /// `mux` with this Ready returns this number of rows.
     Mux(bool, u8),
-    /// `transmit(0)` is an LACPDU of this state octet, or None.
+    /// `transmit(0)` returns an LACPDU with this Actor_State, or None.
     Sends(Option<u8>),
-    /// The state octet.
+    /// The expected Actor_State.
     State(u8),
     Receive(ReceiveState),
     PeriodicIn(PeriodicState),
@@ -78,7 +78,7 @@ fn run(port: &mut Port, ticks: u16) {
     }
 }
 
-/// How many of these ticks pass before an LACPDU is sent.
+/// How many ticks, at most this many, pass before an LACPDU is sent.
 fn quiet(port: &mut Port, ticks: u16) -> u16 {
     for tick in 0..ticks {
         run(port, 1);
@@ -89,7 +89,7 @@ fn quiet(port: &mut Port, ticks: u16) -> u16 {
     ticks
 }
 
-/// Does a step, and answers it with what came in the place of what was wanted.
+/// Does a step, and returns it with the actual result in the place of the expected one.
 fn done(port: &mut Port, step: Step) -> Step {
     match step {
         Step::Link(enabled) => port.set_link(enabled),
@@ -323,7 +323,7 @@ fn another_party_starts_the_machines_again(rt: HostRuntime) {
     assert!(rt; !port.distributes(), "distributes after reinit");
 }
 
-/// What the timers of a port have left: current_while, periodic_timer and wait_while.
+/// The ticks left of current_while, periodic_timer and wait_while.
 fn timers(port: &Port) -> (u16, u16, u8) {
     (
         port.current_while(),
@@ -405,7 +405,7 @@ fn the_laws_are_called(_rt: HostRuntime) {
     each_call_has_one_effect();
 }
 
-/// An LACPDU of system 2 with this state octet, which says this of the port.
+/// An LACPDU of system 2 with this Actor_State and this Partner information.
 fn saying(actor: u8, partner: Info) -> Lacpdu {
     Lacpdu {
         actor: end(2, actor),
@@ -414,7 +414,7 @@ fn saying(actor: u8, partner: Info) -> Lacpdu {
     }
 }
 
-/// A port whose link is up and that has nothing to send.
+/// A port whose link is up and that has no LACPDU to send.
 fn quiet_port(active: bool, short: bool) -> Port {
     let mut port = port(active, short);
     port.periodic();
@@ -448,19 +448,19 @@ fn what_is_told_of_the_port_is_compared(rt: HostRuntime) {
 #[test]
 fn what_is_recorded_of_synchronization(rt: HostRuntime) {
     let rows = [
-        // active, and names the port
+        // the partner is active, and names the port
         (true, 0x0d, end(1, 0x07), 0x0d),
-        // names another one
+        // it names another port
         (true, 0x0d, zero(0x01), 0x05),
-        // an individual link need not name it
+        // on an Individual link it need not name the port
         (true, 0x09, zero(0x01), 0x09),
-        // passive: both the port and what is told of it have to be active
+        // it is passive: both the port and the LACPDU's Partner information have to be active
         (true, 0x0c, end(1, 0x07), 0x0c),
         (true, 0x0c, end(1, 0x06), 0x04),
         (false, 0x0c, end(1, 0x07), 0x04),
-        // the partner is active: the port need not be
+        // it is active: the port need not be
         (false, 0x0d, end(1, 0x06), 0x0d),
-        // every bit but Synchronization is recorded as it is
+        // every bit but Synchronization is recorded as it came
         (true, 0xff, end(1, 0x07), 0xff),
         (true, 0xf5, end(1, 0x07), 0xf5),
     ];
@@ -501,7 +501,7 @@ fn timers_by_whose_timeout(rt: HostRuntime) {
     assert_eq!(rt; port.periodic_timer(), 10, "periodic_timer in FAST");
 }
 
-/// Whether the mux rows that fire set NTT, where it was clear before.
+/// Whether the mux rows that fire set NTT to true, after it was false.
 fn asks(port: &mut Port, ready: bool) -> bool {
     run(port, 11);
     let _sent = port.transmit(0);
@@ -524,7 +524,7 @@ fn each_mux_row_but_the_first_asks(rt: HostRuntime) {
     assert!(rt; asks(&mut port, false), "from ATTACHED to DETACHED");
 }
 
-/// The end with another value of one of its six parameters: of each, one after another.
+/// The information six times, each time with another one of its six parameters changed.
 fn with_one_changed(end: Info) -> [Info; 6] {
     let mut ends = [end; 6];
     ends[0].system.priority = 4113;
@@ -603,7 +603,7 @@ fn a_start_while_the_link_is_down(rt: HostRuntime) {
     assert_eq!(rt; port.periodic_timer(), 10, "periodic_timer after reinit");
 }
 
-/// The port is selected, and its link goes down.
+/// The port is SELECTED, and its link goes down.
 fn goes_down(port: &mut Port) {
     port.select(Choice::Selected(AggId(1)));
     port.periodic();
@@ -613,7 +613,7 @@ fn goes_down(port: &mut Port) {
 
 #[test]
 fn a_link_that_goes_down(rt: HostRuntime) {
-    // what the partner says, the ticks since then, and what is recorded of its state
+    // Actor_State of the LACPDU, the ticks since then, and the recorded state of the partner
     let rows = [
         (0x0d, 0, 0x05),
         (0x0f, 0, 0x07),
@@ -650,7 +650,7 @@ fn ages_stand_in_their_order(rt: HostRuntime) {
     assert_eq!(rt; port.ages().as_slice(), [3, 0].as_slice(), "ages");
 }
 
-/// Eleven ticks from the tick 0 on end with the tick 10.
+/// Eleven ticks that begin with tick 0 end with tick 10.
 fn values_of_the_window()
     ensures last { within_eleven 0 (0 ∷ 0 ∷ 0 ∷ 10 ∷ []) ≡ 4 }
     ensures beyond { within_eleven 0 (0 ∷ 0 ∷ 0 ∷ 11 ∷ []) ≡ 3 }

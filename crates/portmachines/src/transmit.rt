@@ -7,7 +7,8 @@ use arrayvec::ArrayVec;
 use slowpdu::Lacpdu;
 
 impl Machines {
-    /// The LACPDU that is due, if one is and the window is not full (6.4.16).
+    /// Returns the LACPDU that is due, and sets NTT to false; None if none is due or three were sent in the last eleven
+    /// ticks (6.4.16).
     pub(crate) fn take_due(&mut self, max_delay: u16) -> Option<Lacpdu>
         ensures pdu { result ≡ (if is_due self.old then Some (pdu_of self.old max_delay) else None) }
         ensures state { self.new ≡ (if is_due self.old then sent self.old else self.old) }
@@ -24,7 +25,7 @@ impl Machines {
         })
     }
 
-    /// The ages of the window.
+    /// The ages of the LACPDUs sent in the last eleven ticks.
     pub(crate) fn kept_ages(&self) -> ArrayVec<u8, 3>
         ensures { result.items ≡ self.now.ages }
     {
@@ -36,7 +37,7 @@ impl Machines {
     }
 }
 
-/// Raises the ages by one; an age of 11 leaves.
+/// Makes each age one tick older; an age of 11 is removed.
 pub(crate) fn grow_older(ages: &mut ArrayVec<u8, 3>)
     ensures { ages.new.items ≡ aged ages.old.items }
 {
@@ -49,8 +50,8 @@ pub(crate) fn grow_older(ages: &mut ArrayVec<u8, 3>)
     *ages = kept;
 }
 
-/// Any eleven consecutive ticks hold at most three sends, over every list of calls of one port, where the
-/// ages that it kept before count as sends so many ticks earlier (6.4.16).
+/// The transmit limit: any eleven consecutive ticks hold at most three sent LACPDUs, over every list of calls of one
+/// port. An age that the port has at the beginning counts as an LACPDU sent so many ticks earlier (6.4.16).
 pub fn window_holds()
     ensures { WindowLaw }
 {}
