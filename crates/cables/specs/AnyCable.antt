@@ -1,4 +1,4 @@
--- A cable of either kind is seen as the one that it holds (profile).
+-- A cable of either kind, for contracts: the same as the cable inside it (profile).
 use Rattle.std.specs.Prelude.{ℕ, Bool, true, List, Option, None, Some}
 use Rattle.cables.specs.declared.item.Item.{Item}
 use Rattle.cables.specs.declared.any.AnyCable.{AnyCable}
@@ -9,12 +9,12 @@ abbrev pub any_items : AnyCable → List Item
 any_items (Unlimited c) = c.items
 any_items (Ring c) = c.items
 
--- how many there may be
+-- how many items it can hold
 abbrev pub any_limit : AnyCable → Option ℕ
 any_limit (Unlimited c) = None
 any_limit (Ring c) = Some c.limit
 
--- whether a place is reserved, as one always is on a ring
+-- whether a place is reserved; one always is on a ring
 abbrev pub any_reserved : AnyCable → Bool
 any_reserved (Unlimited c) = c.reserved
 any_reserved (Ring c) = true

@@ -1,8 +1,8 @@
--- What is seen of a cable (profile).
+-- Cables as contracts see them (profile).
 use Rattle.std.specs.Prelude.{ℕ, Bool, false, ◌==◌, List, length, Option, None, Some}
 use Rattle.cables.specs.declared.item.Item.{Item}
 
--- whether a cable of this limit is full with these items: its length equals the limit
+-- the cable is full: the number of items equals the limit
 abbrev pub is_full : Option ℕ → List Item → Bool
 is_full None items = false
 is_full (Some limit) items = length items == limit
@@ -12,7 +12,7 @@ pub record ListView : Type 0 where
   pub items : List Item
   pub reserved : Bool
 
--- a `RingCable`: its items, the first to come off first, and how many there may be
+-- a `RingCable`: its items, the first to come off first, and how many it can hold
 pub record RingView : Type 0 where
   pub items : List Item
   pub limit : ℕ

@@ -1,4 +1,4 @@
--- Why a cable with a limit is not made (profile).
+-- Numbers and texts of the reasons for which a cable with a limit cannot be made (profile).
 use Rattle.std.specs.Prelude.{ℕ, List, codes}
 use Rattle.cables.specs.declared.ring.CableFault.{CableFault}
 use Rattle.cables.specs.declared.ring.CableFault.TheVariants.{Limit, NoMemory}

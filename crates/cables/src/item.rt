@@ -1,17 +1,18 @@
-//! What travels on a cable.
+//! The items on a cable: frames.
 
-/// What an item is, for those who watch a cable. No system sees it (profile).
+/// What an item is, for the tests and laws that follow frames. It is not on the wire: no system reads it (profile).
 #[derive(Clone, Copy, Debug, PartialEq, Eq)]
 pub enum Stamp {
-    /// A control frame: the sender's change count where it is an LACPDU, else 0.
+    /// A control frame. For an LACPDU, the change count of the port that sent it: how often its parameters have
+    /// changed. Else 0.
     Control(u64),
     /// A data frame.
     Data {
         /// The system that sent it, 1 or 2.
         system: u8,
-        /// The aggregator that it was offered to, from 1.
+        /// The aggregator whose client sent it, from 1.
         agg: u16,
-        /// Its conversation.
+        /// Its conversation, 0 to 255.
         conv: u16,
         /// Its number among the frames of that conversation, from 0.
         serial: u64,
@@ -21,7 +22,7 @@ pub enum Stamp {
 /// A frame on a cable, with its stamp (profile).
 #[derive(Debug, PartialEq, Eq, Drop)]
 pub struct Item {
-    /// The octets of the frame, at which no cable looks.
+    /// The octets of the frame. Cables do not read them.
     pub bytes: Vec<u8>,
     /// What the frame is.
     pub stamp: Stamp,

@@ -20,14 +20,14 @@ impl Model for ListCable {
 
     ghost Value = { ListView };
 
-    // A place is reserved where the block has room for one more item.
+    // A place is reserved if the block of memory has room for one more item.
     ghost view = { λ c. record { items = deque_items c.queue; reserved = nat_lt (deque_len c.queue) (deque_capacity c.queue) } };
 }
 
 impl ListCable {
-    /// An empty cable, which keeps the allocator for the memory that it takes later.
+    /// An empty cable. It keeps the allocator, for the memory that it takes later.
     pub fn new(alloc: Global) -> ListCable
-        // Nothing is on it.
+        // The cable is empty.
         ensures { ⟦<ListCable as Cable>⟧.items result ≡ [] }
     {
         ListCable {

@@ -10,17 +10,17 @@ use std::alloc::{AllocError, Global};
 use std::fmt;
 use std::marker::Model;
 
-/// Why a cable with a limit is not made (profile).
+/// Why a cable with a limit cannot be made (profile).
 #[derive(Clone, Copy, Debug, PartialEq, Eq)]
 pub enum CableFault {
     /// The limit is 0.
     Limit,
-    /// Out of memory.
+    /// Memory was refused.
     NoMemory,
 }
 
 impl CableFault {
-    /// Its number: 1 for `Limit`, 2 for `NoMemory` (profile).
+    /// The number of the fault: 1 for `Limit`, 2 for `NoMemory` (profile).
     pub fn number(&self) -> u8
         ensures { result ≡ fault_number self.now }
     {
@@ -43,7 +43,7 @@ impl fmt::Display for CableFault {
 }
 
 impl From<AllocError> for CableFault {
-    // Every refusal of memory becomes `NoMemory`.
+    // An `AllocError` becomes `NoMemory`.
     ghost from_gives = { λ _ fault. fault ≡ OutOfMemory };
 
     fn from(_: AllocError) -> CableFault {
@@ -51,8 +51,8 @@ impl From<AllocError> for CableFault {
     }
 }
 
-/// A cable with a limit of 1 to 65535 items (profile). A place is always reserved, so `reserve_one`
-/// never refuses, and `push` only if the cable is full.
+/// A cable with a limit of 1 to 65535 items (profile). A place is always reserved, so `reserve_one` never fails, and
+/// `push` fails only if the cable is full.
 #[derive(Drop)]
 pub struct RingCable {
     ring: HeapCircularBuffer<Item>,
@@ -67,19 +67,19 @@ impl Model for RingCable {
     // The limit is the capacity of the ring.
     ghost view = { λ c. record { items = c.ring.items; limit = c.ring.capacity } };
 
-    // There are never more items than that.
+    // There are never more items than the limit.
     ghost invariant = { λ c. length c.ring.items ≤ c.ring.capacity };
 }
 
 impl RingCable {
-    /// An empty cable for at most `limit` items. `Limit` comes exactly where `limit` is 0, and
-    /// `NoMemory` only where memory ran out for another limit.
+    /// An empty cable for at most `limit` items. `Limit` exactly if `limit` is 0; `NoMemory` if memory for another
+    /// limit is refused.
     pub fn new(alloc: Global, limit: u16) -> Result<RingCable, CableFault>
-        // Nothing is on the new cable, and its limit is the one asked for.
+        // The new cable is empty, and its limit is the argument.
         ensures empty { IfOk result (λ c. ⟦<RingCable as Cable>⟧.items c ≡ []) }
         ensures limit { IfOk result (λ c. ⟦<RingCable as Cable>⟧.limit c ≡ Some limit) }
 
-        // The one limit that is refused is 0, and `NoMemory` is never the answer to it.
+        // `Limit` is returned exactly for 0, and `NoMemory` never for 0.
         ensures refused { IsErrOf result Limit ↔ (limit ≡ 0) }
         ensures no_memory { IsErrOf result OutOfMemory → limit ≢ 0 }
     {
@@ -98,7 +98,7 @@ impl Cable for RingCable {
     // Its limit is the one that it was made with.
     ghost limit = { λ c. Some c.limit };
 
-    // A place is always reserved: `new` made the ring for as many items as the limit says.
+    // A place is always reserved: `new` took memory for as many items as the limit allows.
     ghost reserved = { λ _. true };
 
     fn push(&mut self, item: Item) -> Result<(), Item> {

@@ -3,7 +3,7 @@ use std::alloc::{AllocError, Global};
 use std::process::Abort;
 use std::test::Fail;
 
-/// A control frame without octets, told apart by its stamp.
+/// A control frame without octets; its stamp tells it from the others.
 fn control(alloc: Global, count: u64) -> Item {
     Item {
         bytes: Vec::new(alloc),
@@ -23,8 +23,8 @@ fn data(alloc: Global) -> Result<Item, AllocError> {
     Ok(Item { bytes, stamp })
 }
 
-/// Makes each call of a cable: puts on items with the stamps from 0 up to `tries`, takes off
-/// those that were kept, then carries a data frame, and clears another.
+/// Makes each call of a cable: puts items with the stamps from 0 up to `tries` on, takes off those that the cable
+/// accepted, then sends a data frame through it, and clears another.
 fn carries<C: Cable>(
     rt: &impl Abort,
     alloc: Global,
@@ -152,7 +152,7 @@ fn a_ring_serves_long_after_it_first_was_full(rt: HostRuntime) -> Result<(), Fai
     Ok(())
 }
 
-/// Holds whichever allocation is refused.
+/// Passes whichever allocation is refused.
 #[test]
 fn refused_memory_leaves_the_items(rt: HostRuntime) {
     let alloc = rt.alloc();

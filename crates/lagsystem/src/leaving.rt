@@ -22,7 +22,7 @@ pub(crate) fn carriers(slots: &[Slot]) -> ArrayVec<Option<AggId>, 64>
     found
 }
 
-/// Whether a port distributed in the aggregator `was`, and no longer does.
+/// Whether a port distributed in this aggregator, and no longer does.
 fn has_stopped(was: Option<AggId>, slot: &Slot) -> bool
     ensures { result ≡ has_stopped was slot.now }
 {

@@ -33,8 +33,8 @@ fn one_is_eligible(slots: &[Slot]) -> bool
     slots.iter().any(|slot| is_eligible(slot))
 }
 
-/// Lets the port at this index choose an aggregator, if it is eligible. `seen` has the views of all ports, and is kept
-/// equal to them, so that the ports after it see the choice.
+/// Lets the port at this index choose an aggregator, if it is eligible. The list of the views of all ports is
+/// updated, so that the ports after it see the choice.
 fn choose_at(aggregators: &Aggregators, slots: &mut [Slot], seen: &mut [PortView], place: usize)
     requires seen { seen.old ≡ views slots.old }
     requires within { place < length slots.old }

@@ -1,4 +1,4 @@
--- What the Selection Logic gave a port (6.4.8, Selected).
+-- The variable Selected of a port, with its aggregator (6.4.8).
 use Rattle.std.specs.Prelude.{Bool, true, false}
 use Rattle.lagtypes.specs.declared.party.Choice.{Choice}
 use Rattle.lagtypes.specs.declared.party.Choice.TheVariants.{Unselected, Selected}

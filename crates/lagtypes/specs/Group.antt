@@ -6,15 +6,15 @@ use Rattle.lagtypes.specs.declared.group.End.{End}
 use Rattle.lagtypes.specs.declared.group.Group.{Group}
 use Rattle.lagtypes.specs.Order.{end_cmp}
 
--- a link is individual unless both of its parties are aggregatable
+-- the link is Individual unless both ends are aggregatable
 abbrev pub individual : Party → Party → Bool
 individual one other = not (one.aggregatable && other.aggregatable)
 
--- one end of a link: the system and the key, and in an individual link the port
+-- one end of a link: the system and the key, and for an Individual link the port
 abbrev pub end_of : Bool → Party → End
 end_of alone party = record { system = party.system; key = party.key; port = if alone then Some party.port else None }
 
--- the two ends of a link, in the order in which they are named
+-- the two ends of a link, in the order of the arguments
 pub record Pair : Type 0 where
   pub one : End
   pub other : End
@@ -26,11 +26,11 @@ pair_of one other = record { one = end_of (individual one other) one; other = en
 abbrev pub SamePair : Pair → Pair → Type 0
 SamePair p q = ((p.one ≡ q.one) × (p.other ≡ q.other)) ⊎ ((p.one ≡ q.other) × (p.other ≡ q.one))
 
--- a group keeps the lower end of the pair first (profile)
+-- a group has the lower end of the pair first (profile)
 abbrev pub sorted : Pair → Group
 sorted p = if is_lt (end_cmp p.other p.one) then record { lower = p.other; upper = p.one } else record { lower = p.one; upper = p.other }
 
--- the group of the link between two parties
+-- the group of the link between two ends
 abbrev pub group_of : Party → Party → Group
 group_of one other = sorted (pair_of one other)
 

@@ -1,4 +1,4 @@
--- Equality of identifiers, parties and groups as tests, which filters and guards want (6.3).
+-- Equality of identifiers, ends and groups as Boolean functions, for use in filters and conditions (6.3).
 use Rattle.std.specs.Prelude.{◌==◌, ◌&&◌, Bool, true, false}
 use Rattle.std.specs.Option.{option_eq}
 use Rattle.std.specs.Str.{bytes_eq}
@@ -20,7 +20,7 @@ same_system s t = (s.priority == t.priority) && bytes_eq s.mac t.mac
 abbrev pub same_port : PortId → PortId → Bool
 same_port p q = (p.priority == q.priority) && (p.number == q.number)
 
--- two parties match: all six parameters are equal (6.4.9, recordPDU)
+-- all six parameters are equal (6.4.9, recordPDU)
 abbrev pub same_party : Party → Party → Bool
 same_party a b =
     same_system a.system b.system

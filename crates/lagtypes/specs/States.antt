@@ -4,7 +4,7 @@ use Rattle.std.specs.Int.RustNames.{bit_and}
 use Rattle.lagtypes.specs.declared.state.State.{State}
 use Rattle.lagtypes.specs.declared.state.StateBits.{StateBits}
 
--- whether the state has the bit with this value
+-- the bit with this value is 1 in the state
 abbrev pub has : State → ℕ → Bool
 has s bit = bit_and s.0 bit == bit
 
@@ -31,10 +31,10 @@ state_of b = record {
       + weight b.collecting 16 + weight b.distributing 32 + weight b.defaulted 64 + weight b.expired 128;
 }
 
--- the same state but for the bit Synchronization
+-- the same state, but Synchronization has this value
 abbrev pub with_synchronization : Bool → State → State
 with_synchronization on s = state_of (record (bits_of s) { synchronization = on })
 
--- the same state but for the bit LACP_Timeout
+-- the same state, but LACP_Timeout has this value
 abbrev pub with_timeout : Bool → State → State
 with_timeout on s = state_of (record (bits_of s) { timeout = on })

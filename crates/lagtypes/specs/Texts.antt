@@ -1,4 +1,4 @@
--- How identifiers print (profile).
+-- The texts of identifiers and states (profile).
 use Rattle.std.specs.Prelude.{ℕ, ◌/◌, ◌%◌, ◌++◌, ◌==◌, List, [], ◌∷◌, Option, None, Some, slice_index, map, filter, false, codes, decimal}
 use Rattle.std.specs.Fmt.{digit_glyph}
 use Rattle.std.specs.Int.RustNames.{bit_and}
@@ -26,7 +26,7 @@ system_text s = decimal s.priority ++ 47 ∷ mac_text s.mac
 abbrev pub port_text : PortId → List ℕ
 port_text p = decimal p.priority ++ 47 ∷ decimal p.number
 
--- a bit of the state, as a number with that bit alone, and its name
+-- the bits of the state: each as a number in which only that bit is 1, with its name
 abbrev pub state_words : List (ℕ × List ℕ)
 state_words =
     (1, codes "active") ∷ (2, codes "short") ∷ (4, codes "aggregatable") ∷ (8, codes "synchronized")
@@ -45,12 +45,12 @@ joined_words (word ∷ words) = join_with_byte 44 (word ∷ words)
 abbrev pub state_text : ℕ → List ℕ
 state_text n = hex_text n ++ 32 ∷ joined_words (set_words n state_words)
 
--- ` port PORT` where the end names its port
+-- ` port PORT` if the end has a port, else nothing
 abbrev pub named_port_text : Option PortId → List ℕ
 named_port_text None = []
 named_port_text (Some port) = codes " port " ++ port_text port
 
--- SYSTEM key KEY, with the port of an individual link behind it
+-- SYSTEM key KEY, and for an Individual link the port
 abbrev pub end_text : End → List ℕ
 end_text e = system_text e.system ++ (codes " key " ++ (decimal e.key.0 ++ named_port_text e.port))
 

@@ -8,20 +8,20 @@ use crate::identifiers::{Key, PortId, SystemId};
 use crate::party::Party;
 use std::fmt;
 
-/// One end of a Link Aggregation Group: system and key, and in an individual link the port too (6.3.6).
-/// Ends compare by system priority, MAC address, key, port priority and port number (profile).
+/// One end of a Link Aggregation Group: the system and its key, and for an Individual link the port too (6.3.6). Ends
+/// compare by system priority, MAC address, key, port priority and port number (profile).
 #[derive(Clone, Copy, Debug, PartialEq, Eq, PartialOrd, Ord, Hash)]
 pub struct End {
     /// The system, with its priority.
     pub system: SystemId,
-    /// The key of the port, 0 to 65535.
+    /// The operational key of the port, 0 to 65535.
     pub key: Key,
-    /// The port, with its priority, and `None` where the link is not individual.
+    /// The port, with its priority, if the link is Individual; else `None`.
     pub port: Option<PortId>,
 }
 
 impl End {
-    /// The end that this party is in an individual link, or in another.
+    /// The end that has these parameters, in an Individual link or in another.
     fn of(party: &Party, individual: bool) -> End
         ensures { result ≡ end_of individual party.now }
     {
@@ -32,7 +32,7 @@ impl End {
         }
     }
 
-    /// Whether this end is the lower one (profile).
+    /// Whether this end is the lower of the two in that order (profile).
     pub fn is_below(&self, other: &End) -> bool
         ensures { result ≡ is_lt (end_cmp self.now other.now) }
     {
@@ -40,7 +40,7 @@ impl End {
     }
 }
 
-/// A Link Aggregation Group: the unordered pair of its ends, of which the lower is kept first (6.3.6).
+/// A Link Aggregation Group, as its LAG ID: the unordered pair of its ends (6.3.6). The lower end is stored first.
 #[derive(Clone, Copy, Debug, PartialEq, Eq, PartialOrd, Ord, Hash)]
 pub struct Group {
     lower: End,
@@ -48,8 +48,8 @@ pub struct Group {
 }
 
 impl Group {
-    /// The group of the link between two parties, the same whichever is named first. The link is
-    /// individual where either party's Aggregation bit is 0 (6.3.6).
+    /// The group of the link between these two ends; their order does not matter. The link is Individual if the
+    /// Aggregation bit of either end is 0 (6.3.6).
     pub fn of(one: &Party, other: &Party) -> Group
         ensures { result ≡ group_of one.now other.now }
     {
@@ -76,7 +76,7 @@ impl Group {
         self.lower
     }
 
-    /// The other end (profile).
+    /// The upper end (profile).
     pub fn upper(&self) -> End
         ensures { result ≡ upper self.now }
     {

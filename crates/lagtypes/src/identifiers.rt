@@ -5,8 +5,8 @@ ghost use Rattle.lagtypes.specs.Texts.{hex_text, mac_text, system_text, port_tex
 
 use std::fmt;
 
-/// A system: a priority and a MAC address, compared as one unsigned number with the priority the
-/// more significant part. The lower number has the higher priority (6.3.2).
+/// A System Identifier: priority and MAC address. Identifiers compare as unsigned numbers, with the priority as the
+/// more significant part; the lower number has the higher priority (6.3.2).
 #[derive(Clone, Copy, Debug, Default, PartialEq, Eq, PartialOrd, Ord, Hash)]
 pub struct SystemId {
     /// The system priority, 0 to 65535.
@@ -15,25 +15,25 @@ pub struct SystemId {
     pub mac: [u8; 6],
 }
 
-/// A port of a system, compared as a system is (6.3.4).
+/// A Port Identifier: priority and number. It compares as a System Identifier does (6.3.4).
 #[derive(Clone, Copy, Debug, Default, PartialEq, Eq, PartialOrd, Ord, Hash)]
 pub struct PortId {
     /// The port priority, 0 to 65535.
     pub priority: u16,
-    /// The port number, 0 to 65535. A configuration refuses 0 (profile).
+    /// The port number, 0 to 65535. Number 0 occurs in LACPDUs, but no configuration may have it (profile).
     pub number: u16,
 }
 
-/// A key, 0 to 65535: ports of one system with equal keys may be aggregated (6.3.5).
+/// An operational key, 0 to 65535: ports of one system with equal keys may be aggregated (6.3.5).
 #[derive(Clone, Copy, Debug, Default, PartialEq, Eq, PartialOrd, Ord, Hash)]
 pub struct Key(pub u16);
 
-/// An aggregator of a system, by its place in the configuration, 1 to 65535 (6.3.3; profile).
+/// An aggregator of a system: its place in the configuration, 1 to 65535 (6.3.3; profile).
 #[derive(Clone, Copy, Debug, Default, PartialEq, Eq, PartialOrd, Ord, Hash)]
 pub struct AggId(pub u16);
 
 impl SystemId {
-    /// Whether this identifier is the lower number, and so has the higher priority (6.3.2).
+    /// Whether this identifier is the lower number, so the one with the higher priority (6.3.2).
     pub fn is_below(&self, other: &SystemId) -> bool
         ensures { result ≡ is_lt (system_cmp self.now other.now) }
     {
@@ -42,7 +42,7 @@ impl SystemId {
 }
 
 impl PortId {
-    /// Whether this identifier is the lower number, and so has the higher priority (6.3.4).
+    /// Whether this identifier is the lower number, so the one with the higher priority (6.3.4).
     pub fn is_below(&self, other: &PortId) -> bool
         ensures { result ≡ is_lt (port_cmp self.now other.now) }
     {
@@ -63,7 +63,7 @@ impl fmt::Display for HexOctet {
     }
 }
 
-/// A MAC address as six two-digit lower-case hexadecimal numbers joined by dashes (profile).
+/// A MAC address as six hexadecimal numbers of two lower-case digits, joined by dashes (profile).
 #[derive(Clone, Copy)]
 pub struct MacText<'a>(pub &'a [u8; 6]);
 

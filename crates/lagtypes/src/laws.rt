@@ -5,13 +5,12 @@ ghost use Rattle.lagtypes.specs.declared.state.StateBits.{StateBits};
 ghost use Rattle.lagtypes.specs.Group.{SamePair, group_of, pair_of};
 ghost use Rattle.lagtypes.specs.States.{bits_of, state_of};
 
-/// Two groups are equal exactly where the unordered pairs of ends are, which each of them names
-/// (6.3.6).
+/// Two groups are equal exactly if their unordered pairs of ends are equal (6.3.6).
 pub fn equal_groups_are_equal_pairs()
     ensures { (a b c d : Party) → (group_of a b ≡ group_of c d) ↔ SamePair (pair_of a b) (pair_of c d) }
 {}
 
-/// A state octet is its eight bits, and eight bits are one state octet (6.4.2.3).
+/// A state octet and its eight bits determine each other (6.4.2.3).
 pub fn state_bits_are_kept()
     ensures read { (bits : StateBits) → bits_of (state_of bits) ≡ bits }
     ensures written { (state : State) → state.0 < 256 → state_of (bits_of state) ≡ state }

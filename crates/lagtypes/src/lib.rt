@@ -1,5 +1,7 @@
-//! Identifiers of link aggregation: systems, ports, keys, aggregators, the state octet of a port, the
-//! parties of a link and the group that they name.
+//! Identifiers of link aggregation (IEEE 802.1AX-2014, 6.3): systems, ports, keys, aggregators; the state octet of a
+//! port; the parameters of one end of a link; and the Link Aggregation Group of two ends.
+//!
+//! In comments, numbers such as 6.4.2.3 are sections of that standard, and "profile" is docs/PROFILE.md.
 #![tactic(auto)]
 
 mod group;

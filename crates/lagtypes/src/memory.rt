@@ -1,5 +1,4 @@
 use std::alloc::AllocError;
 
-/// Memory was refused: what a call answers where a growth that it needed was not granted
-/// (profile).
+/// Out of memory: what a call returns if it needed memory and was refused (profile).
 pub type NoMemory = AllocError;

@@ -3,21 +3,23 @@ ghost use Rattle.lagtypes.specs.Same.{same_party};
 
 use crate::identifiers::{AggId, Key, PortId, SystemId};
 
-/// One end of a link, by the six parameters that LACPDUs carry and machines compare (6.3, 6.4.2.3).
+/// The operational parameters of one end of a link that the machines compare: six, if priorities count singly (6.3,
+/// 6.4.2.3).
 #[derive(Clone, Copy, Debug, Default, PartialEq, Eq, Hash)]
 pub struct Party {
-    /// The system, with its priority.
+    /// The System Identifier, with its priority.
     pub system: SystemId,
-    /// The key of the port.
+    /// The operational key of the port.
     pub key: Key,
-    /// The port, with its priority.
+    /// The Port Identifier, with its priority.
     pub port: PortId,
-    /// The Aggregation bit: whether the port may share an aggregator with others.
+    /// The Aggregation bit: false if the link is Individual.
     pub aggregatable: bool,
 }
 
 impl Party {
-    /// Whether the parties match: all six parameters are equal (6.4.9, recordPDU).
+    /// Whether all six parameters are equal: system priority, MAC address, key, port priority, port number and
+    /// Aggregation (6.4.9, recordPDU).
     pub fn matches(&self, other: &Party) -> bool
         ensures test { result ≡ same_party self.now other.now }
         ensures fact { IsTrue result ↔ (self.now ≡ other.now) }
@@ -26,12 +28,12 @@ impl Party {
     }
 }
 
-/// What the Selection Logic gave a port (the variable Selected of 6.4.8, with its aggregator).
+/// The variable Selected of a port, with the aggregator that the Selection Logic gave it (6.4.8). There is no STANDBY.
 #[derive(Clone, Copy, Debug, Default, PartialEq, Eq, Hash)]
 pub enum Choice {
-    /// No aggregator.
+    /// UNSELECTED: no aggregator.
     #[default]
     Unselected,
-    /// This aggregator.
+    /// SELECTED, with this aggregator.
     Selected(AggId),
 }

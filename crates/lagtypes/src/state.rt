@@ -17,19 +17,19 @@ pub struct State(u8);
 pub struct StateBits {
     /// LACP_Activity: 1 active, 0 passive.
     pub activity: bool,
-    /// LACP_Timeout: 1 short, 0 long.
+    /// LACP_Timeout: 1 Short Timeout, 0 Long Timeout.
     pub timeout: bool,
-    /// Aggregation: 1 aggregatable, 0 individual.
+    /// Aggregation: 1 aggregatable, 0 Individual.
     pub aggregation: bool,
-    /// Synchronization: 1 in the right aggregator.
+    /// Synchronization: 1 IN_SYNC, the end is in the right aggregator.
     pub synchronization: bool,
-    /// Collecting: 1 frames are taken from the link.
+    /// Collecting: 1 if the end collects frames that come on the link.
     pub collecting: bool,
-    /// Distributing: 1 frames are put on the link.
+    /// Distributing: 1 if the end distributes frames to the link.
     pub distributing: bool,
-    /// Defaulted: 1 the partner was set by recordDefault, and by no LACPDU since.
+    /// Defaulted: 1 if recordDefault set the end's partner, and no LACPDU since.
     pub defaulted: bool,
-    /// Expired: 1 the receive machine is in EXPIRED.
+    /// Expired: 1 if the end's receive machine is in EXPIRED.
     pub expired: bool,
 }
 
@@ -87,7 +87,7 @@ impl From<StateBits> for State {
 }
 
 impl State {
-    /// Adds a bit where it is on.
+    /// Adds a bit if `on` is true.
     fn put(&mut self, flag: State, on: bool)
         ensures { self.new.0 ≡ (if on then bit_or self.old.0 flag.0 else self.old.0) }
     {
@@ -96,7 +96,7 @@ impl State {
         }
     }
 
-    /// The bits by name (6.4.2.3).
+    /// The eight bits by name (6.4.2.3).
     pub fn named(self) -> StateBits
         ensures { result ≡ bits_of self }
     {
@@ -119,14 +119,14 @@ impl State {
         self.contains(State::ACTIVITY)
     }
 
-    /// Whether LACP_Timeout is 1: the end asks for short timeouts (6.4.2.3).
+    /// Whether LACP_Timeout is 1: the end has Short Timeout (6.4.2.3).
     pub fn is_short(self) -> bool
         ensures { result ≡ (bits_of self).timeout }
     {
         self.contains(State::TIMEOUT)
     }
 
-    /// Whether Aggregation is 1: the end may share an aggregator (6.4.2.3).
+    /// Whether Aggregation is 1: the end is aggregatable, not Individual (6.4.2.3).
     pub fn is_aggregatable(self) -> bool
         ensures { result ≡ (bits_of self).aggregation }
     {
@@ -140,35 +140,35 @@ impl State {
         self.contains(State::SYNCHRONIZATION)
     }
 
-    /// Whether Collecting is 1: frames are taken from the link (6.4.2.3).
+    /// Whether Collecting is 1 (6.4.2.3).
     pub fn is_collecting(self) -> bool
         ensures { result ≡ (bits_of self).collecting }
     {
         self.contains(State::COLLECTING)
     }
 
-    /// Whether Distributing is 1: frames are put on the link (6.4.2.3).
+    /// Whether Distributing is 1 (6.4.2.3).
     pub fn is_distributing(self) -> bool
         ensures { result ≡ (bits_of self).distributing }
     {
         self.contains(State::DISTRIBUTING)
     }
 
-    /// Whether Defaulted is 1: the partner was set by recordDefault, and by no LACPDU since (6.4.2.3).
+    /// Whether Defaulted is 1: recordDefault set the end's partner, and no LACPDU since (6.4.2.3).
     pub fn is_defaulted(self) -> bool
         ensures { result ≡ (bits_of self).defaulted }
     {
         self.contains(State::DEFAULTED)
     }
 
-    /// Whether Expired is 1: the receive machine is in EXPIRED (6.4.2.3).
+    /// Whether Expired is 1: the end's receive machine is in EXPIRED (6.4.2.3).
     pub fn is_expired(self) -> bool
         ensures { result ≡ (bits_of self).expired }
     {
         self.contains(State::EXPIRED)
     }
 
-    /// The state with this Synchronization and its other bits (6.4.2.3).
+    /// The same state, but Synchronization has this value (6.4.2.3).
     pub fn with_synchronization(self, on: bool) -> State
         ensures { result ≡ with_synchronization on self }
     {
@@ -177,7 +177,7 @@ impl State {
         State::from(bits)
     }
 
-    /// The state with this LACP_Timeout and its other bits (6.4.2.3).
+    /// The same state, but LACP_Timeout has this value (6.4.2.3).
     pub fn with_timeout(self, on: bool) -> State
         ensures { result ≡ with_timeout on self }
     {
@@ -199,7 +199,7 @@ const WORDS: [(State, &str); 8] = [
     (State::EXPIRED, "expired"),
 ];
 
-/// Writes a word, and a comma before it where it is not the first.
+/// Writes a word, with a comma before it if it is not the first.
 fn write_word<W: fmt::Write>(f: &mut fmt::Formatter<W>, is_first: bool, word: &str) -> fmt::Result
     ensures { DisplaysOnOk W.write_str_gives f.old result (Some (if is_first then word.now else (44 ∷ word.now))) f.new }
 {

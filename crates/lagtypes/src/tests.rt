@@ -22,7 +22,7 @@ fn party(last: u8, aggregatable: bool) -> Party {
     }
 }
 
-/// A party in which no two parameters are alike.
+/// A `Party` in which no two parameters are equal.
 fn distinct() -> Party {
     Party {
         system: SystemId {
@@ -168,7 +168,7 @@ fn states_print_the_names_of_their_bits(rt: HostRuntime) -> Result<(), AllocErro
     Ok(())
 }
 
-/// The eight readers, from bit 0 on.
+/// The results of the eight readers, from bit 0 on.
 fn read(state: State) -> [bool; 8] {
     [
         state.is_active(),

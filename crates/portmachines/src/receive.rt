@@ -160,8 +160,8 @@ impl Machines {
         }
     }
 
-    /// update_NTT (6.4.9): sets NTT unless the partner's view of this port is up to date. `told` is the Partner
-    /// information of the LACPDU.
+    /// update_NTT (6.4.9): sets NTT unless the partner's view of this port is up to date. The argument is
+    /// the Partner information of the LACPDU.
     fn update_ntt(&mut self, told: &Info)
         ensures { self.new ≡ record self.old { ntt = if knows_actor told.now self.old then self.old.ntt else true } }
     {

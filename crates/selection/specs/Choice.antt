@@ -1,4 +1,4 @@
--- Which aggregator a port takes (profile).
+-- Which aggregator a port chooses (profile).
 use Rattle.std.specs.Prelude.{ℕ, ◌==◌, nat_le, Bool, not, ◌&&◌, List, length, take, filter, find, if◌then◌else◌, Option, Some, None}
 use Rattle.std.specs.List.{list_any, list_all, enumerate_from}
 use Rattle.std.specs.Option.{option_map}
@@ -9,11 +9,11 @@ use Rattle.selection.specs.declared.view.PortView.{PortView}
 use Rattle.lagtypes.specs.Same.{same_group}
 use Rattle.selection.specs.Views.{is_eligible, is_given, view_of}
 
--- as many keys as there are numbers for aggregators, the first of them
+-- the first 65535 keys: as many as there are aggregator numbers
 unfoldable pub kept : List Key → List Key
 kept keys = take 65535 keys
 
--- aggregators are numbered from 1
+-- there is such an aggregator; they are numbered from 1
 abbrev pub is_known : List Key → AggId → Bool
 is_known keys agg = nat_le 1 agg.0 && nat_le agg.0 (length keys)
 
@@ -24,11 +24,11 @@ given_to agg views = filter (λ w. is_given agg w.choice) views
 abbrev pub has_member : List PortView → AggId → Bool
 has_member views agg = list_any (λ w. is_given agg w.choice) views
 
--- the link of the second port has the group of the first one's
+-- the links of both ports have the same group
 abbrev pub has_group_of : PortView → PortView → Bool
 has_group_of v w = same_group (group_of w.party w.partner) (group_of v.party v.partner)
 
--- it has a member, and all its members have the port's group, which is not individual
+-- the aggregator has a member, and all its members have the port's group, which is not Individual
 abbrev pub is_joinable : List PortView → PortView → AggId → Bool
 is_joinable views v agg =
     (not (individual v.party v.partner) && has_member views agg) && list_all (has_group_of v) (given_to agg views)
@@ -39,7 +39,8 @@ is_empty views agg = not (has_member views agg)
 abbrev pub numbered : ℕ × Key → AggId
 numbered row = record { 0 = row.0 }
 
--- the lowest aggregator with this key that passes the test; the first of these keys is that of aggregator `first`
+-- the lowest aggregator with this key that passes the test; the first key of the list is that of the aggregator with
+-- the first argument as its number
 abbrev pub lowest_from : ℕ → List Key → Key → (AggId → Bool) → Option AggId
 lowest_from first keys key test =
     option_map numbered (find (λ row. (row.1.0 == key.0) && test (numbered row)) (enumerate_from first keys))
@@ -51,7 +52,7 @@ abbrev pub or_else : Option AggId → Option AggId → Option AggId
 or_else None other = other
 or_else (Some agg) other = Some agg
 
--- the lowest with its key that it can join, else the lowest with its key and no member
+-- the lowest aggregator with the port's key that it can join, else the lowest with that key and no member
 abbrev pub choice_for : List Key → List PortView → PortView → Option AggId
 choice_for keys views v =
     or_else (lowest keys v.party.key (is_joinable views v)) (lowest keys v.party.key (is_empty views))
@@ -60,6 +61,6 @@ abbrev pub choice_of_view : List Key → List PortView → Option PortView → O
 choice_of_view keys views None = None
 choice_of_view keys views (Some v) = if is_eligible v then choice_for keys views v else None
 
--- what the port with this number takes
+-- the aggregator that the port with this number chooses
 abbrev pub choice : List Key → List PortView → ℕ → Option AggId
 choice keys views port = choice_of_view keys views (view_of views port)

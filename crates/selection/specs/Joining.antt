@@ -1,4 +1,4 @@
--- What a port finds in the aggregator that it takes.
+-- What is true of the aggregator that a port chooses.
 use Rattle.std.specs.Prelude.{◌≡◌, ◌≢◌, ◌-◌, ◌<◌, ◌⊎◌, false, List, Some, All, slice_get}
 use Rattle.lagtypes.specs.declared.identifiers.AggId.{AggId}
 use Rattle.lagtypes.specs.declared.identifiers.Key.{Key}
@@ -6,20 +6,20 @@ use Rattle.lagtypes.specs.declared.party.Choice.TheVariants.{Unselected, Selecte
 use Rattle.lagtypes.specs.Group.{Pair, SamePair, individual, pair_of}
 use Rattle.selection.specs.declared.view.PortView.{PortView}
 
--- the port's group, as a pair of ends (6.3.6)
+-- the group of the port's link, as a pair of ends (6.3.6)
 abbrev pub ends : PortView → Pair
 ends v = pair_of v.party v.partner
 
 abbrev pub IsEmpty : List PortView → AggId → Type 0
 IsEmpty views agg = All (λ w. w.choice ≢ Selected agg) views
 
--- all members have this port's group, which is not individual
+-- all members have the port's group, which is not Individual
 pub record IsShared (views : List PortView) (agg : AggId) (v : PortView) : Type 0 where
   pub aggregatable : individual v.party v.partner ≡ false
   pub one_group : All (λ w. w.choice ≡ Selected agg → SamePair (ends w) (ends v)) views
 
--- The port is in no aggregator, its partner's system is not its own, and the aggregator has its key and either no member or
--- members that all have its group.
+-- The port is in no aggregator, its partner is not its own system, the aggregator has its key, and it has either no
+-- member or only members with the port's group, which is not Individual.
 pub record Joins (keys : List Key) (views : List PortView) (agg : AggId) (v : PortView) : Type 0 where
   pub outside : v.choice ≡ Unselected
   pub apart : v.partner.system ≢ v.party.system

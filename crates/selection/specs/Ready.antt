@@ -7,15 +7,15 @@ use Rattle.selection.specs.declared.view.PortView.{PortView}
 use Rattle.selection.specs.Views.{has_expired, waits}
 use Rattle.selection.specs.Choice.{given_to, is_known}
 
--- the SELECTED ports that were given this aggregator; none where there is no such aggregator
+-- the SELECTED ports that were given this aggregator; none if there is no such aggregator
 abbrev pub members : List Key → List PortView → AggId → List PortView
 members keys views agg = if is_known keys agg then given_to agg views else []
 
--- its members that are DETACHED or WAITING
+-- the members that are DETACHED or WAITING
 abbrev pub waiting : List Key → List PortView → AggId → List PortView
 waiting keys views agg = filter (λ v. waits v.stage) (members keys views agg)
 
--- one of them waits, and each that does has waited long enough
+-- at least one member is DETACHED or WAITING, and each of those is WAITING with wait_while expired
 abbrev pub is_ready : List Key → List PortView → AggId → Bool
 is_ready keys views agg =
     list_any (λ v. waits v.stage) (members keys views agg) && list_all (λ v. has_expired v.stage) (waiting keys views agg)

@@ -1,4 +1,4 @@
--- What the Selection Logic sees of the ports of one system.
+-- What the Selection Logic reads of the ports of one system.
 use Rattle.std.specs.Prelude.{ℕ, ◌≤◌, ◌==◌, Bool, true, false, not, ◌&&◌, List, length, map, find, Option}
 use Rattle.std.specs.List.Sorted.{IsStrictlyIncreasing}
 use Rattle.lagtypes.specs.declared.identifiers.AggId.{AggId}
@@ -13,7 +13,7 @@ use Rattle.lagtypes.specs.Same.{same_system}
 abbrev pub numbers : List PortView → List ℕ
 numbers views = map (λ v. v.number) views
 
--- at most 64 ports, in strictly ascending order of their numbers
+-- at most 64 ports, with strictly ascending numbers
 pub record AreViews (views : List PortView) : Type 0 where
   pub few : length views ≤ 64
   pub ascending : IsStrictlyIncreasing (numbers views)
@@ -44,8 +44,8 @@ has_expired Detached = false
 has_expired (Waiting expired) = expired
 has_expired Joined = false
 
--- the port may take an aggregator: the link is enabled, the receive machine is CURRENT or DEFAULTED, the mux machine is
--- DETACHED, the port is UNSELECTED, and its partner's system is not its own (profile)
+-- the port may choose an aggregator: its link is up, its receive machine is in CURRENT or DEFAULTED, its mux machine is
+-- in DETACHED, it is UNSELECTED, and its partner is not its own system (profile)
 abbrev pub is_eligible : PortView → Bool
 is_eligible v =
     (((v.enabled && v.settled) && is_detached v.stage) && is_unselected v.choice)

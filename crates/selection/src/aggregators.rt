@@ -12,7 +12,7 @@ use lagtypes::{AggId, Group, Key, NoMemory};
 use std::alloc::Global;
 use std::marker::Model;
 
-/// The aggregators of a system with their keys; they are numbered from 1.
+/// The aggregators of a system, by their keys; they are numbered from 1.
 #[derive(Debug, Drop)]
 pub struct Aggregators {
     keys: Vec<Key>,
@@ -35,8 +35,8 @@ impl Aggregators {
     ghost use Rattle.selection.specs.Choice.{choice, is_known};
     ghost use Rattle.selection.specs.Ready.{is_ready, members};
 
-    /// Aggregators 1, 2 and so on with these keys, of which at most the first 65,535 are kept.
-    /// `NoMemory` where memory for them was refused.
+    /// Makes aggregators 1, 2 and so on with these keys. Keys after the first 65535 are left out. `NoMemory` if memory
+    /// for them is refused.
     pub fn new(alloc: Global, keys: &[Key]) -> Result<Aggregators, NoMemory>
         ensures first { IfOk result (λ a. a ≡ kept keys.now) }
         ensures all { IfOk result (λ a. length keys.now ≤ 65535 → a ≡ keys.now) }
@@ -45,10 +45,10 @@ impl Aggregators {
         Ok(Aggregators { keys })
     }
 
-    /// The aggregator that the port with this number takes: the lowest with the port's key and at
-    /// least one member whose members all have the port's group, that group not being individual;
-    /// else the lowest with that key and no member; else none (profile). None also for a port that
-    /// has no view or is not eligible.
+    /// The aggregator that the port with this number chooses: the lowest one that has the port's key and at least one
+    /// member, if all members have the port's group (LAG ID) and the group is not Individual; else the lowest one with
+    /// that key and no member; else None (profile). None also if there is no view of the port, or if it is not
+    /// eligible.
     pub fn choose(&self, views: &[PortView], port: u16) -> Option<AggId>
         ensures exact { result ≡ choice self.now views.now port }
         ensures joins { IfSome result (λ agg. IsSomeAnd (view_of views.now port) (Joins self.now views.now agg)) }
@@ -59,16 +59,16 @@ impl Aggregators {
         }
     }
 
-    /// Whether the aggregator is Ready: at least one member's mux is DETACHED or WAITING, and every
-    /// such member is in WAITING with wait_while expired (6.4.14). False for an unknown aggregator.
+    /// Whether the aggregator is Ready: at least one member is in DETACHED or WAITING, and each member in one of these
+    /// is in WAITING with wait_while expired (6.4.14). False if there is no such aggregator.
     pub fn ready(&self, views: &[PortView], agg: AggId) -> bool
         ensures { result ≡ is_ready self.now views.now agg }
     {
         self.has(agg) && one_waits(views, agg) && all_have_expired(views, agg)
     }
 
-    /// The numbers of the SELECTED ports that were given this aggregator, ascending. Empty for an
-    /// unknown aggregator.
+    /// The numbers of the SELECTED ports that were given this aggregator, ascending. Empty if there is no such
+    /// aggregator.
     pub fn members(&self, views: &[PortView], agg: AggId) -> ArrayVec<u16, 64>
         requires { AreViews views.now }
         ensures exact { result.items ≡ numbers (members self.now views.now agg) }
@@ -85,7 +85,7 @@ impl Aggregators {
         found
     }
 
-    /// How many aggregators there are, at most 65,535.
+    /// How many aggregators there are, at most 65535.
     pub fn count(&self) -> usize
         ensures { result ≡ length self.now }
     {
@@ -100,7 +100,7 @@ impl Aggregators {
     }
 }
 
-/// The first keys, as many as can be numbered.
+/// The first 65535 keys: aggregator numbers have 16 bits.
 fn kept(keys: &[Key]) -> &[Key]
     ensures first { result.now ≡ kept keys.now }
     ensures all { length keys.now ≤ 65535 → result.now ≡ keys.now }
@@ -148,7 +148,7 @@ fn all_have(views: &[PortView], agg: AggId, group: &Group) -> bool
         .all(|view| view.has_group(group))
 }
 
-/// Whether the aggregator has a member, and the port may join its members.
+/// Whether the aggregator has a member, and all members have this group, which is not Individual.
 fn is_joinable(views: &[PortView], port: &PortView, group: &Group, agg: AggId) -> bool
     requires { group.now ≡ group_of port.now.party port.now.partner }
     ensures { result ≡ is_joinable views.now port.now agg }
@@ -156,7 +156,7 @@ fn is_joinable(views: &[PortView], port: &PortView, group: &Group, agg: AggId) -
     !port.is_individual() && has_member(views, agg) && all_have(views, agg, group)
 }
 
-/// The lowest aggregator that an eligible port can join, or else the lowest with no member.
+/// The lowest aggregator that an eligible port can join, else the lowest one with no member.
 fn lowest(keys: &[Key], views: &[PortView], port: &PortView) -> Option<AggId>
     requires { length keys.now ≤ 65535 }
     ensures { result ≡ choice_for keys.now views.now port.now }

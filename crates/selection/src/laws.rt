@@ -6,8 +6,8 @@ ghost use Rattle.selection.specs.Choice.{has_group_of};
 ghost use Rattle.selection.specs.Joining.{ends};
 ghost use Rattle.lagtypes.specs.Same.{same_system};
 
-/// What the tests mean that the definitions of a choice use: two links have one group exactly where
-/// their unordered pairs of ends are equal, and two systems are one exactly where they are equal.
+/// The Boolean tests in the definitions of a choice mean equality: `has_group_of` holds of two ports exactly if the
+/// unordered pairs of ends of their links are equal, and `same_system` exactly if the systems are equal.
 pub fn tests_are_equalities()
     ensures group { (v w : PortView) → IsTrue (has_group_of v w) ↔ SamePair (ends w) (ends v) }
     ensures system { (s t : SystemId) → IsTrue (same_system s t) ↔ (s ≡ t) }

@@ -1,5 +1,7 @@
-//! The Selection Logic of one system: which aggregator an eligible port takes, which ports are the
-//! members of an aggregator, and when it is Ready (6.4.14, profile).
+//! The Selection Logic of one system: which aggregator an eligible port chooses, which ports are the members of an
+//! aggregator, and when it is Ready (IEEE 802.1AX-2014, 6.4.14; profile).
+//!
+//! In comments, "profile" is docs/PROFILE.md.
 #![tactic(auto)]
 
 mod aggregators;

@@ -9,7 +9,7 @@ const B: u8 = 0xb;
 
 const C: u8 = 0xc;
 
-/// An aggregatable port with key 1 of the system whose MAC address ends so.
+/// An aggregatable port with key 1 of a system; this is the last octet of the system's MAC address.
 fn party(system: u8, number: u16) -> Party {
     Party {
         system: SystemId {
@@ -25,7 +25,7 @@ fn party(system: u8, number: u16) -> Party {
     }
 }
 
-/// An eligible port of system A with a partner in this system.
+/// An eligible port of system A, whose partner is in this system.
 fn view(number: u16, partner: u8) -> PortView {
     PortView {
         number,
@@ -46,7 +46,7 @@ fn selected(agg: u16) -> Choice {
     Choice::Selected(AggId(agg))
 }
 
-/// Ports 1 and 2 are members of an aggregator, with these stages.
+/// Ports 1 and 2 are members of an aggregator; their mux machines are in these stages.
 fn members(agg: u16, one: Stage, other: Stage) -> [PortView; 3] {
     let mut views = views();
     views[0].choice = selected(agg);
@@ -68,14 +68,14 @@ fn first_selected() -> [PortView; 3] {
     views
 }
 
-/// Besides, the partner of port 2 is individual.
+/// The same, and the partner of port 2 is Individual.
 fn second_individual() -> [PortView; 3] {
     let mut views = first_selected();
     views[1].partner.aggregatable = false;
     views
 }
 
-/// Besides, port 3 is a member of aggregator 2.
+/// The same, and port 3 is a member of aggregator 2.
 fn both_taken() -> [PortView; 3] {
     let mut views = second_individual();
     views[2].choice = selected(2);
@@ -103,7 +103,7 @@ fn second_taken() -> [PortView; 3] {
     views
 }
 
-/// Besides, port 1 is a member of aggregator 1.
+/// The same, and port 1 is a member of aggregator 1.
 fn two_joinable() -> [PortView; 3] {
     let mut views = second_taken();
     views[0].choice = selected(1);
@@ -124,7 +124,7 @@ fn second_partner_key() -> [PortView; 3] {
     views
 }
 
-/// Port 1 is a member of aggregator 1 by an individual link, and port 2 names the same two ends.
+/// Port 1 is a member of aggregator 1 by an Individual link, and port 2 has the same two ends.
 fn same_individual() -> [PortView; 3] {
     let mut views = first_selected();
     views[0].partner.aggregatable = false;
@@ -133,7 +133,7 @@ fn same_individual() -> [PortView; 3] {
     views
 }
 
-/// The same, where it is the own side that is individual.
+/// The same, but the port's own side is Individual.
 fn same_individual_own() -> [PortView; 3] {
     let mut views = same_individual();
     views[0].partner.aggregatable = true;
@@ -170,7 +170,7 @@ fn chooses_by_key_and_group(rt: HostRuntime) -> Result<(), Fail> {
     Ok(())
 }
 
-/// 65,537 keys, of which the one at this place alone is that of the ports.
+/// 65537 keys; only the one at this index is the key of the ports.
 fn many_keys(alloc: Global, place: usize) -> Result<Vec<Key>, NoMemory> {
     let mut keys = Vec::new(alloc);
     for at in 0..65_537 {
@@ -179,7 +179,7 @@ fn many_keys(alloc: Global, place: usize) -> Result<Vec<Key>, NoMemory> {
     Ok(keys)
 }
 
-/// The last number of an aggregator is 65,535.
+/// The highest number of an aggregator is 65535.
 #[test]
 fn keys_beyond_the_last_number_are_left_out(rt: HostRuntime) -> Result<(), Fail> {
     for (place, want) in [(65_534, Some(AggId(65_535))), (65_535, None)] {

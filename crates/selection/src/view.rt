@@ -6,46 +6,46 @@ ghost use Rattle.selection.specs.Views.{AreViews, has_expired, is_eligible, is_g
 
 use lagtypes::{AggId, Choice, Group, Party};
 
-/// How far the mux machine of a port has come (6.4.15).
+/// How far the mux machine of a port has come, as the Selection Logic needs it (6.4.15).
 #[derive(Clone, Copy, Debug, Default, PartialEq, Eq)]
 pub enum Stage {
     /// DETACHED.
     #[default]
     Detached,
-    /// WAITING, and whether wait_while has expired.
+    /// WAITING; `expired` is whether wait_while has expired.
     Waiting { expired: bool },
-    /// ATTACHED or COLLECTING_DISTRIBUTING.
+    /// ATTACHED or COLLECTING_DISTRIBUTING: the port is attached to its aggregator.
     Joined,
 }
 
-/// What the Selection Logic sees of a port.
+/// What the Selection Logic reads of a port.
 #[derive(Clone, Copy, Debug, Default, PartialEq, Eq)]
 pub struct PortView {
     /// The port number.
     pub number: u16,
-    /// The port's own parameters.
+    /// The operational parameters of the port's own side, the Actor.
     pub party: Party,
-    /// The recorded parameters of its partner.
+    /// The operational parameters of the Partner, as recorded.
     pub partner: Party,
-    /// Whether the link is enabled.
+    /// port_enabled: whether the link is up.
     pub enabled: bool,
-    /// Whether the receive machine is CURRENT or DEFAULTED.
+    /// Whether the partner's parameters are known: the receive machine is in CURRENT or DEFAULTED.
     pub settled: bool,
-    /// How far the mux machine is.
+    /// The state of the mux machine.
     pub stage: Stage,
-    /// The variable Selected, with the aggregator that the port was given.
+    /// Selected, with the aggregator that the port was given.
     pub choice: Choice,
 }
 
 impl Stage {
-    /// DETACHED or WAITING.
+    /// Whether it is DETACHED or WAITING.
     fn waits(self) -> bool
         ensures { result ≡ waits self }
     {
         !matches!(self, Stage::Joined)
     }
 
-    /// WAITING with wait_while expired.
+    /// Whether it is WAITING and wait_while has expired.
     fn has_expired(self) -> bool
         ensures { result ≡ has_expired self }
     {
@@ -64,9 +64,8 @@ impl PortView {
         }
     }
 
-    /// Whether the port may take an aggregator now: its link is enabled, its receive machine is
-    /// CURRENT or DEFAULTED, its mux machine is DETACHED, it is UNSELECTED, and its partner's system
-    /// is not its own (6.4.14, profile).
+    /// Whether the port may choose an aggregator now: its link is up, its receive machine is in CURRENT or DEFAULTED,
+    /// its mux machine is in DETACHED, it is UNSELECTED, and its partner is not its own system (6.4.14, profile).
     pub fn is_eligible(&self) -> bool
         ensures { result ≡ is_eligible self.now }
     {
@@ -96,14 +95,14 @@ impl PortView {
         self.stage.has_expired()
     }
 
-    /// Whether the link is individual.
+    /// Whether the link is Individual.
     pub(crate) fn is_individual(&self) -> bool
         ensures { result ≡ individual self.now.party self.now.partner }
     {
         !(self.party.aggregatable && self.partner.aggregatable)
     }
 
-    /// The group of the link.
+    /// The group (LAG ID) of the link.
     pub(crate) fn group(&self) -> Group
         ensures { result ≡ group_of self.now.party self.now.partner }
     {
@@ -136,8 +135,8 @@ fn is_rising(views: &[PortView]) -> bool
     views.is_sorted_by(|view, next| view.number < next.number)
 }
 
-/// Whether these can be the views of the ports of one system: at most 64, in strictly ascending
-/// order of their port numbers (profile).
+/// Whether these can be the views of the ports of one system: at most 64, with strictly ascending port numbers
+/// (profile).
 pub fn are_views(views: &[PortView]) -> bool
     ensures { IsTrue result ↔ AreViews views.now }
 {

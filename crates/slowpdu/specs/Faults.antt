@@ -1,18 +1,18 @@
--- Why a payload is refused: the first cause that holds (profile).
+-- Why a payload is refused: the first fault that holds (profile).
 use Rattle.std.specs.Prelude.{◌==◌, ◌&&◌, ◌||◌, ℕ, Bool, not, List, [], ◌∷◌, length, slice_index, nat_lt, Option, Some, None, if◌then◌else◌}
 use Rattle.slowpdu.specs.declared.fault.WireFault.{WireFault}
 use Rattle.slowpdu.specs.declared.fault.WireFault.TheVariants.{Short, OtherSubtype, BadLength, MarkerTlv}
 use Rattle.slowpdu.specs.Layout.{payload_len}
 
--- a cause: whether it holds, and the refusal that names it
+-- a condition, and the fault if it holds
 abbrev pub Cause : Type 0
 Cause = Bool × WireFault
 
--- the length at this offset of a PDU of this subtype is not as it must be
+-- in a payload of this subtype, the length field at this offset does not have this value
 abbrev pub wrong_length : List ℕ → ℕ → ℕ → ℕ → Cause
 wrong_length b subtype at length = ((slice_index b 0 == subtype) && not (slice_index b at == length), BadLength at (slice_index b at))
 
--- the causes in the order of checking
+-- the conditions in the order of checking
 abbrev pub causes : List ℕ → List Cause
 causes b =
     (nat_lt (length b) payload_len, Short (length b))
@@ -24,7 +24,7 @@ causes b =
     ∷ ((slice_index b 0 == 2) && not ((slice_index b 2 == 1) || (slice_index b 2 == 2)), MarkerTlv (slice_index b 2))
     ∷ []
 
--- the first that holds
+-- the fault of the first condition that holds
 abbrev pub first_cause : List Cause → Option WireFault
 first_cause [] = None
 first_cause (cause ∷ rest) = if cause.0 then Some cause.1 else first_cause rest
@@ -32,7 +32,7 @@ first_cause (cause ∷ rest) = if cause.0 then Some cause.1 else first_cause res
 abbrev pub fault_of : List ℕ → Option WireFault
 fault_of b = first_cause (causes b)
 
--- the place of a refusal in the order of checking, from 1
+-- the number of a fault: its place in the order of checking, from 1
 abbrev pub fault_number : WireFault → ℕ
 fault_number (Short have) = 1
 fault_number (OtherSubtype subtype) = 2

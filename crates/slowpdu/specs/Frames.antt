@@ -25,7 +25,7 @@ IsControl payload (Control rest) = rest.now ≡ payload
 IsControl payload Data = ⊥
 IsControl payload TooShort = ⊥
 
--- what a received frame is
+-- the octets are a frame of this kind
 abbrev pub IsKind : List ℕ → Kind → Type 0
 IsKind octets (Control rest) = (14 ≤ length octets) × IsSlow octets × (rest.now ≡ drop 14 octets)
 IsKind octets Data = (14 ≤ length octets) × (IsSlow octets → ⊥)

@@ -1,4 +1,4 @@
--- The LACPDU (6.4.2.3; profile: what a receiver looks at).
+-- The layout of the LACPDU (6.4.2.3; profile: which fields a receiver reads).
 use Rattle.std.specs.Prelude.{ℕ, ◌+◌, ◌++◌, List, [], ◌∷◌}
 use Rattle.byteorder.specs.Endian.{big_number}
 use Rattle.lagtypes.specs.Octet.{octet}
@@ -6,7 +6,7 @@ use Rattle.slowpdu.specs.declared.pdu.Info.{Info}
 use Rattle.slowpdu.specs.declared.pdu.Lacpdu.{Lacpdu}
 use Rattle.slowpdu.specs.Layout.{Place, place, unread, IsAddress, ReadsTable, WritesTable}
 
--- system priority, system, key, port priority, port and state of one end, from this offset on
+-- the fields of one end, from this offset on: system priority, system, key, port priority, port, state
 abbrev pub info_fields : ℕ → Info → List Place
 info_fields at info =
     place at 2 info.system.priority
@@ -17,8 +17,8 @@ info_fields at info =
     ∷ place (at + 14) 1 (octet info.state)
     ∷ []
 
--- the table of an LACPDU. In its order: subtype and version; type and length of the Actor TLV, and the Actor; the same of the
--- Partner; type and length of the Collector TLV, and CollectorMaxDelay; type and length of the Terminator
+-- The table of an LACPDU, in order: subtype and version; type and length of the Actor TLV, and the Actor; the same of
+-- the Partner; type and length of the Collector TLV, and CollectorMaxDelay; type and length of the Terminator.
 abbrev pub lacpdu_table : Lacpdu → List Place
 lacpdu_table v =
     place 0 1 1 ∷ unread 1 1 1
@@ -30,12 +30,12 @@ lacpdu_table v =
 abbrev pub HasAddresses : Lacpdu → Type 0
 HasAddresses v = IsAddress v.actor.system.mac × IsAddress v.partner.system.mac
 
--- the payload b says v
+-- the payload b reads as the LACPDU v
 pub record Reads (b : List ℕ) (v : Lacpdu) : Type 0 where
   pub addresses : HasAddresses v
   pub table : ReadsTable b (lacpdu_table v)
 
--- b is the payload that is sent for v
+-- b is the payload that is sent for the LACPDU v
 pub record Writes (b : List ℕ) (v : Lacpdu) : Type 0 where
   pub addresses : HasAddresses v
   pub table : WritesTable b (lacpdu_table v)

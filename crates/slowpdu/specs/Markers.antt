@@ -1,4 +1,4 @@
--- The Marker PDU and its answer (6.5.3.3, 6.5.4; profile: what a receiver looks at).
+-- The layout of the Marker PDU, and the response to a marker (6.5.3.3, 6.5.4; profile: which fields a receiver reads).
 use Rattle.std.specs.Prelude.{ℕ, List, [], ◌∷◌, Option, Some, None}
 use Rattle.byteorder.specs.Endian.{big_number}
 use Rattle.slowpdu.specs.declared.pdu.MarkerKind.{MarkerKind}
@@ -11,8 +11,8 @@ abbrev pub kind_number : MarkerKind → ℕ
 kind_number Information = 1
 kind_number Response = 2
 
--- the table of a Marker PDU. In its order: subtype and version; type and length of the TLV; Requester_Port, Requester_System,
--- Requester_Transaction_ID and the pad; type and length of the Terminator
+-- The table of a Marker PDU, in order: subtype and version; type and length of the TLV; Requester_Port,
+-- Requester_System, Requester_Transaction_ID and the pad; type and length of the Terminator.
 abbrev pub marker_table : Marker → List Place
 marker_table m =
     place 0 1 2 ∷ unread 1 1 1
@@ -20,17 +20,17 @@ marker_table m =
     ∷ place 4 2 m.port ∷ place 6 6 (big_number 6 m.system) ∷ place 12 4 m.id ∷ unread 16 2 0
     ∷ unread 18 1 0 ∷ unread 19 1 0 ∷ []
 
--- the payload b says m
+-- the payload b reads as the Marker PDU m
 pub record ReadsMarker (b : List ℕ) (m : Marker) : Type 0 where
   pub address : IsAddress m.system
   pub table : ReadsTable b (marker_table m)
 
--- b is the payload that is sent for m
+-- b is the payload that is sent for the Marker PDU m
 pub record WritesMarker (b : List ℕ) (m : Marker) : Type 0 where
   pub address : IsAddress m.system
   pub table : WritesTable b (marker_table m)
 
--- the same marker with the response type; none for a response
+-- the same marker with the response type; None for a response
 abbrev pub answer_of : MarkerKind → Marker → Option Marker
 answer_of Information m = Some (record m { kind = Response })
 answer_of Response m = None

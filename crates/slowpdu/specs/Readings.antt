@@ -1,5 +1,5 @@
--- The reading of a payload as a function of its octets (6.4.2.3, 6.5.3.3). Of a payload that has a reading it is that reading
--- (`as_function` of `one_reading_or_one_fault`); of any other it is something that nobody looks at.
+-- The reading of a payload as a function of its octets (6.4.2.3, 6.5.3.3). If the payload reads as a PDU, the function
+-- gives that PDU (`as_function` of `one_reading_or_one_fault`); else its value means nothing.
 use Rattle.std.specs.Prelude.{ℕ, ◌+◌, ◌==◌, List, drop, if◌then◌else◌}
 use Rattle.std.specs.Int.{bytes_high_first}
 use Rattle.byteorder.specs.Endian.{big_number}
@@ -11,15 +11,15 @@ use Rattle.slowpdu.specs.declared.pdu.MarkerKind.TheVariants.{Information, Respo
 use Rattle.slowpdu.specs.declared.pdu.Pdu.{Pdu}
 use Rattle.slowpdu.specs.declared.pdu.Pdu.TheVariants as pdu
 
--- the number in so many octets from this offset on, the most significant first
+-- the number in this many octets (second number) from this offset on (first number), the most significant first
 abbrev pub number_in : List ℕ → ℕ → ℕ → ℕ
 number_in b at width = big_number width (drop at b)
 
--- the six octets from this offset on, through their number, so that each of them is below 256
+-- the six octets from this offset on, worked out from their number, so that each is below 256
 abbrev pub address_in : List ℕ → ℕ → List ℕ
 address_in b at = bytes_high_first 6 (number_in b at 6)
 
--- one end in an LACPDU, from this offset on
+-- the participant information from this offset on
 abbrev pub info_in : List ℕ → ℕ → Info
 info_in b at = record {
   system = record { priority = number_in b at 2; mac = address_in b (at + 2) };
@@ -37,6 +37,6 @@ kind_in n = if n == 1 then Information else Response
 unfoldable pub marker_in : List ℕ → Marker
 marker_in b = record { kind = kind_in (number_in b 2 1); port = number_in b 4 2; system = address_in b 6; id = number_in b 12 4 }
 
--- an LACPDU where the subtype is 1, else a Marker PDU
+-- an LACPDU if the subtype is 1, else a Marker PDU
 unfoldable pub pdu_in : List ℕ → Pdu
 pdu_in b = if number_in b 0 1 == 1 then pdu.Lacpdu (lacpdu_in b) else pdu.Marker (marker_in b)

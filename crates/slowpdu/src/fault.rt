@@ -4,24 +4,24 @@ ghost use Rattle.slowpdu.specs.Texts.{fault_text};
 
 use std::fmt;
 
-/// Why a payload is refused: the first cause that holds, in the order of the variants (profile).
+/// Why a payload is refused. The faults are checked in the order of the variants; the first that holds is returned
+/// (profile).
 #[derive(Clone, Copy, Debug, PartialEq, Eq)]
 pub enum WireFault {
-    /// Fewer than 110 octets: how many there are.
+    /// 1: it has fewer than 110 octets. `have` is how many it has.
     Short { have: usize },
-    /// Octet 0 names neither LACP (1) nor the Marker protocol (2): what stands there.
+    /// 2: octet 0, the subtype, is neither 1 (LACP) nor 2 (Marker protocol). This is what stands there.
     OtherSubtype(u8),
-    /// A length field is wrong: the lowest such offset, and what stands there. The lengths of an
-    /// LACPDU at 3 and 23 must be 20 and that at 43 must be 16; the length of a Marker PDU at 3
-    /// must be 16.
+    /// 3: a TLV length is wrong. `at` is the lowest such offset, `found` what stands there. In an LACPDU the lengths at
+    /// 3 and 23 must be 20 and that at 43 must be 16; in a Marker PDU the length at 3 must be 16.
     BadLength { at: usize, found: u8 },
-    /// Octet 2 of a Marker PDU is neither 1 (Marker Information) nor 2 (Marker Response
-    /// Information): what stands there.
+    /// 4: octet 2 of a Marker PDU, the TLV type, is neither 1 (Marker Information) nor 2 (Marker Response Information).
+    /// This is what stands there.
     MarkerTlv(u8),
 }
 
 impl WireFault {
-    /// Its place in the order of checking, 1 to 4 (profile).
+    /// The number of the fault, 1 to 4 (profile).
     pub fn number(&self) -> u8
         ensures { result ≡ fault_number self.now }
     {
@@ -34,7 +34,7 @@ impl WireFault {
     }
 }
 
-/// What is wrong with the payload, and what stands there (profile).
+/// Says what is wrong with the payload, and after a colon what stands there (profile).
 impl fmt::Display for WireFault {
     ghost output = { λ fault. Some (fault_text fault) };
 

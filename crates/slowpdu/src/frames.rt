@@ -5,20 +5,20 @@ ghost use Rattle.slowpdu.specs.Frames.{frame_octets, IsControl, IsKind, IsSlow};
 use crate::numbers::{FRAME_LEN, HEADER_LEN, SLOW_TYPE};
 use crate::writing::put;
 
-/// What a received frame is (profile).
+/// The kinds of received frames (profile).
 #[derive(Clone, Copy, Debug, PartialEq, Eq)]
 pub enum Kind<'a> {
-    /// A frame of the slow protocols, EtherType 0x8809, whatever its destination: what follows
+    /// A slow protocols frame, EtherType 0x8809, whatever its destination address. This is its payload: what follows
     /// octet 13.
     Control(&'a [u8]),
     /// Any other frame of at least 14 octets.
     Data,
-    /// Fewer than 14 octets.
+    /// Fewer than 14 octets, so no Ethernet frame.
     TooShort,
 }
 
-/// The control frame of 124 octets with this source and payload: destination 01-80-C2-00-00-02,
-/// EtherType 0x8809 (6.4.2.2, 6.5.3.2).
+/// A control frame of 124 octets with this source address and payload; the destination is 01-80-C2-00-00-02, the
+/// Slow_Protocols_Multicast address, and the EtherType 0x8809 (6.4.2.2, 6.5.3.2).
 pub fn frame(src: [u8; 6], payload: &[u8; 110]) -> [u8; 124]
     ensures { result ≡ frame_octets src payload.now }
 {
@@ -30,8 +30,7 @@ pub fn frame(src: [u8; 6], payload: &[u8; 110]) -> [u8; 124]
     octets
 }
 
-/// What a received frame is. It has no upper length, and its addresses are not looked at
-/// (profile).
+/// The kind of a received frame. Its length has no upper bound, and its addresses are not read (profile).
 pub fn classify(octets: &[u8]) -> Kind<'_>
     ensures kind { IsKind octets.now result }
     ensures too_short { length octets.now < 14 → result ≡ TooShort }

@@ -14,20 +14,20 @@ use crate::fault::WireFault;
 use crate::pdu::Pdu;
 use crate::reading::decode;
 
-/// What is written for a PDU reads as it and as nothing else, whatever follows it (6.4.2.3, 6.5.3.3;
+/// The octets that `encode` makes of a PDU read as that PDU and as no other, whatever follows them (6.4.2.3, 6.5.3.3;
 /// profile).
 pub fn what_is_written_is_read()
     ensures reads { (b rest : List ℕ) (v : Pdu) → WritesPdu b v → ReadsPdu (b ++ rest) v }
     ensures only { (b rest : List ℕ) (v w : Pdu) → WritesPdu b v → ReadsPdu (b ++ rest) w → w ≡ v }
 {}
 
-/// There is one payload to send for a PDU (6.4.2.3, 6.5.3.3).
+/// A PDU has exactly one payload to send (6.4.2.3, 6.5.3.3).
 pub fn one_payload_is_written()
     ensures { (b c : List ℕ) (v : Pdu) → WritesPdu b v → WritesPdu c v → b ≡ c }
 {}
 
-/// A payload has one reading or one fault, never both and never neither, and it is no LACPDU and
-/// Marker PDU at once. The reading is a function of the octets (profile).
+/// A payload either reads as exactly one PDU or has a first fault, never both; and none reads as both an LACPDU and a
+/// Marker PDU. The reading is a function of the octets (profile).
 pub fn one_reading_or_one_fault()
     ensures kinds { (b : List ℕ) (v : Lacpdu) (m : Marker) → Reads b v → ReadsMarker b m → ⊥ }
     ensures readings { (b : List ℕ) (v w : Pdu) → ReadsPdu b v → ReadsPdu b w → w ≡ v }
@@ -42,14 +42,13 @@ pub fn what_follows_is_ignored()
     ensures faults { (b rest : List ℕ) → payload_len ≤ length b → fault_of (b ++ rest) ≡ fault_of b }
 {}
 
-/// A frame that is made here is a control frame with the payload that it was made of (6.4.2.2,
-/// 6.5.3.2).
+/// A frame that `frame` makes is classified as a control frame with just the payload it was made of (6.4.2.2, 6.5.3.2).
 pub fn what_is_framed_is_control()
     ensures slow { (source payload : List ℕ) → length source ≡ 6 → IsSlow (frame_octets source payload) }
     ensures payload { (source payload : List ℕ) → length source ≡ 6 → drop 14 (frame_octets source payload) ≡ payload }
 {}
 
-/// Encodes a PDU and decodes the payload: the answer is the PDU (6.4.2.3, 6.5.3.3).
+/// Encodes a PDU and decodes the payload again: the result is the PDU (6.4.2.3, 6.5.3.3).
 pub fn read_back(pdu: &Pdu) -> Result<Pdu, WireFault>
     ensures { result ≡ Ok pdu.now }
 {

@@ -1,6 +1,8 @@
-//! Payloads and frames of the slow protocols: LACPDUs (IEEE 802.1AX-2014, 6.4) and Marker PDUs
-//! (6.5). Every call works on octets that it is handed and takes no memory. What is read and what
-//! is written are the tables of `specs/Lacpdus.antt` and `specs/Markers.antt`.
+//! Payloads and frames of the slow protocols: LACPDUs (IEEE 802.1AX-2014, 6.4) and Marker PDUs (6.5). The functions
+//! keep no state and take no memory. Both layouts are tables in `specs/Lacpdus.antt` and `specs/Markers.antt`;
+//! contracts of readers and writers name them.
+//!
+//! In comments, "profile" is docs/PROFILE.md.
 #![tactic(auto)]
 
 mod fault;

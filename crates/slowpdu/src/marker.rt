@@ -10,7 +10,7 @@ use crate::reading::{expect_length, mac_at, u16_at};
 use crate::writing::{ZEROS, put, put_mac, put_u16, put_u32};
 use byteorder::{BigEndian, ByteOrder};
 
-/// The number in the four octets from this offset on.
+/// The number in four octets, the most significant first, from this offset on.
 fn u32_at(payload: &[u8], offset: usize) -> u32
     requires { offset + 4 ≤ length payload.now }
     ensures { StandsIn payload.now (place offset 4 result) }
@@ -39,7 +39,7 @@ pub(crate) fn marker_in(payload: &[u8]) -> Result<Pdu, WireFault>
 }
 
 impl MarkerKind {
-    /// The type of its TLV.
+    /// The TLV type.
     fn number(self) -> u8
         ensures { result ≡ kind_number self }
     {
@@ -51,8 +51,7 @@ impl MarkerKind {
 }
 
 impl Marker {
-    /// The payload that is sent for it, 110 octets: version 1, and zeros in every pad and reserved
-    /// octet (6.5.3.3).
+    /// The payload of this Marker PDU, 110 octets: version 1, and zero in every pad and reserved octet (6.5.3.3).
     pub fn encode(&self) -> [u8; 110]
         ensures { WritesMarker result self.now }
     {
@@ -68,8 +67,8 @@ impl Marker {
     }
 }
 
-/// The answer to a marker: the same port, system and identifier with the response type. None
-/// exactly for a response (6.5.4).
+/// The Marker Response to a marker: the same port, system and identifier, with the response type. None exactly if the
+/// argument is itself a response (6.5.4).
 pub fn respond(marker: &Marker) -> Option<Marker>
     ensures { result ≡ response_to marker.now }
 {

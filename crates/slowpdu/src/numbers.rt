@@ -1,12 +1,12 @@
-//! The numbers that stand in payloads and frames.
+//! The constants of payloads and frames.
 
-/// How many octets a payload has (6.4.2.3, 6.5.3.3).
+/// The length of a payload in octets (6.4.2.3, 6.5.3.3).
 pub(crate) const PAYLOAD_LEN: usize = 110;
 
-/// How many octets stand before a frame's payload: both addresses and the EtherType (6.4.2.2, 6.5.3.2).
+/// The octets before a frame's payload: both addresses and the EtherType (6.4.2.2, 6.5.3.2).
 pub(crate) const HEADER_LEN: usize = 14;
 
-/// How many octets a control frame has.
+/// The length of a control frame in octets.
 pub(crate) const FRAME_LEN: usize = HEADER_LEN + PAYLOAD_LEN;
 
 /// The EtherType of the slow protocols (6.4.2.2, 6.5.3.2).
@@ -18,7 +18,7 @@ pub(crate) const LACP_SUBTYPE: u8 = 1;
 /// The subtype of a Marker PDU (6.5.3.3).
 pub(crate) const MARKER_SUBTYPE: u8 = 2;
 
-/// The version that is sent (6.4.2.3, 6.5.3.3).
+/// The version number that is sent (6.4.2.3, 6.5.3.3).
 pub(crate) const VERSION: u8 = 1;
 
 /// The type of the Actor TLV (6.4.2.3).

@@ -17,7 +17,7 @@ use bitflags::Flags;
 use byteorder::{BigEndian, ByteOrder};
 use lagtypes::{Key, PortId, State, SystemId};
 
-/// The number in the two octets from this offset on.
+/// The number in two octets, the most significant first, from this offset on.
 pub(crate) fn u16_at(payload: &[u8], offset: usize) -> u16
     requires { offset + 2 ≤ length payload.now }
     ensures { StandsIn payload.now (place offset 2 result) }
@@ -36,7 +36,7 @@ pub(crate) fn mac_at(payload: &[u8], offset: usize) -> [u8; 6]
     mac
 }
 
-/// What a payload says of one end, from this offset on.
+/// The participant information in the 15 octets from this offset on.
 fn info_at(payload: &[u8], offset: usize) -> Info
     requires { offset + 15 ≤ length payload.now }
     ensures address { IsAddress result.system.mac }
@@ -56,7 +56,7 @@ fn info_at(payload: &[u8], offset: usize) -> Info
     }
 }
 
-/// Refuses a payload whose length at this offset is another.
+/// Refuses a payload if the length field at this offset has another value.
 pub(crate) fn expect_length(payload: &[u8], at: usize, expected: u8) -> Result<(), WireFault>
     requires { at < length payload.now }
     ensures ok { OnOk result (slice_index payload.now at ≡ expected) }
@@ -86,21 +86,21 @@ fn lacpdu_in(payload: &[u8]) -> Result<Pdu, WireFault>
     }))
 }
 
-/// Reads what follows the EtherType of a control frame (6.4.2.3, 6.5.3.3). It looks at the subtype,
-/// the lengths, a marker's type and the fields; the version, the other types, pad and reserved
-/// octets and all octets after the first 110 may be anything (profile). The refusals are those of
-/// `WireFault`, the first that holds.
+/// Reads the payload of a control frame: what follows its EtherType (6.4.2.3, 6.5.3.3). Only the subtype, the TLV
+/// lengths, the TLV type of a Marker PDU, and the fields are read. The version, the other TLV types, pad and reserved
+/// octets, and all octets after the first 110 may have any value (profile). A payload is refused with the first fault
+/// that holds, in the order of `WireFault`.
 #[inline(always)]
 pub fn decode(payload: &[u8]) -> Result<Pdu, WireFault>
-    // What is answered is what the payload says.
+    // An `Ok` has the PDU that the payload reads as.
     ensures found { IfOk result (λ v. ReadsPdu payload.now v) }
-    // And nothing else is.
+    // If the payload reads as a PDU, the result is `Ok` with that PDU.
     ensures only { (v : Pdu) → ReadsPdu payload.now v → result ≡ Ok v }
-    // A refusal names the first cause.
+    // An `Err` has the first fault of the payload.
     ensures fault { IfErr result (λ e. fault_of payload.now ≡ Some e) }
-    // And where there is a cause, the payload is refused.
+    // If the payload has a fault, the result is `Err` with the first one.
     ensures refused { (e : WireFault) → fault_of payload.now ≡ Some e → result ≡ Err e }
-    // The first 110 octets decide.
+    // The result depends on the first 110 octets alone.
     ensures first_octets { IsDecoded (take payload_len payload.now) result }
 {
     if payload.len() < PAYLOAD_LEN {

@@ -7,8 +7,8 @@ use bitflags::Flags;
 use lagtypes::{Key, Party, PortId, State, SystemId};
 use std::alloc::AllocError;
 
-/// The payload of an LACPDU of system 32768/02-00-00-00-00-01, key 1, port 128/1, state c7, with an
-/// unknown partner of state 02.
+/// The payload of an LACPDU of system 32768/02-00-00-00-00-01, key 1, port 128/1, state c7; its partner is unknown and
+/// has the state 02.
 fn lacpdu_payload() -> [u8; 110] {
     let mut payload = [0; 110];
     put(&mut payload, 0, &[1, 1, 1, 20, 0x80, 0, 2, 0, 0, 0, 0, 1]);
@@ -18,7 +18,7 @@ fn lacpdu_payload() -> [u8; 110] {
     payload
 }
 
-/// What that payload says.
+/// The LACPDU in that payload.
 fn lacpdu() -> Lacpdu {
     let actor = Info {
         system: SystemId {
@@ -43,7 +43,7 @@ fn lacpdu() -> Lacpdu {
     }
 }
 
-/// The payload of a marker of port 1 of that system, of the last identifier that there is.
+/// The payload of a marker of port 1 of that system, with the highest identifier.
 fn marker_payload() -> [u8; 110] {
     let mut payload = [0; 110];
     put(
@@ -54,7 +54,7 @@ fn marker_payload() -> [u8; 110] {
     payload
 }
 
-/// What that payload says.
+/// The Marker PDU in that payload.
 fn marker() -> Marker {
     Marker {
         kind: MarkerKind::Information,
@@ -64,8 +64,8 @@ fn marker() -> Marker {
     }
 }
 
-/// The same LACPDU of version 2, with other types, with ones in every reserved octet, and with more
-/// octets behind it.
+/// The same LACPDU as a version 2 might send it: with other TLV types, ones in every reserved octet, and more octets at
+/// the end.
 fn version_2() -> [u8; 150] {
     let mut payload = [0xff; 150];
     put(&mut payload, 0, &lacpdu_payload());
@@ -76,7 +76,7 @@ fn version_2() -> [u8; 150] {
     payload
 }
 
-/// The payload of that marker with another pad.
+/// The payload of that marker, with other pad octets.
 fn padded_marker() -> [u8; 110] {
     let mut payload = marker_payload();
     put(&mut payload, 16, &[0xbe, 0xef]);
@@ -94,7 +94,7 @@ fn marker_of_version_2() -> [u8; 110] {
     payload
 }
 
-/// The first octets, as many as that.
+/// The first octets, this many.
 fn first(octets: &[u8], count: usize) -> &[u8] {
     octets.get(..count).unwrap_or(octets)
 }
@@ -263,20 +263,20 @@ fn frames_are_told_apart_by_their_type(rt: HostRuntime) {
     }
 }
 
-/// An LACPDU in which no two fields are alike.
+/// An LACPDU in which no two fields are equal.
 const EACH_FIELD: [u8; 46] = [
     1, 1, 1, 20, 0x10, 0x11, 0x12, 0x13, 0x14, 0x15, 0x16, 0x17, 0x18, 0x19, 0x1a, 0x1b, 0x1c,
     0x1d, 0x1e, 0, 0, 0, 2, 20, 0x20, 0x21, 0x22, 0x23, 0x24, 0x25, 0x26, 0x27, 0x28, 0x29, 0x2a,
     0x2b, 0x2c, 0x2d, 0x2e, 0, 0, 0, 3, 16, 0x30, 0x31,
 ];
 
-/// The number in two octets that rise by one.
+/// The number in two octets, of which the second is one more than the first.
 fn word(first: u8, place: u8) -> u16 {
     let high = first.wrapping_add(place);
     u16::from_be_bytes([high, high.wrapping_add(1)])
 }
 
-/// What it says of an end whose octets begin so.
+/// The participant information in 15 octets that rise by one from this first one.
 fn each_field(first: u8) -> Info {
     Info {
         system: SystemId {
@@ -312,7 +312,7 @@ fn each_field_has_its_place(rt: HostRuntime) {
     assert_eq!(rt; said.encode(), payload, "encode");
 }
 
-/// A response in which no two fields are alike.
+/// A response in which no two fields are equal.
 const EACH_FIELD_OF_A_MARKER: [u8; 16] = [
     2, 1, 2, 16, 0x40, 0x41, 0x42, 0x43, 0x44, 0x45, 0x46, 0x47, 0x48, 0x49, 0x4a, 0x4b,
 ];

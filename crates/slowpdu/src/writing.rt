@@ -12,10 +12,10 @@ use crate::pdu::{Info, Lacpdu};
 use bitflags::Flags;
 use byteorder::{BigEndian, ByteOrder};
 
-/// A payload before anything is put into it.
+/// 110 octets of zero: a payload before anything is written.
 pub(crate) const ZEROS: [u8; PAYLOAD_LEN] = [0; PAYLOAD_LEN];
 
-/// Puts octets in the place of those from this offset on.
+/// Writes octets into a payload, from this offset on.
 pub(crate) fn put(payload: &mut [u8], offset: usize, octets: &[u8])
     requires { offset + length octets.now ≤ length payload.old }
     ensures { payload.new ≡ replaced payload.old offset octets.now }
@@ -23,7 +23,7 @@ pub(crate) fn put(payload: &mut [u8], offset: usize, octets: &[u8])
     payload[offset..offset + octets.len()].copy_from_slice(octets);
 }
 
-/// Puts a MAC address in the six octets from this offset on.
+/// Writes a MAC address into the six octets from this offset on.
 pub(crate) fn put_mac(payload: &mut [u8], offset: usize, mac: [u8; 6])
     requires { offset + 6 ≤ length payload.old }
     ensures put { payload.new ≡ replaced payload.old offset mac }
@@ -32,7 +32,7 @@ pub(crate) fn put_mac(payload: &mut [u8], offset: usize, mac: [u8; 6])
     put(payload, offset, &mac);
 }
 
-/// Puts a number in the two octets from this offset on.
+/// Writes a number into two octets, the most significant first, from this offset on.
 pub(crate) fn put_u16(payload: &mut [u8], offset: usize, number: u16)
     requires { offset + 2 ≤ length payload.old }
     ensures put { payload.new ≡ replaced payload.old offset (big_bytes 2 number) }
@@ -43,7 +43,7 @@ pub(crate) fn put_u16(payload: &mut [u8], offset: usize, number: u16)
     put(payload, offset, &octets);
 }
 
-/// Puts a number in the four octets from this offset on.
+/// Writes a number into four octets, the most significant first, from this offset on.
 pub(crate) fn put_u32(payload: &mut [u8], offset: usize, number: u32)
     requires { offset + 4 ≤ length payload.old }
     ensures put { payload.new ≡ replaced payload.old offset (big_bytes 4 number) }
@@ -54,7 +54,7 @@ pub(crate) fn put_u32(payload: &mut [u8], offset: usize, number: u32)
     put(payload, offset, &octets);
 }
 
-/// Puts what is said of one end from this offset on.
+/// Writes participant information into the 15 octets from this offset on.
 fn put_info(payload: &mut [u8], offset: usize, info: Info)
     requires { offset + 15 ≤ length payload.old }
     ensures put { payload.new ≡ replaced payload.old offset (info_octets info) }
@@ -69,8 +69,7 @@ fn put_info(payload: &mut [u8], offset: usize, info: Info)
 }
 
 impl Lacpdu {
-    /// The payload that is sent for it, 110 octets: version 1, and zeros in every reserved octet
-    /// (6.4.2.3).
+    /// The payload of this LACPDU, 110 octets: version 1, and zero in every reserved octet (6.4.2.3).
     pub fn encode(&self) -> [u8; 110]
         ensures { Writes result self.now }
     {
