@@ -1,11 +1,11 @@
--- What holds after each event of two systems, whatever the schedule.
+-- What holds after each event of two systems, in every schedule.
 use Rattle.std.specs.Prelude.{◌≡◌, ℕ, ◌<◌, Bool, true, false, ◌&&◌, cond, eqb, ◌⊎◌, Option, Some, IsSome, is_some, List, [], ◌∷◌, ◌++◌, Contains, length, slice_index}
 use Rattle.lagtypes.specs.Group.{individual, SamePair, pair_of}
 use Rattle.lagmodel.specs.View.{PortView, Flushing, port_of, View, Setup, Call, Lacpdu, Lacp, Marker, Response}
 use Rattle.lagmodel.specs.Move.{Act, FreeMoves, group_at}
 use Rattle.lagmodel.specs.World.{Side, One, Two, peer, Message, Control, Data, end_at, party_at, Taken, World, Fixed, IsFixed, first_world, Event, Run}
 
--- xs is what is left of ys when some places are left out
+-- xs is ys with some elements left out
 abbrev pub IsSubsequence : List ℕ → List ℕ → Type 0
 IsSubsequence [] ys = Unit {0}
 IsSubsequence (x ∷ xs) [] = ⊥
@@ -17,16 +17,16 @@ same_side One Two = false
 same_side Two One = false
 same_side Two Two = true
 
--- the serials of a conversation's frames among these messages
+-- the serial numbers of a conversation's frames among these messages, in their order
 abbrev pub serials : Side → ℕ → ℕ → List Message → List ℕ
 serials s g k [] = []
 serials s g k (Control pdu stamp ∷ ms) = serials s g k ms
 serials s g k (Data origin h j serial ∷ ms) =
     cond (same_side origin s && (eqb h g && eqb j k)) (serial ∷ serials s g k ms) (serials s g k ms)
 
--- What holds of the ports of one system: they are those that its configuration has, under the numbers that their own
--- parties name; these parties name the system; the members of an aggregator have its key and one group, which is not
--- individual where they are two or more (6.4.14.1); and what distributes is a synchronised member (6.4.15).
+-- What holds of the ports of one system: they are those of its configuration; each port's own parameters name the
+-- system and that port; the members of an aggregator have its key and one group, which is not Individual if they are
+-- two or more (6.4.14.1); and a port that distributes is a member whose partner is synchronized (6.4.15).
 pub record Members (u : Setup) (ports : ℕ → Option PortView) : Type 0 where
   pub configured : (p : ℕ) → is_some (ports p) ≡ is_some (u.party p)
   pub number : (p : ℕ) (a : PortView) → ports p ≡ Some a → a.party.port.number ≡ p
@@ -35,92 +35,95 @@ pub record Members (u : Setup) (ports : ℕ → Option PortView) : Type 0 where
   pub group : (g p q : ℕ) (a b : PortView) → (p ≡ q → ⊥) → ports p ≡ Some a → ports q ≡ Some b → a.aggregator ≡ Some g → b.aggregator ≡ Some g → SamePair (group_at a) (group_at b) × (individual a.party a.partner ≡ false)
   pub member : (p : ℕ) (a : PortView) → ports p ≡ Some a → a.distributes ≡ true → IsSome a.aggregator × (a.synchronised ≡ true)
 
--- Ports of one system that distribute in one aggregator name one partner system and key (6.3.6, 6.4.14.1).
+-- Ports of one system that distribute in one aggregator have one partner system and key (6.3.6, 6.4.14.1).
 abbrev pub OnePartner : View → Type 0
 OnePartner v =
     (g p q : ℕ) (a b : PortView) → v.port p ≡ Some a → v.port q ≡ Some b
     → a.aggregator ≡ Some g → b.aggregator ≡ Some g → a.distributes ≡ true → b.distributes ≡ true
     → (a.partner.system ≡ b.partner.system) × (a.partner.key ≡ b.partner.key)
 
--- Port p of system s, whose view is a, distributes and does not run on defaults, and port q of the peer did not change
--- since it sent the LACPDU that port p took last.
+-- Port p of system s, with the view a, distributes and does not have a defaulted partner, and port q of the peer did
+-- not change since it sent the LACPDU that port p received last.
 pub record HearsPresent (w : World) (s : Side) (p q : ℕ) (a : PortView) : Type 0 where
   pub is : (w.view s).port p ≡ Some a
   pub distributes : a.distributes ≡ true
   pub defaulted : a.defaulted ≡ false
   pub taken : (m : Taken) × (w.taken s p ≡ Some m) × (m.stamp ≡ w.count (peer s) q)
 
--- The two ends of a cable that distribute, neither of which changed since it sent the LACPDU that its peer took
--- last, nor runs on defaults, name the same group (6.3.6): the same unordered pair of ends.
+-- The two ends of a cable have the same group (6.3.6), the same unordered pair of ends, if both distribute, neither
+-- changed since it sent the LACPDU that its peer received last, and neither has a defaulted partner.
 abbrev pub Agree : Fixed → World → Type 0
 Agree x w =
     (c p q : ℕ) (a b : PortView) → end_at x.cables One c ≡ Some p → end_at x.cables Two c ≡ Some q
     → HearsPresent w One p q a → HearsPresent w Two q p b
     → SamePair (group_at a) (group_at b)
 
--- What a conversation that was never forced collected is a subsequence of what it sent: nothing is reordered and nothing
--- comes twice (6.2.4).
+-- What a conversation collected, if it was never forced, is a subsequence of what it sent: nothing is reordered, and
+-- nothing comes twice (6.2.4).
 abbrev pub InOrder : World → Type 0
 InOrder w = (s : Side) (g k : ℕ) → w.forced s g k ≡ false → IsSubsequence (w.collected s g k) (w.sent s g k)
 
--- A port that distributes and is not on defaults took last an LACPDU that said synchronised. Where that LACPDU's
--- actor is aggregatable, its two parties name the group that the port names now.
+-- If a port distributes and its partner is not defaulted, the LACPDU that it received last said IN_SYNC. If that
+-- LACPDU's Actor is aggregatable, its Actor and Partner are the two ends of the port's present group.
 abbrev pub TookSynchronised : World → Type 0
 TookSynchronised w =
     (s : Side) (p : ℕ) (a : PortView) → (w.view s).port p ≡ Some a → a.distributes ≡ true → a.defaulted ≡ false
     → (m : Taken) × (w.taken s p ≡ Some m) × (m.pdu.synchronised ≡ true)
     × (m.pdu.actor.aggregatable ≡ true → SamePair (pair_of m.pdu.actor m.pdu.partner) (group_at a))
 
--- An LACPDU in flight, or taken last, whose stamp equals its sender's change count names its sender's present party.
+-- If an LACPDU in flight, or one that was received last, has a stamp that equals its sender's change count, its Actor
+-- is the sender as it is now.
 abbrev pub NamesPresent : Fixed → World → Type 0
 NamesPresent x w =
     (s : Side) (c p : ℕ) → end_at x.cables s c ≡ Some p
     → ((pdu : Lacpdu) (stamp : ℕ) → Contains (w.line (peer s) c) (Control (Lacp pdu) stamp) → stamp ≡ w.count s p → party_at (w.view s) p ≡ Some pdu.actor)
     × ((q : ℕ) (m : Taken) → end_at x.cables (peer s) c ≡ Some q → w.taken (peer s) q ≡ Some m → m.stamp ≡ w.count s p → party_at (w.view s) p ≡ Some m.pdu.actor)
 
--- All frames in flight of an unforced conversation lie on the cable of its port; a free one has none. All frames
--- travel away from the system that sent them.
+-- All frames in flight of a conversation that was never forced are on the cable of its port; if it is free, none is in
+-- flight. All frames travel away from the system that sent them.
 abbrev pub OnItsCable : Fixed → World → Type 0
 OnItsCable x w =
     (s : Side) (g k c : ℕ) → w.forced s g k ≡ false
     → ((serials s g k (w.line (peer s) c) ≡ []) ⊎ ((p : ℕ) × (end_at x.cables s c ≡ Some p) × (port_of ((w.view s).flows.state g k) ≡ Some p)))
     × (serials s g k (w.line s c) ≡ [])
 
--- None of them stands behind a marker that the conversation waits for, and none is in flight once the response is.
+-- While a conversation that was never forced waits for the response to a marker, none of its frames is behind that
+-- marker on the cable; and once the response is in flight, none of its frames is in flight.
 abbrev pub FlushedByMarker : Fixed → World → Type 0
 FlushedByMarker x w =
     (s : Side) (g k p n c : ℕ) → w.forced s g k ≡ false → (w.view s).flows.state g k ≡ Flushing p n → end_at x.cables s c ≡ Some p
     → ((front back : List Message) (stamp : ℕ) → w.line (peer s) c ≡ front ++ Control (Marker (x.setup s).system.mac p n) stamp ∷ back → serials s g k back ≡ [])
     × ((d stamp : ℕ) → Contains (w.line s c) (Control (Response (x.setup s).system.mac p n) stamp) → serials s g k (w.line (peer s) d) ≡ [])
 
--- Every identifier in flight lies below its requester's next one.
+-- Every marker identifier in flight is below its requester's next one.
 abbrev pub BelowNext : World → Type 0
 BelowNext w =
     (s : Side) (c p n stamp : ℕ) (mac : List ℕ)
     → (Contains (w.line (peer s) c) (Control (Marker mac p n) stamp) → n < (w.view s).flows.next)
     × (Contains (w.line s c) (Control (Response mac p n) stamp) → n < (w.view s).flows.next)
 
--- Collected, followed by what is in flight on any cable, is a subsequence of sent.
+-- What a conversation collected, followed by its frames in flight on any one cable, is a subsequence of what it sent,
+-- if it was never forced.
 abbrev pub CollectedThenInFlight : World → Type 0
 CollectedThenInFlight w =
     (s : Side) (g k c : ℕ) → w.forced s g k ≡ false
     → IsSubsequence (w.collected s g k ++ serials s g k (w.line (peer s) c)) (w.sent s g k)
 
--- The serials that a conversation sent count from 0, so no two of its frames have one serial.
+-- The serial numbers that a conversation sent are 0, 1, 2 and so on, so no two of its frames have the same one.
 abbrev pub CountsFromZero : World → Type 0
 CountsFromZero w = (s : Side) (g k i : ℕ) → i < length (w.sent s g k) → slice_index (w.sent s g k) i ≡ i
 
--- One system makes these calls one after another, each by free moves, whatever others see of it.
+-- One system makes these calls one after another, each by free moves, with any visible acts.
 abbrev pub Drives : Setup → List Call → View → View → Type 0
 Drives u [] old new = new ≡ old
 Drives u (call ∷ calls) old new = (seen : List Act) × (mid : View) × FreeMoves u call old seen mid × Drives u calls mid new
 
--- This holds after each event of each schedule, from the start of each two systems on cables.
+-- The statement holds after each event of each schedule, from the start of any two systems on cables.
 abbrev pub Always : (Fixed → World → Type 0) → Type 0
 Always P = (x : Fixed) (events : List Event) (w : World) → IsFixed x → Run x events (first_world x) w → P x w
 
--- In some run both ends of cable 1 come to distribute and to name the same group, as `Agree` wants them, and a frame of
--- conversation 48 arrives, which was never forced.
+-- There is a run in which both ends of cable 1 come to distribute and to have the same group, as in `Agree`, and a
+-- frame arrives of conversation 48, which was never forced.
 abbrev pub SomethingArrives : Type 0
 SomethingArrives =
     (x : Fixed) × (events : List Event) × (w : World) × (a b : PortView)

@@ -1,18 +1,20 @@
--- The free moves of a view. One call of a system is a list of them, each of which may come at any moment (profile): they
--- know no timer and no machine state, and are free where code has no choice.
+-- The free moves of a system in the model. One call of a system is a list of moves (profile). The model has no timers
+-- and no machine states: a port may stop, leave its aggregator or fall back to defaults at any moment. Restricted are
+-- only which LACPDU a port believes, when it joins an aggregator, when it starts to distribute, on which port a
+-- conversation sends, and when a conversation becomes free.
 use Rattle.std.specs.Prelude.{◌≡◌, ◌≢◌, ℕ, ◌+◌, ◌<◌, ◌^◌, Bool, true, false, ◌&&◌, cond, eqb, ◌⊎◌, Option, Some, None, option_to_list, IsSome, IsSomeAnd, List, [], ◌∷◌, ◌++◌}
 use Rattle.lagtypes.specs.declared.party.Party.{Party}
 use Rattle.lagtypes.specs.Group.{individual, Pair, SamePair, pair_of}
 use Rattle.lagmodel.specs.View.{zero_party, PortView, Conversation, Free, On, Wanted, Flushing, port_of, Flows, View, Setup, first_view, Lacpdu, Pdu, Lacp, Marker, Response, Call, Receive, Set_link, Force, replies_frame, is_restart, at_port, at_conversation}
 
--- what others see of a move: a control PDU or a frame of a conversation that goes out on a port, or an LACPDU
--- that a port took (profile)
+-- a visible act of a move: a control PDU or a frame of a conversation that goes out on a port, or an LACPDU that a port
+-- received (profile)
 pub data Act : Type 0 where
   Sends : (port : ℕ) (pdu : Pdu) → Act
   Sends_frame : (port aggregator conversation : ℕ) → Act
   Took : (port : ℕ) (pdu : Lacpdu) → Act
 
--- moves of one port
+-- the moves of one port
 pub data PortMove : Type 0 where
   Stop : PortMove  -- 6.4.15
   Leave : PortMove  -- 6.4.8, Selected; 6.4.15, DETACHED
@@ -25,38 +27,40 @@ pub data PortMove : Type 0 where
   Announce : (synchronised : Bool) → PortMove  -- 6.4.16
   Respond : (mac : List ℕ) (port identifier : ℕ) → PortMove  -- 6.2.6, 6.5.4
 
--- the port's group, as a pair of ends: that of its party and its recorded partner (6.3.6)
+-- the port's group, as a pair of ends: its own parameters and its recorded partner's (6.3.6)
 abbrev pub group_at : PortView → Pair
 group_at a = pair_of a.party a.partner
 
--- what the port a may do, at number p among these ports
+-- the moves that the port a may make; p is its number, and the function gives all ports of the system
 abbrev pub PortAllowed : Setup → Call → (ℕ → Option PortView) → ℕ → PortMove → PortView → Type 0
--- at any moment it stops distributing, leaves its aggregator or loses the record that its partner is synchronised
+-- at any moment it stops distributing, leaves its aggregator, or records that its partner is not synchronized
 PortAllowed u call ports p Stop a = Unit {0}
 PortAllowed u call ports p Leave a = Unit {0}
 PortAllowed u call ports p Desynchronise a = Unit {0}
--- outside every aggregator it takes another own party, in a configure only, and goes on defaults
+-- outside every aggregator, and only in a configure, it gets other parameters and a defaulted partner
 PortAllowed u call ports p (Reconfigure party) a =
     (call ≡ Call.Configure) × (a.aggregator ≡ None) × (party.system ≡ a.party.system) × (party.port.number ≡ a.party.port.number)
--- it goes on defaults outside every aggregator, or where its partner is all zero already
+-- its partner is defaulted, outside every aggregator or if its partner is all zero already
 PortAllowed u call ports p Default a = (a.aggregator ≡ None) ⊎ (a.partner ≡ zero_party)
--- it takes the LACPDU that comes on it, outside every aggregator where that names another partner. The partner
--- is recorded as synchronised only if the LACPDU says so and names this port's party or has an individual actor
+-- It receives the LACPDU that comes on it; outside every aggregator if its Actor is another partner. The partner is
+-- recorded as synchronized only if the LACPDU says so, and either names this port as its Partner or has an Individual
+-- Actor.
 PortAllowed u call ports p (Take pdu synchronised) a =
     (call ≡ Receive p (Some (Lacp pdu)))
     × ((pdu.actor ≡ a.partner) ⊎ (a.aggregator ≡ None))
     × (synchronised ≡ true → (pdu.synchronised ≡ true) × ((pdu.partner ≡ a.party) ⊎ (pdu.actor.aggregatable ≡ false)))
--- it joins an aggregator with its key that has no member, or whose members all have its group, which is not individual.
--- A system is not aggregated with itself (profile)
+-- It joins an aggregator that has its key and either no member or only members of its group, which is not Individual. A
+-- system is not aggregated with itself (profile).
 PortAllowed u call ports p (Join g) a =
     (a.aggregator ≡ None)
     × (a.partner.system ≢ a.party.system)
     × (u.key g ≡ Some a.party.key)
     × (((q : ℕ) (b : PortView) → ports q ≡ Some b → b.aggregator ≢ Some g)
     ⊎ (((q : ℕ) (b : PortView) → ports q ≡ Some b → b.aggregator ≡ Some g → SamePair (group_at b) (group_at a)) × (individual a.party a.partner ≡ false)))
--- a member whose partner is recorded as synchronised begins to distribute
+-- a member whose partner is recorded as synchronized starts to distribute
 PortAllowed u call ports p Distribute a = IsSome a.aggregator × (a.synchronised ≡ true)
--- it sends an LACPDU, which names both parties as they are now, and says synchronised only of a member
+-- it sends an LACPDU with its own and its partner's parameters as they are now; this says IN_SYNC only if the port is a
+-- member
 PortAllowed u call ports p (Announce synchronised) a = (replies_frame call ≡ true) × (synchronised ≡ true → IsSome a.aggregator)
 -- it answers the marker that comes on it
 PortAllowed u call ports p (Respond mac port identifier) a = call ≡ Receive p (Some (Marker mac port identifier))
@@ -75,14 +79,14 @@ port_after Distribute a = record a { distributes = true }
 port_after (Announce synchronised) a = a
 port_after (Respond mac port identifier) a = a
 
--- what others see of port p: an LACPDU or a Marker Response PDU that it sends, or an LACPDU that it takes
+-- the visible act of a move of port p: an LACPDU or a Marker Response that it sends, or an LACPDU that it receives
 abbrev pub port_act : ℕ → PortMove → PortView → Option Act
 port_act p (Announce synchronised) a = Some (Sends p (Lacp (record { actor = a.party; partner = a.partner; synchronised = synchronised })))
 port_act p (Respond mac port identifier) a = Some (Sends p (Response mac port identifier))
 port_act p (Take pdu synchronised) a = Some (Took p pdu)
 port_act p _ a = None
 
--- what can become of one conversation while nothing is sent (profile; 6.5.2 tells what markers are for)
+-- the changes of one conversation, other than sending a frame (profile; 6.5.2 says what markers are for)
 pub data Change : Type 0 where
   Want : (port : ℕ) → Change
   Retry : (port identifier : ℕ) → Change
@@ -90,17 +94,17 @@ pub data Change : Type 0 where
   Down : (port : ℕ) → Change
   Forced : Change
 
--- what may become of the conversation c, which is conversation k of aggregator g, of a system with this MAC address
+-- the changes that the conversation c may make; it is conversation k of aggregator g, in a system with this MAC address
 abbrev pub ChangeAllowed : List ℕ → Call → ℕ → ℕ → Change → Conversation → Type 0
 ChangeAllowed mac call g k (Want p) c = c ≡ On p
 ChangeAllowed mac call g k (Retry p n) c = c ≡ Flushing p n
--- It becomes free by the response that it waits for, which comes on the port that it names, when its port goes down, or
--- by force
+-- It becomes free if the response that it waits for comes on the port that the response names, if its port goes down,
+-- or by force.
 ChangeAllowed mac call g k (Answered p n) c = (call ≡ Receive p (Some (Response mac p n))) × (c ≡ Flushing p n)
 ChangeAllowed mac call g k (Down p) c = (call ≡ Set_link p false) × (port_of c ≡ Some p)
 ChangeAllowed mac call g k Forced c = call ≡ Force g k
 
--- the conversation after its change
+-- the conversation after the change
 abbrev pub changed : Change → Conversation
 changed (Want p) = Wanted p
 changed (Retry p n) = Wanted p
@@ -108,51 +112,52 @@ changed (Answered p n) = Free
 changed (Down p) = Free
 changed Forced = Free
 
--- moves of the conversations
+-- the moves of the conversations
 pub data FlowMove : Type 0 where
   Send : (aggregator conversation port : ℕ) → FlowMove  -- 6.2.4
   Mark : (port : ℕ) → FlowMove  -- 6.2.5, 6.5.3.3
   Become : (aggregator conversation : ℕ) (change : Change) → FlowMove
 
--- what the conversations may do, of a system with this MAC address whose port p may distribute in aggregator g
+-- the moves that the conversations of a system with this MAC address may make; the relation says which port may
+-- distribute in which aggregator
 abbrev pub FlowAllowed : List ℕ → Call → (ℕ → ℕ → Type 0) → Flows → FlowMove → Type 0
--- a free conversation sends on any port that distributes in its aggregator, another one only on the port that it is on
+-- a free conversation sends on any port that distributes in its aggregator; another one only on the port that it is On
 FlowAllowed mac call Distributes f (Send g k p) =
     (replies_frame call ≡ true) × (((f.state g k ≡ Free) × Distributes g p) ⊎ (f.state g k ≡ On p))
--- a marker takes the next identifier, of which none follows 4294967295
+-- a marker gets the next identifier; none follows 4294967295
 FlowAllowed mac call Distributes f (Mark p) = (replies_frame call ≡ true) × (f.next < 2 ^ 32)
 FlowAllowed mac call Distributes f (Become g k m) = ChangeAllowed mac call g k m (f.state g k)
 
--- all that are wanted on p wait for the marker n
+-- a conversation that is Wanted on p becomes Flushing with the marker n
 abbrev pub flushed : ℕ → ℕ → Conversation → Conversation
 flushed p n Free = Free
 flushed p n (On q) = On q
 flushed p n (Wanted q) = cond (eqb q p) (Flushing q n) (Wanted q)
 flushed p n (Flushing q m) = Flushing q m
 
--- the conversations after their move; a marker takes the next Requester_Transaction_ID
+-- the conversations after the move; a marker uses up one Requester_Transaction_ID
 abbrev pub flows_after : FlowMove → Flows → Flows
 flows_after (Send g k p) f = record f { state = at_conversation f.state g k (On p) }
 flows_after (Mark p) f = record { state = λ g k. flushed p f.next (f.state g k); next = f.next + 1 }
 flows_after (Become g k m) f = record f { state = at_conversation f.state g k (changed m) }
 
--- what others see of it: a frame of a conversation or a Marker PDU that goes out on a port
+-- the visible act of a move: a frame of a conversation, or a Marker PDU, that goes out on a port
 abbrev pub flow_act : List ℕ → FlowMove → Flows → Option Act
 flow_act mac (Send g k p) f = Some (Sends_frame p g k)
 flow_act mac (Mark p) f = Some (Sends p (Marker mac p f.next))
 flow_act mac (Become g k m) f = None
 
--- such moves one after another, of which others see just this: what a distributor does in one call
+-- moves of the conversations one after another, with just these visible acts: what a distributor does in one call
 abbrev pub AllFlowAllowed : List ℕ → Call → (ℕ → ℕ → Type 0) → Flows → List FlowMove → Type 0
 AllFlowAllowed mac call Distributes f [] = Unit {0}
 AllFlowAllowed mac call Distributes f (m ∷ ms) = FlowAllowed mac call Distributes f m × AllFlowAllowed mac call Distributes (flows_after m f) ms
 
--- the conversations after all of them
+-- the conversations after a list of moves
 abbrev pub flows_after_all : List FlowMove → Flows → Flows
 flows_after_all [] f = f
 flows_after_all (m ∷ ms) f = flows_after_all ms (flows_after m f)
 
--- what others see of all of them
+-- the visible acts of a list of moves
 abbrev pub flow_acts : List ℕ → List FlowMove → Flows → List Act
 flow_acts mac [] f = []
 flow_acts mac (m ∷ ms) f = option_to_list (flow_act mac m f) ++ flow_acts mac ms (flows_after m f)
@@ -161,7 +166,7 @@ abbrev pub FlowMoves : List ℕ → Call → (ℕ → ℕ → Type 0) → Flows 
 FlowMoves mac call Distributes old seen new =
     (moves : List FlowMove) × AllFlowAllowed mac call Distributes old moves × (flow_acts mac moves old ≡ seen) × (new ≡ flows_after_all moves old)
 
--- a move of the system: of the port with this number, of the conversations, or a restart
+-- a move of a system: of the port with this number, of the conversations, or a restart
 pub data Move : Type 0 where
   Port : (port : ℕ) (move : PortMove) → Move
   Flow : (move : FlowMove) → Move
@@ -190,7 +195,7 @@ act u (Port p m) v = act_of_port p m (v.port p)
 act u (Flow m) v = flow_act u.system.mac m v.flows
 act u Restart v = None
 
--- moves one after another
+-- a list of moves is allowed, one after another
 abbrev pub AllAllowed : Setup → Call → View → List Move → Type 0
 AllAllowed u call v [] = Unit {0}
 AllAllowed u call v (m ∷ ms) = Allowed u call v m × AllAllowed u call (after u m v) ms
@@ -203,6 +208,6 @@ abbrev pub acts : Setup → List Move → View → List Act
 acts u [] v = []
 acts u (m ∷ ms) v = option_to_list (act u m v) ++ acts u ms (after u m v)
 
--- A call leads from old to new by free moves, of which others see just this.
+-- A call leads from the view old to the view new by free moves, with just these visible acts.
 abbrev pub FreeMoves : Setup → Call → View → List Act → View → Type 0
 FreeMoves u call old seen new = (moves : List Move) × AllAllowed u call old moves × (acts u moves old ≡ seen) × (new ≡ after_all u moves old)

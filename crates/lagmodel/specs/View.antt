@@ -1,10 +1,10 @@
--- What the law sees of a system, and the calls of a system. No timer, machine state, octet or preference is part of it.
+-- A system and its calls, as the model has them. There are no timers, machine states, octets or preferred ports.
 use Rattle.std.specs.Prelude.{◌≡◌, ℕ, Bool, true, false, cond, eqb, Option, Some, None, option_map, List, [], ◌∷◌}
 use Rattle.lagtypes.specs.declared.identifiers.SystemId.{SystemId}
 use Rattle.lagtypes.specs.declared.party.Party.{Party}
 use Rattle.lagtypes.specs.declared.identifiers.Key.{Key}
 
--- the partner of a port that runs on defaults: all zero (profile; 6.4.9, recordDefault)
+-- a defaulted partner: all zero (profile; 6.4.9, recordDefault)
 abbrev pub zero_party : Party
 zero_party = record {
   system = record { priority = 0; mac = 0 ∷ 0 ∷ 0 ∷ 0 ∷ 0 ∷ 0 ∷ [] };
@@ -13,8 +13,8 @@ zero_party = record {
   aggregatable = false;
 }
 
--- a port (6.4.7, 6.4.8): its own party, its recorded partner, whether that is recorded as synchronised, whether the
--- port runs on defaults, the aggregator that it was given, and whether it distributes
+-- A port (6.4.7, 6.4.8): its own parameters, its recorded partner's, whether the partner is recorded as synchronized,
+-- whether it is defaulted, the aggregator that the port was given, and whether the port distributes.
 pub record PortView : Type 0 where
   pub party : Party
   pub partner : Party
@@ -30,38 +30,38 @@ pub data Conversation : Type 0 where
   Wanted : (port : ℕ) → Conversation
   Flushing : (port identifier : ℕ) → Conversation
 
--- the port that the frames of a conversation went to last
+-- the port that the latest frames of a conversation went to
 abbrev pub port_of : Conversation → Option ℕ
 port_of Free = None
 port_of (On p) = Some p
 port_of (Wanted p) = Some p
 port_of (Flushing p n) = Some p
 
--- what a Frame Distributor keeps (6.2.4, 6.2.5): each conversation, by aggregator and number, and the identifier of the
--- next marker, which is one above the last that was sent, or the configured first one
+-- The state of a Frame Distributor (6.2.4, 6.2.5): each conversation, by aggregator and number, and the identifier of
+-- the next marker, which is one above the last that was sent, or the configured first one.
 pub record Flows : Type 0 where
   pub state : ℕ → ℕ → Conversation
   pub next : ℕ
 
--- a system: its ports by number, where the configuration has them, and its conversations
+-- a system: its ports by number, if the configuration has them, and its conversations
 pub record View : Type 0 where
   pub port : ℕ → Option PortView
   pub flows : Flows
 
--- how a system is configured: its identifier (6.3.2), its own party at each of its ports (6.3.4), the key of each of its
--- aggregators (6.3.5), and the identifier of its first marker (profile)
+-- The configuration of a system: its identifier (6.3.2), its own parameters at each of its ports (6.3.4), the key of
+-- each of its aggregators (6.3.5), and the identifier of its first marker (profile).
 pub record Setup : Type 0 where
   pub system : SystemId
   pub party : ℕ → Option Party
   pub key : ℕ → Option Key
   pub first_marker : ℕ
 
--- each port's party names the system and that port
+-- the own parameters at each port name the system and that port
 pub record IsSetup (u : Setup) : Type 0 where
   pub system : (p : ℕ) (a : Party) → u.party p ≡ Some a → a.system ≡ u.system
   pub number : (p : ℕ) (a : Party) → u.party p ≡ Some a → a.port.number ≡ p
 
--- a port with its link down, on defaults and with no partner recorded as synchronised (6.4.12, PORT_DISABLED)
+-- a port with its link down: its partner is defaulted and not synchronized (6.4.12, PORT_DISABLED)
 abbrev pub first_port : Party → PortView
 first_port party = record {
   party = party;
@@ -72,32 +72,33 @@ first_port party = record {
   distributes = false;
 }
 
--- a system that was just started: all links down, all conversations free
+-- a system that has just started: all links down, all conversations free
 abbrev pub first_view : Setup → View
 first_view u = record {
   port = λ p. option_map first_port (u.party p);
   flows = record { state = λ g k. Free; next = u.first_marker };
 }
 
--- an LACPDU, as far as the law reads it: both parties, and the actor's Synchronization bit (6.4.2.3)
+-- an LACPDU, as far as the model reads it: Actor, Partner, and the Actor's Synchronization bit (6.4.2.3)
 pub record Lacpdu : Type 0 where
   pub actor : Party
   pub partner : Party
   pub synchronised : Bool
 
--- a control PDU: an LACPDU, or a marker or its response with the requester's system, port and transaction (6.5.3.3)
+-- a control PDU: an LACPDU, or a marker or its response with requester system, requester port and transaction
+-- identifier (6.5.3.3)
 pub data Pdu : Type 0 where
   Lacp : (pdu : Lacpdu) → Pdu
   Marker : (mac : List ℕ) (port identifier : ℕ) → Pdu
   Response : (mac : List ℕ) (port identifier : ℕ) → Pdu
 
--- what a configure may change of a port (6.4.7): its key, its priority, and whether it is aggregatable
+-- what a configure may change of a port (6.4.7): its key, its priority, and its Aggregation bit
 pub record PortChange : Type 0 where
   pub key : Key
   pub priority : ℕ
   pub aggregatable : Bool
 
--- a call of a system, with what its moves look at. A receive brings a control PDU, or something else
+-- a call of a system, with the arguments that its moves depend on; a receive has a control PDU, or something else
 pub data Call : Type 0 where
   Receive : (port : ℕ) (pdu : Option Pdu) → Call
   Tick : Call
@@ -109,8 +110,8 @@ pub data Call : Type 0 where
   Move_conversation : Call
   Force : (aggregator conversation : ℕ) → Call
 
--- Whether the reply of the call can hold a frame to send: what a call sends is what its reply holds. The others send
--- nothing. Could a configure send, an LACPDU might carry its sender's count and name a party that it had for a moment
+-- Whether the reply of the call can contain a frame to send; the other calls send nothing. Were a configure able to
+-- send, an LACPDU might be sent with a change count for which it names parameters that the port had only for a moment.
 abbrev pub replies_frame : Call → Bool
 replies_frame (Receive p pdu) = true
 replies_frame Transmit = true
@@ -126,7 +127,7 @@ abbrev pub is_restart : Call → Bool
 is_restart Restart = true
 is_restart _ = false
 
--- one port, or one conversation, changed
+-- the function, changed at one port or at one conversation
 abbrev pub at_port : (ℕ → Option PortView) → ℕ → (PortView → PortView) → ℕ → Option PortView
 at_port ports p f q = cond (eqb q p) (option_map f (ports q)) (ports q)
 

@@ -1,10 +1,10 @@
--- Two systems that are joined by cables, and what can happen to them (profile; links are point-to-point: LACP_Enabled of 6.4.8).
+-- Two systems joined by cables, and what can happen to them (profile; links are point-to-point: LACP_Enabled of 6.4.8).
 use Rattle.std.specs.Prelude.{◌≡◌, ◌≢◌, ℕ, zero, suc, Bool, true, false, ◌&&◌, cond, eqb, ◌⊎◌, Option, Some, None, option_map, List, [], ◌∷◌, ◌++◌, length, slice_get}
 use Rattle.lagtypes.specs.declared.party.Party.{Party}
 use Rattle.lagmodel.specs.View.{PortView, PortChange, View, Setup, IsSetup, first_view, Lacpdu, Pdu, Lacp, Marker, Response, Call}
 use Rattle.lagmodel.specs.Move.{Act, Sends, Sends_frame, Took, Move, Allowed, after, act}
 
--- the two systems of the world
+-- the two systems
 pub data Side : Type 0 where
   One : Side
   Two : Side
@@ -13,19 +13,19 @@ abbrev pub peer : Side → Side
 peer One = Two
 peer Two = One
 
--- f with x at s
+-- the function f, with the value x at s
 abbrev pub at_side : {X : Type 0} → (Side → X) → Side → X → Side → X
 at_side f One x One = x
 at_side f One x Two = f Two
 at_side f Two x One = f One
 at_side f Two x Two = x
 
--- f with x at g and k
+-- the function f, with the value x at g and k
 abbrev pub at_two : {X : Type 0} → (ℕ → ℕ → X) → ℕ → ℕ → X → ℕ → ℕ → X
 at_two f g k x h j = cond (eqb h g) (cond (eqb j k) x (f h j)) (f h j)
 
--- What is on a cable: a control PDU with a stamp, which is its sender's change count for an LACPDU and 0 for
--- another, or a frame with the system that sent it, its aggregator, conversation and serial number (6.2.4).
+-- A message on a cable: a control PDU with a stamp, which for an LACPDU is its sender's change count and else 0; or a
+-- frame, with the system that sent it, its aggregator, conversation and serial number (6.2.4).
 pub data Message : Type 0 where
   Control : (pdu : Pdu) (stamp : ℕ) → Message
   Data : (origin : Side) (aggregator conversation serial : ℕ) → Message
@@ -35,12 +35,12 @@ pub record Ends : Type 0 where
   pub one : ℕ
   pub two : ℕ
 
--- the end at system s
+-- the port at system s
 abbrev pub port_on : Side → Ends → ℕ
 port_on One e = e.one
 port_on Two e = e.two
 
--- the port of system s on cable c, where cables count from 1
+-- the port of system s on cable c; cables are numbered from 1
 abbrev pub end_at : List Ends → Side → ℕ → Option ℕ
 end_at cables s zero = None
 end_at cables s (suc c) = option_map (port_on s) (slice_get cables c)
@@ -49,12 +49,12 @@ end_at cables s (suc c) = option_map (port_on s) (slice_get cables c)
 abbrev pub IsCabling : List Ends → Type 0
 IsCabling cables = (s : Side) (c d p : ℕ) → end_at cables s c ≡ Some p → end_at cables s d ≡ Some p → c ≡ d
 
--- an LACPDU that a port took, with its stamp
+-- an LACPDU that a port received, with its stamp
 pub record Taken : Type 0 where
   pub pdu : Lacpdu
   pub stamp : ℕ
 
--- two systems and their cables, by number, with what happened so far
+-- two systems and their cables, with what has happened so far
 pub record World : Type 0 where
   pub view : Side → View
   pub whole : ℕ → Bool  -- of a cable
@@ -65,18 +65,18 @@ pub record World : Type 0 where
   pub collected : Side → ℕ → ℕ → List ℕ  -- those of them that were handed up at the other system
   pub forced : Side → ℕ → ℕ → Bool  -- whether a conversation was ever forced
 
--- what a world has for good: both configurations, and the cables
+-- what never changes: both configurations, and the cables
 pub record Fixed : Type 0 where
   pub setup : Side → Setup
   pub cables : List Ends
 
--- What the law asks of them: parties that name their system and port, and no port with two cables. It asks neither that
--- the systems differ nor that every cable ends at a port.
+-- What the theorem requires of them: the own parameters of each port name its system and that port, and no port has two
+-- cables. The systems may be equal, and a cable may end at a port that does not exist.
 pub record IsFixed (x : Fixed) : Type 0 where
   pub setup : (s : Side) → IsSetup (x.setup s)
   pub cables : IsCabling x.cables
 
--- both systems just started, every cable whole and empty
+-- both systems have just started, and every cable is whole and empty
 abbrev pub first_world : Fixed → World
 first_world x = record {
   view = λ s. first_view (x.setup s);
@@ -89,27 +89,28 @@ first_world x = record {
   forced = λ s g k. false;
 }
 
--- the own party at a port
+-- the own parameters of a port
 abbrev pub party_at : View → ℕ → Option Party
 party_at v p = option_map (λ (a : PortView). a.party) (v.port p)
 
--- the stamp of a control PDU that a port with this change count sends
+-- the stamp of a control PDU, if its sender has this change count
 abbrev pub stamp_of : Pdu → ℕ → ℕ
 stamp_of (Lacp pdu) count = count
 stamp_of (Marker mac port identifier) count = 0
 stamp_of (Response mac port identifier) count = 0
 
--- whether a cable's end is port p
+-- this end of a cable is port p
 abbrev pub is_port : ℕ → Option ℕ → Bool
 is_port p None = false
 is_port p (Some q) = eqb q p
 
--- m goes onto the cable of port p, if there is one, if that is whole and unless it hands m back; else m is lost at once
+-- m joins the messages on the cable of port p, if there is one, if it is whole and if it accepts m (`kept`); else m is
+-- lost
 abbrev pub put : (ℕ → Option ℕ) → (ℕ → Bool) → Bool → ℕ → Message → (ℕ → List Message) → ℕ → List Message
 put ends whole kept p m lines c = cond (kept && (whole c && is_port p (ends c))) (lines c ++ m ∷ []) (lines c)
 
--- What an act of system s leaves: on the cables towards its peer, of the serials that it sent, and of the LACPDUs
--- that its ports took last. kept: whether the cable takes what is sent. stamp: that of what came in this call
+-- The messages on the cables, the serial numbers sent and the LACPDUs received last, after a visible act of system s.
+-- `kept`: whether the cable accepts what is sent. `stamp`: the stamp of what came in this call.
 abbrev pub line_after : Side → (ℕ → Option ℕ) → (ℕ → Bool) → (ℕ → ℕ) → (ℕ → ℕ → List ℕ) → Bool → Option Act → (ℕ → List Message) → ℕ → List Message
 line_after s ends whole count sent kept None lines = lines
 line_after s ends whole count sent kept (Some (Sends p pdu)) lines = put ends whole kept p (Control pdu (stamp_of pdu (count p))) lines
@@ -128,7 +129,7 @@ taken_after stamp (Some (Sends p pdu)) taken = taken
 taken_after stamp (Some (Sends_frame p g k)) taken = taken
 taken_after stamp (Some (Took p pdu)) taken = λ q. cond (eqb q p) (Some (record { pdu = pdu; stamp = stamp })) (taken q)
 
--- one move of system s
+-- the world after one move of system s
 abbrev pub moved : Fixed → Side → ℕ → Move × Bool → World → World
 moved x s stamp m w = record w {
   view = at_side w.view s (after (x.setup s) m.0 (w.view s));
@@ -137,34 +138,34 @@ moved x s stamp m w = record w {
   taken = at_side w.taken s (taken_after stamp (act (x.setup s) m.0 (w.view s)) (w.taken s));
 }
 
--- moves of system s one after another, each with whether the cable takes what it sends
+-- moves of system s one after another are allowed; each says whether the cable accepts what it sends
 abbrev pub AllMoves : Fixed → Side → Call → ℕ → List (Move × Bool) → World → Type 0
 AllMoves x s call stamp [] w = Unit {0}
 AllMoves x s call stamp (m ∷ ms) w = Allowed (x.setup s) call (w.view s) m.0 × AllMoves x s call stamp ms (moved x s stamp m w)
 
--- and what they lead to
+-- the world after these moves
 abbrev pub all_moved : Fixed → Side → ℕ → List (Move × Bool) → World → World
 all_moved x s stamp [] w = w
 all_moved x s stamp (m ∷ ms) w = all_moved x s stamp ms (moved x s stamp m w)
 
--- the change counts after an event: one more where the port's party differs
+-- the change counts after an event: one more for each port whose own parameters differ
 abbrev pub Counts : World → World → (Side → ℕ → ℕ) → Type 0
 Counts old new count =
     (s : Side) (p : ℕ) →
     ((party_at (new.view s) p ≡ party_at (old.view s) p) × (count s p ≡ old.count s p))
     ⊎ ((party_at (new.view s) p ≢ party_at (old.view s) p) × (count s p ≡ suc (old.count s p)))
 
--- The event that began in the world old led to mid, but for the change counts, and so to new.
+-- The event that began in the world old led to mid; with the change counts worked out, that is new.
 abbrev pub Counted : World → World → World → Type 0
 Counted old mid new = (count : Side → ℕ → ℕ) × Counts old mid count × (new ≡ record mid { count = count })
 
--- A call of system s, made in mid, within an event that began in old.
+-- A call of system s, made in the world mid, within an event that began in the world old.
 abbrev pub Calls : Fixed → Side → Call → ℕ → World → World → World → Type 0
 Calls x s call stamp old mid new =
     (moves : List (Move × Bool)) × AllMoves x s call stamp moves mid × Counted old (all_moved x s stamp moves mid) new
 
--- An event. Where its arguments say more than the moves of its call look at, they leave those as free as they were: the
--- law holds of more runs than those of code.
+-- An event. Some arguments matter only to code: the moves of the call do not depend on them, so the theorem covers more
+-- runs than code can make.
 pub data Event : Type 0 where
   Tick : (s : Side) (ticks : ℕ) → Event
   Emit : (s : Side) (port : ℕ) → Event
@@ -180,52 +181,52 @@ pub data Event : Type 0 where
   Move_conversation : (s : Side) (aggregator conversation port : ℕ) → Event
   Force : (s : Side) (aggregator conversation : ℕ) → Event
 
--- f with x at cable c
+-- the function f, with the value x at cable c
 abbrev pub at_cable : {X : Type 0} → (ℕ → X) → ℕ → X → ℕ → X
 at_cable f c x d = cond (eqb d c) x (f d)
 
--- the list on cable c towards a system becomes ms
+-- the messages on cable c towards a system become ms
 abbrev pub with_line : World → ℕ → Side → List Message → World
 with_line w c to ms = record w { line = at_side w.line to (at_cable (w.line to) c ms) }
 
--- whether the frame was handed up or dropped
+-- a frame is handed up, or dropped
 abbrev pub handed_up : Bool → Message → World → World
 handed_up up (Control pdu stamp) w = w
 handed_up up (Data origin g k serial) w =
     cond up (record w { collected = at_side w.collected origin (at_two (w.collected origin) g k (w.collected origin g k ++ serial ∷ [])) }) w
 
--- m comes on port p of system s
+-- the message m is received on port p of system s
 abbrev pub Receives : Fixed → Side → ℕ → Message → World → World → World → Type 0
 Receives x s p (Control pdu stamp) old mid new = Calls x s (Call.Receive p (Some pdu)) stamp old mid new
 Receives x s p (Data origin g k serial) old mid new =
     (up : Bool) × Calls x s (Call.Receive p None) 0 old (handed_up up (Data origin g k serial) mid) new
 
--- the first message of a list is taken away and comes at the cable's end
+-- the first message of a list is taken off and received at the cable's end
 abbrev pub Comes : Fixed → ℕ → Side → Option ℕ → List Message → World → World → Type 0
 Comes x c to port [] old new = new ≡ old
 Comes x c to None (m ∷ ms) old new = ⊥
 Comes x c to (Some p) (m ∷ ms) old new = Receives x to p m old (with_line old c to ms) new
 
--- the first message of a list comes at the cable's end and stays; a frame is not repeated
+-- the first message of a list is received at the cable's end, but stays on the cable; a frame is never repeated
 abbrev pub ComesAgain : Fixed → ℕ → Side → Option ℕ → List Message → World → World → Type 0
 ComesAgain x c to port [] old new = new ≡ old
 ComesAgain x c to port (Data origin g k serial ∷ ms) old new = new ≡ old
 ComesAgain x c to None (Control pdu stamp ∷ ms) old new = ⊥
 ComesAgain x c to (Some p) (Control pdu stamp ∷ ms) old new = Receives x to p (Control pdu stamp) old old new
 
--- the first message of a list is taken away
+-- the first message of a list is lost
 abbrev pub IsLost : ℕ → Side → List Message → World → World → Type 0
 IsLost c to [] old new = new ≡ old
 IsLost c to (m ∷ ms) old new = new ≡ with_line old c to ms
 
--- system s is told whether its cable is whole
+-- system s learns whether its cable is whole
 abbrev pub Senses : Fixed → Side → Option ℕ → Bool → World → World → Type 0
 Senses x s None up old new = ⊥
 Senses x s (Some p) up old new = Calls x s (Call.Set_link p up) 0 old old new
 
 -- From old, the event may lead to new.
 abbrev pub Happens : Fixed → Event → World → World → Type 0
--- ticks one after another are one list of moves
+-- several ticks are one list of moves
 Happens x (Tick s n) old new = Calls x s Call.Tick 0 old old new
 Happens x (Emit s p) old new = Calls x s Call.Transmit 0 old old new
 Happens x (Deliver c to) old new = Comes x c to (end_at x.cables to c) (old.line to c) old new
@@ -242,12 +243,12 @@ Happens x (Restart s) old new =
 Happens x (Configure s p change) old new = Calls x s Call.Configure 0 old old new
 Happens x (Offer s g frame) old new = Calls x s Call.Offer 0 old old new
 Happens x (Move_conversation s g k p) old new = Calls x s Call.Move_conversation 0 old old new
--- a force is refused, or the conversation counts as forced from then on
+-- the force is refused, or the conversation counts as forced from now on
 Happens x (Force s g k) old new =
     (new ≡ old)
     ⊎ Calls x s (Call.Force g k) 0 old (record old { forced = at_side old.forced s (at_two (old.forced s) g k true) }) new
 
--- a whole run, one event after another
+-- a run: events one after another
 abbrev pub Run : Fixed → List Event → World → World → Type 0
 Run x [] old new = new ≡ old
 Run x (e ∷ es) old new = (mid : World) × Happens x e old mid × Run x es mid new

@@ -1,15 +1,18 @@
-//! The law of two systems that are joined by cables, over definitions alone: what a system shows (`specs/View`), how
-//! it may move (`specs/Move`), what can happen to two of them (`specs/World`), and what holds all the while (`specs/Law`).
-//! The functions do nothing: each stands for its contract, which is proved.
+//! The two-system theorem, about definitions only: the view of a system (`specs/View`), the moves that it may make
+//! (`specs/Move`), what can happen to two systems on cables (`specs/World`), and what holds after every event
+//! (`specs/Law`). The functions of this crate do nothing when they run: the contract of each is a proved theorem.
+//!
+//! In comments, numbers such as 6.2.4 are sections of IEEE 802.1AX-2014, and "profile" is docs/PROFILE.md.
 #![tactic(auto)]
 
 ghost use Rattle.lagmodel.specs.World.{Side};
 ghost use Rattle.lagmodel.specs.Law.{Always, OnePartner, Agree, InOrder, TookSynchronised, NamesPresent, OnItsCable, FlushedByMarker, BelowNext, CollectedThenInFlight, CountsFromZero};
 
-/// The headline. After each event of every schedule: ports that distribute in one aggregator name one partner; both ends
-/// of a cable that distribute name one group, unless one of them changed since or runs on defaults; and what a
-/// conversation that was never forced collected is a subsequence of what it sent (6.2.4, 6.3.6, 6.4.14, 6.5).
-/// Beside it stand the facts that carry it.
+/// The headline. After each event of every schedule: ports that distribute in one aggregator have one partner; both
+/// ends of a cable that distribute have the same Link Aggregation Group, unless an end changed since its peer received
+/// its last LACPDU, or has a defaulted partner; and what a conversation collected, if it was never forced, is a
+/// subsequence of what it sent (6.2.4, 6.3.6, 6.4.14, 6.5). The other clauses are the invariants on which the proof
+/// rests.
 pub fn headline()
     ensures one_partner { Always (λ x w. (s : Side) → OnePartner (w.view s)) }
     ensures agree { Always (λ x w. Agree x w) }
@@ -28,8 +31,8 @@ ghost use Rattle.lagmodel.specs.View.{View, Setup, IsSetup, Call, first_view};
 ghost use Rattle.lagmodel.specs.Move.{Act, FreeMoves};
 ghost use Rattle.lagmodel.specs.Law.{Drives, Members};
 
-/// One system by itself, whatever reaches it: `Members` holds at first and after each call, so after every list of calls;
-/// and where it holds, ports that distribute in one aggregator name one partner (6.4.14.1).
+/// One system by itself, whatever it receives: `Members` holds at the start and after each call, so after every list of
+/// calls; and if it holds, ports that distribute in one aggregator have one partner (6.4.14.1).
 pub fn one_system()
     ensures first { (u : Setup) → IsSetup u → Members u (first_view u).port }
     ensures kept { (u : Setup) (call : Call) (old new : View) (seen : List Act) → IsSetup u → FreeMoves u call old seen new → Members u old.port → Members u new.port }
@@ -39,7 +42,7 @@ pub fn one_system()
 
 ghost use Rattle.lagmodel.specs.Law.{SomethingArrives};
 
-/// The law speaks of something: there is a run in which two systems agree and a frame arrives.
+/// The headline is not empty: there is a run in which both ends agree and a frame arrives.
 pub fn something_arrives()
     ensures { SomethingArrives }
 {}
