@@ -1,4 +1,4 @@
--- How the ends of a cable stand to one another.
+-- How the ends of a cable stand to each other.
 use Rattle.std.specs.Prelude.{ℕ, ◌==◌, ◌&&◌, ◌||◌, Bool, false, not, Option, Some, None, option_map, if◌then◌else◌}
 use Rattle.std.specs.Option.{unwrap_or}
 use Rattle.lagtypes.specs.declared.group.Group.{Group}
@@ -13,8 +13,8 @@ use Rattle.lagworld.specs.declared.agreement.EndView.{EndView}
 use Rattle.lagworld.specs.declared.logs.Heard.{Heard}
 use Rattle.lagworld.specs.State.{Half, Line, Joint, nth, log_at, count_in, taken_in}
 
--- an end of a cable: whether it distributes and is on defaults, its change count, the LACPDU that it took last, and its group.
--- A port that does not exist does not distribute
+-- The values of an end of a cable that are compared: whether it distributes, whether its partner is defaulted, its
+-- change count, the LACPDU that it received last, and its group. A port that does not exist does not distribute.
 abbrev pub end_view : Half → ℕ → EndView
 end_view h p = record {
   distributes = unwrap_or (option_map (λ x. is_mux CollectingDistributing x.mux) (port_of p h.state)) false;
@@ -24,7 +24,7 @@ end_view h p = record {
   group = option_map group_at (port_of p h.state);
 }
 
--- the change count of an end is the stamp of the LACPDU that its peer took last
+-- the change count of an end is the stamp of the LACPDU that its peer received last
 abbrev pub is_stamp : ℕ → Option Heard → Bool
 is_stamp count None = false
 is_stamp count (Some heard) = heard.stamp == count
@@ -33,7 +33,7 @@ abbrev pub same_groups : Option Group → Option Group → Bool
 same_groups (Some a) (Some b) = same_group a b
 same_groups _ _ = false
 
--- the first that holds of these, in this order
+-- the first variant that holds, in this order
 abbrev pub first_of_five : Bool → Bool → Bool → Bool → Agreement
 first_of_five not_both defaults changed same =
     if not_both then NotBoth else (if defaults then Defaults else (if changed then Changed else (if same then Same else Differ)))
@@ -42,6 +42,6 @@ abbrev pub agreement_of : EndView → EndView → Agreement
 agreement_of a b =
     first_of_five (not (a.distributes && b.distributes)) (a.defaulted || b.defaulted) (not (is_stamp a.count b.taken && is_stamp b.count a.taken)) (same_groups a.group b.group)
 
--- of the ends of a cable, if there is one with this number
+-- how the ends of the cable with this number stand to each other, if it exists
 abbrev pub agreement_at : Joint → ℕ → Option Agreement
 agreement_at j c = option_map (λ (l : Line). agreement_of (end_view j.one l.one) (end_view j.two l.two)) (nth j.lines c)

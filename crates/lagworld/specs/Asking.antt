@@ -1,4 +1,4 @@
--- What one of two systems is asked, and what it answers.
+-- What a call of one of the two systems changes, and its result.
 use Rattle.std.specs.Prelude.{ℕ, Bool, List, Option, Result, drop, if◌then◌else◌}
 use Rattle.lagtypes.specs.declared.identifiers.AggId.{AggId}
 use Rattle.lagsystem.specs.declared.drive.Reply.TheVariants as answer
@@ -29,17 +29,17 @@ Frees gives agg conv a old new = Asks gives (Force agg conv) (answer.Force a) ol
 abbrev pub ForcesAs : Gives → Side → AggId → ℕ → Joint → Reply → Joint → Type 0
 ForcesAs gives s agg conv old r new = InHalf s (λ h k. Forces (gives s) agg conv h r k) old new
 
--- a conversation of an aggregator sent one more frame
+-- a conversation of an aggregator has sent one more frame
 abbrev pub count_sent_in : ℕ → ℕ → Half → Half
 count_sent_in g k h = record h { flows = at_flow with_sent g k h.flows }
 
--- a cable without the first item towards a system
+-- the cable without its first item towards a system
 abbrev pub without_first : Side → Line → Line
 without_first s l = with_towards s (drop 1 (towards s l)) l
 
 abbrev pub lost_reply : Bool → Reply
 lost_reply lost = if lost then reply.Lost else reply.Empty
 
--- the first item towards a system on a cable is lost
+-- the first item on a cable towards a system is lost
 abbrev pub LosesAs : Side → ℕ → Joint → Reply → Joint → Type 0
 LosesAs s c old r new = OnLine c (λ i l. LosesFrom s i l (towards s l) old r new) old.lines

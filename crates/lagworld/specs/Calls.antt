@@ -1,4 +1,4 @@
--- What an event does to one system and to what is kept of it.
+-- What an event does to one system, and to its logs and records.
 use Rattle.std.specs.Prelude.{◌≡◌, ℕ, zero, suc, ◌+◌, Bool, false, map, Option, Some, None, option_map, Result, Ok, Err, if◌then◌else◌}
 use Rattle.lagtypes.specs.declared.identifiers.AggId.{AggId}
 use Rattle.lagtypes.specs.declared.party.Party.{Party}
@@ -19,7 +19,7 @@ use Rattle.lagworld.specs.State.{Half, at_flow, with_forced}
 abbrev pub with_state : State → Half → Half
 with_state s h = record h { state = s }
 
--- The system answers a call as it promises of every call. Nothing else changes.
+-- The system answers a call, and keeps what every call promises. Nothing else changes.
 pub record Asks (gives : ℕ → ℕ → ℕ → Type 0) (call : Call) (a : Answer) (old new : Half) : Type 0 where
   pub answers : Answers gives old.state call a new.state
   pub same : new ≡ with_state new.state old
@@ -29,7 +29,7 @@ abbrev pub Ticks : (ℕ → ℕ → ℕ → Type 0) → ℕ → Half → Half �
 Ticks gives zero old new = new ≡ old
 Ticks gives (suc n) old new = (mid : Half) × Ticks gives n old mid × Asks gives Tick answer.Tick mid new
 
--- the own party of a port
+-- the own parameters of a port
 abbrev pub party_of_port : State → ℕ → Option Party
 party_of_port s p = option_map (λ x. x.party) (port_of p s)
 
@@ -41,7 +41,7 @@ abbrev pub party_or : Party → Option Party → Party
 party_or a None = a
 party_or a (Some b) = b
 
--- what is kept of a port after an event: its party, and its change count, which is one more where the party differs
+-- the log of a port after an event: its own parameters, and its change count, which is one more if they differ
 abbrev pub log_told : Option Party → PortLog → PortLog
 log_told party log = record log { party = party_or log.party party; count = if is_party log.party party then log.count else log.count + 1 }
 
@@ -51,21 +51,21 @@ log_counted s log = log_told (party_of_port s log.number) log
 abbrev pub counted : Half → Half
 counted h = record h { logs = map (log_counted h.state) h.logs }
 
--- the LACPDU that a port took last, with its stamp
+-- the log, with this LACPDU as the one that the port received last
 abbrev pub set_taken : Heard → PortLog → PortLog
 set_taken heard log = record log { taken = Some heard }
 
--- a reply that stands for a refusal, or this one
+-- the reply for an Ok, or Refused with the fault
 abbrev pub or_refused : {X : Type 0} → (X → Reply) → Result X SystemFault → Reply
 or_refused f (Ok x) = f x
 or_refused f (Err fault) = reply.Refused fault
 
--- the end of a cable is told whether that is whole
+-- the port at an end of a cable learns whether the cable is whole
 abbrev pub Senses : (ℕ → ℕ → ℕ → Type 0) → ℕ → Bool → Half → Reply → Half → Type 0
 Senses gives p up old r new =
     (a : Result Unit SystemFault) × Asks gives (Set_link p up) (answer.SetLink a) old new × (r ≡ or_refused (λ done. reply.Sensed up) a)
 
--- a port is given another key, priority or Aggregation bit, and changes are counted
+-- a port gets another key, priority or Aggregation bit, and changes are counted
 abbrev pub Configures : (ℕ → ℕ → ℕ → Type 0) → ℕ → PortChange → Half → Reply → Half → Type 0
 Configures gives p change old r new =
     (a : Result Bool SystemFault) × (mid : Half) × Asks gives (Configure p change) (answer.Configure a) old mid
@@ -79,7 +79,7 @@ Moves gives agg conv port old r new =
     (a : Result Unit SystemFault) × Asks gives (Move_conversation agg conv port) (answer.MoveConversation a) old new
     × (r ≡ or_refused (λ done. reply.Moved) a)
 
--- the conversation counts as forced, unless it is refused
+-- the conversation counts as forced, unless the system refused
 abbrev pub forced_where : Result Unit SystemFault → AggId → ℕ → Half → Half
 forced_where (Ok done) agg conv h = record h { flows = at_flow with_forced agg.0 conv h.flows }
 forced_where (Err fault) agg conv h = h

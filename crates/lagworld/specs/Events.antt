@@ -1,4 +1,4 @@
--- What each event does to a world: the table run of two systems and their cables.
+-- What each event does to two systems and their cables.
 use Rattle.std.specs.Prelude.{◌≡◌, ℕ, zero, suc, ◌+◌, ◌==◌, Bool, true, false, List, [], ◌∷◌, length, map, Option, Some, None, IsSome, IsSomeAnd, is_some, nat_le, Result, Ok, Err, slice_get, slice_set, if◌then◌else◌}
 use Rattle.lagtypes.specs.declared.identifiers.AggId.{AggId}
 use Rattle.cables.specs.declared.item.Stamp.{Stamp}
@@ -27,32 +27,32 @@ use Rattle.lagworld.specs.State.{Carried, Half, Line, Joint, half, with_half, wi
 use Rattle.lagworld.specs.Messages.{payload_in, side_number, side_named, count_of}
 use Rattle.lagworld.specs.Calls.{Asks, Ticks, Senses, Configures, Restarts, Moves, Forces, set_taken}
 
--- a system by its number, 1 or 2
+-- the system with this number, 1 or 2
 abbrev pub side_of : ℕ → Option Side
 side_of n = if n == 1 then Some One else (if n == 2 then Some Two else None)
 
--- how the algorithm of each system answers
+-- for each system, the indices that its distribution algorithm may return
 abbrev pub Gives : Type 1
 Gives = Side → ℕ → ℕ → ℕ → Type 0
 
--- system s and what is kept of it goes on so, and nothing else changes
+-- system s, with its logs and records, changes by the relation; nothing else changes
 abbrev pub InHalf : Side → (Half → Half → Type 0) → Joint → Joint → Type 0
 InHalf s R old new = R (half s old) (half s new) × (new ≡ with_half s (half s new) old)
 
--- cable c exists, and so it is with it and its place
+-- cable c exists, and the relation holds of its index and of the cable
 abbrev pub OnLine : ℕ → (ℕ → Line → Type 0) → List Line → Type 0
 OnLine zero P lines = ⊥
 OnLine (suc i) P lines = IsSomeAnd (slice_get lines i) (P i)
 
--- a cable is changed, and nothing else
+-- one cable is replaced, and nothing else changes
 abbrev pub set_at : ℕ → Line → Joint → Joint
 set_at i l j = with_lines j (slice_set j.lines i l)
 
--- port p of system s sends this: what the cables are afterwards
+-- the cables after port p of system s sent this
 abbrev pub puts : Side → ℕ → Carried → Joint → Joint
 puts s p item j = with_lines j (put s p item j.lines)
 
--- a frame that transmit answers, as it goes onto the cable
+-- the stamp of a PDU that is sent
 abbrev pub stamp_for : Pdu → ℕ → Stamp
 stamp_for (pdu.Lacpdu v) count = stamp.Control count
 stamp_for (pdu.Marker m) count = stamp.Control 0
@@ -64,7 +64,7 @@ sent_reply (pdu.Marker m) kept = reply.Marker m.id kept
 abbrev pub transmitted : Side → ℕ → List ℕ → Half → Carried
 transmitted s p frame h = record { octets = frame; stamp = stamp_for (pdu_in (payload_in frame)) (count_in (log_at h.logs p)) }
 
--- what becomes of an answer to transmit
+-- what becomes of the result of transmit
 abbrev pub Emitted : Side → ℕ → Result (Option (List ℕ)) SystemFault → Joint → Reply → Joint → Type 0
 Emitted s p (Err fault) old r new = (r ≡ reply.Refused fault) × (new ≡ old)
 Emitted s p (Ok None) old r new = (r ≡ reply.Nothing) × (new ≡ old)
@@ -76,11 +76,11 @@ Emits gives s p old r new =
     (a : Result (Option (List ℕ)) SystemFault) × (mid : Half) × Asks (gives s) (Transmit p) (answer.Transmit a) (half s old) mid
     × Emitted s p a (with_half s mid old) r new
 
--- the LACPDU of an item, with its stamp
+-- the LACPDU in an item, with its stamp
 abbrev pub heard_in : Carried → Heard
 heard_in item = record { pdu = lacpdu_in (payload_in item.octets); stamp = count_of item.stamp }
 
--- port p took it
+-- it is recorded as the one that port p received last
 abbrev pub set_heard : ℕ → Heard → List PortLog → List PortLog
 set_heard p heard [] = []
 set_heard p heard (log ∷ logs) = if log.number == p then set_taken heard log ∷ logs else log ∷ set_heard p heard logs
@@ -91,13 +91,13 @@ with_heard p heard h = record h { logs = set_heard p heard h.logs }
 abbrev pub with_flow_of : ℕ → ℕ → ℕ → Half → Half
 with_flow_of agg conv serial h = record h { flows = at_flow (with_collected serial) agg conv h.flows }
 
--- a data frame counts as collected at the system that sent it
+-- a data frame counts as collected, for the system that sent it
 abbrev pub collected : Stamp → Joint → Joint
 collected (stamp.Control count) j = j
 collected (stamp.Data system agg conv serial) j =
     with_half (side_named system) (with_flow_of agg conv serial (half (side_named system) j)) j
 
--- what becomes of an answer to an item that came on port p of system s
+-- what becomes of the answer to an item that came on port p of system s
 abbrev pub Arrived : Side → ℕ → Carried → Result Received SystemFault → Joint → Reply → Joint → Type 0
 Arrived s p item (Err fault) old r new = (r ≡ reply.Refused fault) × (new ≡ old)
 Arrived s p item (Ok received.Disabled) old r new = (r ≡ reply.Disabled) × (new ≡ old)
@@ -109,13 +109,13 @@ Arrived s p item (Ok (received.Respond frame)) old r new =
 Arrived s p item (Ok (received.Released n)) old r new = (r ≡ reply.Released n) × (new ≡ old)
 Arrived s p item (Ok (received.Up agg)) old r new = (r ≡ reply.Up agg) × (new ≡ collected item.stamp old)
 
--- an item comes on port p of system s
+-- an item arrives on port p of system s
 abbrev pub Arrives : Gives → Side → ℕ → Carried → Joint → Reply → Joint → Type 0
 Arrives gives s p item old r new =
     (a : Result Received SystemFault) × (mid : Half) × Asks (gives s) (Receive p item.octets) (answer.Receive a) (half s old) mid
     × Arrived s p item a (with_half s mid old) r new
 
--- the first item towards s is taken off and comes at the end of cable i
+-- the first item towards s is taken off and arrives at the end of cable i
 abbrev pub DeliversFrom : Gives → Side → ℕ → Line → List Carried → Joint → Reply → Joint → Type 0
 DeliversFrom gives s i l [] old r new = (r ≡ reply.Empty) × (new ≡ old)
 DeliversFrom gives s i l (item ∷ rest) old r new = Arrives gives s (port_at s l) item (set_at i (with_towards s rest l) old) r new
@@ -124,7 +124,7 @@ abbrev pub LosesFrom : Side → ℕ → Line → List Carried → Joint → Repl
 LosesFrom s i l [] old r new = (r ≡ reply.Empty) × (new ≡ old)
 LosesFrom s i l (item ∷ rest) old r new = (r ≡ reply.Lost) × (new ≡ set_at i (with_towards s rest l) old)
 
--- the first item comes and stays, unless it is a data frame
+-- the first item arrives but stays, unless it is a data frame
 abbrev pub RepeatsItem : Gives → Side → ℕ → List ℕ → Stamp → Joint → Reply → Joint → Type 0
 RepeatsItem gives s p octets (stamp.Control count) old r new =
     Arrives gives s p (record { octets = octets; stamp = stamp.Control count }) old r new
@@ -134,7 +134,7 @@ abbrev pub RepeatsFrom : Gives → Side → Line → List Carried → Joint → 
 RepeatsFrom gives s l [] old r new = (r ≡ reply.Empty) × (new ≡ old)
 RepeatsFrom gives s l (item ∷ rest) old r new = RepeatsItem gives s (port_at s l) item.octets item.stamp old r new
 
--- the frame goes out on the port that the system answers, as the next of its conversation
+-- the frame is sent on the port that the system returned, as the next of its conversation
 abbrev pub offered : Side → ℕ → AggId → List ℕ → Half → Carried
 offered s port agg octets h = record {
   octets = octets;
@@ -156,7 +156,7 @@ Offers gives s agg octets old r new =
     (a : Result ℕ SystemFault) × (mid : Half) × Asks (gives s) (Offer agg octets) (answer.Offer a) (half s old) mid
     × Offered s agg octets a (with_half s mid old) r new
 
--- what the event does, once its system and cable are there
+-- what the event does, if its system and cable exist
 abbrev pub Does : Gives → Joint → Event → Reply → Joint → Type 0
 Does gives old (event.Tick n count) r new = IsSomeAnd (side_of n) (λ s. InHalf s (Ticks (gives s) count) old new × (r ≡ reply.Ticked))
 Does gives old (event.Emit n p) r new = IsSomeAnd (side_of n) (λ s. Emits gives s p old r new)
@@ -176,18 +176,18 @@ Does gives old (event.Offer n agg octets) r new = IsSomeAnd (side_of n) (λ s. O
 Does gives old (event.Move n agg conv p) r new = IsSomeAnd (side_of n) (λ s. InHalf s (λ h k. Moves (gives s) agg conv p h r k) old new)
 Does gives old (event.Force n agg conv) r new = IsSomeAnd (side_of n) (λ s. InHalf s (λ h k. Forces (gives s) agg conv h r k) old new)
 
--- From old, the world answers the event so and goes on to new.
+-- From old, the world may give this reply to the event and change to new.
 abbrev pub Steps : Gives → Joint → Event → Reply → Joint → Type 0
 Steps gives old e r new = Does gives old e r (record new { acted = old.acted }) × (new.acted ≡ old.acted + 1)
 
--- these events with these replies, one after another
+-- these events may have these replies, one after another
 abbrev pub Runs : Gives → Joint → List Event → List Reply → Joint → Type 0
 Runs gives old [] [] new = new ≡ old
 Runs gives old (e ∷ es) (r ∷ rs) new = (mid : Joint) × Steps gives old e r mid × Runs gives mid es rs new
 Runs gives old [] (r ∷ rs) new = ⊥
 Runs gives old (e ∷ es) [] new = ⊥
 
--- how many events a world may see
+-- the most events that may act in a world
 abbrev pub most_events : ℕ
 most_events = 9223372036854775808
 
@@ -226,11 +226,11 @@ has_system (Some n) = is_some (side_of n)
 abbrev pub first_cause : Bool → Bool → Bool → Option WorldFault
 first_cause cable system spent = if cable then (if system then (if spent then Some Spent else None) else Some NoSystem) else Some NoCable
 
--- the first cause that holds to refuse an event, want of memory aside
+-- the first reason to refuse an event, leaving memory aside
 abbrev pub cause : Joint → Event → Option WorldFault
 cause j e = first_cause (has_cable j (cable_named e)) (has_system (system_named e)) (nat_le most_events j.acted)
 
--- the events that may take memory: no other is refused for it
+-- the events that may take memory; only these can be refused for lack of it
 abbrev pub may_take_memory : Event → Bool
 may_take_memory (event.Tick n count) = false
 may_take_memory (event.Emit n p) = true
@@ -250,7 +250,7 @@ abbrev pub fault_for : Option WorldFault → WorldFault
 fault_for None = NoMemory
 fault_for (Some fault) = fault
 
--- the event as the law sees it
+-- the change of a port, as the model has it
 abbrev pub told_change : PortChange → Told_change
 told_change c = record { key = c.key; priority = c.priority; aggregatable = c.aggregatable }
 

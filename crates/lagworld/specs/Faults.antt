@@ -1,4 +1,4 @@
--- The numbers of the refusals (profile).
+-- The numbers of the faults (profile).
 use Rattle.std.specs.Prelude.{ℕ}
 use Rattle.lagworld.specs.declared.fault.WorldFault.{WorldFault}
 use Rattle.lagworld.specs.declared.fault.WorldFault.TheVariants.{NoCable, NoSystem, Spent, NoMemory, BadConfig}

@@ -1,4 +1,4 @@
--- What a world is made of, and why it is not made.
+-- What a world is made of, and why it cannot be made.
 use Rattle.std.specs.Prelude.{◌≡◌, ◌⊎◌, ℕ, ◌==◌, ◌&&◌, Bool, true, false, List, [], ◌∷◌, length, map, replicate, Option, Some, None, if◌then◌else◌}
 use Rattle.std.specs.List.{list_all}
 use Rattle.cables.specs.declared.item.Item.{Item}
@@ -16,14 +16,14 @@ use Rattle.lagworld.specs.declared.logs.PortLog.{PortLog}
 use Rattle.lagworld.specs.State.{Half, Joint, Line, Serials}
 use Rattle.lagworld.specs.Messages.{carried}
 
--- what is kept of each port before any event
+-- the log of a port before any event
 abbrev pub first_log : SystemId → PortConfig → PortLog
 first_log system c = record { number = c.number; party = (setup_of system c).party; count = 0; taken = None }
 
 abbrev pub first_logs : SystemId → List PortConfig → List PortLog
 first_logs system ports = map (first_log system) ports
 
--- how many conversations are kept of an aggregator: as many as it has (conversations of lagsystem)
+-- how many conversations an aggregator has: as many as in lagsystem
 unfoldable pub conversations : ℕ
 conversations = 256
 
@@ -33,24 +33,24 @@ nothing_sent = record { sent = []; collected = []; forced = false }
 abbrev pub first_row : List Serials
 first_row = replicate conversations nothing_sent
 
--- what is kept of the conversations of so many aggregators before any event
+-- the records of the conversations of this many aggregators before any event
 abbrev pub first_flows : ℕ → List (List Serials)
 first_flows aggs = replicate aggs first_row
 
--- a system in its first state, as it was configured
+-- a system in its first state, with this configuration
 pub record IsFirstHalf (config : Config) (h : Half) : Type 0 where
   pub first : IsFirst h.state
   pub configured : IsConfigured config h.state
   pub logs : h.logs ≡ first_logs config.system config.ports.items
   pub flows : h.flows ≡ first_flows (length config.aggregators.items)
 
--- both systems are
+-- both systems are in their first state
 abbrev pub AreFirst : List Config → Joint → Type 0
 AreFirst (a ∷ b ∷ []) j = IsFirstHalf a j.one × IsFirstHalf b j.two
 AreFirst _ j = ⊥
 
 module _ {C : Type 0} (items : C → List Item) (limit : C → Option ℕ) where
-  -- a cable as it is made: whole, with what is on its lines
+  -- a cable at the start: whole, with what is on its lines
   abbrev pub first_line : ℕ × ℕ → C × C → Line
   first_line ends line = record {
     one = ends.0;
@@ -74,11 +74,11 @@ module _ {C : Type 0} (items : C → List Item) (limit : C → Option ℕ) where
     pub acted : j.acted ≡ 0
 
 module _ {C : Type 0} (items : C → List Item) where
-  -- nothing is on either line of a cable
+  -- both directions of a cable are empty
   abbrev pub is_empty : C × C → Bool
   is_empty line = (length (items line.0) == 0) && (length (items line.1) == 0)
 
-  -- there are as many lines as cables, and nothing is on any
+  -- there are as many lines as cables, and all are empty
   abbrev pub are_lines : List (ℕ × ℕ) → List (C × C) → Bool
   are_lines cables lines = (length lines == length cables) && list_all is_empty lines
 

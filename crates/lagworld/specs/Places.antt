@@ -1,4 +1,5 @@
--- Places that are reserved for what a system sends, on cables and in lists of serials. No world is seen to have them.
+-- Places that are reserved for what a system sends, on cables and in lists of serial numbers. They are no part of a
+-- world as contracts see it.
 use Rattle.std.specs.Prelude.{ℕ, ◌<◌, Bool, IsTrue, IfSome, List, map, Option, Some, None, slice_get, vec_capacity, vec_len}
 use Rattle.std.specs.Global.{Vec}
 use Rattle.cables.specs.declared.item.Item.{Item}
@@ -8,24 +9,24 @@ use Rattle.lagworld.specs.declared.logs.Flow.{Flow}
 use Rattle.lagworld.specs.State.{Serials, pick, line_of_port, nth}
 use Rattle.lagworld.specs.Kept.{lines_of, serials_of}
 
--- whether a place is reserved on a cable, in the direction away from a system
+-- a place is reserved on the cable, in the direction away from a system
 abbrev pub is_reserved : {C : Type 0} → (C → Bool) → Side → Cabled C → Bool
 is_reserved reserved s l = pick s (reserved l.to_two) (reserved l.to_one)
 
--- on the cable at a place, if there is one
+-- the same on the cable at an index, if there is one
 abbrev pub IsReservedAt : {C : Type 0} → (C → Bool) → Side → Option ℕ → List (Cabled C) → Type 0
 IsReservedAt reserved s None ls = Unit {0}
 IsReservedAt reserved s (Some i) ls = IfSome (slice_get ls i) (λ l. IsTrue (is_reserved reserved s l))
 
--- on the cable of a port, if that has one
+-- the same on the cable of a port, if it has one
 abbrev pub IsReserved : {C : Type 0} → (C → List Item) → (C → Option ℕ) → (C → Bool) → Side → ℕ → List (Cabled C) → Type 0
 IsReserved items limit reserved s p ls = IsReservedAt reserved s (line_of_port s p (lines_of items limit ls)) ls
 
--- on each cable
+-- the same on every cable
 abbrev pub AreReserved : {C : Type 0} → (C → Bool) → Side → List (Cabled C) → Type 0
 AreReserved reserved s ls = (i : ℕ) → IsReservedAt reserved s (Some i) ls
 
--- there is room for one more serial that a conversation sends, if there is that conversation
+-- there is room for one more serial number that a conversation sends, if the conversation exists
 abbrev pub HasRoomIn : ℕ → List Flow → Type 0
 HasRoomIn k flows = IfSome (slice_get flows k) (λ f. vec_len f.sent < vec_capacity f.sent)
 
@@ -33,10 +34,10 @@ abbrev pub HasRoomAt : Option (Vec Flow) → ℕ → Type 0
 HasRoomAt None k = Unit {0}
 HasRoomAt (Some flows) k = HasRoomIn k flows.items
 
--- and that aggregator
+-- the same, if the aggregator exists too
 abbrev pub HasRoom : ℕ → ℕ → List (Vec Flow) → Type 0
 HasRoom g k flows = HasRoomAt (nth flows g) k
 
--- what is kept of the conversations of a system
+-- the records of the conversations of a system, as contracts see them
 abbrev pub flows_of : List (Vec Flow) → List (List Serials)
 flows_of flows = map (λ xs. map serials_of xs.items) flows

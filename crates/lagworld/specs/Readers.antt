@@ -1,10 +1,10 @@
--- What the readers of a world tell.
+-- What the readers of a world return.
 use Rattle.std.specs.Prelude.{ℕ, Option, Some, None}
 use Rattle.lagmodel.specs.World.{Side}
 use Rattle.lagsystem.specs.State.{Whole as System}
 use Rattle.lagworld.specs.State.{Joint, Serials, Whole, half, pick, serials_at}
 
--- what is kept of a conversation of an aggregator of a system, if there is one
+-- the record of a conversation of an aggregator of a system, if it exists
 abbrev pub serials_of_system : Option Side → ℕ → ℕ → Joint → Option Serials
 serials_of_system None g k j = None
 serials_of_system (Some s) g k j = serials_at (half s j).flows g k

@@ -1,4 +1,4 @@
--- What every world keeps, and what holds of it after each event.
+-- The invariant of a world, and what holds of it after each event.
 use Rattle.std.specs.Prelude.{◌≡◌, ◌≤◌, ◌<◌, ℕ, true, false, List, [], ◌∷◌, length, map, Option, Some, None, IsSome, take, slice_get, ◌⊎◌}
 use Rattle.cables.specs.declared.item.Stamp.{Stamp}
 use Rattle.cables.specs.declared.item.Stamp.TheVariants as stamp
@@ -25,26 +25,26 @@ abbrev pub gives_by : (ℕ → ℕ → ℕ → Type 0) → (ℕ → ℕ → ℕ 
 gives_by a b One = a
 gives_by a b Two = b
 
--- the first event that is left
+-- the event at this index of the list, the first that has not acted
 abbrev pub next_of : List Event → ℕ → Option Event
 next_of es n = slice_get es n
 
--- an event is refused with the first cause that holds, or, if none does, for memory, which it may take
+-- The event is refused with the first reason that holds; or, if none does, for memory, if it may take any.
 pub record RefusesFor (j : Joint) (e : Event) (fault : WorldFault) : Type 0 where
   pub named : fault ≡ fault_for (cause j e)
   pub memory : cause j e ≡ None → may_take_memory e ≡ true
 
--- the next event is there, and is refused so
+-- there is a next event, and it is refused with this fault
 abbrev pub RefusesNext : Joint → Option Event → WorldFault → Type 0
 RefusesNext j None fault = ⊥
 RefusesNext j (Some e) fault = RefusesFor j e fault
 
--- the world run of these events
+-- the list of events leads from one world to the other in the model
 abbrev pub WorldRun : Joint → List Event → Joint → Type 0
 WorldRun old es new = Run (fixed_of old) (map told es) (world_of old) (world_of new)
 
--- A run stopped: as many events as it says acted, and then the next one was refused, or no event acted since there was no memory
--- for the replies.
+-- A list of events stopped: `done` events acted, and then the next one was refused; or none acted, since there was no
+-- memory for the replies.
 pub record Stops (gives : Gives) (old : Joint) (es : List Event) (stop : RunFault) (new : Joint) : Type 0 where
   pub replies : List Reply
   pub within : stop.done ≤ length es
@@ -52,7 +52,7 @@ pub record Stops (gives : Gives) (old : Joint) (es : List Event) (stop : RunFaul
   pub happened : WorldRun old (take stop.done es) new
   pub fault : ((stop.done ≡ 0) × (stop.fault ≡ NoMemory)) ⊎ RefusesNext new (next_of es stop.done) stop.fault
 
--- the facts that carry the headline, of the world as it is
+-- the invariants on which the headline rests
 pub record Carries (j : Joint) : Type 0 where
   pub took_synchronised : TookSynchronised (world_of j)
   pub names_present : NamesPresent (fixed_of j) (world_of j)
@@ -62,12 +62,12 @@ pub record Carries (j : Joint) : Type 0 where
   pub collected_then_in_flight : CollectedThenInFlight (world_of j)
   pub counts_from_zero : CountsFromZero (world_of j)
 
--- some run of the law led there from the start of the two systems
+-- the world is reached, in the model, from the start of the two systems
 abbrev pub Reached : Joint → Type 0
 Reached j = (events : List Told) × Run (fixed_of j) events (first_world (fixed_of j)) (world_of j)
 
--- an item towards a system is what its stamp says: a data frame comes from its peer, of a conversation that there is, and is
--- no control frame
+-- An item towards a system is what its stamp says: a data frame comes from the peer, belongs to a conversation that
+-- exists, and is no control frame.
 abbrev pub IsItem : Side → List ℕ → Stamp → Joint → Type 0
 IsItem s octets (stamp.Control count) j = Unit {0}
 IsItem s octets (stamp.Data system agg conv serial) j =
@@ -77,21 +77,21 @@ abbrev pub AreItems : Side → List Carried → Joint → Type 0
 AreItems s [] j = Unit {0}
 AreItems s (item ∷ rest) j = IsItem s item.octets item.stamp j × AreItems s rest j
 
--- what is kept of ports and conversations, of a system in this state: each port has a log with its party, and each
--- conversation of each aggregator its lists
+-- The logs and records of a system fit its state: each port has a log with its own parameters, and each conversation of
+-- each aggregator has its record.
 pub record IsKept (h : Half) : Type 0 where
   pub agrees : Agrees h.state
   pub parties : (p : ℕ) (log : PortLog) → log_at h.logs p ≡ Some log → party_of_port h.state p ≡ Some log.party
   pub logged : (p : ℕ) → IsSome (party_of_port h.state p) → IsSome (log_at h.logs p)
   pub flows : (g k : ℕ) → 0 < g → g ≤ length h.state.keys → k < conversations h.state → IsSome (serials_at h.flows g k)
 
--- no port changed more often than that
+-- no port's change count is above this number
 abbrev pub AreBelow : ℕ → List PortLog → Type 0
 AreBelow n [] = Unit {0}
 AreBelow n (log ∷ logs) = (log.count ≤ n) × AreBelow n logs
 
--- what every world keeps: what it keeps of each system; no port with two cables; items that are what their stamps say; ends
--- that are ports; counts that cannot overflow; and that a run of the law led there
+-- The invariant of a world: of the logs and records of each system; no port has two cables; items are what their stamps
+-- say; ends of cables are ports; counts cannot overflow; and the world is reached in the model.
 pub record IsSound (j : Joint) : Type 0 where
   pub kept : (s : Side) → IsKept (half s j)
   pub cabling : IsCabling (fixed_of j).cables
@@ -101,8 +101,8 @@ pub record IsSound (j : Joint) : Type 0 where
   pub counts : (s : Side) → AreBelow j.acted (half s j).logs
   pub reached : Reached j
 
--- a world that has just been made: both systems in their first views, every cable whole and empty, nothing counted, taken, sent,
--- collected or forced, and no event has acted
+-- A world that has just been made: both systems have just started, every cable is whole and empty, nothing was counted,
+-- received, sent, collected or forced, and no event has acted.
 pub record IsStart (j : Joint) : Type 0 where
   pub kept : (s : Side) → IsKept (half s j)
   pub shows : (s : Side) → view_of (half s j).state ≡ first_view (configured (half s j).state)

@@ -11,24 +11,24 @@ use crate::logs::{Heard, PortLog, log_of};
 use cables::Cable;
 use lagtypes::Group;
 
-/// Whether the two ends of a cable agree on their Link Aggregation Group: the first of these that holds. A port's change
-/// count is how many events changed its own parameters; each LACPDU carries its sender's count as its stamp (profile).
+/// How the two ends of a cable stand to each other; the first variant that holds. A port's change count is how many
+/// events changed its own parameters; each LACPDU has its sender's count as its stamp (profile).
 #[derive(Clone, Copy, Debug, PartialEq, Eq)]
 pub enum Agreement {
     /// An end does not distribute.
     NotBoth,
-    /// An end runs on defaults: it has no partner that an LACPDU named.
+    /// An end has a defaulted partner: no LACPDU set it.
     Defaults,
-    /// An end changed since it sent the LACPDU that its peer took last (its change count is not that one's stamp), or its
-    /// peer took none.
+    /// An end's parameters changed since it sent the LACPDU that its peer received last (its change count is not that
+    /// LACPDU's stamp), or its peer has received none.
     Changed,
-    /// Both ends name the same Link Aggregation Group (6.3.6).
+    /// Both ends have the same Link Aggregation Group (6.3.6).
     Same,
-    /// They name two groups. It is proved that this is never the answer.
+    /// The ends have different groups. It is proved that this is never returned.
     Differ,
 }
 
-/// What `agreement` compares of one end.
+/// The values of one end that `agreement` compares.
 #[derive(Clone, Copy, Debug, PartialEq, Eq)]
 pub(crate) struct EndView {
     distributes: bool,
@@ -56,7 +56,7 @@ fn taken_in(log: Option<PortLog>) -> Option<Heard>
     }
 }
 
-/// Whether the change count of an end is the stamp of the LACPDU that its peer took last.
+/// Whether the change count of an end is the stamp of the LACPDU that its peer received last.
 fn is_stamp(count: u64, taken: Option<Heard>) -> bool
     ensures { result ≡ is_stamp count taken }
 {
@@ -75,7 +75,7 @@ fn same_groups(one: Option<Group>, two: Option<Group>) -> bool
     }
 }
 
-/// The first answer whose condition holds; `Differ` if none does.
+/// The first variant whose condition holds; `Differ` if none does.
 fn first_of_five(not_both: bool, defaults: bool, changed: bool, same: bool) -> Agreement
     ensures { result ≡ first_of_five not_both defaults changed same }
 {
@@ -95,7 +95,7 @@ fn first_of_five(not_both: bool, defaults: bool, changed: bool, same: bool) -> A
     }
 }
 
-/// How two ends stand to one another.
+/// How these two ends stand to each other.
 fn agreement_of(one: &EndView, two: &EndView) -> Agreement
     ensures { result ≡ agreement_of one.now two.now }
 {
@@ -106,7 +106,7 @@ fn agreement_of(one: &EndView, two: &EndView) -> Agreement
 }
 
 impl<F: Fn(u16, usize) -> usize + Drop> End<F> {
-    /// A port as an end of a cable.
+    /// The values of a port that `agreement` compares.
     fn end_view(&self, port: u16) -> EndView
         ensures { result ≡ end_view (half_of self.now) port }
     {
@@ -122,7 +122,7 @@ impl<F: Fn(u16, usize) -> usize + Drop> End<F> {
 }
 
 impl<C: Cable, F: Fn(u16, usize) -> usize + Drop> Core<C, F> {
-    /// How the ends of a cable stand to one another.
+    /// How the ends of a cable stand to each other; None if there is no such cable.
     pub(crate) fn agreement(&self, cable: u16) -> Option<Agreement>
         ensures { result ≡ agreement_at (joint_of C.items C.limit self.now) cable }
     {

@@ -27,7 +27,8 @@ use lagsystem::{Received, SystemFault};
 use slowpdu::{Kind, Lacpdu, Pdu, classify, decode};
 use std::alloc::AllocError;
 
-/// What is told of the first item on a cable towards a system, before it comes: the port that it comes on, and its stamp.
+/// What is read of the first item on a cable towards a system before it arrives: the port that it will arrive on, and
+/// its stamp.
 #[derive(Clone, Copy, Debug, PartialEq, Eq)]
 pub(crate) struct Head {
     pub(crate) port: u16,
@@ -44,7 +45,7 @@ fn is_data(stamp: Stamp) -> bool
     }
 }
 
-/// The change count with which an item came.
+/// The change count in the stamp of an item; 0 unless it is an LACPDU.
 fn count_of(stamp: Stamp) -> u64
     ensures { result ≡ count_of stamp }
 {
@@ -65,7 +66,7 @@ fn lacpdu_of(payload: &[u8]) -> Option<Lacpdu>
     }
 }
 
-/// The LACPDU of a frame, if it carries one.
+/// The LACPDU in a frame, if there is one.
 fn carried_lacpdu(octets: &[u8]) -> Option<Lacpdu>
     ensures { (v : Lacpdu) → CarriesLacpdu octets.now v → result ≡ Some v }
 {
@@ -76,7 +77,7 @@ fn carried_lacpdu(octets: &[u8]) -> Option<Lacpdu>
     }
 }
 
-/// The LACPDU of an item, if it carries one, with its stamp.
+/// The LACPDU in an item, if there is one, with its stamp.
 fn heard_in(item: &Item) -> Option<Heard>
     ensures { (v : Lacpdu) → CarriesLacpdu item.now.bytes.items v → result ≡ Some (heard_in (carried item.now)) }
 {
@@ -89,7 +90,7 @@ fn heard_in(item: &Item) -> Option<Heard>
     }
 }
 
-/// What is to be kept of an item that was answered so: an LACPDU that was taken.
+/// The LACPDU to record for the port that received this item, if the system's answer is that it was received.
 fn heard_of(answer: Result<Received, SystemFault>, item: &Item) -> Option<Heard>
     ensures { IsHeard answer (carried item.now) result }
 {
@@ -105,7 +106,7 @@ fn heard_of(answer: Result<Received, SystemFault>, item: &Item) -> Option<Heard>
     }
 }
 
-/// The place of what is kept of a port.
+/// The index of the log of a port.
 fn log_place(logs: &[PortLog], port: u16) -> Option<usize>
     ensures place { result ≡ log_place port logs.now }
     ensures within { IfSome result (λ place. place < length logs.now) }
@@ -113,7 +114,7 @@ fn log_place(logs: &[PortLog], port: u16) -> Option<usize>
     logs.iter().position(|log| log.number == port)
 }
 
-/// A port took this LACPDU.
+/// Records that a port received this LACPDU.
 fn set_heard(logs: &mut Vec<PortLog>, port: u16, heard: Heard)
     ensures { logs.new.items ≡ set_heard port heard logs.old.items }
 {
@@ -123,7 +124,7 @@ fn set_heard(logs: &mut Vec<PortLog>, port: u16, heard: Heard)
     }
 }
 
-/// The same where there is something to be kept.
+/// The same, if there is an LACPDU to record.
 fn keep_heard(logs: &mut Vec<PortLog>, port: u16, heard: Option<Heard>)
     ensures { logs.new.items ≡ kept_heard port heard logs.old.items }
 {
@@ -134,7 +135,7 @@ fn keep_heard(logs: &mut Vec<PortLog>, port: u16, heard: Option<Heard>)
 }
 
 impl<F: Fn(u16, usize) -> usize + Drop> End<F> {
-    /// An item comes on a port.
+    /// An item arrives on a port of this system.
     fn arrive(&mut self, port: u16, item: &Item) -> Result<Received, SystemFault>
         ensures comes { Comes (F.post self.old.system.algorithm) port (carried item.now) result (half_of self.old) (half_of self.new) }
         ensures algorithm { self.new.system.algorithm ≡ self.old.system.algorithm }
@@ -146,7 +147,7 @@ impl<F: Fn(u16, usize) -> usize + Drop> End<F> {
         answer
     }
 
-    /// The first item on a cable comes on a port, if there is one.
+    /// The first item on a cable arrives on a port, if there is one.
     pub(crate) fn hear<C: Cable>(
         &mut self,
         cable: &C,
@@ -163,7 +164,7 @@ impl<F: Fn(u16, usize) -> usize + Drop> End<F> {
     }
 }
 
-/// What is told of the first item on a cable, which would come on a port.
+/// What is read of the first item on a cable that will arrive on this port.
 fn first_told<C: Cable>(cable: &C, port: u16) -> Option<Head>
     ensures { result ≡ first_told port (map carried (C.items cable.now)) }
 {
@@ -177,7 +178,7 @@ fn first_told<C: Cable>(cable: &C, port: u16) -> Option<Head>
 }
 
 impl<C: Cable> Line<C> {
-    /// What is told of the first item towards a system, if there is one.
+    /// What is read of the first item on this cable towards a system, if there is one.
     fn head(&self, side: Side) -> Option<Head>
         ensures { result ≡ head_in (told_side side) (line_of C.items C.limit self.now) }
     {
@@ -187,7 +188,7 @@ impl<C: Cable> Line<C> {
         }
     }
 
-    /// Takes the first item towards a system off.
+    /// Takes the first item on this cable towards a system off.
     fn take(&mut self, side: Side) -> Option<Item>
         ensures first { option_map carried result ≡ slice_get (towards (told_side side) (line_of C.items C.limit self.old)) 0 }
         ensures rest { line_of C.items C.limit self.new ≡ without_first (told_side side) (line_of C.items C.limit self.old) }
@@ -200,7 +201,7 @@ impl<C: Cable> Line<C> {
     }
 }
 
-/// What is told of the first item towards a system on the cable at a place.
+/// What is read of the first item towards a system, on the cable at an index.
 fn head_of<C: Cable>(lines: &Vec<Line<C>>, side: Side, place: usize) -> Option<Head>
     requires { place < length lines.now.items }
     ensures { IsSomeAnd (slice_get (lines_of C.items C.limit lines.now.items) place) (λ l. result ≡ head_in (told_side side) l) }
@@ -209,7 +210,8 @@ fn head_of<C: Cable>(lines: &Vec<Line<C>>, side: Side, place: usize) -> Option<H
     line.head(side)
 }
 
-/// Takes the first item towards a system off the cable at a place. What is reserved for that system to send stays so.
+/// Takes the first item towards a system off the cable at an index. A place that is reserved for what this system sends
+/// stays reserved.
 pub(crate) fn take_first<C: Cable>(
     lines: &mut Vec<Line<C>>,
     side: Side,
@@ -224,7 +226,7 @@ pub(crate) fn take_first<C: Cable>(
 }
 
 impl<C: Cable, F: Fn(u16, usize) -> usize + Drop> Core<C, F> {
-    /// Reserves a place for the serial of an item among those that were handed up of its conversation.
+    /// Reserves a place for the serial number of an item in its conversation's list of collected ones.
     fn reserve_collected(&mut self, stamp: Stamp) -> Result<(), AllocError>
         ensures same { joint_of C.items C.limit self.new ≡ joint_of C.items C.limit self.old }
         ensures lines { self.new.lines ≡ self.old.lines }
@@ -247,8 +249,8 @@ impl<C: Cable, F: Fn(u16, usize) -> usize + Drop> Core<C, F> {
         }
     }
 
-    /// Reserves all that an item may need that comes: the octets of a response, a place for it on the cable of the port, and
-    /// one for a serial. Answered are the octets.
+    /// Reserves all memory that an arriving item may need: the octets of a response, a place for the response on the
+    /// cable of the port, and a place for a serial number. Returns the memory for the octets.
     fn make_room(&mut self, side: Side, head: Head) -> Result<Vec<u8>, WorldFault>
         ensures refused { IfErr result (λ fault. fault ≡ OutOfMemory) }
         ensures same { joint_of C.items C.limit self.new ≡ joint_of C.items C.limit self.old }
@@ -265,7 +267,7 @@ impl<C: Cable, F: Fn(u16, usize) -> usize + Drop> Core<C, F> {
         Ok(bytes)
     }
 
-    /// The first item towards a system on the cable at a place comes, if there is one.
+    /// The first item towards a system on the cable at an index arrives, if there is one.
     fn hear(&mut self, side: Side, place: usize) -> Option<Result<Received, SystemFault>>
         requires { place < length self.old.lines.items }
         ensures heard { IsSomeAnd (slice_get (lines_of C.items C.limit self.old.lines.items) place) (λ l. FirstComesIn (gives_by (F.post self.old.one.system.algorithm) (F.post self.old.two.system.algorithm)) (told_side side) (port_at (told_side side) l) (towards (told_side side) l) result (joint_of C.items C.limit self.old) (joint_of C.items C.limit self.new)) }
@@ -283,7 +285,7 @@ impl<C: Cable, F: Fn(u16, usize) -> usize + Drop> Core<C, F> {
         }
     }
 
-    /// A response goes onto the cable of a port: true where that takes it.
+    /// Puts a response on the cable of a port; returns whether the cable accepted it.
     fn respond(&mut self, side: Side, port: u16, bytes: Vec<u8>, frame: [u8; 124]) -> bool
         requires reserved { IsReserved C.items C.limit C.reserved (told_side side) port self.old.lines.items }
         requires empty { bytes.items ≡ [] }
@@ -301,7 +303,7 @@ impl<C: Cable, F: Fn(u16, usize) -> usize + Drop> Core<C, F> {
         put(&mut self.lines, side, port, item)
     }
 
-    /// A data frame was handed up: its serial counts as collected at the system that sent it.
+    /// Records that a data frame was handed up: its serial number counts as collected, for the system that sent it.
     fn collect(&mut self, stamp: Stamp)
         requires { CanCollectFor stamp self.old.one.flows.items self.old.two.flows.items }
         ensures collected { joint_of C.items C.limit self.new ≡ collected stamp (joint_of C.items C.limit self.old) }
@@ -323,7 +325,7 @@ impl<C: Cable, F: Fn(u16, usize) -> usize + Drop> Core<C, F> {
         }
     }
 
-    /// What an answer to an item leads to outside of the system that gave it.
+    /// Does what the system's answer to an item asks for outside of that system.
     fn conclude(
         &mut self,
         side: Side,
@@ -356,7 +358,7 @@ impl<C: Cable, F: Fn(u16, usize) -> usize + Drop> Core<C, F> {
         }
     }
 
-    /// The first item towards a system on a cable is taken off and comes.
+    /// The first item towards a system is taken off a cable and arrives.
     pub(crate) fn deliver(&mut self, cable: u16, system: u8) -> Result<Reply, WorldFault>
         requires there { has_cable (joint_of C.items C.limit self.old) (Some cable) ≡ true }
         ensures delivers { IfOk result (λ reply. DeliversAs (gives_by (F.post self.old.one.system.algorithm) (F.post self.old.two.system.algorithm)) (side_named system) cable (joint_of C.items C.limit self.old) reply (joint_of C.items C.limit self.new)) }
@@ -379,7 +381,7 @@ impl<C: Cable, F: Fn(u16, usize) -> usize + Drop> Core<C, F> {
         Ok(self.conclude(side, head, answer, bytes))
     }
 
-    /// The first item towards a system on a cable comes and stays there, unless it is a data frame.
+    /// The first item on a cable towards a system arrives but stays on the cable, unless it is a data frame.
     pub(crate) fn repeat(&mut self, cable: u16, system: u8) -> Result<Reply, WorldFault>
         requires there { has_cable (joint_of C.items C.limit self.old) (Some cable) ≡ true }
         ensures repeats { IfOk result (λ reply. RepeatsAs (gives_by (F.post self.old.one.system.algorithm) (F.post self.old.two.system.algorithm)) (side_named system) cable (joint_of C.items C.limit self.old) reply (joint_of C.items C.limit self.new)) }

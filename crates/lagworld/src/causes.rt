@@ -64,7 +64,7 @@ pub(crate) fn system_named(event: &Event) -> Option<u8>
     }
 }
 
-/// Whether there is the system that an event names, if it names one.
+/// Whether the system that an event names exists; true if it names none.
 pub(crate) fn has_system(number: Option<u8>) -> bool
     ensures { result ≡ has_system number }
 {
@@ -74,7 +74,8 @@ pub(crate) fn has_system(number: Option<u8>) -> bool
     }
 }
 
-/// The first of three causes that holds.
+/// The first of three reasons to refuse an event; the arguments say whether the cable exists, whether the system
+/// exists, and whether no more events may act.
 pub(crate) fn first_cause(cable: bool, system: bool, spent: bool) -> Option<WorldFault>
     ensures { result ≡ first_cause cable system spent }
 {

@@ -6,7 +6,8 @@ ghost use Rattle.lagworld.specs.State.{at_flow, set_serials, with_collected};
 use crate::logs::Flow;
 use std::alloc::AllocError;
 
-/// Reserves a place for a serial that is handed up, in a conversation of an aggregator, if there is one.
+/// Reserves a place for a serial number in a conversation's list of collected ones, in the conversations of an
+/// aggregator, if the conversation exists.
 fn reserve_in(row: &mut Vec<Flow>, conv: usize) -> Result<(), AllocError>
     ensures same { row_of row.new ≡ row_of row.old }
     ensures room { OnOk result (CanCollect (slice_get row.new.items conv)) }
@@ -18,7 +19,7 @@ fn reserve_in(row: &mut Vec<Flow>, conv: usize) -> Result<(), AllocError>
     flow.collected.reserve(1)
 }
 
-/// The same in the conversations of a system. Aggregators count from 1, conversations from 0.
+/// The same in the conversations of a system. Aggregators are numbered from 1, conversations from 0.
 pub(crate) fn reserve_collected(
     flows: &mut Vec<Vec<Flow>>,
     agg: u16,
@@ -38,7 +39,7 @@ pub(crate) fn reserve_collected(
     reserve_in(row, usize::from(conv))
 }
 
-/// A serial of a conversation of an aggregator was handed up, for which a place is reserved.
+/// Adds a serial number to a conversation's list of collected ones, for which a place is reserved.
 fn collect_in(row: &mut Vec<Flow>, conv: usize, serial: u64)
     requires room { CanCollect (slice_get row.old.items conv) }
     ensures { row_of row.new ≡ set_serials (with_collected serial) (slice_get (row_of row.old) conv) conv (row_of row.old) }

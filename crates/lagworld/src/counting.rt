@@ -15,7 +15,7 @@ use crate::reply::Reply;
 use cables::Cable;
 use lagsystem::{PortChange, System};
 
-/// Counts the ports of a system whose party an event changed.
+/// Counts one more change for each port of a system whose own parameters an event changed.
 fn count_changes<F: Fn(u16, usize) -> usize + Drop>(system: &System<F>, logs: &mut Vec<PortLog>)
     requires { AreBelow most_events logs.old.items }
     ensures { logs.new.items ≡ map (log_counted system.now.state) logs.old.items }
@@ -27,7 +27,7 @@ fn count_changes<F: Fn(u16, usize) -> usize + Drop>(system: &System<F>, logs: &m
 }
 
 impl<F: Fn(u16, usize) -> usize + Drop> End<F> {
-    /// The system starts again.
+    /// Restarts this system.
     fn restart(&mut self)
         requires { AreBelow most_events self.old.logs.items }
         ensures restarts { Restarts (F.post self.old.system.algorithm) (half_of self.old) (half_of self.new) }
@@ -37,7 +37,7 @@ impl<F: Fn(u16, usize) -> usize + Drop> End<F> {
         count_changes(&self.system, &mut self.logs);
     }
 
-    /// A port gets another key, priority or Aggregation bit.
+    /// Gives a port of this system another key, priority or Aggregation bit.
     fn configure(&mut self, port: u16, change: PortChange) -> Reply
         requires { AreBelow most_events self.old.logs.items }
         ensures configures { Configures (F.post self.old.system.algorithm) port change (half_of self.old) result (half_of self.new) }
@@ -53,7 +53,7 @@ impl<F: Fn(u16, usize) -> usize + Drop> End<F> {
 }
 
 impl<C: Cable, F: Fn(u16, usize) -> usize + Drop> Core<C, F> {
-    /// A system starts again, and what is on the cables is lost.
+    /// Restarts a system; what is on the cables is lost.
     pub(crate) fn restart(&mut self, system: u8) -> Reply
         requires { IsSound (joint_of C.items C.limit self.old) }
         ensures restarts { RestartsAs (gives_by (F.post self.old.one.system.algorithm) (F.post self.old.two.system.algorithm)) (side_named system) (joint_of C.items C.limit self.old) result (joint_of C.items C.limit self.new) }
@@ -69,7 +69,7 @@ impl<C: Cable, F: Fn(u16, usize) -> usize + Drop> Core<C, F> {
         Reply::Restarted
     }
 
-    /// A port of a system gets another key, priority or Aggregation bit.
+    /// Gives a port of a system another key, priority or Aggregation bit.
     pub(crate) fn configure(&mut self, system: u8, port: u16, change: PortChange) -> Reply
         requires { IsSound (joint_of C.items C.limit self.old) }
         ensures configures { ConfiguresAs (gives_by (F.post self.old.one.system.algorithm) (F.post self.old.two.system.algorithm)) (side_named system) port change (joint_of C.items C.limit self.old) result (joint_of C.items C.limit self.new) }

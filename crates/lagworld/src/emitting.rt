@@ -25,13 +25,13 @@ use cables::{Cable, Item, Stamp};
 use lagsystem::SystemFault;
 use slowpdu::{Pdu, decode};
 
-/// The octets of a control frame.
+/// The length of a control frame in octets.
 pub(crate) const FRAME_LEN: usize = 124;
 
-/// Those before its payload.
+/// The octets before its payload.
 const HEADER_LEN: usize = 14;
 
-/// The PDU of a control frame that has one.
+/// The PDU in a control frame; the frame has one.
 pub(crate) fn pdu_of(octets: &[u8]) -> Pdu
     requires long { 14 ≤ length octets.now }
     requires reads { (v : Pdu) × ReadsPdu (payload_in octets.now) v }
@@ -43,7 +43,7 @@ pub(crate) fn pdu_of(octets: &[u8]) -> Pdu
     }
 }
 
-/// The stamp of what a port sends: on an LACPDU its change count.
+/// The stamp of a PDU that a port sends: for an LACPDU the port's change count, else 0.
 fn stamp_for(pdu: Pdu, count: u64) -> Stamp
     ensures { result ≡ stamp_for pdu count }
 {
@@ -53,7 +53,7 @@ fn stamp_for(pdu: Pdu, count: u64) -> Stamp
     }
 }
 
-/// What is answered for what a port sends.
+/// The reply to `Emit` for a PDU that was sent.
 fn sent_reply(pdu: Pdu, kept: bool) -> Reply
     ensures { result ≡ sent_reply pdu kept }
 {
@@ -63,7 +63,7 @@ fn sent_reply(pdu: Pdu, kept: bool) -> Reply
     }
 }
 
-/// How many events changed the party of a port: 0 if there is no such port.
+/// The change count of a port; 0 if there is no such port.
 fn count_of(logs: &[PortLog], port: u16) -> u64
     ensures { result ≡ count_in (log_at logs.now port) }
 {
@@ -73,7 +73,7 @@ fn count_of(logs: &[PortLog], port: u16) -> u64
     }
 }
 
-/// An empty list with room for a frame, filled with it.
+/// Fills an empty list, which has room for a frame, with the octets of one.
 pub(crate) fn filled(octets: Vec<u8>, frame: &[u8]) -> Vec<u8>
     requires empty { octets.items ≡ [] }
     requires room { vec_len octets + length frame.now ≤ vec_capacity octets }
@@ -87,7 +87,7 @@ pub(crate) fn filled(octets: Vec<u8>, frame: &[u8]) -> Vec<u8>
 }
 
 impl<F: Fn(u16, usize) -> usize + Drop> End<F> {
-    /// The frame that is due on a port.
+    /// Returns the frame that is due on a port of this system.
     fn transmit(&mut self, port: u16) -> Result<Option<[u8; 124]>, SystemFault>
         ensures transmits { Transmits (F.post self.old.system.algorithm) port result (half_of self.old) (half_of self.new) }
         ensures algorithm { self.new.system.algorithm ≡ self.old.system.algorithm }
@@ -97,7 +97,7 @@ impl<F: Fn(u16, usize) -> usize + Drop> End<F> {
 }
 
 impl<C: Cable, F: Fn(u16, usize) -> usize + Drop> Core<C, F> {
-    /// The frame that is due on a port of a system.
+    /// Returns the frame that is due on a port of a system.
     fn transmit(&mut self, side: Side, port: u16) -> Result<Option<[u8; 124]>, SystemFault>
         ensures transmits { TransmitsAs (gives_by (F.post self.old.one.system.algorithm) (F.post self.old.two.system.algorithm)) (told_side side) port result (joint_of C.items C.limit self.old) (joint_of C.items C.limit self.new) }
         ensures lines { self.new.lines ≡ self.old.lines }
@@ -111,7 +111,7 @@ impl<C: Cable, F: Fn(u16, usize) -> usize + Drop> Core<C, F> {
         }
     }
 
-    /// How many events changed the party of a port of a system.
+    /// The change count of a port of a system.
     fn count_of(&self, side: Side, port: u16) -> u64
         ensures { result ≡ count_in (log_at (half (told_side side) (joint_of C.items C.limit self.now)).logs port) }
     {
@@ -121,7 +121,7 @@ impl<C: Cable, F: Fn(u16, usize) -> usize + Drop> Core<C, F> {
         }
     }
 
-    /// A port of a system sends a frame that it has to send.
+    /// Sends a frame on a port of a system.
     fn send(&mut self, side: Side, port: u16, frame: &[u8; 124], octets: Vec<u8>) -> Reply
         requires sent { (v : Pdu) × IsSent frame.now v }
         requires place { IsReserved C.items C.limit C.reserved (told_side side) port self.old.lines.items }
@@ -142,7 +142,7 @@ impl<C: Cable, F: Fn(u16, usize) -> usize + Drop> Core<C, F> {
         sent_reply(pdu, kept)
     }
 
-    /// A port of a system sends what is due, when the places that it needs are reserved.
+    /// Sends what is due on a port of a system. The places that this needs are reserved.
     fn emit_due(&mut self, side: Side, port: u16, octets: Vec<u8>) -> Reply
         requires place { IsReserved C.items C.limit C.reserved (told_side side) port self.old.lines.items }
         requires empty { octets.items ≡ [] }
@@ -159,7 +159,7 @@ impl<C: Cable, F: Fn(u16, usize) -> usize + Drop> Core<C, F> {
         }
     }
 
-    /// A port of a system sends what is due.
+    /// Sends what is due on a port of a system.
     pub(crate) fn emit(&mut self, system: u8, port: u16) -> Result<Reply, WorldFault>
         ensures emits { IfOk result (λ reply. Emits (gives_by (F.post self.old.one.system.algorithm) (F.post self.old.two.system.algorithm)) (side_named system) port (joint_of C.items C.limit self.old) reply (joint_of C.items C.limit self.new)) }
         ensures refused { IfErr result (λ fault. fault ≡ OutOfMemory) }

@@ -4,24 +4,25 @@ ghost use Rattle.lagworld.specs.declared.fault.WorldFault.TheVariants.{NoMemory 
 
 use lagscript::BadWorld;
 
-/// Why a world is not made, or an event did not act: 1, 2, 4, 5 or 6. What a system refuses would be 3; it is a `Reply`
-/// (profile).
+/// Why a world cannot be made, or why an event did not act. The numbers are 1, 2, 4, 5 and 6; number 3 is what a system
+/// refuses, which is a `Reply` (profile).
 #[derive(Clone, Copy, Debug, PartialEq, Eq)]
 pub enum WorldFault {
     /// 1: the event names a cable that does not exist.
     NoCable,
     /// 2: the event names a system that does not exist.
     NoSystem,
-    /// 4: 2^63 events have acted.
+    /// 4: the most events that a world allows, 2^63, have acted.
     Spent,
-    /// 5: memory was refused. Of an event it comes before a system's refusal; of `World::new` it may come before any reason.
+    /// 5: memory was refused. For an event, this comes before a system's refusal; for `World::new`, it may come before
+    /// any other reason.
     NoMemory,
-    /// 6: the configuration is refused. Only `World::new` answers it.
+    /// 6: the configuration is refused. Only `World::new` returns it.
     BadConfig(BadWorld),
 }
 
 impl WorldFault {
-    /// Its number: 1, 2, 4, 5 or 6. A refusal of a system, which is a reply, would be 3 (profile).
+    /// The number of the fault: 1, 2, 4, 5 or 6 (profile).
     pub fn number(&self) -> u8
         ensures { result ≡ world_fault_number self.now }
     {
@@ -35,12 +36,12 @@ impl WorldFault {
     }
 }
 
-/// Where a run stopped, and why (profile).
+/// Where a list of events stopped, and why (profile).
 #[derive(Clone, Copy, Debug, PartialEq, Eq)]
 pub struct RunFault {
     /// How many events acted.
     pub done: usize,
-    /// Why the next one did not.
+    /// Why the next event did not act.
     pub fault: WorldFault,
 }
 

@@ -7,7 +7,7 @@ use crate::reply::Reply;
 use lagsystem::{PortChange, System};
 use lagtypes::AggId;
 
-/// One system, with what is kept of its ports and conversations.
+/// One system, with the logs of its ports and the records of its conversations.
 #[derive(Drop)]
 pub(crate) struct End<F> {
     pub(crate) system: System<F>,
@@ -16,7 +16,7 @@ pub(crate) struct End<F> {
 }
 
 impl<F: Fn(u16, usize) -> usize + Drop> End<F> {
-    /// So many ticks.
+    /// This many ticks, of 100 ms each.
     pub(crate) fn tick(&mut self, count: u16)
         ensures ticks { Ticks (F.post self.old.system.algorithm) count (half_of self.old) (half_of self.new) }
         ensures algorithm { self.new.system.algorithm ≡ self.old.system.algorithm }
@@ -28,7 +28,7 @@ impl<F: Fn(u16, usize) -> usize + Drop> End<F> {
         }
     }
 
-    /// The link of a port is up or down now.
+    /// Tells the system that the link of a port is up or down.
     pub(crate) fn sense(&mut self, port: u16, up: bool) -> Reply
         ensures senses { Senses (F.post self.old.system.algorithm) port up (half_of self.old) result (half_of self.new) }
         ensures algorithm { self.new.system.algorithm ≡ self.old.system.algorithm }

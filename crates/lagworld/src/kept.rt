@@ -26,15 +26,15 @@ pub(crate) struct Core<C: Cable, F> {
     pub(crate) one: End<F>,
     pub(crate) two: End<F>,
     pub(crate) lines: Vec<Line<C>>,
-    /// How many events have acted.
+    /// How many events have acted so far.
     pub(crate) acted: u64,
 }
 
-/// After so many events none acts: 2^63.
+/// The most events that may act, 2^63, so that no count overflows.
 const MOST_EVENTS: u64 = 9_223_372_036_854_775_808;
 
 impl<C: Cable, F: Fn(u16, usize) -> usize + Drop> Core<C, F> {
-    /// Whether there is the cable that an event names, if it names one.
+    /// Whether the cable that an event names exists; true if it names none.
     pub(crate) fn has_cable(&self, number: Option<u16>) -> bool
         ensures { result ≡ has_cable (joint_of C.items C.limit self.now) number }
     {
@@ -44,7 +44,7 @@ impl<C: Cable, F: Fn(u16, usize) -> usize + Drop> Core<C, F> {
         }
     }
 
-    /// Why an event is refused, if not for memory: the first cause that holds.
+    /// Why an event is refused, leaving memory aside: the first reason that holds.
     fn cause(&self, event: &Event) -> Option<WorldFault>
         ensures { result ≡ cause (joint_of C.items C.limit self.now) event.now }
     {
@@ -53,7 +53,7 @@ impl<C: Cable, F: Fn(u16, usize) -> usize + Drop> Core<C, F> {
         first_cause(cable, system, self.acted >= MOST_EVENTS)
     }
 
-    /// Refuses an event, or plays it.
+    /// Plays an event, or refuses it.
     pub(crate) fn step(&mut self, event: &Event) -> Result<Reply, WorldFault>
         requires one { PicksPlaces (F.pre self.old.one.system.algorithm) (F.post self.old.one.system.algorithm) }
         requires two { PicksPlaces (F.pre self.old.two.system.algorithm) (F.post self.old.two.system.algorithm) }
@@ -110,7 +110,7 @@ impl<C: Cable, F: Fn(u16, usize) -> usize + Drop> Core<C, F> {
         }
     }
 
-    /// So many ticks of a system.
+    /// Plays this many ticks of a system.
     fn tick(&mut self, system: u8, count: u16) -> Reply
         ensures acted { self.new.acted ≡ self.old.acted }
         ensures ticks { TicksAs (gives_by (F.post self.old.one.system.algorithm) (F.post self.old.two.system.algorithm)) (side_named system) count (joint_of C.items C.limit self.old) result (joint_of C.items C.limit self.new) }
@@ -124,7 +124,7 @@ impl<C: Cable, F: Fn(u16, usize) -> usize + Drop> Core<C, F> {
         Reply::Ticked
     }
 
-    /// A conversation of a system is moved to a port.
+    /// Moves a conversation of a system to a port.
     fn move_to(&mut self, system: u8, agg: AggId, conv: u16, port: u16) -> Reply
         ensures acted { self.new.acted ≡ self.old.acted }
         ensures moves { MovesAs (gives_by (F.post self.old.one.system.algorithm) (F.post self.old.two.system.algorithm)) (side_named system) agg conv port (joint_of C.items C.limit self.old) result (joint_of C.items C.limit self.new) }
@@ -137,7 +137,7 @@ impl<C: Cable, F: Fn(u16, usize) -> usize + Drop> Core<C, F> {
         }
     }
 
-    /// The place of a cable that there is.
+    /// The index of a cable that exists.
     pub(crate) fn place_of(&self, cable: u16) -> usize
         requires { has_cable (joint_of C.items C.limit self.now) (Some cable) ≡ true }
         ensures at { cable ≡ result + 1 }
@@ -149,7 +149,7 @@ impl<C: Cable, F: Fn(u16, usize) -> usize + Drop> Core<C, F> {
         }
     }
 
-    /// A cable is cut.
+    /// Cuts a cable.
     fn cut(&mut self, cable: u16) -> Reply
         requires there { has_cable (joint_of C.items C.limit self.old) (Some cable) ≡ true }
         ensures cut { OnLine cable (λ i l. (result ≡ Reply.Cut) × (joint_of C.items C.limit self.new ≡ set_at i (cut l) (joint_of C.items C.limit self.old))) (lines_of C.items C.limit self.old.lines.items) }
@@ -162,7 +162,7 @@ impl<C: Cable, F: Fn(u16, usize) -> usize + Drop> Core<C, F> {
         Reply::Cut
     }
 
-    /// A cable is joined.
+    /// Joins a cable.
     fn join(&mut self, cable: u16) -> Reply
         requires there { has_cable (joint_of C.items C.limit self.old) (Some cable) ≡ true }
         ensures joined { OnLine cable (λ i l. (result ≡ Reply.Joined) × (joint_of C.items C.limit self.new ≡ set_at i (joined l) (joint_of C.items C.limit self.old))) (lines_of C.items C.limit self.old.lines.items) }
@@ -175,7 +175,7 @@ impl<C: Cable, F: Fn(u16, usize) -> usize + Drop> Core<C, F> {
         Reply::Joined
     }
 
-    /// A system is told whether a cable is whole.
+    /// Tells a system whether a cable is whole.
     fn sense(&mut self, cable: u16, system: u8) -> Reply
         requires there { has_cable (joint_of C.items C.limit self.old) (Some cable) ≡ true }
         ensures senses { SensesAs (gives_by (F.post self.old.one.system.algorithm) (F.post self.old.two.system.algorithm)) (side_named system) cable (joint_of C.items C.limit self.old) result (joint_of C.items C.limit self.new) }

@@ -1,7 +1,10 @@
-//! Two `System`s joined by cables, and every event that can happen to them: ticks, sends, deliveries, losses, repeated control
-//! PDUs, cuts, restarts, changes. A `World` plays events and answers each with a `Reply`. The contract of `World::run` is the
-//! headline: after any list of events ports that distribute in one aggregator have one partner, both ends of a cable that
-//! distribute name one Link Aggregation Group (IEEE 802.1AX-2014, 6.3.6), and unforced conversations keep their order.
+//! Two `System`s joined by cables, and every event that can happen to them: ticks, sends, deliveries, losses, repeated
+//! control PDUs, cuts, restarts, changes. A `World` plays events and returns a `Reply` for each. The contract of
+//! `World::run` is the headline: after any list of events, ports that distribute in one aggregator have one partner;
+//! both ends of a cable that distribute have one Link Aggregation Group (IEEE 802.1AX-2014, 6.3.6), unless an end
+//! changed since or has a defaulted partner; and the frames of a conversation that was never forced keep their order.
+//!
+//! In comments, "profile" is docs/PROFILE.md.
 #![tactic(auto)]
 
 mod agreement;

@@ -13,7 +13,7 @@ use crate::line::Line;
 use crate::reply::Reply;
 use cables::Cable;
 
-/// Takes the first item off: whether there was one.
+/// Takes the first item off; returns whether there was one.
 fn lose_first<C: Cable>(cable: &mut C) -> bool
     ensures lost { result ≡ is_some (slice_get (map carried (C.items cable.old)) 0) }
     ensures rest { map carried (C.items cable.new) ≡ drop 1 (map carried (C.items cable.old)) }
@@ -23,7 +23,7 @@ fn lose_first<C: Cable>(cable: &mut C) -> bool
 }
 
 impl<C: Cable> Line<C> {
-    /// The first item towards a system is lost: whether there was one.
+    /// Loses the first item on this cable towards a system; returns whether there was one.
     fn lose(&mut self, side: Side) -> bool
         ensures rest { line_of C.items C.limit self.new ≡ without_first (told_side side) (line_of C.items C.limit self.old) }
         ensures lost { result ≡ is_some (slice_get (towards (told_side side) (line_of C.items C.limit self.old)) 0) }
@@ -35,7 +35,7 @@ impl<C: Cable> Line<C> {
     }
 }
 
-/// The first item towards a system on the cable at a place is lost: whether there was one.
+/// Loses the first item towards a system on the cable at an index; returns whether there was one.
 fn lose_at<C: Cable>(lines: &mut Vec<Line<C>>, place: usize, side: Side) -> bool
     requires { place < length lines.old.items }
     ensures { IsSomeAnd (slice_get (lines_of C.items C.limit lines.old.items) place) (λ l. (lines_of C.items C.limit lines.new.items ≡ slice_set (lines_of C.items C.limit lines.old.items) place (without_first (told_side side) l)) × (result ≡ is_some (slice_get (towards (told_side side) l) 0))) }
@@ -44,7 +44,7 @@ fn lose_at<C: Cable>(lines: &mut Vec<Line<C>>, place: usize, side: Side) -> bool
     line.lose(side)
 }
 
-/// What is answered: that an item was lost, or that there was none.
+/// The reply to `Lose`.
 fn lost_reply(lost: bool) -> Reply
     ensures { result ≡ lost_reply lost }
 {
@@ -52,7 +52,7 @@ fn lost_reply(lost: bool) -> Reply
 }
 
 impl<C: Cable, F: Fn(u16, usize) -> usize + Drop> Core<C, F> {
-    /// The first item towards a system on a cable is lost.
+    /// Loses the first item on a cable towards a system.
     pub(crate) fn lose(&mut self, cable: u16, system: u8) -> Reply
         requires there { has_cable (joint_of C.items C.limit self.old) (Some cable) ≡ true }
         ensures loses { LosesAs (side_named system) cable (joint_of C.items C.limit self.old) result (joint_of C.items C.limit self.new) }

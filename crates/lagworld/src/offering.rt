@@ -36,7 +36,7 @@ fn side_number(side: Side) -> u8
 }
 
 impl<F: Fn(u16, usize) -> usize + Drop> End<F> {
-    /// The conversation of a frame, 0 to 255, and 0 of octets that are too few for one.
+    /// The conversation of a frame, 0 to 255; 0 if the frame has fewer than 14 octets.
     fn conversation(&self, frame: &[u8]) -> u16
         ensures is { 14 ≤ length frame.now → result ≡ conversation_of self.now.system.state frame.now }
         ensures within { result < conversations self.now.system.state }
@@ -47,7 +47,7 @@ impl<F: Fn(u16, usize) -> usize + Drop> End<F> {
         }
     }
 
-    /// The port to send a frame on, in an aggregator.
+    /// The port of this system to send a frame on, in an aggregator.
     fn assign(&mut self, agg: AggId, frame: &[u8]) -> Result<u16, SystemFault>
         requires { PicksPlaces (F.pre self.old.system.algorithm) (F.post self.old.system.algorithm) }
         ensures assigns { Assigns (F.post self.old.system.algorithm) agg frame.now result (half_of self.old) (half_of self.new) }
@@ -57,7 +57,7 @@ impl<F: Fn(u16, usize) -> usize + Drop> End<F> {
         self.system.offer(agg, frame)
     }
 
-    /// Frees a conversation of an aggregator at once.
+    /// Frees a conversation of an aggregator of this system at once.
     fn free(&mut self, agg: AggId, conv: u16) -> Result<(), SystemFault>
         ensures frees { Frees (F.post self.old.system.algorithm) agg conv result (half_of self.old) (half_of self.new) }
         ensures algorithm { self.new.system.algorithm ≡ self.old.system.algorithm }
@@ -65,7 +65,7 @@ impl<F: Fn(u16, usize) -> usize + Drop> End<F> {
         self.system.force(agg, conv)
     }
 
-    /// Frees a conversation of an aggregator at once, which then counts as forced, unless the system refuses.
+    /// Frees a conversation of an aggregator at once; it counts as forced from then on, unless the system refuses.
     fn force(&mut self, agg: AggId, conv: u16) -> Reply
         ensures forces { Forces (F.post self.old.system.algorithm) agg conv (half_of self.old) result (half_of self.new) }
         ensures algorithm { self.new.system.algorithm ≡ self.old.system.algorithm }
@@ -94,7 +94,7 @@ impl<C: Cable, F: Fn(u16, usize) -> usize + Drop> Core<C, F> {
         }
     }
 
-    /// The conversation of a frame at a system.
+    /// The conversation of a frame in a system.
     fn conversation(&self, side: Side, frame: &[u8]) -> u16
         ensures is { 14 ≤ length frame.now → result ≡ conversation_of (half (told_side side) (joint_of C.items C.limit self.now)).state frame.now }
         ensures within { result < conversations (half (told_side side) (joint_of C.items C.limit self.now)).state }
@@ -123,7 +123,7 @@ impl<C: Cable, F: Fn(u16, usize) -> usize + Drop> Core<C, F> {
         }
     }
 
-    /// Reserves a place for the next serial of a conversation of a system, if there is one.
+    /// Reserves a place for the next serial number of a conversation of a system, if the conversation exists.
     fn reserve_serial(&mut self, side: Side, agg: AggId, conv: u16) -> Result<(), AllocError>
         ensures same { joint_of C.items C.limit self.new ≡ joint_of C.items C.limit self.old }
         ensures ok { OnOk result (HasRoom agg.0 conv (pick (told_side side) self.new.one.flows.items self.new.two.flows.items)) }
@@ -138,7 +138,7 @@ impl<C: Cable, F: Fn(u16, usize) -> usize + Drop> Core<C, F> {
         }
     }
 
-    /// A conversation of a system sends one more frame: its serial.
+    /// Records that a conversation of a system sends one more frame; returns the serial number of that frame.
     fn count_sent(&mut self, side: Side, agg: AggId, conv: u16) -> u64
         requires { HasRoom agg.0 conv (pick (told_side side) self.old.one.flows.items self.old.two.flows.items) }
         ensures serial { result ≡ length (sent_in (serials_at (half (told_side side) (joint_of C.items C.limit self.old)).flows agg.0 conv)) }
@@ -154,7 +154,7 @@ impl<C: Cable, F: Fn(u16, usize) -> usize + Drop> Core<C, F> {
         }
     }
 
-    /// A frame that was offered goes out on a port, as the next of its conversation.
+    /// Sends an offered frame on a port, as the next frame of its conversation.
     fn send_offered(
         &mut self,
         side: Side,
@@ -187,7 +187,7 @@ impl<C: Cable, F: Fn(u16, usize) -> usize + Drop> Core<C, F> {
         Reply::Port(port, serial, kept)
     }
 
-    /// A frame is offered to a system, when the places that it needs are reserved.
+    /// Offers a frame to a system. The places that this needs are reserved.
     fn offer_reserved(&mut self, side: Side, agg: AggId, conv: u16, octets: Vec<u8>) -> Reply
         requires one { PicksPlaces (F.pre self.old.one.system.algorithm) (F.post self.old.one.system.algorithm) }
         requires two { PicksPlaces (F.pre self.old.two.system.algorithm) (F.post self.old.two.system.algorithm) }
@@ -207,7 +207,7 @@ impl<C: Cable, F: Fn(u16, usize) -> usize + Drop> Core<C, F> {
         }
     }
 
-    /// A frame is offered to an aggregator of a system.
+    /// Offers a frame to an aggregator of a system.
     pub(crate) fn offer(
         &mut self,
         system: u8,

@@ -15,7 +15,7 @@ use cables::Cable;
 use lagsystem::System;
 use lagtypes::AggId;
 
-/// What is kept of a conversation of an aggregator.
+/// The record of a conversation of an aggregator.
 fn flow_at(flows: &[Vec<Flow>], agg: AggId, conv: u16) -> Option<&Flow>
     ensures { MatchOption result (serials_at (map (λ xs. map serials_of xs.items) flows.now) agg.0 conv ≡ None) (λ flow. serials_at (map (λ xs. map serials_of xs.items) flows.now) agg.0 conv ≡ Some (serials_of flow.now)) }
 {
@@ -35,7 +35,7 @@ fn flow_at(flows: &[Vec<Flow>], agg: AggId, conv: u16) -> Option<&Flow>
 }
 
 impl<C: Cable, F: Fn(u16, usize) -> usize + Drop> Core<C, F> {
-    /// What is kept of a conversation of an aggregator of a system.
+    /// The record of a conversation of an aggregator of a system.
     fn flow(&self, system: u8, agg: AggId, conv: u16) -> Option<&Flow>
         ensures { MatchOption result (serials_of_system (side_of system) agg.0 conv (joint_of C.items C.limit self.now) ≡ None) (λ flow. serials_of_system (side_of system) agg.0 conv (joint_of C.items C.limit self.now) ≡ Some (serials_of flow.now)) }
     {
@@ -50,7 +50,7 @@ impl<C: Cable, F: Fn(u16, usize) -> usize + Drop> Core<C, F> {
 }
 
 impl<C: Cable, F: Fn(u16, usize) -> usize + Drop> World<C, F> {
-    /// How the two ends of a cable stand to one another; None if there is no such cable. It is never `Differ` (6.3.6;
+    /// How the two ends of a cable stand to each other; None if there is no such cable. It is never `Differ` (6.3.6;
     /// profile).
     pub fn agreement(&self, cable: u16) -> Option<Agreement>
         ensures exact { result ≡ agreement_at self.now.joint cable }
@@ -59,8 +59,8 @@ impl<C: Cable, F: Fn(u16, usize) -> usize + Drop> World<C, F> {
         self.core.agreement(cable)
     }
 
-    /// The serials of the frames that a conversation of a system sent, lost ones too: 0, 1, 2 and so on. Empty if there is
-    /// no such system, aggregator or conversation (profile).
+    /// The serial numbers of the frames that a conversation of a system sent, lost ones too: 0, 1, 2 and so on. Empty
+    /// if there is no such system, aggregator or conversation (profile).
     pub fn sent(&self, system: u8, agg: AggId, conv: u16) -> &[u64]
         ensures { result.now ≡ sent_in (serials_of_system (side_of system) agg.0 conv self.now.joint) }
     {
@@ -70,8 +70,8 @@ impl<C: Cable, F: Fn(u16, usize) -> usize + Drop> World<C, F> {
         }
     }
 
-    /// The serials of this conversation's frames that the other system handed up, in that order. Empty if there is no such
-    /// system, aggregator or conversation (profile).
+    /// The serial numbers of this conversation's frames that the other system handed up, in that order. Empty if there
+    /// is no such system, aggregator or conversation (profile).
     pub fn collected(&self, system: u8, agg: AggId, conv: u16) -> &[u64]
         ensures { result.now ≡ collected_in (serials_of_system (side_of system) agg.0 conv self.now.joint) }
     {
@@ -92,7 +92,7 @@ impl<C: Cable, F: Fn(u16, usize) -> usize + Drop> World<C, F> {
         }
     }
 
-    /// The system of this number, 1 or 2; None for any other.
+    /// The system with this number, 1 or 2; None for any other number (profile).
     pub fn system(&self, system: u8) -> Option<&System<F>>
         ensures { MatchOption result (system_at (side_of system) self.now ≡ None) (λ found. system_at (side_of system) self.now ≡ Some found.now) }
     {

@@ -11,7 +11,7 @@ use crate::fault::WorldFault;
 use crate::line::Line;
 use cables::{Cable, Item, NoMemory};
 
-/// Puts an item behind the others: true if the cable has room, and otherwise the item is lost.
+/// Puts an item behind the others; returns false, and loses the item, if the cable is full.
 fn put_on<C: Cable>(cable: &mut C, item: Item) -> bool
     requires { IsTrue (C.reserved cable.old) }
     ensures kept { result ≡ not (is_full (C.limit cable.old) (length (map carried (C.items cable.old)))) }
@@ -22,7 +22,7 @@ fn put_on<C: Cable>(cable: &mut C, item: Item) -> bool
 }
 
 impl<C: Cable> Line<C> {
-    /// The port that it joins at a system.
+    /// The port at a system's end of the cable.
     pub(crate) fn port_at(&self, side: Side) -> u16
         ensures { result ≡ pick (told_side side) self.now.one self.now.two }
     {
@@ -32,7 +32,7 @@ impl<C: Cable> Line<C> {
         }
     }
 
-    /// Reserves a place for what a system sends.
+    /// Reserves a place on this cable for what a system sends.
     fn reserve(&mut self, side: Side) -> Result<(), NoMemory>
         ensures same { line_of C.items C.limit self.new ≡ line_of C.items C.limit self.old }
         ensures ok { OnOk result (IsTrue (is_reserved C.reserved (told_side side) self.new)) }
@@ -43,7 +43,7 @@ impl<C: Cable> Line<C> {
         }
     }
 
-    /// A system sends an item: true if the cable takes it. It is lost if the cable is cut or its list is full.
+    /// Sends an item of a system on this cable; returns false, and loses the item, if the cable is cut or full.
     fn send(&mut self, side: Side, item: Item) -> bool
         requires { IsTrue (is_reserved C.reserved (told_side side) self.old) }
         ensures sent { line_of C.items C.limit self.new ≡ sent_on (told_side side) (carried item) (line_of C.items C.limit self.old) }
@@ -59,7 +59,7 @@ impl<C: Cable> Line<C> {
     }
 }
 
-/// The place of the cable of a port of a system.
+/// The index of the cable of a port of a system.
 fn place_of_port<C: Cable>(lines: &Vec<Line<C>>, side: Side, port: u16) -> Option<usize>
     ensures place { result ≡ position (λ l. pick (told_side side) l.one l.two == port) lines.now.items }
     ensures within { IfSome result (λ place. place < length lines.now.items) }
@@ -67,7 +67,7 @@ fn place_of_port<C: Cable>(lines: &Vec<Line<C>>, side: Side, port: u16) -> Optio
     lines.iter().position(|line| line.port_at(side) == port)
 }
 
-/// Reserves a place on the cable at a place.
+/// Reserves a place on the cable at an index for what a system sends.
 fn reserve_at<C: Cable>(lines: &mut Vec<Line<C>>, place: usize, side: Side) -> Result<(), NoMemory>
     requires { place < length lines.old.items }
     ensures same { lines_of C.items C.limit lines.new.items ≡ lines_of C.items C.limit lines.old.items }
@@ -98,7 +98,7 @@ pub(crate) fn reserve_on<C: Cable>(
     }
 }
 
-/// Reserves a place for what a system sends on each cable.
+/// Reserves a place for what a system sends, on every cable.
 pub(crate) fn reserve_all<C: Cable>(lines: &mut Vec<Line<C>>, side: Side) -> Result<(), WorldFault>
     ensures same { lines_of C.items C.limit lines.new.items ≡ lines_of C.items C.limit lines.old.items }
     ensures ok { OnOk result (AreReserved C.reserved (told_side side) lines.new.items) }
@@ -112,7 +112,7 @@ pub(crate) fn reserve_all<C: Cable>(lines: &mut Vec<Line<C>>, side: Side) -> Res
     Ok(())
 }
 
-/// A system sends an item on the cable at a place: true if the cable takes it.
+/// Sends an item of a system on the cable at an index; returns whether the cable accepted it.
 fn send_at<C: Cable>(lines: &mut Vec<Line<C>>, place: usize, side: Side, item: Item) -> bool
     requires within { place < length lines.old.items }
     requires reserved { IsReservedAt C.reserved (told_side side) (Some place) lines.old.items }
@@ -122,8 +122,8 @@ fn send_at<C: Cable>(lines: &mut Vec<Line<C>>, place: usize, side: Side, item: I
     line.send(side, item)
 }
 
-/// A port of a system sends an item: true if its cable takes it. It is lost at once if the port has no cable, if the cable
-/// is cut, and if its list has reached its limit (profile).
+/// Sends an item on a port of a system; returns whether its cable accepted it. The item is lost at once if the port has
+/// no cable, or if the cable is cut or full (profile).
 pub(crate) fn put<C: Cable>(lines: &mut Vec<Line<C>>, side: Side, port: u16, item: Item) -> bool
     requires { IsReserved C.items C.limit C.reserved (told_side side) port lines.old.items }
     ensures put { lines_of C.items C.limit lines.new.items ≡ put (told_side side) port (carried item) (lines_of C.items C.limit lines.old.items) }

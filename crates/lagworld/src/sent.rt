@@ -8,7 +8,7 @@ use lagtypes::AggId;
 use std::alloc::AllocError;
 
 impl Flow {
-    /// One more frame is sent: its serial.
+    /// Records that one more frame is sent; returns its serial number.
     fn send(&mut self) -> u64
         requires { vec_len self.old.sent < vec_capacity self.old.sent }
         ensures serial { result ≡ length self.old.sent.items }
@@ -19,7 +19,7 @@ impl Flow {
         serial
     }
 
-    /// Reserves a place for the next serial.
+    /// Reserves a place for the next serial number.
     fn reserve(&mut self) -> Result<(), AllocError>
         ensures same { serials_of self.new ≡ serials_of self.old }
         ensures ok { OnOk result (vec_len self.new.sent < vec_capacity self.new.sent) }
@@ -27,7 +27,7 @@ impl Flow {
         self.sent.reserve(1)
     }
 
-    /// It was forced.
+    /// Records that the conversation was forced.
     fn force(&mut self)
         ensures { serials_of self.new ≡ with_forced (serials_of self.old) }
     {
@@ -35,7 +35,7 @@ impl Flow {
     }
 }
 
-/// The place of what is kept of an aggregator, of which there are so many: they count from 1.
+/// The index of the conversations of an aggregator, if there are this many aggregators; they are numbered from 1.
 fn place_of(agg: AggId, count: usize) -> Option<usize>
     ensures there { IfSome result (λ place. (agg.0 ≡ place + 1) × (place < count)) }
     ensures nowhere { IfNone result ((agg.0 ≡ 0) ⊎ (count < agg.0)) }
@@ -44,7 +44,7 @@ fn place_of(agg: AggId, count: usize) -> Option<usize>
     if place < count { Some(place) } else { None }
 }
 
-/// Reserves a place for the next serial of a conversation, if there is one.
+/// Reserves a place for the next serial number of a conversation, if it exists.
 fn reserve_in(conversations: &mut Vec<Flow>, conv: usize) -> Result<(), AllocError>
     ensures same { map serials_of conversations.new.items ≡ map serials_of conversations.old.items }
     ensures ok { OnOk result (HasRoomIn conv conversations.new.items) }
@@ -56,7 +56,7 @@ fn reserve_in(conversations: &mut Vec<Flow>, conv: usize) -> Result<(), AllocErr
     flow.reserve()
 }
 
-/// A conversation sends one more frame: its serial.
+/// Records that a conversation sends one more frame; returns the frame's serial number.
 fn send_in(conversations: &mut Vec<Flow>, conv: usize) -> u64
     requires { HasRoomIn conv conversations.old.items }
     ensures serial { result ≡ length (sent_in (slice_get (map serials_of conversations.old.items) conv)) }
@@ -69,7 +69,7 @@ fn send_in(conversations: &mut Vec<Flow>, conv: usize) -> u64
     flow.send()
 }
 
-/// A conversation was forced.
+/// Records that a conversation was forced.
 fn force_in(conversations: &mut Vec<Flow>, conv: usize)
     ensures { map serials_of conversations.new.items ≡ set_serials with_forced (slice_get (map serials_of conversations.old.items) conv) conv (map serials_of conversations.old.items) }
 {
@@ -80,7 +80,7 @@ fn force_in(conversations: &mut Vec<Flow>, conv: usize)
     flow.force();
 }
 
-/// Reserves a place for the next serial of a conversation of an aggregator, if there is one.
+/// Reserves a place for the next serial number of a conversation of an aggregator, if it exists.
 pub(crate) fn reserve_serial(
     flows: &mut Vec<Vec<Flow>>,
     agg: AggId,
@@ -98,7 +98,7 @@ pub(crate) fn reserve_serial(
     }
 }
 
-/// A conversation of an aggregator sends one more frame: its serial, from 0.
+/// Records that a conversation of an aggregator sends one more frame; returns the frame's serial number, from 0.
 pub(crate) fn count_sent(flows: &mut Vec<Vec<Flow>>, agg: AggId, conv: u16) -> u64
     requires { HasRoom agg.0 conv flows.old.items }
     ensures serial { result ≡ length (sent_in (serials_at (flows_of flows.old.items) agg.0 conv)) }
@@ -113,7 +113,7 @@ pub(crate) fn count_sent(flows: &mut Vec<Vec<Flow>>, agg: AggId, conv: u16) -> u
     }
 }
 
-/// A conversation of an aggregator was forced, if there is one.
+/// Records that a conversation of an aggregator was forced, if it exists.
 pub(crate) fn count_forced(flows: &mut Vec<Vec<Flow>>, agg: AggId, conv: u16)
     ensures { flows_of flows.new.items ≡ at_flow with_forced agg.0 conv (flows_of flows.old.items) }
 {

@@ -26,7 +26,7 @@ fn conversations() -> usize
     256
 }
 
-/// What is kept of a port before any event.
+/// The log of a port before any event.
 fn first_log(system: SystemId, port: &PortConfig) -> PortLog
     ensures { result ≡ first_log system port.now }
 {
@@ -47,7 +47,7 @@ fn first_log(system: SystemId, port: &PortConfig) -> PortLog
     }
 }
 
-/// The same of every port, in their order.
+/// The logs of all ports before any event, in order.
 fn first_logs(
     alloc: Global,
     system: SystemId,
@@ -62,7 +62,7 @@ fn first_logs(
     Ok(logs)
 }
 
-/// A conversation before any event.
+/// The record of a conversation before any event.
 fn first_flow(alloc: Global) -> Flow
     ensures { serials_of result ≡ nothing_sent }
 {
@@ -73,7 +73,7 @@ fn first_flow(alloc: Global) -> Flow
     }
 }
 
-/// The conversations of an aggregator before any event.
+/// The records of an aggregator's conversations before any event.
 fn first_row(alloc: Global) -> Result<Vec<Flow>, AllocError>
     ensures { IfOk result (λ row. map serials_of row.items ≡ first_row) }
 {
@@ -87,7 +87,7 @@ fn first_row(alloc: Global) -> Result<Vec<Flow>, AllocError>
     Ok(row)
 }
 
-/// Those of so many aggregators.
+/// The records of this many aggregators before any event.
 fn first_flows(alloc: Global, count: usize) -> Result<Vec<Vec<Flow>>, AllocError>
     ensures { IfOk result (λ rows. map (λ xs. map serials_of xs.items) rows.items ≡ first_flows count) }
 {
@@ -102,7 +102,7 @@ fn first_flows(alloc: Global, count: usize) -> Result<Vec<Vec<Flow>>, AllocError
 }
 
 impl<F: Fn(u16, usize) -> usize + Drop> End<F> {
-    /// A system in its first state, with what is kept of it, of a configuration that is not refused.
+    /// A system in its first state, with its logs and records. The configuration is one that is accepted.
     fn new(alloc: Global, config: Config, algorithm: F) -> Result<End<F>, WorldFault>
         requires usable { PicksPlaces (F.pre algorithm) (F.post algorithm) }
         requires accepted { refusal_of_one config ≡ None }
@@ -124,14 +124,14 @@ impl<F: Fn(u16, usize) -> usize + Drop> End<F> {
     }
 }
 
-/// Whether nothing is on either line of a cable.
+/// Whether both directions of a cable are empty.
 fn is_empty<C: Cable>(line: &(C, C)) -> bool
     ensures { result ≡ is_empty C.items line.now }
 {
     line.0.len() == 0 && line.1.len() == 0
 }
 
-/// Whether there are as many lines as cables, and nothing is on any.
+/// Whether there are as many lines as cables, and all are empty.
 fn are_lines<C: Cable>(cables: &[(u16, u16)], lines: &[(C, C)]) -> bool
     ensures { result ≡ are_lines C.items cables.now lines.now }
 {
@@ -146,7 +146,7 @@ fn are_lines<C: Cable>(cables: &[(u16, u16)], lines: &[(C, C)]) -> bool
     true
 }
 
-/// Cables that are whole, with their ends and lines.
+/// The cables at the start: whole, with their ports and the given lines.
 fn first_lines<C: Cable>(
     alloc: Global,
     cables: &[(u16, u16)],
@@ -170,7 +170,7 @@ fn first_lines<C: Cable>(
     Ok(made)
 }
 
-/// The configurations of system 1 and system 2.
+/// The configurations of system 1 and of system 2.
 fn both(systems: [Config; 2]) -> Option<(Config, Config)>
     ensures { IfSome result (λ two. systems ≡ two.0 ∷ two.1 ∷ []) }
 {

@@ -15,8 +15,8 @@ use lagscript::{Event, WorldConfig};
 use std::alloc::Global;
 use std::marker::Model;
 
-/// Two systems, the cables between them, and a record of what was sent, taken and collected. `C` is the kind of each
-/// direction of a cable; `F` is the type of the distribution algorithms, of which each system has one.
+/// Two systems, the cables between them, and records of what was sent, received and collected. `C` is the type of one
+/// direction of a cable. `F` is the type of the distribution algorithms; each system has one.
 #[derive(Drop)]
 pub struct World<C: Cable, F> {
     pub(crate) core: Core<C, F>,
@@ -36,10 +36,11 @@ impl<C: Cable, F> Model for World<C, F> {
 
 impl<C: Cable, F: Fn(u16, usize) -> usize + Drop> World<C, F> {
     /// Makes both systems in their first states, and every cable whole and empty. `one` and `two` are the distribution
-    /// algorithms; `lines` has the two directions of each cable, of which the first leads to system 1. Refused is, with
-    /// `BadConfig`, the first of: `System` (what `System::new` refuses, of system 1, then of system 2), `SameSystem` (equal
-    /// identifiers), `CableEnd` (the first cable with an end that is no port, or that an earlier cable has), `Lines` (not as
-    /// many lines as cables, or one that is not empty). `NoMemory` may come before any of these (profile).
+    /// algorithms of system 1 and system 2. `lines` has the two directions of each cable; the first of them leads to
+    /// system 1. Refused as `BadConfig` with the first of these reasons: `System` (what `System::new` refuses of system
+    /// 1, then of system 2), `SameSystem` (equal identifiers), `CableEnd` (the first cable with an end that is no port,
+    /// or that an earlier cable has), `Lines` (not as many lines as cables, or one that is not empty). `NoMemory` may
+    /// come before any of these (profile).
     pub fn new(
         alloc: Global,
         config: WorldConfig,
@@ -60,9 +61,10 @@ impl<C: Cable, F: Fn(u16, usize) -> usize + Drop> World<C, F> {
         Ok(World { core })
     }
 
-    /// Plays one event and answers its reply. Refused are, in this order, `NoCable` and `NoSystem` (the event names one that
-    /// does not exist), `Spent` (2^63 events have acted) and `NoMemory`; nothing has changed then. Only Emit, Deliver, Repeat
-    /// and Offer may take memory. What a system refuses is a reply, `Refused` (profile).
+    /// Plays one event and returns its reply. Refused in this order: `NoCable` and `NoSystem` if the event names one
+    /// that does not exist, `Spent` if 2^63 events have acted, `NoMemory`; then nothing has changed. Only Emit,
+    /// Deliver, Repeat and Offer may take memory. What a system refuses is not a fault but the reply `Refused`
+    /// (profile).
     pub fn step(&mut self, event: &Event) -> Result<Reply, WorldFault>
         requires one { PicksPlaces (F.pre self.old.one) (F.post self.old.one) }
         requires two { PicksPlaces (F.pre self.old.two) (F.post self.old.two) }
@@ -80,20 +82,21 @@ impl<C: Cable, F: Fn(u16, usize) -> usize + Drop> World<C, F> {
         self.core.step(event)
     }
 
-    /// The allocator. Reading `core` also shows the prover the invariant, which `run` wants before its first event.
+    /// The allocator. Reading `core` also shows the prover the invariant of the world, which `run` needs before its
+    /// first event.
     fn alloc(&self) -> Global
         ensures { IsSound self.now.joint }
     {
         self.core.alloc
     }
 
-    /// Plays events in order and answers their replies. If one is refused it stops: `RunFault` says how many acted and why
-    /// the next did not, and the world is as they left it. Memory for all replies is taken first, so `NoMemory` may come with
-    /// none acted. Whatever the answer, of the world that is left (profile; 6.3.6, 6.2.4):
-    /// - ports that distribute in one aggregator name one partner system and key (`one_partner`);
-    /// - a cable's two distributing ends, neither of which changed since it sent the LACPDU that its peer took last, nor runs
-    ///   on defaults, name the same group (`agree`);
-    /// - what an unforced conversation collected is a subsequence of what it sent (`in_order`).
+    /// Plays events in order and returns their replies. If an event is refused, `run` stops there: `RunFault` says how
+    /// many events acted and why the next did not. Memory for all replies is taken first, so `NoMemory` may come before
+    /// any event acted. Whatever is returned, these hold of the world afterwards (profile; 6.3.6, 6.2.4):
+    /// - ports that distribute in one aggregator have one partner system and key (`one_partner`);
+    /// - the two ends of a cable have the same Link Aggregation Group, if both distribute, neither changed since it sent
+    ///   the LACPDU that its peer received last, and neither has a defaulted partner (`agree`);
+    /// - what a conversation collected, if it was never forced, is a subsequence of what it sent (`in_order`).
     pub fn run(&mut self, events: &[Event]) -> Result<Vec<Reply>, RunFault>
         requires one { PicksPlaces (F.pre self.old.one) (F.post self.old.one) }
         requires two { PicksPlaces (F.pre self.old.two) (F.post self.old.two) }
