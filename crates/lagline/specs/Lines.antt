@@ -11,7 +11,7 @@ use Rattle.lagline.specs.declared.line.LineFault.TheVariants.{Help, Usage, NoMem
 use Rattle.lagline.specs.declared.line.Job.{Job}
 use Rattle.lagline.specs.declared.line.Job.TheVariants.{Decode, Respond, Check, Replay, Vectors}
 
--- a word that must be given
+-- an argument that is required
 abbrev pub word : Text → Rule
 word id = record (new_rule id) { required = true }
 
@@ -30,7 +30,7 @@ replay_line = with_rule (new_app (codes "replay")) (word (codes "SCRIPT"))
 abbrev pub vectors_line : App
 vectors_line = new_app (codes "vectors")
 
--- a subcommand must be given, none is `help`, and there is a version
+-- a subcommand is required, there is no subcommand `help`, and there is a version
 abbrev pub program_alone : App
 program_alone =
     let a = new_app (codes "lagtool") in
@@ -49,7 +49,7 @@ name_of (Check file) = codes "check"
 name_of (Replay script) = codes "replay"
 name_of Vectors = codes "vectors"
 
--- the job has the values in the rows
+-- the job has the values of these rows
 abbrev pub HasValues : Job → List Row → Type 0
 HasValues (Decode hex) rows = first_of (codes "HEX") rows ≡ Some hex.now
 HasValues (Respond mac hex) rows = (first_of (codes "MAC") rows ≡ Some mac.now) × (first_of (codes "HEX") rows ≡ Some hex.now)
@@ -66,7 +66,7 @@ pub record IsJob (found : Option (Text × List Row)) (job : Job) : Type 0 where
 abbrev pub has_text : Text → List Row → Bool
 has_text id rows = is_some (first_of id rows)
 
--- a subcommand of the program was found, with each word that it takes
+-- a subcommand of the program was found, with each argument that it takes
 abbrev pub is_whole : Option (Text × List Row) → Bool
 is_whole None = false
 is_whole (Some found) =
@@ -76,17 +76,18 @@ is_whole (Some found) =
     else (if bytes_eq found.0 (codes "replay") then has_text (codes "SCRIPT") found.1
     else bytes_eq found.0 (codes "vectors"))))
 
--- help or the version is asked for
+-- the kind of error with which help or the version is shown
 abbrev pub IsAsked : ErrorKind → Type 0
 IsAsked k = (k ≡ DisplayHelp) ⊎ (k ≡ DisplayVersion)
 
--- the fault has the error, by its kind
+-- the fault has this error, by its kind
 abbrev pub KeepsKind : Error → LineFault → Type 0
 KeepsKind e (Help error) = (error ≡ e) × IsAsked (kind_of e)
 KeepsKind e (Usage error) = (error ≡ e) × (kind_of e ≢ DisplayHelp) × (kind_of e ≢ DisplayVersion) × (kind_of e ≢ OutOfMemory)
 KeepsKind e NoMemory = kind_of e ≡ OutOfMemory
 
--- help and the version are shown if the words ask for them, a usage fault is another of the kinds that they give, and memory may run out
+-- Help and the version are shown only if the words ask for them; a usage fault is another of the kinds of error that
+-- the words have; memory may run out on any line.
 abbrev pub IsCause : Kinds → LineFault → Type 0
 IsCause kinds (Help error) = IsAsked (kind_of error) × IsAmong (kind_of error) kinds
 IsCause kinds (Usage error) = (kind_of error ≢ DisplayHelp) × (kind_of error ≢ DisplayVersion) × IsAmong (kind_of error) kinds

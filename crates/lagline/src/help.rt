@@ -1,4 +1,4 @@
-//! What the program's help says.
+//! The texts of the program's help.
 
 /// The program's version.
 pub const VERSION: &str = "0.1.0";

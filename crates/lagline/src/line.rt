@@ -10,29 +10,29 @@ use clap::{Arg, ArgMatches, Command, Error};
 use std::alloc::{AllocError, Global};
 use std::convert::AsStr;
 
-/// What a command line asks for, with its words as they were given (profile).
+/// The job that a command line asks for, with its words as they were given (profile).
 #[derive(Clone, Copy, Debug, PartialEq, Eq)]
 pub enum Job<'a> {
-    /// `lagtool decode HEX`: reads a payload.
+    /// `lagtool decode HEX`: prints an LACPDU or Marker PDU.
     Decode { hex: &'a str },
-    /// `lagtool respond MAC HEX`: answers a marker frame.
+    /// `lagtool respond MAC HEX`: prints the response to a marker frame.
     Respond { mac: &'a str, hex: &'a str },
-    /// `lagtool check FILE`: says of each line of a file what frame it is; `-` is standard input.
+    /// `lagtool check FILE`: says for each line of a file what frame it is; `-` is standard input.
     Check { file: &'a str },
-    /// `lagtool replay SCRIPT`: runs a script; `-` is standard input.
+    /// `lagtool replay SCRIPT`: runs a script of two systems; `-` is standard input.
     Replay { script: &'a str },
-    /// `lagtool vectors`: runs the vectors.
+    /// `lagtool vectors`: tests the program on known inputs.
     Vectors,
 }
 
-/// Why a command line asks for nothing (profile). `Help` and `Usage` carry the text to print.
+/// Why a command line asks for no job (profile). `Help` and `Usage` have the text to print.
 #[derive(Debug, Drop)]
 pub enum LineFault {
-    /// The words ask for help or for the version.
+    /// The words ask for help or for the version. The text goes to standard output.
     Help(Error),
     /// The words name no job, or have too few or too many words for it.
     Usage(Error),
-    /// Memory ran out.
+    /// Memory was refused.
     NoMemory,
 }
 
@@ -44,7 +44,7 @@ impl From<AllocError> for LineFault {
     }
 }
 
-/// The fault of an error of `clap`.
+/// The fault for an error of `clap`.
 fn fault_in(error: Error) -> LineFault
     ensures { KeepsKind error result }
 {
@@ -55,7 +55,7 @@ fn fault_in(error: Error) -> LineFault
     }
 }
 
-/// A subcommand that takes no words yet.
+/// A subcommand without arguments so far.
 fn subcommand<'a>(alloc: Global, name: &'a str, about: &'a str, after: &'a str) -> Command<'a>
     ensures app { app_of result ≡ new_app name.entry.now }
     ensures local { (fields_of result).has_globals ≡ false }
@@ -63,7 +63,7 @@ fn subcommand<'a>(alloc: Global, name: &'a str, about: &'a str, after: &'a str) 
     Command::new(alloc, name).about(about).after_help(after)
 }
 
-/// The command with one word more that must be given.
+/// The command with one more argument, which is required.
 fn with_word<'a>(
     command: Command<'a>,
     alloc: Global,
@@ -76,7 +76,7 @@ fn with_word<'a>(
     command.arg(Arg::new(alloc, id).required(true).help(help))
 }
 
-/// The program without its subcommands.
+/// The program, without its subcommands.
 fn program_alone<'a>(alloc: Global) -> Result<Command<'a>, AllocError>
     ensures { IfOk result (λ c. app_of c ≡ program_alone) }
 {
@@ -111,7 +111,7 @@ fn program<'a>(alloc: Global) -> Result<Command<'a>, AllocError>
         .subcommand(vectors)
 }
 
-/// The job of a subcommand with its values.
+/// The job of a subcommand with the values of its arguments.
 fn job_in<'a>(matches: &ArgMatches<'a>) -> Job<'a>
     requires { is_whole (subcommand_rows_of matches.now) ≡ true }
     ensures { IsJob (subcommand_rows_of matches.now) result }
@@ -136,15 +136,14 @@ fn job_in<'a>(matches: &ArgMatches<'a>) -> Job<'a>
     }
 }
 
-/// Reads the words of a command line, the program's name first (profile). `Help` comes if they
-/// ask for help or for the version, `Usage` if they are no line of the program, `NoMemory` if memory
-/// ran out.
+/// Reads the words of a command line; the first is the program's name (profile). `Help` if they ask for help or for the
+/// version, `Usage` if they are no line of the program, `NoMemory` if memory is refused.
 pub fn read_line<'a, S: AsStr>(alloc: Global, words: &'a [S]) -> Result<Job<'a>, LineFault>
-    // The job is the subcommand, with the values, that the words name.
+    // The job is the subcommand that the words name, with their values.
     ensures job { IfOk result (λ job. IsJob (subcommand_of lines (map S.text words.entry.now)) job) }
-    // A line with a fault has no job.
+    // A line for which `clap` has an error has no job.
     ensures faultless { OnOk result (fault_of lines (map S.text words.entry.now) ≡ []) }
-    // Help and the version are shown only if the words ask for them, and a usage fault is one of theirs.
+    // Help and the version are shown only if the words ask for them, and a usage fault is one that the words have.
     ensures fault { IfErr result (λ e. IsCause (fault_of lines (map S.text words.entry.now)) e) }
 {
     match program(alloc)?.try_get_matches_from(words) {

@@ -2,7 +2,7 @@ use crate::line::{Job, LineFault, read_line};
 use std::alloc::{AllocError, Global};
 use std::test::Fail;
 
-/// What a line comes to: a job with its words, or a fault.
+/// What a line is read as: a job with its words, or a fault.
 fn said_of(alloc: Global, words: &[&str]) -> Result<String, AllocError> {
     match read_line(alloc, words) {
         Ok(job) => format!(in alloc; "{job:?}"),
@@ -51,7 +51,7 @@ fn lines(rt: HostRuntime) -> Result<(), Fail> {
     Ok(())
 }
 
-/// The text of help that a line asks for.
+/// The help text that a line asks for.
 fn help_of(alloc: Global, words: &[&str]) -> Result<String, AllocError> {
     match read_line(alloc, words) {
         Err(LineFault::Help(text)) => format!(in alloc; "{text}"),

@@ -1,4 +1,4 @@
--- Events as values: those of lists of octets too (profile).
+-- Events as values of the logic, which a list of octets is part of (profile).
 use Rattle.std.specs.Prelude.{ℕ, List, map}
 use Rattle.lagsystem.specs.declared.config.PortChange.{PortChange}
 use Rattle.lagscript.specs.declared.event.Event.{Event}

@@ -11,7 +11,7 @@ use Rattle.lagscript.specs.declared.config.BadWorld.{BadWorld}
 use Rattle.lagscript.specs.declared.config.BadWorld.TheVariants.{System, SameSystem, CableEnd}
 use Rattle.lagscript.specs.declared.config.WorldConfig.{WorldConfig}
 
--- the configuration of a system, with its lists as lists
+-- the configuration of a system, with lists in the place of its Vecs
 pub record SystemPlan : Type 0 where
   pub system : SystemId
   pub max_delay : ℕ
@@ -26,18 +26,18 @@ plan_of c =
 abbrev pub has_port : List PortConfig → ℕ → Bool
 has_port ports number = list_any (λ port. port.number == number) ports
 
--- one of these cables has an end of this one
+-- one of these cables ends at a port at which this cable ends
 abbrev pub shares_end : List (ℕ × ℕ) → ℕ × ℕ → Bool
 shares_end cables cable = list_any (λ c. (c.0 == cable.0) || (c.1 == cable.1)) cables
 
--- each end of the cable is a port of its side, and no earlier cable has it
+-- each end of the cable is a port of its system, and no earlier cable has it
 abbrev pub can_join : List PortConfig → List PortConfig → List (ℕ × ℕ) → ℕ × ℕ → Bool
 can_join ports1 ports2 earlier cable = (has_port ports1 cable.0 && has_port ports2 cable.1) && not (shares_end earlier cable)
 
 abbrev pub has_bad_end : List PortConfig → List PortConfig → List (ℕ × ℕ) → ℕ → Bool
 has_bad_end ports1 ports2 cables i = not (can_join ports1 ports2 (take i cables) (get_or cables i (0, 0)))
 
--- the first that there is
+-- the first of two values, if there is one, else the second
 abbrev pub or_first : {A : Type 0} → Option A → Option A → Option A
 or_first None other = other
 or_first (Some x) other = Some x
@@ -47,7 +47,7 @@ abbrev pub first_below : (ℕ → Bool) → ℕ → Option ℕ
 first_below test zero = None
 first_below test (suc n) = or_first (first_below test n) (if test n then Some n else None)
 
--- the place, from 1, of the first cable with an end that is no port of its side or that an earlier cable has
+-- the place, counted from 1, of the first cable with an end that is no port of its system or that an earlier cable has
 abbrev pub bad_end : List PortConfig → List PortConfig → List (ℕ × ℕ) → Option ℕ
 bad_end ports1 ports2 cables = option_map suc (first_below (has_bad_end ports1 ports2 cables) (length cables))
 
@@ -57,7 +57,7 @@ same_system a b = (a.priority == b.priority) && bytes_eq a.mac b.mac
 abbrev pub system_refusal : ℕ → SystemPlan → Option BadWorld
 system_refusal side plan = option_map (System side) (refusal plan.aggregators plan.ports)
 
--- the first reason to refuse two systems and their cables: system 1, system 2, equal identifiers, the cables
+-- the first reason to refuse two systems and their cables: of system 1, of system 2, equal identifiers, of the cables
 abbrev pub refusal_of_two : SystemPlan → SystemPlan → List (ℕ × ℕ) → Option BadWorld
 refusal_of_two a b cables =
     or_first (system_refusal 1 a)

@@ -10,7 +10,8 @@ use Rattle.lagscript.specs.declared.fault.EntryFault.TheVariants as entry
 use Rattle.lagscript.specs.declared.fault.ScriptFault.{ScriptFault}
 use Rattle.lagscript.specs.declared.fault.ScriptFault.TheVariants as fault
 
--- one word of an entry: a number of 0 to 65535; a system; a cable of so many; a count of ticks; a kind of link; a frame
+-- the words of an entry, one by one: a number from 0 to 65535; a system; one of this many cables; a number of ticks; a
+-- kind of link; a frame
 abbrev pub number_word : List ℕ → Result ℕ EntryFault
 number_word w = or_fault entry.Number (number_below 65536 w)
 
@@ -32,7 +33,7 @@ kind_word w =
 abbrev pub hex_word : List ℕ → Result (List ℕ) EntryFault
 hex_word w = or_fault entry.Hex (octets_of w)
 
--- an entry that has just so many words behind its first; the words are read from left to right
+-- an entry with exactly this many words after its first; they are read from left to right
 abbrev pub Reader : Type 0 → Type 0
 Reader A = List ℕ → Result A EntryFault
 
@@ -74,7 +75,7 @@ five f g h i j make ws = five_words ws >>= λ p. f p.0 >>= λ x. g p.1 >>= λ y.
 abbrev pub configured : ℕ → ℕ → ℕ → ℕ → Bool → Act
 configured s port key priority aggregatable = configure s port (record { key = record { 0 = key }; priority = priority; aggregatable = aggregatable })
 
--- each first word with what stands behind it; `offer` apart, which takes memory for its octets
+-- the event by its first word and the words after it; all events but `offer`, whose octets take memory
 abbrev pub plain_named : ℕ → List ℕ → List (List ℕ) → Result Act EntryFault
 plain_named cables name =
     if bytes_eq name (codes "tick") then two system_word ticks_word tick
@@ -94,7 +95,7 @@ plain_named cables name =
 abbrev pub act_named : ℕ → List ℕ → List (List ℕ) → Result Act EntryFault
 act_named cables name ws = if bytes_eq name (codes "offer") then three system_word number_word hex_word offer ws else plain_named cables name ws
 
--- an event that was read, or its fault
+-- an event that was read, as a value of the logic; or its fault
 abbrev pub seen : Result Event EntryFault → Result Act EntryFault
 seen (Ok e) = Ok (act_of e)
 seen (Err e) = Err e

@@ -1,4 +1,4 @@
--- The keys of a table and their values (profile).
+-- The keys of a table, and their values (profile).
 use Rattle.std.specs.Prelude.{ℕ, ℤ, pos, negsuc, ◌&&◌, Bool, true, List, [], ◌∷◌, nat_le, nat_lt, if◌then◌else◌, Option, Some, None, option_and_then, option_map}
 use Rattle.std.specs.List.{list_any}
 use Rattle.std.specs.Str.{bytes_eq}
@@ -6,17 +6,18 @@ use Rattle.toml.specs.Data.{Data, integer, boolean, Items, no_items, item, Membe
 use Rattle.lagtypes.specs.declared.identifiers.Key.{Key}
 use Rattle.lagscript.specs.Words.{mac_of}
 
--- every key is one of these
+-- every key of the table is in the list
 abbrev pub keys_among : List (List ℕ) → Members → Bool
 keys_among known no_members = true
 keys_among known (member k d ms) = list_any (λ name. bytes_eq name k) known && keys_among known ms
 
--- what a value says, or what it is if left out
+-- the value, read by this function, or the default if it is left out
 abbrev pub value_or : {A : Type 0} → Option A → (Data → Option A) → Option Data → Option A
 value_or default says None = default
 value_or default says (Some d) = says d
 
--- the row of a key: its name, what its value says, and what it is if left out; where that is none, the key has to be there
+-- The value of a key: its name, how its value is read, and its default if it is left out. Without a default, the key
+-- must be there.
 abbrev pub value_at : {A : Type 0} → List ℕ → (Data → Option A) → Option A → Members → Option A
 value_at name says default ms = value_or default says (get_member name ms)
 
@@ -46,16 +47,16 @@ mac_in d = option_and_then mac_of (as_str d)
 abbrev pub key_in : Data → Option Key
 key_in d = option_map (λ n. record { 0 = n }) (number_in 65536 d)
 
--- each item by itself, if each says something
+-- every item is read by this function, if it can read each
 abbrev pub each_in : {A : Type 0} → (Data → Option A) → Items → Option (List A)
 each_in says no_items = Some []
 each_in says (item d ds) = option_and_then (λ x. option_map (λ xs. x ∷ xs) (each_in says ds)) (says d)
 
--- an array of such values
+-- an array of values that this function reads
 abbrev pub list_in : {A : Type 0} → (Data → Option A) → Data → Option (List A)
 list_in says d = option_and_then (each_in says) (as_array d)
 
--- just two
+-- the elements of a list of exactly two
 abbrev pub pair_of : {A : Type 0} → Option (List A) → Option (A × A)
 pair_of (Some (a ∷ b ∷ [])) = Some (a, b)
 pair_of _ = None

@@ -1,4 +1,4 @@
--- The script that a text is, and its plan (profile).
+-- The script in a text, and its plan (profile).
 use Rattle.std.specs.Prelude.{◌≡◌, ⊤, ℕ, List, [], ◌∷◌, codes, length, map, nat_le, if◌then◌else◌, Option, Some, None, option_and_then, Result, Ok, Err, Vec}
 use Rattle.std.specs.declared.alloc.Global.{Global}
 use Rattle.toml.specs.Data.{Data, Members, as_table, as_str}
@@ -19,18 +19,19 @@ use Rattle.lagscript.specs.declared.fault.ScriptFault.TheVariants as fault
 use Rattle.lagscript.specs.declared.plan.Plan.{Plan}
 use Rattle.lagscript.specs.declared.tables.CablePlan.{CablePlan}
 
--- a script: two systems, their cables, and what happens
+-- a script: two systems, their cables, and the events
 pub record Script : Type 0 where
   pub systems : List SystemPlan
   pub cables : List (ℕ × ℕ)
   pub acts : List Act
 
--- a plan: a script, and the limit of each of its cables, in their order
+-- a plan: a script, and the limit of each of its cables, in order
 pub record ScriptPlan : Type 0 where
   pub script : Script
   pub limits : List (Option ℕ)
 
--- the fault of a script whose configuration is refused for this reason; a script has no lines
+-- the fault of a script whose configuration is refused for this reason; there is none for `Lines`, which a script does
+-- not have
 abbrev pub config_fault : BadWorld → Option ScriptFault
 config_fault (refused.System side bad.Ports) = Some (fault.Ports side)
 config_fault (refused.System side bad.Aggregators) = Some (fault.AggregatorCount side)
@@ -39,7 +40,7 @@ config_fault refused.SameSystem = Some fault.SameSystem
 config_fault (refused.CableEnd place) = Some (fault.CableEnd place)
 config_fault refused.Lines = None
 
--- the value, where there is no fault
+-- the value if there is no fault, else the fault
 abbrev pub no_fault : {A : Type 0} → Option ScriptFault → A → Result A ScriptFault
 no_fault None x = Ok x
 no_fault (Some e) x = Err e
@@ -47,7 +48,7 @@ no_fault (Some e) x = Err e
 abbrev pub top_keys : List (List ℕ)
 top_keys = codes "system" ∷ codes "cable" ∷ codes "events" ∷ []
 
--- just two systems
+-- the two systems of a list of exactly two tables
 abbrev pub two_systems : List Members → Result (List SystemPlan) ScriptFault
 two_systems mss = or_fault fault.Systems (pair_of (Some mss)) >>= λ p. system_of 1 p.0 >>= λ first. system_of 2 p.1 >>= λ second. Ok (first ∷ second ∷ [])
 
@@ -57,7 +58,7 @@ systems_in ms = or_fault fault.Systems (value_at (codes "system") (list_in as_ta
 abbrev pub cables_in : Members → Result (List CablePlan) ScriptFault
 cables_in ms = or_fault fault.Cables (value_at (codes "cable") (list_in as_table) (Some []) ms) >>= in_place cable_of 1
 
--- texts, of which there may be 100,000
+-- the texts, if they are at most 100,000
 abbrev pub up_to_most : List (List ℕ) → Option (List (List ℕ))
 up_to_most texts = if nat_le (length texts) 100000 then Some texts else None
 
@@ -73,7 +74,7 @@ ends_of cables = map (λ c. c.ends) cables
 abbrev pub limits_of : List CablePlan → List (Option ℕ)
 limits_of cables = map (λ c. c.limit) cables
 
--- the plan that the parts of a document make
+-- the plan made of the parts of a document
 abbrev pub planned : List SystemPlan → List CablePlan → List Act → ScriptPlan
 planned systems cables acts = record { script = record { systems = systems; cables = ends_of cables; acts = acts }; limits = limits_of cables }
 
@@ -87,7 +88,7 @@ plan_in ms =
     no_fault (option_and_then config_fault (refusal_of_all systems (ends_of cables))) (planned systems cables acts)
     )
 
--- the script of a document, which is that of its plan
+-- the script of a document: that of its plan
 abbrev pub script_of : Members → Result Script ScriptFault
 script_of ms = plan_in ms >>= λ plan. Ok plan.script
 
@@ -99,7 +100,7 @@ HasPlan text p = (ms : Members) × (parse_document text ≡ Some ms) × (plan_in
 abbrev pub HasScript : List ℕ → Script → Type 0
 HasScript text s = (ms : Members) × (parse_document text ≡ Some ms) × (script_of ms ≡ Ok s)
 
--- the text has no plan, and so no script, and this is why; memory may run out on any text
+-- the text has no plan, so no script, with this fault; any text may be refused for lack of memory
 abbrev pub IsRefused : List ℕ → ScriptFault → Type 0
 IsRefused text fault.NotToml = parse_document text ≡ None
 IsRefused text fault.NoMemory = ⊤
@@ -113,12 +114,12 @@ script_shown c events = record { systems = map plan_of c.systems; cables = c.cab
 abbrev pub plan_shown : Plan → ScriptPlan
 plan_shown p = record { script = script_shown p.config p.events.items; limits = p.limits.items }
 
--- how `read_plan` ends
+-- what `read_plan` returns
 abbrev pub ReadsPlan : List ℕ → Result Plan ScriptFault → Type 0
 ReadsPlan text (Ok plan) = HasPlan text (plan_shown plan)
 ReadsPlan text (Err e) = IsRefused text e
 
--- how `read_script` ends
+-- what `read_script` returns
 abbrev pub Reads : List ℕ → Result (WorldConfig × Vec Event Global) ScriptFault → Type 0
 Reads text (Ok read) = HasScript text (script_shown read.0 read.1.items)
 Reads text (Err e) = IsRefused text e

@@ -1,4 +1,4 @@
--- What a call hands back, as lists of octets and as tables; and how the reading of an entry ends.
+-- The results of reading, with lists and tables in the place of Vecs; and the result of reading an entry.
 use Rattle.std.specs.Prelude.{◌≡◌, ⊤, ℕ, List, Result, Ok, Err, String}
 use Rattle.std.specs.Borrow.{Bor}
 use Rattle.std.specs.BTreeMap.{BTreeMap}
@@ -41,7 +41,7 @@ abbrev pub seen_five : Result (Word × Word × Word × Word × Word) EntryFault 
 seen_five (Ok p) = Ok (p.0.now, p.1.now, p.2.now, p.3.now, p.4.now)
 seen_five (Err e) = Err e
 
--- the stated event or fault is answered, or memory ran out
+-- the stated event or fault is returned, or memory ran out
 abbrev pub Enters : Result Act EntryFault → Result Event EntryError → Type 0
 Enters stated (Ok e) = stated ≡ Ok (act_of e)
 Enters stated (Err (Fault f)) = stated ≡ Err f

@@ -1,4 +1,4 @@
--- The tables of a script: a row for each key, in the order of reading (profile).
+-- The tables of a script: their keys, in the order in which they are read (profile).
 use Rattle.std.specs.Prelude.{ℕ, true, List, [], ◌∷◌, codes, Option, Some, None, option_map, Result, Ok}
 use Rattle.toml.specs.Data.{Members, as_table}
 use Rattle.lagtypes.specs.declared.identifiers.Key.{Key}
@@ -18,7 +18,7 @@ use Rattle.lagscript.specs.declared.tables.Numbers.{Numbers}
 abbrev pub port_keys : List (List ℕ)
 port_keys = codes "number" ∷ codes "priority" ∷ codes "mac" ∷ codes "key" ∷ codes "aggregatable" ∷ codes "active" ∷ codes "short" ∷ []
 
--- the port of a table, whose MAC address is the system's if it is left out
+-- the port of a table; if its MAC address is left out, it is that of the system
 abbrev pub port_of : ℕ → List ℕ → ℕ → Members → Result PortConfig ScriptFault
 port_of system own place ms =
     let wrong = fault.PortValue system place in
@@ -38,7 +38,7 @@ port_of system own place ms =
 abbrev pub system_keys : List (List ℕ)
 system_keys = codes "priority" ∷ codes "mac" ∷ codes "max_delay" ∷ codes "first_marker" ∷ codes "aggregators" ∷ codes "port" ∷ []
 
--- what a system has besides its lists
+-- the values of a system other than its lists
 abbrev pub numbers_in : ℕ → Members → Result Numbers ScriptFault
 numbers_in system ms =
     let wrong = fault.SystemValue system in
@@ -53,7 +53,7 @@ numbers_in system ms =
 abbrev pub aggregators_in : ℕ → Members → Result (List Key) ScriptFault
 aggregators_in system ms = or_fault (fault.SystemValue system system_key.Aggregators) (value_at (codes "aggregators") (list_in key_in) None ms)
 
--- each element is a table, and then each port in its place
+-- every element is a table, and each is read as the port at its place
 abbrev pub ports_in : ℕ → List ℕ → Members → Result (List PortConfig) ScriptFault
 ports_in system own ms = or_fault (fault.SystemValue system system_key.Port) (value_at (codes "port") (list_in as_table) None ms) >>= in_place (port_of system own) 1
 
@@ -69,7 +69,7 @@ system_of system ms =
 abbrev pub cable_keys : List (List ℕ)
 cable_keys = codes "ends" ∷ codes "limit" ∷ []
 
--- the limit of both directions, none if it is left out
+-- the limit of both directions; None if it is left out
 abbrev pub limit_of : ℕ → Members → Result (Option ℕ) ScriptFault
 limit_of cable ms = or_fault (fault.CableLimit cable) (value_at (codes "limit") (λ d. option_map Some (limit_in d)) (Some None) ms)
 

@@ -3,12 +3,12 @@ ghost use Rattle.lagscript.specs.Configs.{bad_end, has_bad_end, has_port, refusa
 
 use lagsystem::{BadConfig, Config, PortConfig};
 
-/// What two systems and their cables are made from (profile).
+/// The configuration of two systems and their cables (profile).
 #[derive(Debug, Drop)]
 pub struct WorldConfig {
     /// System 1 and system 2.
     pub systems: [Config; 2],
-    /// The cables, counted from 1: the port of system 1 and the port of system 2 that each joins.
+    /// The cables, numbered from 1: each joins this port of system 1 and this port of system 2.
     pub cables: Vec<(u16, u16)>,
 }
 
@@ -19,33 +19,33 @@ pub enum BadWorld {
     System {
         /// The system, 1 or 2.
         side: u8,
-        /// Why.
+        /// Why its configuration is refused.
         reason: BadConfig,
     },
     /// Both systems have the same identifier.
     SameSystem,
-    /// The cable at this place, from 1, has an end that is no port of its system, or that has a cable already.
+    /// The cable at this place, counted from 1, has an end that is no port of its system, or that has a cable already.
     CableEnd(usize),
-    /// There are not as many lines as cables, or a line is not empty. A line is the two directions of a cable; `World::new`
-    /// alone gives this reason.
+    /// There are not as many lines as cables, or a line is not empty. A line is the two directions of a cable. Only
+    /// `World::new` gives this reason.
     Lines,
 }
 
-/// Whether a port of these has this number.
+/// Whether one of these ports has this number.
 fn has_port(ports: &[PortConfig], number: u16) -> bool
     ensures { result ≡ has_port ports.now number }
 {
     ports.iter().any(|port| port.number == number)
 }
 
-/// Whether one of these cables has an end of this one.
+/// Whether one of these cables ends at a port at which this cable ends.
 fn shares_end(cables: &[(u16, u16)], cable: (u16, u16)) -> bool
     ensures { result ≡ shares_end cables.now cable }
 {
     cables.iter().any(|c| c.0 == cable.0 || c.1 == cable.1)
 }
 
-/// Whether the cable of this index, from 0, has an end that is no port of its side, or that an earlier cable has.
+/// Whether the cable at this index has an end that is no port of its system, or that an earlier cable has.
 fn has_bad_end(
     first: &[PortConfig],
     second: &[PortConfig],
@@ -60,7 +60,7 @@ fn has_bad_end(
     !are_ports || shares_end(&cables[..index], cable)
 }
 
-/// The place, from 1, of the first cable with a bad end.
+/// The place, counted from 1, of the first cable with a bad end.
 fn bad_end(first: &[PortConfig], second: &[PortConfig], cables: &[(u16, u16)]) -> Option<usize>
     ensures { result ≡ bad_end first.now second.now cables.now }
 {
@@ -73,9 +73,9 @@ fn bad_end(first: &[PortConfig], second: &[PortConfig], cables: &[(u16, u16)]) -
 }
 
 impl WorldConfig {
-    /// The first reason to refuse the systems and their cables (profile): what is wrong with system 1, then with
-    /// system 2, equal identifiers, and then the first cable with an end that is no port of its system or that an
-    /// earlier cable has. Of lines it knows nothing.
+    /// The first reason to refuse the systems and their cables (profile): a fault of system 1, then of system 2, then
+    /// equal identifiers, then the first cable with an end that is no port of its system or that an earlier cable has.
+    /// Never `Lines`.
     pub fn refusal(&self) -> Option<BadWorld>
         ensures { result ≡ refusal_of self.now }
     {

@@ -11,10 +11,10 @@ use lagsystem::PortChange;
 use lagtypes::{AggId, Key};
 use std::alloc::{AllocError, Global};
 
-/// Why an entry gives no event.
+/// Why an entry cannot be read as an event.
 #[derive(Clone, Copy, Debug, PartialEq, Eq)]
 pub enum EntryError {
-    /// It is no event.
+    /// The entry is no event, with this fault.
     Fault(EntryFault),
     /// Memory was refused.
     NoMemory,
@@ -36,14 +36,14 @@ impl From<AllocError> for EntryError {
     }
 }
 
-/// A number of 0 to 65535.
+/// Reads a number from 0 to 65535.
 fn number(word: &str) -> Result<u16, EntryFault>
     ensures { result ≡ number_word word.now }
 {
     number_of(word).ok_or(EntryFault::Number)
 }
 
-/// System 1 or 2.
+/// Reads a system, 1 or 2.
 fn system(word: &str) -> Result<u8, EntryFault>
     ensures { result ≡ system_word word.now }
 {
@@ -55,7 +55,7 @@ fn system(word: &str) -> Result<u8, EntryFault>
     }
 }
 
-/// A cable of so many.
+/// Reads the number of a cable; there are this many.
 fn cable(cables: usize, word: &str) -> Result<u16, EntryFault>
     ensures { result ≡ cable_word cables word.now }
 {
@@ -71,7 +71,7 @@ fn cable(cables: usize, word: &str) -> Result<u16, EntryFault>
     }
 }
 
-/// A number of ticks, 1 to 65535.
+/// Reads a number of ticks, 1 to 65535.
 fn ticks(word: &str) -> Result<u16, EntryFault>
     ensures { result ≡ ticks_word word.now }
 {
@@ -81,7 +81,7 @@ fn ticks(word: &str) -> Result<u16, EntryFault>
     }
 }
 
-/// Whether the link is aggregatable.
+/// Reads whether the link is aggregatable or individual.
 fn kind(word: &str) -> Result<bool, EntryFault>
     ensures { result ≡ kind_word word.now }
 {
@@ -92,7 +92,7 @@ fn kind(word: &str) -> Result<bool, EntryFault>
     }
 }
 
-/// The one word that there is.
+/// The word, if there is exactly one.
 fn one_word<'a>(words: &[&'a str]) -> Result<&'a str, EntryFault>
     ensures { seen_one result ≡ one_word (map (λ w. w.now) words.now) }
 {
@@ -102,7 +102,7 @@ fn one_word<'a>(words: &[&'a str]) -> Result<&'a str, EntryFault>
     }
 }
 
-/// The two words that there are.
+/// The words, if there are exactly two.
 fn two_words<'a>(words: &[&'a str]) -> Result<(&'a str, &'a str), EntryFault>
     ensures { seen_two result ≡ two_words (map (λ w. w.now) words.now) }
 {
@@ -112,7 +112,7 @@ fn two_words<'a>(words: &[&'a str]) -> Result<(&'a str, &'a str), EntryFault>
     }
 }
 
-/// The three words that there are.
+/// The words, if there are exactly three.
 fn three_words<'a>(words: &[&'a str]) -> Result<(&'a str, &'a str, &'a str), EntryFault>
     ensures { seen_three result ≡ three_words (map (λ w. w.now) words.now) }
 {
@@ -122,7 +122,7 @@ fn three_words<'a>(words: &[&'a str]) -> Result<(&'a str, &'a str, &'a str), Ent
     }
 }
 
-/// An event of a system and a number.
+/// Reads the words of `emit`: a system and a port.
 fn emit(words: &[&str]) -> Result<Event, EntryFault>
     ensures { seen result ≡ two system_word number_word act.emit (map (λ w. w.now) words.now) }
 {
@@ -130,7 +130,7 @@ fn emit(words: &[&str]) -> Result<Event, EntryFault>
     Ok(Event::Emit(system(s)?, number(port)?))
 }
 
-/// A number of ticks of a system.
+/// Reads the words of `tick`: a system and a number of ticks.
 fn tick(words: &[&str]) -> Result<Event, EntryFault>
     ensures { seen result ≡ two system_word ticks_word act.tick (map (λ w. w.now) words.now) }
 {
@@ -138,7 +138,7 @@ fn tick(words: &[&str]) -> Result<Event, EntryFault>
     Ok(Event::Tick(system(s)?, ticks(n)?))
 }
 
-/// The four words that there are.
+/// The words, if there are exactly four.
 fn four_words<'a>(words: &[&'a str]) -> Result<(&'a str, &'a str, &'a str, &'a str), EntryFault>
     ensures { seen_four result ≡ four_words (map (λ w. w.now) words.now) }
 {
@@ -148,7 +148,7 @@ fn four_words<'a>(words: &[&'a str]) -> Result<(&'a str, &'a str, &'a str, &'a s
     }
 }
 
-/// The five words that there are.
+/// The words, if there are exactly five.
 fn five_words<'a>(
     words: &[&'a str],
 ) -> Result<(&'a str, &'a str, &'a str, &'a str, &'a str), EntryFault>
@@ -242,7 +242,7 @@ fn force(words: &[&str]) -> Result<Event, EntryFault>
     Ok(Event::Force(system(s)?, AggId(number(agg)?), number(conv)?))
 }
 
-/// The event of a first word with those behind it, `offer` apart.
+/// Reads an event, by its first word and the words after it; all events but `offer`.
 fn plain_named(cables: usize, name: &str, words: &[&str]) -> Result<Event, EntryFault>
     ensures { seen result ≡ plain_named cables name.now (map (λ w. w.now) words.now) }
 {
@@ -263,7 +263,7 @@ fn plain_named(cables: usize, name: &str, words: &[&str]) -> Result<Event, Entry
     }
 }
 
-/// A frame on offer.
+/// Reads the words of `offer`: a system, an aggregator and a frame.
 fn offer(alloc: Global, words: &[&str]) -> Result<Event, EntryError>
     ensures { Enters (three system_word number_word hex_word act.offer (map (λ w. w.now) words.now)) result }
 {
@@ -277,7 +277,7 @@ fn offer(alloc: Global, words: &[&str]) -> Result<Event, EntryError>
     }
 }
 
-/// The event of a first word with those behind it.
+/// Reads an event, by its first word and the words after it.
 fn event_named(
     alloc: Global,
     cables: usize,
@@ -295,7 +295,7 @@ fn event_named(
     }
 }
 
-/// The event of an entry, in a script of so many cables.
+/// Reads the event of an entry, in a script with this many cables.
 pub(crate) fn event_in(alloc: Global, cables: usize, text: &str) -> Result<Event, EntryError>
     ensures { Enters (act_in cables text.now) result }
 {

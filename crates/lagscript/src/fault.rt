@@ -4,7 +4,7 @@ ghost use Rattle.lagscript.specs.declared.fault.ScriptFault.TheVariants.{NoMemor
 use std::alloc::{AllocError, AllocFailed};
 use thiserror::Error;
 
-/// The keys of a system, in the order of reading (profile).
+/// The keys in the table of a system, in the order in which they are read (profile).
 #[derive(Clone, Copy, Debug, PartialEq, Eq, Error)]
 pub enum SystemKey {
     /// The system priority, 0 to 65535, 32768 if it is left out.
@@ -27,7 +27,7 @@ pub enum SystemKey {
     Port,
 }
 
-/// The keys of a port, in the order of reading (profile).
+/// The keys in the table of a port, in the order in which they are read (profile).
 #[derive(Clone, Copy, Debug, PartialEq, Eq, Error)]
 pub enum PortKey {
     /// The port number, 0 to 65535; the configuration refuses 0.
@@ -39,39 +39,40 @@ pub enum PortKey {
     /// The MAC address, the system's if it is left out.
     #[error("mac")]
     Mac,
-    /// The key, 0 to 65535.
+    /// The operational key, 0 to 65535.
     #[error("key")]
     Key,
-    /// Aggregation, true if it is left out.
+    /// Aggregation: whether the link is aggregatable; true if it is left out.
     #[error("aggregatable")]
     Aggregatable,
-    /// LACP_Activity, true if it is left out.
+    /// LACP_Activity: whether the port is active; true if it is left out.
     #[error("active")]
     Active,
-    /// LACP_Timeout, true for short and if it is left out.
+    /// LACP_Timeout: whether the port has Short Timeout; true if it is left out.
     #[error("short")]
     Short,
 }
 
-/// Why an entry is no event (profile).
+/// Why an entry cannot be read as an event (profile).
 #[derive(Clone, Copy, Debug, PartialEq, Eq, Error)]
 pub enum EntryFault {
     /// The first word names no event.
     #[error("word")]
     Word,
-    /// It has not as many words as the event wants.
+    /// The event takes another number of words.
     #[error("count")]
     Count,
-    /// A word that is to be a number is not one or more decimal digits that say 0 to 65535, or says 0 ticks.
+    /// A word that has to be a number is not one or more decimal digits with a value from 0 to 65535; or the number of
+    /// ticks is 0.
     #[error("number")]
     Number,
     /// The frame is not hexadecimal.
     #[error("hex")]
     Hex,
-    /// The number is that of no cable.
+    /// There is no cable with this number.
     #[error("cable")]
     Cable,
-    /// The number is neither 1 nor 2.
+    /// The number of a system is neither 1 nor 2.
     #[error("system")]
     System,
     /// The last word of `configure` is neither `aggregatable` nor `individual`.
@@ -79,63 +80,63 @@ pub enum EntryFault {
     Kind,
 }
 
-/// Why a text is no script, in the order of checking; systems, ports, cables and entries count from 1 (profile).
+/// Why a text is no script, in the order of checking. Systems, ports, cables and entries are counted from 1 (profile).
 ///
-/// System 1 is checked whole before system 2, the configuration in the end.
+/// System 1 is checked completely before system 2; the configuration as a whole is checked last.
 #[derive(Clone, Copy, Debug, PartialEq, Eq, Error)]
 pub enum ScriptFault {
-    /// The text is no TOML.
+    /// The text is not TOML.
     #[error("not toml")]
     NotToml,
-    /// The top has an unknown key.
+    /// There is an unknown key at the top.
     #[error("extra key")]
     ExtraKey,
-    /// `system` is no array of two tables.
+    /// `system` is not an array of two tables.
     #[error("system")]
     Systems,
-    /// A system has an unknown key.
+    /// There is an unknown key in the table of this system.
     #[error("system {0}: extra key")]
     SystemExtraKey(u8),
-    /// A value of a system is missing or wrong.
+    /// This value of a system is missing or wrong.
     #[error("system {0}: {1}")]
     SystemValue(u8, SystemKey),
-    /// A port of a system has an unknown key.
+    /// There is an unknown key in the table of this port of a system.
     #[error("system {0} port {1}: extra key")]
     PortExtraKey(u8, usize),
-    /// A value of a port of a system is missing or wrong.
+    /// This value of a port of a system is missing or wrong.
     #[error("system {0} port {1}: {2}")]
     PortValue(u8, usize, PortKey),
-    /// `cable` is no array of tables.
+    /// `cable` is not an array of tables.
     #[error("cable")]
     Cables,
-    /// A cable has an unknown key.
+    /// There is an unknown key in the table of this cable.
     #[error("cable {0}: extra key")]
     CableExtraKey(usize),
-    /// The ends of a cable are missing, or no array of two numbers of 0 to 65535.
+    /// The ends of this cable are missing, or not an array of two numbers from 0 to 65535.
     #[error("cable {0}: ends")]
     CableEnds(usize),
-    /// The limit of a cable is no number of 1 to 65535.
+    /// The limit of this cable is not a number from 1 to 65535.
     #[error("cable {0}: limit")]
     CableLimit(usize),
-    /// `events` is no array of texts, or has more than 100,000.
+    /// `events` is not an array of strings, or has more than 100,000.
     #[error("events")]
     Events,
-    /// An entry is no event.
+    /// This entry is no event.
     #[error("event {0}: {1}")]
     Entry(usize, EntryFault),
-    /// A system has not 1 to 64 ports.
+    /// This system does not have 1 to 64 ports.
     #[error("system {0}: ports")]
     Ports(u8),
-    /// A system has not 1 to 64 aggregators.
+    /// This system does not have 1 to 64 aggregators.
     #[error("system {0}: aggregator count")]
     AggregatorCount(u8),
-    /// The port of a system at this place has the number 0, or one that is not above the number before it.
+    /// The port of a system at this place has the number 0, or a number that is not above the one before it.
     #[error("system {0}: port number {1}")]
     PortNumber(u8, usize),
     /// Both systems have the same identifier.
     #[error("two systems with one identifier")]
     SameSystem,
-    /// A cable has an end that is no port of its system, or that has a cable already.
+    /// This cable has an end that is no port of its system, or that has a cable already.
     #[error("cable {0}: end")]
     CableEnd(usize),
     /// Memory was refused.

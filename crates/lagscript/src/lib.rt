@@ -1,4 +1,5 @@
-//! Two systems, their cables and what happens to them, as values and as the text of a script (profile).
+//! Two systems, their cables and the events that happen to them, as values and as the text of a script
+//! (docs/PROFILE.md, "profile" in comments).
 #![tactic(auto)]
 
 mod config;

@@ -9,7 +9,7 @@ use lagtypes::Key;
 use std::alloc::{AllocError, Global};
 use toml::{Table, Value};
 
-/// The table of each value, none if one is no table.
+/// Each value as a table; None if one is not a table.
 fn each_table<'a>(alloc: Global, values: &'a [Value]) -> Result<Option<Vec<&'a Table>>, AllocError>
     ensures { IfOk result (λ o. option_map (λ v. map table_seen v.items) o ≡ each_in as_table (items_view values.now)) }
 {
@@ -23,7 +23,7 @@ fn each_table<'a>(alloc: Global, values: &'a [Value]) -> Result<Option<Vec<&'a T
     Ok(Some(tables))
 }
 
-/// The text of each value, none if one is no text.
+/// Each value as a string; None if one is not a string.
 fn each_text<'a>(alloc: Global, values: &'a [Value]) -> Result<Option<Vec<&'a str>>, AllocError>
     ensures { IfOk result (λ o. option_map (λ v. map word_seen v.items) o ≡ each_in as_str (items_view values.now)) }
 {
@@ -37,7 +37,7 @@ fn each_text<'a>(alloc: Global, values: &'a [Value]) -> Result<Option<Vec<&'a st
     Ok(Some(texts))
 }
 
-/// The key of each value, none if one is no number of 0 to 65535.
+/// Each value as a key; None if one is not a number from 0 to 65535.
 fn each_key(alloc: Global, values: &[Value]) -> Result<Option<Vec<Key>>, AllocError>
     ensures { IfOk result (λ o. option_map (λ v. v.items) o ≡ each_in key_in (items_view values.now)) }
 {
@@ -51,7 +51,7 @@ fn each_key(alloc: Global, values: &[Value]) -> Result<Option<Vec<Key>>, AllocEr
     Ok(Some(keys))
 }
 
-/// The tables of an array, none if it is no array of tables.
+/// The tables of an array; None if the value is not an array of tables.
 pub(crate) fn tables_in<'a>(
     alloc: Global,
     value: &'a Value,
@@ -64,7 +64,7 @@ pub(crate) fn tables_in<'a>(
     }
 }
 
-/// The texts of an array, none if it is no array of texts.
+/// The strings of an array; None if the value is not an array of strings.
 pub(crate) fn texts_in<'a>(
     alloc: Global,
     value: &'a Value,
@@ -77,7 +77,7 @@ pub(crate) fn texts_in<'a>(
     }
 }
 
-/// The keys of an array, none if it is no array of numbers of 0 to 65535.
+/// The keys of an array; None if the value is not an array of numbers from 0 to 65535.
 pub(crate) fn keys_in(alloc: Global, value: &Value) -> Result<Option<Vec<Key>>, AllocError>
     ensures { IfOk result (λ o. option_map (λ v. v.items) o ≡ list_in key_in (view value.now)) }
 {

@@ -1,13 +1,13 @@
 use crate::config::WorldConfig;
 use crate::event::Event;
 
-/// What a script says: two systems and their cables, how much these hold, and what happens (profile).
+/// What a script says: two systems and their cables, the limits of the cables, and the events (profile).
 #[derive(Debug, Drop)]
 pub struct Plan {
-    /// What the systems and the cables are made from.
+    /// The configuration of the systems and the cables.
     pub config: WorldConfig,
-    /// The limit of each cable, in their order: how many frames each of its directions may hold, `None` for any number.
+    /// The limit of each cable, in order: how many frames each direction can hold, or `None` for any number.
     pub limits: Vec<Option<u16>>,
-    /// What happens to them, in this order.
+    /// The events, in order.
     pub events: Vec<Event>,
 }

@@ -22,12 +22,13 @@ use lagsystem::{BadConfig, Config};
 use std::alloc::{AllocError, Global};
 use toml::Table;
 
-/// The most entries that a script may have.
+/// The most entries that a script may have in `events`.
 const MOST: usize = 100_000;
 
 const TOP_KEYS: [&str; 3] = ["system", "cable", "events"];
 
-/// The fault of a script whose configuration is refused for this reason. A script has no lines.
+/// The fault of a script whose configuration is refused for this reason; None for `Lines`, which a script does not
+/// have.
 fn config_fault(reason: BadWorld) -> Option<ScriptFault>
     ensures { result ≡ config_fault reason }
 {
@@ -43,7 +44,7 @@ fn config_fault(reason: BadWorld) -> Option<ScriptFault>
     }
 }
 
-/// The fault of a script of this configuration.
+/// The fault of a script with this configuration, or None.
 fn fault_of(config: &WorldConfig) -> Option<ScriptFault>
     ensures { result ≡ option_and_then config_fault (refusal_of config.now) }
 {
@@ -53,7 +54,7 @@ fn fault_of(config: &WorldConfig) -> Option<ScriptFault>
     }
 }
 
-/// The cables of these tables, in their order.
+/// Reads the cables from these tables, in order.
 fn each_cable(alloc: Global, tables: &[&Table]) -> Result<Vec<CablePlan>, ScriptFault>
     ensures { Answers NoMemory (λ v. v.items) (in_place cable_of 1 (map table_seen tables.now)) result }
 {
@@ -67,7 +68,7 @@ fn each_cable(alloc: Global, tables: &[&Table]) -> Result<Vec<CablePlan>, Script
     Ok(cables)
 }
 
-/// The cables of a script.
+/// Reads the cables of a script.
 fn cables_of(alloc: Global, top: &Table) -> Result<Vec<CablePlan>, ScriptFault>
     ensures { Answers NoMemory (λ v. v.items) (cables_in (table_view top.now)) result }
 {
@@ -80,7 +81,7 @@ fn cables_of(alloc: Global, top: &Table) -> Result<Vec<CablePlan>, ScriptFault>
     }
 }
 
-/// The event of the entry at this place, in a script of so many cables.
+/// Reads the event of the entry at this place, counted from 1, in a script with this many cables.
 fn event_at(alloc: Global, cables: usize, place: usize, text: &str) -> Result<Event, ScriptFault>
     ensures { Answers NoMemory act_of (act_at cables place text.now) result }
 {
@@ -91,7 +92,7 @@ fn event_at(alloc: Global, cables: usize, place: usize, text: &str) -> Result<Ev
     }
 }
 
-/// The events of these entries, in their order.
+/// Reads the events of these entries, in order.
 fn each_event(alloc: Global, cables: usize, texts: &[&str]) -> Result<Vec<Event>, ScriptFault>
     ensures { Answers NoMemory (λ v. acts_of v.items) (acts_from cables 1 (map word_seen texts.now)) result }
 {
@@ -105,7 +106,7 @@ fn each_event(alloc: Global, cables: usize, texts: &[&str]) -> Result<Vec<Event>
     Ok(events)
 }
 
-/// The events of a script of so many cables.
+/// Reads the events of a script with this many cables.
 fn events_of(alloc: Global, cables: usize, top: &Table) -> Result<Vec<Event>, ScriptFault>
     ensures { Answers NoMemory (λ v. acts_of v.items) (acts_in cables (table_view top.now)) result }
 {
@@ -118,7 +119,7 @@ fn events_of(alloc: Global, cables: usize, top: &Table) -> Result<Vec<Event>, Sc
     }
 }
 
-/// The two tables that there are.
+/// The tables, if there are exactly two.
 fn pair<'a>(tables: &[&'a Table]) -> Option<(&'a Table, &'a Table)>
     ensures { option_map (λ p. (table_seen p.0, table_seen p.1)) result ≡ pair_of (Some (map table_seen tables.now)) }
 {
@@ -128,7 +129,7 @@ fn pair<'a>(tables: &[&'a Table]) -> Option<(&'a Table, &'a Table)>
     }
 }
 
-/// The two systems of these tables.
+/// Reads the two systems from these tables.
 fn two_systems(alloc: Global, tables: &[&Table]) -> Result<[Config; 2], ScriptFault>
     ensures { Answers NoMemory (map plan_of) (two_systems (map table_seen tables.now)) result }
 {
@@ -138,7 +139,7 @@ fn two_systems(alloc: Global, tables: &[&Table]) -> Result<[Config; 2], ScriptFa
     Ok([first, second])
 }
 
-/// The two systems of a script.
+/// Reads the two systems of a script.
 fn systems_of(alloc: Global, top: &Table) -> Result<[Config; 2], ScriptFault>
     ensures { Answers NoMemory (map plan_of) (systems_in (table_view top.now)) result }
 {
@@ -151,21 +152,21 @@ fn systems_of(alloc: Global, top: &Table) -> Result<[Config; 2], ScriptFault>
     }
 }
 
-/// The ends of these cables.
+/// The ends of each of these cables.
 fn ends_of(alloc: Global, cables: &[CablePlan]) -> Result<Vec<(u16, u16)>, AllocError>
     ensures { IfOk result (λ ends. ends.items ≡ ends_of cables.now) }
 {
     cables.iter().map(|cable| cable.ends).collect(alloc)
 }
 
-/// The limits of these cables.
+/// The limit of each of these cables.
 fn limits_of(alloc: Global, cables: &[CablePlan]) -> Result<Vec<Option<u16>>, AllocError>
     ensures { IfOk result (λ limits. limits.items ≡ limits_of cables.now) }
 {
     cables.iter().map(|cable| cable.limit).collect(alloc)
 }
 
-/// The plan of a document.
+/// Reads the plan of a document.
 fn plan_in(alloc: Global, top: &Table) -> Result<Plan, ScriptFault>
     ensures reads { Answers NoMemory plan_shown (plan_in (table_view top.now)) result }
     ensures accepted { IfOk result (λ plan. refusal_of plan.config ≡ None) }
@@ -194,11 +195,11 @@ fn plan_in(alloc: Global, top: &Table) -> Result<Plan, ScriptFault>
     }
 }
 
-/// Reads a script whole (profile): what two systems and their cables are made from, the limit of each cable, and what
-/// happens to them. The configuration is one that is not refused, lines aside; no limit is 0.
+/// Reads a whole script (profile): the configuration of two systems and their cables, the limit of each cable, and the
+/// events. The configuration is one that is accepted, as far as a script can tell; no limit is 0.
 ///
-/// `NotToml` if the text is no TOML, `NoMemory` if memory was refused; any other fault is the first of the document, in
-/// the order of `ScriptFault`.
+/// `NotToml` if the text is not TOML; `NoMemory` if memory is refused; any other fault is the first one in the
+/// document, in the order of `ScriptFault`.
 pub fn read_plan(alloc: Global, text: &str) -> Result<Plan, ScriptFault>
     ensures reads { ReadsPlan text.now result }
     ensures accepted { IfOk result (λ plan. refusal_of plan.config ≡ None) }
@@ -217,8 +218,8 @@ pub fn read_plan(alloc: Global, text: &str) -> Result<Plan, ScriptFault>
     }
 }
 
-/// Reads a script without the limits of its cables (profile): what two systems and their cables are made from, and what
-/// happens to them. Its faults are those of `read_plan`.
+/// Reads a script without the limits of its cables (profile): the configuration of two systems and their cables, and
+/// the events. The faults are those of `read_plan`.
 pub fn read_script(alloc: Global, text: &str) -> Result<(WorldConfig, Vec<Event>), ScriptFault>
     ensures reads { Reads text.now result }
     ensures accepted { IfOk result (λ r. refusal_of r.0 ≡ None) }

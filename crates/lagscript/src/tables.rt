@@ -37,7 +37,7 @@ const PORT_KEYS: [&str; 7] = [
 
 const CABLE_KEYS: [&str; 2] = ["ends", "limit"];
 
-/// The port at this place of a system, whose MAC address is the system's own if it is left out.
+/// Reads the port at this place of a system. If the MAC address is left out, it is that of the system.
 fn port_of(system: u8, own: [u8; 6], place: usize, table: &Table) -> Result<PortConfig, ScriptFault>
     ensures { result ≡ port_of system own place (table_view table.now) }
 {
@@ -65,7 +65,7 @@ fn port_of(system: u8, own: [u8; 6], place: usize, table: &Table) -> Result<Port
     })
 }
 
-/// The ports of these tables, in their order.
+/// Reads the ports from these tables, in order.
 fn each_port(
     alloc: Global,
     system: u8,
@@ -84,7 +84,7 @@ fn each_port(
     Ok(ports)
 }
 
-/// The ports of a system.
+/// Reads the ports of a system.
 fn ports_of(
     alloc: Global,
     system: u8,
@@ -103,7 +103,7 @@ fn ports_of(
     }
 }
 
-/// The keys of a system's aggregators.
+/// Reads the keys of a system's aggregators.
 fn aggregators_of(alloc: Global, system: u8, table: &Table) -> Result<Vec<Key>, ScriptFault>
     ensures { Answers NoMemory (λ v. v.items) (aggregators_in system (table_view table.now)) result }
 {
@@ -117,7 +117,7 @@ fn aggregators_of(alloc: Global, system: u8, table: &Table) -> Result<Vec<Key>, 
     }
 }
 
-/// What a system has besides its lists.
+/// The values of a system other than its lists.
 #[derive(Clone, Copy, Debug, PartialEq, Eq)]
 struct Numbers {
     id: SystemId,
@@ -125,7 +125,7 @@ struct Numbers {
     first_marker: u32,
 }
 
-/// What the table of a system says besides its lists.
+/// Reads the values of a system other than its lists.
 fn numbers_of(system: u8, table: &Table) -> Result<Numbers, ScriptFault>
     ensures { result ≡ numbers_in system (table_view table.now) }
 {
@@ -146,7 +146,7 @@ fn numbers_of(system: u8, table: &Table) -> Result<Numbers, ScriptFault>
     })
 }
 
-/// The configuration of a system of a script.
+/// Reads the configuration of a system.
 pub(crate) fn system_of(alloc: Global, system: u8, table: &Table) -> Result<Config, ScriptFault>
     ensures { Answers NoMemory plan_of (system_of system (table_view table.now)) result }
 {
@@ -162,16 +162,16 @@ pub(crate) fn system_of(alloc: Global, system: u8, table: &Table) -> Result<Conf
     })
 }
 
-/// What a script says of a cable.
+/// One cable of a script.
 #[derive(Clone, Copy, Debug, PartialEq, Eq)]
 pub(crate) struct CablePlan {
     /// The port of system 1 and the port of system 2 that it joins.
     pub ends: (u16, u16),
-    /// How many frames each direction may hold, `None` for any number.
+    /// How many frames each direction can hold; `None` for any number.
     pub limit: Option<u16>,
 }
 
-/// The limit of the cable at this place, none if it is left out.
+/// Reads the limit of the cable at this place; None if it is left out.
 fn limit_of(cable: usize, table: &Table) -> Result<Option<u16>, ScriptFault>
     ensures { result ≡ limit_of cable (table_view table.now) }
 {
@@ -183,7 +183,7 @@ fn limit_of(cable: usize, table: &Table) -> Result<Option<u16>, ScriptFault>
     }
 }
 
-/// The cable at this place.
+/// Reads the cable at this place.
 pub(crate) fn cable_of(cable: usize, table: &Table) -> Result<CablePlan, ScriptFault>
     ensures { result ≡ cable_of cable (table_view table.now) }
 {

@@ -23,21 +23,21 @@ fn are_among(known: &[&str], table: &Table) -> bool
     table.keys().all(|key| is_among(known, key.as_str()))
 }
 
-/// Whether the table has no other keys than these.
+/// Whether the table has no keys but these.
 pub(crate) fn has_only(table: &Table, known: &[&str]) -> bool
     ensures { result ≡ keys_among (map (λ k. k.now) known.now) (table_view table.now) }
 {
     are_among(known, table)
 }
 
-/// The value at a key.
+/// The value of a key, if the table has it.
 pub(crate) fn member<'a>(table: &'a Table, key: &str) -> Option<&'a Value>
     ensures { option_map (λ v. view v.now) result ≡ get_member key.now (table_view table.now) }
 {
     table.get(key)
 }
 
-/// A number of 0 to 65535.
+/// The value as a number from 0 to 65535.
 pub(crate) fn number_in(value: &Value) -> Option<u16>
     ensures { result ≡ number_in 65536 (view value.now) }
 {
@@ -47,7 +47,7 @@ pub(crate) fn number_in(value: &Value) -> Option<u16>
     }
 }
 
-/// A number of 0 to 4294967295.
+/// The value as a number from 0 to 4294967295.
 pub(crate) fn long_number_in(value: &Value) -> Option<u32>
     ensures { result ≡ number_in 4294967296 (view value.now) }
 {
@@ -57,7 +57,7 @@ pub(crate) fn long_number_in(value: &Value) -> Option<u32>
     }
 }
 
-/// A number of 1 to 65535.
+/// The value as a number from 1 to 65535.
 pub(crate) fn limit_in(value: &Value) -> Option<u16>
     ensures { result ≡ limit_in (view value.now) }
 {
@@ -67,7 +67,7 @@ pub(crate) fn limit_in(value: &Value) -> Option<u16>
     }
 }
 
-/// True or false.
+/// The value as true or false.
 fn flag_in(value: &Value) -> Option<bool>
     ensures { result ≡ flag_in (view value.now) }
 {
@@ -77,7 +77,7 @@ fn flag_in(value: &Value) -> Option<bool>
     }
 }
 
-/// A MAC address.
+/// The value as a MAC address.
 pub(crate) fn mac_in(value: &Value) -> Option<[u8; 6]>
     ensures { result ≡ mac_in (view value.now) }
 {
@@ -87,7 +87,7 @@ pub(crate) fn mac_in(value: &Value) -> Option<[u8; 6]>
     }
 }
 
-/// The number at a key, or this if it is left out.
+/// The number of a key, or this default if the key is left out.
 pub(crate) fn number_at(table: &Table, key: &str, default: Option<u16>) -> Option<u16>
     ensures { result ≡ value_at key.now (number_in 65536) default (table_view table.now) }
 {
@@ -97,7 +97,7 @@ pub(crate) fn number_at(table: &Table, key: &str, default: Option<u16>) -> Optio
     }
 }
 
-/// The number of 0 to 4294967295 at a key, or this if it is left out.
+/// The number of a key, 0 to 4294967295, or this default if the key is left out.
 pub(crate) fn long_number_at(table: &Table, key: &str, default: Option<u32>) -> Option<u32>
     ensures { result ≡ value_at key.now (number_in 4294967296) default (table_view table.now) }
 {
@@ -107,7 +107,7 @@ pub(crate) fn long_number_at(table: &Table, key: &str, default: Option<u32>) -> 
     }
 }
 
-/// The flag at a key, or this if it is left out.
+/// The Boolean of a key, or this default if the key is left out.
 pub(crate) fn flag_at(table: &Table, key: &str, default: Option<bool>) -> Option<bool>
     ensures { result ≡ value_at key.now flag_in default (table_view table.now) }
 {
@@ -117,7 +117,7 @@ pub(crate) fn flag_at(table: &Table, key: &str, default: Option<bool>) -> Option
     }
 }
 
-/// The MAC address at a key, or this if it is left out.
+/// The MAC address of a key, or this default if the key is left out.
 pub(crate) fn mac_at(table: &Table, key: &str, default: Option<[u8; 6]>) -> Option<[u8; 6]>
     ensures { result ≡ value_at key.now mac_in default (table_view table.now) }
 {
@@ -127,7 +127,7 @@ pub(crate) fn mac_at(table: &Table, key: &str, default: Option<[u8; 6]>) -> Opti
     }
 }
 
-/// Two numbers.
+/// The numbers, if there are exactly two.
 fn two_numbers(values: &[Value]) -> Option<(u16, u16)>
     ensures { result ≡ pair_of (each_in (number_in 65536) (items_view values.now)) }
 {
@@ -137,7 +137,7 @@ fn two_numbers(values: &[Value]) -> Option<(u16, u16)>
     }
 }
 
-/// The two ends of a cable.
+/// The value as the two ends of a cable.
 fn ends_in(value: &Value) -> Option<(u16, u16)>
     ensures { result ≡ ends_in (view value.now) }
 {
@@ -147,7 +147,7 @@ fn ends_in(value: &Value) -> Option<(u16, u16)>
     }
 }
 
-/// The ends at a key.
+/// The ends of a cable in its table.
 pub(crate) fn ends_at(table: &Table, key: &str) -> Option<(u16, u16)>
     ensures { result ≡ value_at key.now ends_in None (table_view table.now) }
 {

@@ -13,18 +13,18 @@ pub(crate) fn words_of<'a>(alloc: Global, text: &'a str) -> Result<Vec<&'a str>,
     text.split(' ').collect(alloc)
 }
 
-/// The number of 0 to 65535 that a word says in decimal digits.
+/// The value of a word of decimal digits, 0 to 65535.
 pub(crate) fn number_of(word: &str) -> Option<u16>
     ensures { result ≡ number_below 65536 word.now }
 {
-    // `parse` takes a plus too.
+    // `parse` would accept a plus sign too.
     if word.starts_with('+') {
         return None;
     }
     word.parse().ok()
 }
 
-/// Whether dashes stand where they stand in a MAC address.
+/// Whether the text has dashes where a MAC address has them.
 fn is_dashed(text: &[u8]) -> bool
     ensures { result ≡ is_dashed text.now }
 {
@@ -36,7 +36,7 @@ fn is_dashed(text: &[u8]) -> bool
         && text[14] == b'-'
 }
 
-/// The address that six two-digit hexadecimal numbers joined by dashes say.
+/// The MAC address in a text of six hexadecimal numbers of two digits, joined by dashes.
 pub(crate) fn mac_of(text: &str) -> Option<[u8; 6]>
     ensures { result ≡ mac_of text.now }
 {
@@ -51,16 +51,16 @@ pub(crate) fn mac_of(text: &str) -> Option<[u8; 6]>
     <[u8; 6] as FromHex>::from_hex(digits).ok()
 }
 
-/// Why a word gives no octets.
+/// Why a word has no octets.
 #[derive(Clone, Copy, Debug, PartialEq, Eq)]
 pub enum NoOctets {
-    /// It is not hexadecimal.
+    /// The word is not hexadecimal.
     NotHex,
     /// Memory was refused.
     NoMemory,
 }
 
-/// The octets that a word in hexadecimal says.
+/// The octets of a word in hexadecimal.
 pub(crate) fn octets_of(alloc: Global, word: &str) -> Result<Vec<u8>, NoOctets>
     ensures ok { IfOk result (λ octets. octets_of word.now ≡ Some octets.items) }
     ensures err { result ≡ Err NotHex → octets_of word.now ≡ None }
