@@ -1,4 +1,4 @@
--- How `check` ends (profile).
+-- What `check` returns and has written (profile).
 use Rattle.std.specs.Prelude.{◌≡◌, ◌≤◌, ◌++◌, ℕ, Bool, true, false, List, length, Option, Result, Ok, Err}
 use Rattle.std.specs.Io.KnownBytes.{Appends, Consumes, IsAtEnd}
 use Rattle.lagtool.specs.Checked.{ended_text, report, summary}
@@ -8,7 +8,7 @@ use Rattle.lagtool.specs.declared.summary.Summary.{Summary}
 use Rattle.lagtool.specs.declared.fault.ToolFault.{ToolFault}
 use Rattle.lagtool.specs.declared.fault.ToolFault.TheVariants.{Read, Write, NoMemory, Script, NotHex, NotMac}
 
--- the fault comes only where the source, or the sink, has failed, and the other has not; memory may run out where neither has
+-- for `Read` the source has failed, for `Write` the sink, and the other has not; for `NoMemory` neither has
 abbrev pub HasCause : Bool → Bool → ToolFault → Type 0
 HasCause source sink Read = (source ≡ true) × (sink ≡ false)
 HasCause source sink Write = (source ≡ false) × (sink ≡ true)
@@ -18,7 +18,8 @@ HasCause source sink NotHex = ⊥
 HasCause source sink NotMac = ⊥
 
 module _ {R W : Type 0} (remaining : R → Option (List ℕ)) (contents : W → Option (List ℕ)) where
-  -- the source gave these octets and then failed: of their lines, those that a newline ends are told of, and no more is written
+  -- The source gave these octets and then failed: the verdicts on the lines ended by a newline are written, and no
+  -- more.
   pub record StopsReading (from to : SourceState R) (old new : SinkState W) : Type 0 where
     pub octets : List ℕ
     pub before : SourceState R
@@ -26,7 +27,7 @@ module _ {R W : Type 0} (remaining : R → Option (List ℕ)) (contents : W → 
     pub fails : Fails remaining before to
     pub written : Takes contents old new (ended_text octets)
 
-  -- memory ran out: the same without a last part of the octets, no longer than one read
+  -- Memory was refused: the same, but without a last part of the octets, which is no longer than one read.
   pub record StopsShort (from to : SourceState R) (old new : SinkState W) : Type 0 where
     pub octets : List ℕ
     pub last : List ℕ
@@ -34,7 +35,8 @@ module _ {R W : Type 0} (remaining : R → Option (List ℕ)) (contents : W → 
     pub one_read : length last ≤ 4096
     pub written : Takes contents old new (ended_text octets)
 
-  -- the sink failed: what is written is a beginning of the report of what was read, and lacks no line that was ended before a last part of it, no longer than one read
+  -- The sink failed: what is written is a beginning of the report, and includes each line that was ended before a last
+  -- part of the octets, which is no longer than one read.
   pub record StopsWriting (from to : SourceState R) (old new : SinkState W) : Type 0 where
     pub octets : List ℕ
     pub last : List ℕ
@@ -53,7 +55,7 @@ module _ {R W : Type 0} (remaining : R → Option (List ℕ)) (contents : W → 
   Stops from to old new NotHex = ⊥
   Stops from to old new NotMac = ⊥
 
-  -- the whole report of all that there is to read is written
+  -- all that there is to read was read, and its whole report is written
   pub record Ends (from to : SourceState R) (old new : SinkState W) (counts : Summary) : Type 0 where
     pub octets : List ℕ
     pub read : Consumes (remaining from.reader) (remaining to.reader) octets

@@ -1,9 +1,9 @@
--- The report of `check`: a function of all the octets that it reads (profile).
+-- The report of `check`, as a function of all octets that it reads (profile).
 use Rattle.std.specs.Prelude.{ℕ, suc, ◌+◌, ◌++◌, ◌==◌, List, [], ◌∷◌, codes, decimal, if◌then◌else◌, take}
 use Rattle.lagtool.specs.declared.summary.Summary.{Summary}
 use Rattle.lagtool.specs.Verdicts.{is_fault, line_verdict, verdict_text}
 
--- octets of a line in front of the lines that follow; no line begins where none follows and there is no octet
+-- octets of a line before the lines that follow; without octets and without following lines there is no line
 abbrev pub close : List ℕ → List (List ℕ)
 close [] = []
 close (x ∷ xs) = (x ∷ xs) ∷ []
@@ -12,7 +12,7 @@ abbrev pub prepend : List ℕ → List (List ℕ) → List (List ℕ)
 prepend line [] = close line
 prepend line (l ∷ ls) = (line ++ l) ∷ ls
 
--- the lines of a text, each up to its newline, which may be missing after the last
+-- the lines of a text, each up to its newline; the last may have none
 abbrev pub lines_of : List ℕ → List (List ℕ)
 lines_of [] = []
 lines_of (b ∷ bs) = if b == 10 then [] ∷ lines_of bs else prepend (b ∷ []) (lines_of bs)
@@ -27,12 +27,12 @@ numbered n line = decimal n ++ 32 ∷ (verdict_text (line_verdict line) ++ 10 �
 abbrev pub counts_text : Summary → List ℕ
 counts_text s = codes "checked " ++ (decimal s.checked ++ (codes " faults " ++ (decimal s.faults ++ 10 ∷ [])))
 
--- the counts after these lines, so many with so many faults before them
+-- the counts after these lines, if these were the counts before them
 abbrev pub counted_from : ℕ → ℕ → List (List ℕ) → Summary
 counted_from n k [] = record { checked = n; faults = k }
 counted_from n k (line ∷ lines) = counted_from (n + 1) (k + faults_of line) lines
 
--- a verdict a line, and then the counts
+-- a verdict for each line, and then the counts
 abbrev pub report_from : ℕ → ℕ → List (List ℕ) → List ℕ
 report_from n k [] = counts_text (record { checked = n; faults = k })
 report_from n k (line ∷ lines) = numbered (n + 1) line ++ report_from (n + 1) (k + faults_of line) lines
@@ -44,12 +44,12 @@ abbrev pub newlines : List ℕ → ℕ
 newlines [] = 0
 newlines (b ∷ bs) = if b == 10 then suc (newlines bs) else newlines bs
 
--- a verdict a line, so many lines before them
+-- a verdict for each line, if this many lines came before them
 abbrev pub verdicts_from : ℕ → List (List ℕ) → List ℕ
 verdicts_from n [] = []
 verdicts_from n (line ∷ lines) = numbered (n + 1) line ++ verdicts_from (n + 1) lines
 
--- what the report says of the lines that a newline ends, which are the first and as many as there are newlines
+-- the report on the lines that a newline ends: the first lines, as many as there are newlines
 abbrev pub ended_text : List ℕ → List ℕ
 ended_text octets = verdicts_from 0 (take (newlines octets) (lines_of octets))
 

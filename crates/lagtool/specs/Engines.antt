@@ -1,4 +1,4 @@
--- How the engines of the program end (profile).
+-- What the engines of the program return and have written (profile).
 use Rattle.std.specs.Prelude.{◌≡◌, ⊤, ℕ, Bool, List, Option, Result, Ok, Err, IsErr, if◌then◌else◌}
 use Rattle.hex.specs.Hex.{decode_of}
 use Rattle.lagtool.specs.declared.fault.ToolFault.{ToolFault}
@@ -6,7 +6,7 @@ use Rattle.lagtool.specs.declared.fault.ToolFault.TheVariants.{Read, Write, NoMe
 use Rattle.lagtool.specs.Reports.{IsMac, IsReplied, IsShown}
 use Rattle.lagtool.specs.Sinks.{Breaks, SinkState, Takes}
 
--- why a text in hexadecimal has no octets; memory may run out
+-- why a text in hexadecimal gives no octets: it is not hexadecimal, or memory was refused
 abbrev pub HasNoOctets : List ℕ → ToolFault → Type 0
 HasNoOctets hex NotHex = IsErr (decode_of hex)
 HasNoOctets hex NoMemory = ⊤
@@ -15,7 +15,7 @@ HasNoOctets hex Write = ⊥
 HasNoOctets hex (Script fault) = ⊥
 HasNoOctets hex NotMac = ⊥
 
--- how `show` ends: the text is written whole, a beginning of it, or nothing
+-- what `show` returns and has written: the whole text, a beginning of it, or nothing
 abbrev pub Shows : {W : Type 0} → (W → Option (List ℕ)) → List ℕ → SinkState W → SinkState W → Result Bool ToolFault → Type 0
 Shows contents hex old new (Ok accepted) = (text : List ℕ) × IsShown hex text accepted × Takes contents old new text
 Shows contents hex old new (Err Write) = (text : List ℕ) × (accepted : Bool) × IsShown hex text accepted × Breaks contents old new text
@@ -25,11 +25,11 @@ Shows contents hex old new (Err Read) = ⊥
 Shows contents hex old new (Err (Script fault)) = ⊥
 Shows contents hex old new (Err NotMac) = ⊥
 
--- some address is said by these digits
+-- these are the digits of a MAC address
 abbrev pub SaysMac : List ℕ → Type 0
 SaysMac mac = (source : List ℕ) × IsMac mac source
 
--- how `reply` ends; the address is looked at before all else
+-- what `reply` returns and has written; the address is checked first
 abbrev pub Replies : {W : Type 0} → (W → Option (List ℕ)) → List ℕ → List ℕ → SinkState W → SinkState W → Result Bool ToolFault → Type 0
 Replies contents mac hex old new (Ok answered) = (text : List ℕ) × IsReplied mac hex text answered × Takes contents old new text
 Replies contents mac hex old new (Err Write) = (text : List ℕ) × (answered : Bool) × IsReplied mac hex text answered × Breaks contents old new text
@@ -39,7 +39,7 @@ Replies contents mac hex old new (Err Read) = ⊥
 Replies contents mac hex old new (Err (Script fault)) = ⊥
 Replies contents mac hex old new (Err NotMac) = (SaysMac mac → ⊥) × (new ≡ old)
 
--- the status of the program after an engine ended so
+-- the exit status of the program for this result
 abbrev pub status_of : Result Bool ToolFault → ℕ
 status_of (Ok accepted) = if accepted then 0 else 1
 status_of (Err fault) = 2

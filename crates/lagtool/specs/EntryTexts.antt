@@ -1,4 +1,4 @@
--- What a replay prints of an entry, of its reply and of an agreement (profile).
+-- The text of an entry, of its reply and of an agreement in the report of a replay (profile).
 use Rattle.std.specs.Prelude.{ℕ, ◌++◌, Bool, true, false, List, [], ◌∷◌, codes, decimal, flat_map, if◌then◌else◌}
 use Rattle.lagtypes.specs.Octet.{octet}
 use Rattle.lagtypes.specs.Texts.{hex_text}
@@ -11,7 +11,7 @@ use Rattle.lagworld.specs.declared.agreement.Agreement.TheVariants as agreement
 use Rattle.lagworld.specs.declared.reply.Reply.{Reply}
 use Rattle.lagworld.specs.declared.reply.Reply.TheVariants as reply
 
--- one to four numbers
+-- one to four numbers, with spaces between
 abbrev pub one_text : ℕ → List ℕ
 one_text a = decimal a
 
@@ -35,7 +35,7 @@ change_text c = two_text c.key.0 c.priority ++ 32 ∷ kind_text c.aggregatable
 abbrev pub frame_text : List ℕ → List ℕ
 frame_text octets = flat_map hex_text octets
 
--- the entry of an event: numbers without leading zeros, octets in lower case
+-- an event as the entry of a script: numbers without leading zeros, octets in lower case
 abbrev pub act_text : Act → List ℕ
 act_text (tick s n) = codes "tick " ++ two_text s n
 act_text (emit s port) = codes "emit " ++ two_text s port
@@ -51,11 +51,11 @@ act_text (offer s agg frame) = codes "offer " ++ (two_text s agg ++ 32 ∷ frame
 act_text (move_to s agg conv port) = codes "move " ++ four_text s agg conv port
 act_text (force s agg conv) = codes "force " ++ three_text s agg conv
 
--- whether a cable took what was sent
+-- whether a cable accepted what was sent
 abbrev pub kept_text : Bool → List ℕ
 kept_text kept = if kept then codes "sent" else codes "lost"
 
--- the number of a refusal and its name
+-- the number of a fault and its name
 abbrev pub refused_text : SystemFault → List ℕ
 refused_text refusal.NoPort = codes "refused 1 no-port"
 refused_text refusal.NoAggregator = codes "refused 2 no-aggregator"

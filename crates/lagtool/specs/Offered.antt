@@ -1,4 +1,4 @@
--- Which aggregators a list of events offers frames to, and that no other sent one.
+-- Which aggregators a list of events offers frames to; no other aggregator sent one.
 use Rattle.std.specs.Prelude.{◌≡◌, ◌<◌, ℕ, ◌==◌, ◌&&◌, Bool, false, List, [], length, get_or}
 use Rattle.std.specs.List.{list_any}
 use Rattle.lagscript.specs.declared.event.Event.{Event}
@@ -12,11 +12,11 @@ abbrev pub offers_to : ℕ → ℕ → Event → Bool
 offers_to s agg (event.Offer n a frame) = (n == s) && (a.0 == agg)
 offers_to s agg _ = false
 
--- one of the events does
+-- one of the events does so
 abbrev pub is_offered : ℕ → ℕ → List Event → Bool
 is_offered s agg events = list_any (offers_to s agg) events
 
--- each flag says of the aggregator with its number whether one of the events offers a frame to it
+-- each flag says whether one of the events offers a frame to the aggregator with its number
 abbrev pub AreOffers : ℕ → List Event → List Bool → Type 0
 AreOffers s events flags = (agg : ℕ) → agg < length flags → get_or flags agg false ≡ is_offered s agg events
 
@@ -24,6 +24,6 @@ AreOffers s events flags = (agg : ℕ) → agg < length flags → get_or flags a
 abbrev pub IsQuiet : Joint → ℕ → ℕ → Type 0
 IsQuiet j s agg = (conv : ℕ) → sent_in (serials_of_system (side_of s) agg conv j) ≡ []
 
--- no frame was sent but of an aggregator that one of the events offers to
+-- only aggregators that one of the events offers frames to have sent one
 abbrev pub IsSentWhereOffered : List Event → Joint → Type 0
 IsSentWhereOffered events j = (s agg : ℕ) → is_offered s agg events ≡ false → IsQuiet j s agg

@@ -1,4 +1,5 @@
--- The report of a replay: what its entries are answered, and what the world tells in the end (profile).
+-- The report of a replay: its entries with their replies, and the state of cables and conversations at the end
+-- (profile).
 use Rattle.std.specs.Prelude.{◌≡◌, ⊤, ℕ, ◌+◌, ◌++◌, ◌==◌, Bool, true, List, [], ◌∷◌, flat_map, length, map, if◌then◌else◌, codes, decimal, Option, Some, None, Result, Ok, Err}
 use Rattle.std.specs.List.{range_with_len}
 use Rattle.lagsystem.specs.declared.config.Config.{Config}
@@ -26,7 +27,7 @@ use Rattle.lagtool.specs.declared.fault.ToolFault.TheVariants.{Read, Write, NoMe
 abbrev pub entry_line : ℕ → Event → Reply → List ℕ
 entry_line n e r = decimal n ++ 32 ∷ (act_text (act_of e) ++ (codes " -> " ++ (reply_text r ++ 10 ∷ [])))
 
--- a line an entry, the first of them with this number
+-- a line for each entry; the first has this number
 abbrev pub entries_text : ℕ → List Event → List Reply → List ℕ
 entries_text n (e ∷ es) (r ∷ rs) = entry_line n e r ++ entries_text (n + 1) es rs
 entries_text n _ _ = []
@@ -36,15 +37,15 @@ abbrev pub agreement_line : ℕ → Option Agreement → List ℕ
 agreement_line c None = []
 agreement_line c (Some a) = codes "cable " ++ (decimal c ++ (codes " agreement " ++ (agreement_text a ++ 10 ∷ [])))
 
--- how many numbers a cable may have, from 1 on
+-- how many numbers cables can have, from 1 on
 unfoldable pub cable_numbers : ℕ
 cable_numbers = 65535
 
--- a line for each cable that there is
+-- a line for each cable
 abbrev pub agreements_text : Joint → List ℕ
 agreements_text j = flat_map (λ c. agreement_line c (agreement_at j c)) (range_with_len 1 cable_numbers)
 
--- the serials, each behind a space
+-- the serial numbers, with a space before each
 abbrev pub collected_text : List ℕ → List ℕ
 collected_text [] = codes " none"
 collected_text (n ∷ ns) = flat_map (λ serial. 32 ∷ decimal serial) (n ∷ ns)
@@ -59,19 +60,19 @@ flow_line s agg conv x =
     else codes "flow " ++ (decimal s ++ 47 ∷ (decimal agg ++ 47 ∷ (decimal conv ++ (codes " sent " ++ (decimal (length (sent_in x)) ++ (codes " collected"
     ++ (collected_text (collected_in x) ++ (forced_text (forced_in x) ++ 10 ∷ []))))))))
 
--- the conversations of an aggregator, and of the so many aggregators of a system
+-- the conversations of an aggregator, then those of all aggregators of a system
 abbrev pub row_text : Joint → ℕ → ℕ → List ℕ
 row_text j s agg = flat_map (λ conv. flow_line s agg conv (serials_of_system (side_of s) agg conv j)) (range_with_len 0 conversations)
 
 abbrev pub flows_text : Joint → ℕ → ℕ → List ℕ
 flows_text j s aggs = flat_map (row_text j s) (range_with_len 1 aggs)
 
--- of system 1 and then of system 2
+-- those of system 1, then those of system 2
 abbrev pub both_flows_text : Joint → List Config → List ℕ
 both_flows_text j (a ∷ b ∷ []) = flows_text j 1 (length a.aggregators.items) ++ flows_text j 2 (length b.aggregators.items)
 both_flows_text j _ = []
 
--- the report of these events with these replies, after which the world of these systems is so
+-- the report of these events with these replies, after which the world is this one
 abbrev pub report_text : List Config → List Event → List Reply → Joint → List ℕ
 report_text systems events replies j = entries_text 1 events replies ++ (agreements_text j ++ both_flows_text j systems)
 
@@ -80,12 +81,13 @@ abbrev pub first_cable : ℕ × ℕ → Option ℕ → Line
 first_cable ends limit =
     record { one = ends.0; two = ends.1; whole = true; to_one = []; to_two = []; limit_one = limit; limit_two = limit }
 
--- each cable with its limit
+-- all cables before any event, each with its limit
 abbrev pub first_cables : List (ℕ × ℕ) → List (Option ℕ) → List Line
 first_cables (ends ∷ rest) (limit ∷ limits) = first_cable ends limit ∷ first_cables rest limits
 first_cables _ _ = []
 
--- the table run of these events, from the start of two systems and their cables with these limits, whose end has the facts of every world
+-- These events were run, from the start of two systems and cables with these limits; the world at the end has the facts
+-- that the theorem proves.
 pub record IsPlayed (gives : Gives) (config : WorldConfig) (limits : List (Option ℕ)) (events : List Event) (replies : List Reply) (to : Joint) : Type 0 where
   pub from : Joint
   pub systems : AreFirst config.systems from
@@ -101,17 +103,17 @@ pub record IsReport (gives : Gives) (config : WorldConfig) (limits : List (Optio
   pub played : IsPlayed gives config limits events replies to
   pub says : report ≡ report_text config.systems events replies to
 
--- the report of the script that a text is
+-- the report of the script in a text
 pub record IsReplayed (gives : Gives) (text report : List ℕ) : Type 0 where
   pub plan : Plan
   pub has : HasPlan text (plan_shown plan)
   pub is_report : IsReport gives plan.config plan.limits.items plan.events.items report
 
--- the text is no script, and this is why
+-- the text is no script, with this fault
 abbrev pub HasNoScript : List ℕ → ScriptFault → Type 0
 HasNoScript text fault = (fault ≡ script.NoMemory → ⊥) × IsRefused text fault
 
--- how `replay` ends: the report is written whole, a beginning of it, or nothing
+-- what `replay` returns and has written: the whole report, a beginning of it, or nothing
 abbrev pub Replays : {W : Type 0} → (W → Option (List ℕ)) → Gives → List ℕ → SinkState W → SinkState W → Result ⊤ ToolFault → Type 0
 Replays contents gives text old new (Ok done) = (report : List ℕ) × IsReplayed gives text report × Takes contents old new report
 Replays contents gives text old new (Err Write) = (report : List ℕ) × IsReplayed gives text report × Breaks contents old new report

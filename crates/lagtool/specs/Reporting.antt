@@ -1,4 +1,4 @@
--- What the steps of a replay do.
+-- The single steps of a replay.
 use Rattle.std.specs.Prelude.{◌≡◌, ℕ, ◌++◌, List, [], ◌∷◌, length, map, Option}
 use Rattle.cables.specs.AnyCable.{any_items, any_limit}
 use Rattle.cables.specs.declared.any.AnyCable.{AnyCable}
@@ -9,7 +9,7 @@ use Rattle.lagworld.specs.State.{Joint}
 use Rattle.lagworld.specs.declared.reply.Reply.{Reply}
 use Rattle.lagtool.specs.Replayed.{agreements_text, entries_text, first_cable, flows_text}
 
--- the report, where the systems have so many aggregators
+-- the report, if the systems have this many aggregators
 abbrev pub reported : ℕ → ℕ → List Event → List Reply → Joint → List ℕ
 reported first second events replies j = entries_text 1 events replies ++ (agreements_text j ++ (flows_text j 1 first ++ flows_text j 2 second))
 

@@ -1,4 +1,4 @@
--- What is printed for a payload and for a frame (profile).
+-- The text for a payload, and for a frame (profile).
 use Rattle.std.specs.Prelude.{◌≡◌, ◌++◌, ℕ, Bool, true, false, List, [], ◌∷◌, Option, Some, None, Result, Ok, Err, codes, length}
 use Rattle.hex.specs.Hex.{decode_of, encode_lower}
 use Rattle.slowpdu.specs.declared.pdu.Pdu.{Pdu}
@@ -12,7 +12,7 @@ use Rattle.slowpdu.specs.Markers.{WritesMarker, response_to}
 use Rattle.slowpdu.specs.Frames.{IsKind, frame_octets}
 use Rattle.lagtool.specs.Texts.{pdu_text, wire_fault_text}
 
--- the lines for what a payload decodes to
+-- the lines for the result of decoding a payload
 abbrev pub decoded_text : Result Pdu WireFault → List ℕ
 decoded_text (Ok v) = pdu_text v
 decoded_text (Err e) = wire_fault_text e
@@ -21,24 +21,24 @@ abbrev pub is_accepted : Result Pdu WireFault → Bool
 is_accepted (Ok v) = true
 is_accepted (Err e) = false
 
--- what is printed for the payload, and whether it is accepted
+-- the text for the payload, and whether it is accepted
 pub record IsReport (payload text : List ℕ) (accepted : Bool) : Type 0 where
   pub decoded : Result Pdu WireFault
   pub is_decoded : IsDecoded payload decoded
   pub says : text ≡ decoded_text decoded
   pub verdict : accepted ≡ is_accepted decoded
 
--- what is printed for a payload in hexadecimal
+-- the text for a payload in hexadecimal
 pub record IsShown (hex text : List ℕ) (accepted : Bool) : Type 0 where
   pub payload : List ℕ
   pub digits : decode_of hex ≡ Ok payload
   pub report : IsReport payload text accepted
 
--- the text says why there is no answer
+-- the text says why there is no response
 abbrev pub Declines : List ℕ → Bool → List ℕ → Type 0
 Declines text answered why = (text ≡ why) × (answered ≡ false)
 
--- the text is the frame of the answer in lower-case hexadecimal, or says that a response has none
+-- the text is the frame of the response in lower-case hexadecimal; or it says that a Marker Response gets none
 abbrev pub IsAnswer : List ℕ → List ℕ → Bool → Option Marker → Type 0
 IsAnswer mac text answered None = Declines text answered (codes "no answer marker-response\n")
 IsAnswer mac text answered (Some m) =
@@ -49,7 +49,7 @@ AnswersPayload mac text answered (Ok (pdu.Marker m)) = IsAnswer mac text answere
 AnswersPayload mac text answered (Ok (pdu.Lacpdu v)) = Declines text answered (codes "no answer lacpdu\n")
 AnswersPayload mac text answered (Err e) = Declines text answered (wire_fault_text e)
 
--- what is printed for the payload of a control frame
+-- the text for the payload of a control frame
 abbrev pub RepliesTo : List ℕ → List ℕ → List ℕ → Bool → Type 0
 RepliesTo mac payload text answered = (decoded : Result Pdu WireFault) × IsDecoded payload decoded × AnswersPayload mac text answered decoded
 
@@ -58,18 +58,18 @@ AnswersKind mac text answered (Control payload) = RepliesTo mac payload.now text
 AnswersKind mac text answered Data = Declines text answered (codes "no answer data\n")
 AnswersKind mac text answered TooShort = Declines text answered (codes "no answer runt\n")
 
--- what is printed for a frame, and whether it is answered
+-- the text for a frame, and whether the frame gets a response
 pub record IsReply (mac octets text : List ℕ) (answered : Bool) : Type 0 where
   pub kind : Kind
   pub is_kind : IsKind octets kind
   pub answers : AnswersKind mac text answered kind
 
--- twelve hexadecimal digits that say this address
+-- the text has twelve hexadecimal digits, and they are this MAC address
 pub record IsMac (text mac : List ℕ) : Type 0 where
   pub twelve : length text ≡ 12
   pub digits : decode_of text ≡ Ok mac
 
--- what is printed for a frame in hexadecimal, answered from this address
+-- the text for a frame in hexadecimal, with this source address for the response
 pub record IsReplied (mac hex text : List ℕ) (answered : Bool) : Type 0 where
   pub source : List ℕ
   pub address : IsMac mac source

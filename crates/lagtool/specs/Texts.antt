@@ -1,4 +1,4 @@
--- What the program prints (profile).
+-- The texts that the program prints (profile).
 use Rattle.std.specs.Prelude.{ℕ, ◌++◌, List, [], ◌∷◌, Option, None, Some, codes, decimal}
 use Rattle.lagtypes.specs.Texts.{mac_text, system_text, port_text, state_text}
 use Rattle.lagtypes.specs.Octet.{octet}
@@ -39,7 +39,7 @@ abbrev pub pdu_text : Pdu → List ℕ
 pdu_text (pdu.Lacpdu v) = lacpdu_text v
 pdu_text (pdu.Marker m) = marker_text m
 
--- what is said of a payload that is refused
+-- why a payload is refused
 abbrev pub refusal_text : WireFault → List ℕ
 refusal_text (Short have) = codes "refused 1 short have " ++ decimal have
 refusal_text (OtherSubtype n) = codes "refused 2 subtype " ++ decimal n
@@ -50,7 +50,8 @@ refusal_text (MarkerTlv n) = codes "refused 4 marker-tlv " ++ decimal n
 abbrev pub wire_fault_text : WireFault → List ℕ
 wire_fault_text e = refusal_text e ++ 10 ∷ []
 
--- why a line could not be done, as standard error says it behind `lagtool: `; no clause knows the text of a script's fault
+-- Why a command line could not be done, as standard error says it after `lagtool: `. The text of a script's fault is
+-- not stated.
 abbrev pub tool_fault_text : ToolFault → Option (List ℕ)
 tool_fault_text Read = Some (codes "cannot read")
 tool_fault_text Write = Some (codes "cannot write")
@@ -59,7 +60,7 @@ tool_fault_text (Script fault) = None
 tool_fault_text NotHex = Some (codes "not hex")
 tool_fault_text NotMac = Some (codes "not a mac")
 
--- a fault in reading names the file, which is the word of the line
+-- a fault in reading names the file, as the command line has it
 abbrev pub said_text : ToolFault → List ℕ → Option (List ℕ)
 said_text Read file = Some (codes "cannot read " ++ file)
 said_text fault file = tool_fault_text fault
@@ -72,7 +73,7 @@ tool_fault_number (Script fault) = 4
 tool_fault_number NotHex = 5
 tool_fault_number NotMac = 6
 
--- a script's fault; want of memory is that of the program
+-- the fault of a script as one of the program; out of memory has a number of its own
 abbrev pub of_script : ScriptFault → ToolFault
 of_script script.NoMemory = NoMemory
 of_script fault = Script fault

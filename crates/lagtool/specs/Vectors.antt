@@ -13,7 +13,7 @@ failures passed = count_by (λ pass. not pass) passed
 abbrev pub vector_line : ℕ → Bool → List ℕ
 vector_line n pass = 86 ∷ (decimal n ++ (if pass then codes " ok\n" else codes " failed\n"))
 
--- a line a vector, the first of them with this number
+-- a line for each vector; the first has this number
 abbrev pub lines_from : ℕ → List Bool → List ℕ
 lines_from n [] = []
 lines_from n (pass ∷ passed) = vector_line n pass ++ lines_from (n + 1) passed
@@ -21,7 +21,7 @@ lines_from n (pass ∷ passed) = vector_line n pass ++ lines_from (n + 1) passed
 abbrev pub vectors_text : List Bool → List ℕ
 vectors_text passed = lines_from 1 passed ++ (codes "vectors " ++ (decimal (length passed) ++ (codes " failed " ++ (decimal (failures passed) ++ 10 ∷ []))))
 
--- how `vectors` ends, with ten answers whether a vector passes
+-- what `vectors` returns and has written, if these ten say whether each vector passes
 abbrev pub RunsVectors : {W : Type 0} → (W → Option (List ℕ)) → SinkState W → SinkState W → Result Summary ToolFault → Type 0
 RunsVectors contents old new (Ok summary) =
     (passed : List Bool) × (length passed ≡ 10) × Takes contents old new (vectors_text passed) × (summary ≡ record { checked = 10; faults = failures passed })

@@ -1,4 +1,4 @@
--- What `check` says of a line (profile).
+-- The verdict of `check` on a line (profile).
 use Rattle.std.specs.Prelude.{ℕ, ◌-◌, ◌==◌, ◌&&◌, Bool, true, false, List, length, drop, take, slice_index, slice_index_or, nat_lt, if◌then◌else◌, codes, Option, Some, None, Result, Ok, Err}
 use Rattle.hex.specs.Hex.{decode_of}
 use Rattle.hex.specs.declared.error.FromHexError.{FromHexError}
@@ -10,12 +10,12 @@ use Rattle.lagtool.specs.Texts.{refusal_text}
 use Rattle.lagtool.specs.declared.verdict.Verdict.{Verdict}
 use Rattle.lagtool.specs.declared.verdict.Verdict.TheVariants.{Lacpdu, Marker, MarkerResponse, Data, Runt, Refused, NotHex, TooLong}
 
--- of a Marker PDU
+-- the verdict on a frame with a Marker PDU
 abbrev pub kind_verdict : MarkerKind → Verdict
 kind_verdict Information = Marker
 kind_verdict Response = MarkerResponse
 
--- of a payload that is not refused
+-- the verdict on a frame whose payload is not refused
 abbrev pub accepted_verdict : List ℕ → Verdict
 accepted_verdict b = if slice_index b 0 == 1 then Lacpdu else if slice_index b 2 == 1 then Marker else MarkerResponse
 
@@ -23,14 +23,14 @@ abbrev pub verdict_in : List ℕ → Option WireFault → Verdict
 verdict_in b None = accepted_verdict b
 verdict_in b (Some e) = Refused e
 
--- of the payload of a control frame
+-- the verdict on a frame with this payload of a control frame
 abbrev pub payload_verdict : List ℕ → Verdict
 payload_verdict b = verdict_in b (fault_of b)
 
 abbrev pub is_slow : List ℕ → Bool
 is_slow octets = (slice_index octets 12 == 0x88) && (slice_index octets 13 == 0x09)
 
--- of a frame
+-- the verdict on a frame
 abbrev pub frame_verdict : List ℕ → Verdict
 frame_verdict octets =
     if nat_lt (length octets) 14 then Runt else if is_slow octets then payload_verdict (drop 14 octets) else Data
@@ -43,15 +43,15 @@ hex_verdict (Err e) = NotHex
 abbrev pub without_return : List ℕ → List ℕ
 without_return line = if slice_index_or line (length line - 1) 0 == 13 then take (length line - 1) line else line
 
--- the longest line, a carriage return counted
+-- the length of the longest line, including a carriage return
 abbrev pub longest : ℕ
 longest = 65536
 
--- of a line
+-- the verdict on a line
 abbrev pub line_verdict : List ℕ → Verdict
 line_verdict line = if nat_lt longest (length line) then TooLong else hex_verdict (decode_of (without_return line))
 
--- all but the first four kinds
+-- all verdicts but the first four are faults
 abbrev pub is_fault : Verdict → Bool
 is_fault Lacpdu = false
 is_fault Marker = false

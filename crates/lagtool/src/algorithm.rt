@@ -1,8 +1,8 @@
 ghost use Rattle.std.specs.Prelude.{◌≡◌, ◌<◌};
 ghost use Rattle.distributor.specs.Calls.{place_by_number};
 
-/// The distribution algorithm of the program, for both systems: the number of the conversation modulo the count of ports,
-/// and 0 if that is 0 (6.2.4; profile).
+/// The distribution algorithm of the program, for both systems: the conversation number modulo the count of ports, and
+/// 0 if the count is 0 (6.2.4; profile).
 pub fn by_number(conversation: u16, count: usize) -> usize
     ensures place { result ≡ place_by_number conversation count }
     ensures among { 0 < count → result < count }

@@ -9,7 +9,7 @@ use crate::summary::Summary;
 use std::alloc::Global;
 use std::io::{Read, Write};
 
-/// Reads the stream to its end, and writes a verdict a line and then the counts.
+/// Reads the stream to its end, and writes a verdict for each line and then the counts.
 fn check_all<R: Read, W: Write>(
     alloc: Global,
     source: &mut Source<R>,
@@ -37,15 +37,14 @@ fn check_all<R: Read, W: Write>(
     Ok(summary)
 }
 
-/// Reads frames in hexadecimal, one a line, and writes for each line its number and what frame it
-/// is, and at the end the counts of lines and faults (profile). A read asks for 4,096 octets; what is
-/// said of the lines that it ends is written before the next read.
+/// Reads frames in hexadecimal, one a line. Writes for each line its number and what frame it is, and at the end the
+/// counts of lines and faults (profile). Up to 4,096 octets are read at a time; the verdicts on the lines that they end
+/// are written before the next read.
 ///
-/// Neither stream has failed before. `Read` comes if the source failed in this call, `Write` if the
-/// sink did, and then the other did not; `NoMemory` if memory ran out, and neither failed. After
-/// `Read` just that is written: what the report says of the lines that a newline ends in what the
-/// source gave. After `NoMemory` the same, but for the last read, of which nothing is written. After
-/// `Write` a beginning of the report of what was read, and no less than before the last read.
+/// Before the call, neither stream has failed. `Read` if the source failed in this call, `Write` if the sink did, and
+/// then the other did not; `NoMemory` if memory was refused, and neither failed. After `Read`, the verdicts on the
+/// lines ended by a newline so far are written, and no more. After `NoMemory` the same, but nothing of the last read.
+/// After `Write`, a beginning of the report, and at least what was written before the last read.
 pub fn check<R: Read, W: Write>(
     alloc: Global,
     source: &mut Source<R>,

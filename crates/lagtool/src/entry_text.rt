@@ -35,7 +35,7 @@ impl fmt::Display for FrameText<'_> {
     }
 }
 
-/// What `configure` gives a port: KEY PRIORITY KIND.
+/// The new values of a port in `configure`: KEY PRIORITY KIND.
 #[derive(Clone, Copy)]
 struct ChangeText(PortChange);
 
@@ -56,8 +56,7 @@ impl fmt::Display for ChangeText {
     }
 }
 
-/// An event as the entry of a script that says it: numbers without leading zeros, octets in lower
-/// case (profile).
+/// An event as the entry of a script: numbers without leading zeros, octets in lower case (profile).
 #[derive(Clone, Copy)]
 pub struct EntryText<'a>(pub &'a Event);
 

@@ -9,16 +9,16 @@ use std::alloc::AllocError;
 use std::error::Error;
 use std::fmt;
 
-/// Why the program could not do what a line asks (profile).
+/// Why the program could not do what a command line asks for (profile).
 #[derive(Clone, Copy, Debug, PartialEq, Eq)]
 pub enum ToolFault {
     /// The file cannot be opened, or reading it failed.
     Read,
-    /// Standard output failed, or took none of some octets.
+    /// Standard output failed, or accepted none of the octets of a write.
     Write,
-    /// Memory ran out.
+    /// Memory was refused.
     NoMemory,
-    /// The text is no script. The fault is never want of memory.
+    /// The text is no script, with this fault, which is never `NoMemory`.
     Script(ScriptFault),
     /// The payload or the frame is not hexadecimal.
     NotHex,
@@ -27,7 +27,7 @@ pub enum ToolFault {
 }
 
 impl ToolFault {
-    /// Its number, 1 to 6 (profile).
+    /// The number of the fault, 1 to 6 (profile).
     pub fn number(&self) -> u8
         ensures { result ≡ tool_fault_number self.now }
     {
@@ -59,11 +59,11 @@ impl fmt::Display for ToolFault {
 
 impl Error for ToolFault {}
 
-/// What is said of a fault, with the file if it is one in reading (profile).
+/// The message for a fault; for a fault in reading, it names the file.
 #[derive(Clone, Copy)]
 pub struct FaultText<'a> {
     pub fault: ToolFault,
-    /// The file, as the command line names it.
+    /// The name of the file, as the command line has it.
     pub file: &'a str,
 }
 

@@ -17,7 +17,7 @@ fn conversations() -> u16
     256
 }
 
-/// The serials that were collected, each behind a space.
+/// Adds the serial numbers that were collected, with a space before each.
 fn push_collected(text: &mut String, serials: &[u64]) -> Result<(), AllocError>
     ensures { OnOk result (string_bytes text.new ≡ string_bytes text.old ++ collected_text serials.now) }
 {
@@ -30,7 +30,7 @@ fn push_collected(text: &mut String, serials: &[u64]) -> Result<(), AllocError>
     Ok(())
 }
 
-/// The line of a conversation, if it sent a frame.
+/// Adds the line of a conversation, if it sent a frame.
 fn push_flow<F: Fn(u16, usize) -> usize + Drop>(
     text: &mut String,
     world: &World<AnyCable, F>,
@@ -52,7 +52,7 @@ fn push_flow<F: Fn(u16, usize) -> usize + Drop>(
     text.push_str("\n")
 }
 
-/// The lines of the conversations of an aggregator.
+/// Adds the lines of the conversations of an aggregator.
 fn push_row<F: Fn(u16, usize) -> usize + Drop>(
     text: &mut String,
     world: &World<AnyCable, F>,
@@ -67,7 +67,7 @@ fn push_row<F: Fn(u16, usize) -> usize + Drop>(
     Ok(())
 }
 
-/// Notes the aggregator that an event offers a frame to, if it is of this system.
+/// Sets the flag of the aggregator that an event offers a frame to, if it is one of this system.
 fn note_offer(flags: &mut [bool], system: u8, event: &Event)
     ensures length { length flags.new ≡ length flags.old }
     ensures flags { (agg : ℕ) → agg < length flags.old → get_or flags.new agg false ≡ (get_or flags.old agg false || offers_to system agg event.now) }
@@ -80,7 +80,8 @@ fn note_offer(flags: &mut [bool], system: u8, event: &Event)
     }
 }
 
-/// Of each aggregator of a system, by its number, whether an event offers a frame to it. No aggregator has the number 0.
+/// For each aggregator of a system, by its number: whether an event offers a frame to it. No aggregator has the number
+/// 0.
 fn offers_of(
     alloc: Global,
     events: &[Event],
@@ -97,8 +98,8 @@ fn offers_of(
     Ok(flags)
 }
 
-/// The lines of the conversations of a system with so many aggregators, after these events. Only an aggregator that they
-/// offer a frame to is asked.
+/// Adds the lines of the conversations of a system with this many aggregators, after these events. Only aggregators
+/// that an event offers a frame to can have such lines.
 pub(crate) fn push_flows<F: Fn(u16, usize) -> usize + Drop>(
     alloc: Global,
     text: &mut String,

@@ -11,15 +11,16 @@ ghost use Rattle.lagworld.specs.Sound.{IsSound};
 ghost use Rattle.lagworld.specs.State.{Joint, collected_in, forced_in, sent_in};
 ghost use Rattle.lagworld.specs.declared.agreement.Agreement.TheVariants.{Differ};
 
-/// What a report tells in the end, of a world with the facts of every world: no agreement is `differ` (6.3.6), and what a
-/// conversation collected that was not forced is a subsequence of 0 to one less than the count of what it sent (6.2.4).
+/// The last lines of a report keep the headline, in any world that the theorem is true of: no agreement is `differ`
+/// (6.3.6), and what a conversation collected, if it was never forced, is a subsequence of 0, 1, 2 and so on up to the
+/// last serial number that it sent (6.2.4).
 pub fn a_report_keeps_the_headline()
     ensures agreements { (j : Joint) (cable : ℕ) → IsSound j → agreement_at j cable ≢ Some Differ }
     ensures flows { (j : Joint) (s agg conv : ℕ) → IsSound j → forced_in (serials_of_system (side_of s) agg conv j) ≡ false
         → IsSubsequence (collected_in (serials_of_system (side_of s) agg conv j)) (range_with_len 0 (length (sent_in (serials_of_system (side_of s) agg conv j)))) }
 {}
 
-/// A text that is refused as a script has none.
+/// A text that is refused is no script.
 pub fn a_script_is_not_refused()
     ensures { (text : List ℕ) (fault : ScriptFault) (s : Script) → HasNoScript text fault → HasScript text s → ⊥ }
 {}

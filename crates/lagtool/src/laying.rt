@@ -8,7 +8,7 @@ ghost use Rattle.lagtool.specs.Reporting.{AreFirstLines};
 use cables::{AnyCable, CableFault, ListCable, RingCable};
 use std::alloc::Global;
 
-/// One direction of a cable with this limit.
+/// One direction of a cable with this limit, empty.
 fn direction(alloc: Global, limit: Option<u16>) -> Result<AnyCable, CableFault>
     requires { limit ≢ Some 0 }
     ensures empty { IfOk result (λ cable. any_items cable ≡ []) }
@@ -21,7 +21,7 @@ fn direction(alloc: Global, limit: Option<u16>) -> Result<AnyCable, CableFault>
     }
 }
 
-/// The two directions of a cable, each with this limit.
+/// The two directions of a cable, empty, each with this limit.
 #[tactic(auto, using(crate::proofs::StartLemmas::empty_line))]
 fn first_line(alloc: Global, limit: Option<u16>) -> Result<(AnyCable, AnyCable), CableFault>
     requires { limit ≢ Some 0 }
@@ -33,7 +33,7 @@ fn first_line(alloc: Global, limit: Option<u16>) -> Result<(AnyCable, AnyCable),
     Ok((to_one, to_two))
 }
 
-/// The directions of the cables with these limits, in their order.
+/// The two directions of each cable, with these limits, in order.
 pub(crate) fn first_lines(
     alloc: Global,
     limits: &[Option<u16>],

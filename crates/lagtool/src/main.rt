@@ -1,6 +1,6 @@
-//! `lagtool`: reads and answers PDUs of the slow protocols.
+//! `lagtool`: reads and answers LACPDUs and Marker PDUs, and runs scripts of two systems.
 //!
-//! Status 0: accepted; 1: a refusal, no answer, or a line that is a fault; 2: the line could not be done, and standard
+//! Exit status 0: accepted; 1: refused, or no answer, or a line that is a fault; 2: it could not be done, and standard
 //! error says why.
 #![tactic(auto)]
 
@@ -47,13 +47,13 @@ use std::process::ExitCode;
 use std::{env, fs, io};
 use vectors::vectors;
 
-/// The status of a line that could not be done: why not, on standard error.
+/// Says on standard error why a command line could not be done; returns exit status 2.
 fn refused<D: Display + Drop>(rt: &impl Eprint, why: D) -> ExitCode {
     let _ = eprintln!(rt; "lagtool: {why}");
     ExitCode::from(2)
 }
 
-/// The status of a line that asks for nothing, after its text.
+/// Prints the text for a command line that asks for no job; returns its exit status.
 fn explained(rt: &(impl Print + Eprint), fault: LineFault) -> ExitCode {
     match fault {
         LineFault::Help(text) => match text.print(rt) {
@@ -68,7 +68,7 @@ fn explained(rt: &(impl Print + Eprint), fault: LineFault) -> ExitCode {
     }
 }
 
-/// The status of what a line asked for: 0 accepted, 1 not, 2 it could not be done (profile).
+/// The exit status for the result of a job: 0 accepted, 1 not accepted, 2 it could not be done (profile).
 fn status_of(accepted: &Result<bool, ToolFault>) -> u8
     ensures { result ≡ status_of accepted.now }
 {
@@ -79,7 +79,7 @@ fn status_of(accepted: &Result<bool, ToolFault>) -> u8
     }
 }
 
-/// The status of what a line asked for; standard error says why it could not be done.
+/// The exit status for the result of a job; standard error says why one could not be done.
 fn ended(rt: &impl Eprint, file: &str, accepted: Result<bool, ToolFault>) -> ExitCode {
     let status = status_of(&accepted);
     if let Err(fault) = accepted {
@@ -88,7 +88,7 @@ fn ended(rt: &impl Eprint, file: &str, accepted: Result<bool, ToolFault>) -> Exi
     ExitCode::from(status)
 }
 
-/// Checks a file, or standard input as `-`; true if no line is a fault.
+/// Checks a file, or standard input for `-`; returns whether no line is a fault.
 fn check_file<R: Print + Files + Input + AllocGlobal>(
     rt: &R,
     file: &str,
@@ -105,7 +105,7 @@ fn check_file<R: Print + Files + Input + AllocGlobal>(
     Ok(summary.faults == 0)
 }
 
-/// The text of a file, or of standard input as `-`.
+/// The text of a file, or of standard input for `-`.
 fn text_of<R: Files + Input + AllocGlobal>(rt: &R, file: &str) -> Result<String, ToolFault> {
     let read = if file == "-" {
         io::read_to_string(rt.alloc(), rt.reader())
@@ -119,7 +119,7 @@ fn text_of<R: Files + Input + AllocGlobal>(rt: &R, file: &str) -> Result<String,
     }
 }
 
-/// Replays the script in a file, or in standard input as `-`; true if it could be.
+/// Replays the script in a file, or in standard input for `-`; returns true if that was possible.
 fn replay_file<R: Print + Files + Input + AllocGlobal>(
     rt: &R,
     file: &str,
@@ -130,14 +130,14 @@ fn replay_file<R: Print + Files + Input + AllocGlobal>(
     Ok(true)
 }
 
-/// Runs the vectors; true if none failed.
+/// Runs the vectors; returns whether none failed.
 fn run_vectors<R: Print + AllocGlobal>(rt: &R) -> Result<bool, ToolFault> {
     let mut sink = Sink::new(io::writer(rt));
     let summary = vectors(rt.alloc(), &mut sink)?;
     Ok(summary.faults == 0)
 }
 
-/// The status of a command line.
+/// Does what a command line asks for; returns its exit status.
 fn status<R: Print + Eprint + Files + Input + AllocGlobal>(rt: &R, words: &[String]) -> ExitCode {
     let alloc = rt.alloc();
     match read_line(alloc, words) {
@@ -169,7 +169,7 @@ fn main(rt: HostRuntime) -> ExitCode {
             &rt,
             ToolFault::NoMemory,
         ),
-        // Nothing else is wrong with a word.
+        // The only other error is a word that is not UTF-8.
         Err(_) => refused(&rt, "a word is not UTF-8"),
     }
 }

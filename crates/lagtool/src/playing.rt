@@ -12,8 +12,7 @@ use cables::AnyCable;
 use lagworld::{Event, Reply, RunFault, World, WorldConfig, WorldFault};
 use std::alloc::Global;
 
-/// The world of a configuration that is not refused, with an empty line for each direction of each cable. Only memory can
-/// be refused.
+/// Makes a world from a configuration that is accepted, and an empty line for each cable. Only memory can be refused.
 pub(crate) fn make<F: Fn(u16, usize) -> usize + Drop>(
     alloc: Global,
     config: WorldConfig,
@@ -34,7 +33,7 @@ pub(crate) fn make<F: Fn(u16, usize) -> usize + Drop>(
     World::new(alloc, config, one, two, lines)
 }
 
-/// Plays events, each of which names a cable and a system that there are, from the start. Only memory can be refused.
+/// Plays events from the start of a world; each names a cable and a system that exist. Only memory can be refused.
 pub(crate) fn play<F: Fn(u16, usize) -> usize + Drop>(
     world: &mut World<AnyCable, F>,
     events: &[Event],

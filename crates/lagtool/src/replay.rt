@@ -24,7 +24,7 @@ use lagworld::{Agreement, Event, Reply, World, WorldConfig};
 use std::alloc::{AllocError, Global};
 use std::io::Write;
 
-/// The line of an entry with its reply.
+/// Adds the line of an entry with its reply.
 fn push_entry(
     text: &mut String,
     number: usize,
@@ -41,7 +41,7 @@ fn push_entry(
     )
 }
 
-/// A line an entry.
+/// Adds a line for each entry.
 fn push_entries(text: &mut String, events: &[Event], replies: &[Reply]) -> Result<(), AllocError>
     requires { length replies.now ≡ length events.now }
     ensures { OnOk result (string_bytes text.new ≡ string_bytes text.old ++ entries_text 1 events.now replies.now) }
@@ -52,7 +52,7 @@ fn push_entries(text: &mut String, events: &[Event], replies: &[Reply]) -> Resul
     Ok(())
 }
 
-/// The line of a cable.
+/// Adds the line of a cable.
 fn push_agreement(text: &mut String, cable: u16, agreement: Agreement) -> Result<(), AllocError>
     ensures { OnOk result (string_bytes text.new ≡ string_bytes text.old ++ agreement_line cable (Some agreement)) }
 {
@@ -63,7 +63,7 @@ fn push_agreement(text: &mut String, cable: u16, agreement: Agreement) -> Result
     )
 }
 
-/// A line a cable, from 1 on until there is none.
+/// Adds a line for each cable, from cable 1 to the last one.
 fn push_agreements<F: Fn(u16, usize) -> usize + Drop>(
     text: &mut String,
     world: &World<AnyCable, F>,
@@ -80,7 +80,7 @@ fn push_agreements<F: Fn(u16, usize) -> usize + Drop>(
     Ok(())
 }
 
-/// How many aggregators a system has whose configuration is not refused.
+/// How many aggregators a system has; its configuration is accepted.
 fn count_of(config: &Config) -> u16
     requires { refusal_of_one config.now ≡ None }
     ensures { result ≡ length config.now.aggregators.items }
@@ -97,7 +97,7 @@ fn counts_of(config: &WorldConfig) -> (u16, u16)
     (count_of(first), count_of(second))
 }
 
-/// The report of a run: its entries with their replies, and what the world tells in the end.
+/// The report of a run: the entries with their replies, and the state of cables and conversations at the end.
 fn report_of<F: Fn(u16, usize) -> usize + Drop>(
     alloc: Global,
     world: &World<AnyCable, F>,
@@ -117,7 +117,7 @@ fn report_of<F: Fn(u16, usize) -> usize + Drop>(
     Ok(text)
 }
 
-/// The report of a script that was read.
+/// The report of a script after it was read.
 fn played<F: Fn(u16, usize) -> usize + Drop>(
     alloc: Global,
     config: WorldConfig,
@@ -137,7 +137,7 @@ fn played<F: Fn(u16, usize) -> usize + Drop>(
     ensures err { IfErr result (λ fault. fault ≡ NoMemory) }
 {
     let counts = counts_of(&config);
-    // Nothing but memory is refused here, as the clauses of the three calls say.
+    // Only memory can be refused here, by the contracts of the three calls.
     let Ok(lines) = first_lines(alloc, limits) else {
         return Err(ToolFault::NoMemory);
     };
@@ -150,13 +150,11 @@ fn played<F: Fn(u16, usize) -> usize + Drop>(
     Ok(report_of(alloc, &world, counts, events, &replies)?)
 }
 
-/// Runs a script on two systems with these distribution algorithms, and then writes its entries
-/// with their replies, how the ends of each cable agree, and what was sent and collected of each
-/// conversation (profile).
+/// Runs a script on two systems with these distribution algorithms. Then writes the entries with their replies, how the
+/// ends of each cable agree, and what each conversation sent and collected (profile).
 ///
-/// `Script` comes if the text is no script, `NoMemory` if memory was refused; nothing is written
-/// then. `Write` comes if the sink failed in this call; nothing or a beginning of the report is
-/// written then.
+/// `Script` if the text is no script, `NoMemory` if memory is refused; then nothing is written. `Write` if the sink
+/// failed in this call; then nothing or a beginning of the report is written.
 pub fn replay<F: Fn(u16, usize) -> usize + Drop, W: Write>(
     alloc: Global,
     text: &str,

@@ -14,7 +14,7 @@ use slowpdu::{Kind, Marker, Pdu, classify, decode, frame, respond};
 use std::alloc::{AllocError, Global};
 use std::io::Write;
 
-/// The address that twelve hexadecimal digits say.
+/// The MAC address in twelve hexadecimal digits.
 fn mac_of(text: &str) -> Result<[u8; 6], ToolFault>
     ensures ok { IfOk result (λ mac. IsMac text.now mac) }
     ensures err { IfErr result (λ e. (e ≡ NotMac) × (SaysMac text.now → ⊥)) }
@@ -25,7 +25,7 @@ fn mac_of(text: &str) -> Result<[u8; 6], ToolFault>
     }
 }
 
-/// The report of a frame that is not answered, with the line that says why.
+/// The report for a frame that gets no response, with the line that says why.
 fn declined(text: String) -> Report
     ensures { result ≡ record { text = text; accepted = false } }
 {
@@ -35,7 +35,7 @@ fn declined(text: String) -> Report
     }
 }
 
-/// What is printed for a marker.
+/// The report for a marker or a Marker Response.
 fn answer(alloc: Global, mac: [u8; 6], marker: &Marker) -> Result<Report, AllocError>
     ensures { IfOk result (λ r. IsAnswer mac (string_bytes r.text) r.accepted (response_to marker.now)) }
 {
@@ -53,7 +53,7 @@ fn answer(alloc: Global, mac: [u8; 6], marker: &Marker) -> Result<Report, AllocE
     }
 }
 
-/// What is printed for the payload of a control frame.
+/// The report for the payload of a control frame.
 fn answer_payload(alloc: Global, mac: [u8; 6], payload: &[u8]) -> Result<Report, AllocError>
     ensures { IfOk result (λ r. RepliesTo mac payload.now (string_bytes r.text) r.accepted) }
 {
@@ -64,7 +64,7 @@ fn answer_payload(alloc: Global, mac: [u8; 6], payload: &[u8]) -> Result<Report,
     }
 }
 
-/// What is printed for a frame.
+/// The report for a frame.
 fn answer_frame(alloc: Global, mac: [u8; 6], octets: &[u8]) -> Result<Report, AllocError>
     ensures { IfOk result (λ r. IsReply mac octets.now (string_bytes r.text) r.accepted) }
 {
@@ -75,13 +75,12 @@ fn answer_frame(alloc: Global, mac: [u8; 6], octets: &[u8]) -> Result<Report, Al
     }
 }
 
-/// Writes the answer to a frame in hexadecimal, sent from this MAC address; true where there is
-/// one (profile).
+/// Writes the response to a frame in hexadecimal, with this MAC address as its source; returns whether there is a
+/// response (profile).
 ///
-/// `NotMac` comes first, where the address is not twelve hexadecimal digits, then `NotHex` where
-/// the frame is not hexadecimal, and `NoMemory` where memory ran out; nothing is written then.
-/// `Write` comes where the sink failed in this call; nothing or a beginning of the text is written
-/// then.
+/// `NotMac` if the address is not twelve hexadecimal digits, which is checked first; `NotHex` if the frame is not
+/// hexadecimal; `NoMemory` if memory is refused; then nothing is written. `Write` if the sink failed in this call; then
+/// nothing or a beginning of the text is written.
 pub fn reply<W: Write>(
     alloc: Global,
     mac: &str,

@@ -7,7 +7,7 @@ use lagsystem::SystemFault;
 use lagworld::{Agreement, Reply};
 use std::fmt;
 
-/// Whether a cable took what was sent.
+/// Whether a cable accepted what was sent.
 #[derive(Clone, Copy)]
 struct KeptText(bool);
 
@@ -23,7 +23,7 @@ impl fmt::Display for KeptText {
     }
 }
 
-/// Why a system refuses what an event asks of it, with the refusal's number.
+/// Why a system refused an event, with the number of the fault.
 #[derive(Clone, Copy)]
 struct RefusedText(SystemFault);
 
@@ -90,7 +90,7 @@ impl fmt::Display for ReplyText {
     }
 }
 
-/// How the two ends of a cable stand to one another (profile).
+/// How the two ends of a cable stand to each other (profile).
 #[derive(Clone, Copy)]
 pub struct AgreementText(pub Agreement);
 

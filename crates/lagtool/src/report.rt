@@ -1,8 +1,8 @@
-/// What is printed for a payload or a frame.
+/// The text for a payload or a frame.
 #[derive(Drop)]
 pub struct Report {
     /// Its lines.
     pub text: String,
-    /// Whether the payload is accepted, or the frame answered.
+    /// Whether the payload was accepted, or the frame gets a response.
     pub accepted: bool,
 }

@@ -1,9 +1,9 @@
-//! What the vectors are run on, and what is to come of it.
+//! The inputs and the expected results of the vectors.
 
-/// A text in hexadecimal: each piece, and how often it stands there.
+/// A text in hexadecimal: its pieces, and how often each is repeated.
 pub type Pieces = &'static [(&'static str, usize)];
 
-/// An LACPDU of an active port that knows no partner.
+/// An LACPDU of an active port that has no partner yet.
 pub const LACPDU: Pieces = &[
     (
         "010101148000020000000001000100800001c700000002140000000000000000000000000000020000000310",
@@ -18,7 +18,7 @@ partner 0/00-00-00-00-00-00 key 0 port 0/0 state 02 short
 max-delay 0
 ";
 
-/// The same with version 2, other types, and reserved octets that are not zero.
+/// The same with version 2, other TLV types, and reserved octets that are not zero.
 pub const LACPDU_OF_VERSION_2: Pieces = &[
     ("010209148000020000000001000100800001c7ffffff", 1),
     ("0914", 1),
@@ -28,7 +28,7 @@ pub const LACPDU_OF_VERSION_2: Pieces = &[
     ("ff", 64),
 ];
 
-/// The first without its last octet.
+/// The first one without its last octet.
 pub const SHORT: Pieces = &[
     (
         "010101148000020000000001000100800001c700000002140000000000000000000000000000020000000310",
@@ -37,7 +37,7 @@ pub const SHORT: Pieces = &[
     ("00", 65),
 ];
 
-/// The first with octets behind it.
+/// The first one with more octets at the end.
 pub const LACPDU_AND_MORE: Pieces = &[
     (
         "010101148000020000000001000100800001c700000002140000000000000000000000000000020000000310",
@@ -47,7 +47,7 @@ pub const LACPDU_AND_MORE: Pieces = &[
     ("aa", 40),
 ];
 
-/// The first with two wrong lengths.
+/// The first one with two wrong lengths.
 pub const TWO_BAD_LENGTHS: Pieces = &[
     ("010101148000020000000001000100800001c7000000", 1),
     ("0213", 1),
@@ -57,7 +57,7 @@ pub const TWO_BAD_LENGTHS: Pieces = &[
     ("00", 66),
 ];
 
-/// The first with another subtype.
+/// The first one with another subtype.
 pub const SUBTYPE_3: Pieces = &[
     (
         "030101148000020000000001000100800001c700000002140000000000000000000000000000020000000310",
@@ -66,7 +66,7 @@ pub const SUBTYPE_3: Pieces = &[
     ("00", 66),
 ];
 
-/// What stands before a payload in a control frame from 02-00-00-00-00-02.
+/// The header of a control frame from 02-00-00-00-00-02.
 pub const HEADER: Pieces = &[("0180c20000020200000000028809", 1)];
 
 /// A frame with a marker.
@@ -76,7 +76,7 @@ pub const MARKER_FRAME: Pieces = &[
     ("00", 92),
 ];
 
-/// Its answer.
+/// The response to it.
 pub const RESPONSE_FRAME: Pieces = &[
     ("0180c20000020200000000028809", 1),
     ("020102100001020000000001ffffffff", 1),
@@ -86,10 +86,10 @@ pub const RESPONSE_FRAME: Pieces = &[
 /// A data frame.
 pub const DATA_FRAME: Pieces = &[("0200000000200200000000100800", 1)];
 
-/// The payload of the marker with another type.
+/// The payload of the marker with another TLV type.
 pub const MARKER_OF_TYPE_3: Pieces = &[("020103100001020000000001ffffffffbeef", 1), ("00", 92)];
 
-/// Two systems with a port each, and the cable between them.
+/// Two systems with one port each, and the cable between them.
 pub const ONE_CABLE: &str = r#"
 [[system]]
 mac = "02-00-00-00-00-01"
@@ -107,7 +107,7 @@ key = 1
 ends = [1, 1]
 "#;
 
-/// A port without a peer comes to run on defaults.
+/// A port without a peer: its partner becomes defaulted.
 pub const ALONE: &str = r#"events = [
     "sense 1 1",
     "tick 1 9",

@@ -12,13 +12,13 @@ use std::alloc::{AllocError, Global};
 use std::io::Write;
 use std::marker::Model;
 
-/// How many lines were read, how many of them are faults, what was read of the next, and what is
-/// said but not written yet.
+/// The state of a check: how many lines were read, how many of them are faults, the octets of the line being read, and
+/// the part of the report that is not written yet.
 #[derive(Drop)]
 pub struct Scan {
     lines: u64,
     faults: u64,
-    /// Of a line that is too long, 65,537 octets.
+    /// Of a line that is too long, only 65,537 octets.
     line: Vec<u8>,
     /// Whole lines of the report.
     report: String,
@@ -36,7 +36,7 @@ impl Model for Scan {
 }
 
 impl Scan {
-    /// Before anything is read.
+    /// A scan before anything is read.
     pub fn new(alloc: Global) -> Scan
         ensures { result ≡ record { lines = 0; faults = 0; line = []; said = [] } }
     {
@@ -48,7 +48,7 @@ impl Scan {
         }
     }
 
-    /// Ends the line: says what it is, and counts it. `AllocError` where memory is refused.
+    /// Ends the line being read: adds its verdict to the report, and counts it. `AllocError` if memory is refused.
     fn end_line(&mut self, alloc: Global) -> Result<(), AllocError>
         requires { self.old.lines + 1 < 2 ^ 64 }
         ensures said { OnOk result (self.new.said ≡ self.old.said ++ numbered (self.old.lines + 1) self.old.line) }
@@ -67,8 +67,8 @@ impl Scan {
         Ok(())
     }
 
-    /// Keeps more octets of the line, without a newline. Of a line that is too long no more is kept. `AllocError` where memory
-    /// is refused.
+    /// Adds octets, without a newline, to the line being read. No more are stored of a line that is too long.
+    /// `AllocError` if memory is refused.
     fn keep(&mut self, octets: &[u8]) -> Result<(), AllocError>
         requires { Nowhere (Passes (is_byte 10) octets.now) 0 (length octets.now) }
         ensures reads { OnOk result (Reads self.old self.new octets.now) }
@@ -79,8 +79,8 @@ impl Scan {
         self.line.extend_from_slice(&octets[..kept])
     }
 
-    /// Reads a piece of the stream: ends a line at each newline, and keeps what is behind the last. `AllocError` where memory
-    /// is refused.
+    /// Reads a piece of the stream: each newline ends a line, and the octets after the last newline begin the next
+    /// line. `AllocError` if memory is refused.
     pub fn feed(&mut self, alloc: Global, piece: &[u8]) -> Result<(), AllocError>
         requires { self.old.lines + length piece.now < 2 ^ 64 }
         ensures reads { OnOk result (Reads self.old self.new piece.now) }
@@ -95,7 +95,7 @@ impl Scan {
         self.keep(rest)
     }
 
-    /// Says the counts. `AllocError` where memory is refused.
+    /// Adds the counts to the report. `AllocError` if memory is refused.
     fn end_report(&mut self) -> Result<Summary, AllocError>
         ensures said { OnOk result (self.new.said ≡ self.old.said ++ counts_text (record { checked = self.old.lines; faults = self.old.faults })) }
         ensures counts { IfOk result (λ s. s ≡ record { checked = self.old.lines; faults = self.old.faults }) }
@@ -105,7 +105,7 @@ impl Scan {
         Ok(Summary { checked, faults })
     }
 
-    /// Ends the stream: octets behind the last newline are a line too. `AllocError` where memory is refused.
+    /// Ends the stream: octets after the last newline are a line too. `AllocError` if memory is refused.
     pub fn finish(&mut self, alloc: Global) -> Result<Summary, AllocError>
         requires { self.old.lines + 1 < 2 ^ 64 }
         ensures said { OnOk result (self.new.said ≡ unwritten self.old []) }
@@ -117,7 +117,8 @@ impl Scan {
         self.end_report()
     }
 
-    /// Writes what is said, in one call of the sink. `WriteFailed` where the sink failed.
+    /// Writes the part of the report that is not written yet, in one call of the sink. `WriteFailed` if the sink
+    /// failed.
     pub fn write<W: Write>(&mut self, sink: &mut Sink<W>) -> Result<(), WriteFailed>
         ensures ok { OnOk result (Takes W.contents sink.old sink.new (self.old.said)) }
         ensures err { OnErr result (Breaks W.contents sink.old sink.new (self.old.said)) }

@@ -12,7 +12,7 @@ use slowpdu::decode;
 use std::alloc::{AllocError, Global};
 use std::io::Write;
 
-/// The octets of a text in hexadecimal digits of either case.
+/// The octets of a text in hexadecimal digits, upper or lower case.
 pub fn octets_of(alloc: Global, text: &str) -> Result<Vec<u8>, ToolFault>
     ensures ok { IfOk result (λ octets. decode_of text.now ≡ Ok octets.items) }
     ensures err { IfErr result (HasNoOctets text.now) }
@@ -24,7 +24,7 @@ pub fn octets_of(alloc: Global, text: &str) -> Result<Vec<u8>, ToolFault>
     }
 }
 
-/// What is printed for a payload.
+/// The report for a payload.
 fn report_on(alloc: Global, payload: &[u8]) -> Result<Report, AllocError>
     ensures { IfOk result (λ r. IsReport payload.now (string_bytes r.text) r.accepted) }
 {
@@ -40,11 +40,11 @@ fn report_on(alloc: Global, payload: &[u8]) -> Result<Report, AllocError>
     }
 }
 
-/// Writes what a payload in hexadecimal says; true where it is accepted (profile).
+/// Writes what a payload in hexadecimal says; returns whether it is accepted (profile).
 ///
-/// `NotHex` comes where the text is not hexadecimal, an odd count of digits among it, `NoMemory`
-/// where memory ran out; nothing is written then. `Write` comes where the sink failed in this
-/// call; nothing or a beginning of the text is written then.
+/// `NotHex` if the text is not hexadecimal, which includes an odd number of digits; `NoMemory` if memory is refused;
+/// then nothing is written. `Write` if the sink failed in this call; then nothing or a beginning of the text is
+/// written.
 pub fn show<W: Write>(alloc: Global, hex: &str, sink: &mut Sink<W>) -> Result<bool, ToolFault>
     requires { sink.old.failed ≡ false }
     ensures { Shows W.contents hex.now sink.old sink.new result }

@@ -20,7 +20,7 @@ impl<W: Write> Model for Sink<W> {
     ghost view = { λ s. record { writer = s.inner; failed = s.failed } };
 }
 
-/// The sink took not all of what it was given.
+/// The sink did not accept all octets.
 #[derive(Clone, Copy, Debug, PartialEq, Eq)]
 pub struct WriteFailed;
 
@@ -35,14 +35,14 @@ impl<W: Write> Sink<W> {
         }
     }
 
-    /// Whether a call of the writer failed, or a write of some octets took none.
+    /// Whether a call of the writer failed, or the writer accepted none of the octets of a write.
     pub fn failed(&self) -> bool
         ensures { result ≡ self.now.failed }
     {
         self.failed
     }
 
-    /// Gives the writer back.
+    /// Returns the writer.
     pub fn into_inner(self) -> W
         ensures { result ≡ self.writer }
     {
@@ -50,7 +50,7 @@ impl<W: Write> Sink<W> {
         inner
     }
 
-    /// Writes some of the octets.
+    /// Writes some of the octets, and returns how many.
     fn put_some(&mut self, octets: &[u8]) -> Result<usize, WriteFailed>
         requires { 0 < length octets.now }
         ensures some { IfOk result (λ n. (0 < n) × (n ≤ length octets.now)) }
@@ -66,7 +66,7 @@ impl<W: Write> Sink<W> {
         }
     }
 
-    /// Writes all of the octets; after a failure a beginning of them is written.
+    /// Writes all of the octets; after a failure, a beginning of them is written.
     pub fn put(&mut self, octets: &[u8]) -> Result<(), WriteFailed>
         ensures ok { OnOk result (Takes W.contents self.old self.new octets.now) }
         ensures err { OnErr result (Breaks W.contents self.old self.new octets.now) }

@@ -5,7 +5,7 @@ ghost use Rattle.lagtool.specs.Sources.{Fails, Gives};
 use std::io::Read;
 use std::marker::Model;
 
-/// The most octets that a source gives.
+/// The most octets that a source gives in all.
 const MOST: u64 = u64::MAX - 1;
 
 /// A reader that remembers whether it failed, and gives at most 2^64 - 2 octets (profile).
@@ -46,22 +46,23 @@ impl<R: Read> Source<R> {
         }
     }
 
-    /// Whether a call of the reader failed, or gave more than was left.
+    /// Whether a call of the reader failed, or the reader gave more octets than allowed.
     pub fn failed(&self) -> bool
         ensures { result ≡ self.now.failed }
     {
         self.failed
     }
 
-    /// What it may still give is below 2^64 - 1: a fact for proofs, without effect.
+    /// The number of octets that the source may still give is below 2^64 - 1: a fact for proofs. Does nothing when it
+    /// runs.
     pub(crate) fn is_bounded(&self)
         ensures { self.now.left < 2 ^ 64 - 1 }
     {
         let _left = self.left;
     }
 
-    /// Reads to the front of `piece`, which has room for at least one octet, and answers how many octets came: 0 only at the
-    /// end. `ReadFailed` comes if the reader failed, or gave more than the source may still give.
+    /// Reads octets to the beginning of `piece`, which has room for at least one, and returns how many; 0 only at the
+    /// end. `ReadFailed` if the reader failed, or gave more octets than the source may still give.
     pub(crate) fn read(&mut self, piece: &mut [u8]) -> Result<usize, ReadFailed>
         requires { 0 < length piece.old }
         ensures bound { IfOk result (λ n. n ≤ length piece.new) }

@@ -17,10 +17,10 @@ mod spent;
 mod streams;
 mod texts;
 
-/// A text in hexadecimal: each piece, and how often it stands there.
+/// A text in hexadecimal: its pieces, and how often each is repeated.
 type Pieces = &'static [(&'static str, usize)];
 
-/// A payload or a frame, whether it is accepted or answered, and what is printed.
+/// A payload or a frame; whether it is accepted or gets a response; and the text that is printed.
 type Row = (Pieces, bool, &'static str);
 
 const ACTIVE_SHORT: &str = "lacpdu
@@ -29,7 +29,7 @@ partner 0/00-00-00-00-00-00 key 0 port 0/0 state 02 short
 max-delay 0
 ";
 
-/// The first 44 octets of an LACPDU, of which the other 66 are zeros.
+/// The first 44 octets of an LACPDU; the other 66 are zero.
 const HEAD: &str =
     "010101148000020000000001000100800001c700000002140000000000000000000000000000020000000310";
 
@@ -39,7 +39,7 @@ const LACPDU: Pieces = &[(HEAD, 1), ("00", 66)];
 
 const PAYLOADS: [Row; 12] = [
     (LACPDU, true, ACTIVE_SHORT),
-    // No two fields are alike.
+    // No two fields are equal.
     (
         &[
             ("01010114101112131415161718191a1b1c1d1e000000", 1),
@@ -73,10 +73,10 @@ max-delay 12337
         false,
         "refused 1 short have 109\n",
     ),
-    // Octets behind the payload.
+    // More octets after the payload.
     (&[(HEAD, 1), ("00", 66), ("aa", 40)], true, ACTIVE_SHORT),
     (&[], false, "refused 1 short have 0\n"),
-    // Two wrong lengths: the lower offset is named.
+    // Two wrong lengths: the fault names the lower offset.
     (
         &[
             ("010101148000020000000001000100800001c7000000", 1),
@@ -203,7 +203,7 @@ fn a_marker_is_answered(rt: HostRuntime) -> Result<(), Fail> {
         ("020000000002", "020000000002"),
         ("02ABCDEF0002", "02abcdef0002"),
     ] {
-        // Whatever the destination.
+        // The destination address does not matter.
         let marker = [("0200000000090200000000018809", 1), (MARKER, 1), ("00", 92)];
         let answer = [
             (TO_ALL, 1),
@@ -246,7 +246,7 @@ fn words_that_are_not_hexadecimal(rt: HostRuntime) {
 
 #[test]
 fn words_that_are_no_address(rt: HostRuntime) {
-    // The frame is no hexadecimal either, and the address is looked at first.
+    // The frame is not hexadecimal either, but the address is checked first.
     for mac in [
         "",
         "02000000000",
@@ -259,7 +259,7 @@ fn words_that_are_no_address(rt: HostRuntime) {
     }
 }
 
-/// A writer that takes one octet at a time while it has room, and then none or an error.
+/// A writer that accepts one octet at a time while it has room, and then none, or returns an error.
 #[derive(Drop)]
 struct Slow {
     taken: Vec<u8>,
@@ -284,7 +284,7 @@ impl Write for Slow {
     }
 }
 
-/// A sink with room for so many octets.
+/// A sink with room for this many octets.
 fn sink_of(alloc: Global, room: usize, errs: bool) -> Sink<Slow>
     ensures { result.failed ≡ false }
 {

@@ -5,7 +5,7 @@ use lagtypes::MacText;
 use slowpdu::{Info, Lacpdu, Marker, MarkerKind, Pdu, WireFault};
 use std::fmt;
 
-/// What is said of one end: `SYSTEM key K port PORT state HH WORDS`.
+/// The text of one end: `SYSTEM key K port PORT state HH WORDS`.
 #[derive(Clone, Copy)]
 struct EndText<'a>(&'a Info);
 

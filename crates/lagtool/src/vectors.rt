@@ -27,7 +27,7 @@ fn joined(alloc: Global, pieces: Pieces) -> Result<String, AllocError> {
     Ok(text)
 }
 
-/// Whether an engine ended so, and wrote this text. A sink in memory fails only if that is refused.
+/// Whether an engine returned this and wrote this text. A sink in memory fails only if memory is refused.
 fn wrote(
     ended: Result<bool, ToolFault>,
     sink: Sink<Vec<u8>>,
@@ -43,7 +43,7 @@ fn wrote(
     }
 }
 
-/// Whether `show` prints this of a payload.
+/// Whether `show` prints this text for a payload.
 fn shows(alloc: Global, payload: Pieces, accepted: bool, text: &str) -> Result<bool, AllocError> {
     let hex = joined(alloc, payload)?;
     let mut sink = Sink::new(Vec::new(alloc));
@@ -51,7 +51,7 @@ fn shows(alloc: Global, payload: Pieces, accepted: bool, text: &str) -> Result<b
     wrote(ended, sink, accepted, text)
 }
 
-/// Whether `reply` prints this of a frame.
+/// Whether `reply` prints this text for a frame.
 fn replies(alloc: Global, frame: Pieces, answered: bool, text: &str) -> Result<bool, AllocError> {
     let hex = joined(alloc, frame)?;
     let mut sink = Sink::new(Vec::new(alloc));
@@ -59,7 +59,7 @@ fn replies(alloc: Global, frame: Pieces, answered: bool, text: &str) -> Result<b
     wrote(ended, sink, answered, text)
 }
 
-/// Whether `replay` prints this of a script of two systems with one cable.
+/// Whether `replay` prints this text for a script of two systems with one cable.
 fn replays(alloc: Global, events: &str, text: &str) -> Result<bool, AllocError> {
     let mut script = String::from_str(alloc, events)?;
     script.push_str(rows::ONE_CABLE)?;
@@ -71,7 +71,7 @@ fn replays(alloc: Global, events: &str, text: &str) -> Result<bool, AllocError> 
     wrote(ended, sink, true, text)
 }
 
-/// The octets that the pieces say.
+/// The octets of the pieces.
 fn octets_in(alloc: Global, pieces: Pieces) -> Result<Vec<u8>, AllocError> {
     let hex = joined(alloc, pieces)?;
     match octets_of(alloc, hex.as_str()) {
@@ -81,7 +81,7 @@ fn octets_in(alloc: Global, pieces: Pieces) -> Result<Vec<u8>, AllocError> {
     }
 }
 
-/// Whether an LACPDU is encoded as the octets that it was read from.
+/// Whether an LACPDU that was decoded is encoded as the same octets.
 fn encodes(alloc: Global, payload: Pieces) -> Result<bool, AllocError> {
     let octets = octets_in(alloc, payload)?;
     match decode(octets.as_slice()) {
@@ -115,7 +115,7 @@ fn small_config(alloc: Global) -> Result<Config, AllocError> {
     })
 }
 
-/// Whether a system ignores a control frame with this payload, and its port is as before.
+/// Whether a system ignores a control frame with this payload, and its port stays as it was.
 fn ignores(alloc: Global, payload: Pieces, cause: WireFault) -> Result<bool, AllocError> {
     let mut frame = octets_in(alloc, rows::HEADER)?;
     frame.extend_from_slice(octets_in(alloc, payload)?.as_slice())?;
@@ -141,7 +141,7 @@ fn ignores(alloc: Global, payload: Pieces, cause: WireFault) -> Result<bool, All
     Ok(answer == Ok(Received::Ignored(cause)) && after == before)
 }
 
-/// Three payloads: too short, with octets behind it, and empty.
+/// Three payloads: too short, with more octets at the end, and empty.
 fn lengths_are_found(alloc: Global) -> Result<bool, AllocError> {
     let short = shows(alloc, rows::SHORT, false, "refused 1 short have 109\n")?;
     let long = shows(alloc, rows::LACPDU_AND_MORE, true, rows::LACPDU_TEXT)?;
@@ -149,21 +149,21 @@ fn lengths_are_found(alloc: Global) -> Result<bool, AllocError> {
     Ok(short && long && empty)
 }
 
-/// Another subtype is refused, and ignored by a system.
+/// A payload with another subtype is refused, and a system ignores it.
 fn another_subtype(alloc: Global) -> Result<bool, AllocError> {
     let shown = shows(alloc, rows::SUBTYPE_3, false, "refused 2 subtype 3\n")?;
     let ignored = ignores(alloc, rows::SUBTYPE_3, WireFault::OtherSubtype(3))?;
     Ok(shown && ignored)
 }
 
-/// A marker is answered.
+/// A marker gets a response.
 fn a_marker(alloc: Global) -> Result<bool, AllocError> {
     let mut answer = joined(alloc, rows::RESPONSE_FRAME)?;
     answer.push_str("\n")?;
     replies(alloc, rows::MARKER_FRAME, true, answer.as_str())
 }
 
-/// A response and a data frame are not answered.
+/// A Marker Response and a data frame get no response.
 fn no_answers(alloc: Global) -> Result<bool, AllocError> {
     let response = replies(
         alloc,
@@ -175,13 +175,13 @@ fn no_answers(alloc: Global) -> Result<bool, AllocError> {
     Ok(response && data)
 }
 
-/// An LACPDU is read, and encoded as it was.
+/// An LACPDU is decoded, and encoded as it was.
 fn an_lacpdu(alloc: Global) -> Result<bool, AllocError> {
     let shown = shows(alloc, rows::LACPDU, true, rows::LACPDU_TEXT)?;
     Ok(shown && encodes(alloc, rows::LACPDU)?)
 }
 
-/// Which of the vectors pass, in their order.
+/// Which of the vectors pass, in order.
 fn passed(alloc: Global) -> Result<[bool; 10], AllocError> {
     Ok([
         an_lacpdu(alloc)?,
@@ -225,7 +225,7 @@ fn push_line(text: &mut String, number: usize, pass: bool) -> Result<(), AllocEr
     }
 }
 
-/// A line a vector.
+/// Adds a line for each vector.
 fn push_lines(text: &mut String, passed: &[bool]) -> Result<(), AllocError>
     ensures { OnOk result (string_bytes text.new ≡ string_bytes text.old ++ lines_from 1 passed.now) }
 {
@@ -235,7 +235,7 @@ fn push_lines(text: &mut String, passed: &[bool]) -> Result<(), AllocError>
     Ok(())
 }
 
-/// A line a vector, and then the counts.
+/// A line for each vector, and then the counts.
 fn vectors_text(alloc: Global, passed: &[bool], failed: usize) -> Result<String, AllocError>
     requires { failed ≡ failures passed.now }
     ensures { IfOk result (λ text. string_bytes text ≡ vectors_text passed.now) }
@@ -247,11 +247,11 @@ fn vectors_text(alloc: Global, passed: &[bool], failed: usize) -> Result<String,
     Ok(text)
 }
 
-/// Runs the vectors, known inputs with what is to come of them, and writes for each whether it
-/// passes, and then how many there are and how many failed (profile).
+/// Runs the vectors: known inputs with their expected results. Writes for each whether it passes, and then how many
+/// there are and how many failed (profile).
 ///
-/// `NoMemory` comes if memory was refused; nothing is written then. `Write` comes if the sink failed
-/// in this call; nothing or a beginning of the text is written then.
+/// `NoMemory` if memory is refused; then nothing is written. `Write` if the sink failed in this call; then nothing or a
+/// beginning of the text is written.
 pub fn vectors<W: Write>(alloc: Global, sink: &mut Sink<W>) -> Result<Summary, ToolFault>
     requires { sink.old.failed ≡ false }
     ensures { RunsVectors W.contents sink.old sink.new result }

@@ -7,10 +7,10 @@ use slowpdu::{Kind, MarkerKind, Pdu, WireFault, classify, decode};
 use std::alloc::{AllocError, Global};
 use std::fmt;
 
-/// The most octets of a line, a carriage return counted (profile).
+/// The most octets of a line, including a carriage return (profile).
 pub const LONGEST: usize = 65_536;
 
-/// What is said of a line (profile).
+/// The verdict of `check` on a line (profile).
 #[derive(Clone, Copy, Debug, PartialEq, Eq)]
 pub enum Verdict {
     /// A frame with an LACPDU.
@@ -19,20 +19,20 @@ pub enum Verdict {
     Marker,
     /// A frame with a Marker Response PDU.
     MarkerResponse,
-    /// A frame of another EtherType than 8809.
+    /// A frame with another EtherType than 0x8809.
     Data,
-    /// Fewer than 14 octets, none among them.
+    /// Fewer than 14 octets; an empty line too.
     Runt,
-    /// A frame of EtherType 8809 whose payload is refused.
+    /// A frame with EtherType 0x8809 whose payload is refused.
     Refused(WireFault),
-    /// Not hexadecimal, an odd count of digits among it.
+    /// Not hexadecimal; an odd number of digits too.
     NotHex,
-    /// More than 65,536 octets, a carriage return counted.
+    /// More than 65,536 octets, including a carriage return.
     TooLong,
 }
 
 impl Verdict {
-    /// Whether the line is a fault: all but the first four are.
+    /// Whether the line is a fault: it has none of the first four verdicts.
     pub fn is_fault(self) -> bool
         ensures { result ≡ is_fault self }
     {
@@ -60,7 +60,7 @@ impl fmt::Display for Verdict {
     }
 }
 
-/// Of a Marker PDU.
+/// The verdict on a frame with a Marker PDU of this type.
 fn of_kind(kind: MarkerKind) -> Verdict
     ensures { result ≡ kind_verdict kind }
 {
@@ -70,7 +70,7 @@ fn of_kind(kind: MarkerKind) -> Verdict
     }
 }
 
-/// Of the payload of a control frame.
+/// The verdict on a frame with this payload of a control frame.
 fn of_payload(payload: &[u8]) -> Verdict
     ensures { result ≡ payload_verdict payload.now }
 {
@@ -81,7 +81,7 @@ fn of_payload(payload: &[u8]) -> Verdict
     }
 }
 
-/// Of a frame.
+/// The verdict on a frame.
 fn of_frame(octets: &[u8]) -> Verdict
     ensures { result ≡ frame_verdict octets.now }
 {
@@ -104,7 +104,7 @@ fn without_return(line: &[u8]) -> &[u8]
     }
 }
 
-/// Of a line.
+/// The verdict on a line.
 pub fn of_line(alloc: Global, line: &[u8]) -> Result<Verdict, AllocError>
     ensures { IfOk result (λ v. v ≡ line_verdict line.now) }
 {

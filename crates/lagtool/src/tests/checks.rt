@@ -11,7 +11,7 @@ use std::io::Read;
 use std::process::Abort;
 use std::test::Fail;
 
-/// A reader that gives `first` octets, then `size` a read, and fails after so many reads.
+/// A reader that gives `first` octets, then `size` octets in each read, and fails after a number of reads.
 #[derive(Drop)]
 pub(crate) struct Piecewise<'a> {
     pub rest: &'a [u8],
@@ -35,7 +35,7 @@ impl Read for Piecewise<'_> {
     }
 }
 
-/// The octets in reads of any size, none of which fails.
+/// A reader of these octets that does not fail.
 pub(crate) fn whole(rest: &[u8]) -> Piecewise<'_> {
     Piecewise {
         rest,
@@ -45,7 +45,7 @@ pub(crate) fn whole(rest: &[u8]) -> Piecewise<'_> {
     }
 }
 
-/// What comes of a check: its answer, what is written, and whether source and sink have failed.
+/// The outcome of a check: its result, what was written, and whether source and sink failed.
 #[derive(Debug, PartialEq, Drop)]
 struct Outcome {
     answer: Result<Summary, ToolFault>,
@@ -59,8 +59,8 @@ fn source_of(reader: Piecewise<'_>) -> Source<Piecewise<'_>>
     Source::new(reader)
 }
 
-/// What comes of a check into a writer that takes one octet at a time while it has room, and then
-/// none or an error.
+/// The outcome of a check into a writer that accepts one octet at a time while it has room, and then none, or returns
+/// an error.
 fn outcome_into(
     alloc: Global,
     reader: Piecewise<'_>,
@@ -83,7 +83,7 @@ fn outcome_of(alloc: Global, reader: Piecewise<'_>) -> Result<Outcome, AllocErro
     outcome_into(alloc, reader, usize::MAX, false)
 }
 
-/// What comes of a check that ends: a line of these verdicts each, and so many faults.
+/// The expected outcome of a check that succeeds: a line for each of these verdicts, and this number of faults.
 fn wanted(alloc: Global, verdicts: &[&str], faults: u64) -> Result<Outcome, AllocError> {
     let mut text = String::new(alloc);
     let mut checked = 0u64;
@@ -105,7 +105,7 @@ const FROM_PORT: &str = "020000000001";
 
 const RESPONSE: &str = "020102100001020000000001ffffffff";
 
-/// A line, what is said of it, and whether it is a fault.
+/// A line, its verdict, and whether it is a fault.
 const LINES: [(Pieces, &str, u64); 14] = [
     (
         &[
@@ -198,7 +198,7 @@ fn a_file_of_frames(rt: HostRuntime) -> Result<(), Fail> {
     assert_eq!(rt; seen, wanted(alloc, &verdicts, 2)?, "{file}");
     let seen = outcome_of(alloc, whole(b""))?;
     assert_eq!(rt; seen, wanted(alloc, &[], 0)?, "an empty file");
-    // No digit stands on a line, and one carriage return of a line is dropped.
+    // No line has a digit; one carriage return at the end of a line is dropped.
     let seen = outcome_of(alloc, whole(b"\n\r\n\r\r\n\r"))?;
     let verdicts = ["runt", "runt", "not hex", "runt"];
     assert_eq!(rt; seen, wanted(alloc, &verdicts, 4)?, "empty lines");
@@ -211,7 +211,7 @@ const ZEROS: &str = "00000000000000000000000000000000000000000000000000000000000
 #[test]
 fn a_line_of_each_length_around_the_limit(rt: HostRuntime) -> Result<(), Fail> {
     let alloc = rt.alloc();
-    // Behind the first 65,472 digits.
+    // After the first 65,472 digits.
     let rows = [
         (62, "\r\n", "data"),
         (63, "\n", "not hex"),
@@ -235,7 +235,7 @@ fn a_line_of_each_length_around_the_limit(rt: HostRuntime) -> Result<(), Fail> {
     Ok(())
 }
 
-/// A frame that ends after each octet.
+/// Each beginning of a frame.
 fn truncated(rt: &impl Abort, alloc: Global, pieces: Pieces, kind: &str) -> Result<(), AllocError> {
     let frame = joined(alloc, pieces)?;
     for n in 0u64..=124 {
@@ -257,7 +257,7 @@ fn truncated(rt: &impl Abort, alloc: Global, pieces: Pieces, kind: &str) -> Resu
     Ok(())
 }
 
-/// The answer to a marker, from port 2.
+/// The response to a marker, from port 2.
 const ANSWER: Pieces = &[
     (TO_ALL, 1),
     ("020000000002", 1),

@@ -20,7 +20,7 @@ const FRAMES: Pieces = &[
 
 const CHECKED: &str = "1 marker-response\n2 runt\n3 not hex\n4 data\nchecked 4 faults 2\n";
 
-/// A report that is not whole is a beginning, and then memory was refused; true if it is whole.
+/// A report is whole; or it is a beginning, and memory was refused. Returns whether it is whole.
 fn ends(rt: &impl Abort, answer: Result<(), ToolFault>, taken: &[u8], report: &str) -> bool {
     match answer {
         Ok(()) => assert_eq!(rt; taken, report.as_bytes()),
@@ -33,7 +33,7 @@ fn ends(rt: &impl Abort, answer: Result<(), ToolFault>, taken: &[u8], report: &s
     answer.is_ok()
 }
 
-/// Checks a file into a sink that takes no memory; true if the report is whole.
+/// Checks a file into a sink that takes no memory; returns whether the report is whole.
 fn checks(rt: &impl Abort, alloc: Global) -> Result<bool, ToolFault> {
     let file = joined(alloc, FRAMES)?;
     let mut sink = Sink::new(Vec::with_capacity(alloc, 4096)?);
@@ -54,13 +54,13 @@ fn replays(rt: &impl Abort, alloc: Global) -> Result<bool, ToolFault> {
     Ok(ends(rt, answer, sink.into_inner().as_slice(), report.as_str()))
 }
 
-/// Fails where an allocation is refused.
+/// Fails if an allocation is refused.
 #[test]
 fn memory_for_a_check_is_granted(rt: HostRuntime) {
     assert_eq!(rt; checks(&rt, rt.alloc()), Ok(true));
 }
 
-/// Holds whichever allocation is refused.
+/// Passes whichever allocation is refused.
 #[test]
 fn refused_memory_cuts_a_check(rt: HostRuntime) {
     if let Err(fault) = checks(&rt, rt.alloc()) {
@@ -68,13 +68,13 @@ fn refused_memory_cuts_a_check(rt: HostRuntime) {
     }
 }
 
-/// Fails where an allocation is refused.
+/// Fails if an allocation is refused.
 #[test]
 fn memory_for_a_replay_is_granted(rt: HostRuntime) {
     assert_eq!(rt; replays(&rt, rt.alloc()), Ok(true));
 }
 
-/// Holds whichever allocation is refused.
+/// Passes whichever allocation is refused.
 #[test]
 fn refused_memory_cuts_a_replay(rt: HostRuntime) {
     if let Err(fault) = replays(&rt, rt.alloc()) {

@@ -9,7 +9,7 @@ use lagworld::{EntryFault, ScriptFault};
 use std::alloc::Global;
 use std::test::Fail;
 
-/// Two systems with two ports each that ask for long timeouts.
+/// Two systems with two ports each, all with Long Timeout.
 pub(crate) const TWO_PORTS: &str = r#"
 [[system]]
 mac = "02-00-00-00-00-01"
@@ -41,7 +41,7 @@ ends = [1, 1]
 ends = [2, 2]
 ";
 
-/// Two cables that a frame fills.
+/// Two cables that one frame fills.
 const LIMIT_1: &str = "[[cable]]
 ends = [1, 1]
 limit = 1
@@ -59,7 +59,7 @@ ends = [2, 2]
 limit = 2
 ";
 
-/// Two cables that nothing fills here.
+/// Two cables with room for all frames of these tests.
 const LIMIT_8: &str = "[[cable]]
 ends = [1, 1]
 limit = 8
@@ -164,7 +164,7 @@ cable 2 agreement same
 flow 1/1/48 sent 4 collected 0 1 2 3
 ";
 
-/// What is written of a script of these entries and this configuration.
+/// What is written for a script with these entries and this configuration.
 pub(crate) fn replayed(alloc: Global, pieces: &[&str]) -> Result<String, ToolFault> {
     let mut script = String::new(alloc);
     for piece in pieces {
@@ -197,7 +197,7 @@ fn a_conversation_moves(rt: HostRuntime) -> Result<(), Fail> {
     Ok(())
 }
 
-/// Three frames on a cable that two fill.
+/// Three frames on a cable with room for two.
 const FULL: &str = r#"    "offer 1 1 0200000000200200000000100800",
     "offer 1 1 0200000000200200000000100800",
     "offer 1 1 0200000000200200000000100800",
@@ -218,7 +218,7 @@ cable 2 agreement same
 flow 1/1/48 sent 3 collected 0 1
 ";
 
-/// A marker on a cable that a frame fills.
+/// A marker on a cable that one frame fills.
 const NARROW: &str = r#"    "offer 1 1 0200000000200200000000100800",
     "offer 1 1 0200000000200200000000100800",
     "move 1 1 48 2",
@@ -262,7 +262,7 @@ fn a_full_cable_loses_what_is_sent(rt: HostRuntime) -> Result<(), Fail> {
     Ok(())
 }
 
-/// Frames of system 2 on a cable that one fills.
+/// Frames of system 2 on a cable with room for one.
 const BACK: &str = r#"    "offer 2 1 0200000000100200000000200800",
     "offer 2 1 0200000000100200000000200800",
     "deliver 1 1",
@@ -288,7 +288,7 @@ fn a_limit_is_that_of_both_directions(rt: HostRuntime) -> Result<(), Fail> {
     Ok(())
 }
 
-/// A conversation is forced, and a later frame of it overtakes an earlier one.
+/// A conversation is forced, and a later frame of it arrives before an earlier one.
 const FORCE: &str = r#"    "offer 1 1 0200000000200200000000100800",
     "move 1 1 48 2",
     "force 1 1 48",
@@ -318,7 +318,7 @@ fn a_forced_conversation_overtakes(rt: HostRuntime) -> Result<(), Fail> {
     Ok(())
 }
 
-/// An entry with leading zeros and upper-case digits, and each event that the others have not.
+/// An entry with leading zeros and upper-case digits, and each event that is in none of the others.
 const OTHERS: &str = r#"events = [
     "tick 01 0010",
     "offer 1 1 0200000000AB",

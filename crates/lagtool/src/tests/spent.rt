@@ -1,7 +1,7 @@
 use crate::tests::replays::{BOTH_UP, BOTH_UP_TEXT, replayed};
 use std::test::Fail;
 
-/// Two cables between systems with two ports each that ask for long timeouts, and one marker of system 1.
+/// Two cables between systems with two ports each, all with Long Timeout; system 1 has one marker identifier left.
 const LAST_MARKER: &str = r#"
 [[system]]
 mac = "02-00-00-00-00-01"

@@ -14,7 +14,7 @@ use std::io::Write;
 use std::process::Abort;
 use std::test::Fail;
 
-/// What a write does that is not as the others.
+/// What one write does, unlike the others.
 #[derive(Clone, Copy, Debug, PartialEq, Eq)]
 enum Turn {
     Fails,
@@ -22,17 +22,17 @@ enum Turn {
     TakesOne,
 }
 
-/// A writer that takes up to 64 octets a write, but for one that does something else.
+/// A writer that accepts up to 64 octets in each write, but for one write that does something else.
 #[derive(Drop)]
 struct Moody {
     taken: Vec<u8>,
-    /// How many writes come before that one; None behind it.
+    /// How many writes come before that one; None after it.
     before: Option<u32>,
     turn: Turn,
 }
 
 impl Moody {
-    /// How many octets of so many the next write takes; None if it fails.
+    /// How many octets the next write accepts, of this many; None if it fails.
     fn takes(&mut self, count: usize) -> Option<usize> {
         match self.before {
             None => Some(count.min(64)),
@@ -79,7 +79,7 @@ fn sink_of(alloc: Global, before: u32, turn: Turn) -> Sink<Moody>
     })
 }
 
-/// Compares what came of a report into a sink: true if the one write came.
+/// Checks the result of a report into a sink; returns whether that one write came.
 fn ends(
     rt: &impl Abort,
     answer: Result<(), ToolFault>,
@@ -103,7 +103,7 @@ fn ends(
     came
 }
 
-/// A check of a file, an octet a read, whose writes are not disturbed or one is.
+/// A check of a file, one octet in each read; all writes are normal, or one is not.
 fn checked(rt: &impl Abort, alloc: Global, before: u32, turn: Turn) -> bool {
     let report = b"1 runt\n2 not hex\n3 runt\n4 data\n5 not hex\nchecked 5 faults 4\n";
     let mut sink = sink_of(alloc, before, turn);
@@ -134,7 +134,7 @@ fn one_write_of_a_check(rt: HostRuntime) {
         for before in 0..100 {
             writes = writes.saturating_add(u32::from(checked(&rt, rt.alloc(), before, turn)));
         }
-        // one for each line that ends, and one for the rest
+        // one for each line that ends, and one for the rest of the report
         assert!(rt; writes >= 5 && writes < 100, "{writes}");
     }
 }

@@ -7,7 +7,7 @@ use lagworld::{Agreement, Event, Reply};
 use std::alloc::{AllocError, Global};
 use std::test::Fail;
 
-/// An event of each kind, in which no two numbers are alike, and its entry.
+/// An event of each kind, in which no two numbers are equal, and its entry.
 fn entries(alloc: Global) -> Result<[(Event, &'static str); 14], AllocError> {
     let (key, priority) = (Key(10), 11);
     let change = |aggregatable| PortChange {
