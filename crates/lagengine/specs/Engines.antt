@@ -1,4 +1,4 @@
--- What an engine does for a line: what the call of the system does that the line asks for.
+-- What an engine does for a line: it makes the call of the system that the line asks for.
 use Rattle.std.specs.Prelude.{◌≡◌, ⊤, ◌⊎◌, Vec, ℕ, List, [], ◌∷◌, ◌++◌, length, map, Option, Some, None, option_map, Result, Ok, Err}
 use Rattle.distributor.specs.Conversations.{next_identifier}
 use Rattle.lagsystem.specs.Calls.{Call}
@@ -22,12 +22,12 @@ use Rattle.lagengine.specs.declared.request.Question.{Question}
 use Rattle.lagengine.specs.declared.request.Question.TheVariants as question
 use Rattle.std.specs.declared.alloc.Global.{Global}
 
--- the system, where there is one, and the calls that are kept, where they are
+-- The state of an engine: the system, if there is one, and the calls stored for `drive`, if calls are stored.
 pub record Held : Type 0 where
   pub system : Option State
   pub kept : Option (List Call)
 
--- what contracts see of an engine: what it holds, and the algorithm of its systems
+-- an engine as contracts see it: its state, and the distribution algorithm of its systems
 pub record Whole_engine (F : Type 0) : Type 0 where
   pub algorithm : F
   pub held : Held
@@ -57,39 +57,39 @@ pub record HasPlan (plan : Plan) (s : State) : Type 0 where
   pub keys : s.keys ≡ plan.keys
   pub ports : s.ports ≡ plan.ports
 
--- a fault; nothing changes
+-- the answer is this fault, and nothing changes
 abbrev pub Faults : LineFault → Held → Said → Held → Type 0
 Faults fault old answer new = (answer ≡ said.Fault fault) × (new ≡ old)
 
--- a new system in its first state, with no calls kept, where the configuration is accepted and memory is granted
+-- a new system in its first state, and no stored calls, if the configuration is accepted and memory is granted
 abbrev pub Begins : Plan → Held → Type 0
 Begins plan new =
     (s : State) × (refusal plan.keys plan.ports ≡ None) × HasPlan plan s × IsFirst s × (new ≡ record { system = Some s; kept = None })
 
--- else the refusal, and nothing changes
+-- the system is made; or the answer is why not, and nothing changes
 abbrev pub Starts : Plan → Held → Said → Held → Type 0
 Starts plan old said.Done new = Begins plan new
 Starts plan old (said.Refused fault) new = (fault ≡ fault_in (refusal plan.keys plan.ports)) × (new ≡ old)
 Starts plan old answer new = ⊥
 
--- the call is made, or kept where calls are
+-- the call is made; or it is stored, if calls are stored
 abbrev pub Calls : (ℕ → ℕ → ℕ → Type 0) → Call → State → Option (List Call) → Said → Held → Type 0
 Calls gives call s None answer new =
     (reply : Reply) × (t : State) × Answers gives s call reply t × (answer ≡ said.Replied reply) × (new ≡ record { system = Some t; kept = None })
 Calls gives call s (Some calls) answer new = (answer ≡ said.Kept) × (new ≡ record { system = Some s; kept = Some (calls ++ call ∷ []) })
 
--- calls are kept from now on
+-- from now on, calls are stored
 abbrev pub begun : Option (List Call) → List Call
 begun None = []
 begun (Some calls) = calls
 
--- the calls that are kept are made
+-- the stored calls are made
 abbrev pub DrivesKept : (ℕ → ℕ → ℕ → Type 0) → State → Option (List Call) → Said → Held → Type 0
 DrivesKept gives s None answer new = (answer ≡ said.Fault NotKeeping) × (new ≡ record { system = Some s; kept = None })
 DrivesKept gives s (Some calls) answer new =
     (replies : List Reply) × (t : State) × Drives gives s calls replies t × (answer ≡ said.Drove replies) × (new ≡ record { system = Some t; kept = None })
 
--- what a reader tells
+-- the answer of a reader
 abbrev pub told : Question → State → Said
 told (question.Port q n) s = said.Port (port_told q s n)
 told question.Ports s = said.Ports (numbers s.slots)
@@ -99,7 +99,7 @@ told (question.ConversationState agg conv) s = said.ConversationState (conversat
 told question.NextMarker s = said.NextMarker (next_identifier s.table)
 told question.All s = said.All (all_ports s) (all_aggregators s)
 
--- what is done with a system
+-- a task is done with the system
 abbrev pub Acts : (ℕ → ℕ → ℕ → Type 0) → Asked → State → Option (List Call) → Said → Held → Type 0
 Acts gives (Make call) s kept answer new = Calls gives call s kept answer new
 Acts gives Keep s kept answer new = (answer ≡ said.Done) × (new ≡ record { system = Some s; kept = Some (begun kept) })
@@ -107,17 +107,17 @@ Acts gives Drive s kept answer new = DrivesKept gives s kept answer new
 Acts gives (Conversation octets) s kept answer new = (answer ≡ said.Conversation (conversation_in s octets)) × (new ≡ record { system = Some s; kept = kept })
 Acts gives (Tell q) s kept answer new = (answer ≡ told q s) × (new ≡ record { system = Some s; kept = kept })
 
--- without one nothing is
+-- without a system, the answer is NoSystem
 abbrev pub ActsWhere : (ℕ → ℕ → ℕ → Type 0) → Asked → Option State → Option (List Call) → Said → Held → Type 0
 ActsWhere gives asked None kept answer new = Faults NoSystem (record { system = None; kept = kept }) answer new
 ActsWhere gives asked (Some s) kept answer new = Acts gives asked s kept answer new
 
--- a request is done, a line that is none is answered its fault, and then nothing changes
+-- a request is done; a line that is none is answered with its fault, and nothing changes
 abbrev pub Does : (ℕ → ℕ → ℕ → Type 0) → Result Line LineFault → Held → Said → Held → Type 0
 Does gives (Ok (Start plan)) old answer new = Starts plan old answer new
 Does gives (Ok (Work asked)) old answer new = ActsWhere gives asked old.system old.kept answer new
 Does gives (Err fault) old answer new = Faults fault old answer new
 
--- what an engine does for a line, unless memory is refused, and then nothing changes
+-- what an engine does for a line, unless memory is refused; then nothing changes
 abbrev pub AnswersLine : (ℕ → ℕ → ℕ → Type 0) → List ℕ → Held → Said → Held → Type 0
 AnswersLine gives line old answer new = Does gives (request_in line) old answer new ⊎ Faults NoMemory old answer new

@@ -1,7 +1,7 @@
--- The lines of all that is read, however the reads cut it (profile).
+-- The lines of everything that is read, whatever the size of each read (profile).
 use Rattle.std.specs.Prelude.{ℕ, suc, ◌++◌, ◌==◌, List, [], ◌∷◌, if◌then◌else◌, take}
 
--- octets of a line in front of the lines that follow; no line begins where none follows and there is no octet
+-- octets of a line before the lines that follow; without octets and without following lines there is no line
 abbrev pub close : List ℕ → List (List ℕ)
 close [] = []
 close (x ∷ xs) = (x ∷ xs) ∷ []
@@ -10,7 +10,7 @@ abbrev pub prepend : List ℕ → List (List ℕ) → List (List ℕ)
 prepend line [] = close line
 prepend line (l ∷ ls) = (line ++ l) ∷ ls
 
--- the lines of a text, each up to its newline, which may be missing after the last
+-- the lines of a text, each up to its newline; the last may have none
 abbrev pub lines_of : List ℕ → List (List ℕ)
 lines_of [] = []
 lines_of (b ∷ bs) = if b == 10 then [] ∷ lines_of bs else prepend (b ∷ []) (lines_of bs)
@@ -19,6 +19,6 @@ abbrev pub newlines : List ℕ → ℕ
 newlines [] = 0
 newlines (b ∷ bs) = if b == 10 then suc (newlines bs) else newlines bs
 
--- the lines that a newline ends, which are the first and as many as there are newlines
+-- the lines that a newline ends: the first lines, as many as there are newlines
 abbrev pub ended_lines : List ℕ → List (List ℕ)
 ended_lines octets = take (newlines octets) (lines_of octets)

@@ -6,7 +6,7 @@ use Rattle.lagengine.specs.Words.{parts}
 use Rattle.lagengine.specs.declared.fault.LineFault.{LineFault}
 use Rattle.lagengine.specs.declared.fault.LineFault.TheVariants.{TooLong, NotText, Word}
 
--- the most octets of a line, without its end
+-- the length of the longest line, without its line end
 abbrev pub longest : ℕ
 longest = 65536
 

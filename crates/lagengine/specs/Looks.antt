@@ -1,4 +1,4 @@
--- What the readers tell (profile).
+-- The answers of the readers (profile).
 use Rattle.std.specs.Prelude.{ℕ, ◌+◌, List, length, map, Option, option_map}
 use Rattle.std.specs.List.{range_with_len}
 use Rattle.portmachines.specs.declared.mux.MuxState.TheVariants.{CollectingDistributing}
@@ -18,7 +18,7 @@ use Rattle.lagengine.specs.declared.looks.PortTold.{PortTold}
 use Rattle.lagengine.specs.declared.request.PortQuestion.{PortQuestion}
 use Rattle.lagengine.specs.declared.request.PortQuestion.TheVariants as of_port
 
--- what `look` tells of a port
+-- the answer to `look` for a port
 abbrev pub look_of : Machines → Look
 look_of p = record {
   party = p.party;
@@ -30,11 +30,11 @@ look_of p = record {
   mux = p.mux;
 }
 
--- how many conversations are on the port with this number
+-- how many conversations are On, Wanted or Flushing on the port with this number
 abbrev pub load_of : ℕ → State → Option ℕ
 load_of n s = option_map (λ _. how_many (is_of_port n) s.table) (place_of n s.slots)
 
--- what is told of the port with this number
+-- the answer to a question about the port with this number
 abbrev pub fact_of : PortQuestion → ℕ → State → Option PortFact
 fact_of of_port.Look n s = option_map (λ p. fact.Look (look_of p)) (port_of n s)
 fact_of of_port.Up n s = option_map (λ p. fact.Up p.enabled) (port_of n s)
@@ -57,10 +57,10 @@ sharing_of a = record { agg = a.agg; ports = a.ports.items }
 abbrev pub sharing_in : State → ℕ → Sharing
 sharing_in s g = record { agg = g; ports = distributing (agg_of_number g) s.slots }
 
--- `look` of every port
+-- the answer to `look` for every port
 abbrev pub all_ports : State → List PortTold
 all_ports s = map (port_told of_port.Look s) (numbers s.slots)
 
--- of number 0, which is no aggregator, and of each aggregator
+-- for number 0, which is no aggregator, and for each aggregator
 abbrev pub all_aggregators : State → List Sharing
 all_aggregators s = map (sharing_in s) (range_with_len 0 (length s.keys + 1))

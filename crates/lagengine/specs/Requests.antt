@@ -1,4 +1,4 @@
--- The requests of a line (profile).
+-- The requests that lines make (profile).
 use Rattle.std.specs.Prelude.{◌≡◌, ⊤, ℕ, Bool, List, [], ◌∷◌, codes, if◌then◌else◌, Result, Ok, Err}
 use Rattle.std.specs.Borrow.{Bor}
 use Rattle.std.specs.Str.{bytes_eq}
@@ -23,7 +23,7 @@ use Rattle.lagengine.specs.declared.request.Request.TheVariants as request
 use Rattle.lagengine.specs.declared.request.Task.{Task}
 use Rattle.lagengine.specs.declared.request.Task.TheVariants as task
 
--- a configuration, with its lists
+-- a configuration, with lists in the place of its Vecs
 pub record Plan : Type 0 where
   pub system : SystemId
   pub max_delay : ℕ
@@ -34,7 +34,7 @@ pub record Plan : Type 0 where
 abbrev pub plan_of : Config → Plan
 plan_of c = record { system = c.system; max_delay = c.max_delay; first_marker = c.first_marker; keys = c.aggregators.items; ports = c.ports.items }
 
--- what is to be done with a system: a call, that calls are kept, that those that are kept are made, or what a reader tells
+-- a task for a system: make a call, store calls from now on, make the stored calls, or answer a question
 pub data Asked : Type 0 where
   Make : Call → Asked
   Keep : Asked
@@ -49,7 +49,7 @@ task_of task.Drive = Drive
 task_of (task.Conversation frame) = Conversation frame.items
 task_of (task.Tell question) = Tell question
 
--- what a line asks for: a new system, or something of the one that there is
+-- what a line asks for: a new system, or a task for the present one
 pub data Line : Type 0 where
   Start : Plan → Line
   Work : Asked → Line
@@ -58,18 +58,18 @@ abbrev pub asked_of : Request → Line
 asked_of (request.System config) = Start (plan_of config)
 asked_of (request.Work task) = Work (task_of task)
 
--- a task that was read, or its fault
+-- a task that was read, as a value of the logic; or its fault
 abbrev pub seen : Result Task LineFault → Result Asked LineFault
 seen (Ok r) = Ok (task_of r)
 seen (Err e) = Err e
 
--- the stated value or fault is answered, or memory was refused
+-- the stated value or fault is returned, or memory was refused
 abbrev pub Enters : {A B : Type 0} → (A → B) → Result B LineFault → Result A LineError → Type 0
 Enters see stated (Ok x) = stated ≡ Ok (see x)
 Enters see stated (Err (Fault f)) = stated ≡ Err f
 Enters see stated (Err NoMemory) = ⊤
 
--- words that are handed on
+-- words that are not read here
 abbrev pub Word : Type 0
 Word = Bor (List ℕ)
 
@@ -96,7 +96,7 @@ abbrev pub seen_seven : Result (Word × Word × Word × Word × Word × Word × 
 seen_seven (Ok p) = Ok (p.0.now, p.1.now, p.2.now, p.3.now, p.4.now, p.5.now, p.6.now)
 seen_seven (Err e) = Err e
 
--- just so many words behind the first
+-- exactly this many words after the first
 abbrev pub no_words : List (List ℕ) → Result Unit LineFault
 no_words [] = Ok tt
 no_words _ = Err fault.Count
@@ -117,7 +117,7 @@ abbrev pub four_words : List (List ℕ) → Result (List ℕ × List ℕ × List
 four_words (a ∷ b ∷ c ∷ d ∷ []) = Ok (a, b, c, d)
 four_words _ = Err fault.Count
 
--- a request of so many words, which are read from left to right
+-- a request with a number of words, which are read from left to right
 abbrev pub Reader : Type 0 → Type 0
 Reader A = List ℕ → Result A LineFault
 
@@ -150,11 +150,11 @@ plan_in (priority ∷ mac ∷ delay ∷ marker ∷ keys ∷ ports) =
     Ok (record { system = record { priority = priority; mac = mac }; max_delay = delay; first_marker = marker; keys = keys; ports = ports })
 plan_in _ = Err fault.Count
 
--- a question of one port
+-- a question about one port
 abbrev pub port_asked : PortQuestion → List (List ℕ) → Result Asked LineFault
 port_asked q = one number_word (λ n. Tell (question.Port q n))
 
--- each first word of a reader, with what stands behind it
+-- the questions, by their first word
 abbrev pub question_named : List ℕ → List (List ℕ) → Result Asked LineFault
 question_named name =
     if bytes_eq name (codes "look") then port_asked of_port.Look
@@ -171,7 +171,7 @@ question_named name =
     else if bytes_eq name (codes "all") then none (Tell question.All)
     else (λ _. Err fault.Word)
 
--- each first word of a call that takes no octets
+-- the calls without octets, by their first word
 abbrev pub call_named : List ℕ → List (List ℕ) → Result Asked LineFault
 call_named name =
     if bytes_eq name (codes "tick") then none (Make Tick)
@@ -183,7 +183,7 @@ call_named name =
     else if bytes_eq name (codes "force") then two number_word number_word (λ g k. Make (Force (agg_of g) k))
     else question_named name
 
--- each first word of a task
+-- the tasks, by their first word
 abbrev pub task_named : List ℕ → List (List ℕ) → Result Asked LineFault
 task_named name =
     if bytes_eq name (codes "receive") then two number_word hex_word (λ port octets. Make (Receive port octets))
@@ -193,7 +193,7 @@ task_named name =
     else if bytes_eq name (codes "drive") then none Drive
     else call_named name
 
--- each first word, with what stands behind it
+-- the requests, by their first word and the words after it
 abbrev pub request_named : List ℕ → List (List ℕ) → Result Line LineFault
 request_named name ws =
     if bytes_eq name (codes "system") then (plan_in ws >>= λ plan. Ok (Start plan)) else (task_named name ws >>= λ asked. Ok (Work asked))

@@ -1,4 +1,4 @@
--- What is answered to a line (profile).
+-- The answer to a line (profile).
 use Rattle.std.specs.Prelude.{ℕ, List, map, Option}
 use Rattle.distributor.specs.declared.assignment.Assignment.{Assignment}
 use Rattle.lagsystem.specs.declared.drive.Reply.{Reply}
@@ -9,7 +9,7 @@ use Rattle.lagengine.specs.declared.answer.Answer.TheVariants as answer
 use Rattle.lagengine.specs.declared.fault.LineFault.{LineFault}
 use Rattle.lagengine.specs.declared.looks.PortTold.{PortTold}
 
--- an answer, with its lists
+-- an answer, with lists in the place of its Vecs
 pub data Said : Type 0 where
   Done : Said
   Kept : Said

@@ -1,4 +1,4 @@
--- How `serve` ends (profile).
+-- What `serve` returns and has written (profile).
 use Rattle.std.specs.Prelude.{◌≡◌, ◌≤◌, ◌<◌, ◌+◌, ⊤, ℕ, ◌++◌, Bool, true, false, List, ◌∷◌, [], length, take, Option, Result, Ok, Err}
 use Rattle.std.specs.Io.KnownBytes.{Appends, IsAtEnd}
 use Rattle.lagengine.specs.Engines.{Held}
@@ -10,7 +10,7 @@ use Rattle.lagengine.specs.Sources.{Fails, Gives, SourceState}
 use Rattle.lagengine.specs.declared.stopped.Stopped.{Stopped}
 use Rattle.lagengine.specs.declared.stopped.Stopped.TheVariants.{Read, Write, NoMemory}
 
--- the program stops only where the source, or the sink, has failed, and the other has not; memory may be refused where neither has
+-- for `Read` the source has failed, for `Write` the sink, and the other has not; for `NoMemory` neither has
 abbrev pub HasCause : Bool → Bool → Stopped → Type 0
 HasCause source sink Read = (source ≡ true) × (sink ≡ false)
 HasCause source sink Write = (source ≡ false) × (sink ≡ true)
@@ -27,7 +27,7 @@ module _ {R W : Type 0} (gives : ℕ → ℕ → ℕ → Type 0) (remaining : R 
     pub answered : AnswersLines gives (lines_of octets) at_first answers last
     pub written : Sends contents old new (answers_text answers)
 
-  -- the source gave these octets and then failed: each line of them that a newline ends is answered
+  -- The source gave these octets and then failed: each line of them that a newline ends is answered.
   pub record StopsReading (from to : SourceState R) (old new : SinkState W) : Type 0 where
     pub octets : List ℕ
     pub before : SourceState R
@@ -38,7 +38,8 @@ module _ {R W : Type 0} (gives : ℕ → ℕ → ℕ → Type 0) (remaining : R 
     pub answered : AnswersLines gives (ended_lines octets) at_first answers last
     pub written : Sends contents old new (answers_text answers)
 
-  -- memory was refused: the first lines are answered, no fewer than were ended before a last part of what was read, which is no longer than one read
+  -- Memory was refused: the first lines are answered, at least those that were ended before a last part of what was
+  -- read, which is no longer than one read.
   pub record StopsShort (from to : SourceState R) (old new : SinkState W) : Type 0 where
     pub octets : List ℕ
     pub part : List ℕ
@@ -72,7 +73,7 @@ module _ {R W : Type 0} (gives : ℕ → ℕ → ℕ → Type 0) (remaining : R 
   Serves from to old new (Ok x) = Ends from to old new
   Serves from to old new (Err why) = Stops from to old new why × HasCause to.failed new.failed why
 
--- the status of the program
+-- the exit status of the program
 abbrev pub status_of : Result ⊤ Stopped → ℕ
 status_of (Ok x) = 0
 status_of (Err why) = 2

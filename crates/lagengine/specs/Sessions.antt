@@ -1,4 +1,4 @@
--- What a session answers to the octets that it reads.
+-- The answers of a session to the octets that it reads.
 use Rattle.std.specs.Prelude.{◌≡◌, ℕ, ◌++◌, true, List, [], ◌∷◌, length, map, take, Option, Some, None, Result}
 use Rattle.std.specs.Io.KnownBytes.{Appends}
 use Rattle.lagengine.specs.Engines.{AnswersLine, Held}
@@ -13,21 +13,21 @@ use Rattle.lagengine.specs.declared.session.Session.{Session}
 use Rattle.lagengine.specs.declared.stopped.Stopped.{Stopped}
 use Rattle.lagengine.specs.declared.stopped.Stopped.TheVariants.{Read, Write, NoMemory}
 
--- the text of an answer, and the end of its line
+-- the text of an answer, with a line end
 abbrev pub answer_text : Said → List ℕ
 answer_text answer = said_text answer ++ 10 ∷ []
 
 abbrev pub answers_text : List Said → List ℕ
 answers_text answers = each_text answer_text answers
 
--- these lines are answered so, one answer each, by an engine that holds the first before them and the last after them
+-- these lines get these answers, one each, and take the engine from the first state to the last
 abbrev pub AnswersLines : (ℕ → ℕ → ℕ → Type 0) → List (List ℕ) → Held → List Said → Held → Type 0
 AnswersLines gives [] old [] new = new ≡ old
 AnswersLines gives [] old (answer ∷ answers) new = ⊥
 AnswersLines gives (line ∷ lines) old [] new = ⊥
 AnswersLines gives (line ∷ lines) old (answer ∷ answers) new = (mid : Held) × AnswersLine gives line old answer mid × AnswersLines gives lines mid answers new
 
--- what the engine of a session holds, and what was read of the next line: of one that is too long, 65,537 octets
+-- the state of a session's engine, and the octets of the line being read; of a line that is too long, only 65,537
 pub record SessionState : Type 0 where
   pub held : Held
   pub line : List ℕ
@@ -35,26 +35,27 @@ pub record SessionState : Type 0 where
 abbrev pub session_of : {F : Type 0} → Session F → SessionState
 session_of s = record { held = s.engine.held; line = s.line.items }
 
--- before the first octet
+-- the state of the engine before the first octet
 abbrev pub at_first : Held
 at_first = record { system = None; kept = None }
 
 abbrev pub first_session : SessionState
 first_session = record { held = at_first; line = [] }
 
--- what the lines ask for
+-- what each line asks for
 unfoldable pub requests : List (List ℕ) → List (Result Line LineFault)
 requests lines = map request_in lines
 
 module _ (gives : ℕ → ℕ → ℕ → Type 0) where
-  -- the octets were read, and the lines that they end were answered: whatever follows, these lines and those to come ask for what the lines of all the octets ask for
+  -- The octets were read, and the lines that they end were answered: whatever follows, the answered lines and those to
+  -- come ask for the same as the lines of all the octets.
   pub record Reads (old new : SessionState) (octets : List ℕ) (answers : List Said) : Type 0 where
     pub lines : List (List ℕ)
     pub ended : length lines ≡ newlines octets
     pub same : (rest : List ℕ) → requests (prepend old.line (lines_of (octets ++ rest))) ≡ requests (lines ++ prepend new.line (lines_of rest))
     pub answered : AnswersLines gives lines old.held answers new.held
 
-  -- of all lines the first were answered
+  -- the first of these lines were answered
   pub record AnswersSome (sent : List Said → Type 0) (old : Held) (all : List (List ℕ)) : Type 0 where
     pub lines : List (List ℕ)
     pub later : List (List ℕ)
@@ -65,7 +66,7 @@ module _ (gives : ℕ → ℕ → ℕ → Type 0) where
     pub sent_are : sent answers
 
   module _ {W : Type 0} (contents : W → Option (List ℕ)) where
-    -- the sink failed, and took all these answers but for an end of the last
+    -- the sink failed; it accepted all these answers but an end of the last
     pub record Cuts (before after : SinkState W) (answers : List Said) : Type 0 where
       pub whole : List Said
       pub answer : Said
@@ -87,7 +88,7 @@ module _ (gives : ℕ → ℕ → ℕ → Type 0) where
       pub written : Begins (contents before.writer) (contents after.writer) (answer_text answer)
       pub failed : after.failed ≡ true
 
-    -- why a line is not answered whole
+    -- why a line was not answered, or not completely
     abbrev pub TellsNot : List ℕ → Held → SinkState W → SinkState W → Stopped → Type 0
     TellsNot line old before after Read = ⊥
     TellsNot line old before after Write = TellsPart line old before after
@@ -106,7 +107,7 @@ module _ (gives : ℕ → ℕ → ℕ → Type 0) where
       pub answered : AnswersLines gives lines old answers last
       pub sent : Sends contents before after (answers_text answers)
 
-    -- not all of these lines were answered whole: the sink failed, or memory was refused
+    -- not all of these lines were answered completely: the sink failed, or memory was refused
     abbrev pub Halts : Held → SinkState W → SinkState W → List (List ℕ) → Stopped → Type 0
     Halts old before after lines Read = ⊥
     Halts old before after lines Write = AnswersSome (Cuts before after) old lines

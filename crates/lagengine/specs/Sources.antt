@@ -1,4 +1,4 @@
--- What a source is seen as, and what is read from one (profile).
+-- A source as contracts see it, and what is read from one (profile).
 use Rattle.std.specs.Prelude.{◌≡◌, ◌<◌, ◌⊎◌, ℕ, ◌+◌, Bool, true, List, [], Option, length}
 use Rattle.std.specs.Io.KnownBytes.{Consumes}
 
@@ -8,13 +8,13 @@ pub record SourceState (R : Type 0) : Type 0 where
   pub failed : Bool
   pub left : ℕ
 
--- the source gave these octets, and has not failed in giving them
+-- the source gave these octets, and did not fail in this
 pub record Gives {R : Type 0} (remaining : R → Option (List ℕ)) (old new : SourceState R) (octets : List ℕ) : Type 0 where
   pub read : Consumes (remaining old.reader) (remaining new.reader) octets
   pub failed : new.failed ≡ old.failed
   pub left : new.left + length octets ≡ old.left
 
--- the source failed: its reader gave nothing, or more octets than the source may still give
+-- the source failed: its reader failed, or gave more octets than the source may still give
 pub record Fails {R : Type 0} (remaining : R → Option (List ℕ)) (old new : SourceState R) : Type 0 where
   pub octets : List ℕ
   pub read : Consumes (remaining old.reader) (remaining new.reader) octets

@@ -36,12 +36,12 @@ use Rattle.lagengine.specs.declared.looks.PortTold.{PortTold}
 use Rattle.lagengine.specs.declared.stopped.Stopped.{Stopped}
 use Rattle.lagengine.specs.declared.stopped.Stopped.TheVariants as stopped
 
--- the texts of a list, one behind another
+-- the texts of the elements of a list, one after another
 abbrev pub each_text : {A : Type 0} → (A → List ℕ) → List A → List ℕ
 each_text text [] = []
 each_text text (x ∷ xs) = text x ++ each_text text xs
 
--- why nothing is done for a line
+-- why a line is refused
 abbrev pub line_fault_text : LineFault → List ℕ
 line_fault_text fault.TooLong = codes "too-long"
 line_fault_text fault.NotText = codes "not-text"
@@ -57,7 +57,7 @@ line_fault_text fault.NoSystem = codes "no-system"
 line_fault_text fault.NotKeeping = codes "not-keeping"
 line_fault_text fault.NoMemory = codes "no-memory"
 
--- why a system is not made, or refuses a call
+-- why a system could not be made, or refused a call
 abbrev pub reason_name : BadConfig → List ℕ
 reason_name reason.Ports = codes "ports"
 reason_name reason.Aggregators = codes "aggregators"
@@ -88,7 +88,7 @@ ignored_text (OtherSubtype n) = codes "ignored 2 subtype " ++ decimal n
 ignored_text (BadLength at found) = codes "ignored 3 length at " ++ (decimal at ++ (codes " found " ++ decimal found))
 ignored_text (MarkerTlv n) = codes "ignored 4 marker-tlv " ++ decimal n
 
--- what became of a frame
+-- what became of a received frame
 abbrev pub received_text : Received → List ℕ
 received_text Disabled = codes "disabled"
 received_text Dropped = codes "dropped"
@@ -98,19 +98,19 @@ received_text (Respond octets) = codes "respond " ++ encode_lower octets
 received_text (Released count) = codes "released " ++ decimal count
 received_text (Up agg) = codes "up " ++ decimal agg.0
 
--- a frame that is sent: the subtype of its payload, and its octets
+-- a frame that is to be sent: the subtype of its payload, and its octets
 abbrev pub sent_word : List ℕ → List ℕ
 sent_word octets = if slice_index octets 14 == 1 then codes "lacpdu " else codes "marker "
 
 abbrev pub sent_text : List ℕ → List ℕ
 sent_text octets = sent_word octets ++ encode_lower octets
 
--- a call that answers nothing but that it is done, or its refusal
+-- `done` for a call, or its fault
 abbrev pub done_text : Result Unit SystemFault → List ℕ
 done_text (Ok done) = codes "ok"
 done_text (Err f) = refused_text f
 
--- what a call answers
+-- the result of a call
 abbrev pub reply_text : Reply → List ℕ
 reply_text (reply.Receive (Ok answer)) = received_text answer
 reply_text (reply.Receive (Err f)) = refused_text f
@@ -128,7 +128,7 @@ reply_text (reply.Offer (Err f)) = refused_text f
 reply_text (reply.MoveConversation answer) = done_text answer
 reply_text (reply.Force answer) = done_text answer
 
--- each reply with a semicolon behind it
+-- each result, with a semicolon after it
 abbrev pub ended_text : Reply → List ℕ
 ended_text r = reply_text r ++ 59 ∷ []
 
@@ -169,11 +169,11 @@ receive_text receive.Expired = codes "expired"
 receive_text receive.Defaulted = codes "defaulted"
 receive_text receive.Current = codes "current"
 
--- the two ends, and their group
+-- both ends of a port's link, and their group
 abbrev pub ends_text : Look → List ℕ
 ends_text l = codes "party " ++ (party_text l.party ++ (codes "; partner " ++ (partner_text l.partner ++ (codes "; group " ++ group_text l.group))))
 
--- what the machines hold
+-- the values of a port's machines
 abbrev pub held_text : Look → List ℕ
 held_text l =
     codes "defaulted " ++ (flag_text l.defaulted ++ (codes "; distributes " ++ (flag_text l.distributes
@@ -182,7 +182,7 @@ held_text l =
 abbrev pub look_text : Look → List ℕ
 look_text l = ends_text l ++ (codes "; " ++ held_text l)
 
--- what is told of a port
+-- the answer for a port
 abbrev pub fact_text : PortFact → List ℕ
 fact_text (fact.Look l) = look_text l
 fact_text (fact.Up up) = codes "up " ++ flag_text up
@@ -199,7 +199,7 @@ fact_or_none (Some f) = fact_text f
 abbrev pub told_text : PortTold → List ℕ
 told_text t = codes "port " ++ (decimal t.port ++ (codes ": " ++ fact_or_none t.fact))
 
--- each number behind a space, or none
+-- the numbers, with a space before each; or none
 abbrev pub spaced : ℕ → List ℕ
 spaced n = 32 ∷ decimal n
 
@@ -221,7 +221,7 @@ abbrev pub preferred_text : Option ℕ → List ℕ
 preferred_text None = []
 preferred_text (Some port) = codes " preferred " ++ decimal port
 
--- what a conversation is doing
+-- the state of a conversation
 abbrev pub doing_text : Assignment → List ℕ
 doing_text (Free preferred) = codes "free" ++ preferred_text preferred
 doing_text (On port) = codes "on " ++ decimal port
@@ -232,7 +232,7 @@ abbrev pub doing_or_none : Option Assignment → List ℕ
 doing_or_none None = codes "none"
 doing_or_none (Some doing) = doing_text doing
 
--- each port, and a bar behind it; then each aggregator, and a bar before each but the first
+-- each port with a bar after it; then the aggregators, with a bar between them
 abbrev pub port_bar : PortTold → List ℕ
 port_bar t = told_text t ++ codes " | "
 
@@ -246,7 +246,7 @@ sharings_text (t ∷ ts) = sharing_text t ++ each_text bar_sharing ts
 abbrev pub all_text : List PortTold → List Sharing → List ℕ
 all_text ports aggs = each_text port_bar ports ++ sharings_text aggs
 
--- what is printed for a line, without the end of its line
+-- the text of an answer, without a line end
 abbrev pub said_text : Said → List ℕ
 said_text said.Done = codes "ok"
 said_text said.Kept = codes "kept"
@@ -263,7 +263,7 @@ said_text (said.NextMarker id) = number_text id
 said_text (said.All ports aggs) = all_text ports aggs
 said_text (said.Fault f) = codes "fault " ++ line_fault_text f
 
--- why the program stops before its input ends, as standard error says it behind `lagengine: `
+-- why the program stopped before its input ended, as standard error says it after `lagengine: `
 abbrev pub stopped_text : Stopped → List ℕ
 stopped_text stopped.Read = codes "cannot read"
 stopped_text stopped.Write = codes "cannot write"

@@ -1,4 +1,4 @@
--- What one word of a line says, or why it says nothing (profile).
+-- The value of one word of a line, or why it has none (profile).
 use Rattle.std.specs.Prelude.{ℕ, ◌==◌, ◌&&◌, Bool, true, false, List, [], ◌∷◌, codes, length, nat_lt, if◌then◌else◌, Option, Some, None, Result, Ok, Err}
 use Rattle.std.specs.List.{slice_split}
 use Rattle.std.specs.Result.{result_ok}
@@ -10,23 +10,23 @@ use Rattle.lagsystem.specs.declared.config.PortConfig.{PortConfig}
 use Rattle.lagengine.specs.declared.fault.LineFault.{LineFault}
 use Rattle.lagengine.specs.declared.fault.LineFault.TheVariants as fault
 
--- a value, or the first fault
+-- the second step if the first gave a value, else the first fault
 infixl 10 ◌>>=◌
 abbrev pub ◌>>=◌ : {A B E : Type 0} → Result A E → (A → Result B E) → Result B E
 Ok x >>= f = f x
 Err e >>= f = Err e
 
--- the value, or this fault where there is none
+-- the value; or this fault if there is none
 abbrev pub or_fault : {A E : Type 0} → E → Option A → Result A E
 or_fault e None = Err e
 or_fault e (Some x) = Ok x
 
--- each of a list, read from left to right
+-- each element of a list, read from left to right
 abbrev pub each : {A X E : Type 0} → (X → Result A E) → List X → Result (List A) E
 each f [] = Ok []
 each f (x ∷ rest) = f x >>= λ y. each f rest >>= λ ys. Ok (y ∷ ys)
 
--- the parts of a text, cut at every octet that is this one
+-- the parts of a text between octets that are this one
 abbrev pub parts : ℕ → List ℕ → List (List ℕ)
 parts cut text = slice_split (λ b. b == cut) text
 
@@ -34,7 +34,7 @@ parts cut text = slice_split (λ b. b == cut) text
 abbrev pub is_numeral : List ℕ → Bool
 is_numeral w = nat_lt 0 (length w) && all_ascii_digits w
 
--- the number below a limit that a word says; leading zeros do not count
+-- the value of a word of decimal digits, if it is below a limit; leading zeros are allowed
 abbrev pub number_below : ℕ → List ℕ → Option ℕ
 number_below limit w = if is_numeral w && nat_lt (digits_value 10 w) limit then Some (digits_value 10 w) else None
 
@@ -61,7 +61,7 @@ link_word = one_of (codes "up") (codes "down") fault.Link
 abbrev pub kind_word : List ℕ → Result Bool LineFault
 kind_word = one_of (codes "aggregatable") (codes "individual") fault.Kind
 
--- octets in hexadecimal digits of either case; the empty word says none
+-- octets in hexadecimal digits, upper or lower case; the empty word has none
 abbrev pub hex_word : List ℕ → Result (List ℕ) LineFault
 hex_word w = or_fault fault.Hex (result_ok (decode_of w))
 

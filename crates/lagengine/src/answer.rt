@@ -10,20 +10,20 @@ use arrayvec::ArrayVec;
 use lagsystem::{Assignment, Reply, SystemFault};
 use std::fmt;
 
-/// What is answered to a line (profile).
+/// The answer to a line (profile).
 #[derive(Debug, Drop)]
 pub enum Answer {
-    /// A system was made, or calls are kept from now on.
+    /// A system was made; or from now on, calls are stored for `drive`.
     Done,
-    /// The call was kept.
+    /// The call was stored for `drive`.
     Kept,
-    /// What the call answered.
+    /// The result of a call.
     Reply(Reply),
-    /// What each of the calls that were kept answered.
+    /// The results of the stored calls.
     Replies(Vec<Reply>),
-    /// Why the system was not made.
+    /// Why the system could not be made.
     Refused(SystemFault),
-    /// What a reader tells of a port.
+    /// What a reader returns for a port.
     Port(PortTold),
     /// The numbers of the ports.
     Ports(ArrayVec<u16, 64>),
@@ -33,13 +33,13 @@ pub enum Answer {
     Distributing(AggTold),
     /// The conversation of a frame.
     Conversation(Option<u16>),
-    /// What a conversation is doing.
+    /// The state of a conversation; None if there is no such conversation.
     ConversationState(Option<Assignment>),
     /// The identifier of the next marker.
     NextMarker(Option<u32>),
-    /// What is told of every port and every aggregator.
+    /// What `look` returns for every port, and the ports that distribute in each aggregator.
     All(Vec<PortTold>, Vec<AggTold>),
-    /// Why nothing is done for the line.
+    /// Why the line is refused.
     Fault(LineFault),
 }
 

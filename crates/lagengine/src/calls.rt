@@ -10,7 +10,7 @@ use crate::request::{PortQuestion, Question, Task, alone, one_word, two_words};
 use crate::words::{kind, link, number};
 use lagsystem::{AggId, Call, Key, PortChange};
 
-/// The three words that there are.
+/// The words, if there are exactly three.
 fn three_words<'a>(words: &[&'a str]) -> Result<(&'a str, &'a str, &'a str), LineFault>
     ensures { asked.seen_three result ≡ asked.three_words (map (λ w. w.now) words.now) }
 {
@@ -20,7 +20,7 @@ fn three_words<'a>(words: &[&'a str]) -> Result<(&'a str, &'a str, &'a str), Lin
     }
 }
 
-/// The four words that there are.
+/// The words, if there are exactly four.
 fn four_words<'a>(words: &[&'a str]) -> Result<(&'a str, &'a str, &'a str, &'a str), LineFault>
     ensures { asked.seen_four result ≡ asked.four_words (map (λ w. w.now) words.now) }
 {
@@ -78,7 +78,7 @@ fn force(words: &[&str]) -> Result<Task, LineFault>
     Ok(Task::Make(Call::Force(agg, number(conv)?)))
 }
 
-/// A question of one port.
+/// Reads the words of a question about one port.
 fn of_port(asked: PortQuestion, words: &[&str]) -> Result<Task, LineFault>
     ensures { seen result ≡ port_asked asked (map (λ w. w.now) words.now) }
 {
@@ -101,7 +101,7 @@ fn conversation_state(words: &[&str]) -> Result<Task, LineFault>
     Ok(Task::Tell(Question::ConversationState(agg, number(conv)?)))
 }
 
-/// What is asked of a reader by a first word with those behind it.
+/// Reads a question, by its first word and the words after it.
 fn question_named(name: &str, words: &[&str]) -> Result<Task, LineFault>
     ensures { seen result ≡ question_named name.now (map (λ w. w.now) words.now) }
 {
@@ -122,7 +122,7 @@ fn question_named(name: &str, words: &[&str]) -> Result<Task, LineFault>
     }
 }
 
-/// The call, or what is asked of a reader, by a first word with those behind it.
+/// Reads a call or a question, by its first word and the words after it.
 pub(crate) fn call_named(name: &str, words: &[&str]) -> Result<Task, LineFault>
     ensures { seen result ≡ call_named name.now (map (λ w. w.now) words.now) }
 {

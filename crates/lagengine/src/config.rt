@@ -7,14 +7,14 @@ use crate::words::{fields_of, flag, items_of, long, mac, number};
 use lagsystem::{Config, Key, PortConfig, SystemId};
 use std::alloc::Global;
 
-/// The key that a word says.
+/// Reads a key.
 fn key(word: &str) -> Result<Key, LineFault>
     ensures { result ≡ key_word word.now }
 {
     Ok(Key(number(word)?))
 }
 
-/// The keys that these words say.
+/// Reads these keys.
 fn each_key(alloc: Global, words: &[&str]) -> Result<Vec<Key>, LineError>
     ensures { Enters (λ v. v.items) (each key_word (map (λ w. w.now) words.now)) result }
 {
@@ -26,7 +26,7 @@ fn each_key(alloc: Global, words: &[&str]) -> Result<Vec<Key>, LineError>
     Ok(keys)
 }
 
-/// The keys of the aggregators: joined by commas, or a dash for none.
+/// Reads the keys of the aggregators: joined by commas, or a dash for none.
 fn keys(alloc: Global, word: &str) -> Result<Vec<Key>, LineError>
     ensures { Enters (λ v. v.items) (keys_word word.now) result }
 {
@@ -37,7 +37,7 @@ fn keys(alloc: Global, word: &str) -> Result<Vec<Key>, LineError>
     each_key(alloc, words.as_slice())
 }
 
-/// The seven fields that there are.
+/// The fields, if there are exactly seven.
 fn seven_fields<'a>(
     fields: &[&'a str],
 ) -> Result<
@@ -60,7 +60,7 @@ fn seven_fields<'a>(
     }
 }
 
-/// The port of its seven fields.
+/// Reads a port from its seven fields.
 fn port_of(fields: &[&str]) -> Result<PortConfig, LineFault>
     ensures { result ≡ port_fields (map (λ w. w.now) fields.now) }
 {
@@ -83,7 +83,7 @@ fn port_of(fields: &[&str]) -> Result<PortConfig, LineFault>
     })
 }
 
-/// The port that a word says.
+/// Reads a port from a word of seven fields.
 fn port(alloc: Global, word: &str) -> Result<PortConfig, LineError>
     ensures { Enters (λ p. p) (port_word word.now) result }
 {
@@ -92,7 +92,7 @@ fn port(alloc: Global, word: &str) -> Result<PortConfig, LineError>
     Ok(port)
 }
 
-/// The ports that these words say.
+/// Reads these ports.
 fn each_port(alloc: Global, words: &[&str]) -> Result<Vec<PortConfig>, LineError>
     ensures { Enters (λ v. v.items) (each port_word (map (λ w. w.now) words.now)) result }
 {
@@ -104,7 +104,7 @@ fn each_port(alloc: Global, words: &[&str]) -> Result<Vec<PortConfig>, LineError
     Ok(ports)
 }
 
-/// A new system, of PRIORITY MAC MAX_DELAY FIRST_MARKER KEYS PORT .. (profile).
+/// Reads the configuration of a new system: PRIORITY MAC MAX_DELAY FIRST_MARKER KEYS PORT .. (profile).
 pub(crate) fn system(alloc: Global, words: &[&str]) -> Result<Config, LineError>
     ensures { Enters plan_of (plan_in (map (λ w. w.now) words.now)) result }
 {

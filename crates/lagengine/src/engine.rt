@@ -14,18 +14,18 @@ use lagsystem::{Call, Config, Reply, System};
 use std::alloc::{AllocError, Global};
 use std::marker::Model;
 
-/// What an engine holds.
+/// The state of an engine.
 #[derive(Drop)]
 struct Core<F> {
     alloc: Global,
     algorithm: F,
     system: Option<System<F>>,
-    /// The calls that are kept for `drive`; none where calls are made at once.
+    /// The calls that are stored for `drive`; None if calls are made at once.
     kept: Option<Vec<Call>>,
 }
 
-/// A system behind lines of text: each line is a request, which is answered (profile). `F` is the type of the distribution
-/// algorithm, which each system gets a copy of.
+/// A system that is used through lines of text: each line is a request, and gets an answer (profile). `F` is the type
+/// of the distribution algorithm; each system gets a copy of it.
 #[derive(Drop)]
 pub struct Engine<F> {
     core: Core<F>,
@@ -68,7 +68,7 @@ fn make<F: Fn(u16, usize) -> usize + Drop>(system: &mut System<F>, call: &Call) 
     }
 }
 
-/// What a reader tells.
+/// Answers a question by a reader of the system.
 fn tell<F: Fn(u16, usize) -> usize + Drop>(
     alloc: Global,
     system: &System<F>,
@@ -93,7 +93,7 @@ fn tell<F: Fn(u16, usize) -> usize + Drop>(
     }
 }
 
-/// Makes a call, or keeps it where calls are kept.
+/// Makes a call; or stores it for `drive`, if calls are stored.
 fn take<F: Fn(u16, usize) -> usize + Drop>(
     system: &mut System<F>,
     kept: &mut Option<Vec<Call>>,
@@ -113,7 +113,7 @@ fn take<F: Fn(u16, usize) -> usize + Drop>(
     }
 }
 
-/// Makes the calls that are kept, and keeps none from now on.
+/// Makes the stored calls; from now on, calls are made at once.
 fn drive<F: Fn(u16, usize) -> usize + Drop>(
     alloc: Global,
     system: &mut System<F>,
@@ -132,7 +132,7 @@ fn drive<F: Fn(u16, usize) -> usize + Drop>(
     Ok(Answer::Replies(replies))
 }
 
-/// Keeps calls from now on, behind those that are kept already.
+/// From now on, stores calls for `drive`, after those already stored.
 fn keep(alloc: Global, kept: &mut Option<Vec<Call>>)
     ensures { kept_of kept.new ≡ Some (begun (kept_of kept.old)) }
 {
@@ -141,7 +141,7 @@ fn keep(alloc: Global, kept: &mut Option<Vec<Call>>)
     }
 }
 
-/// Does with a system what a task says.
+/// Does a task with a system.
 fn work_on<F: Fn(u16, usize) -> usize + Drop>(
     alloc: Global,
     system: &mut System<F>,
@@ -166,7 +166,7 @@ fn work_on<F: Fn(u16, usize) -> usize + Drop>(
 }
 
 impl<F: Fn(u16, usize) -> usize + Copy + Drop> Core<F> {
-    /// Makes a new system in the place of the one that there is; where it is refused, that stays.
+    /// Makes a new system, which replaces the present one; if it is refused, the present one stays.
     fn start(&mut self, config: Config) -> Answer
         requires usable { PicksPlaces (F.pre self.old.algorithm) (F.post self.old.algorithm) }
         requires same { HasAlgorithm self.old.algorithm self.old.system }
@@ -184,7 +184,7 @@ impl<F: Fn(u16, usize) -> usize + Copy + Drop> Core<F> {
         }
     }
 
-    /// Does with the system, where there is one, what a task says.
+    /// Does a task with the system; `NoSystem` if there is none.
     fn work(&mut self, task: Task) -> Result<Answer, AllocError>
         requires usable { PicksPlaces (F.pre self.old.algorithm) (F.post self.old.algorithm) }
         requires same { HasAlgorithm self.old.algorithm self.old.system }
@@ -199,7 +199,7 @@ impl<F: Fn(u16, usize) -> usize + Copy + Drop> Core<F> {
         }
     }
 
-    /// Does what a request asks for.
+    /// Does a request.
     fn act(&mut self, request: Request) -> Result<Answer, AllocError>
         requires usable { PicksPlaces (F.pre self.old.algorithm) (F.post self.old.algorithm) }
         requires same { HasAlgorithm self.old.algorithm self.old.system }
@@ -214,7 +214,7 @@ impl<F: Fn(u16, usize) -> usize + Copy + Drop> Core<F> {
         }
     }
 
-    /// Does what a line asks for, and answers it.
+    /// Does the request of a line, and returns the answer.
     fn answer(&mut self, line: &[u8]) -> Answer
         requires usable { PicksPlaces (F.pre self.old.algorithm) (F.post self.old.algorithm) }
         requires same { HasAlgorithm self.old.algorithm self.old.system }
@@ -234,7 +234,7 @@ impl<F: Fn(u16, usize) -> usize + Copy + Drop> Core<F> {
 }
 
 impl<F: Fn(u16, usize) -> usize + Copy + Drop> Engine<F> {
-    /// An engine with no system yet, whose systems have this algorithm.
+    /// An engine without a system. The systems that it makes get this distribution algorithm.
     pub fn new(alloc: Global, algorithm: F) -> Engine<F>
         ensures algorithm { result.algorithm ≡ algorithm }
         ensures system { result.held.system ≡ None }
@@ -250,8 +250,8 @@ impl<F: Fn(u16, usize) -> usize + Copy + Drop> Engine<F> {
         }
     }
 
-    /// Does what a line asks for, and answers it. The line is given without its end. A line that is no request is answered
-    /// `Fault` with the first cause, and so is one for which memory is refused; nothing has changed then (profile).
+    /// Does the request of a line, and returns the answer. `line` has no line end. If the line is no request, or memory
+    /// for it is refused, the answer is `Fault` with the first reason that holds, and nothing has changed (profile).
     pub fn answer(&mut self, line: &[u8]) -> Answer
         requires usable { PicksPlaces (F.pre self.old.algorithm) (F.post self.old.algorithm) }
         ensures answers { AnswersLine (F.post self.old.algorithm) line.now self.old.held (said_of result) self.new.held }

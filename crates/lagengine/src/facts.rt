@@ -7,7 +7,7 @@ use crate::looks::{AggTold, Look, PortFact, PortTold};
 use lagsystem::{Assignment, Choice, Info, MuxState, Party, ReceiveState};
 use std::fmt;
 
-/// Whether a port is aggregatable.
+/// `aggregatable` or `individual`.
 #[derive(Clone, Copy)]
 struct KindText(bool);
 
@@ -23,7 +23,7 @@ impl fmt::Display for KindText {
     }
 }
 
-/// True or false.
+/// `true` or `false`.
 #[derive(Clone, Copy)]
 struct FlagText(bool);
 
@@ -39,7 +39,7 @@ impl fmt::Display for FlagText {
     }
 }
 
-/// The own parameters of a port.
+/// The operational parameters of a port's own side.
 #[derive(Clone, Copy)]
 struct PartyText<'a>(&'a Party);
 
@@ -59,7 +59,7 @@ impl fmt::Display for PartyText<'_> {
     }
 }
 
-/// The recorded partner of a port.
+/// The operational parameters of a port's partner, as recorded.
 #[derive(Clone, Copy)]
 struct PartnerText<'a>(&'a Info);
 
@@ -76,7 +76,7 @@ impl fmt::Display for PartnerText<'_> {
     }
 }
 
-/// What the Selection Logic gave a port.
+/// Selected, with the aggregator of a port.
 #[derive(Clone, Copy)]
 struct ChoiceText(Choice);
 
@@ -126,7 +126,7 @@ impl fmt::Display for ReceiveText {
     }
 }
 
-/// Of a port the two ends, and their group.
+/// Both ends of a port's link, and their group.
 #[derive(Clone, Copy)]
 struct EndsText<'a>(&'a Look);
 
@@ -145,7 +145,7 @@ impl fmt::Display for EndsText<'_> {
     }
 }
 
-/// Of a port what its machines hold.
+/// The values of a port's machines.
 #[derive(Clone, Copy)]
 struct HeldText<'a>(&'a Look);
 
@@ -165,7 +165,7 @@ impl fmt::Display for HeldText<'_> {
     }
 }
 
-/// What `look` tells of a port.
+/// The answer to `look` for a port.
 #[derive(Clone, Copy)]
 struct LookText<'a>(&'a Look);
 
@@ -177,7 +177,7 @@ impl fmt::Display for LookText<'_> {
     }
 }
 
-/// What a reader tells of a port.
+/// The answer of a reader for a port.
 #[derive(Clone, Copy)]
 struct FactText<'a>(&'a PortFact);
 
@@ -207,7 +207,7 @@ impl fmt::Display for PortTold {
     }
 }
 
-/// Writes the numbers of ports, each behind a space, or `none`.
+/// Writes port numbers, with a space before each, or `none`.
 pub(crate) fn write_numbers<W: fmt::Write>(f: &mut fmt::Formatter<W>, ports: &[u16]) -> fmt::Result
     ensures { DisplaysOnOk W.write_str_gives f.old result (Some (numbers_text ports.now)) f.new }
 {
@@ -244,7 +244,7 @@ impl fmt::Display for NumberText {
     }
 }
 
-/// The port that a conversation prefers, if it does one.
+/// The port that a conversation prefers, if there is one.
 #[derive(Clone, Copy)]
 struct PreferredText(Option<u16>);
 
@@ -259,7 +259,7 @@ impl fmt::Display for PreferredText {
     }
 }
 
-/// What a conversation is doing; `none` where there is none.
+/// The state of a conversation; `none` if there is no such conversation.
 #[derive(Clone, Copy)]
 pub struct DoingText(pub Option<Assignment>);
 
@@ -290,7 +290,7 @@ impl fmt::Display for DoingText {
     }
 }
 
-/// Writes each port, with a bar behind it.
+/// Writes each port, with a bar after it.
 fn write_ports<W: fmt::Write>(f: &mut fmt::Formatter<W>, ports: &[PortTold]) -> fmt::Result
     ensures { DisplaysOnOk W.write_str_gives f.old result (Some (each_text port_bar ports.now)) f.new }
 {
@@ -310,7 +310,7 @@ fn write_more<W: fmt::Write>(f: &mut fmt::Formatter<W>, aggs: &[AggTold]) -> fmt
     Ok(())
 }
 
-/// Writes the aggregators, with a bar between two.
+/// Writes the aggregators, with a bar between them.
 fn write_aggregators<W: fmt::Write>(f: &mut fmt::Formatter<W>, aggs: &[AggTold]) -> fmt::Result
     ensures { DisplaysOnOk W.write_str_gives f.old result (Some (sharings_text (map sharing_of aggs.now))) f.new }
 {

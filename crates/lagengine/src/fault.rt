@@ -5,7 +5,7 @@ ghost use Rattle.lagengine.specs.declared.fault.LineError.TheVariants.{Fault, No
 use std::alloc::{AllocError, AllocFailed};
 use std::fmt;
 
-/// Why nothing is done for a line (profile).
+/// Why a line is refused (profile).
 #[derive(Clone, Copy, Debug, PartialEq, Eq)]
 pub enum LineFault {
     /// The line has more than 65,536 octets.
@@ -14,9 +14,9 @@ pub enum LineFault {
     NotText,
     /// The first word names no request.
     Word,
-    /// There are too few or too many words, or parts of a word.
+    /// There are too few or too many words, or fields of a word.
     Count,
-    /// A word is no number, or one that is too large.
+    /// A word is not a number, or the number is too large.
     Number,
     /// A MAC address is not twelve hexadecimal digits.
     Mac,
@@ -30,7 +30,7 @@ pub enum LineFault {
     Hex,
     /// There is no system yet.
     NoSystem,
-    /// No list is kept.
+    /// `drive` came, but no calls are stored.
     NotKeeping,
     /// Memory was refused.
     NoMemory,
@@ -58,10 +58,10 @@ impl fmt::Display for LineFault {
     }
 }
 
-/// Why a line gives no request.
+/// Why a line could not be read as a request.
 #[derive(Clone, Copy, Debug, PartialEq, Eq)]
 pub enum LineError {
-    /// It is none.
+    /// The line is no request, with this fault.
     Fault(LineFault),
     /// Memory was refused.
     NoMemory,

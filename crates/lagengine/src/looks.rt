@@ -7,7 +7,7 @@ use arrayvec::ArrayVec;
 use lagsystem::{AggId, Choice, Group, Info, MuxState, Party, ReceiveState, State, System};
 use std::alloc::{AllocError, Global};
 
-/// What `look` tells of a port.
+/// The answer to `look` for a port.
 #[derive(Clone, Copy, Debug, PartialEq, Eq)]
 pub struct Look {
     pub party: Party,
@@ -19,24 +19,25 @@ pub struct Look {
     pub mux: MuxState,
 }
 
-/// What a reader tells of a port.
+/// The answer of a reader for a port.
 #[derive(Clone, Copy, Debug, PartialEq, Eq)]
 pub enum PortFact {
-    /// Party, partner, group, Defaulted, whether it distributes, choice, and mux machine.
+    /// The port's own parameters, its partner's, their group, Defaulted, whether it distributes, Selected with its
+    /// aggregator, and the state of the mux machine.
     Look(Look),
-    /// Whether its link is up.
+    /// port_enabled: whether its link is up.
     Up(bool),
-    /// The state octet of its own side.
+    /// Actor_State: the state octet of its own side.
     State(State),
     /// The state of its receive machine.
     ReceiveState(ReceiveState),
     /// Whether a frame is due.
     Due(bool),
-    /// How many conversations are on it.
+    /// How many conversations are On, Wanted or Flushing on it.
     Load(u32),
 }
 
-/// What is told of a port; no fact where there is no such port.
+/// The answer for a port; without a value if there is no such port.
 #[derive(Clone, Copy, Debug, PartialEq, Eq)]
 pub struct PortTold {
     pub port: u16,
@@ -50,7 +51,7 @@ pub struct AggTold {
     pub ports: ArrayVec<u16, 64>,
 }
 
-/// What `look` tells of a port.
+/// The answer to `look` for a port.
 fn look_at<F: Fn(u16, usize) -> usize + Drop>(system: &System<F>, port: u16) -> Option<Look>
     ensures { result ≡ option_map look_of (port_of port system.now.state) }
 {
@@ -65,14 +66,14 @@ fn look_at<F: Fn(u16, usize) -> usize + Drop>(system: &System<F>, port: u16) -> 
     })
 }
 
-/// How many conversations are on a port.
+/// How many conversations are On, Wanted or Flushing on a port.
 fn load<F: Fn(u16, usize) -> usize + Drop>(system: &System<F>, port: u16) -> Option<u32>
     ensures { result ≡ load_of port system.now.state }
 {
     system.load(port).ok()
 }
 
-/// What a reader tells of a port; none where there is no such port.
+/// The answer of a reader for a port; None if there is no such port.
 fn fact<F: Fn(u16, usize) -> usize + Drop>(
     system: &System<F>,
     asked: PortQuestion,
@@ -90,7 +91,7 @@ fn fact<F: Fn(u16, usize) -> usize + Drop>(
     }
 }
 
-/// What a reader tells of a port.
+/// The answer of a reader for a port, with the port's number.
 pub(crate) fn port_told<F: Fn(u16, usize) -> usize + Drop>(
     system: &System<F>,
     asked: PortQuestion,
@@ -114,7 +115,7 @@ pub(crate) fn agg_told<F: Fn(u16, usize) -> usize + Drop>(system: &System<F>, ag
     }
 }
 
-/// What `look` tells of every port.
+/// The answer to `look` for every port.
 pub(crate) fn all_ports<F: Fn(u16, usize) -> usize + Drop>(
     alloc: Global,
     system: &System<F>,
@@ -129,7 +130,7 @@ pub(crate) fn all_ports<F: Fn(u16, usize) -> usize + Drop>(
     Ok(told)
 }
 
-/// The ports that distribute in each aggregator, and before them those of number 0, which is none.
+/// The ports that distribute in each aggregator; first those of number 0, which is no aggregator, so none.
 #[tactic(auto, using(crate::proofs::LookLemmas::sharings_more))]
 pub(crate) fn all_aggregators<F: Fn(u16, usize) -> usize + Drop>(
     alloc: Global,
@@ -137,7 +138,7 @@ pub(crate) fn all_aggregators<F: Fn(u16, usize) -> usize + Drop>(
 ) -> Result<Vec<AggTold>, AllocError>
     ensures { IfOk result (λ told. map sharing_of told.items ≡ all_aggregators system.now.state) }
 {
-    // No more than 64 are there, but the contract of `aggregators` bounds no count.
+    // There are at most 64, but the contract of `aggregators` states no bound.
     let Ok(count) = u16::try_from(system.aggregators()) else {
         return Err(AllocError);
     };

@@ -1,7 +1,8 @@
-//! `lagengine`: a system behind lines of text. One request a line comes on standard input, and one answer a line goes to
-//! standard output at once.
+//! `lagengine`: a system that is used through lines of text. Each line of standard input is a request; its answer, one
+//! line, goes to standard output at once.
 //!
-//! Status 0: the input ended; 2: it could not be read, or an answer could not be written, and standard error says why.
+//! Exit status 0: the input ended; 2: it could not be read, or an answer could not be written, and standard error says
+//! why.
 #![tactic(auto)]
 
 ghost use Rattle.std.specs.Prelude.{◌≡◌, ◌<◌};
@@ -34,8 +35,8 @@ use std::io::Input;
 use std::process::ExitCode;
 use stopped::Stopped;
 
-/// The distribution algorithm of the program: the number of the conversation modulo the count of ports, and 0 if there
-/// are none (profile).
+/// The distribution algorithm of the program: the conversation number modulo the count of ports, and 0 if there are
+/// none (profile).
 fn by_number(conversation: u16, count: usize) -> usize
     ensures place { result ≡ place_by_number conversation count }
     ensures among { 0 < count → result < count }
@@ -43,14 +44,14 @@ fn by_number(conversation: u16, count: usize) -> usize
     distributor::by_number(conversation, count)
 }
 
-/// Serves standard input and output.
+/// Answers the lines of standard input on standard output.
 fn run<R: Print + Input + AllocGlobal>(rt: &R) -> Result<(), Stopped> {
     let mut source = Source::new(rt.reader());
     let mut sink = Sink::new(io::writer(rt));
     serve(rt.alloc(), by_number, &mut source, &mut sink)
 }
 
-/// The status of the program: 0 where the input ended, else 2 (profile).
+/// The exit status of the program: 0 if the input ended, else 2 (profile).
 fn status_of(ended: &Result<(), Stopped>) -> u8
     ensures { result ≡ status_of ended.now }
 {

@@ -45,7 +45,7 @@ impl fmt::Display for IgnoredText {
     }
 }
 
-/// What became of a frame.
+/// What became of a received frame.
 #[derive(Clone, Copy)]
 struct ReceivedText<'a>(&'a Received);
 
@@ -65,7 +65,7 @@ impl fmt::Display for ReceivedText<'_> {
     }
 }
 
-/// A frame that is sent.
+/// A frame that is to be sent.
 #[derive(Clone, Copy)]
 struct SentText<'a>(&'a [u8; 124]);
 
@@ -98,7 +98,7 @@ impl fmt::Display for ReasonName {
     }
 }
 
-/// Why a system is not made, or refuses a call, in a word or two.
+/// Why a system could not be made, or refused a call, in a word or two.
 #[derive(Clone, Copy)]
 struct FaultName(SystemFault);
 
@@ -123,7 +123,7 @@ impl fmt::Display for FaultName {
     }
 }
 
-/// A refusal, with its number.
+/// A fault, with its number.
 #[derive(Clone, Copy)]
 pub struct RefusedText(pub SystemFault);
 
@@ -136,7 +136,7 @@ impl fmt::Display for RefusedText {
     }
 }
 
-/// That a call is done, or its refusal.
+/// `done` for a call, or its fault.
 #[derive(Clone, Copy)]
 struct DoneText(Result<(), SystemFault>);
 
@@ -151,7 +151,7 @@ impl fmt::Display for DoneText {
     }
 }
 
-/// What a call answers.
+/// The result of a call.
 #[derive(Clone, Copy)]
 pub struct ReplyText<'a>(pub &'a Reply);
 
@@ -177,7 +177,7 @@ impl fmt::Display for ReplyText<'_> {
     }
 }
 
-/// Writes each reply, with a semicolon behind it.
+/// Writes each result, with a semicolon after it.
 pub(crate) fn write_replies<W: fmt::Write>(
     f: &mut fmt::Formatter<W>,
     replies: &[Reply],

@@ -12,70 +12,71 @@ use crate::words::{number, octets, words_of};
 use lagsystem::{AggId, Call, Config};
 use std::alloc::Global;
 
-/// The most octets of a line, without its end (profile).
+/// The most octets of a line, without its line end (profile).
 pub const LONGEST: usize = 65_536;
 
-/// What a reader is asked of one port.
+/// A question about one port.
 #[derive(Clone, Copy, Debug, PartialEq, Eq)]
 pub enum PortQuestion {
-    /// Party, partner, group, Defaulted, whether it distributes, choice, and mux machine.
+    /// The port's own parameters, its partner's, their group, Defaulted, whether it distributes, Selected with its
+    /// aggregator, and the state of the mux machine.
     Look,
-    /// Whether its link is up.
+    /// port_enabled: whether its link is up.
     Up,
-    /// The state octet of its own side.
+    /// Actor_State: the state octet of its own side.
     State,
     /// The state of its receive machine.
     ReceiveState,
     /// Whether a frame is due.
     Due,
-    /// How many conversations are on it.
+    /// How many conversations are On, Wanted or Flushing on it.
     Load,
 }
 
-/// What a reader is asked.
+/// A question that a reader of the system answers.
 #[derive(Clone, Copy, Debug, PartialEq, Eq)]
 pub enum Question {
-    /// Of a port, by its number.
+    /// About the port with this number.
     Port(PortQuestion, u16),
     /// The numbers of the ports.
     Ports,
     /// How many aggregators there are.
     Aggregators,
-    /// The ports that distribute in an aggregator.
+    /// The numbers of the ports that distribute in an aggregator.
     Distributing(AggId),
-    /// What a conversation of an aggregator is doing.
+    /// The state of a conversation of an aggregator.
     ConversationState(AggId, u16),
     /// The identifier of the next marker.
     NextMarker,
-    /// `Look` of every port, and the ports that distribute in each aggregator.
+    /// `Look` for every port, and the ports that distribute in each aggregator.
     All,
 }
 
-/// What is to be done with a system.
+/// A task for a system.
 #[derive(Debug, Drop)]
 pub enum Task {
-    /// A call.
+    /// Make this call.
     Make(Call),
-    /// That calls are kept from now on.
+    /// Store calls for `drive` from now on.
     Keep,
-    /// That the calls that are kept are made.
+    /// Make the stored calls.
     Drive,
-    /// The conversation of a frame.
+    /// Work out the conversation of a frame.
     Conversation(Vec<u8>),
-    /// What a reader tells.
+    /// Answer this question.
     Tell(Question),
 }
 
 /// What a line asks for (profile).
 #[derive(Debug, Drop)]
 pub enum Request {
-    /// A new system.
+    /// Make a new system.
     System(Config),
-    /// Something of the system that there is.
+    /// Do this with the present system.
     Work(Task),
 }
 
-/// That there are no words.
+/// Checks that there are no words.
 pub(crate) fn no_words(words: &[&str]) -> Result<(), LineFault>
     ensures { result ≡ no_words (map (λ w. w.now) words.now) }
 {
@@ -85,7 +86,7 @@ pub(crate) fn no_words(words: &[&str]) -> Result<(), LineFault>
     }
 }
 
-/// The one word that there is.
+/// The word, if there is exactly one.
 pub(crate) fn one_word<'a>(words: &[&'a str]) -> Result<&'a str, LineFault>
     ensures { asked.seen_one result ≡ asked.one_word (map (λ w. w.now) words.now) }
 {
@@ -95,7 +96,7 @@ pub(crate) fn one_word<'a>(words: &[&'a str]) -> Result<&'a str, LineFault>
     }
 }
 
-/// The two words that there are.
+/// The words, if there are exactly two.
 pub(crate) fn two_words<'a>(words: &[&'a str]) -> Result<(&'a str, &'a str), LineFault>
     ensures { asked.seen_two result ≡ asked.two_words (map (λ w. w.now) words.now) }
 {
@@ -131,7 +132,7 @@ fn conversation(alloc: Global, words: &[&str]) -> Result<Task, LineError>
     Ok(Task::Conversation(octets))
 }
 
-/// A task that has no words behind its first.
+/// A task that has no words after its first.
 pub(crate) fn alone(task: Task, words: &[&str]) -> Result<Task, LineFault>
     ensures { asked.seen result ≡ none (task_of task) (map (λ w. w.now) words.now) }
 {
@@ -139,7 +140,7 @@ pub(crate) fn alone(task: Task, words: &[&str]) -> Result<Task, LineFault>
     Ok(task)
 }
 
-/// The task of a first word with those behind it.
+/// Reads a task, by its first word and the words after it.
 fn task_named(alloc: Global, name: &str, words: &[&str]) -> Result<Task, LineError>
     ensures { Enters task_of (task_named name.now (map (λ w. w.now) words.now)) result }
 {
@@ -153,7 +154,7 @@ fn task_named(alloc: Global, name: &str, words: &[&str]) -> Result<Task, LineErr
     }
 }
 
-/// The request of a first word with those behind it.
+/// Reads a request, by its first word and the words after it.
 fn request_named(alloc: Global, name: &str, words: &[&str]) -> Result<Request, LineError>
     ensures { Enters asked_of (request_named name.now (map (λ w. w.now) words.now)) result }
 {
@@ -163,7 +164,7 @@ fn request_named(alloc: Global, name: &str, words: &[&str]) -> Result<Request, L
     Ok(Request::Work(task_named(alloc, name, words)?))
 }
 
-/// The request of a text.
+/// Reads the request in a text.
 fn request_of_text(alloc: Global, text: &str) -> Result<Request, LineError>
     ensures { Enters asked_of (request_of_text text.now) result }
 {
@@ -174,7 +175,7 @@ fn request_of_text(alloc: Global, text: &str) -> Result<Request, LineError>
     }
 }
 
-/// The request of a line, which is given without its end (profile).
+/// Reads the request in a line, which is given without its line end (profile).
 pub(crate) fn request_of(alloc: Global, line: &[u8]) -> Result<Request, LineError>
     ensures { Enters asked_of (request_in line.now) result }
 {

@@ -9,13 +9,15 @@ use crate::stopped::Stopped;
 use std::alloc::Global;
 use std::io::{Read, Write};
 
-/// Answers each line of the input, one line each, and flushes after each (profile). A last line that has no newline is a line
-/// too, if it has octets. A read asks for 4,096 octets; what lines they end is answered before the next read.
+/// Answers each line of the input with one line, and flushes after each answer (profile). If octets follow the last
+/// newline, they are a line too. Up to 4,096 octets are read at a time; the lines that they end are answered before the
+/// next read.
 ///
-/// Neither stream has failed before. `Read` comes if the source failed in this call, `Write` if the sink did, and then the
-/// other did not; `NoMemory` if memory for a line or an answer was refused, and neither failed. After `Read` just that is
-/// written: the answers to the lines that a newline ends in what the source gave. After `NoMemory` and `Write` the answers to
-/// the first lines, no fewer than were ended before the last read, and after `Write` a beginning of one more.
+/// Before the call, neither stream has failed. `Read` if the source failed in this call, `Write` if the sink did, and
+/// then the other did not; `NoMemory` if memory for a line or an answer was refused, and neither failed. After `Read`,
+/// the lines ended by a newline so far are answered, and no more is written. After `NoMemory` and `Write`, the first
+/// lines are answered, at least those that were ended before the last read; after `Write`, a beginning of one more
+/// answer may be written.
 pub(crate) fn serve<F: Fn(u16, usize) -> usize + Copy + Drop, R: Read, W: Write>(
     alloc: Global,
     algorithm: F,

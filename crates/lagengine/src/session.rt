@@ -13,16 +13,16 @@ use crate::stopped::Stopped;
 use std::alloc::{AllocError, Global};
 use std::io::Write;
 
-/// An engine with the line that is being read, and the text of its last answer.
+/// An engine with the line being read, and the text of its latest answer.
 #[derive(Drop)]
 pub struct Session<F> {
     engine: Engine<F>,
-    /// Of a line that is too long, 65,537 octets.
+    /// Of a line that is too long, only 65,537 octets.
     line: Vec<u8>,
     text: String,
 }
 
-/// Forms the text of an answer and the end of its line.
+/// Makes the text of an answer, with a line end.
 fn form(text: &mut String, answer: &Answer) -> Result<(), AllocError>
     ensures { OnOk result (string_bytes text.new ≡ answer_text (said_of answer.now)) }
 {
@@ -31,7 +31,7 @@ fn form(text: &mut String, answer: &Answer) -> Result<(), AllocError>
 }
 
 impl<F: Fn(u16, usize) -> usize + Copy + Drop> Session<F> {
-    /// A session before its first octet.
+    /// A session before anything is read.
     pub fn new(alloc: Global, algorithm: F) -> Session<F>
         ensures algorithm { result.engine.algorithm ≡ algorithm }
         ensures first { session_of result ≡ first_session }
@@ -43,7 +43,7 @@ impl<F: Fn(u16, usize) -> usize + Copy + Drop> Session<F> {
         }
     }
 
-    /// Does what the line asks for, forms the text of the answer, and begins another line.
+    /// Does the request of the line, makes the text of the answer, and begins the next line.
     fn answer_line(&mut self) -> Result<(), AllocError>
         requires usable { PicksPlaces (F.pre self.old.engine.algorithm) (F.post self.old.engine.algorithm) }
         ensures ok { OnOk result ((answer : Said) × AnswersLine (F.post self.old.engine.algorithm) self.old.line.items self.old.engine.held answer self.new.engine.held
@@ -56,7 +56,7 @@ impl<F: Fn(u16, usize) -> usize + Copy + Drop> Session<F> {
         form(&mut self.text, &answer)
     }
 
-    /// Answers the line, and begins another.
+    /// Writes the answer to the line, and begins the next line.
     fn end_line<W: Write>(&mut self, sink: &mut Sink<W>) -> Result<(), Stopped>
         requires usable { PicksPlaces (F.pre self.old.engine.algorithm) (F.post self.old.engine.algorithm) }
         ensures ok { OnOk result (Tells (F.post self.old.engine.algorithm) W.contents self.old.line.items self.old.engine.held self.new.engine.held sink.old sink.new) }
@@ -69,7 +69,7 @@ impl<F: Fn(u16, usize) -> usize + Copy + Drop> Session<F> {
         Ok(())
     }
 
-    /// Reads an octet. Of a line that is too long no more is kept.
+    /// Reads an octet. No more are stored of a line that is too long.
     fn take<W: Write>(&mut self, octet: u8, sink: &mut Sink<W>) -> Result<(), Stopped>
         requires usable { PicksPlaces (F.pre self.old.engine.algorithm) (F.post self.old.engine.algorithm) }
         ensures ok { OnOk result (Feeds (F.post self.old.engine.algorithm) W.contents (session_of self.old) (session_of self.new) sink.old sink.new (octet ∷ [])) }
@@ -88,7 +88,7 @@ impl<F: Fn(u16, usize) -> usize + Copy + Drop> Session<F> {
         Ok(())
     }
 
-    /// Reads octets, and answers each line that they end before it reads on.
+    /// Reads octets, and answers each line that they end before reading on.
     pub fn feed<W: Write>(&mut self, piece: &[u8], sink: &mut Sink<W>) -> Result<(), Stopped>
         requires usable { PicksPlaces (F.pre self.old.engine.algorithm) (F.post self.old.engine.algorithm) }
         ensures ok { OnOk result (Feeds (F.post self.old.engine.algorithm) W.contents (session_of self.old) (session_of self.new) sink.old sink.new piece.now) }
@@ -102,7 +102,7 @@ impl<F: Fn(u16, usize) -> usize + Copy + Drop> Session<F> {
         Ok(())
     }
 
-    /// Answers the last line, which has no newline, if there is one.
+    /// Answers the last line, if it has octets but no newline.
     pub fn finish<W: Write>(&mut self, sink: &mut Sink<W>) -> Result<(), Stopped>
         requires usable { PicksPlaces (F.pre self.old.engine.algorithm) (F.post self.old.engine.algorithm) }
         ensures ok { OnOk result (Finishes (F.post self.old.engine.algorithm) W.contents self.old.engine.held sink.old sink.new (close self.old.line.items)) }

@@ -5,12 +5,12 @@ ghost use Rattle.lagengine.specs.Sinks.{Breaks, Flushes, Sends, Takes};
 use std::io::Write;
 use std::marker::Model;
 
-/// A writer that remembers whether it failed, and whether it was flushed (profile).
+/// A writer that remembers whether it failed, and whether its octets were flushed (profile).
 #[derive(Drop)]
 pub struct Sink<W: Write> {
     inner: W,
     failed: bool,
-    /// Whether it took octets since it was last flushed.
+    /// Whether it accepted octets since it was last flushed.
     unflushed: bool,
 }
 
@@ -22,7 +22,7 @@ impl<W: Write> Model for Sink<W> {
     ghost view = { λ s. record { writer = s.inner; failed = s.failed; unflushed = s.unflushed } };
 }
 
-/// The sink took not all of what it was given, or was not flushed.
+/// The sink did not accept all octets, or could not be flushed.
 #[derive(Clone, Copy, Debug, PartialEq, Eq)]
 pub struct WriteFailed;
 
@@ -38,7 +38,7 @@ impl<W: Write> Sink<W> {
         }
     }
 
-    /// Gives the writer back.
+    /// Returns the writer.
     #[cfg(test)]
     pub fn into_inner(self) -> W
         ensures { result ≡ self.writer }
@@ -51,7 +51,7 @@ impl<W: Write> Sink<W> {
         inner
     }
 
-    /// Writes some of the octets.
+    /// Writes some of the octets, and returns how many.
     fn put_some(&mut self, octets: &[u8]) -> Result<usize, WriteFailed>
         requires { 0 < length octets.now }
         ensures some { IfOk result (λ n. (0 < n) × (n ≤ length octets.now)) }
@@ -71,7 +71,7 @@ impl<W: Write> Sink<W> {
         }
     }
 
-    /// Writes all of the octets; after a failure a beginning of them is written.
+    /// Writes all of the octets; after a failure, a beginning of them is written.
     fn put(&mut self, octets: &[u8]) -> Result<(), WriteFailed>
         ensures ok { OnOk result (Takes W.contents self.old self.new octets.now) }
         ensures err { OnErr result (Breaks W.contents self.old self.new octets.now) }
@@ -84,7 +84,7 @@ impl<W: Write> Sink<W> {
         Ok(())
     }
 
-    /// Lets nothing wait in the writer.
+    /// Flushes the writer.
     fn flush(&mut self) -> Result<(), WriteFailed>
         ensures ok { OnOk result (Flushes W.contents self.old self.new) }
         ensures err { OnErr result (Keeps (W.contents self.old.writer) (W.contents self.new.writer) × (self.new.failed ≡ true)) }
@@ -97,7 +97,7 @@ impl<W: Write> Sink<W> {
         Ok(())
     }
 
-    /// Writes all of the octets at once: none of them waits in the writer. After a failure a beginning of them is written.
+    /// Writes and flushes all of the octets. After a failure, a beginning of them is written.
     pub fn send(&mut self, octets: &[u8]) -> Result<(), WriteFailed>
         ensures ok { OnOk result (Sends W.contents self.old self.new octets.now) }
         ensures flushed { OnOk result (self.new.unflushed ≡ false) }

@@ -40,8 +40,8 @@ impl<R: Read> Source<R> {
         }
     }
 
-    /// Reads to the front of `piece`, which has room for at least one octet, and answers how many octets came: 0 only at the
-    /// end. `ReadFailed` comes if the reader failed, or gave more than the source may still give.
+    /// Reads octets to the beginning of `piece`, which has room for at least one, and returns how many; 0 only at the
+    /// end. `ReadFailed` if the reader failed, or gave more octets than the source may still give.
     pub fn read(&mut self, piece: &mut [u8]) -> Result<usize, ReadFailed>
         requires { 0 < length piece.old }
         ensures bound { IfOk result (λ n. n ≤ length piece.new) }

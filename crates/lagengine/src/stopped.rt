@@ -7,12 +7,12 @@ use crate::source::ReadFailed;
 use std::alloc::{AllocError, AllocFailed};
 use std::fmt;
 
-/// Why the program stops before its input ends (profile).
+/// Why the program stopped before its input ended (profile).
 #[derive(Clone, Copy, Debug, PartialEq, Eq)]
 pub enum Stopped {
-    /// Standard input cannot be read.
+    /// Standard input could not be read.
     Read,
-    /// Standard output cannot be written.
+    /// Standard output could not be written.
     Write,
     /// Memory for a line or an answer was refused.
     NoMemory,

@@ -11,7 +11,7 @@ use std::io::{Read, Write};
 use std::process::Abort;
 use std::test::Fail;
 
-/// A line, and what is answered.
+/// A line, and its answer.
 type Row = (&'static str, &'static str);
 
 /// Every form of a request, with its answer.
@@ -132,7 +132,7 @@ const FORMS: [Row; 78] = [
     ("configure 3 301 203 individual", "unchanged"),
 ];
 
-/// Lines for which nothing is done, with their causes; the readers before and behind tell the same.
+/// Lines that are refused, with their faults. The readers answer the same before and after.
 const FAULTS: [Row; 33] = [
     ("ports", "fault no-system"),
     ("tick", "fault no-system"),
@@ -193,7 +193,7 @@ const FAULTS: [Row; 33] = [
     ),
 ];
 
-/// A reader that gives at most so many octets a read, and fails after so many reads.
+/// A reader that gives at most a number of octets in each read, and fails after a number of reads.
 #[derive(Drop)]
 struct Given<'a> {
     rest: &'a [u8],
@@ -215,7 +215,7 @@ impl Read for Given<'_> {
     }
 }
 
-/// A writer that keeps what it is given while it has room for so many octets, and then fails.
+/// A writer that accepts octets while it has room, and then fails.
 #[derive(Drop)]
 struct Taken {
     octets: Vec<u8>,
@@ -238,14 +238,14 @@ impl Write for Taken {
     }
 }
 
-/// How the program ends, and what it wrote.
+/// How the program ended, and what it wrote.
 #[derive(Debug, PartialEq, Drop)]
 struct Outcome {
     ended: Result<(), Stopped>,
     text: String,
 }
 
-/// What comes of the reader's octets, with room for so many octets of answers.
+/// The outcome for the octets of this reader, with room for this many octets of answers.
 fn outcome_of(alloc: Global, input: Given<'_>, room: usize) -> Result<Outcome, AllocError> {
     let mut source = Source::new(input);
     let mut sink = Sink::new(Taken {
@@ -258,7 +258,7 @@ fn outcome_of(alloc: Global, input: Given<'_>, room: usize) -> Result<Outcome, A
     Ok(Outcome { ended, text })
 }
 
-/// The octets in reads of this size, none of which fails.
+/// A reader of these octets, this many in each read, that does not fail.
 fn reader_of(rest: &[u8], size: usize) -> Given<'_> {
     Given {
         rest,
@@ -267,13 +267,13 @@ fn reader_of(rest: &[u8], size: usize) -> Given<'_> {
     }
 }
 
-/// What is written for these octets.
+/// The answers to these octets.
 fn said(alloc: Global, octets: &[u8]) -> Result<String, AllocError> {
     let outcome = outcome_of(alloc, reader_of(octets, usize::MAX), usize::MAX)?;
     Ok(outcome.text)
 }
 
-/// The lines of the rows, each with its end.
+/// The lines of the rows, each with a line end.
 fn lines_of(alloc: Global, rows: &[Row]) -> Result<String, AllocError> {
     let mut text = String::new(alloc);
     for (line, _) in rows {
@@ -283,7 +283,7 @@ fn lines_of(alloc: Global, rows: &[Row]) -> Result<String, AllocError> {
     Ok(text)
 }
 
-/// The line at this place, empty where there is none.
+/// The line at this index; empty if there is none.
 fn line_at<'a>(lines: &[&'a str], place: usize) -> &'a str {
     match lines.get(place) {
         Some(line) => *line,
@@ -291,7 +291,7 @@ fn line_at<'a>(lines: &[&'a str], place: usize) -> &'a str {
     }
 }
 
-/// Checks what each row of a session is answered.
+/// Checks the answer to each row of a session.
 fn check(rt: &impl Abort, alloc: Global, rows: &[Row]) -> Result<(), Fail> {
     let lines = lines_of(alloc, rows)?;
     let text = said(alloc, lines.as_bytes())?;
@@ -328,7 +328,7 @@ fn lines_that_are_not_utf_8(rt: HostRuntime) -> Result<(), Fail> {
     Ok(())
 }
 
-/// So many spaces, then a line end and a tick.
+/// This many spaces, then a line end and `tick`.
 fn long_line(alloc: Global, count: usize) -> Result<String, AllocError> {
     let mut text = String::new(alloc);
     for _ in 0..count {

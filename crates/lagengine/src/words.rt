@@ -13,32 +13,32 @@ pub(crate) fn words_of<'a>(alloc: Global, text: &'a str) -> Result<Vec<&'a str>,
     text.split(' ').collect(alloc)
 }
 
-/// The parts of a word between colons.
+/// The fields of a word, between colons.
 pub(crate) fn fields_of<'a>(alloc: Global, word: &'a str) -> Result<Vec<&'a str>, AllocError>
     ensures { IfOk result (λ words. map (λ w. w.now) words.items ≡ parts 58 word.now) }
 {
     word.split(':').collect(alloc)
 }
 
-/// The parts of a word between commas.
+/// The items of a word, between commas.
 pub(crate) fn items_of<'a>(alloc: Global, word: &'a str) -> Result<Vec<&'a str>, AllocError>
     ensures { IfOk result (λ words. map (λ w. w.now) words.items ≡ parts 44 word.now) }
 {
     word.split(',').collect(alloc)
 }
 
-/// The number of 16 bits that a word says in decimal digits.
+/// The value of a word of decimal digits, 0 to 65535.
 fn number_of(word: &str) -> Option<u16>
     ensures { result ≡ number_below 65536 word.now }
 {
-    // `parse` takes a plus too.
+    // `parse` would accept a plus sign too.
     if word.starts_with('+') {
         return None;
     }
     word.parse().ok()
 }
 
-/// The number of 32 bits that a word says in decimal digits.
+/// The value of a word of decimal digits, 0 to 4294967295.
 fn long_of(word: &str) -> Option<u32>
     ensures { result ≡ number_below 4294967296 word.now }
 {
@@ -48,21 +48,21 @@ fn long_of(word: &str) -> Option<u32>
     word.parse().ok()
 }
 
-/// A number of 0 to 65535 in decimal digits.
+/// Reads a number from 0 to 65535, in decimal digits.
 pub(crate) fn number(word: &str) -> Result<u16, LineFault>
     ensures { result ≡ number_word word.now }
 {
     number_of(word).ok_or(LineFault::Number)
 }
 
-/// A number of 0 to 4294967295 in decimal digits.
+/// Reads a number from 0 to 4294967295, in decimal digits.
 pub(crate) fn long(word: &str) -> Result<u32, LineFault>
     ensures { result ≡ long_word word.now }
 {
     long_of(word).ok_or(LineFault::Number)
 }
 
-/// A MAC address in twelve hexadecimal digits.
+/// Reads a MAC address of twelve hexadecimal digits.
 pub(crate) fn mac(word: &str) -> Result<[u8; 6], LineFault>
     ensures { result ≡ mac_word word.now }
 {
@@ -71,7 +71,7 @@ pub(crate) fn mac(word: &str) -> Result<[u8; 6], LineFault>
         .ok_or(LineFault::Mac)
 }
 
-/// True as `1`, false as `0`.
+/// Reads `1` as true and `0` as false.
 pub(crate) fn flag(word: &str) -> Result<bool, LineFault>
     ensures { result ≡ flag_word word.now }
 {
@@ -82,7 +82,7 @@ pub(crate) fn flag(word: &str) -> Result<bool, LineFault>
     }
 }
 
-/// Whether a link is up.
+/// Reads whether a link is up: `up` or `down`.
 pub(crate) fn link(word: &str) -> Result<bool, LineFault>
     ensures { result ≡ link_word word.now }
 {
@@ -93,7 +93,7 @@ pub(crate) fn link(word: &str) -> Result<bool, LineFault>
     }
 }
 
-/// Whether a port is aggregatable.
+/// Reads whether a port is `aggregatable` or `individual`.
 pub(crate) fn kind(word: &str) -> Result<bool, LineFault>
     ensures { result ≡ kind_word word.now }
 {
@@ -104,7 +104,7 @@ pub(crate) fn kind(word: &str) -> Result<bool, LineFault>
     }
 }
 
-/// Octets in hexadecimal digits.
+/// Reads octets in hexadecimal digits.
 pub(crate) fn octets(alloc: Global, word: &str) -> Result<Vec<u8>, LineError>
     ensures { Enters (λ v. v.items) (hex_word word.now) result }
 {

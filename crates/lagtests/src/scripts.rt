@@ -5,7 +5,7 @@ use lagscript::read_script;
 use std::alloc::{AllocError, Global};
 use std::test::Fail;
 
-/// Where the texts of rows stand: what is before and behind them, and how their faults begin.
+/// The text around the rows of a test: what is before and after each, and how the texts of their faults begin.
 #[derive(Clone, Copy)]
 pub(crate) struct Frame<'a> {
     pub before: &'a str,
@@ -73,12 +73,12 @@ const ENTRY_2: Frame = Frame {
     fault: "event 2",
 };
 
-/// A script whose keys before those of the rows are these.
+/// The first keys of a system, before those of a row.
 pub(crate) const MAC: &str = "mac = \"02-00-00-00-00-0f\", ";
 
 pub(crate) const KEYS: &str = "mac = \"02-00-00-00-00-0f\", aggregators = [1], ";
 
-/// What the reading of a text ends with: `read`, or the text of the fault.
+/// The outcome of reading a text: `read`, or the text of the fault.
 pub(crate) fn outcome(alloc: Global, text: &str) -> Result<String, AllocError> {
     match read_script(alloc, text) {
         Ok(_) => format!(in alloc; "read"),
@@ -86,7 +86,7 @@ pub(crate) fn outcome(alloc: Global, text: &str) -> Result<String, AllocError> {
     }
 }
 
-/// The first row that ends otherwise: its place, its text, what came and what was wanted.
+/// The first row with another outcome: its index, its text, the outcome and the expected one.
 pub(crate) fn first_other(
     alloc: Global,
     frame: &Frame,

@@ -23,55 +23,55 @@ use std::process::Abort;
 /// A data frame of conversation 48.
 const DATA: [u8; 14] = [2, 0, 0, 0, 0, 0x20, 2, 0, 0, 0, 0, 0x10, 8, 0];
 
-/// A call, or several, with what it answers; or what the readers tell then.
+/// A call, or several, with the expected result; or what the readers are expected to return.
 #[derive(Clone, Copy, Debug)]
 enum Row<'a> {
     Link(u16, bool),
     Ticks(u16),
     Restart,
-    /// An LACPDU of this actor and partner is taken on a port.
+    /// An LACPDU with this Actor and Partner information is received on a port.
     Takes(u16, Info, Info),
-    /// This frame on a port is answered so.
+    /// `receive` of this frame on a port returns this.
     Hears(u16, &'a [u8], Received),
-    /// The same, and the readers tell of the port what they told before.
+    /// The same, and the readers return for the port what they returned before.
     Keeps(u16, &'a [u8], Received),
-    /// `configure` to this key, and else as before, answers so.
+    /// `configure` of a port to this key, and else its present values, returns this.
     Configures(u16, u16, bool),
-    /// `transmit` is None.
+    /// `transmit` on this port returns None.
     Silent(u16),
-    /// So many times a tick, and each time `transmit` is None.
+    /// A tick, this many times, and each time `transmit` returns None.
     Quiet(u16, u16),
-    /// `transmit` is an LACPDU of this actor and partner.
+    /// `transmit` returns an LACPDU with this Actor and Partner information.
     Sends(u16, Info, Info),
-    /// The calls refuse this port.
+    /// The calls and readers return `NoPort` or None for this port.
     Unknown(u16),
-    /// `offer` of a frame in an aggregator answers so.
+    /// `offer` of a frame in an aggregator returns this.
     Offers(u16, &'a [u8], Result<u16, SystemFault>),
-    /// `move_conversation` to a port answers so.
+    /// `move_conversation` to a port returns this.
     Moves(u16, u16, u16, Result<(), SystemFault>),
     Forces(u16, u16, Result<(), SystemFault>),
-    /// `transmit` is the marker of this identifier.
+    /// `transmit` returns the marker with this identifier.
     Marks(u16, u32),
-    /// This marker response comes on a port and frees so many conversations.
+    /// This Marker Response comes on a port and frees this many conversations.
     Releases(u16, Marker, u32),
-    /// The readers tell this of a port.
+    /// The readers return this for a port.
     Shows(u16, Seen),
     Chosen(u16, Choice),
     Mux(u16, MuxState),
     Defaulted(u16, bool),
     Due(u16, bool),
     Distributing(u16, &'a [u16]),
-    /// `conversation` of a frame is this.
+    /// `conversation` of a frame returns this.
     Conversation(&'a [u8], Option<u16>),
-    /// `conversation_state` of a conversation of an aggregator is this.
+    /// `conversation_state` of a conversation of an aggregator returns this.
     Conversing(u16, u16, Option<Assignment>),
-    /// `next_marker` is this.
+    /// `next_marker` returns this.
     Next(Option<u32>),
-    /// `ports` are these, and so many are the aggregators.
+    /// `ports` returns these, and `aggregators` this number.
     Has(&'a [u16], usize),
 }
 
-/// What the readers tell of a port.
+/// What the readers return for a port.
 #[derive(Clone, Copy, Debug, PartialEq, Eq)]
 pub(crate) struct Seen {
     party: Option<Party>,
@@ -87,7 +87,7 @@ pub(crate) struct Seen {
     due: Option<bool>,
 }
 
-/// What the readers tell of a port that is not there.
+/// What the readers return for a port that does not exist.
 const NOTHING: Seen = Seen {
     party: None,
     partner: None,
@@ -102,7 +102,7 @@ const NOTHING: Seen = Seen {
     due: None,
 };
 
-/// The algorithm of the tests.
+/// The distribution algorithm of the tests.
 fn modulo(conv: u16, count: usize) -> usize
     ensures { 0 < count → result < count }
 {
@@ -129,7 +129,7 @@ pub(crate) fn look<F: Fn(u16, usize) -> usize + Drop>(system: &System<F>, port: 
     }
 }
 
-/// A port of the system whose MAC address ends so.
+/// The information about a port of a system; this is the last octet of the system's MAC address.
 fn end(system: u8, port: u16, key: u16, state: u8) -> Info {
     Info {
         system: SystemId {
@@ -152,7 +152,7 @@ fn zero(state: u8) -> Info {
     }
 }
 
-/// A marker of the system with this number.
+/// A marker or a response that names the system with this number.
 fn marker(kind: MarkerKind, port: u16, system: u8, id: u32) -> Marker {
     Marker {
         kind,
@@ -171,13 +171,13 @@ fn lacpdu(actor: Info, partner: Info) -> [u8; 110] {
     .encode()
 }
 
-/// The MAC address of a port, and of the system that has its number.
+/// The MAC address of the port with this number, and of the system with this number.
 fn mac(number: u16) -> [u8; 6] {
     let [_, low] = number.to_be_bytes();
     [2, 0, 0, 0, 0, low]
 }
 
-/// What the readers tell of port 1 of system 1, of this key, while its link is down and it was never selected.
+/// What the readers return for port 1 of system 1, with this key, while its link is down and it was never SELECTED.
 fn unheard(key: u16) -> Seen {
     let party = end(1, 1, key, 0x04).party();
     Seen {
@@ -195,7 +195,7 @@ fn unheard(key: u16) -> Seen {
     }
 }
 
-/// So many aggregators of key 1.
+/// This many aggregators of key 1.
 fn aggregators(alloc: Global, count: usize) -> Result<Vec<Key>, NoMemory> {
     let mut keys = Vec::with_capacity(alloc, count)?;
     for _ in 0..count {
@@ -204,7 +204,7 @@ fn aggregators(alloc: Global, count: usize) -> Result<Vec<Key>, NoMemory> {
     Ok(keys)
 }
 
-/// Active, short ports of key 1 with these numbers.
+/// Ports of key 1 with these numbers, active and with Short Timeout.
 fn ports(alloc: Global, numbers: &[u16]) -> Result<Vec<PortConfig>, NoMemory> {
     let mut ports = Vec::with_capacity(alloc, numbers.len())?;
     for number in numbers {
@@ -221,7 +221,7 @@ fn ports(alloc: Global, numbers: &[u16]) -> Result<Vec<PortConfig>, NoMemory> {
     Ok(ports)
 }
 
-/// System 1 with such ports, and so many aggregators.
+/// System 1 with these ports, and this many aggregators of key 1.
 fn config(alloc: Global, numbers: &[u16], count: usize) -> Result<Config, NoMemory> {
     Ok(Config {
         system: end(1, 1, 1, 0).system,
@@ -232,7 +232,7 @@ fn config(alloc: Global, numbers: &[u16], count: usize) -> Result<Config, NoMemo
     })
 }
 
-/// Compares what the readers tell with what a row says of them.
+/// Compares what the readers return with what a row expects.
 fn tells<F: Fn(u16, usize) -> usize + Drop>(
     rt: &impl Abort,
     system: &System<F>,
@@ -277,7 +277,7 @@ fn tells<F: Fn(u16, usize) -> usize + Drop>(
     }
 }
 
-/// Compares the replies to the calls of a row with those that it wants.
+/// Compares the replies to the calls of a row with the expected ones.
 fn compare(rt: &impl Abort, place: usize, row: Row<'_>, replies: &[Reply], wanted: &[Reply]) {
     assert_eq!(rt; replies.len(), wanted.len(), "row {place}");
     for (reply, want) in replies.iter().zip(wanted) {
@@ -285,7 +285,8 @@ fn compare(rt: &impl Abort, place: usize, row: Row<'_>, replies: &[Reply], wante
     }
 }
 
-/// The port of which the readers have to tell what they told before; 0, which no port has, if there is none.
+/// The port for which the readers are expected to return what they returned before; 0, which no port has, if there is
+/// none.
 fn kept_port(row: Row<'_>) -> u16 {
     match row {
         Row::Keeps(port, _, _) => port,

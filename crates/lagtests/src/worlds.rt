@@ -27,7 +27,7 @@ const F49: [u8; 14] = [2, 0, 0, 0, 0, 0x21, 2, 0, 0, 0, 0, 0x10, 8, 0];
 /// One of conversation 50.
 const F50: [u8; 14] = [2, 0, 0, 0, 0, 0x22, 2, 0, 0, 0, 0, 0x10, 8, 0];
 
-/// An event, with the octets that it offers. Its values stand as in `Event`; a tick is 100 ms.
+/// An event, with the octets of an offered frame. The values have the order of `Event`; a tick is 100 ms.
 #[derive(Clone, Copy, Debug)]
 enum Entry {
     Tick(u8, u16),
@@ -39,27 +39,28 @@ enum Entry {
     Join(u16),
     Sense(u16, u8),
     Restart(u8),
-    /// Another key and Aggregation bit, at priority 128.
+    /// The port gets this key and Aggregation bit; its priority stays 128.
     Configure(u8, u16, u16, bool),
     Offer(u8, u16, &'static [u8]),
     Move(u8, u16, u16, u16),
     Force(u8, u16, u16),
 }
 
-/// The reply that is wanted.
+/// The expected reply.
 #[derive(Clone, Copy)]
 enum Want {
-    /// An LACPDU was sent whose actor has this state, and a cable took it.
+    /// An LACPDU whose Actor has this state was sent, and a cable accepted it.
     Lacpdu(u8),
-    /// The same, and no cable took it.
+    /// The same, but no cable accepted it.
     LacpduLost(u8),
     Is(Reply),
 }
 
-/// Events and their replies.
+/// Events and their expected replies.
 type Entries = &'static [(Entry, Want)];
 
-/// A conversation of aggregator 1 at the end: how many serials it sent, from 0 on, and which were collected.
+/// A conversation of aggregator 1 at the end: how many serial numbers it sent, from 0 on, and which of them were
+/// collected.
 #[derive(Clone, Copy)]
 struct Flow {
     system: u8,
@@ -69,13 +70,14 @@ struct Flow {
     forced: bool,
 }
 
-/// Events and their replies, those of `first` before those of `rest`, and what the readers tell in the end.
+/// Events and their expected replies, those of `first` before those of `rest`, and what the readers are expected to
+/// return at the end.
 #[derive(Clone, Copy)]
 struct Row {
     setting: Setting,
     first: Entries,
     rest: Entries,
-    /// Of cables.
+    /// For cables, by their numbers.
     agreements: &'static [(u16, Agreement)],
     flows: &'static [Flow],
 }
@@ -116,7 +118,7 @@ fn reply(want: Want) -> Reply {
     }
 }
 
-/// The entries of a row, one after another.
+/// The entries of a row: `first` and then `rest`.
 fn entries(alloc: Global, row: &Row) -> Result<Vec<(Entry, Want)>, NoMemory> {
     let mut entries = Vec::new(alloc);
     entries.extend_from_slice(row.first)?;
@@ -132,7 +134,7 @@ fn events(alloc: Global, entries: &[(Entry, Want)]) -> Result<Vec<Event>, NoMemo
     Ok(events)
 }
 
-/// Compares the reply to the event at this place, from 1, with the one that is wanted.
+/// Compares the reply to the event at this place, counted from 1, with the expected one.
 fn compare(
     rt: &impl Abort,
     place: usize,
@@ -143,7 +145,7 @@ fn compare(
     assert_eq!(rt; came, Ok(reply(want)), "event {place}: {entry:?}");
 }
 
-/// Compares the replies to entries that follow so many others.
+/// Compares the replies to entries that come after this many others.
 fn compare_all(rt: &impl Abort, before: usize, entries: &[(Entry, Want)], came: &[Reply]) {
     assert_eq!(rt; came.len(), entries.len(), "behind event {before}");
     let mut place = before;
@@ -153,7 +155,7 @@ fn compare_all(rt: &impl Abort, before: usize, entries: &[(Entry, Want)], came: 
     }
 }
 
-/// Compares what a run answered to entries that follow so many others.
+/// Compares the result of a run of entries that come after this many others.
 fn compare_run(
     rt: &impl Abort,
     before: usize,
@@ -183,7 +185,7 @@ fn is_from_zero(serials: &[u64]) -> bool {
     true
 }
 
-/// Compares what was sent and collected of a conversation with what is told of it.
+/// Compares what a conversation sent and collected with what a row expects.
 fn compare_flow(rt: &impl Abort, told: Flow, sent: &[u64], collected: &[u64], forced: bool) {
     let (system, conv) = (told.system, told.conv);
     assert_eq!(rt;
@@ -207,7 +209,7 @@ fn compare_flow(rt: &impl Abort, told: Flow, sent: &[u64], collected: &[u64], fo
     );
 }
 
-/// Compares what the readers tell with what a row says of them.
+/// Compares what the readers return with what a row expects.
 fn tells<F: Fn(u16, usize) -> usize + Drop>(
     rt: &impl Abort,
     world: &World<AnyCable, F>,
@@ -228,7 +230,7 @@ fn tells<F: Fn(u16, usize) -> usize + Drop>(
     }
 }
 
-/// Hands the events of a row to `step`, each for itself, on a new world with cables of this limit.
+/// Plays the events of a row by `step`, one by one, in a new world with cables of this limit.
 fn steps(rt: &impl Abort, alloc: Global, row: &Row, limit: Option<u16>) -> Result<(), WorldFault> {
     let entries = entries(alloc, row)?;
     let config = world_config(alloc, row.setting)?;
@@ -244,7 +246,7 @@ fn steps(rt: &impl Abort, alloc: Global, row: &Row, limit: Option<u16>) -> Resul
     Ok(())
 }
 
-/// Hands the events of a row to `run`, so many and then the rest, on a new world with cables of this limit.
+/// Plays the events of a row by `run`, first this many and then the rest, in a new world with cables of this limit.
 fn runs(
     rt: &impl Abort,
     alloc: Global,
@@ -264,7 +266,7 @@ fn runs(
     Ok(())
 }
 
-/// The same, all events at once and on cables without a limit.
+/// The same, but all events at once, on cables without a limit.
 fn plays(rt: &impl Abort, alloc: Global, row: &Row) -> Result<(), WorldFault> {
     runs(rt, alloc, row, None, 0)
 }

@@ -35,11 +35,11 @@ fn limits_are_refused(rt: HostRuntime) -> Result<(), Fail> {
     Ok(())
 }
 
-/// Three ports a side and three cables between them.
+/// Three ports in each system, and three cables between them.
 const THREE: &str =
     "system = [{mac = \"02-00-00-00-00-01\", aggregators = [1], port = [{number = 1, key = 1}, {number = 2, key = 1}, {number = 3, key = 1}]}, {mac = \"02-00-00-00-00-02\", aggregators = [1], port = [{number = 4, key = 1}, {number = 5, key = 1}, {number = 6, key = 1}]}]\n";
 
-/// The cables, their limits and the events of a script, by both readers, or the text of the fault.
+/// What both readers read: the cables, their limits and the events of a script; or the text of the fault.
 fn read_as(alloc: Global, cables: &str, events: &str) -> Result<String, AllocError> {
     let text = format!(in alloc; "events = [{events}]\ncable = [{cables}]\n{THREE}")?;
     match read_plan(alloc, text.as_str()) {

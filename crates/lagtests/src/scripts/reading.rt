@@ -3,14 +3,14 @@ use lagscript::read_script;
 use std::alloc::{AllocError, Global};
 use std::test::Fail;
 
-/// Two good systems behind what a row says.
+/// Two systems without a fault, after the text of a row.
 const SYSTEMS: Frame = Frame {
     before: "",
     behind: "\nsystem = [{mac = \"02-00-00-00-00-01\", aggregators = [1], port = [{number = 1, key = 1}]}, {mac = \"02-00-00-00-00-02\", aggregators = [1], port = [{number = 1, key = 1}]}]",
     fault: "",
 };
 
-/// Two systems of one identifier behind what a row says.
+/// Two systems with the same identifier, after the text of a row.
 const EQUAL_SYSTEMS: Frame = Frame {
     before: "",
     behind: "\nsystem = [{mac = \"02-00-00-00-00-01\", aggregators = [1], port = [{number = 1, key = 1}]}, {mac = \"02-00-00-00-00-01\", aggregators = [1], port = [{number = 2, key = 2}]}]",
@@ -73,7 +73,7 @@ ends = [65535, 3]
 const FULL_READ: &str =
     "WorldConfig { systems: [Config { system: SystemId { priority: 0, mac: [171, 205, 0, 0, 0, 255] }, max_delay: 65535, first_marker: 4294967295, aggregators: [Key(65535), Key(0)], ports: [PortConfig { number: 65535, priority: 65535, mac: [2, 0, 0, 0, 0, 32], key: Key(0), aggregatable: false, active: false, short: false }] }, Config { system: SystemId { priority: 32768, mac: [171, 205, 0, 0, 0, 255] }, max_delay: 0, first_marker: 1, aggregators: [Key(1)], ports: [PortConfig { number: 3, priority: 128, mac: [171, 205, 0, 0, 0, 255], key: Key(65535), aggregatable: true, active: true, short: false }] }], cables: [(65535, 3)] } [Restart(2), Cut(1)]";
 
-/// What a text is read as, or the text of its fault.
+/// The plan that is read from a text, or the text of its fault.
 fn read_as(alloc: Global, text: &str) -> Result<String, AllocError> {
     match read_script(alloc, text) {
         Ok((config, events)) => format!(in alloc; "{config:?} {events:?}"),
@@ -89,7 +89,7 @@ fn configurations_are_read(rt: HostRuntime) -> Result<(), Fail> {
     Ok(())
 }
 
-/// The events of a script with this entry and one more tick, or the text of its fault.
+/// The events of a script with this entry and one more tick, or the text of the fault.
 fn entry_as(alloc: Global, entry: &str) -> Result<String, AllocError> {
     let (before, behind) = (ENTRY_1.before, ENTRY_1.behind);
     match read_script(
@@ -101,7 +101,7 @@ fn entry_as(alloc: Global, entry: &str) -> Result<String, AllocError> {
     }
 }
 
-/// The first row that is read as another event: its place, its entry, what came and what was wanted.
+/// The first row that is read as another event: its index, its entry, the outcome and the expected one.
 fn first_other_entry(alloc: Global, rows: &[(&str, &str)]) -> Result<Option<String>, AllocError> {
     for (place, (entry, event)) in rows.iter().enumerate() {
         let came = entry_as(alloc, *entry)?;
@@ -181,7 +181,7 @@ fn faults_come_in_order(rt: HostRuntime) -> Result<(), Fail> {
     Ok(())
 }
 
-/// This text so many times between two others.
+/// This text, repeated this many times, between two others.
 fn repeated(
     alloc: Global,
     before: &str,
@@ -198,7 +198,7 @@ fn repeated(
     Ok(all)
 }
 
-/// What a list of so many aggregators ends with.
+/// The outcome of reading a system with this many aggregators.
 fn with_aggregators(alloc: Global, count: usize) -> Result<String, AllocError> {
     let (before, behind) = (SYSTEM_1.before, SYSTEM_1.behind);
     let start = format!(in alloc;
@@ -211,7 +211,7 @@ fn with_aggregators(alloc: Global, count: usize) -> Result<String, AllocError> {
     )
 }
 
-/// What so many events end with.
+/// The outcome of reading this many events.
 fn with_events(alloc: Global, count: usize) -> Result<String, AllocError> {
     let end = format!(in alloc; "]{}", SYSTEMS.behind)?;
     outcome(

@@ -119,7 +119,8 @@ fn refusals_have_numbers_and_texts(rt: HostRuntime) -> Result<(), Fail> {
     Ok(())
 }
 
-/// A passive, long and individual port of another priority and address, in a system that names a CollectorMaxDelay.
+/// A passive, Individual port with Long Timeout, another priority and another address, in a system with a
+/// CollectorMaxDelay.
 #[test]
 fn a_port_is_as_it_is_configured(rt: HostRuntime) -> Result<(), Fail> {
     let mut given = config(rt.alloc(), &[1], 1)?;

@@ -9,13 +9,13 @@ const NEXT: [u8; 14] = [2, 0, 0, 0, 0, 0x21, 2, 0, 0, 0, 0, 0x10, 8, 0];
 /// A data frame of conversation 50.
 const THIRD: [u8; 14] = [2, 0, 0, 0, 0, 0x22, 2, 0, 0, 0, 0, 0x10, 8, 0];
 
-/// The response to a marker of system 1.
+/// A Marker Response that names system 1.
 fn response(port: u16, id: u32) -> Marker {
     marker(MarkerKind::Response, port, 1, id)
 }
 
-/// Brings up ports 1 and 2: both distribute in aggregator 1 towards system 2, nothing is due, and both transmit windows
-/// are empty.
+/// Ports 1 and 2 come up: both distribute in aggregator 1, with system 2 as their partner; then nothing is due, and no
+/// LACPDU was sent in the last eleven ticks.
 pub(crate) fn coming_up() -> [Row<'static>; 17] {
     [
         Row::Link(1, true),
@@ -38,7 +38,7 @@ pub(crate) fn coming_up() -> [Row<'static>; 17] {
     ]
 }
 
-/// Behind these, port 1 leaves the aggregator, and conversation 48 goes on on port 2 once its marker is answered.
+/// After these rows, port 1 leaves the aggregator, and conversation 48 goes to port 2 after its Marker Response.
 pub(crate) fn leaving() -> [Row<'static>; 14] {
     let theirs = end(2, 1, 2, 0x0d);
     [
@@ -47,7 +47,7 @@ pub(crate) fn leaving() -> [Row<'static>; 14] {
         Row::Conversation(&[0; 13], None),
         Row::Offers(1, &DATA, Ok(1)),
         Row::Offers(1, &NEXT, Ok(2)),
-        // the partner has another key, and nothing else is new
+        // the partner's key is another one; all else is as before
         Row::Takes(1, theirs, end(1, 1, 1, 0x3f)),
         Row::Distributing(1, &[2]),
         Row::Offers(1, &DATA, Err(SystemFault::Held)),
@@ -109,7 +109,7 @@ fn moves_are_refused_in_order(rt: HostRuntime) -> Result<(), Fail> {
         Row::Forces(1, 256, Err(SystemFault::NotAssigned)),
         Row::Forces(1, 48, Ok(())),
         Row::Forces(1, 48, Err(SystemFault::NotAssigned)),
-        // no marker is due any more, and the port that was asked for is kept
+        // no marker is due any more, and the port that was asked for is still preferred
         Row::Silent(1),
         Row::Offers(1, &DATA, Ok(2)),
     ];
@@ -173,7 +173,7 @@ fn identifiers_end_and_a_restart_begins_anew(rt: HostRuntime) -> Result<(), Fail
         Row::Next(None),
         Row::Moves(1, 50, 2, Err(SystemFault::MarkersSpent)),
         Row::Silent(1),
-        // conversation 50 wants a marker, and none is left
+        // conversation 50 needs a marker, but no identifier is left
         Row::Takes(1, end(2, 1, 2, 0x0d), end(1, 1, 1, 0x3f)),
         Row::Offers(1, &THIRD, Err(SystemFault::Held)),
         Row::Sends(1, end(1, 1, 1, 0x07), end(2, 1, 2, 0x0d)),
@@ -195,7 +195,7 @@ fn a_marker_without_a_response_is_sent_again(rt: HostRuntime) -> Result<(), Fail
         Row::Moves(1, 48, 2, Ok(())),
         Row::Marks(1, 1),
         Row::Quiet(1, 10),
-        // the partner is heard again, so that both ports stay in the aggregator
+        // an LACPDU of the partner comes, so that both ports stay in the aggregator
         Row::Takes(1, end(2, 1, 1, 0x0d), end(1, 1, 1, 0x3f)),
         Row::Takes(2, end(2, 2, 1, 0x0d), end(1, 2, 1, 0x3f)),
         Row::Quiet(1, 19),
@@ -213,12 +213,12 @@ fn a_marker_without_a_response_is_sent_again(rt: HostRuntime) -> Result<(), Fail
     Ok(())
 }
 
-/// Conversation 48 of aggregator 1 does this.
+/// Conversation 48 of aggregator 1 is in this state.
 fn conversing(state: Assignment) -> Row<'static> {
     Row::Conversing(1, 48, Some(state))
 }
 
-/// It waits for the response to marker 1 on port 1, sent so many ticks ago.
+/// The conversation waits for the response to marker 1 on port 1, which was sent this many ticks ago.
 fn flushing(age: u8) -> Row<'static> {
     conversing(Assignment::Flushing {
         port: 1,

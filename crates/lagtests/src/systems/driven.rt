@@ -10,8 +10,8 @@ fn looks<F: Fn(u16, usize) -> usize + Drop>(system: &System<F>) -> [Seen; 2] {
     [look(system, 1), look(system, 2)]
 }
 
-/// Drives a system with the calls of all rows at once: whether the replies are those that the rows say. If memory for the
-/// replies is refused, the system has to be as before.
+/// Drives a system with the calls of all rows at once; returns whether the replies are the expected ones. If memory for
+/// the replies is refused, the system must not have changed.
 pub(crate) fn drives(alloc: Global, rows: &[Row<'_>]) -> Result<bool, SystemFault> {
     let mut driven = System::new(alloc, config(alloc, &[1, 2], 2)?, modulo)?;
     let plan = plan_of_all(alloc, rows)?;

@@ -4,7 +4,7 @@ use lagsystem::{AggId, Choice, Group, MuxState, ReceiveState, Received, State, W
 use slowpdu::frame;
 use std::test::Fail;
 
-/// These octets, and zeros after them.
+/// These octets, followed by zeros.
 fn padded(head: &[u8]) -> [u8; 124] {
     let mut octets = [0; 124];
     for (place, octet) in octets.iter_mut().zip(head) {
@@ -13,7 +13,7 @@ fn padded(head: &[u8]) -> [u8; 124] {
     octets
 }
 
-/// A marker of system 1 that comes from its port 1, with two octets after it.
+/// A marker that names system 1 and its port 1, with two more octets after it.
 fn marker_frame() -> [u8; 124] {
     padded(&[
         1, 0x80, 0xc2, 0, 0, 2, 2, 0, 0, 0, 0, 1, 0x88, 9, 2, 1, 1, 16, 0, 1, 2, 0, 0, 0, 0, 1,
@@ -21,7 +21,7 @@ fn marker_frame() -> [u8; 124] {
     ])
 }
 
-/// The response of port 2 to it.
+/// The response of port 2 to that marker.
 pub(crate) fn response_frame() -> [u8; 124] {
     padded(&[
         1, 0x80, 0xc2, 0, 0, 2, 2, 0, 0, 0, 0, 2, 0x88, 9, 2, 1, 2, 16, 0, 1, 2, 0, 0, 0, 0, 1,
@@ -62,7 +62,7 @@ fn three_answers_then_the_window_then_a_restart(rt: HostRuntime) -> Result<(), F
     Ok(())
 }
 
-/// Two ports come up in aggregator 1, and the partner of port 1 has another key then.
+/// Two ports come up in aggregator 1; then the partner of port 1 has another key.
 pub(crate) fn other_key() -> [Row<'static>; 16] {
     [
         Row::Link(1, true),

@@ -6,7 +6,7 @@ use slowpdu::{MarkerKind, frame};
 use std::process::Abort;
 use std::test::Fail;
 
-/// A linear congruence: the same octets in each run.
+/// A linear congruential generator: it gives the same octets in each run.
 #[derive(Drop)]
 struct Congruence {
     number: u32,
@@ -29,7 +29,7 @@ impl Congruence {
         self.octet() % count
     }
 
-    /// True once in so many times.
+    /// True once in this many times, on average.
     fn one_in(&mut self, count: u8) -> bool
         requires { 0 < count }
     {
@@ -49,8 +49,8 @@ impl Congruence {
     }
 }
 
-/// The peers that the frames speak for: the last octet of the system, and the key, of the one at port 1 and of the one at
-/// port 2.
+/// The peers that the frames claim to come from: for port 1 and for port 2, the last octet of the system's MAC address
+/// and the key.
 #[derive(Clone, Copy)]
 struct Peers {
     first: (u8, u16),
@@ -58,7 +58,7 @@ struct Peers {
 }
 
 impl Peers {
-    /// The peer of a port becomes another one, or stays.
+    /// The peer of a port becomes another one, or stays the same.
     fn wander(&mut self, draw: &mut Congruence, port: u16) {
         let system = if draw.one_in(3) { 3 } else { 2 };
         let key = if draw.one_in(3) { 2 } else { 1 };
@@ -69,7 +69,7 @@ impl Peers {
         }
     }
 
-    /// The peer of a port, mostly in a state in which the port may distribute.
+    /// The information about the peer of a port, mostly with a state that lets the port distribute.
     fn actor(&self, draw: &mut Congruence, port: u16) -> Info {
         let (system, key) = if port == 1 { self.first } else { self.second };
         let state = if draw.one_in(32) { draw.octet() } else { 0x3f };
@@ -77,7 +77,7 @@ impl Peers {
     }
 }
 
-/// The port as its peer knows it, mostly.
+/// The information about a port as its peer has recorded it, mostly the right one.
 fn known(draw: &mut Congruence, port: u16) -> Info {
     if draw.one_in(32) {
         zero(0)
@@ -86,7 +86,7 @@ fn known(draw: &mut Congruence, port: u16) -> Info {
     }
 }
 
-/// These octets in the place of the first of the others.
+/// The others, but these octets instead of the first ones.
 fn over(octets: [u8; 200], head: &[u8]) -> [u8; 200] {
     let mut all = octets;
     for (place, octet) in all.iter_mut().zip(head) {
@@ -95,7 +95,7 @@ fn over(octets: [u8; 200], head: &[u8]) -> [u8; 200] {
     all
 }
 
-/// A marker or a response, of this system or another.
+/// A marker or a response that names this system or another.
 fn marker_frame(draw: &mut Congruence) -> [u8; 124] {
     let kind = if draw.one_in(2) {
         MarkerKind::Information
@@ -124,27 +124,27 @@ fn drawn(draw: &mut Congruence, peers: &Peers, port: u16) -> ([u8; 200], u8) {
             (other, whole)
         }
         22..=24 => (over(octets, &marker_frame(draw)), whole),
-        // a header of the slow protocols, and octets that nobody meant
+        // a header of the slow protocols, and then random octets
         25 => (over(octets, &told[..14]), any),
         26 => (over(octets, &told[..15]), any),
         _ => (octets, any),
     }
 }
 
-/// In which ticks a port sent its last three LACPDUs, the oldest first.
+/// The ticks in which a port sent its last three LACPDUs, the oldest first.
 #[derive(Clone, Copy)]
 struct Sends {
     last: [Option<u32>; 3],
 }
 
 impl Sends {
-    /// One more is sent in this tick.
+    /// One more LACPDU is sent in this tick.
     fn add(&mut self, now: u32) {
         let [_, middle, newest] = self.last;
         self.last = [middle, newest, Some(now)];
     }
 
-    /// Whether the last three were all sent in this tick or in the ten before it.
+    /// Whether the last three were all sent in this tick or the ten ticks before it.
     fn is_full(&self, now: u32) -> bool {
         match self.last[0] {
             Some(then) => now.saturating_sub(then) <= 10,
@@ -162,9 +162,9 @@ struct Happened {
     released: u32,
     up: u32,
     dropped: u32,
-    /// Frames behind which two ports distribute in one aggregator.
+    /// Frames after which two ports distribute in one aggregator.
     together: u32,
-    /// LACPDUs that were sent, and those of them that were the third in eleven ticks.
+    /// LACPDUs that were sent, and how many of them were the third in eleven ticks.
     sent: u32,
     full: u32,
 }
@@ -197,7 +197,7 @@ impl Happened {
         }
     }
 
-    /// What happened least.
+    /// The count of what happened least often.
     fn least(&self) -> u32 {
         let answered = self.took.min(self.ignored).min(self.responded);
         let data = self.released.min(self.up).min(self.dropped);
@@ -206,7 +206,7 @@ impl Happened {
     }
 }
 
-/// The partner that a port names.
+/// The recorded partner of a port.
 fn partner_of<F: Fn(u16, usize) -> usize + Drop>(
     system: &System<F>,
     port: u16,
@@ -217,7 +217,7 @@ fn partner_of<F: Fn(u16, usize) -> usize + Drop>(
     }
 }
 
-/// How many ports distribute in an aggregator; they have to name one partner.
+/// How many ports distribute in an aggregator; they must all have the same partner.
 fn one_partner<F: Fn(u16, usize) -> usize + Drop>(
     rt: &impl Abort,
     system: &System<F>,
@@ -241,7 +241,7 @@ fn one_partner<F: Fn(u16, usize) -> usize + Drop>(
     ports.len()
 }
 
-/// What has to hold behind each call; tells whether two ports distribute in one aggregator.
+/// Checks what must hold after each call; returns whether two ports distribute in one aggregator.
 fn keeps<F: Fn(u16, usize) -> usize + Drop>(
     rt: &impl Abort,
     system: &System<F>,
@@ -252,7 +252,7 @@ fn keeps<F: Fn(u16, usize) -> usize + Drop>(
     first > 1 || second > 1
 }
 
-/// The ticks, and what the ports sent in them.
+/// The number of ticks, and when the ports sent LACPDUs.
 #[derive(Drop)]
 struct Clock {
     now: u32,
@@ -274,7 +274,7 @@ impl Clock {
         counts(&mut self.now, true);
     }
 
-    /// A port sends an LACPDU, for which there has to be room in the window; whether there is none behind it.
+    /// A port sends an LACPDU, which the transmit limit must allow; returns whether the limit is reached after it.
     fn sends(&mut self, rt: &impl Abort, port: u16, place: u32) -> bool {
         let now = self.now;
         let mut sends = if port == 1 { self.first } else { self.second };
@@ -292,7 +292,7 @@ impl Clock {
     }
 }
 
-/// Whether this is a frame with an LACPDU.
+/// Whether the result of `transmit` is a frame with an LACPDU.
 fn is_lacpdu(answer: Result<Option<[u8; 124]>, SystemFault>) -> bool {
     match answer {
         Ok(Some(octets)) => octets[14] == 1,

@@ -12,7 +12,7 @@ fn a_port_tells_how_many_conversations_it_has(rt: HostRuntime) -> Result<(), Fai
     let mut system = System::new(rt.alloc(), given, modulo)?;
     assert_eq!(rt; system.load(1), Ok(0));
     assert_eq!(rt; system.load(3), Err(SystemFault::NoPort));
-    // a port alone, without a partner, distributes on the defaults
+    // a port without a peer distributes with a defaulted partner
     assert_eq!(rt; system.set_link(1, true), Ok(()));
     for _ in 0..50 {
         system.tick();

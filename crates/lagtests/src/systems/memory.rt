@@ -2,13 +2,13 @@ use crate::systems::driven::drives;
 use crate::systems::frames::other_key;
 use lagsystem::SystemFault;
 
-/// Fails where an allocation is refused.
+/// Fails if an allocation is refused.
 #[test]
 fn memory_is_granted(rt: HostRuntime) {
     assert_eq!(rt; drives(rt.alloc(), &other_key()), Ok(true));
 }
 
-/// Holds whichever allocation is refused.
+/// Passes whichever allocation is refused.
 #[test]
 fn refused_memory_leaves_the_system(rt: HostRuntime) {
     match drives(rt.alloc(), &other_key()) {

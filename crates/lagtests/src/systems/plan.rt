@@ -3,7 +3,7 @@ use lagsystem::{AggId, Call, Key, NoMemory, PortChange, Received, Reply, SystemF
 use slowpdu::{MarkerKind, frame};
 use std::alloc::Global;
 
-/// Calls, and what they have to answer.
+/// Calls, and their expected replies.
 #[derive(Drop)]
 pub(crate) struct Plan {
     pub(crate) calls: Vec<Call>,
@@ -39,7 +39,7 @@ impl Plan {
         Ok(())
     }
 
-    /// The calls of a port that is not there.
+    /// Adds the calls for a port that does not exist.
     fn push_unknown(&mut self, alloc: Global, port: u16) -> Result<(), NoMemory> {
         let none = SystemFault::NoPort;
         let heard = Call::Receive(port, Vec::from_slice(alloc, &DATA)?);
@@ -52,7 +52,7 @@ impl Plan {
         self.push(Call::Transmit(port), Reply::Transmit(Err(none)))
     }
 
-    /// The calls of a row, if it makes any.
+    /// Adds the calls of a row, if it makes any.
     fn push_row(&mut self, alloc: Global, row: Row<'_>) -> Result<(), NoMemory> {
         match row {
             Row::Ticks(ticks) => self.push_ticks(ticks),
@@ -66,14 +66,14 @@ impl Plan {
     }
 }
 
-/// The calls of a row.
+/// The calls of a row, with their expected replies.
 pub(crate) fn plan_of(alloc: Global, row: Row<'_>) -> Result<Plan, NoMemory> {
     let mut plan = Plan::new(alloc);
     plan.push_row(alloc, row)?;
     Ok(plan)
 }
 
-/// The calls of rows, one after another.
+/// The calls of rows, one after another, with their expected replies.
 pub(crate) fn plan_of_all(alloc: Global, rows: &[Row<'_>]) -> Result<Plan, NoMemory> {
     let mut plan = Plan::new(alloc);
     for row in rows {
@@ -82,7 +82,7 @@ pub(crate) fn plan_of_all(alloc: Global, rows: &[Row<'_>]) -> Result<Plan, NoMem
     Ok(plan)
 }
 
-/// A change to this key, and else nothing.
+/// A change to this key; the other values are those of the tests' ports.
 fn change(key: u16) -> PortChange {
     PortChange {
         key: Key(key),
@@ -91,7 +91,7 @@ fn change(key: u16) -> PortChange {
     }
 }
 
-/// A control frame of this payload, from the peer.
+/// `receive` of a control frame with this payload, from the peer.
 fn heard(alloc: Global, port: u16, payload: &[u8; 110]) -> Result<Call, NoMemory> {
     let octets = Vec::from_slice(alloc, &frame(mac(9), payload))?;
     Ok(Call::Receive(port, octets))
@@ -117,12 +117,12 @@ fn call_of(alloc: Global, row: Row<'_>) -> Result<Option<Call>, NoMemory> {
     Ok(Some(call))
 }
 
-/// What a port sends whose `transmit` answers so.
+/// The expected reply of `transmit` on a port: a frame with this payload.
 fn sent(port: u16, payload: &[u8; 110]) -> Reply {
     Reply::Transmit(Ok(Some(frame(mac(port), payload))))
 }
 
-/// What the call of a row answers.
+/// The expected reply to the call of a row.
 fn reply_of(row: Row<'_>) -> Reply {
     match row {
         Row::Link(_, _) => Reply::SetLink(Ok(())),

@@ -6,7 +6,7 @@ use lagsystem::{AggId, Assignment, NoMemory, Received, System, SystemFault, Wire
 use std::alloc::Global;
 use std::test::Fail;
 
-/// What all readers tell of a system with ports 1 and 2 and aggregators 1 and 2.
+/// What all readers return for a system with ports 1 and 2 and aggregators 1 and 2.
 #[derive(Debug, PartialEq, Drop)]
 struct Told {
     ports: Vec<u16>,
@@ -19,7 +19,7 @@ struct Told {
     next_marker: Option<u32>,
 }
 
-/// What the conversations of aggregator 1 do, and then those of aggregator 2.
+/// The states of the conversations of aggregator 1, and then of aggregator 2.
 fn conversations<F: Fn(u16, usize) -> usize + Drop>(
     alloc: Global,
     system: &System<F>,
@@ -49,7 +49,7 @@ fn all_told<F: Fn(u16, usize) -> usize + Drop>(
     })
 }
 
-/// What the first octets of a control frame are answered.
+/// The expected result of `receive` for the first octets of a control frame, this many.
 fn answer_to(count: usize) -> Received {
     if count < 14 {
         Received::Dropped
@@ -60,7 +60,7 @@ fn answer_to(count: usize) -> Received {
     }
 }
 
-/// The response that a conversation waits for frees it, and no shorter beginning of its frame changes anything.
+/// The response that a conversation waits for frees it; no shorter beginning of that frame changes anything.
 #[test]
 fn a_response_cut_at_every_length(rt: HostRuntime) -> Result<(), Fail> {
     let alloc = rt.alloc();

@@ -106,7 +106,7 @@ fn both_ends_on_defaults(rt: HostRuntime) -> Result<(), Fail> {
     Ok(())
 }
 
-/// The cable comes up, and each LACPDU is received twice.
+/// One cable comes up, and each LACPDU is received twice.
 const REPEATED: [(Entry, Want); 26] = [
     (Sense(1, 1), LINK_UP),
     (Sense(1, 2), LINK_UP),

@@ -120,7 +120,7 @@ fn a_configure_holds_the_conversations_of_its_port(rt: HostRuntime) -> Result<()
     Ok(())
 }
 
-/// Two cables between long ports, and one marker.
+/// Two cables between ports with Long Timeout, and one marker identifier left.
 const LAST_MARKER: Setting = Setting {
     two_cables: true,
     short: false,

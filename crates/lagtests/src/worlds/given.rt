@@ -6,20 +6,20 @@ use lagtypes::{Key, NoMemory, SystemId};
 use lagworld::{WorldConfig, WorldFault};
 use std::alloc::Global;
 
-/// What systems are made from. Cable 1 joins their ports 1.
+/// The configuration of two systems. Cable 1 joins their ports 1.
 #[derive(Clone, Copy)]
 pub(crate) struct Setting {
     /// Whether cable 2 joins ports 2.
     pub two_cables: bool,
-    /// LACP_Timeout of every port.
+    /// LACP_Timeout of every port: true for Short Timeout.
     pub short: bool,
-    /// Aggregation of the ports of system 1.
+    /// Aggregation of the ports of system 1: false for Individual.
     pub aggregatable: bool,
     /// The identifier of the first marker of system 1.
     pub first_marker: u32,
 }
 
-/// One cable between ports with short LACP_Timeout.
+/// One cable between ports with Short Timeout.
 pub(crate) const ONE: Setting = Setting {
     two_cables: false,
     short: true,
@@ -27,7 +27,7 @@ pub(crate) const ONE: Setting = Setting {
     first_marker: 1,
 };
 
-/// Two cables between ports with long LACP_Timeout.
+/// Two cables between ports with Long Timeout.
 pub(crate) const TWO: Setting = Setting {
     two_cables: true,
     short: false,
@@ -35,7 +35,7 @@ pub(crate) const TWO: Setting = Setting {
     first_marker: 1,
 };
 
-/// Two cables between ports with short LACP_Timeout, of which those of system 1 are individual.
+/// Two cables between ports with Short Timeout; those of system 1 are Individual.
 pub(crate) const INDIVIDUAL: Setting = Setting {
     two_cables: true,
     short: true,
@@ -94,7 +94,7 @@ pub(crate) fn config(
     })
 }
 
-/// System 1, the system of this number, and the cables between these ports of theirs.
+/// System 1, the system with this number, and cables between these ports of theirs.
 pub(crate) fn joined(
     alloc: Global,
     number: u8,
@@ -130,7 +130,7 @@ pub(crate) fn cable(alloc: Global, limit: Option<u16>) -> Result<AnyCable, World
     }
 }
 
-/// So many cables of this limit.
+/// This many empty cables with this limit.
 pub(crate) fn lines(
     alloc: Global,
     count: usize,

@@ -9,7 +9,7 @@ use lagworld::{World, WorldFault};
 use std::alloc::Global;
 use std::process::Abort;
 
-/// Compares what the readers tell of two systems with ports 1 and 2.
+/// Compares what the readers return for two systems with ports 1 and 2.
 fn same_system<F: Fn(u16, usize) -> usize + Drop>(
     rt: &impl Abort,
     one: &System<F>,
@@ -26,7 +26,7 @@ fn same_system<F: Fn(u16, usize) -> usize + Drop>(
     assert_eq!(rt; one.next_marker(), other.next_marker());
 }
 
-/// Compares what the readers tell of two worlds with two cables.
+/// Compares what the readers return for two worlds with two cables.
 fn same_world<F: Fn(u16, usize) -> usize + Drop>(
     rt: &impl Abort,
     one: &World<AnyCable, F>,
@@ -51,8 +51,8 @@ fn same_world<F: Fn(u16, usize) -> usize + Drop>(
     }
 }
 
-/// Runs the events of a row. Where memory is refused, the world has to be one that ran those before it, and the rest is run
-/// behind them.
+/// Runs the events of a row. If memory is refused, the world must be one that ran the events before, and the rest is
+/// run after them.
 fn resumes(rt: &impl Abort, alloc: Global, row: &Row) -> Result<(), WorldFault> {
     let entries = entries(alloc, row)?;
     let events = events(alloc, &entries)?;
@@ -76,7 +76,7 @@ fn resumes(rt: &impl Abort, alloc: Global, row: &Row) -> Result<(), WorldFault> 
     Ok(())
 }
 
-/// Holds whichever allocation is refused.
+/// Passes whichever allocation is refused.
 #[test]
 fn refused_memory_leaves_what_the_events_before_made(rt: HostRuntime) {
     if let Err(fault) = resumes(&rt, rt.alloc(), &MOVES_ROW) {
@@ -84,7 +84,7 @@ fn refused_memory_leaves_what_the_events_before_made(rt: HostRuntime) {
     }
 }
 
-/// Fails where an allocation is refused.
+/// Fails if an allocation is refused.
 #[test]
 fn memory_for_a_world_is_granted(rt: HostRuntime) {
     assert_eq!(rt; resumes(&rt, rt.alloc(), &MOVES_ROW), Ok(()));

@@ -37,7 +37,7 @@ const COMING_UP: &str = "
     \"deliver 2 1\",
 ";
 
-/// More frames than a cable holds.
+/// More frames than a cable can hold.
 const FULL: &str = "
     \"offer 1 1 0200000000200200000000100800\",
     \"offer 1 1 0200000000200200000000100800\",
@@ -47,7 +47,7 @@ const FULL: &str = "
     \"deliver 1 2\",
 ";
 
-/// A marker that a cable hands back.
+/// A marker that a cable does not accept.
 const NARROW: &str = "
     \"offer 1 1 0200000000200200000000100800\",
     \"offer 1 1 0200000000200200000000100800\",
@@ -107,7 +107,7 @@ const UP: &str = "
     \"deliver 1 2\",
 ";
 
-/// Two systems with two ports each that ask for long timeouts.
+/// Two systems with two ports each, all with Long Timeout.
 const TWO_PORTS: &str = "
 [[system]]
 mac = \"02-00-00-00-00-01\"
@@ -133,7 +133,7 @@ key = 1
 short = false
 ";
 
-/// Two systems with one port each that asks for short timeouts.
+/// Two systems with one port each, with Short Timeout.
 const ONE_PORT: &str = "
 [[system]]
 mac = \"02-00-00-00-00-01\"
@@ -151,7 +151,7 @@ key = 1
 short = true
 ";
 
-/// A script of these entries, systems and cables.
+/// A script with these entries, systems and cables.
 fn script(
     alloc: Global,
     entries: &[&str],
@@ -172,7 +172,7 @@ fn script(
     Ok(text)
 }
 
-/// Cables of these limits.
+/// Empty cables with these limits.
 fn limited(alloc: Global, limits: &[Option<u16>]) -> Result<Vec<(AnyCable, AnyCable)>, WorldFault> {
     let mut lines = Vec::new(alloc);
     for limit in limits {
@@ -185,7 +185,7 @@ fn limited(alloc: Global, limits: &[Option<u16>]) -> Result<Vec<(AnyCable, AnyCa
     Ok(lines)
 }
 
-/// Reads a plan, and compares the replies to its events with those of a row.
+/// Reads a plan, and compares the replies to its events with the expected ones of a row.
 fn plays_plan(rt: &impl Abort, alloc: Global, text: &str, row: &Row) -> Result<(), Fail> {
     let plan = read_plan(alloc, text)?;
     let lines = limited(alloc, &plan.limits)?;

@@ -13,8 +13,8 @@ use std::alloc::Global;
 use std::process::Abort;
 use std::test::Fail;
 
-/// System 1 and the system of this number with these ports, the cables between them, so many lines, and why no world is made
-/// of it.
+/// System 1 and the system with this number, with these ports, the cables between them and this many lines; and why no
+/// world can be made of them.
 #[derive(Clone, Copy, Debug)]
 struct Given {
     first: &'static [u16],
@@ -25,7 +25,7 @@ struct Given {
     reason: BadWorld,
 }
 
-/// Of each the later reasons hold too.
+/// In each, the reasons after the expected one hold too.
 const GIVEN: [Given; 7] = [
     Given {
         first: &[],
@@ -91,7 +91,7 @@ const GIVEN: [Given; 7] = [
     },
 ];
 
-/// Why no world is made of this; None if one is.
+/// Why no world can be made of this; None if one can.
 fn refusal(alloc: Global, given: Given) -> Result<Option<WorldFault>, WorldFault> {
     let config = joined(
         alloc,
@@ -124,7 +124,7 @@ fn every_reason_to_make_no_world(rt: HostRuntime) -> Result<(), Fail> {
     Ok(())
 }
 
-/// One cable, with an item on its direction to system 1 or not.
+/// One cable, with or without an item on its direction to system 1.
 fn line(alloc: Global, full: bool) -> Result<Vec<(AnyCable, AnyCable)>, WorldFault> {
     let mut to_one = cable(alloc, None)?;
     let to_two = cable(alloc, None)?;
@@ -142,7 +142,7 @@ fn line(alloc: Global, full: bool) -> Result<Vec<(AnyCable, AnyCable)>, WorldFau
     Ok(lines)
 }
 
-/// Why no world is made with this line.
+/// Why no world can be made with this line.
 fn line_refusal(alloc: Global, full: bool) -> Result<Option<WorldFault>, WorldFault> {
     let config = world_config(alloc, ONE)?;
     let lines = line(alloc, full)?;
@@ -182,7 +182,7 @@ fn stopped(rt: &impl Abort, entry: Entry, came: Result<Reply, WorldFault>, fault
     assert_eq!(rt; came, Err(fault), "{entry:?}");
 }
 
-/// Hands each to `step` of one world.
+/// Plays each event by `step` in one world; each names a system or a cable that does not exist.
 fn not_there(rt: &impl Abort, alloc: Global) -> Result<(), WorldFault> {
     let config = world_config(alloc, ONE)?;
     let lines = lines(alloc, 1, None)?;
@@ -200,7 +200,7 @@ fn events_of_what_does_not_exist(rt: HostRuntime) -> Result<(), Fail> {
     Ok(())
 }
 
-/// The third names no cable.
+/// The third event names a cable that does not exist.
 const STOPPING: [(Entry, Want); 4] = [
     (Tick(1, 0), TICKED),
     (Cut(1), Is(Reply::Cut)),
@@ -233,7 +233,7 @@ const SHORT: [u8; 13] = [2, 0, 0, 0, 0, 0x20, 2, 0, 0, 0, 0, 0x10, 8];
 
 const SLOW: [u8; 14] = [1, 0x80, 0xc2, 0, 0, 2, 2, 0, 0, 0, 0, 1, 0x88, 9];
 
-/// What a system refuses before a port distributes.
+/// What a system refuses as long as no port distributes.
 const EARLY: [(Entry, Want); 10] = [
     (Sense(1, 1), LINK_UP),
     (Sense(2, 1), LINK_UP),
@@ -288,10 +288,10 @@ fn refusals_of_a_system_are_replies(rt: HostRuntime) -> Result<(), Fail> {
     Ok(())
 }
 
-/// A system, an aggregator and a conversation, of which one does not exist.
+/// Triples of system, aggregator and conversation, in each of which one does not exist.
 const NO_FLOWS: [(u8, u16, u16); 5] = [(0, 1, 48), (3, 1, 48), (1, 0, 48), (1, 2, 48), (2, 1, 256)];
 
-/// Compares what a world tells of a conversation that does not exist.
+/// Checks what a world returns for a conversation that does not exist.
 fn tells_no_flow<F: Fn(u16, usize) -> usize + Drop>(
     rt: &impl Abort,
     world: &World<AnyCable, F>,
@@ -306,7 +306,7 @@ fn tells_no_flow<F: Fn(u16, usize) -> usize + Drop>(
     assert_eq!(rt; forced, false, "forced: {flow:?}");
 }
 
-/// Compares which systems a world has.
+/// Checks which systems a world has.
 fn tells_systems<F: Fn(u16, usize) -> usize + Drop>(rt: &impl Abort, world: &World<AnyCable, F>) {
     for (number, there) in [(0, false), (1, true), (2, true), (3, false)] {
         assert_eq!(rt; world.system(number).is_some(), there, "system {number}");

@@ -9,7 +9,8 @@ use std::alloc::Global;
 use std::process::Abort;
 use std::test::Fail;
 
-/// The events in which a conversation moves; this system restarts before the one at this place, or behind the last.
+/// The events in which a conversation moves, and a restart of this system before the event at this index, or after the
+/// last.
 fn with_restart(alloc: Global, system: u8, place: usize) -> Result<Vec<Event>, NoMemory> {
     let mut events = Vec::new(alloc);
     for (entry, _) in COMING_UP {
@@ -27,7 +28,7 @@ fn with_restart(alloc: Global, system: u8, place: usize) -> Result<Vec<Event>, N
     Ok(events)
 }
 
-/// Whether the items of a list stand in another in the same order.
+/// Whether the first list is a subsequence of the second.
 fn is_subsequence(part: &[u64], whole: &[u64]) -> bool {
     let mut rest = part;
     for item in whole {
@@ -39,7 +40,8 @@ fn is_subsequence(part: &[u64], whole: &[u64]) -> bool {
     rest.is_empty()
 }
 
-/// What has to hold behind each event: no cable's ends differ, and what system 2 collected came in order.
+/// Checks what must hold after each event: the ends of no cable have different groups, and what system 2 collected is
+/// in order.
 fn keeps<F: Fn(u16, usize) -> usize + Drop>(
     rt: &impl Abort,
     world: &World<AnyCable, F>,
@@ -62,7 +64,7 @@ fn keeps<F: Fn(u16, usize) -> usize + Drop>(
     );
 }
 
-/// Restarts this system before the event at this place of the move.
+/// Restarts this system before the event of the move at this index.
 fn restarts(rt: &impl Abort, alloc: Global, system: u8, place: usize) -> Result<(), WorldFault> {
     let config = world_config(alloc, TWO)?;
     let lines = lines(alloc, config.cables.len(), None)?;

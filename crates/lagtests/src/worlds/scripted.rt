@@ -75,7 +75,7 @@ ends = [1, 1]
 ends = [2, 2]
 "#;
 
-/// What the script is read as, and the configuration and events that it has.
+/// The text of what is read from the script, and the text of the expected configuration and events.
 fn readings(alloc: Global) -> Result<(String, String), AllocError> {
     let came = match read_script(alloc, MOVE) {
         Ok((config, events)) => format!(in alloc; "{config:?} {events:?}")?,
@@ -94,7 +94,7 @@ fn memory_for_reading_is_granted(rt: HostRuntime) {
     }
 }
 
-/// Holds whichever allocation is refused.
+/// Passes whichever allocation is refused.
 #[test]
 fn refused_memory_is_told_as_no_other_fault(rt: HostRuntime) {
     if let Ok((came, wanted)) = readings(rt.alloc()) {

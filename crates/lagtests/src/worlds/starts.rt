@@ -24,8 +24,8 @@ pub(crate) const NONE_DISTRIBUTING: Want = Is(Reply::Refused(SystemFault::NoneDi
 /// Conversation 48 of system 1 is moved to port 2.
 pub(crate) const MOVED: (Entry, Want) = (Move(1, 1, 48, 2), Is(Reply::Moved));
 
-/// Both cables come up between ports with long timeouts: after it all four ports distribute (6.4.13, 6.4.15). The octets are
-/// Actor_State (6.4.2.3).
+/// Two cables come up between ports with Long Timeout; at the end all four ports distribute (6.4.13, 6.4.15). The
+/// octets are Actor_State (6.4.2.3).
 pub(crate) const COMING_UP: [(Entry, Want); 24] = [
     (Sense(1, 1), LINK_UP),
     (Sense(1, 2), LINK_UP),
@@ -53,7 +53,7 @@ pub(crate) const COMING_UP: [(Entry, Want); 24] = [
     (Deliver(2, 1), TOOK),
 ];
 
-/// One cable comes up between ports with short timeouts (6.4.13, 6.4.15).
+/// One cable comes up between ports with Short Timeout (6.4.13, 6.4.15).
 pub(crate) const ONE_CABLE: [(Entry, Want); 20] = [
     (Sense(1, 1), LINK_UP),
     (Sense(1, 2), LINK_UP),
