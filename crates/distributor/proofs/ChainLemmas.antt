@@ -14,7 +14,7 @@ abbrev pub first_of : List ℕ → ℕ → ℕ
 first_of [] b = b
 first_of (x ∷ xs) b = x
 
--- 1 where the numbers are one
+-- 1 if the numbers are one
 abbrev pub one : ℕ → ℕ → ℕ
 one k x = cond (eqb k x) 1 0
 

@@ -13,7 +13,7 @@ use Rattle.distributor.proofs.WalkLemmas.{after_port, stands_alike}
 flushes_stands : (c : ℕ) (s : Assignment) → flushes_in c s ≡ true → stands_in c s ≡ true
 flushes_stands c s e = (and_parts (stands_in c s) (is_flushing s) e).0
 
--- where nothing is Flushing, every flag will do
+-- if nothing is Flushing, every flag will do
 pub none_flagged : (states : List Assignment) (flags : List Bool) → length flags ≡ 64 → ((k : ℕ) → state_at states k ≡ Free None) → IsFlagged states flags
 none_flagged states flags long free = record {
   flags_len = long;

@@ -157,7 +157,7 @@ makes_leave mac call port g k (state.Flushing p n preferred age) = inl refl
 pub leave_moves : (mac : List ℕ) (call : Call) (t u : Table) (port : ℕ) → Changes t u (after_leave port) → FlowMoves mac call Nowhere (flows_of t) [] (flows_of u)
 leave_moves mac call t u port h = all_moves mac call t u (after_leave port) refl (makes_leave mac call port) h
 
--- a conversation that has to do with the port is free where its port goes down
+-- a conversation that has to do with the port is free if its port goes down
 freed : (mac : List ℕ) (port g k p : ℕ) (preferred : Option ℕ) (s : Assignment) → port_of (conversation_of s) ≡ Some p → Makes mac (Call.Set_link port false) g k s (cond (eqb p port) (state.Free preferred) s)
 freed mac port g k p preferred s h = elim (cases_Bool (eqb p port)) [
   | inl t ↦ inr (Change.Down port, (refl, h ∙ ap (λ q. Some q) (eqb-true p port t)), ap conversation_of (cond-true (eqb p port) (state.Free preferred) s t))

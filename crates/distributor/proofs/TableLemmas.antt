@@ -9,14 +9,14 @@ use Rattle.distributor.specs.Conversations.{Table, first_table, state_of, place_
 use Rattle.distributor.specs.Chains.{state_at}
 use Rattle.distributor.proofs.WalkLemmas.{same_sum, bit}
 
--- the state at a place, where the numbers are in range
+-- the state at a place, if the numbers are in range
 abbrev pub stated : List Assignment → ℕ → ℕ → Assignment
 stated states agg conv = cond (ltb 0 agg && ltb conv 256) (get_or states (place_of agg conv) (Free None)) (Free None)
 
 pub stated_in : (states : List Assignment) (agg conv : ℕ) → 0 < agg → conv < 256 → stated states agg conv ≡ state_at states (place_of agg conv)
 stated_in states agg conv p l = cond-true (ltb 0 agg && ltb conv 256) _ _ (and_from _ _ (lt-ltb 0 agg p) (lt-ltb conv 256 l))
 
--- the state at a place, where every state is changed alike
+-- the state at a place, if every state is changed alike
 pub map_at : (f : Assignment → Assignment) → f (Free None) ≡ Free None → (states : List Assignment) (k : ℕ) → get_or (map f states) k (Free None) ≡ f (get_or states k (Free None))
 map_at f keeps states k = elim (cases_Bool (ltb k (length states))) [
   | inl e ↦ get_or-map f states k (Free None) (Free None) (ltb-true k (length states) e)

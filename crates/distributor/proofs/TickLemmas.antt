@@ -11,7 +11,7 @@ use Rattle.distributor.specs.Chains.{chain_of, port_of, stands_in, flushes_in, w
 use Rattle.distributor.proofs.WalkLemmas.{cond_same, stands_alike, tick_port}
 use Rattle.distributor.proofs.TableLemmas.{map_at}
 
--- a state, where the tick has passed for the chains below this one
+-- a state, if the tick has passed for the chains below this one
 abbrev pub ticked : ℕ → Assignment → Assignment
 ticked chain (Free preferred) = Free preferred
 ticked chain (On port) = On port

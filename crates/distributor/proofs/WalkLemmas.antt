@@ -329,7 +329,7 @@ after_port (Down port) (Flushing p id preferred age) = elim (cases_Bool (eqb p p
 ]
 after_port Tick s = inr (tick_port s)
 
--- where it does not become free, it stays at its port
+-- if it does not become free, it stays at its port
 pub port_kept : (change : Change) (s : Assignment) (port : ℕ) → port_of (after change s) ≡ Some port → port_of (after change s) ≡ port_of s
 port_kept change s port h = ⊎_elim (λ e. absurd (cc)) (λ e. e) (after_port change s)
 
@@ -460,7 +460,7 @@ free_past count states long free k = elim (cases_Bool (ltb k count)) [
   | inr g ↦ (let past : length states ≤ k = omega (arith, long, ltb-false k count g) in get_or_past states k (Free None) past)
 ]
 
--- where every place is a ring of its own and every slot is free, the slots are chained
+-- if every place is a ring of its own and every slot is free, the slots are chained
 pub all_free : (count : ℕ) (states : List Assignment) (next prev : List ℕ) → count + 64 < 2 ^ 32 → length states ≡ count → length next ≡ count + 64 → length prev ≡ count + 64
     → ((k : ℕ) → k < count + 64 → get_or next k 0 ≡ k) → ((k : ℕ) → k < count + 64 → get_or prev k 0 ≡ k) → ((k : ℕ) → k < count → state_at states k ≡ Free None)
     → IsLinked count states next prev

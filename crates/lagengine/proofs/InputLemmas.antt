@@ -68,7 +68,7 @@ pub requests_both : (a b : List (List ℕ)) → requests (a ++ b) ≡ requests a
 unfolding requests
 requests_both a b = map-append request_in a b
 
--- the first lines, where all lines ask for what these and later ones do
+-- the first lines, if all lines ask for what these and later ones do
 pub first_lines : (all lines later : List (List ℕ)) (n : ℕ) → requests all ≡ requests (lines ++ later) → length lines ≡ n → requests lines ≡ requests (take n all)
 unfolding requests
 first_lines all lines later n e long =

@@ -91,7 +91,7 @@ module _ {R W : Type 0} (gives : ℕ → ℕ → ℕ → Type 0) (remaining : R 
   as_many : (from mid : SourceState R) (old half : SinkState W) (s : SessionState) (p : Told from mid old half s) → newlines p.octets ≡ length p.feeds.answers
   as_many from mid old half s p = sym p.feeds.reads.ended ∙ answers_length gives p.feeds.reads.lines at_first s.held p.feeds.answers p.feeds.reads.answered
 
-  -- the first lines of all, where they ask for what these do
+  -- the first lines of all, if they ask for what these do
   first_asked : (zs : List ℕ) (lines later : List (List ℕ)) (n : ℕ) → requests (prepend [] (lines_of zs)) ≡ requests (lines ++ later) → length lines ≡ n → requests lines ≡ requests (take n (lines_of zs))
   first_asked zs lines later n e long = first_lines (lines_of zs) lines later n (sym (ap requests (prepend_none (lines_of zs))) ∙ e) long
 
@@ -165,7 +165,7 @@ module _ {R W : Type 0} (gives : ℕ → ℕ → ℕ → Type 0) (remaining : R 
         (read.failed ∙ calm, cut.failed),
       )
 
-  -- how `serve` ends where it stops
+  -- how `serve` ends if it stops
   pub stops_by : (from to : SourceState R) (old new : SinkState W) (why : Stopped) (r : Result ⊤ Stopped) → IsErrAnd r (λ e. e ≡ why)
       → Stops gives remaining contents from to old new why × HasCause to.failed new.failed why → Serves gives remaining contents from to old new r
   stops_by from to old new why (Ok x) e h = absurd e

@@ -1,4 +1,4 @@
--- Where `clap` states no fault for the words of a command line, they name a subcommand with each word that it takes.
+-- If `clap` states no fault for the words of a command line, they name a subcommand with each word that it takes.
 use Rattle.std.proofs.Common.{◌≡◌, ◌∙◌, ◌&&◌, Bool, true, false, cond, not, ap, ap₂, refl, subst, sym, inl, inr, codes, List, [], ◌∷◌, Option, Some, None, is_some, find, option_map}
 use Rattle.std.proofs.lemmas.Bool.{not-false, or_parts}
 use Rattle.std.specs.Prelude.{◌≢◌, ⊤}
@@ -154,7 +154,7 @@ cause_of kinds e (Usage error) h k =
     among (inr a) = a
 cause_of kinds e NoMemory h k = tt
 
--- and so where a parse fails by the program's words
+-- and so if a parse fails by the program's words
 pub line_cause : (c : Command) (words : List Text) (e : Error) (f : LineFault) → app_of c ≡ lines → (is_simple_and_free (app_of c) ≡ true → HasKind (fault_of (app_of c) words) e)
     → KeepsKind e f → IsCause (fault_of lines words) f
 line_cause c words e f shape kinds k = cause_of _ e f (subst (λ (a : App). HasKind (fault_of a words) e) shape (kinds (ap is_simple_and_free shape))) k

@@ -1,4 +1,4 @@
--- Moves that a receive allows where it brings nothing are allowed whatever it brings: only taking, answering and being released
+-- Moves that a receive allows if it brings nothing are allowed whatever it brings: only taking, answering and being released
 -- look at what came. So a call that told that nothing came may be told with what came.
 use Rattle.std.proofs.Common.{ℕ, Bool, true, false, Option, Some, None, List, [], ◌∷◌, ap}
 use Rattle.std.specs.Prelude.{IsSomeAnd}

@@ -38,7 +38,7 @@ party_there v p a y h e = same_Some a.party y (sym (ap (option_map (λ (a : Port
 pub one_partner_holds : (x : Fixed) (w : World) → Lawful x w → (s : Side) → OnePartner (w.view s)
 one_partner_holds x w i s = one_partner (x.setup s) (w.view s) (i s).members
 
--- the partner that a port records is the party of the other end, where that did not change
+-- the partner that a port records is the party of the other end, if that did not change
 named : (x : Fixed) (w : World) → Lawful x w → (s : Side) (c p q : ℕ) (a b : PortView) (m : Taken)
     → end_at x.cables s c ≡ Some p → end_at x.cables (peer s) c ≡ Some q → (w.view s).port p ≡ Some a → (w.view (peer s)).port q ≡ Some b
     → a.defaulted ≡ false → w.taken s p ≡ Some m → m.stamp ≡ w.count (peer s) q

@@ -12,7 +12,7 @@ use Rattle.lagmodel.proofs.Ports.{changed_port}
 use Rattle.lagmodel.proofs.Lines.{Every, every_push, every_weaker, put_cases}
 use Rattle.lagmodel.proofs.LaneMoves.{Within, cable_cases}
 
--- An LACPDU's stamp is at most its sender's count; where it is the count, the LACPDU names this party.
+-- An LACPDU's stamp is at most its sender's count; if it is the count, the LACPDU names this party.
 abbrev pub FreshPdu : ℕ → Option Party → Lacpdu → ℕ → Type 0
 FreshPdu count party pdu stamp = (stamp ≤ count) × (stamp ≡ count → party ≡ Some pdu.actor)
 
@@ -27,7 +27,7 @@ pub record Stamps (ends theirs : ℕ → Option ℕ) (party : ℕ → Option Par
   pub flight : (c p : ℕ) → ends c ≡ Some p → Every (Fresh (count p) (party p)) (out c)
   pub last : (c p q : ℕ) (m : Taken) → ends c ≡ Some p → theirs c ≡ Some q → taken q ≡ Some m → FreshPdu (count p) (party p) m.pdu m.stamp
 
--- A port that is not on defaults took an LACPDU from the partner that it records. It records it as synchronised only
+-- A port that is not on defaults took an LACPDU from the partner that it records. It records it as synchronized only
 -- if that LACPDU said so, and named the port's party or has an individual actor.
 abbrev pub Heard : PortView → Option Taken → Type 0
 Heard a o =
@@ -226,7 +226,7 @@ pub stamps_emptied : (ends theirs : ℕ → Option ℕ) (party : ℕ → Option 
     → Stamps ends theirs party count out taken → Stamps ends theirs party count (λ c. []) taken
 stamps_emptied ends theirs party count out taken i = record { flight = λ d p h. tt; last = i.last }
 
--- the end of an event, at which the counts rise where the parties differ
+-- the end of an event, at which the counts rise if the parties differ
 fresh_counted : (old new : ℕ) (was is : Option Party) → ((is ≡ was) × (new ≡ old)) ⊎ ((is ≢ was) × (new ≡ suc old)) → (pdu : Lacpdu) (stamp : ℕ) → FreshPdu old was pdu stamp → FreshPdu new is pdu stamp
 fresh_counted old new was is h pdu stamp f = elim h [
   | inl x ↦ (let e = x.1 in let le = f.0 in omega arith, λ e. x.0 ∙ f.1 (e ∙ x.1))

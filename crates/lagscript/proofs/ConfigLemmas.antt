@@ -3,7 +3,7 @@ use Rattle.std.proofs.Common.{ℕ, zero, suc, ◌≡◌, ◌<◌, ◌⊎◌, inl
 use Rattle.std.proofs.Math.Nat.{eq-or-lt_of_le}
 use Rattle.lagscript.specs.Configs.{first_below, or_first}
 
--- where the numbers below i fail and i passes, it is i
+-- if the numbers below i fail and i passes, it is i
 pub first_below_found : (test : ℕ → Bool) (i n : ℕ) → i < n → first_below test i ≡ None → test i ≡ true → first_below test n ≡ Some i
 first_below_found test i zero lt none pass = absurd (omega arith)
 first_below_found test i (suc n) lt none pass = go (λ below. first_below_found test i n below none pass) (eq-or-lt_of_le {n = i} {m = n} (omega arith))

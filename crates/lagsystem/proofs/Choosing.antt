@@ -21,7 +21,7 @@ seen_given [] i d t agg l = absurd (omega arith)
 seen_given (x ∷ xs) zero d t agg l = refl
 seen_given (x ∷ xs) (suc i) d t agg l = ap (λ vs. view_of x ∷ vs) (seen_given xs i d t agg (omega arith))
 
--- where the port at a place took an aggregator, its view takes it too
+-- if the port at a place took an aggregator, its view takes it too
 pub seen_taken : (seen : List PortView) (slots : List Slot) (i : ℕ) (d : PortView) (t : Slot) (agg : AggId) → seen ≡ views slots → i < length slots
     → slice_set seen i (record (get_or seen i d) { choice = Selected agg }) ≡ views (slice_set slots i (given (get_or slots i t) (Some agg)))
 seen_taken seen slots i d t agg e l = ap (λ vs. slice_set vs i (record (get_or vs i d) { choice = Selected agg })) e ∙ seen_given slots i d t agg l
@@ -35,7 +35,7 @@ stays_at : (keys : List Key) (slots : List Slot) (i : ℕ) (o : Option Slot) →
 stays_at keys slots i None h e = refl
 stays_at keys slots i (Some s) h e = none_taken keys slots i s e (not_here slots i s h e) ∙ ap (choose_slot keys slots i) e
 
--- where no port is eligible, none takes an aggregator
+-- if no port is eligible, none takes an aggregator
 pub none_chosen : (keys : List Key) (n : ℕ) (slots : List Slot) → one_eligible slots ≡ false → slots ≡ chosen keys n slots
 none_chosen keys zero slots h = refl
 none_chosen keys (suc n) slots h = subst (λ l. slots ≡ choose_slot keys l n (slice_get l n)) (none_chosen keys n slots h) (stays_at keys slots n (slice_get slots n) h refl)

@@ -55,7 +55,7 @@ leaving_moves u call old new h =
     let moves = each_moves u.system.mac call old.table new.table (λ g k. left_on (ports g)) (λ g k. refl) (λ g k a. leaves_one u.system.mac call (ports g) g k a) h.next h.states in
     subst (λ l. FreeMoves u call (view_of old) [] (view_at (flows_of new.table) l)) (sym (ap (λ (s : State). s.slots) h.frame)) (table_moves u call old.slots old.table new.table [] moves)
 
--- at rest a port distributes exactly where its mux machine does
+-- at rest a port distributes exactly if its mux machine does
 pub rest_distributes : (m : MuxState) (x s : Bool) → steady_of m x s ≡ true → (s && (x && is_mux CollectingDistributing m)) ≡ is_mux CollectingDistributing m
 rest_distributes Detached true true h = refl
 rest_distributes Detached true false h = refl
@@ -103,7 +103,7 @@ seen_distributing agg p low (s ∷ slots) r a h = elim (cases_Bool (eqb s.number
       subst (Sees agg) (sym (cond_false (eqb p s.number) (Some s) (find_number number slots p) (unflipped s.number p f))) (seen_distributing agg p s.number slots r.1 a.1 rest))
 ]
 
--- moves of the conversations, where a port may carry one that distributes in its aggregator
+-- moves of the conversations, if a port may carry one that distributes in its aggregator
 pub carrying_moves : (u : Setup) (call : Told) (agg : AggId) (slots : List Slot) (t new : Table) (seen : List Act) → Rises 0 (numbers slots) → AreSteady slots
     → FlowMoves u.system.mac call (Among agg.0 (distributing agg slots)) (flows_of t) seen (flows_of new) → FreeMoves u call (view_at (flows_of t) slots) seen (view_at (flows_of new) slots)
 carrying_moves u call agg slots t new seen r a h =

@@ -46,7 +46,7 @@ defaulting u call n party partner s d c false h = (PortMove.Leave ∷ PortMove.D
 abbrev default_bits : StateBits
 default_bits = record { activity = false; timeout = false; aggregation = false; synchronization = true; collecting = false; distributing = false; defaulted = false; expired = false }
 
--- the administrative partner is all zero, and synchronised
+-- the administrative partner is all zero, and synchronized
 on_defaults : (party : Party) (d : Bool) (g : Option ℕ) → with_bits party default_partner d g (bits_of default_partner.state) ≡ stopped party zero_party true d g
 on_defaults party d g = ap (with_bits party default_partner d g) (read_back default_bits)
 

@@ -280,7 +280,7 @@ below n h = let k : nat_le n 64 ≡ true = (and_parts (nat_le 1 n) (nat_le n 64)
 pub accepted_keys_few : (keys : List Key) (ports : List PortConfig) → refusal keys ports ≡ None → length keys ≤ 64
 accepted_keys_few keys ports h = below (length keys) (is_true (is_count (length keys)) _ _ (if_then (is_count (length ports)) _ _ h))
 
--- a configuration that a system has is accepted where the system's is
+-- a configuration that a system has is accepted if the system's is
 pub is_accepted : (config : Config) (s : State) → IsConfigured config s → refusal s.keys s.ports ≡ None → refusal_of config ≡ None
 is_accepted config s h none = ap (λ keys. refusal keys config.ports.items) (sym h.keys) ∙ ap (λ ports. refusal s.keys ports) (sym h.ports) ∙ none
 

@@ -58,7 +58,7 @@ still_none key empty join later_empty later_join f g (row ∷ rows) e j =
       fails_here (same && later_join agg) row (passing key later_join rows) (two_false same (empty agg) (join agg) (later_join agg) he.0 hj.0 (g agg)) rest.1,
     )
 
--- where no aggregator becomes empty, and none that has members becomes joinable
+-- if no aggregator becomes empty, and none that has members becomes joinable
 pub none_stays : (keys : List Key) (seen later : List PortView) (v : PortView)
     → ((agg : AggId) → is_empty seen agg ≡ false → is_empty later agg ≡ false)
     → ((agg : AggId) → is_empty seen agg ≡ false → is_joinable seen v agg ≡ false → is_joinable later v agg ≡ false)

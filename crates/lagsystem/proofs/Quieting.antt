@@ -1,4 +1,4 @@
--- After a settling one more finds nothing to do, and where nothing is to be done a settling changes nothing.
+-- After a settling one more finds nothing to do, and if nothing is to be done a settling changes nothing.
 use Rattle.std.proofs.Common.{◌≡◌, ◌∙◌, ℕ, zero, suc, Bool, true, false, cond, not, ◌&&◌, ◌||◌, List, [], ◌∷◌, length, Option, Some, None, refl, sym, ap, subst, inl, inr, slice_get, slice_set}
 use Rattle.std.specs.List.{AllByRecursion, AllZip, list_all}
 use Rattle.lagtypes.specs.declared.identifiers.AggId.{AggId}
@@ -228,7 +228,7 @@ settling_still old new r h =
     both_first P Q [] h = tt
     both_first P Q (x ∷ xs) h = (h.0.0, both_first P Q xs h.1)
 
--- where nothing is to be done
+-- if nothing is to be done
 
 still_mux : (keys : List Key) (slots xs : List Slot) → AllByRecursion (IsStill keys slots) xs → AllMove (Settles (mux_rows false)) xs xs
 still_mux keys slots [] h = tt

@@ -56,7 +56,7 @@ none_has_waited (v ∷ vs) h =
     let both = or_false (has_expired v.stage) (one_expired vs) h in
     first_has_not (waits v.stage) v vs both.0 (none_has_waited vs both.1)
 
--- where no port has waited long enough, no aggregator is Ready
+-- if no port has waited long enough, no aggregator is Ready
 pub no_ready : (keys : List Key) (slots : List Slot) → list_any (λ s. has_expired (view_of s).stage) slots ≡ false → (c : Choice) → ready_of keys (views slots) c ≡ false
 no_ready keys slots h Unselected = refl
 no_ready keys slots h (Selected agg) =

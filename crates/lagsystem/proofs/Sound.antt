@@ -51,7 +51,7 @@ Step-sound gives old call answer new h s =
       members = subst (λ u. Members u (view_of new).port) (sym (ap configured (Step-frame gives old call answer new h))) kept;
     }
 
--- at rest a port distributes exactly where its mux machine does
+-- at rest a port distributes exactly if its mux machine does
 all_distribute : (slots : List Slot) → AreSteady slots → Distribute slots
 all_distribute [] h = tt
 all_distribute (x ∷ xs) h = (rest_distributes x.port.mux (selected x.port) (partner_synchronized x.port) h.0, all_distribute xs h.1)

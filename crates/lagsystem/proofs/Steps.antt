@@ -147,7 +147,7 @@ place_moves u call f R n old new seen r k None e h = absurd h
 place_moves u call f R n old new seen r k (Some i) e h =
     subst (λ l. FreeMoves u call (view_at f old) seen (view_at f l)) (sym h.4) (one_moves u call f n i old h.0 h.1 seen r e h.2 (k h.0 h.1 i h.2 h.3))
 
--- an LACPDU is taken where the link is enabled
+-- an LACPDU is taken if the link is enabled
 where_awake : (b x : Bool) → b ≡ true → (if b then x else true) ≡ true → x ≡ true
 where_awake true x e h = h
 where_awake false x e h = absurd (false≢true e)
@@ -167,7 +167,7 @@ takes_moves u n v p q e a h = elim h [
   | inr r ↦ absurd (clash (takes_in p.receive && p.enabled) (both (takes_in p.receive) p.enabled (where_awake p.enabled (takes_in p.receive) e a) e) r.0.0)
 ]
 
--- a port that says synchronised is a member
+-- a port that says synchronized is a member
 where_member : (b x rest : Bool) → ((if b then x else true) && rest) ≡ true → b ≡ true → x ≡ true
 where_member true true rest h e = refl
 where_member true false rest h e = absurd (false≢true h)

@@ -58,7 +58,7 @@ none_stopped low (was ∷ before) (s ∷ slots) p r l =
     or_no ((s.number == p) && has_stopped was s) (stopped before slots p)
     (ap (λ (b : Bool). b && has_stopped was s) (other p s.number (omega (arith, l, r.0)))) (none_stopped s.number before slots p r.1 (omega (arith, l, r.0)))
 
--- the port was carrying in the aggregator where it distributed in it
+-- the port was carrying in the aggregator if it distributed in it
 given_agg : (agg : AggId) (c : Choice) (b : Bool) → (is_given agg c && b) ≡ true → (if b then agg_of c else None) ≡ Some agg
 given_agg agg Unselected b h = absurd (false≢true h)
 given_agg agg (Selected a) true h = let same = (Decides-eqb a.0 agg.0).0 (left (a.0 == agg.0) h) in λ i. Some (record { 0 = same i })
@@ -95,7 +95,7 @@ stopped_rest : (t h rest : Bool) → t ≡ false → ((t && h) || rest) ≡ rest
 stopped_rest true h rest e = absurd (true≢false e)
 stopped_rest false h rest e = refl
 
--- a port that carried a conversation stopped exactly where it no longer distributes in its aggregator
+-- a port that carried a conversation stopped exactly if it no longer distributes in its aggregator
 pub stops_where : (agg : AggId) (p low : ℕ) (olds news : List Slot) → Rises low (numbers olds) → numbers news ≡ numbers olds → on agg olds p ≡ true → stopped (carriers olds) news p ≡ not (on agg news p)
 stops_where agg p low [] news r e h = absurd (false≢true h)
 stops_where agg p low (o ∷ olds) [] r e h = absurd cc

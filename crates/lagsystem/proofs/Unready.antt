@@ -21,7 +21,7 @@ use Rattle.lagsystem.specs.declared.slots.Slot.{Slot}
 use Rattle.lagsystem.specs.Settling.{AllMove, ready_of}
 use Rattle.lagsystem.specs.Views.{stage_of, view_of, views}
 
--- what rows keep where they are enabled
+-- what rows keep if they are enabled
 abbrev KeptBy : (Machines → Bool) → List Row → Type 0
 KeptBy holds [] = Unit {0}
 KeptBy holds (row ∷ rows) = ((p : Machines) → holds p ≡ true → row.enabled p ≡ true → holds (row.effect p) ≡ true) × KeptBy holds rows

@@ -103,7 +103,7 @@ at_first : (P Q : Machines → Type 0) (N : Type 0) (b : Bool) (x y : Slot) (o u
 at_first P Q N true x y o u here rest g = here g
 at_first P Q N false x y o u here rest g = rest g
 
--- the same, where y has the number of x
+-- the same, if y has the number of x
 at_number : (P Q : Machines → Type 0) (N : Type 0) (n : ℕ) (x y : Slot) (o u : Option Slot) → y.number ≡ x.number → (P x.port → Q y.port) → (At P N (port_in o) → At Q N (port_in u))
     → At P N (port_in (cond (x.number == n) (Some x) o)) → At Q N (port_in (cond (y.number == n) (Some y) u))
 at_number P Q N n x y o u e here rest g =

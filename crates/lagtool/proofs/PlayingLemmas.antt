@@ -61,7 +61,7 @@ pub first_bare : (limits : List (Option ℕ)) → list_all is_bare (map (first_c
 first_bare [] = refl
 first_bare (l ∷ limits) = first_bare limits
 
--- one cable for each pair of ends, where there are as many limits
+-- one cable for each pair of ends, if there are as many limits
 pub cables_counted : (cables : List (ℕ × ℕ)) (limits : List (Option ℕ)) → length limits ≡ length cables → length (first_cables cables limits) ≡ length cables
 cables_counted [] limits h = refl
 cables_counted (ends ∷ cables) [] h = absurd (omega (arith, h))
@@ -128,7 +128,7 @@ next_fine gives old new es rs done e ran within fixed acted named few at =
     held.1
     (not_spent new.acted done count (omega (arith, lt, few)))
 
--- so a run stops for want of memory alone
+-- so a run stops only for lack of memory
 pub stops_for_memory : (gives : Gives) (old new : Joint) (es : List Event) (stop : RunFault) → fixed_of new ≡ fixed_of old → old.acted ≡ 0
     → AllNameExisting (length old.lines) es → length es ≤ most_events → Stops gives old es stop new → stop.fault ≡ NoMemory
 stops_for_memory gives old new es stop fixed acted named few s = elim s.fault [ inl h ↦ h.1 | inr h ↦ by_next (next_of es stop.done) refl h ]

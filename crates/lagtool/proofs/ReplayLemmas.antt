@@ -68,7 +68,7 @@ range_rest f a zero m le h = sym (empties f a m (λ c lt. h c (omega arith)))
 range_rest f a (suc n) zero le h = absurd (omega arith)
 range_rest f a (suc n) (suc m) le h = ap (λ t. f a ++ t) (range_rest f (a + 1) n m (omega arith) (λ c lt. h c (omega arith)))
 
--- where there is no cable with a number, there is none with a higher one
+-- if there is no cable with a number, there is none with a higher one
 past : (ls : List Line) (i k : ℕ) → slice_get ls i ≡ None → i ≤ k → slice_get ls k ≡ None
 past [] i k h le = refl
 past (l ∷ ls) zero k h le = absurd (none-some l (sym h))
@@ -100,12 +100,12 @@ numbers : cable_numbers ≡ 65535
 unfolding cable_numbers
 numbers = refl
 
--- the lines of all cables, where there is none with the next number
+-- the lines of all cables, if there is none with the next number
 pub cables_end : (j : Joint) (i : ℕ) → i < 65535 → agreement_at j (i + 1) ≡ None → flat_map (λ c. agreement_line c (agreement_at j c)) (range_with_len 1 i) ≡ agreements_text j
 cables_end j i lt none =
     range_rest (λ c. agreement_line c (agreement_at j c)) 1 i cable_numbers (omega (arith, numbers, lt)) (λ c le. ap (agreement_line c) (no_more_cables j (i + 1) c (omega arith) (omega (arith, le)) none))
 
--- the lines of all cables, where each number was looked at
+-- the lines of all cables, if each number was looked at
 pub cables_all : (j : Joint) (i : ℕ) → i ≤ 65535 → 65535 ≤ i → flat_map (λ c. agreement_line c (agreement_at j c)) (range_with_len 1 i) ≡ agreements_text j
 cables_all j i le ge =
     let all : i ≡ cable_numbers = omega (arith, numbers, le, ge) in

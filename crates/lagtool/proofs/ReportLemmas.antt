@@ -55,7 +55,7 @@ before_newline xs n le h k low high is =
 long_line : (l : List ℕ) → 65536 < length l → line_verdict l ≡ TooLong
 long_line l h = ap (λ t. cond t TooLong (hex_verdict (decode_of (without_return l)))) (lt-ltb 65536 (length l) h)
 
--- what is said of lines, where it depends on the verdict on the first
+-- what is said of lines, if it depends on the verdict on the first
 module _ {X : Type 0} (F : List (List ℕ) → X) (by_verdict : (l m : List ℕ) (ls : List (List ℕ)) → line_verdict l ≡ line_verdict m → F (l ∷ ls) ≡ F (m ∷ ls)) where
   same_long : (l m : List ℕ) (ls : List (List ℕ)) → 65536 < length l → 65536 < length m → F (prepend l ls) ≡ F (prepend m ls)
   same_long [] m ls h j = absurd (omega arith)
@@ -247,7 +247,7 @@ module _ {R W : Type 0} (remaining : R → Option (List ℕ)) (contents : W → 
     pub told_still : (ys : List ℕ) → Told from mid old half s → Gives remaining mid to ys → ys ≡ [] → Told from to old half s
     told_still ys p c none = told_reads s ys p c (subst (Reads s s) (sym none) (reads_none s))
 
-    -- where nothing is said but not written, all is written of the lines that were ended
+    -- if nothing is said but not written, all is written of the lines that were ended
     all_written : (p : Told from mid old half s) → s.said ≡ [] → p.out ≡ ended_text p.octets
     all_written p e = sym (ap ended_text (sym (append-nil p.octets)) ∙ p.said_is [] ∙ ap (λ zs. p.out ++ (zs ++ [])) e ∙ append-nil p.out)
 

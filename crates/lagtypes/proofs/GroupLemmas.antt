@@ -1,4 +1,4 @@
--- Two groups are equal exactly where the pairs of ends are equal as unordered pairs.
+-- Two groups are equal exactly if the pairs of ends are equal as unordered pairs.
 use Rattle.std.proofs.Common.{◌≡◌, ◌⊎◌, Bool, true, false, Option, Some, None, refl, ap, sym, ◌∙◌, rules, subst, inl, inr}
 use Rattle.std.specs.Prelude.{if◌then◌else◌}
 use Rattle.std.specs.declared.cmp.Ordering.{Ordering}
@@ -16,7 +16,7 @@ use Rattle.lagtypes.specs.declared.group.Group.{Group}
 use Rattle.lagtypes.specs.Order.{system_cmp, port_cmp, end_cmp}
 use Rattle.lagtypes.specs.Group.{Pair, SamePair, sorted}
 
--- an order of two fields answers Equal only where both do
+-- an order of two fields answers Equal only if both do
 then_first : (o p : Ordering) → ordering_then o p ≡ Equal → o ≡ Equal
 then_first Less p e = e
 then_first Equal p e = refl

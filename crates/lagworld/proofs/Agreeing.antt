@@ -1,4 +1,4 @@
--- The ends of a cable never name two groups where neither earlier answer holds.
+-- The ends of a cable never name two groups if neither earlier answer holds.
 use Rattle.std.proofs.Common.{◌≡◌, ◌≢◌, ℕ, zero, suc, ◌+◌, ◌&&◌, ◌||◌, Bool, true, false, Option, Some, None, IsSomeAnd, List, map, ap, sym, refl, ◌∙◌, subst, arith, eqb-true}
 use Rattle.std.specs.Prelude.{not, is_some, option_map, slice_get}
 use Rattle.std.specs.Option.{unwrap_or}
@@ -30,7 +30,7 @@ use Rattle.lagworld.specs.Sound.{IsSound}
 use Rattle.lagworld.specs.Worlds.{ends_of, world_of, taken_as}
 use Rattle.lagworld.proofs.Running.{agree_of}
 
--- the answer is the last one only where none of the others holds
+-- the answer is the last one only if none of the others holds
 last_of_five : (a b c d : Bool) → first_of_five a b c d ≡ Differ → (a ≡ false) × (b ≡ false) × (c ≡ false) × (d ≡ false)
 last_of_five true b c d h = absurd (let e = h in cc)
 last_of_five false true c d h = absurd (let e = h in cc)

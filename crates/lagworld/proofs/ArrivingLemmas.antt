@@ -155,7 +155,7 @@ holds_after Q (y ∷ ys) zero (suc k) x new h w there = there
 holds_after Q (y ∷ ys) (suc i) zero x new h w there = there
 holds_after Q (y ∷ ys) (suc i) (suc k) x new h w there = holds_after Q ys i k x new h w there
 
--- what is reserved for a system stays so where the first item towards it is taken off
+-- what is reserved for a system stays so if the first item towards it is taken off
 pub still_reserved : {C : Type 0} (items : C → List Item) (limit : C → Option ℕ) (reserved : C → Bool) (s : Side) (p : ℕ) (ls : List (Cabled C)) (i : ℕ) (x new : Cabled C)
     → i < length ls → x ≡ get_or ls i x → line_of items limit new ≡ without_first s (line_of items limit x) → is_reserved reserved s new ≡ is_reserved reserved s x
     → IsReserved items limit reserved s p ls → IsReserved items limit reserved s p (set ls i new)

@@ -26,7 +26,7 @@ same_serials x v e = ap (λ l. make_serials x.sent.items l x.forced) e
 pub more_serials : (x : Flow) (v : Vec ℕ) (serial : ℕ) → v.items ≡ x.collected.items ++ serial ∷ [] → serials_of (put_collected x v) ≡ with_collected serial (serials_of x)
 more_serials x v serial e = ap (λ l. make_serials x.sent.items l x.forced) e
 
--- what holds of what is written, where that was done
+-- what holds of what is written, if that was done
 there_if_ok : {X E U : Type 0} (P : Option X → Type 0) (Q : Type 0) (r : Result U E) (xs : List X) (i : ℕ) (x new : X) → i < length xs → x ≡ get_or xs i x → (Q → P (Some new)) → OnOk r Q → OnOk r (P (slice_get (set xs i new) i))
 there_if_ok P Q (Ok u) xs i x new lt read f h = subst P (sym (set_here xs i new x (slice_get_read xs (length xs) i x refl lt read))) (f h)
 there_if_ok P Q (Err e) xs i x new lt read f h = h

@@ -48,7 +48,7 @@ always : {T E A : Type 0} (r : Result T E) → A → IfErr r (λ e. A)
 always (Ok x) h = tt
 always (Err e) h = h
 
--- where memory is refused the world stays, whatever was reserved
+-- if memory is refused, the world stays, whatever was reserved
 pub stays : {T E : Type 0} (r : Result T E) (lines : List Line) (old : Joint) → lines ≡ old.lines → IfErr r (λ e. with_lines old lines ≡ old)
 stays r lines old e = always r (ap (with_lines old) e)
 

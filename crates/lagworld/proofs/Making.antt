@@ -352,7 +352,7 @@ module _ {C : Type 0} (items : C → List Item) (limit : C → Option ℕ) where
 pub same_test : {X Y : Type 0} (f : X → Y → Bool) (x there : X) (y here : Y) (r : Bool) → there ≡ x → here ≡ y → r ≡ f there here → r ≡ true → f x y ≡ true
 same_test f x there y here r e g h t = (λ i. f (sym e i) (sym g i)) ∙ sym h ∙ t
 
--- the configuration of system 2 is not refused where both are not
+-- the configuration of system 2 is not refused if both are not
 pub second_accepted : (config : WorldConfig) (a b : Config) → config.systems ≡ a ∷ b ∷ [] → refusal_of config ≡ None → refusal_of_one b ≡ None
 second_accepted config a b e h = (two_joined (plan_of a) (plan_of b) config.cables.items (sym (ap (λ systems. refusal_of_all (map plan_of systems) config.cables.items) e) ∙ h)).1
 

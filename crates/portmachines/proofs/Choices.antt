@@ -39,7 +39,7 @@ none_fires : (rows : List Row) (p q : Machines) → AtRest rows p → Fires rows
 none_fires [] p q rest fired = fired
 none_fires (row ∷ rows) p q rest fired = elim fired [ inl h ↦ no (row.enabled p) h.0 rest.0 | inr h ↦ none_fires rows p q rest.1 h ]
 
--- where I holds, all rows that are enabled do the same, and I holds afterwards
+-- if I holds, all rows that are enabled do the same, and I holds afterwards
 record OneWay (I : Machines → Type 0) (rows : List Row) : Type 0 where
   same : (p q r : Machines) → I p → Fires rows p q → Fires rows p r → q ≡ r
   stays : (p q : Machines) → I p → Fires rows p q → I q
@@ -154,7 +154,7 @@ mux-way ready = record {
 periodic-way : OneWay Always periodic_rows
 periodic-way = record { same = λ p q r i f g. in_order-one (λ x. false) periodic_table p q r f g; stays = λ p q i f. tt }
 
--- the receive rows, where current_while does not expire while the link is down
+-- the receive rows, if current_while does not expire while the link is down
 
 abbrev safe : ReceiveState → Bool → Bool → Type 0
 safe Initialize enabled expired = Unit {0}

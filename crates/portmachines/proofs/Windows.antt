@@ -57,7 +57,7 @@ bit-weaker true false h = let e : false ≡ true = h refl in cc
 bit-weaker false true h = omega arith
 bit-weaker false false h = omega arith
 
--- where each element that passes the one test passes the other
+-- if each element that passes the one test passes the other
 count-weaker : (p q : ℕ → Bool) (xs : List ℕ) → AllByRecursion (λ x. p x ≡ true → q x ≡ true) xs → count_of p xs ≤ count_of q xs
 count-weaker p q [] h = omega arith
 count-weaker p q (x ∷ xs) h = omega (arith, count-weaker p q xs h.1, bit-weaker (p x) (q x) h.0)

@@ -60,7 +60,7 @@ fault-append b rest long =
     long_fault (b ++ rest) (omega (arith, length-append b rest))
     ∙ rw (subtype, type, actor, partner, collector) (sym (long_fault b long))
 
--- where no cause of a list holds, neither the first nor one of the rest does
+-- if no cause of a list holds, neither the first nor one of the rest does
 none_holds : (holds : Bool) (e : WireFault) (rest : List Cause) → first_cause ((holds, e) ∷ rest) ≡ None → (holds ≡ false) × (first_cause rest ≡ None)
 none_holds true e rest h = absurd cc
 none_holds false e rest h = (refl, h)

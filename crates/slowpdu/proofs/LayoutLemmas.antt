@@ -40,7 +40,7 @@ all_stood b rest (p ∷ places) long fit h =
     let within : p.offset + p.width ≤ 110 = le_of_test (p.offset + p.width) 110 parts.0 in
     (sym (stands-append b rest p (omega arith)) ∙ h.0, all_stood b rest places long parts.1 h.1)
 
--- a table is read in a payload exactly where it is read with what follows
+-- a table is read in a payload exactly if it is read with what follows
 pub table-append : (b rest : List ℕ) (places : List Place) → payload_len ≤ length b → list_all fits (looked_at places) ≡ true
     → ReadsTable b places → ReadsTable (b ++ rest) places
 table-append b rest places long fit h = record {
