@@ -1,4 +1,4 @@
--- What the calls do to conversations are moves that the law allows.
+-- Each call changes the conversations only by moves that the model allows.
 use Rattle.std.proofs.Common.{◌≡◌, ℕ, zero, suc, ◌+◌, ◌-◌, ◌*◌, ◌/◌, ◌%◌, ◌<◌, ◌^◌, length, arith, ⊎_elim, Bool, true, false, cond, ◌&&◌, eqb, Option, Some, None, Ok, Err, List, [], ◌∷◌, sym, refl, ap, ◌∙◌, subst, ◌⊎◌, inl, inr}
 use Rattle.std.specs.Prelude.{ltb, is_none}
 use Rattle.std.proofs.lemmas.Bool.{cases_Bool, and_parts, eqb-true, eq-eqb, cond-true, cond-false, false≢true, cases_eq, ltb-true, ltb-false}

@@ -1,4 +1,4 @@
--- The states of the conversations by their places.
+-- The states of the conversations, by their indices in the list.
 use Rattle.std.proofs.Common.{ℕ, ◌+◌, ◌*◌, ◌<◌, ◌≤◌, ◌≡◌, zero, suc, Bool, cond, ◌&&◌, List, length, None, get_or, map, replicate, sym, ap, ◌∙◌, arith, inl, inr}
 use Rattle.std.specs.Prelude.{ltb}
 use Rattle.std.proofs.lemmas.Bool.{cases_Bool, and_from, cond-true, cond-false, lt-ltb, ltb-true, ltb-false}

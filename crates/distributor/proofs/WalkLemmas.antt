@@ -1,4 +1,4 @@
--- A walk along one chain, that changes each state on its way.
+-- A walk along one chain that changes each state on its way.
 use Rattle.std.proofs.Common.{ℕ, ◌+◌, ◌<◌, ◌≤◌, ◌≡◌, ◌++◌, ◌&&◌, zero, suc, Bool, true, false, cond, eqb, List, [], ◌∷◌, length, Option, None, Some, get_or, set, map, replicate, ◌^◌, refl, sym, ap, ◌∙◌, arith, subst, ⊎_elim, inl, inr, ◌⊎◌}
 use Rattle.std.specs.Prelude.{ltb}
 use Rattle.std.proofs.lemmas.Bool.{and_parts, cases_Bool, cases_eq, eqb-true, eq-eqb, ne_eqb, cond-true, cond-false, false≢true, lt-ltb, ltb-false, ltb-true}

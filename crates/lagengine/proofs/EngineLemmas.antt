@@ -1,4 +1,4 @@
--- What is done with the system that an engine has.
+-- What an engine does with its system.
 use Rattle.std.proofs.Common.{ℕ, ◌≡◌, List, Option, Some, IfOk, Result, subst}
 use Rattle.lagsystem.specs.Calls.{Call}
 use Rattle.lagsystem.specs.State.{Whole}

@@ -1,4 +1,4 @@
--- The lines of octets that come one after another, and what they ask for.
+-- The lines of octets that arrive in several reads, and what the lines ask for.
 use Rattle.std.proofs.Common.{ℕ, zero, suc, ◌+◌, ◌<◌, ◌≡◌, ◌++◌, ◌==◌, true, false, cond, Bool, List, [], ◌∷◌, length, map, take, refl, sym, ap, ◌∙◌, append_assoc, arith}
 use Rattle.std.proofs.lemmas.List.{append-nil, length-append, map-append, take-map, take_at}
 use Rattle.std.proofs.lemmas.Bool.{eqb-true, lt-ltb}

@@ -1,4 +1,4 @@
--- What is answered to octets that come one after another.
+-- The answers to octets that arrive in several reads.
 use Rattle.std.proofs.Common.{ℕ, ◌+◌, suc, ◌<◌, ◌≤◌, ◌≡◌, ◌++◌, ◌==◌, ◌⊎◌, true, false, List, [], ◌∷◌, Option, length, take, refl, sym, ap, ap₂, subst, ◌∙◌, append_assoc, arith}
 use Rattle.std.proofs.lemmas.List.{append-nil, length-append}
 use Rattle.std.proofs.KnownBytes.{Appends-trans}

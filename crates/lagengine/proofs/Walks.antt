@@ -1,4 +1,4 @@
--- Lists that are read one after another, some of them read already.
+-- Loops that read the elements of a list one after another.
 use Rattle.std.proofs.Common.{List, ◌++◌, Result, Ok, Err}
 
 -- what is made already, and then what is read of the rest

@@ -1,4 +1,4 @@
--- If `clap` states no fault for the words of a command line, they name a subcommand with each word that it takes.
+-- If `clap` states no fault for the words of a command line, they name a subcommand with each argument that it takes.
 use Rattle.std.proofs.Common.{◌≡◌, ◌∙◌, ◌&&◌, Bool, true, false, cond, not, ap, ap₂, refl, subst, sym, inl, inr, codes, List, [], ◌∷◌, Option, Some, None, is_some, find, option_map}
 use Rattle.std.proofs.lemmas.Bool.{not-false, or_parts}
 use Rattle.std.specs.Prelude.{◌≢◌, ⊤}

@@ -1,5 +1,5 @@
--- Moves that a receive allows if it brings nothing are allowed whatever it brings: only taking, answering and being released
--- look at what came. So a call that told that nothing came may be told with what came.
+-- Moves that a receive allows if nothing came are allowed whatever came: only receiving, answering and being released
+-- depend on it. So a receive of nothing may be regarded as a receive of what came.
 use Rattle.std.proofs.Common.{ℕ, Bool, true, false, Option, Some, None, List, [], ◌∷◌, ap}
 use Rattle.std.specs.Prelude.{IsSomeAnd}
 use Rattle.std.proofs.lemmas.Bool.{true≢false}

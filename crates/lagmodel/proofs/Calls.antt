@@ -1,5 +1,6 @@
--- What calls of one system keep, whatever reaches it: that the members of an aggregator have its key and one group (members_call,
--- and members_driven of a list of calls), and the parties of its ports, but in a configure and a restart (parties_same).
+-- What calls of one system preserve, whatever it receives: that the members of an aggregator have its key and one group
+-- (members_call, and members_driven of a list of calls), and, but in a configure and a restart, the own parameters of
+-- its ports (parties_same).
 use Rattle.std.proofs.Common.{◌≡◌, ℕ, false, eqb, Option, Some, List, [], ◌∷◌, sym, refl, ap, ◌∙◌, subst, inl, inr, eqb-true}
 use Rattle.std.specs.Prelude.{option_map}
 use Rattle.std.proofs.lemmas.Bool.{cases_Bool, true≢false}

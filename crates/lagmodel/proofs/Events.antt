@@ -1,4 +1,4 @@
--- Every event keeps what holds of two systems, and so does every run.
+-- Every event preserves the facts of two systems, and so does every run.
 use Rattle.std.proofs.Common.{◌≡◌, ◌≢◌, ℕ, suc, Bool, true, false, Option, Some, None, List, [], ◌∷◌, ◌++◌, sym, refl, ap, ◌∙◌, subst, ◌⊎◌, inl, inr}
 use Rattle.std.proofs.lemmas.Bool.{true≢false, false≢true}
 use Rattle.lagtypes.specs.declared.party.Party.{Party}

@@ -1,4 +1,4 @@
--- What follows in a world of which the facts hold.
+-- What follows in a world in which the facts hold.
 use Rattle.std.proofs.Common.{◌≡◌, ℕ, Bool, true, false, not, ◌&&◌, Some, List, [], ◌∷◌, sym, refl, ap, ◌∙◌, subst, inl, inr, eq-eqb}
 use Rattle.std.specs.Prelude.{option_map}
 use Rattle.std.proofs.lemmas.Bool.{true≢false, cases_Bool}

@@ -1,4 +1,4 @@
--- What LACPDUs name: their senders' parties, and the partners that ports recorded.
+-- The Actor of an LACPDU is its sender, and the partner that a port recorded is the sender of an LACPDU.
 use Rattle.std.proofs.Common.{◌≡◌, ◌≢◌, ℕ, suc, ◌≤◌, Bool, true, false, eqb, Option, Some, None, IsSomeAnd, List, [], ◌∷◌, length, sym, refl, ap, ◌∙◌, subst, ◌⊎◌, inl, inr, arith, eqb-true}
 use Rattle.std.specs.Prelude.{option_map}
 use Rattle.std.proofs.lemmas.Bool.{eqb-false, true≢false, false≢true, cases_Bool}

@@ -1,4 +1,4 @@
--- A run in which two systems agree and a frame arrives: the law speaks of something.
+-- A run in which two systems agree and a frame arrives: the headline is not empty.
 use Rattle.std.proofs.Common.{◌≡◌, ℕ, zero, suc, Bool, true, false, cond, eqb, Option, Some, None, List, [], ◌∷◌, sym, refl, ap, ◌∙◌, ◌≢◌, inl, inr, arith, eqb-true}
 use Rattle.std.proofs.lemmas.Option.{none-some, same_Some}
 use Rattle.std.proofs.lemmas.Bool.{false≢true}

@@ -1,4 +1,4 @@
--- What every event of two systems keeps.
+-- What every event of two systems preserves.
 use Rattle.std.proofs.Common.{◌≡◌, ℕ, Bool, true, false, Option, List, [], ◌∷◌, sym, ◌∙◌}
 use Rattle.std.proofs.lemmas.Bool.{true≢false}
 use Rattle.lagtypes.specs.declared.party.Party.{Party}

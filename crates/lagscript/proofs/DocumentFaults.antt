@@ -1,4 +1,4 @@
--- No fault of a document is that its text is no TOML.
+-- The faults of a document are others than that its text is not TOML.
 use Rattle.std.proofs.Common.{ℕ, ◌≡◌, ◌+◌, Bool, true, false, List, [], ◌∷◌, codes, length, Option, None, Some, Result, Ok, Err, option_and_then, option_map, ap}
 use Rattle.toml.specs.Data.{Members, as_table}
 use Rattle.lagsystem.specs.declared.config.PortConfig.{PortConfig}

@@ -1,4 +1,4 @@
--- A configuration without a fault is not refused, and a plan from its parts.
+-- A configuration without a fault is accepted; and a plan made from its parts.
 use Rattle.std.proofs.Common.{ℕ, ◌≡◌, inl, inr, Bool, true, false, List, [], ◌∷◌, length, Option, None, Some, Result, Ok, Err, option_and_then, option_map, cond, refl, ap, subst, sym}
 use Rattle.toml.specs.Data.{Members}
 use Rattle.toml.specs.Parse.{parse_document}

@@ -1,4 +1,4 @@
--- What `parse` reads of a word without a plus is its number.
+-- The value that `parse` reads from a word without a plus sign is the word's number.
 use Rattle.std.proofs.Common.{ℕ, ◌≡◌, ◌≢◌, ◌<◌, ◌&&◌, Bool, true, false, cond, List, length, get_or, nat_lt, Some, None, Result, Ok, Err, refl}
 use Rattle.std.specs.Result.{OkIff, result_ok}
 use Rattle.std.specs.Str.{all_ascii_digits}

@@ -1,4 +1,4 @@
--- Choosing an aggregator is the move that joins it.
+-- Choosing an aggregator is the model's move of joining it.
 use Rattle.std.proofs.Common.{◌≡◌, ◌≢◌, ℕ, zero, suc, ◌<◌, ◌-◌, Bool, true, false, List, [], ◌∷◌, inl, inr, refl, sym, ◌∙◌, subst, ap, arith, Option, Some, None}
 use Rattle.std.specs.Prelude.{◌&&◌, slice_get, slice_set, not}
 use Rattle.std.specs.List.{All, AllByRecursion}

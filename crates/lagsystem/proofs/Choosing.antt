@@ -1,4 +1,4 @@
--- Ports choose one after another, and what is seen of them goes with them.
+-- Ports choose one after another, and the list of views stays equal to their views.
 use Rattle.std.proofs.Common.{◌≡◌, ◌∙◌, ℕ, zero, suc, ◌<◌, Bool, false, List, [], ◌∷◌, length, Option, Some, None, get_or, slice_get, slice_set, refl, subst, ap, arith}
 use Rattle.std.specs.List.{list_any}
 use Rattle.std.proofs.lemmas.Option.{same_Some}

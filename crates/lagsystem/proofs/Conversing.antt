@@ -1,4 +1,4 @@
--- What calls do to the conversations of a system are free moves.
+-- Each call changes the conversations of a system by free moves of the model.
 use Rattle.std.proofs.Common.{◌≡◌, ◌∙◌, ℕ, zero, suc, Bool, true, false, cond, List, [], ◌∷◌, Option, Some, None, Result, Ok, Err, refl, sym, ap, subst, arith, inl, inr, eqb, eqb-true, eq-eqb}
 use Rattle.std.specs.Prelude.{◌&&◌, ◌||◌, if◌then◌else◌, option_map, slice_get, IsSomeAnd, MatchOption}
 use Rattle.std.proofs.lemmas.Bool.{and_parts, cases_Bool, false≢true}

@@ -1,4 +1,4 @@
--- The first state of a system shows the first view.
+-- The first state of a system has the model's first view.
 use Rattle.std.proofs.Common.{◌≡◌, ℕ, zero, suc, Bool, true, false, cond, eqb, Option, Some, None, List, [], ◌∷◌, length, refl, sym, ◌∙◌, subst, ap, ◌⊎◌, inl, inr}
 use Rattle.std.specs.Prelude.{◌&&◌, not, if◌then◌else◌, option_map, slice_get, slice_set}
 use Rattle.std.specs.List.{AllZip, AllByRecursion}

@@ -1,4 +1,4 @@
--- Every call keeps the configuration of a system, and the numbers of its ports.
+-- Every call preserves the configuration of a system, and the numbers of its ports.
 use Rattle.std.proofs.Common.{◌≡◌, ◌∙◌, ℕ, zero, suc, ◌≤◌, Bool, true, false, List, [], ◌∷◌, Option, Some, None, Result, Ok, Err, ◌⊎◌, inl, inr, length, ap, sym, refl, subst, arith}
 use Rattle.std.specs.Prelude.{if◌then◌else◌, nat_le, slice_get, slice_set}
 use Rattle.std.specs.List.{AllZip}

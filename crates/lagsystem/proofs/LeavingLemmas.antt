@@ -1,4 +1,4 @@
--- Conversations leave ports one after another.
+-- Conversations leave stopped ports, one port after another.
 use Rattle.std.proofs.Common.{◌≡◌, ℕ, zero, suc, ◌+◌, ◌<◌, Bool, true, false, ◌==◌, ◌||◌, ◌&&◌, if◌then◌else◌, List, [], ◌∷◌, length, take, get_or, Option, None, refl, sym, ◌∙◌, ap, arith, add-one, inl, inr}
 use Rattle.std.proofs.lemmas.Bool.{cases_eq, eq-eqb, ne_eqb}
 use Rattle.lagtypes.specs.declared.identifiers.AggId.{AggId}

@@ -1,4 +1,4 @@
--- A port that found no aggregator finds none after another port took one, nor after mux machines moved.
+-- A port that found no aggregator finds none after another port chose one, nor after mux machines ran.
 use Rattle.std.proofs.Common.{◌≡◌, ◌∙◌, ℕ, zero, suc, Bool, true, false, cond, not, ◌==◌, ◌&&◌, ◌||◌, List, [], ◌∷◌, Option, Some, None, find, option_map, refl, ap, slice_get, slice_set}
 use Rattle.std.specs.List.{enumerate_from, list_all}
 use Rattle.std.proofs.lemmas.Option.{same_Some}

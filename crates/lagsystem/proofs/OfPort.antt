@@ -1,4 +1,4 @@
--- Moves of one port, whatever the others are, and of each port of a list.
+-- Moves of one port, whatever the other ports are, and moves of each port of a list.
 use Rattle.std.proofs.Common.{◌≡◌, ℕ, Bool, true, false, cond, eqb, Option, Some, None, List, [], ◌∷◌, ◌++◌, length, sym, refl, ap, ◌∙◌, subst, append_assoc, inl, inr, eqb-true, eq-eqb}
 use Rattle.std.specs.Prelude.{option_map, option_to_list, slice_get, slice_set}
 use Rattle.std.specs.List.{AllZip}

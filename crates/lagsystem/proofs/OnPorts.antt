@@ -1,4 +1,4 @@
--- After every call a conversation is on a port only while that distributes in its aggregator.
+-- After every call a conversation is On a port only if the port distributes in its aggregator.
 use Rattle.std.proofs.Common.{◌≡◌, ◌∙◌, ℕ, zero, suc, Bool, true, false, cond, ◌&&◌, eqb, List, [], ◌∷◌, Option, Some, None, Result, Ok, Err, refl, sym, ap, subst, ◌⊎◌, inl, inr, length}
 use Rattle.std.specs.Prelude.{if◌then◌else◌, slice_get, slice_set, filter, map}
 use Rattle.std.proofs.lemmas.Bool.{and_parts, eqb-true}

@@ -1,4 +1,4 @@
--- A configuration has one first state.
+-- A configuration has exactly one first state.
 use Rattle.std.proofs.Common.{◌≡◌, List, [], ◌∷◌, length, refl, sym, ◌∙◌, subst, ap}
 use Rattle.std.specs.List.{AllZip}
 use Rattle.lagtypes.specs.declared.identifiers.SystemId.{SystemId}

@@ -1,4 +1,4 @@
--- After a settling one more finds nothing to do, and if nothing is to be done a settling changes nothing.
+-- Right after a settling, another one has nothing to do; and if there is nothing to do, a settling changes nothing.
 use Rattle.std.proofs.Common.{◌≡◌, ◌∙◌, ℕ, zero, suc, Bool, true, false, cond, not, ◌&&◌, ◌||◌, List, [], ◌∷◌, length, Option, Some, None, refl, sym, ap, subst, inl, inr, slice_get, slice_set}
 use Rattle.std.specs.List.{AllByRecursion, AllZip, list_all}
 use Rattle.lagtypes.specs.declared.identifiers.AggId.{AggId}

@@ -1,4 +1,4 @@
--- What rows do to the view of a port.
+-- How rows change the model's view of a port.
 use Rattle.std.proofs.Common.{◌≡◌, ℕ, zero, suc, Bool, true, false, ◌&&◌, Option, List, [], ◌∷◌, sym, refl, ap, subst, inl, inr, IsTrue, IsSome}
 use Rattle.std.proofs.lemmas.Bool.{false≢true}
 use Rattle.std.proofs.lemmas.List.{append-nil}

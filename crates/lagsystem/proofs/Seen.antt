@@ -1,4 +1,4 @@
--- What readers tell of a port is what the law sees of it.
+-- What readers return for a port is what the model sees of it.
 use Rattle.std.proofs.Common.{◌≡◌, ◌∙◌, ℕ, suc, ◌+◌, ◌==◌, eqb, Bool, true, false, cond, Option, Some, None, List, [], ◌∷◌, refl, sym, ap, inl, inr, eqb-true, eq-eqb, arith}
 use Rattle.std.specs.Prelude.{not, length, nat_lt, slice_get, option_map}
 use Rattle.std.specs.List.{position_or_len}

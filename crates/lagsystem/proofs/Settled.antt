@@ -1,4 +1,4 @@
--- The calls that settle: their own effect, from what its parts do, and the ports that carried conversations before it.
+-- The calls that settle: their own effect, from what its parts do, and the ports that distributed before it.
 use Rattle.std.proofs.Common.{◌≡◌, ◌∙◌, ℕ, Bool, true, false, cond, ◌+◌, eqb, List, Option, None, sym, ap, subst}
 use Rattle.std.specs.Prelude.{ltb}
 use Rattle.lagtypes.specs.declared.identifiers.AggId.{AggId}

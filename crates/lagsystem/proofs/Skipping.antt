@@ -1,4 +1,4 @@
--- An LACPDU that leaves the port as others see it: settling leaves all but the periodic machine of that port.
+-- An LACPDU after which the port looks the same to others: settling runs only the periodic machine of that port.
 use Rattle.std.proofs.Common.{◌≡◌, ◌∙◌, ℕ, zero, suc, Bool, true, false, cond, ◌||◌, List, [], ◌∷◌, map, filter, Option, Some, None, refl, sym, ap, subst, inl, inr, slice_get, slice_set, if◌then◌else◌}
 use Rattle.std.specs.Bool.{OnTrue}
 use Rattle.std.specs.List.{AllByRecursion}

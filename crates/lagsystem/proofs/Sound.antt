@@ -1,4 +1,4 @@
--- Every call keeps a system sound, and a sound system agrees.
+-- Every call preserves the invariant of a system, and the invariant implies that the ports agree.
 use Rattle.std.proofs.Common.{ℕ, List, [], ◌∷◌, sym, subst, ap, refl}
 use Rattle.portmachines.specs.Mux.{partner_synchronized, selected}
 use Rattle.distributor.specs.Conversations.{Table}

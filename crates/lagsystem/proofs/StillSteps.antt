@@ -1,4 +1,4 @@
--- Every call leaves a system in which one more settling finds nothing to do.
+-- Every call ends in a state in which one more settling has nothing to do.
 use Rattle.std.proofs.Common.{◌≡◌, ℕ, Bool, true, false, not, ◌&&◌, List, Option, Some, None, Ok, Err, refl, sym, ap, subst, slice_get, slice_set}
 use Rattle.portmachines.specs.Periodic.{is_periodic}
 use Rattle.portmachines.specs.declared.periodic.PeriodicState.TheVariants.{NoPeriodic}

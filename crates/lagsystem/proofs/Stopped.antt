@@ -1,4 +1,4 @@
--- Conversations leave the ports that stopped, by the aggregators in which the ports distributed before.
+-- The conversations that leave stopped ports are those on ports that distributed before the call and no longer do.
 use Rattle.std.proofs.Common.{◌≡◌, ◌∙◌, ℕ, ◌==◌, ◌<◌, ◌+◌, Bool, true, false, cond, List, [], ◌∷◌, Option, Some, None, length, map, refl, sym, ap, subst, arith, inl, inr, eqb, eqb-true}
 use Rattle.std.specs.Prelude.{◌&&◌, ◌||◌, not, filter, if◌then◌else◌}
 use Rattle.std.proofs.lemmas.Bool.{cases_Bool, false≢true, true≢false}

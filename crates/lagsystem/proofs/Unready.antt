@@ -1,4 +1,4 @@
--- When mux machines have moved with Ready as it was, no aggregator is Ready.
+-- After mux machines ran with Ready as worked out before, no aggregator is Ready.
 use Rattle.std.proofs.Common.{◌≡◌, ◌∙◌, ℕ, zero, suc, Bool, true, false, cond, not, ◌&&◌, ◌||◌, List, [], ◌∷◌, filter, refl, sym, ap, subst, inl, inr, if◌then◌else◌}
 use Rattle.std.specs.List.{list_all, list_any}
 use Rattle.std.proofs.lemmas.Bool.{eqb-true}

@@ -1,4 +1,4 @@
--- Any eleven consecutive ticks hold at most three sends of a port, over runs of calls of a system.
+-- Any eleven consecutive ticks hold at most three LACPDUs of a port, over lists of calls of a system.
 use Rattle.std.proofs.Common.{◌≡◌, ◌&&◌, ◌∙◌, ◌<◌, ◌≤◌, ◌+◌, ◌==◌, ◌++◌, ℕ, zero, suc, Bool, true, false, cond, List, [], ◌∷◌, Option, Some, None, Ok, Err, drop, length, ap, sym, refl, subst, arith, get_or, nat_lt, append_assoc}
 use Rattle.std.specs.Prelude.{if◌then◌else◌, slice_get, slice_set, option_map}
 use Rattle.std.specs.List.{AllByRecursion, AllZip, find, position_or_len}

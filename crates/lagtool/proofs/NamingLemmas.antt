@@ -1,4 +1,4 @@
--- The entries of a script name systems and cables that there are.
+-- The entries of a script name only systems and cables that exist.
 use Rattle.std.proofs.Common.{◌≡◌, ◌==◌, ◌+◌, ◌≤◌, ℕ, suc, arith, Bool, true, false, List, [], ◌∷◌, Option, Some, None, length, refl, sym, ap, ◌∙◌, subst, if◌then◌else◌}
 use Rattle.std.specs.Prelude.{◌&&◌, ◌||◌, Result, Ok, Err, codes, is_some, nat_le, option_and_then}
 use Rattle.std.specs.List.{list_all}

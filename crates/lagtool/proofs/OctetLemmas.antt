@@ -1,4 +1,4 @@
--- Known octets over several calls.
+-- The octets of a sink or a source over several calls.
 use Rattle.std.proofs.Common.{ℕ, ◌++◌, List, [], Option, None, Some, refl, sym, ap, ◌∙◌, append_assoc}
 use Rattle.std.proofs.lemmas.List.{append-nil}
 use Rattle.std.specs.Io.KnownBytes.{Appends, Consumes}

@@ -1,4 +1,4 @@
--- Nothing but memory is refused to a script.
+-- A script is refused nothing but memory.
 use Rattle.std.proofs.Common.{◌≡◌, ◌+◌, ◌<◌, ◌≤◌, ◌==◌, ℕ, zero, suc, Bool, true, false, List, [], ◌∷◌, Option, Some, None, length, map, take, refl, sym, ap, ap₂, ◌∙◌, subst, inl, inr, if◌then◌else◌, arith}
 use Rattle.std.specs.Prelude.{◌&&◌, is_some, nat_le, slice_get}
 use Rattle.std.specs.List.{list_all}

@@ -1,4 +1,4 @@
--- What a sink has taken of some octets.
+-- How many of some octets a sink has accepted.
 use Rattle.std.proofs.Common.{◌≡◌, ◌-◌, ℕ, true, List, ◌++◌, length, take, drop, Option, refl, sym, ap, subst, ◌∙◌, append_assoc, take-append-drop, Result, Ok, Err}
 use Rattle.std.proofs.lemmas.List.{take_rest, take_at}
 use Rattle.std.specs.Prelude.{OnErr}

@@ -1,4 +1,4 @@
--- What is said of a payload that reads as a PDU.
+-- The verdict on a payload that reads as a PDU.
 use Rattle.std.proofs.Common.{ℕ, ◌≡◌, ◌==◌, ◌∙◌, cond, sym, ap, refl, List, slice_index}
 use Rattle.slowpdu.specs.Lacpdus.{Reads}
 use Rattle.slowpdu.specs.Markers.{ReadsMarker, kind_number}

@@ -1,4 +1,4 @@
--- What is equal by test is equal, and each thing is equal to itself by test.
+-- The Boolean tests of equality hold exactly of equal values.
 use Rattle.std.proofs.Common.{◌≡◌, ◌==◌, ℕ, Bool, true, false, ◌&&◌, refl, ap, Option, Some, None}
 use Rattle.std.specs.Option.{option_eq}
 use Rattle.std.specs.Str.{bytes_eq}

@@ -1,4 +1,4 @@
--- A state octet is its eight bits: each case is computed.
+-- A state octet and its eight bits determine each other; each of the 256 cases is computed.
 use Rattle.std.proofs.Common.{◌≡◌, ◌<◌, ℕ, zero, suc, Bool, true, false, ◌&&◌, refl, ap, sym, ◌∙◌, arith, nat_eq}
 use Rattle.std.proofs.lemmas.Bool.{and_parts}
 use Rattle.std.specs.Prelude.{◌==◌, if◌then◌else◌}

@@ -1,4 +1,4 @@
--- What an event did, by the system or cable that it names.
+-- What an event did to the system or cable that it names.
 use Rattle.std.proofs.Common.{◌≡◌, ℕ, ◌==◌, Bool, true, false, if◌then◌else◌, Some, None, IsSomeAnd, Result, Ok, Err, IfOk, nat_le, sym, refl, subst}
 use Rattle.std.specs.Prelude.{is_some}
 use Rattle.std.specs.Global.{Vec}

@@ -1,4 +1,4 @@
--- The ends of a cable never name two groups if neither earlier answer holds.
+-- The ends of a cable never have different groups if none of the earlier variants of `Agreement` holds.
 use Rattle.std.proofs.Common.{◌≡◌, ◌≢◌, ℕ, zero, suc, ◌+◌, ◌&&◌, ◌||◌, Bool, true, false, Option, Some, None, IsSomeAnd, List, map, ap, sym, refl, ◌∙◌, subst, arith, eqb-true}
 use Rattle.std.specs.Prelude.{not, is_some, option_map, slice_get}
 use Rattle.std.specs.Option.{unwrap_or}

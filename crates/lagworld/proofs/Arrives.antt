@@ -1,4 +1,4 @@
--- What comes on a port.
+-- What an item that arrives on a port does.
 use Rattle.std.proofs.Common.{◌≡◌, ℕ, suc, ◌==◌, eqb, ◌++◌, Bool, true, false, cond, Option, Some, None, IsSome, List, [], ◌∷◌, map, sym, refl, ap, ◌∙◌, subst, inl, inr, ◌⊎◌, Ok, Err, Result, eqb-true, eq-eqb}
 use Rattle.std.specs.Prelude.{option_map, option_to_list, slice_get}
 use Rattle.std.proofs.lemmas.Bool.{cases_Bool, true≢false}

@@ -1,4 +1,4 @@
--- Serials that are handed up, and the places that are reserved for them.
+-- Serial numbers that are collected, and the places that are reserved for them.
 use Rattle.std.proofs.Common.{◌≡◌, ◌<◌, ◌≤◌, ◌+◌, ◌++◌, ℕ, suc, Bool, List, [], ◌∷◌, length, map, get_or, set, Option, Some, Result, Ok, Err, refl, sym, ap, ◌∙◌, subst, arith}
 use Rattle.std.specs.Prelude.{OnOk, slice_get, vec_capacity, vec_len}
 use Rattle.std.specs.Global.{Vec}

@@ -1,4 +1,4 @@
--- Events that change parties, and the count of changes: a configure and a restart.
+-- The events that change parameters of ports, a configure and a restart, and the change counts.
 use Rattle.std.proofs.Common.{◌≡◌, ◌≢◌, ℕ, zero, suc, ◌+◌, eqb, Bool, true, if◌then◌else◌, Option, Some, None, IsSome, List, [], ◌∷◌, map, sym, refl, ap, ◌∙◌, subst, inl, inr, ◌⊎◌, Result, eqb-true, arith}
 use Rattle.std.specs.Prelude.{option_map, slice_get, is_some}
 use Rattle.std.proofs.lemmas.Bool.{cases_Bool, true≢false}

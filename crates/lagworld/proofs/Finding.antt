@@ -1,4 +1,4 @@
--- What is kept of a conversation stands at its place.
+-- The record of a conversation is at its index.
 use Rattle.std.proofs.Common.{◌≡◌, ◌<◌, ◌≤◌, ℕ, suc, Some, None, List, length, map, get_or, ap, refl, ◌∙◌, subst, sym}
 use Rattle.std.specs.Prelude.{option_map, slice_get}
 use Rattle.std.proofs.lemmas.List.{length-map}

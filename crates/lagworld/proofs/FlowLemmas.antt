@@ -1,4 +1,4 @@
--- What is kept of a conversation is changed, in code and as contracts see it.
+-- The record of a conversation changes, in code and as contracts see it.
 use Rattle.std.proofs.Common.{◌≡◌, ◌<◌, ◌≤◌, ◌+◌, ℕ, zero, suc, Some, None, List, [], ◌∷◌, length, map, set, get_or, sym, refl, ap, ◌∙◌, subst, inl, inr, ◌⊎◌, arith}
 use Rattle.std.specs.Prelude.{slice_get, option_map}
 use Rattle.std.specs.Global.{Vec}

@@ -1,4 +1,4 @@
--- Each event of a world is one of the law's.
+-- Each event of a world is an event of the model.
 use Rattle.std.proofs.Common.{◌≡◌, ℕ, suc, true, false, Some, None, List, [], map, sym, refl, ap, subst, inl, inr, ◌⊎◌, Result}
 use Rattle.std.specs.Prelude.{slice_get, slice_set}
 use Rattle.lagtypes.specs.declared.identifiers.AggId.{AggId}

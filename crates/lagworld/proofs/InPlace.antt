@@ -1,4 +1,4 @@
--- Counting the changes of all ports, and emptying all cables: a list is written in its place.
+-- Counting the changes of all ports, and emptying all cables: loops that replace each element of a list.
 use Rattle.std.proofs.Common.{◌≡◌, ◌<◌, ◌≤◌, ◌+◌, ◌++◌, ℕ, zero, suc, List, [], ◌∷◌, length, map, set, get_or, take, drop, ap, sym, ◌∙◌, subst, arith}
 use Rattle.std.proofs.Math.ListN.{get_or-map}
 use Rattle.std.proofs.lemmas.List.{map-set, length-map}

@@ -1,4 +1,4 @@
--- Each event keeps what every world keeps.
+-- Each event preserves the invariant of a world.
 use Rattle.std.proofs.Common.{◌≡◌, ◌≤◌, ℕ, ◌+◌, ◌++◌, Bool, true, false, Option, Some, None, IsSome, List, [], ◌∷◌, map, sym, refl, ◌∙◌, subst, Ok, Err, Result, arith}
 use Rattle.std.specs.Prelude.{slice_get, nat_le}
 use Rattle.std.proofs.lemmas.Bool.Decides.{nat_tests}

@@ -1,4 +1,4 @@
--- What a sound world keeps to, and runs of events.
+-- What a sound world promises, and runs of events.
 use Rattle.std.proofs.Common.{◌≡◌, ◌<◌, ℕ, ◌+◌, ◌++◌, Option, Some, None, List, [], ◌∷◌, map, take, length, get_or, sym, refl, ap, ◌∙◌, subst, inl, inr, ◌⊎◌, true, Ok, Err, Result, IfOk, IfErr}
 use Rattle.std.proofs.lemmas.List.{take_more, map-append}
 use Rattle.std.proofs.lemmas.Option.{slice_get-get_or}

@@ -1,4 +1,4 @@
--- What a system sends goes onto the cable as the message that its octets stand for.
+-- What a system sends goes onto the cable as the model's message for its octets.
 use Rattle.std.proofs.Common.{◌≡◌, ℕ, ◌++◌, Option, Some, None, IsSome, List, [], ◌∷◌, length, sym, refl, ap, ◌∙◌, subst, Ok, Err, Result}
 use Rattle.std.specs.Prelude.{option_map}
 use Rattle.lagtypes.specs.declared.identifiers.AggId.{AggId}

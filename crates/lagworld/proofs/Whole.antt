@@ -1,4 +1,4 @@
--- Every event of a sound world is one of the law's, and so is every run.
+-- Every event of a sound world is an event of the model, and every run is a run of the model.
 use Rattle.std.proofs.Common.{◌≡◌, ℕ, zero, suc, ◌==◌, Bool, true, false, if◌then◌else◌, Some, None, IsSome, List, sym, refl, ◌∙◌, subst, inl, inr, arith}
 use Rattle.std.specs.Prelude.{◌&&◌, slice_get, nat_lt, nat_le, length, Result, Ok, Err}
 use Rattle.std.proofs.lemmas.Bool.{cases_Bool, true≢false}

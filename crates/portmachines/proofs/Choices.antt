@@ -1,4 +1,4 @@
--- The rows leave no choice: each call has one effect.
+-- The machines are deterministic: each call has exactly one effect.
 use Rattle.std.proofs.Common.{◌≡◌, ℕ, zero, suc, Bool, true, false, cond, not, ◌&&◌, ◌||◌, List, [], ◌∷◌, refl, sym, ◌∙◌, ap, subst, inl, inr}
 use Rattle.std.proofs.lemmas.Bool.{and_left, and_right, and_parts, or_parts, not-true}
 use Rattle.lagtypes.specs.declared.party.Choice.{Choice}

@@ -1,4 +1,4 @@
--- Runs of rows.
+-- Rows that fire one after another.
 use Rattle.std.proofs.Common.{◌≡◌, ℕ, zero, suc, ◌+◌, List, [], ◌∷◌, ap, ◌∙◌, inl, inr, add-one}
 use Rattle.portmachines.specs.Machines.{Machines}
 use Rattle.portmachines.specs.Rows.{Row, Fires, Reaches}

@@ -1,4 +1,4 @@
--- The tests of the definitions are equalities.
+-- The Boolean tests in the definitions mean equality.
 use Rattle.std.proofs.Common.{◌≡◌, ◌↔◌, IsTrue, true, subst}
 use Rattle.lagtypes.specs.declared.identifiers.SystemId.{SystemId}
 use Rattle.lagtypes.specs.Group.{SamePair, group_of}

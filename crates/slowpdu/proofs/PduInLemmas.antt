@@ -1,4 +1,4 @@
--- The reading of a payload as a function is the reading that there is.
+-- The reading of a payload as a function gives the PDU that the payload reads as.
 use Rattle.std.proofs.Common.{◌≡◌, ◌<◌, ◌+◌, ◌^◌, ℕ, zero, suc, List, [], refl, sym, ap, ◌∙◌, arith, subst, append-nil}
 use Rattle.std.proofs.Math.Nat.{mod-lt}
 use Rattle.std.specs.Int.{byte_at, bytes_high_first}

@@ -1,4 +1,4 @@
--- A payload that is not refused has a reading.
+-- A payload that is not refused reads as a PDU.
 use Rattle.std.proofs.Common.{◌≡◌, ◌≤◌, ◌+◌, ℕ, List, length, drop, take, slice_index, None, refl, sym, inl, inr, arith}
 use Rattle.std.specs.List.{AllByRecursion}
 use Rattle.std.proofs.lemmas.List.{length-drop, length-take}

@@ -1,4 +1,4 @@
--- What was read so far is answered.
+-- The loop's invariant: what was read so far is answered.
 use Rattle.std.proofs.Common.{◌≡◌}
 use Rattle.lagengine.specs.Sessions.{session_of}
 use Rattle.lagengine.proofs.ServeLemmas.{Told}

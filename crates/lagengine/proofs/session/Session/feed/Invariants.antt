@@ -1,4 +1,4 @@
--- What is gone of the piece was read.
+-- The loop's invariant: the part of the piece that is gone was read.
 use Rattle.std.proofs.Common.{◌≡◌, take}
 use Rattle.lagengine.specs.Sessions.{Feeds, session_of}
 use Rattle.lagengine.proofs.session.Session.feed.Given as goal

@@ -1,4 +1,4 @@
--- What is gone from `rest` was read.
+-- The loop's invariant: the part of the piece that is gone from `rest` was read.
 use Rattle.std.proofs.Common.{ℕ, List, ◌≡◌, ◌+◌, ◌++◌, ◌≤◌, length}
 use Rattle.lagtool.specs.Scans.{Reads}
 use Rattle.lagtool.proofs.scan.Scan.feed.Given as goal

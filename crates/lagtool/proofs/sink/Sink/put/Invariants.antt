@@ -1,4 +1,4 @@
--- What is gone from `rest` was taken.
+-- The loop's invariant: the part of the octets that is gone from `rest` was accepted.
 use Rattle.std.proofs.Common.{◌≡◌, List, ◌++◌, ℕ, length}
 use Rattle.lagtool.specs.Sinks.{Takes}
 use Rattle.lagtool.proofs.sink.Sink.put.Given as goal
