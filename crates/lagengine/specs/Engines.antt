@@ -75,7 +75,8 @@ Starts plan old answer new = ⊥
 -- the call is made; or it is stored, if calls are stored
 abbrev pub Calls : (ℕ → ℕ → ℕ → Type 0) → Call → State → Option (List Call) → Said → Held → Type 0
 Calls gives call s None answer new =
-    (reply : Reply) × (t : State) × Answers gives s call reply t × (answer ≡ said.Replied reply) × (new ≡ record { system = Some t; kept = None })
+    (reply : Reply) × (t : State) × Answers gives s call reply t × (answer ≡ said.Replied reply)
+    × (new ≡ record { system = Some t; kept = None })
 Calls gives call s (Some calls) answer new = (answer ≡ said.Kept) × (new ≡ record { system = Some s; kept = Some (calls ++ call ∷ []) })
 
 -- from now on, calls are stored
@@ -87,7 +88,8 @@ begun (Some calls) = calls
 abbrev pub DrivesKept : (ℕ → ℕ → ℕ → Type 0) → State → Option (List Call) → Said → Held → Type 0
 DrivesKept gives s None answer new = (answer ≡ said.Fault NotKeeping) × (new ≡ record { system = Some s; kept = None })
 DrivesKept gives s (Some calls) answer new =
-    (replies : List Reply) × (t : State) × Drives gives s calls replies t × (answer ≡ said.Drove replies) × (new ≡ record { system = Some t; kept = None })
+    (replies : List Reply) × (t : State) × Drives gives s calls replies t × (answer ≡ said.Drove replies)
+    × (new ≡ record { system = Some t; kept = None })
 
 -- the answer of a reader
 abbrev pub told : Question → State → Said
@@ -104,7 +106,8 @@ abbrev pub Acts : (ℕ → ℕ → ℕ → Type 0) → Asked → State → Optio
 Acts gives (Make call) s kept answer new = Calls gives call s kept answer new
 Acts gives Keep s kept answer new = (answer ≡ said.Done) × (new ≡ record { system = Some s; kept = Some (begun kept) })
 Acts gives Drive s kept answer new = DrivesKept gives s kept answer new
-Acts gives (Conversation octets) s kept answer new = (answer ≡ said.Conversation (conversation_in s octets)) × (new ≡ record { system = Some s; kept = kept })
+Acts gives (Conversation octets) s kept answer new = (answer ≡ said.Conversation (conversation_in s octets))
+    × (new ≡ record { system = Some s; kept = kept })
 Acts gives (Tell q) s kept answer new = (answer ≡ told q s) × (new ≡ record { system = Some s; kept = kept })
 
 -- without a system, the answer is NoSystem

@@ -32,7 +32,13 @@ pub record Plan : Type 0 where
   pub ports : List PortConfig
 
 abbrev pub plan_of : Config → Plan
-plan_of c = record { system = c.system; max_delay = c.max_delay; first_marker = c.first_marker; keys = c.aggregators.items; ports = c.ports.items }
+plan_of c = record {
+  system = c.system;
+  max_delay = c.max_delay;
+  first_marker = c.first_marker;
+  keys = c.aggregators.items;
+  ports = c.ports.items;
+}
 
 -- a task for a system: make a call, store calls from now on, make the stored calls, or answer a question
 pub data Asked : Type 0 where
@@ -133,14 +139,16 @@ two f g make ws = two_words ws >>= λ p. f p.0 >>= λ x. g p.1 >>= λ y. Ok (mak
 abbrev pub three : {A B C : Type 0} → Reader A → Reader B → Reader C → (A → B → C → Asked) → List (List ℕ) → Result Asked LineFault
 three f g h make ws = three_words ws >>= λ p. f p.0 >>= λ x. g p.1 >>= λ y. h p.2 >>= λ z. Ok (make x y z)
 
-abbrev pub four : {A B C D : Type 0} → Reader A → Reader B → Reader C → Reader D → (A → B → C → D → Asked) → List (List ℕ) → Result Asked LineFault
+abbrev pub four : {A B C D : Type 0} → Reader A → Reader B → Reader C → Reader D → (A → B → C → D → Asked) → List (List ℕ)
+    → Result Asked LineFault
 four f g h i make ws = four_words ws >>= λ p. f p.0 >>= λ x. g p.1 >>= λ y. h p.2 >>= λ z. i p.3 >>= λ w. Ok (make x y z w)
 
 abbrev pub agg_of : ℕ → AggId
 agg_of n = record { 0 = n }
 
 abbrev pub configured : ℕ → ℕ → ℕ → Bool → Asked
-configured port key priority aggregatable = Make (Configure port (record { key = record { 0 = key }; priority = priority; aggregatable = aggregatable }))
+configured port key priority aggregatable = Make (Configure port
+    (record { key = record { 0 = key }; priority = priority; aggregatable = aggregatable }))
 
 -- PRIORITY MAC MAX_DELAY FIRST_MARKER KEYS PORT ..
 abbrev pub plan_in : List (List ℕ) → Result Plan LineFault
@@ -166,7 +174,8 @@ question_named name =
     else if bytes_eq name (codes "ports") then none (Tell question.Ports)
     else if bytes_eq name (codes "aggregators") then none (Tell question.Aggregators)
     else if bytes_eq name (codes "distributing") then one number_word (λ n. Tell (question.Distributing (agg_of n)))
-    else if bytes_eq name (codes "conversation-state") then two number_word number_word (λ g k. Tell (question.ConversationState (agg_of g) k))
+    else if bytes_eq name (codes "conversation-state") then two number_word number_word
+    (λ g k. Tell (question.ConversationState (agg_of g) k))
     else if bytes_eq name (codes "next-marker") then none (Tell question.NextMarker)
     else if bytes_eq name (codes "all") then none (Tell question.All)
     else (λ _. Err fault.Word)
@@ -179,7 +188,8 @@ call_named name =
     else if bytes_eq name (codes "link") then two number_word link_word (λ port up. Make (Set_link port up))
     else if bytes_eq name (codes "transmit") then one number_word (λ port. Make (Transmit port))
     else if bytes_eq name (codes "configure") then four number_word number_word number_word kind_word configured
-    else if bytes_eq name (codes "move") then three number_word number_word number_word (λ g k port. Make (Move_conversation (agg_of g) k port))
+    else if bytes_eq name (codes "move") then three number_word number_word number_word
+    (λ g k port. Make (Move_conversation (agg_of g) k port))
     else if bytes_eq name (codes "force") then two number_word number_word (λ g k. Make (Force (agg_of g) k))
     else question_named name
 

@@ -25,7 +25,8 @@ abbrev pub AnswersLines : (ℕ → ℕ → ℕ → Type 0) → List (List ℕ) �
 AnswersLines gives [] old [] new = new ≡ old
 AnswersLines gives [] old (answer ∷ answers) new = ⊥
 AnswersLines gives (line ∷ lines) old [] new = ⊥
-AnswersLines gives (line ∷ lines) old (answer ∷ answers) new = (mid : Held) × AnswersLine gives line old answer mid × AnswersLines gives lines mid answers new
+AnswersLines gives (line ∷ lines) old (answer ∷ answers) new = (mid : Held) × AnswersLine gives line old answer mid
+    × AnswersLines gives lines mid answers new
 
 -- the state of a session's engine, and the octets of the line being read; of a line that is too long, only 65,537
 pub record SessionState : Type 0 where
@@ -52,7 +53,8 @@ module _ (gives : ℕ → ℕ → ℕ → Type 0) where
   pub record Reads (old new : SessionState) (octets : List ℕ) (answers : List Said) : Type 0 where
     pub lines : List (List ℕ)
     pub ended : length lines ≡ newlines octets
-    pub same : (rest : List ℕ) → requests (prepend old.line (lines_of (octets ++ rest))) ≡ requests (lines ++ prepend new.line (lines_of rest))
+    pub same : (rest : List ℕ) → requests (prepend old.line (lines_of (octets ++ rest))) ≡ requests (lines
+        ++ prepend new.line (lines_of rest))
     pub answered : AnswersLines gives lines old.held answers new.held
 
   -- the first of these lines were answered

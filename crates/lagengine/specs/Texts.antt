@@ -146,11 +146,13 @@ kind_text false = codes "individual"
 
 -- SYSTEM key KEY port PORT KIND
 abbrev pub party_text : Party → List ℕ
-party_text p = system_text p.system ++ (codes " key " ++ (decimal p.key.0 ++ (codes " port " ++ (port_text p.port ++ 32 ∷ kind_text p.aggregatable))))
+party_text p = system_text p.system ++ (codes " key " ++ (decimal p.key.0
+    ++ (codes " port " ++ (port_text p.port ++ 32 ∷ kind_text p.aggregatable))))
 
 -- SYSTEM key KEY port PORT state HH WORDS
 abbrev pub partner_text : Info → List ℕ
-partner_text p = system_text p.system ++ (codes " key " ++ (decimal p.key.0 ++ (codes " port " ++ (port_text p.port ++ (codes " state " ++ state_text (octet p.state))))))
+partner_text p = system_text p.system ++ (codes " key " ++ (decimal p.key.0
+    ++ (codes " port " ++ (port_text p.port ++ (codes " state " ++ state_text (octet p.state))))))
 
 abbrev pub choice_text : Choice → List ℕ
 choice_text Unselected = codes "unselected"
@@ -171,7 +173,8 @@ receive_text receive.Current = codes "current"
 
 -- both ends of a port's link, and their group
 abbrev pub ends_text : Look → List ℕ
-ends_text l = codes "party " ++ (party_text l.party ++ (codes "; partner " ++ (partner_text l.partner ++ (codes "; group " ++ group_text l.group))))
+ends_text l = codes "party " ++ (party_text l.party ++ (codes "; partner "
+    ++ (partner_text l.partner ++ (codes "; group " ++ group_text l.group))))
 
 -- the values of a port's machines
 abbrev pub held_text : Look → List ℕ
@@ -226,7 +229,8 @@ abbrev pub doing_text : Assignment → List ℕ
 doing_text (Free preferred) = codes "free" ++ preferred_text preferred
 doing_text (On port) = codes "on " ++ decimal port
 doing_text (Wanted port preferred) = codes "wanted " ++ (decimal port ++ preferred_text preferred)
-doing_text (Flushing port id preferred age) = codes "flushing " ++ (decimal port ++ (codes " id " ++ (decimal id ++ (codes " age " ++ (decimal age ++ preferred_text preferred)))))
+doing_text (Flushing port id preferred age) = codes "flushing "
+    ++ (decimal port ++ (codes " id " ++ (decimal id ++ (codes " age " ++ (decimal age ++ preferred_text preferred)))))
 
 abbrev pub doing_or_none : Option Assignment → List ℕ
 doing_or_none None = codes "none"

@@ -82,9 +82,18 @@ seven_fields _ = Err fault.Count
 
 abbrev pub port_fields : List (List ℕ) → Result PortConfig LineFault
 port_fields ws =
-    seven_fields ws >>= λ p. number_word p.0 >>= λ number. number_word p.1 >>= λ priority. mac_word p.2 >>= λ mac. number_word p.3 >>= λ key.
+    seven_fields ws >>= λ p. number_word p.0 >>= λ number. number_word p.1 >>= λ priority. mac_word p.2 >>= λ mac. number_word p.3
+    >>= λ key.
     flag_word p.4 >>= λ aggregatable. flag_word p.5 >>= λ active. flag_word p.6 >>= λ short.
-    Ok (record { number = number; priority = priority; mac = mac; key = record { 0 = key }; aggregatable = aggregatable; active = active; short = short })
+    Ok (record {
+      number = number;
+      priority = priority;
+      mac = mac;
+      key = record { 0 = key };
+      aggregatable = aggregatable;
+      active = active;
+      short = short;
+    })
 
 abbrev pub port_word : List ℕ → Result PortConfig LineFault
 port_word w = port_fields (parts 58 w)

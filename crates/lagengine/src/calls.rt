@@ -61,7 +61,8 @@ fn configure(words: &[&str]) -> Result<Task, LineFault>
 }
 
 fn move_conversation(words: &[&str]) -> Result<Task, LineFault>
-    ensures { seen result ≡ three number_word number_word number_word (λ g k port. asked.Make (call.Move_conversation (asked.agg_of g) k port)) (map (λ w. w.now) words.now) }
+    ensures { seen result ≡ three number_word number_word number_word
+        (λ g k port. asked.Make (call.Move_conversation (asked.agg_of g) k port)) (map (λ w. w.now) words.now) }
 {
     let (agg, conv, port) = three_words(words)?;
     let agg = AggId(number(agg)?);
@@ -94,7 +95,8 @@ fn distributing(words: &[&str]) -> Result<Task, LineFault>
 }
 
 fn conversation_state(words: &[&str]) -> Result<Task, LineFault>
-    ensures { seen result ≡ two number_word number_word (λ g k. asked.Tell (question.ConversationState (asked.agg_of g) k)) (map (λ w. w.now) words.now) }
+    ensures { seen result ≡ two number_word number_word (λ g k. asked.Tell (question.ConversationState (asked.agg_of g) k))
+        (map (λ w. w.now) words.now) }
 {
     let (agg, conv) = two_words(words)?;
     let agg = AggId(number(agg)?);

@@ -100,7 +100,8 @@ fn take<F: Fn(u16, usize) -> usize + Drop>(
     call: Call,
 ) -> Result<Answer, AllocError>
     requires usable { PicksPlaces (F.pre system.old.algorithm) (F.post system.old.algorithm) }
-    ensures acts { IfOk result (λ answer. Calls (F.post system.old.algorithm) (call_of call) system.old.state (kept_of kept.old) (said_of answer) (held_of system.new kept.new)) }
+    ensures acts { IfOk result (λ answer. Calls (F.post system.old.algorithm) (call_of call) system.old.state (kept_of kept.old)
+        (said_of answer) (held_of system.new kept.new)) }
     ensures err { OnErr result (held_of system.new kept.new ≡ held_of system.old kept.old) }
     ensures algorithm { system.new.algorithm ≡ system.old.algorithm }
 {
@@ -120,7 +121,8 @@ fn drive<F: Fn(u16, usize) -> usize + Drop>(
     kept: &mut Option<Vec<Call>>,
 ) -> Result<Answer, AllocError>
     requires usable { PicksPlaces (F.pre system.old.algorithm) (F.post system.old.algorithm) }
-    ensures acts { IfOk result (λ answer. DrivesKept (F.post system.old.algorithm) system.old.state (kept_of kept.old) (said_of answer) (held_of system.new kept.new)) }
+    ensures acts { IfOk result (λ answer. DrivesKept (F.post system.old.algorithm) system.old.state (kept_of kept.old) (said_of answer)
+        (held_of system.new kept.new)) }
     ensures err { OnErr result (held_of system.new kept.new ≡ held_of system.old kept.old) }
     ensures algorithm { system.new.algorithm ≡ system.old.algorithm }
 {
@@ -149,7 +151,8 @@ fn work_on<F: Fn(u16, usize) -> usize + Drop>(
     task: Task,
 ) -> Result<Answer, AllocError>
     requires usable { PicksPlaces (F.pre system.old.algorithm) (F.post system.old.algorithm) }
-    ensures acts { IfOk result (λ answer. Acts (F.post system.old.algorithm) (task_of task) system.old.state (kept_of kept.old) (said_of answer) (held_of system.new kept.new)) }
+    ensures acts { IfOk result (λ answer. Acts (F.post system.old.algorithm) (task_of task) system.old.state (kept_of kept.old)
+        (said_of answer) (held_of system.new kept.new)) }
     ensures err { OnErr result (held_of system.new kept.new ≡ held_of system.old kept.old) }
     ensures algorithm { system.new.algorithm ≡ system.old.algorithm }
 {
@@ -188,7 +191,8 @@ impl<F: Fn(u16, usize) -> usize + Copy + Drop> Core<F> {
     fn work(&mut self, task: Task) -> Result<Answer, AllocError>
         requires usable { PicksPlaces (F.pre self.old.algorithm) (F.post self.old.algorithm) }
         requires same { HasAlgorithm self.old.algorithm self.old.system }
-        ensures acts { IfOk result (λ answer. ActsWhere (F.post self.old.algorithm) (task_of task) (state_of self.old.system) (kept_of self.old.kept) (said_of answer) (whole_of self.new).held) }
+        ensures acts { IfOk result (λ answer. ActsWhere (F.post self.old.algorithm) (task_of task) (state_of self.old.system)
+            (kept_of self.old.kept) (said_of answer) (whole_of self.new).held) }
         ensures err { OnErr result ((whole_of self.new).held ≡ (whole_of self.old).held) }
         ensures algorithm { self.new.algorithm ≡ self.old.algorithm }
         ensures same { HasAlgorithm self.new.algorithm self.new.system }
@@ -203,7 +207,8 @@ impl<F: Fn(u16, usize) -> usize + Copy + Drop> Core<F> {
     fn act(&mut self, request: Request) -> Result<Answer, AllocError>
         requires usable { PicksPlaces (F.pre self.old.algorithm) (F.post self.old.algorithm) }
         requires same { HasAlgorithm self.old.algorithm self.old.system }
-        ensures does { IfOk result (λ answer. Does (F.post self.old.algorithm) (Ok (asked_of request)) (whole_of self.old).held (said_of answer) (whole_of self.new).held) }
+        ensures does { IfOk result (λ answer. Does (F.post self.old.algorithm) (Ok (asked_of request)) (whole_of self.old).held
+            (said_of answer) (whole_of self.new).held) }
         ensures err { OnErr result ((whole_of self.new).held ≡ (whole_of self.old).held) }
         ensures algorithm { self.new.algorithm ≡ self.old.algorithm }
         ensures same { HasAlgorithm self.new.algorithm self.new.system }
@@ -218,7 +223,8 @@ impl<F: Fn(u16, usize) -> usize + Copy + Drop> Core<F> {
     fn answer(&mut self, line: &[u8]) -> Answer
         requires usable { PicksPlaces (F.pre self.old.algorithm) (F.post self.old.algorithm) }
         requires same { HasAlgorithm self.old.algorithm self.old.system }
-        ensures answers { AnswersLine (F.post self.old.algorithm) line.now (whole_of self.old).held (said_of result) (whole_of self.new).held }
+        ensures answers { AnswersLine (F.post self.old.algorithm) line.now (whole_of self.old).held (said_of result)
+            (whole_of self.new).held }
         ensures algorithm { self.new.algorithm ≡ self.old.algorithm }
         ensures same { HasAlgorithm self.new.algorithm self.new.system }
     {

@@ -107,7 +107,8 @@ pub(crate) fn two_words<'a>(words: &[&'a str]) -> Result<(&'a str, &'a str), Lin
 }
 
 fn receive(alloc: Global, words: &[&str]) -> Result<Task, LineError>
-    ensures { Enters task_of (two number_word hex_word (λ port octets. asked.Make (call.Receive port octets)) (map (λ w. w.now) words.now)) result }
+    ensures { Enters task_of (two number_word hex_word (λ port octets. asked.Make (call.Receive port octets)) (map (λ w. w.now) words.now))
+        result }
 {
     let (port, frame) = two_words(words)?;
     let port = number(port)?;
@@ -116,7 +117,8 @@ fn receive(alloc: Global, words: &[&str]) -> Result<Task, LineError>
 }
 
 fn offer(alloc: Global, words: &[&str]) -> Result<Task, LineError>
-    ensures { Enters task_of (two number_word hex_word (λ g octets. asked.Make (call.Offer (asked.agg_of g) octets)) (map (λ w. w.now) words.now)) result }
+    ensures { Enters task_of (two number_word hex_word (λ g octets. asked.Make (call.Offer (asked.agg_of g) octets))
+        (map (λ w. w.now) words.now)) result }
 {
     let (agg, frame) = two_words(words)?;
     let agg = AggId(number(agg)?);

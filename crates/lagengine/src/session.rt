@@ -46,7 +46,8 @@ impl<F: Fn(u16, usize) -> usize + Copy + Drop> Session<F> {
     /// Does the request of the line, makes the text of the answer, and begins the next line.
     fn answer_line(&mut self) -> Result<(), AllocError>
         requires usable { PicksPlaces (F.pre self.old.engine.algorithm) (F.post self.old.engine.algorithm) }
-        ensures ok { OnOk result ((answer : Said) × AnswersLine (F.post self.old.engine.algorithm) self.old.line.items self.old.engine.held answer self.new.engine.held
+        ensures ok { OnOk result ((answer : Said) × AnswersLine
+            (F.post self.old.engine.algorithm) self.old.line.items self.old.engine.held answer self.new.engine.held
             × (string_bytes self.new.text ≡ answer_text answer)) }
         ensures line { self.new.line.items ≡ [] }
         ensures algorithm { self.new.engine.algorithm ≡ self.old.engine.algorithm }
@@ -59,8 +60,10 @@ impl<F: Fn(u16, usize) -> usize + Copy + Drop> Session<F> {
     /// Writes the answer to the line, and begins the next line.
     fn end_line<W: Write>(&mut self, sink: &mut Sink<W>) -> Result<(), Stopped>
         requires usable { PicksPlaces (F.pre self.old.engine.algorithm) (F.post self.old.engine.algorithm) }
-        ensures ok { OnOk result (Tells (F.post self.old.engine.algorithm) W.contents self.old.line.items self.old.engine.held self.new.engine.held sink.old sink.new) }
-        ensures err { IfErr result (TellsNot (F.post self.old.engine.algorithm) W.contents self.old.line.items self.old.engine.held sink.old sink.new) }
+        ensures ok { OnOk result (Tells (F.post self.old.engine.algorithm) W.contents self.old.line.items self.old.engine.held
+            self.new.engine.held sink.old sink.new) }
+        ensures err { IfErr result (TellsNot (F.post self.old.engine.algorithm) W.contents self.old.line.items self.old.engine.held sink.old
+            sink.new) }
         ensures line { self.new.line.items ≡ [] }
         ensures algorithm { self.new.engine.algorithm ≡ self.old.engine.algorithm }
     {
@@ -72,8 +75,10 @@ impl<F: Fn(u16, usize) -> usize + Copy + Drop> Session<F> {
     /// Reads an octet. No more are stored of a line that is too long.
     fn take<W: Write>(&mut self, octet: u8, sink: &mut Sink<W>) -> Result<(), Stopped>
         requires usable { PicksPlaces (F.pre self.old.engine.algorithm) (F.post self.old.engine.algorithm) }
-        ensures ok { OnOk result (Feeds (F.post self.old.engine.algorithm) W.contents (session_of self.old) (session_of self.new) sink.old sink.new (octet ∷ [])) }
-        ensures err { IfErr result (λ why. (rest : List ℕ) → Halts (F.post self.old.engine.algorithm) W.contents self.old.engine.held sink.old sink.new
+        ensures ok { OnOk result (Feeds (F.post self.old.engine.algorithm) W.contents (session_of self.old)
+            (session_of self.new) sink.old sink.new (octet ∷ [])) }
+        ensures err { IfErr result (λ why. (rest : List ℕ) → Halts
+            (F.post self.old.engine.algorithm) W.contents self.old.engine.held sink.old sink.new
             (prepend self.old.line.items (lines_of (octet ∷ rest))) why) }
         ensures algorithm { self.new.engine.algorithm ≡ self.old.engine.algorithm }
     {
@@ -91,7 +96,8 @@ impl<F: Fn(u16, usize) -> usize + Copy + Drop> Session<F> {
     /// Reads octets, and answers each line that they end before reading on.
     pub fn feed<W: Write>(&mut self, piece: &[u8], sink: &mut Sink<W>) -> Result<(), Stopped>
         requires usable { PicksPlaces (F.pre self.old.engine.algorithm) (F.post self.old.engine.algorithm) }
-        ensures ok { OnOk result (Feeds (F.post self.old.engine.algorithm) W.contents (session_of self.old) (session_of self.new) sink.old sink.new piece.now) }
+        ensures ok { OnOk result (Feeds (F.post self.old.engine.algorithm) W.contents (session_of self.old)
+            (session_of self.new) sink.old sink.new piece.now) }
         ensures err { IfErr result (Halts (F.post self.old.engine.algorithm) W.contents self.old.engine.held sink.old sink.new
             (prepend self.old.line.items (lines_of piece.now))) }
         ensures algorithm { self.new.engine.algorithm ≡ self.old.engine.algorithm }
@@ -105,8 +111,10 @@ impl<F: Fn(u16, usize) -> usize + Copy + Drop> Session<F> {
     /// Answers the last line, if it has octets but no newline.
     pub fn finish<W: Write>(&mut self, sink: &mut Sink<W>) -> Result<(), Stopped>
         requires usable { PicksPlaces (F.pre self.old.engine.algorithm) (F.post self.old.engine.algorithm) }
-        ensures ok { OnOk result (Finishes (F.post self.old.engine.algorithm) W.contents self.old.engine.held sink.old sink.new (close self.old.line.items)) }
-        ensures err { IfErr result (Halts (F.post self.old.engine.algorithm) W.contents self.old.engine.held sink.old sink.new (close self.old.line.items)) }
+        ensures ok { OnOk result (Finishes (F.post self.old.engine.algorithm) W.contents self.old.engine.held sink.old sink.new
+            (close self.old.line.items)) }
+        ensures err { IfErr result (Halts (F.post self.old.engine.algorithm) W.contents self.old.engine.held sink.old sink.new
+            (close self.old.line.items)) }
     {
         if self.line.is_empty() {
             return Ok(());

@@ -39,7 +39,8 @@ program_alone =
 -- the program with its subcommands
 abbrev pub lines : App
 lines =
-    with_subcommand (with_subcommand (with_subcommand (with_subcommand (with_subcommand program_alone decode_line.top) respond_line.top) check_line.top)
+    with_subcommand (with_subcommand (with_subcommand (with_subcommand (with_subcommand program_alone decode_line.top) respond_line.top)
+    check_line.top)
     replay_line.top) vectors_line.top
 
 abbrev pub name_of : Job → Text

@@ -32,7 +32,8 @@ pub record Members (u : Setup) (ports : ℕ → Option PortView) : Type 0 where
   pub number : (p : ℕ) (a : PortView) → ports p ≡ Some a → a.party.port.number ≡ p
   pub own : (p : ℕ) (a : PortView) → ports p ≡ Some a → a.party.system ≡ u.system
   pub key : (p g : ℕ) (a : PortView) → ports p ≡ Some a → a.aggregator ≡ Some g → u.key g ≡ Some a.party.key
-  pub group : (g p q : ℕ) (a b : PortView) → (p ≡ q → ⊥) → ports p ≡ Some a → ports q ≡ Some b → a.aggregator ≡ Some g → b.aggregator ≡ Some g → SamePair (group_at a) (group_at b) × (individual a.party a.partner ≡ false)
+  pub group : (g p q : ℕ) (a b : PortView) → (p ≡ q → ⊥) → ports p ≡ Some a → ports q ≡ Some b → a.aggregator ≡ Some g
+      → b.aggregator ≡ Some g → SamePair (group_at a) (group_at b) × (individual a.party a.partner ≡ false)
   pub member : (p : ℕ) (a : PortView) → ports p ≡ Some a → a.distributes ≡ true → IsSome a.aggregator × (a.synchronised ≡ true)
 
 -- Ports of one system that distribute in one aggregator have one partner system and key (6.3.6, 6.4.14.1).
@@ -76,15 +77,18 @@ TookSynchronised w =
 abbrev pub NamesPresent : Fixed → World → Type 0
 NamesPresent x w =
     (s : Side) (c p : ℕ) → end_at x.cables s c ≡ Some p
-    → ((pdu : Lacpdu) (stamp : ℕ) → Contains (w.line (peer s) c) (Control (Lacp pdu) stamp) → stamp ≡ w.count s p → party_at (w.view s) p ≡ Some pdu.actor)
-    × ((q : ℕ) (m : Taken) → end_at x.cables (peer s) c ≡ Some q → w.taken (peer s) q ≡ Some m → m.stamp ≡ w.count s p → party_at (w.view s) p ≡ Some m.pdu.actor)
+    → ((pdu : Lacpdu) (stamp : ℕ) → Contains (w.line (peer s) c) (Control (Lacp pdu) stamp) → stamp ≡ w.count s p
+    → party_at (w.view s) p ≡ Some pdu.actor)
+    × ((q : ℕ) (m : Taken) → end_at x.cables (peer s) c ≡ Some q → w.taken (peer s) q ≡ Some m → m.stamp ≡ w.count s p
+    → party_at (w.view s) p ≡ Some m.pdu.actor)
 
 -- All frames in flight of a conversation that was never forced are on the cable of its port; if it is free, none is in
 -- flight. All frames travel away from the system that sent them.
 abbrev pub OnItsCable : Fixed → World → Type 0
 OnItsCable x w =
     (s : Side) (g k c : ℕ) → w.forced s g k ≡ false
-    → ((serials s g k (w.line (peer s) c) ≡ []) ⊎ ((p : ℕ) × (end_at x.cables s c ≡ Some p) × (port_of ((w.view s).flows.state g k) ≡ Some p)))
+    → ((serials s g k (w.line (peer s) c) ≡ []) ⊎ ((p : ℕ) × (end_at x.cables s c ≡ Some p)
+    × (port_of ((w.view s).flows.state g k) ≡ Some p)))
     × (serials s g k (w.line s c) ≡ [])
 
 -- While a conversation that was never forced waits for the response to a marker, none of its frames is behind that
@@ -92,7 +96,8 @@ OnItsCable x w =
 abbrev pub FlushedByMarker : Fixed → World → Type 0
 FlushedByMarker x w =
     (s : Side) (g k p n c : ℕ) → w.forced s g k ≡ false → (w.view s).flows.state g k ≡ Flushing p n → end_at x.cables s c ≡ Some p
-    → ((front back : List Message) (stamp : ℕ) → w.line (peer s) c ≡ front ++ Control (Marker (x.setup s).system.mac p n) stamp ∷ back → serials s g k back ≡ [])
+    → ((front back : List Message) (stamp : ℕ) → w.line (peer s) c ≡ front ++ Control (Marker (x.setup s).system.mac p n) stamp ∷ back
+    → serials s g k back ≡ [])
     × ((d stamp : ℕ) → Contains (w.line s c) (Control (Response (x.setup s).system.mac p n) stamp) → serials s g k (w.line (peer s) d) ≡ [])
 
 -- Every marker identifier in flight is below its requester's next one.

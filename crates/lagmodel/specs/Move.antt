@@ -150,7 +150,8 @@ flow_act mac (Become g k m) f = None
 -- moves of the conversations one after another, with just these visible acts: what a distributor does in one call
 abbrev pub AllFlowAllowed : List ℕ → Call → (ℕ → ℕ → Type 0) → Flows → List FlowMove → Type 0
 AllFlowAllowed mac call Distributes f [] = Unit {0}
-AllFlowAllowed mac call Distributes f (m ∷ ms) = FlowAllowed mac call Distributes f m × AllFlowAllowed mac call Distributes (flows_after m f) ms
+AllFlowAllowed mac call Distributes f (m ∷ ms) = FlowAllowed mac call Distributes f m
+    × AllFlowAllowed mac call Distributes (flows_after m f) ms
 
 -- the conversations after a list of moves
 abbrev pub flows_after_all : List FlowMove → Flows → Flows
@@ -164,7 +165,8 @@ flow_acts mac (m ∷ ms) f = option_to_list (flow_act mac m f) ++ flow_acts mac 
 
 abbrev pub FlowMoves : List ℕ → Call → (ℕ → ℕ → Type 0) → Flows → List Act → Flows → Type 0
 FlowMoves mac call Distributes old seen new =
-    (moves : List FlowMove) × AllFlowAllowed mac call Distributes old moves × (flow_acts mac moves old ≡ seen) × (new ≡ flows_after_all moves old)
+    (moves : List FlowMove) × AllFlowAllowed mac call Distributes old moves × (flow_acts mac moves old ≡ seen)
+    × (new ≡ flows_after_all moves old)
 
 -- a move of a system: of the port with this number, of the conversations, or a restart
 pub data Move : Type 0 where
@@ -210,4 +212,5 @@ acts u (m ∷ ms) v = option_to_list (act u m v) ++ acts u ms (after u m v)
 
 -- A call leads from the view old to the view new by free moves, with just these visible acts.
 abbrev pub FreeMoves : Setup → Call → View → List Act → View → Type 0
-FreeMoves u call old seen new = (moves : List Move) × AllAllowed u call old moves × (acts u moves old ≡ seen) × (new ≡ after_all u moves old)
+FreeMoves u call old seen new = (moves : List Move) × AllAllowed u call old moves × (acts u moves old ≡ seen)
+    × (new ≡ after_all u moves old)

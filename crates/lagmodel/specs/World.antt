@@ -111,7 +111,8 @@ put ends whole kept p m lines c = cond (kept && (whole c && is_port p (ends c)))
 
 -- The messages on the cables, the serial numbers sent and the LACPDUs received last, after a visible act of system s.
 -- `kept`: whether the cable accepts what is sent. `stamp`: the stamp of what came in this call.
-abbrev pub line_after : Side → (ℕ → Option ℕ) → (ℕ → Bool) → (ℕ → ℕ) → (ℕ → ℕ → List ℕ) → Bool → Option Act → (ℕ → List Message) → ℕ → List Message
+abbrev pub line_after : Side → (ℕ → Option ℕ) → (ℕ → Bool) → (ℕ → ℕ) → (ℕ → ℕ → List ℕ) → Bool → Option Act → (ℕ → List Message) → ℕ
+    → List Message
 line_after s ends whole count sent kept None lines = lines
 line_after s ends whole count sent kept (Some (Sends p pdu)) lines = put ends whole kept p (Control pdu (stamp_of pdu (count p))) lines
 line_after s ends whole count sent kept (Some (Sends_frame p g k)) lines = put ends whole kept p (Data s g k (length (sent g k))) lines
@@ -133,7 +134,8 @@ taken_after stamp (Some (Took p pdu)) taken = λ q. cond (eqb q p) (Some (record
 abbrev pub moved : Fixed → Side → ℕ → Move × Bool → World → World
 moved x s stamp m w = record w {
   view = at_side w.view s (after (x.setup s) m.0 (w.view s));
-  line = at_side w.line (peer s) (line_after s (end_at x.cables s) w.whole (w.count s) (w.sent s) m.1 (act (x.setup s) m.0 (w.view s)) (w.line (peer s)));
+  line = at_side w.line (peer s) (line_after s (end_at x.cables s) w.whole (w.count s) (w.sent s) m.1 (act (x.setup s) m.0 (w.view s))
+      (w.line (peer s)));
   sent = at_side w.sent s (sent_after (act (x.setup s) m.0 (w.view s)) (w.sent s));
   taken = at_side w.taken s (taken_after stamp (act (x.setup s) m.0 (w.view s)) (w.taken s));
 }

@@ -35,8 +35,10 @@ ghost use Rattle.lagmodel.specs.Law.{Drives, Members};
 /// calls; and if it holds, ports that distribute in one aggregator have one partner (6.4.14.1).
 pub fn one_system()
     ensures first { (u : Setup) → IsSetup u → Members u (first_view u).port }
-    ensures kept { (u : Setup) (call : Call) (old new : View) (seen : List Act) → IsSetup u → FreeMoves u call old seen new → Members u old.port → Members u new.port }
-    ensures always { (u : Setup) (calls : List Call) (v : View) → IsSetup u → Drives u calls (first_view u) v → Members u v.port × OnePartner v }
+    ensures kept { (u : Setup) (call : Call) (old new : View) (seen : List Act) → IsSetup u → FreeMoves u call old seen new
+        → Members u old.port → Members u new.port }
+    ensures always { (u : Setup) (calls : List Call) (v : View) → IsSetup u → Drives u calls (first_view u) v → Members u v.port
+        × OnePartner v }
     ensures one_partner { (u : Setup) (v : View) → Members u v.port → OnePartner v }
 {}
 

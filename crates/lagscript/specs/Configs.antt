@@ -21,7 +21,13 @@ pub record SystemPlan : Type 0 where
 
 abbrev pub plan_of : Config → SystemPlan
 plan_of c =
-    record { system = c.system; max_delay = c.max_delay; first_marker = c.first_marker; aggregators = c.aggregators.items; ports = c.ports.items }
+    record {
+      system = c.system;
+      max_delay = c.max_delay;
+      first_marker = c.first_marker;
+      aggregators = c.aggregators.items;
+      ports = c.ports.items;
+    }
 
 abbrev pub has_port : List PortConfig → ℕ → Bool
 has_port ports number = list_any (λ port. port.number == number) ports

@@ -66,14 +66,18 @@ two f g make ws = two_words ws >>= λ p. f p.0 >>= λ x. g p.1 >>= λ y. Ok (mak
 abbrev pub three : {A B C : Type 0} → Reader A → Reader B → Reader C → (A → B → C → Act) → List (List ℕ) → Result Act EntryFault
 three f g h make ws = three_words ws >>= λ p. f p.0 >>= λ x. g p.1 >>= λ y. h p.2 >>= λ z. Ok (make x y z)
 
-abbrev pub four : {A B C D : Type 0} → Reader A → Reader B → Reader C → Reader D → (A → B → C → D → Act) → List (List ℕ) → Result Act EntryFault
+abbrev pub four : {A B C D : Type 0} → Reader A → Reader B → Reader C → Reader D → (A → B → C → D → Act) → List (List ℕ)
+    → Result Act EntryFault
 four f g h i make ws = four_words ws >>= λ p. f p.0 >>= λ x. g p.1 >>= λ y. h p.2 >>= λ z. i p.3 >>= λ w. Ok (make x y z w)
 
-abbrev pub five : {A B C D E : Type 0} → Reader A → Reader B → Reader C → Reader D → Reader E → (A → B → C → D → E → Act) → List (List ℕ) → Result Act EntryFault
-five f g h i j make ws = five_words ws >>= λ p. f p.0 >>= λ x. g p.1 >>= λ y. h p.2 >>= λ z. i p.3 >>= λ w. j p.4 >>= λ v. Ok (make x y z w v)
+abbrev pub five : {A B C D E : Type 0} → Reader A → Reader B → Reader C → Reader D → Reader E → (A → B → C → D → E → Act) → List (List ℕ)
+    → Result Act EntryFault
+five f g h i j make ws = five_words ws >>= λ p. f p.0 >>= λ x. g p.1 >>= λ y. h p.2 >>= λ z. i p.3 >>= λ w. j p.4
+    >>= λ v. Ok (make x y z w v)
 
 abbrev pub configured : ℕ → ℕ → ℕ → ℕ → Bool → Act
-configured s port key priority aggregatable = configure s port (record { key = record { 0 = key }; priority = priority; aggregatable = aggregatable })
+configured s port key priority aggregatable = configure s port
+    (record { key = record { 0 = key }; priority = priority; aggregatable = aggregatable })
 
 -- the event by its first word and the words after it; all events but `offer`, whose octets take memory
 abbrev pub plain_named : ℕ → List ℕ → List (List ℕ) → Result Act EntryFault
@@ -93,7 +97,8 @@ plain_named cables name =
     else (λ _. Err entry.Word)
 
 abbrev pub act_named : ℕ → List ℕ → List (List ℕ) → Result Act EntryFault
-act_named cables name ws = if bytes_eq name (codes "offer") then three system_word number_word hex_word offer ws else plain_named cables name ws
+act_named cables name ws = if bytes_eq name (codes "offer") then three system_word number_word hex_word offer ws
+    else plain_named cables name ws
 
 -- an event that was read, as a value of the logic; or its fault
 abbrev pub seen : Result Event EntryFault → Result Act EntryFault

@@ -50,7 +50,8 @@ top_keys = codes "system" ∷ codes "cable" ∷ codes "events" ∷ []
 
 -- the two systems of a list of exactly two tables
 abbrev pub two_systems : List Members → Result (List SystemPlan) ScriptFault
-two_systems mss = or_fault fault.Systems (pair_of (Some mss)) >>= λ p. system_of 1 p.0 >>= λ first. system_of 2 p.1 >>= λ second. Ok (first ∷ second ∷ [])
+two_systems mss = or_fault fault.Systems (pair_of (Some mss)) >>= λ p. system_of 1 p.0 >>= λ first. system_of 2 p.1
+    >>= λ second. Ok (first ∷ second ∷ [])
 
 abbrev pub systems_in : Members → Result (List SystemPlan) ScriptFault
 systems_in ms = or_fault fault.Systems (value_at (codes "system") (list_in as_table) None ms) >>= two_systems
@@ -76,7 +77,10 @@ limits_of cables = map (λ c. c.limit) cables
 
 -- the plan made of the parts of a document
 abbrev pub planned : List SystemPlan → List CablePlan → List Act → ScriptPlan
-planned systems cables acts = record { script = record { systems = systems; cables = ends_of cables; acts = acts }; limits = limits_of cables }
+planned systems cables acts = record {
+  script = record { systems = systems; cables = ends_of cables; acts = acts };
+  limits = limits_of cables;
+}
 
 -- the plan of a document, or its first fault
 abbrev pub plan_in : Members → Result ScriptPlan ScriptFault

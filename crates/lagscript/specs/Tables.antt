@@ -30,7 +30,15 @@ port_of system own place ms =
     or_fault (wrong port_key.Aggregatable) (value_at (codes "aggregatable") flag_in (Some true) ms) >>= λ aggregatable.
     or_fault (wrong port_key.Active) (value_at (codes "active") flag_in (Some true) ms) >>= λ active.
     or_fault (wrong port_key.Short) (value_at (codes "short") flag_in (Some true) ms) >>= λ short.
-    Ok (record { number = number; priority = priority; mac = mac; key = record { 0 = key }; aggregatable = aggregatable; active = active; short = short })
+    Ok (record {
+      number = number;
+      priority = priority;
+      mac = mac;
+      key = record { 0 = key };
+      aggregatable = aggregatable;
+      active = active;
+      short = short;
+    })
     )
 
 -- ---- systems
@@ -51,11 +59,13 @@ numbers_in system ms =
     )
 
 abbrev pub aggregators_in : ℕ → Members → Result (List Key) ScriptFault
-aggregators_in system ms = or_fault (fault.SystemValue system system_key.Aggregators) (value_at (codes "aggregators") (list_in key_in) None ms)
+aggregators_in system ms = or_fault (fault.SystemValue system system_key.Aggregators)
+    (value_at (codes "aggregators") (list_in key_in) None ms)
 
 -- every element is a table, and each is read as the port at its place
 abbrev pub ports_in : ℕ → List ℕ → Members → Result (List PortConfig) ScriptFault
-ports_in system own ms = or_fault (fault.SystemValue system system_key.Port) (value_at (codes "port") (list_in as_table) None ms) >>= in_place (port_of system own) 1
+ports_in system own ms = or_fault (fault.SystemValue system system_key.Port) (value_at (codes "port") (list_in as_table) None ms)
+    >>= in_place (port_of system own) 1
 
 abbrev pub system_of : ℕ → Members → Result SystemPlan ScriptFault
 system_of system ms =

@@ -56,7 +56,8 @@ pub data Call : Type 0 where
 abbrev pub OnPlace : (Machines → Machines → Type 0) → Option ℕ → List Slot → List Slot → Type 0
 OnPlace R None old new = ⊥
 OnPlace R (Some i) old new =
-    (slot : Slot) × (port : Machines) × (slice_get old i ≡ Some slot) × R slot.port port × (new ≡ slice_set old i (record slot { port = port }))
+    (slot : Slot) × (port : Machines) × (slice_get old i ≡ Some slot) × R slot.port port
+    × (new ≡ slice_set old i (record slot { port = port }))
 
 -- the machines of the port at this index change by the relation, and nothing else changes
 abbrev pub OnPort : Option ℕ → (Machines → Machines → Type 0) → State → State → Type 0
@@ -147,7 +148,8 @@ handed (Some agg) = Up agg
 -- a Marker PDU is answered by a response from this MAC address; a Marker Response asks for a release
 abbrev pub AnswersMarker : List ℕ → Marker → Option Marker → Heard → Type 0
 AnswersMarker mac m None heard = heard ≡ Response m
-AnswersMarker mac m (Some answer) heard = (payload : List ℕ) × IsAddress mac × WritesMarker payload answer × (heard ≡ Answered (Respond (frame_octets mac payload)))
+AnswersMarker mac m (Some answer) heard = (payload : List ℕ) × IsAddress mac × WritesMarker payload answer
+    × (heard ≡ Answered (Respond (frame_octets mac payload)))
 
 -- what a frame asks for on a port whose link is up
 abbrev pub Makes : Slot → Frame → Heard → Type 0
@@ -193,7 +195,8 @@ Does (Answered answer) port place old reply new = (reply ≡ answer) × Stays ol
 -- these octets are received on the port at this index
 abbrev pub ReceivesAt : Option ℕ → List ℕ → State → Received → State → Type 0
 ReceivesAt place octets old reply new =
-    (slot : Slot) × (heard : Heard) × (slot_at place old.slots ≡ Some slot) × Hears slot octets heard × Does heard slot.number place old reply new
+    (slot : Slot) × (heard : Heard) × (slot_at place old.slots ≡ Some slot) × Hears slot octets heard
+    × Does heard slot.number place old reply new
 
 -- the port at this index has the values of the change already
 abbrev pub HasAlready : Option ℕ → PortChange → State → Type 0

@@ -6,4 +6,5 @@ use Rattle.lagsystem.specs.State.{State, place_of}
 
 -- transmit returns a frame on a port exactly if one is due there
 abbrev pub AnswersDue : Type 0
-AnswersDue = (n : ℕ) (old new : State) (answer : Option (List ℕ)) → SendsAt (place_of n old.slots) old answer new → due_of n old ≡ Some (is_some answer)
+AnswersDue = (n : ℕ) (old new : State) (answer : Option (List ℕ)) → SendsAt (place_of n old.slots) old answer new
+    → due_of n old ≡ Some (is_some answer)

@@ -19,7 +19,12 @@ use Rattle.lagsystem.specs.State.{State, with_slots}
 abbrev pub setup_of : SystemId → PortConfig → Setup
 setup_of system c =
     record {
-      party = record { system = system; key = c.key; port = record { priority = c.priority; number = c.number }; aggregatable = c.aggregatable };
+      party = record {
+        system = system;
+        key = c.key;
+        port = record { priority = c.priority; number = c.number };
+        aggregatable = c.aggregatable;
+      };
       active = c.active;
       short = c.short;
     }
@@ -31,7 +36,8 @@ IsNew system c slot = (slot.number ≡ c.number) × (slot.mac ≡ c.mac) × Star
 -- every port has just started, and one settling followed; every conversation is free, and the next marker is the first
 abbrev pub IsFirst : State → Type 0
 IsFirst s =
-    (start : List Slot) × AllZip (IsNew s.system) s.ports start × Settling (with_slots s start) s × (s.table ≡ first_table (length s.keys) s.first_marker)
+    (start : List Slot) × AllZip (IsNew s.system) s.ports start × Settling (with_slots s start) s
+    × (s.table ≡ first_table (length s.keys) s.first_marker)
 
 -- the state has this configuration
 pub record IsConfigured (config : Config) (s : State) : Type 0 where

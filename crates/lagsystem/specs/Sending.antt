@@ -58,4 +58,5 @@ Sends max_delay slot (Some octets) port = (is_due slot.port ≡ true) × IsLacpd
 
 abbrev pub SlotSends : ℕ → ℕ → Option (List ℕ) → List Slot → List Slot → Type 0
 SlotSends max_delay i answer olds news =
-    (slot : Slot) × (port : Machines) × (slice_get olds i ≡ Some slot) × Sends max_delay slot answer port × (news ≡ slice_set olds i (record slot { port = port }))
+    (slot : Slot) × (port : Machines) × (slice_get olds i ≡ Some slot) × Sends max_delay slot answer port
+    × (news ≡ slice_set olds i (record slot { port = port }))

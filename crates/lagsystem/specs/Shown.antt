@@ -114,14 +114,18 @@ Tells (Force agg conv) told = told ≡ Told.Force agg.0 conv
 
 -- the octets are a control frame with this PDU, from some MAC address
 abbrev pub IsSent : List ℕ → Pdu → Type 0
-IsSent octets payload = (mac : List ℕ) × (written : List ℕ) × IsAddress mac × WritesPdu written payload × (octets ≡ frame_octets mac written)
+IsSent octets payload = (mac : List ℕ) × (written : List ℕ) × IsAddress mac × WritesPdu written payload
+    × (octets ≡ frame_octets mac written)
 
 -- the visible acts of a call, as its reply has them: the LACPDU that was processed, the PDU of the frame to send, or
 -- the conversation of a client's frame and the port to send it on
 abbrev pub Sees : State → Call → Reply → List Act → Type 0
-Sees s (Receive n octets) (reply.Receive (Ok TookLacpdu)) seen = (v : Lacpdu) × IsFrame octets (Carries (pdu.Lacpdu v)) × (seen ≡ Took n (message_of v) ∷ [])
-Sees s (Receive n octets) (reply.Receive (Ok (Respond frame))) seen = (m : Marker) × IsSent frame (pdu.Marker m) × (seen ≡ Sends n (marker_message m.kind m) ∷ [])
-Sees s (Transmit n) (reply.Transmit (Ok (Some frame))) seen = (payload : Pdu) × IsSent frame payload × (seen ≡ Sends n (read_as payload) ∷ [])
+Sees s (Receive n octets) (reply.Receive (Ok TookLacpdu)) seen = (v : Lacpdu) × IsFrame octets (Carries (pdu.Lacpdu v))
+    × (seen ≡ Took n (message_of v) ∷ [])
+Sees s (Receive n octets) (reply.Receive (Ok (Respond frame))) seen = (m : Marker) × IsSent frame (pdu.Marker m)
+    × (seen ≡ Sends n (marker_message m.kind m) ∷ [])
+Sees s (Transmit n) (reply.Transmit (Ok (Some frame))) seen = (payload : Pdu) × IsSent frame payload
+    × (seen ≡ Sends n (read_as payload) ∷ [])
 Sees s (Offer agg octets) (reply.Offer (Ok port)) seen = seen ≡ Sends_frame port agg.0 (conversation_of s octets) ∷ []
 Sees s call answer seen = seen ≡ []
 
@@ -129,7 +133,8 @@ Sees s call answer seen = seen ≡ []
 -- visible acts
 abbrev pub JoinsViews : State → Call → Reply → State → Type 0
 JoinsViews old call reply new =
-    (told : Told) × (seen : List Act) × Tells call told × Sees old call reply seen × FreeMoves (configured old) told (view_of old) seen (view_of new)
+    (told : Told) × (seen : List Act) × Tells call told × Sees old call reply seen
+    × FreeMoves (configured old) told (view_of old) seen (view_of new)
 
 -- the receive states in which an LACPDU is processed
 abbrev pub takes_in : ReceiveState → Bool

@@ -8,7 +8,8 @@ use Rattle.lagsystem.specs.declared.fault.SystemFault.TheVariants.{NoPort, NoAgg
 abbrev pub reason_text : Reason → List ℕ
 reason_text Ports = codes "the configuration has not 1 to 64 ports"
 reason_text Aggregators = codes "the configuration has not 1 to 64 aggregators"
-reason_text (PortNumber place) = codes "the port at place " ++ (decimal place ++ codes " has the number 0 or one that is not above the number before it")
+reason_text (PortNumber place) = codes "the port at place " ++ (decimal place
+    ++ codes " has the number 0 or one that is not above the number before it")
 
 abbrev pub fault_text : SystemFault → List ℕ
 fault_text NoPort = codes "the system has no port of this number"

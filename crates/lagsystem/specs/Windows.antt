@@ -35,7 +35,8 @@ after n now call reply before = if sends n call reply then before ++ now ∷ [] 
 abbrev pub StaysWindowed : ℕ → ℕ → List ℕ → List Call → List Reply → Type 0
 StaysWindowed n now before [] replies = KeepsWindow before
 StaysWindowed n now before (call ∷ calls) [] = KeepsWindow before
-StaysWindowed n now before (call ∷ calls) (reply ∷ replies) = KeepsWindow before × StaysWindowed n (later call now) (after n now call reply before) calls replies
+StaysWindowed n now before (call ∷ calls) (reply ∷ replies) = KeepsWindow before
+    × StaysWindowed n (later call now) (after n now call reply before) calls replies
 
 -- the ticks at which the kept ages of a port were sent, if this is the current tick
 abbrev pub kept_sends : ℕ → Option Machines → List ℕ
@@ -58,11 +59,13 @@ KeepThree s = (n : ℕ) → KeepsThree (port_of n s)
 
 -- each port keeps its transmit limit over these calls with these replies, from this state on
 abbrev pub AreWindowed : State → List Call → List Reply → Type 0
-AreWindowed old calls replies = (n now : ℕ) → KeptSince now (port_of n old) → StaysWindowed n now (kept_sends now (port_of n old)) calls replies
+AreWindowed old calls replies = (n now : ℕ) → KeptSince now (port_of n old)
+    → StaysWindowed n now (kept_sends now (port_of n old)) calls replies
 
 -- every list of calls keeps the limit, whatever indices the algorithm returns
 abbrev pub WindowLaw : (ℕ → ℕ → ℕ → Type 0) → Type 0
-WindowLaw gives = (old new : State) (calls : List Call) (replies : List Reply) → KeepThree old → Run gives old calls replies new → AreWindowed old calls replies
+WindowLaw gives = (old new : State) (calls : List Call) (replies : List Reply) → KeepThree old → Run gives old calls replies new
+    → AreWindowed old calls replies
 
 -- a state that has just started keeps no age
 abbrev pub StartsEmpty : Type 0

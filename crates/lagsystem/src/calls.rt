@@ -64,7 +64,8 @@ impl<F: Fn(u16, usize) -> usize + Drop> System<F> {
     /// response that names this system and the port on which it came frees the conversations that wait for it. Nothing
     /// else changes the system. `NoPort` if there is no such port (6.2.3, 6.4.12, 6.5.4).
     pub fn receive(&mut self, port: u16, frame: &[u8]) -> Result<Received, SystemFault>
-        ensures answers { Answers (F.post self.old.algorithm) self.old.state (Call.Receive port frame.now) (Reply.Receive result) self.new.state }
+        ensures answers { Answers (F.post self.old.algorithm) self.old.state (Call.Receive port frame.now)
+            (Reply.Receive result) self.new.state }
         ensures algorithm { self.new.algorithm ≡ self.old.algorithm }
     {
         self.core.receive(port, frame)
@@ -94,7 +95,8 @@ impl<F: Fn(u16, usize) -> usize + Drop> System<F> {
     /// settling follows. Returns false, and changes nothing, if the port has these values already. `NoPort` if there is
     /// no such port (profile).
     pub fn configure(&mut self, port: u16, change: PortChange) -> Result<bool, SystemFault>
-        ensures answers { Answers (F.post self.old.algorithm) self.old.state (Call.Configure port change) (Reply.Configure result) self.new.state }
+        ensures answers { Answers (F.post self.old.algorithm) self.old.state (Call.Configure port change)
+            (Reply.Configure result) self.new.state }
         ensures algorithm { self.new.algorithm ≡ self.old.algorithm }
     {
         self.core.configure(port, change)
@@ -127,7 +129,8 @@ impl<F: Fn(u16, usize) -> usize + Drop> System<F> {
     /// aggregator (6.2.4; profile).
     pub fn offer(&mut self, agg: AggId, frame: &[u8]) -> Result<u16, SystemFault>
         requires usable { PicksPlaces (F.pre self.old.algorithm) (F.post self.old.algorithm) }
-        ensures answers { Answers (F.post self.old.algorithm) self.old.state (Call.Offer agg frame.now) (Reply.Offer result) self.new.state }
+        ensures answers { Answers (F.post self.old.algorithm) self.old.state (Call.Offer agg frame.now)
+            (Reply.Offer result) self.new.state }
         ensures within { IfOk result (λ port. conversation_of self.old.state frame.now < conversations self.old.state) }
         ensures algorithm { self.new.algorithm ≡ self.old.algorithm }
     {
@@ -140,7 +143,8 @@ impl<F: Fn(u16, usize) -> usize + Drop> System<F> {
     /// `Held` while it is Wanted or Flushing; `NotDistributing` if the port does not distribute in the aggregator;
     /// `SamePort` if it is on that port; `MarkersSpent` if no marker identifier is left (6.2.5; profile).
     pub fn move_conversation(&mut self, agg: AggId, conv: u16, port: u16) -> Result<(), SystemFault>
-        ensures answers { Answers (F.post self.old.algorithm) self.old.state (Call.Move_conversation agg conv port) (Reply.MoveConversation result) self.new.state }
+        ensures answers { Answers (F.post self.old.algorithm) self.old.state (Call.Move_conversation agg conv port)
+            (Reply.MoveConversation result) self.new.state }
         ensures algorithm { self.new.algorithm ≡ self.old.algorithm }
     {
         self.core.move_conversation(agg, conv, port)

@@ -62,7 +62,8 @@ impl<F: Fn(u16, usize) -> usize + Drop> System<F> {
     /// refused; then no call was made (profile).
     pub fn drive(&mut self, alloc: Global, calls: &[Call]) -> Result<Vec<Reply>, NoMemory>
         requires usable { PicksPlaces (F.pre self.old.algorithm) (F.post self.old.algorithm) }
-        ensures driven { IfOk result (λ replies. Drives (F.post self.old.algorithm) self.old.state (map call_of calls.now) replies.items self.new.state) }
+        ensures driven { IfOk result (λ replies. Drives (F.post self.old.algorithm) self.old.state
+            (map call_of calls.now) replies.items self.new.state) }
         ensures window { IfOk result (λ replies. AreWindowed self.old.state (map call_of calls.now) replies.items) }
         ensures refused { OnErr result (self.new ≡ self.old) }
         ensures algorithm { self.new.algorithm ≡ self.old.algorithm }

@@ -113,7 +113,8 @@ impl<F: Fn(u16, usize) -> usize + Drop> Core<F> {
 
     pub(crate) fn set_link(&mut self, number: u16, up: bool) -> Result<(), SystemFault>
         requires { IsSound (state_of self.old) }
-        ensures step { Step (F.post self.old.distributor.algorithm) (state_of self.old) (Call.Set_link number up) (Reply.SetLink result) (state_of self.new) }
+        ensures step { Step (F.post self.old.distributor.algorithm) (state_of self.old) (Call.Set_link number up) (Reply.SetLink result)
+            (state_of self.new) }
         ensures algorithm { self.new.distributor.algorithm ≡ self.old.distributor.algorithm }
     {
         let before = carriers(&self.slots);
@@ -127,7 +128,8 @@ impl<F: Fn(u16, usize) -> usize + Drop> Core<F> {
 
     pub(crate) fn receive(&mut self, number: u16, octets: &[u8]) -> Result<Received, SystemFault>
         requires { IsSound (state_of self.old) }
-        ensures step { Step (F.post self.old.distributor.algorithm) (state_of self.old) (Call.Receive number octets.now) (Reply.Receive result) (state_of self.new) }
+        ensures step { Step (F.post self.old.distributor.algorithm) (state_of self.old) (Call.Receive number octets.now)
+            (Reply.Receive result) (state_of self.new) }
         ensures algorithm { self.new.distributor.algorithm ≡ self.old.distributor.algorithm }
     {
         match place_of(&self.slots, number) {
@@ -171,7 +173,8 @@ impl<F: Fn(u16, usize) -> usize + Drop> Core<F> {
 
     /// Frees the conversations that wait for a Marker Response that came on a port, and returns how many.
     fn release(&mut self, number: u16, response: &Marker) -> u32
-        ensures released { Releases (is_for (state_of self.old) number response.now) number response.now (state_of self.old) (Received.Released result) (state_of self.new) }
+        ensures released { Releases (is_for (state_of self.old) number response.now) number response.now (state_of self.old)
+            (Received.Released result) (state_of self.new) }
         ensures algorithm { self.new.distributor.algorithm ≡ self.old.distributor.algorithm }
     {
         if response.port == number && response.system == self.system.mac {
@@ -183,7 +186,8 @@ impl<F: Fn(u16, usize) -> usize + Drop> Core<F> {
 
     pub(crate) fn configure(&mut self, number: u16, change: PortChange) -> Result<bool, SystemFault>
         requires { IsSound (state_of self.old) }
-        ensures step { Step (F.post self.old.distributor.algorithm) (state_of self.old) (Call.Configure number change) (Reply.Configure result) (state_of self.new) }
+        ensures step { Step (F.post self.old.distributor.algorithm) (state_of self.old) (Call.Configure number change)
+            (Reply.Configure result) (state_of self.new) }
         ensures algorithm { self.new.distributor.algorithm ≡ self.old.distributor.algorithm }
     {
         let before = carriers(&self.slots);
@@ -208,7 +212,8 @@ impl<F: Fn(u16, usize) -> usize + Drop> Core<F> {
     }
 
     pub(crate) fn transmit(&mut self, number: u16) -> Result<Option<[u8; 124]>, SystemFault>
-        ensures step { Step (F.post self.old.distributor.algorithm) (state_of self.old) (Call.Transmit number) (Reply.Transmit result) (state_of self.new) }
+        ensures step { Step (F.post self.old.distributor.algorithm) (state_of self.old) (Call.Transmit number) (Reply.Transmit result)
+            (state_of self.new) }
         ensures algorithm { self.new.distributor.algorithm ≡ self.old.distributor.algorithm }
     {
         let Some(place) = place_of(&self.slots, number) else {
@@ -270,7 +275,8 @@ impl<F: Fn(u16, usize) -> usize + Drop> Core<F> {
     pub(crate) fn offer(&mut self, agg: AggId, octets: &[u8]) -> Result<u16, SystemFault>
         requires usable { PicksPlaces (F.pre self.old.distributor.algorithm) (F.post self.old.distributor.algorithm) }
         requires sound { IsSound (state_of self.old) }
-        ensures step { Step (F.post self.old.distributor.algorithm) (state_of self.old) (Call.Offer agg octets.now) (Reply.Offer result) (state_of self.new) }
+        ensures step { Step (F.post self.old.distributor.algorithm) (state_of self.old) (Call.Offer agg octets.now) (Reply.Offer result)
+            (state_of self.new) }
         ensures within { IfOk result (λ port. conversation_of (state_of self.old) octets.now < conversations (state_of self.old)) }
         ensures algorithm { self.new.distributor.algorithm ≡ self.old.distributor.algorithm }
     {
@@ -291,7 +297,8 @@ impl<F: Fn(u16, usize) -> usize + Drop> Core<F> {
         port: u16,
     ) -> Result<(), SystemFault>
         requires { IsSound (state_of self.old) }
-        ensures step { Step (F.post self.old.distributor.algorithm) (state_of self.old) (Call.Move_conversation agg conv port) (Reply.MoveConversation result) (state_of self.new) }
+        ensures step { Step (F.post self.old.distributor.algorithm) (state_of self.old) (Call.Move_conversation agg conv port)
+            (Reply.MoveConversation result) (state_of self.new) }
         ensures algorithm { self.new.distributor.algorithm ≡ self.old.distributor.algorithm }
     {
         if !self.has_aggregator(agg) {
@@ -307,7 +314,8 @@ impl<F: Fn(u16, usize) -> usize + Drop> Core<F> {
 
     pub(crate) fn force(&mut self, agg: AggId, conv: u16) -> Result<(), SystemFault>
         requires { IsSound (state_of self.old) }
-        ensures step { Step (F.post self.old.distributor.algorithm) (state_of self.old) (Call.Force agg conv) (Reply.Force result) (state_of self.new) }
+        ensures step { Step (F.post self.old.distributor.algorithm) (state_of self.old) (Call.Force agg conv) (Reply.Force result)
+            (state_of self.new) }
         ensures algorithm { self.new.distributor.algorithm ≡ self.old.distributor.algorithm }
     {
         if !self.has_aggregator(agg) {

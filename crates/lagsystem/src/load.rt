@@ -12,7 +12,8 @@ impl<F: Fn(u16, usize) -> usize + Drop> System<F> {
     /// How many conversations, of all aggregators together, are On, Wanted or Flushing on a port. `NoPort` if there is
     /// no such port (profile).
     pub fn load(&self, port: u16) -> Result<u32, SystemFault>
-        ensures { MatchOption (place_of port self.now.state.slots) (result ≡ Err SystemFault.NoPort) (λ place. result ≡ Ok (how_many (is_of_port port) self.now.state.table)) }
+        ensures { MatchOption (place_of port self.now.state.slots) (result ≡ Err SystemFault.NoPort)
+            (λ place. result ≡ Ok (how_many (is_of_port port) self.now.state.table)) }
     {
         match place_of(&self.core.slots, port) {
             Some(_) => Ok(self.core.distributor.load(port)),

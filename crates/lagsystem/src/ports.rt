@@ -207,7 +207,8 @@ pub(crate) fn configure_port(slots: &mut [Slot], number: u16, change: PortChange
     ensures none { IfNone result (place_of number slots.old ≡ None) }
     ensures same { IfNone result (slots.new ≡ slots.old) }
     ensures acted { IfSome result (λ did. OnTrue did (OnPlace (ChangesParty change) (place_of number slots.old) slots.old slots.new)) }
-    ensures stays { IfSome result (λ did. OnFalse did (IsAtPlace (λ p. same_party (changed change p.party) p.party ≡ true) (place_of number slots.old) slots.old)) }
+    ensures stays { IfSome result (λ did. OnFalse did (IsAtPlace (λ p. same_party (changed change p.party) p.party ≡ true)
+        (place_of number slots.old) slots.old)) }
     ensures unchanged { IfSome result (λ did. OnFalse did (slots.new ≡ slots.old)) }
 {
     match place_of(slots, number) {

@@ -19,7 +19,8 @@ use slowpdu::Info;
 
 /// The port with this number.
 fn slot_of(slots: &[Slot], number: u16) -> Option<&Slot>
-    ensures { MatchOption result (slot_at (place_of number slots.now) slots.now ≡ None) (λ slot. slot_at (place_of number slots.now) slots.now ≡ Some slot.now) }
+    ensures { MatchOption result (slot_at (place_of number slots.now) slots.now ≡ None)
+        (λ slot. slot_at (place_of number slots.now) slots.now ≡ Some slot.now) }
 {
     match place_of(slots, number) {
         Some(place) => Some(&slots[place]),

@@ -32,7 +32,8 @@ SaysMac mac = (source : List ℕ) × IsMac mac source
 -- what `reply` returns and has written; the address is checked first
 abbrev pub Replies : {W : Type 0} → (W → Option (List ℕ)) → List ℕ → List ℕ → SinkState W → SinkState W → Result Bool ToolFault → Type 0
 Replies contents mac hex old new (Ok answered) = (text : List ℕ) × IsReplied mac hex text answered × Takes contents old new text
-Replies contents mac hex old new (Err Write) = (text : List ℕ) × (answered : Bool) × IsReplied mac hex text answered × Breaks contents old new text
+Replies contents mac hex old new (Err Write) = (text : List ℕ) × (answered : Bool) × IsReplied mac hex text answered
+    × Breaks contents old new text
 Replies contents mac hex old new (Err NoMemory) = SaysMac mac × (new ≡ old)
 Replies contents mac hex old new (Err NotHex) = SaysMac mac × IsErr (decode_of hex) × (new ≡ old)
 Replies contents mac hex old new (Err Read) = ⊥

@@ -57,7 +57,8 @@ forced_text forced = if forced then codes " forced" else []
 abbrev pub flow_line : ℕ → ℕ → ℕ → Option Serials → List ℕ
 flow_line s agg conv x =
     if length (sent_in x) == 0 then []
-    else codes "flow " ++ (decimal s ++ 47 ∷ (decimal agg ++ 47 ∷ (decimal conv ++ (codes " sent " ++ (decimal (length (sent_in x)) ++ (codes " collected"
+    else codes "flow " ++ (decimal s ++ 47 ∷ (decimal agg ++ 47
+    ∷ (decimal conv ++ (codes " sent " ++ (decimal (length (sent_in x)) ++ (codes " collected"
     ++ (collected_text (collected_in x) ++ (forced_text (forced_in x) ++ 10 ∷ []))))))))
 
 -- the conversations of an aggregator, then those of all aggregators of a system
@@ -88,7 +89,8 @@ first_cables _ _ = []
 
 -- These events were run, from the start of two systems and cables with these limits; the world at the end has the facts
 -- that the theorem proves.
-pub record IsPlayed (gives : Gives) (config : WorldConfig) (limits : List (Option ℕ)) (events : List Event) (replies : List Reply) (to : Joint) : Type 0 where
+pub record IsPlayed (gives : Gives) (config : WorldConfig) (limits : List (Option ℕ)) (events : List Event) (replies : List Reply)
+    (to : Joint) : Type 0 where
   pub from : Joint
   pub systems : AreFirst config.systems from
   pub lines : from.lines ≡ first_cables config.cables.items limits

@@ -11,7 +11,8 @@ use Rattle.lagtool.specs.Replayed.{agreements_text, entries_text, first_cable, f
 
 -- the report, if the systems have this many aggregators
 abbrev pub reported : ℕ → ℕ → List Event → List Reply → Joint → List ℕ
-reported first second events replies j = entries_text 1 events replies ++ (agreements_text j ++ (flows_text j 1 first ++ flows_text j 2 second))
+reported first second events replies j = entries_text 1 events replies
+    ++ (agreements_text j ++ (flows_text j 1 first ++ flows_text j 2 second))
 
 -- how many aggregators two systems have
 abbrev pub Counts : ℕ → ℕ → List Config → Type 0

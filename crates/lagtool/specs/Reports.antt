@@ -51,7 +51,8 @@ AnswersPayload mac text answered (Err e) = Declines text answered (wire_fault_te
 
 -- the text for the payload of a control frame
 abbrev pub RepliesTo : List ℕ → List ℕ → List ℕ → Bool → Type 0
-RepliesTo mac payload text answered = (decoded : Result Pdu WireFault) × IsDecoded payload decoded × AnswersPayload mac text answered decoded
+RepliesTo mac payload text answered = (decoded : Result Pdu WireFault) × IsDecoded payload decoded
+    × AnswersPayload mac text answered decoded
 
 abbrev pub AnswersKind : List ℕ → List ℕ → Bool → Kind → Type 0
 AnswersKind mac text answered (Control payload) = RepliesTo mac payload.now text answered

@@ -19,12 +19,14 @@ use Rattle.lagscript.specs.declared.fault.ScriptFault.TheVariants as script
 -- SYSTEM key K port PORT state HH WORDS
 abbrev pub info_text : Info → List ℕ
 info_text info =
-    system_text info.system ++ (codes " key " ++ (decimal info.key.0 ++ (codes " port " ++ (port_text info.port ++ (codes " state " ++ state_text (octet info.state))))))
+    system_text info.system ++ (codes " key " ++ (decimal info.key.0
+    ++ (codes " port " ++ (port_text info.port ++ (codes " state " ++ state_text (octet info.state))))))
 
 -- the four lines of an LACPDU
 abbrev pub lacpdu_text : Lacpdu → List ℕ
 lacpdu_text v =
-    codes "lacpdu\nactor " ++ (info_text v.actor ++ (codes "\npartner " ++ (info_text v.partner ++ (codes "\nmax-delay " ++ (decimal v.max_delay ++ 10 ∷ [])))))
+    codes "lacpdu\nactor " ++ (info_text v.actor ++ (codes "\npartner "
+    ++ (info_text v.partner ++ (codes "\nmax-delay " ++ (decimal v.max_delay ++ 10 ∷ [])))))
 
 -- the two lines of a Marker PDU
 abbrev pub kind_text : MarkerKind → List ℕ
@@ -33,7 +35,8 @@ kind_text Response = codes "marker-response"
 
 abbrev pub marker_text : Marker → List ℕ
 marker_text m =
-    kind_text m.kind ++ (codes "\nport " ++ (decimal m.port ++ (codes " system " ++ (mac_text m.system ++ (codes " id " ++ (decimal m.id ++ 10 ∷ []))))))
+    kind_text m.kind ++ (codes "\nport " ++ (decimal m.port ++ (codes " system "
+    ++ (mac_text m.system ++ (codes " id " ++ (decimal m.id ++ 10 ∷ []))))))
 
 abbrev pub pdu_text : Pdu → List ℕ
 pdu_text (pdu.Lacpdu v) = lacpdu_text v

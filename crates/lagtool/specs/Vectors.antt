@@ -19,12 +19,14 @@ lines_from n [] = []
 lines_from n (pass ∷ passed) = vector_line n pass ++ lines_from (n + 1) passed
 
 abbrev pub vectors_text : List Bool → List ℕ
-vectors_text passed = lines_from 1 passed ++ (codes "vectors " ++ (decimal (length passed) ++ (codes " failed " ++ (decimal (failures passed) ++ 10 ∷ []))))
+vectors_text passed = lines_from 1 passed ++ (codes "vectors "
+    ++ (decimal (length passed) ++ (codes " failed " ++ (decimal (failures passed) ++ 10 ∷ []))))
 
 -- what `vectors` returns and has written, if these ten say whether each vector passes
 abbrev pub RunsVectors : {W : Type 0} → (W → Option (List ℕ)) → SinkState W → SinkState W → Result Summary ToolFault → Type 0
 RunsVectors contents old new (Ok summary) =
-    (passed : List Bool) × (length passed ≡ 10) × Takes contents old new (vectors_text passed) × (summary ≡ record { checked = 10; faults = failures passed })
+    (passed : List Bool) × (length passed ≡ 10) × Takes contents old new (vectors_text passed)
+    × (summary ≡ record { checked = 10; faults = failures passed })
 RunsVectors contents old new (Err Write) = (passed : List Bool) × (length passed ≡ 10) × Breaks contents old new (vectors_text passed)
 RunsVectors contents old new (Err NoMemory) = new ≡ old
 RunsVectors contents old new (Err Read) = ⊥

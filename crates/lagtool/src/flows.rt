@@ -38,7 +38,8 @@ fn push_flow<F: Fn(u16, usize) -> usize + Drop>(
     agg: u16,
     conv: u16,
 ) -> Result<(), AllocError>
-    ensures { OnOk result (string_bytes text.new ≡ string_bytes text.old ++ flow_line system agg conv (serials_of_system (side_of system) agg conv world.now.joint)) }
+    ensures { OnOk result (string_bytes text.new ≡ string_bytes text.old
+        ++ flow_line system agg conv (serials_of_system (side_of system) agg conv world.now.joint)) }
 {
     let sent = world.sent(system, AggId(agg), conv).len();
     if sent == 0 {
@@ -70,7 +71,8 @@ fn push_row<F: Fn(u16, usize) -> usize + Drop>(
 /// Sets the flag of the aggregator that an event offers a frame to, if it is one of this system.
 fn note_offer(flags: &mut [bool], system: u8, event: &Event)
     ensures length { length flags.new ≡ length flags.old }
-    ensures flags { (agg : ℕ) → agg < length flags.old → get_or flags.new agg false ≡ (get_or flags.old agg false || offers_to system agg event.now) }
+    ensures flags { (agg : ℕ) → agg < length flags.old → get_or flags.new agg false ≡ (get_or flags.old agg false
+        || offers_to system agg event.now) }
 {
     if let Event::Offer(number, agg, _) = event {
         let place = usize::from(agg.0);

@@ -17,7 +17,8 @@ ghost use Rattle.lagworld.specs.declared.agreement.Agreement.TheVariants.{Differ
 pub fn a_report_keeps_the_headline()
     ensures agreements { (j : Joint) (cable : ℕ) → IsSound j → agreement_at j cable ≢ Some Differ }
     ensures flows { (j : Joint) (s agg conv : ℕ) → IsSound j → forced_in (serials_of_system (side_of s) agg conv j) ≡ false
-        → IsSubsequence (collected_in (serials_of_system (side_of s) agg conv j)) (range_with_len 0 (length (sent_in (serials_of_system (side_of s) agg conv j)))) }
+        → IsSubsequence (collected_in (serials_of_system (side_of s) agg conv j))
+        (range_with_len 0 (length (sent_in (serials_of_system (side_of s) agg conv j)))) }
 {}
 
 /// A text that is refused is no script.

@@ -43,7 +43,8 @@ pub(crate) fn play<F: Fn(u16, usize) -> usize + Drop>(
     requires acted { world.old.joint.acted ≡ 0 }
     requires named { AllNameExisting (length world.old.joint.lines) events.now }
     requires few { length events.now ≤ most_events }
-    ensures ran { IfOk result (λ replies. Runs (gives_by (F.post world.old.one) (F.post world.old.two)) world.old.joint events.now replies.items world.new.joint) }
+    ensures ran { IfOk result (λ replies. Runs (gives_by (F.post world.old.one) (F.post world.old.two)) world.old.joint events.now
+        replies.items world.new.joint) }
     ensures sound { IsSound world.new.joint }
     ensures stopped { IfErr result (λ stop. stop.fault ≡ NoMemory) }
 {

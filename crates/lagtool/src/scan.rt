@@ -97,7 +97,8 @@ impl Scan {
 
     /// Adds the counts to the report. `AllocError` if memory is refused.
     fn end_report(&mut self) -> Result<Summary, AllocError>
-        ensures said { OnOk result (self.new.said ≡ self.old.said ++ counts_text (record { checked = self.old.lines; faults = self.old.faults })) }
+        ensures said { OnOk result (self.new.said ≡ self.old.said
+            ++ counts_text (record { checked = self.old.lines; faults = self.old.faults })) }
         ensures counts { IfOk result (λ s. s ≡ record { checked = self.old.lines; faults = self.old.faults }) }
     {
         let (checked, faults) = (self.lines, self.faults);

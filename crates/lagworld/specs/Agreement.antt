@@ -40,7 +40,8 @@ first_of_five not_both defaults changed same =
 
 abbrev pub agreement_of : EndView → EndView → Agreement
 agreement_of a b =
-    first_of_five (not (a.distributes && b.distributes)) (a.defaulted || b.defaulted) (not (is_stamp a.count b.taken && is_stamp b.count a.taken)) (same_groups a.group b.group)
+    first_of_five (not (a.distributes && b.distributes)) (a.defaulted
+    || b.defaulted) (not (is_stamp a.count b.taken && is_stamp b.count a.taken)) (same_groups a.group b.group)
 
 -- how the ends of the cable with this number stand to each other, if it exists
 abbrev pub agreement_at : Joint → ℕ → Option Agreement

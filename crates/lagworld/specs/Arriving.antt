@@ -34,7 +34,8 @@ logged _ p item h = h
 -- the item arrives on port p of a system, which answers a
 abbrev pub Comes : (ℕ → ℕ → ℕ → Type 0) → ℕ → Carried → Result Received SystemFault → Half → Half → Type 0
 Comes gives p item a old new =
-    Asks gives (Receive p item.octets) (answer.Receive a) old (with_state new.state old) × (new ≡ logged a p item (with_state new.state old))
+    Asks gives (Receive p item.octets) (answer.Receive a) old (with_state new.state old)
+    × (new ≡ logged a p item (with_state new.state old))
 
 -- the frame contains this LACPDU
 abbrev pub CarriesLacpdu : List ℕ → Lacpdu → Type 0
@@ -115,7 +116,8 @@ CanCollectFor (stamp.Data system agg conv serial) one two = CanCollectAt agg con
 
 -- The places that an item may need that arrives on a port of a system: one on the cable of that port, and one for a
 -- serial number.
-pub record IsReady {C F : Type 0} (items : C → List Item) (limit : C → Option ℕ) (reserved : C → Bool) (s : Side) (head : Head) (core : Core C F) : Type 0 where
+pub record IsReady {C F : Type 0} (items : C → List Item) (limit : C → Option ℕ) (reserved : C
+    → Bool) (s : Side) (head : Head) (core : Core C F) : Type 0 where
   pub place : IsReserved items limit reserved s head.port core.lines.items
   pub serial : CanCollectFor head.stamp core.one.flows.items core.two.flows.items
 

@@ -138,7 +138,8 @@ RepeatsFrom gives s l (item ∷ rest) old r new = RepeatsItem gives s (port_at s
 abbrev pub offered : Side → ℕ → AggId → List ℕ → Half → Carried
 offered s port agg octets h = record {
   octets = octets;
-  stamp = stamp.Data (side_number s) agg.0 (conversation_of h.state octets) (length (sent_in (serials_at h.flows agg.0 (conversation_of h.state octets))));
+  stamp = stamp.Data (side_number s) agg.0 (conversation_of h.state octets)
+      (length (sent_in (serials_at h.flows agg.0 (conversation_of h.state octets))));
 }
 
 abbrev pub count_sent : AggId → List ℕ → Half → Half
@@ -148,7 +149,8 @@ abbrev pub Offered : Side → AggId → List ℕ → Result ℕ SystemFault → 
 Offered s agg octets (Err fault) old r new = (r ≡ reply.Refused fault) × (new ≡ old)
 Offered s agg octets (Ok port) old r new =
     IsSome (serials_at (half s old).flows agg.0 (conversation_of (half s old).state octets))
-    × (r ≡ reply.Port port (length (sent_in (serials_at (half s old).flows agg.0 (conversation_of (half s old).state octets)))) (is_kept s port old.lines))
+    × (r ≡ reply.Port port (length (sent_in (serials_at (half s old).flows agg.0 (conversation_of (half s old).state octets))))
+    (is_kept s port old.lines))
     × (new ≡ puts s port (offered s port agg octets (half s old)) (with_half s (count_sent agg octets (half s old)) old))
 
 abbrev pub Offers : Gives → Side → AggId → List ℕ → Joint → Reply → Joint → Type 0
@@ -171,7 +173,8 @@ Does gives old (event.Sense c n) r new =
     IsSomeAnd (side_of n) (λ s. OnLine c (λ i l. InHalf s (λ h k. Senses (gives s) (port_at s l) l.whole h r k) old new) old.lines)
 Does gives old (event.Restart n) r new =
     IsSomeAnd (side_of n) (λ s. (r ≡ reply.Restarted) × InHalf s (Restarts (gives s)) (with_lines old (map emptied old.lines)) new)
-Does gives old (event.Configure n p change) r new = IsSomeAnd (side_of n) (λ s. InHalf s (λ h k. Configures (gives s) p change h r k) old new)
+Does gives old (event.Configure n p change) r new = IsSomeAnd (side_of n)
+    (λ s. InHalf s (λ h k. Configures (gives s) p change h r k) old new)
 Does gives old (event.Offer n agg octets) r new = IsSomeAnd (side_of n) (λ s. Offers gives s agg octets.items old r new)
 Does gives old (event.Move n agg conv p) r new = IsSomeAnd (side_of n) (λ s. InHalf s (λ h k. Moves (gives s) agg conv p h r k) old new)
 Does gives old (event.Force n agg conv) r new = IsSomeAnd (side_of n) (λ s. InHalf s (λ h k. Forces (gives s) agg conv h r k) old new)

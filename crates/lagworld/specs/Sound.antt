@@ -111,5 +111,6 @@ pub record IsStart (j : Joint) : Type 0 where
   pub ends : (s : Side) (i : ℕ) (l : Line) → slice_get j.lines i ≡ Some l → IsSome (log_at (half s j).logs (port_at s l))
   pub counts : (s : Side) → AreBelow 0 (half s j).logs
   pub logs : (s : Side) (p : ℕ) (log : PortLog) → log_at (half s j).logs p ≡ Some log → (log.count ≡ 0) × (log.taken ≡ None)
-  pub flows : (s : Side) (g k : ℕ) (x : Serials) → serials_at (half s j).flows g k ≡ Some x → (x.sent ≡ []) × (x.collected ≡ []) × (x.forced ≡ false)
+  pub flows : (s : Side) (g k : ℕ) (x : Serials) → serials_at (half s j).flows g k ≡ Some x → (x.sent ≡ []) × (x.collected ≡ [])
+      × (x.forced ≡ false)
   pub acted : j.acted ≡ 0

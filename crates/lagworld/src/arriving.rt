@@ -153,7 +153,8 @@ impl<F: Fn(u16, usize) -> usize + Drop> End<F> {
         cable: &C,
         port: u16,
     ) -> Option<Result<Received, SystemFault>>
-        ensures comes { FirstComes (F.post self.old.system.algorithm) port (map carried (C.items cable.now)) result (half_of self.old) (half_of self.new) }
+        ensures comes { FirstComes (F.post self.old.system.algorithm) port (map carried (C.items cable.now)) result (half_of self.old)
+            (half_of self.new) }
         ensures algorithm { self.new.system.algorithm ≡ self.old.system.algorithm }
         ensures flows { self.new.flows ≡ self.old.flows }
     {
@@ -218,8 +219,12 @@ pub(crate) fn take_first<C: Cable>(
     place: usize,
 ) -> Option<Item>
     requires { place < length lines.old.items }
-    ensures taken { IsSomeAnd (slice_get (lines_of C.items C.limit lines.old.items) place) (λ l. (option_map carried result ≡ slice_get (towards (told_side side) l) 0) × (lines_of C.items C.limit lines.new.items ≡ slice_set (lines_of C.items C.limit lines.old.items) place (without_first (told_side side) l))) }
-    ensures reserved { (p : ℕ) → IsReserved C.items C.limit C.reserved (told_side side) p lines.old.items → IsReserved C.items C.limit C.reserved (told_side side) p lines.new.items }
+    ensures taken { IsSomeAnd (slice_get (lines_of C.items C.limit lines.old.items) place)
+        (λ l. (option_map carried result ≡ slice_get (towards (told_side side) l) 0)
+        × (lines_of C.items C.limit lines.new.items ≡ slice_set (lines_of C.items C.limit lines.old.items) place
+        (without_first (told_side side) l))) }
+    ensures reserved { (p : ℕ) → IsReserved C.items C.limit C.reserved (told_side side) p lines.old.items
+        → IsReserved C.items C.limit C.reserved (told_side side) p lines.new.items }
 {
     let line = &mut lines[place];
     line.take(side)
@@ -270,7 +275,10 @@ impl<C: Cable, F: Fn(u16, usize) -> usize + Drop> Core<C, F> {
     /// The first item towards a system on the cable at an index arrives, if there is one.
     fn hear(&mut self, side: Side, place: usize) -> Option<Result<Received, SystemFault>>
         requires { place < length self.old.lines.items }
-        ensures heard { IsSomeAnd (slice_get (lines_of C.items C.limit self.old.lines.items) place) (λ l. FirstComesIn (gives_by (F.post self.old.one.system.algorithm) (F.post self.old.two.system.algorithm)) (told_side side) (port_at (told_side side) l) (towards (told_side side) l) result (joint_of C.items C.limit self.old) (joint_of C.items C.limit self.new)) }
+        ensures heard { IsSomeAnd (slice_get (lines_of C.items C.limit self.old.lines.items) place)
+            (λ l. FirstComesIn (gives_by (F.post self.old.one.system.algorithm) (F.post self.old.two.system.algorithm)) (told_side side)
+            (port_at (told_side side) l) (towards (told_side side) l) result (joint_of C.items C.limit self.old)
+            (joint_of C.items C.limit self.new)) }
         ensures lines { self.new.lines ≡ self.old.lines }
         ensures flows_one { self.new.one.flows ≡ self.old.one.flows }
         ensures flows_two { self.new.two.flows ≡ self.old.two.flows }
@@ -291,7 +299,8 @@ impl<C: Cable, F: Fn(u16, usize) -> usize + Drop> Core<C, F> {
         requires empty { bytes.items ≡ [] }
         requires room { vec_len bytes + 124 ≤ vec_capacity bytes }
         ensures kept { result ≡ is_kept (told_side side) port (lines_of C.items C.limit self.old.lines.items) }
-        ensures put { joint_of C.items C.limit self.new ≡ puts (told_side side) port (record { octets = frame; stamp = Stamp.Control 0 }) (joint_of C.items C.limit self.old) }
+        ensures put { joint_of C.items C.limit self.new ≡ puts (told_side side) port (record { octets = frame; stamp = Stamp.Control 0 })
+            (joint_of C.items C.limit self.old) }
         ensures acted { self.new.acted ≡ self.old.acted }
         ensures algorithm_one { self.new.one.system.algorithm ≡ self.old.one.system.algorithm }
         ensures algorithm_two { self.new.two.system.algorithm ≡ self.old.two.system.algorithm }
@@ -336,7 +345,8 @@ impl<C: Cable, F: Fn(u16, usize) -> usize + Drop> Core<C, F> {
         requires ready { IsReady C.items C.limit C.reserved (told_side side) head self.old }
         requires empty { bytes.items ≡ [] }
         requires room { vec_len bytes + 124 ≤ vec_capacity bytes }
-        ensures concludes { Concludes (told_side side) head.port head.stamp answer (joint_of C.items C.limit self.old) result (joint_of C.items C.limit self.new) }
+        ensures concludes { Concludes (told_side side) head.port head.stamp answer (joint_of C.items C.limit self.old) result
+            (joint_of C.items C.limit self.new) }
         ensures acted { self.new.acted ≡ self.old.acted }
         ensures algorithm_one { self.new.one.system.algorithm ≡ self.old.one.system.algorithm }
         ensures algorithm_two { self.new.two.system.algorithm ≡ self.old.two.system.algorithm }
@@ -361,7 +371,9 @@ impl<C: Cable, F: Fn(u16, usize) -> usize + Drop> Core<C, F> {
     /// The first item towards a system is taken off a cable and arrives.
     pub(crate) fn deliver(&mut self, cable: u16, system: u8) -> Result<Reply, WorldFault>
         requires there { has_cable (joint_of C.items C.limit self.old) (Some cable) ≡ true }
-        ensures delivers { IfOk result (λ reply. DeliversAs (gives_by (F.post self.old.one.system.algorithm) (F.post self.old.two.system.algorithm)) (side_named system) cable (joint_of C.items C.limit self.old) reply (joint_of C.items C.limit self.new)) }
+        ensures delivers { IfOk result (λ reply. DeliversAs (gives_by (F.post self.old.one.system.algorithm)
+            (F.post self.old.two.system.algorithm)) (side_named system) cable (joint_of C.items C.limit self.old) reply
+            (joint_of C.items C.limit self.new)) }
         ensures refused { IfErr result (λ fault. fault ≡ OutOfMemory) }
         ensures unchanged { IfErr result (λ fault. joint_of C.items C.limit self.new ≡ joint_of C.items C.limit self.old) }
         ensures acted { self.new.acted ≡ self.old.acted }
@@ -384,7 +396,9 @@ impl<C: Cable, F: Fn(u16, usize) -> usize + Drop> Core<C, F> {
     /// The first item on a cable towards a system arrives but stays on the cable, unless it is a data frame.
     pub(crate) fn repeat(&mut self, cable: u16, system: u8) -> Result<Reply, WorldFault>
         requires there { has_cable (joint_of C.items C.limit self.old) (Some cable) ≡ true }
-        ensures repeats { IfOk result (λ reply. RepeatsAs (gives_by (F.post self.old.one.system.algorithm) (F.post self.old.two.system.algorithm)) (side_named system) cable (joint_of C.items C.limit self.old) reply (joint_of C.items C.limit self.new)) }
+        ensures repeats { IfOk result (λ reply. RepeatsAs (gives_by (F.post self.old.one.system.algorithm)
+            (F.post self.old.two.system.algorithm)) (side_named system) cable (joint_of C.items C.limit self.old) reply
+            (joint_of C.items C.limit self.new)) }
         ensures refused { IfErr result (λ fault. fault ≡ OutOfMemory) }
         ensures unchanged { IfErr result (λ fault. joint_of C.items C.limit self.new ≡ joint_of C.items C.limit self.old) }
         ensures acted { self.new.acted ≡ self.old.acted }

@@ -56,7 +56,8 @@ impl<C: Cable, F: Fn(u16, usize) -> usize + Drop> Core<C, F> {
     /// Restarts a system; what is on the cables is lost.
     pub(crate) fn restart(&mut self, system: u8) -> Reply
         requires { IsSound (joint_of C.items C.limit self.old) }
-        ensures restarts { RestartsAs (gives_by (F.post self.old.one.system.algorithm) (F.post self.old.two.system.algorithm)) (side_named system) (joint_of C.items C.limit self.old) result (joint_of C.items C.limit self.new) }
+        ensures restarts { RestartsAs (gives_by (F.post self.old.one.system.algorithm) (F.post self.old.two.system.algorithm))
+            (side_named system) (joint_of C.items C.limit self.old) result (joint_of C.items C.limit self.new) }
         ensures acted { self.new.acted ≡ self.old.acted }
         ensures algorithm_one { self.new.one.system.algorithm ≡ self.old.one.system.algorithm }
         ensures algorithm_two { self.new.two.system.algorithm ≡ self.old.two.system.algorithm }
@@ -72,7 +73,8 @@ impl<C: Cable, F: Fn(u16, usize) -> usize + Drop> Core<C, F> {
     /// Gives a port of a system another key, priority or Aggregation bit.
     pub(crate) fn configure(&mut self, system: u8, port: u16, change: PortChange) -> Reply
         requires { IsSound (joint_of C.items C.limit self.old) }
-        ensures configures { ConfiguresAs (gives_by (F.post self.old.one.system.algorithm) (F.post self.old.two.system.algorithm)) (side_named system) port change (joint_of C.items C.limit self.old) result (joint_of C.items C.limit self.new) }
+        ensures configures { ConfiguresAs (gives_by (F.post self.old.one.system.algorithm) (F.post self.old.two.system.algorithm))
+            (side_named system) port change (joint_of C.items C.limit self.old) result (joint_of C.items C.limit self.new) }
         ensures acted { self.new.acted ≡ self.old.acted }
         ensures algorithm_one { self.new.one.system.algorithm ≡ self.old.one.system.algorithm }
         ensures algorithm_two { self.new.two.system.algorithm ≡ self.old.two.system.algorithm }

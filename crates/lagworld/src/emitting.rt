@@ -99,7 +99,8 @@ impl<F: Fn(u16, usize) -> usize + Drop> End<F> {
 impl<C: Cable, F: Fn(u16, usize) -> usize + Drop> Core<C, F> {
     /// Returns the frame that is due on a port of a system.
     fn transmit(&mut self, side: Side, port: u16) -> Result<Option<[u8; 124]>, SystemFault>
-        ensures transmits { TransmitsAs (gives_by (F.post self.old.one.system.algorithm) (F.post self.old.two.system.algorithm)) (told_side side) port result (joint_of C.items C.limit self.old) (joint_of C.items C.limit self.new) }
+        ensures transmits { TransmitsAs (gives_by (F.post self.old.one.system.algorithm) (F.post self.old.two.system.algorithm))
+            (told_side side) port result (joint_of C.items C.limit self.old) (joint_of C.items C.limit self.new) }
         ensures lines { self.new.lines ≡ self.old.lines }
         ensures acted { self.new.acted ≡ self.old.acted }
         ensures algorithm_one { self.new.one.system.algorithm ≡ self.old.one.system.algorithm }
@@ -127,7 +128,8 @@ impl<C: Cable, F: Fn(u16, usize) -> usize + Drop> Core<C, F> {
         requires place { IsReserved C.items C.limit C.reserved (told_side side) port self.old.lines.items }
         requires empty { octets.items ≡ [] }
         requires room { vec_len octets + 124 ≤ vec_capacity octets }
-        ensures emitted { Emitted (told_side side) port (Ok (Some frame.now)) (joint_of C.items C.limit self.old) result (joint_of C.items C.limit self.new) }
+        ensures emitted { Emitted (told_side side) port (Ok (Some frame.now)) (joint_of C.items C.limit self.old) result
+            (joint_of C.items C.limit self.new) }
         ensures acted { self.new.acted ≡ self.old.acted }
         ensures algorithm_one { self.new.one.system.algorithm ≡ self.old.one.system.algorithm }
         ensures algorithm_two { self.new.two.system.algorithm ≡ self.old.two.system.algorithm }
@@ -147,7 +149,8 @@ impl<C: Cable, F: Fn(u16, usize) -> usize + Drop> Core<C, F> {
         requires place { IsReserved C.items C.limit C.reserved (told_side side) port self.old.lines.items }
         requires empty { octets.items ≡ [] }
         requires room { vec_len octets + 124 ≤ vec_capacity octets }
-        ensures emits { Emits (gives_by (F.post self.old.one.system.algorithm) (F.post self.old.two.system.algorithm)) (told_side side) port (joint_of C.items C.limit self.old) result (joint_of C.items C.limit self.new) }
+        ensures emits { Emits (gives_by (F.post self.old.one.system.algorithm) (F.post self.old.two.system.algorithm)) (told_side side) port
+            (joint_of C.items C.limit self.old) result (joint_of C.items C.limit self.new) }
         ensures acted { self.new.acted ≡ self.old.acted }
         ensures algorithm_one { self.new.one.system.algorithm ≡ self.old.one.system.algorithm }
         ensures algorithm_two { self.new.two.system.algorithm ≡ self.old.two.system.algorithm }
@@ -161,7 +164,8 @@ impl<C: Cable, F: Fn(u16, usize) -> usize + Drop> Core<C, F> {
 
     /// Sends what is due on a port of a system.
     pub(crate) fn emit(&mut self, system: u8, port: u16) -> Result<Reply, WorldFault>
-        ensures emits { IfOk result (λ reply. Emits (gives_by (F.post self.old.one.system.algorithm) (F.post self.old.two.system.algorithm)) (side_named system) port (joint_of C.items C.limit self.old) reply (joint_of C.items C.limit self.new)) }
+        ensures emits { IfOk result (λ reply. Emits (gives_by (F.post self.old.one.system.algorithm) (F.post self.old.two.system.algorithm))
+            (side_named system) port (joint_of C.items C.limit self.old) reply (joint_of C.items C.limit self.new)) }
         ensures refused { IfErr result (λ fault. fault ≡ OutOfMemory) }
         ensures unchanged { IfErr result (λ fault. joint_of C.items C.limit self.new ≡ joint_of C.items C.limit self.old) }
         ensures acted { self.new.acted ≡ self.old.acted }

@@ -59,9 +59,11 @@ impl<C: Cable, F: Fn(u16, usize) -> usize + Drop> Core<C, F> {
         requires two { PicksPlaces (F.pre self.old.two.system.algorithm) (F.post self.old.two.system.algorithm) }
         requires sound { IsSound (joint_of C.items C.limit self.old) }
         ensures accepted { IfOk result (λ reply. cause (joint_of C.items C.limit self.old) event.now ≡ None) }
-        ensures steps { IfOk result (λ reply. Steps (gives_by (F.post self.old.one.system.algorithm) (F.post self.old.two.system.algorithm)) (joint_of C.items C.limit self.old) event.now reply (joint_of C.items C.limit self.new)) }
+        ensures steps { IfOk result (λ reply. Steps (gives_by (F.post self.old.one.system.algorithm) (F.post self.old.two.system.algorithm))
+            (joint_of C.items C.limit self.old) event.now reply (joint_of C.items C.limit self.new)) }
         ensures refused { IfErr result (λ fault. fault ≡ fault_for (cause (joint_of C.items C.limit self.old) event.now)) }
-        ensures memory { IfErr result (λ fault. cause (joint_of C.items C.limit self.old) event.now ≡ None → may_take_memory event.now ≡ true) }
+        ensures memory { IfErr result (λ fault. cause (joint_of C.items C.limit self.old) event.now ≡ None
+            → may_take_memory event.now ≡ true) }
         ensures unchanged { IfErr result (λ fault. joint_of C.items C.limit self.new ≡ joint_of C.items C.limit self.old) }
         ensures algorithm_one { self.new.one.system.algorithm ≡ self.old.one.system.algorithm }
         ensures algorithm_two { self.new.two.system.algorithm ≡ self.old.two.system.algorithm }
@@ -81,7 +83,8 @@ impl<C: Cable, F: Fn(u16, usize) -> usize + Drop> Core<C, F> {
         requires two { PicksPlaces (F.pre self.old.two.system.algorithm) (F.post self.old.two.system.algorithm) }
         requires sound { IsSound (joint_of C.items C.limit self.old) }
         requires accepted { cause (joint_of C.items C.limit self.old) event.now ≡ None }
-        ensures does { IfOk result (λ reply. Does (gives_by (F.post self.old.one.system.algorithm) (F.post self.old.two.system.algorithm)) (joint_of C.items C.limit self.old) event.now reply (joint_of C.items C.limit self.new)) }
+        ensures does { IfOk result (λ reply. Does (gives_by (F.post self.old.one.system.algorithm) (F.post self.old.two.system.algorithm))
+            (joint_of C.items C.limit self.old) event.now reply (joint_of C.items C.limit self.new)) }
         ensures refused { IfErr result (λ fault. fault ≡ OutOfMemory) }
         ensures memory { IfErr result (λ fault. may_take_memory event.now ≡ true) }
         ensures unchanged { IfErr result (λ fault. joint_of C.items C.limit self.new ≡ joint_of C.items C.limit self.old) }
@@ -113,7 +116,8 @@ impl<C: Cable, F: Fn(u16, usize) -> usize + Drop> Core<C, F> {
     /// Plays this many ticks of a system.
     fn tick(&mut self, system: u8, count: u16) -> Reply
         ensures acted { self.new.acted ≡ self.old.acted }
-        ensures ticks { TicksAs (gives_by (F.post self.old.one.system.algorithm) (F.post self.old.two.system.algorithm)) (side_named system) count (joint_of C.items C.limit self.old) result (joint_of C.items C.limit self.new) }
+        ensures ticks { TicksAs (gives_by (F.post self.old.one.system.algorithm) (F.post self.old.two.system.algorithm))
+            (side_named system) count (joint_of C.items C.limit self.old) result (joint_of C.items C.limit self.new) }
         ensures algorithm_one { self.new.one.system.algorithm ≡ self.old.one.system.algorithm }
         ensures algorithm_two { self.new.two.system.algorithm ≡ self.old.two.system.algorithm }
     {
@@ -127,7 +131,8 @@ impl<C: Cable, F: Fn(u16, usize) -> usize + Drop> Core<C, F> {
     /// Moves a conversation of a system to a port.
     fn move_to(&mut self, system: u8, agg: AggId, conv: u16, port: u16) -> Reply
         ensures acted { self.new.acted ≡ self.old.acted }
-        ensures moves { MovesAs (gives_by (F.post self.old.one.system.algorithm) (F.post self.old.two.system.algorithm)) (side_named system) agg conv port (joint_of C.items C.limit self.old) result (joint_of C.items C.limit self.new) }
+        ensures moves { MovesAs (gives_by (F.post self.old.one.system.algorithm) (F.post self.old.two.system.algorithm))
+            (side_named system) agg conv port (joint_of C.items C.limit self.old) result (joint_of C.items C.limit self.new) }
         ensures algorithm_one { self.new.one.system.algorithm ≡ self.old.one.system.algorithm }
         ensures algorithm_two { self.new.two.system.algorithm ≡ self.old.two.system.algorithm }
     {
@@ -152,7 +157,9 @@ impl<C: Cable, F: Fn(u16, usize) -> usize + Drop> Core<C, F> {
     /// Cuts a cable.
     fn cut(&mut self, cable: u16) -> Reply
         requires there { has_cable (joint_of C.items C.limit self.old) (Some cable) ≡ true }
-        ensures cut { OnLine cable (λ i l. (result ≡ Reply.Cut) × (joint_of C.items C.limit self.new ≡ set_at i (cut l) (joint_of C.items C.limit self.old))) (lines_of C.items C.limit self.old.lines.items) }
+        ensures cut { OnLine cable (λ i l. (result ≡ Reply.Cut)
+            × (joint_of C.items C.limit self.new ≡ set_at i (cut l) (joint_of C.items C.limit self.old)))
+            (lines_of C.items C.limit self.old.lines.items) }
         ensures acted { self.new.acted ≡ self.old.acted }
         ensures algorithm_one { self.new.one.system.algorithm ≡ self.old.one.system.algorithm }
         ensures algorithm_two { self.new.two.system.algorithm ≡ self.old.two.system.algorithm }
@@ -165,7 +172,9 @@ impl<C: Cable, F: Fn(u16, usize) -> usize + Drop> Core<C, F> {
     /// Joins a cable.
     fn join(&mut self, cable: u16) -> Reply
         requires there { has_cable (joint_of C.items C.limit self.old) (Some cable) ≡ true }
-        ensures joined { OnLine cable (λ i l. (result ≡ Reply.Joined) × (joint_of C.items C.limit self.new ≡ set_at i (joined l) (joint_of C.items C.limit self.old))) (lines_of C.items C.limit self.old.lines.items) }
+        ensures joined { OnLine cable (λ i l. (result ≡ Reply.Joined)
+            × (joint_of C.items C.limit self.new ≡ set_at i (joined l) (joint_of C.items C.limit self.old)))
+            (lines_of C.items C.limit self.old.lines.items) }
         ensures acted { self.new.acted ≡ self.old.acted }
         ensures algorithm_one { self.new.one.system.algorithm ≡ self.old.one.system.algorithm }
         ensures algorithm_two { self.new.two.system.algorithm ≡ self.old.two.system.algorithm }
@@ -178,7 +187,8 @@ impl<C: Cable, F: Fn(u16, usize) -> usize + Drop> Core<C, F> {
     /// Tells a system whether a cable is whole.
     fn sense(&mut self, cable: u16, system: u8) -> Reply
         requires there { has_cable (joint_of C.items C.limit self.old) (Some cable) ≡ true }
-        ensures senses { SensesAs (gives_by (F.post self.old.one.system.algorithm) (F.post self.old.two.system.algorithm)) (side_named system) cable (joint_of C.items C.limit self.old) result (joint_of C.items C.limit self.new) }
+        ensures senses { SensesAs (gives_by (F.post self.old.one.system.algorithm) (F.post self.old.two.system.algorithm))
+            (side_named system) cable (joint_of C.items C.limit self.old) result (joint_of C.items C.limit self.new) }
         ensures acted { self.new.acted ≡ self.old.acted }
         ensures algorithm_one { self.new.one.system.algorithm ≡ self.old.one.system.algorithm }
         ensures algorithm_two { self.new.two.system.algorithm ≡ self.old.two.system.algorithm }

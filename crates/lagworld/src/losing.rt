@@ -38,7 +38,9 @@ impl<C: Cable> Line<C> {
 /// Loses the first item towards a system on the cable at an index; returns whether there was one.
 fn lose_at<C: Cable>(lines: &mut Vec<Line<C>>, place: usize, side: Side) -> bool
     requires { place < length lines.old.items }
-    ensures { IsSomeAnd (slice_get (lines_of C.items C.limit lines.old.items) place) (λ l. (lines_of C.items C.limit lines.new.items ≡ slice_set (lines_of C.items C.limit lines.old.items) place (without_first (told_side side) l)) × (result ≡ is_some (slice_get (towards (told_side side) l) 0))) }
+    ensures { IsSomeAnd (slice_get (lines_of C.items C.limit lines.old.items) place)
+        (λ l. (lines_of C.items C.limit lines.new.items ≡ slice_set (lines_of C.items C.limit lines.old.items) place
+        (without_first (told_side side) l)) × (result ≡ is_some (slice_get (towards (told_side side) l) 0))) }
 {
     let line = &mut lines[place];
     line.lose(side)

@@ -83,7 +83,8 @@ impl<F: Fn(u16, usize) -> usize + Drop> End<F> {
 impl<C: Cable, F: Fn(u16, usize) -> usize + Drop> Core<C, F> {
     /// Frees a conversation of a system at once.
     pub(crate) fn force(&mut self, system: u8, agg: AggId, conv: u16) -> Reply
-        ensures forces { ForcesAs (gives_by (F.post self.old.one.system.algorithm) (F.post self.old.two.system.algorithm)) (side_named system) agg conv (joint_of C.items C.limit self.old) result (joint_of C.items C.limit self.new) }
+        ensures forces { ForcesAs (gives_by (F.post self.old.one.system.algorithm) (F.post self.old.two.system.algorithm))
+            (side_named system) agg conv (joint_of C.items C.limit self.old) result (joint_of C.items C.limit self.new) }
         ensures acted { self.new.acted ≡ self.old.acted }
         ensures algorithm_one { self.new.one.system.algorithm ≡ self.old.one.system.algorithm }
         ensures algorithm_two { self.new.two.system.algorithm ≡ self.old.two.system.algorithm }
@@ -96,7 +97,8 @@ impl<C: Cable, F: Fn(u16, usize) -> usize + Drop> Core<C, F> {
 
     /// The conversation of a frame in a system.
     fn conversation(&self, side: Side, frame: &[u8]) -> u16
-        ensures is { 14 ≤ length frame.now → result ≡ conversation_of (half (told_side side) (joint_of C.items C.limit self.now)).state frame.now }
+        ensures is { 14 ≤ length frame.now → result ≡ conversation_of
+            (half (told_side side) (joint_of C.items C.limit self.now)).state frame.now }
         ensures within { result < conversations (half (told_side side) (joint_of C.items C.limit self.now)).state }
     {
         match side {
@@ -109,7 +111,8 @@ impl<C: Cable, F: Fn(u16, usize) -> usize + Drop> Core<C, F> {
     fn assign(&mut self, side: Side, agg: AggId, frame: &[u8]) -> Result<u16, SystemFault>
         requires one { PicksPlaces (F.pre self.old.one.system.algorithm) (F.post self.old.one.system.algorithm) }
         requires two { PicksPlaces (F.pre self.old.two.system.algorithm) (F.post self.old.two.system.algorithm) }
-        ensures assigns { AssignsAs (gives_by (F.post self.old.one.system.algorithm) (F.post self.old.two.system.algorithm)) (told_side side) agg frame.now result (joint_of C.items C.limit self.old) (joint_of C.items C.limit self.new) }
+        ensures assigns { AssignsAs (gives_by (F.post self.old.one.system.algorithm) (F.post self.old.two.system.algorithm))
+            (told_side side) agg frame.now result (joint_of C.items C.limit self.old) (joint_of C.items C.limit self.new) }
         ensures lines { self.new.lines ≡ self.old.lines }
         ensures flows_one { self.new.one.flows ≡ self.old.one.flows }
         ensures flows_two { self.new.two.flows ≡ self.old.two.flows }
@@ -142,7 +145,8 @@ impl<C: Cable, F: Fn(u16, usize) -> usize + Drop> Core<C, F> {
     fn count_sent(&mut self, side: Side, agg: AggId, conv: u16) -> u64
         requires { HasRoom agg.0 conv (pick (told_side side) self.old.one.flows.items self.old.two.flows.items) }
         ensures serial { result ≡ length (sent_in (serials_at (half (told_side side) (joint_of C.items C.limit self.old)).flows agg.0 conv)) }
-        ensures sent { joint_of C.items C.limit self.new ≡ with_half (told_side side) (count_sent_in agg.0 conv (half (told_side side) (joint_of C.items C.limit self.old))) (joint_of C.items C.limit self.old) }
+        ensures sent { joint_of C.items C.limit self.new ≡ with_half (told_side side)
+            (count_sent_in agg.0 conv (half (told_side side) (joint_of C.items C.limit self.old))) (joint_of C.items C.limit self.old) }
         ensures lines { self.new.lines ≡ self.old.lines }
         ensures acted { self.new.acted ≡ self.old.acted }
         ensures algorithm_one { self.new.one.system.algorithm ≡ self.old.one.system.algorithm }
@@ -167,7 +171,8 @@ impl<C: Cable, F: Fn(u16, usize) -> usize + Drop> Core<C, F> {
         requires there { IsSome (serials_at (half (told_side side) (joint_of C.items C.limit self.old)).flows agg.0 conv) }
         requires place { AreReserved C.reserved (told_side side) self.old.lines.items }
         requires room { HasRoom agg.0 conv (pick (told_side side) self.old.one.flows.items self.old.two.flows.items) }
-        ensures offered { Offered (told_side side) agg octets.items (Ok port) (joint_of C.items C.limit self.old) result (joint_of C.items C.limit self.new) }
+        ensures offered { Offered (told_side side) agg octets.items (Ok port) (joint_of C.items C.limit self.old) result
+            (joint_of C.items C.limit self.new) }
         ensures acted { self.new.acted ≡ self.old.acted }
         ensures algorithm_one { self.new.one.system.algorithm ≡ self.old.one.system.algorithm }
         ensures algorithm_two { self.new.two.system.algorithm ≡ self.old.two.system.algorithm }
@@ -192,11 +197,13 @@ impl<C: Cable, F: Fn(u16, usize) -> usize + Drop> Core<C, F> {
         requires one { PicksPlaces (F.pre self.old.one.system.algorithm) (F.post self.old.one.system.algorithm) }
         requires two { PicksPlaces (F.pre self.old.two.system.algorithm) (F.post self.old.two.system.algorithm) }
         requires sound { IsSound (joint_of C.items C.limit self.old) }
-        requires conversation { 14 ≤ length octets.items → conv ≡ conversation_of (half (told_side side) (joint_of C.items C.limit self.old)).state octets.items }
+        requires conversation { 14 ≤ length octets.items → conv
+            ≡ conversation_of (half (told_side side) (joint_of C.items C.limit self.old)).state octets.items }
         requires below { conv < conversations (half (told_side side) (joint_of C.items C.limit self.old)).state }
         requires place { AreReserved C.reserved (told_side side) self.old.lines.items }
         requires room { HasRoom agg.0 conv (pick (told_side side) self.old.one.flows.items self.old.two.flows.items) }
-        ensures offers { Offers (gives_by (F.post self.old.one.system.algorithm) (F.post self.old.two.system.algorithm)) (told_side side) agg octets.items (joint_of C.items C.limit self.old) result (joint_of C.items C.limit self.new) }
+        ensures offers { Offers (gives_by (F.post self.old.one.system.algorithm) (F.post self.old.two.system.algorithm))
+            (told_side side) agg octets.items (joint_of C.items C.limit self.old) result (joint_of C.items C.limit self.new) }
         ensures acted { self.new.acted ≡ self.old.acted }
         ensures algorithm_one { self.new.one.system.algorithm ≡ self.old.one.system.algorithm }
         ensures algorithm_two { self.new.two.system.algorithm ≡ self.old.two.system.algorithm }
@@ -217,7 +224,9 @@ impl<C: Cable, F: Fn(u16, usize) -> usize + Drop> Core<C, F> {
         requires one { PicksPlaces (F.pre self.old.one.system.algorithm) (F.post self.old.one.system.algorithm) }
         requires two { PicksPlaces (F.pre self.old.two.system.algorithm) (F.post self.old.two.system.algorithm) }
         requires sound { IsSound (joint_of C.items C.limit self.old) }
-        ensures offers { IfOk result (λ reply. Offers (gives_by (F.post self.old.one.system.algorithm) (F.post self.old.two.system.algorithm)) (side_named system) agg frame.now.items (joint_of C.items C.limit self.old) reply (joint_of C.items C.limit self.new)) }
+        ensures offers { IfOk result (λ reply. Offers (gives_by (F.post self.old.one.system.algorithm)
+            (F.post self.old.two.system.algorithm)) (side_named system) agg frame.now.items (joint_of C.items C.limit self.old) reply
+            (joint_of C.items C.limit self.new)) }
         ensures refused { IfErr result (λ fault. fault ≡ OutOfMemory) }
         ensures unchanged { IfErr result (λ fault. joint_of C.items C.limit self.new ≡ joint_of C.items C.limit self.old) }
         ensures acted { self.new.acted ≡ self.old.acted }

@@ -17,7 +17,8 @@ use lagtypes::AggId;
 
 /// The record of a conversation of an aggregator.
 fn flow_at(flows: &[Vec<Flow>], agg: AggId, conv: u16) -> Option<&Flow>
-    ensures { MatchOption result (serials_at (map (λ xs. map serials_of xs.items) flows.now) agg.0 conv ≡ None) (λ flow. serials_at (map (λ xs. map serials_of xs.items) flows.now) agg.0 conv ≡ Some (serials_of flow.now)) }
+    ensures { MatchOption result (serials_at (map (λ xs. map serials_of xs.items) flows.now) agg.0 conv ≡ None)
+        (λ flow. serials_at (map (λ xs. map serials_of xs.items) flows.now) agg.0 conv ≡ Some (serials_of flow.now)) }
 {
     let place = match usize::from(agg.0).checked_sub(1) {
         Some(place) => place,
@@ -37,7 +38,8 @@ fn flow_at(flows: &[Vec<Flow>], agg: AggId, conv: u16) -> Option<&Flow>
 impl<C: Cable, F: Fn(u16, usize) -> usize + Drop> Core<C, F> {
     /// The record of a conversation of an aggregator of a system.
     fn flow(&self, system: u8, agg: AggId, conv: u16) -> Option<&Flow>
-        ensures { MatchOption result (serials_of_system (side_of system) agg.0 conv (joint_of C.items C.limit self.now) ≡ None) (λ flow. serials_of_system (side_of system) agg.0 conv (joint_of C.items C.limit self.now) ≡ Some (serials_of flow.now)) }
+        ensures { MatchOption result (serials_of_system (side_of system) agg.0 conv (joint_of C.items C.limit self.now) ≡ None)
+            (λ flow. serials_of_system (side_of system) agg.0 conv (joint_of C.items C.limit self.now) ≡ Some (serials_of flow.now)) }
     {
         if system == 1 {
             return flow_at(&self.one.flows, agg, conv);
@@ -94,7 +96,8 @@ impl<C: Cable, F: Fn(u16, usize) -> usize + Drop> World<C, F> {
 
     /// The system with this number, 1 or 2; None for any other number (profile).
     pub fn system(&self, system: u8) -> Option<&System<F>>
-        ensures { MatchOption result (system_at (side_of system) self.now ≡ None) (λ found. system_at (side_of system) self.now ≡ Some found.now) }
+        ensures { MatchOption result (system_at (side_of system) self.now ≡ None)
+            (λ found. system_at (side_of system) self.now ≡ Some found.now) }
     {
         match system {
             1 => Some(&self.core.one.system),

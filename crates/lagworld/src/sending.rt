@@ -15,7 +15,8 @@ use cables::{Cable, Item, NoMemory};
 fn put_on<C: Cable>(cable: &mut C, item: Item) -> bool
     requires { IsTrue (C.reserved cable.old) }
     ensures kept { result ≡ not (is_full (C.limit cable.old) (length (map carried (C.items cable.old)))) }
-    ensures items { map carried (C.items cable.new) ≡ (if result then map carried (C.items cable.old) ++ carried item ∷ [] else map carried (C.items cable.old)) }
+    ensures items { map carried (C.items cable.new) ≡ (if result then map carried (C.items cable.old) ++ carried item ∷ []
+        else map carried (C.items cable.old)) }
     ensures limit { C.limit cable.new ≡ C.limit cable.old }
 {
     cable.push(item).is_ok()
@@ -72,7 +73,8 @@ fn reserve_at<C: Cable>(lines: &mut Vec<Line<C>>, place: usize, side: Side) -> R
     requires { place < length lines.old.items }
     ensures same { lines_of C.items C.limit lines.new.items ≡ lines_of C.items C.limit lines.old.items }
     ensures ok { OnOk result (IsReservedAt C.reserved (told_side side) (Some place) lines.new.items) }
-    ensures others { (i : ℕ) → i < place → IsReservedAt C.reserved (told_side side) (Some i) lines.old.items → IsReservedAt C.reserved (told_side side) (Some i) lines.new.items }
+    ensures others { (i : ℕ) → i < place → IsReservedAt C.reserved (told_side side) (Some i) lines.old.items
+        → IsReservedAt C.reserved (told_side side) (Some i) lines.new.items }
     ensures len { length lines.new.items ≡ length lines.old.items }
 {
     let line = &mut lines[place];
@@ -116,7 +118,9 @@ pub(crate) fn reserve_all<C: Cable>(lines: &mut Vec<Line<C>>, side: Side) -> Res
 fn send_at<C: Cable>(lines: &mut Vec<Line<C>>, place: usize, side: Side, item: Item) -> bool
     requires within { place < length lines.old.items }
     requires reserved { IsReservedAt C.reserved (told_side side) (Some place) lines.old.items }
-    ensures { IsSomeAnd (slice_get (lines_of C.items C.limit lines.old.items) place) (λ l. (lines_of C.items C.limit lines.new.items ≡ slice_set (lines_of C.items C.limit lines.old.items) place (sent_on (told_side side) (carried item) l)) × (result ≡ takes (told_side side) l)) }
+    ensures { IsSomeAnd (slice_get (lines_of C.items C.limit lines.old.items) place)
+        (λ l. (lines_of C.items C.limit lines.new.items ≡ slice_set (lines_of C.items C.limit lines.old.items) place
+        (sent_on (told_side side) (carried item) l)) × (result ≡ takes (told_side side) l)) }
 {
     let line = &mut lines[place];
     line.send(side, item)
@@ -126,7 +130,8 @@ fn send_at<C: Cable>(lines: &mut Vec<Line<C>>, place: usize, side: Side, item: I
 /// no cable, or if the cable is cut or full (profile).
 pub(crate) fn put<C: Cable>(lines: &mut Vec<Line<C>>, side: Side, port: u16, item: Item) -> bool
     requires { IsReserved C.items C.limit C.reserved (told_side side) port lines.old.items }
-    ensures put { lines_of C.items C.limit lines.new.items ≡ put (told_side side) port (carried item) (lines_of C.items C.limit lines.old.items) }
+    ensures put { lines_of C.items C.limit lines.new.items ≡ put (told_side side) port (carried item)
+        (lines_of C.items C.limit lines.old.items) }
     ensures kept { result ≡ is_kept (told_side side) port (lines_of C.items C.limit lines.old.items) }
 {
     match place_of_port(lines, side, port) {

@@ -60,7 +60,8 @@ fn reserve_in(conversations: &mut Vec<Flow>, conv: usize) -> Result<(), AllocErr
 fn send_in(conversations: &mut Vec<Flow>, conv: usize) -> u64
     requires { HasRoomIn conv conversations.old.items }
     ensures serial { result ≡ length (sent_in (slice_get (map serials_of conversations.old.items) conv)) }
-    ensures sent { map serials_of conversations.new.items ≡ set_serials with_sent (slice_get (map serials_of conversations.old.items) conv) conv (map serials_of conversations.old.items) }
+    ensures sent { map serials_of conversations.new.items ≡ set_serials with_sent
+        (slice_get (map serials_of conversations.old.items) conv) conv (map serials_of conversations.old.items) }
 {
     if conv >= conversations.len() {
         return 0;
@@ -71,7 +72,8 @@ fn send_in(conversations: &mut Vec<Flow>, conv: usize) -> u64
 
 /// Records that a conversation was forced.
 fn force_in(conversations: &mut Vec<Flow>, conv: usize)
-    ensures { map serials_of conversations.new.items ≡ set_serials with_forced (slice_get (map serials_of conversations.old.items) conv) conv (map serials_of conversations.old.items) }
+    ensures { map serials_of conversations.new.items ≡ set_serials with_forced
+        (slice_get (map serials_of conversations.old.items) conv) conv (map serials_of conversations.old.items) }
 {
     if conv >= conversations.len() {
         return;

@@ -69,8 +69,10 @@ impl<C: Cable, F: Fn(u16, usize) -> usize + Drop> World<C, F> {
         requires one { PicksPlaces (F.pre self.old.one) (F.post self.old.one) }
         requires two { PicksPlaces (F.pre self.old.two) (F.post self.old.two) }
         ensures accepted { IfOk result (λ reply. cause self.old.joint event.now ≡ None) }
-        ensures steps { IfOk result (λ reply. Steps (gives_by (F.post self.old.one) (F.post self.old.two)) self.old.joint event.now reply self.new.joint) }
-        ensures happens { IfOk result (λ reply. Happens (fixed_of self.old.joint) (told event.now) (world_of self.old.joint) (world_of self.new.joint)) }
+        ensures steps { IfOk result (λ reply. Steps (gives_by (F.post self.old.one) (F.post self.old.two)) self.old.joint event.now reply
+            self.new.joint) }
+        ensures happens { IfOk result (λ reply. Happens (fixed_of self.old.joint) (told event.now) (world_of self.old.joint)
+            (world_of self.new.joint)) }
         ensures refused { IfErr result (λ fault. fault ≡ fault_for (cause self.old.joint event.now)) }
         ensures memory { IfErr result (λ fault. cause self.old.joint event.now ≡ None → may_take_memory event.now ≡ true) }
         ensures unchanged { IfErr result (λ fault. self.new.joint ≡ self.old.joint) }
@@ -100,9 +102,11 @@ impl<C: Cable, F: Fn(u16, usize) -> usize + Drop> World<C, F> {
     pub fn run(&mut self, events: &[Event]) -> Result<Vec<Reply>, RunFault>
         requires one { PicksPlaces (F.pre self.old.one) (F.post self.old.one) }
         requires two { PicksPlaces (F.pre self.old.two) (F.post self.old.two) }
-        ensures ran { IfOk result (λ replies. Runs (gives_by (F.post self.old.one) (F.post self.old.two)) self.old.joint events.now replies.items self.new.joint) }
+        ensures ran { IfOk result (λ replies. Runs (gives_by (F.post self.old.one) (F.post self.old.two)) self.old.joint events.now
+            replies.items self.new.joint) }
         ensures happened { IfOk result (λ replies. WorldRun self.old.joint events.now self.new.joint) }
-        ensures stopped { IfErr result (λ stop. Stops (gives_by (F.post self.old.one) (F.post self.old.two)) self.old.joint events.now stop self.new.joint) }
+        ensures stopped { IfErr result (λ stop. Stops (gives_by (F.post self.old.one) (F.post self.old.two)) self.old.joint events.now stop
+            self.new.joint) }
         ensures one_partner { (s : Side) → OnePartner ((world_of self.new.joint).view s) }
         ensures agree { Agree (fixed_of self.new.joint) (world_of self.new.joint) }
         ensures in_order { InOrder (world_of self.new.joint) }
