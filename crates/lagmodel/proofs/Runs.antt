@@ -1,6 +1,6 @@
--- Runs of worlds, for a crate of two systems. A call of one of them as an event: calls_from, no_call. Cables: end_there, put_on,
--- put_nowhere. One side: itself, self. Worlds: same_world, same_view, runs_joined. What holds after a run: `lawful` of Events, and the lemma of each fact
--- in Laws.
+-- Runs of worlds, for a crate of two systems. A call of one of them as an event: calls_from, no_call. Cables:
+-- end_there, put_on, put_nowhere. One side: itself, self. Worlds: same_world, same_view, runs_joined. What holds after
+-- a run: `lawful` of Events, and the lemma of each fact in Laws.
 use Rattle.std.proofs.Common.{◌≡◌, ℕ, zero, suc, Bool, true, false, cond, ◌&&◌, Option, Some, None, List, [], ◌∷◌, ◌++◌, map, sym, refl, ap, ◌∙◌, subst, ◌⊎◌, inl, inr, eq-eqb}
 use Rattle.std.specs.Prelude.{option_to_list, slice_get}
 use Rattle.std.proofs.lemmas.Option.{none-some}

@@ -12,6 +12,7 @@ pub const LACPDU: Pieces = &[
     ("00", 66),
 ];
 
+/// What `show` prints for this LACPDU.
 pub const LACPDU_TEXT: &str = "lacpdu
 actor 32768/02-00-00-00-00-01 key 1 port 128/1 state c7 active,short,aggregatable,defaulted,expired
 partner 0/00-00-00-00-00-00 key 0 port 0/0 state 02 short
@@ -124,6 +125,7 @@ pub const ALONE: &str = r#"events = [
 ]
 "#;
 
+/// What `replay` prints for these events.
 pub const ALONE_TEXT: &str = "1 sense 1 1 -> up
 2 tick 1 9 -> ticked
 3 emit 1 1 -> nothing
@@ -165,6 +167,7 @@ pub const UP: &str = r#"events = [
 ]
 "#;
 
+/// What `replay` prints for these events.
 pub const UP_TEXT: &str = "1 sense 1 1 -> up
 2 sense 1 2 -> up
 3 tick 1 10 -> ticked

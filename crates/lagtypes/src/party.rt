@@ -3,8 +3,8 @@ ghost use Rattle.lagtypes.specs.Same.{same_party};
 
 use crate::identifiers::{AggId, Key, PortId, SystemId};
 
-/// The operational parameters of one end of a link that the machines compare: six, if priorities count singly (6.3,
-/// 6.4.2.3).
+/// The operational parameters of one end of a link that the machines compare, six in all: system priority, MAC address,
+/// key, port priority, port number and Aggregation (6.3, 6.4.2.3).
 #[derive(Clone, Copy, Debug, Default, PartialEq, Eq, Hash)]
 pub struct Party {
     /// The System Identifier, with its priority.
