@@ -25,7 +25,7 @@ impl Model for ListCable {
 }
 
 impl ListCable {
-    /// An empty cable. It keeps the allocator, for the memory that it takes later.
+    /// An empty cable. It keeps the allocator, for the memory that it takes later (profile).
     pub fn new(alloc: Global) -> ListCable
         // The cable is empty.
         ensures { ⟦<ListCable as Cable>⟧.items result ≡ [] }

@@ -73,7 +73,7 @@ impl Model for RingCable {
 
 impl RingCable {
     /// An empty cable for at most `limit` items. `Limit` exactly if `limit` is 0; `NoMemory` if memory for another
-    /// limit is refused.
+    /// limit is refused (profile).
     pub fn new(alloc: Global, limit: u16) -> Result<RingCable, CableFault>
         // The new cable is empty, and its limit is the argument.
         ensures empty { IfOk result (λ c. ⟦<RingCable as Cable>⟧.items c ≡ []) }

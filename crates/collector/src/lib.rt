@@ -15,7 +15,7 @@ mod tests;
 use lagtypes::AggId;
 use slowpdu::{Kind, Marker, classify, respond};
 
-/// What is to be done with a received frame.
+/// What is to be done with a received frame (6.2.3; profile).
 #[derive(Clone, Copy, Debug, PartialEq, Eq)]
 pub enum Taken {
     /// Hand it to the client of this aggregator.

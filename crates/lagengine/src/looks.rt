@@ -7,7 +7,7 @@ use arrayvec::ArrayVec;
 use lagsystem::{AggId, Choice, Group, Info, MuxState, Party, ReceiveState, State, System};
 use std::alloc::{AllocError, Global};
 
-/// The answer to `look` for a port.
+/// The answer to `look` for a port (profile).
 #[derive(Clone, Copy, Debug, PartialEq, Eq)]
 pub struct Look {
     pub party: Party,
@@ -19,7 +19,7 @@ pub struct Look {
     pub mux: MuxState,
 }
 
-/// The answer of a reader for a port.
+/// The answer of a reader for a port (profile).
 #[derive(Clone, Copy, Debug, PartialEq, Eq)]
 pub enum PortFact {
     /// The port's own parameters, its partner's, their group, Defaulted, whether it distributes, Selected with its
@@ -44,7 +44,7 @@ pub struct PortTold {
     pub fact: Option<PortFact>,
 }
 
-/// The ports that distribute in an aggregator.
+/// The ports that distribute in an aggregator (6.2.4; profile).
 #[derive(Debug, Drop)]
 pub struct AggTold {
     pub agg: u16,

@@ -13,7 +13,7 @@ use crate::stopped::Stopped;
 use std::alloc::{AllocError, Global};
 use std::io::Write;
 
-/// An engine with the line being read, and the text of its latest answer.
+/// An engine with the line being read, and the text of its latest answer (profile).
 #[derive(Drop)]
 pub struct Session<F> {
     engine: Engine<F>,

@@ -8,11 +8,11 @@
 ghost use Rattle.lagmodel.specs.World.{Side};
 ghost use Rattle.lagmodel.specs.Law.{Always, OnePartner, Agree, InOrder, TookSynchronised, NamesPresent, OnItsCable, FlushedByMarker, BelowNext, CollectedThenInFlight, CountsFromZero};
 
-/// The headline. After each event of every schedule: ports that distribute in one aggregator have one partner; both
-/// ends of a cable that distribute have the same Link Aggregation Group, unless an end changed since its peer received
-/// its last LACPDU, or has a defaulted partner; and what a conversation collected, if it was never forced, is a
-/// subsequence of what it sent (6.2.4, 6.3.6, 6.4.14, 6.5). The other clauses are the invariants on which the proof
-/// rests.
+/// The headline. After each event of every schedule: ports that distribute in one aggregator have one partner; the two
+/// ends of a cable have the same Link Aggregation Group, if both distribute, neither changed since it sent the LACPDU
+/// that its peer received last, and neither has a defaulted partner; and what a conversation collected, if it was never
+/// forced, is a subsequence of what it sent (6.2.4, 6.3.6, 6.4.14, 6.5). The other clauses are the invariants on which
+/// the proof rests.
 pub fn headline()
     ensures one_partner { Always (λ x w. (s : Side) → OnePartner (w.view s)) }
     ensures agree { Always (λ x w. Agree x w) }
@@ -44,7 +44,7 @@ pub fn one_system()
 
 ghost use Rattle.lagmodel.specs.Law.{SomethingArrives};
 
-/// The headline is not empty: there is a run in which both ends agree and a frame arrives.
+/// The headline is not empty: there is a run in which both ends agree and a frame arrives (profile).
 pub fn something_arrives()
     ensures { SomethingArrives }
 {}

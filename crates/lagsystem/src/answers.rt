@@ -9,7 +9,7 @@ pub enum Received {
     Disabled,
     /// The frame has fewer than 14 octets, or is a data frame on a port that is not Collecting.
     Dropped,
-    /// A control frame (EtherType 0x8809) whose payload is neither an LACPDU nor a Marker PDU, and why.
+    /// A control frame (EtherType 0x8809) whose payload is refused, and why.
     Ignored(WireFault),
     /// An LACPDU was processed: recordPDU and the other actions of CURRENT were done (6.4.12).
     TookLacpdu,

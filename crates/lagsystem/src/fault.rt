@@ -40,7 +40,7 @@ pub enum SystemFault {
     SamePort,
     /// 9: the conversation is free, or has no number from 0 to 255.
     NotAssigned,
-    /// 10: no Marker Transaction Identifier is left.
+    /// 10: no Requester_Transaction_ID is left.
     MarkersSpent,
     /// 11: the configuration is refused.
     BadConfig(BadConfig),

@@ -22,12 +22,12 @@ pub fn first_state_is_one()
     ensures { (s t : State) → t ≡ with_table (with_slots s t.slots) t.table → IsFirst s → IsFirst t → t ≡ s }
 {}
 
-/// A second settling right after a settling changes nothing.
+/// A second settling right after a settling changes nothing (profile).
 pub fn settling_again_is_nothing()
     ensures { SettlesOnce }
 {}
 
-/// `transmit` returns a frame on a port exactly if `is_due` is true there.
+/// `transmit` returns a frame on a port exactly if `is_due` is true there (profile).
 pub fn transmit_answers_what_is_due()
     ensures { AnswersDue }
 {}

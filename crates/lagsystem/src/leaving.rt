@@ -51,7 +51,7 @@ pub(crate) fn leave_ports<F: Fn(u16, usize) -> usize + Drop>(
     }
 }
 
-/// Frees every conversation of a port if its link went down.
+/// Frees every conversation of a port if its link is down now.
 pub(crate) fn free_where_down<F: Fn(u16, usize) -> usize + Drop>(
     distributor: &mut Distributor<F>,
     port: u16,

@@ -225,7 +225,7 @@ impl<F: Fn(u16, usize) -> usize + Drop> System<F> {
         self.core.conversation_state(agg, conv)
     }
 
-    /// The Marker Transaction Identifier of the next marker, 0 to 4294967295; None if all are used up (6.5.3.3;
+    /// The Requester_Transaction_ID of the next marker, 0 to 4294967295; None if all are used up (6.5.3.3;
     /// profile).
     pub fn next_marker(&self) -> Option<u32>
         ensures { result ≡ next_identifier self.now.state.table }

@@ -21,7 +21,7 @@ pub fn a_report_keeps_the_headline()
         (range_with_len 0 (length (sent_in (serials_of_system (side_of s) agg conv j)))) }
 {}
 
-/// A text that is refused is no script.
+/// A text that is refused is no script (profile).
 pub fn a_script_is_not_refused()
     ensures { (text : List ℕ) (fault : ScriptFault) (s : Script) → HasNoScript text fault → HasScript text s → ⊥ }
 {}

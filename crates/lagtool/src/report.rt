@@ -1,4 +1,4 @@
-/// The text for a payload or a frame.
+/// The text for a payload or a frame (profile).
 #[derive(Drop)]
 pub struct Report {
     /// Its lines.

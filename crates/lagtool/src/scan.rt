@@ -13,7 +13,7 @@ use std::io::Write;
 use std::marker::Model;
 
 /// The state of a check: how many lines were read, how many of them are faults, the octets of the line being read, and
-/// the part of the report that is not written yet.
+/// the part of the report that is not written yet (profile).
 #[derive(Drop)]
 pub struct Scan {
     lines: u64,

@@ -32,7 +32,7 @@ pub enum Verdict {
 }
 
 impl Verdict {
-    /// Whether the line is a fault: it has none of the first four verdicts.
+    /// Whether the line is a fault: it has none of the first four verdicts (profile).
     pub fn is_fault(self) -> bool
         ensures { result ≡ is_fault self }
     {

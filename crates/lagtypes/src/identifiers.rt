@@ -20,7 +20,7 @@ pub struct SystemId {
 pub struct PortId {
     /// The port priority, 0 to 65535.
     pub priority: u16,
-    /// The port number, 0 to 65535. Number 0 occurs in LACPDUs, but no configuration may have it (profile).
+    /// The port number, 0 to 65535. Number 0 may occur in LACPDUs, but no configuration may have it (profile).
     pub number: u16,
 }
 

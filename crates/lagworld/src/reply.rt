@@ -9,7 +9,7 @@ pub enum Reply {
     Ticked,
     /// Of `Emit`: an LACPDU was sent; its Actor_State, and `kept`.
     Lacpdu(State, bool),
-    /// Of `Emit`: a marker was sent; its Marker Transaction Identifier, and `kept`.
+    /// Of `Emit`: a marker was sent; its Requester_Transaction_ID, and `kept`.
     Marker(u32, bool),
     /// Of `Emit`: nothing was due.
     Nothing,

@@ -16,7 +16,7 @@ use std::alloc::Global;
 use std::marker::Model;
 
 /// Two systems, the cables between them, and records of what was sent, received and collected. `C` is the type of one
-/// direction of a cable. `F` is the type of the distribution algorithms; each system has one.
+/// direction of a cable. `F` is the type of the distribution algorithms; each system has one (profile).
 #[derive(Drop)]
 pub struct World<C: Cable, F> {
     pub(crate) core: Core<C, F>,

@@ -12,7 +12,7 @@ use lagtypes::{AggId, Group, Key, NoMemory};
 use std::alloc::Global;
 use std::marker::Model;
 
-/// The aggregators of a system, by their keys; they are numbered from 1.
+/// The aggregators of a system, by their keys; they are numbered from 1 (6.4.6; profile).
 #[derive(Debug, Drop)]
 pub struct Aggregators {
     keys: Vec<Key>,
@@ -36,7 +36,7 @@ impl Aggregators {
     ghost use Rattle.selection.specs.Ready.{is_ready, members};
 
     /// Makes aggregators 1, 2 and so on with these keys. Keys after the first 65535 are left out. `NoMemory` if memory
-    /// for them is refused.
+    /// for them is refused (profile).
     pub fn new(alloc: Global, keys: &[Key]) -> Result<Aggregators, NoMemory>
         ensures first { IfOk result (λ a. a ≡ kept keys.now) }
         ensures all { IfOk result (λ a. length keys.now ≤ 65535 → a ≡ keys.now) }
@@ -68,7 +68,7 @@ impl Aggregators {
     }
 
     /// The numbers of the SELECTED ports that were given this aggregator, ascending. Empty if there is no such
-    /// aggregator.
+    /// aggregator (6.4.14; profile).
     pub fn members(&self, views: &[PortView], agg: AggId) -> ArrayVec<u16, 64>
         requires { AreViews views.now }
         ensures exact { result.items ≡ numbers (members self.now views.now agg) }
@@ -85,7 +85,7 @@ impl Aggregators {
         found
     }
 
-    /// How many aggregators there are, at most 65535.
+    /// How many aggregators there are, at most 65535 (profile).
     pub fn count(&self) -> usize
         ensures { result ≡ length self.now }
     {

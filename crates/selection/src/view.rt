@@ -18,7 +18,7 @@ pub enum Stage {
     Joined,
 }
 
-/// What the Selection Logic reads of a port.
+/// What the Selection Logic reads of a port (6.4.7, 6.4.8).
 #[derive(Clone, Copy, Debug, Default, PartialEq, Eq)]
 pub struct PortView {
     /// The port number.

@@ -63,7 +63,7 @@ pub struct Marker {
     pub id: u32,
 }
 
-/// What an accepted payload holds.
+/// What an accepted payload holds (6.4.2.3, 6.5.3.3).
 #[derive(Clone, Copy, Debug, PartialEq, Eq)]
 pub enum Pdu {
     /// Subtype 1.
