@@ -90,8 +90,8 @@ path_drop : (next prev : List ℕ) (a : ℕ) (ys rest : List ℕ) (b : ℕ) → 
 path_drop next prev a [] rest b h = h
 path_drop next prev a (y ∷ ys) rest b h = path_drop next prev y ys rest b h.1
 
--- a walk along a chain that changes each state by f has come to the place `at`; found says whether it has left a conversation
--- Flushing
+-- a walk along a chain that changes each state by f has come to the place `at`; found says whether it has left a
+-- conversation Flushing
 pub record Walking (chain : ℕ) (f : Assignment → Assignment) (count : ℕ) (olds states : List Assignment) (next prev : List ℕ) (at : ℕ) (found : Bool) : Type 0 where
   pub linked : IsLinked count states next prev
   pub lt : chain < 64

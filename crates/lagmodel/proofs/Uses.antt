@@ -1,6 +1,6 @@
--- What the code of one system cites, to show that it keeps to the free moves. Moves of the system: moves_joined, moves_port,
--- moves_flows, moves_at (of a port in a list). Moves of its conversations: flows_become (many at once), flows_weaker. Ports that
--- are a list: find_at, ports_set, numbered_set.
+-- What the code of one system cites, to show that it keeps to the free moves. Moves of the system: moves_joined,
+-- moves_port, moves_flows, moves_at (of a port in a list). Moves of its conversations: flows_become (many at once),
+-- flows_weaker. Ports that are a list: find_at, ports_set, numbered_set.
 use Rattle.std.proofs.Common.{◌≡◌, ℕ, zero, suc, true, false, cond, eqb, Option, Some, None, List, [], ◌∷◌, ◌++◌, map, set, sym, refl, ap, ◌∙◌, subst, inl, inr, append_assoc, eqb-true, eq-eqb}
 use Rattle.std.specs.Prelude.{option_map, option_to_list, slice_get, IsSomeAnd}
 use Rattle.std.proofs.lemmas.Bool.{cases_Bool}

@@ -81,7 +81,8 @@ impl<F: Fn(u16, usize) -> usize + Drop> System<F> {
         self.core.tick();
     }
 
-    /// Sets port_enabled: the link of a port is up or down now. Its receive machine runs; if the link is down now, every conversation of the port is free; one settling follows. `NoPort` if there is no such port (6.4.7, 6.4.12;
+    /// Sets port_enabled: the link of a port is up or down now. Its receive machine runs; if the link is down now,
+    /// every conversation of the port is free; one settling follows. `NoPort` if there is no such port (6.4.7, 6.4.12;
     /// profile).
     pub fn set_link(&mut self, port: u16, up: bool) -> Result<(), SystemFault>
         ensures answers { Answers (F.post self.old.algorithm) self.old.state (Call.Set_link port up) (Reply.SetLink result) self.new.state }

@@ -90,7 +90,8 @@ impl<F: Fn(u16, usize) -> usize + Drop> System<F> {
         }
     }
 
-    /// The state octet of a port's own side, as its LACPDUs carry it (6.4.2.3, Actor_State); None if there is no such port.
+    /// The state octet of a port's own side, as its LACPDUs carry it (6.4.2.3, Actor_State); None if there is no such
+    /// port.
     pub fn state(&self, port: u16) -> Option<State>
         ensures { result ≡ option_map actor_state (port_of port self.now.state) }
     {
@@ -195,8 +196,8 @@ impl<F: Fn(u16, usize) -> usize + Drop> System<F> {
         }
     }
 
-    /// The numbers of the ports that distribute in an aggregator (6.2.4), ascending, at most 64; empty if there is no such
-    /// aggregator.
+    /// The numbers of the ports that distribute in an aggregator (6.2.4), ascending, at most 64; empty if there is no
+    /// such aggregator.
     pub fn distributing(&self, agg: AggId) -> ArrayVec<u16, 64>
         ensures all { result.items ≡ distributing agg self.now.state.slots }
         ensures ascending { IsStrictlyIncreasing result.items }
