@@ -6,8 +6,8 @@ ghost use Rattle.lagworld.specs.Events.{Steps, told};
 ghost use Rattle.lagworld.specs.Sound.{IsSound, gives_by};
 ghost use Rattle.lagworld.specs.Worlds.{fixed_of, world_of};
 
-/// What an event does to a sound world is an event of the two-system theorem (lagmodel), whatever the distribution
-/// algorithms return (profile).
+/// What an event does to a sound world, one whose invariant holds, is an event of the two-system theorem (lagmodel),
+/// whatever the distribution algorithms return (profile).
 pub fn each_event_happens<F: Fn(u16, usize) -> usize>()
     ensures { (one two : F) (e : Event) (r : Reply) (old new : Joint) → IsSound old → Steps (gives_by (F.post one) (F.post two)) old e r new
         → Happens (fixed_of old) (told e) (world_of old) (world_of new) }
