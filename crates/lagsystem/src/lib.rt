@@ -4,6 +4,7 @@
 //! In comments, numbers such as 6.4.12 are sections of that standard, and "profile" is docs/PROFILE.md.
 #![tactic(auto)]
 
+mod algorithm;
 mod answers;
 mod calls;
 mod config;

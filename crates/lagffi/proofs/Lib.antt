@@ -1,0 +1,4 @@
+pub mod AsBox
+pub mod AskingLemmas
+pub mod MadeLemmas
+pub mod ToldLemmas

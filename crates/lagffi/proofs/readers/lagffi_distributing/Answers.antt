@@ -1,0 +1,13 @@
+use mathlib.Core.Path.{◌∙◌, ap}
+use Rattle.std.specs.Prelude.{length}
+use Rattle.lagffi.specs.Lists.{put_first}
+use Rattle.lagffi.specs.Numbers.{number}
+use Rattle.lagffi.proofs.AskingLemmas.{asked}
+use Rattle.lagffi.proofs.readers.lagffi_distributing.Goals as goal
+
+pub returns-clause-answers : goal.returns-clause-answers
+returns-clause-answers c fits =
+    asked _ _ c.in-Some.ensures.taken c.with_algorithm-system.ensures.state c.with_algorithm.ensures.state c.put.ensures (
+      c.told.ensures ∙ ap number (c.put_first.ensures.count ∙ ap length c.distributing-told.ensures.all),
+      c.put_first.ensures.written ∙ ap (λ ns. put_first ns c.args.buffer.now) c.distributing-told.ensures.all,
+    )

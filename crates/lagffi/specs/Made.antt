@@ -1,0 +1,59 @@
+-- What lag_new makes of a configuration, and what it tells.
+use Rattle.std.specs.Prelude.{◌≡◌, ◌⊎◌, ℕ, List, map}
+use Rattle.lagtypes.specs.declared.identifiers.Key.{Key}
+use Rattle.lagsystem.specs.declared.config.PortConfig.{PortConfig}
+use Rattle.lagsystem.specs.declared.fault.BadConfig.TheVariants.{Ports, Aggregators, PortNumber}
+use Rattle.lagsystem.specs.declared.fault.SystemFault.{SystemFault}
+use Rattle.lagsystem.specs.declared.fault.SystemFault.TheVariants.{BadConfig, NoMemory}
+use Rattle.lagsystem.specs.Faults.{fault_number}
+use Rattle.lagsystem.specs.First.{IsFirst, fault_in, refusal}
+use Rattle.lagsystem.specs.Sound.{Agrees}
+use Rattle.lagsystem.specs.State.{State}
+use Rattle.lagffi.specs.declared.made.LagConfig.{LagConfig}
+use Rattle.lagffi.specs.declared.made.LagMade.{LagMade}
+use Rattle.lagffi.specs.declared.made.LagPort.{LagPort}
+
+-- the number of a handle that holds a system already
+abbrev pub live_already : ℕ
+live_already = 14
+
+abbrev pub key_of : ℕ → Key
+key_of k = record { 0 = k }
+
+abbrev pub port_of : LagPort → PortConfig
+port_of p =
+    record {
+      number = p.number;
+      priority = p.priority;
+      mac = p.mac;
+      key = key_of p.key;
+      aggregatable = p.aggregatable;
+      active = p.active;
+      short = p.short_timeout;
+    }
+
+-- the first state of a system with this configuration, whose ports agree
+pub record IsMade (config : LagConfig) (of_keys : List ℕ) (of_ports : List LagPort) (s : State) : Type 0 where
+  pub first : IsFirst s
+  pub agrees : Agrees s
+  pub priority : s.system.priority ≡ config.priority
+  pub mac : s.system.mac ≡ config.mac
+  pub max_delay : s.max_delay ≡ config.max_delay
+  pub first_marker : s.first_marker ≡ config.first_marker
+  pub keys : s.keys ≡ map key_of of_keys
+  pub ports : s.ports ≡ map port_of of_ports
+
+-- why none is made: memory was refused, or the first reason to refuse the configuration
+abbrev pub RefusesToMake : List ℕ → List LagPort → SystemFault → Type 0
+RefusesToMake keys ports fault = (fault ≡ NoMemory) ⊎ (fault ≡ fault_in (refusal (map key_of keys) (map port_of ports)))
+
+-- a number alone
+abbrev pub not_made : ℕ → LagMade
+not_made status = record { status = status; reason = 0; place = 0 }
+
+-- a refusal, with the reason to refuse a configuration
+abbrev pub no_made : SystemFault → LagMade
+no_made (BadConfig Ports) = record { status = 11; reason = 1; place = 0 }
+no_made (BadConfig Aggregators) = record { status = 11; reason = 2; place = 0 }
+no_made (BadConfig (PortNumber place)) = record { status = 11; reason = 3; place = place }
+no_made fault = not_made (fault_number fault)

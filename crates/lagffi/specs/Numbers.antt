@@ -1,0 +1,62 @@
+-- What a program in C is told, as numbers.
+use Rattle.std.specs.Prelude.{ℕ, Bool, false, Option, None, Some, Result, Ok, Err}
+use Rattle.lagsystem.specs.declared.config.PortChange.{PortChange}
+use Rattle.lagsystem.specs.declared.fault.SystemFault.{SystemFault}
+use Rattle.lagsystem.specs.declared.fault.SystemFault.TheVariants.{NoPort}
+use Rattle.lagsystem.specs.Faults.{fault_number}
+use Rattle.lagffi.specs.declared.values.LagChange.{LagChange}
+use Rattle.lagffi.specs.declared.values.LagNumber.{LagNumber}
+use Rattle.lagffi.specs.declared.values.LagReceived.{LagReceived}
+use Rattle.lagffi.specs.declared.values.LagTruth.{LagTruth}
+
+-- the numbers beyond those of a system's refusals
+abbrev pub no_system : ℕ
+no_system = 13
+
+abbrev pub other_length : ℕ
+other_length = 15
+
+-- 0, or the number of the refusal
+abbrev pub status_of : {A : Type 0} → Result A SystemFault → ℕ
+status_of (Ok answer) = 0
+status_of (Err fault) = fault_number fault
+
+-- whether it is so
+abbrev pub truth : Bool → LagTruth
+truth is = record { status = 0; is = is }
+
+abbrev pub no_truth : ℕ → LagTruth
+no_truth why = record { status = why; is = false }
+
+abbrev pub truth_of : Result Bool SystemFault → LagTruth
+truth_of (Ok is) = truth is
+truth_of (Err fault) = no_truth (fault_number fault)
+
+-- the same of a port, where there is one
+abbrev pub truth_in : Option Bool → LagTruth
+truth_in (Some is) = truth is
+truth_in None = no_truth (fault_number NoPort)
+
+-- a number
+abbrev pub number : ℕ → LagNumber
+number n = record { status = 0; number = n }
+
+abbrev pub no_number : ℕ → LagNumber
+no_number why = record { status = why; number = 0 }
+
+abbrev pub number_of : Result ℕ SystemFault → LagNumber
+number_of (Ok n) = number n
+number_of (Err fault) = no_number (fault_number fault)
+
+-- the same where there is one, and else this refusal
+abbrev pub number_in : ℕ → Option ℕ → LagNumber
+number_in why (Some n) = number n
+number_in why None = no_number why
+
+-- nothing became of a frame
+abbrev pub no_received : ℕ → LagReceived
+no_received why = record { status = why; what = 0; number = 0 }
+
+-- a change as the system takes it
+abbrev pub change_of : LagChange → PortChange
+change_of c = record { key = record { 0 = c.key }; priority = c.priority; aggregatable = c.aggregatable }

@@ -1,0 +1,153 @@
+-- What a program in C is told of a port.
+use Rattle.std.specs.Prelude.{ℕ, true, false, List, [], ◌∷◌, Option, None, Some}
+use Rattle.distributor.specs.declared.assignment.Assignment.{Assignment}
+use Rattle.distributor.specs.declared.assignment.Assignment.TheVariants.{Free, On, Wanted, Flushing}
+use Rattle.lagtypes.specs.declared.group.End.{End}
+use Rattle.lagtypes.specs.declared.group.Group.{Group}
+use Rattle.lagtypes.specs.declared.identifiers.PortId.{PortId}
+use Rattle.lagtypes.specs.declared.party.Choice.{Choice}
+use Rattle.lagtypes.specs.declared.party.Choice.TheVariants.{Unselected, Selected}
+use Rattle.lagtypes.specs.declared.party.Party.{Party}
+use Rattle.lagtypes.specs.declared.state.State.{State}
+use Rattle.lagtypes.specs.Group.{lower, upper}
+use Rattle.portmachines.specs.declared.mux.MuxState.{MuxState}
+use Rattle.portmachines.specs.declared.mux.MuxState.TheVariants as mux
+use Rattle.portmachines.specs.declared.receive.ReceiveState.{ReceiveState}
+use Rattle.portmachines.specs.declared.receive.ReceiveState.TheVariants as receive
+use Rattle.slowpdu.specs.declared.pdu.Info.{Info}
+use Rattle.lagffi.specs.Numbers.{number, no_number}
+use Rattle.lagffi.specs.declared.told.LagAssignment.{LagAssignment}
+use Rattle.lagffi.specs.declared.told.LagEnd.{LagEnd}
+use Rattle.lagffi.specs.declared.told.LagGroup.{LagGroup}
+use Rattle.lagffi.specs.declared.told.LagInfo.{LagInfo}
+use Rattle.lagffi.specs.declared.told.LagMarker.{LagMarker}
+use Rattle.lagffi.specs.declared.told.LagParty.{LagParty}
+use Rattle.lagffi.specs.declared.values.LagNumber.{LagNumber}
+
+-- the states of the machines, in the order of the standard
+abbrev pub receive_number : ReceiveState → ℕ
+receive_number receive.Initialize = 0
+receive_number receive.PortDisabled = 1
+receive_number receive.Expired = 2
+receive_number receive.Defaulted = 3
+receive_number receive.Current = 4
+
+abbrev pub mux_number : MuxState → ℕ
+mux_number mux.Detached = 0
+mux_number mux.Waiting = 1
+mux_number mux.Attached = 2
+mux_number mux.CollectingDistributing = 3
+
+-- the aggregator that a port is given, or 0
+abbrev pub choice_number : Choice → ℕ
+choice_number Unselected = 0
+choice_number (Selected agg) = agg.0
+
+-- the same of a port, where there is one
+abbrev pub receive_told : Option ReceiveState → LagNumber
+receive_told (Some state) = number (receive_number state)
+receive_told None = no_number 1
+
+abbrev pub mux_told : Option MuxState → LagNumber
+mux_told (Some state) = number (mux_number state)
+mux_told None = no_number 1
+
+abbrev pub choice_told : Option Choice → LagNumber
+choice_told (Some choice) = number (choice_number choice)
+choice_told None = no_number 1
+
+-- the state octet of a port
+abbrev pub octet_told : Option State → LagNumber
+octet_told (Some state) = number state.0
+octet_told None = no_number 1
+
+-- no MAC address
+abbrev pub no_mac : List ℕ
+no_mac = 0 ∷ 0 ∷ 0 ∷ 0 ∷ 0 ∷ 0 ∷ []
+
+abbrev pub no_party : ℕ → LagParty
+no_party why = record { status = why; system_priority = 0; system_mac = no_mac; key = 0; port_priority = 0; port = 0; aggregatable = false }
+
+abbrev pub party_of : Party → LagParty
+party_of p =
+    record {
+      status = 0;
+      system_priority = p.system.priority;
+      system_mac = p.system.mac;
+      key = p.key.0;
+      port_priority = p.port.priority;
+      port = p.port.number;
+      aggregatable = p.aggregatable;
+    }
+
+abbrev pub party_in : Option Party → LagParty
+party_in (Some p) = party_of p
+party_in None = no_party 1
+
+abbrev pub no_info : ℕ → LagInfo
+no_info why = record { status = why; system_priority = 0; system_mac = no_mac; key = 0; port_priority = 0; port = 0; state = 0 }
+
+abbrev pub info_of : Info → LagInfo
+info_of i =
+    record {
+      status = 0;
+      system_priority = i.system.priority;
+      system_mac = i.system.mac;
+      key = i.key.0;
+      port_priority = i.port.priority;
+      port = i.port.number;
+      state = i.state.0;
+    }
+
+abbrev pub info_in : Option Info → LagInfo
+info_in (Some i) = info_of i
+info_in None = no_info 1
+
+-- an end names its port only where the link is individual
+abbrev pub end_at : End → Option PortId → LagEnd
+end_at e (Some port) =
+    record { system_priority = e.system.priority; system_mac = e.system.mac; key = e.key.0; individual = true; port_priority = port.priority; port = port.number }
+end_at e None =
+    record { system_priority = e.system.priority; system_mac = e.system.mac; key = e.key.0; individual = false; port_priority = 0; port = 0 }
+
+abbrev pub end_of : End → LagEnd
+end_of e = end_at e e.port
+
+abbrev pub no_end : LagEnd
+no_end = record { system_priority = 0; system_mac = no_mac; key = 0; individual = false; port_priority = 0; port = 0 }
+
+abbrev pub no_group : ℕ → LagGroup
+no_group why = record { status = why; lower = no_end; upper = no_end }
+
+abbrev pub group_of : Group → LagGroup
+group_of g = record { status = 0; lower = end_of (lower g); upper = end_of (upper g) }
+
+abbrev pub group_in : Option Group → LagGroup
+group_in (Some g) = group_of g
+group_in None = no_group 1
+
+-- what a conversation is doing
+abbrev pub no_assignment : ℕ → LagAssignment
+no_assignment why = record { status = why; what = 0; port = 0; prefers = false; preferred = 0; id = 0; age = 0 }
+
+abbrev pub assigned : ℕ → ℕ → Option ℕ → LagAssignment
+assigned what port (Some preferred) = record { status = 0; what = what; port = port; prefers = true; preferred = preferred; id = 0; age = 0 }
+assigned what port None = record { status = 0; what = what; port = port; prefers = false; preferred = 0; id = 0; age = 0 }
+
+abbrev pub assignment_of : Assignment → LagAssignment
+assignment_of (Free preferred) = assigned 0 0 preferred
+assignment_of (On port) = assigned 1 port None
+assignment_of (Wanted port preferred) = assigned 2 port preferred
+assignment_of (Flushing port id preferred age) = record (assigned 3 port preferred) { id = id; age = age }
+
+abbrev pub assignment_in : Option Assignment → LagAssignment
+assignment_in (Some a) = assignment_of a
+assignment_in None = no_assignment 9
+
+-- the identifier of the next marker, where one is left
+abbrev pub no_marker : ℕ → LagMarker
+no_marker why = record { status = why; left = false; id = 0 }
+
+abbrev pub marker_of : Option ℕ → LagMarker
+marker_of (Some id) = record { status = 0; left = true; id = id }
+marker_of None = record { status = 0; left = false; id = 0 }

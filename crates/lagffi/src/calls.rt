@@ -1,0 +1,216 @@
+ghost use Rattle.std.specs.Prelude.{◌≡◌, ◌==◌, Bool, IsTrue, ℕ, List, Option, Result, length};
+ghost use Rattle.std.specs.Bool.{IsFalse};
+ghost use Rattle.lagsystem.specs.Calls.{Call};
+ghost use Rattle.lagsystem.specs.Readers.{agg_of_number};
+ghost use Rattle.lagsystem.specs.declared.answers.Received.{Received};
+ghost use Rattle.lagsystem.specs.declared.drive.Reply.{Reply};
+ghost use Rattle.lagsystem.specs.declared.fault.SystemFault.{SystemFault};
+ghost use Rattle.lagsystem.specs.Sound.{Answers};
+ghost use Rattle.lagffi.specs.Asking.{Calls, gives};
+ghost use Rattle.lagffi.specs.Holding.{state_of};
+ghost use Rattle.lagffi.specs.Frames.{frame_length, received_of, due_of, written, written_reply};
+ghost use Rattle.lagffi.specs.Numbers.{change_of, no_number, no_received, no_system, no_truth, number_of, other_length, status_of, truth_of};
+
+use crate::handle::Lag;
+use crate::kept::by_number;
+use crate::values::{
+    BUFFER, FRAME, LagChange, LagNumber, LagReceived, LagTruth, NO_SYSTEM, OK, status,
+};
+use lagsystem::{AggId, Received, SystemFault};
+use std::alloc::Global;
+
+/// Writes the response that a frame had, if it had one.
+fn write_reply(answer: &Result<Received, SystemFault>, buffer: &mut [u8])
+    requires { length buffer.old ≡ frame_length }
+    ensures { buffer.new ≡ written_reply buffer.old answer.now }
+{
+    if let Ok(Received::Respond(octets)) = answer {
+        buffer.copy_from_slice(octets);
+    }
+}
+
+/// Writes the frame that is due, if one is.
+fn write_due(answer: &Result<Option<[u8; 124]>, SystemFault>, buffer: &mut [u8])
+    requires { length buffer.old ≡ frame_length }
+    ensures { buffer.new ≡ written buffer.old answer.now }
+{
+    if let Ok(Some(octets)) = answer {
+        buffer.copy_from_slice(octets);
+    }
+}
+
+/// A frame comes on a port. The buffer has 124 octets; a response is written into it, and nothing else.
+#[unsafe(no_mangle)]
+pub extern "C" fn lagffi_receive(
+    alloc: Global,
+    lag: &mut Lag,
+    port: u16,
+    frame: &[u8],
+    response: &mut [u8],
+) -> LagReceived
+    ensures room { IsFalse (length response.old == frame_length) → (result ≡ no_received other_length) × (state_of lag.new.held.kept ≡ state_of lag.old.held.kept) × (response.new ≡ response.old) }
+    ensures answers { IsTrue (length response.old == frame_length) → Calls (state_of lag.old.held.kept) (state_of lag.new.held.kept)
+        (λ old new. (answer : Result Received SystemFault) × Answers gives old (Call.Receive port frame.now) (Reply.Receive answer) new
+        × (result ≡ received_of answer) × (response.new ≡ written_reply response.old answer))
+        ((result ≡ no_received no_system) × (response.new ≡ response.old)) }
+{
+    if response.len() != FRAME {
+        return LagReceived::refused(BUFFER);
+    }
+    let Some((kept, block)) = lag.take(alloc) else {
+        return LagReceived::refused(NO_SYSTEM);
+    };
+    let mut system = kept.with_algorithm(by_number);
+    let answer = system.receive(port, frame);
+    lag.put(system.with_algorithm(()), block);
+    write_reply(&answer, response);
+    LagReceived::of(&answer)
+}
+
+/// One tick, 100 ms.
+#[unsafe(no_mangle)]
+pub extern "C" fn lagffi_tick(alloc: Global, lag: &mut Lag) -> u32
+    ensures { Calls (state_of lag.old.held.kept) (state_of lag.new.held.kept)
+        (λ old new. Answers gives old Call.Tick Reply.Tick new × (result ≡ 0)) (result ≡ no_system) }
+{
+    let Some((kept, block)) = lag.take(alloc) else {
+        return NO_SYSTEM;
+    };
+    let mut system = kept.with_algorithm(by_number);
+    system.tick();
+    lag.put(system.with_algorithm(()), block);
+    OK
+}
+
+/// The link of a port is up or down now.
+#[unsafe(no_mangle)]
+pub extern "C" fn lagffi_set_link(alloc: Global, lag: &mut Lag, port: u16, up: bool) -> u32
+    ensures { Calls (state_of lag.old.held.kept) (state_of lag.new.held.kept)
+        (λ old new. (answer : Result Unit SystemFault) × Answers gives old (Call.Set_link port up) (Reply.SetLink answer) new
+        × (result ≡ status_of answer)) (result ≡ no_system) }
+{
+    let Some((kept, block)) = lag.take(alloc) else {
+        return NO_SYSTEM;
+    };
+    let mut system = kept.with_algorithm(by_number);
+    let answer = system.set_link(port, up);
+    lag.put(system.with_algorithm(()), block);
+    status(&answer)
+}
+
+/// Gives a port another key, priority or Aggregation bit, and answers whether anything differs.
+#[unsafe(no_mangle)]
+pub extern "C" fn lagffi_configure(
+    alloc: Global,
+    lag: &mut Lag,
+    port: u16,
+    change: &LagChange,
+) -> LagTruth
+    ensures { Calls (state_of lag.old.held.kept) (state_of lag.new.held.kept)
+        (λ old new. (answer : Result Bool SystemFault) × Answers gives old (Call.Configure port (change_of change.now)) (Reply.Configure answer) new
+        × (result ≡ truth_of answer)) (result ≡ no_truth no_system) }
+{
+    let Some((kept, block)) = lag.take(alloc) else {
+        return LagTruth::refused(NO_SYSTEM);
+    };
+    let mut system = kept.with_algorithm(by_number);
+    let answer = system.configure(port, change.change());
+    lag.put(system.with_algorithm(()), block);
+    LagTruth::of(&answer)
+}
+
+/// Starts the system again as it was made.
+#[unsafe(no_mangle)]
+pub extern "C" fn lagffi_restart(alloc: Global, lag: &mut Lag) -> u32
+    ensures { Calls (state_of lag.old.held.kept) (state_of lag.new.held.kept)
+        (λ old new. Answers gives old Call.Restart Reply.Restart new × (result ≡ 0)) (result ≡ no_system) }
+{
+    let Some((kept, block)) = lag.take(alloc) else {
+        return NO_SYSTEM;
+    };
+    let mut system = kept.with_algorithm(by_number);
+    system.restart();
+    lag.put(system.with_algorithm(()), block);
+    OK
+}
+
+/// Whether a frame is due on a port. The buffer has 124 octets; a due frame is written into it, and nothing else.
+#[unsafe(no_mangle)]
+pub extern "C" fn lagffi_transmit(
+    alloc: Global,
+    lag: &mut Lag,
+    port: u16,
+    frame: &mut [u8],
+) -> LagTruth
+    ensures room { IsFalse (length frame.old == frame_length) → (result ≡ no_truth other_length) × (state_of lag.new.held.kept ≡ state_of lag.old.held.kept) × (frame.new ≡ frame.old) }
+    ensures answers { IsTrue (length frame.old == frame_length) → Calls (state_of lag.old.held.kept) (state_of lag.new.held.kept)
+        (λ old new. (answer : Result (Option (List ℕ)) SystemFault) × Answers gives old (Call.Transmit port) (Reply.Transmit answer) new
+        × (result ≡ due_of answer) × (frame.new ≡ written frame.old answer))
+        ((result ≡ no_truth no_system) × (frame.new ≡ frame.old)) }
+{
+    if frame.len() != FRAME {
+        return LagTruth::refused(BUFFER);
+    }
+    let Some((kept, block)) = lag.take(alloc) else {
+        return LagTruth::refused(NO_SYSTEM);
+    };
+    let mut system = kept.with_algorithm(by_number);
+    let answer = system.transmit(port);
+    lag.put(system.with_algorithm(()), block);
+    write_due(&answer, frame);
+    LagTruth::of_due(&answer)
+}
+
+/// The port to send a frame on, in an aggregator.
+#[unsafe(no_mangle)]
+pub extern "C" fn lagffi_offer(alloc: Global, lag: &mut Lag, agg: u16, frame: &[u8]) -> LagNumber
+    ensures { Calls (state_of lag.old.held.kept) (state_of lag.new.held.kept)
+        (λ old new. (answer : Result ℕ SystemFault) × Answers gives old (Call.Offer (agg_of_number agg) frame.now) (Reply.Offer answer) new
+        × (result ≡ number_of answer)) (result ≡ no_number no_system) }
+{
+    let Some((kept, block)) = lag.take(alloc) else {
+        return LagNumber::refused(NO_SYSTEM);
+    };
+    let mut system = kept.with_algorithm(by_number);
+    let answer = system.offer(AggId(agg), frame);
+    lag.put(system.with_algorithm(()), block);
+    LagNumber::of(&answer)
+}
+
+/// Moves a conversation of an aggregator to a port, behind a marker.
+#[unsafe(no_mangle)]
+pub extern "C" fn lagffi_move_conversation(
+    alloc: Global,
+    lag: &mut Lag,
+    agg: u16,
+    conv: u16,
+    port: u16,
+) -> u32
+    ensures { Calls (state_of lag.old.held.kept) (state_of lag.new.held.kept)
+        (λ old new. (answer : Result Unit SystemFault) × Answers gives old (Call.Move_conversation (agg_of_number agg) conv port) (Reply.MoveConversation answer) new
+        × (result ≡ status_of answer)) (result ≡ no_system) }
+{
+    let Some((kept, block)) = lag.take(alloc) else {
+        return NO_SYSTEM;
+    };
+    let mut system = kept.with_algorithm(by_number);
+    let answer = system.move_conversation(AggId(agg), conv, port);
+    lag.put(system.with_algorithm(()), block);
+    status(&answer)
+}
+
+/// Frees a conversation of an aggregator at once.
+#[unsafe(no_mangle)]
+pub extern "C" fn lagffi_force(alloc: Global, lag: &mut Lag, agg: u16, conv: u16) -> u32
+    ensures { Calls (state_of lag.old.held.kept) (state_of lag.new.held.kept)
+        (λ old new. (answer : Result Unit SystemFault) × Answers gives old (Call.Force (agg_of_number agg) conv) (Reply.Force answer) new
+        × (result ≡ status_of answer)) (result ≡ no_system) }
+{
+    let Some((kept, block)) = lag.take(alloc) else {
+        return NO_SYSTEM;
+    };
+    let mut system = kept.with_algorithm(by_number);
+    let answer = system.force(AggId(agg), conv);
+    lag.put(system.with_algorithm(()), block);
+    status(&answer)
+}

@@ -1,0 +1,208 @@
+ghost use Rattle.std.specs.Prelude.{◌≡◌, IfErr, IfOk, IsTrue, MatchOption, None, is_some, map};
+ghost use Rattle.lagsystem.specs.declared.fault.SystemFault.{SystemFault};
+ghost use Rattle.lagffi.specs.Holding.{state_of};
+ghost use Rattle.lagffi.specs.Made.{IsMade, RefusesToMake, key_of, live_already, no_made, not_made, port_of};
+
+use crate::handle::Lag;
+use crate::kept::{Kept, by_number};
+use crate::values::{NO_SYSTEM, OK};
+use lagsystem::{BadConfig, Config, Key, NoMemory, PortConfig, System, SystemFault, SystemId};
+use std::alloc::Global;
+
+/// The handle holds a system already.
+const LIVE: u32 = 14;
+
+/// What a program in C gives of a configuration, beside its keys and ports.
+#[repr(C)]
+#[derive(Clone, Copy)]
+pub struct LagConfig {
+    /// The system priority.
+    pub priority: u16,
+    /// The MAC address of the system.
+    pub mac: [u8; 6],
+    /// CollectorMaxDelay in tens of microseconds.
+    pub max_delay: u16,
+    /// The identifier of the first marker.
+    pub first_marker: u32,
+}
+
+/// One port of a configuration.
+#[repr(C)]
+#[derive(Clone, Copy)]
+pub struct LagPort {
+    /// The port number, 1 to 65535.
+    pub number: u16,
+    /// The port priority.
+    pub priority: u16,
+    /// The MAC address of the port.
+    pub mac: [u8; 6],
+    /// The key of the port.
+    pub key: u16,
+    /// Aggregation: false for a port whose link is individual.
+    pub aggregatable: bool,
+    /// LACP_Activity: false for a passive port.
+    pub active: bool,
+    /// LACP_Timeout: whether the port asks for short timeouts.
+    pub short_timeout: bool,
+}
+
+impl LagPort {
+    /// The port as the system takes it.
+    fn config(&self) -> PortConfig
+        ensures { result ≡ port_of self.now }
+    {
+        PortConfig {
+            number: self.number,
+            priority: self.priority,
+            mac: self.mac,
+            key: Key(self.key),
+            aggregatable: self.aggregatable,
+            active: self.active,
+            short: self.short_timeout,
+        }
+    }
+}
+
+/// What `lagffi_new` answers.
+#[repr(C)]
+#[derive(Clone, Copy)]
+pub struct LagMade {
+    /// 0, or the number of the refusal.
+    pub status: u32,
+    /// Of a configuration that is refused, the number of the reason, 1 to 3; else 0.
+    pub reason: u32,
+    /// Of a port number that is refused, its place from 1; else 0.
+    pub place: usize,
+}
+
+impl LagMade {
+    /// A number alone.
+    fn told(status: u32) -> LagMade
+        ensures { result ≡ not_made status }
+    {
+        LagMade {
+            status,
+            reason: 0,
+            place: 0,
+        }
+    }
+
+    /// Refused for this.
+    fn refused(fault: &SystemFault) -> LagMade
+        ensures { result ≡ no_made fault.now }
+    {
+        let status = u32::from(fault.number());
+        match fault {
+            SystemFault::BadConfig(BadConfig::PortNumber(place)) => LagMade {
+                status,
+                reason: 3,
+                place: *place,
+            },
+            SystemFault::BadConfig(reason) => LagMade {
+                status,
+                reason: u32::from(reason.number()),
+                place: 0,
+            },
+            _ => LagMade::told(status),
+        }
+    }
+}
+
+/// The keys of the aggregators.
+fn keys_of(alloc: Global, keys: &[u16]) -> Result<Vec<Key>, NoMemory>
+    ensures { IfOk result (λ found. found.items ≡ map key_of keys.now) }
+{
+    let mut found = Vec::with_capacity(alloc, keys.len())?;
+    for key in keys {
+        found.push_reserved(Key(*key));
+    }
+    Ok(found)
+}
+
+/// The ports of the configuration.
+fn ports_of(alloc: Global, ports: &[LagPort]) -> Result<Vec<PortConfig>, NoMemory>
+    ensures { IfOk result (λ found. found.items ≡ map port_of ports.now) }
+{
+    let mut found = Vec::with_capacity(alloc, ports.len())?;
+    for port in ports {
+        found.push_reserved(port.config());
+    }
+    Ok(found)
+}
+
+/// The system of this configuration.
+fn system_of(
+    alloc: Global,
+    config: &LagConfig,
+    keys: &[u16],
+    ports: &[LagPort],
+) -> Result<System<()>, SystemFault>
+    ensures made { IfOk result (λ system. IsMade config.now keys.now ports.now system.state) }
+    ensures refused { IfErr result (λ fault. RefusesToMake keys.now ports.now fault) }
+{
+    let config = Config {
+        system: SystemId {
+            priority: config.priority,
+            mac: config.mac,
+        },
+        max_delay: config.max_delay,
+        first_marker: config.first_marker,
+        aggregators: keys_of(alloc, keys)?,
+        ports: ports_of(alloc, ports)?,
+    };
+    let system = System::new(alloc, config, by_number)?;
+    Ok(system.with_algorithm(()))
+}
+
+/// A block for a system.
+fn room(alloc: Global) -> Result<Box<Kept>, SystemFault>
+    ensures { IfErr result (λ fault. fault ≡ SystemFault.NoMemory) }
+{
+    match Box::new(alloc, Kept { system: None }) {
+        Ok(block) => Ok(block),
+        Err(_) => Err(SystemFault::NoMemory),
+    }
+}
+
+/// Makes a system with all links down, and puts it into an empty handle. It is refused for what `System::new` refuses.
+#[unsafe(no_mangle)]
+pub extern "C" fn lagffi_new(
+    alloc: Global,
+    lag: &mut Lag,
+    config: &LagConfig,
+    keys: &[u16],
+    ports: &[LagPort],
+) -> LagMade
+    ensures live { IsTrue (is_some (state_of lag.old.held.kept)) → (result ≡ not_made live_already) × (state_of lag.new.held.kept ≡ state_of lag.old.held.kept) }
+    ensures made { state_of lag.old.held.kept ≡ None → MatchOption (state_of lag.new.held.kept)
+        ((fault : SystemFault) × RefusesToMake keys.now ports.now fault × (result ≡ no_made fault))
+        (λ s. IsMade config.now keys.now ports.now s × (result ≡ not_made 0)) }
+{
+    if let Some((system, block)) = lag.take(alloc) {
+        lag.put(system, block);
+        return LagMade::told(LIVE);
+    }
+    let block = match room(alloc) {
+        Ok(block) => block,
+        Err(fault) => return LagMade::refused(&fault),
+    };
+    match system_of(alloc, config, keys, ports) {
+        Ok(system) => {
+            lag.put(system, block);
+            LagMade::told(OK)
+        }
+        Err(fault) => LagMade::refused(&fault),
+    }
+}
+
+/// Frees the system of a handle, which is empty then.
+#[unsafe(no_mangle)]
+pub extern "C" fn lagffi_free(alloc: Global, lag: &mut Lag) -> u32
+    ensures left { state_of lag.new.held.kept ≡ None }
+    ensures told { MatchOption (state_of lag.old.held.kept) (result ≡ 13) (λ s. result ≡ 0) }
+{
+    match lag.take(alloc) {
+        Some(_) => OK,
+        None => NO_SYSTEM,
+    }
+}

@@ -1,0 +1,240 @@
+ghost use Rattle.std.specs.Prelude.{◌≡◌, length};
+ghost use Rattle.lagffi.specs.Lists.{list_length, put_first};
+ghost use Rattle.lagffi.specs.Frames.{due_of, received_of};
+ghost use Rattle.lagffi.specs.Numbers.{change_of, no_number, no_received, no_truth, number, number_in, number_of, status_of, truth, truth_in, truth_of};
+ghost use Rattle.lagsystem.specs.Faults.{fault_number};
+ghost use Rattle.lagsystem.specs.declared.fault.SystemFault.{SystemFault};
+
+use arrayvec::ArrayVec;
+use lagsystem::{AggId, Key, PortChange, Received, SystemFault};
+
+/// What a function answers when it refuses nothing.
+pub(crate) const OK: u32 = 0;
+/// The system has no port of this number.
+pub(crate) const NO_PORT: u32 = 1;
+/// The handle holds no system.
+pub(crate) const NO_SYSTEM: u32 = 13;
+/// A buffer has another length than the function asks.
+pub(crate) const BUFFER: u32 = 15;
+/// An offered frame has not 14 to 1518 octets.
+pub(crate) const FRAME_LENGTH: u32 = 3;
+/// The conversation is free, or there is no such conversation.
+pub(crate) const NOT_ASSIGNED: u32 = 9;
+/// The most ports and the most aggregators of a system.
+pub(crate) const MOST: usize = 64;
+/// The octets of a frame that is answered.
+pub(crate) const FRAME: usize = 124;
+
+/// The number of an answer: 0, or that of its refusal.
+pub(crate) fn status<T>(answer: &Result<T, SystemFault>) -> u32
+    ensures { result ≡ status_of answer.now }
+{
+    match answer {
+        Ok(_) => OK,
+        Err(fault) => u32::from(fault.number()),
+    }
+}
+
+/// What a running system may change of a port.
+#[repr(C)]
+#[derive(Clone, Copy)]
+pub struct LagChange {
+    /// The key of the port.
+    pub key: u16,
+    /// The port priority.
+    pub priority: u16,
+    /// Aggregation: false for a port whose link is individual.
+    pub aggregatable: bool,
+}
+
+impl LagChange {
+    /// The change as the system takes it.
+    pub(crate) fn change(&self) -> PortChange
+        ensures { result ≡ change_of self.now }
+    {
+        PortChange {
+            key: Key(self.key),
+            priority: self.priority,
+            aggregatable: self.aggregatable,
+        }
+    }
+}
+
+/// Whether something is so, or why that is not told.
+#[repr(C)]
+#[derive(Clone, Copy)]
+pub struct LagTruth {
+    /// 0, or the number of the refusal.
+    pub status: u32,
+    /// The answer; false where it is refused.
+    pub is: bool,
+}
+
+impl LagTruth {
+    /// It is so, or not.
+    pub(crate) fn told(is: bool) -> LagTruth
+        ensures { result ≡ truth is }
+    {
+        LagTruth { status: OK, is }
+    }
+
+    /// Refused for this.
+    pub(crate) fn refused(why: u32) -> LagTruth
+        ensures { result ≡ no_truth why }
+    {
+        LagTruth {
+            status: why,
+            is: false,
+        }
+    }
+
+    /// The answer of a call.
+    pub(crate) fn of(answer: &Result<bool, SystemFault>) -> LagTruth
+        ensures { result ≡ truth_of answer.now }
+    {
+        match answer {
+            Ok(is) => LagTruth::told(*is),
+            Err(fault) => LagTruth::refused(u32::from(fault.number())),
+        }
+    }
+
+    /// Whether a frame is due.
+    pub(crate) fn of_due(answer: &Result<Option<[u8; 124]>, SystemFault>) -> LagTruth
+        ensures { result ≡ due_of answer.now }
+    {
+        match answer {
+            Ok(Some(_)) => LagTruth::told(true),
+            Ok(None) => LagTruth::told(false),
+            Err(fault) => LagTruth::refused(u32::from(fault.number())),
+        }
+    }
+
+    /// What a reader tells of a port.
+    pub(crate) fn of_port(answer: Option<bool>) -> LagTruth
+        ensures { result ≡ truth_in answer }
+    {
+        match answer {
+            Some(is) => LagTruth::told(is),
+            None => LagTruth::refused(NO_PORT),
+        }
+    }
+}
+
+/// A number, or why it is not told.
+#[repr(C)]
+#[derive(Clone, Copy)]
+pub struct LagNumber {
+    /// 0, or the number of the refusal.
+    pub status: u32,
+    /// The answer; 0 where it is refused.
+    pub number: u64,
+}
+
+impl LagNumber {
+    /// This number.
+    pub(crate) fn told(answer: u64) -> LagNumber
+        ensures { result ≡ number answer }
+    {
+        LagNumber {
+            status: OK,
+            number: answer,
+        }
+    }
+
+    /// Refused for this.
+    pub(crate) fn refused(why: u32) -> LagNumber
+        ensures { result ≡ no_number why }
+    {
+        LagNumber {
+            status: why,
+            number: 0,
+        }
+    }
+
+    /// The answer of `offer`.
+    pub(crate) fn of(answer: &Result<u16, SystemFault>) -> LagNumber
+        ensures { result ≡ number_of answer.now }
+    {
+        match answer {
+            Ok(answer) => LagNumber::told(u64::from(*answer)),
+            Err(fault) => LagNumber::refused(u32::from(fault.number())),
+        }
+    }
+
+    /// The answer of `load`.
+    pub(crate) fn of_load(answer: &Result<u32, SystemFault>) -> LagNumber
+        ensures { result ≡ number_of answer.now }
+    {
+        match answer {
+            Ok(answer) => LagNumber::told(u64::from(*answer)),
+            Err(fault) => LagNumber::refused(u32::from(fault.number())),
+        }
+    }
+
+    /// What a reader tells, or else this refusal.
+    pub(crate) fn or(answer: Option<u16>, why: u32) -> LagNumber
+        ensures { result ≡ number_in why answer }
+    {
+        match answer {
+            Some(answer) => LagNumber::told(u64::from(answer)),
+            None => LagNumber::refused(why),
+        }
+    }
+}
+
+/// What became of a frame that came, or why that is not told.
+#[repr(C)]
+#[derive(Clone, Copy)]
+pub struct LagReceived {
+    /// 0, or the number of the refusal.
+    pub status: u32,
+    /// 0 Disabled, 1 Dropped, 2 Ignored, 3 TookLacpdu, 4 Respond, 5 Released, 6 Up.
+    pub what: u32,
+    /// Of 2 the number of the fault, 1 to 4; of 5 how many conversations were released; of 6 the aggregator; else 0.
+    pub number: u32,
+}
+
+impl LagReceived {
+    /// Refused for this.
+    pub(crate) fn refused(why: u32) -> LagReceived
+        ensures { result ≡ no_received why }
+    {
+        LagReceived {
+            status: why,
+            what: 0,
+            number: 0,
+        }
+    }
+
+    /// The answer of a call.
+    pub(crate) fn of(answer: &Result<Received, SystemFault>) -> LagReceived
+        ensures { result ≡ received_of answer.now }
+    {
+        let (what, number) = match answer {
+            Err(fault) => return LagReceived::refused(u32::from(fault.number())),
+            Ok(Received::Disabled) => (0, 0),
+            Ok(Received::Dropped) => (1, 0),
+            Ok(Received::Ignored(fault)) => (2, u32::from(fault.number())),
+            Ok(Received::TookLacpdu) => (3, 0),
+            Ok(Received::Respond(_)) => (4, 0),
+            Ok(Received::Released(count)) => (5, *count),
+            Ok(Received::Up(AggId(agg))) => (6, u32::from(*agg)),
+        };
+        LagReceived {
+            status: OK,
+            what,
+            number,
+        }
+    }
+}
+
+/// Writes numbers at the front of a buffer, and answers how many.
+pub(crate) fn put_first(numbers: &ArrayVec<u16, 64>, buffer: &mut [u16]) -> u64
+    requires { length buffer.old ≡ list_length }
+    ensures count { result ≡ length numbers.now.items }
+    ensures written { buffer.new ≡ put_first numbers.now.items buffer.old }
+{
+    let count = numbers.len();
+    buffer[..count].copy_from_slice(numbers);
+    count as u64
+}
