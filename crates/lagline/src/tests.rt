@@ -72,11 +72,17 @@ fn help_says_what_words_mean(rt: HostRuntime) -> Result<(), Fail> {
         ),
         (
             &["lagtool", "decode", "--help"],
-            &["EtherType 8809", "digits only", "lagtool decode 0101"],
+            &[
+                "lagtool decode <HEX>",
+                "EtherType 8809",
+                "digits only",
+                "lagtool decode 0101",
+            ],
         ),
         (
             &["lagtool", "respond", "--help"],
             &[
+                "lagtool respond <MAC> <HEX>",
                 "twelve digits, no separators",
                 "a group address is no source",
                 "lagtool respond 02",
@@ -85,6 +91,7 @@ fn help_says_what_words_mean(rt: HostRuntime) -> Result<(), Fail> {
         (
             &["lagtool", "check", "--help"],
             &[
+                "lagtool check <FILE>",
                 "standard input",
                 "a line is a frame",
                 "lagtool check frames.txt",
@@ -92,7 +99,12 @@ fn help_says_what_words_mean(rt: HostRuntime) -> Result<(), Fail> {
         ),
         (
             &["lagtool", "replay", "--help"],
-            &["TOML", "standard input", "lagtool replay examples/"],
+            &[
+                "lagtool replay <SCRIPT>",
+                "TOML",
+                "standard input",
+                "lagtool replay examples/",
+            ],
         ),
         (&["lagtool", "vectors", "--help"], &["V1 to V10"]),
         (&["lagtool", "--version"], &["lagtool 0.1.0"]),
@@ -105,6 +117,18 @@ fn help_says_what_words_mean(rt: HostRuntime) -> Result<(), Fail> {
                 "{words:?} does not say {part}: {text}"
             );
         }
+    }
+    Ok(())
+}
+
+#[test]
+fn help_has_the_lines_in_their_order(rt: HostRuntime) -> Result<(), Fail> {
+    let text = help_of(rt.alloc(), &["lagtool", "--help"])?;
+    let mut rest = text.as_str();
+    for name in ["decode", "respond", "check", "replay", "vectors"] {
+        let line = rest.split_once(name);
+        assert!(rt; line.is_some(), "{name} is not behind the others: {text}");
+        rest = line.map(|(_, behind)| behind).unwrap_or("");
     }
     Ok(())
 }

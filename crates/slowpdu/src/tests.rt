@@ -115,6 +115,30 @@ fn payloads_are_read_whatever_the_other_octets_are(rt: HostRuntime) {
     }
 }
 
+/// More octets than any length field has room for.
+const MANY: usize = 70_000;
+
+#[test]
+fn nothing_is_too_long(rt: HostRuntime) -> Result<(), AllocError> {
+    let mut payload = Vec::new(rt.alloc());
+    payload.extend_from_slice(&lacpdu_payload())?;
+    payload.resize(MANY, 0xff)?;
+    assert_eq!(rt; decode(&payload), Ok(Pdu::Lacpdu(lacpdu())), "decode");
+    let mut control = Vec::new(rt.alloc());
+    control.extend_from_slice(&frame([2, 0, 0, 0, 0, 3], &marker_payload()))?;
+    control.resize(MANY, 0xff)?;
+    let behind = control.as_slice().get(14..).unwrap_or(&[]);
+    assert_eq!(rt;
+        classify(&control),
+        Kind::Control(behind),
+        "classify of a control frame"
+    );
+    let mut data = Vec::new(rt.alloc());
+    data.resize(MANY, 0xff)?;
+    assert_eq!(rt; classify(&data), Kind::Data, "classify of a data frame");
+    Ok(())
+}
+
 #[test]
 fn payloads_are_refused_for_the_first_cause(rt: HostRuntime) {
     let lacpdu = lacpdu_payload();
