@@ -5,6 +5,7 @@ use crate::reply::reply;
 use crate::show::show;
 use crate::sink::Sink;
 use crate::status_of;
+use lagworld::ScriptFault;
 use std::alloc::{AllocError, Global};
 use std::io;
 use std::io::Write;
@@ -356,4 +357,17 @@ fn faults_have_numbers_and_texts(rt: HostRuntime) -> Result<(), Fail> {
         assert_eq!(rt; format!(in alloc; "{named}")?.as_str(), said);
     }
     Ok(())
+}
+
+#[test]
+fn want_of_memory_is_no_fault_of_a_script(rt: HostRuntime) {
+    for (fault, told) in [
+        (ScriptFault::NoMemory, ToolFault::NoMemory),
+        (
+            ScriptFault::NotToml,
+            ToolFault::Script(ScriptFault::NotToml),
+        ),
+    ] {
+        assert_eq!(rt; ToolFault::from(fault), told, "{fault}");
+    }
 }

@@ -208,7 +208,7 @@ fn passed(alloc: Global) -> Result<[bool; 10], AllocError> {
 }
 
 /// How many fail.
-fn failures(passed: &[bool]) -> usize
+pub(crate) fn failures(passed: &[bool]) -> usize
     ensures { result ≡ failures passed.now }
 {
     passed.iter().filter(|pass| !**pass).count()
@@ -236,7 +236,11 @@ fn push_lines(text: &mut String, passed: &[bool]) -> Result<(), AllocError>
 }
 
 /// A line for each vector, and then the counts.
-fn vectors_text(alloc: Global, passed: &[bool], failed: usize) -> Result<String, AllocError>
+pub(crate) fn vectors_text(
+    alloc: Global,
+    passed: &[bool],
+    failed: usize,
+) -> Result<String, AllocError>
     requires { failed ≡ failures passed.now }
     ensures { IfOk result (λ text. string_bytes text ≡ vectors_text passed.now) }
 {

@@ -13,12 +13,18 @@ fn number_all(numbers: &mut [u16]) {
     }
 }
 
+/// The numbers of as many ports as a system may have.
+fn most_numbers() -> [u16; 64] {
+    let mut numbers = [0; 64];
+    number_all(&mut numbers);
+    numbers
+}
+
 #[test]
 fn the_most_ports_and_aggregators(rt: HostRuntime) -> Result<(), Fail> {
-    let mut most = [0; 64];
-    number_all(&mut most);
+    let most = most_numbers();
     let given = config(rt.alloc(), &most, 64)?;
-    let rows = [Row::Chosen(64, Choice::Unselected)];
+    let rows = [Row::Chosen(64, Choice::Unselected), Row::Has(&most, 64)];
     assert_eq!(rt; given.refusal(), None);
     plays(&rt, rt.alloc(), given, &rows)?;
     Ok(())

@@ -9,6 +9,9 @@ const NEXT: [u8; 14] = [2, 0, 0, 0, 0, 0x21, 2, 0, 0, 0, 0, 0x10, 8, 0];
 /// A data frame of conversation 50.
 const THIRD: [u8; 14] = [2, 0, 0, 0, 0, 0x22, 2, 0, 0, 0, 0, 0x10, 8, 0];
 
+/// A data frame of conversation 255.
+const LAST: [u8; 14] = [2, 0, 0, 0, 0, 0xa5, 2, 0, 0, 0, 0, 0x5a, 8, 0];
+
 /// A Marker Response that names system 1.
 fn response(port: u16, id: u32) -> Marker {
     marker(MarkerKind::Response, port, 1, id)
@@ -68,14 +71,24 @@ fn a_conversation_leaves_a_port_behind_its_marker(rt: HostRuntime) -> Result<(),
     Ok(())
 }
 
+/// A frame of the slow protocols that is an octet too long.
+fn long_and_slow() -> [u8; 1519] {
+    let mut octets = [0; 1519];
+    octets[12] = 0x88;
+    octets[13] = 9;
+    octets
+}
+
 #[test]
 fn offers_are_refused_in_order(rt: HostRuntime) -> Result<(), Fail> {
     let slow = [2, 0, 0, 0, 0, 0x20, 2, 0, 0, 0, 0, 0x10, 0x88, 9];
+    let long = long_and_slow();
     let rows = [
         Row::Offers(0, &[0; 13], Err(SystemFault::NoAggregator)),
         Row::Offers(3, &[0; 13], Err(SystemFault::NoAggregator)),
         Row::Offers(1, &[0; 13], Err(SystemFault::FrameLength)),
         Row::Offers(1, &[0; 1519], Err(SystemFault::FrameLength)),
+        Row::Offers(1, &long, Err(SystemFault::FrameLength)),
         Row::Offers(1, &slow, Err(SystemFault::SlowFrame)),
         Row::Offers(1, &DATA, Err(SystemFault::NoneDistributing)),
         Row::Offers(2, &[0; 1518], Err(SystemFault::NoneDistributing)),
@@ -94,6 +107,7 @@ fn moves_are_refused_in_order(rt: HostRuntime) -> Result<(), Fail> {
         Row::Moves(3, 48, 4, Err(SystemFault::NoAggregator)),
         Row::Moves(1, 48, 4, Err(SystemFault::NoPort)),
         Row::Moves(1, 49, 4, Err(SystemFault::NoPort)),
+        Row::Moves(1, 256, 4, Err(SystemFault::NoPort)),
         Row::Moves(1, 49, 3, Err(SystemFault::NotAssigned)),
         Row::Moves(2, 48, 3, Err(SystemFault::NotAssigned)),
         Row::Moves(1, 256, 3, Err(SystemFault::NotAssigned)),
@@ -255,6 +269,30 @@ fn what_a_host_sees(rt: HostRuntime) -> Result<(), Fail> {
         conversing(Assignment::Free { preferred }),
     ];
     let given = config(rt.alloc(), &[1, 2], 2)?;
+    let rows = joined(rt.alloc(), &[&coming_up(), &rows])?;
+    plays(&rt, rt.alloc(), given, &rows)?;
+    Ok(())
+}
+
+#[test]
+fn the_last_conversation_moves_and_is_forced(rt: HostRuntime) -> Result<(), Fail> {
+    let mut given = config(rt.alloc(), &[1, 2], 2)?;
+    given.first_marker = 7;
+    let rows = [
+        Row::Conversation(&LAST, Some(255)),
+        Row::Moves(1, 255, 1, Err(SystemFault::NotAssigned)),
+        Row::Forces(1, 255, Err(SystemFault::NotAssigned)),
+        Row::Offers(1, &LAST, Ok(2)),
+        Row::Conversing(1, 255, Some(Assignment::On(2))),
+        Row::Moves(1, 255, 1, Ok(())),
+        Row::Offers(1, &LAST, Err(SystemFault::Held)),
+        Row::Marks(2, 7),
+        Row::Releases(2, response(2, 7), 1),
+        Row::Offers(1, &LAST, Ok(1)),
+        Row::Forces(1, 255, Ok(())),
+        Row::Conversing(1, 255, Some(Assignment::Free { preferred: None })),
+        Row::Offers(1, &LAST, Ok(2)),
+    ];
     let rows = joined(rt.alloc(), &[&coming_up(), &rows])?;
     plays(&rt, rt.alloc(), given, &rows)?;
     Ok(())

@@ -61,3 +61,10 @@ fn no_call_has_no_reply(rt: HostRuntime) -> Result<(), Fail> {
     assert_eq!(rt; drives(rt.alloc(), &[])?, true);
     Ok(())
 }
+
+#[test]
+fn a_thousand_calls(rt: HostRuntime) -> Result<(), Fail> {
+    let rows = [Row::Link(1, true), Row::Ticks(1000), Row::Silent(2)];
+    assert_eq!(rt; drives(rt.alloc(), &rows)?, true);
+    Ok(())
+}

@@ -188,3 +188,23 @@ fn a_port_that_is_not_there(rt: HostRuntime) -> Result<(), Fail> {
     plays(&rt, rt.alloc(), given, &rows)?;
     Ok(())
 }
+
+/// A passive port without a partner: its periodic machine stays in NO_PERIODIC, in which NTT is clear.
+#[test]
+fn a_port_in_no_periodic_sends_nothing(rt: HostRuntime) -> Result<(), Fail> {
+    let mut given = config(rt.alloc(), &[1], 1)?;
+    for port in given.ports.iter_mut() {
+        port.active = false;
+    }
+    let rows = [
+        Row::Link(1, true),
+        Row::Quiet(1, 49),
+        Row::Distributing(1, &[]),
+        Row::Quiet(1, 1),
+        Row::Distributing(1, &[1]),
+        Row::Due(1, false),
+        Row::Quiet(1, 20),
+    ];
+    plays(&rt, rt.alloc(), given, &rows)?;
+    Ok(())
+}

@@ -205,6 +205,19 @@ fn a_file_of_frames(rt: HostRuntime) -> Result<(), Fail> {
     Ok(())
 }
 
+#[test]
+fn a_file_of_a_thousand_lines(rt: HostRuntime) -> Result<(), Fail> {
+    let alloc = rt.alloc();
+    let file = joined(alloc, &[("00\n", 1_000)])?;
+    let seen = outcome_of(alloc, whole(file.as_bytes()))?;
+    assert_eq!(rt;
+        seen,
+        wanted(alloc, &["runt"; 1_000], 1_000)?,
+        "a thousand runts"
+    );
+    Ok(())
+}
+
 /// 64 digits.
 const ZEROS: &str = "0000000000000000000000000000000000000000000000000000000000000000";
 

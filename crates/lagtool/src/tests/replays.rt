@@ -4,7 +4,7 @@ use crate::replay::replay;
 use crate::rows;
 use crate::sink::Sink;
 use crate::tests::sink_of;
-use crate::vectors::vectors;
+use crate::vectors::{failures, vectors, vectors_text};
 use lagworld::{EntryFault, ScriptFault};
 use std::alloc::Global;
 use std::test::Fail;
@@ -288,6 +288,73 @@ fn a_limit_is_that_of_both_directions(rt: HostRuntime) -> Result<(), Fail> {
     Ok(())
 }
 
+/// Two systems with an aggregator and a port of each of two keys, and cables of unlike limits.
+const TWO_KEYS: &str = r#"
+[[system]]
+mac = "02-00-00-00-00-01"
+aggregators = [1, 2]
+[[system.port]]
+number = 1
+key = 1
+short = false
+[[system.port]]
+number = 2
+key = 2
+short = false
+[[system]]
+mac = "02-00-00-00-00-02"
+aggregators = [1, 2]
+[[system.port]]
+number = 1
+key = 1
+short = false
+[[system.port]]
+number = 2
+key = 2
+short = false
+[[cable]]
+ends = [1, 1]
+limit = 1
+[[cable]]
+ends = [2, 2]
+limit = 2
+"#;
+
+/// Conversation 255 of aggregator 2 of system 1, and conversation 55 of aggregator 1 of system 2.
+const BOTH_WAYS: &str = r#"    "offer 1 2 0200000000a502000000005a0800",
+    "offer 1 2 0200000000a502000000005a0800",
+    "offer 1 2 0200000000a502000000005a0800",
+    "offer 2 1 0200000000130200000000240800",
+    "offer 2 1 0200000000130200000000240800",
+    "deliver 2 2",
+    "deliver 2 2",
+    "deliver 1 1",
+]
+"#;
+
+const BOTH_WAYS_TEXT: &str = "25 offer 1 2 0200000000a502000000005a0800 -> port 2 serial 0 sent
+26 offer 1 2 0200000000a502000000005a0800 -> port 2 serial 1 sent
+27 offer 1 2 0200000000a502000000005a0800 -> port 2 serial 2 lost
+28 offer 2 1 0200000000130200000000240800 -> port 1 serial 0 sent
+29 offer 2 1 0200000000130200000000240800 -> port 1 serial 1 lost
+30 deliver 2 2 -> up 2
+31 deliver 2 2 -> up 2
+32 deliver 1 1 -> up 1
+cable 1 agreement same
+cable 2 agreement same
+flow 1/2/255 sent 3 collected 0 1
+flow 2/1/55 sent 2 collected 0
+";
+
+#[test]
+fn flows_of_both_systems(rt: HostRuntime) -> Result<(), Fail> {
+    let alloc = rt.alloc();
+    let written = replayed(alloc, &[BOTH_UP, BOTH_WAYS, TWO_KEYS])?;
+    let text = format!(in alloc; "{BOTH_UP_TEXT}{BOTH_WAYS_TEXT}")?;
+    assert_eq!(rt; written.as_str(), text.as_str());
+    Ok(())
+}
+
 /// A conversation is forced, and a later frame of it arrives before an earlier one.
 const FORCE: &str = r#"    "offer 1 1 0200000000200200000000100800",
     "move 1 1 48 2",
@@ -356,6 +423,22 @@ cable 1 agreement not-both
 fn other_entries(rt: HostRuntime) -> Result<(), Fail> {
     let written = replayed(rt.alloc(), &[OTHERS, rows::ONE_CABLE])?;
     assert_eq!(rt; written.as_str(), OTHERS_TEXT);
+    Ok(())
+}
+
+#[test]
+fn a_thousand_entries(rt: HostRuntime) -> Result<(), Fail> {
+    let alloc = rt.alloc();
+    let mut events = String::from_str(alloc, "events = [\n")?;
+    let mut text = String::new(alloc);
+    for number in 1..=1_000 {
+        events.push_str("    \"tick 1 1\",\n")?;
+        text.push_str(format!(in alloc; "{number} tick 1 1 -> ticked\n")?.as_str())?;
+    }
+    events.push_str("]\n")?;
+    text.push_str("cable 1 agreement not-both\n")?;
+    let written = replayed(alloc, &[events.as_str(), rows::ONE_CABLE])?;
+    assert_eq!(rt; written.as_str(), text.as_str());
     Ok(())
 }
 
@@ -435,5 +518,18 @@ vectors 10 failed 0
     assert_eq!(rt; summary.checked, 10);
     assert_eq!(rt; summary.faults, 0);
     assert_eq!(rt; sink.into_inner().as_slice(), text.as_bytes());
+    Ok(())
+}
+
+#[test]
+fn a_vector_that_fails_is_told(rt: HostRuntime) -> Result<(), Fail> {
+    let passed = [true, false, true];
+    let failed = failures(&passed);
+    assert_eq!(rt; failed, 1);
+    let text = vectors_text(rt.alloc(), &passed, failed)?;
+    assert_eq!(rt;
+        text.as_str(),
+        "V1 ok\nV2 failed\nV3 ok\nvectors 3 failed 1\n"
+    );
     Ok(())
 }

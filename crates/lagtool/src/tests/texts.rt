@@ -1,7 +1,7 @@
 use crate::entry_text::EntryText;
 use crate::reply_text::{AgreementText, ReplyText};
 use bitflags::Flags;
-use lagsystem::{PortChange, SystemFault};
+use lagsystem::{BadConfig, PortChange, SystemFault};
 use lagtypes::{AggId, Key, State};
 use lagworld::{Agreement, Event, Reply};
 use std::alloc::{AllocError, Global};
@@ -127,6 +127,11 @@ fn each_refusal_has_its_number_and_name(rt: HostRuntime) -> Result<(), Fail> {
         (SystemFault::SamePort, "refused 8 same-port"),
         (SystemFault::NotAssigned, "refused 9 not-assigned"),
         (SystemFault::MarkersSpent, "refused 10 markers-spent"),
+        (
+            SystemFault::BadConfig(BadConfig::Aggregators),
+            "refused 11 bad-config",
+        ),
+        (SystemFault::NoMemory, "refused 12 no-memory"),
     ] {
         let written = format!(in alloc; "{}", ReplyText(Reply::Refused(fault)))?;
         assert_eq!(rt; written.as_str(), text);
