@@ -1,0 +1,174 @@
+"""The built program beside tcpdump and tshark: `check` of 100,000 frames, `replay` of 100,000 events. What each prints is compared
+with what it should print, worked out here. A time is the CPU time of the process, the least of some runs."""
+
+import os
+import shutil
+import struct
+import subprocess
+
+from building import TOP, Failed, log_run
+
+COUNT = 100_000
+HEADER = bytes.fromhex("0180c20000020200000000098809")
+PROGRAM = os.path.join(TOP, "crates", "lagtool", "out", "lagtool")
+RUNS = 5
+# The first entries of a script, and their replies: two switches with two cables come up.
+COMING_UP = [
+    ("sense 1 1", "up"), ("sense 1 2", "up"), ("sense 2 1", "up"), ("sense 2 2", "up"),
+    ("tick 1 10", "ticked"), ("tick 2 10", "ticked"),
+    ("emit 1 1", "lacpdu c5 sent"), ("emit 1 2", "lacpdu c5 sent"), ("deliver 1 2", "took"), ("deliver 2 2", "took"),
+    ("emit 2 1", "lacpdu 05 sent"), ("emit 2 2", "lacpdu 05 sent"), ("deliver 1 1", "took"), ("deliver 2 1", "took"),
+    ("tick 1 20", "ticked"), ("tick 2 20", "ticked"),
+    ("emit 1 1", "lacpdu 0d sent"), ("emit 1 2", "lacpdu 0d sent"), ("deliver 1 2", "took"), ("deliver 2 2", "took"),
+    ("emit 2 1", "lacpdu 3d sent"), ("emit 2 2", "lacpdu 3d sent"), ("deliver 1 1", "took"), ("deliver 2 1", "took"),
+    ("emit 1 1", "lacpdu 3d sent"), ("deliver 1 2", "took"), ("emit 1 2", "lacpdu 3d sent"), ("deliver 2 2", "took"),
+]
+# Once in 100 entries: 30 seconds pass, and each port sends its LACPDU.
+KEEPING_UP = [
+    ("tick 1 300", "ticked"), ("tick 2 300", "ticked"),
+    ("emit 1 1", "lacpdu 3d sent"), ("deliver 1 2", "took"), ("emit 1 2", "lacpdu 3d sent"), ("deliver 2 2", "took"),
+    ("emit 2 1", "lacpdu 3d sent"), ("deliver 1 1", "took"), ("emit 2 2", "lacpdu 3d sent"), ("deliver 2 1", "took"),
+]
+SYSTEM = """[[system]]
+mac = "02-00-00-00-00-0{}"
+aggregators = [1]
+[[system.port]]
+number = 1
+key = 1
+short = false
+[[system.port]]
+number = 2
+key = 1
+short = false
+"""
+CABLES = "[[cable]]\nends = [1, 1]\n[[cable]]\nends = [2, 2]\n"
+
+
+def end_of(system, port):
+    return struct.pack(">H6sHHHB", 0x8000, bytes([2, 0, 0, 0, 0, system]), 1, 128, port, 0x3D)
+
+
+def lacpdu(port):
+    parts = bytes([1, 1, 1, 20]) + end_of(9, port) + bytes(3) + bytes([2, 20]) + end_of(1, port) + bytes(3) + bytes([3, 16])
+    return parts.ljust(110, b"\0")
+
+
+def marker(kind, port, number):
+    return struct.pack(">BBBBH6sI", 2, 1, kind, 16, port, bytes([2, 0, 0, 0, 0, 9]), number).ljust(110, b"\0")
+
+
+def frames():
+    """Of ten frames eight LACPDUs, a marker and a response; each with its word."""
+    for number in range(COUNT):
+        port, tenth = 1 + number % 64, number % 10
+        if tenth == 8:
+            yield "marker", HEADER + marker(1, port, number)
+        elif tenth == 9:
+            yield "marker-response", HEADER + marker(2, port, number)
+        else:
+            yield "lacpdu", HEADER + lacpdu(port)
+
+
+def write_frames(folder):
+    """Writes the frames as lines and as a capture; answers what `check` should print."""
+    told = []
+    with open(f"{folder}/frames.hex", "w") as lines, open(f"{folder}/frames.pcap", "wb") as capture:
+        capture.write(struct.pack("<IHHiIII", 0xA1B2C3D4, 2, 4, 0, 0, 65535, 1))
+        for number, (word, frame) in enumerate(frames()):
+            lines.write(frame.hex() + "\n")
+            capture.write(struct.pack("<IIII", number // 1000, number % 1000 * 1000, len(frame), len(frame)) + frame)
+            told.append(f"{number + 1} {word}\n")
+    return "".join(told) + f"checked {COUNT} faults 0\n"
+
+
+def entries():
+    """The entries of the script, each with its reply: frames of two conversations, and what keeps the links up."""
+    yield from COMING_UP
+    number = serial = 0
+    while True:
+        if number % 46 == 45:
+            yield from KEEPING_UP
+        else:
+            port = 1 + serial % 2
+            yield f"offer 1 1 02000000002{port - 1}0200000000100800", f"port {port} serial {serial // 2} sent"
+            yield f"deliver {port} 2", "up 1"
+            serial += 1
+        number += 1
+
+
+def write_script(folder):
+    """Writes the script; answers what `replay` should print."""
+    played = [it for it, _ in zip(entries(), range(COUNT))]
+    listed = ",\n".join(f'    "{entry}"' for entry, _ in played)
+    with open(f"{folder}/events.toml", "w") as it:
+        it.write(f"events = [\n{listed}\n]\n" + SYSTEM.format(1) + SYSTEM.format(2) + CABLES)
+    told = [f"{number} {entry} -> {reply}\n" for number, (entry, reply) in enumerate(played, 1)]
+    told += [f"cable {cable} agreement same\n" for cable in (1, 2)]
+    for port, conversation in ((1, 48), (2, 49)):
+        sent = sum(entry.startswith("offer") and reply.startswith(f"port {port} ") for entry, reply in played)
+        took = sum(entry == f"deliver {port} 2" and reply == "up 1" for entry, reply in played)
+        told.append(f"flow 1/1/{conversation} sent {sent} collected {' '.join(map(str, range(took)))}\n")
+    return "".join(told)
+
+
+def timed(words, env=None):
+    """Runs the words; answers their CPU seconds, and what they print."""
+    with subprocess.Popen(words, stdout=subprocess.PIPE, stderr=subprocess.DEVNULL, env=env) as ran:
+        printed = ran.stdout.read()
+        _, status, used = os.wait4(ran.pid, 0)
+        ran.returncode = os.waitstatus_to_exitcode(status)
+    return used.ru_utime + used.ru_stime, printed.decode()
+
+
+def least(words, is_right, env=None, runs=RUNS):
+    """The least CPU time of some runs, and how many printed something wrong."""
+    ended = [timed(words, env) for _ in range(runs)]
+    return min(time for time, _ in ended), sum(not is_right(printed) for _, printed in ended)
+
+
+def fetched(cache):
+    """Debian's packages of tcpdump and tshark with all that this machine lacks of theirs, unpacked and not installed."""
+    root = f"{cache}/programs"
+    if os.path.isdir(root) or not shutil.which("apt-get"):
+        return root
+    state = f"{cache}/apt"
+    for folder in (f"{state}/lists/partial", f"{state}/packages/archives/partial"):
+        os.makedirs(folder, exist_ok=True)
+    options = ["-o", f"Dir::State::Lists={state}/lists", "-o", f"Dir::Cache={state}/packages", "-o", "Debug::NoLocking=1"]
+    try:
+        log_run(cache, "apt", ["apt-get", *options, "update"])
+        log_run(cache, "apt", ["apt-get", *options, "install", "-y", "-d", "--no-install-recommends", "tcpdump", "tshark"])
+        for name in os.listdir(f"{state}/packages/archives"):
+            if name.endswith(".deb"):
+                log_run(cache, "apt", ["dpkg-deb", "-x", f"{state}/packages/archives/{name}", f"{root}.new"])
+        os.rename(f"{root}.new", root)
+    except (Failed, OSError):
+        shutil.rmtree(f"{root}.new", ignore_errors=True)
+    return root
+
+
+def find(name, root):
+    """The program of this name, here or among the packages, and its environment; None if it is in neither."""
+    if shutil.which(name):
+        return name, None
+    if not os.path.isfile(f"{root}/usr/bin/{name}"):
+        return None
+    libraries = [folder for folder, _, names in os.walk(f"{root}/usr/lib") if any(".so" in it for it in names)]
+    return f"{root}/usr/bin/{name}", {**os.environ, "LD_LIBRARY_PATH": ":".join(libraries)}
+
+
+def measure(cache, fetches):
+    """Rows of the program: name, seconds, wrong runs; the seconds of a program that is not here are None."""
+    folder, root = f"{cache}/frames", fetched(cache) if fetches else f"{cache}/programs"
+    os.makedirs(folder, exist_ok=True)
+    checked, replayed = write_frames(folder), write_script(folder)
+    rows = [("lagtool check", *least([PROGRAM, "check", f"{folder}/frames.hex"], lambda it: it == checked))]
+    as_root = ["-Z", "root"] if os.geteuid() == 0 else []
+    beside = [
+        ("tcpdump -vv", ["-vv", *as_root, "-r", f"{folder}/frames.pcap"], lambda it: it.count("LACPv1,") == COUNT * 8 // 10),
+        ("tshark", ["-r", f"{folder}/frames.pcap"], lambda it: it.count("\n") == COUNT),
+    ]
+    for name, words, is_right in beside:
+        found = find(name.split()[0], root)
+        rows.append((name, *(least([found[0], *words], is_right, found[1], 3) if found else (None, 0))))
+    return rows + [("lagtool replay", *least([PROGRAM, "replay", f"{folder}/events.toml"], lambda it: it == replayed))]

@@ -1,0 +1,180 @@
+"""The table: what the harness and the programs measured, as ratios, and the speeds to reach."""
+
+import os
+
+PORTS = ["2", "8", "64"]
+USED = ["1", "256", "all"]
+CODECS = [("rust", "plain Rust"), ("gcc", "gcc -O2"), ("clang", "clang -O3")]
+SAME, TICK = "receive, LACPDU that changes nothing", "tick"
+# What of Open vSwitch stands beside which call: the call, the harness's word for the other, its name, the ratio to reach.
+BESIDE = [
+    (SAME, "reply", "lacp_process_packet, update and reply", 1.0),
+    (SAME, "same", "lacp_process_packet alone", 1.5),
+    ("receive, LACPDU whose Sync flips", "flips", "lacp_process_packet, Sync flips", None),
+    (TICK, "run", "lacp_run, nothing due", 0.5),
+]
+WORST = 20_000
+
+
+def number(value):
+    return f"{value:,.0f}" if value >= 100 else f"{value:.1f}"
+
+
+class Measured:
+    """The lines of the harness, by their words."""
+
+    def __init__(self, text):
+        self.times, self.wrong, self.answers = {}, {}, 0
+        for line in text.splitlines():
+            kind, *words = line.split("\t")
+            if kind in ("call", "alone", "crowded"):
+                *name, time, calls, wrong = words
+                self.times[kind, *name] = float(time)
+                self.wrong[kind, *name] = int(wrong)
+                self.answers += int(calls)
+            elif kind in ("codec", "ovs"):
+                *name, time = words
+                self.times[kind, *name] = float(time)
+            elif kind == "answers":
+                self.answers += int(words[1])
+                self.wrong[kind, words[0]] = int(words[2])
+            else:
+                self.times[kind, words[0]] = [int(it) for it in words[1:]]
+
+    def names(self, kind):
+        """What stands first in the lines of a kind, in their order."""
+        return list(dict.fromkeys(key[1] for key in self.times if key[0] == kind))
+
+
+class Table:
+    """Prints sections, counts their rows and the wrong ones among them, and keeps the goals."""
+
+    def __init__(self):
+        self.rows = self.wrong = 0
+        self.goals = []
+
+    def section(self, head, rows):
+        """Prints a section; each row is its cells, and whether its answers were right."""
+        cells = [head] + [row for row, _ in rows]
+        widths = [max(len(row[n]) for row in cells) for n in range(len(head))]
+        shown = lambda row: "| " + " | ".join(it.ljust(w) if n == 0 else it.rjust(w) for n, (it, w) in enumerate(zip(row, widths))) + " |"
+        print("\n" + shown(head))
+        print("|" + "|".join("-" * (w + 1) + ("-" if n == 0 else ":") for n, w in enumerate(widths)) + "|")
+        for row, is_right in rows:
+            print(shown(row) + ("" if is_right else " WRONG"))
+            self.rows += 1
+            self.wrong += not is_right
+
+    def goal(self, text, reached, most, unit=""):
+        self.goals.append((text, reached, most, unit))
+
+    def print_goals(self):
+        rows = []
+        for text, reached, most, unit in self.goals:
+            told = "not measured" if reached is None else f"{reached:.2f}{unit}"
+            verdict = "-" if reached is None else "reached" if reached <= most else "not reached"
+            rows.append(([text, f"{most:g}{unit}", told, verdict], True))
+        self.section(["speed to reach, the worst of its row", "at most", "measured", ""], rows)
+
+
+def codec_rows(table, m):
+    rows, is_right = [], not m.wrong["answers", "codec"]
+    for what in m.names("codec"):
+        ours = m.times["codec", what, "ours"]
+        others = [m.times["codec", what, key] for key, _ in CODECS]
+        rows.append(([what, number(ours), *map(number, others), *(f"{ours / it:.2f}" for it in others)], is_right))
+        if what in ("decode", "encode"):
+            table.goal(f"{what} beside plain Rust", ours / others[0], 1.0)
+    head = ["codec, ns a PDU", "ours", *(name for _, name in CODECS), *(f"ours / {name}" for _, name in CODECS)]
+    table.section(head, rows)
+
+
+def call_rows(table, m):
+    head = ["one system, ns a call: ports / conversations"] + [f"{ports} / {used}" for ports in PORTS for used in USED]
+    rows = []
+    for name in m.names("call"):
+        keys = [("call", name, ports, used) for ports in PORTS for used in USED]
+        cells = [number(m.times[key]) if key in m.times else "-" for key in keys]
+        rows.append(([name, *cells], not any(m.wrong.get(key) for key in keys)))
+    table.section(head, rows)
+
+
+def switch_rows(table, m, version):
+    """Beside Open vSwitch; of a call here the slowest of the three uses of conversations counts."""
+    rows, is_right = [], not m.wrong.get(("answers", "Open vSwitch"))
+    for call, other, name, most in BESIDE:
+        theirs = [m.times.get(("ovs", other, ports)) for ports in PORTS]
+        ours = [max(m.times["call", call, ports, used] for used in USED) for ports in PORTS]
+        known = None not in theirs
+        ratios = [a / b for a, b in zip(ours, theirs)] if known else []
+        told = [number(it) for it in theirs] if known else ["-"] * 3
+        rows.append(([f"{call} / {name}", *told, *([f"{it:.2f}" for it in ratios] or ["-"] * 3)], is_right))
+        if most:
+            table.goal(f"{call} beside {name}", max(ratios) if known else None, most)
+    what = f"Open vSwitch {version}" if version else "Open vSwitch, which is not here"
+    table.section([f"ours / {what}", *(f"its ns, {it} ports" for it in PORTS), *(f"ratio, {it}" for it in PORTS)], rows)
+
+
+def offer_rows(table, m):
+    one, all_of = m.times["alone", "offer", "64", "1"], m.times["call", "offer", "64", "all"]
+    wrong = m.wrong["alone", "offer", "64", "1"]
+    head = ["offer, 64 ports in 64 aggregators", "ns with one conversation in use", "ns with all of all", "ratio"]
+    table.section(head, [(["offer", number(one), number(all_of), f"{all_of / one:.2f}"], not wrong)])
+    table.goal("offer with all conversations of 64 aggregators in use beside one", all_of / one, 1.5)
+
+
+def crowded_rows(table, m):
+    rows, times = [], []
+    for name in m.names("crowded"):
+        keys = [("crowded", name, "64", order) for order in ("low", "high")]
+        times += [m.times[key] for key in keys]
+        rows.append(([name, *(f"{m.times[key] / 1000:.2f}" for key in keys)], not any(m.wrong[key] for key in keys)))
+    table.section(["32 of 64 ports find no aggregator, us a call", "low ports came first", "high ports came first"], rows)
+    table.goal("the worst call where ports find no aggregator", max(times) / 1000, WORST / 1000, " us")
+
+
+def memory_rows(table, m):
+    kinds, (allocations,) = m.names("later")[0], m.times["later", m.names("later")[0]]
+    rows = [([f"{ports} ports and aggregators", *map(str, m.times["memory", ports])], True) for ports in m.names("memory")]
+    rows.append(([f"{kinds} kinds of calls afterwards", str(allocations), "-"], allocations == 0))
+    table.section(["memory", "allocations", "octets"], rows)
+    table.goal(f"allocations of {kinds} kinds of calls after new", float(allocations), 0)
+
+
+def program_rows(table, programs):
+    ours, rows = None, []
+    for name, seconds, wrong in programs:
+        is_ours = name.startswith("lagtool")
+        ours = seconds if is_ours else ours
+        ratio = "-" if is_ours or seconds is None else f"{ours / seconds:.2f}"
+        told = "not here" if seconds is None else f"{seconds:.3f}"
+        what = f"{name} of 100,000 {'events' if 'replay' in name else 'frames'}"
+        rows.append(([what, told, ratio], not wrong))
+    table.section(["program, CPU seconds", "seconds", "lagtool / it"], rows)
+
+
+def machine():
+    """The processor, how many there are, and how many processes wanted one in the last minute."""
+    names = []
+    if os.path.isfile("/proc/cpuinfo"):
+        with open("/proc/cpuinfo") as it:
+            names = [line.partition(":")[2].strip() for line in it if line.startswith("model name")]
+    return f"{os.cpu_count()} processors {names[0] if names else '?'}, load {os.getloadavg()[0]:.1f}"
+
+
+def print_table(text, version, programs):
+    """Prints all; answers how many rows were wrong."""
+    m, table = Measured(text), Table()
+    rounds, (seconds,) = m.names("rounds")[0], m.times["rounds", m.names("rounds")[0]]
+    print(f"{machine()}. The least CPU time of {rounds} rounds in {seconds} seconds; {m.answers:,} answers were looked at.")
+    codec_rows(table, m)
+    call_rows(table, m)
+    switch_rows(table, m, version)
+    offer_rows(table, m)
+    crowded_rows(table, m)
+    memory_rows(table, m)
+    if programs:
+        program_rows(table, programs)
+    table.print_goals()
+    print(f"\n{table.rows} rows, {table.wrong} wrong")
+    return table.wrong

@@ -1,0 +1,79 @@
+"""Open vSwitch: its source package is fetched from Debian and its library built, in the cache folder."""
+
+import os
+import re
+import shutil
+import tarfile
+
+from building import Failed, log_run, say
+
+MIRROR = "http://deb.debian.org/debian"
+KEYS = "/usr/share/keyrings/debian-archive-keyring.gpg"
+# A mirror may lack the sources of an older suite.
+SUITES = ["bookworm", "trixie", "sid"]
+BUILT = "lib/.libs/libopenvswitch.a"
+# Else make wants automake, since an unpacked file may be older than what it was made from.
+AS_IT_IS = ["AUTOMAKE=:", "ACLOCAL=:", "AUTOCONF=:", "AUTOHEADER=:"]
+
+
+def fetch(cache, folder):
+    """Fetches the source package of the first suite that has it; answers its file."""
+    for suite in SUITES:
+        state = f"{folder}/apt-{suite}"
+        os.makedirs(f"{state}/lists/partial", exist_ok=True)
+        os.makedirs(f"{state}/cache/archives/partial", exist_ok=True)
+        with open(f"{state}/sources.list", "w") as it:
+            signed = f" [signed-by={KEYS}]" if os.path.isfile(KEYS) else ""
+            it.write(f"deb-src{signed} {MIRROR} {suite} main\n")
+        options = [f"Dir::Etc::sourcelist={state}/sources.list", "Dir::Etc::sourceparts=/nonexistent", "Debug::NoLocking=1"]
+        options += [f"Dir::State::Lists={state}/lists", f"Dir::Cache={state}/cache"]
+        words = ["apt-get"] + [word for it in options for word in ("-o", it)]
+        try:
+            log_run(cache, "openvswitch", [*words, "update"])
+            log_run(cache, "openvswitch", [*words, "source", "--download-only", "openvswitch"], cwd=folder)
+        except Failed:
+            continue
+        return next(f"{folder}/{it}" for it in os.listdir(folder) if ".orig.tar." in it and not it.endswith(".asc"))
+    raise Failed("no suite of Debian that has its source package could be reached")
+
+
+def unpack(archive, folder):
+    """Unpacks the package; answers the folder of its sources."""
+    with tarfile.open(archive) as it:
+        it.extractall(folder)
+    return next(f"{folder}/{it}" for it in os.listdir(folder) if os.path.isfile(f"{folder}/{it}/lib/lacp.c"))
+
+
+def make(cache, sources):
+    """Makes the library, after all sources that are made."""
+    with open(f"{sources}/made-first.mk", "w") as it:
+        it.write("include Makefile\nmade-first: $(BUILT_SOURCES)\n")
+    jobs = f"-j{os.cpu_count() or 1}"
+    environment = {**os.environ, "CFLAGS": "-O2"}
+    log_run(cache, "openvswitch", ["./configure", "--disable-ssl", "--disable-libcapng"], cwd=sources, env=environment)
+    log_run(cache, "openvswitch", ["make", jobs, *AS_IT_IS, "-f", "made-first.mk", "made-first"], cwd=sources)
+    log_run(cache, "openvswitch", ["make", jobs, *AS_IT_IS, "lib/libopenvswitch.la"], cwd=sources)
+
+
+def version(sources):
+    return re.sub("^openvswitch-", "", os.path.basename(sources))
+
+
+def built(cache):
+    """The folder of the built sources, and its version; else None, and why it is not here."""
+    folder = f"{cache}/openvswitch"
+    standing = [f"{folder}/{it}" for it in (os.listdir(folder) if os.path.isdir(folder) else [])]
+    standing = [it for it in standing if os.path.isfile(f"{it}/{BUILT}")]
+    if standing:
+        return standing[0], version(standing[0])
+    if not shutil.which("apt-get") or not shutil.which("make"):
+        return None, "apt-get or make is not in PATH"
+    say("fetching Open vSwitch and building its library, some two minutes")
+    shutil.rmtree(folder, ignore_errors=True)
+    os.makedirs(folder)
+    try:
+        sources = unpack(fetch(cache, folder), folder)
+        make(cache, sources)
+    except (Failed, OSError, StopIteration, tarfile.TarError) as why:
+        return None, str(why) or "its package has no lib/lacp.c"
+    return sources, version(sources)
