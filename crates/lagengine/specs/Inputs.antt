@@ -1,11 +1,12 @@
 -- The lines of everything that is read, whatever the size of each read (profile).
 use Rattle.std.specs.Prelude.{ℕ, suc, ◌++◌, ◌==◌, List, [], ◌∷◌, if◌then◌else◌, take}
 
--- octets of a line before the lines that follow; without octets and without following lines there is no line
+-- a list of this one line; empty if the line has no octets
 abbrev pub close : List ℕ → List (List ℕ)
 close [] = []
 close (x ∷ xs) = (x ∷ xs) ∷ []
 
+-- octets of a line before the lines that follow; without octets and without following lines there is no line
 abbrev pub prepend : List ℕ → List (List ℕ) → List (List ℕ)
 prepend line [] = close line
 prepend line (l ∷ ls) = (line ++ l) ∷ ls

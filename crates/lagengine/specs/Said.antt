@@ -12,7 +12,7 @@ use Rattle.lagengine.specs.declared.looks.PortTold.{PortTold}
 -- an answer, with lists in the place of its Vecs
 pub data Said : Type 0 where
   Done : Said
-  Kept : Said
+  Kept : Said  -- the call was stored for `drive`
   Replied : Reply → Said
   Drove : List Reply → Said
   Refused : SystemFault → Said

@@ -203,7 +203,7 @@ impl<F: Fn(u16, usize) -> usize + Copy + Drop> Core<F> {
         }
     }
 
-    /// Does a request.
+    /// Makes a new system, or gives the task to the present one; `NoSystem` if there is none.
     fn act(&mut self, request: Request) -> Result<Answer, AllocError>
         requires usable { PicksPlaces (F.pre self.old.algorithm) (F.post self.old.algorithm) }
         requires same { HasAlgorithm self.old.algorithm self.old.system }

@@ -66,7 +66,7 @@ fn look_at<F: Fn(u16, usize) -> usize + Drop>(system: &System<F>, port: u16) -> 
     })
 }
 
-/// How many conversations are On, Wanted or Flushing on a port.
+/// How many conversations are On, Wanted or Flushing on a port; None if there is no such port.
 fn load<F: Fn(u16, usize) -> usize + Drop>(system: &System<F>, port: u16) -> Option<u32>
     ensures { result ≡ load_of port system.now.state }
 {

@@ -9,13 +9,15 @@ use Rattle.lagffi.specs.declared.values.LagReceived.{LagReceived}
 use Rattle.lagffi.specs.declared.values.LagTruth.{LagTruth}
 use Rattle.lagffi.specs.Numbers.{no_received, no_truth, truth}
 
--- the octets of a frame that is answered
+-- how many octets a frame has that is answered
 abbrev pub frame_length : ℕ
 frame_length = 124
 
+-- what became of a frame, by its number, and the number that belongs to it
 abbrev pub became : ℕ → ℕ → LagReceived
 became what number = record { status = 0; what = what; number = number }
 
+-- what a receive answers
 abbrev pub received_of : Result Received SystemFault → LagReceived
 received_of (Ok Disabled) = became 0 0
 received_of (Ok Dropped) = became 1 0

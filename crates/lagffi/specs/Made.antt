@@ -17,9 +17,11 @@ use Rattle.lagffi.specs.declared.made.LagPort.{LagPort}
 abbrev pub live_already : ℕ
 live_already = 14
 
+-- a key as the system takes it
 abbrev pub key_of : ℕ → Key
 key_of k = record { 0 = k }
 
+-- a port as the system takes it
 abbrev pub port_of : LagPort → PortConfig
 port_of p =
     record {
@@ -47,7 +49,7 @@ pub record IsMade (config : LagConfig) (of_keys : List ℕ) (of_ports : List Lag
 abbrev pub RefusesToMake : List ℕ → List LagPort → SystemFault → Type 0
 RefusesToMake keys ports fault = (fault ≡ NoMemory) ⊎ (fault ≡ fault_in (refusal (map key_of keys) (map port_of ports)))
 
--- a number alone
+-- a status alone, without a reason to refuse a configuration
 abbrev pub not_made : ℕ → LagMade
 not_made status = record { status = status; reason = 0; place = 0 }
 

@@ -9,7 +9,7 @@ use Rattle.lagffi.specs.declared.values.LagNumber.{LagNumber}
 use Rattle.lagffi.specs.declared.values.LagReceived.{LagReceived}
 use Rattle.lagffi.specs.declared.values.LagTruth.{LagTruth}
 
--- the numbers beyond those of a system's refusals
+-- The next two are no refusals of a system: the handle holds no system; a buffer has another length than is asked.
 abbrev pub no_system : ℕ
 no_system = 13
 
@@ -21,39 +21,43 @@ abbrev pub status_of : {A : Type 0} → Result A SystemFault → ℕ
 status_of (Ok answer) = 0
 status_of (Err fault) = fault_number fault
 
--- whether it is so
+-- it is told whether something is so
 abbrev pub truth : Bool → LagTruth
 truth is = record { status = 0; is = is }
 
+-- refused with this number
 abbrev pub no_truth : ℕ → LagTruth
 no_truth why = record { status = why; is = false }
 
+-- the answer of a call, or the number of its refusal
 abbrev pub truth_of : Result Bool SystemFault → LagTruth
 truth_of (Ok is) = truth is
 truth_of (Err fault) = no_truth (fault_number fault)
 
--- the same of a port, where there is one
+-- what a reader tells of a port, or that there is no such port
 abbrev pub truth_in : Option Bool → LagTruth
 truth_in (Some is) = truth is
 truth_in None = no_truth (fault_number NoPort)
 
--- a number
+-- a number is told
 abbrev pub number : ℕ → LagNumber
 number n = record { status = 0; number = n }
 
+-- refused with this number
 abbrev pub no_number : ℕ → LagNumber
 no_number why = record { status = why; number = 0 }
 
+-- the answer of a call, or the number of its refusal
 abbrev pub number_of : Result ℕ SystemFault → LagNumber
 number_of (Ok n) = number n
 number_of (Err fault) = no_number (fault_number fault)
 
--- the same where there is one, and else this refusal
+-- the number, if there is one, and else this refusal
 abbrev pub number_in : ℕ → Option ℕ → LagNumber
 number_in why (Some n) = number n
 number_in why None = no_number why
 
--- nothing became of a frame
+-- a receive that is refused with this number
 abbrev pub no_received : ℕ → LagReceived
 no_received why = record { status = why; what = 0; number = 0 }
 

@@ -24,7 +24,7 @@ use Rattle.lagffi.specs.declared.told.LagMarker.{LagMarker}
 use Rattle.lagffi.specs.declared.told.LagParty.{LagParty}
 use Rattle.lagffi.specs.declared.values.LagNumber.{LagNumber}
 
--- the states of the machines, in the order of the standard
+-- the states of the receive machine, in the order of the standard
 abbrev pub receive_number : ReceiveState → ℕ
 receive_number receive.Initialize = 0
 receive_number receive.PortDisabled = 1
@@ -32,18 +32,19 @@ receive_number receive.Expired = 2
 receive_number receive.Defaulted = 3
 receive_number receive.Current = 4
 
+-- the states of the mux machine, in the order of the standard
 abbrev pub mux_number : MuxState → ℕ
 mux_number mux.Detached = 0
 mux_number mux.Waiting = 1
 mux_number mux.Attached = 2
 mux_number mux.CollectingDistributing = 3
 
--- the aggregator that a port is given, or 0
+-- the aggregator that a port has chosen, or 0
 abbrev pub choice_number : Choice → ℕ
 choice_number Unselected = 0
 choice_number (Selected agg) = agg.0
 
--- the same of a port, where there is one
+-- The next three: the number of what a reader tells of a port, or that there is no such port.
 abbrev pub receive_told : Option ReceiveState → LagNumber
 receive_told (Some state) = number (receive_number state)
 receive_told None = no_number 1
@@ -56,18 +57,20 @@ abbrev pub choice_told : Option Choice → LagNumber
 choice_told (Some choice) = number (choice_number choice)
 choice_told None = no_number 1
 
--- the state octet of a port
+-- the state octet of a port, or that there is no such port
 abbrev pub octet_told : Option State → LagNumber
 octet_told (Some state) = number state.0
 octet_told None = no_number 1
 
--- no MAC address
+-- all zero, in place of a MAC address
 abbrev pub no_mac : List ℕ
 no_mac = 0 ∷ 0 ∷ 0 ∷ 0 ∷ 0 ∷ 0 ∷ []
 
+-- the own parameters of a port, refused with this number
 abbrev pub no_party : ℕ → LagParty
 no_party why = record { status = why; system_priority = 0; system_mac = no_mac; key = 0; port_priority = 0; port = 0; aggregatable = false }
 
+-- the own parameters of a port
 abbrev pub party_of : Party → LagParty
 party_of p =
     record {
@@ -80,13 +83,16 @@ party_of p =
       aggregatable = p.aggregatable;
     }
 
+-- the own parameters of a port, or that there is no such port
 abbrev pub party_in : Option Party → LagParty
 party_in (Some p) = party_of p
 party_in None = no_party 1
 
+-- the partner of a port, refused with this number
 abbrev pub no_info : ℕ → LagInfo
 no_info why = record { status = why; system_priority = 0; system_mac = no_mac; key = 0; port_priority = 0; port = 0; state = 0 }
 
+-- the partner of a port
 abbrev pub info_of : Info → LagInfo
 info_of i =
     record {
@@ -99,6 +105,7 @@ info_of i =
       state = i.state.0;
     }
 
+-- the partner of a port, or that there is no such port
 abbrev pub info_in : Option Info → LagInfo
 info_in (Some i) = info_of i
 info_in None = no_info 1
@@ -110,44 +117,53 @@ end_at e (Some port) =
 end_at e None =
     record { system_priority = e.system.priority; system_mac = e.system.mac; key = e.key.0; individual = false; port_priority = 0; port = 0 }
 
+-- an end of a group
 abbrev pub end_of : End → LagEnd
 end_of e = end_at e e.port
 
+-- an end of a group that is not told
 abbrev pub no_end : LagEnd
 no_end = record { system_priority = 0; system_mac = no_mac; key = 0; individual = false; port_priority = 0; port = 0 }
 
+-- the group of a port, refused with this number
 abbrev pub no_group : ℕ → LagGroup
 no_group why = record { status = why; lower = no_end; upper = no_end }
 
+-- the group of a port, its lower end first
 abbrev pub group_of : Group → LagGroup
 group_of g = record { status = 0; lower = end_of (lower g); upper = end_of (upper g) }
 
+-- the group of a port, or that there is no such port
 abbrev pub group_in : Option Group → LagGroup
 group_in (Some g) = group_of g
 group_in None = no_group 1
 
--- what a conversation is doing
+-- the state of a conversation, refused with this number
 abbrev pub no_assignment : ℕ → LagAssignment
 no_assignment why = record { status = why; what = 0; port = 0; prefers = false; preferred = 0; id = 0; age = 0 }
 
+-- the state with this number, the port of the conversation or 0, and its preferred port, if it has one
 abbrev pub assigned : ℕ → ℕ → Option ℕ → LagAssignment
 assigned what port (Some preferred) = record { status = 0; what = what; port = port; prefers = true; preferred = preferred; id = 0; age = 0 }
 assigned what port None = record { status = 0; what = what; port = port; prefers = false; preferred = 0; id = 0; age = 0 }
 
+-- the state of a conversation: 0 Free, 1 On, 2 Wanted, 3 Flushing
 abbrev pub assignment_of : Assignment → LagAssignment
 assignment_of (Free preferred) = assigned 0 0 preferred
 assignment_of (On port) = assigned 1 port None
 assignment_of (Wanted port preferred) = assigned 2 port preferred
 assignment_of (Flushing port id preferred age) = record (assigned 3 port preferred) { id = id; age = age }
 
+-- the state of a conversation, or that there is no such conversation
 abbrev pub assignment_in : Option Assignment → LagAssignment
 assignment_in (Some a) = assignment_of a
 assignment_in None = no_assignment 9
 
--- the identifier of the next marker, where one is left
+-- the next marker, refused with this number
 abbrev pub no_marker : ℕ → LagMarker
 no_marker why = record { status = why; left = false; id = 0 }
 
+-- the identifier of the next marker, if one is left
 abbrev pub marker_of : Option ℕ → LagMarker
 marker_of (Some id) = record { status = 0; left = true; id = id }
 marker_of None = record { status = 0; left = false; id = 0 }

@@ -76,7 +76,7 @@ pub struct LagMade {
 }
 
 impl LagMade {
-    /// A number alone.
+    /// A status alone, without a reason.
     fn told(status: u32) -> LagMade
         ensures { result ≡ not_made status }
     {
@@ -87,7 +87,7 @@ impl LagMade {
         }
     }
 
-    /// Refused for this.
+    /// Refused, with the reason if the configuration is refused.
     fn refused(fault: &SystemFault) -> LagMade
         ensures { result ≡ no_made fault.now }
     {
@@ -108,7 +108,7 @@ impl LagMade {
     }
 }
 
-/// The keys of the aggregators.
+/// The keys of the aggregators, as the system takes them.
 fn keys_of(alloc: Global, keys: &[u16]) -> Result<Vec<Key>, NoMemory>
     ensures { IfOk result (λ found. found.items ≡ map key_of keys.now) }
 {
@@ -119,7 +119,7 @@ fn keys_of(alloc: Global, keys: &[u16]) -> Result<Vec<Key>, NoMemory>
     Ok(found)
 }
 
-/// The ports of the configuration.
+/// The ports of the configuration, as the system takes them.
 fn ports_of(alloc: Global, ports: &[LagPort]) -> Result<Vec<PortConfig>, NoMemory>
     ensures { IfOk result (λ found. found.items ≡ map port_of ports.now) }
 {
@@ -130,7 +130,7 @@ fn ports_of(alloc: Global, ports: &[LagPort]) -> Result<Vec<PortConfig>, NoMemor
     Ok(found)
 }
 
-/// The system of this configuration.
+/// Makes the system of this configuration, with no algorithm.
 fn system_of(
     alloc: Global,
     config: &LagConfig,
@@ -154,7 +154,7 @@ fn system_of(
     Ok(system.with_algorithm(()))
 }
 
-/// A block for a system.
+/// An empty block, with room for a system.
 fn room(alloc: Global) -> Result<Box<Kept>, SystemFault>
     ensures { IfErr result (λ fault. fault ≡ SystemFault.NoMemory) }
 {

@@ -114,7 +114,7 @@ pub extern "C" fn lagffi_receive_state(alloc: Global, lag: &mut Lag, port: u16) 
     answer
 }
 
-/// The aggregator that a port is given, or 0.
+/// The aggregator that a port has chosen, or 0.
 #[unsafe(no_mangle)]
 pub extern "C" fn lagffi_choice(alloc: Global, lag: &mut Lag, port: u16) -> LagNumber
     ensures { Reads (state_of lag.old.held.kept) (state_of lag.new.held.kept)
@@ -189,7 +189,7 @@ pub extern "C" fn lagffi_group(alloc: Global, lag: &mut Lag, port: u16) -> LagGr
     answer
 }
 
-/// How many conversations a port has.
+/// How many conversations are On, Wanted or Flushing on a port.
 #[unsafe(no_mangle)]
 pub extern "C" fn lagffi_load(alloc: Global, lag: &mut Lag, port: u16) -> LagNumber
     ensures { Reads (state_of lag.old.held.kept) (state_of lag.new.held.kept)
@@ -234,7 +234,7 @@ pub extern "C" fn lagffi_conversation(alloc: Global, lag: &mut Lag, frame: &[u8]
     answer
 }
 
-/// What a conversation of an aggregator is doing.
+/// The state of a conversation of an aggregator, its port and its preferred port.
 #[unsafe(no_mangle)]
 pub extern "C" fn lagffi_conversation_state(
     alloc: Global,

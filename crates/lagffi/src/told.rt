@@ -49,7 +49,7 @@ pub(crate) fn mux_told(answer: Option<MuxState>) -> LagNumber
     LagNumber::told(number)
 }
 
-/// The aggregator that a port is given, or 0.
+/// The aggregator that a port has chosen, or 0.
 pub(crate) fn choice_told(answer: Option<Choice>) -> LagNumber
     ensures { result ≡ choice_told answer }
 {
@@ -81,7 +81,7 @@ pub struct LagParty {
 }
 
 impl LagParty {
-    /// Refused for this.
+    /// Refused with this number.
     pub(crate) fn refused(why: u32) -> LagParty
         ensures { result ≡ no_party why }
     {
@@ -96,7 +96,7 @@ impl LagParty {
         }
     }
 
-    /// These.
+    /// The own parameters of a port.
     fn this(party: &Party) -> LagParty
         ensures { result ≡ party_of party.now }
     {
@@ -143,7 +143,7 @@ pub struct LagInfo {
 }
 
 impl LagInfo {
-    /// Refused for this.
+    /// Refused with this number.
     pub(crate) fn refused(why: u32) -> LagInfo
         ensures { result ≡ no_info why }
     {
@@ -158,7 +158,7 @@ impl LagInfo {
         }
     }
 
-    /// This one.
+    /// The recorded partner of a port.
     fn this(info: &Info) -> LagInfo
         ensures { result ≡ info_of info.now }
     {
@@ -249,7 +249,7 @@ pub struct LagGroup {
 }
 
 impl LagGroup {
-    /// Refused for this.
+    /// Refused with this number.
     pub(crate) fn refused(why: u32) -> LagGroup
         ensures { result ≡ no_group why }
     {
@@ -260,7 +260,7 @@ impl LagGroup {
         }
     }
 
-    /// This one.
+    /// The group of a port.
     fn this(group: &Group) -> LagGroup
         ensures { result ≡ group_of group.now }
     {
@@ -282,7 +282,7 @@ impl LagGroup {
     }
 }
 
-/// What a conversation is doing, or why it is not told.
+/// The state of a conversation, or why it is not told.
 #[repr(C)]
 #[derive(Clone, Copy)]
 pub struct LagAssignment {
@@ -303,7 +303,7 @@ pub struct LagAssignment {
 }
 
 impl LagAssignment {
-    /// Refused for this.
+    /// Refused with this number.
     pub(crate) fn refused(why: u32) -> LagAssignment
         ensures { result ≡ no_assignment why }
     {
@@ -318,7 +318,7 @@ impl LagAssignment {
         }
     }
 
-    /// On a port, with a preferred one or none.
+    /// The state with this number, the port of the conversation or 0, and its preferred port, if it has one.
     fn on(what: u32, port: u16, preferred: Option<u16>) -> LagAssignment
         ensures { result ≡ assigned what port preferred }
     {
@@ -337,7 +337,7 @@ impl LagAssignment {
         }
     }
 
-    /// This one.
+    /// The state of a conversation.
     fn this(assignment: &Assignment) -> LagAssignment
         ensures { result ≡ assignment_of assignment.now }
     {
@@ -383,7 +383,7 @@ pub struct LagMarker {
 }
 
 impl LagMarker {
-    /// Refused for this.
+    /// Refused with this number.
     pub(crate) fn refused(why: u32) -> LagMarker
         ensures { result ≡ no_marker why }
     {
@@ -394,7 +394,7 @@ impl LagMarker {
         }
     }
 
-    /// This one, or none.
+    /// The identifier, if one is left.
     pub(crate) fn of(next: Option<u32>) -> LagMarker
         ensures { result ≡ marker_of next }
     {

@@ -22,7 +22,7 @@ pub(crate) const FRAME_LENGTH: u32 = 3;
 pub(crate) const NOT_ASSIGNED: u32 = 9;
 /// The most ports and the most aggregators of a system.
 pub(crate) const MOST: usize = 64;
-/// The octets of a frame that is answered.
+/// How many octets a frame has that is answered.
 pub(crate) const FRAME: usize = 124;
 
 /// The number of an answer: 0, or that of its refusal.
@@ -78,7 +78,7 @@ impl LagTruth {
         LagTruth { status: OK, is }
     }
 
-    /// Refused for this.
+    /// Refused with this number.
     pub(crate) fn refused(why: u32) -> LagTruth
         ensures { result ≡ no_truth why }
     {
@@ -141,7 +141,7 @@ impl LagNumber {
         }
     }
 
-    /// Refused for this.
+    /// Refused with this number.
     pub(crate) fn refused(why: u32) -> LagNumber
         ensures { result ≡ no_number why }
     {
@@ -195,7 +195,7 @@ pub struct LagReceived {
 }
 
 impl LagReceived {
-    /// Refused for this.
+    /// Refused with this number.
     pub(crate) fn refused(why: u32) -> LagReceived
         ensures { result ≡ no_received why }
     {

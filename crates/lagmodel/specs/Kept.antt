@@ -29,7 +29,8 @@ AreNumbered number (x ∷ xs) = (find_number number xs (number x) ≡ None) × A
 abbrev pub ports_of : {X : Type 0} → (X → ℕ) → (X → PortView) → List X → ℕ → Option PortView
 ports_of number view xs q = option_map view (find_number number xs q)
 
--- The world after a call of system s that ended in the view v and had at most this one visible act.
+-- The world after a call of system s that ended in the view v and had at most this one visible act. `kept`: whether the
+-- cable accepts what is sent. `stamp`: the stamp of what came in this call.
 abbrev pub called : Fixed → Side → ℕ → Bool → Option Act → View → World → World
 called x s stamp kept o v w = record w {
   view = at_side w.view s v;

@@ -91,8 +91,9 @@ OnItsCable x w =
     × (port_of ((w.view s).flows.state g k) ≡ Some p)))
     × (serials s g k (w.line s c) ≡ [])
 
--- While a conversation that was never forced waits for the response to a marker, none of its frames is behind that
--- marker on the cable; and once the response is in flight, none of its frames is in flight.
+-- While a conversation that was never forced waits on a port for the response to a marker: none of its frames was sent
+-- after that marker on the port's cable; and while the response is in flight on that cable, none of its frames is in
+-- flight on any cable.
 abbrev pub FlushedByMarker : Fixed → World → Type 0
 FlushedByMarker x w =
     (s : Side) (g k p n c : ℕ) → w.forced s g k ≡ false → (w.view s).flows.state g k ≡ Flushing p n → end_at x.cables s c ≡ Some p

@@ -116,7 +116,7 @@ changed Forced = Free
 pub data FlowMove : Type 0 where
   Send : (aggregator conversation port : ℕ) → FlowMove  -- 6.2.4
   Mark : (port : ℕ) → FlowMove  -- 6.2.5, 6.5.3.3
-  Become : (aggregator conversation : ℕ) (change : Change) → FlowMove
+  Become : (aggregator conversation : ℕ) (change : Change) → FlowMove  -- the state of one conversation changes, without a frame
 
 -- the moves that the conversations of a system with this MAC address may make; the relation says which port may
 -- distribute in which aggregator
@@ -147,7 +147,7 @@ flow_act mac (Send g k p) f = Some (Sends_frame p g k)
 flow_act mac (Mark p) f = Some (Sends p (Marker mac p f.next))
 flow_act mac (Become g k m) f = None
 
--- moves of the conversations one after another, with just these visible acts: what a distributor does in one call
+-- each move is allowed in the state that those before it left
 abbrev pub AllFlowAllowed : List ℕ → Call → (ℕ → ℕ → Type 0) → Flows → List FlowMove → Type 0
 AllFlowAllowed mac call Distributes f [] = Unit {0}
 AllFlowAllowed mac call Distributes f (m ∷ ms) = FlowAllowed mac call Distributes f m
@@ -163,6 +163,7 @@ abbrev pub flow_acts : List ℕ → List FlowMove → Flows → List Act
 flow_acts mac [] f = []
 flow_acts mac (m ∷ ms) f = option_to_list (flow_act mac m f) ++ flow_acts mac ms (flows_after m f)
 
+-- moves of the conversations one after another, with just these visible acts: what a distributor does in one call
 abbrev pub FlowMoves : List ℕ → Call → (ℕ → ℕ → Type 0) → Flows → List Act → Flows → Type 0
 FlowMoves mac call Distributes old seen new =
     (moves : List FlowMove) × AllFlowAllowed mac call Distributes old moves × (flow_acts mac moves old ≡ seen)
@@ -178,6 +179,7 @@ pub data Move : Type 0 where
 abbrev pub Distributes : (ℕ → Option PortView) → ℕ → ℕ → Type 0
 Distributes ports g p = IsSomeAnd (ports p) (λ a. (a.aggregator ≡ Some g) × (a.distributes ≡ true))
 
+-- the law: in this view, a system with this configuration may make this move during this call
 abbrev pub Allowed : Setup → Call → View → Move → Type 0
 Allowed u call v (Port p m) = IsSomeAnd (v.port p) (PortAllowed u call v.port p m)
 Allowed u call v (Flow m) = FlowAllowed u.system.mac call (Distributes v.port) v.flows m

@@ -127,9 +127,10 @@ abbrev pub is_restart : Call → Bool
 is_restart Restart = true
 is_restart _ = false
 
--- the function, changed at one port or at one conversation
+-- ports, with f applied to the port p, if there is one
 abbrev pub at_port : (ℕ → Option PortView) → ℕ → (PortView → PortView) → ℕ → Option PortView
 at_port ports p f q = cond (eqb q p) (option_map f (ports q)) (ports q)
 
+-- conversations, with the state c at conversation k of aggregator g
 abbrev pub at_conversation : (ℕ → ℕ → Conversation) → ℕ → ℕ → Conversation → ℕ → ℕ → Conversation
 at_conversation state g k c h j = cond (eqb h g) (cond (eqb j k) c (state h j)) (state h j)

@@ -109,7 +109,8 @@ is_port p (Some q) = eqb q p
 abbrev pub put : (ℕ → Option ℕ) → (ℕ → Bool) → Bool → ℕ → Message → (ℕ → List Message) → ℕ → List Message
 put ends whole kept p m lines c = cond (kept && (whole c && is_port p (ends c))) (lines c ++ m ∷ []) (lines c)
 
--- The messages on the cables, the serial numbers sent and the LACPDUs received last, after a visible act of system s.
+-- The next three: the messages on the cables, the serial numbers sent and the LACPDUs received last, after a visible
+-- act of system s.
 -- `kept`: whether the cable accepts what is sent. `stamp`: the stamp of what came in this call.
 abbrev pub line_after : Side → (ℕ → Option ℕ) → (ℕ → Bool) → (ℕ → ℕ) → (ℕ → ℕ → List ℕ) → Bool → Option Act → (ℕ → List Message) → ℕ
     → List Message

@@ -33,10 +33,11 @@ kind_word w =
 abbrev pub hex_word : List ℕ → Result (List ℕ) EntryFault
 hex_word w = or_fault entry.Hex (octets_of w)
 
--- an entry with exactly this many words after its first; they are read from left to right
+-- what reads one word of an entry: a value, or the fault
 abbrev pub Reader : Type 0 → Type 0
 Reader A = List ℕ → Result A EntryFault
 
+-- an entry with exactly this many words after its first; they are read from left to right
 abbrev pub one_word : List (List ℕ) → Result (List ℕ) EntryFault
 one_word (a ∷ []) = Ok a
 one_word _ = Err entry.Count

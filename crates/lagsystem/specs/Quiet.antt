@@ -47,5 +47,6 @@ TakesAt v i old alike new =
 abbrev pub Knows : Lacpdu → Slot → Type 0
 Knows v s = (is_receive Current s.port.receive ≡ true) × (same_party (party_of v.actor) (party_of s.port.partner) ≡ true)
 
+-- both name one party with one state octet
 abbrev pub IsSamePartner : Info → Info → Type 0
 IsSamePartner was new = (party_of new ≡ party_of was) × (new.state ≡ was.state)

@@ -44,5 +44,6 @@ conversations s = 256
 abbrev pub conversation_of : State → List ℕ → ℕ
 conversation_of s octets = bit_xor (slice_index octets 5) (slice_index octets 11)
 
+-- the conversation of a frame; None below 14 octets
 abbrev pub conversation_in : State → List ℕ → Option ℕ
 conversation_in s octets = if nat_lt (length octets) 14 then None else Some (conversation_of s octets)

@@ -38,6 +38,7 @@ SendsMarkerOf (Some id) port mac old answer new =
 abbrev pub SendsMarker : ℕ → List ℕ → State → Option (List ℕ) → State → Type 0
 SendsMarker port mac old answer new = SendsMarkerOf (marker_due old.table port) port mac old answer new
 
+-- `true` first: the link is up; `true` second: an LACPDU is due
 abbrev pub SendsWhere : Bool → Bool → ℕ → Slot → State → Option (List ℕ) → State → Type 0
 SendsWhere false due i slot old answer new = (answer ≡ None) × (new ≡ old)
 SendsWhere true true i slot old answer new = SendsLacpdu i slot old answer new

@@ -63,7 +63,8 @@ abbrev pub ready_of : List Key → List PortView → Choice → Bool
 ready_of keys seen Unselected = false
 ready_of keys seen (Selected agg) = is_ready keys seen agg
 
--- 3. Ready is worked out for each aggregator in this state; step 4 uses these values
+-- 3. Ready is worked out for each aggregator in this state; step 4 uses these values; nothing changes in
+-- this step
 abbrev pub TakesReady : State → State → Type 0
 TakesReady old new = new ≡ old
 

@@ -87,6 +87,7 @@ configured s = record {
 abbrev pub message_of : Lacpdu → Told_lacpdu
 message_of v = record { actor = party_of v.actor; partner = party_of v.partner; synchronised = (bits_of v.actor.state).synchronization }
 
+-- a marker or its response as the model has it
 abbrev pub marker_message : MarkerKind → Marker → Message
 marker_message kind.Information m = Message.Marker m.system m.port m.id
 marker_message kind.Response m = Message.Response m.system m.port m.id

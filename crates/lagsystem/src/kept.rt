@@ -184,6 +184,8 @@ impl<F: Fn(u16, usize) -> usize + Drop> Core<F> {
         }
     }
 
+    /// Gives a port another key, priority or Aggregation bit and settles; false, and nothing changes, if it has these values
+    /// already.
     pub(crate) fn configure(&mut self, number: u16, change: PortChange) -> Result<bool, SystemFault>
         requires { IsSound (state_of self.old) }
         ensures step { Step (F.post self.old.distributor.algorithm) (state_of self.old) (Call.Configure number change)

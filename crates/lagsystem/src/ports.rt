@@ -224,6 +224,7 @@ pub(crate) fn configure_port(slots: &mut [Slot], number: u16, change: PortChange
     }
 }
 
+/// Whether the change leaves the port's own parameters as they are.
 fn is_same(port: &Port, change: PortChange) -> bool
     ensures { result ≡ same_party (changed change port.now.party) port.now.party }
 {
@@ -231,6 +232,7 @@ fn is_same(port: &Port, change: PortChange) -> bool
     changed(change, &party) == party
 }
 
+/// Gives a port the changed parameters and starts its machines again (BEGIN).
 fn reinit_slot(slot: &mut Slot, change: PortChange)
     ensures kept { slot.new ≡ record slot.old { port = slot.new.port } }
     ensures port { Starts (record slot.old.port { party = changed change slot.old.port.party }) slot.new.port }

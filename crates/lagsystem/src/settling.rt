@@ -93,6 +93,7 @@ fn run_mux(aggregators: &Aggregators, slots: &mut [Slot])
     }
 }
 
+/// Runs each mux machine; Ready is worked out from the views before the first of them ran.
 fn run_mux_seeing(aggregators: &Aggregators, slots: &mut [Slot], seen: &[PortView])
     ensures { AllMove (λ p q. Settles (mux_rows (ready_of aggregators.now seen.now p.choice)) p q) slots.old slots.new }
 {
@@ -135,7 +136,7 @@ fn run_periodic(slots: &mut [Slot])
 /// Steps 1 to 5 of settling (profile), which read and change ports only. The cost is linear in the ports, except in two
 /// cases. For each eligible port the views of all ports are searched for an aggregator; a port that finds none is tried
 /// again in each settling. And if some port is in WAITING with wait_while expired, the views are searched once for each
-/// SELECTED port.
+/// SELECTED port. Step 6, the conversations, is in holding.rt.
 pub(crate) fn settle(aggregators: &Aggregators, slots: &mut [Slot])
     requires { length slots.old ≤ 64 }
     ensures { (base : State) → base.keys ≡ aggregators.now → base.slots ≡ slots.old → SettlesPorts base (with_slots base slots.new) }

@@ -24,7 +24,8 @@ pub record Asks (gives : ℕ → ℕ → ℕ → Type 0) (call : Call) (a : Answ
   pub answers : Answers gives old.state call a new.state
   pub same : new ≡ with_state new.state old
 
--- this many ticks, one after another
+-- One of the two systems (a half of the world) ticks this many times; gives is what its distribution algorithm may
+-- return.
 abbrev pub Ticks : (ℕ → ℕ → ℕ → Type 0) → ℕ → Half → Half → Type 0
 Ticks gives zero old new = new ≡ old
 Ticks gives (suc n) old new = (mid : Half) × Ticks gives n old mid × Asks gives Tick answer.Tick mid new

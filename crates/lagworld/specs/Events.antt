@@ -31,7 +31,7 @@ use Rattle.lagworld.specs.Calls.{Asks, Ticks, Senses, Configures, Restarts, Move
 abbrev pub side_of : ℕ → Option Side
 side_of n = if n == 1 then Some One else (if n == 2 then Some Two else None)
 
--- for each system, the indices that its distribution algorithm may return
+-- for each system: conversation number, count of ports, and an index that its distribution algorithm may return
 abbrev pub Gives : Type 1
 Gives = Side → ℕ → ℕ → ℕ → Type 0
 
@@ -88,6 +88,7 @@ set_heard p heard (log ∷ logs) = if log.number == p then set_taken heard log �
 abbrev pub with_heard : ℕ → Heard → Half → Half
 with_heard p heard h = record h { logs = set_heard p heard h.logs }
 
+-- the half, with this serial added to what was collected of a conversation
 abbrev pub with_flow_of : ℕ → ℕ → ℕ → Half → Half
 with_flow_of agg conv serial h = record h { flows = at_flow (with_collected serial) agg conv h.flows }
 
@@ -226,6 +227,8 @@ abbrev pub has_system : Option ℕ → Bool
 has_system None = true
 has_system (Some n) = is_some (side_of n)
 
+-- The first of three reasons to refuse an event: its cable does not exist, its system does not exist, no more events may
+-- act. The arguments: the cable exists; the system exists; no more may act.
 abbrev pub first_cause : Bool → Bool → Bool → Option WorldFault
 first_cause cable system spent = if cable then (if system then (if spent then Some Spent else None) else Some NoSystem) else Some NoCable
 

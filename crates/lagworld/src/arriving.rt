@@ -45,7 +45,7 @@ fn is_data(stamp: Stamp) -> bool
     }
 }
 
-/// The change count in the stamp of an item; 0 unless it is an LACPDU.
+/// The count in the stamp of a control frame, which is 0 unless that is an LACPDU; 0 for data.
 fn count_of(stamp: Stamp) -> u64
     ensures { result ≡ count_of stamp }
 {
@@ -124,7 +124,7 @@ fn set_heard(logs: &mut Vec<PortLog>, port: u16, heard: Heard)
     }
 }
 
-/// The same, if there is an LACPDU to record.
+/// Records that a port received this LACPDU, if there is one.
 fn keep_heard(logs: &mut Vec<PortLog>, port: u16, heard: Option<Heard>)
     ensures { logs.new.items ≡ kept_heard port heard logs.old.items }
 {

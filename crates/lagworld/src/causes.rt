@@ -15,7 +15,7 @@ pub(crate) enum Side {
     Two,
 }
 
-/// The system with this number, which is 1 or 2.
+/// System 1 for the number 1, else system 2; callers have refused every other number.
 pub(crate) fn side_named(number: u8) -> Side
     ensures { told_side result ≡ side_named number }
 {

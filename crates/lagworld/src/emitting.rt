@@ -53,7 +53,7 @@ fn stamp_for(pdu: Pdu, count: u64) -> Stamp
     }
 }
 
-/// The reply to `Emit` for a PDU that was sent.
+/// The reply to `Emit` for a PDU that was sent. `kept`: whether the cable took it.
 fn sent_reply(pdu: Pdu, kept: bool) -> Reply
     ensures { result ≡ sent_reply pdu kept }
 {

@@ -16,7 +16,7 @@ pub(crate) struct End<F> {
 }
 
 impl<F: Fn(u16, usize) -> usize + Drop> End<F> {
-    /// This many ticks, of 100 ms each.
+    /// Ticks the system this many times; a tick is 100 ms.
     pub(crate) fn tick(&mut self, count: u16)
         ensures ticks { Ticks (F.post self.old.system.algorithm) count (half_of self.old) (half_of self.new) }
         ensures algorithm { self.new.system.algorithm ≡ self.old.system.algorithm }

@@ -7,6 +7,7 @@ use Rattle.portmachines.specs.declared.mux.MuxState.TheVariants.{Detached, Waiti
 use Rattle.portmachines.specs.Machines.{Machines}
 use Rattle.portmachines.specs.Rows.{Row}
 
+-- whether the two states are the same
 abbrev pub is_mux : MuxState → MuxState → Bool
 is_mux Detached Detached = true
 is_mux Waiting Waiting = true

@@ -13,7 +13,7 @@ use Rattle.portmachines.specs.Rows.{Row}
 use Rattle.lagtypes.specs.Same.{same_party, same_bit}
 use Rattle.portmachines.specs.Mux.{is_synchronized}
 
--- the administrative default values of the partner: all zero, but the state is 0x08 (profile)
+-- the administrative default values of the partner: all zero, but the state is 0x08 (Synchronization) (profile)
 abbrev pub default_partner : Info
 default_partner =
     record {
@@ -67,6 +67,7 @@ default p = record (record_default (update_selected (party_of default_partner) p
 abbrev pub start_receive : Machines → Machines
 start_receive p = record (record_default p) { receive = Initialize; choice = Unselected; expired = false }
 
+-- whether the two states are the same
 abbrev pub is_receive : ReceiveState → ReceiveState → Bool
 is_receive Initialize Initialize = true
 is_receive PortDisabled PortDisabled = true

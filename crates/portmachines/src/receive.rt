@@ -200,7 +200,7 @@ impl Machines {
     }
 }
 
-/// The administrative default values of the partner: all zero, but the state is 0x08 (Aggregation) (profile).
+/// The administrative default values of the partner: all zero, but the state is 0x08 (Synchronization) (profile).
 pub(crate) fn default_partner() -> Info
     ensures { result ≡ default_partner }
 {

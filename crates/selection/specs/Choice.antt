@@ -17,10 +17,11 @@ kept keys = take 65535 keys
 abbrev pub is_known : List Key → AggId → Bool
 is_known keys agg = nat_le 1 agg.0 && nat_le agg.0 (length keys)
 
--- the ports that were given this aggregator
+-- the ports that have chosen this aggregator
 abbrev pub given_to : AggId → List PortView → List PortView
 given_to agg views = filter (λ w. is_given agg w.choice) views
 
+-- some port has chosen this aggregator
 abbrev pub has_member : List PortView → AggId → Bool
 has_member views agg = list_any (λ w. is_given agg w.choice) views
 

@@ -22,7 +22,7 @@ pub record AreViews (views : List PortView) : Type 0 where
 abbrev pub view_of : List PortView → ℕ → Option PortView
 view_of views port = find (λ v. v.number == port) views
 
--- the port is SELECTED and was given this aggregator
+-- the port is SELECTED and has chosen this aggregator
 abbrev pub is_given : AggId → Choice → Bool
 is_given agg Unselected = false
 is_given agg (Selected given) = given.0 == agg.0

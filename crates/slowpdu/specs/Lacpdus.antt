@@ -27,6 +27,7 @@ lacpdu_table v =
     ++ unread 42 1 3 ∷ place 43 1 16 ∷ place 44 2 v.max_delay
     ∷ unread 58 1 0 ∷ unread 59 1 0 ∷ []))
 
+-- the System MACs of Actor and Partner are MAC addresses
 abbrev pub HasAddresses : Lacpdu → Type 0
 HasAddresses v = IsAddress v.actor.system.mac × IsAddress v.partner.system.mac
 

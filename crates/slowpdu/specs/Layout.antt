@@ -18,7 +18,7 @@ place offset width number = record { offset = offset; width = width; number = nu
 abbrev pub unread : ℕ → ℕ → ℕ → Place
 unread offset width number = record { offset = offset; width = width; number = number; is_looked_at = false }
 
--- the rows that a receiver reads
+-- the fields that a receiver reads
 abbrev pub looked_at : List Place → List Place
 looked_at places = filter (λ p. p.is_looked_at) places
 
