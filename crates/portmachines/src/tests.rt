@@ -260,6 +260,9 @@ fn a_new_port(rt: HostRuntime) {
     assert!(rt; port.ages().as_slice().is_empty(), "ages after new");
     port.periodic();
     assert!(rt; !port.ntt(), "ntt after periodic");
+    port.take(&saying(0x07, end(1, 0x06)));
+    assert!(rt; !port.ntt(), "ntt after an LACPDU while the link is down");
+    assert_eq!(rt; port.partner(), zero(0), "partner after that LACPDU");
 }
 
 /// A port whose link came up ten ticks ago.
