@@ -71,6 +71,9 @@ fn a_conversation_leaves_a_port_behind_its_marker(rt: HostRuntime) -> Result<(),
     Ok(())
 }
 
+/// A frame of the slow protocols.
+const SLOW: [u8; 14] = [2, 0, 0, 0, 0, 0x20, 2, 0, 0, 0, 0, 0x10, 0x88, 9];
+
 /// A frame of the slow protocols that is an octet too long.
 fn long_and_slow() -> [u8; 1519] {
     let mut octets = [0; 1519];
@@ -81,7 +84,6 @@ fn long_and_slow() -> [u8; 1519] {
 
 #[test]
 fn offers_are_refused_in_order(rt: HostRuntime) -> Result<(), Fail> {
-    let slow = [2, 0, 0, 0, 0, 0x20, 2, 0, 0, 0, 0, 0x10, 0x88, 9];
     let long = long_and_slow();
     let rows = [
         Row::Offers(0, &[0; 13], Err(SystemFault::NoAggregator)),
@@ -89,7 +91,7 @@ fn offers_are_refused_in_order(rt: HostRuntime) -> Result<(), Fail> {
         Row::Offers(1, &[0; 13], Err(SystemFault::FrameLength)),
         Row::Offers(1, &[0; 1519], Err(SystemFault::FrameLength)),
         Row::Offers(1, &long, Err(SystemFault::FrameLength)),
-        Row::Offers(1, &slow, Err(SystemFault::SlowFrame)),
+        Row::Offers(1, &SLOW, Err(SystemFault::SlowFrame)),
         Row::Offers(1, &DATA, Err(SystemFault::NoneDistributing)),
         Row::Offers(2, &[0; 1518], Err(SystemFault::NoneDistributing)),
     ];
