@@ -8,11 +8,11 @@ is_full None items = false
 is_full (Some limit) items = length items == limit
 
 -- a `ListCable`: its items, the first to come off first, and whether a place is reserved
-pub record ListView : Type 0 where
+pub record ListValue : Type 0 where
   pub items : List Item
   pub reserved : Bool
 
 -- a `RingCable`: its items, the first to come off first, and how many it can hold
-pub record RingView : Type 0 where
+pub record RingValue : Type 0 where
   pub items : List Item
   pub limit : ℕ

@@ -16,9 +16,9 @@ pub struct ListCable {
 impl Model for ListCable {
     ghost use Rattle.std.specs.Prelude.{nat_lt};
     ghost use Rattle.std.specs.VecDeque.{deque_items, deque_len, deque_capacity};
-    ghost use Rattle.cables.specs.Cable.{ListView};
+    ghost use Rattle.cables.specs.Cable.{ListValue};
 
-    ghost Value = { ListView };
+    ghost Value = { ListValue };
 
     // A place is reserved if the block of memory has room for one more item.
     ghost view = { λ c. record { items = deque_items c.queue; reserved = nat_lt (deque_len c.queue) (deque_capacity c.queue) } };

@@ -60,9 +60,9 @@ pub struct RingCable {
 
 impl Model for RingCable {
     ghost use Rattle.std.specs.Prelude.{◌≤◌, length};
-    ghost use Rattle.cables.specs.Cable.{RingView};
+    ghost use Rattle.cables.specs.Cable.{RingValue};
 
-    ghost Value = { RingView };
+    ghost Value = { RingValue };
 
     // The limit is the capacity of the ring.
     ghost view = { λ c. record { items = c.ring.items; limit = c.ring.capacity } };

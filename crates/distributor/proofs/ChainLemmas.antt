@@ -4,7 +4,7 @@ use Rattle.std.proofs.lemmas.Bool.{cases_Bool, cases_eq, eqb-true, eq-eqb, ne_eq
 use Rattle.std.proofs.lemmas.List.{length-set, get_or-set_same, get_or-set_other, get_or_past, append-nil}
 use Rattle.distributor.specs.declared.assignment.Assignment.{Assignment}
 use Rattle.distributor.specs.declared.assignment.Assignment.TheVariants.{Free, On, Wanted, Flushing}
-use Rattle.distributor.specs.Chains.{port_of, chain_of, stands_in, occurs, Path, state_at, IsLinked}
+use Rattle.distributor.specs.Chains.{assignment_port, chain_of, stands_in, occurs, Path, state_at, IsLinked}
 
 abbrev pub last_of : ℕ → List ℕ → ℕ
 last_of a [] = a
@@ -166,13 +166,13 @@ stands_once c d (Wanted port preferred) h k = sym (eqb-true (chain_of port) c h)
 stands_once c d (Flushing port id preferred age) h k = sym (eqb-true (chain_of port) c h) ∙ eqb-true (chain_of port) d k
 
 -- the state of a port stands in the port's chain alone, a free one in none
-pub stands_some : (c port : ℕ) (s : Assignment) → port_of s ≡ Some port → stands_in c s ≡ eqb (chain_of port) c
+pub stands_some : (c port : ℕ) (s : Assignment) → assignment_port s ≡ Some port → stands_in c s ≡ eqb (chain_of port) c
 stands_some c port (Free preferred) h = absurd (cc)
 stands_some c port (On p) h = let e : p ≡ port = cc in ap (λ q. eqb (chain_of q) c) e
 stands_some c port (Wanted p preferred) h = let e : p ≡ port = cc in ap (λ q. eqb (chain_of q) c) e
 stands_some c port (Flushing p id preferred age) h = let e : p ≡ port = cc in ap (λ q. eqb (chain_of q) c) e
 
-pub stands_none : (c : ℕ) (s : Assignment) → port_of s ≡ None → stands_in c s ≡ false
+pub stands_none : (c : ℕ) (s : Assignment) → assignment_port s ≡ None → stands_in c s ≡ false
 stands_none c (Free preferred) h = refl
 stands_none c (On p) h = absurd (cc)
 stands_none c (Wanted p preferred) h = absurd (cc)

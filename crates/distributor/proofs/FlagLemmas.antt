@@ -5,8 +5,8 @@ use Rattle.std.proofs.lemmas.List.{get_or-set_other, get_or-set_same, length-set
 use Rattle.distributor.specs.declared.assignment.Assignment.{Assignment}
 use Rattle.distributor.specs.declared.assignment.Assignment.TheVariants.{Free}
 use Rattle.distributor.specs.declared.change.Change.{Change}
-use Rattle.distributor.specs.Changes.{after}
-use Rattle.distributor.specs.Chains.{port_of, stands_in, is_flushing, flushes_in, within, state_at, IsFlagged}
+use Rattle.distributor.specs.Changes.{after_change}
+use Rattle.distributor.specs.Chains.{assignment_port, stands_in, is_flushing, flushes_in, within, state_at, IsFlagged}
 use Rattle.distributor.proofs.ChainLemmas.{stands_none, stands_once}
 use Rattle.distributor.proofs.WalkLemmas.{after_port, stands_alike}
 
@@ -21,20 +21,20 @@ none_flagged states flags long free = record {
 }
 
 -- what a change of one chain leaves in another is as it was
-elsewhere : (change : Change) (c d : ℕ) (s : Assignment) → (d ≡ c → ⊥) → stands_in d (within c (after change) s) ≡ true → within c (after change) s ≡ s
+elsewhere : (change : Change) (c d : ℕ) (s : Assignment) → (d ≡ c → ⊥) → stands_in d (within c (after_change change) s) ≡ true → within c (after_change change) s ≡ s
 elsewhere change c d s n h = elim (cases_Bool (stands_in c s)) [
-  | inl e ↦ (let changed : within c (after change) s ≡ after change s = cond-true (stands_in c s) (after change s) s e in
-      let stands : stands_in d (after change s) ≡ true = sym (ap (stands_in d) changed) ∙ h in
+  | inl e ↦ (let changed : within c (after_change change) s ≡ after_change change s = cond-true (stands_in c s) (after_change change s) s e in
+      let stands : stands_in d (after_change change s) ≡ true = sym (ap (stands_in d) changed) ∙ h in
       ⊎_elim
-      (λ (free : port_of (after change s) ≡ None). absurd (false≢true (sym (stands_none d (after change s) free) ∙ stands)))
-      (λ (same : port_of (after change s) ≡ port_of s). absurd (n (stands_once d c s (sym (stands_alike d (after change s) s (port_of s) same refl) ∙ stands) e)))
+      (λ (free : assignment_port (after_change change s) ≡ None). absurd (false≢true (sym (stands_none d (after_change change s) free) ∙ stands)))
+      (λ (same : assignment_port (after_change change s) ≡ assignment_port s). absurd (n (stands_once d c s (sym (stands_alike d (after_change change s) s (assignment_port s) same refl) ∙ stands) e)))
       (after_port change s))
-  | inr g ↦ cond-false (stands_in c s) (after change s) s g
+  | inr g ↦ cond-false (stands_in c s) (after_change change s) s g
 ]
 
 -- a chain is changed, and its flag says what was found there
 pub change_flagged : (change : Change) (chain : ℕ) (olds states : List Assignment) (flags : List Bool) (found : Bool) → chain < 64 → IsFlagged olds flags
-    → ((k : ℕ) → state_at states k ≡ within chain (after change) (state_at olds k))
+    → ((k : ℕ) → state_at states k ≡ within chain (after_change change) (state_at olds k))
     → ((k : ℕ) → flushes_in chain (state_at states k) ≡ true → found ≡ true)
     → IsFlagged states (set flags chain found)
 change_flagged change chain olds states flags found lt h changed finds = record {

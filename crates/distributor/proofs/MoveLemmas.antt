@@ -7,15 +7,15 @@ use Rattle.std.proofs.lemmas.List.{get_or_past}
 use Rattle.distributor.specs.declared.assignment.Assignment.{Assignment}
 use Rattle.distributor.specs.declared.assignment.Assignment.TheVariants as state
 use Rattle.distributor.specs.declared.fault.DistFault.{DistFault}
-use Rattle.lagmodel.specs.View.{Conversation, Call, Pdu, Setup, at_conversation, first_view, replies_frame, port_of}
-use Rattle.lagmodel.specs.Move.{Act, Change, ChangeAllowed, changed, FlowMove, FlowMoves, flushed}
-use Rattle.lagmodel.specs.Kept.{IsAmong, Become}
+use Rattle.lagmodel.specs.View.{Conversation, ModelCall, ControlMessage, SystemSetup, at_conversation, first_view, replies_frame, conversation_port}
+use Rattle.lagmodel.specs.Move.{Act, ConversationMove, ConversationMoveAllowed, conversation_after, FlowMove, FlowMoves, flushed}
+use Rattle.lagmodel.specs.Bridge.{IsAmong, BecomeByMoves}
 use Rattle.lagmodel.proofs.Uses.{flows_become}
-use Rattle.distributor.specs.Conversations.{Table, first_table, state_of, place_of}
+use Rattle.distributor.specs.Conversations.{Table, first_table, assignment_of, slot_index}
 use Rattle.distributor.specs.Changes.{Sets, Changes, Marks, after_leave, after_mark, after_release, after_down, after_tick}
-use Rattle.distributor.specs.Calls.{MaySend, moved, forced, distributes}
+use Rattle.distributor.specs.Calls.{MaySend, move_result, force_result, distributes}
 use Rattle.distributor.proofs.TableLemmas.{first_free}
-use Rattle.distributor.specs.Moves.{conversation_of, flows_of, Among, Nowhere}
+use Rattle.distributor.specs.Moves.{model_conversation, model_flows, Among, Nowhere}
 
 eqb_flip : (m n : ℕ) → eqb m n ≡ eqb n m
 eqb_flip m n = elim (cases_Bool (eqb m n)) [
@@ -27,73 +27,73 @@ eqb_flip m n = elim (cases_Bool (eqb m n)) [
 ]
 
 -- One conversation takes a state.
-chosen_state : (x y : Bool) (s r : Assignment) → conversation_of (cond (x && y) s r) ≡ cond x (cond y (conversation_of s) (conversation_of r)) (conversation_of r)
+chosen_state : (x y : Bool) (s r : Assignment) → model_conversation (cond (x && y) s r) ≡ cond x (cond y (model_conversation s) (model_conversation r)) (model_conversation r)
 chosen_state true true s r = refl
 chosen_state true false s r = refl
 chosen_state false y s r = refl
 
-seen_at : (t u : Table) (agg conv : ℕ) (s : Assignment) → Sets t u agg conv s → (g k : ℕ) → conversation_of (state_of u g k) ≡ at_conversation (flows_of t).state agg conv (conversation_of s) g k
+seen_at : (t u : Table) (agg conv : ℕ) (s : Assignment) → Sets t u agg conv s → (g k : ℕ) → model_conversation (assignment_of u g k) ≡ at_conversation (model_flows t).state agg conv (model_conversation s) g k
 seen_at t u agg conv s h g k =
-    ap conversation_of (h.states g k)
-    ∙ chosen_state (eqb agg g) (eqb conv k) s (state_of t g k)
-    ∙ ap (λ (x : Bool). cond x (cond (eqb conv k) (conversation_of s) (conversation_of (state_of t g k))) (conversation_of (state_of t g k))) (eqb_flip agg g)
-    ∙ ap (λ (y : Bool). cond (eqb g agg) (cond y (conversation_of s) (conversation_of (state_of t g k))) (conversation_of (state_of t g k))) (eqb_flip conv k)
+    ap model_conversation (h.states g k)
+    ∙ chosen_state (eqb agg g) (eqb conv k) s (assignment_of t g k)
+    ∙ ap (λ (x : Bool). cond x (cond (eqb conv k) (model_conversation s) (model_conversation (assignment_of t g k))) (model_conversation (assignment_of t g k))) (eqb_flip agg g)
+    ∙ ap (λ (y : Bool). cond (eqb g agg) (cond y (model_conversation s) (model_conversation (assignment_of t g k))) (model_conversation (assignment_of t g k))) (eqb_flip conv k)
 
-seen_after : (t u : Table) (agg conv : ℕ) (s : Assignment) (d : Conversation) → Sets t u agg conv s → conversation_of s ≡ d → flows_of u ≡ record (flows_of t) { state = at_conversation (flows_of t).state agg conv d }
+seen_after : (t u : Table) (agg conv : ℕ) (s : Assignment) (d : Conversation) → Sets t u agg conv s → model_conversation s ≡ d → model_flows u ≡ record (model_flows t) { state = at_conversation (model_flows t).state agg conv d }
 seen_after t u agg conv s d h e = λ i. record {
-  state = λ g k. (seen_at t u agg conv s h g k ∙ ap (λ (c : Conversation). at_conversation (flows_of t).state agg conv c g k) e) i;
+  state = λ g k. (seen_at t u agg conv s h g k ∙ ap (λ (c : Conversation). at_conversation (model_flows t).state agg conv c g k) e) i;
   next = h.next i;
 }
 
 -- a frame is sent
-may_send : (agg conv port : ℕ) (ports : List ℕ) (s : Assignment) → MaySend ports s port → ((conversation_of s ≡ Conversation.Free) × Among agg ports agg port) ⊎ (conversation_of s ≡ Conversation.On port)
+may_send : (agg conv port : ℕ) (ports : List ℕ) (s : Assignment) → MaySend ports s port → ((model_conversation s ≡ Conversation.Free) × Among agg ports agg port) ⊎ (model_conversation s ≡ Conversation.On port)
 may_send agg conv port ports (state.Free preferred) h = inl (refl, (refl, h))
 may_send agg conv port ports (state.On p) h = inr (ap (λ q. Conversation.On q) (sym h))
 may_send agg conv port ports (state.Wanted p preferred) h = absurd h
 may_send agg conv port ports (state.Flushing p n preferred age) h = absurd h
 
-pub send_moves : (mac : List ℕ) (call : Call) (t u : Table) (agg conv port : ℕ) (ports : List ℕ) → replies_frame call ≡ true → MaySend ports (state_of t agg conv) port → Sets t u agg conv (state.On port)
-    → FlowMoves mac call (Among agg ports) (flows_of t) (Act.Sends_frame port agg conv ∷ []) (flows_of u)
+pub send_moves : (mac : List ℕ) (call : ModelCall) (t u : Table) (agg conv port : ℕ) (ports : List ℕ) → replies_frame call ≡ true → MaySend ports (assignment_of t agg conv) port → Sets t u agg conv (state.On port)
+    → FlowMoves mac call (Among agg ports) (model_flows t) (Act.Sends_frame port agg conv ∷ []) (model_flows u)
 send_moves mac call t u agg conv port ports r m h = (
   FlowMove.Send agg conv port ∷ [],
-  ((r, may_send agg conv port ports (state_of t agg conv) m), tt),
+  ((r, may_send agg conv port ports (assignment_of t agg conv) m), tt),
   refl,
   seen_after t u agg conv (state.On port) (Conversation.On port) h refl,
 )
 
 -- a conversation changes while nothing is sent
-one_moves : (mac : List ℕ) (call : Call) (t u : Table) (agg conv : ℕ) (s : Assignment) (m : Change) → ChangeAllowed mac call agg conv m (conversation_of (state_of t agg conv)) → conversation_of s ≡ changed m → Sets t u agg conv s
-    → FlowMoves mac call Nowhere (flows_of t) [] (flows_of u)
-one_moves mac call t u agg conv s m a e h = (FlowMove.Become agg conv m ∷ [], (a, tt), refl, seen_after t u agg conv s (changed m) h e)
+one_moves : (mac : List ℕ) (call : ModelCall) (t u : Table) (agg conv : ℕ) (s : Assignment) (m : ConversationMove) → ConversationMoveAllowed mac call agg conv m (model_conversation (assignment_of t agg conv)) → model_conversation s ≡ conversation_after m → Sets t u agg conv s
+    → FlowMoves mac call Nowhere (model_flows t) [] (model_flows u)
+one_moves mac call t u agg conv s m a e h = (FlowMove.Become agg conv m ∷ [], (a, tt), refl, seen_after t u agg conv s (conversation_after m) h e)
 
 -- what a move makes of a conversation
-pub is_moved : (next : Option ℕ) (ports : List ℕ) (to : ℕ) (old new : Assignment) → moved next ports to old ≡ Ok new → (p : ℕ) × (conversation_of old ≡ Conversation.On p) × (conversation_of new ≡ Conversation.Wanted p)
+pub is_moved : (next : Option ℕ) (ports : List ℕ) (to : ℕ) (old new : Assignment) → move_result next ports to old ≡ Ok new → (p : ℕ) × (model_conversation old ≡ Conversation.On p) × (model_conversation new ≡ Conversation.Wanted p)
 is_moved next ports to (state.Free preferred) new h = absurd cc
 is_moved next ports to (state.Wanted p preferred) new h = absurd cc
 is_moved next ports to (state.Flushing p n preferred age) new h = absurd cc
 is_moved next ports to (state.On p) new h = (p, refl, checked (distributes ports to) (eqb p to) (is_none next) h)
   where
-    checked : (x y z : Bool) → cond x (cond y (Err DistFault.SamePort) (cond z (Err DistFault.MarkersSpent) (Ok (state.Wanted p (Some to))))) (Err DistFault.NotDistributing) ≡ Ok new → conversation_of new ≡ Conversation.Wanted p
+    checked : (x y z : Bool) → cond x (cond y (Err DistFault.SamePort) (cond z (Err DistFault.MarkersSpent) (Ok (state.Wanted p (Some to))))) (Err DistFault.NotDistributing) ≡ Ok new → model_conversation new ≡ Conversation.Wanted p
     checked false y z e = absurd cc
     checked true true z e = absurd cc
     checked true false true e = absurd cc
-    checked true false false e = let same : state.Wanted p (Some to) ≡ new = cc in ap conversation_of (sym same)
+    checked true false false e = let same : state.Wanted p (Some to) ≡ new = cc in ap model_conversation (sym same)
 
-pub move_moves : (mac : List ℕ) (call : Call) (t u : Table) (agg conv to : ℕ) (next : Option ℕ) (ports : List ℕ) (s : Assignment) → moved next ports to (state_of t agg conv) ≡ Ok s → Sets t u agg conv s
-    → FlowMoves mac call Nowhere (flows_of t) [] (flows_of u)
+pub move_moves : (mac : List ℕ) (call : ModelCall) (t u : Table) (agg conv to : ℕ) (next : Option ℕ) (ports : List ℕ) (s : Assignment) → move_result next ports to (assignment_of t agg conv) ≡ Ok s → Sets t u agg conv s
+    → FlowMoves mac call Nowhere (model_flows t) [] (model_flows u)
 move_moves mac call t u agg conv to next ports s e h =
-    let m = is_moved next ports to (state_of t agg conv) s e in
-    one_moves mac call t u agg conv s (Change.Want m.0) m.1 m.2 h
+    let m = is_moved next ports to (assignment_of t agg conv) s e in
+    one_moves mac call t u agg conv s (ConversationMove.Want m.0) m.1 m.2 h
 
 -- what force makes of a conversation
-pub is_forced : (old new : Assignment) → forced old ≡ Ok new → conversation_of new ≡ Conversation.Free
+pub is_forced : (old new : Assignment) → force_result old ≡ Ok new → model_conversation new ≡ Conversation.Free
 is_forced (state.Free preferred) new h = absurd cc
-is_forced (state.On p) new h = let same : state.Free None ≡ new = cc in ap conversation_of (sym same)
-is_forced (state.Wanted p preferred) new h = let same : state.Free preferred ≡ new = cc in ap conversation_of (sym same)
-is_forced (state.Flushing p n preferred age) new h = let same : state.Free preferred ≡ new = cc in ap conversation_of (sym same)
+is_forced (state.On p) new h = let same : state.Free None ≡ new = cc in ap model_conversation (sym same)
+is_forced (state.Wanted p preferred) new h = let same : state.Free preferred ≡ new = cc in ap model_conversation (sym same)
+is_forced (state.Flushing p n preferred age) new h = let same : state.Free preferred ≡ new = cc in ap model_conversation (sym same)
 
-pub force_moves : (mac : List ℕ) (t u : Table) (agg conv : ℕ) (s : Assignment) → forced (state_of t agg conv) ≡ Ok s → Sets t u agg conv s → FlowMoves mac (Call.Force agg conv) Nowhere (flows_of t) [] (flows_of u)
-force_moves mac t u agg conv s e h = one_moves mac (Call.Force agg conv) t u agg conv s Change.Forced refl (is_forced (state_of t agg conv) s e) h
+pub force_moves : (mac : List ℕ) (t u : Table) (agg conv : ℕ) (s : Assignment) → force_result (assignment_of t agg conv) ≡ Ok s → Sets t u agg conv s → FlowMoves mac (ModelCall.Force agg conv) Nowhere (model_flows t) [] (model_flows u)
+force_moves mac t u agg conv s e h = one_moves mac (ModelCall.Force agg conv) t u agg conv s ConversationMove.Forced refl (is_forced (assignment_of t agg conv) s e) h
 
 -- Every conversation changes alike.
 keys_of : ℕ → List (ℕ × ℕ)
@@ -108,125 +108,125 @@ among_keys g k (suc n) p l lt = ⊎_elim
     (λ (m : (g - 1) * 256 + k ≡ n → ⊥). inr (among_keys g k n p l (omega (arith, m))))
     (cases_eq ((g - 1) * 256 + k) n)
 
-in_states : (t : Table) (g k : ℕ) → (state_of t g k ≡ state.Free None) ⊎ IsAmong g k (keys_of (length t.states))
+in_states : (t : Table) (g k : ℕ) → (assignment_of t g k ≡ state.Free None) ⊎ IsAmong g k (keys_of (length t.states))
 in_states t g k = elim (cases_Bool (ltb 0 g && ltb k 256)) [
   | inl e ↦ (let p = and_parts (ltb 0 g) (ltb k 256) e in
-      elim (cases_Bool (ltb (place_of g k) (length t.states))) [
-        | inl x ↦ inr (among_keys g k (length t.states) (ltb-true 0 g p.0) (ltb-true k 256 p.1) (ltb-true (place_of g k) (length t.states) x))
-        | inr y ↦ inl (cond-true (ltb 0 g && ltb k 256) _ _ e ∙ get_or_past t.states (place_of g k) (state.Free None) (ltb-false (place_of g k) (length t.states) y))
+      elim (cases_Bool (ltb (slot_index g k) (length t.states))) [
+        | inl x ↦ inr (among_keys g k (length t.states) (ltb-true 0 g p.0) (ltb-true k 256 p.1) (ltb-true (slot_index g k) (length t.states) x))
+        | inr y ↦ inl (cond-true (ltb 0 g && ltb k 256) _ _ e ∙ get_or_past t.states (slot_index g k) (state.Free None) (ltb-false (slot_index g k) (length t.states) y))
       ])
   | inr f ↦ inl (cond-false (ltb 0 g && ltb k 256) _ _ f)
 ]
 
 -- what one conversation makes of itself
-abbrev pub Makes : List ℕ → Call → ℕ → ℕ → Assignment → Assignment → Type 0
+abbrev pub Makes : List ℕ → ModelCall → ℕ → ℕ → Assignment → Assignment → Type 0
 Makes mac call g k old new =
-    (conversation_of new ≡ conversation_of old) ⊎ ((m : Change) × ChangeAllowed mac call g k m (conversation_of old) × (conversation_of new ≡ changed m))
+    (model_conversation new ≡ model_conversation old) ⊎ ((m : ConversationMove) × ConversationMoveAllowed mac call g k m (model_conversation old) × (model_conversation new ≡ conversation_after m))
 
 -- each conversation makes what it makes of itself, by its aggregator and number
-pub each_moves : (mac : List ℕ) (call : Call) (t u : Table) (change : ℕ → ℕ → Assignment → Assignment) → ((g k : ℕ) → change g k (state.Free None) ≡ state.Free None) → ((g k : ℕ) (s : Assignment) → Makes mac call g k s (change g k s))
-    → u.next ≡ t.next → ((g k : ℕ) → state_of u g k ≡ change g k (state_of t g k)) → FlowMoves mac call Nowhere (flows_of t) [] (flows_of u)
+pub each_moves : (mac : List ℕ) (call : ModelCall) (t u : Table) (change : ℕ → ℕ → Assignment → Assignment) → ((g k : ℕ) → change g k (state.Free None) ≡ state.Free None) → ((g k : ℕ) (s : Assignment) → Makes mac call g k s (change g k s))
+    → u.next ≡ t.next → ((g k : ℕ) → assignment_of u g k ≡ change g k (assignment_of t g k)) → FlowMoves mac call Nowhere (model_flows t) [] (model_flows u)
 each_moves mac call t u change free makes next states =
-    let z = flows_become mac call Nowhere (keys_of (length t.states)) (flows_of t) (flows_of u).state each in
-    let same : flows_of u ≡ record (flows_of t) { state = (flows_of u).state } = λ i. record { state = (flows_of u).state; next = next i } in
+    let z = flows_become mac call Nowhere (keys_of (length t.states)) (model_flows t) (model_flows u).state each in
+    let same : model_flows u ≡ record (model_flows t) { state = (model_flows u).state } = λ i. record { state = (model_flows u).state; next = next i } in
     (z.0, z.1, z.2, same ∙ z.3)
   where
-    each : Become (keys_of (length t.states)) mac call (flows_of t).state (flows_of u).state
-    each g k = elim (makes g k (state_of t g k)) [
-      | inl e ↦ inl (ap conversation_of (states g k) ∙ e)
+    each : BecomeByMoves (keys_of (length t.states)) mac call (model_flows t).state (model_flows u).state
+    each g k = elim (makes g k (assignment_of t g k)) [
+      | inl e ↦ inl (ap model_conversation (states g k) ∙ e)
       | inr x ↦ elim (in_states t g k) [
-        | inl n ↦ inl (ap conversation_of (states g k ∙ ap (change g k) n ∙ free g k ∙ sym n))
-        | inr a ↦ inr (a, (x.0, x.1, ap conversation_of (states g k) ∙ x.2))
+        | inl n ↦ inl (ap model_conversation (states g k ∙ ap (change g k) n ∙ free g k ∙ sym n))
+        | inr a ↦ inr (a, (x.0, x.1, ap model_conversation (states g k) ∙ x.2))
       ]
     ]
 
 -- all in the same way
-all_moves : (mac : List ℕ) (call : Call) (t u : Table) (change : Assignment → Assignment) → change (state.Free None) ≡ state.Free None → ((g k : ℕ) (s : Assignment) → Makes mac call g k s (change s)) → Changes t u change
-    → FlowMoves mac call Nowhere (flows_of t) [] (flows_of u)
+all_moves : (mac : List ℕ) (call : ModelCall) (t u : Table) (change : Assignment → Assignment) → change (state.Free None) ≡ state.Free None → ((g k : ℕ) (s : Assignment) → Makes mac call g k s (change s)) → Changes t u change
+    → FlowMoves mac call Nowhere (model_flows t) [] (model_flows u)
 all_moves mac call t u change free makes h = each_moves mac call t u (λ g k. change) (λ g k. free) makes h.next h.states
 
-makes_leave : (mac : List ℕ) (call : Call) (port g k : ℕ) (s : Assignment) → Makes mac call g k s (after_leave port s)
+makes_leave : (mac : List ℕ) (call : ModelCall) (port g k : ℕ) (s : Assignment) → Makes mac call g k s (after_leave port s)
 makes_leave mac call port g k (state.Free preferred) = inl refl
 makes_leave mac call port g k (state.On p) = elim (cases_Bool (eqb p port)) [
-  | inl t ↦ inr (Change.Want port, ap (λ q. Conversation.On q) (eqb-true p port t), ap conversation_of (cond-true (eqb p port) (state.Wanted port None) (state.On p) t))
-  | inr f ↦ inl (ap conversation_of (cond-false (eqb p port) (state.Wanted port None) (state.On p) f))
+  | inl t ↦ inr (ConversationMove.Want port, ap (λ q. Conversation.On q) (eqb-true p port t), ap model_conversation (cond-true (eqb p port) (state.Wanted port None) (state.On p) t))
+  | inr f ↦ inl (ap model_conversation (cond-false (eqb p port) (state.Wanted port None) (state.On p) f))
 ]
 makes_leave mac call port g k (state.Wanted p preferred) = inl refl
 makes_leave mac call port g k (state.Flushing p n preferred age) = inl refl
 
-pub leave_moves : (mac : List ℕ) (call : Call) (t u : Table) (port : ℕ) → Changes t u (after_leave port) → FlowMoves mac call Nowhere (flows_of t) [] (flows_of u)
+pub leave_moves : (mac : List ℕ) (call : ModelCall) (t u : Table) (port : ℕ) → Changes t u (after_leave port) → FlowMoves mac call Nowhere (model_flows t) [] (model_flows u)
 leave_moves mac call t u port h = all_moves mac call t u (after_leave port) refl (makes_leave mac call port) h
 
 -- a conversation that has to do with the port is free if its port goes down
-freed : (mac : List ℕ) (port g k p : ℕ) (preferred : Option ℕ) (s : Assignment) → port_of (conversation_of s) ≡ Some p → Makes mac (Call.Set_link port false) g k s (cond (eqb p port) (state.Free preferred) s)
+freed : (mac : List ℕ) (port g k p : ℕ) (preferred : Option ℕ) (s : Assignment) → conversation_port (model_conversation s) ≡ Some p → Makes mac (ModelCall.Set_link port false) g k s (cond (eqb p port) (state.Free preferred) s)
 freed mac port g k p preferred s h = elim (cases_Bool (eqb p port)) [
-  | inl t ↦ inr (Change.Down port, (refl, h ∙ ap (λ q. Some q) (eqb-true p port t)), ap conversation_of (cond-true (eqb p port) (state.Free preferred) s t))
-  | inr f ↦ inl (ap conversation_of (cond-false (eqb p port) (state.Free preferred) s f))
+  | inl t ↦ inr (ConversationMove.Down port, (refl, h ∙ ap (λ q. Some q) (eqb-true p port t)), ap model_conversation (cond-true (eqb p port) (state.Free preferred) s t))
+  | inr f ↦ inl (ap model_conversation (cond-false (eqb p port) (state.Free preferred) s f))
 ]
 
-makes_down : (mac : List ℕ) (port g k : ℕ) (s : Assignment) → Makes mac (Call.Set_link port false) g k s (after_down port s)
+makes_down : (mac : List ℕ) (port g k : ℕ) (s : Assignment) → Makes mac (ModelCall.Set_link port false) g k s (after_down port s)
 makes_down mac port g k (state.Free preferred) = inl refl
 makes_down mac port g k (state.On p) = freed mac port g k p None (state.On p) refl
 makes_down mac port g k (state.Wanted p preferred) = freed mac port g k p preferred (state.Wanted p preferred) refl
 makes_down mac port g k (state.Flushing p n preferred age) = freed mac port g k p preferred (state.Flushing p n preferred age) refl
 
-pub down_moves : (mac : List ℕ) (t u : Table) (port : ℕ) → Changes t u (after_down port) → FlowMoves mac (Call.Set_link port false) Nowhere (flows_of t) [] (flows_of u)
-down_moves mac t u port h = all_moves mac (Call.Set_link port false) t u (after_down port) refl (makes_down mac port) h
+pub down_moves : (mac : List ℕ) (t u : Table) (port : ℕ) → Changes t u (after_down port) → FlowMoves mac (ModelCall.Set_link port false) Nowhere (model_flows t) [] (model_flows u)
+down_moves mac t u port h = all_moves mac (ModelCall.Set_link port false) t u (after_down port) refl (makes_down mac port) h
 
-makes_release : (mac : List ℕ) (port id g k : ℕ) (s : Assignment) → Makes mac (Call.Receive port (Some (Pdu.Response mac port id))) g k s (after_release port id s)
+makes_release : (mac : List ℕ) (port id g k : ℕ) (s : Assignment) → Makes mac (ModelCall.Receive port (Some (ControlMessage.Response mac port id))) g k s (after_release port id s)
 makes_release mac port id g k (state.Free preferred) = inl refl
 makes_release mac port id g k (state.On p) = inl refl
 makes_release mac port id g k (state.Wanted p preferred) = inl refl
 makes_release mac port id g k (state.Flushing p n preferred age) = elim (cases_Bool (eqb p port && eqb n id)) [
   | inl t ↦ (let b = and_parts (eqb p port) (eqb n id) t in inr (
-    Change.Answered port id,
+    ConversationMove.Answered port id,
     (refl, ap (λ q. Conversation.Flushing q n) (eqb-true p port b.0) ∙ ap (λ i. Conversation.Flushing port i) (eqb-true n id b.1)),
-    ap conversation_of (cond-true (eqb p port && eqb n id) (state.Free preferred) (state.Flushing p n preferred age) t),
+    ap model_conversation (cond-true (eqb p port && eqb n id) (state.Free preferred) (state.Flushing p n preferred age) t),
   ))
-  | inr f ↦ inl (ap conversation_of (cond-false (eqb p port && eqb n id) (state.Free preferred) (state.Flushing p n preferred age) f))
+  | inr f ↦ inl (ap model_conversation (cond-false (eqb p port && eqb n id) (state.Free preferred) (state.Flushing p n preferred age) f))
 ]
 
-pub release_moves : (mac : List ℕ) (t u : Table) (port id : ℕ) → Changes t u (after_release port id) → FlowMoves mac (Call.Receive port (Some (Pdu.Response mac port id))) Nowhere (flows_of t) [] (flows_of u)
-release_moves mac t u port id h = all_moves mac (Call.Receive port (Some (Pdu.Response mac port id))) t u (after_release port id) refl (makes_release mac port id) h
+pub release_moves : (mac : List ℕ) (t u : Table) (port id : ℕ) → Changes t u (after_release port id) → FlowMoves mac (ModelCall.Receive port (Some (ControlMessage.Response mac port id))) Nowhere (model_flows t) [] (model_flows u)
+release_moves mac t u port id h = all_moves mac (ModelCall.Receive port (Some (ControlMessage.Response mac port id))) t u (after_release port id) refl (makes_release mac port id) h
 
-makes_tick : (mac : List ℕ) (call : Call) (g k : ℕ) (s : Assignment) → Makes mac call g k s (after_tick s)
+makes_tick : (mac : List ℕ) (call : ModelCall) (g k : ℕ) (s : Assignment) → Makes mac call g k s (after_tick s)
 makes_tick mac call g k (state.Free preferred) = inl refl
 makes_tick mac call g k (state.On p) = inl refl
 makes_tick mac call g k (state.Wanted p preferred) = inl refl
 makes_tick mac call g k (state.Flushing p n preferred age) = elim (cases_Bool (ltb (age + 1) 30)) [
-  | inl t ↦ inl (ap conversation_of (cond-true (ltb (age + 1) 30) (state.Flushing p n preferred (age + 1)) (state.Wanted p preferred) t))
-  | inr f ↦ inr (Change.Retry p n, refl, ap conversation_of (cond-false (ltb (age + 1) 30) (state.Flushing p n preferred (age + 1)) (state.Wanted p preferred) f))
+  | inl t ↦ inl (ap model_conversation (cond-true (ltb (age + 1) 30) (state.Flushing p n preferred (age + 1)) (state.Wanted p preferred) t))
+  | inr f ↦ inr (ConversationMove.Retry p n, refl, ap model_conversation (cond-false (ltb (age + 1) 30) (state.Flushing p n preferred (age + 1)) (state.Wanted p preferred) f))
 ]
 
-pub tick_moves : (mac : List ℕ) (call : Call) (t u : Table) → Changes t u after_tick → FlowMoves mac call Nowhere (flows_of t) [] (flows_of u)
+pub tick_moves : (mac : List ℕ) (call : ModelCall) (t u : Table) → Changes t u after_tick → FlowMoves mac call Nowhere (model_flows t) [] (model_flows u)
 tick_moves mac call t u h = all_moves mac call t u after_tick refl (makes_tick mac call) h
 
 -- A marker is sent.
-is_flushed : (port id n : ℕ) (s : Assignment) → id ≡ n → conversation_of (after_mark port id s) ≡ flushed port n (conversation_of s)
+is_flushed : (port id n : ℕ) (s : Assignment) → id ≡ n → model_conversation (after_mark port id s) ≡ flushed port n (model_conversation s)
 is_flushed port id n (state.Free preferred) e = refl
 is_flushed port id n (state.On p) e = refl
 is_flushed port id n (state.Wanted p preferred) e = elim (cases_Bool (eqb p port)) [
-  | inl t ↦ (ap conversation_of (cond-true (eqb p port) (state.Flushing port id preferred 0) (state.Wanted p preferred) t)
+  | inl t ↦ (ap model_conversation (cond-true (eqb p port) (state.Flushing port id preferred 0) (state.Wanted p preferred) t)
       ∙ ap (λ q. Conversation.Flushing q id) (sym (eqb-true p port t)) ∙ ap (λ i. Conversation.Flushing p i) e
       ∙ sym (cond-true (eqb p port) (Conversation.Flushing p n) (Conversation.Wanted p) t))
-  | inr f ↦ (ap conversation_of (cond-false (eqb p port) (state.Flushing port id preferred 0) (state.Wanted p preferred) f)
+  | inr f ↦ (ap model_conversation (cond-false (eqb p port) (state.Flushing port id preferred 0) (state.Wanted p preferred) f)
       ∙ sym (cond-false (eqb p port) (Conversation.Flushing p n) (Conversation.Wanted p) f))
 ]
 is_flushed port id n (state.Flushing p m preferred age) e = refl
 
-pub mark_moves : (mac : List ℕ) (call : Call) (t u : Table) (port id : ℕ) → replies_frame call ≡ true → id < 2 ^ 32 → Marks t u port id
-    → FlowMoves mac call Nowhere (flows_of t) (Act.Sends port (Pdu.Marker mac port id) ∷ []) (flows_of u)
+pub mark_moves : (mac : List ℕ) (call : ModelCall) (t u : Table) (port id : ℕ) → replies_frame call ≡ true → id < 2 ^ 32 → Marks t u port id
+    → FlowMoves mac call Nowhere (model_flows t) (Act.Sends port (ControlMessage.Marker mac port id) ∷ []) (model_flows u)
 mark_moves mac call t u port id r lt h = (
   FlowMove.Mark port ∷ [],
   ((r, subst (λ n. n < 2 ^ 32) h.sent lt), tt),
-  ap (λ n. Act.Sends port (Pdu.Marker mac port n) ∷ []) (sym h.sent),
-  λ i. record { state = λ g k. (ap conversation_of (h.states g k) ∙ is_flushed port id t.next (state_of t g k) h.sent) i; next = h.next i },
+  ap (λ n. Act.Sends port (ControlMessage.Marker mac port n) ∷ []) (sym h.sent),
+  λ i. record { state = λ g k. (ap model_conversation (h.states g k) ∙ is_flushed port id t.next (assignment_of t g k) h.sent) i; next = h.next i },
 )
 
 -- nothing changes
-pub same_moves : (mac : List ℕ) (call : Call) (t u : Table) → u ≡ t → FlowMoves mac call Nowhere (flows_of t) [] (flows_of u)
-same_moves mac call t u e = ([], tt, refl, ap flows_of e)
+pub same_moves : (mac : List ℕ) (call : ModelCall) (t u : Table) → u ≡ t → FlowMoves mac call Nowhere (model_flows t) [] (model_flows u)
+same_moves mac call t u e = ([], tt, refl, ap model_flows e)
 
 -- at the start every conversation is free for the law too
-pub first_flows : (u : Setup) (aggs : ℕ) → flows_of (first_table aggs u.first_marker) ≡ (first_view u).flows
-first_flows u aggs = λ i. record { state = λ agg conv. conversation_of (first_free aggs u.first_marker agg conv i); next = u.first_marker }
+pub first_flows : (u : SystemSetup) (aggs : ℕ) → model_flows (first_table aggs u.first_marker) ≡ (first_view u).flows
+first_flows u aggs = λ i. record { state = λ agg conv. model_conversation (first_free aggs u.first_marker agg conv i); next = u.first_marker }

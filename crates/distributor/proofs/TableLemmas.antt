@@ -5,15 +5,15 @@ use Rattle.std.proofs.lemmas.Bool.{cases_Bool, and_from, cond-true, cond-false, 
 use Rattle.std.proofs.lemmas.List.{get_or-map, get_or_past, get_or-replicate, length-map, length-replicate}
 use Rattle.distributor.specs.declared.assignment.Assignment.{Assignment}
 use Rattle.distributor.specs.declared.assignment.Assignment.TheVariants.{Free}
-use Rattle.distributor.specs.Conversations.{Table, first_table, state_of, place_of, how_many, sum_below}
+use Rattle.distributor.specs.Conversations.{Table, first_table, assignment_of, slot_index, how_many, sum_below}
 use Rattle.distributor.specs.Chains.{state_at}
 use Rattle.distributor.proofs.WalkLemmas.{same_sum, bit}
 
 -- the state at a place, if the numbers are in range
 abbrev pub stated : List Assignment → ℕ → ℕ → Assignment
-stated states agg conv = cond (ltb 0 agg && ltb conv 256) (get_or states (place_of agg conv) (Free None)) (Free None)
+stated states agg conv = cond (ltb 0 agg && ltb conv 256) (get_or states (slot_index agg conv) (Free None)) (Free None)
 
-pub stated_in : (states : List Assignment) (agg conv : ℕ) → 0 < agg → conv < 256 → stated states agg conv ≡ state_at states (place_of agg conv)
+pub stated_in : (states : List Assignment) (agg conv : ℕ) → 0 < agg → conv < 256 → stated states agg conv ≡ state_at states (slot_index agg conv)
 stated_in states agg conv p l = cond-true (ltb 0 agg && ltb conv 256) _ _ (and_from _ _ (lt-ltb 0 agg p) (lt-ltb conv 256 l))
 
 -- the state at a place, if every state is changed alike
@@ -26,12 +26,12 @@ map_at f keeps states k = elim (cases_Bool (ltb k (length states))) [
 ]
 
 -- at the start every conversation is free
-pub first_free : (aggs first agg conv : ℕ) → state_of (first_table aggs first) agg conv ≡ Free None
+pub first_free : (aggs first agg conv : ℕ) → assignment_of (first_table aggs first) agg conv ≡ Free None
 first_free aggs first agg conv = elim (cases_Bool (ltb 0 agg && ltb conv 256)) [
-  | inl e ↦ cond-true (ltb 0 agg && ltb conv 256) _ _ e ∙ elim (cases_Bool (ltb (place_of agg conv) (aggs * 256))) [
-    | inl x ↦ get_or-replicate (aggs * 256) (place_of agg conv) (Free None) (Free None) (ltb-true (place_of agg conv) (aggs * 256) x)
-    | inr y ↦ (let past : length (replicate (aggs * 256) (Free None)) ≤ place_of agg conv = omega (arith, ltb-false (place_of agg conv) (aggs * 256) y, length-replicate (aggs * 256) (Free None)) in
-        get_or_past (replicate (aggs * 256) (Free None)) (place_of agg conv) (Free None) past)
+  | inl e ↦ cond-true (ltb 0 agg && ltb conv 256) _ _ e ∙ elim (cases_Bool (ltb (slot_index agg conv) (aggs * 256))) [
+    | inl x ↦ get_or-replicate (aggs * 256) (slot_index agg conv) (Free None) (Free None) (ltb-true (slot_index agg conv) (aggs * 256) x)
+    | inr y ↦ (let past : length (replicate (aggs * 256) (Free None)) ≤ slot_index agg conv = omega (arith, ltb-false (slot_index agg conv) (aggs * 256) y, length-replicate (aggs * 256) (Free None)) in
+        get_or_past (replicate (aggs * 256) (Free None)) (slot_index agg conv) (Free None) past)
   ]
   | inr f ↦ cond-false (ltb 0 agg && ltb conv 256) _ _ f
 ]
@@ -64,8 +64,8 @@ counted_places passes t =
     sym (sum_rows (λ k. bit (passes (state_at t.states k))) 256 t.aggs)
     ∙ same_sum _ _ t.aggs (λ a l. same_sum _ _ 256 (λ c m. ap (λ s. bit (passes s)) (at a c m)))
   where
-    at : (a c : ℕ) → c < 256 → state_at t.states (a * 256 + c) ≡ state_of t (a + 1) c
+    at : (a c : ℕ) → c < 256 → state_at t.states (a * 256 + c) ≡ assignment_of t (a + 1) c
     at a c m =
         let pos : 0 < a + 1 = omega arith in
-        let here : a * 256 + c ≡ place_of (a + 1) c = omega arith in
+        let here : a * 256 + c ≡ slot_index (a + 1) c = omega arith in
         ap (state_at t.states) here ∙ sym (stated_in t.states (a + 1) c pos m)

@@ -7,7 +7,7 @@ use Rattle.std.proofs.lemmas.Nat.{mod_below}
 use Rattle.distributor.specs.declared.assignment.Assignment.{Assignment}
 use Rattle.distributor.specs.declared.assignment.Assignment.TheVariants.{Free, On, Wanted, Flushing}
 use Rattle.distributor.specs.Changes.{after_tick}
-use Rattle.distributor.specs.Chains.{chain_of, port_of, stands_in, flushes_in, within, state_at, IsFlagged}
+use Rattle.distributor.specs.Chains.{chain_of, assignment_port, stands_in, flushes_in, within, state_at, IsFlagged}
 use Rattle.distributor.proofs.WalkLemmas.{cond_same, stands_alike, tick_port}
 use Rattle.distributor.proofs.TableLemmas.{map_at}
 
@@ -53,7 +53,7 @@ ticked_more c (Wanted port preferred) = cond_same (eqb (chain_of port) c) (Wante
 ticked_more c (Flushing port id preferred age) = elim (cases_Bool (ltb (chain_of port) c)) [
   | inl e ↦ (let below : chain_of port < c = ltb-true (chain_of port) c e in
       let apart : chain_of port ≡ c → ⊥ = λ m. omega (arith, m, below) in
-      let out : stands_in c (after_tick (Flushing port id preferred age)) ≡ false = stands_alike c (after_tick (Flushing port id preferred age)) (Flushing port id preferred age) (port_of (Flushing port id preferred age)) (tick_port (Flushing port id preferred age)) refl ∙ ne_eqb (chain_of port) c apart in
+      let out : stands_in c (after_tick (Flushing port id preferred age)) ≡ false = stands_alike c (after_tick (Flushing port id preferred age)) (Flushing port id preferred age) (assignment_port (Flushing port id preferred age)) (tick_port (Flushing port id preferred age)) refl ∙ ne_eqb (chain_of port) c apart in
       let more : chain_of port < c + 1 = omega (arith, below) in
       ap (within c after_tick) (cond-true (ltb (chain_of port) c) (after_tick (Flushing port id preferred age)) (Flushing port id preferred age) e)
       ∙ cond-false (stands_in c (after_tick (Flushing port id preferred age))) (after_tick (after_tick (Flushing port id preferred age))) (after_tick (Flushing port id preferred age)) out

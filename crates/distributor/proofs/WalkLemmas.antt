@@ -8,10 +8,10 @@ use Rattle.distributor.specs.declared.assignment.Assignment.TheVariants.{Free, O
 use Rattle.distributor.specs.declared.change.Change.{Change}
 use Rattle.distributor.specs.declared.change.Change.TheVariants.{Leave, Mark, Release, Tick, Down}
 use Rattle.distributor.specs.declared.slots.Test.{Test}
-use Rattle.distributor.specs.declared.slots.Test.TheVariants.{WantsMarker, WaitsFor, IsOf}
+use Rattle.distributor.specs.declared.slots.Test.TheVariants.{WantsMarker, WaitsFor, NamesPort}
 use Rattle.distributor.specs.Conversations.{sum_below}
-use Rattle.distributor.specs.Changes.{after, after_tick}
-use Rattle.distributor.specs.Chains.{port_of, chain_of, stands_in, is_flushing, flushes_in, within, occurs, Path, state_at, IsLinked, passes, tested_port}
+use Rattle.distributor.specs.Changes.{after_change, after_tick}
+use Rattle.distributor.specs.Chains.{assignment_port, chain_of, stands_in, is_flushing, flushes_in, within, occurs, Path, state_at, IsLinked, passes, tested_port}
 use Rattle.distributor.proofs.ChainLemmas.{last_of, first_of, one, one_same, one_other, occurs_append, path_first, path_split, stands_some, stands_none, member_stands, member_below, few_on, on_below, before_on, after_on, taken_out, stayed}
 
 abbrev pub after_first : List ℕ → List ℕ
@@ -82,7 +82,7 @@ few_long xs n once below = omega (arith, length_sum xs n below, small_sum (λ k.
 
 -- ---- changes
 
-pub stands_alike : (d : ℕ) (s t : Assignment) (o : Option ℕ) → port_of s ≡ o → port_of t ≡ o → stands_in d s ≡ stands_in d t
+pub stands_alike : (d : ℕ) (s t : Assignment) (o : Option ℕ) → assignment_port s ≡ o → assignment_port t ≡ o → stands_in d s ≡ stands_in d t
 stands_alike d s t None h k = stands_none d s h ∙ sym (stands_none d t k)
 stands_alike d s t (Some port) h k = stands_some d port s h ∙ sym (stands_some d port t k)
 
@@ -214,9 +214,9 @@ module _ (chain : ℕ) (f : Assignment → Assignment) (count : ℕ) (olds state
 
     -- the state at this place stays in its chain
     abbrev pub walk_stays : (found' : Bool) → (found ≡ true → found' ≡ true) → (is_flushing (f (state_at states at)) ≡ true → found' ≡ true)
-        → port_of (f (state_at states at)) ≡ port_of (state_at states at) → Walking chain f count olds (set states at (f (state_at states at))) next prev (get_or next at 0) found'
+        → assignment_port (f (state_at states at)) ≡ assignment_port (state_at states at) → Walking chain f count olds (set states at (f (state_at states at))) next prev (get_or next at 0) found'
     walk_stays found' more new same = record {
-      linked = stayed _ _ _ _ w.linked at (f (state_at states at)) walk_below (λ d. stands_alike d _ _ (port_of (state_at states at)) same refl);
+      linked = stayed _ _ _ _ w.linked at (f (state_at states at)) walk_below (λ d. stands_alike d _ _ (assignment_port (state_at states at)) same refl);
       lt = w.lt;
       olds_len = w.olds_len;
       front = w.front ++ at ∷ [];
@@ -228,7 +228,7 @@ module _ (chain : ℕ) (f : Assignment → Assignment) (count : ℕ) (olds state
     }
 
     -- the state at this place leaves its chain
-    abbrev pub walk_leaves : (found' : Bool) → (found ≡ true → found' ≡ true) → (is_flushing (f (state_at states at)) ≡ true → found' ≡ true) → port_of (f (state_at states at)) ≡ None
+    abbrev pub walk_leaves : (found' : Bool) → (found ≡ true → found' ≡ true) → (is_flushing (f (state_at states at)) ≡ true → found' ≡ true) → assignment_port (f (state_at states at)) ≡ None
         → Walking chain f count olds (set states at (f (state_at states at))) (set next (get_or prev at 0) (get_or next at 0)) (set prev (get_or next at 0) (get_or prev at 0)) (get_or next at 0) found'
     walk_leaves found' more new free = record {
       linked = taken_out _ _ _ _ w.linked chain at w.front (after_first w.rest) w.lt walk_split (f (state_at states at)) (λ d. stands_none d _ free);
@@ -244,32 +244,32 @@ module _ (chain : ℕ) (f : Assignment → Assignment) (count : ℕ) (olds state
 
 module _ (chain : ℕ) (f : Assignment → Assignment) (count : ℕ) (olds states : List Assignment) (next prev : List ℕ) (at : ℕ) (found : Bool) (w : Walking chain f count olds states next prev at found) (n : at ≡ count + chain → ⊥)
     (new : Assignment) (is : new ≡ f (state_at states at)) (place : ℕ) (goes : place ≡ get_or next at 0) where
-  pub step_stays : (found' : Bool) → (found ≡ true → found' ≡ true) → (is_flushing new ≡ true → found' ≡ true) → port_of new ≡ port_of (state_at states at)
+  pub step_stays : (found' : Bool) → (found ≡ true → found' ≡ true) → (is_flushing new ≡ true → found' ≡ true) → assignment_port new ≡ assignment_port (state_at states at)
       → Walking chain f count olds (set states at new) next prev place found'
   step_stays found' more noted same =
       subst (λ x. Walking chain f count olds (set states at x) next prev place found') (sym is)
       (subst (λ a. Walking chain f count olds (set states at (f (state_at states at))) next prev a found') (sym goes)
-      (walk_stays chain f count olds states next prev at found w n found' more (λ e. noted (ap is_flushing is ∙ e)) (sym (ap port_of is) ∙ same)))
+      (walk_stays chain f count olds states next prev at found w n found' more (λ e. noted (ap is_flushing is ∙ e)) (sym (ap assignment_port is) ∙ same)))
 
-  pub stays_smaller : port_of new ≡ port_of (state_at states at) → steps next (count + chain) count place < steps next (count + chain) count at
+  pub stays_smaller : assignment_port new ≡ assignment_port (state_at states at) → steps next (count + chain) count place < steps next (count + chain) count at
   stays_smaller same =
-      let v = walk_stays chain f count olds states next prev at found w n true (λ e. refl) (λ e. refl) (sym (ap port_of is) ∙ same) in
+      let v = walk_stays chain f count olds states next prev at found w n true (λ e. refl) (λ e. refl) (sym (ap assignment_port is) ∙ same) in
       let less : steps next (count + chain) count (get_or next at 0) ≡ length (after_first w.rest) = walk_steps chain f count olds (set states at (f (state_at states at))) next prev (get_or next at 0) true v in
       omega (arith, ap (steps next (count + chain) count) goes, less, walk_shorter chain f count olds states next prev at found w n, walk_steps chain f count olds states next prev at found w)
 
   module _ (next' prev' : List ℕ) (nexts : next' ≡ set next (get_or prev at 0) (get_or next at 0)) (prevs : prev' ≡ set prev (get_or next at 0) (get_or prev at 0)) where
-    pub step_leaves : (found' : Bool) → (found ≡ true → found' ≡ true) → (is_flushing new ≡ true → found' ≡ true) → port_of new ≡ None
+    pub step_leaves : (found' : Bool) → (found ≡ true → found' ≡ true) → (is_flushing new ≡ true → found' ≡ true) → assignment_port new ≡ None
         → Walking chain f count olds (set states at new) next' prev' place found'
     step_leaves found' more noted free =
         subst (λ x. Walking chain f count olds (set states at x) next' prev' place found') (sym is)
         (subst (λ a. Walking chain f count olds (set states at (f (state_at states at))) next' prev' a found') (sym goes)
         (subst (λ l. Walking chain f count olds (set states at (f (state_at states at))) l prev' (get_or next at 0) found') (sym nexts)
         (subst (λ l. Walking chain f count olds (set states at (f (state_at states at))) (set next (get_or prev at 0) (get_or next at 0)) l (get_or next at 0) found') (sym prevs)
-        (walk_leaves chain f count olds states next prev at found w n found' more (λ e. noted (ap is_flushing is ∙ e)) (sym (ap port_of is) ∙ free)))))
+        (walk_leaves chain f count olds states next prev at found w n found' more (λ e. noted (ap is_flushing is ∙ e)) (sym (ap assignment_port is) ∙ free)))))
 
-    pub leaves_smaller : port_of new ≡ None → steps next' (count + chain) count place < steps next (count + chain) count at
+    pub leaves_smaller : assignment_port new ≡ None → steps next' (count + chain) count place < steps next (count + chain) count at
     leaves_smaller free =
-        let v = walk_leaves chain f count olds states next prev at found w n true (λ e. refl) (λ e. refl) (sym (ap port_of is) ∙ free) in
+        let v = walk_leaves chain f count olds states next prev at found w n true (λ e. refl) (λ e. refl) (sym (ap assignment_port is) ∙ free) in
         let N = set next (get_or prev at 0) (get_or next at 0) in
         let less : steps N (count + chain) count (get_or next at 0) ≡ length (after_first w.rest) = walk_steps chain f count olds (set states at (f (state_at states at))) N (set prev (get_or next at 0) (get_or prev at 0)) (get_or next at 0) true v in
         omega (arith, ap (steps next' (count + chain) count) goes ∙ ap (λ l. steps l (count + chain) count (get_or next at 0)) nexts, less, walk_shorter chain f count olds states next prev at found w n, walk_steps chain f count olds states next prev at found w)
@@ -282,55 +282,55 @@ module _ (chain : ℕ) (f : Assignment → Assignment) (count : ℕ) (olds state
   walk_before = on_below _ _ _ _ w.linked chain _ w.lt (before_on _ _ _ _ w.linked chain at w.front (after_first w.rest) w.lt (walk_split chain f count olds states next prev at found w n))
 
 -- a tick leaves a conversation at its port
-pub tick_port : (s : Assignment) → port_of (after_tick s) ≡ port_of s
+pub tick_port : (s : Assignment) → assignment_port (after_tick s) ≡ assignment_port s
 tick_port (Free preferred) = refl
 tick_port (On p) = refl
 tick_port (Wanted p preferred) = refl
 tick_port (Flushing p id preferred age) = elim (cases_Bool (ltb (age + 1) 30)) [
-  | inl e ↦ ap port_of (cond-true (ltb (age + 1) 30) (Flushing p id preferred (age + 1)) (Wanted p preferred) e)
-  | inr m ↦ ap port_of (cond-false (ltb (age + 1) 30) (Flushing p id preferred (age + 1)) (Wanted p preferred) m)
+  | inl e ↦ ap assignment_port (cond-true (ltb (age + 1) 30) (Flushing p id preferred (age + 1)) (Wanted p preferred) e)
+  | inr m ↦ ap assignment_port (cond-false (ltb (age + 1) 30) (Flushing p id preferred (age + 1)) (Wanted p preferred) m)
 ]
 
 -- a change leaves a conversation at its port, or makes it free
-pub after_port : (change : Change) (s : Assignment) → (port_of (after change s) ≡ None) ⊎ (port_of (after change s) ≡ port_of s)
+pub after_port : (change : Change) (s : Assignment) → (assignment_port (after_change change s) ≡ None) ⊎ (assignment_port (after_change change s) ≡ assignment_port s)
 after_port (Leave port) (Free preferred) = inr refl
 after_port (Leave port) (On p) = elim (cases_Bool (eqb p port)) [
-  | inl e ↦ inr (ap port_of (cond-true (eqb p port) (Wanted port None) (On p) e) ∙ sym (ap Some (eqb-true p port e)))
-  | inr n ↦ inr (ap port_of (cond-false (eqb p port) (Wanted port None) (On p) n))
+  | inl e ↦ inr (ap assignment_port (cond-true (eqb p port) (Wanted port None) (On p) e) ∙ sym (ap Some (eqb-true p port e)))
+  | inr n ↦ inr (ap assignment_port (cond-false (eqb p port) (Wanted port None) (On p) n))
 ]
 after_port (Leave port) (Wanted p preferred) = inr refl
 after_port (Leave port) (Flushing p id preferred age) = inr refl
 after_port (Mark port n) (Free preferred) = inr refl
 after_port (Mark port n) (On p) = inr refl
 after_port (Mark port n) (Wanted p preferred) = elim (cases_Bool (eqb p port)) [
-  | inl e ↦ inr (ap port_of (cond-true (eqb p port) (Flushing port n preferred 0) (Wanted p preferred) e) ∙ sym (ap Some (eqb-true p port e)))
-  | inr m ↦ inr (ap port_of (cond-false (eqb p port) (Flushing port n preferred 0) (Wanted p preferred) m))
+  | inl e ↦ inr (ap assignment_port (cond-true (eqb p port) (Flushing port n preferred 0) (Wanted p preferred) e) ∙ sym (ap Some (eqb-true p port e)))
+  | inr m ↦ inr (ap assignment_port (cond-false (eqb p port) (Flushing port n preferred 0) (Wanted p preferred) m))
 ]
 after_port (Mark port n) (Flushing p id preferred age) = inr refl
 after_port (Release port n) (Free preferred) = inr refl
 after_port (Release port n) (On p) = inr refl
 after_port (Release port n) (Wanted p preferred) = inr refl
 after_port (Release port n) (Flushing p id preferred age) = elim (cases_Bool (eqb p port && eqb id n)) [
-  | inl e ↦ inl (ap port_of (cond-true (eqb p port && eqb id n) (Free preferred) (Flushing p id preferred age) e))
-  | inr m ↦ inr (ap port_of (cond-false (eqb p port && eqb id n) (Free preferred) (Flushing p id preferred age) m))
+  | inl e ↦ inl (ap assignment_port (cond-true (eqb p port && eqb id n) (Free preferred) (Flushing p id preferred age) e))
+  | inr m ↦ inr (ap assignment_port (cond-false (eqb p port && eqb id n) (Free preferred) (Flushing p id preferred age) m))
 ]
 after_port (Down port) (Free preferred) = inr refl
 after_port (Down port) (On p) = elim (cases_Bool (eqb p port)) [
-  | inl e ↦ inl (ap port_of (cond-true (eqb p port) (Free None) (On p) e))
-  | inr m ↦ inr (ap port_of (cond-false (eqb p port) (Free None) (On p) m))
+  | inl e ↦ inl (ap assignment_port (cond-true (eqb p port) (Free None) (On p) e))
+  | inr m ↦ inr (ap assignment_port (cond-false (eqb p port) (Free None) (On p) m))
 ]
 after_port (Down port) (Wanted p preferred) = elim (cases_Bool (eqb p port)) [
-  | inl e ↦ inl (ap port_of (cond-true (eqb p port) (Free preferred) (Wanted p preferred) e))
-  | inr m ↦ inr (ap port_of (cond-false (eqb p port) (Free preferred) (Wanted p preferred) m))
+  | inl e ↦ inl (ap assignment_port (cond-true (eqb p port) (Free preferred) (Wanted p preferred) e))
+  | inr m ↦ inr (ap assignment_port (cond-false (eqb p port) (Free preferred) (Wanted p preferred) m))
 ]
 after_port (Down port) (Flushing p id preferred age) = elim (cases_Bool (eqb p port)) [
-  | inl e ↦ inl (ap port_of (cond-true (eqb p port) (Free preferred) (Flushing p id preferred age) e))
-  | inr m ↦ inr (ap port_of (cond-false (eqb p port) (Free preferred) (Flushing p id preferred age) m))
+  | inl e ↦ inl (ap assignment_port (cond-true (eqb p port) (Free preferred) (Flushing p id preferred age) e))
+  | inr m ↦ inr (ap assignment_port (cond-false (eqb p port) (Free preferred) (Flushing p id preferred age) m))
 ]
 after_port Tick s = inr (tick_port s)
 
 -- if it does not become free, it stays at its port
-pub port_kept : (change : Change) (s : Assignment) (port : ℕ) → port_of (after change s) ≡ Some port → port_of (after change s) ≡ port_of s
+pub port_kept : (change : Change) (s : Assignment) (port : ℕ) → assignment_port (after_change change s) ≡ Some port → assignment_port (after_change change s) ≡ assignment_port s
 port_kept change s port h = ⊎_elim (λ e. absurd (cc)) (λ e. e) (after_port change s)
 
 -- ---- counting
@@ -448,10 +448,10 @@ passes_stands (WaitsFor port n) (Free preferred) h = refl
 passes_stands (WaitsFor port n) (On p) h = refl
 passes_stands (WaitsFor port n) (Wanted p preferred) h = refl
 passes_stands (WaitsFor port n) (Flushing p id preferred age) h = and_left (eqb p port) (eqb id n) (other_port p port h)
-passes_stands (IsOf port) (Free preferred) h = refl
-passes_stands (IsOf port) (On p) h = other_port p port h
-passes_stands (IsOf port) (Wanted p preferred) h = other_port p port h
-passes_stands (IsOf port) (Flushing p id preferred age) h = other_port p port h
+passes_stands (NamesPort port) (Free preferred) h = refl
+passes_stands (NamesPort port) (On p) h = other_port p port h
+passes_stands (NamesPort port) (Wanted p preferred) h = other_port p port h
+passes_stands (NamesPort port) (Flushing p id preferred age) h = other_port p port h
 
 -- past the last slot a state reads as free
 pub free_past : (count : ℕ) (states : List Assignment) → length states ≡ count → ((k : ℕ) → k < count → state_at states k ≡ Free None) → (k : ℕ) → state_at states k ≡ Free None

@@ -3,15 +3,15 @@ use Rattle.std.specs.Prelude.{ℕ, ◌+◌, ◌%◌, ◌<◌, ◌^◌, ◌≡◌
 use Rattle.distributor.specs.declared.assignment.Assignment.{Assignment}
 use Rattle.distributor.specs.declared.assignment.Assignment.TheVariants.{Free, On, Wanted, Flushing}
 use Rattle.distributor.specs.declared.slots.Test.{Test}
-use Rattle.distributor.specs.declared.slots.Test.TheVariants.{WantsMarker, WaitsFor, IsOf}
+use Rattle.distributor.specs.declared.slots.Test.TheVariants.{WantsMarker, WaitsFor, NamesPort}
 use Rattle.distributor.specs.Changes.{wants_marker, waits_for}
 
 -- the port on which a conversation is On, Wanted or Flushing
-abbrev pub port_of : Assignment → Option ℕ
-port_of (Free preferred) = None
-port_of (On port) = Some port
-port_of (Wanted port preferred) = Some port
-port_of (Flushing port id preferred age) = Some port
+abbrev pub assignment_port : Assignment → Option ℕ
+assignment_port (Free preferred) = None
+assignment_port (On port) = Some port
+assignment_port (Wanted port preferred) = Some port
+assignment_port (Flushing port id preferred age) = Some port
 
 -- the number of a port's chain
 abbrev pub chain_of : ℕ → ℕ
@@ -36,23 +36,23 @@ abbrev pub flushes_in : ℕ → Assignment → Bool
 flushes_in chain s = stands_in chain s && is_flushing s
 
 -- whether the conversation is On, Wanted or Flushing on the port
-abbrev pub is_of_port : ℕ → Assignment → Bool
-is_of_port port (Free preferred) = false
-is_of_port port (On p) = eqb p port
-is_of_port port (Wanted p preferred) = eqb p port
-is_of_port port (Flushing p id preferred age) = eqb p port
+abbrev pub names_port : ℕ → Assignment → Bool
+names_port port (Free preferred) = false
+names_port port (On p) = eqb p port
+names_port port (Wanted p preferred) = eqb p port
+names_port port (Flushing p id preferred age) = eqb p port
 
 -- whether the test counts a conversation in this state
 abbrev pub passes : Test → Assignment → Bool
 passes (WantsMarker port) s = wants_marker port s
 passes (WaitsFor port id) s = waits_for port id s
-passes (IsOf port) s = is_of_port port s
+passes (NamesPort port) s = names_port port s
 
 -- the port of a test; every conversation that the test counts is on that port
 abbrev pub tested_port : Test → ℕ
 tested_port (WantsMarker port) = port
 tested_port (WaitsFor port id) = port
-tested_port (IsOf port) = port
+tested_port (NamesPort port) = port
 
 -- the change, applied only to states in this chain
 abbrev pub within : ℕ → (Assignment → Assignment) → Assignment → Assignment

@@ -9,7 +9,7 @@ AreLinked s = IsLinked s.count s.states.items s.next.items s.prev.items
 abbrev pub AreFlagged : Slots → Type 0
 AreFlagged s = IsFlagged s.states.items s.flushing.items
 
-pub record AreKept (aggs : ℕ) (s : Slots) : Type 0 where
+pub record SlotsFit (aggs : ℕ) (s : Slots) : Type 0 where
   pub count : s.count ≡ aggs * 256
   pub linked : AreLinked s
   pub flagged : AreFlagged s

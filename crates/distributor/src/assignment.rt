@@ -1,6 +1,6 @@
 ghost use Rattle.std.specs.Prelude.{◌≡◌};
 ghost use Rattle.distributor.specs.Conversations.{preference_of};
-ghost use Rattle.distributor.specs.Chains.{port_of, is_of_port, is_flushing};
+ghost use Rattle.distributor.specs.Chains.{assignment_port, names_port, is_flushing};
 ghost use Rattle.distributor.specs.Changes.{wants_marker, waits_for};
 
 /// The state of a conversation (profile). Ports are port numbers. `preferred` is the port that the next frame goes on
@@ -44,7 +44,7 @@ impl Assignment {
 
     /// The port on which the conversation is On, Wanted or Flushing; None if it is free.
     pub(crate) fn port(&self) -> Option<u16>
-        ensures { result ≡ port_of self.now }
+        ensures { result ≡ assignment_port self.now }
     {
         match *self {
             Assignment::Free { .. } => None,
@@ -55,8 +55,8 @@ impl Assignment {
     }
 
     /// Whether the conversation is On, Wanted or Flushing on this port.
-    pub(crate) fn is_of(&self, port: u16) -> bool
-        ensures { result ≡ is_of_port port self.now }
+    pub(crate) fn names_port(&self, port: u16) -> bool
+        ensures { result ≡ names_port port self.now }
     {
         match *self {
             Assignment::Free { .. } => false,

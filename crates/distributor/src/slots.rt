@@ -1,7 +1,7 @@
 ghost use Rattle.std.specs.Prelude.{false, ◌≡◌, ◌+◌, ◌%◌, ◌<◌, ◌≤◌, ◌^◌, length, get_or, set, map, cond, ℕ, None, IfOk, replicate};
-ghost use Rattle.distributor.specs.Chains.{port_of, chain_of, state_at, is_flushing};
+ghost use Rattle.distributor.specs.Chains.{assignment_port, chain_of, state_at, is_flushing};
 ghost use Rattle.distributor.specs.Slots.{AreLinked, AreFlagged};
-ghost use Rattle.distributor.specs.Changes.{after, after_tick};
+ghost use Rattle.distributor.specs.Changes.{after_change, after_tick};
 ghost use Rattle.distributor.specs.Chains.{within, passes, tested_port};
 ghost use Rattle.distributor.specs.Conversations.{sum_below};
 ghost use Rattle.distributor.specs.declared.assignment.Assignment.{Assignment};
@@ -34,7 +34,7 @@ pub(crate) enum Test {
     /// Those that wait for the response to this marker on this port.
     WaitsFor(u16, u32),
     /// Those that are On, Wanted or Flushing on this port.
-    IsOf(u16),
+    NamesPort(u16),
 }
 
 impl Test {
@@ -44,7 +44,7 @@ impl Test {
         match *self {
             Test::WantsMarker(port) => state.wants_marker(port),
             Test::WaitsFor(port, id) => state.waits_for(port, id),
-            Test::IsOf(port) => state.is_of(port),
+            Test::NamesPort(port) => state.names_port(port),
         }
     }
 
@@ -53,7 +53,9 @@ impl Test {
         ensures below { result < 64 }
     {
         match *self {
-            Test::WantsMarker(port) | Test::WaitsFor(port, _) | Test::IsOf(port) => chain(port),
+            Test::WantsMarker(port) | Test::WaitsFor(port, _) | Test::NamesPort(port) => chain(
+                port,
+            ),
         }
     }
 }
@@ -112,7 +114,7 @@ impl Slots {
         requires flagged { AreFlagged self.old }
         ensures linked { AreLinked self.new }
         ensures flagged { AreFlagged self.new }
-        ensures states { self.new.states.items ≡ map (within (chain_of port) (after change)) self.old.states.items }
+        ensures states { self.new.states.items ≡ map (within (chain_of port) (after_change change)) self.old.states.items }
         ensures count { self.new.count ≡ self.old.count }
     {
         self.change_chain(chain(port), change);
@@ -125,7 +127,7 @@ impl Slots {
         requires below { chain < 64 }
         ensures linked { AreLinked self.new }
         ensures flagged { AreFlagged self.new }
-        ensures states { self.new.states.items ≡ map (within chain (after change)) self.old.states.items }
+        ensures states { self.new.states.items ≡ map (within chain (after_change change)) self.old.states.items }
         ensures count { self.new.count ≡ self.old.count }
     {
         let end = self.count + chain;
@@ -218,7 +220,7 @@ impl Slots {
     fn fill(&mut self, slot: u32, state: Assignment)
         requires linked { AreLinked self.old }
         requires inside { slot < self.old.count }
-        requires free { port_of (state_at self.old.states.items slot) ≡ None }
+        requires free { assignment_port (state_at self.old.states.items slot) ≡ None }
         ensures linked { AreLinked self.new }
         ensures states { self.new.states.items ≡ set self.old.states.items slot state }
         ensures count { self.new.count ≡ self.old.count }

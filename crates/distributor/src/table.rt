@@ -1,7 +1,7 @@
 ghost use Rattle.std.specs.Prelude.{false, ◌≡◌, ◌≤◌, ◌<◌, ◌+◌, ◌*◌, ◌-◌, ◌↔◌, nat_lt, IfOk, IfSome, IfNone, IsTrue};
-ghost use Rattle.distributor.specs.Conversations.{first_table, state_of, place_of, how_many, next_identifier, IsConversation};
-ghost use Rattle.distributor.specs.Changes.{Sets, Changes, Marks, after, wants_marker, waits_for, marker_due};
-ghost use Rattle.distributor.specs.Chains.{is_of_port, is_flushing};
+ghost use Rattle.distributor.specs.Conversations.{first_table, assignment_of, slot_index, how_many, next_identifier, IsConversation};
+ghost use Rattle.distributor.specs.Changes.{Sets, Changes, Marks, after_change, wants_marker, waits_for, marker_due};
+ghost use Rattle.distributor.specs.Chains.{names_port, is_flushing};
 
 use crate::assignment::Assignment;
 use crate::change::Change;
@@ -24,13 +24,13 @@ pub(crate) struct ConversationTable {
 
 impl Model for ConversationTable {
     ghost use Rattle.distributor.specs.Conversations.{Table};
-    ghost use Rattle.distributor.specs.Slots.{AreKept};
+    ghost use Rattle.distributor.specs.Slots.{SlotsFit};
 
     ghost Value = { Table };
 
     ghost view = { λ t. record { aggs = t.aggs; first = t.first; next = t.next; states = t.slots.states.items } };
 
-    ghost invariant = { λ t. AreKept t.aggs t.slots };
+    ghost invariant = { λ t. SlotsFit t.aggs t.slots };
 }
 
 impl ConversationTable {
@@ -60,10 +60,10 @@ impl ConversationTable {
     }
 
     pub(crate) fn state(&self, agg: u16, conv: u16) -> Assignment
-        ensures { result ≡ state_of self.now agg conv }
+        ensures { result ≡ assignment_of self.now agg conv }
     {
         if agg > 0 && agg <= self.aggs && u32::from(conv) < CONVERSATIONS {
-            return self.slots.state(place(agg, conv));
+            return self.slots.state(slot_index(agg, conv));
         }
         Assignment::Free { preferred: None }
     }
@@ -73,7 +73,7 @@ impl ConversationTable {
         requires still { is_flushing state ≡ false }
         ensures { Sets self.old self.new agg conv state }
     {
-        self.slots.set(place(agg, conv), state);
+        self.slots.set(slot_index(agg, conv), state);
     }
 
     pub(crate) fn is_wanted_on(&self, port: u16) -> bool
@@ -89,13 +89,13 @@ impl ConversationTable {
     }
 
     pub(crate) fn load(&self, port: u16) -> u32
-        ensures { result ≡ how_many (is_of_port port) self.now }
+        ensures { result ≡ how_many (names_port port) self.now }
     {
-        self.slots.count(Test::IsOf(port))
+        self.slots.count(Test::NamesPort(port))
     }
 
     pub(crate) fn change(&mut self, change: Change)
-        ensures { Changes self.old self.new (after change) }
+        ensures { Changes self.old self.new (after_change change) }
     {
         match change {
             Change::Leave(port)
@@ -130,9 +130,9 @@ impl ConversationTable {
 }
 
 /// The slot number of a conversation.
-fn place(agg: u16, conv: u16) -> u32
+fn slot_index(agg: u16, conv: u16) -> u32
     requires agg { 0 < agg }
-    ensures { result ≡ place_of agg conv }
+    ensures { result ≡ slot_index agg conv }
 {
     (u32::from(agg) - 1) * CONVERSATIONS + u32::from(conv)
 }

@@ -3,19 +3,19 @@ use Rattle.std.proofs.Common.{ℕ, zero, suc, ◌+◌, ◌<◌, ◌≡◌, ◌++
 use Rattle.std.proofs.lemmas.List.{append-nil, length-append, map-append, take-map, take_at}
 use Rattle.std.proofs.lemmas.Bool.{eqb-true, lt-ltb}
 use Rattle.std.specs.Prelude.{Result, Err}
-use Rattle.lagengine.specs.Inputs.{close, lines_of, newlines, prepend}
+use Rattle.lagengine.specs.Inputs.{line_if_any, lines_of, newline_count, continue_line}
 use Rattle.lagengine.specs.Lines.{longest, request_in}
-use Rattle.lagengine.specs.Requests.{Line}
+use Rattle.lagengine.specs.Requests.{RequestValue}
 use Rattle.lagengine.specs.Sessions.{requests}
-use Rattle.lagengine.specs.declared.fault.LineFault.{LineFault}
-use Rattle.lagengine.specs.declared.fault.LineFault.TheVariants.{TooLong}
+use Rattle.lagengine.specs.declared.fault.RequestFault.{RequestFault}
+use Rattle.lagengine.specs.declared.fault.RequestFault.TheVariants.{TooLong}
 
-pub prepend_none : (ls : List (List ℕ)) → prepend [] ls ≡ ls
+pub prepend_none : (ls : List (List ℕ)) → continue_line [] ls ≡ ls
 prepend_none [] = refl
 prepend_none (l ∷ ls) = refl
 
-prepend_both : (line xs : List ℕ) (ls : List (List ℕ)) → prepend line (prepend xs ls) ≡ prepend (line ++ xs) ls
-prepend_both line [] [] = ap close (sym (append-nil line))
+prepend_both : (line xs : List ℕ) (ls : List (List ℕ)) → continue_line line (continue_line xs ls) ≡ continue_line (line ++ xs) ls
+prepend_both line [] [] = ap line_if_any (sym (append-nil line))
 prepend_both [] (x ∷ xs) [] = refl
 prepend_both (y ∷ ys) (x ∷ xs) [] = refl
 prepend_both line xs (l ∷ ls) = ap (λ m. m ∷ ls) (sym (append_assoc line xs l))
@@ -31,25 +31,25 @@ pub is_newline : (x : ℕ) → x ≡ 10 → (x == 10) ≡ true
 is_newline x e = ap (λ n. n == 10) e
 
 -- an octet that is no newline
-pub octet_joined : (line rest : List ℕ) (x : ℕ) → (x == 10) ≡ false → prepend line (lines_of (x ∷ rest)) ≡ prepend (line ++ x ∷ []) (lines_of rest)
+pub octet_joined : (line rest : List ℕ) (x : ℕ) → (x == 10) ≡ false → continue_line line (lines_of (x ∷ rest)) ≡ continue_line (line ++ x ∷ []) (lines_of rest)
 octet_joined line rest x e =
-    ap (λ t. prepend line (cond t ([] ∷ lines_of rest) (prepend (x ∷ []) (lines_of rest)))) e ∙ prepend_both line (x ∷ []) (lines_of rest)
+    ap (λ t. continue_line line (cond t ([] ∷ lines_of rest) (continue_line (x ∷ []) (lines_of rest)))) e ∙ prepend_both line (x ∷ []) (lines_of rest)
 
 -- a newline
-pub newline_joined : (line rest : List ℕ) (x : ℕ) → (x == 10) ≡ true → prepend line (lines_of (x ∷ rest)) ≡ line ∷ prepend [] (lines_of rest)
+pub newline_joined : (line rest : List ℕ) (x : ℕ) → (x == 10) ≡ true → continue_line line (lines_of (x ∷ rest)) ≡ line ∷ continue_line [] (lines_of rest)
 newline_joined line rest x e =
-    ap (λ t. prepend line (cond t ([] ∷ lines_of rest) (prepend (x ∷ []) (lines_of rest)))) e
+    ap (λ t. continue_line line (cond t ([] ∷ lines_of rest) (continue_line (x ∷ []) (lines_of rest)))) e
     ∙ ap (λ l. l ∷ lines_of rest) (append-nil line) ∙ ap (λ ls. line ∷ ls) (sym (prepend_none (lines_of rest)))
 
-pub one_newline : (x : ℕ) → (x == 10) ≡ true → 1 ≡ newlines (x ∷ [])
-one_newline x e = sym (ap (λ t. cond t (suc (newlines [])) (newlines [])) e)
+pub one_newline : (x : ℕ) → (x == 10) ≡ true → 1 ≡ newline_count (x ∷ [])
+one_newline x e = sym (ap (λ t. cond t (suc (newline_count [])) (newline_count [])) e)
 
-pub no_newline : (x : ℕ) → (x == 10) ≡ false → 0 ≡ newlines (x ∷ [])
-no_newline x e = sym (ap (λ t. cond t (suc (newlines [])) (newlines [])) e)
+pub no_newline : (x : ℕ) → (x == 10) ≡ false → 0 ≡ newline_count (x ∷ [])
+no_newline x e = sym (ap (λ t. cond t (suc (newline_count [])) (newline_count [])) e)
 
-pub newlines_both : (xs ys : List ℕ) → newlines (xs ++ ys) ≡ newlines xs + newlines ys
+pub newlines_both : (xs ys : List ℕ) → newline_count (xs ++ ys) ≡ newline_count xs + newline_count ys
 newlines_both [] ys = omega arith
-newlines_both (x ∷ xs) ys = one_more (x == 10) (newlines (xs ++ ys)) (newlines xs) (newlines ys) (newlines_both xs ys)
+newlines_both (x ∷ xs) ys = one_more (x == 10) (newline_count (xs ++ ys)) (newline_count xs) (newline_count ys) (newlines_both xs ys)
   where
     one_more : (t : Bool) (n m k : ℕ) → n ≡ m + k → cond t (suc n) n ≡ cond t (suc m) m + k
     one_more true n m k e = omega (arith, e)
@@ -60,7 +60,7 @@ not_zero zero e = absurd (cc)
 not_zero (suc n) e = omega arith
 
 -- a line that ends here
-pub closed : (line : List ℕ) → 0 < length line → close line ≡ line ∷ []
+pub closed : (line : List ℕ) → 0 < length line → line_if_any line ≡ line ∷ []
 closed [] h = absurd (omega arith)
 closed (x ∷ xs) h = refl
 
@@ -78,7 +78,7 @@ long_line : (line : List ℕ) → longest < length line → request_in line ≡ 
 long_line line h = rw (lt-ltb longest (length line) h) refl
 
 -- two first lines that are too long, whatever more of them comes
-same_long : (l m : List ℕ) (ls : List (List ℕ)) → longest < length l → longest < length m → requests (prepend l ls) ≡ requests (prepend m ls)
+same_long : (l m : List ℕ) (ls : List (List ℕ)) → longest < length l → longest < length m → requests (continue_line l ls) ≡ requests (continue_line m ls)
 unfolding requests
 same_long [] m ls h j = absurd (omega arith)
 same_long (x ∷ l) [] ls h j = absurd (omega arith)
@@ -89,7 +89,7 @@ same_long (x ∷ l) (y ∷ m) (k ∷ ls) h j =
     ap (λ r. r ∷ map request_in ls) (long_line ((x ∷ l) ++ k) one ∙ sym (long_line ((y ∷ m) ++ k) other))
 
 -- an octet of a line that is too long already
-pub long_joined : (line rest : List ℕ) (x : ℕ) → (x == 10) ≡ false → longest < length line → requests (prepend line (lines_of (x ∷ rest))) ≡ requests (prepend line (lines_of rest))
+pub long_joined : (line rest : List ℕ) (x : ℕ) → (x == 10) ≡ false → longest < length line → requests (continue_line line (lines_of (x ∷ rest))) ≡ requests (continue_line line (lines_of rest))
 long_joined line rest x e h =
     let more : longest < length (line ++ x ∷ []) = simp length-append (omega arith) in
     ap requests (octet_joined line rest x e) ∙ same_long (line ++ x ∷ []) line (lines_of rest) more h

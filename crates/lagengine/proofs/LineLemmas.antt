@@ -5,7 +5,7 @@ use Rattle.std.proofs.lemmas.Bool.{le-ltb}
 use Rattle.std.proofs.lemmas.Str.{IsUtf8-from_is_utf8, is_utf8-from_IsUtf8}
 use Rattle.std.specs.Prelude.{Err}
 use Rattle.lagengine.specs.Lines.{longest, request_in, request_of_text}
-use Rattle.lagengine.specs.declared.fault.LineFault.TheVariants.{NotText}
+use Rattle.lagengine.specs.declared.fault.RequestFault.TheVariants.{NotText}
 
 pub reads_text : (line text : List ℕ) → length line ≤ longest → text ≡ line → IsUtf8 line → request_of_text text ≡ request_in line
 reads_text line text short same utf8 = rw (le-ltb longest (length line) short, is_utf8-from_IsUtf8 line utf8, same) refl

@@ -3,14 +3,14 @@ use Rattle.std.proofs.Common.{ℕ, ◌≡◌, ◌+◌, List, [], ◌∷◌, ◌+
 use Rattle.std.specs.List.{range_with_len}
 use Rattle.std.proofs.lemmas.List.{map-append}
 use Rattle.std.proofs.lemmas.List.FromFn.{map-range_with_len_more}
-use Rattle.lagsystem.specs.State.{State}
-use Rattle.lagengine.specs.Looks.{sharing_in, sharing_of}
-use Rattle.lagengine.specs.declared.looks.AggTold.{AggTold}
+use Rattle.lagsystem.specs.State.{SystemState}
+use Rattle.lagengine.specs.Looks.{agg_answer, agg_answer_value}
+use Rattle.lagengine.specs.declared.looks.AggAnswer.{AggAnswer}
 
 -- one more
-pub sharings_more : (s : State) (told new : List AggTold) (x : AggTold) (n : ℕ) → map sharing_of told ≡ map (sharing_in s) (range_with_len 0 n) → new ≡ told ++ x ∷ [] → sharing_of x ≡ sharing_in s n
-    → map sharing_of new ≡ map (sharing_in s) (range_with_len 0 (n + 1))
+pub sharings_more : (s : SystemState) (told new : List AggAnswer) (x : AggAnswer) (n : ℕ) → map agg_answer_value told ≡ map (agg_answer s) (range_with_len 0 n) → new ≡ told ++ x ∷ [] → agg_answer_value x ≡ agg_answer s n
+    → map agg_answer_value new ≡ map (agg_answer s) (range_with_len 0 (n + 1))
 sharings_more s told new x n so_far pushed is =
     let here : 0 + n ≡ n = omega arith in
-    ap (map sharing_of) pushed ∙ map-append sharing_of told (x ∷ []) ∙ ap (λ t. t ++ sharing_of x ∷ []) so_far ∙ ap (λ y. map (sharing_in s) (range_with_len 0 n) ++ y ∷ []) is
-    ∙ sym (map-range_with_len_more (sharing_in s) 0 n n here)
+    ap (map agg_answer_value) pushed ∙ map-append agg_answer_value told (x ∷ []) ∙ ap (λ t. t ++ agg_answer_value x ∷ []) so_far ∙ ap (λ y. map (agg_answer s) (range_with_len 0 n) ++ y ∷ []) is
+    ∙ sym (map-range_with_len_more (agg_answer s) 0 n n here)

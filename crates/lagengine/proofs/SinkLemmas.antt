@@ -4,32 +4,32 @@ use Rattle.std.proofs.lemmas.List.{take_rest, take_at}
 use Rattle.std.specs.Prelude.{OnErr}
 use Rattle.std.specs.Io.KnownBytes.{Appends, Keeps}
 use Rattle.std.proofs.KnownBytes.{Appends-kept, Appends-nil, Appends-trans}
-use Rattle.lagengine.specs.Sinks.{Breaks, Flushes, Sends, SinkState, Takes}
+use Rattle.lagengine.specs.Sinks.{WritesPart, Flushes, WritesAndFlushes, SinkState, WritesWhole}
 
 module _ {W : Type 0} (contents : W → Option (List ℕ)) where
-  pub takes_more : (a b c : SinkState W) (xs ys : List ℕ) → Takes contents a b xs → Takes contents b c ys → Takes contents a c (xs ++ ys)
+  pub takes_more : (a b c : SinkState W) (xs ys : List ℕ) → WritesWhole contents a b xs → WritesWhole contents b c ys → WritesWhole contents a c (xs ++ ys)
   takes_more a b c xs ys first second =
       record { written = Appends-trans _ _ _ _ _ first.written second.written; failed = second.failed ∙ first.failed }
 
   -- what was taken before a failure is a beginning
-  pub breaks_after : (a b c : SinkState W) (all done rest : List ℕ) → all ≡ done ++ rest → Takes contents a b done → Keeps (contents b.writer) (contents c.writer)
-      → c.failed ≡ true → Breaks contents a c all
+  pub breaks_after : (a b c : SinkState W) (all done rest : List ℕ) → all ≡ done ++ rest → WritesWhole contents a b done → Keeps (contents b.writer) (contents c.writer)
+      → c.failed ≡ true → WritesPart contents a c all
   breaks_after a b c all done rest e taken kept failed =
       let front : take (length done) all ≡ done = ap (take (length done)) e ∙ take_at done rest (length done) refl in
       let written = Appends-kept _ _ _ done taken.written kept in
       record { written = (length done, subst (λ t. Appends (contents a.writer) (contents c.writer) t) (sym front) written); failed = failed }
 
-  pub sends_flushed : (a b c : SinkState W) (xs : List ℕ) → Takes contents a b xs → Flushes contents b c → Sends contents a c xs
+  pub sends_flushed : (a b c : SinkState W) (xs : List ℕ) → WritesWhole contents a b xs → Flushes contents b c → WritesAndFlushes contents a c xs
   sends_flushed a b c xs taken flushed = record {
     written = Appends-kept _ _ _ xs taken.written flushed.kept;
     failed = flushed.failed ∙ taken.failed;
     flushed = λ e. flushed.flushed;
   }
 
-  pub sends_none : (a : SinkState W) → Sends contents a a []
+  pub sends_none : (a : SinkState W) → WritesAndFlushes contents a a []
   sends_none a = record { written = Appends-nil (contents a.writer); failed = refl; flushed = λ e. e }
 
-  pub sends_more : (a b c : SinkState W) (xs ys : List ℕ) → Sends contents a b xs → Sends contents b c ys → Sends contents a c (xs ++ ys)
+  pub sends_more : (a b c : SinkState W) (xs ys : List ℕ) → WritesAndFlushes contents a b xs → WritesAndFlushes contents b c ys → WritesAndFlushes contents a c (xs ++ ys)
   sends_more a b c xs ys first second = record {
     written = Appends-trans _ _ _ _ _ first.written second.written;
     failed = second.failed ∙ first.failed;

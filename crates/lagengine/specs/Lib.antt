@@ -2,7 +2,7 @@ pub mod Words
 pub mod Requests
 pub mod Lines
 pub mod Looks
-pub mod Said
+pub mod AnswerValues
 pub mod Texts
 pub mod Engines
 pub mod Inputs

@@ -1,21 +1,21 @@
 -- What a line asks for (profile).
 use Rattle.std.specs.Prelude.{ℕ, List, [], ◌∷◌, length, nat_lt, if◌then◌else◌, Result, Err}
 use Rattle.std.specs.Str.{is_utf8}
-use Rattle.lagengine.specs.Requests.{Line, request_named}
+use Rattle.lagengine.specs.Requests.{RequestValue, request_named}
 use Rattle.lagengine.specs.Words.{parts}
-use Rattle.lagengine.specs.declared.fault.LineFault.{LineFault}
-use Rattle.lagengine.specs.declared.fault.LineFault.TheVariants.{TooLong, NotText, Word}
+use Rattle.lagengine.specs.declared.fault.RequestFault.{RequestFault}
+use Rattle.lagengine.specs.declared.fault.RequestFault.TheVariants.{TooLong, NotText, Word}
 
 -- the length of the longest line, without its line end
 abbrev pub longest : ℕ
 longest = 65536
 
-abbrev pub request_of_words : List (List ℕ) → Result Line LineFault
+abbrev pub request_of_words : List (List ℕ) → Result RequestValue RequestFault
 request_of_words [] = Err Word
 request_of_words (name ∷ ws) = request_named name ws
 
-abbrev pub request_of_text : List ℕ → Result Line LineFault
+abbrev pub request_of_text : List ℕ → Result RequestValue RequestFault
 request_of_text text = request_of_words (parts 32 text)
 
-abbrev pub request_in : List ℕ → Result Line LineFault
+abbrev pub request_in : List ℕ → Result RequestValue RequestFault
 request_in line = if nat_lt longest (length line) then Err TooLong else if is_utf8 line then request_of_text line else Err NotText

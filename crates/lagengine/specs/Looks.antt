@@ -3,18 +3,18 @@ use Rattle.std.specs.Prelude.{ℕ, ◌+◌, List, length, map, Option, option_ma
 use Rattle.std.specs.List.{range_with_len}
 use Rattle.portmachines.specs.declared.mux.MuxState.TheVariants.{CollectingDistributing}
 use Rattle.portmachines.specs.Machines.{Machines}
-use Rattle.portmachines.specs.Mux.{is_mux}
+use Rattle.portmachines.specs.Mux.{same_mux_state}
 use Rattle.portmachines.specs.Transmit.{actor_state}
-use Rattle.distributor.specs.Chains.{is_of_port}
+use Rattle.distributor.specs.Chains.{names_port}
 use Rattle.distributor.specs.Conversations.{how_many}
 use Rattle.lagsystem.specs.Hosts.{due_of}
-use Rattle.lagsystem.specs.Readers.{agg_of_number, distributing, group_at}
-use Rattle.lagsystem.specs.State.{State, numbers, place_of, port_of}
+use Rattle.lagsystem.specs.Readers.{aggregator_numbered, distributing, group_at}
+use Rattle.lagsystem.specs.State.{SystemState, port_numbers, place_of, machines_of}
 use Rattle.lagengine.specs.declared.looks.Look.{Look}
 use Rattle.lagengine.specs.declared.looks.PortFact.{PortFact}
 use Rattle.lagengine.specs.declared.looks.PortFact.TheVariants as fact
-use Rattle.lagengine.specs.declared.looks.AggTold.{AggTold}
-use Rattle.lagengine.specs.declared.looks.PortTold.{PortTold}
+use Rattle.lagengine.specs.declared.looks.AggAnswer.{AggAnswer}
+use Rattle.lagengine.specs.declared.looks.PortAnswer.{PortAnswer}
 use Rattle.lagengine.specs.declared.request.PortQuestion.{PortQuestion}
 use Rattle.lagengine.specs.declared.request.PortQuestion.TheVariants as of_port
 
@@ -25,42 +25,42 @@ look_of p = record {
   partner = p.partner;
   group = group_at p;
   defaulted = p.defaulted;
-  distributes = is_mux CollectingDistributing p.mux;
+  distributes = same_mux_state CollectingDistributing p.mux;
   choice = p.choice;
   mux = p.mux;
 }
 
 -- how many conversations are On, Wanted or Flushing on the port with this number
-abbrev pub load_of : ℕ → State → Option ℕ
-load_of n s = option_map (λ _. how_many (is_of_port n) s.table) (place_of n s.slots)
+abbrev pub load_of : ℕ → SystemState → Option ℕ
+load_of n s = option_map (λ _. how_many (names_port n) s.table) (place_of n s.slots)
 
 -- the answer to a question about the port with this number
-abbrev pub fact_of : PortQuestion → ℕ → State → Option PortFact
-fact_of of_port.Look n s = option_map (λ p. fact.Look (look_of p)) (port_of n s)
-fact_of of_port.Up n s = option_map (λ p. fact.Up p.enabled) (port_of n s)
-fact_of of_port.State n s = option_map (λ p. fact.State (actor_state p)) (port_of n s)
-fact_of of_port.ReceiveState n s = option_map (λ p. fact.ReceiveState p.receive) (port_of n s)
+abbrev pub fact_of : PortQuestion → ℕ → SystemState → Option PortFact
+fact_of of_port.Look n s = option_map (λ p. fact.Look (look_of p)) (machines_of n s)
+fact_of of_port.Up n s = option_map (λ p. fact.Up p.enabled) (machines_of n s)
+fact_of of_port.State n s = option_map (λ p. fact.State (actor_state p)) (machines_of n s)
+fact_of of_port.ReceiveState n s = option_map (λ p. fact.ReceiveState p.receive) (machines_of n s)
 fact_of of_port.Due n s = option_map fact.Due (due_of n s)
 fact_of of_port.Load n s = option_map fact.Load (load_of n s)
 
-abbrev pub port_told : PortQuestion → State → ℕ → PortTold
-port_told q s n = record { port = n; fact = fact_of q n s }
+abbrev pub port_answer : PortQuestion → SystemState → ℕ → PortAnswer
+port_answer q s n = record { port = n; fact = fact_of q n s }
 
 -- the numbers of the ports that distribute in an aggregator, ascending
-pub record Sharing : Type 0 where
+pub record AggAnswerValue : Type 0 where
   pub agg : ℕ
   pub ports : List ℕ
 
-abbrev pub sharing_of : AggTold → Sharing
-sharing_of a = record { agg = a.agg; ports = a.ports.items }
+abbrev pub agg_answer_value : AggAnswer → AggAnswerValue
+agg_answer_value a = record { agg = a.agg; ports = a.ports.items }
 
-abbrev pub sharing_in : State → ℕ → Sharing
-sharing_in s g = record { agg = g; ports = distributing (agg_of_number g) s.slots }
+abbrev pub agg_answer : SystemState → ℕ → AggAnswerValue
+agg_answer s g = record { agg = g; ports = distributing (aggregator_numbered g) s.slots }
 
 -- the answer to `look` for every port
-abbrev pub all_ports : State → List PortTold
-all_ports s = map (port_told of_port.Look s) (numbers s.slots)
+abbrev pub all_ports : SystemState → List PortAnswer
+all_ports s = map (port_answer of_port.Look s) (port_numbers s.slots)
 
 -- for number 0, which is no aggregator, and for each aggregator
-abbrev pub all_aggregators : State → List Sharing
-all_aggregators s = map (sharing_in s) (range_with_len 0 (length s.keys + 1))
+abbrev pub all_aggregators : SystemState → List AggAnswerValue
+all_aggregators s = map (agg_answer s) (range_with_len 0 (length s.keys + 1))

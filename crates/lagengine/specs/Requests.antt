@@ -9,11 +9,11 @@ use Rattle.lagsystem.specs.Calls.{Call, Receive, Tick, Set_link, Configure, Rest
 use Rattle.lagsystem.specs.Drives.{call_of}
 use Rattle.lagsystem.specs.declared.config.Config.{Config}
 use Rattle.lagsystem.specs.declared.config.PortConfig.{PortConfig}
-use Rattle.lagengine.specs.Words.{◌>>=◌, Seven, each, number_word, long_word, mac_word, link_word, kind_word, hex_word, keys_word, port_word}
-use Rattle.lagengine.specs.declared.fault.LineError.{LineError}
-use Rattle.lagengine.specs.declared.fault.LineError.TheVariants.{Fault, NoMemory}
-use Rattle.lagengine.specs.declared.fault.LineFault.{LineFault}
-use Rattle.lagengine.specs.declared.fault.LineFault.TheVariants as fault
+use Rattle.lagengine.specs.Words.{◌>>=◌, SevenFields, each, number_word, long_word, mac_word, link_word, kind_word, hex_word, keys_word, port_word}
+use Rattle.lagengine.specs.declared.fault.RequestError.{RequestError}
+use Rattle.lagengine.specs.declared.fault.RequestError.TheVariants.{Fault, NoMemory}
+use Rattle.lagengine.specs.declared.fault.RequestFault.{RequestFault}
+use Rattle.lagengine.specs.declared.fault.RequestFault.TheVariants as fault
 use Rattle.lagengine.specs.declared.request.PortQuestion.{PortQuestion}
 use Rattle.lagengine.specs.declared.request.PortQuestion.TheVariants as of_port
 use Rattle.lagengine.specs.declared.request.Question.{Question}
@@ -24,15 +24,15 @@ use Rattle.lagengine.specs.declared.request.Task.{Task}
 use Rattle.lagengine.specs.declared.request.Task.TheVariants as task
 
 -- a configuration, with lists in the place of its Vecs
-pub record Plan : Type 0 where
+pub record ConfigValue : Type 0 where
   pub system : SystemId
   pub max_delay : ℕ
   pub first_marker : ℕ
   pub keys : List Key
   pub ports : List PortConfig
 
-abbrev pub plan_of : Config → Plan
-plan_of c = record {
+abbrev pub config_value : Config → ConfigValue
+config_value c = record {
   system = c.system;
   max_delay = c.max_delay;
   first_marker = c.first_marker;
@@ -41,169 +41,169 @@ plan_of c = record {
 }
 
 -- a task for a system: make a call, store calls from now on, make the stored calls, or answer a question
-pub data Asked : Type 0 where
-  Make : Call → Asked
-  Keep : Asked
-  Drive : Asked
-  Conversation : List ℕ → Asked
-  Tell : Question → Asked
+pub data TaskValue : Type 0 where
+  Make : Call → TaskValue
+  Keep : TaskValue
+  Drive : TaskValue
+  Conversation : List ℕ → TaskValue
+  Ask : Question → TaskValue
 
-abbrev pub task_of : Task → Asked
-task_of (task.Make call) = Make (call_of call)
-task_of task.Keep = Keep
-task_of task.Drive = Drive
-task_of (task.Conversation frame) = Conversation frame.items
-task_of (task.Tell question) = Tell question
+abbrev pub task_value : Task → TaskValue
+task_value (task.Make call) = Make (call_of call)
+task_value task.Keep = Keep
+task_value task.Drive = Drive
+task_value (task.Conversation frame) = Conversation frame.items
+task_value (task.Ask question) = Ask question
 
 -- what a line asks for: a new system, or a task for the present one
-pub data Line : Type 0 where
-  Start : Plan → Line
-  Work : Asked → Line
+pub data RequestValue : Type 0 where
+  Start : ConfigValue → RequestValue
+  Work : TaskValue → RequestValue
 
-abbrev pub asked_of : Request → Line
-asked_of (request.System config) = Start (plan_of config)
-asked_of (request.Work task) = Work (task_of task)
+abbrev pub request_value : Request → RequestValue
+request_value (request.System config) = Start (config_value config)
+request_value (request.Work task) = Work (task_value task)
 
 -- a task that was read, as a value of the logic; or its fault
-abbrev pub seen : Result Task LineFault → Result Asked LineFault
-seen (Ok r) = Ok (task_of r)
-seen (Err e) = Err e
+abbrev pub task_or_fault : Result Task RequestFault → Result TaskValue RequestFault
+task_or_fault (Ok r) = Ok (task_value r)
+task_or_fault (Err e) = Err e
 
 -- the stated value or fault is returned, or memory was refused
-abbrev pub Enters : {A B : Type 0} → (A → B) → Result B LineFault → Result A LineError → Type 0
-Enters see stated (Ok x) = stated ≡ Ok (see x)
-Enters see stated (Err (Fault f)) = stated ≡ Err f
-Enters see stated (Err NoMemory) = ⊤
+abbrev pub ReadsAs : {A B : Type 0} → (A → B) → Result B RequestFault → Result A RequestError → Type 0
+ReadsAs see stated (Ok x) = stated ≡ Ok (see x)
+ReadsAs see stated (Err (Fault f)) = stated ≡ Err f
+ReadsAs see stated (Err NoMemory) = ⊤
 
 -- words that are not read here
 abbrev pub Word : Type 0
 Word = Bor (List ℕ)
 
-abbrev pub word_seen : Word → List ℕ
-word_seen w = w.now
+abbrev pub word_octets : Word → List ℕ
+word_octets w = w.now
 
-abbrev pub seen_one : Result Word LineFault → Result (List ℕ) LineFault
-seen_one (Ok a) = Ok a.now
-seen_one (Err e) = Err e
+abbrev pub one_word_octets : Result Word RequestFault → Result (List ℕ) RequestFault
+one_word_octets (Ok a) = Ok a.now
+one_word_octets (Err e) = Err e
 
-abbrev pub seen_two : Result (Word × Word) LineFault → Result (List ℕ × List ℕ) LineFault
-seen_two (Ok p) = Ok (p.0.now, p.1.now)
-seen_two (Err e) = Err e
+abbrev pub two_words_octets : Result (Word × Word) RequestFault → Result (List ℕ × List ℕ) RequestFault
+two_words_octets (Ok p) = Ok (p.0.now, p.1.now)
+two_words_octets (Err e) = Err e
 
-abbrev pub seen_three : Result (Word × Word × Word) LineFault → Result (List ℕ × List ℕ × List ℕ) LineFault
-seen_three (Ok p) = Ok (p.0.now, p.1.now, p.2.now)
-seen_three (Err e) = Err e
+abbrev pub three_words_octets : Result (Word × Word × Word) RequestFault → Result (List ℕ × List ℕ × List ℕ) RequestFault
+three_words_octets (Ok p) = Ok (p.0.now, p.1.now, p.2.now)
+three_words_octets (Err e) = Err e
 
-abbrev pub seen_four : Result (Word × Word × Word × Word) LineFault → Result (List ℕ × List ℕ × List ℕ × List ℕ) LineFault
-seen_four (Ok p) = Ok (p.0.now, p.1.now, p.2.now, p.3.now)
-seen_four (Err e) = Err e
+abbrev pub four_words_octets : Result (Word × Word × Word × Word) RequestFault → Result (List ℕ × List ℕ × List ℕ × List ℕ) RequestFault
+four_words_octets (Ok p) = Ok (p.0.now, p.1.now, p.2.now, p.3.now)
+four_words_octets (Err e) = Err e
 
-abbrev pub seen_seven : Result (Word × Word × Word × Word × Word × Word × Word) LineFault → Result Seven LineFault
-seen_seven (Ok p) = Ok (p.0.now, p.1.now, p.2.now, p.3.now, p.4.now, p.5.now, p.6.now)
-seen_seven (Err e) = Err e
+abbrev pub seven_words_octets : Result (Word × Word × Word × Word × Word × Word × Word) RequestFault → Result SevenFields RequestFault
+seven_words_octets (Ok p) = Ok (p.0.now, p.1.now, p.2.now, p.3.now, p.4.now, p.5.now, p.6.now)
+seven_words_octets (Err e) = Err e
 
 -- exactly this many words after the first
-abbrev pub no_words : List (List ℕ) → Result Unit LineFault
+abbrev pub no_words : List (List ℕ) → Result Unit RequestFault
 no_words [] = Ok tt
 no_words _ = Err fault.Count
 
-abbrev pub one_word : List (List ℕ) → Result (List ℕ) LineFault
+abbrev pub one_word : List (List ℕ) → Result (List ℕ) RequestFault
 one_word (a ∷ []) = Ok a
 one_word _ = Err fault.Count
 
-abbrev pub two_words : List (List ℕ) → Result (List ℕ × List ℕ) LineFault
+abbrev pub two_words : List (List ℕ) → Result (List ℕ × List ℕ) RequestFault
 two_words (a ∷ b ∷ []) = Ok (a, b)
 two_words _ = Err fault.Count
 
-abbrev pub three_words : List (List ℕ) → Result (List ℕ × List ℕ × List ℕ) LineFault
+abbrev pub three_words : List (List ℕ) → Result (List ℕ × List ℕ × List ℕ) RequestFault
 three_words (a ∷ b ∷ c ∷ []) = Ok (a, b, c)
 three_words _ = Err fault.Count
 
-abbrev pub four_words : List (List ℕ) → Result (List ℕ × List ℕ × List ℕ × List ℕ) LineFault
+abbrev pub four_words : List (List ℕ) → Result (List ℕ × List ℕ × List ℕ × List ℕ) RequestFault
 four_words (a ∷ b ∷ c ∷ d ∷ []) = Ok (a, b, c, d)
 four_words _ = Err fault.Count
 
 -- a request with a number of words, which are read from left to right
-abbrev pub Reader : Type 0 → Type 0
-Reader A = List ℕ → Result A LineFault
+abbrev pub WordReader : Type 0 → Type 0
+WordReader A = List ℕ → Result A RequestFault
 
-abbrev pub none : Asked → List (List ℕ) → Result Asked LineFault
-none asked ws = no_words ws >>= λ _. Ok asked
+abbrev pub with_no_words : TaskValue → List (List ℕ) → Result TaskValue RequestFault
+with_no_words asked ws = no_words ws >>= λ _. Ok asked
 
-abbrev pub one : {A : Type 0} → Reader A → (A → Asked) → List (List ℕ) → Result Asked LineFault
-one f make ws = one_word ws >>= λ a. f a >>= λ x. Ok (make x)
+abbrev pub with_one_word : {A : Type 0} → WordReader A → (A → TaskValue) → List (List ℕ) → Result TaskValue RequestFault
+with_one_word f make ws = one_word ws >>= λ a. f a >>= λ x. Ok (make x)
 
-abbrev pub two : {A B : Type 0} → Reader A → Reader B → (A → B → Asked) → List (List ℕ) → Result Asked LineFault
-two f g make ws = two_words ws >>= λ p. f p.0 >>= λ x. g p.1 >>= λ y. Ok (make x y)
+abbrev pub with_two_words : {A B : Type 0} → WordReader A → WordReader B → (A → B → TaskValue) → List (List ℕ) → Result TaskValue RequestFault
+with_two_words f g make ws = two_words ws >>= λ p. f p.0 >>= λ x. g p.1 >>= λ y. Ok (make x y)
 
-abbrev pub three : {A B C : Type 0} → Reader A → Reader B → Reader C → (A → B → C → Asked) → List (List ℕ) → Result Asked LineFault
-three f g h make ws = three_words ws >>= λ p. f p.0 >>= λ x. g p.1 >>= λ y. h p.2 >>= λ z. Ok (make x y z)
+abbrev pub with_three_words : {A B C : Type 0} → WordReader A → WordReader B → WordReader C → (A → B → C → TaskValue) → List (List ℕ) → Result TaskValue RequestFault
+with_three_words f g h make ws = three_words ws >>= λ p. f p.0 >>= λ x. g p.1 >>= λ y. h p.2 >>= λ z. Ok (make x y z)
 
-abbrev pub four : {A B C D : Type 0} → Reader A → Reader B → Reader C → Reader D → (A → B → C → D → Asked) → List (List ℕ)
-    → Result Asked LineFault
-four f g h i make ws = four_words ws >>= λ p. f p.0 >>= λ x. g p.1 >>= λ y. h p.2 >>= λ z. i p.3 >>= λ w. Ok (make x y z w)
+abbrev pub with_four_words : {A B C D : Type 0} → WordReader A → WordReader B → WordReader C → WordReader D → (A → B → C → D → TaskValue) → List (List ℕ)
+    → Result TaskValue RequestFault
+with_four_words f g h i make ws = four_words ws >>= λ p. f p.0 >>= λ x. g p.1 >>= λ y. h p.2 >>= λ z. i p.3 >>= λ w. Ok (make x y z w)
 
-abbrev pub agg_of : ℕ → AggId
-agg_of n = record { 0 = n }
+abbrev pub agg_id : ℕ → AggId
+agg_id n = record { 0 = n }
 
-abbrev pub configured : ℕ → ℕ → ℕ → Bool → Asked
-configured port key priority aggregatable = Make (Configure port
+abbrev pub configure_task : ℕ → ℕ → ℕ → Bool → TaskValue
+configure_task port key priority aggregatable = Make (Configure port
     (record { key = record { 0 = key }; priority = priority; aggregatable = aggregatable }))
 
 -- PRIORITY MAC MAX_DELAY FIRST_MARKER KEYS PORT ..
-abbrev pub plan_in : List (List ℕ) → Result Plan LineFault
-plan_in (priority ∷ mac ∷ delay ∷ marker ∷ keys ∷ ports) =
+abbrev pub config_in : List (List ℕ) → Result ConfigValue RequestFault
+config_in (priority ∷ mac ∷ delay ∷ marker ∷ keys ∷ ports) =
     number_word priority >>= λ priority. mac_word mac >>= λ mac. number_word delay >>= λ delay. long_word marker >>= λ marker.
     keys_word keys >>= λ keys. each port_word ports >>= λ ports.
     Ok (record { system = record { priority = priority; mac = mac }; max_delay = delay; first_marker = marker; keys = keys; ports = ports })
-plan_in _ = Err fault.Count
+config_in _ = Err fault.Count
 
 -- a question about one port
-abbrev pub port_asked : PortQuestion → List (List ℕ) → Result Asked LineFault
-port_asked q = one number_word (λ n. Tell (question.Port q n))
+abbrev pub port_question : PortQuestion → List (List ℕ) → Result TaskValue RequestFault
+port_question q = with_one_word number_word (λ n. Ask (question.Port q n))
 
 -- the questions, by their first word
-abbrev pub question_named : List ℕ → List (List ℕ) → Result Asked LineFault
+abbrev pub question_named : List ℕ → List (List ℕ) → Result TaskValue RequestFault
 question_named name =
-    if bytes_eq name (codes "look") then port_asked of_port.Look
-    else if bytes_eq name (codes "up") then port_asked of_port.Up
-    else if bytes_eq name (codes "state") then port_asked of_port.State
-    else if bytes_eq name (codes "receive-state") then port_asked of_port.ReceiveState
-    else if bytes_eq name (codes "due") then port_asked of_port.Due
-    else if bytes_eq name (codes "load") then port_asked of_port.Load
-    else if bytes_eq name (codes "ports") then none (Tell question.Ports)
-    else if bytes_eq name (codes "aggregators") then none (Tell question.Aggregators)
-    else if bytes_eq name (codes "distributing") then one number_word (λ n. Tell (question.Distributing (agg_of n)))
-    else if bytes_eq name (codes "conversation-state") then two number_word number_word
-    (λ g k. Tell (question.ConversationState (agg_of g) k))
-    else if bytes_eq name (codes "next-marker") then none (Tell question.NextMarker)
-    else if bytes_eq name (codes "all") then none (Tell question.All)
+    if bytes_eq name (codes "look") then port_question of_port.Look
+    else if bytes_eq name (codes "up") then port_question of_port.Up
+    else if bytes_eq name (codes "state") then port_question of_port.State
+    else if bytes_eq name (codes "receive-state") then port_question of_port.ReceiveState
+    else if bytes_eq name (codes "due") then port_question of_port.Due
+    else if bytes_eq name (codes "load") then port_question of_port.Load
+    else if bytes_eq name (codes "ports") then with_no_words (Ask question.Ports)
+    else if bytes_eq name (codes "aggregators") then with_no_words (Ask question.Aggregators)
+    else if bytes_eq name (codes "distributing") then with_one_word number_word (λ n. Ask (question.Distributing (agg_id n)))
+    else if bytes_eq name (codes "conversation-state") then with_two_words number_word number_word
+    (λ g k. Ask (question.ConversationState (agg_id g) k))
+    else if bytes_eq name (codes "next-marker") then with_no_words (Ask question.NextMarker)
+    else if bytes_eq name (codes "all") then with_no_words (Ask question.All)
     else (λ _. Err fault.Word)
 
 -- the calls without octets, by their first word
-abbrev pub call_named : List ℕ → List (List ℕ) → Result Asked LineFault
+abbrev pub call_named : List ℕ → List (List ℕ) → Result TaskValue RequestFault
 call_named name =
-    if bytes_eq name (codes "tick") then none (Make Tick)
-    else if bytes_eq name (codes "restart") then none (Make Restart)
-    else if bytes_eq name (codes "link") then two number_word link_word (λ port up. Make (Set_link port up))
-    else if bytes_eq name (codes "transmit") then one number_word (λ port. Make (Transmit port))
-    else if bytes_eq name (codes "configure") then four number_word number_word number_word kind_word configured
-    else if bytes_eq name (codes "move") then three number_word number_word number_word
-    (λ g k port. Make (Move_conversation (agg_of g) k port))
-    else if bytes_eq name (codes "force") then two number_word number_word (λ g k. Make (Force (agg_of g) k))
+    if bytes_eq name (codes "tick") then with_no_words (Make Tick)
+    else if bytes_eq name (codes "restart") then with_no_words (Make Restart)
+    else if bytes_eq name (codes "link") then with_two_words number_word link_word (λ port up. Make (Set_link port up))
+    else if bytes_eq name (codes "transmit") then with_one_word number_word (λ port. Make (Transmit port))
+    else if bytes_eq name (codes "configure") then with_four_words number_word number_word number_word kind_word configure_task
+    else if bytes_eq name (codes "move") then with_three_words number_word number_word number_word
+    (λ g k port. Make (Move_conversation (agg_id g) k port))
+    else if bytes_eq name (codes "force") then with_two_words number_word number_word (λ g k. Make (Force (agg_id g) k))
     else question_named name
 
 -- the tasks, by their first word
-abbrev pub task_named : List ℕ → List (List ℕ) → Result Asked LineFault
+abbrev pub task_named : List ℕ → List (List ℕ) → Result TaskValue RequestFault
 task_named name =
-    if bytes_eq name (codes "receive") then two number_word hex_word (λ port octets. Make (Receive port octets))
-    else if bytes_eq name (codes "offer") then two number_word hex_word (λ g octets. Make (Offer (agg_of g) octets))
-    else if bytes_eq name (codes "conversation") then one hex_word Conversation
-    else if bytes_eq name (codes "keep") then none Keep
-    else if bytes_eq name (codes "drive") then none Drive
+    if bytes_eq name (codes "receive") then with_two_words number_word hex_word (λ port octets. Make (Receive port octets))
+    else if bytes_eq name (codes "offer") then with_two_words number_word hex_word (λ g octets. Make (Offer (agg_id g) octets))
+    else if bytes_eq name (codes "conversation") then with_one_word hex_word Conversation
+    else if bytes_eq name (codes "keep") then with_no_words Keep
+    else if bytes_eq name (codes "drive") then with_no_words Drive
     else call_named name
 
 -- the requests, by their first word and the words after it
-abbrev pub request_named : List ℕ → List (List ℕ) → Result Line LineFault
+abbrev pub request_named : List ℕ → List (List ℕ) → Result RequestValue RequestFault
 request_named name ws =
-    if bytes_eq name (codes "system") then (plan_in ws >>= λ plan. Ok (Start plan)) else (task_named name ws >>= λ asked. Ok (Work asked))
+    if bytes_eq name (codes "system") then (config_in ws >>= λ plan. Ok (Start plan)) else (task_named name ws >>= λ asked. Ok (Work asked))

@@ -10,24 +10,24 @@ pub record SinkState (W : Type 0) : Type 0 where
   pub unflushed : Bool
 
 -- the octets that a writer contains, if that is known, grow by a beginning of the text
-abbrev pub Begins : Option (List ℕ) → Option (List ℕ) → List ℕ → Type 0
-Begins old new text = (n : ℕ) × Appends old new (take n text)
+abbrev pub AppendsPart : Option (List ℕ) → Option (List ℕ) → List ℕ → Type 0
+AppendsPart old new text = (n : ℕ) × Appends old new (take n text)
 
 module _ {W : Type 0} (contents : W → Option (List ℕ)) where
   -- the sink accepted the whole text, and did not fail in this
-  pub record Takes (old new : SinkState W) (text : List ℕ) : Type 0 where
+  pub record WritesWhole (old new : SinkState W) (text : List ℕ) : Type 0 where
     pub written : Appends (contents old.writer) (contents new.writer) text
     pub failed : new.failed ≡ old.failed
 
   -- the same; and if nothing waited for a flush before, nothing does now
-  pub record Sends (old new : SinkState W) (text : List ℕ) : Type 0 where
+  pub record WritesAndFlushes (old new : SinkState W) (text : List ℕ) : Type 0 where
     pub written : Appends (contents old.writer) (contents new.writer) text
     pub failed : new.failed ≡ old.failed
     pub flushed : old.unflushed ≡ false → new.unflushed ≡ false
 
   -- the sink failed, and accepted a beginning of the text
-  pub record Breaks (old new : SinkState W) (text : List ℕ) : Type 0 where
-    pub written : Begins (contents old.writer) (contents new.writer) text
+  pub record WritesPart (old new : SinkState W) (text : List ℕ) : Type 0 where
+    pub written : AppendsPart (contents old.writer) (contents new.writer) text
     pub failed : new.failed ≡ true
 
   -- the sink was flushed

@@ -16,23 +16,23 @@ use Rattle.portmachines.specs.declared.receive.ReceiveState.TheVariants as recei
 use Rattle.distributor.specs.declared.assignment.Assignment.{Assignment}
 use Rattle.distributor.specs.declared.assignment.Assignment.TheVariants.{Free, On, Wanted, Flushing}
 use Rattle.lagsystem.specs.Faults.{fault_number}
-use Rattle.lagsystem.specs.declared.answers.Received.{Received}
-use Rattle.lagsystem.specs.declared.answers.Received.TheVariants.{Disabled, Dropped, Ignored, TookLacpdu, Respond, Released, Up}
+use Rattle.lagsystem.specs.declared.received.Received.{Received}
+use Rattle.lagsystem.specs.declared.received.Received.TheVariants.{Disabled, Dropped, Ignored, TookLacpdu, Respond, Released, Up}
 use Rattle.lagsystem.specs.declared.drive.Reply.{Reply}
 use Rattle.lagsystem.specs.declared.drive.Reply.TheVariants as reply
 use Rattle.lagsystem.specs.declared.fault.BadConfig.{BadConfig}
 use Rattle.lagsystem.specs.declared.fault.BadConfig.TheVariants as reason
 use Rattle.lagsystem.specs.declared.fault.SystemFault.{SystemFault}
 use Rattle.lagsystem.specs.declared.fault.SystemFault.TheVariants as system
-use Rattle.lagengine.specs.Looks.{Sharing}
-use Rattle.lagengine.specs.Said.{Said}
-use Rattle.lagengine.specs.Said as said
-use Rattle.lagengine.specs.declared.fault.LineFault.{LineFault}
-use Rattle.lagengine.specs.declared.fault.LineFault.TheVariants as fault
+use Rattle.lagengine.specs.Looks.{AggAnswerValue}
+use Rattle.lagengine.specs.AnswerValues.{AnswerValue}
+use Rattle.lagengine.specs.AnswerValues as said
+use Rattle.lagengine.specs.declared.fault.RequestFault.{RequestFault}
+use Rattle.lagengine.specs.declared.fault.RequestFault.TheVariants as fault
 use Rattle.lagengine.specs.declared.looks.Look.{Look}
 use Rattle.lagengine.specs.declared.looks.PortFact.{PortFact}
 use Rattle.lagengine.specs.declared.looks.PortFact.TheVariants as fact
-use Rattle.lagengine.specs.declared.looks.PortTold.{PortTold}
+use Rattle.lagengine.specs.declared.looks.PortAnswer.{PortAnswer}
 use Rattle.lagengine.specs.declared.stopped.Stopped.{Stopped}
 use Rattle.lagengine.specs.declared.stopped.Stopped.TheVariants as stopped
 
@@ -42,20 +42,20 @@ each_text text [] = []
 each_text text (x ∷ xs) = text x ++ each_text text xs
 
 -- why a line is refused
-abbrev pub line_fault_text : LineFault → List ℕ
-line_fault_text fault.TooLong = codes "too-long"
-line_fault_text fault.NotText = codes "not-text"
-line_fault_text fault.Word = codes "word"
-line_fault_text fault.Count = codes "count"
-line_fault_text fault.Number = codes "number"
-line_fault_text fault.Mac = codes "mac"
-line_fault_text fault.Flag = codes "flag"
-line_fault_text fault.Link = codes "link"
-line_fault_text fault.Kind = codes "kind"
-line_fault_text fault.Hex = codes "hex"
-line_fault_text fault.NoSystem = codes "no-system"
-line_fault_text fault.NotKeeping = codes "not-keeping"
-line_fault_text fault.NoMemory = codes "no-memory"
+abbrev pub request_fault_text : RequestFault → List ℕ
+request_fault_text fault.TooLong = codes "too-long"
+request_fault_text fault.NotText = codes "not-text"
+request_fault_text fault.Word = codes "word"
+request_fault_text fault.Count = codes "count"
+request_fault_text fault.Number = codes "number"
+request_fault_text fault.Mac = codes "mac"
+request_fault_text fault.Flag = codes "flag"
+request_fault_text fault.Link = codes "link"
+request_fault_text fault.Kind = codes "kind"
+request_fault_text fault.Hex = codes "hex"
+request_fault_text fault.NoSystem = codes "no-system"
+request_fault_text fault.NotKeeping = codes "not-keeping"
+request_fault_text fault.NoMemory = codes "no-memory"
 
 -- why a system could not be made, or refused a call
 abbrev pub reason_name : BadConfig → List ℕ
@@ -129,11 +129,11 @@ reply_text (reply.MoveConversation answer) = done_text answer
 reply_text (reply.Force answer) = done_text answer
 
 -- each result, with a semicolon after it
-abbrev pub ended_text : Reply → List ℕ
-ended_text r = reply_text r ++ 59 ∷ []
+abbrev pub reply_and_semicolon : Reply → List ℕ
+reply_and_semicolon r = reply_text r ++ 59 ∷ []
 
 abbrev pub replies_text : List Reply → List ℕ
-replies_text = each_text ended_text
+replies_text = each_text reply_and_semicolon
 
 -- true or false
 abbrev pub flag_text : Bool → List ℕ
@@ -177,13 +177,13 @@ ends_text l = codes "party " ++ (party_text l.party ++ (codes "; partner "
     ++ (partner_text l.partner ++ (codes "; group " ++ group_text l.group))))
 
 -- the values of a port's machines
-abbrev pub held_text : Look → List ℕ
-held_text l =
+abbrev pub machines_text : Look → List ℕ
+machines_text l =
     codes "defaulted " ++ (flag_text l.defaulted ++ (codes "; distributes " ++ (flag_text l.distributes
     ++ (codes "; " ++ (choice_text l.choice ++ (codes "; mux " ++ mux_text l.mux))))))
 
 abbrev pub look_text : Look → List ℕ
-look_text l = ends_text l ++ (codes "; " ++ held_text l)
+look_text l = ends_text l ++ (codes "; " ++ machines_text l)
 
 -- the answer for a port
 abbrev pub fact_text : PortFact → List ℕ
@@ -199,8 +199,8 @@ fact_or_none None = codes "none"
 fact_or_none (Some f) = fact_text f
 
 -- port NUMBER: FACT
-abbrev pub told_text : PortTold → List ℕ
-told_text t = codes "port " ++ (decimal t.port ++ (codes ": " ++ fact_or_none t.fact))
+abbrev pub port_answer_text : PortAnswer → List ℕ
+port_answer_text t = codes "port " ++ (decimal t.port ++ (codes ": " ++ fact_or_none t.fact))
 
 -- the numbers, with a space before each; or none
 abbrev pub spaced : ℕ → List ℕ
@@ -211,8 +211,8 @@ numbers_text [] = codes " none"
 numbers_text (n ∷ ns) = each_text spaced (n ∷ ns)
 
 -- aggregator NUMBER: PORTS
-abbrev pub sharing_text : Sharing → List ℕ
-sharing_text t = codes "aggregator " ++ (decimal t.agg ++ 58 ∷ numbers_text t.ports)
+abbrev pub agg_answer_text : AggAnswerValue → List ℕ
+agg_answer_text t = codes "aggregator " ++ (decimal t.agg ++ 58 ∷ numbers_text t.ports)
 
 -- a number or none
 abbrev pub number_text : Option ℕ → List ℕ
@@ -225,47 +225,47 @@ preferred_text None = []
 preferred_text (Some port) = codes " preferred " ++ decimal port
 
 -- the state of a conversation
-abbrev pub doing_text : Assignment → List ℕ
-doing_text (Free preferred) = codes "free" ++ preferred_text preferred
-doing_text (On port) = codes "on " ++ decimal port
-doing_text (Wanted port preferred) = codes "wanted " ++ (decimal port ++ preferred_text preferred)
-doing_text (Flushing port id preferred age) = codes "flushing "
+abbrev pub conversation_text : Assignment → List ℕ
+conversation_text (Free preferred) = codes "free" ++ preferred_text preferred
+conversation_text (On port) = codes "on " ++ decimal port
+conversation_text (Wanted port preferred) = codes "wanted " ++ (decimal port ++ preferred_text preferred)
+conversation_text (Flushing port id preferred age) = codes "flushing "
     ++ (decimal port ++ (codes " id " ++ (decimal id ++ (codes " age " ++ (decimal age ++ preferred_text preferred)))))
 
-abbrev pub doing_or_none : Option Assignment → List ℕ
-doing_or_none None = codes "none"
-doing_or_none (Some doing) = doing_text doing
+abbrev pub conversation_or_none : Option Assignment → List ℕ
+conversation_or_none None = codes "none"
+conversation_or_none (Some doing) = conversation_text doing
 
 -- each port with a bar after it; then the aggregators, with a bar between them
-abbrev pub port_bar : PortTold → List ℕ
-port_bar t = told_text t ++ codes " | "
+abbrev pub port_bar : PortAnswer → List ℕ
+port_bar t = port_answer_text t ++ codes " | "
 
-abbrev pub bar_sharing : Sharing → List ℕ
-bar_sharing t = codes " | " ++ sharing_text t
+abbrev pub bar_agg_answer : AggAnswerValue → List ℕ
+bar_agg_answer t = codes " | " ++ agg_answer_text t
 
-abbrev pub sharings_text : List Sharing → List ℕ
-sharings_text [] = []
-sharings_text (t ∷ ts) = sharing_text t ++ each_text bar_sharing ts
+abbrev pub agg_answers_text : List AggAnswerValue → List ℕ
+agg_answers_text [] = []
+agg_answers_text (t ∷ ts) = agg_answer_text t ++ each_text bar_agg_answer ts
 
-abbrev pub all_text : List PortTold → List Sharing → List ℕ
-all_text ports aggs = each_text port_bar ports ++ sharings_text aggs
+abbrev pub all_text : List PortAnswer → List AggAnswerValue → List ℕ
+all_text ports aggs = each_text port_bar ports ++ agg_answers_text aggs
 
 -- the text of an answer, without a line end
-abbrev pub said_text : Said → List ℕ
-said_text said.Done = codes "ok"
-said_text said.Kept = codes "kept"
-said_text (said.Replied r) = reply_text r
-said_text (said.Drove replies) = replies_text replies
-said_text (said.Refused f) = refused_text f
-said_text (said.Port t) = told_text t
-said_text (said.Ports ports) = codes "ports:" ++ numbers_text ports
-said_text (said.Aggregators count) = codes "aggregators: " ++ decimal count
-said_text (said.Distributing t) = sharing_text t
-said_text (said.Conversation conv) = number_text conv
-said_text (said.ConversationState doing) = doing_or_none doing
-said_text (said.NextMarker id) = number_text id
-said_text (said.All ports aggs) = all_text ports aggs
-said_text (said.Fault f) = codes "fault " ++ line_fault_text f
+abbrev pub answer_text : AnswerValue → List ℕ
+answer_text said.Done = codes "ok"
+answer_text said.Kept = codes "kept"
+answer_text (said.Replied r) = reply_text r
+answer_text (said.Drove replies) = replies_text replies
+answer_text (said.Refused f) = refused_text f
+answer_text (said.Port t) = port_answer_text t
+answer_text (said.Ports ports) = codes "ports:" ++ numbers_text ports
+answer_text (said.Aggregators count) = codes "aggregators: " ++ decimal count
+answer_text (said.Distributing t) = agg_answer_text t
+answer_text (said.Conversation conv) = number_text conv
+answer_text (said.ConversationState doing) = conversation_or_none doing
+answer_text (said.NextMarker id) = number_text id
+answer_text (said.All ports aggs) = all_text ports aggs
+answer_text (said.Fault f) = codes "fault " ++ request_fault_text f
 
 -- why the program stopped before its input ended, as standard error says it after `lagengine: `
 abbrev pub stopped_text : Stopped → List ℕ

@@ -7,8 +7,8 @@ use Rattle.std.specs.Str.Parse.{digits_value}
 use Rattle.hex.specs.Hex.{decode_of, decode_sized}
 use Rattle.lagtypes.specs.declared.identifiers.Key.{Key}
 use Rattle.lagsystem.specs.declared.config.PortConfig.{PortConfig}
-use Rattle.lagengine.specs.declared.fault.LineFault.{LineFault}
-use Rattle.lagengine.specs.declared.fault.LineFault.TheVariants as fault
+use Rattle.lagengine.specs.declared.fault.RequestFault.{RequestFault}
+use Rattle.lagengine.specs.declared.fault.RequestFault.TheVariants as fault
 
 -- the second step if the first gave a value, else the first fault
 infixl 10 ◌>>=◌
@@ -38,49 +38,49 @@ is_numeral w = nat_lt 0 (length w) && all_ascii_digits w
 abbrev pub number_below : ℕ → List ℕ → Option ℕ
 number_below limit w = if is_numeral w && nat_lt (digits_value 10 w) limit then Some (digits_value 10 w) else None
 
-abbrev pub number_word : List ℕ → Result ℕ LineFault
+abbrev pub number_word : List ℕ → Result ℕ RequestFault
 number_word w = or_fault fault.Number (number_below 65536 w)
 
-abbrev pub long_word : List ℕ → Result ℕ LineFault
+abbrev pub long_word : List ℕ → Result ℕ RequestFault
 long_word w = or_fault fault.Number (number_below 4294967296 w)
 
 -- twelve hexadecimal digits
-abbrev pub mac_word : List ℕ → Result (List ℕ) LineFault
+abbrev pub mac_word : List ℕ → Result (List ℕ) RequestFault
 mac_word w = or_fault fault.Mac (result_ok (decode_sized w 6))
 
 -- one of two words
-abbrev pub one_of : List ℕ → List ℕ → LineFault → List ℕ → Result Bool LineFault
+abbrev pub one_of : List ℕ → List ℕ → RequestFault → List ℕ → Result Bool RequestFault
 one_of yes_word no_word e w = if bytes_eq w yes_word then Ok true else if bytes_eq w no_word then Ok false else Err e
 
-abbrev pub flag_word : List ℕ → Result Bool LineFault
+abbrev pub flag_word : List ℕ → Result Bool RequestFault
 flag_word = one_of (codes "1") (codes "0") fault.Flag
 
-abbrev pub link_word : List ℕ → Result Bool LineFault
+abbrev pub link_word : List ℕ → Result Bool RequestFault
 link_word = one_of (codes "up") (codes "down") fault.Link
 
-abbrev pub kind_word : List ℕ → Result Bool LineFault
+abbrev pub kind_word : List ℕ → Result Bool RequestFault
 kind_word = one_of (codes "aggregatable") (codes "individual") fault.Kind
 
 -- octets in hexadecimal digits, upper or lower case; the empty word has none
-abbrev pub hex_word : List ℕ → Result (List ℕ) LineFault
+abbrev pub hex_word : List ℕ → Result (List ℕ) RequestFault
 hex_word w = or_fault fault.Hex (result_ok (decode_of w))
 
 -- keys joined by commas, or a dash for none
-abbrev pub key_word : List ℕ → Result Key LineFault
+abbrev pub key_word : List ℕ → Result Key RequestFault
 key_word w = number_word w >>= λ n. Ok (record { 0 = n })
 
-abbrev pub keys_word : List ℕ → Result (List Key) LineFault
+abbrev pub keys_word : List ℕ → Result (List Key) RequestFault
 keys_word w = if bytes_eq w (codes "-") then Ok [] else each key_word (parts 44 w)
 
 -- NUMBER:PRIORITY:MAC:KEY:AGGREGATABLE:ACTIVE:SHORT
-abbrev pub Seven : Type 0
-Seven = List ℕ × List ℕ × List ℕ × List ℕ × List ℕ × List ℕ × List ℕ
+abbrev pub SevenFields : Type 0
+SevenFields = List ℕ × List ℕ × List ℕ × List ℕ × List ℕ × List ℕ × List ℕ
 
-abbrev pub seven_fields : List (List ℕ) → Result Seven LineFault
+abbrev pub seven_fields : List (List ℕ) → Result SevenFields RequestFault
 seven_fields (a ∷ b ∷ c ∷ d ∷ e ∷ f ∷ g ∷ []) = Ok (a, b, c, d, e, f, g)
 seven_fields _ = Err fault.Count
 
-abbrev pub port_fields : List (List ℕ) → Result PortConfig LineFault
+abbrev pub port_fields : List (List ℕ) → Result PortConfig RequestFault
 port_fields ws =
     seven_fields ws >>= λ p. number_word p.0 >>= λ number. number_word p.1 >>= λ priority. mac_word p.2 >>= λ mac. number_word p.3
     >>= λ key.
@@ -95,5 +95,5 @@ port_fields ws =
       short = short;
     })
 
-abbrev pub port_word : List ℕ → Result PortConfig LineFault
+abbrev pub port_word : List ℕ → Result PortConfig RequestFault
 port_word w = port_fields (parts 58 w)

@@ -1,11 +1,11 @@
 ghost use Rattle.std.specs.Prelude.{◌≡◌, Some};
-ghost use Rattle.lagengine.specs.Said.{said_of};
-ghost use Rattle.lagengine.specs.Texts.{said_text};
+ghost use Rattle.lagengine.specs.AnswerValues.{answer_value};
+ghost use Rattle.lagengine.specs.Texts.{answer_text};
 
-use crate::facts::{DoingText, NumberText, write_all, write_numbers};
-use crate::fault::LineFault;
-use crate::looks::{AggTold, PortTold};
-use crate::replies::{RefusedText, ReplyText, write_replies};
+use crate::fact_texts::{ConversationText, NumberText, write_all, write_numbers};
+use crate::fault::RequestFault;
+use crate::looks::{AggAnswer, PortAnswer};
+use crate::reply_texts::{RefusedText, ReplyText, write_replies};
 use arrayvec::ArrayVec;
 use lagsystem::{Assignment, Reply, SystemFault};
 use std::fmt;
@@ -24,13 +24,13 @@ pub enum Answer {
     /// Why the system could not be made.
     Refused(SystemFault),
     /// What a reader returns for a port.
-    Port(PortTold),
+    Port(PortAnswer),
     /// The numbers of the ports.
     Ports(ArrayVec<u16, 64>),
     /// How many aggregators there are.
     Aggregators(usize),
     /// The ports that distribute in an aggregator.
-    Distributing(AggTold),
+    Distributing(AggAnswer),
     /// The conversation of a frame.
     Conversation(Option<u16>),
     /// The state of a conversation; None if there is no such conversation.
@@ -38,13 +38,13 @@ pub enum Answer {
     /// The identifier of the next marker.
     NextMarker(Option<u32>),
     /// What `look` returns for every port, and the ports that distribute in each aggregator.
-    All(Vec<PortTold>, Vec<AggTold>),
+    All(Vec<PortAnswer>, Vec<AggAnswer>),
     /// Why the line is refused.
-    Fault(LineFault),
+    Fault(RequestFault),
 }
 
 impl fmt::Display for Answer {
-    ghost output = { λ answer. Some (said_text (said_of answer)) };
+    ghost output = { λ answer. Some (answer_text (answer_value answer)) };
 
     fn fmt<W: fmt::Write>(&self, f: &mut fmt::Formatter<W>) -> fmt::Result {
         match self {
@@ -61,7 +61,7 @@ impl fmt::Display for Answer {
             Answer::Aggregators(count) => write!(f, "aggregators: {count}"),
             Answer::Distributing(told) => write!(f, "{told}"),
             Answer::Conversation(conv) => write!(f, "{}", NumberText(conv.map(u32::from))),
-            Answer::ConversationState(doing) => write!(f, "{}", DoingText(*doing)),
+            Answer::ConversationState(doing) => write!(f, "{}", ConversationText(*doing)),
             Answer::NextMarker(id) => write!(f, "{}", NumberText(*id)),
             Answer::All(ports, aggs) => write_all(f, ports.as_slice(), aggs.as_slice()),
             Answer::Fault(fault) => write!(f, "fault {fault}"),

@@ -1,22 +1,22 @@
 ghost use Rattle.std.specs.Prelude.{◌≡◌, map};
-ghost use Rattle.lagengine.specs.Requests.{Enters, plan_in, plan_of, seen_seven};
+ghost use Rattle.lagengine.specs.Requests.{ReadsAs, config_in, config_value, seven_words_octets};
 ghost use Rattle.lagengine.specs.Words.{each, key_word, keys_word, port_fields, port_word, seven_fields};
 
-use crate::fault::{LineError, LineFault};
+use crate::fault::{RequestError, RequestFault};
 use crate::words::{fields_of, flag, items_of, long, mac, number};
 use lagsystem::{Config, Key, PortConfig, SystemId};
 use std::alloc::Global;
 
 /// Reads a key.
-fn key(word: &str) -> Result<Key, LineFault>
+fn key(word: &str) -> Result<Key, RequestFault>
     ensures { result ≡ key_word word.now }
 {
     Ok(Key(number(word)?))
 }
 
 /// Reads these keys.
-fn each_key(alloc: Global, words: &[&str]) -> Result<Vec<Key>, LineError>
-    ensures { Enters (λ v. v.items) (each key_word (map (λ w. w.now) words.now)) result }
+fn each_key(alloc: Global, words: &[&str]) -> Result<Vec<Key>, RequestError>
+    ensures { ReadsAs (λ v. v.items) (each key_word (map (λ w. w.now) words.now)) result }
 {
     let mut keys = Vec::with_capacity(alloc, words.len())?;
     for word in words {
@@ -27,8 +27,8 @@ fn each_key(alloc: Global, words: &[&str]) -> Result<Vec<Key>, LineError>
 }
 
 /// Reads the keys of the aggregators: joined by commas, or a dash for none.
-fn keys(alloc: Global, word: &str) -> Result<Vec<Key>, LineError>
-    ensures { Enters (λ v. v.items) (keys_word word.now) result }
+fn keys(alloc: Global, word: &str) -> Result<Vec<Key>, RequestError>
+    ensures { ReadsAs (λ v. v.items) (keys_word word.now) result }
 {
     if word == "-" {
         return Ok(Vec::new(alloc));
@@ -50,18 +50,18 @@ fn seven_fields<'a>(
         &'a str,
         &'a str,
     ),
-    LineFault,
+    RequestFault,
 >
-    ensures { seen_seven result ≡ seven_fields (map (λ w. w.now) fields.now) }
+    ensures { seven_words_octets result ≡ seven_fields (map (λ w. w.now) fields.now) }
 {
     match fields {
         [a, b, c, d, e, f, g] => Ok((*a, *b, *c, *d, *e, *f, *g)),
-        _ => Err(LineFault::Count),
+        _ => Err(RequestFault::Count),
     }
 }
 
 /// Reads a port from its seven fields.
-fn port_of(fields: &[&str]) -> Result<PortConfig, LineFault>
+fn port_of(fields: &[&str]) -> Result<PortConfig, RequestFault>
     ensures { result ≡ port_fields (map (λ w. w.now) fields.now) }
 {
     let (port, priority, address, key, aggregatable, active, short) = seven_fields(fields)?;
@@ -84,8 +84,8 @@ fn port_of(fields: &[&str]) -> Result<PortConfig, LineFault>
 }
 
 /// Reads a port from a word of seven fields.
-fn port(alloc: Global, word: &str) -> Result<PortConfig, LineError>
-    ensures { Enters (λ p. p) (port_word word.now) result }
+fn port(alloc: Global, word: &str) -> Result<PortConfig, RequestError>
+    ensures { ReadsAs (λ p. p) (port_word word.now) result }
 {
     let fields = fields_of(alloc, word)?;
     let port = port_of(fields.as_slice())?;
@@ -93,8 +93,8 @@ fn port(alloc: Global, word: &str) -> Result<PortConfig, LineError>
 }
 
 /// Reads these ports.
-fn each_port(alloc: Global, words: &[&str]) -> Result<Vec<PortConfig>, LineError>
-    ensures { Enters (λ v. v.items) (each port_word (map (λ w. w.now) words.now)) result }
+fn each_port(alloc: Global, words: &[&str]) -> Result<Vec<PortConfig>, RequestError>
+    ensures { ReadsAs (λ v. v.items) (each port_word (map (λ w. w.now) words.now)) result }
 {
     let mut ports = Vec::with_capacity(alloc, words.len())?;
     for word in words {
@@ -105,8 +105,8 @@ fn each_port(alloc: Global, words: &[&str]) -> Result<Vec<PortConfig>, LineError
 }
 
 /// Reads the configuration of a new system: PRIORITY MAC MAX_DELAY FIRST_MARKER KEYS PORT .. (profile).
-pub(crate) fn system(alloc: Global, words: &[&str]) -> Result<Config, LineError>
-    ensures { Enters plan_of (plan_in (map (λ w. w.now) words.now)) result }
+pub(crate) fn system(alloc: Global, words: &[&str]) -> Result<Config, RequestError>
+    ensures { ReadsAs config_value (config_in (map (λ w. w.now) words.now)) result }
 {
     match words {
         [priority, address, delay, marker, aggregators, ports @ ..] => {
@@ -124,6 +124,6 @@ pub(crate) fn system(alloc: Global, words: &[&str]) -> Result<Config, LineError>
                 ports,
             })
         }
-        _ => Err(LineError::Fault(LineFault::Count)),
+        _ => Err(RequestError::Fault(RequestFault::Count)),
     }
 }

@@ -2,21 +2,21 @@ ghost use Rattle.std.specs.Prelude.{◌≡◌, IfOk, None, Ok, OnErr, Some};
 ghost use Rattle.distributor.specs.Calls.{PicksPlaces};
 ghost use Rattle.lagsystem.specs.Drives.{call_of};
 ghost use Rattle.lagsystem.specs.Sound.{Answers};
-ghost use Rattle.lagengine.specs.Engines.{Acts, ActsWhere, AnswersLine, Calls, Does, DrivesKept, HasAlgorithm, Starts, begun, held_of, kept_of, state_of, told, whole_of};
-ghost use Rattle.lagengine.specs.Requests.{asked_of, plan_of, task_of};
-ghost use Rattle.lagengine.specs.Said.{said_of};
+ghost use Rattle.lagengine.specs.Engines.{DoesTask, DoesTaskIfSystem, AnswersLine, CallsOrKeeps, DoesRequest, DrivesKept, HasAlgorithm, AnswersStart, kept_so_far, engine_state, kept_of, system_state, reader_answer, engine_value};
+ghost use Rattle.lagengine.specs.Requests.{request_value, config_value, task_value};
+ghost use Rattle.lagengine.specs.AnswerValues.{answer_value};
 
 use crate::answer::Answer;
-use crate::fault::{LineError, LineFault};
-use crate::looks::{agg_told, all_aggregators, all_ports, port_told};
-use crate::request::{Question, Request, Task, request_of};
+use crate::fault::{RequestError, RequestFault};
+use crate::looks::{agg_answer, all_aggregators, all_ports, port_answer};
+use crate::request::{Question, Request, Task, request_in};
 use lagsystem::{Call, Config, Reply, System};
 use std::alloc::{AllocError, Global};
 use std::marker::Model;
 
 /// The state of an engine.
 #[derive(Drop)]
-struct Core<F> {
+struct Inner<F> {
     alloc: Global,
     algorithm: F,
     system: Option<System<F>>,
@@ -28,21 +28,21 @@ struct Core<F> {
 /// of the distribution algorithm; each system gets a copy of it.
 #[derive(Drop)]
 pub struct Engine<F> {
-    core: Core<F>,
+    inner: Inner<F>,
 }
 
 impl<F> Model for Engine<F> {
-    ghost use Rattle.lagengine.specs.Engines.{HasAlgorithm, Whole_engine, whole_of};
+    ghost use Rattle.lagengine.specs.Engines.{HasAlgorithm, EngineValue, engine_value};
 
-    ghost Value = { Whole_engine F };
+    ghost Value = { EngineValue F };
 
-    ghost view = { λ e. whole_of e.core };
+    ghost view = { λ e. engine_value e.inner };
 
-    ghost invariant = { λ e. HasAlgorithm e.core.algorithm e.core.system };
+    ghost invariant = { λ e. HasAlgorithm e.inner.algorithm e.inner.system };
 }
 
 /// Makes a call.
-fn make<F: Fn(u16, usize) -> usize + Drop>(system: &mut System<F>, call: &Call) -> Reply
+fn make_call<F: Fn(u16, usize) -> usize + Drop>(system: &mut System<F>, call: &Call) -> Reply
     requires usable { PicksPlaces (F.pre system.old.algorithm) (F.post system.old.algorithm) }
     ensures answers { Answers (F.post system.old.algorithm) system.old.state (call_of call.now) result system.new.state }
     ensures algorithm { system.new.algorithm ≡ system.old.algorithm }
@@ -69,18 +69,18 @@ fn make<F: Fn(u16, usize) -> usize + Drop>(system: &mut System<F>, call: &Call) 
 }
 
 /// Answers a question by a reader of the system.
-fn tell<F: Fn(u16, usize) -> usize + Drop>(
+fn answer_question<F: Fn(u16, usize) -> usize + Drop>(
     alloc: Global,
     system: &System<F>,
     question: Question,
 ) -> Result<Answer, AllocError>
-    ensures { IfOk result (λ answer. said_of answer ≡ told question system.now.state) }
+    ensures { IfOk result (λ answer. answer_value answer ≡ reader_answer question system.now.state) }
 {
     match question {
-        Question::Port(asked, port) => Ok(Answer::Port(port_told(system, asked, port))),
+        Question::Port(asked, port) => Ok(Answer::Port(port_answer(system, asked, port))),
         Question::Ports => Ok(Answer::Ports(system.ports())),
         Question::Aggregators => Ok(Answer::Aggregators(system.aggregators())),
-        Question::Distributing(agg) => Ok(Answer::Distributing(agg_told(system, agg.0))),
+        Question::Distributing(agg) => Ok(Answer::Distributing(agg_answer(system, agg.0))),
         Question::ConversationState(agg, conv) => {
             Ok(Answer::ConversationState(system.conversation_state(agg, conv)))
         }
@@ -94,19 +94,19 @@ fn tell<F: Fn(u16, usize) -> usize + Drop>(
 }
 
 /// Makes a call; or stores it for `drive`, if calls are stored.
-fn take<F: Fn(u16, usize) -> usize + Drop>(
+fn call_or_keep<F: Fn(u16, usize) -> usize + Drop>(
     system: &mut System<F>,
     kept: &mut Option<Vec<Call>>,
     call: Call,
 ) -> Result<Answer, AllocError>
     requires usable { PicksPlaces (F.pre system.old.algorithm) (F.post system.old.algorithm) }
-    ensures acts { IfOk result (λ answer. Calls (F.post system.old.algorithm) (call_of call) system.old.state (kept_of kept.old)
-        (said_of answer) (held_of system.new kept.new)) }
-    ensures err { OnErr result (held_of system.new kept.new ≡ held_of system.old kept.old) }
+    ensures acts { IfOk result (λ answer. CallsOrKeeps (F.post system.old.algorithm) (call_of call) system.old.state (kept_of kept.old)
+        (answer_value answer) (engine_state system.new kept.new)) }
+    ensures err { OnErr result (engine_state system.new kept.new ≡ engine_state system.old kept.old) }
     ensures algorithm { system.new.algorithm ≡ system.old.algorithm }
 {
     match kept {
-        None => Ok(Answer::Reply(make(system, &call))),
+        None => Ok(Answer::Reply(make_call(system, &call))),
         Some(calls) => {
             calls.push(call)?;
             Ok(Answer::Kept)
@@ -121,13 +121,13 @@ fn drive<F: Fn(u16, usize) -> usize + Drop>(
     kept: &mut Option<Vec<Call>>,
 ) -> Result<Answer, AllocError>
     requires usable { PicksPlaces (F.pre system.old.algorithm) (F.post system.old.algorithm) }
-    ensures acts { IfOk result (λ answer. DrivesKept (F.post system.old.algorithm) system.old.state (kept_of kept.old) (said_of answer)
-        (held_of system.new kept.new)) }
-    ensures err { OnErr result (held_of system.new kept.new ≡ held_of system.old kept.old) }
+    ensures acts { IfOk result (λ answer. DrivesKept (F.post system.old.algorithm) system.old.state (kept_of kept.old) (answer_value answer)
+        (engine_state system.new kept.new)) }
+    ensures err { OnErr result (engine_state system.new kept.new ≡ engine_state system.old kept.old) }
     ensures algorithm { system.new.algorithm ≡ system.old.algorithm }
 {
     let replies = match kept {
-        None => return Ok(Answer::Fault(LineFault::NotKeeping)),
+        None => return Ok(Answer::Fault(RequestFault::NotKeeping)),
         Some(calls) => system.drive(alloc, calls.as_slice())?,
     };
     *kept = None;
@@ -136,7 +136,7 @@ fn drive<F: Fn(u16, usize) -> usize + Drop>(
 
 /// From now on, stores calls for `drive`, after those already stored.
 fn keep(alloc: Global, kept: &mut Option<Vec<Call>>)
-    ensures { kept_of kept.new ≡ Some (begun (kept_of kept.old)) }
+    ensures { kept_of kept.new ≡ Some (kept_so_far (kept_of kept.old)) }
 {
     if kept.is_none() {
         *kept = Some(Vec::new(alloc));
@@ -144,36 +144,36 @@ fn keep(alloc: Global, kept: &mut Option<Vec<Call>>)
 }
 
 /// Does a task with a system.
-fn work_on<F: Fn(u16, usize) -> usize + Drop>(
+fn do_task<F: Fn(u16, usize) -> usize + Drop>(
     alloc: Global,
     system: &mut System<F>,
     kept: &mut Option<Vec<Call>>,
     task: Task,
 ) -> Result<Answer, AllocError>
     requires usable { PicksPlaces (F.pre system.old.algorithm) (F.post system.old.algorithm) }
-    ensures acts { IfOk result (λ answer. Acts (F.post system.old.algorithm) (task_of task) system.old.state (kept_of kept.old)
-        (said_of answer) (held_of system.new kept.new)) }
-    ensures err { OnErr result (held_of system.new kept.new ≡ held_of system.old kept.old) }
+    ensures acts { IfOk result (λ answer. DoesTask (F.post system.old.algorithm) (task_value task) system.old.state (kept_of kept.old)
+        (answer_value answer) (engine_state system.new kept.new)) }
+    ensures err { OnErr result (engine_state system.new kept.new ≡ engine_state system.old kept.old) }
     ensures algorithm { system.new.algorithm ≡ system.old.algorithm }
 {
     match task {
-        Task::Make(call) => take(system, kept, call),
+        Task::Make(call) => call_or_keep(system, kept, call),
         Task::Keep => {
             keep(alloc, kept);
             Ok(Answer::Done)
         }
         Task::Drive => drive(alloc, system, kept),
         Task::Conversation(frame) => Ok(Answer::Conversation(system.conversation(&frame))),
-        Task::Tell(question) => tell(alloc, system, question),
+        Task::Ask(question) => answer_question(alloc, system, question),
     }
 }
 
-impl<F: Fn(u16, usize) -> usize + Copy + Drop> Core<F> {
+impl<F: Fn(u16, usize) -> usize + Copy + Drop> Inner<F> {
     /// Makes a new system, which replaces the present one; if it is refused, the present one stays.
-    fn start(&mut self, config: Config) -> Answer
+    fn make_system(&mut self, config: Config) -> Answer
         requires usable { PicksPlaces (F.pre self.old.algorithm) (F.post self.old.algorithm) }
         requires same { HasAlgorithm self.old.algorithm self.old.system }
-        ensures starts { Starts (plan_of config) (whole_of self.old).held (said_of result) (whole_of self.new).held }
+        ensures starts { AnswersStart (config_value config) (engine_value self.old).state (answer_value result) (engine_value self.new).state }
         ensures algorithm { self.new.algorithm ≡ self.old.algorithm }
         ensures same { HasAlgorithm self.new.algorithm self.new.system }
     {
@@ -188,34 +188,34 @@ impl<F: Fn(u16, usize) -> usize + Copy + Drop> Core<F> {
     }
 
     /// Does a task with the system; `NoSystem` if there is none.
-    fn work(&mut self, task: Task) -> Result<Answer, AllocError>
+    fn do_task_if_system(&mut self, task: Task) -> Result<Answer, AllocError>
         requires usable { PicksPlaces (F.pre self.old.algorithm) (F.post self.old.algorithm) }
         requires same { HasAlgorithm self.old.algorithm self.old.system }
-        ensures acts { IfOk result (λ answer. ActsWhere (F.post self.old.algorithm) (task_of task) (state_of self.old.system)
-            (kept_of self.old.kept) (said_of answer) (whole_of self.new).held) }
-        ensures err { OnErr result ((whole_of self.new).held ≡ (whole_of self.old).held) }
+        ensures acts { IfOk result (λ answer. DoesTaskIfSystem (F.post self.old.algorithm) (task_value task) (system_state self.old.system)
+            (kept_of self.old.kept) (answer_value answer) (engine_value self.new).state) }
+        ensures err { OnErr result ((engine_value self.new).state ≡ (engine_value self.old).state) }
         ensures algorithm { self.new.algorithm ≡ self.old.algorithm }
         ensures same { HasAlgorithm self.new.algorithm self.new.system }
     {
         match &mut self.system {
-            None => Ok(Answer::Fault(LineFault::NoSystem)),
-            Some(system) => work_on(self.alloc, system, &mut self.kept, task),
+            None => Ok(Answer::Fault(RequestFault::NoSystem)),
+            Some(system) => do_task(self.alloc, system, &mut self.kept, task),
         }
     }
 
     /// Makes a new system, or gives the task to the present one; `NoSystem` if there is none.
-    fn act(&mut self, request: Request) -> Result<Answer, AllocError>
+    fn do_request(&mut self, request: Request) -> Result<Answer, AllocError>
         requires usable { PicksPlaces (F.pre self.old.algorithm) (F.post self.old.algorithm) }
         requires same { HasAlgorithm self.old.algorithm self.old.system }
-        ensures does { IfOk result (λ answer. Does (F.post self.old.algorithm) (Ok (asked_of request)) (whole_of self.old).held
-            (said_of answer) (whole_of self.new).held) }
-        ensures err { OnErr result ((whole_of self.new).held ≡ (whole_of self.old).held) }
+        ensures does { IfOk result (λ answer. DoesRequest (F.post self.old.algorithm) (Ok (request_value request)) (engine_value self.old).state
+            (answer_value answer) (engine_value self.new).state) }
+        ensures err { OnErr result ((engine_value self.new).state ≡ (engine_value self.old).state) }
         ensures algorithm { self.new.algorithm ≡ self.old.algorithm }
         ensures same { HasAlgorithm self.new.algorithm self.new.system }
     {
         match request {
-            Request::System(config) => Ok(self.start(config)),
-            Request::Work(task) => self.work(task),
+            Request::System(config) => Ok(self.make_system(config)),
+            Request::Work(task) => self.do_task_if_system(task),
         }
     }
 
@@ -223,18 +223,18 @@ impl<F: Fn(u16, usize) -> usize + Copy + Drop> Core<F> {
     fn answer(&mut self, line: &[u8]) -> Answer
         requires usable { PicksPlaces (F.pre self.old.algorithm) (F.post self.old.algorithm) }
         requires same { HasAlgorithm self.old.algorithm self.old.system }
-        ensures answers { AnswersLine (F.post self.old.algorithm) line.now (whole_of self.old).held (said_of result)
-            (whole_of self.new).held }
+        ensures answers { AnswersLine (F.post self.old.algorithm) line.now (engine_value self.old).state (answer_value result)
+            (engine_value self.new).state }
         ensures algorithm { self.new.algorithm ≡ self.old.algorithm }
         ensures same { HasAlgorithm self.new.algorithm self.new.system }
     {
-        match request_of(self.alloc, line) {
-            Ok(request) => match self.act(request) {
+        match request_in(self.alloc, line) {
+            Ok(request) => match self.do_request(request) {
                 Ok(answer) => answer,
-                Err(_) => Answer::Fault(LineFault::NoMemory),
+                Err(_) => Answer::Fault(RequestFault::NoMemory),
             },
-            Err(LineError::Fault(fault)) => Answer::Fault(fault),
-            Err(LineError::NoMemory) => Answer::Fault(LineFault::NoMemory),
+            Err(RequestError::Fault(fault)) => Answer::Fault(fault),
+            Err(RequestError::NoMemory) => Answer::Fault(RequestFault::NoMemory),
         }
     }
 }
@@ -243,11 +243,11 @@ impl<F: Fn(u16, usize) -> usize + Copy + Drop> Engine<F> {
     /// An engine without a system. The systems that it makes get this distribution algorithm.
     pub fn new(alloc: Global, algorithm: F) -> Engine<F>
         ensures algorithm { result.algorithm ≡ algorithm }
-        ensures system { result.held.system ≡ None }
-        ensures kept { result.held.kept ≡ None }
+        ensures system { result.state.system ≡ None }
+        ensures kept { result.state.kept ≡ None }
     {
         Engine {
-            core: Core {
+            inner: Inner {
                 alloc,
                 algorithm,
                 system: None,
@@ -260,9 +260,9 @@ impl<F: Fn(u16, usize) -> usize + Copy + Drop> Engine<F> {
     /// for it is refused, the answer is `Fault` with the first reason that holds, and nothing has changed (profile).
     pub fn answer(&mut self, line: &[u8]) -> Answer
         requires usable { PicksPlaces (F.pre self.old.algorithm) (F.post self.old.algorithm) }
-        ensures answers { AnswersLine (F.post self.old.algorithm) line.now self.old.held (said_of result) self.new.held }
+        ensures answers { AnswersLine (F.post self.old.algorithm) line.now self.old.state (answer_value result) self.new.state }
         ensures algorithm { self.new.algorithm ≡ self.old.algorithm }
     {
-        self.core.answer(line)
+        self.inner.answer(line)
     }
 }

@@ -1,13 +1,13 @@
 ghost use Rattle.std.specs.Prelude.{◌≡◌, Some};
-ghost use Rattle.lagengine.specs.Texts.{line_fault_text};
-ghost use Rattle.lagengine.specs.declared.fault.LineError.TheVariants.{Fault, NoMemory as Spent};
+ghost use Rattle.lagengine.specs.Texts.{request_fault_text};
+ghost use Rattle.lagengine.specs.declared.fault.RequestError.TheVariants.{Fault, NoMemory as Spent};
 
 use std::alloc::{AllocError, AllocFailed};
 use std::fmt;
 
 /// Why a line is refused (profile).
 #[derive(Clone, Copy, Debug, PartialEq, Eq)]
-pub enum LineFault {
+pub enum RequestFault {
     /// The line has more than 65,536 octets.
     TooLong,
     /// The line is not UTF-8.
@@ -36,57 +36,57 @@ pub enum LineFault {
     NoMemory,
 }
 
-impl fmt::Display for LineFault {
-    ghost output = { λ fault. Some (line_fault_text fault) };
+impl fmt::Display for RequestFault {
+    ghost output = { λ fault. Some (request_fault_text fault) };
 
     fn fmt<W: fmt::Write>(&self, f: &mut fmt::Formatter<W>) -> fmt::Result {
         f.write_str(match self {
-            LineFault::TooLong => "too-long",
-            LineFault::NotText => "not-text",
-            LineFault::Word => "word",
-            LineFault::Count => "count",
-            LineFault::Number => "number",
-            LineFault::Mac => "mac",
-            LineFault::Flag => "flag",
-            LineFault::Link => "link",
-            LineFault::Kind => "kind",
-            LineFault::Hex => "hex",
-            LineFault::NoSystem => "no-system",
-            LineFault::NotKeeping => "not-keeping",
-            LineFault::NoMemory => "no-memory",
+            RequestFault::TooLong => "too-long",
+            RequestFault::NotText => "not-text",
+            RequestFault::Word => "word",
+            RequestFault::Count => "count",
+            RequestFault::Number => "number",
+            RequestFault::Mac => "mac",
+            RequestFault::Flag => "flag",
+            RequestFault::Link => "link",
+            RequestFault::Kind => "kind",
+            RequestFault::Hex => "hex",
+            RequestFault::NoSystem => "no-system",
+            RequestFault::NotKeeping => "not-keeping",
+            RequestFault::NoMemory => "no-memory",
         })
     }
 }
 
 /// Why a line could not be read as a request.
 #[derive(Clone, Copy, Debug, PartialEq, Eq)]
-pub enum LineError {
+pub enum RequestError {
     /// The line is no request, with this fault.
-    Fault(LineFault),
+    Fault(RequestFault),
     /// Memory was refused.
     NoMemory,
 }
 
-impl From<LineFault> for LineError {
+impl From<RequestFault> for RequestError {
     ghost from_gives = { λ fault e. e ≡ Fault fault };
 
-    fn from(fault: LineFault) -> LineError {
-        LineError::Fault(fault)
+    fn from(fault: RequestFault) -> RequestError {
+        RequestError::Fault(fault)
     }
 }
 
-impl From<AllocError> for LineError {
+impl From<AllocError> for RequestError {
     ghost from_gives = { λ _ e. e ≡ Spent };
 
-    fn from(_e: AllocError) -> LineError {
-        LineError::NoMemory
+    fn from(_e: AllocError) -> RequestError {
+        RequestError::NoMemory
     }
 }
 
-impl<T: Drop> From<AllocFailed<T>> for LineError {
+impl<T: Drop> From<AllocFailed<T>> for RequestError {
     ghost from_gives = { λ _ e. e ≡ Spent };
 
-    fn from(_e: AllocFailed<T>) -> LineError {
-        LineError::NoMemory
+    fn from(_e: AllocFailed<T>) -> RequestError {
+        RequestError::NoMemory
     }
 }

@@ -1,6 +1,6 @@
 ghost use Rattle.std.specs.Prelude.{◌≡◌, IfOk, map, option_map};
-ghost use Rattle.lagengine.specs.Looks.{all_aggregators, all_ports, fact_of, load_of, look_of, port_told, sharing_in, sharing_of};
-ghost use Rattle.lagsystem.specs.State.{port_of};
+ghost use Rattle.lagengine.specs.Looks.{all_aggregators, all_ports, fact_of, load_of, look_of, port_answer, agg_answer, agg_answer_value};
+ghost use Rattle.lagsystem.specs.State.{machines_of};
 
 use crate::request::PortQuestion;
 use arrayvec::ArrayVec;
@@ -39,21 +39,21 @@ pub enum PortFact {
 
 /// The answer for a port; without a value if there is no such port.
 #[derive(Clone, Copy, Debug, PartialEq, Eq)]
-pub struct PortTold {
+pub struct PortAnswer {
     pub port: u16,
     pub fact: Option<PortFact>,
 }
 
 /// The ports that distribute in an aggregator (6.2.4; profile).
 #[derive(Debug, Drop)]
-pub struct AggTold {
+pub struct AggAnswer {
     pub agg: u16,
     pub ports: ArrayVec<u16, 64>,
 }
 
 /// The answer to `look` for a port.
 fn look_at<F: Fn(u16, usize) -> usize + Drop>(system: &System<F>, port: u16) -> Option<Look>
-    ensures { result ≡ option_map look_of (port_of port system.now.state) }
+    ensures { result ≡ option_map look_of (machines_of port system.now.state) }
 {
     Some(Look {
         party: system.party(port)?,
@@ -92,24 +92,27 @@ fn fact<F: Fn(u16, usize) -> usize + Drop>(
 }
 
 /// The answer of a reader for a port, with the port's number.
-pub(crate) fn port_told<F: Fn(u16, usize) -> usize + Drop>(
+pub(crate) fn port_answer<F: Fn(u16, usize) -> usize + Drop>(
     system: &System<F>,
     asked: PortQuestion,
     port: u16,
-) -> PortTold
-    ensures { result ≡ port_told asked system.now.state port }
+) -> PortAnswer
+    ensures { result ≡ port_answer asked system.now.state port }
 {
-    PortTold {
+    PortAnswer {
         port,
         fact: fact(system, asked, port),
     }
 }
 
 /// The ports that distribute in an aggregator.
-pub(crate) fn agg_told<F: Fn(u16, usize) -> usize + Drop>(system: &System<F>, agg: u16) -> AggTold
-    ensures { sharing_of result ≡ sharing_in system.now.state agg }
+pub(crate) fn agg_answer<F: Fn(u16, usize) -> usize + Drop>(
+    system: &System<F>,
+    agg: u16,
+) -> AggAnswer
+    ensures { agg_answer_value result ≡ agg_answer system.now.state agg }
 {
-    AggTold {
+    AggAnswer {
         agg,
         ports: system.distributing(AggId(agg)),
     }
@@ -119,13 +122,13 @@ pub(crate) fn agg_told<F: Fn(u16, usize) -> usize + Drop>(system: &System<F>, ag
 pub(crate) fn all_ports<F: Fn(u16, usize) -> usize + Drop>(
     alloc: Global,
     system: &System<F>,
-) -> Result<Vec<PortTold>, AllocError>
+) -> Result<Vec<PortAnswer>, AllocError>
     ensures { IfOk result (λ told. told.items ≡ all_ports system.now.state) }
 {
     let ports = system.ports();
     let mut told = Vec::with_capacity(alloc, ports.len())?;
     for port in ports.as_slice() {
-        told.push(port_told(system, PortQuestion::Look, *port))?;
+        told.push(port_answer(system, PortQuestion::Look, *port))?;
     }
     Ok(told)
 }
@@ -135,17 +138,17 @@ pub(crate) fn all_ports<F: Fn(u16, usize) -> usize + Drop>(
 pub(crate) fn all_aggregators<F: Fn(u16, usize) -> usize + Drop>(
     alloc: Global,
     system: &System<F>,
-) -> Result<Vec<AggTold>, AllocError>
-    ensures { IfOk result (λ told. map sharing_of told.items ≡ all_aggregators system.now.state) }
+) -> Result<Vec<AggAnswer>, AllocError>
+    ensures { IfOk result (λ told. map agg_answer_value told.items ≡ all_aggregators system.now.state) }
 {
     // There are at most 64, but the contract of `aggregators` states no bound.
     let Ok(count) = u16::try_from(system.aggregators()) else {
         return Err(AllocError);
     };
     let mut told = Vec::with_capacity(alloc, 1 + usize::from(count))?;
-    told.push(agg_told(system, 0))?;
+    told.push(agg_answer(system, 0))?;
     for agg in 0..count {
-        told.push(agg_told(system, agg + 1))?;
+        told.push(agg_answer(system, agg + 1))?;
     }
     Ok(told)
 }

@@ -10,13 +10,13 @@ ghost use Rattle.distributor.specs.Calls.{place_by_number};
 ghost use Rattle.lagengine.specs.Serves.{status_of};
 
 mod answer;
-mod calls;
+mod call_words;
 mod config;
 mod engine;
-mod facts;
+mod fact_texts;
 mod fault;
 mod looks;
-mod replies;
+mod reply_texts;
 mod request;
 mod serve;
 mod session;

@@ -1,13 +1,13 @@
 ghost use Rattle.std.specs.Prelude.{◌≡◌, map};
 ghost use Rattle.lagengine.specs.Lines.{longest, request_in, request_of_text};
-ghost use Rattle.lagengine.specs.Requests.{Enters, asked_of, no_words, none, one, request_named, task_named, task_of, two};
+ghost use Rattle.lagengine.specs.Requests.{ReadsAs, request_value, no_words, with_no_words, with_one_word, request_named, task_named, task_value, with_two_words};
 ghost use Rattle.lagengine.specs.Requests as asked;
 ghost use Rattle.lagsystem.specs.Calls as call;
 ghost use Rattle.lagengine.specs.Words.{hex_word, number_word};
 
-use crate::calls::call_named;
+use crate::call_words::call_named;
 use crate::config::system;
-use crate::fault::{LineError, LineFault};
+use crate::fault::{RequestError, RequestFault};
 use crate::words::{number, octets, words_of};
 use lagsystem::{AggId, Call, Config};
 use std::alloc::Global;
@@ -64,7 +64,7 @@ pub enum Task {
     /// Work out the conversation of a frame.
     Conversation(Vec<u8>),
     /// Answer this question.
-    Tell(Question),
+    Ask(Question),
 }
 
 /// What a line asks for (profile).
@@ -77,37 +77,37 @@ pub enum Request {
 }
 
 /// Checks that there are no words.
-pub(crate) fn no_words(words: &[&str]) -> Result<(), LineFault>
+pub(crate) fn no_words(words: &[&str]) -> Result<(), RequestFault>
     ensures { result ≡ no_words (map (λ w. w.now) words.now) }
 {
     match words {
         [] => Ok(()),
-        _ => Err(LineFault::Count),
+        _ => Err(RequestFault::Count),
     }
 }
 
 /// The word, if there is exactly one.
-pub(crate) fn one_word<'a>(words: &[&'a str]) -> Result<&'a str, LineFault>
-    ensures { asked.seen_one result ≡ asked.one_word (map (λ w. w.now) words.now) }
+pub(crate) fn one_word<'a>(words: &[&'a str]) -> Result<&'a str, RequestFault>
+    ensures { asked.one_word_octets result ≡ asked.one_word (map (λ w. w.now) words.now) }
 {
     match words {
         [a] => Ok(*a),
-        _ => Err(LineFault::Count),
+        _ => Err(RequestFault::Count),
     }
 }
 
 /// The words, if there are exactly two.
-pub(crate) fn two_words<'a>(words: &[&'a str]) -> Result<(&'a str, &'a str), LineFault>
-    ensures { asked.seen_two result ≡ asked.two_words (map (λ w. w.now) words.now) }
+pub(crate) fn two_words<'a>(words: &[&'a str]) -> Result<(&'a str, &'a str), RequestFault>
+    ensures { asked.two_words_octets result ≡ asked.two_words (map (λ w. w.now) words.now) }
 {
     match words {
         [a, b] => Ok((*a, *b)),
-        _ => Err(LineFault::Count),
+        _ => Err(RequestFault::Count),
     }
 }
 
-fn receive(alloc: Global, words: &[&str]) -> Result<Task, LineError>
-    ensures { Enters task_of (two number_word hex_word (λ port octets. asked.Make (call.Receive port octets)) (map (λ w. w.now) words.now))
+fn receive(alloc: Global, words: &[&str]) -> Result<Task, RequestError>
+    ensures { ReadsAs task_value (with_two_words number_word hex_word (λ port octets. asked.Make (call.Receive port octets)) (map (λ w. w.now) words.now))
         result }
 {
     let (port, frame) = two_words(words)?;
@@ -116,8 +116,8 @@ fn receive(alloc: Global, words: &[&str]) -> Result<Task, LineError>
     Ok(Task::Make(Call::Receive(port, octets)))
 }
 
-fn offer(alloc: Global, words: &[&str]) -> Result<Task, LineError>
-    ensures { Enters task_of (two number_word hex_word (λ g octets. asked.Make (call.Offer (asked.agg_of g) octets))
+fn offer(alloc: Global, words: &[&str]) -> Result<Task, RequestError>
+    ensures { ReadsAs task_value (with_two_words number_word hex_word (λ g octets. asked.Make (call.Offer (asked.agg_id g) octets))
         (map (λ w. w.now) words.now)) result }
 {
     let (agg, frame) = two_words(words)?;
@@ -126,8 +126,8 @@ fn offer(alloc: Global, words: &[&str]) -> Result<Task, LineError>
     Ok(Task::Make(Call::Offer(agg, octets)))
 }
 
-fn conversation(alloc: Global, words: &[&str]) -> Result<Task, LineError>
-    ensures { Enters task_of (one hex_word asked.Conversation (map (λ w. w.now) words.now)) result }
+fn conversation(alloc: Global, words: &[&str]) -> Result<Task, RequestError>
+    ensures { ReadsAs task_value (with_one_word hex_word asked.Conversation (map (λ w. w.now) words.now)) result }
 {
     let frame = one_word(words)?;
     let octets = octets(alloc, frame)?;
@@ -135,30 +135,30 @@ fn conversation(alloc: Global, words: &[&str]) -> Result<Task, LineError>
 }
 
 /// A task that has no words after its first.
-pub(crate) fn alone(task: Task, words: &[&str]) -> Result<Task, LineFault>
-    ensures { asked.seen result ≡ none (task_of task) (map (λ w. w.now) words.now) }
+pub(crate) fn task_alone(task: Task, words: &[&str]) -> Result<Task, RequestFault>
+    ensures { asked.task_or_fault result ≡ with_no_words (task_value task) (map (λ w. w.now) words.now) }
 {
     no_words(words)?;
     Ok(task)
 }
 
 /// Reads a task, by its first word and the words after it.
-fn task_named(alloc: Global, name: &str, words: &[&str]) -> Result<Task, LineError>
-    ensures { Enters task_of (task_named name.now (map (λ w. w.now) words.now)) result }
+fn task_named(alloc: Global, name: &str, words: &[&str]) -> Result<Task, RequestError>
+    ensures { ReadsAs task_value (task_named name.now (map (λ w. w.now) words.now)) result }
 {
     match name {
         "receive" => receive(alloc, words),
         "offer" => offer(alloc, words),
         "conversation" => conversation(alloc, words),
-        "keep" => Ok(alone(Task::Keep, words)?),
-        "drive" => Ok(alone(Task::Drive, words)?),
+        "keep" => Ok(task_alone(Task::Keep, words)?),
+        "drive" => Ok(task_alone(Task::Drive, words)?),
         _ => Ok(call_named(name, words)?),
     }
 }
 
 /// Reads a request, by its first word and the words after it.
-fn request_named(alloc: Global, name: &str, words: &[&str]) -> Result<Request, LineError>
-    ensures { Enters asked_of (request_named name.now (map (λ w. w.now) words.now)) result }
+fn request_named(alloc: Global, name: &str, words: &[&str]) -> Result<Request, RequestError>
+    ensures { ReadsAs request_value (request_named name.now (map (λ w. w.now) words.now)) result }
 {
     if name == "system" {
         return Ok(Request::System(system(alloc, words)?));
@@ -167,25 +167,25 @@ fn request_named(alloc: Global, name: &str, words: &[&str]) -> Result<Request, L
 }
 
 /// Reads the request in a text.
-fn request_of_text(alloc: Global, text: &str) -> Result<Request, LineError>
-    ensures { Enters asked_of (request_of_text text.now) result }
+fn request_of_text(alloc: Global, text: &str) -> Result<Request, RequestError>
+    ensures { ReadsAs request_value (request_of_text text.now) result }
 {
     let words = words_of(alloc, text)?;
     match words.as_slice() {
         [name, words @ ..] => request_named(alloc, name, words),
-        [] => Err(LineError::Fault(LineFault::Word)),
+        [] => Err(RequestError::Fault(RequestFault::Word)),
     }
 }
 
 /// Reads the request in a line, which is given without its line end (profile).
-pub(crate) fn request_of(alloc: Global, line: &[u8]) -> Result<Request, LineError>
-    ensures { Enters asked_of (request_in line.now) result }
+pub(crate) fn request_in(alloc: Global, line: &[u8]) -> Result<Request, RequestError>
+    ensures { ReadsAs request_value (request_in line.now) result }
 {
     if line.len() > LONGEST {
-        return Err(LineError::Fault(LineFault::TooLong));
+        return Err(RequestError::Fault(RequestFault::TooLong));
     }
     match str::from_utf8(line) {
         Ok(text) => request_of_text(alloc, text),
-        Err(_) => Err(LineError::Fault(LineFault::NotText)),
+        Err(_) => Err(RequestError::Fault(RequestFault::NotText)),
     }
 }

@@ -1,9 +1,9 @@
 ghost use Rattle.std.specs.Prelude.{◌≡◌, ◌∷◌, List, ℕ, [], IfErr, OnOk, string_bytes};
 ghost use Rattle.distributor.specs.Calls.{PicksPlaces};
 ghost use Rattle.lagengine.specs.Engines.{AnswersLine};
-ghost use Rattle.lagengine.specs.Inputs.{close, lines_of, prepend};
-ghost use Rattle.lagengine.specs.Said.{Said, said_of};
-ghost use Rattle.lagengine.specs.Sessions.{Feeds, Finishes, Halts, Tells, TellsNot, answer_text, first_session, session_of};
+ghost use Rattle.lagengine.specs.Inputs.{line_if_any, lines_of, continue_line};
+ghost use Rattle.lagengine.specs.AnswerValues.{AnswerValue, answer_value};
+ghost use Rattle.lagengine.specs.Sessions.{Feeds, Finishes, StopsAnswering, WritesAnswer, FailsToAnswer, answer_line, first_session, session_of};
 
 use crate::answer::Answer;
 use crate::engine::Engine;
@@ -24,7 +24,7 @@ pub struct Session<F> {
 
 /// Makes the text of an answer, with a line end.
 fn form(text: &mut String, answer: &Answer) -> Result<(), AllocError>
-    ensures { OnOk result (string_bytes text.new ≡ answer_text (said_of answer.now)) }
+    ensures { OnOk result (string_bytes text.new ≡ answer_line (answer_value answer.now)) }
 {
     text.clear();
     write!(text, "{answer}\n")
@@ -46,9 +46,9 @@ impl<F: Fn(u16, usize) -> usize + Copy + Drop> Session<F> {
     /// Does the request of the line, makes the text of the answer, and begins the next line.
     fn answer_line(&mut self) -> Result<(), AllocError>
         requires usable { PicksPlaces (F.pre self.old.engine.algorithm) (F.post self.old.engine.algorithm) }
-        ensures ok { OnOk result ((answer : Said) × AnswersLine
-            (F.post self.old.engine.algorithm) self.old.line.items self.old.engine.held answer self.new.engine.held
-            × (string_bytes self.new.text ≡ answer_text answer)) }
+        ensures ok { OnOk result ((answer : AnswerValue) × AnswersLine
+            (F.post self.old.engine.algorithm) self.old.line.items self.old.engine.state answer self.new.engine.state
+            × (string_bytes self.new.text ≡ answer_line answer)) }
         ensures line { self.new.line.items ≡ [] }
         ensures algorithm { self.new.engine.algorithm ≡ self.old.engine.algorithm }
     {
@@ -60,9 +60,9 @@ impl<F: Fn(u16, usize) -> usize + Copy + Drop> Session<F> {
     /// Writes the answer to the line, and begins the next line.
     fn end_line<W: Write>(&mut self, sink: &mut Sink<W>) -> Result<(), Stopped>
         requires usable { PicksPlaces (F.pre self.old.engine.algorithm) (F.post self.old.engine.algorithm) }
-        ensures ok { OnOk result (Tells (F.post self.old.engine.algorithm) W.contents self.old.line.items self.old.engine.held
-            self.new.engine.held sink.old sink.new) }
-        ensures err { IfErr result (TellsNot (F.post self.old.engine.algorithm) W.contents self.old.line.items self.old.engine.held sink.old
+        ensures ok { OnOk result (WritesAnswer (F.post self.old.engine.algorithm) W.contents self.old.line.items self.old.engine.state
+            self.new.engine.state sink.old sink.new) }
+        ensures err { IfErr result (FailsToAnswer (F.post self.old.engine.algorithm) W.contents self.old.line.items self.old.engine.state sink.old
             sink.new) }
         ensures line { self.new.line.items ≡ [] }
         ensures algorithm { self.new.engine.algorithm ≡ self.old.engine.algorithm }
@@ -73,13 +73,13 @@ impl<F: Fn(u16, usize) -> usize + Copy + Drop> Session<F> {
     }
 
     /// Reads an octet. No more are stored of a line that is too long.
-    fn take<W: Write>(&mut self, octet: u8, sink: &mut Sink<W>) -> Result<(), Stopped>
+    fn read_octet<W: Write>(&mut self, octet: u8, sink: &mut Sink<W>) -> Result<(), Stopped>
         requires usable { PicksPlaces (F.pre self.old.engine.algorithm) (F.post self.old.engine.algorithm) }
         ensures ok { OnOk result (Feeds (F.post self.old.engine.algorithm) W.contents (session_of self.old)
             (session_of self.new) sink.old sink.new (octet ∷ [])) }
-        ensures err { IfErr result (λ why. (rest : List ℕ) → Halts
-            (F.post self.old.engine.algorithm) W.contents self.old.engine.held sink.old sink.new
-            (prepend self.old.line.items (lines_of (octet ∷ rest))) why) }
+        ensures err { IfErr result (λ why. (rest : List ℕ) → StopsAnswering
+            (F.post self.old.engine.algorithm) W.contents self.old.engine.state sink.old sink.new
+            (continue_line self.old.line.items (lines_of (octet ∷ rest))) why) }
         ensures algorithm { self.new.engine.algorithm ≡ self.old.engine.algorithm }
     {
         if octet == b'\n' {
@@ -98,12 +98,12 @@ impl<F: Fn(u16, usize) -> usize + Copy + Drop> Session<F> {
         requires usable { PicksPlaces (F.pre self.old.engine.algorithm) (F.post self.old.engine.algorithm) }
         ensures ok { OnOk result (Feeds (F.post self.old.engine.algorithm) W.contents (session_of self.old)
             (session_of self.new) sink.old sink.new piece.now) }
-        ensures err { IfErr result (Halts (F.post self.old.engine.algorithm) W.contents self.old.engine.held sink.old sink.new
-            (prepend self.old.line.items (lines_of piece.now))) }
+        ensures err { IfErr result (StopsAnswering (F.post self.old.engine.algorithm) W.contents self.old.engine.state sink.old sink.new
+            (continue_line self.old.line.items (lines_of piece.now))) }
         ensures algorithm { self.new.engine.algorithm ≡ self.old.engine.algorithm }
     {
         for octet in piece {
-            self.take(*octet, sink)?;
+            self.read_octet(*octet, sink)?;
         }
         Ok(())
     }
@@ -111,10 +111,10 @@ impl<F: Fn(u16, usize) -> usize + Copy + Drop> Session<F> {
     /// Answers the last line, if it has octets but no newline.
     pub fn finish<W: Write>(&mut self, sink: &mut Sink<W>) -> Result<(), Stopped>
         requires usable { PicksPlaces (F.pre self.old.engine.algorithm) (F.post self.old.engine.algorithm) }
-        ensures ok { OnOk result (Finishes (F.post self.old.engine.algorithm) W.contents self.old.engine.held sink.old sink.new
-            (close self.old.line.items)) }
-        ensures err { IfErr result (Halts (F.post self.old.engine.algorithm) W.contents self.old.engine.held sink.old sink.new
-            (close self.old.line.items)) }
+        ensures ok { OnOk result (Finishes (F.post self.old.engine.algorithm) W.contents self.old.engine.state sink.old sink.new
+            (line_if_any self.old.line.items)) }
+        ensures err { IfErr result (StopsAnswering (F.post self.old.engine.algorithm) W.contents self.old.engine.state sink.old sink.new
+            (line_if_any self.old.line.items)) }
     {
         if self.line.is_empty() {
             return Ok(());

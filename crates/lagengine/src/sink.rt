@@ -1,6 +1,6 @@
 ghost use Rattle.std.specs.Prelude.{◌≡◌, ◌≤◌, ◌<◌, length, take, true, false, IfOk, OnOk, OnErr};
 ghost use Rattle.std.specs.Io.KnownBytes.{Keeps};
-ghost use Rattle.lagengine.specs.Sinks.{Breaks, Flushes, Sends, Takes};
+ghost use Rattle.lagengine.specs.Sinks.{WritesPart, Flushes, WritesAndFlushes, WritesWhole};
 
 use std::io::Write;
 use std::marker::Model;
@@ -55,7 +55,7 @@ impl<W: Write> Sink<W> {
     fn put_some(&mut self, octets: &[u8]) -> Result<usize, WriteFailed>
         requires { 0 < length octets.now }
         ensures some { IfOk result (λ n. (0 < n) × (n ≤ length octets.now)) }
-        ensures ok { IfOk result (λ n. Takes W.contents self.old self.new (take n octets.now)) }
+        ensures ok { IfOk result (λ n. WritesWhole W.contents self.old self.new (take n octets.now)) }
         ensures unflushed { OnOk result (self.new.unflushed ≡ true) }
         ensures err { OnErr result (Keeps (W.contents self.old.writer) (W.contents self.new.writer) × (self.new.failed ≡ true)) }
     {
@@ -73,8 +73,8 @@ impl<W: Write> Sink<W> {
 
     /// Writes all of the octets; after a failure, a beginning of them is written.
     fn put(&mut self, octets: &[u8]) -> Result<(), WriteFailed>
-        ensures ok { OnOk result (Takes W.contents self.old self.new octets.now) }
-        ensures err { OnErr result (Breaks W.contents self.old self.new octets.now) }
+        ensures ok { OnOk result (WritesWhole W.contents self.old self.new octets.now) }
+        ensures err { OnErr result (WritesPart W.contents self.old self.new octets.now) }
     {
         let mut rest = octets;
         while !rest.is_empty() {
@@ -99,9 +99,9 @@ impl<W: Write> Sink<W> {
 
     /// Writes and flushes all of the octets. After a failure, a beginning of them is written.
     pub fn send(&mut self, octets: &[u8]) -> Result<(), WriteFailed>
-        ensures ok { OnOk result (Sends W.contents self.old self.new octets.now) }
+        ensures ok { OnOk result (WritesAndFlushes W.contents self.old self.new octets.now) }
         ensures flushed { OnOk result (self.new.unflushed ≡ false) }
-        ensures err { OnErr result (Breaks W.contents self.old self.new octets.now) }
+        ensures err { OnErr result (WritesPart W.contents self.old self.new octets.now) }
     {
         self.put(octets)?;
         self.flush()?;

@@ -1,8 +1,8 @@
 ghost use Rattle.std.specs.Prelude.{◌≡◌, IfOk, map};
-ghost use Rattle.lagengine.specs.Requests.{Enters};
+ghost use Rattle.lagengine.specs.Requests.{ReadsAs};
 ghost use Rattle.lagengine.specs.Words.{flag_word, hex_word, kind_word, link_word, long_word, mac_word, number_below, number_word, parts};
 
-use crate::fault::{LineError, LineFault};
+use crate::fault::{RequestError, RequestFault};
 use hex::{FromHex, FromHexError};
 use std::alloc::{AllocError, Global};
 
@@ -49,68 +49,68 @@ fn long_of(word: &str) -> Option<u32>
 }
 
 /// Reads a number from 0 to 65535, in decimal digits.
-pub(crate) fn number(word: &str) -> Result<u16, LineFault>
+pub(crate) fn number(word: &str) -> Result<u16, RequestFault>
     ensures { result ≡ number_word word.now }
 {
-    number_of(word).ok_or(LineFault::Number)
+    number_of(word).ok_or(RequestFault::Number)
 }
 
 /// Reads a number from 0 to 4294967295, in decimal digits.
-pub(crate) fn long(word: &str) -> Result<u32, LineFault>
+pub(crate) fn long(word: &str) -> Result<u32, RequestFault>
     ensures { result ≡ long_word word.now }
 {
-    long_of(word).ok_or(LineFault::Number)
+    long_of(word).ok_or(RequestFault::Number)
 }
 
 /// Reads a MAC address of twelve hexadecimal digits.
-pub(crate) fn mac(word: &str) -> Result<[u8; 6], LineFault>
+pub(crate) fn mac(word: &str) -> Result<[u8; 6], RequestFault>
     ensures { result ≡ mac_word word.now }
 {
     <[u8; 6] as FromHex>::from_hex(word)
         .ok()
-        .ok_or(LineFault::Mac)
+        .ok_or(RequestFault::Mac)
 }
 
 /// Reads `1` as true and `0` as false.
-pub(crate) fn flag(word: &str) -> Result<bool, LineFault>
+pub(crate) fn flag(word: &str) -> Result<bool, RequestFault>
     ensures { result ≡ flag_word word.now }
 {
     match word {
         "1" => Ok(true),
         "0" => Ok(false),
-        _ => Err(LineFault::Flag),
+        _ => Err(RequestFault::Flag),
     }
 }
 
 /// Reads whether a link is up: `up` or `down`.
-pub(crate) fn link(word: &str) -> Result<bool, LineFault>
+pub(crate) fn link(word: &str) -> Result<bool, RequestFault>
     ensures { result ≡ link_word word.now }
 {
     match word {
         "up" => Ok(true),
         "down" => Ok(false),
-        _ => Err(LineFault::Link),
+        _ => Err(RequestFault::Link),
     }
 }
 
 /// Reads whether a port is `aggregatable` or `individual`.
-pub(crate) fn kind(word: &str) -> Result<bool, LineFault>
+pub(crate) fn kind(word: &str) -> Result<bool, RequestFault>
     ensures { result ≡ kind_word word.now }
 {
     match word {
         "aggregatable" => Ok(true),
         "individual" => Ok(false),
-        _ => Err(LineFault::Kind),
+        _ => Err(RequestFault::Kind),
     }
 }
 
 /// Reads octets in hexadecimal digits.
-pub(crate) fn octets(alloc: Global, word: &str) -> Result<Vec<u8>, LineError>
-    ensures { Enters (λ v. v.items) (hex_word word.now) result }
+pub(crate) fn octets(alloc: Global, word: &str) -> Result<Vec<u8>, RequestError>
+    ensures { ReadsAs (λ v. v.items) (hex_word word.now) result }
 {
     match hex::decode(alloc, word) {
         Ok(octets) => Ok(octets),
-        Err(FromHexError::OutOfMemory) => Err(LineError::NoMemory),
-        Err(_) => Err(LineError::Fault(LineFault::Hex)),
+        Err(FromHexError::OutOfMemory) => Err(RequestError::NoMemory),
+        Err(_) => Err(RequestError::Fault(RequestFault::Hex)),
     }
 }

@@ -1,13 +1,13 @@
 -- A call of a handle that holds a system is a call of that system.
 use mathlib.Core.Path.{◌≡◌, ◌∙◌, ap, sym, subst}
 use Rattle.std.specs.Prelude.{Option, Some}
-use Rattle.lagsystem.specs.State.{State}
-use Rattle.lagffi.specs.Asking.{Calls, Reads}
+use Rattle.lagsystem.specs.State.{SystemState}
+use Rattle.lagffi.specs.Asking.{CallsSystem, AsksSystem}
 
-pub called : (R : State → State → Type 0) (N : Type 0) {o n : Option State} {k a b z : State} → o ≡ Some k → a ≡ k → z ≡ b → n ≡ Some z → R a b → Calls o n R N
+pub called : (R : SystemState → SystemState → Type 0) (N : Type 0) {o n : Option SystemState} {k a b z : SystemState} → o ≡ Some k → a ≡ k → z ≡ b → n ≡ Some z → R a b → CallsSystem o n R N
 called R N {o} {n} {k} {a} {b} {z} eo ea ez en r =
-    subst (λ o. Calls o n R N) (sym (eo ∙ ap Some (sym ea))) (b, en ∙ ap Some ez, r)
+    subst (λ o. CallsSystem o n R N) (sym (eo ∙ ap Some (sym ea))) (b, en ∙ ap Some ez, r)
 
-pub asked : (T : State → Type 0) (N : Type 0) {o n : Option State} {k a z : State} → o ≡ Some k → a ≡ k → z ≡ a → n ≡ Some z → T a → Reads o n T N
+pub asked : (T : SystemState → Type 0) (N : Type 0) {o n : Option SystemState} {k a z : SystemState} → o ≡ Some k → a ≡ k → z ≡ a → n ≡ Some z → T a → AsksSystem o n T N
 asked T N {o} {n} {k} {a} {z} eo ea ez en t =
-    subst (λ o. Reads o n T N) (sym (eo ∙ ap Some (sym ea))) (t, en ∙ ap Some ez)
+    subst (λ o. AsksSystem o n T N) (sym (eo ∙ ap Some (sym ea))) (t, en ∙ ap Some ez)

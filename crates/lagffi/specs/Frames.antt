@@ -1,7 +1,7 @@
 -- What a program in C is told of frames, and what stands in its buffer afterwards.
 use Rattle.std.specs.Prelude.{ℕ, true, false, List, Option, None, Some, Result, Ok, Err}
-use Rattle.lagsystem.specs.declared.answers.Received.{Received}
-use Rattle.lagsystem.specs.declared.answers.Received.TheVariants.{Disabled, Dropped, Ignored, TookLacpdu, Respond, Released, Up}
+use Rattle.lagsystem.specs.declared.received.Received.{Received}
+use Rattle.lagsystem.specs.declared.received.Received.TheVariants.{Disabled, Dropped, Ignored, TookLacpdu, Respond, Released, Up}
 use Rattle.lagsystem.specs.declared.fault.SystemFault.{SystemFault}
 use Rattle.lagsystem.specs.Faults.{fault_number}
 use Rattle.slowpdu.specs.Faults.{fault_number as wire_number}
@@ -14,18 +14,18 @@ abbrev pub frame_length : ℕ
 frame_length = 124
 
 -- what became of a frame, by its number, and the number that belongs to it
-abbrev pub became : ℕ → ℕ → LagReceived
-became what number = record { status = 0; what = what; number = number }
+abbrev pub received_as : ℕ → ℕ → LagReceived
+received_as what number = record { status = 0; what = what; number = number }
 
 -- what a receive answers
 abbrev pub received_of : Result Received SystemFault → LagReceived
-received_of (Ok Disabled) = became 0 0
-received_of (Ok Dropped) = became 1 0
-received_of (Ok (Ignored fault)) = became 2 (wire_number fault)
-received_of (Ok TookLacpdu) = became 3 0
-received_of (Ok (Respond octets)) = became 4 0
-received_of (Ok (Released count)) = became 5 count
-received_of (Ok (Up agg)) = became 6 agg.0
+received_of (Ok Disabled) = received_as 0 0
+received_of (Ok Dropped) = received_as 1 0
+received_of (Ok (Ignored fault)) = received_as 2 (wire_number fault)
+received_of (Ok TookLacpdu) = received_as 3 0
+received_of (Ok (Respond octets)) = received_as 4 0
+received_of (Ok (Released count)) = received_as 5 count
+received_of (Ok (Up agg)) = received_as 6 agg.0
 received_of (Err fault) = no_received (fault_number fault)
 
 -- the buffer after a receive: the response, where there is one

@@ -5,4 +5,4 @@ pub mod Lists
 pub mod Made
 pub mod Numbers
 pub mod Owned
-pub mod Told
+pub mod ReaderValues

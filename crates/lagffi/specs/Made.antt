@@ -6,24 +6,24 @@ use Rattle.lagsystem.specs.declared.fault.BadConfig.TheVariants.{Ports, Aggregat
 use Rattle.lagsystem.specs.declared.fault.SystemFault.{SystemFault}
 use Rattle.lagsystem.specs.declared.fault.SystemFault.TheVariants.{BadConfig, NoMemory}
 use Rattle.lagsystem.specs.Faults.{fault_number}
-use Rattle.lagsystem.specs.First.{IsFirst, fault_in, refusal}
+use Rattle.lagsystem.specs.First.{IsFirst, fault_or_no_memory, refusal}
 use Rattle.lagsystem.specs.Sound.{Agrees}
-use Rattle.lagsystem.specs.State.{State}
+use Rattle.lagsystem.specs.State.{SystemState}
 use Rattle.lagffi.specs.declared.made.LagConfig.{LagConfig}
 use Rattle.lagffi.specs.declared.made.LagMade.{LagMade}
 use Rattle.lagffi.specs.declared.made.LagPort.{LagPort}
 
 -- the number of a handle that holds a system already
-abbrev pub live_already : ℕ
-live_already = 14
+abbrev pub holds_system_already : ℕ
+holds_system_already = 14
 
 -- a key as the system takes it
 abbrev pub key_of : ℕ → Key
 key_of k = record { 0 = k }
 
 -- a port as the system takes it
-abbrev pub port_of : LagPort → PortConfig
-port_of p =
+abbrev pub port_config_of : LagPort → PortConfig
+port_config_of p =
     record {
       number = p.number;
       priority = p.priority;
@@ -35,7 +35,7 @@ port_of p =
     }
 
 -- the first state of a system with this configuration, whose ports agree
-pub record IsMade (config : LagConfig) (of_keys : List ℕ) (of_ports : List LagPort) (s : State) : Type 0 where
+pub record IsMade (config : LagConfig) (of_keys : List ℕ) (of_ports : List LagPort) (s : SystemState) : Type 0 where
   pub first : IsFirst s
   pub agrees : Agrees s
   pub priority : s.system.priority ≡ config.priority
@@ -43,11 +43,11 @@ pub record IsMade (config : LagConfig) (of_keys : List ℕ) (of_ports : List Lag
   pub max_delay : s.max_delay ≡ config.max_delay
   pub first_marker : s.first_marker ≡ config.first_marker
   pub keys : s.keys ≡ map key_of of_keys
-  pub ports : s.ports ≡ map port_of of_ports
+  pub ports : s.ports ≡ map port_config_of of_ports
 
 -- why none is made: memory was refused, or the first reason to refuse the configuration
 abbrev pub RefusesToMake : List ℕ → List LagPort → SystemFault → Type 0
-RefusesToMake keys ports fault = (fault ≡ NoMemory) ⊎ (fault ≡ fault_in (refusal (map key_of keys) (map port_of ports)))
+RefusesToMake keys ports fault = (fault ≡ NoMemory) ⊎ (fault ≡ fault_or_no_memory (refusal (map key_of keys) (map port_config_of ports)))
 
 -- a status alone, without a reason to refuse a configuration
 abbrev pub not_made : ℕ → LagMade

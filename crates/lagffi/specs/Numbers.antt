@@ -13,8 +13,8 @@ use Rattle.lagffi.specs.declared.values.LagTruth.{LagTruth}
 abbrev pub no_system : ℕ
 no_system = 13
 
-abbrev pub other_length : ℕ
-other_length = 15
+abbrev pub wrong_buffer_length : ℕ
+wrong_buffer_length = 15
 
 -- 0, or the number of the refusal
 abbrev pub status_of : {A : Type 0} → Result A SystemFault → ℕ

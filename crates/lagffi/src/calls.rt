@@ -1,18 +1,18 @@
 ghost use Rattle.std.specs.Prelude.{◌≡◌, ◌==◌, Bool, IsTrue, ℕ, List, Option, Result, length};
 ghost use Rattle.std.specs.Bool.{IsFalse};
 ghost use Rattle.lagsystem.specs.Calls.{Call};
-ghost use Rattle.lagsystem.specs.Readers.{agg_of_number};
-ghost use Rattle.lagsystem.specs.declared.answers.Received.{Received};
+ghost use Rattle.lagsystem.specs.Readers.{aggregator_numbered};
+ghost use Rattle.lagsystem.specs.declared.received.Received.{Received};
 ghost use Rattle.lagsystem.specs.declared.drive.Reply.{Reply};
 ghost use Rattle.lagsystem.specs.declared.fault.SystemFault.{SystemFault};
 ghost use Rattle.lagsystem.specs.Sound.{Answers};
-ghost use Rattle.lagffi.specs.Asking.{Calls, gives};
-ghost use Rattle.lagffi.specs.Holding.{state_of};
+ghost use Rattle.lagffi.specs.Asking.{CallsSystem, by_number_gives};
+ghost use Rattle.lagffi.specs.Holding.{held_state};
 ghost use Rattle.lagffi.specs.Frames.{frame_length, received_of, due_of, written, written_reply};
-ghost use Rattle.lagffi.specs.Numbers.{change_of, no_number, no_received, no_system, no_truth, number_of, other_length, status_of, truth_of};
+ghost use Rattle.lagffi.specs.Numbers.{change_of, no_number, no_received, no_system, no_truth, number_of, wrong_buffer_length, status_of, truth_of};
 
 use crate::handle::Lag;
-use crate::kept::by_number;
+use crate::stored::by_number;
 use crate::values::{
     BUFFER, FRAME, LagChange, LagNumber, LagReceived, LagTruth, NO_SYSTEM, OK, status,
 };
@@ -48,9 +48,9 @@ pub extern "C" fn lagffi_receive(
     frame: &[u8],
     response: &mut [u8],
 ) -> LagReceived
-    ensures room { IsFalse (length response.old == frame_length) → (result ≡ no_received other_length) × (state_of lag.new.held.kept ≡ state_of lag.old.held.kept) × (response.new ≡ response.old) }
-    ensures answers { IsTrue (length response.old == frame_length) → Calls (state_of lag.old.held.kept) (state_of lag.new.held.kept)
-        (λ old new. (answer : Result Received SystemFault) × Answers gives old (Call.Receive port frame.now) (Reply.Receive answer) new
+    ensures room { IsFalse (length response.old == frame_length) → (result ≡ no_received wrong_buffer_length) × (held_state lag.new.held.kept ≡ held_state lag.old.held.kept) × (response.new ≡ response.old) }
+    ensures answers { IsTrue (length response.old == frame_length) → CallsSystem (held_state lag.old.held.kept) (held_state lag.new.held.kept)
+        (λ old new. (answer : Result Received SystemFault) × Answers by_number_gives old (Call.Receive port frame.now) (Reply.Receive answer) new
         × (result ≡ received_of answer) × (response.new ≡ written_reply response.old answer))
         ((result ≡ no_received no_system) × (response.new ≡ response.old)) }
 {
@@ -70,8 +70,8 @@ pub extern "C" fn lagffi_receive(
 /// One tick, 100 ms.
 #[unsafe(no_mangle)]
 pub extern "C" fn lagffi_tick(alloc: Global, lag: &mut Lag) -> u32
-    ensures { Calls (state_of lag.old.held.kept) (state_of lag.new.held.kept)
-        (λ old new. Answers gives old Call.Tick Reply.Tick new × (result ≡ 0)) (result ≡ no_system) }
+    ensures { CallsSystem (held_state lag.old.held.kept) (held_state lag.new.held.kept)
+        (λ old new. Answers by_number_gives old Call.Tick Reply.Tick new × (result ≡ 0)) (result ≡ no_system) }
 {
     let Some((kept, block)) = lag.take(alloc) else {
         return NO_SYSTEM;
@@ -85,8 +85,8 @@ pub extern "C" fn lagffi_tick(alloc: Global, lag: &mut Lag) -> u32
 /// The link of a port is up or down now.
 #[unsafe(no_mangle)]
 pub extern "C" fn lagffi_set_link(alloc: Global, lag: &mut Lag, port: u16, up: bool) -> u32
-    ensures { Calls (state_of lag.old.held.kept) (state_of lag.new.held.kept)
-        (λ old new. (answer : Result Unit SystemFault) × Answers gives old (Call.Set_link port up) (Reply.SetLink answer) new
+    ensures { CallsSystem (held_state lag.old.held.kept) (held_state lag.new.held.kept)
+        (λ old new. (answer : Result Unit SystemFault) × Answers by_number_gives old (Call.Set_link port up) (Reply.SetLink answer) new
         × (result ≡ status_of answer)) (result ≡ no_system) }
 {
     let Some((kept, block)) = lag.take(alloc) else {
@@ -106,8 +106,8 @@ pub extern "C" fn lagffi_configure(
     port: u16,
     change: &LagChange,
 ) -> LagTruth
-    ensures { Calls (state_of lag.old.held.kept) (state_of lag.new.held.kept)
-        (λ old new. (answer : Result Bool SystemFault) × Answers gives old (Call.Configure port (change_of change.now)) (Reply.Configure answer) new
+    ensures { CallsSystem (held_state lag.old.held.kept) (held_state lag.new.held.kept)
+        (λ old new. (answer : Result Bool SystemFault) × Answers by_number_gives old (Call.Configure port (change_of change.now)) (Reply.Configure answer) new
         × (result ≡ truth_of answer)) (result ≡ no_truth no_system) }
 {
     let Some((kept, block)) = lag.take(alloc) else {
@@ -122,8 +122,8 @@ pub extern "C" fn lagffi_configure(
 /// Starts the system again as it was made.
 #[unsafe(no_mangle)]
 pub extern "C" fn lagffi_restart(alloc: Global, lag: &mut Lag) -> u32
-    ensures { Calls (state_of lag.old.held.kept) (state_of lag.new.held.kept)
-        (λ old new. Answers gives old Call.Restart Reply.Restart new × (result ≡ 0)) (result ≡ no_system) }
+    ensures { CallsSystem (held_state lag.old.held.kept) (held_state lag.new.held.kept)
+        (λ old new. Answers by_number_gives old Call.Restart Reply.Restart new × (result ≡ 0)) (result ≡ no_system) }
 {
     let Some((kept, block)) = lag.take(alloc) else {
         return NO_SYSTEM;
@@ -142,9 +142,9 @@ pub extern "C" fn lagffi_transmit(
     port: u16,
     frame: &mut [u8],
 ) -> LagTruth
-    ensures room { IsFalse (length frame.old == frame_length) → (result ≡ no_truth other_length) × (state_of lag.new.held.kept ≡ state_of lag.old.held.kept) × (frame.new ≡ frame.old) }
-    ensures answers { IsTrue (length frame.old == frame_length) → Calls (state_of lag.old.held.kept) (state_of lag.new.held.kept)
-        (λ old new. (answer : Result (Option (List ℕ)) SystemFault) × Answers gives old (Call.Transmit port) (Reply.Transmit answer) new
+    ensures room { IsFalse (length frame.old == frame_length) → (result ≡ no_truth wrong_buffer_length) × (held_state lag.new.held.kept ≡ held_state lag.old.held.kept) × (frame.new ≡ frame.old) }
+    ensures answers { IsTrue (length frame.old == frame_length) → CallsSystem (held_state lag.old.held.kept) (held_state lag.new.held.kept)
+        (λ old new. (answer : Result (Option (List ℕ)) SystemFault) × Answers by_number_gives old (Call.Transmit port) (Reply.Transmit answer) new
         × (result ≡ due_of answer) × (frame.new ≡ written frame.old answer))
         ((result ≡ no_truth no_system) × (frame.new ≡ frame.old)) }
 {
@@ -164,8 +164,8 @@ pub extern "C" fn lagffi_transmit(
 /// The port to send a frame on, in an aggregator.
 #[unsafe(no_mangle)]
 pub extern "C" fn lagffi_offer(alloc: Global, lag: &mut Lag, agg: u16, frame: &[u8]) -> LagNumber
-    ensures { Calls (state_of lag.old.held.kept) (state_of lag.new.held.kept)
-        (λ old new. (answer : Result ℕ SystemFault) × Answers gives old (Call.Offer (agg_of_number agg) frame.now) (Reply.Offer answer) new
+    ensures { CallsSystem (held_state lag.old.held.kept) (held_state lag.new.held.kept)
+        (λ old new. (answer : Result ℕ SystemFault) × Answers by_number_gives old (Call.Offer (aggregator_numbered agg) frame.now) (Reply.Offer answer) new
         × (result ≡ number_of answer)) (result ≡ no_number no_system) }
 {
     let Some((kept, block)) = lag.take(alloc) else {
@@ -186,8 +186,8 @@ pub extern "C" fn lagffi_move_conversation(
     conv: u16,
     port: u16,
 ) -> u32
-    ensures { Calls (state_of lag.old.held.kept) (state_of lag.new.held.kept)
-        (λ old new. (answer : Result Unit SystemFault) × Answers gives old (Call.Move_conversation (agg_of_number agg) conv port) (Reply.MoveConversation answer) new
+    ensures { CallsSystem (held_state lag.old.held.kept) (held_state lag.new.held.kept)
+        (λ old new. (answer : Result Unit SystemFault) × Answers by_number_gives old (Call.Move_conversation (aggregator_numbered agg) conv port) (Reply.MoveConversation answer) new
         × (result ≡ status_of answer)) (result ≡ no_system) }
 {
     let Some((kept, block)) = lag.take(alloc) else {
@@ -202,8 +202,8 @@ pub extern "C" fn lagffi_move_conversation(
 /// Frees a conversation of an aggregator at once.
 #[unsafe(no_mangle)]
 pub extern "C" fn lagffi_force(alloc: Global, lag: &mut Lag, agg: u16, conv: u16) -> u32
-    ensures { Calls (state_of lag.old.held.kept) (state_of lag.new.held.kept)
-        (λ old new. (answer : Result Unit SystemFault) × Answers gives old (Call.Force (agg_of_number agg) conv) (Reply.Force answer) new
+    ensures { CallsSystem (held_state lag.old.held.kept) (held_state lag.new.held.kept)
+        (λ old new. (answer : Result Unit SystemFault) × Answers by_number_gives old (Call.Force (aggregator_numbered agg) conv) (Reply.Force answer) new
         × (result ≡ status_of answer)) (result ≡ no_system) }
 {
     let Some((kept, block)) = lag.take(alloc) else {

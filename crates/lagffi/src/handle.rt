@@ -1,10 +1,10 @@
 ghost use Rattle.std.specs.Prelude.{◌≡◌, MatchOption, None, Some, is_some};
-ghost use Rattle.lagffi.specs.Holding.{state_of};
+ghost use Rattle.lagffi.specs.Holding.{held_state};
 
 mod held;
 mod parts;
 
-use crate::kept::Kept;
+use crate::stored::StoredSystem;
 use held::Held;
 use lagsystem::System;
 use parts::Parts;
@@ -17,14 +17,14 @@ use std::mem::replace;
 pub struct Lag {
     live: bool,
     pub(crate) held: Held,
-    ghost tells: { live ≡ is_some (state_of held.kept) },
+    ghost tells: { live ≡ is_some (held_state held.kept) },
 }
 
 impl Lag {
     /// Takes the system out, beside its block.
-    pub(crate) fn take(&mut self, alloc: Global) -> Option<(System<()>, Box<Kept>)>
-        ensures taken { MatchOption result (state_of self.old.held.kept ≡ None) (λ taken. state_of self.old.held.kept ≡ Some taken.0.state) }
-        ensures left { state_of self.new.held.kept ≡ None }
+    pub(crate) fn take(&mut self, alloc: Global) -> Option<(System<()>, Box<StoredSystem>)>
+        ensures taken { MatchOption result (held_state self.old.held.kept ≡ None) (λ taken. held_state self.old.held.kept ≡ Some taken.0.state) }
+        ensures left { held_state self.new.held.kept ≡ None }
     {
         let empty = Lag {
             live: false,
@@ -40,8 +40,8 @@ impl Lag {
     }
 
     /// Puts a system in, with a block for it.
-    pub(crate) fn put(&mut self, system: System<()>, mut block: Box<Kept>)
-        ensures { state_of self.new.held.kept ≡ Some system.state }
+    pub(crate) fn put(&mut self, system: System<()>, mut block: Box<StoredSystem>)
+        ensures { held_state self.new.held.kept ≡ Some system.state }
     {
         block.system = Some(system);
         *self = Lag {

@@ -8,8 +8,8 @@
 
 mod calls;
 mod handle;
-mod kept;
 mod made;
+mod reader_values;
 mod readers;
-mod told;
+mod stored;
 mod values;

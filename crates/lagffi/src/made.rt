@@ -1,10 +1,10 @@
 ghost use Rattle.std.specs.Prelude.{◌≡◌, IfErr, IfOk, IsTrue, MatchOption, None, is_some, map};
 ghost use Rattle.lagsystem.specs.declared.fault.SystemFault.{SystemFault};
-ghost use Rattle.lagffi.specs.Holding.{state_of};
-ghost use Rattle.lagffi.specs.Made.{IsMade, RefusesToMake, key_of, live_already, no_made, not_made, port_of};
+ghost use Rattle.lagffi.specs.Holding.{held_state};
+ghost use Rattle.lagffi.specs.Made.{IsMade, RefusesToMake, key_of, holds_system_already, no_made, not_made, port_config_of};
 
 use crate::handle::Lag;
-use crate::kept::{Kept, by_number};
+use crate::stored::{StoredSystem, by_number};
 use crate::values::{NO_SYSTEM, OK};
 use lagsystem::{BadConfig, Config, Key, NoMemory, PortConfig, System, SystemFault, SystemId};
 use std::alloc::Global;
@@ -49,7 +49,7 @@ pub struct LagPort {
 impl LagPort {
     /// The port as the system takes it.
     fn config(&self) -> PortConfig
-        ensures { result ≡ port_of self.now }
+        ensures { result ≡ port_config_of self.now }
     {
         PortConfig {
             number: self.number,
@@ -121,7 +121,7 @@ fn keys_of(alloc: Global, keys: &[u16]) -> Result<Vec<Key>, NoMemory>
 
 /// The ports of the configuration, as the system takes them.
 fn ports_of(alloc: Global, ports: &[LagPort]) -> Result<Vec<PortConfig>, NoMemory>
-    ensures { IfOk result (λ found. found.items ≡ map port_of ports.now) }
+    ensures { IfOk result (λ found. found.items ≡ map port_config_of ports.now) }
 {
     let mut found = Vec::with_capacity(alloc, ports.len())?;
     for port in ports {
@@ -155,10 +155,10 @@ fn system_of(
 }
 
 /// An empty block, with room for a system.
-fn room(alloc: Global) -> Result<Box<Kept>, SystemFault>
+fn room(alloc: Global) -> Result<Box<StoredSystem>, SystemFault>
     ensures { IfErr result (λ fault. fault ≡ SystemFault.NoMemory) }
 {
-    match Box::new(alloc, Kept { system: None }) {
+    match Box::new(alloc, StoredSystem { system: None }) {
         Ok(block) => Ok(block),
         Err(_) => Err(SystemFault::NoMemory),
     }
@@ -173,8 +173,8 @@ pub extern "C" fn lagffi_new(
     keys: &[u16],
     ports: &[LagPort],
 ) -> LagMade
-    ensures live { IsTrue (is_some (state_of lag.old.held.kept)) → (result ≡ not_made live_already) × (state_of lag.new.held.kept ≡ state_of lag.old.held.kept) }
-    ensures made { state_of lag.old.held.kept ≡ None → MatchOption (state_of lag.new.held.kept)
+    ensures live { IsTrue (is_some (held_state lag.old.held.kept)) → (result ≡ not_made holds_system_already) × (held_state lag.new.held.kept ≡ held_state lag.old.held.kept) }
+    ensures made { held_state lag.old.held.kept ≡ None → MatchOption (held_state lag.new.held.kept)
         ((fault : SystemFault) × RefusesToMake keys.now ports.now fault × (result ≡ no_made fault))
         (λ s. IsMade config.now keys.now ports.now s × (result ≡ not_made 0)) }
 {
@@ -198,8 +198,8 @@ pub extern "C" fn lagffi_new(
 /// Frees the system of a handle, which is empty then.
 #[unsafe(no_mangle)]
 pub extern "C" fn lagffi_free(alloc: Global, lag: &mut Lag) -> u32
-    ensures left { state_of lag.new.held.kept ≡ None }
-    ensures told { MatchOption (state_of lag.old.held.kept) (result ≡ 13) (λ s. result ≡ 0) }
+    ensures left { held_state lag.new.held.kept ≡ None }
+    ensures told { MatchOption (held_state lag.old.held.kept) (result ≡ 13) (λ s. result ≡ 0) }
 {
     match lag.take(alloc) {
         Some(_) => OK,

@@ -1,25 +1,25 @@
 ghost use Rattle.std.specs.Prelude.{◌≡◌, ◌==◌, IsTrue, MatchOption, length, option_map};
 ghost use Rattle.std.specs.Bool.{IsFalse};
-ghost use Rattle.portmachines.specs.Mux.{is_mux};
+ghost use Rattle.portmachines.specs.Mux.{same_mux_state};
 ghost use Rattle.portmachines.specs.Transmit.{actor_state};
 ghost use Rattle.portmachines.specs.declared.mux.MuxState.{MuxState};
-ghost use Rattle.distributor.specs.Chains.{is_of_port};
+ghost use Rattle.distributor.specs.Chains.{names_port};
 ghost use Rattle.distributor.specs.Conversations.{how_many, next_identifier};
 ghost use Rattle.lagsystem.specs.Hosts.{conversation_at, due_of};
-ghost use Rattle.lagsystem.specs.Readers.{agg_of_number, conversation_in, distributing, group_at};
-ghost use Rattle.lagsystem.specs.State.{numbers, place_of, port_of};
-ghost use Rattle.lagffi.specs.Asking.{Reads};
-ghost use Rattle.lagffi.specs.Holding.{state_of};
+ghost use Rattle.lagsystem.specs.Readers.{aggregator_numbered, conversation_in, distributing, group_at};
+ghost use Rattle.lagsystem.specs.State.{port_numbers, place_of, machines_of};
+ghost use Rattle.lagffi.specs.Asking.{AsksSystem};
+ghost use Rattle.lagffi.specs.Holding.{held_state};
 ghost use Rattle.lagffi.specs.Lists.{list_length, put_first};
-ghost use Rattle.lagffi.specs.Numbers.{no_number, no_system, no_truth, number, number_in, other_length, truth_in};
-ghost use Rattle.lagffi.specs.Told.{assignment_in, choice_told, group_in, info_in, marker_of, mux_told, no_assignment, no_group, no_info, no_marker, no_party, octet_told, party_in, receive_told};
+ghost use Rattle.lagffi.specs.Numbers.{no_number, no_system, no_truth, number, number_in, wrong_buffer_length, truth_in};
+ghost use Rattle.lagffi.specs.ReaderValues.{assignment_in, choice_answer, group_in, info_in, marker_of, mux_answer, no_assignment, no_group, no_info, no_marker, no_party, state_answer, party_in, receive_answer};
 
 use crate::handle::Lag;
-use crate::kept::by_number;
-use crate::told::{
-    LagAssignment, LagGroup, LagInfo, LagMarker, LagParty, choice_told, mux_told, octet_told,
-    receive_told,
+use crate::reader_values::{
+    LagAssignment, LagGroup, LagInfo, LagMarker, LagParty, choice_answer, mux_answer,
+    receive_answer, state_answer,
 };
+use crate::stored::by_number;
 use crate::values::{BUFFER, FRAME_LENGTH, LagNumber, LagTruth, MOST, NO_SYSTEM, put_first};
 use lagsystem::AggId;
 use std::alloc::Global;
@@ -27,8 +27,8 @@ use std::alloc::Global;
 /// Whether the link of a port is up.
 #[unsafe(no_mangle)]
 pub extern "C" fn lagffi_is_up(alloc: Global, lag: &mut Lag, port: u16) -> LagTruth
-    ensures { Reads (state_of lag.old.held.kept) (state_of lag.new.held.kept)
-        (λ s. result ≡ truth_in (option_map (λ p. p.enabled) (port_of port s))) (result ≡ no_truth no_system) }
+    ensures { AsksSystem (held_state lag.old.held.kept) (held_state lag.new.held.kept)
+        (λ s. result ≡ truth_in (option_map (λ p. p.enabled) (machines_of port s))) (result ≡ no_truth no_system) }
 {
     let Some((kept, block)) = lag.take(alloc) else {
         return LagTruth::refused(NO_SYSTEM);
@@ -42,7 +42,7 @@ pub extern "C" fn lagffi_is_up(alloc: Global, lag: &mut Lag, port: u16) -> LagTr
 /// Whether a frame is due on a port.
 #[unsafe(no_mangle)]
 pub extern "C" fn lagffi_is_due(alloc: Global, lag: &mut Lag, port: u16) -> LagTruth
-    ensures { Reads (state_of lag.old.held.kept) (state_of lag.new.held.kept)
+    ensures { AsksSystem (held_state lag.old.held.kept) (held_state lag.new.held.kept)
         (λ s. result ≡ truth_in (due_of port s)) (result ≡ no_truth no_system) }
 {
     let Some((kept, block)) = lag.take(alloc) else {
@@ -57,8 +57,8 @@ pub extern "C" fn lagffi_is_due(alloc: Global, lag: &mut Lag, port: u16) -> LagT
 /// Whether the recorded partner of a port is the administrative default.
 #[unsafe(no_mangle)]
 pub extern "C" fn lagffi_defaulted(alloc: Global, lag: &mut Lag, port: u16) -> LagTruth
-    ensures { Reads (state_of lag.old.held.kept) (state_of lag.new.held.kept)
-        (λ s. result ≡ truth_in (option_map (λ p. p.defaulted) (port_of port s))) (result ≡ no_truth no_system) }
+    ensures { AsksSystem (held_state lag.old.held.kept) (held_state lag.new.held.kept)
+        (λ s. result ≡ truth_in (option_map (λ p. p.defaulted) (machines_of port s))) (result ≡ no_truth no_system) }
 {
     let Some((kept, block)) = lag.take(alloc) else {
         return LagTruth::refused(NO_SYSTEM);
@@ -72,8 +72,8 @@ pub extern "C" fn lagffi_defaulted(alloc: Global, lag: &mut Lag, port: u16) -> L
 /// Whether a port distributes.
 #[unsafe(no_mangle)]
 pub extern "C" fn lagffi_distributes(alloc: Global, lag: &mut Lag, port: u16) -> LagTruth
-    ensures { Reads (state_of lag.old.held.kept) (state_of lag.new.held.kept)
-        (λ s. result ≡ truth_in (option_map (λ p. is_mux MuxState.CollectingDistributing p.mux) (port_of port s))) (result ≡ no_truth no_system) }
+    ensures { AsksSystem (held_state lag.old.held.kept) (held_state lag.new.held.kept)
+        (λ s. result ≡ truth_in (option_map (λ p. same_mux_state MuxState.CollectingDistributing p.mux) (machines_of port s))) (result ≡ no_truth no_system) }
 {
     let Some((kept, block)) = lag.take(alloc) else {
         return LagTruth::refused(NO_SYSTEM);
@@ -87,14 +87,14 @@ pub extern "C" fn lagffi_distributes(alloc: Global, lag: &mut Lag, port: u16) ->
 /// The state octet of a port's own side.
 #[unsafe(no_mangle)]
 pub extern "C" fn lagffi_state(alloc: Global, lag: &mut Lag, port: u16) -> LagNumber
-    ensures { Reads (state_of lag.old.held.kept) (state_of lag.new.held.kept)
-        (λ s. result ≡ octet_told (option_map actor_state (port_of port s))) (result ≡ no_number no_system) }
+    ensures { AsksSystem (held_state lag.old.held.kept) (held_state lag.new.held.kept)
+        (λ s. result ≡ state_answer (option_map actor_state (machines_of port s))) (result ≡ no_number no_system) }
 {
     let Some((kept, block)) = lag.take(alloc) else {
         return LagNumber::refused(NO_SYSTEM);
     };
     let system = kept.with_algorithm(by_number);
-    let answer = octet_told(system.state(port));
+    let answer = state_answer(system.state(port));
     lag.put(system.with_algorithm(()), block);
     answer
 }
@@ -102,14 +102,14 @@ pub extern "C" fn lagffi_state(alloc: Global, lag: &mut Lag, port: u16) -> LagNu
 /// The state of the receive machine of a port.
 #[unsafe(no_mangle)]
 pub extern "C" fn lagffi_receive_state(alloc: Global, lag: &mut Lag, port: u16) -> LagNumber
-    ensures { Reads (state_of lag.old.held.kept) (state_of lag.new.held.kept)
-        (λ s. result ≡ receive_told (option_map (λ p. p.receive) (port_of port s))) (result ≡ no_number no_system) }
+    ensures { AsksSystem (held_state lag.old.held.kept) (held_state lag.new.held.kept)
+        (λ s. result ≡ receive_answer (option_map (λ p. p.receive) (machines_of port s))) (result ≡ no_number no_system) }
 {
     let Some((kept, block)) = lag.take(alloc) else {
         return LagNumber::refused(NO_SYSTEM);
     };
     let system = kept.with_algorithm(by_number);
-    let answer = receive_told(system.receive_state(port));
+    let answer = receive_answer(system.receive_state(port));
     lag.put(system.with_algorithm(()), block);
     answer
 }
@@ -117,14 +117,14 @@ pub extern "C" fn lagffi_receive_state(alloc: Global, lag: &mut Lag, port: u16) 
 /// The aggregator that a port has chosen, or 0.
 #[unsafe(no_mangle)]
 pub extern "C" fn lagffi_choice(alloc: Global, lag: &mut Lag, port: u16) -> LagNumber
-    ensures { Reads (state_of lag.old.held.kept) (state_of lag.new.held.kept)
-        (λ s. result ≡ choice_told (option_map (λ p. p.choice) (port_of port s))) (result ≡ no_number no_system) }
+    ensures { AsksSystem (held_state lag.old.held.kept) (held_state lag.new.held.kept)
+        (λ s. result ≡ choice_answer (option_map (λ p. p.choice) (machines_of port s))) (result ≡ no_number no_system) }
 {
     let Some((kept, block)) = lag.take(alloc) else {
         return LagNumber::refused(NO_SYSTEM);
     };
     let system = kept.with_algorithm(by_number);
-    let answer = choice_told(system.choice(port));
+    let answer = choice_answer(system.choice(port));
     lag.put(system.with_algorithm(()), block);
     answer
 }
@@ -132,14 +132,14 @@ pub extern "C" fn lagffi_choice(alloc: Global, lag: &mut Lag, port: u16) -> LagN
 /// The state of the mux machine of a port.
 #[unsafe(no_mangle)]
 pub extern "C" fn lagffi_mux_state(alloc: Global, lag: &mut Lag, port: u16) -> LagNumber
-    ensures { Reads (state_of lag.old.held.kept) (state_of lag.new.held.kept)
-        (λ s. result ≡ mux_told (option_map (λ p. p.mux) (port_of port s))) (result ≡ no_number no_system) }
+    ensures { AsksSystem (held_state lag.old.held.kept) (held_state lag.new.held.kept)
+        (λ s. result ≡ mux_answer (option_map (λ p. p.mux) (machines_of port s))) (result ≡ no_number no_system) }
 {
     let Some((kept, block)) = lag.take(alloc) else {
         return LagNumber::refused(NO_SYSTEM);
     };
     let system = kept.with_algorithm(by_number);
-    let answer = mux_told(system.mux_state(port));
+    let answer = mux_answer(system.mux_state(port));
     lag.put(system.with_algorithm(()), block);
     answer
 }
@@ -147,8 +147,8 @@ pub extern "C" fn lagffi_mux_state(alloc: Global, lag: &mut Lag, port: u16) -> L
 /// The own parameters of a port.
 #[unsafe(no_mangle)]
 pub extern "C" fn lagffi_party(alloc: Global, lag: &mut Lag, port: u16) -> LagParty
-    ensures { Reads (state_of lag.old.held.kept) (state_of lag.new.held.kept)
-        (λ s. result ≡ party_in (option_map (λ p. p.party) (port_of port s))) (result ≡ no_party no_system) }
+    ensures { AsksSystem (held_state lag.old.held.kept) (held_state lag.new.held.kept)
+        (λ s. result ≡ party_in (option_map (λ p. p.party) (machines_of port s))) (result ≡ no_party no_system) }
 {
     let Some((kept, block)) = lag.take(alloc) else {
         return LagParty::refused(NO_SYSTEM);
@@ -162,8 +162,8 @@ pub extern "C" fn lagffi_party(alloc: Global, lag: &mut Lag, port: u16) -> LagPa
 /// The recorded partner of a port.
 #[unsafe(no_mangle)]
 pub extern "C" fn lagffi_partner(alloc: Global, lag: &mut Lag, port: u16) -> LagInfo
-    ensures { Reads (state_of lag.old.held.kept) (state_of lag.new.held.kept)
-        (λ s. result ≡ info_in (option_map (λ p. p.partner) (port_of port s))) (result ≡ no_info no_system) }
+    ensures { AsksSystem (held_state lag.old.held.kept) (held_state lag.new.held.kept)
+        (λ s. result ≡ info_in (option_map (λ p. p.partner) (machines_of port s))) (result ≡ no_info no_system) }
 {
     let Some((kept, block)) = lag.take(alloc) else {
         return LagInfo::refused(NO_SYSTEM);
@@ -177,8 +177,8 @@ pub extern "C" fn lagffi_partner(alloc: Global, lag: &mut Lag, port: u16) -> Lag
 /// The Link Aggregation Group of a port.
 #[unsafe(no_mangle)]
 pub extern "C" fn lagffi_group(alloc: Global, lag: &mut Lag, port: u16) -> LagGroup
-    ensures { Reads (state_of lag.old.held.kept) (state_of lag.new.held.kept)
-        (λ s. result ≡ group_in (option_map group_at (port_of port s))) (result ≡ no_group no_system) }
+    ensures { AsksSystem (held_state lag.old.held.kept) (held_state lag.new.held.kept)
+        (λ s. result ≡ group_in (option_map group_at (machines_of port s))) (result ≡ no_group no_system) }
 {
     let Some((kept, block)) = lag.take(alloc) else {
         return LagGroup::refused(NO_SYSTEM);
@@ -192,8 +192,8 @@ pub extern "C" fn lagffi_group(alloc: Global, lag: &mut Lag, port: u16) -> LagGr
 /// How many conversations are On, Wanted or Flushing on a port.
 #[unsafe(no_mangle)]
 pub extern "C" fn lagffi_load(alloc: Global, lag: &mut Lag, port: u16) -> LagNumber
-    ensures { Reads (state_of lag.old.held.kept) (state_of lag.new.held.kept)
-        (λ s. MatchOption (place_of port s.slots) (result ≡ no_number 1) (λ place. result ≡ number (how_many (is_of_port port) s.table))) (result ≡ no_number no_system) }
+    ensures { AsksSystem (held_state lag.old.held.kept) (held_state lag.new.held.kept)
+        (λ s. MatchOption (place_of port s.slots) (result ≡ no_number 1) (λ place. result ≡ number (how_many (names_port port) s.table))) (result ≡ no_number no_system) }
 {
     let Some((kept, block)) = lag.take(alloc) else {
         return LagNumber::refused(NO_SYSTEM);
@@ -207,7 +207,7 @@ pub extern "C" fn lagffi_load(alloc: Global, lag: &mut Lag, port: u16) -> LagNum
 /// How many aggregators there are.
 #[unsafe(no_mangle)]
 pub extern "C" fn lagffi_aggregators(alloc: Global, lag: &mut Lag) -> LagNumber
-    ensures { Reads (state_of lag.old.held.kept) (state_of lag.new.held.kept)
+    ensures { AsksSystem (held_state lag.old.held.kept) (held_state lag.new.held.kept)
         (λ s. result ≡ number (length s.keys)) (result ≡ no_number no_system) }
 {
     let Some((kept, block)) = lag.take(alloc) else {
@@ -222,7 +222,7 @@ pub extern "C" fn lagffi_aggregators(alloc: Global, lag: &mut Lag) -> LagNumber
 /// The conversation of a frame in its aggregator; refused below 14 octets.
 #[unsafe(no_mangle)]
 pub extern "C" fn lagffi_conversation(alloc: Global, lag: &mut Lag, frame: &[u8]) -> LagNumber
-    ensures { Reads (state_of lag.old.held.kept) (state_of lag.new.held.kept)
+    ensures { AsksSystem (held_state lag.old.held.kept) (held_state lag.new.held.kept)
         (λ s. result ≡ number_in 3 (conversation_in s frame.now)) (result ≡ no_number no_system) }
 {
     let Some((kept, block)) = lag.take(alloc) else {
@@ -242,8 +242,8 @@ pub extern "C" fn lagffi_conversation_state(
     agg: u16,
     conv: u16,
 ) -> LagAssignment
-    ensures { Reads (state_of lag.old.held.kept) (state_of lag.new.held.kept)
-        (λ s. result ≡ assignment_in (conversation_at s (agg_of_number agg) conv)) (result ≡ no_assignment no_system) }
+    ensures { AsksSystem (held_state lag.old.held.kept) (held_state lag.new.held.kept)
+        (λ s. result ≡ assignment_in (conversation_at s (aggregator_numbered agg) conv)) (result ≡ no_assignment no_system) }
 {
     let Some((kept, block)) = lag.take(alloc) else {
         return LagAssignment::refused(NO_SYSTEM);
@@ -257,7 +257,7 @@ pub extern "C" fn lagffi_conversation_state(
 /// The identifier of the next marker, where one is left.
 #[unsafe(no_mangle)]
 pub extern "C" fn lagffi_next_marker(alloc: Global, lag: &mut Lag) -> LagMarker
-    ensures { Reads (state_of lag.old.held.kept) (state_of lag.new.held.kept)
+    ensures { AsksSystem (held_state lag.old.held.kept) (held_state lag.new.held.kept)
         (λ s. result ≡ marker_of (next_identifier s.table)) (result ≡ no_marker no_system) }
 {
     let Some((kept, block)) = lag.take(alloc) else {
@@ -272,9 +272,9 @@ pub extern "C" fn lagffi_next_marker(alloc: Global, lag: &mut Lag) -> LagMarker
 /// How many ports there are. The buffer has 64 places; their numbers are written at its front, and nothing else.
 #[unsafe(no_mangle)]
 pub extern "C" fn lagffi_ports(alloc: Global, lag: &mut Lag, buffer: &mut [u16]) -> LagNumber
-    ensures room { IsFalse (length buffer.old == list_length) → (result ≡ no_number other_length) × (state_of lag.new.held.kept ≡ state_of lag.old.held.kept) × (buffer.new ≡ buffer.old) }
-    ensures answers { IsTrue (length buffer.old == list_length) → Reads (state_of lag.old.held.kept) (state_of lag.new.held.kept)
-        (λ s. (result ≡ number (length (numbers s.slots))) × (buffer.new ≡ put_first (numbers s.slots) buffer.old))
+    ensures room { IsFalse (length buffer.old == list_length) → (result ≡ no_number wrong_buffer_length) × (held_state lag.new.held.kept ≡ held_state lag.old.held.kept) × (buffer.new ≡ buffer.old) }
+    ensures answers { IsTrue (length buffer.old == list_length) → AsksSystem (held_state lag.old.held.kept) (held_state lag.new.held.kept)
+        (λ s. (result ≡ number (length (port_numbers s.slots))) × (buffer.new ≡ put_first (port_numbers s.slots) buffer.old))
         ((result ≡ no_number no_system) × (buffer.new ≡ buffer.old)) }
 {
     if buffer.len() != MOST {
@@ -297,9 +297,9 @@ pub extern "C" fn lagffi_distributing(
     agg: u16,
     buffer: &mut [u16],
 ) -> LagNumber
-    ensures room { IsFalse (length buffer.old == list_length) → (result ≡ no_number other_length) × (state_of lag.new.held.kept ≡ state_of lag.old.held.kept) × (buffer.new ≡ buffer.old) }
-    ensures answers { IsTrue (length buffer.old == list_length) → Reads (state_of lag.old.held.kept) (state_of lag.new.held.kept)
-        (λ s. (result ≡ number (length (distributing (agg_of_number agg) s.slots))) × (buffer.new ≡ put_first (distributing (agg_of_number agg) s.slots) buffer.old))
+    ensures room { IsFalse (length buffer.old == list_length) → (result ≡ no_number wrong_buffer_length) × (held_state lag.new.held.kept ≡ held_state lag.old.held.kept) × (buffer.new ≡ buffer.old) }
+    ensures answers { IsTrue (length buffer.old == list_length) → AsksSystem (held_state lag.old.held.kept) (held_state lag.new.held.kept)
+        (λ s. (result ≡ number (length (distributing (aggregator_numbered agg) s.slots))) × (buffer.new ≡ put_first (distributing (aggregator_numbered agg) s.slots) buffer.old))
         ((result ≡ no_number no_system) × (buffer.new ≡ buffer.old)) }
 {
     if buffer.len() != MOST {

@@ -12,7 +12,7 @@ use Rattle.clap.specs.Faults.{check_fault, defaults_fault, entered_fault, fault_
 use Rattle.clap.specs.Simple.{App, Shape, argument_words, built, built_leaf, entered, inherited, is_simple, label_of, marked_built, names_of, rows_at, subcommand_of, with_leaf_noted}
 use Rattle.clap.specs.Takes.{is_given}
 use Rattle.clap.specs.Walk.{Row, Rule, Text, answers_to, finished, nothing_held, rows_after, settled, walk, walk_from}
-use Rattle.lagline.specs.Lines.{IsAsked, IsCause, KeepsKind, check_line, decode_line, has_text, is_whole, lines, replay_line, respond_line, vectors_line}
+use Rattle.lagline.specs.Lines.{IsAsked, IsCause, KeepsKind, check_subcommand, decode_subcommand, has_text, has_each_word, program, replay_subcommand, respond_subcommand, vectors_subcommand}
 use Rattle.lagline.specs.declared.line.LineFault.{LineFault}
 use Rattle.lagline.specs.declared.line.LineFault.TheVariants.{Help, Usage, NoMemory}
 use Rattle.clap.specs.Words.{app_of, is_simple_and_free, subcommand_rows_of, HasMatchesOf}
@@ -37,7 +37,7 @@ all_given rows (a ∷ c) e =
 
 -- a subcommand as it is built
 abbrev line_of : App → Shape
-line_of a = built_leaf (inherited (with_leaf_noted (marked_built lines.top)) a.top)
+line_of a = built_leaf (inherited (with_leaf_noted (marked_built program.top)) a.top)
 
 text_given : (s : Shape) (words : List Text) (id : Text) → AreWordsOrHelp s.rules → level_fault s [] nothing_held words false [] ≡ []
     → not (is_given id (rows_after s.rules [] words)) ≡ false → has_text id (rows_after s.rules [] words) ≡ true
@@ -45,34 +45,34 @@ text_given s words id good e given =
     ap is_some (given_has_value id (rows_after s.rules [] words) (rows_filled s words good e) (not-false _ given)).1
 
 abbrev IsWholeLine : Shape → Type 0
-IsWholeLine s = (words : List Text) → level_fault s [] nothing_held words false [] ≡ [] → is_whole (Some (rows_at s words)) ≡ true
+IsWholeLine s = (words : List Text) → level_fault s [] nothing_held words false [] ≡ [] → has_each_word (Some (rows_at s words)) ≡ true
 
-decode_whole : IsWholeLine (line_of decode_line)
+decode_whole : IsWholeLine (line_of decode_subcommand)
 decode_whole words e =
-    let s = line_of decode_line in
+    let s = line_of decode_subcommand in
     let given = all_given (rows_after s.rules [] words) s.rules (nothing_missing _ (is_checked s words e)) in
     text_given s words (codes "HEX") (inl (refl, refl), (inr refl, tt)) e given.0
 
-respond_whole : IsWholeLine (line_of respond_line)
+respond_whole : IsWholeLine (line_of respond_subcommand)
 respond_whole words e =
-    let s = line_of respond_line in
+    let s = line_of respond_subcommand in
     let good : AreWordsOrHelp s.rules = (inl (refl, refl), (inl (refl, refl), (inr refl, tt))) in
     let given = all_given (rows_after s.rules [] words) s.rules (nothing_missing _ (is_checked s words e)) in
     ap₂ (λ x y. x && y) (text_given s words (codes "MAC") good e given.0) (text_given s words (codes "HEX") good e given.1.0)
 
-check_whole : IsWholeLine (line_of check_line)
+check_whole : IsWholeLine (line_of check_subcommand)
 check_whole words e =
-    let s = line_of check_line in
+    let s = line_of check_subcommand in
     let given = all_given (rows_after s.rules [] words) s.rules (nothing_missing _ (is_checked s words e)) in
     text_given s words (codes "FILE") (inl (refl, refl), (inr refl, tt)) e given.0
 
-replay_whole : IsWholeLine (line_of replay_line)
+replay_whole : IsWholeLine (line_of replay_subcommand)
 replay_whole words e =
-    let s = line_of replay_line in
+    let s = line_of replay_subcommand in
     let given = all_given (rows_after s.rules [] words) s.rules (nothing_missing _ (is_checked s words e)) in
     text_given s words (codes "SCRIPT") (inl (refl, refl), (inr refl, tt)) e given.0
 
-vectors_whole : IsWholeLine (line_of vectors_line)
+vectors_whole : IsWholeLine (line_of vectors_subcommand)
 vectors_whole words e = refl
 
 abbrev AreWholeLines : List Shape → Type 0
@@ -91,28 +91,28 @@ whole_found p (s ∷ ss) g = go (p s) (whole_found p ss g.1)
     go true rest = g.0
     go false rest = rest
 
-lines_whole : AreWholeLines (built lines).subs
+lines_whole : AreWholeLines (built program).subs
 lines_whole = (decode_whole, (respond_whole, (check_whole, (replay_whole, (vectors_whole, tt)))))
 
 entered_whole : (found : Option Shape) (words : List Text) → IsWholeIfFound found → option_map_or (λ s. level_fault s [] nothing_held words false []) found [] ≡ []
-    → is_some (option_map (λ s. rows_at s words) found) ≡ true → is_whole (option_map (λ s. rows_at s words) found) ≡ true
+    → is_some (option_map (λ s. rows_at s words) found) ≡ true → has_each_word (option_map (λ s. rows_at s words) found) ≡ true
 entered_whole None words g e has = cc
 entered_whole (Some s) words g e has = g words e
 
-stopped_whole : (stop : Option (Text × List Text)) → entered_fault (built lines) stop ≡ [] → is_some (entered (built lines) stop) ≡ true
-    → is_whole (entered (built lines) stop) ≡ true
+stopped_whole : (stop : Option (Text × List Text)) → entered_fault (built program) stop ≡ [] → is_some (entered (built program) stop) ≡ true
+    → has_each_word (entered (built program) stop) ≡ true
 stopped_whole None e has = cc
-stopped_whole (Some p) e has = entered_whole _ p.1 (whole_found (λ s. answers_to p.0 (label_of s)) (built lines).subs lines_whole) e has
+stopped_whole (Some p) e has = entered_whole _ p.1 (whole_found (λ s. answers_to p.0 (label_of s)) (built program).subs lines_whole) e has
 
 -- a subcommand is required
 met : (has other : Bool) → check_kinds (not has && false) (not has && true) other ≡ [] → has ≡ true
 met true other e = refl
 met false other e = cc
 
-pub whole_line : (words : List Text) → fault_of lines words ≡ [] → is_whole (subcommand_of lines words) ≡ true
+pub whole_line : (words : List Text) → fault_of program words ≡ [] → has_each_word (subcommand_of program words) ≡ true
 whole_line words e =
-    let a = built lines in
-    let rest = argument_words lines words in
+    let a = built program in
+    let rest = argument_words program words in
     let w = walk a.top.rules (names_of a) nothing_held rest in
     let has = is_some (entered a w.stopped) in
     let walks = walk_fault a.top (names_of a) (walk_from nothing_held) rest in
@@ -128,15 +128,15 @@ whole_line words e =
     stopped_whole w.stopped second.0 (met has wants fourth.1)
 
 -- a parse that succeeds states no fault for the program's words
-pub faultless : (c : Command) (words : List Text) → app_of c ≡ lines → (is_simple_and_free (app_of c) ≡ true → fault_of (app_of c) words ≡ []) → fault_of lines words ≡ []
+pub faultless : (c : Command) (words : List Text) → app_of c ≡ program → (is_simple_and_free (app_of c) ≡ true → fault_of (app_of c) words ≡ []) → fault_of program words ≡ []
 faultless c words shape kinds = ap (λ (a : App). fault_of a words) (sym shape) ∙ kinds (ap is_simple_and_free shape)
 
 -- and finds such a subcommand
-pub whole_matches : (c : Command) (words : List Text) (m : ArgMatches) → app_of c ≡ lines → HasMatchesOf (app_of c) words m
-    → (is_simple_and_free (app_of c) ≡ true → fault_of (app_of c) words ≡ []) → is_whole (subcommand_rows_of m) ≡ true
+pub whole_matches : (c : Command) (words : List Text) (m : ArgMatches) → app_of c ≡ program → HasMatchesOf (app_of c) words m
+    → (is_simple_and_free (app_of c) ≡ true → fault_of (app_of c) words ≡ []) → has_each_word (subcommand_rows_of m) ≡ true
 whole_matches c words m shape matches kinds =
     let found = (matches (ap is_simple shape)).1 ∙ ap (λ (a : App). subcommand_of a words) shape in
-    ap is_whole found ∙ whole_line words (faultless c words shape kinds)
+    ap has_each_word found ∙ whole_line words (faultless c words shape kinds)
 
 -- an error of one of the kinds is a cause of the fault that keeps it
 cause_of : (kinds : Kinds) (e : Error) (f : LineFault) → HasKind kinds e → KeepsKind e f → IsCause kinds f
@@ -155,6 +155,6 @@ cause_of kinds e (Usage error) h k =
 cause_of kinds e NoMemory h k = tt
 
 -- and so if a parse fails by the program's words
-pub line_cause : (c : Command) (words : List Text) (e : Error) (f : LineFault) → app_of c ≡ lines → (is_simple_and_free (app_of c) ≡ true → HasKind (fault_of (app_of c) words) e)
-    → KeepsKind e f → IsCause (fault_of lines words) f
+pub line_cause : (c : Command) (words : List Text) (e : Error) (f : LineFault) → app_of c ≡ program → (is_simple_and_free (app_of c) ≡ true → HasKind (fault_of (app_of c) words) e)
+    → KeepsKind e f → IsCause (fault_of program words) f
 line_cause c words e f shape kinds k = cause_of _ e f (subst (λ (a : App). HasKind (fault_of a words) e) shape (kinds (ap is_simple_and_free shape))) k

@@ -12,23 +12,23 @@ use Rattle.lagline.specs.declared.line.Job.{Job}
 use Rattle.lagline.specs.declared.line.Job.TheVariants.{Decode, Respond, Check, Replay, Vectors}
 
 -- an argument that is required
-abbrev pub word : Text → Rule
-word id = record (new_rule id) { required = true }
+abbrev pub required_word : Text → Rule
+required_word id = record (new_rule id) { required = true }
 
-abbrev pub decode_line : App
-decode_line = with_rule (new_app (codes "decode")) (word (codes "HEX"))
+abbrev pub decode_subcommand : App
+decode_subcommand = with_rule (new_app (codes "decode")) (required_word (codes "HEX"))
 
-abbrev pub respond_line : App
-respond_line = with_rule (with_rule (new_app (codes "respond")) (word (codes "MAC"))) (word (codes "HEX"))
+abbrev pub respond_subcommand : App
+respond_subcommand = with_rule (with_rule (new_app (codes "respond")) (required_word (codes "MAC"))) (required_word (codes "HEX"))
 
-abbrev pub check_line : App
-check_line = with_rule (new_app (codes "check")) (word (codes "FILE"))
+abbrev pub check_subcommand : App
+check_subcommand = with_rule (new_app (codes "check")) (required_word (codes "FILE"))
 
-abbrev pub replay_line : App
-replay_line = with_rule (new_app (codes "replay")) (word (codes "SCRIPT"))
+abbrev pub replay_subcommand : App
+replay_subcommand = with_rule (new_app (codes "replay")) (required_word (codes "SCRIPT"))
 
-abbrev pub vectors_line : App
-vectors_line = new_app (codes "vectors")
+abbrev pub vectors_subcommand : App
+vectors_subcommand = new_app (codes "vectors")
 
 -- a subcommand is required, there is no subcommand `help`, and there is a version
 abbrev pub program_alone : App
@@ -37,11 +37,11 @@ program_alone =
     record a { top = record a.top { subcommand_required = true; disable_help_subcommand = true; has_version = true } }
 
 -- the program with its subcommands
-abbrev pub lines : App
-lines =
-    with_subcommand (with_subcommand (with_subcommand (with_subcommand (with_subcommand program_alone decode_line.top) respond_line.top)
-    check_line.top)
-    replay_line.top) vectors_line.top
+abbrev pub program : App
+program =
+    with_subcommand (with_subcommand (with_subcommand (with_subcommand (with_subcommand program_alone decode_subcommand.top) respond_subcommand.top)
+    check_subcommand.top)
+    replay_subcommand.top) vectors_subcommand.top
 
 abbrev pub name_of : Job → Text
 name_of (Decode hex) = codes "decode"
@@ -68,9 +68,9 @@ abbrev pub has_text : Text → List Row → Bool
 has_text id rows = is_some (first_of id rows)
 
 -- a subcommand of the program was found, with each argument that it takes
-abbrev pub is_whole : Option (Text × List Row) → Bool
-is_whole None = false
-is_whole (Some found) =
+abbrev pub has_each_word : Option (Text × List Row) → Bool
+has_each_word None = false
+has_each_word (Some found) =
     if bytes_eq found.0 (codes "decode") then has_text (codes "HEX") found.1
     else (if bytes_eq found.0 (codes "respond") then has_text (codes "MAC") found.1 && has_text (codes "HEX") found.1
     else (if bytes_eq found.0 (codes "check") then has_text (codes "FILE") found.1

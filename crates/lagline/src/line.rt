@@ -2,7 +2,7 @@ ghost use Rattle.std.specs.Prelude.{◌≡◌, [], IfErr, IfOk, OnOk, map, true,
 ghost use Rattle.clap.specs.declared.builder.command.Command.TheViews.{out-Command as fields_of};
 ghost use Rattle.clap.specs.Words.{app_of, fault_of, new_app, subcommand_of, subcommand_rows_of, with_rule};
 ghost use Rattle.lagline.specs.declared.line.LineFault.TheVariants.{NoMemory};
-ghost use Rattle.lagline.specs.Lines.{IsCause, IsJob, KeepsKind, is_whole, lines, program_alone, word};
+ghost use Rattle.lagline.specs.Lines.{IsCause, IsJob, KeepsKind, has_each_word, program, program_alone, required_word};
 
 use crate::help;
 use clap::error::ErrorKind;
@@ -70,7 +70,7 @@ fn with_word<'a>(
     id: &'a str,
     help: &'a str,
 ) -> Result<Command<'a>, AllocError>
-    ensures app { IfOk result (λ c. app_of c ≡ with_rule (app_of command.entry) (word id.entry.now)) }
+    ensures app { IfOk result (λ c. app_of c ≡ with_rule (app_of command.entry) (required_word id.entry.now)) }
     ensures local { IfOk result (λ c. (fields_of command.entry).has_globals ≡ false → (fields_of c).has_globals ≡ false) }
 {
     command.arg(Arg::new(alloc, id).required(true).help(help))
@@ -91,7 +91,7 @@ fn program_alone<'a>(alloc: Global) -> Result<Command<'a>, AllocError>
 
 /// The program with its subcommands.
 fn program<'a>(alloc: Global) -> Result<Command<'a>, AllocError>
-    ensures { IfOk result (λ c. app_of c ≡ lines) }
+    ensures { IfOk result (λ c. app_of c ≡ program) }
 {
     let decode = subcommand(alloc, "decode", help::DECODE, help::DECODE_EXAMPLE);
     let decode = with_word(decode, alloc, "HEX", help::PAYLOAD)?;
@@ -113,7 +113,7 @@ fn program<'a>(alloc: Global) -> Result<Command<'a>, AllocError>
 
 /// The job of a subcommand with the values of its arguments.
 fn job_in<'a>(matches: &ArgMatches<'a>) -> Job<'a>
-    requires { is_whole (subcommand_rows_of matches.now) ≡ true }
+    requires { has_each_word (subcommand_rows_of matches.now) ≡ true }
     ensures { IsJob (subcommand_rows_of matches.now) result }
 {
     let (name, values) = matches.subcommand().unwrap();
@@ -140,11 +140,11 @@ fn job_in<'a>(matches: &ArgMatches<'a>) -> Job<'a>
 /// version, `Usage` if they are no line of the program, `NoMemory` if memory is refused.
 pub fn read_line<'a, S: AsStr>(alloc: Global, words: &'a [S]) -> Result<Job<'a>, LineFault>
     // The job is the subcommand that the words name, with their values.
-    ensures job { IfOk result (λ job. IsJob (subcommand_of lines (map S.text words.entry.now)) job) }
+    ensures job { IfOk result (λ job. IsJob (subcommand_of program (map S.text words.entry.now)) job) }
     // A line for which `clap` has an error has no job.
-    ensures faultless { OnOk result (fault_of lines (map S.text words.entry.now) ≡ []) }
+    ensures faultless { OnOk result (fault_of program (map S.text words.entry.now) ≡ []) }
     // Help and the version are shown only if the words ask for them, and a usage fault is one that the words have.
-    ensures fault { IfErr result (λ e. IsCause (fault_of lines (map S.text words.entry.now)) e) }
+    ensures fault { IfErr result (λ e. IsCause (fault_of program (map S.text words.entry.now)) e) }
 {
     match program(alloc)?.try_get_matches_from(words) {
         Ok(matches) => Ok(job_in(&matches)),

@@ -4,18 +4,18 @@ use Rattle.std.proofs.Common.{ℕ, Bool, true, false, Option, Some, None, List, 
 use Rattle.std.specs.Prelude.{IsSomeAnd}
 use Rattle.std.proofs.lemmas.Bool.{true≢false}
 use Rattle.std.proofs.lemmas.Option.{none-some}
-use Rattle.lagmodel.specs.View.{PortView, Conversation, Flows, View, Setup, Call, Pdu, Lacp, Marker, Response, Receive}
-use Rattle.lagmodel.specs.Move.{Act, PortMove, PortAllowed, Change, ChangeAllowed, FlowMove, FlowAllowed, Move, Port, Flow, Restart, Allowed, after, AllAllowed, Distributes, FreeMoves}
+use Rattle.lagmodel.specs.View.{PortFacts, Conversation, Flows, View, SystemSetup, ModelCall, ControlMessage, Lacp, Marker, Response, Receive}
+use Rattle.lagmodel.specs.Move.{Act, PortMove, PortAllowed, ConversationMove, ConversationMoveAllowed, FlowMove, FlowAllowed, Move, Port, Flow, Restart, Allowed, view_after, AllAllowed, Distributes, FreeMoves}
 
-abbrev is_receive : Call → Bool
+abbrev is_receive : ModelCall → Bool
 is_receive (Receive p pdu) = true
 is_receive _ = false
 
-abbrev brought : Call → Option Pdu
+abbrev brought : ModelCall → Option ControlMessage
 brought (Receive p pdu) = pdu
 brought _ = None
 
-port_allowed : (u : Setup) (n : ℕ) (came : Option Pdu) (ports : ℕ → Option PortView) (p : ℕ) (m : PortMove) (a : PortView)
+port_allowed : (u : SystemSetup) (n : ℕ) (came : Option ControlMessage) (ports : ℕ → Option PortFacts) (p : ℕ) (m : PortMove) (a : PortFacts)
     → PortAllowed u (Receive n None) ports p m a → PortAllowed u (Receive n came) ports p m a
 port_allowed u n came ports p PortMove.Stop a h = tt
 port_allowed u n came ports p PortMove.Leave a h = tt
@@ -28,33 +28,33 @@ port_allowed u n came ports p PortMove.Distribute a h = h
 port_allowed u n came ports p (PortMove.Announce synchronised) a h = h
 port_allowed u n came ports p (PortMove.Respond mac port identifier) a h = absurd (none-some (Marker mac port identifier) (ap brought h))
 
-change_allowed : (mac : List ℕ) (n : ℕ) (came : Option Pdu) (g k : ℕ) (m : Change) (c : Conversation)
-    → ChangeAllowed mac (Receive n None) g k m c → ChangeAllowed mac (Receive n came) g k m c
-change_allowed mac n came g k (Change.Want p) c h = h
-change_allowed mac n came g k (Change.Retry p i) c h = h
-change_allowed mac n came g k (Change.Answered p i) c h = absurd (none-some (Response mac p i) (ap brought h.0))
-change_allowed mac n came g k (Change.Down p) c h = absurd (true≢false (ap is_receive h.0))
-change_allowed mac n came g k Change.Forced c h = absurd (true≢false (ap is_receive h))
+change_allowed : (mac : List ℕ) (n : ℕ) (came : Option ControlMessage) (g k : ℕ) (m : ConversationMove) (c : Conversation)
+    → ConversationMoveAllowed mac (Receive n None) g k m c → ConversationMoveAllowed mac (Receive n came) g k m c
+change_allowed mac n came g k (ConversationMove.Want p) c h = h
+change_allowed mac n came g k (ConversationMove.Retry p i) c h = h
+change_allowed mac n came g k (ConversationMove.Answered p i) c h = absurd (none-some (Response mac p i) (ap brought h.0))
+change_allowed mac n came g k (ConversationMove.Down p) c h = absurd (true≢false (ap is_receive h.0))
+change_allowed mac n came g k ConversationMove.Forced c h = absurd (true≢false (ap is_receive h))
 
-flow_allowed : (mac : List ℕ) (n : ℕ) (came : Option Pdu) (D : ℕ → ℕ → Type 0) (f : Flows) (m : FlowMove)
+flow_allowed : (mac : List ℕ) (n : ℕ) (came : Option ControlMessage) (D : ℕ → ℕ → Type 0) (f : Flows) (m : FlowMove)
     → FlowAllowed mac (Receive n None) D f m → FlowAllowed mac (Receive n came) D f m
 flow_allowed mac n came D f (FlowMove.Send g k p) h = h
 flow_allowed mac n came D f (FlowMove.Mark p) h = h
 flow_allowed mac n came D f (FlowMove.Become g k m) h = change_allowed mac n came g k m (f.state g k) h
 
-there : (u : Setup) (n : ℕ) (came : Option Pdu) (ports : ℕ → Option PortView) (p : ℕ) (m : PortMove) (o : Option PortView)
+there : (u : SystemSetup) (n : ℕ) (came : Option ControlMessage) (ports : ℕ → Option PortFacts) (p : ℕ) (m : PortMove) (o : Option PortFacts)
     → IsSomeAnd o (PortAllowed u (Receive n None) ports p m) → IsSomeAnd o (PortAllowed u (Receive n came) ports p m)
 there u n came ports p m None h = h
 there u n came ports p m (Some a) h = port_allowed u n came ports p m a h
 
-allowed : (u : Setup) (n : ℕ) (came : Option Pdu) (v : View) (m : Move) → Allowed u (Receive n None) v m → Allowed u (Receive n came) v m
+allowed : (u : SystemSetup) (n : ℕ) (came : Option ControlMessage) (v : View) (m : Move) → Allowed u (Receive n None) v m → Allowed u (Receive n came) v m
 allowed u n came v (Port p m) h = there u n came v.port p m (v.port p) h
 allowed u n came v (Flow m) h = flow_allowed u.system.mac n came (Distributes v.port) v.flows m h
 allowed u n came v Restart h = h
 
-all_allowed : (u : Setup) (n : ℕ) (came : Option Pdu) (ms : List Move) (v : View) → AllAllowed u (Receive n None) v ms → AllAllowed u (Receive n came) v ms
+all_allowed : (u : SystemSetup) (n : ℕ) (came : Option ControlMessage) (ms : List Move) (v : View) → AllAllowed u (Receive n None) v ms → AllAllowed u (Receive n came) v ms
 all_allowed u n came [] v h = tt
-all_allowed u n came (m ∷ ms) v h = (allowed u n came v m h.0, all_allowed u n came ms (after u m v) h.1)
+all_allowed u n came (m ∷ ms) v h = (allowed u n came v m h.0, all_allowed u n came ms (view_after u m v) h.1)
 
-pub moves_bring : (u : Setup) (n : ℕ) (came : Option Pdu) (old new : View) (seen : List Act) → FreeMoves u (Receive n None) old seen new → FreeMoves u (Receive n came) old seen new
+pub moves_bring : (u : SystemSetup) (n : ℕ) (came : Option ControlMessage) (old new : View) (seen : List Act) → FreeMoves u (Receive n None) old seen new → FreeMoves u (Receive n came) old seen new
 moves_bring u n came old new seen h = (h.0, all_allowed u n came h.0 old h.1, h.2, h.3)

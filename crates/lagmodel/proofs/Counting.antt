@@ -2,9 +2,9 @@
 use Rattle.std.proofs.Common.{◌≡◌, ℕ, ◌<◌, Bool, true, false, Option, Some, None, List, [], ◌∷◌, ◌++◌, length, get_or, sym, ◌∙◌, subst, inl, inr, arith, length-append}
 use Rattle.std.proofs.lemmas.Bool.{cases_lt}
 use Rattle.std.proofs.lemmas.List.{get_or_append_left, get_or_push}
-use Rattle.lagmodel.specs.View.{Call, Receive}
+use Rattle.lagmodel.specs.View.{ModelCall, Receive}
 use Rattle.lagmodel.specs.Move.{Act, Sends, Sends_frame, Took, Move, act}
-use Rattle.lagmodel.specs.World.{Side, One, Two, Message, Control, Data, end_at, World, Fixed, first_world, sent_after, moved, all_moved, Calls, Event, with_line, handed_up, Comes, ComesAgain, IsLost, Senses, Happens, Run}
+use Rattle.lagmodel.specs.World.{Side, One, Two, Message, Control, Data, end_at, World, WorldSetup, first_world, sent_after, world_after, world_after_all, CallHappens, Event, with_line, handed_up, DeliversFirst, RepeatsFirst, LosesFirst, SensesCable, Happens, Run}
 use Rattle.lagmodel.specs.Law.{CountsFromZero}
 use Rattle.lagmodel.proofs.Lanes.{two_cases}
 
@@ -26,46 +26,46 @@ counted_act (Some (Sends_frame p j l)) sent h g k = elim (two_cases sent j l (se
   | inr x ↦ subst IsCount (sym x.1) (h g k)
 ]
 
-counted_move : (x : Fixed) (s : Side) (stamp : ℕ) (m : Move × Bool) (w : World) → CountsFromZero w → CountsFromZero (moved x s stamp m w)
+counted_move : (x : WorldSetup) (s : Side) (stamp : ℕ) (m : Move × Bool) (w : World) → CountsFromZero w → CountsFromZero (world_after x s stamp m w)
 counted_move x One stamp m w h One g k = counted_act (act (x.setup One) m.0 (w.view One)) (w.sent One) (h One) g k
 counted_move x One stamp m w h Two g k = h Two g k
 counted_move x Two stamp m w h One g k = h One g k
 counted_move x Two stamp m w h Two g k = counted_act (act (x.setup Two) m.0 (w.view Two)) (w.sent Two) (h Two) g k
 
-counted_all : (x : Fixed) (s : Side) (stamp : ℕ) (ms : List (Move × Bool)) (w : World) → CountsFromZero w → CountsFromZero (all_moved x s stamp ms w)
+counted_all : (x : WorldSetup) (s : Side) (stamp : ℕ) (ms : List (Move × Bool)) (w : World) → CountsFromZero w → CountsFromZero (world_after_all x s stamp ms w)
 counted_all x s stamp [] w h = h
-counted_all x s stamp (m ∷ ms) w h = counted_all x s stamp ms (moved x s stamp m w) (counted_move x s stamp m w h)
+counted_all x s stamp (m ∷ ms) w h = counted_all x s stamp ms (world_after x s stamp m w) (counted_move x s stamp m w h)
 
-counted_call : (x : Fixed) (s : Side) (call : Call) (stamp : ℕ) (old mid new : World) → CountsFromZero mid → Calls x s call stamp old mid new → CountsFromZero new
+counted_call : (x : WorldSetup) (s : Side) (call : ModelCall) (stamp : ℕ) (old mid new : World) → CountsFromZero mid → CallHappens x s call stamp old mid new → CountsFromZero new
 counted_call x s call stamp old mid new h z = subst CountsFromZero (sym z.2.2) (counted_all x s stamp z.0 mid h)
 
-counted_comes : (x : Fixed) (c : ℕ) (to : Side) (port : Option ℕ) (line : List Message) (old new : World) → CountsFromZero old → Comes x c to port line old new → CountsFromZero new
+counted_comes : (x : WorldSetup) (c : ℕ) (to : Side) (port : Option ℕ) (line : List Message) (old new : World) → CountsFromZero old → DeliversFirst x c to port line old new → CountsFromZero new
 counted_comes x c to port [] old new h z = subst CountsFromZero (sym z) h
 counted_comes x c to None (m ∷ ms) old new h z = absurd z
 counted_comes x c to (Some p) (Control pdu stamp ∷ ms) old new h z = counted_call x to (Receive p (Some pdu)) stamp old (with_line old c to ms) new h z
 counted_comes x c to (Some p) (Data origin g k n ∷ ms) old new h z = go z.0 z.1
   where
-    go : (up : Bool) → Calls x to (Receive p None) 0 old (handed_up up (Data origin g k n) (with_line old c to ms)) new → CountsFromZero new
+    go : (up : Bool) → CallHappens x to (Receive p None) 0 old (handed_up up (Data origin g k n) (with_line old c to ms)) new → CountsFromZero new
     go true y = counted_call x to (Receive p None) 0 old (handed_up true (Data origin g k n) (with_line old c to ms)) new h y
     go false y = counted_call x to (Receive p None) 0 old (with_line old c to ms) new h y
 
-counted_again : (x : Fixed) (c : ℕ) (to : Side) (port : Option ℕ) (line : List Message) (old new : World) → CountsFromZero old → ComesAgain x c to port line old new → CountsFromZero new
+counted_again : (x : WorldSetup) (c : ℕ) (to : Side) (port : Option ℕ) (line : List Message) (old new : World) → CountsFromZero old → RepeatsFirst x c to port line old new → CountsFromZero new
 counted_again x c to port [] old new h z = subst CountsFromZero (sym z) h
 counted_again x c to port (Data origin g k n ∷ ms) old new h z = subst CountsFromZero (sym z) h
 counted_again x c to None (Control pdu stamp ∷ ms) old new h z = absurd z
 counted_again x c to (Some p) (Control pdu stamp ∷ ms) old new h z = counted_call x to (Receive p (Some pdu)) stamp old old new h z
 
-counted_lost : (c : ℕ) (to : Side) (line : List Message) (old new : World) → CountsFromZero old → IsLost c to line old new → CountsFromZero new
+counted_lost : (c : ℕ) (to : Side) (line : List Message) (old new : World) → CountsFromZero old → LosesFirst c to line old new → CountsFromZero new
 counted_lost c to [] old new h z = subst CountsFromZero (sym z) h
 counted_lost c to (m ∷ ms) old new h z = subst CountsFromZero (sym z) h
 
-counted_senses : (x : Fixed) (s : Side) (port : Option ℕ) (up : Bool) (old new : World) → CountsFromZero old → Senses x s port up old new → CountsFromZero new
+counted_senses : (x : WorldSetup) (s : Side) (port : Option ℕ) (up : Bool) (old new : World) → CountsFromZero old → SensesCable x s port up old new → CountsFromZero new
 counted_senses x s None up old new h z = absurd z
-counted_senses x s (Some p) up old new h z = counted_call x s (Call.Set_link p up) 0 old old new h z
+counted_senses x s (Some p) up old new h z = counted_call x s (ModelCall.Set_link p up) 0 old old new h z
 
-counted_happens : (x : Fixed) (e : Event) (old new : World) → CountsFromZero old → Happens x e old new → CountsFromZero new
-counted_happens x (Event.Tick s n) old new h z = counted_call x s Call.Tick 0 old old new h z
-counted_happens x (Event.Emit s p) old new h z = counted_call x s Call.Transmit 0 old old new h z
+counted_happens : (x : WorldSetup) (e : Event) (old new : World) → CountsFromZero old → Happens x e old new → CountsFromZero new
+counted_happens x (Event.Tick s n) old new h z = counted_call x s ModelCall.Tick 0 old old new h z
+counted_happens x (Event.Emit s p) old new h z = counted_call x s ModelCall.Transmit 0 old old new h z
 counted_happens x (Event.Deliver c to) old new h z = counted_comes x c to (end_at x.cables to c) (old.line to c) old new h z
 counted_happens x (Event.Lose c to) old new h z = counted_lost c to (old.line to c) old new h z
 counted_happens x (Event.Repeat c to) old new h z = counted_again x c to (end_at x.cables to c) (old.line to c) old new h z
@@ -73,20 +73,20 @@ counted_happens x (Event.Cut c) old new h z = subst CountsFromZero (sym z) h
 counted_happens x (Event.Join c) old new h z = subst CountsFromZero (sym z) h
 counted_happens x (Event.Sense c s) old new h z = counted_senses x s (end_at x.cables s c) (old.whole c) old new h z
 counted_happens x (Event.Restart s) old new h z = subst CountsFromZero (sym z.2) h
-counted_happens x (Event.Configure s p change) old new h z = counted_call x s Call.Configure 0 old old new h z
-counted_happens x (Event.Offer s g frame) old new h z = counted_call x s Call.Offer 0 old old new h z
-counted_happens x (Event.Move_conversation s g k p) old new h z = counted_call x s Call.Move_conversation 0 old old new h z
+counted_happens x (Event.Configure s p change) old new h z = counted_call x s ModelCall.Configure 0 old old new h z
+counted_happens x (Event.Offer s g frame) old new h z = counted_call x s ModelCall.Offer 0 old old new h z
+counted_happens x (Event.Move_conversation s g k p) old new h z = counted_call x s ModelCall.Move_conversation 0 old old new h z
 counted_happens x (Event.Force s g k) old new h z = elim z [
   | inl e ↦ subst CountsFromZero (sym e) h
-  | inr y ↦ counted_call x s (Call.Force g k) 0 old _ new h y
+  | inr y ↦ counted_call x s (ModelCall.Force g k) 0 old _ new h y
 ]
 
-counted_run : (x : Fixed) (es : List Event) (old new : World) → CountsFromZero old → Run x es old new → CountsFromZero new
+counted_run : (x : WorldSetup) (es : List Event) (old new : World) → CountsFromZero old → Run x es old new → CountsFromZero new
 counted_run x [] old new h z = subst CountsFromZero (sym z) h
 counted_run x (e ∷ es) old new h z = counted_run x es z.0 new (counted_happens x e old z.0 h z.1) z.2
 
 none_sent : (i : ℕ) → i < 0 → ⊥
 none_sent i lt = omega arith
 
-pub counts_from_zero : (x : Fixed) (es : List Event) (w : World) → Run x es (first_world x) w → CountsFromZero w
+pub counts_from_zero : (x : WorldSetup) (es : List Event) (w : World) → Run x es (first_world x) w → CountsFromZero w
 counts_from_zero x es w z = counted_run x es (first_world x) w (λ s g k i lt. absurd (none_sent i lt)) z

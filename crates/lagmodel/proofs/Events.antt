@@ -2,9 +2,9 @@
 use Rattle.std.proofs.Common.{◌≡◌, ◌≢◌, ℕ, suc, Bool, true, false, Option, Some, None, List, [], ◌∷◌, ◌++◌, sym, refl, ap, ◌∙◌, subst, ◌⊎◌, inl, inr}
 use Rattle.std.proofs.lemmas.Bool.{true≢false, false≢true}
 use Rattle.lagtypes.specs.declared.party.Party.{Party}
-use Rattle.lagmodel.specs.View.{View, Setup, IsSetup, first_view, Pdu, Call, Receive, Set_link, Tick, Configure, Transmit, Offer, Move_conversation, Force, Restart, is_restart}
+use Rattle.lagmodel.specs.View.{View, SystemSetup, IsSystemSetup, first_view, ControlMessage, ModelCall, Receive, Set_link, Tick, Configure, Transmit, Offer, Move_conversation, Force, Restart, is_restart}
 use Rattle.lagmodel.specs.Move.{Move}
-use Rattle.lagmodel.specs.World.{Side, One, Two, peer, at_side, at_two, at_cable, Message, Control, Data, end_at, Taken, World, Fixed, IsFixed, first_world, party_at, AllMoves, all_moved, Counts, Calls, Event, with_line, handed_up, Comes, ComesAgain, IsLost, Senses, Happens, Run}
+use Rattle.lagmodel.specs.World.{Side, One, Two, peer, at_side, at_two, at_cable, Message, Control, Data, end_at, TakenLacpdu, World, WorldSetup, IsWorldSetup, first_world, party_at, AllMoves, world_after_all, CountsChanges, CallHappens, Event, with_line, handed_up, DeliversFirst, RepeatsFirst, LosesFirst, SensesCable, Happens, Run}
 use Rattle.lagmodel.proofs.Lines.{IsFrom, Every}
 use Rattle.lagmodel.proofs.Ports.{members_first}
 use Rattle.lagmodel.proofs.Lanes.{Lanes, two_cases}
@@ -16,8 +16,8 @@ use Rattle.lagmodel.proofs.Worlds.{Half, Lawful, Calling, calling_all}
 abbrev pub Popped : (ℕ → List Message) → (ℕ → List Message) → Type 0
 Popped towards base = (towards ≡ base) ⊎ ((c : ℕ) × (m : Message) × (ms : List Message) × (towards c ≡ m ∷ ms) × (base ≡ at_cable towards c ms))
 
-half_back : (u : Setup) (me : Side) (ends theirs : ℕ → Option ℕ) (v : View) (party : ℕ → Option Party) (count : ℕ → ℕ) (out back base : ℕ → List Message) (whole : ℕ → Bool)
-    (sent collected : ℕ → ℕ → List ℕ) (forced : ℕ → ℕ → Bool) (taken their_taken : ℕ → Option Taken) → Popped back base
+half_back : (u : SystemSetup) (me : Side) (ends theirs : ℕ → Option ℕ) (v : View) (party : ℕ → Option Party) (count : ℕ → ℕ) (out back base : ℕ → List Message) (whole : ℕ → Bool)
+    (sent collected : ℕ → ℕ → List ℕ) (forced : ℕ → ℕ → Bool) (taken their_taken : ℕ → Option TakenLacpdu) → Popped back base
     → Half u me ends theirs v party count out back whole sent collected forced taken their_taken → Half u me ends theirs v party count out base whole sent collected forced taken their_taken
 half_back u me ends theirs v party count out back base whole sent collected forced taken their_taken p i = record {
   members = i.members;
@@ -29,8 +29,8 @@ half_back u me ends theirs v party count out back base whole sent collected forc
   ];
 }
 
-half_out : (u : Setup) (me : Side) (ends theirs : ℕ → Option ℕ) (v : View) (party : ℕ → Option Party) (count : ℕ → ℕ) (out back base : ℕ → List Message) (whole : ℕ → Bool)
-    (sent collected : ℕ → ℕ → List ℕ) (forced : ℕ → ℕ → Bool) (taken their_taken : ℕ → Option Taken) → Popped out base
+half_out : (u : SystemSetup) (me : Side) (ends theirs : ℕ → Option ℕ) (v : View) (party : ℕ → Option Party) (count : ℕ → ℕ) (out back base : ℕ → List Message) (whole : ℕ → Bool)
+    (sent collected : ℕ → ℕ → List ℕ) (forced : ℕ → ℕ → Bool) (taken their_taken : ℕ → Option TakenLacpdu) → Popped out base
     → Half u me ends theirs v party count out back whole sent collected forced taken their_taken → Half u me ends theirs v party count base back whole sent collected forced taken their_taken
 half_out u me ends theirs v party count out back base whole sent collected forced taken their_taken p i = record {
   members = i.members;
@@ -46,8 +46,8 @@ half_out u me ends theirs v party count out back base whole sent collected force
 }
 
 -- the change counts at the end of an event
-half_counted : (u : Setup) (me : Side) (ends theirs : ℕ → Option ℕ) (v : View) (was : ℕ → Option Party) (old new : ℕ → ℕ) (out back : ℕ → List Message) (whole : ℕ → Bool)
-    (sent collected : ℕ → ℕ → List ℕ) (forced : ℕ → ℕ → Bool) (taken their_taken : ℕ → Option Taken)
+half_counted : (u : SystemSetup) (me : Side) (ends theirs : ℕ → Option ℕ) (v : View) (was : ℕ → Option Party) (old new : ℕ → ℕ) (out back : ℕ → List Message) (whole : ℕ → Bool)
+    (sent collected : ℕ → ℕ → List ℕ) (forced : ℕ → ℕ → Bool) (taken their_taken : ℕ → Option TakenLacpdu)
     → ((p : ℕ) → ((party_at v p ≡ was p) × (new p ≡ old p)) ⊎ ((party_at v p ≢ was p) × (new p ≡ suc (old p))))
     → Half u me ends theirs v was old out back whole sent collected forced taken their_taken → Half u me ends theirs v (party_at v) new out back whole sent collected forced taken their_taken
 half_counted u me ends theirs v was old new out back whole sent collected forced taken their_taken h i = record {
@@ -58,7 +58,7 @@ half_counted u me ends theirs v was old new out back whole sent collected forced
 }
 
 -- the end of a call
-ended : (x : Fixed) (s : Side) (call : Call) (stamp : ℕ) (party : Side → ℕ → Option Party) (old new : Side → ℕ → ℕ) (towards base : ℕ → List Message) (w : World)
+ended : (x : WorldSetup) (s : Side) (call : ModelCall) (stamp : ℕ) (party : Side → ℕ → Option Party) (old new : Side → ℕ → ℕ) (towards base : ℕ → List Message) (w : World)
     → Popped towards base → ((t : Side) (p : ℕ) → ((party_at (w.view t) p ≡ party t p) × (new t p ≡ old t p)) ⊎ ((party_at (w.view t) p ≢ party t p) × (new t p ≡ suc (old t p))))
     → Calling x s call stamp party old towards base w → Lawful x (record w { count = new })
 ended x One call stamp party old new towards base w p h i One =
@@ -83,22 +83,22 @@ ended x Two call stamp party old new towards base w p h i One =
     (half_out _ One _ _ _ _ _ towards _ base _ _ _ _ _ _ p i.other))
 
 -- a whole call
-call_kept : (x : Fixed) (s : Side) (call : Call) (stamp : ℕ) (party : Side → ℕ → Option Party) (old : Side → ℕ → ℕ) (towards base : ℕ → List Message) (mid new : World)
+call_kept : (x : WorldSetup) (s : Side) (call : ModelCall) (stamp : ℕ) (party : Side → ℕ → Option Party) (old : Side → ℕ → ℕ) (towards base : ℕ → List Message) (mid new : World)
     → Popped towards base → Calling x s call stamp party old towards base mid
     → (moves : List (Move × Bool)) → AllMoves x s call stamp moves mid
-    → (count : Side → ℕ → ℕ) → ((t : Side) (p : ℕ) → ((party_at ((all_moved x s stamp moves mid).view t) p ≡ party t p) × (count t p ≡ old t p)) ⊎ ((party_at ((all_moved x s stamp moves mid).view t) p ≢ party t p) × (count t p ≡ suc (old t p))))
-    → new ≡ record (all_moved x s stamp moves mid) { count = count } → Lawful x new
+    → (count : Side → ℕ → ℕ) → ((t : Side) (p : ℕ) → ((party_at ((world_after_all x s stamp moves mid).view t) p ≡ party t p) × (count t p ≡ old t p)) ⊎ ((party_at ((world_after_all x s stamp moves mid).view t) p ≢ party t p) × (count t p ≡ suc (old t p))))
+    → new ≡ record (world_after_all x s stamp moves mid) { count = count } → Lawful x new
 call_kept x s call stamp party old towards base mid new p i moves a count h e =
-    subst (Lawful x) (sym e) (ended x s call stamp party old count towards base (all_moved x s stamp moves mid) p h (calling_all x s call stamp party old towards base moves mid a i))
+    subst (Lawful x) (sym e) (ended x s call stamp party old count towards base (world_after_all x s stamp moves mid) p h (calling_all x s call stamp party old towards base moves mid a i))
 
 -- the start of a call, at which nothing was taken away
-started : (x : Fixed) (s : Side) (call : Call) (stamp : ℕ) (w : World) → Lawful x w → Within call stamp (end_at x.cables s) (w.line s) w.whole (w.forced s)
+started : (x : WorldSetup) (s : Side) (call : ModelCall) (stamp : ℕ) (w : World) → Lawful x w → Within call stamp (end_at x.cables s) (w.line s) w.whole (w.forced s)
     → Calling x s call stamp (λ t. party_at (w.view t)) w.count (w.line s) (w.line s) w
 started x One call stamp w i h = record { within = h; parties = λ r p. refl; own = i One; other = i Two; counts = refl; rest = refl }
 started x Two call stamp w i h = record { within = h; parties = λ r p. refl; own = i Two; other = i One; counts = refl; rest = refl }
 
 -- a call that brings no control PDU, takes no link down and forces nothing
-abbrev pub quiet : Call → Bool
+abbrev pub quiet : ModelCall → Bool
 quiet (Receive p None) = true
 quiet (Receive p (Some pdu)) = false
 quiet (Set_link p up) = false
@@ -110,7 +110,7 @@ quiet Transmit = true
 quiet Offer = true
 quiet Move_conversation = true
 
-quiet-running : (call : Call) → quiet call ≡ true → is_restart call ≡ false
+quiet-running : (call : ModelCall) → quiet call ≡ true → is_restart call ≡ false
 quiet-running (Receive p pdu) h = refl
 quiet-running (Set_link p up) h = refl
 quiet-running (Force g k) h = refl
@@ -121,10 +121,10 @@ quiet-running Transmit h = refl
 quiet-running Offer h = refl
 quiet-running Move_conversation h = refl
 
-quiet_not : (call other : Call) → quiet call ≡ true → quiet other ≡ false → call ≡ other → ⊥
+quiet_not : (call other : ModelCall) → quiet call ≡ true → quiet other ≡ false → call ≡ other → ⊥
 quiet_not call other h n e = true≢false (sym h ∙ ap quiet e ∙ n)
 
-within_quiet : (call : Call) (stamp : ℕ) (ends : ℕ → Option ℕ) (back : ℕ → List Message) (whole : ℕ → Bool) (forced : ℕ → ℕ → Bool) → quiet call ≡ true → Within call stamp ends back whole forced
+within_quiet : (call : ModelCall) (stamp : ℕ) (ends : ℕ → Option ℕ) (back : ℕ → List Message) (whole : ℕ → Bool) (forced : ℕ → ℕ → Bool) → quiet call ≡ true → Within call stamp ends back whole forced
 within_quiet call stamp ends back whole forced h = record {
   running = quiet-running call h;
   came = λ p pdu e. absurd (quiet_not call (Receive p (Some pdu)) h refl e);
@@ -132,13 +132,13 @@ within_quiet call stamp ends back whole forced h = record {
   forcing = λ g k e. absurd (quiet_not call (Force g k) h refl e);
 }
 
-receive_parts : (p q : ℕ) (a b : Pdu) → Receive p (Some a) ≡ Receive q (Some b) → (p ≡ q) × (a ≡ b)
+receive_parts : (p q : ℕ) (a b : ControlMessage) → Receive p (Some a) ≡ Receive q (Some b) → (p ≡ q) × (a ≡ b)
 receive_parts p q a b e = (cc, cc)
 
-receive_link : (p q : ℕ) (a : Option Pdu) (up : Bool) → Receive p a ≡ Set_link q up → ⊥
+receive_link : (p q : ℕ) (a : Option ControlMessage) (up : Bool) → Receive p a ≡ Set_link q up → ⊥
 receive_link p q a up e = cc
 
-receive_force : (p g k : ℕ) (a : Option Pdu) → Receive p a ≡ Force g k → ⊥
+receive_force : (p g k : ℕ) (a : Option ControlMessage) → Receive p a ≡ Force g k → ⊥
 receive_force p g k a e = cc
 
 link_parts : (p q : ℕ) (a b : Bool) → Set_link p a ≡ Set_link q b → (p ≡ q) × (a ≡ b)
@@ -150,28 +150,28 @@ link_force p g k a e = cc
 force_parts : (g k h j : ℕ) → Force g k ≡ Force h j → (g ≡ h) × (k ≡ j)
 force_parts g k h j e = (cc, cc)
 
-within_receive : (p : ℕ) (pdu : Pdu) (stamp : ℕ) (ends : ℕ → Option ℕ) (back : ℕ → List Message) (whole : ℕ → Bool) (forced : ℕ → ℕ → Bool) (c : ℕ) (ms : List Message)
+within_receive : (p : ℕ) (pdu : ControlMessage) (stamp : ℕ) (ends : ℕ → Option ℕ) (back : ℕ → List Message) (whole : ℕ → Bool) (forced : ℕ → ℕ → Bool) (c : ℕ) (ms : List Message)
     → ((c d p : ℕ) → ends c ≡ Some p → ends d ≡ Some p → c ≡ d) → ends c ≡ Some p → back c ≡ Control pdu stamp ∷ ms → Within (Receive p (Some pdu)) stamp ends back whole forced
 within_receive p pdu stamp ends back whole forced c ms one there first = record {
   running = refl;
   came = λ q other e d h.
       let parts = receive_parts p q pdu other e in
       let same : c ≡ d = one c d q (there ∙ ap (λ (n : ℕ). Some n) parts.0) h in
-      (ms, ap back (sym same) ∙ first ∙ ap (λ (y : Pdu). Control y stamp ∷ ms) parts.1);
+      (ms, ap back (sym same) ∙ first ∙ ap (λ (y : ControlMessage). Control y stamp ∷ ms) parts.1);
   downed = λ q e. absurd (receive_link p q (Some pdu) false e);
   forcing = λ g k e. absurd (receive_force p g k (Some pdu) e);
 }
 
 -- the first message of a list is taken away
-lawful_popped : (x : Fixed) (w : World) (c : ℕ) (to : Side) (m : Message) (ms : List Message) → w.line to c ≡ m ∷ ms → Lawful x w → Lawful x (with_line w c to ms)
+lawful_popped : (x : WorldSetup) (w : World) (c : ℕ) (to : Side) (m : Message) (ms : List Message) → w.line to c ≡ m ∷ ms → Lawful x w → Lawful x (with_line w c to ms)
 lawful_popped x w c One m ms e i One = half_back _ One _ _ _ _ _ _ (w.line One) (at_cable (w.line One) c ms) _ _ _ _ _ _ (inr (c, m, ms, e, refl)) (i One)
 lawful_popped x w c One m ms e i Two = half_out _ Two _ _ _ _ _ (w.line One) _ (at_cable (w.line One) c ms) _ _ _ _ _ _ (inr (c, m, ms, e, refl)) (i Two)
 lawful_popped x w c Two m ms e i Two = half_back _ Two _ _ _ _ _ _ (w.line Two) (at_cable (w.line Two) c ms) _ _ _ _ _ _ (inr (c, m, ms, e, refl)) (i Two)
 lawful_popped x w c Two m ms e i One = half_out _ One _ _ _ _ _ (w.line Two) _ (at_cable (w.line Two) c ms) _ _ _ _ _ _ (inr (c, m, ms, e, refl)) (i One)
 
 -- and handed up
-half_handed : (u : Setup) (me : Side) (ends theirs : ℕ → Option ℕ) (v : View) (party : ℕ → Option Party) (count : ℕ → ℕ) (out back : ℕ → List Message) (whole : ℕ → Bool)
-    (sent collected : ℕ → ℕ → List ℕ) (forced : ℕ → ℕ → Bool) (taken their_taken : ℕ → Option Taken) (c g k n : ℕ) (ms : List Message)
+half_handed : (u : SystemSetup) (me : Side) (ends theirs : ℕ → Option ℕ) (v : View) (party : ℕ → Option Party) (count : ℕ → ℕ) (out back : ℕ → List Message) (whole : ℕ → Bool)
+    (sent collected : ℕ → ℕ → List ℕ) (forced : ℕ → ℕ → Bool) (taken their_taken : ℕ → Option TakenLacpdu) (c g k n : ℕ) (ms : List Message)
     → ((c d p : ℕ) → ends c ≡ Some p → ends d ≡ Some p → c ≡ d) → out c ≡ Data me g k n ∷ ms
     → Half u me ends theirs v party count out back whole sent collected forced taken their_taken
     → Half u me ends theirs v party count (at_cable out c ms) back whole sent (at_two collected g k (collected g k ++ n ∷ [])) forced taken their_taken
@@ -182,31 +182,31 @@ half_handed u me ends theirs v party count out back whole sent collected forced 
   lanes = lanes_handed me ends whole sent collected forced v.flows out back c g k n ms one e i.lanes;
 }
 
-lawful_handed : (x : Fixed) (w : World) (c : ℕ) (to : Side) (g k n : ℕ) (ms : List Message) → IsFixed x → w.line to c ≡ Data (peer to) g k n ∷ ms → Lawful x w
+lawful_handed : (x : WorldSetup) (w : World) (c : ℕ) (to : Side) (g k n : ℕ) (ms : List Message) → IsWorldSetup x → w.line to c ≡ Data (peer to) g k n ∷ ms → Lawful x w
     → Lawful x (handed_up true (Data (peer to) g k n) (with_line w c to ms))
 lawful_handed x w c One g k n ms f e i One = half_back _ One _ _ _ _ _ _ (w.line One) (at_cable (w.line One) c ms) _ _ _ _ _ _ (inr (c, Data Two g k n, ms, e, refl)) (i One)
 lawful_handed x w c One g k n ms f e i Two = half_handed _ Two _ _ _ _ _ (w.line One) _ _ _ (w.collected Two) _ _ _ c g k n ms (f.cables Two) e (i Two)
 lawful_handed x w c Two g k n ms f e i Two = half_back _ Two _ _ _ _ _ _ (w.line Two) (at_cable (w.line Two) c ms) _ _ _ _ _ _ (inr (c, Data One g k n, ms, e, refl)) (i Two)
 lawful_handed x w c Two g k n ms f e i One = half_handed _ One _ _ _ _ _ (w.line Two) _ _ _ (w.collected One) _ _ _ c g k n ms (f.cables One) e (i One)
 
-lawful_up : (x : Fixed) (w : World) (c : ℕ) (to origin : Side) (g k n : ℕ) (ms : List Message) → IsFixed x → origin ≡ peer to → w.line to c ≡ Data origin g k n ∷ ms → Lawful x w
+lawful_up : (x : WorldSetup) (w : World) (c : ℕ) (to origin : Side) (g k n : ℕ) (ms : List Message) → IsWorldSetup x → origin ≡ peer to → w.line to c ≡ Data origin g k n ∷ ms → Lawful x w
     → Lawful x (handed_up true (Data origin g k n) (with_line w c to ms))
 lawful_up x w c to origin g k n ms f o e i =
     subst (λ origin. w.line to c ≡ Data origin g k n ∷ ms → Lawful x (handed_up true (Data origin g k n) (with_line w c to ms))) (sym o)
     (λ e. lawful_handed x w c to g k n ms f e i) e
 
 -- frames come from the peer
-from_peer : (x : Fixed) (w : World) (c : ℕ) (to origin : Side) (g k n : ℕ) (ms : List Message) → w.line to c ≡ Data origin g k n ∷ ms → Lawful x w → origin ≡ peer to
+from_peer : (x : WorldSetup) (w : World) (c : ℕ) (to origin : Side) (g k n : ℕ) (ms : List Message) → w.line to c ≡ Data origin g k n ∷ ms → Lawful x w → origin ≡ peer to
 from_peer x w c One origin g k n ms e i = (subst (Every (IsFrom Two)) e ((i Two).lanes.origin c)).0
 from_peer x w c Two origin g k n ms e i = (subst (Every (IsFrom One)) e ((i One).lanes.origin c)).0
 
 -- a control PDU comes, and is taken from its list first
-started_popped : (x : Fixed) (w : World) (c : ℕ) (to : Side) (p : ℕ) (pdu : Pdu) (stamp : ℕ) (ms : List Message) → IsFixed x → end_at x.cables to c ≡ Some p → w.line to c ≡ Control pdu stamp ∷ ms → Lawful x w
+started_popped : (x : WorldSetup) (w : World) (c : ℕ) (to : Side) (p : ℕ) (pdu : ControlMessage) (stamp : ℕ) (ms : List Message) → IsWorldSetup x → end_at x.cables to c ≡ Some p → w.line to c ≡ Control pdu stamp ∷ ms → Lawful x w
     → Calling x to (Receive p (Some pdu)) stamp (λ t. party_at (w.view t)) w.count (w.line to) (at_cable (w.line to) c ms) (with_line w c to ms)
 started_popped x w c One p pdu stamp ms f h e i = record { within = within_receive p pdu stamp _ _ _ _ c ms (f.cables One) h e; parties = λ r p. refl; own = i One; other = i Two; counts = refl; rest = refl }
 started_popped x w c Two p pdu stamp ms f h e i = record { within = within_receive p pdu stamp _ _ _ _ c ms (f.cables Two) h e; parties = λ r p. refl; own = i Two; other = i One; counts = refl; rest = refl }
 
-pub comes_kept : (x : Fixed) (c : ℕ) (to : Side) (port : Option ℕ) (line : List Message) (old new : World) → IsFixed x → Lawful x old → end_at x.cables to c ≡ port → old.line to c ≡ line → Comes x c to port line old new → Lawful x new
+pub comes_kept : (x : WorldSetup) (c : ℕ) (to : Side) (port : Option ℕ) (line : List Message) (old new : World) → IsWorldSetup x → Lawful x old → end_at x.cables to c ≡ port → old.line to c ≡ line → DeliversFirst x c to port line old new → Lawful x new
 comes_kept x c to port [] old new f i h e z = subst (Lawful x) (sym z) i
 comes_kept x c to None (m ∷ ms) old new f i h e z = absurd z
 comes_kept x c to (Some p) (Control pdu stamp ∷ ms) old new f i h e z =
@@ -214,7 +214,7 @@ comes_kept x c to (Some p) (Control pdu stamp ∷ ms) old new f i h e z =
     (inr (c, Control pdu stamp, ms, e, refl)) (started_popped x old c to p pdu stamp ms f h e i) z.0 z.1 z.2.0 z.2.1 z.2.2
 comes_kept x c to (Some p) (Data origin g k n ∷ ms) old new f i h e z = go z.0 z.1
   where
-    go : (up : Bool) → Calls x to (Receive p None) 0 old (handed_up up (Data origin g k n) (with_line old c to ms)) new → Lawful x new
+    go : (up : Bool) → CallHappens x to (Receive p None) 0 old (handed_up up (Data origin g k n) (with_line old c to ms)) new → Lawful x new
     go true y =
         call_kept x to (Receive p None) 0 (λ t. party_at (old.view t)) old.count _ _ (handed_up true (Data origin g k n) (with_line old c to ms)) new
         (inl refl) (started x to (Receive p None) 0 (handed_up true (Data origin g k n) (with_line old c to ms)) (lawful_up x old c to origin g k n ms f (from_peer x old c to origin g k n ms e i) e i) (within_quiet _ 0 _ _ _ _ refl)) y.0 y.1 y.2.0 y.2.1 y.2.2
@@ -222,7 +222,7 @@ comes_kept x c to (Some p) (Data origin g k n ∷ ms) old new f i h e z = go z.0
         call_kept x to (Receive p None) 0 (λ t. party_at (old.view t)) old.count _ _ (with_line old c to ms) new
         (inl refl) (started x to (Receive p None) 0 (with_line old c to ms) (lawful_popped x old c to (Data origin g k n) ms e i) (within_quiet _ 0 _ _ _ _ refl)) y.0 y.1 y.2.0 y.2.1 y.2.2
 
-pub comes_again_kept : (x : Fixed) (c : ℕ) (to : Side) (port : Option ℕ) (line : List Message) (old new : World) → IsFixed x → Lawful x old → end_at x.cables to c ≡ port → old.line to c ≡ line → ComesAgain x c to port line old new → Lawful x new
+pub comes_again_kept : (x : WorldSetup) (c : ℕ) (to : Side) (port : Option ℕ) (line : List Message) (old new : World) → IsWorldSetup x → Lawful x old → end_at x.cables to c ≡ port → old.line to c ≡ line → RepeatsFirst x c to port line old new → Lawful x new
 comes_again_kept x c to port [] old new f i h e z = subst (Lawful x) (sym z) i
 comes_again_kept x c to port (Data origin g k n ∷ ms) old new f i h e z = subst (Lawful x) (sym z) i
 comes_again_kept x c to None (Control pdu stamp ∷ ms) old new f i h e z = absurd z
@@ -230,17 +230,17 @@ comes_again_kept x c to (Some p) (Control pdu stamp ∷ ms) old new f i h e z =
     call_kept x to (Receive p (Some pdu)) stamp (λ t. party_at (old.view t)) old.count (old.line to) (old.line to) old new
     (inl refl) (started x to (Receive p (Some pdu)) stamp old i (within_receive p pdu stamp _ _ _ _ c ms (f.cables to) h e)) z.0 z.1 z.2.0 z.2.1 z.2.2
 
-lost_kept : (x : Fixed) (c : ℕ) (to : Side) (line : List Message) (old new : World) → Lawful x old → old.line to c ≡ line → IsLost c to line old new → Lawful x new
+lost_kept : (x : WorldSetup) (c : ℕ) (to : Side) (line : List Message) (old new : World) → Lawful x old → old.line to c ≡ line → LosesFirst c to line old new → Lawful x new
 lost_kept x c to [] old new i e z = subst (Lawful x) (sym z) i
 lost_kept x c to (m ∷ ms) old new i e z = subst (Lawful x) (sym z) (lawful_popped x old c to m ms e i)
 
 -- a call that needs nothing known
-quiet_kept : (x : Fixed) (s : Side) (call : Call) (old new : World) → quiet call ≡ true → Lawful x old → Calls x s call 0 old old new → Lawful x new
+quiet_kept : (x : WorldSetup) (s : Side) (call : ModelCall) (old new : World) → quiet call ≡ true → Lawful x old → CallHappens x s call 0 old old new → Lawful x new
 quiet_kept x s call old new q i z =
     call_kept x s call 0 (λ t. party_at (old.view t)) old.count (old.line s) (old.line s) old new (inl refl) (started x s call 0 old i (within_quiet call 0 _ _ _ _ q)) z.0 z.1 z.2.0 z.2.1 z.2.2
 
 -- an end senses its cable
-senses_kept : (x : Fixed) (c : ℕ) (s : Side) (port : Option ℕ) (up : Bool) (old new : World) → IsFixed x → Lawful x old → end_at x.cables s c ≡ port → old.whole c ≡ up → Senses x s port up old new → Lawful x new
+senses_kept : (x : WorldSetup) (c : ℕ) (s : Side) (port : Option ℕ) (up : Bool) (old new : World) → IsWorldSetup x → Lawful x old → end_at x.cables s c ≡ port → old.whole c ≡ up → SensesCable x s port up old new → Lawful x new
 senses_kept x c s None up old new f i h e z = absurd z
 senses_kept x c s (Some p) up old new f i h e z =
     call_kept x s (Set_link p up) 0 (λ t. party_at (old.view t)) old.count (old.line s) (old.line s) old new (inl refl) (started x s (Set_link p up) 0 old i within) z.0 z.1 z.2.0 z.2.1 z.2.2
@@ -257,7 +257,7 @@ senses_kept x c s (Some p) up old new f i h e z =
     }
 
 -- a conversation is forced
-lawful_forced : (x : Fixed) (s : Side) (g k : ℕ) (w : World) → Lawful x w → Lawful x (record w { forced = at_side w.forced s (at_two (w.forced s) g k true) })
+lawful_forced : (x : WorldSetup) (s : Side) (g k : ℕ) (w : World) → Lawful x w → Lawful x (record w { forced = at_side w.forced s (at_two (w.forced s) g k true) })
 lawful_forced x One g k w i One = let h = i One in record { members = h.members; stamps = h.stamps; heard = h.heard; lanes = lanes_forced One _ _ _ _ _ _ _ _ g k h.lanes }
 lawful_forced x One g k w i Two = i Two
 lawful_forced x Two g k w i Two = let h = i Two in record { members = h.members; stamps = h.stamps; heard = h.heard; lanes = lanes_forced Two _ _ _ _ _ _ _ _ g k h.lanes }
@@ -277,14 +277,14 @@ within_force s forced g k ends back whole = record {
       (subst (λ j. (at_side forced s (at_two (forced s) g k true)) s g j ≡ true) parts.1 (counts_as_forced s forced g k));
 }
 
-force_kept : (x : Fixed) (s : Side) (g k : ℕ) (old new : World) → Lawful x old → Happens x (Event.Force s g k) old new → Lawful x new
+force_kept : (x : WorldSetup) (s : Side) (g k : ℕ) (old new : World) → Lawful x old → Happens x (Event.Force s g k) old new → Lawful x new
 force_kept x s g k old new i z = elim z [
   | inl e ↦ subst (Lawful x) (sym e) i
   | inr y ↦ call_kept x s (Force g k) 0 (λ t. party_at (old.view t)) old.count (old.line s) (old.line s) (record old { forced = at_side old.forced s (at_two (old.forced s) g k true) }) new
       (inl refl) (started x s (Force g k) 0 (record old { forced = at_side old.forced s (at_two (old.forced s) g k true) }) (lawful_forced x s g k old i) (within_force s old.forced g k _ _ _)) y.0 y.1 y.2.0 y.2.1 y.2.2
 ]
 
-lawful_cut : (x : Fixed) (w : World) (c : ℕ) → Lawful x w → Lawful x (record w { whole = at_cable w.whole c false; line = λ s. at_cable (w.line s) c [] })
+lawful_cut : (x : WorldSetup) (w : World) (c : ℕ) → Lawful x w → Lawful x (record w { whole = at_cable w.whole c false; line = λ s. at_cable (w.line s) c [] })
 lawful_cut x w c i s = let h = i s in record {
   members = h.members;
   heard = h.heard;
@@ -292,7 +292,7 @@ lawful_cut x w c i s = let h = i s in record {
   lanes = lanes_cut s _ _ (w.line (peer s)) (w.line s) w.whole _ _ _ c h.lanes;
 }
 
-lawful_joined : (x : Fixed) (w : World) (c : ℕ) → Lawful x w → Lawful x (record w { whole = at_cable w.whole c true })
+lawful_joined : (x : WorldSetup) (w : World) (c : ℕ) → Lawful x w → Lawful x (record w { whole = at_cable w.whole c true })
 lawful_joined x w c i s = let h = i s in record {
   members = h.members;
   heard = h.heard;
@@ -301,8 +301,8 @@ lawful_joined x w c i s = let h = i s in record {
 }
 
 -- a restart, and the change counts after it
-restarted_half : (u : Setup) (me : Side) (ends theirs : ℕ → Option ℕ) (v : View) (party : ℕ → Option Party) (count : ℕ → ℕ) (out back : ℕ → List Message) (whole : ℕ → Bool)
-    (sent collected : ℕ → ℕ → List ℕ) (forced : ℕ → ℕ → Bool) (taken their_taken : ℕ → Option Taken) → IsSetup u
+restarted_half : (u : SystemSetup) (me : Side) (ends theirs : ℕ → Option ℕ) (v : View) (party : ℕ → Option Party) (count : ℕ → ℕ) (out back : ℕ → List Message) (whole : ℕ → Bool)
+    (sent collected : ℕ → ℕ → List ℕ) (forced : ℕ → ℕ → Bool) (taken their_taken : ℕ → Option TakenLacpdu) → IsSystemSetup u
     → Half u me ends theirs v party count out back whole sent collected forced taken their_taken → Half u me ends theirs (first_view u) party count (λ c. []) (λ c. []) whole sent collected forced taken their_taken
 restarted_half u me ends theirs v party count out back whole sent collected forced taken their_taken f i = record {
   members = members_first u f;
@@ -311,8 +311,8 @@ restarted_half u me ends theirs v party count out back whole sent collected forc
   heard = heard_first u taken;
 }
 
-emptied_half : (u : Setup) (me : Side) (ends theirs : ℕ → Option ℕ) (v : View) (party : ℕ → Option Party) (count : ℕ → ℕ) (out back : ℕ → List Message) (whole : ℕ → Bool)
-    (sent collected : ℕ → ℕ → List ℕ) (forced : ℕ → ℕ → Bool) (taken their_taken : ℕ → Option Taken)
+emptied_half : (u : SystemSetup) (me : Side) (ends theirs : ℕ → Option ℕ) (v : View) (party : ℕ → Option Party) (count : ℕ → ℕ) (out back : ℕ → List Message) (whole : ℕ → Bool)
+    (sent collected : ℕ → ℕ → List ℕ) (forced : ℕ → ℕ → Bool) (taken their_taken : ℕ → Option TakenLacpdu)
     → Half u me ends theirs v party count out back whole sent collected forced taken their_taken → Half u me ends theirs v party count (λ c. []) (λ c. []) whole sent collected forced taken their_taken
 emptied_half u me ends theirs v party count out back whole sent collected forced taken their_taken i = record {
   members = i.members;
@@ -321,7 +321,7 @@ emptied_half u me ends theirs v party count out back whole sent collected forced
   stamps = stamps_emptied ends theirs party count out their_taken i.stamps;
 }
 
-lawful_restarted : (x : Fixed) (s : Side) (w : World) (count : Side → ℕ → ℕ) → IsFixed x → Counts w (record w { view = at_side w.view s (first_view (x.setup s)); line = λ t c. [] }) count → Lawful x w
+lawful_restarted : (x : WorldSetup) (s : Side) (w : World) (count : Side → ℕ → ℕ) → IsWorldSetup x → CountsChanges w (record w { view = at_side w.view s (first_view (x.setup s)); line = λ t c. [] }) count → Lawful x w
     → Lawful x (record w { view = at_side w.view s (first_view (x.setup s)); line = λ t c. []; count = count })
 lawful_restarted x One w count f h i One = half_counted _ One _ _ (first_view (x.setup One)) (party_at (w.view One)) (w.count One) (count One) _ _ _ _ _ _ _ _ (h One) (restarted_half _ One _ _ (w.view One) _ _ _ _ _ _ _ _ _ _ (f.setup One) (i One))
 lawful_restarted x One w count f h i Two = half_counted _ Two _ _ (w.view Two) (party_at (w.view Two)) (w.count Two) (count Two) _ _ _ _ _ _ _ _ (h Two) (emptied_half _ Two _ _ (w.view Two) _ _ _ _ _ _ _ _ _ _ (i Two))
@@ -329,7 +329,7 @@ lawful_restarted x Two w count f h i Two = half_counted _ Two _ _ (first_view (x
 lawful_restarted x Two w count f h i One = half_counted _ One _ _ (w.view One) (party_at (w.view One)) (w.count One) (count One) _ _ _ _ _ _ _ _ (h One) (emptied_half _ One _ _ (w.view One) _ _ _ _ _ _ _ _ _ _ (i One))
 
 -- every event
-pub happens_kept : (x : Fixed) (e : Event) (old new : World) → IsFixed x → Lawful x old → Happens x e old new → Lawful x new
+pub happens_kept : (x : WorldSetup) (e : Event) (old new : World) → IsWorldSetup x → Lawful x old → Happens x e old new → Lawful x new
 happens_kept x (Event.Tick s n) old new f i z = quiet_kept x s Tick old new refl i z
 happens_kept x (Event.Emit s p) old new f i z = quiet_kept x s Transmit old new refl i z
 happens_kept x (Event.Deliver c to) old new f i z = comes_kept x c to (end_at x.cables to c) (old.line to c) old new f i refl refl z
@@ -345,11 +345,11 @@ happens_kept x (Event.Move_conversation s g k p) old new f i z = quiet_kept x s 
 happens_kept x (Event.Force s g k) old new f i z = force_kept x s g k old new i z
 
 -- every run
-pub run_kept : (x : Fixed) (es : List Event) (old new : World) → IsFixed x → Lawful x old → Run x es old new → Lawful x new
+pub run_kept : (x : WorldSetup) (es : List Event) (old new : World) → IsWorldSetup x → Lawful x old → Run x es old new → Lawful x new
 run_kept x [] old new f i z = subst (Lawful x) (sym z) i
 run_kept x (e ∷ es) old new f i z = run_kept x es z.0 new f (happens_kept x e old z.0 f i z.1) z.2
 
-pub lawful_first : (x : Fixed) → IsFixed x → Lawful x (first_world x)
+pub lawful_first : (x : WorldSetup) → IsWorldSetup x → Lawful x (first_world x)
 lawful_first x f s = record {
   members = members_first (x.setup s) (f.setup s);
   lanes = lanes_first s _ (x.setup s).first_marker;
@@ -357,5 +357,5 @@ lawful_first x f s = record {
   heard = heard_first (x.setup s) _;
 }
 
-pub lawful : (x : Fixed) (es : List Event) (w : World) → IsFixed x → Run x es (first_world x) w → Lawful x w
+pub lawful : (x : WorldSetup) (es : List Event) (w : World) → IsWorldSetup x → Run x es (first_world x) w → Lawful x w
 lawful x es w f z = run_kept x es (first_world x) w f (lawful_first x f) z

@@ -5,8 +5,8 @@ use Rattle.std.proofs.lemmas.Bool.{true≢false, cases_Bool}
 use Rattle.std.proofs.lemmas.Option.{same_Some}
 use Rattle.lagtypes.specs.declared.party.Party.{Party}
 use Rattle.lagtypes.specs.Group.{individual, SamePair, pair_of, end_of}
-use Rattle.lagmodel.specs.View.{PortView, port_of, View, Lacp, Marker, Response}
-use Rattle.lagmodel.specs.World.{Side, One, Two, peer, Message, Control, Data, end_at, party_at, Taken, World, Fixed, IsFixed}
+use Rattle.lagmodel.specs.View.{PortFacts, conversation_port, View, Lacp, Marker, Response}
+use Rattle.lagmodel.specs.World.{Side, One, Two, peer, Message, Control, Data, end_at, party_at, TakenLacpdu, World, WorldSetup, IsWorldSetup}
 use Rattle.lagmodel.specs.Law.{serials, OnePartner, Agree, InOrder, TookSynchronised, NamesPresent, OnItsCable, FlushedByMarker, BelowNext, CollectedThenInFlight}
 use Rattle.lagmodel.proofs.Base.{same_value, cond_false}
 use Rattle.lagmodel.proofs.Ports.{one_partner}
@@ -32,22 +32,22 @@ group_swapped a b = inr (ap (λ i. end_of i a) (individual_sym a b), ap (λ i. e
 crossed : (a b c d : Party) → a ≡ d → b ≡ c → SamePair (pair_of a b) (pair_of c d)
 crossed a b c d e h = subst (λ d. SamePair (pair_of a b) (pair_of c d)) e (subst (λ c. SamePair (pair_of a b) (pair_of c a)) h (group_swapped a b))
 
-party_there : (v : View) (p : ℕ) (a : PortView) (y : Party) → v.port p ≡ Some a → party_at v p ≡ Some y → a.party ≡ y
-party_there v p a y h e = same_Some a.party y (sym (ap (option_map (λ (a : PortView). a.party)) h) ∙ e)
+party_there : (v : View) (p : ℕ) (a : PortFacts) (y : Party) → v.port p ≡ Some a → party_at v p ≡ Some y → a.party ≡ y
+party_there v p a y h e = same_Some a.party y (sym (ap (option_map (λ (a : PortFacts). a.party)) h) ∙ e)
 
-pub one_partner_holds : (x : Fixed) (w : World) → Lawful x w → (s : Side) → OnePartner (w.view s)
+pub one_partner_holds : (x : WorldSetup) (w : World) → Lawful x w → (s : Side) → OnePartner (w.view s)
 one_partner_holds x w i s = one_partner (x.setup s) (w.view s) (i s).members
 
 -- the partner that a port records is the party of the other end, if that did not change
-named : (x : Fixed) (w : World) → Lawful x w → (s : Side) (c p q : ℕ) (a b : PortView) (m : Taken)
+named : (x : WorldSetup) (w : World) → Lawful x w → (s : Side) (c p q : ℕ) (a b : PortFacts) (m : TakenLacpdu)
     → end_at x.cables s c ≡ Some p → end_at x.cables (peer s) c ≡ Some q → (w.view s).port p ≡ Some a → (w.view (peer s)).port q ≡ Some b
     → a.defaulted ≡ false → w.taken s p ≡ Some m → m.stamp ≡ w.count (peer s) q
     → FreshPdu (w.count (peer s) q) (party_at (w.view (peer s)) q) m.pdu m.stamp → a.partner ≡ b.party
 named x w i s c p q a b m ep eq ha hb d t e f =
     let r = (i s).heard p a ha d in
-    r.2 ∙ ap (λ (m : Taken). m.pdu.actor) (same_value (w.taken s p) r.0 m r.1 t) ∙ sym (party_there (w.view (peer s)) q b m.pdu.actor hb (f.1 e))
+    r.2 ∙ ap (λ (m : TakenLacpdu). m.pdu.actor) (same_value (w.taken s p) r.0 m r.1 t) ∙ sym (party_there (w.view (peer s)) q b m.pdu.actor hb (f.1 e))
 
-pub agree_holds : (x : Fixed) (w : World) → Lawful x w → Agree x w
+pub agree_holds : (x : WorldSetup) (w : World) → Lawful x w → Agree x w
 agree_holds x w i c p q a b ep eq h k =
     let m = h.taken in
     let n = k.taken in
@@ -55,10 +55,10 @@ agree_holds x w i c p q a b ep eq h k =
     (sym (named x w i Two c q p b a n.0 eq ep k.is h.is k.defaulted n.1 n.2 ((i One).stamps.last c p q n.0 ep eq n.1)))
     (named x w i One c p q a b m.0 ep eq h.is k.is h.defaulted m.1 m.2 ((i Two).stamps.last c q p m.0 eq ep m.1))
 
-pub in_order_holds : (x : Fixed) (w : World) → Lawful x w → InOrder w
+pub in_order_holds : (x : WorldSetup) (w : World) → Lawful x w → InOrder w
 in_order_holds x w i s g k u = handed_front s g k _ _ _ _ (w.sent s g k) (w.collected s g k) ((i s).lanes.orderly g k 0 u)
 
-pub took_synchronised_holds : (x : Fixed) (w : World) → Lawful x w → TookSynchronised w
+pub took_synchronised_holds : (x : WorldSetup) (w : World) → Lawful x w → TookSynchronised w
 took_synchronised_holds x w i s p a h d f =
     let r = (i s).heard p a h f in
     let y = r.3 (((i s).members.member p a h d).1) in (
@@ -71,7 +71,7 @@ took_synchronised_holds x w i s p a h d f =
       ],
     )
 
-pub names_present_holds : (x : Fixed) (w : World) → Lawful x w → NamesPresent x w
+pub names_present_holds : (x : WorldSetup) (w : World) → Lawful x w → NamesPresent x w
 names_present_holds x w i s c p e = (
   (λ pdu stamp h f. let y = every_contains (Fresh (w.count s p) (party_at (w.view s) p)) (w.line (peer s) c) (Control (Lacp pdu) stamp) ((i s).stamps.flight c p e) h in y.1 f),
   (λ q m eq t f. ((i s).stamps.last c p q m e eq t).1 f),
@@ -89,28 +89,28 @@ none_from s t g k (Data origin j l serial ∷ ms) n h = elim (cases_Bool (is_of 
   | inr e ↦ cond_false (is_of s g k origin j l) _ _ e ∙ none_from s t g k ms n h.1
 ]
 
-pub on_its_cable_holds : (x : Fixed) (w : World) → Lawful x w → OnItsCable x w
+pub on_its_cable_holds : (x : WorldSetup) (w : World) → Lawful x w → OnItsCable x w
 on_its_cable_holds x w i One g k c u = (((i One).lanes.orderly g k c u).place, none_from One Two g k (w.line One c) (side_not_peer One) ((i Two).lanes.origin c))
 on_its_cable_holds x w i Two g k c u = (((i Two).lanes.orderly g k c u).place, none_from Two One g k (w.line Two c) (side_not_peer Two) ((i One).lanes.origin c))
 
-pub flushed_by_marker_holds : (x : Fixed) (w : World) → IsFixed x → Lawful x w → FlushedByMarker x w
+pub flushed_by_marker_holds : (x : WorldSetup) (w : World) → IsWorldSetup x → Lawful x w → FlushedByMarker x w
 flushed_by_marker_holds x w f i s g k p n c u st e =
     let o = (i s).lanes.orderly g k c u in (
       (λ front back stamp h.
           behind_split s g k n front (Control (Marker (x.setup s).system.mac p n) stamp) back (eq-eqb n n refl) (subst (NoneBehind s g k n) h (o.behind p n st e))),
       (λ d stamp h. elim (((i s).lanes.orderly g k d u).place) [
         | inl y ↦ y
-        | inr y ↦ (let same : c ≡ d = f.cables s c d p e (y.1 ∙ sym y.2 ∙ ap port_of st) in
+        | inr y ↦ (let same : c ≡ d = f.cables s c d p e (y.1 ∙ sym y.2 ∙ ap conversation_port st) in
             let here = every_contains (λ m. answers n m ≡ true → serials s g k (w.line (peer s) c) ≡ []) (w.line s c) (Control (Response (x.setup s).system.mac p n) stamp) (o.answered p n st e) h in
             subst (λ d. serials s g k (w.line (peer s) d) ≡ []) same (here (eq-eqb n n refl)))
       ]),
     )
 
-pub below_next_holds : (x : Fixed) (w : World) → Lawful x w → BelowNext w
+pub below_next_holds : (x : WorldSetup) (w : World) → Lawful x w → BelowNext w
 below_next_holds x w i s c p n stamp mac = (
   (λ h. every_contains (MarkerBelow (w.view s).flows.next) (w.line (peer s) c) (Control (Marker mac p n) stamp) ((i s).lanes.markers c) h),
   (λ h. every_contains (ResponseBelow (w.view s).flows.next) (w.line s c) (Control (Response mac p n) stamp) ((i s).lanes.responses c) h),
 )
 
-pub collected_then_in_flight_holds : (x : Fixed) (w : World) → Lawful x w → CollectedThenInFlight w
+pub collected_then_in_flight_holds : (x : WorldSetup) (w : World) → Lawful x w → CollectedThenInFlight w
 collected_then_in_flight_holds x w i s g k c u = ((i s).lanes.orderly g k c u).in_order

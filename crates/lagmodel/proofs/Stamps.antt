@@ -4,16 +4,16 @@ use Rattle.std.specs.Prelude.{option_map}
 use Rattle.std.proofs.lemmas.Bool.{eqb-false, true≢false, false≢true, cases_Bool}
 use Rattle.std.proofs.lemmas.Option.{none-some, same_Some}
 use Rattle.lagtypes.specs.declared.party.Party.{Party}
-use Rattle.lagmodel.specs.View.{PortView, Flows, View, Setup, first_port, first_view, Lacpdu, Lacp, Marker, Response, Call, at_port, is_restart, replies_frame}
-use Rattle.lagmodel.specs.Move.{Took, PortMove, Stop, Leave, Desynchronise, Reconfigure, Default, Take, Join, Distribute, Announce, Respond, FlowMove, Send, Mark, Become, flow_act, Move, Port, Flow, Restart, PortAllowed, port_after, port_act, Allowed, after, act, act_of_port}
-use Rattle.lagmodel.specs.World.{Side, Message, Control, Data, put, at_cable, line_after, taken_after, Taken, party_at}
+use Rattle.lagmodel.specs.View.{PortFacts, Flows, View, SystemSetup, first_port, first_view, LacpMessage, Lacp, Marker, Response, ModelCall, at_port, is_restart, replies_frame}
+use Rattle.lagmodel.specs.Move.{Took, PortMove, Stop, Leave, Desynchronise, Reconfigure, Default, Take, Join, Distribute, Announce, Respond, FlowMove, Send, Mark, Become, flow_act, Move, Port, Flow, Restart, PortAllowed, port_after, port_act, Allowed, view_after, act, act_of_port}
+use Rattle.lagmodel.specs.World.{Side, Message, Control, Data, put_on_cable, at_cable, line_after, taken_after, TakenLacpdu, party_at}
 use Rattle.lagmodel.proofs.Base.{cond_true, cond_false, value_of, mapped_some}
 use Rattle.lagmodel.proofs.Ports.{changed_port}
 use Rattle.lagmodel.proofs.Lines.{Every, every_push, every_weaker, put_cases}
 use Rattle.lagmodel.proofs.LaneMoves.{Within, cable_cases}
 
 -- An LACPDU's stamp is at most its sender's count; if it is the count, the LACPDU names this party.
-abbrev pub FreshPdu : ℕ → Option Party → Lacpdu → ℕ → Type 0
+abbrev pub FreshPdu : ℕ → Option Party → LacpMessage → ℕ → Type 0
 FreshPdu count party pdu stamp = (stamp ≤ count) × (stamp ≡ count → party ≡ Some pdu.actor)
 
 abbrev pub Fresh : ℕ → Option Party → Message → Type 0
@@ -23,29 +23,29 @@ Fresh count party (Control (Response mac p n) stamp) = Unit {0}
 Fresh count party (Data origin g k serial) = Unit {0}
 
 -- of all LACPDUs of one system. taken: what the other system's ports took last
-pub record Stamps (ends theirs : ℕ → Option ℕ) (party : ℕ → Option Party) (count : ℕ → ℕ) (out : ℕ → List Message) (taken : ℕ → Option Taken) : Type 0 where
+pub record Stamps (ends theirs : ℕ → Option ℕ) (party : ℕ → Option Party) (count : ℕ → ℕ) (out : ℕ → List Message) (taken : ℕ → Option TakenLacpdu) : Type 0 where
   pub flight : (c p : ℕ) → ends c ≡ Some p → Every (Fresh (count p) (party p)) (out c)
-  pub last : (c p q : ℕ) (m : Taken) → ends c ≡ Some p → theirs c ≡ Some q → taken q ≡ Some m → FreshPdu (count p) (party p) m.pdu m.stamp
+  pub last : (c p q : ℕ) (m : TakenLacpdu) → ends c ≡ Some p → theirs c ≡ Some q → taken q ≡ Some m → FreshPdu (count p) (party p) m.pdu m.stamp
 
 -- A port that is not on defaults took an LACPDU from the partner that it records. It records it as synchronized only
 -- if that LACPDU said so, and named the port's party or has an individual actor.
-abbrev pub Heard : PortView → Option Taken → Type 0
+abbrev pub Heard : PortFacts → Option TakenLacpdu → Type 0
 Heard a o =
     a.defaulted ≡ false
-    → (m : Taken) × (o ≡ Some m) × (a.partner ≡ m.pdu.actor)
+    → (m : TakenLacpdu) × (o ≡ Some m) × (a.partner ≡ m.pdu.actor)
     × (a.synchronised ≡ true → (m.pdu.synchronised ≡ true) × ((m.pdu.partner ≡ a.party) ⊎ (m.pdu.actor.aggregatable ≡ false)))
 
-abbrev pub AllHeard : (ℕ → Option PortView) → (ℕ → Option Taken) → Type 0
-AllHeard ports taken = (p : ℕ) (a : PortView) → ports p ≡ Some a → Heard a (taken p)
+abbrev pub AllHeard : (ℕ → Option PortFacts) → (ℕ → Option TakenLacpdu) → Type 0
+AllHeard ports taken = (p : ℕ) (a : PortFacts) → ports p ≡ Some a → Heard a (taken p)
 
-heard_changed : (ports : ℕ → Option PortView) (taken taken' : ℕ → Option Taken) (p : ℕ) (f : PortView → PortView) (a : PortView) → ports p ≡ Some a
+heard_changed : (ports : ℕ → Option PortFacts) (taken taken' : ℕ → Option TakenLacpdu) (p : ℕ) (f : PortFacts → PortFacts) (a : PortFacts) → ports p ≡ Some a
     → Heard (f a) (taken' p) → ((q : ℕ) → (q ≡ p → ⊥) → taken' q ≡ taken q) → AllHeard ports taken → AllHeard (at_port ports p f) taken'
 heard_changed ports taken taken' p f a h new same i q b e = elim (changed_port ports p q f a b h e) [
-  | inl x ↦ subst (λ (b : PortView). Heard b (taken' q)) x.1 (subst (λ r. Heard (f a) (taken' r)) (sym x.0) new)
+  | inl x ↦ subst (λ (b : PortFacts). Heard b (taken' q)) x.1 (subst (λ r. Heard (f a) (taken' r)) (sym x.0) new)
   | inr x ↦ subst (λ o. Heard b o) (sym (same q x.0)) (i q b x.1)
 ]
 
-heard_port : (u : Setup) (call : Call) (ports : ℕ → Option PortView) (p : ℕ) (stamp : ℕ) (taken : ℕ → Option Taken) (m : PortMove) (a : PortView) → ports p ≡ Some a
+heard_port : (u : SystemSetup) (call : ModelCall) (ports : ℕ → Option PortFacts) (p : ℕ) (stamp : ℕ) (taken : ℕ → Option TakenLacpdu) (m : PortMove) (a : PortFacts) → ports p ≡ Some a
     → PortAllowed u call ports p m a → AllHeard ports taken → AllHeard (at_port ports p (port_after m)) (taken_after stamp (port_act p m a) taken)
 heard_port u call ports p stamp taken Stop a h x i = heard_changed ports taken taken p (port_after Stop) a h (i p a h) (λ q e. refl) i
 heard_port u call ports p stamp taken Leave a h x i = heard_changed ports taken taken p (port_after Leave) a h (i p a h) (λ q e. refl) i
@@ -67,14 +67,14 @@ heard_port u call ports p stamp taken Distribute a h x i = heard_changed ports t
 heard_port u call ports p stamp taken (Announce synchronised) a h x i = heard_changed ports taken taken p (port_after (Announce synchronised)) a h (i p a h) (λ q e. refl) i
 heard_port u call ports p stamp taken (Respond mac q n) a h x i = heard_changed ports taken taken p (port_after (Respond mac q n)) a h (i p a h) (λ q e. refl) i
 
-heard_flow : (ports : ℕ → Option PortView) (mac : List ℕ) (stamp : ℕ) (taken : ℕ → Option Taken) (f : Flows) (m : FlowMove) → AllHeard ports taken → AllHeard ports (taken_after stamp (flow_act mac m f) taken)
+heard_flow : (ports : ℕ → Option PortFacts) (mac : List ℕ) (stamp : ℕ) (taken : ℕ → Option TakenLacpdu) (f : Flows) (m : FlowMove) → AllHeard ports taken → AllHeard ports (taken_after stamp (flow_act mac m f) taken)
 heard_flow ports mac stamp taken f (Send g k p) i = i
 heard_flow ports mac stamp taken f (Mark p) i = i
 heard_flow ports mac stamp taken f (Become g k m) i = i
 
 -- a move of this system
-pub heard_own : (u : Setup) (call : Call) (stamp : ℕ) (v : View) (m : Move) (taken : ℕ → Option Taken)
-    → Allowed u call v m → is_restart call ≡ false → AllHeard v.port taken → AllHeard ((after u m v).port) (taken_after stamp (act u m v) taken)
+pub heard_own : (u : SystemSetup) (call : ModelCall) (stamp : ℕ) (v : View) (m : Move) (taken : ℕ → Option TakenLacpdu)
+    → Allowed u call v m → is_restart call ≡ false → AllHeard v.port taken → AllHeard ((view_after u m v).port) (taken_after stamp (act u m v) taken)
 heard_own u call stamp v (Port p m) taken x r i =
     let s = value_of (v.port p) (PortAllowed u call v.port p m) x in
     subst (λ o. AllHeard (at_port v.port p (port_after m)) (taken_after stamp (act_of_port p m o) taken)) (sym s.1)
@@ -82,12 +82,12 @@ heard_own u call stamp v (Port p m) taken x r i =
 heard_own u call stamp v (Flow m) taken x r i = heard_flow v.port u.system.mac stamp taken v.flows m i
 heard_own u call stamp v Restart taken x r i = absurd (true≢false (sym x ∙ r))
 
-pub heard_first : (u : Setup) (taken : ℕ → Option Taken) → AllHeard ((first_view u).port) taken
-heard_first u taken p a h = let m = mapped_some first_port (u.party p) a h in λ d. absurd (true≢false (ap (λ (a : PortView). a.defaulted) m.2 ∙ d))
+pub heard_first : (u : SystemSetup) (taken : ℕ → Option TakenLacpdu) → AllHeard ((first_view u).port) taken
+heard_first u taken p a h = let m = mapped_some first_port (u.party p) a h in λ d. absurd (true≢false (ap (λ (a : PortFacts). a.defaulted) m.2 ∙ d))
 
 -- a message goes out that names its sender
-pub stamps_put : (ends theirs : ℕ → Option ℕ) (party : ℕ → Option Party) (count : ℕ → ℕ) (out : ℕ → List Message) (taken : ℕ → Option Taken) (whole : ℕ → Bool) (kept : Bool) (q : ℕ) (m : Message)
-    → Fresh (count q) (party q) m → Stamps ends theirs party count out taken → Stamps ends theirs party count (put ends whole kept q m out) taken
+pub stamps_put : (ends theirs : ℕ → Option ℕ) (party : ℕ → Option Party) (count : ℕ → ℕ) (out : ℕ → List Message) (taken : ℕ → Option TakenLacpdu) (whole : ℕ → Bool) (kept : Bool) (q : ℕ) (m : Message)
+    → Fresh (count q) (party q) m → Stamps ends theirs party count out taken → Stamps ends theirs party count (put_on_cable ends whole kept q m out) taken
 stamps_put ends theirs party count out taken whole kept q m fresh i = record {
   flight = λ c p e. elim (put_cases ends whole kept q m out c) [
     | inl x ↦ subst (Every (Fresh (count p) (party p))) (sym x.0)
@@ -98,14 +98,14 @@ stamps_put ends theirs party count out taken whole kept q m fresh i = record {
   last = i.last;
 }
 
-stamps_port : (s : Side) (ends theirs : ℕ → Option ℕ) (party : ℕ → Option Party) (count : ℕ → ℕ) (out : ℕ → List Message) (taken : ℕ → Option Taken) (whole : ℕ → Bool) (sent : ℕ → ℕ → List ℕ) (kept : Bool)
-    (u : Setup) (call : Call) (v : View) (p : ℕ) (m : PortMove) (o : Option PortView) → v.port p ≡ o → IsSomeAnd o (PortAllowed u call v.port p m)
+stamps_port : (s : Side) (ends theirs : ℕ → Option ℕ) (party : ℕ → Option Party) (count : ℕ → ℕ) (out : ℕ → List Message) (taken : ℕ → Option TakenLacpdu) (whole : ℕ → Bool) (sent : ℕ → ℕ → List ℕ) (kept : Bool)
+    (u : SystemSetup) (call : ModelCall) (v : View) (p : ℕ) (m : PortMove) (o : Option PortFacts) → v.port p ≡ o → IsSomeAnd o (PortAllowed u call v.port p m)
     → (replies_frame call ≡ true → (q : ℕ) → party_at v q ≡ party q)
     → Stamps ends theirs party count out taken → Stamps ends theirs party count (line_after s ends whole count sent kept (act_of_port p m o) out) taken
 stamps_port s ends theirs party count out taken whole sent kept u call v p m None h x r i = i
 stamps_port s ends theirs party count out taken whole sent kept u call v p (Announce synchronised) (Some a) h x r i =
     stamps_put ends theirs party count out taken whole kept p (Control (Lacp (record { actor = a.party; partner = a.partner; synchronised = synchronised })) (count p))
-    (omega arith, λ e. sym (r x.0 p) ∙ ap (option_map (λ (a : PortView). a.party)) h) i
+    (omega arith, λ e. sym (r x.0 p) ∙ ap (option_map (λ (a : PortFacts). a.party)) h) i
 stamps_port s ends theirs party count out taken whole sent kept u call v p (Respond mac q n) (Some a) h x r i = stamps_put ends theirs party count out taken whole kept p (Control (Response mac q n) 0) tt i
 stamps_port s ends theirs party count out taken whole sent kept u call v p Stop (Some a) h x r i = i
 stamps_port s ends theirs party count out taken whole sent kept u call v p Leave (Some a) h x r i = i
@@ -116,7 +116,7 @@ stamps_port s ends theirs party count out taken whole sent kept u call v p (Take
 stamps_port s ends theirs party count out taken whole sent kept u call v p (Join g) (Some a) h x r i = i
 stamps_port s ends theirs party count out taken whole sent kept u call v p Distribute (Some a) h x r i = i
 
-stamps_flow : (s : Side) (ends theirs : ℕ → Option ℕ) (party : ℕ → Option Party) (count : ℕ → ℕ) (out : ℕ → List Message) (taken : ℕ → Option Taken) (whole : ℕ → Bool) (sent : ℕ → ℕ → List ℕ) (kept : Bool)
+stamps_flow : (s : Side) (ends theirs : ℕ → Option ℕ) (party : ℕ → Option Party) (count : ℕ → ℕ) (out : ℕ → List Message) (taken : ℕ → Option TakenLacpdu) (whole : ℕ → Bool) (sent : ℕ → ℕ → List ℕ) (kept : Bool)
     (mac : List ℕ) (f : Flows) (m : FlowMove)
     → Stamps ends theirs party count out taken → Stamps ends theirs party count (line_after s ends whole count sent kept (flow_act mac m f) out) taken
 stamps_flow s ends theirs party count out taken whole sent kept mac f (Send g k p) i = stamps_put ends theirs party count out taken whole kept p (Data s g k (length (sent g k))) tt i
@@ -124,8 +124,8 @@ stamps_flow s ends theirs party count out taken whole sent kept mac f (Mark p) i
 stamps_flow s ends theirs party count out taken whole sent kept mac f (Become g k m) i = i
 
 -- a move of this system, which has had these parties since the event began, unless its call sends nothing
-pub stamps_own : (s : Side) (ends theirs : ℕ → Option ℕ) (party : ℕ → Option Party) (count : ℕ → ℕ) (out : ℕ → List Message) (taken : ℕ → Option Taken) (whole : ℕ → Bool) (sent : ℕ → ℕ → List ℕ) (kept : Bool)
-    (u : Setup) (call : Call) (v : View) (m : Move) → Allowed u call v m
+pub stamps_own : (s : Side) (ends theirs : ℕ → Option ℕ) (party : ℕ → Option Party) (count : ℕ → ℕ) (out : ℕ → List Message) (taken : ℕ → Option TakenLacpdu) (whole : ℕ → Bool) (sent : ℕ → ℕ → List ℕ) (kept : Bool)
+    (u : SystemSetup) (call : ModelCall) (v : View) (m : Move) → Allowed u call v m
     → (replies_frame call ≡ true → (q : ℕ) → party_at v q ≡ party q)
     → Stamps ends theirs party count out taken → Stamps ends theirs party count (line_after s ends whole count sent kept (act u m v) out) taken
 stamps_own s ends theirs party count out taken whole sent kept u call v (Port p m) x r i = stamps_port s ends theirs party count out taken whole sent kept u call v p m (v.port p) refl x r i
@@ -133,7 +133,7 @@ stamps_own s ends theirs party count out taken whole sent kept u call v (Flow m)
 stamps_own s ends theirs party count out taken whole sent kept u call v Restart x r i = i
 
 -- a port of the peer takes an LACPDU that stands first on its cable
-stamps_taken : (ends theirs : ℕ → Option ℕ) (party : ℕ → Option Party) (count : ℕ → ℕ) (out : ℕ → List Message) (taken : ℕ → Option Taken) (p : ℕ) (pdu : Lacpdu) (stamp : ℕ)
+stamps_taken : (ends theirs : ℕ → Option ℕ) (party : ℕ → Option Party) (count : ℕ → ℕ) (out : ℕ → List Message) (taken : ℕ → Option TakenLacpdu) (p : ℕ) (pdu : LacpMessage) (stamp : ℕ)
     → ((c : ℕ) → theirs c ≡ Some p → (ms : List Message) × (out c ≡ Control (Lacp pdu) stamp ∷ ms))
     → Stamps ends theirs party count out taken → Stamps ends theirs party count out (taken_after stamp (Some (Took p pdu)) taken)
 stamps_taken ends theirs party count out taken p pdu stamp came i = record {
@@ -143,18 +143,18 @@ stamps_taken ends theirs party count out taken p pdu stamp came i = record {
         let this : record { pdu = pdu; stamp = stamp } ≡ m = same_Some (record { pdu = pdu; stamp = stamp }) m (sym (cond_true (eqb q p) _ (taken q) a) ∙ h) in
         let first = came c (f ∙ ap (λ (n : ℕ). Some n) same) in
         let fresh = subst (Every (Fresh (count r) (party r))) first.1 (i.flight c r e) in
-        subst (λ (m : Taken). FreshPdu (count r) (party r) m.pdu m.stamp) this fresh.0)
+        subst (λ (m : TakenLacpdu). FreshPdu (count r) (party r) m.pdu m.stamp) this fresh.0)
     | inr a ↦ i.last c r q m e f (sym (cond_false (eqb q p) (Some (record { pdu = pdu; stamp = stamp })) (taken q) a) ∙ h)
   ];
 }
 
 -- a move of the peer
-pub stamps_peer : (ends theirs : ℕ → Option ℕ) (party : ℕ → Option Party) (count : ℕ → ℕ) (out : ℕ → List Message) (taken : ℕ → Option Taken) (whole : ℕ → Bool) (theirs_forced : ℕ → ℕ → Bool) (u : Setup) (call : Call) (stamp : ℕ) (v : View) (m : Move)
+pub stamps_peer : (ends theirs : ℕ → Option ℕ) (party : ℕ → Option Party) (count : ℕ → ℕ) (out : ℕ → List Message) (taken : ℕ → Option TakenLacpdu) (whole : ℕ → Bool) (theirs_forced : ℕ → ℕ → Bool) (u : SystemSetup) (call : ModelCall) (stamp : ℕ) (v : View) (m : Move)
     → Allowed u call v m → Within call stamp theirs out whole theirs_forced
     → Stamps ends theirs party count out taken → Stamps ends theirs party count out (taken_after stamp (act u m v) taken)
 stamps_peer ends theirs party count out taken whole theirs_forced u call stamp v (Port p m) x w i = go m (v.port p) x
   where
-    go : (m : PortMove) (o : Option PortView) → IsSomeAnd o (PortAllowed u call v.port p m) → Stamps ends theirs party count out (taken_after stamp (act_of_port p m o) taken)
+    go : (m : PortMove) (o : Option PortFacts) → IsSomeAnd o (PortAllowed u call v.port p m) → Stamps ends theirs party count out (taken_after stamp (act_of_port p m o) taken)
     go m None x = i
     go (Take pdu synchronised) (Some a) x = stamps_taken ends theirs party count out taken p pdu stamp (w.came p (Lacp pdu) x.0) i
     go (Announce synchronised) (Some a) x = i
@@ -175,7 +175,7 @@ stamps_peer ends theirs party count out taken whole theirs_forced u call stamp v
 stamps_peer ends theirs party count out taken whole theirs_forced u call stamp v Restart x w i = i
 
 -- only a configure changes a party
-party_kept : (u : Setup) (call : Call) (ports : ℕ → Option PortView) (p : ℕ) (m : PortMove) (a : PortView) → PortAllowed u call ports p m a → replies_frame call ≡ true → (port_after m a).party ≡ a.party
+party_kept : (u : SystemSetup) (call : ModelCall) (ports : ℕ → Option PortFacts) (p : ℕ) (m : PortMove) (a : PortFacts) → PortAllowed u call ports p m a → replies_frame call ≡ true → (port_after m a).party ≡ a.party
 party_kept u call ports p Stop a x r = refl
 party_kept u call ports p Leave a x r = refl
 party_kept u call ports p Desynchronise a x r = refl
@@ -187,22 +187,22 @@ party_kept u call ports p Distribute a x r = refl
 party_kept u call ports p (Announce synchronised) a x r = refl
 party_kept u call ports p (Respond mac q n) a x r = refl
 
-pub parties_kept : (u : Setup) (call : Call) (v : View) (m : Move) → Allowed u call v m → is_restart call ≡ false → replies_frame call ≡ true → (q : ℕ) → party_at (after u m v) q ≡ party_at v q
+pub parties_kept : (u : SystemSetup) (call : ModelCall) (v : View) (m : Move) → Allowed u call v m → is_restart call ≡ false → replies_frame call ≡ true → (q : ℕ) → party_at (view_after u m v) q ≡ party_at v q
 parties_kept u call v (Port p m) x r f q =
     let s = value_of (v.port p) (PortAllowed u call v.port p m) x in
     elim (cases_Bool (eqb q p)) [
       | inl e ↦ (let same : q ≡ p = eqb-true q p e in
           let there : v.port q ≡ Some s.0 = subst (λ r. v.port r ≡ Some s.0) (sym same) s.1 in
-          ap (option_map (λ (a : PortView). a.party)) (cond_true (eqb q p) (option_map (port_after m) (v.port q)) (v.port q) e ∙ ap (option_map (port_after m)) there)
+          ap (option_map (λ (a : PortFacts). a.party)) (cond_true (eqb q p) (option_map (port_after m) (v.port q)) (v.port q) e ∙ ap (option_map (port_after m)) there)
           ∙ ap (λ (y : Party). Some y) (party_kept u call v.port p m s.0 s.2 f)
-          ∙ sym (ap (option_map (λ (a : PortView). a.party)) there))
-      | inr e ↦ ap (option_map (λ (a : PortView). a.party)) (cond_false (eqb q p) (option_map (port_after m) (v.port q)) (v.port q) e)
+          ∙ sym (ap (option_map (λ (a : PortFacts). a.party)) there))
+      | inr e ↦ ap (option_map (λ (a : PortFacts). a.party)) (cond_false (eqb q p) (option_map (port_after m) (v.port q)) (v.port q) e)
     ]
 parties_kept u call v (Flow m) x r f q = refl
 parties_kept u call v Restart x r f q = absurd (true≢false (sym x ∙ r))
 
 -- the first message that the system sent is taken away
-pub stamps_out_taken : (ends theirs : ℕ → Option ℕ) (party : ℕ → Option Party) (count : ℕ → ℕ) (out : ℕ → List Message) (taken : ℕ → Option Taken) (c : ℕ) (m : Message) (ms : List Message)
+pub stamps_out_taken : (ends theirs : ℕ → Option ℕ) (party : ℕ → Option Party) (count : ℕ → ℕ) (out : ℕ → List Message) (taken : ℕ → Option TakenLacpdu) (c : ℕ) (m : Message) (ms : List Message)
     → out c ≡ m ∷ ms → Stamps ends theirs party count out taken → Stamps ends theirs party count (at_cable out c ms) taken
 stamps_out_taken ends theirs party count out taken c m ms e i = record {
   flight = λ d p h. elim (cable_cases out c ms d) [
@@ -212,7 +212,7 @@ stamps_out_taken ends theirs party count out taken c m ms e i = record {
   last = i.last;
 }
 
-pub stamps_cut : (ends theirs : ℕ → Option ℕ) (party : ℕ → Option Party) (count : ℕ → ℕ) (out : ℕ → List Message) (taken : ℕ → Option Taken) (c : ℕ)
+pub stamps_cut : (ends theirs : ℕ → Option ℕ) (party : ℕ → Option Party) (count : ℕ → ℕ) (out : ℕ → List Message) (taken : ℕ → Option TakenLacpdu) (c : ℕ)
     → Stamps ends theirs party count out taken → Stamps ends theirs party count (at_cable out c []) taken
 stamps_cut ends theirs party count out taken c i = record {
   flight = λ d p h. elim (cable_cases out c [] d) [
@@ -222,12 +222,12 @@ stamps_cut ends theirs party count out taken c i = record {
   last = i.last;
 }
 
-pub stamps_emptied : (ends theirs : ℕ → Option ℕ) (party : ℕ → Option Party) (count : ℕ → ℕ) (out : ℕ → List Message) (taken : ℕ → Option Taken)
+pub stamps_emptied : (ends theirs : ℕ → Option ℕ) (party : ℕ → Option Party) (count : ℕ → ℕ) (out : ℕ → List Message) (taken : ℕ → Option TakenLacpdu)
     → Stamps ends theirs party count out taken → Stamps ends theirs party count (λ c. []) taken
 stamps_emptied ends theirs party count out taken i = record { flight = λ d p h. tt; last = i.last }
 
 -- the end of an event, at which the counts rise if the parties differ
-fresh_counted : (old new : ℕ) (was is : Option Party) → ((is ≡ was) × (new ≡ old)) ⊎ ((is ≢ was) × (new ≡ suc old)) → (pdu : Lacpdu) (stamp : ℕ) → FreshPdu old was pdu stamp → FreshPdu new is pdu stamp
+fresh_counted : (old new : ℕ) (was is : Option Party) → ((is ≡ was) × (new ≡ old)) ⊎ ((is ≢ was) × (new ≡ suc old)) → (pdu : LacpMessage) (stamp : ℕ) → FreshPdu old was pdu stamp → FreshPdu new is pdu stamp
 fresh_counted old new was is h pdu stamp f = elim h [
   | inl x ↦ (let e = x.1 in let le = f.0 in omega arith, λ e. x.0 ∙ f.1 (e ∙ x.1))
   | inr x ↦ (let e = x.1 in let le = f.0 in omega arith, λ e. let e' = x.1 in let le = f.0 in absurd (omega arith))
@@ -239,7 +239,7 @@ every_counted old new was is h (Control (Marker mac p n) stamp) f = tt
 every_counted old new was is h (Control (Response mac p n) stamp) f = tt
 every_counted old new was is h (Data origin g k serial) f = tt
 
-pub stamps_counted : (ends theirs : ℕ → Option ℕ) (was is : ℕ → Option Party) (old new : ℕ → ℕ) (out : ℕ → List Message) (taken : ℕ → Option Taken)
+pub stamps_counted : (ends theirs : ℕ → Option ℕ) (was is : ℕ → Option Party) (old new : ℕ → ℕ) (out : ℕ → List Message) (taken : ℕ → Option TakenLacpdu)
     → ((p : ℕ) → ((is p ≡ was p) × (new p ≡ old p)) ⊎ ((is p ≢ was p) × (new p ≡ suc (old p))))
     → Stamps ends theirs was old out taken → Stamps ends theirs is new out taken
 stamps_counted ends theirs was is old new out taken h i = record {

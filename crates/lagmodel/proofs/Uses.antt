@@ -5,39 +5,39 @@ use Rattle.std.proofs.Common.{◌≡◌, ℕ, zero, suc, true, false, cond, eqb,
 use Rattle.std.specs.Prelude.{option_map, option_to_list, slice_get, IsSomeAnd}
 use Rattle.std.proofs.lemmas.Bool.{cases_Bool}
 use Rattle.std.proofs.lemmas.Option.{none-some, same_Some}
-use Rattle.lagmodel.specs.View.{PortView, Conversation, Flows, View, Setup, Call, at_port, at_conversation}
-use Rattle.lagmodel.specs.Move.{FlowAllowed, Act, PortMove, PortAllowed, port_after, port_act, ChangeAllowed, changed, FlowMove, flows_after, flow_act, AllFlowAllowed, flows_after_all, flow_acts, FlowMoves, Move, Port, Flow, Distributes, after, act, act_of_port, AllAllowed, after_all, acts, FreeMoves}
-use Rattle.lagmodel.specs.Kept.{Become, find_number, AreNumbered, ports_of}
+use Rattle.lagmodel.specs.View.{PortFacts, Conversation, Flows, View, SystemSetup, ModelCall, at_port, at_conversation}
+use Rattle.lagmodel.specs.Move.{FlowAllowed, Act, PortMove, PortAllowed, port_after, port_act, ConversationMoveAllowed, conversation_after, FlowMove, flows_after, flow_act, AllFlowAllowed, flows_after_all, flow_acts, FlowMoves, Move, Port, Flow, Distributes, view_after, act, act_of_port, AllAllowed, view_after_all, acts, FreeMoves}
+use Rattle.lagmodel.specs.Bridge.{BecomeByMoves, find_number, AreNumbered, ports_of}
 use Rattle.lagmodel.proofs.Base.{cond_true, cond_false}
 use Rattle.lagmodel.proofs.Lanes.{conversation_cases}
 
 -- Moves one after another.
-all_joined : (u : Setup) (call : Call) (xs ys : List Move) (v : View) → AllAllowed u call v xs → AllAllowed u call (after_all u xs v) ys → AllAllowed u call v (xs ++ ys)
+all_joined : (u : SystemSetup) (call : ModelCall) (xs ys : List Move) (v : View) → AllAllowed u call v xs → AllAllowed u call (view_after_all u xs v) ys → AllAllowed u call v (xs ++ ys)
 all_joined u call [] ys v h i = i
-all_joined u call (m ∷ xs) ys v h i = (h.0, all_joined u call xs ys (after u m v) h.1 i)
+all_joined u call (m ∷ xs) ys v h i = (h.0, all_joined u call xs ys (view_after u m v) h.1 i)
 
-after_joined : (u : Setup) (xs ys : List Move) (v : View) → after_all u (xs ++ ys) v ≡ after_all u ys (after_all u xs v)
+after_joined : (u : SystemSetup) (xs ys : List Move) (v : View) → view_after_all u (xs ++ ys) v ≡ view_after_all u ys (view_after_all u xs v)
 after_joined u [] ys v = refl
-after_joined u (m ∷ xs) ys v = after_joined u xs ys (after u m v)
+after_joined u (m ∷ xs) ys v = after_joined u xs ys (view_after u m v)
 
-acts_joined : (u : Setup) (xs ys : List Move) (v : View) → acts u (xs ++ ys) v ≡ acts u xs v ++ acts u ys (after_all u xs v)
+acts_joined : (u : SystemSetup) (xs ys : List Move) (v : View) → acts u (xs ++ ys) v ≡ acts u xs v ++ acts u ys (view_after_all u xs v)
 acts_joined u [] ys v = refl
 acts_joined u (m ∷ xs) ys v =
-    ap (λ (l : List Act). option_to_list (act u m v) ++ l) (acts_joined u xs ys (after u m v))
-    ∙ sym (append_assoc (option_to_list (act u m v)) (acts u xs (after u m v)) (acts u ys (after_all u xs (after u m v))))
+    ap (λ (l : List Act). option_to_list (act u m v) ++ l) (acts_joined u xs ys (view_after u m v))
+    ∙ sym (append_assoc (option_to_list (act u m v)) (acts u xs (view_after u m v)) (acts u ys (view_after_all u xs (view_after u m v))))
 
-pub moves_joined : (u : Setup) (call : Call) (old mid new : View) (seen more : List Act) → FreeMoves u call old seen mid → FreeMoves u call mid more new → FreeMoves u call old (seen ++ more) new
+pub moves_joined : (u : SystemSetup) (call : ModelCall) (old mid new : View) (seen more : List Act) → FreeMoves u call old seen mid → FreeMoves u call mid more new → FreeMoves u call old (seen ++ more) new
 moves_joined u call old mid new seen more a b = (
   a.0 ++ b.0,
   all_joined u call a.0 b.0 old a.1 (subst (λ v. AllAllowed u call v b.0) a.3 b.1),
   acts_joined u a.0 b.0 old
-      ∙ ap (λ (l : List Act). l ++ acts u b.0 (after_all u a.0 old)) a.2
+      ∙ ap (λ (l : List Act). l ++ acts u b.0 (view_after_all u a.0 old)) a.2
       ∙ ap (λ (l : List Act). seen ++ l) (ap (acts u b.0) (sym a.3) ∙ b.2),
-  b.3 ∙ ap (after_all u b.0) a.3 ∙ sym (after_joined u a.0 b.0 old),
+  b.3 ∙ ap (view_after_all u b.0) a.3 ∙ sym (after_joined u a.0 b.0 old),
 )
 
 -- one move of a port, by its view before it
-pub moves_port : (u : Setup) (call : Call) (v : View) (p : ℕ) (m : PortMove) (a : PortView) → v.port p ≡ Some a → PortAllowed u call v.port p m a
+pub moves_port : (u : SystemSetup) (call : ModelCall) (v : View) (p : ℕ) (m : PortMove) (a : PortFacts) → v.port p ≡ Some a → PortAllowed u call v.port p m a
     → FreeMoves u call v (option_to_list (port_act p m a)) (record v { port = at_port v.port p (port_after m) })
 moves_port u call v p m a h x = (
   Port p m ∷ [],
@@ -46,7 +46,7 @@ moves_port u call v p m a h x = (
   refl,
 )
   where
-    there : (o : Option PortView) → o ≡ Some a → IsSomeAnd o (PortAllowed u call v.port p m)
+    there : (o : Option PortFacts) → o ≡ Some a → IsSomeAnd o (PortAllowed u call v.port p m)
     there o e = subst (λ o. IsSomeAnd o (PortAllowed u call v.port p m)) (sym e) x
 
     nothing_more : (o : Option Act) → option_to_list o ++ [] ≡ option_to_list o
@@ -54,7 +54,7 @@ moves_port u call v p m a h x = (
     nothing_more (Some y) = refl
 
 -- moves of the conversations are moves of the system
-pub moves_flows : (u : Setup) (call : Call) (v : View) (seen : List Act) (f : Flows) → FlowMoves u.system.mac call (Distributes v.port) v.flows seen f → FreeMoves u call v seen (record v { flows = f })
+pub moves_flows : (u : SystemSetup) (call : ModelCall) (v : View) (seen : List Act) (f : Flows) → FlowMoves u.system.mac call (Distributes v.port) v.flows seen f → FreeMoves u call v seen (record v { flows = f })
 moves_flows u call v seen f x = (
   map (λ (m : FlowMove). Flow m) x.0,
   allowed x.0 v x.1,
@@ -70,12 +70,12 @@ moves_flows u call v seen f x = (
     same_acts [] v = refl
     same_acts (m ∷ ms) v = ap (λ (l : List Act). option_to_list (flow_act u.system.mac m v.flows) ++ l) (same_acts ms (record v { flows = flows_after m v.flows }))
 
-    same_view : (ms : List FlowMove) (v : View) → after_all u (map (λ (m : FlowMove). Flow m) ms) v ≡ record v { flows = flows_after_all ms v.flows }
+    same_view : (ms : List FlowMove) (v : View) → view_after_all u (map (λ (m : FlowMove). Flow m) ms) v ≡ record v { flows = flows_after_all ms v.flows }
     same_view [] v = refl
     same_view (m ∷ ms) v = same_view ms (record v { flows = flows_after m v.flows })
 
 -- many conversations changed at once
-pub flows_become : (mac : List ℕ) (call : Call) (D : ℕ → ℕ → Type 0) (keys : List (ℕ × ℕ)) (f : Flows) (new : ℕ → ℕ → Conversation) → Become keys mac call f.state new → FlowMoves mac call D f [] (record f { state = new })
+pub flows_become : (mac : List ℕ) (call : ModelCall) (D : ℕ → ℕ → Type 0) (keys : List (ℕ × ℕ)) (f : Flows) (new : ℕ → ℕ → Conversation) → BecomeByMoves keys mac call f.state new → FlowMoves mac call D f [] (record f { state = new })
 flows_become mac call D [] f new h = ([], tt, refl, λ i. record { state = λ g k. unchanged g k i; next = f.next })
   where
     unchanged : (g k : ℕ) → new g k ≡ f.state g k
@@ -86,14 +86,14 @@ flows_become mac call D (y ∷ keys) f new h = elim (h y.0 y.1) [
     | inr x ↦ elim x.0 [ inl here ↦ inl (subst (λ j. new g j ≡ f.state g j) (sym here.1) (subst (λ j. new j y.1 ≡ f.state j y.1) (sym here.0) e)) | inr there ↦ inr (there, x.1) ]
   ])
   | inr x ↦ (let m = x.1.0 in
-      let g : Flows = record f { state = at_conversation f.state y.0 y.1 (changed m) } in
-      let rest = flows_become mac call D keys g new (λ j k. elim (conversation_cases f.state y.0 y.1 (changed m) j k) [
-        | inl z ↦ inl (subst (λ l. new j l ≡ changed m) (sym z.1) (subst (λ l. new l y.1 ≡ changed m) (sym z.0) x.1.2) ∙ sym z.2)
+      let g : Flows = record f { state = at_conversation f.state y.0 y.1 (conversation_after m) } in
+      let rest = flows_become mac call D keys g new (λ j k. elim (conversation_cases f.state y.0 y.1 (conversation_after m) j k) [
+        | inl z ↦ inl (subst (λ l. new j l ≡ conversation_after m) (sym z.1) (subst (λ l. new l y.1 ≡ conversation_after m) (sym z.0) x.1.2) ∙ sym z.2)
         | inr z ↦ elim (h j k) [
           | inl e ↦ inl (e ∙ sym z.1)
           | inr w ↦ elim w.0 [
             | inl here ↦ absurd (z.0 here)
-            | inr there ↦ inr (there, (w.1.0, subst (ChangeAllowed mac call j k w.1.0) (sym z.1) w.1.1, w.1.2))
+            | inr there ↦ inr (there, (w.1.0, subst (ConversationMoveAllowed mac call j k w.1.0) (sym z.1) w.1.1, w.1.2))
           ]
         ]
       ]) in
@@ -101,7 +101,7 @@ flows_become mac call D (y ∷ keys) f new h = elim (h y.0 y.1) [
 ]
 
 -- more ports may distribute
-pub flows_weaker : (mac : List ℕ) (call : Call) (D E : ℕ → ℕ → Type 0) (old new : Flows) (seen : List Act) → ((g p : ℕ) → D g p → E g p) → FlowMoves mac call D old seen new → FlowMoves mac call E old seen new
+pub flows_weaker : (mac : List ℕ) (call : ModelCall) (D E : ℕ → ℕ → Type 0) (old new : Flows) (seen : List Act) → ((g p : ℕ) → D g p → E g p) → FlowMoves mac call D old seen new → FlowMoves mac call E old seen new
 flows_weaker mac call D E old new seen h x = (x.0, all x.0 old x.1, x.2, x.3)
   where
     one : (m : FlowMove) (f : Flows) → FlowAllowed mac call D f m → FlowAllowed mac call E f m
@@ -145,18 +145,18 @@ find_set_same number (z ∷ xs) (suc i) x y a h e = elim (cases_Bool (eqb (numbe
   | inr f ↦ cond_false (eqb (number x) (number z)) (Some z) (find_number number (set xs i y) (number x)) f ∙ find_set_same number xs i x y a.1 h e
 ]
 
-pub ports_set : {X : Type 0} (number : X → ℕ) (view : X → PortView) (xs : List X) (i : ℕ) (x y : X) (f : PortView → PortView) → AreNumbered number xs → slice_get xs i ≡ Some x → number y ≡ number x → view y ≡ f (view x)
+pub ports_set : {X : Type 0} (number : X → ℕ) (view : X → PortFacts) (xs : List X) (i : ℕ) (x y : X) (f : PortFacts → PortFacts) → AreNumbered number xs → slice_get xs i ≡ Some x → number y ≡ number x → view y ≡ f (view x)
     → (q : ℕ) → ports_of number view (set xs i y) q ≡ at_port (ports_of number view xs) (number x) f q
 ports_set number view xs i x y f a h e v q = elim (cases_Bool (eqb q (number x))) [
   | inl t ↦ (let same : q ≡ number x = eqb-true q (number x) t in
-      ap (λ q. option_map view (find_number number (set xs i y) q)) same ∙ ap (option_map view) (find_set_same number xs i x y a h e) ∙ ap (λ (z : PortView). Some z) v
+      ap (λ q. option_map view (find_number number (set xs i y) q)) same ∙ ap (option_map view) (find_set_same number xs i x y a h e) ∙ ap (λ (z : PortFacts). Some z) v
       ∙ sym (cond_true (eqb q (number x)) (option_map f (ports_of number view xs q)) (ports_of number view xs q) t
       ∙ ap (λ q. option_map f (option_map view (find_number number xs q))) same ∙ ap (λ o. option_map f (option_map view o)) (find_at number xs i x a h)))
   | inr n ↦ ap (option_map view) (find_set_other number xs i x y q h e n) ∙ sym (cond_false (eqb q (number x)) (option_map f (ports_of number view xs q)) (ports_of number view xs q) n)
 ]
 
 -- one move of a port of a list
-pub moves_at : {X : Type 0} (number : X → ℕ) (view : X → PortView) (u : Setup) (call : Call) (f : Flows) (xs : List X) (i : ℕ) (x y : X) (m : PortMove)
+pub moves_at : {X : Type 0} (number : X → ℕ) (view : X → PortFacts) (u : SystemSetup) (call : ModelCall) (f : Flows) (xs : List X) (i : ℕ) (x y : X) (m : PortMove)
     → AreNumbered number xs → slice_get xs i ≡ Some x → number y ≡ number x → view y ≡ port_after m (view x) → PortAllowed u call (ports_of number view xs) (number x) m (view x)
     → FreeMoves u call (record { port = ports_of number view xs; flows = f }) (option_to_list (port_act (number x) m (view x))) (record { port = ports_of number view (set xs i y); flows = f })
 moves_at number view u call f xs i x y m a h n v allowed =

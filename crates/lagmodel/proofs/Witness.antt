@@ -4,32 +4,32 @@ use Rattle.std.proofs.lemmas.Option.{none-some, same_Some}
 use Rattle.std.proofs.lemmas.Bool.{false≢true}
 use Rattle.lagtypes.specs.declared.identifiers.SystemId.{SystemId}
 use Rattle.lagtypes.specs.declared.party.Party.{Party}
-use Rattle.lagmodel.specs.View.{zero_party, PortView, Setup, Lacpdu, Lacp, first_port, first_view, Call, Receive, at_port, is_restart, replies_frame}
+use Rattle.lagmodel.specs.View.{zero_party, PortFacts, SystemSetup, LacpMessage, Lacp, first_port, first_view, ModelCall, Receive, at_port, is_restart, replies_frame}
 use Rattle.lagmodel.specs.Move.{Move, Port, Flow, Announce, Take, Join, Distribute, Send, port_after}
-use Rattle.lagmodel.specs.World.{Side, One, Two, IsCabling, World, Fixed, IsFixed, first_world, party_at, moved, AllMoves, all_moved, Calls, with_line, handed_up, Data, Event, Happens}
+use Rattle.lagmodel.specs.World.{Side, One, Two, IsCabling, World, WorldSetup, IsWorldSetup, first_world, party_at, world_after, AllMoves, world_after_all, CallHappens, with_line, handed_up, Data, Event, Happens}
 use Rattle.lagmodel.specs.Law.{SomethingArrives}
 use Rattle.lagmodel.proofs.Base.{chosen, mapped_some}
 use Rattle.lagmodel.proofs.Ports.{changed_port}
 use Rattle.lagmodel.proofs.Stamps.{parties_kept}
 
 -- a call whose reply may hold a frame leaves the parties, and so the change counts
-pub same_parties : (x : Fixed) (s : Side) (call : Call) (stamp : ℕ) (ms : List (Move × Bool)) (w : World) → is_restart call ≡ false → replies_frame call ≡ true → AllMoves x s call stamp ms w
-    → (t : Side) (p : ℕ) → party_at ((all_moved x s stamp ms w).view t) p ≡ party_at (w.view t) p
+pub same_parties : (x : WorldSetup) (s : Side) (call : ModelCall) (stamp : ℕ) (ms : List (Move × Bool)) (w : World) → is_restart call ≡ false → replies_frame call ≡ true → AllMoves x s call stamp ms w
+    → (t : Side) (p : ℕ) → party_at ((world_after_all x s stamp ms w).view t) p ≡ party_at (w.view t) p
 same_parties x s call stamp [] w r f a t p = refl
-same_parties x One call stamp (m ∷ ms) w r f a One p = same_parties x One call stamp ms (moved x One stamp m w) r f a.1 One p ∙ parties_kept (x.setup One) call (w.view One) m.0 a.0 r f p
-same_parties x One call stamp (m ∷ ms) w r f a Two p = same_parties x One call stamp ms (moved x One stamp m w) r f a.1 Two p
-same_parties x Two call stamp (m ∷ ms) w r f a One p = same_parties x Two call stamp ms (moved x Two stamp m w) r f a.1 One p
-same_parties x Two call stamp (m ∷ ms) w r f a Two p = same_parties x Two call stamp ms (moved x Two stamp m w) r f a.1 Two p ∙ parties_kept (x.setup Two) call (w.view Two) m.0 a.0 r f p
+same_parties x One call stamp (m ∷ ms) w r f a One p = same_parties x One call stamp ms (world_after x One stamp m w) r f a.1 One p ∙ parties_kept (x.setup One) call (w.view One) m.0 a.0 r f p
+same_parties x One call stamp (m ∷ ms) w r f a Two p = same_parties x One call stamp ms (world_after x One stamp m w) r f a.1 Two p
+same_parties x Two call stamp (m ∷ ms) w r f a One p = same_parties x Two call stamp ms (world_after x Two stamp m w) r f a.1 One p
+same_parties x Two call stamp (m ∷ ms) w r f a Two p = same_parties x Two call stamp ms (world_after x Two stamp m w) r f a.1 Two p ∙ parties_kept (x.setup Two) call (w.view Two) m.0 a.0 r f p
 
-made : (x : Fixed) (s : Side) (call : Call) (stamp : ℕ) (ms : List (Move × Bool)) (old mid : World) → ((t : Side) (p : ℕ) → party_at (mid.view t) p ≡ party_at (old.view t) p) → mid.count ≡ old.count → is_restart call ≡ false → replies_frame call ≡ true → AllMoves x s call stamp ms mid
-    → Calls x s call stamp old mid (record (all_moved x s stamp ms mid) { count = mid.count })
+made : (x : WorldSetup) (s : Side) (call : ModelCall) (stamp : ℕ) (ms : List (Move × Bool)) (old mid : World) → ((t : Side) (p : ℕ) → party_at (mid.view t) p ≡ party_at (old.view t) p) → mid.count ≡ old.count → is_restart call ≡ false → replies_frame call ≡ true → AllMoves x s call stamp ms mid
+    → CallHappens x s call stamp old mid (record (world_after_all x s stamp ms mid) { count = mid.count })
 made x s call stamp ms old mid h c r f a =
     (ms, a, (mid.count, (λ t p. inl (same_parties x s call stamp ms mid r f a t p ∙ h t p, ap (λ (n : Side → ℕ → ℕ). n t p) c)), refl))
 
 abbrev party_of : ℕ → Party
 party_of n = record { system = record { priority = n; mac = [] }; key = record { 0 = 1 }; port = record { priority = 128; number = 1 }; aggregatable = true }
 
-abbrev setup_of : ℕ → Setup
+abbrev setup_of : ℕ → SystemSetup
 setup_of n = record {
   system = record { priority = n; mac = [] };
   party = λ p. cond (eqb p 1) (Some (party_of n)) None;
@@ -41,20 +41,20 @@ abbrev priority_of : Side → ℕ
 priority_of One = 1
 priority_of Two = 2
 
-abbrev x₀ : Fixed
+abbrev x₀ : WorldSetup
 x₀ = record { setup = λ s. setup_of (priority_of s); cables = record { one = 1; two = 1 } ∷ [] }
 
-abbrev pdu₁ : Lacpdu
+abbrev pdu₁ : LacpMessage
 pdu₁ = record { actor = party_of 2; partner = zero_party; synchronised = false }
 
-abbrev pdu₂ : Lacpdu
+abbrev pdu₂ : LacpMessage
 pdu₂ = record { actor = party_of 1; partner = party_of 2; synchronised = true }
 
-abbrev pdu₃ : Lacpdu
+abbrev pdu₃ : LacpMessage
 pdu₃ = record { actor = party_of 2; partner = party_of 1; synchronised = true }
 
 abbrev next : Side → ℕ → List (Move × Bool) → World → World
-next s stamp ms w = record (all_moved x₀ s stamp ms w) { count = w.count }
+next s stamp ms w = record (world_after_all x₀ s stamp ms w) { count = w.count }
 
 -- a frame from 02-00-00-00-00-10 to 02-00-00-00-00-20, which is of conversation 48
 abbrev frame : List ℕ
@@ -103,15 +103,15 @@ abbrev w₈ : World
 w₈ = next Two 0 [] (handed_up true (Data One 1 48 0) (with_line w₇ 1 Two []))
 
 -- no port of these is in an aggregator
-abbrev Outside : (ℕ → Option PortView) → Type 0
-Outside ports = (q : ℕ) (b : PortView) → ports q ≡ Some b → b.aggregator ≢ Some 1
+abbrev Outside : (ℕ → Option PortFacts) → Type 0
+Outside ports = (q : ℕ) (b : PortFacts) → ports q ≡ Some b → b.aggregator ≢ Some 1
 
 outside_first : (n : ℕ) → Outside (first_view (setup_of n)).port
-outside_first n q b h e = let m = mapped_some first_port (cond (eqb q 1) (Some (party_of n)) None) b h in none-some 1 (ap (λ (a : PortView). a.aggregator) m.2 ∙ e)
+outside_first n q b h e = let m = mapped_some first_port (cond (eqb q 1) (Some (party_of n)) None) b h in none-some 1 (ap (λ (a : PortFacts). a.aggregator) m.2 ∙ e)
 
-outside_kept : (ports : ℕ → Option PortView) (a : PortView) (f : PortView → PortView) → ports 1 ≡ Some a → ((f a).aggregator ≡ Some 1 → ⊥) → Outside ports → Outside (at_port ports 1 f)
+outside_kept : (ports : ℕ → Option PortFacts) (a : PortFacts) (f : PortFacts → PortFacts) → ports 1 ≡ Some a → ((f a).aggregator ≡ Some 1 → ⊥) → Outside ports → Outside (at_port ports 1 f)
 outside_kept ports a f h n i q b hb e = elim (changed_port ports 1 q f a b h hb) [
-  | inl x ↦ n (ap (λ (b : PortView). b.aggregator) x.1 ∙ e)
+  | inl x ↦ n (ap (λ (b : PortFacts). b.aggregator) x.1 ∙ e)
   | inr x ↦ i q b x.1 e
 ]
 
@@ -122,7 +122,7 @@ ne₂ : (party_of 1).system ≢ (party_of 2).system
 ne₂ e = ne₁ (sym e)
 
 e₁ : Happens x₀ (Event.Emit Two 1) (first_world x₀) w₁
-e₁ = made x₀ Two Call.Transmit 0 ms₁ (first_world x₀) (first_world x₀) (λ t p. refl) refl refl refl ((refl, λ h. absurd (false≢true h)), tt)
+e₁ = made x₀ Two ModelCall.Transmit 0 ms₁ (first_world x₀) (first_world x₀) (λ t p. refl) refl refl refl ((refl, λ h. absurd (false≢true h)), tt)
 
 e₂ : Happens x₀ (Event.Deliver 1 One) w₁ w₂
 e₂ = made x₀ One (Receive 1 (Some (Lacp pdu₁))) 0 ms₂ w₁ (with_line w₁ 1 One []) (λ t p. refl) refl refl refl (
@@ -134,7 +134,7 @@ e₂ = made x₀ One (Receive 1 (Some (Lacp pdu₁))) 0 ms₂ w₁ (with_line w�
 )
 
 e₃ : Happens x₀ (Event.Emit One 1) w₂ w₃
-e₃ = made x₀ One Call.Transmit 0 ms₃ w₂ w₂ (λ t p. refl) refl refl refl ((refl, λ h. refl), tt)
+e₃ = made x₀ One ModelCall.Transmit 0 ms₃ w₂ w₂ (λ t p. refl) refl refl refl ((refl, λ h. refl), tt)
 
 e₄ : Happens x₀ (Event.Deliver 1 Two) w₃ w₄
 e₄ = made x₀ Two (Receive 1 (Some (Lacp pdu₂))) 0 ms₄ w₃ (with_line w₃ 1 Two []) (λ t p. refl) refl refl refl (
@@ -152,19 +152,19 @@ e₄ = made x₀ Two (Receive 1 (Some (Lacp pdu₂))) 0 ms₄ w₃ (with_line w�
 )
 
 e₅ : Happens x₀ (Event.Emit Two 1) w₄ w₅
-e₅ = made x₀ Two Call.Transmit 0 ms₃ w₄ w₄ (λ t p. refl) refl refl refl ((refl, λ h. refl), tt)
+e₅ = made x₀ Two ModelCall.Transmit 0 ms₃ w₄ w₄ (λ t p. refl) refl refl refl ((refl, λ h. refl), tt)
 
 e₆ : Happens x₀ (Event.Deliver 1 One) w₅ w₆
 e₆ = made x₀ One (Receive 1 (Some (Lacp pdu₃))) 0 ms₆ w₅ (with_line w₅ 1 One []) (λ t p. refl) refl refl refl
     ((refl, inl refl, λ h. (refl, inl refl)), ((refl, refl), tt))
 
 e₇ : Happens x₀ (Event.Offer One 1 frame) w₆ w₇
-e₇ = made x₀ One Call.Offer 0 ms₇ w₆ w₆ (λ t p. refl) refl refl refl ((refl, inl (refl, (refl, refl))), tt)
+e₇ = made x₀ One ModelCall.Offer 0 ms₇ w₆ w₆ (λ t p. refl) refl refl refl ((refl, inl (refl, (refl, refl))), tt)
 
 e₈ : Happens x₀ (Event.Deliver 1 Two) w₇ w₈
 e₈ = (true, made x₀ Two (Receive 1 None) 0 [] w₇ (handed_up true (Data One 1 48 0) (with_line w₇ 1 Two [])) (λ t p. refl) refl refl refl tt)
 
-fixed₀ : IsFixed x₀
+fixed₀ : IsWorldSetup x₀
 fixed₀ = record {
   setup = λ s. record {
     system = λ p a h. party_system s p a h;

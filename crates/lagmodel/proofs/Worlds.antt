@@ -2,9 +2,9 @@
 use Rattle.std.proofs.Common.{◌≡◌, ℕ, Bool, true, false, Option, List, [], ◌∷◌, sym, ◌∙◌}
 use Rattle.std.proofs.lemmas.Bool.{true≢false}
 use Rattle.lagtypes.specs.declared.party.Party.{Party}
-use Rattle.lagmodel.specs.View.{View, Setup, Call, replies_frame, is_restart}
-use Rattle.lagmodel.specs.Move.{Move, Port, Flow, Restart, Allowed, after, act}
-use Rattle.lagmodel.specs.World.{Side, One, Two, peer, Message, end_at, Taken, World, Fixed, party_at, line_after, sent_after, taken_after, moved, AllMoves, all_moved}
+use Rattle.lagmodel.specs.View.{View, SystemSetup, ModelCall, replies_frame, is_restart}
+use Rattle.lagmodel.specs.Move.{Move, Port, Flow, Restart, Allowed, view_after, act}
+use Rattle.lagmodel.specs.World.{Side, One, Two, peer, Message, end_at, TakenLacpdu, World, WorldSetup, party_at, line_after, sent_after, taken_after, world_after, AllMoves, world_after_all}
 use Rattle.lagmodel.specs.Law.{Members}
 use Rattle.lagmodel.proofs.Ports.{members_kept}
 use Rattle.lagmodel.proofs.Lanes.{Lanes}
@@ -12,23 +12,23 @@ use Rattle.lagmodel.proofs.LaneMoves.{Within, lanes_own, lanes_peer}
 use Rattle.lagmodel.proofs.Stamps.{Stamps, AllHeard, heard_own, stamps_own, stamps_peer, parties_kept}
 
 -- what holds of one system and of what it sent: out on each cable, with back to it
-pub record Half (u : Setup) (me : Side) (ends theirs : ℕ → Option ℕ) (v : View) (party : ℕ → Option Party) (count : ℕ → ℕ) (out back : ℕ → List Message) (whole : ℕ → Bool)
-    (sent collected : ℕ → ℕ → List ℕ) (forced : ℕ → ℕ → Bool) (taken their_taken : ℕ → Option Taken) : Type 0 where
+pub record Half (u : SystemSetup) (me : Side) (ends theirs : ℕ → Option ℕ) (v : View) (party : ℕ → Option Party) (count : ℕ → ℕ) (out back : ℕ → List Message) (whole : ℕ → Bool)
+    (sent collected : ℕ → ℕ → List ℕ) (forced : ℕ → ℕ → Bool) (taken their_taken : ℕ → Option TakenLacpdu) : Type 0 where
   pub members : Members u v.port
   pub lanes : Lanes me ends v.flows out back whole sent collected forced
   pub stamps : Stamps ends theirs party count out their_taken
   pub heard : AllHeard v.port taken
 
 -- of system s in a world
-abbrev pub HalfOf : Fixed → World → Side → Type 0
+abbrev pub HalfOf : WorldSetup → World → Side → Type 0
 HalfOf x w s = Half (x.setup s) s (end_at x.cables s) (end_at x.cables (peer s)) (w.view s) (party_at (w.view s)) (w.count s) (w.line (peer s)) (w.line s) w.whole (w.sent s) (w.collected s) (w.forced s) (w.taken s) (w.taken (peer s))
 
 -- of both systems
-abbrev pub Lawful : Fixed → World → Type 0
+abbrev pub Lawful : WorldSetup → World → Type 0
 Lawful x w = (s : Side) → HalfOf x w s
 
 -- While system s runs a call. party: the parties as the event began. towards: what was on the cables to it then
-pub record Calling (x : Fixed) (s : Side) (call : Call) (stamp : ℕ) (party : Side → ℕ → Option Party) (count : Side → ℕ → ℕ) (towards base : ℕ → List Message) (w : World) : Type 0 where
+pub record Calling (x : WorldSetup) (s : Side) (call : ModelCall) (stamp : ℕ) (party : Side → ℕ → Option Party) (count : Side → ℕ → ℕ) (towards base : ℕ → List Message) (w : World) : Type 0 where
   pub within : Within call stamp (end_at x.cables s) towards w.whole (w.forced s)
   pub parties : replies_frame call ≡ true → (p : ℕ) → party_at (w.view s) p ≡ party s p
   pub own : Half (x.setup s) s (end_at x.cables s) (end_at x.cables (peer s)) (w.view s) (party s) (w.count s) (w.line (peer s)) towards w.whole (w.sent s) (w.collected s) (w.forced s) (w.taken s) (w.taken (peer s))
@@ -36,16 +36,16 @@ pub record Calling (x : Fixed) (s : Side) (call : Call) (stamp : ℕ) (party : S
   pub counts : w.count ≡ count
   pub rest : w.line s ≡ base
 
-pub members_own : (u : Setup) (call : Call) (v : View) (m : Move) → Allowed u call v m → is_restart call ≡ false → Members u v.port → Members u (after u m v).port
+pub members_own : (u : SystemSetup) (call : ModelCall) (v : View) (m : Move) → Allowed u call v m → is_restart call ≡ false → Members u v.port → Members u (view_after u m v).port
 members_own u call v (Port p m) x r i = members_kept u call v.port p m x i
 members_own u call v (Flow m) x r i = i
 members_own u call v Restart x r i = absurd (true≢false (sym x ∙ r))
 
-own_moved : (u : Setup) (me : Side) (ends theirs : ℕ → Option ℕ) (v : View) (party : ℕ → Option Party) (count : ℕ → ℕ) (out back : ℕ → List Message) (whole : ℕ → Bool)
-    (sent collected : ℕ → ℕ → List ℕ) (forced : ℕ → ℕ → Bool) (taken their_taken : ℕ → Option Taken) (call : Call) (stamp : ℕ) (kept : Bool) (m : Move)
+own_moved : (u : SystemSetup) (me : Side) (ends theirs : ℕ → Option ℕ) (v : View) (party : ℕ → Option Party) (count : ℕ → ℕ) (out back : ℕ → List Message) (whole : ℕ → Bool)
+    (sent collected : ℕ → ℕ → List ℕ) (forced : ℕ → ℕ → Bool) (taken their_taken : ℕ → Option TakenLacpdu) (call : ModelCall) (stamp : ℕ) (kept : Bool) (m : Move)
     → Allowed u call v m → Within call stamp ends back whole forced → (replies_frame call ≡ true → (p : ℕ) → party_at v p ≡ party p)
     → Half u me ends theirs v party count out back whole sent collected forced taken their_taken
-    → Half u me ends theirs (after u m v) party count (line_after me ends whole count sent kept (act u m v) out) back whole (sent_after (act u m v) sent) collected forced (taken_after stamp (act u m v) taken) their_taken
+    → Half u me ends theirs (view_after u m v) party count (line_after me ends whole count sent kept (act u m v) out) back whole (sent_after (act u m v) sent) collected forced (taken_after stamp (act u m v) taken) their_taken
 own_moved u me ends theirs v party count out back whole sent collected forced taken their_taken call stamp kept m x w r i = record {
   members = members_own u call v m x w.running i.members;
   lanes = lanes_own me ends whole collected forced back u call stamp count kept v m out sent x w i.lanes;
@@ -53,9 +53,9 @@ own_moved u me ends theirs v party count out back whole sent collected forced ta
   heard = heard_own u call stamp v m taken x w.running i.heard;
 }
 
-other_moved : (u : Setup) (me : Side) (ends theirs : ℕ → Option ℕ) (v : View) (party : ℕ → Option Party) (count : ℕ → ℕ) (out back : ℕ → List Message) (whole : ℕ → Bool)
-    (sent collected : ℕ → ℕ → List ℕ) (forced : ℕ → ℕ → Bool) (taken their_taken : ℕ → Option Taken)
-    (s : Side) (su : Setup) (sv : View) (s_count : ℕ → ℕ) (s_sent : ℕ → ℕ → List ℕ) (s_forced : ℕ → ℕ → Bool) (call : Call) (stamp : ℕ) (kept : Bool) (m : Move)
+other_moved : (u : SystemSetup) (me : Side) (ends theirs : ℕ → Option ℕ) (v : View) (party : ℕ → Option Party) (count : ℕ → ℕ) (out back : ℕ → List Message) (whole : ℕ → Bool)
+    (sent collected : ℕ → ℕ → List ℕ) (forced : ℕ → ℕ → Bool) (taken their_taken : ℕ → Option TakenLacpdu)
+    (s : Side) (su : SystemSetup) (sv : View) (s_count : ℕ → ℕ) (s_sent : ℕ → ℕ → List ℕ) (s_forced : ℕ → ℕ → Bool) (call : ModelCall) (stamp : ℕ) (kept : Bool) (m : Move)
     → Allowed su call sv m → Within call stamp theirs out whole s_forced
     → Half u me ends theirs v party count out back whole sent collected forced taken their_taken
     → Half u me ends theirs v party count out (line_after s theirs whole s_count s_sent kept (act su m sv) back) whole sent collected forced taken (taken_after stamp (act su m sv) their_taken)
@@ -67,8 +67,8 @@ other_moved u me ends theirs v party count out back whole sent collected forced 
 }
 
 -- one move
-calling_moved : (x : Fixed) (s : Side) (call : Call) (stamp : ℕ) (party : Side → ℕ → Option Party) (count : Side → ℕ → ℕ) (towards base : ℕ → List Message) (m : Move × Bool) (w : World)
-    → Allowed (x.setup s) call (w.view s) m.0 → Calling x s call stamp party count towards base w → Calling x s call stamp party count towards base (moved x s stamp m w)
+calling_moved : (x : WorldSetup) (s : Side) (call : ModelCall) (stamp : ℕ) (party : Side → ℕ → Option Party) (count : Side → ℕ → ℕ) (towards base : ℕ → List Message) (m : Move × Bool) (w : World)
+    → Allowed (x.setup s) call (w.view s) m.0 → Calling x s call stamp party count towards base w → Calling x s call stamp party count towards base (world_after x s stamp m w)
 calling_moved x One call stamp party count towards base m w a i = record {
   within = i.within;
   parties = λ r p. parties_kept (x.setup One) call (w.view One) m.0 a i.within.running r p ∙ i.parties r p;
@@ -87,7 +87,7 @@ calling_moved x Two call stamp party count towards base m w a i = record {
 }
 
 -- all moves of a call
-pub calling_all : (x : Fixed) (s : Side) (call : Call) (stamp : ℕ) (party : Side → ℕ → Option Party) (count : Side → ℕ → ℕ) (towards base : ℕ → List Message) (ms : List (Move × Bool)) (w : World)
-    → AllMoves x s call stamp ms w → Calling x s call stamp party count towards base w → Calling x s call stamp party count towards base (all_moved x s stamp ms w)
+pub calling_all : (x : WorldSetup) (s : Side) (call : ModelCall) (stamp : ℕ) (party : Side → ℕ → Option Party) (count : Side → ℕ → ℕ) (towards base : ℕ → List Message) (ms : List (Move × Bool)) (w : World)
+    → AllMoves x s call stamp ms w → Calling x s call stamp party count towards base w → Calling x s call stamp party count towards base (world_after_all x s stamp ms w)
 calling_all x s call stamp party count towards base [] w a i = i
-calling_all x s call stamp party count towards base (m ∷ ms) w a i = calling_all x s call stamp party count towards base ms (moved x s stamp m w) a.1 (calling_moved x s call stamp party count towards base m w a.0 i)
+calling_all x s call stamp party count towards base (m ∷ ms) w a i = calling_all x s call stamp party count towards base ms (world_after x s stamp m w) a.1 (calling_moved x s call stamp party count towards base m w a.0 i)

@@ -1,9 +1,9 @@
 -- What holds after each event of two systems, in every schedule.
 use Rattle.std.specs.Prelude.{◌≡◌, ℕ, ◌<◌, Bool, true, false, ◌&&◌, cond, eqb, ◌⊎◌, Option, Some, IsSome, is_some, List, [], ◌∷◌, ◌++◌, Contains, length, slice_index}
 use Rattle.lagtypes.specs.Group.{individual, SamePair, pair_of}
-use Rattle.lagmodel.specs.View.{PortView, Flushing, port_of, View, Setup, Call, Lacpdu, Lacp, Marker, Response}
-use Rattle.lagmodel.specs.Move.{Act, FreeMoves, group_at}
-use Rattle.lagmodel.specs.World.{Side, One, Two, peer, Message, Control, Data, end_at, party_at, Taken, World, Fixed, IsFixed, first_world, Event, Run}
+use Rattle.lagmodel.specs.View.{PortFacts, Flushing, conversation_port, View, SystemSetup, ModelCall, LacpMessage, Lacp, Marker, Response}
+use Rattle.lagmodel.specs.Move.{Act, FreeMoves, pair_at}
+use Rattle.lagmodel.specs.World.{Side, One, Two, peer, Message, Control, Data, end_at, party_at, TakenLacpdu, World, WorldSetup, IsWorldSetup, first_world, Event, Run}
 
 -- xs is ys with some elements left out
 abbrev pub IsSubsequence : List ℕ → List ℕ → Type 0
@@ -27,37 +27,37 @@ serials s g k (Data origin h j serial ∷ ms) =
 -- What holds of the ports of one system: they are those of its configuration; each port's own parameters name the
 -- system and that port; the members of an aggregator have its key and one group, which is not Individual if they are
 -- two or more (6.4.14.1); and a port that distributes is a member whose partner is synchronized (6.4.15).
-pub record Members (u : Setup) (ports : ℕ → Option PortView) : Type 0 where
+pub record Members (u : SystemSetup) (ports : ℕ → Option PortFacts) : Type 0 where
   pub configured : (p : ℕ) → is_some (ports p) ≡ is_some (u.party p)
-  pub number : (p : ℕ) (a : PortView) → ports p ≡ Some a → a.party.port.number ≡ p
-  pub own : (p : ℕ) (a : PortView) → ports p ≡ Some a → a.party.system ≡ u.system
-  pub key : (p g : ℕ) (a : PortView) → ports p ≡ Some a → a.aggregator ≡ Some g → u.key g ≡ Some a.party.key
-  pub group : (g p q : ℕ) (a b : PortView) → (p ≡ q → ⊥) → ports p ≡ Some a → ports q ≡ Some b → a.aggregator ≡ Some g
-      → b.aggregator ≡ Some g → SamePair (group_at a) (group_at b) × (individual a.party a.partner ≡ false)
-  pub member : (p : ℕ) (a : PortView) → ports p ≡ Some a → a.distributes ≡ true → IsSome a.aggregator × (a.synchronised ≡ true)
+  pub number : (p : ℕ) (a : PortFacts) → ports p ≡ Some a → a.party.port.number ≡ p
+  pub own : (p : ℕ) (a : PortFacts) → ports p ≡ Some a → a.party.system ≡ u.system
+  pub key : (p g : ℕ) (a : PortFacts) → ports p ≡ Some a → a.aggregator ≡ Some g → u.key g ≡ Some a.party.key
+  pub group : (g p q : ℕ) (a b : PortFacts) → (p ≡ q → ⊥) → ports p ≡ Some a → ports q ≡ Some b → a.aggregator ≡ Some g
+      → b.aggregator ≡ Some g → SamePair (pair_at a) (pair_at b) × (individual a.party a.partner ≡ false)
+  pub member : (p : ℕ) (a : PortFacts) → ports p ≡ Some a → a.distributes ≡ true → IsSome a.aggregator × (a.synchronised ≡ true)
 
 -- Ports of one system that distribute in one aggregator have one partner system and key (6.3.6, 6.4.14.1).
 abbrev pub OnePartner : View → Type 0
 OnePartner v =
-    (g p q : ℕ) (a b : PortView) → v.port p ≡ Some a → v.port q ≡ Some b
+    (g p q : ℕ) (a b : PortFacts) → v.port p ≡ Some a → v.port q ≡ Some b
     → a.aggregator ≡ Some g → b.aggregator ≡ Some g → a.distributes ≡ true → b.distributes ≡ true
     → (a.partner.system ≡ b.partner.system) × (a.partner.key ≡ b.partner.key)
 
 -- Port p of system s, with the view a, distributes and does not have a defaulted partner, and port q of the peer did
 -- not change since it sent the LACPDU that port p received last.
-pub record HearsPresent (w : World) (s : Side) (p q : ℕ) (a : PortView) : Type 0 where
+pub record TookPresent (w : World) (s : Side) (p q : ℕ) (a : PortFacts) : Type 0 where
   pub is : (w.view s).port p ≡ Some a
   pub distributes : a.distributes ≡ true
   pub defaulted : a.defaulted ≡ false
-  pub taken : (m : Taken) × (w.taken s p ≡ Some m) × (m.stamp ≡ w.count (peer s) q)
+  pub taken : (m : TakenLacpdu) × (w.taken s p ≡ Some m) × (m.stamp ≡ w.count (peer s) q)
 
 -- The two ends of a cable have the same group (6.3.6), the same unordered pair of ends, if both distribute, neither
 -- changed since it sent the LACPDU that its peer received last, and neither has a defaulted partner.
-abbrev pub Agree : Fixed → World → Type 0
+abbrev pub Agree : WorldSetup → World → Type 0
 Agree x w =
-    (c p q : ℕ) (a b : PortView) → end_at x.cables One c ≡ Some p → end_at x.cables Two c ≡ Some q
-    → HearsPresent w One p q a → HearsPresent w Two q p b
-    → SamePair (group_at a) (group_at b)
+    (c p q : ℕ) (a b : PortFacts) → end_at x.cables One c ≡ Some p → end_at x.cables Two c ≡ Some q
+    → TookPresent w One p q a → TookPresent w Two q p b
+    → SamePair (pair_at a) (pair_at b)
 
 -- What a conversation collected, if it was never forced, is a subsequence of what it sent: nothing is reordered, and
 -- nothing comes twice (6.2.4).
@@ -68,33 +68,33 @@ InOrder w = (s : Side) (g k : ℕ) → w.forced s g k ≡ false → IsSubsequenc
 -- LACPDU's Actor is aggregatable, its Actor and Partner are the two ends of the port's present group.
 abbrev pub TookSynchronised : World → Type 0
 TookSynchronised w =
-    (s : Side) (p : ℕ) (a : PortView) → (w.view s).port p ≡ Some a → a.distributes ≡ true → a.defaulted ≡ false
-    → (m : Taken) × (w.taken s p ≡ Some m) × (m.pdu.synchronised ≡ true)
-    × (m.pdu.actor.aggregatable ≡ true → SamePair (pair_of m.pdu.actor m.pdu.partner) (group_at a))
+    (s : Side) (p : ℕ) (a : PortFacts) → (w.view s).port p ≡ Some a → a.distributes ≡ true → a.defaulted ≡ false
+    → (m : TakenLacpdu) × (w.taken s p ≡ Some m) × (m.pdu.synchronised ≡ true)
+    × (m.pdu.actor.aggregatable ≡ true → SamePair (pair_of m.pdu.actor m.pdu.partner) (pair_at a))
 
 -- If an LACPDU in flight, or one that was received last, has a stamp that equals its sender's change count, its Actor
 -- is the sender as it is now.
-abbrev pub NamesPresent : Fixed → World → Type 0
+abbrev pub NamesPresent : WorldSetup → World → Type 0
 NamesPresent x w =
     (s : Side) (c p : ℕ) → end_at x.cables s c ≡ Some p
-    → ((pdu : Lacpdu) (stamp : ℕ) → Contains (w.line (peer s) c) (Control (Lacp pdu) stamp) → stamp ≡ w.count s p
+    → ((pdu : LacpMessage) (stamp : ℕ) → Contains (w.line (peer s) c) (Control (Lacp pdu) stamp) → stamp ≡ w.count s p
     → party_at (w.view s) p ≡ Some pdu.actor)
-    × ((q : ℕ) (m : Taken) → end_at x.cables (peer s) c ≡ Some q → w.taken (peer s) q ≡ Some m → m.stamp ≡ w.count s p
+    × ((q : ℕ) (m : TakenLacpdu) → end_at x.cables (peer s) c ≡ Some q → w.taken (peer s) q ≡ Some m → m.stamp ≡ w.count s p
     → party_at (w.view s) p ≡ Some m.pdu.actor)
 
 -- All frames in flight of a conversation that was never forced are on the cable of its port; if it is free, none is in
 -- flight. All frames travel away from the system that sent them.
-abbrev pub OnItsCable : Fixed → World → Type 0
+abbrev pub OnItsCable : WorldSetup → World → Type 0
 OnItsCable x w =
     (s : Side) (g k c : ℕ) → w.forced s g k ≡ false
     → ((serials s g k (w.line (peer s) c) ≡ []) ⊎ ((p : ℕ) × (end_at x.cables s c ≡ Some p)
-    × (port_of ((w.view s).flows.state g k) ≡ Some p)))
+    × (conversation_port ((w.view s).flows.state g k) ≡ Some p)))
     × (serials s g k (w.line s c) ≡ [])
 
 -- While a conversation that was never forced waits on a port for the response to a marker: none of its frames was sent
 -- after that marker on the port's cable; and while the response is in flight on that cable, none of its frames is in
 -- flight on any cable.
-abbrev pub FlushedByMarker : Fixed → World → Type 0
+abbrev pub FlushedByMarker : WorldSetup → World → Type 0
 FlushedByMarker x w =
     (s : Side) (g k p n c : ℕ) → w.forced s g k ≡ false → (w.view s).flows.state g k ≡ Flushing p n → end_at x.cables s c ≡ Some p
     → ((front back : List Message) (stamp : ℕ) → w.line (peer s) c ≡ front ++ Control (Marker (x.setup s).system.mac p n) stamp ∷ back
@@ -120,25 +120,25 @@ abbrev pub CountsFromZero : World → Type 0
 CountsFromZero w = (s : Side) (g k i : ℕ) → i < length (w.sent s g k) → slice_index (w.sent s g k) i ≡ i
 
 -- One system makes these calls one after another, each by free moves, with any visible acts.
-abbrev pub Drives : Setup → List Call → View → View → Type 0
-Drives u [] old new = new ≡ old
-Drives u (call ∷ calls) old new = (seen : List Act) × (mid : View) × FreeMoves u call old seen mid × Drives u calls mid new
+abbrev pub FreeRun : SystemSetup → List ModelCall → View → View → Type 0
+FreeRun u [] old new = new ≡ old
+FreeRun u (call ∷ calls) old new = (seen : List Act) × (mid : View) × FreeMoves u call old seen mid × FreeRun u calls mid new
 
 -- The statement holds after each event of each schedule, from the start of any two systems on cables.
-abbrev pub Always : (Fixed → World → Type 0) → Type 0
-Always P = (x : Fixed) (events : List Event) (w : World) → IsFixed x → Run x events (first_world x) w → P x w
+abbrev pub IsInvariant : (WorldSetup → World → Type 0) → Type 0
+IsInvariant P = (x : WorldSetup) (events : List Event) (w : World) → IsWorldSetup x → Run x events (first_world x) w → P x w
 
 -- There is a run in which both ends of cable 1 come to distribute and to have the same group, as in `Agree`, and a
 -- frame arrives of conversation 48, which was never forced.
 abbrev pub SomethingArrives : Type 0
 SomethingArrives =
-    (x : Fixed) × (events : List Event) × (w : World) × (a b : PortView)
-    × IsFixed x
+    (x : WorldSetup) × (events : List Event) × (w : World) × (a b : PortFacts)
+    × IsWorldSetup x
     × Run x events (first_world x) w
     × (end_at x.cables One 1 ≡ Some 1)
     × (end_at x.cables Two 1 ≡ Some 1)
-    × HearsPresent w One 1 1 a
-    × HearsPresent w Two 1 1 b
+    × TookPresent w One 1 1 a
+    × TookPresent w Two 1 1 b
     × (w.forced One 1 48 ≡ false)
     × (w.sent One 1 48 ≡ 0 ∷ [])
     × (w.collected One 1 48 ≡ 0 ∷ [])

@@ -2,4 +2,4 @@ pub mod View
 pub mod Move
 pub mod World
 pub mod Law
-pub mod Kept
+pub mod Bridge

@@ -5,14 +5,14 @@
 use Rattle.std.specs.Prelude.{◌≡◌, ◌≢◌, ℕ, ◌+◌, ◌<◌, ◌^◌, Bool, true, false, ◌&&◌, cond, eqb, ◌⊎◌, Option, Some, None, option_to_list, IsSome, IsSomeAnd, List, [], ◌∷◌, ◌++◌}
 use Rattle.lagtypes.specs.declared.party.Party.{Party}
 use Rattle.lagtypes.specs.Group.{individual, Pair, SamePair, pair_of}
-use Rattle.lagmodel.specs.View.{zero_party, PortView, Conversation, Free, On, Wanted, Flushing, port_of, Flows, View, Setup, first_view, Lacpdu, Pdu, Lacp, Marker, Response, Call, Receive, Set_link, Force, replies_frame, is_restart, at_port, at_conversation}
+use Rattle.lagmodel.specs.View.{zero_party, PortFacts, Conversation, Free, On, Wanted, Flushing, conversation_port, Flows, View, SystemSetup, first_view, LacpMessage, ControlMessage, Lacp, Marker, Response, ModelCall, Receive, Set_link, Force, replies_frame, is_restart, at_port, at_conversation}
 
 -- a visible act of a move: a control PDU or a frame of a conversation that goes out on a port, or an LACPDU that a port
 -- received (profile)
 pub data Act : Type 0 where
-  Sends : (port : ℕ) (pdu : Pdu) → Act
+  Sends : (port : ℕ) (pdu : ControlMessage) → Act
   Sends_frame : (port aggregator conversation : ℕ) → Act
-  Took : (port : ℕ) (pdu : Lacpdu) → Act
+  Took : (port : ℕ) (pdu : LacpMessage) → Act
 
 -- the moves of one port
 pub data PortMove : Type 0 where
@@ -21,25 +21,25 @@ pub data PortMove : Type 0 where
   Desynchronise : PortMove  -- 6.4.12, EXPIRED and PORT_DISABLED
   Reconfigure : (party : Party) → PortMove  -- 6.4.7; 6.4.12, INITIALIZE
   Default : PortMove  -- 6.4.9, recordDefault; 6.4.12, DEFAULTED
-  Take : (pdu : Lacpdu) (synchronised : Bool) → PortMove  -- 6.4.9, recordPDU and update_Selected; 6.4.12, CURRENT
+  Take : (pdu : LacpMessage) (synchronised : Bool) → PortMove  -- 6.4.9, recordPDU and update_Selected; 6.4.12, CURRENT
   Join : (aggregator : ℕ) → PortMove  -- 6.4.14
   Distribute : PortMove  -- 6.4.15, COLLECTING_DISTRIBUTING
   Announce : (synchronised : Bool) → PortMove  -- 6.4.16
   Respond : (mac : List ℕ) (port identifier : ℕ) → PortMove  -- 6.2.6, 6.5.4
 
 -- the port's group, as a pair of ends: its own parameters and its recorded partner's (6.3.6)
-abbrev pub group_at : PortView → Pair
-group_at a = pair_of a.party a.partner
+abbrev pub pair_at : PortFacts → Pair
+pair_at a = pair_of a.party a.partner
 
 -- the moves that the port a may make; p is its number, and the function gives all ports of the system
-abbrev pub PortAllowed : Setup → Call → (ℕ → Option PortView) → ℕ → PortMove → PortView → Type 0
+abbrev pub PortAllowed : SystemSetup → ModelCall → (ℕ → Option PortFacts) → ℕ → PortMove → PortFacts → Type 0
 -- at any moment it stops distributing, leaves its aggregator, or records that its partner is not synchronized
 PortAllowed u call ports p Stop a = Unit {0}
 PortAllowed u call ports p Leave a = Unit {0}
 PortAllowed u call ports p Desynchronise a = Unit {0}
 -- outside every aggregator, and only in a configure, it gets other parameters and a defaulted partner
 PortAllowed u call ports p (Reconfigure party) a =
-    (call ≡ Call.Configure) × (a.aggregator ≡ None) × (party.system ≡ a.party.system) × (party.port.number ≡ a.party.port.number)
+    (call ≡ ModelCall.Configure) × (a.aggregator ≡ None) × (party.system ≡ a.party.system) × (party.port.number ≡ a.party.port.number)
 -- its partner is defaulted, outside every aggregator or if its partner is all zero already
 PortAllowed u call ports p Default a = (a.aggregator ≡ None) ⊎ (a.partner ≡ zero_party)
 -- It receives the LACPDU that comes on it; outside every aggregator if its Actor is another partner. The partner is
@@ -55,8 +55,8 @@ PortAllowed u call ports p (Join g) a =
     (a.aggregator ≡ None)
     × (a.partner.system ≢ a.party.system)
     × (u.key g ≡ Some a.party.key)
-    × (((q : ℕ) (b : PortView) → ports q ≡ Some b → b.aggregator ≢ Some g)
-    ⊎ (((q : ℕ) (b : PortView) → ports q ≡ Some b → b.aggregator ≡ Some g → SamePair (group_at b) (group_at a)) × (individual a.party a.partner ≡ false)))
+    × (((q : ℕ) (b : PortFacts) → ports q ≡ Some b → b.aggregator ≢ Some g)
+    ⊎ (((q : ℕ) (b : PortFacts) → ports q ≡ Some b → b.aggregator ≡ Some g → SamePair (pair_at b) (pair_at a)) × (individual a.party a.partner ≡ false)))
 -- a member whose partner is recorded as synchronized starts to distribute
 PortAllowed u call ports p Distribute a = IsSome a.aggregator × (a.synchronised ≡ true)
 -- it sends an LACPDU with its own and its partner's parameters as they are now; this says IN_SYNC only if the port is a
@@ -66,7 +66,7 @@ PortAllowed u call ports p (Announce synchronised) a = (replies_frame call ≡ t
 PortAllowed u call ports p (Respond mac port identifier) a = call ≡ Receive p (Some (Marker mac port identifier))
 
 -- the port after its move
-abbrev pub port_after : PortMove → PortView → PortView
+abbrev pub port_after : PortMove → PortFacts → PortFacts
 port_after Stop a = record a { distributes = false }
 port_after Leave a = record a { aggregator = None; distributes = false }
 port_after Desynchronise a = record a { synchronised = false; distributes = false }
@@ -80,53 +80,53 @@ port_after (Announce synchronised) a = a
 port_after (Respond mac port identifier) a = a
 
 -- the visible act of a move of port p: an LACPDU or a Marker Response that it sends, or an LACPDU that it receives
-abbrev pub port_act : ℕ → PortMove → PortView → Option Act
+abbrev pub port_act : ℕ → PortMove → PortFacts → Option Act
 port_act p (Announce synchronised) a = Some (Sends p (Lacp (record { actor = a.party; partner = a.partner; synchronised = synchronised })))
 port_act p (Respond mac port identifier) a = Some (Sends p (Response mac port identifier))
 port_act p (Take pdu synchronised) a = Some (Took p pdu)
 port_act p _ a = None
 
 -- the changes of one conversation, other than sending a frame (profile; 6.5.2 says what markers are for)
-pub data Change : Type 0 where
-  Want : (port : ℕ) → Change
-  Retry : (port identifier : ℕ) → Change
-  Answered : (port identifier : ℕ) → Change  -- 6.5.3.3
-  Down : (port : ℕ) → Change
-  Forced : Change
+pub data ConversationMove : Type 0 where
+  Want : (port : ℕ) → ConversationMove
+  Retry : (port identifier : ℕ) → ConversationMove
+  Answered : (port identifier : ℕ) → ConversationMove  -- 6.5.3.3
+  Down : (port : ℕ) → ConversationMove
+  Forced : ConversationMove
 
 -- the changes that the conversation c may make; it is conversation k of aggregator g, in a system with this MAC address
-abbrev pub ChangeAllowed : List ℕ → Call → ℕ → ℕ → Change → Conversation → Type 0
-ChangeAllowed mac call g k (Want p) c = c ≡ On p
-ChangeAllowed mac call g k (Retry p n) c = c ≡ Flushing p n
+abbrev pub ConversationMoveAllowed : List ℕ → ModelCall → ℕ → ℕ → ConversationMove → Conversation → Type 0
+ConversationMoveAllowed mac call g k (Want p) c = c ≡ On p
+ConversationMoveAllowed mac call g k (Retry p n) c = c ≡ Flushing p n
 -- It becomes free if the response that it waits for comes on the port that the response names, if its port goes down,
 -- or by force.
-ChangeAllowed mac call g k (Answered p n) c = (call ≡ Receive p (Some (Response mac p n))) × (c ≡ Flushing p n)
-ChangeAllowed mac call g k (Down p) c = (call ≡ Set_link p false) × (port_of c ≡ Some p)
-ChangeAllowed mac call g k Forced c = call ≡ Force g k
+ConversationMoveAllowed mac call g k (Answered p n) c = (call ≡ Receive p (Some (Response mac p n))) × (c ≡ Flushing p n)
+ConversationMoveAllowed mac call g k (Down p) c = (call ≡ Set_link p false) × (conversation_port c ≡ Some p)
+ConversationMoveAllowed mac call g k Forced c = call ≡ Force g k
 
 -- the conversation after the change
-abbrev pub changed : Change → Conversation
-changed (Want p) = Wanted p
-changed (Retry p n) = Wanted p
-changed (Answered p n) = Free
-changed (Down p) = Free
-changed Forced = Free
+abbrev pub conversation_after : ConversationMove → Conversation
+conversation_after (Want p) = Wanted p
+conversation_after (Retry p n) = Wanted p
+conversation_after (Answered p n) = Free
+conversation_after (Down p) = Free
+conversation_after Forced = Free
 
 -- the moves of the conversations
 pub data FlowMove : Type 0 where
   Send : (aggregator conversation port : ℕ) → FlowMove  -- 6.2.4
   Mark : (port : ℕ) → FlowMove  -- 6.2.5, 6.5.3.3
-  Become : (aggregator conversation : ℕ) (change : Change) → FlowMove  -- the state of one conversation changes, without a frame
+  Become : (aggregator conversation : ℕ) (change : ConversationMove) → FlowMove  -- the state of one conversation changes, without a frame
 
 -- the moves that the conversations of a system with this MAC address may make; the relation says which port may
 -- distribute in which aggregator
-abbrev pub FlowAllowed : List ℕ → Call → (ℕ → ℕ → Type 0) → Flows → FlowMove → Type 0
+abbrev pub FlowAllowed : List ℕ → ModelCall → (ℕ → ℕ → Type 0) → Flows → FlowMove → Type 0
 -- a free conversation sends on any port that distributes in its aggregator; another one only on the port that it is On
 FlowAllowed mac call Distributes f (Send g k p) =
     (replies_frame call ≡ true) × (((f.state g k ≡ Free) × Distributes g p) ⊎ (f.state g k ≡ On p))
 -- a marker gets the next identifier; none follows 4294967295
 FlowAllowed mac call Distributes f (Mark p) = (replies_frame call ≡ true) × (f.next < 2 ^ 32)
-FlowAllowed mac call Distributes f (Become g k m) = ChangeAllowed mac call g k m (f.state g k)
+FlowAllowed mac call Distributes f (Become g k m) = ConversationMoveAllowed mac call g k m (f.state g k)
 
 -- a conversation that is Wanted on p becomes Flushing with the marker n
 abbrev pub flushed : ℕ → ℕ → Conversation → Conversation
@@ -139,7 +139,7 @@ flushed p n (Flushing q m) = Flushing q m
 abbrev pub flows_after : FlowMove → Flows → Flows
 flows_after (Send g k p) f = record f { state = at_conversation f.state g k (On p) }
 flows_after (Mark p) f = record { state = λ g k. flushed p f.next (f.state g k); next = f.next + 1 }
-flows_after (Become g k m) f = record f { state = at_conversation f.state g k (changed m) }
+flows_after (Become g k m) f = record f { state = at_conversation f.state g k (conversation_after m) }
 
 -- the visible act of a move: a frame of a conversation, or a Marker PDU, that goes out on a port
 abbrev pub flow_act : List ℕ → FlowMove → Flows → Option Act
@@ -148,7 +148,7 @@ flow_act mac (Mark p) f = Some (Sends p (Marker mac p f.next))
 flow_act mac (Become g k m) f = None
 
 -- each move is allowed in the state that those before it left
-abbrev pub AllFlowAllowed : List ℕ → Call → (ℕ → ℕ → Type 0) → Flows → List FlowMove → Type 0
+abbrev pub AllFlowAllowed : List ℕ → ModelCall → (ℕ → ℕ → Type 0) → Flows → List FlowMove → Type 0
 AllFlowAllowed mac call Distributes f [] = Unit {0}
 AllFlowAllowed mac call Distributes f (m ∷ ms) = FlowAllowed mac call Distributes f m
     × AllFlowAllowed mac call Distributes (flows_after m f) ms
@@ -164,7 +164,7 @@ flow_acts mac [] f = []
 flow_acts mac (m ∷ ms) f = option_to_list (flow_act mac m f) ++ flow_acts mac ms (flows_after m f)
 
 -- moves of the conversations one after another, with just these visible acts: what a distributor does in one call
-abbrev pub FlowMoves : List ℕ → Call → (ℕ → ℕ → Type 0) → Flows → List Act → Flows → Type 0
+abbrev pub FlowMoves : List ℕ → ModelCall → (ℕ → ℕ → Type 0) → Flows → List Act → Flows → Type 0
 FlowMoves mac call Distributes old seen new =
     (moves : List FlowMove) × AllFlowAllowed mac call Distributes old moves × (flow_acts mac moves old ≡ seen)
     × (new ≡ flows_after_all moves old)
@@ -176,43 +176,43 @@ pub data Move : Type 0 where
   Restart : Move
 
 -- port p distributes in aggregator g
-abbrev pub Distributes : (ℕ → Option PortView) → ℕ → ℕ → Type 0
+abbrev pub Distributes : (ℕ → Option PortFacts) → ℕ → ℕ → Type 0
 Distributes ports g p = IsSomeAnd (ports p) (λ a. (a.aggregator ≡ Some g) × (a.distributes ≡ true))
 
 -- the law: in this view, a system with this configuration may make this move during this call
-abbrev pub Allowed : Setup → Call → View → Move → Type 0
+abbrev pub Allowed : SystemSetup → ModelCall → View → Move → Type 0
 Allowed u call v (Port p m) = IsSomeAnd (v.port p) (PortAllowed u call v.port p m)
 Allowed u call v (Flow m) = FlowAllowed u.system.mac call (Distributes v.port) v.flows m
 Allowed u call v Restart = is_restart call ≡ true
 
-abbrev pub after : Setup → Move → View → View
-after u (Port p m) v = record v { port = at_port v.port p (port_after m) }
-after u (Flow m) v = record v { flows = flows_after m v.flows }
-after u Restart v = first_view u
+abbrev pub view_after : SystemSetup → Move → View → View
+view_after u (Port p m) v = record v { port = at_port v.port p (port_after m) }
+view_after u (Flow m) v = record v { flows = flows_after m v.flows }
+view_after u Restart v = first_view u
 
-abbrev pub act_of_port : ℕ → PortMove → Option PortView → Option Act
+abbrev pub act_of_port : ℕ → PortMove → Option PortFacts → Option Act
 act_of_port p m None = None
 act_of_port p m (Some a) = port_act p m a
 
-abbrev pub act : Setup → Move → View → Option Act
+abbrev pub act : SystemSetup → Move → View → Option Act
 act u (Port p m) v = act_of_port p m (v.port p)
 act u (Flow m) v = flow_act u.system.mac m v.flows
 act u Restart v = None
 
 -- a list of moves is allowed, one after another
-abbrev pub AllAllowed : Setup → Call → View → List Move → Type 0
+abbrev pub AllAllowed : SystemSetup → ModelCall → View → List Move → Type 0
 AllAllowed u call v [] = Unit {0}
-AllAllowed u call v (m ∷ ms) = Allowed u call v m × AllAllowed u call (after u m v) ms
+AllAllowed u call v (m ∷ ms) = Allowed u call v m × AllAllowed u call (view_after u m v) ms
 
-abbrev pub after_all : Setup → List Move → View → View
-after_all u [] v = v
-after_all u (m ∷ ms) v = after_all u ms (after u m v)
+abbrev pub view_after_all : SystemSetup → List Move → View → View
+view_after_all u [] v = v
+view_after_all u (m ∷ ms) v = view_after_all u ms (view_after u m v)
 
-abbrev pub acts : Setup → List Move → View → List Act
+abbrev pub acts : SystemSetup → List Move → View → List Act
 acts u [] v = []
-acts u (m ∷ ms) v = option_to_list (act u m v) ++ acts u ms (after u m v)
+acts u (m ∷ ms) v = option_to_list (act u m v) ++ acts u ms (view_after u m v)
 
 -- A call leads from the view old to the view new by free moves, with just these visible acts.
-abbrev pub FreeMoves : Setup → Call → View → List Act → View → Type 0
+abbrev pub FreeMoves : SystemSetup → ModelCall → View → List Act → View → Type 0
 FreeMoves u call old seen new = (moves : List Move) × AllAllowed u call old moves × (acts u moves old ≡ seen)
-    × (new ≡ after_all u moves old)
+    × (new ≡ view_after_all u moves old)

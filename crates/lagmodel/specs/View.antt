@@ -15,7 +15,7 @@ zero_party = record {
 
 -- A port (6.4.7, 6.4.8): its own parameters, its recorded partner's, whether the partner is recorded as synchronized,
 -- whether it is defaulted, the aggregator that the port was given, and whether the port distributes.
-pub record PortView : Type 0 where
+pub record PortFacts : Type 0 where
   pub party : Party
   pub partner : Party
   pub synchronised : Bool
@@ -31,11 +31,11 @@ pub data Conversation : Type 0 where
   Flushing : (port identifier : ℕ) → Conversation
 
 -- the port that the latest frames of a conversation went to
-abbrev pub port_of : Conversation → Option ℕ
-port_of Free = None
-port_of (On p) = Some p
-port_of (Wanted p) = Some p
-port_of (Flushing p n) = Some p
+abbrev pub conversation_port : Conversation → Option ℕ
+conversation_port Free = None
+conversation_port (On p) = Some p
+conversation_port (Wanted p) = Some p
+conversation_port (Flushing p n) = Some p
 
 -- The state of a Frame Distributor (6.2.4, 6.2.5): each conversation, by aggregator and number, and the identifier of
 -- the next marker, which is one above the last that was sent, or the configured first one.
@@ -45,24 +45,24 @@ pub record Flows : Type 0 where
 
 -- a system: its ports by number, if the configuration has them, and its conversations
 pub record View : Type 0 where
-  pub port : ℕ → Option PortView
+  pub port : ℕ → Option PortFacts
   pub flows : Flows
 
 -- The configuration of a system: its identifier (6.3.2), its own parameters at each of its ports (6.3.4), the key of
 -- each of its aggregators (6.3.5), and the identifier of its first marker (profile).
-pub record Setup : Type 0 where
+pub record SystemSetup : Type 0 where
   pub system : SystemId
   pub party : ℕ → Option Party
   pub key : ℕ → Option Key
   pub first_marker : ℕ
 
 -- the own parameters at each port name the system and that port
-pub record IsSetup (u : Setup) : Type 0 where
+pub record IsSystemSetup (u : SystemSetup) : Type 0 where
   pub system : (p : ℕ) (a : Party) → u.party p ≡ Some a → a.system ≡ u.system
   pub number : (p : ℕ) (a : Party) → u.party p ≡ Some a → a.port.number ≡ p
 
 -- a port with its link down: its partner is defaulted and not synchronized (6.4.12, PORT_DISABLED)
-abbrev pub first_port : Party → PortView
+abbrev pub first_port : Party → PortFacts
 first_port party = record {
   party = party;
   partner = zero_party;
@@ -73,46 +73,46 @@ first_port party = record {
 }
 
 -- a system that has just started: all links down, all conversations free
-abbrev pub first_view : Setup → View
+abbrev pub first_view : SystemSetup → View
 first_view u = record {
   port = λ p. option_map first_port (u.party p);
   flows = record { state = λ g k. Free; next = u.first_marker };
 }
 
 -- an LACPDU, as far as the model reads it: Actor, Partner, and the Actor's Synchronization bit (6.4.2.3)
-pub record Lacpdu : Type 0 where
+pub record LacpMessage : Type 0 where
   pub actor : Party
   pub partner : Party
   pub synchronised : Bool
 
 -- a control PDU: an LACPDU, or a marker or its response with requester system, requester port and transaction
 -- identifier (6.5.3.3)
-pub data Pdu : Type 0 where
-  Lacp : (pdu : Lacpdu) → Pdu
-  Marker : (mac : List ℕ) (port identifier : ℕ) → Pdu
-  Response : (mac : List ℕ) (port identifier : ℕ) → Pdu
+pub data ControlMessage : Type 0 where
+  Lacp : (pdu : LacpMessage) → ControlMessage
+  Marker : (mac : List ℕ) (port identifier : ℕ) → ControlMessage
+  Response : (mac : List ℕ) (port identifier : ℕ) → ControlMessage
 
 -- what a configure may change of a port (6.4.7): its key, its priority, and its Aggregation bit
-pub record PortChange : Type 0 where
+pub record PartyChange : Type 0 where
   pub key : Key
   pub priority : ℕ
   pub aggregatable : Bool
 
 -- a call of a system, with the arguments that its moves depend on; a receive has a control PDU, or something else
-pub data Call : Type 0 where
-  Receive : (port : ℕ) (pdu : Option Pdu) → Call
-  Tick : Call
-  Set_link : (port : ℕ) (up : Bool) → Call
-  Configure : Call
-  Restart : Call
-  Transmit : Call
-  Offer : Call
-  Move_conversation : Call
-  Force : (aggregator conversation : ℕ) → Call
+pub data ModelCall : Type 0 where
+  Receive : (port : ℕ) (pdu : Option ControlMessage) → ModelCall
+  Tick : ModelCall
+  Set_link : (port : ℕ) (up : Bool) → ModelCall
+  Configure : ModelCall
+  Restart : ModelCall
+  Transmit : ModelCall
+  Offer : ModelCall
+  Move_conversation : ModelCall
+  Force : (aggregator conversation : ℕ) → ModelCall
 
 -- Whether the reply of the call can contain a frame to send; the other calls send nothing. Were a configure able to
 -- send, an LACPDU might be sent with a change count for which it names parameters that the port had only for a moment.
-abbrev pub replies_frame : Call → Bool
+abbrev pub replies_frame : ModelCall → Bool
 replies_frame (Receive p pdu) = true
 replies_frame Transmit = true
 replies_frame Offer = true
@@ -123,12 +123,12 @@ replies_frame Restart = false
 replies_frame Move_conversation = false
 replies_frame (Force g k) = false
 
-abbrev pub is_restart : Call → Bool
+abbrev pub is_restart : ModelCall → Bool
 is_restart Restart = true
 is_restart _ = false
 
 -- ports, with f applied to the port p, if there is one
-abbrev pub at_port : (ℕ → Option PortView) → ℕ → (PortView → PortView) → ℕ → Option PortView
+abbrev pub at_port : (ℕ → Option PortFacts) → ℕ → (PortFacts → PortFacts) → ℕ → Option PortFacts
 at_port ports p f q = cond (eqb q p) (option_map f (ports q)) (ports q)
 
 -- conversations, with the state c at conversation k of aggregator g

@@ -1,8 +1,8 @@
 -- Two systems joined by cables, and what can happen to them (profile; links are point-to-point: LACP_Enabled of 6.4.8).
 use Rattle.std.specs.Prelude.{◌≡◌, ◌≢◌, ℕ, zero, suc, Bool, true, false, ◌&&◌, cond, eqb, ◌⊎◌, Option, Some, None, option_map, List, [], ◌∷◌, ◌++◌, length, slice_get}
 use Rattle.lagtypes.specs.declared.party.Party.{Party}
-use Rattle.lagmodel.specs.View.{PortView, PortChange, View, Setup, IsSetup, first_view, Lacpdu, Pdu, Lacp, Marker, Response, Call}
-use Rattle.lagmodel.specs.Move.{Act, Sends, Sends_frame, Took, Move, Allowed, after, act}
+use Rattle.lagmodel.specs.View.{PortFacts, PartyChange, View, SystemSetup, IsSystemSetup, first_view, LacpMessage, ControlMessage, Lacp, Marker, Response, ModelCall}
+use Rattle.lagmodel.specs.Move.{Act, Sends, Sends_frame, Took, Move, Allowed, view_after, act}
 
 -- the two systems
 pub data Side : Type 0 where
@@ -27,7 +27,7 @@ at_two f g k x h j = cond (eqb h g) (cond (eqb j k) x (f h j)) (f h j)
 -- A message on a cable: a control PDU with a stamp, which for an LACPDU is its sender's change count and else 0; or a
 -- frame, with the system that sent it, its aggregator, conversation and serial number (6.2.4).
 pub data Message : Type 0 where
-  Control : (pdu : Pdu) (stamp : ℕ) → Message
+  Control : (pdu : ControlMessage) (stamp : ℕ) → Message
   Data : (origin : Side) (aggregator conversation serial : ℕ) → Message
 
 -- the ports that a cable joins, of system One and of system Two
@@ -50,8 +50,8 @@ abbrev pub IsCabling : List Ends → Type 0
 IsCabling cables = (s : Side) (c d p : ℕ) → end_at cables s c ≡ Some p → end_at cables s d ≡ Some p → c ≡ d
 
 -- an LACPDU that a port received, with its stamp
-pub record Taken : Type 0 where
-  pub pdu : Lacpdu
+pub record TakenLacpdu : Type 0 where
+  pub pdu : LacpMessage
   pub stamp : ℕ
 
 -- two systems and their cables, with what has happened so far
@@ -60,24 +60,24 @@ pub record World : Type 0 where
   pub whole : ℕ → Bool  -- of a cable
   pub line : Side → ℕ → List Message  -- what is on a cable towards a system, the next to come first
   pub count : Side → ℕ → ℕ  -- the change count of a port
-  pub taken : Side → ℕ → Option Taken  -- the LACPDU that a port took last
+  pub taken : Side → ℕ → Option TakenLacpdu  -- the LACPDU that a port took last
   pub sent : Side → ℕ → ℕ → List ℕ  -- the serials that a conversation of a system sent
   pub collected : Side → ℕ → ℕ → List ℕ  -- those of them that were handed up at the other system
   pub forced : Side → ℕ → ℕ → Bool  -- whether a conversation was ever forced
 
 -- what never changes: both configurations, and the cables
-pub record Fixed : Type 0 where
-  pub setup : Side → Setup
+pub record WorldSetup : Type 0 where
+  pub setup : Side → SystemSetup
   pub cables : List Ends
 
 -- What the theorem requires of them: the own parameters of each port name its system and that port, and no port has two
 -- cables. The systems may be equal, and a cable may end at a port that does not exist.
-pub record IsFixed (x : Fixed) : Type 0 where
-  pub setup : (s : Side) → IsSetup (x.setup s)
+pub record IsWorldSetup (x : WorldSetup) : Type 0 where
+  pub setup : (s : Side) → IsSystemSetup (x.setup s)
   pub cables : IsCabling x.cables
 
 -- both systems have just started, and every cable is whole and empty
-abbrev pub first_world : Fixed → World
+abbrev pub first_world : WorldSetup → World
 first_world x = record {
   view = λ s. first_view (x.setup s);
   whole = λ c. true;
@@ -91,10 +91,10 @@ first_world x = record {
 
 -- the own parameters of a port
 abbrev pub party_at : View → ℕ → Option Party
-party_at v p = option_map (λ (a : PortView). a.party) (v.port p)
+party_at v p = option_map (λ (a : PortFacts). a.party) (v.port p)
 
 -- the stamp of a control PDU, if its sender has this change count
-abbrev pub stamp_of : Pdu → ℕ → ℕ
+abbrev pub stamp_of : ControlMessage → ℕ → ℕ
 stamp_of (Lacp pdu) count = count
 stamp_of (Marker mac port identifier) count = 0
 stamp_of (Response mac port identifier) count = 0
@@ -104,20 +104,20 @@ abbrev pub is_port : ℕ → Option ℕ → Bool
 is_port p None = false
 is_port p (Some q) = eqb q p
 
--- m joins the messages on the cable of port p, if there is one, if it is whole and if it accepts m (`kept`); else m is
+-- m joins the messages on the cable of port p, if there is one, if it is whole and if it accepts m (`accepted`); else m is
 -- lost
-abbrev pub put : (ℕ → Option ℕ) → (ℕ → Bool) → Bool → ℕ → Message → (ℕ → List Message) → ℕ → List Message
-put ends whole kept p m lines c = cond (kept && (whole c && is_port p (ends c))) (lines c ++ m ∷ []) (lines c)
+abbrev pub put_on_cable : (ℕ → Option ℕ) → (ℕ → Bool) → Bool → ℕ → Message → (ℕ → List Message) → ℕ → List Message
+put_on_cable ends whole accepted p m lines c = cond (accepted && (whole c && is_port p (ends c))) (lines c ++ m ∷ []) (lines c)
 
 -- The next three: the messages on the cables, the serial numbers sent and the LACPDUs received last, after a visible
 -- act of system s.
--- `kept`: whether the cable accepts what is sent. `stamp`: the stamp of what came in this call.
+-- `accepted`: whether the cable accepts what is sent. `stamp`: the stamp of what came in this call.
 abbrev pub line_after : Side → (ℕ → Option ℕ) → (ℕ → Bool) → (ℕ → ℕ) → (ℕ → ℕ → List ℕ) → Bool → Option Act → (ℕ → List Message) → ℕ
     → List Message
-line_after s ends whole count sent kept None lines = lines
-line_after s ends whole count sent kept (Some (Sends p pdu)) lines = put ends whole kept p (Control pdu (stamp_of pdu (count p))) lines
-line_after s ends whole count sent kept (Some (Sends_frame p g k)) lines = put ends whole kept p (Data s g k (length (sent g k))) lines
-line_after s ends whole count sent kept (Some (Took p pdu)) lines = lines
+line_after s ends whole count sent accepted None lines = lines
+line_after s ends whole count sent accepted (Some (Sends p pdu)) lines = put_on_cable ends whole accepted p (Control pdu (stamp_of pdu (count p))) lines
+line_after s ends whole count sent accepted (Some (Sends_frame p g k)) lines = put_on_cable ends whole accepted p (Data s g k (length (sent g k))) lines
+line_after s ends whole count sent accepted (Some (Took p pdu)) lines = lines
 
 abbrev pub sent_after : Option Act → (ℕ → ℕ → List ℕ) → ℕ → ℕ → List ℕ
 sent_after None sent = sent
@@ -125,16 +125,16 @@ sent_after (Some (Sends p pdu)) sent = sent
 sent_after (Some (Sends_frame p g k)) sent = at_two sent g k (sent g k ++ length (sent g k) ∷ [])
 sent_after (Some (Took p pdu)) sent = sent
 
-abbrev pub taken_after : ℕ → Option Act → (ℕ → Option Taken) → ℕ → Option Taken
+abbrev pub taken_after : ℕ → Option Act → (ℕ → Option TakenLacpdu) → ℕ → Option TakenLacpdu
 taken_after stamp None taken = taken
 taken_after stamp (Some (Sends p pdu)) taken = taken
 taken_after stamp (Some (Sends_frame p g k)) taken = taken
 taken_after stamp (Some (Took p pdu)) taken = λ q. cond (eqb q p) (Some (record { pdu = pdu; stamp = stamp })) (taken q)
 
 -- the world after one move of system s
-abbrev pub moved : Fixed → Side → ℕ → Move × Bool → World → World
-moved x s stamp m w = record w {
-  view = at_side w.view s (after (x.setup s) m.0 (w.view s));
+abbrev pub world_after : WorldSetup → Side → ℕ → Move × Bool → World → World
+world_after x s stamp m w = record w {
+  view = at_side w.view s (view_after (x.setup s) m.0 (w.view s));
   line = at_side w.line (peer s) (line_after s (end_at x.cables s) w.whole (w.count s) (w.sent s) m.1 (act (x.setup s) m.0 (w.view s))
       (w.line (peer s)));
   sent = at_side w.sent s (sent_after (act (x.setup s) m.0 (w.view s)) (w.sent s));
@@ -142,30 +142,30 @@ moved x s stamp m w = record w {
 }
 
 -- moves of system s one after another are allowed; each says whether the cable accepts what it sends
-abbrev pub AllMoves : Fixed → Side → Call → ℕ → List (Move × Bool) → World → Type 0
+abbrev pub AllMoves : WorldSetup → Side → ModelCall → ℕ → List (Move × Bool) → World → Type 0
 AllMoves x s call stamp [] w = Unit {0}
-AllMoves x s call stamp (m ∷ ms) w = Allowed (x.setup s) call (w.view s) m.0 × AllMoves x s call stamp ms (moved x s stamp m w)
+AllMoves x s call stamp (m ∷ ms) w = Allowed (x.setup s) call (w.view s) m.0 × AllMoves x s call stamp ms (world_after x s stamp m w)
 
 -- the world after these moves
-abbrev pub all_moved : Fixed → Side → ℕ → List (Move × Bool) → World → World
-all_moved x s stamp [] w = w
-all_moved x s stamp (m ∷ ms) w = all_moved x s stamp ms (moved x s stamp m w)
+abbrev pub world_after_all : WorldSetup → Side → ℕ → List (Move × Bool) → World → World
+world_after_all x s stamp [] w = w
+world_after_all x s stamp (m ∷ ms) w = world_after_all x s stamp ms (world_after x s stamp m w)
 
 -- the change counts after an event: one more for each port whose own parameters differ
-abbrev pub Counts : World → World → (Side → ℕ → ℕ) → Type 0
-Counts old new count =
+abbrev pub CountsChanges : World → World → (Side → ℕ → ℕ) → Type 0
+CountsChanges old new count =
     (s : Side) (p : ℕ) →
     ((party_at (new.view s) p ≡ party_at (old.view s) p) × (count s p ≡ old.count s p))
     ⊎ ((party_at (new.view s) p ≢ party_at (old.view s) p) × (count s p ≡ suc (old.count s p)))
 
 -- The event that began in the world old led to mid; with the change counts worked out, that is new.
-abbrev pub Counted : World → World → World → Type 0
-Counted old mid new = (count : Side → ℕ → ℕ) × Counts old mid count × (new ≡ record mid { count = count })
+abbrev pub AfterCounting : World → World → World → Type 0
+AfterCounting old mid new = (count : Side → ℕ → ℕ) × CountsChanges old mid count × (new ≡ record mid { count = count })
 
 -- A call of system s, made in the world mid, within an event that began in the world old.
-abbrev pub Calls : Fixed → Side → Call → ℕ → World → World → World → Type 0
-Calls x s call stamp old mid new =
-    (moves : List (Move × Bool)) × AllMoves x s call stamp moves mid × Counted old (all_moved x s stamp moves mid) new
+abbrev pub CallHappens : WorldSetup → Side → ModelCall → ℕ → World → World → World → Type 0
+CallHappens x s call stamp old mid new =
+    (moves : List (Move × Bool)) × AllMoves x s call stamp moves mid × AfterCounting old (world_after_all x s stamp moves mid) new
 
 -- An event. Some arguments matter only to code: the moves of the call do not depend on them, so the theorem covers more
 -- runs than code can make.
@@ -179,7 +179,7 @@ pub data Event : Type 0 where
   Join : (cable : ℕ) → Event
   Sense : (cable : ℕ) (s : Side) → Event
   Restart : (s : Side) → Event
-  Configure : (s : Side) (port : ℕ) (change : PortChange) → Event
+  Configure : (s : Side) (port : ℕ) (change : PartyChange) → Event
   Offer : (s : Side) (aggregator : ℕ) (frame : List ℕ) → Event
   Move_conversation : (s : Side) (aggregator conversation port : ℕ) → Event
   Force : (s : Side) (aggregator conversation : ℕ) → Event
@@ -199,59 +199,59 @@ handed_up up (Data origin g k serial) w =
     cond up (record w { collected = at_side w.collected origin (at_two (w.collected origin) g k (w.collected origin g k ++ serial ∷ [])) }) w
 
 -- the message m is received on port p of system s
-abbrev pub Receives : Fixed → Side → ℕ → Message → World → World → World → Type 0
-Receives x s p (Control pdu stamp) old mid new = Calls x s (Call.Receive p (Some pdu)) stamp old mid new
+abbrev pub Receives : WorldSetup → Side → ℕ → Message → World → World → World → Type 0
+Receives x s p (Control pdu stamp) old mid new = CallHappens x s (ModelCall.Receive p (Some pdu)) stamp old mid new
 Receives x s p (Data origin g k serial) old mid new =
-    (up : Bool) × Calls x s (Call.Receive p None) 0 old (handed_up up (Data origin g k serial) mid) new
+    (up : Bool) × CallHappens x s (ModelCall.Receive p None) 0 old (handed_up up (Data origin g k serial) mid) new
 
 -- the first message of a list is taken off and received at the cable's end
-abbrev pub Comes : Fixed → ℕ → Side → Option ℕ → List Message → World → World → Type 0
-Comes x c to port [] old new = new ≡ old
-Comes x c to None (m ∷ ms) old new = ⊥
-Comes x c to (Some p) (m ∷ ms) old new = Receives x to p m old (with_line old c to ms) new
+abbrev pub DeliversFirst : WorldSetup → ℕ → Side → Option ℕ → List Message → World → World → Type 0
+DeliversFirst x c to port [] old new = new ≡ old
+DeliversFirst x c to None (m ∷ ms) old new = ⊥
+DeliversFirst x c to (Some p) (m ∷ ms) old new = Receives x to p m old (with_line old c to ms) new
 
 -- the first message of a list is received at the cable's end, but stays on the cable; a frame is never repeated
-abbrev pub ComesAgain : Fixed → ℕ → Side → Option ℕ → List Message → World → World → Type 0
-ComesAgain x c to port [] old new = new ≡ old
-ComesAgain x c to port (Data origin g k serial ∷ ms) old new = new ≡ old
-ComesAgain x c to None (Control pdu stamp ∷ ms) old new = ⊥
-ComesAgain x c to (Some p) (Control pdu stamp ∷ ms) old new = Receives x to p (Control pdu stamp) old old new
+abbrev pub RepeatsFirst : WorldSetup → ℕ → Side → Option ℕ → List Message → World → World → Type 0
+RepeatsFirst x c to port [] old new = new ≡ old
+RepeatsFirst x c to port (Data origin g k serial ∷ ms) old new = new ≡ old
+RepeatsFirst x c to None (Control pdu stamp ∷ ms) old new = ⊥
+RepeatsFirst x c to (Some p) (Control pdu stamp ∷ ms) old new = Receives x to p (Control pdu stamp) old old new
 
 -- the first message of a list is lost
-abbrev pub IsLost : ℕ → Side → List Message → World → World → Type 0
-IsLost c to [] old new = new ≡ old
-IsLost c to (m ∷ ms) old new = new ≡ with_line old c to ms
+abbrev pub LosesFirst : ℕ → Side → List Message → World → World → Type 0
+LosesFirst c to [] old new = new ≡ old
+LosesFirst c to (m ∷ ms) old new = new ≡ with_line old c to ms
 
 -- system s learns whether its cable is whole
-abbrev pub Senses : Fixed → Side → Option ℕ → Bool → World → World → Type 0
-Senses x s None up old new = ⊥
-Senses x s (Some p) up old new = Calls x s (Call.Set_link p up) 0 old old new
+abbrev pub SensesCable : WorldSetup → Side → Option ℕ → Bool → World → World → Type 0
+SensesCable x s None up old new = ⊥
+SensesCable x s (Some p) up old new = CallHappens x s (ModelCall.Set_link p up) 0 old old new
 
 -- From old, the event may lead to new.
-abbrev pub Happens : Fixed → Event → World → World → Type 0
+abbrev pub Happens : WorldSetup → Event → World → World → Type 0
 -- several ticks are one list of moves
-Happens x (Tick s n) old new = Calls x s Call.Tick 0 old old new
-Happens x (Emit s p) old new = Calls x s Call.Transmit 0 old old new
-Happens x (Deliver c to) old new = Comes x c to (end_at x.cables to c) (old.line to c) old new
-Happens x (Lose c to) old new = IsLost c to (old.line to c) old new
-Happens x (Repeat c to) old new = ComesAgain x c to (end_at x.cables to c) (old.line to c) old new
+Happens x (Tick s n) old new = CallHappens x s ModelCall.Tick 0 old old new
+Happens x (Emit s p) old new = CallHappens x s ModelCall.Transmit 0 old old new
+Happens x (Deliver c to) old new = DeliversFirst x c to (end_at x.cables to c) (old.line to c) old new
+Happens x (Lose c to) old new = LosesFirst c to (old.line to c) old new
+Happens x (Repeat c to) old new = RepeatsFirst x c to (end_at x.cables to c) (old.line to c) old new
 -- a cut loses what is on the cable
 Happens x (Cut c) old new =
     new ≡ record old { whole = at_cable old.whole c false; line = λ s. at_cable (old.line s) c [] }
 Happens x (Join c) old new = new ≡ record old { whole = at_cable old.whole c true }
-Happens x (Sense c s) old new = Senses x s (end_at x.cables s c) (old.whole c) old new
+Happens x (Sense c s) old new = SensesCable x s (end_at x.cables s c) (old.whole c) old new
 -- a restart of a system loses what is on its cables, which are all cables
 Happens x (Restart s) old new =
-    Counted old (record old { view = at_side old.view s (first_view (x.setup s)); line = λ t c. [] }) new
-Happens x (Configure s p change) old new = Calls x s Call.Configure 0 old old new
-Happens x (Offer s g frame) old new = Calls x s Call.Offer 0 old old new
-Happens x (Move_conversation s g k p) old new = Calls x s Call.Move_conversation 0 old old new
+    AfterCounting old (record old { view = at_side old.view s (first_view (x.setup s)); line = λ t c. [] }) new
+Happens x (Configure s p change) old new = CallHappens x s ModelCall.Configure 0 old old new
+Happens x (Offer s g frame) old new = CallHappens x s ModelCall.Offer 0 old old new
+Happens x (Move_conversation s g k p) old new = CallHappens x s ModelCall.Move_conversation 0 old old new
 -- the force is refused, or the conversation counts as forced from now on
 Happens x (Force s g k) old new =
     (new ≡ old)
-    ⊎ Calls x s (Call.Force g k) 0 old (record old { forced = at_side old.forced s (at_two (old.forced s) g k true) }) new
+    ⊎ CallHappens x s (ModelCall.Force g k) 0 old (record old { forced = at_side old.forced s (at_two (old.forced s) g k true) }) new
 
 -- a run: events one after another
-abbrev pub Run : Fixed → List Event → World → World → Type 0
+abbrev pub Run : WorldSetup → List Event → World → World → Type 0
 Run x [] old new = new ≡ old
 Run x (e ∷ es) old new = (mid : World) × Happens x e old mid × Run x es mid new

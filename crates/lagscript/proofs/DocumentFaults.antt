@@ -3,12 +3,12 @@ use Rattle.std.proofs.Common.{ℕ, ◌≡◌, ◌+◌, Bool, true, false, List, 
 use Rattle.toml.specs.Data.{Members, as_table}
 use Rattle.lagsystem.specs.declared.config.PortConfig.{PortConfig}
 use Rattle.lagsystem.specs.declared.fault.BadConfig.TheVariants as bad
-use Rattle.lagscript.specs.Configs.{SystemPlan, refusal_of_all}
-use Rattle.lagscript.specs.Entries.{act_at, act_in, acts_from, at_entry}
-use Rattle.lagscript.specs.Keys.{ends_in, flag_in, key_in, keys_among, limit_in, list_in, mac_in, number_in, pair_of, value_at}
-use Rattle.lagscript.specs.Readings.{◌>>=◌, in_place, or_fault, unless}
-use Rattle.lagscript.specs.Scripts.{ScriptPlan, acts_in, cables_in, config_fault, ends_of, entries_in, no_fault, plan_in, planned, systems_in, top_keys, two_systems}
-use Rattle.lagscript.specs.Tables.{aggregators_in, cable_keys, cable_of, limit_of, numbers_in, port_keys, port_of, ports_in, system_keys, system_of}
+use Rattle.lagscript.specs.Configs.{ConfigValue, refusal_of_all}
+use Rattle.lagscript.specs.Entries.{event_at, event_in, events_from, at_entry}
+use Rattle.lagscript.specs.Keys.{ends_in, flag_in, key_in, keys_among, limit_in, list_in, mac_in, integer_in, just_two, value_at}
+use Rattle.lagscript.specs.Readings.{◌>>=◌, in_place, or_fault, if_or_fault}
+use Rattle.lagscript.specs.Scripts.{PlanValue, events_in, cables_in, script_fault_for, ends_of, entries_in, no_fault, plan_in, planned, systems_in, top_keys, two_systems}
+use Rattle.lagscript.specs.Tables.{aggregators_in, cable_keys, cable_of, limit_of, numbers_in, port_keys, port_config_of, ports_in, system_keys, system_of}
 use Rattle.lagscript.specs.declared.config.BadWorld.{BadWorld}
 use Rattle.lagscript.specs.declared.config.BadWorld.TheVariants as refused
 use Rattle.lagscript.specs.declared.fault.EntryFault.{EntryFault}
@@ -36,7 +36,7 @@ or_fine w None h e =
     h same
 or_fine w (Some x) h e = cc
 
-unless_fine : {A : Type 0} (b : Bool) (w : ScriptFault) (r : Result A ScriptFault) → (w ≡ fault.NotToml → ⊥) → Fine r → Fine (unless b w r)
+unless_fine : {A : Type 0} (b : Bool) (w : ScriptFault) (r : Result A ScriptFault) → (w ≡ fault.NotToml → ⊥) → Fine r → Fine (if_or_fault b w r)
 unless_fine true w r h g e = g e
 unless_fine false w r h g e =
     let same : w ≡ fault.NotToml = cc in
@@ -59,7 +59,7 @@ three_fine (Err w) s t last hr hs ht hl e =
 
 port_steps : (system place : ℕ) (known : Bool) (number priority : Option ℕ) (mac : Option (List ℕ)) (key : Option ℕ) (aggregatable active short : Option Bool) (make : ℕ → ℕ → List ℕ → ℕ → Bool → Bool → Bool → PortConfig)
     → Fine (
-    unless known (fault.PortExtraKey system place) (
+    if_or_fault known (fault.PortExtraKey system place) (
     or_fault (fault.PortValue system place port_key.Number) number >>= λ number.
     or_fault (fault.PortValue system place port_key.Priority) priority >>= λ priority.
     or_fault (fault.PortValue system place port_key.Mac) mac >>= λ mac.
@@ -80,17 +80,17 @@ port_steps system place true (Some n) (Some p) (Some m) (Some y) (Some g) None k
 port_steps system place true (Some n) (Some p) (Some m) (Some y) (Some g) (Some t) None make e = cc
 port_steps system place true (Some n) (Some p) (Some m) (Some y) (Some g) (Some t) (Some u) make e = cc
 
-port_fine : (system : ℕ) (own : List ℕ) (place : ℕ) (ms : Members) → Fine (port_of system own place ms)
+port_fine : (system : ℕ) (own : List ℕ) (place : ℕ) (ms : Members) → Fine (port_config_of system own place ms)
 port_fine system own place ms =
-    port_steps system place (keys_among port_keys ms) (value_at (codes "number") (number_in 65536) None ms) (value_at (codes "priority") (number_in 65536) (Some 128) ms) (value_at (codes "mac") mac_in (Some own) ms)
-    (value_at (codes "key") (number_in 65536) None ms) (value_at (codes "aggregatable") flag_in (Some true) ms) (value_at (codes "active") flag_in (Some true) ms) (value_at (codes "short") flag_in (Some true) ms)
+    port_steps system place (keys_among port_keys ms) (value_at (codes "number") (integer_in 65536) None ms) (value_at (codes "priority") (integer_in 65536) (Some 128) ms) (value_at (codes "mac") mac_in (Some own) ms)
+    (value_at (codes "key") (integer_in 65536) None ms) (value_at (codes "aggregatable") flag_in (Some true) ms) (value_at (codes "active") flag_in (Some true) ms) (value_at (codes "short") flag_in (Some true) ms)
     (λ number priority mac key aggregatable active short. record { number = number; priority = priority; mac = mac; key = record { 0 = key }; aggregatable = aggregatable; active = active; short = short })
 
 -- ---- systems
 
 numbers_steps : (system : ℕ) (known : Bool) (priority : Option ℕ) (mac : Option (List ℕ)) (max_delay first_marker : Option ℕ) (make : ℕ → List ℕ → ℕ → ℕ → Numbers)
     → Fine (
-    unless known (fault.SystemExtraKey system) (
+    if_or_fault known (fault.SystemExtraKey system) (
     or_fault (fault.SystemValue system system_key.Priority) priority >>= λ priority.
     or_fault (fault.SystemValue system system_key.Mac) mac >>= λ mac.
     or_fault (fault.SystemValue system system_key.MaxDelay) max_delay >>= λ max_delay.
@@ -107,26 +107,26 @@ numbers_steps system true (Some p) (Some m) (Some x) (Some y) make e = cc
 
 numbers_fine : (system : ℕ) (ms : Members) → Fine (numbers_in system ms)
 numbers_fine system ms =
-    numbers_steps system (keys_among system_keys ms) (value_at (codes "priority") (number_in 65536) (Some 32768) ms) (value_at (codes "mac") mac_in None ms) (value_at (codes "max_delay") (number_in 65536) (Some 0) ms)
-    (value_at (codes "first_marker") (number_in 4294967296) (Some 1) ms) (λ priority mac max_delay first_marker. record { id = record { priority = priority; mac = mac }; max_delay = max_delay; first_marker = first_marker })
+    numbers_steps system (keys_among system_keys ms) (value_at (codes "priority") (integer_in 65536) (Some 32768) ms) (value_at (codes "mac") mac_in None ms) (value_at (codes "max_delay") (integer_in 65536) (Some 0) ms)
+    (value_at (codes "first_marker") (integer_in 4294967296) (Some 1) ms) (λ priority mac max_delay first_marker. record { id = record { priority = priority; mac = mac }; max_delay = max_delay; first_marker = first_marker })
 
 aggregators_fine : (system : ℕ) (ms : Members) → Fine (aggregators_in system ms)
 aggregators_fine system ms = or_fine (fault.SystemValue system system_key.Aggregators) (value_at (codes "aggregators") (list_in key_in) None ms) (λ e. cc)
 
 ports_fine : (system : ℕ) (own : List ℕ) (ms : Members) → Fine (ports_in system own ms)
 ports_fine system own ms =
-    then_fine (or_fault (fault.SystemValue system system_key.Port) (value_at (codes "port") (list_in as_table) None ms)) (in_place (port_of system own) 1)
-    (or_fine (fault.SystemValue system system_key.Port) (value_at (codes "port") (list_in as_table) None ms) (λ e. cc)) (in_place_fine (port_of system own) (port_fine system own) 1)
+    then_fine (or_fault (fault.SystemValue system system_key.Port) (value_at (codes "port") (list_in as_table) None ms)) (in_place (port_config_of system own) 1)
+    (or_fine (fault.SystemValue system system_key.Port) (value_at (codes "port") (list_in as_table) None ms) (λ e. cc)) (in_place_fine (port_config_of system own) (port_fine system own) 1)
 
 system_fine : (system : ℕ) (ms : Members) → Fine (system_of system ms)
 system_fine system ms =
-    three_fine {D = SystemPlan} (numbers_in system ms) (λ n. aggregators_in system ms) (λ n a. ports_in system n.id.mac ms)
+    three_fine {D = ConfigValue} (numbers_in system ms) (λ n. aggregators_in system ms) (λ n a. ports_in system n.id.mac ms)
     (λ n aggregators ports. Ok (record { system = n.id; max_delay = n.max_delay; first_marker = n.first_marker; aggregators = aggregators; ports = ports })) (numbers_fine system ms) (λ n. aggregators_fine system ms)
     (λ n a. ports_fine system n.id.mac ms) (λ n a p e. cc)
 
 two_fine : (mss : List Members) → Fine (two_systems mss)
 two_fine mss =
-    three_fine {D = List SystemPlan} (or_fault fault.Systems (pair_of (Some mss))) (λ p. system_of 1 p.0) (λ p first. system_of 2 p.1) (λ p first second. Ok (first ∷ second ∷ [])) (or_fine fault.Systems (pair_of (Some mss)) (λ e. cc))
+    three_fine {D = List ConfigValue} (or_fault fault.Systems (just_two (Some mss))) (λ p. system_of 1 p.0) (λ p first. system_of 2 p.1) (λ p first second. Ok (first ∷ second ∷ [])) (or_fine fault.Systems (just_two (Some mss)) (λ e. cc))
     (λ p. system_fine 1 p.0) (λ p first. system_fine 2 p.1) (λ p first second e. cc)
 
 systems_fine : (ms : Members) → Fine (systems_in ms)
@@ -156,14 +156,14 @@ entry_fine : {A : Type 0} (place : ℕ) (r : Result A EntryFault) → Fine (at_e
 entry_fine place (Ok x) e = cc
 entry_fine place (Err w) e = cc
 
-acts_fine : (cables : ℕ) (ms : Members) → Fine (acts_in cables ms)
+acts_fine : (cables : ℕ) (ms : Members) → Fine (events_in cables ms)
 acts_fine cables ms =
-    then_fine (or_fault fault.Events (value_at (codes "events") entries_in (Some []) ms)) (acts_from cables 1) (or_fine fault.Events (value_at (codes "events") entries_in (Some []) ms) (λ e. cc))
-    (in_place_fine (act_at cables) (λ place text. entry_fine place (act_in cables text)) 1)
+    then_fine (or_fault fault.Events (value_at (codes "events") entries_in (Some []) ms)) (events_from cables 1) (or_fine fault.Events (value_at (codes "events") entries_in (Some []) ms) (λ e. cc))
+    (in_place_fine (event_at cables) (λ place text. entry_fine place (event_in cables text)) 1)
 
 -- ---- the configuration and the whole
 
-config_fine : {A : Type 0} (refusal : Option BadWorld) (x : A) → Fine (no_fault (option_and_then config_fault refusal) x)
+config_fine : {A : Type 0} (refusal : Option BadWorld) (x : A) → Fine (no_fault (option_and_then script_fault_for refusal) x)
 config_fine None x e = cc
 config_fine (Some (refused.System side bad.Ports)) x e = cc
 config_fine (Some (refused.System side bad.Aggregators)) x e = cc
@@ -175,8 +175,8 @@ config_fine (Some refused.Lines) x e = cc
 pub plan_fine : (ms : Members) → plan_in ms ≡ Err fault.NotToml → ⊥
 plan_fine ms =
     unless_fine (keys_among top_keys ms) fault.ExtraKey
-    (systems_in ms >>= λ systems. cables_in ms >>= λ cables. acts_in (length cables) ms >>= λ acts. no_fault {A = ScriptPlan} (option_and_then config_fault (refusal_of_all systems (ends_of cables))) (planned systems cables acts))
+    (systems_in ms >>= λ systems. cables_in ms >>= λ cables. events_in (length cables) ms >>= λ events. no_fault {A = PlanValue} (option_and_then script_fault_for (refusal_of_all systems (ends_of cables))) (planned systems cables events))
     (λ e. cc)
-    (three_fine {D = ScriptPlan} (systems_in ms) (λ systems. cables_in ms) (λ systems cables. acts_in (length cables) ms)
-    (λ systems cables acts. no_fault (option_and_then config_fault (refusal_of_all systems (ends_of cables))) (planned systems cables acts)) (systems_fine ms) (λ systems. cables_fine ms)
-    (λ systems cables. acts_fine (length cables) ms) (λ systems cables acts. config_fine {A = ScriptPlan} (refusal_of_all systems (ends_of cables)) (planned systems cables acts)))
+    (three_fine {D = PlanValue} (systems_in ms) (λ systems. cables_in ms) (λ systems cables. events_in (length cables) ms)
+    (λ systems cables events. no_fault (option_and_then script_fault_for (refusal_of_all systems (ends_of cables))) (planned systems cables events)) (systems_fine ms) (λ systems. cables_fine ms)
+    (λ systems cables. acts_fine (length cables) ms) (λ systems cables events. config_fine {A = PlanValue} (refusal_of_all systems (ends_of cables)) (planned systems cables events)))

@@ -4,7 +4,7 @@ use Rattle.std.specs.List.{list_all, list_any}
 use Rattle.std.specs.declared.alloc.Global.{Global}
 use Rattle.toml.specs.declared.value.Value.{Value}
 use Rattle.toml.specs.View.{view, members_view, items_view}
-use Rattle.lagscript.specs.Keys.{each_in, keys_among, number_in, pair_of}
+use Rattle.lagscript.specs.Keys.{each_in, keys_among, integer_in, just_two}
 
 -- a test of what the references point to
 any_of : (k : List ℕ) (known : List (Bor (List ℕ))) → list_any (λ name. bytes_eq name.now k) known ≡ list_any (λ name. bytes_eq name k) (map (λ n. n.now) known)
@@ -18,21 +18,21 @@ among known [] = refl
 among known (e ∷ es) = ap₂ (λ a b. a && b) (any_of (string_bytes e.0) known) (among known es)
 
 -- other arrays than those of two have no two ends
-pub not_two : (vs : List Value) → (length vs ≡ 2 → ⊥) → pair_of (each_in (number_in 65536) (items_view vs)) ≡ None
+pub not_two : (vs : List Value) → (length vs ≡ 2 → ⊥) → just_two (each_in (integer_in 65536) (items_view vs)) ≡ None
 not_two [] h = refl
-not_two (a ∷ []) h = go (number_in 65536 (view a))
+not_two (a ∷ []) h = go (integer_in 65536 (view a))
   where
-    go : (o : Option ℕ) → pair_of (option_and_then (λ x. option_map (λ xs. x ∷ xs) (Some [])) o) ≡ None
+    go : (o : Option ℕ) → just_two (option_and_then (λ x. option_map (λ xs. x ∷ xs) (Some [])) o) ≡ None
     go None = refl
     go (Some x) = refl
 not_two (a ∷ b ∷ []) h = absurd (h refl)
 not_two (a ∷ b ∷ c ∷ vs) h =
-    go (number_in 65536 (view a)) (number_in 65536 (view b)) (number_in 65536 (view c)) (each_in (number_in 65536) (items_view vs))
+    go (integer_in 65536 (view a)) (integer_in 65536 (view b)) (integer_in 65536 (view c)) (each_in (integer_in 65536) (items_view vs))
   where
     next : Option ℕ → Option (List ℕ) → Option (List ℕ)
     next o r = option_and_then (λ x. option_map (λ xs. x ∷ xs) r) o
 
-    go : (o p q : Option ℕ) (r : Option (List ℕ)) → pair_of (next o (next p (next q r))) ≡ None
+    go : (o p q : Option ℕ) (r : Option (List ℕ)) → just_two (next o (next p (next q r))) ≡ None
     go None p q r = refl
     go (Some x) None q r = refl
     go (Some x) (Some y) None r = refl

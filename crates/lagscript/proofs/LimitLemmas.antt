@@ -3,8 +3,8 @@ use Rattle.std.proofs.Common.{ℕ, ◌≡◌, ◌≢◌, ◌+◌, Bool, true, fa
 use Rattle.std.specs.List.{All}
 use Rattle.std.proofs.lemmas.List.Elements.{All-cons, All-map, All-nil}
 use Rattle.toml.specs.Data.{Data, Members, as_table, get_member}
-use Rattle.lagscript.specs.Keys.{ends_in, from_one, keys_among, limit_in, list_in, number_in, value_at, value_or}
-use Rattle.lagscript.specs.Readings.{◌>>=◌, in_place, or_fault, unless}
+use Rattle.lagscript.specs.Keys.{ends_in, from_one, keys_among, limit_in, list_in, integer_in, value_at, value_or}
+use Rattle.lagscript.specs.Readings.{◌>>=◌, in_place, or_fault, if_or_fault}
 use Rattle.lagscript.specs.Scripts.{cables_in, limits_of}
 use Rattle.lagscript.specs.Tables.{cable_keys, cable_of, limit_of}
 use Rattle.lagscript.specs.declared.fault.ScriptFault.{ScriptFault}
@@ -27,10 +27,10 @@ numbered w limit (Some n) e z = tested w limit n (nat_le 1 n) refl e z
 
 said : (w : ScriptFault) (limit : Option ℕ) (o : Option Data) → or_fault w (value_or (Some None) (λ d. option_map Some (limit_in d)) o) ≡ Ok limit → IsLimit limit
 said w limit None e z = cc
-said w limit (Some d) e z = numbered w limit (number_in 65536 d) e z
+said w limit (Some d) e z = numbered w limit (integer_in 65536 d) e z
 
 joined : (place : ℕ) (c : CablePlan) (known : Bool) (ends : Option (ℕ × ℕ)) (limit : Result (Option ℕ) ScriptFault) → ((l : Option ℕ) → limit ≡ Ok l → IsLimit l)
-    → unless known (fault.CableExtraKey place) (or_fault (fault.CableEnds place) ends >>= λ ends. limit >>= λ limit. Ok (record { ends = ends; limit = limit })) ≡ Ok c → IsLimit c.limit
+    → if_or_fault known (fault.CableExtraKey place) (or_fault (fault.CableEnds place) ends >>= λ ends. limit >>= λ limit. Ok (record { ends = ends; limit = limit })) ≡ Ok c → IsLimit c.limit
 joined place c false ends limit h e z = cc
 joined place c true None limit h e z = cc
 joined place c true (Some x) (Err w) h e z = cc

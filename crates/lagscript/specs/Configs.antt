@@ -12,15 +12,15 @@ use Rattle.lagscript.specs.declared.config.BadWorld.TheVariants.{System, SameSys
 use Rattle.lagscript.specs.declared.config.WorldConfig.{WorldConfig}
 
 -- the configuration of a system, with lists in the place of its Vecs
-pub record SystemPlan : Type 0 where
+pub record ConfigValue : Type 0 where
   pub system : SystemId
   pub max_delay : ℕ
   pub first_marker : ℕ
   pub aggregators : List Key
   pub ports : List PortConfig
 
-abbrev pub plan_of : Config → SystemPlan
-plan_of c =
+abbrev pub config_value : Config → ConfigValue
+config_value c =
     record {
       system = c.system;
       max_delay = c.max_delay;
@@ -60,20 +60,20 @@ bad_end ports1 ports2 cables = option_map suc (first_below (has_bad_end ports1 p
 abbrev pub same_system : SystemId → SystemId → Bool
 same_system a b = (a.priority == b.priority) && bytes_eq a.mac b.mac
 
-abbrev pub system_refusal : ℕ → SystemPlan → Option BadWorld
+abbrev pub system_refusal : ℕ → ConfigValue → Option BadWorld
 system_refusal side plan = option_map (System side) (refusal plan.aggregators plan.ports)
 
 -- the first reason to refuse two systems and their cables: of system 1, of system 2, equal identifiers, of the cables
-abbrev pub refusal_of_two : SystemPlan → SystemPlan → List (ℕ × ℕ) → Option BadWorld
+abbrev pub refusal_of_two : ConfigValue → ConfigValue → List (ℕ × ℕ) → Option BadWorld
 refusal_of_two a b cables =
     or_first (system_refusal 1 a)
     (or_first (system_refusal 2 b)
     (or_first (if same_system a.system b.system then Some SameSystem else None)
     (option_map CableEnd (bad_end a.ports b.ports cables))))
 
-abbrev pub refusal_of_all : List SystemPlan → List (ℕ × ℕ) → Option BadWorld
+abbrev pub refusal_of_all : List ConfigValue → List (ℕ × ℕ) → Option BadWorld
 refusal_of_all (a ∷ b ∷ []) cables = refusal_of_two a b cables
 refusal_of_all _ cables = None
 
-abbrev pub refusal_of : WorldConfig → Option BadWorld
-refusal_of w = refusal_of_all (map plan_of w.systems) w.cables.items
+abbrev pub world_refusal : WorldConfig → Option BadWorld
+world_refusal w = refusal_of_all (map config_value w.systems) w.cables.items

@@ -1,8 +1,8 @@
 -- The entries of a script's list of events (profile).
 use Rattle.std.specs.Prelude.{ℕ, ◌==◌, ◌&&◌, ◌||◌, Bool, true, false, List, [], ◌∷◌, codes, nat_le, if◌then◌else◌, Result, Ok, Err}
 use Rattle.std.specs.Str.{bytes_eq}
-use Rattle.lagscript.specs.Acts.{Act, act_of, tick, emit, deliver, lose, repeat, cut, join, sense, restart, configure, offer, move_to, force}
-use Rattle.lagscript.specs.Readings.{◌>>=◌, in_place, or_fault, unless}
+use Rattle.lagscript.specs.EventValues.{EventValue, event_value, tick, emit, deliver, lose, repeat, cut, join, sense, restart, configure, offer, move_to, force}
+use Rattle.lagscript.specs.Readings.{◌>>=◌, in_place, or_fault, if_or_fault}
 use Rattle.lagscript.specs.Words.{number_below, octets_of, words_of}
 use Rattle.lagscript.specs.declared.event.Event.{Event}
 use Rattle.lagscript.specs.declared.fault.EntryFault.{EntryFault}
@@ -16,13 +16,13 @@ abbrev pub number_word : List ℕ → Result ℕ EntryFault
 number_word w = or_fault entry.Number (number_below 65536 w)
 
 abbrev pub system_word : List ℕ → Result ℕ EntryFault
-system_word w = number_word w >>= λ n. unless ((n == 1) || (n == 2)) entry.System (Ok n)
+system_word w = number_word w >>= λ n. if_or_fault ((n == 1) || (n == 2)) entry.System (Ok n)
 
 abbrev pub cable_word : ℕ → List ℕ → Result ℕ EntryFault
-cable_word cables w = number_word w >>= λ n. unless (nat_le 1 n && nat_le n cables) entry.Cable (Ok n)
+cable_word cables w = number_word w >>= λ n. if_or_fault (nat_le 1 n && nat_le n cables) entry.Cable (Ok n)
 
 abbrev pub ticks_word : List ℕ → Result ℕ EntryFault
-ticks_word w = number_word w >>= λ n. unless (nat_le 1 n) entry.Number (Ok n)
+ticks_word w = number_word w >>= λ n. if_or_fault (nat_le 1 n) entry.Number (Ok n)
 
 abbrev pub kind_word : List ℕ → Result Bool EntryFault
 kind_word w =
@@ -34,8 +34,8 @@ abbrev pub hex_word : List ℕ → Result (List ℕ) EntryFault
 hex_word w = or_fault entry.Hex (octets_of w)
 
 -- what reads one word of an entry: a value, or the fault
-abbrev pub Reader : Type 0 → Type 0
-Reader A = List ℕ → Result A EntryFault
+abbrev pub WordReader : Type 0 → Type 0
+WordReader A = List ℕ → Result A EntryFault
 
 -- an entry with exactly this many words after its first; they are read from left to right
 abbrev pub one_word : List (List ℕ) → Result (List ℕ) EntryFault
@@ -58,68 +58,68 @@ abbrev pub five_words : List (List ℕ) → Result (List ℕ × List ℕ × List
 five_words (a ∷ b ∷ c ∷ d ∷ e ∷ []) = Ok (a, b, c, d, e)
 five_words _ = Err entry.Count
 
-abbrev pub one : {A : Type 0} → Reader A → (A → Act) → List (List ℕ) → Result Act EntryFault
-one f make ws = one_word ws >>= λ a. f a >>= λ x. Ok (make x)
+abbrev pub with_one_word : {A : Type 0} → WordReader A → (A → EventValue) → List (List ℕ) → Result EventValue EntryFault
+with_one_word f make ws = one_word ws >>= λ a. f a >>= λ x. Ok (make x)
 
-abbrev pub two : {A B : Type 0} → Reader A → Reader B → (A → B → Act) → List (List ℕ) → Result Act EntryFault
-two f g make ws = two_words ws >>= λ p. f p.0 >>= λ x. g p.1 >>= λ y. Ok (make x y)
+abbrev pub with_two_words : {A B : Type 0} → WordReader A → WordReader B → (A → B → EventValue) → List (List ℕ) → Result EventValue EntryFault
+with_two_words f g make ws = two_words ws >>= λ p. f p.0 >>= λ x. g p.1 >>= λ y. Ok (make x y)
 
-abbrev pub three : {A B C : Type 0} → Reader A → Reader B → Reader C → (A → B → C → Act) → List (List ℕ) → Result Act EntryFault
-three f g h make ws = three_words ws >>= λ p. f p.0 >>= λ x. g p.1 >>= λ y. h p.2 >>= λ z. Ok (make x y z)
+abbrev pub with_three_words : {A B C : Type 0} → WordReader A → WordReader B → WordReader C → (A → B → C → EventValue) → List (List ℕ) → Result EventValue EntryFault
+with_three_words f g h make ws = three_words ws >>= λ p. f p.0 >>= λ x. g p.1 >>= λ y. h p.2 >>= λ z. Ok (make x y z)
 
-abbrev pub four : {A B C D : Type 0} → Reader A → Reader B → Reader C → Reader D → (A → B → C → D → Act) → List (List ℕ)
-    → Result Act EntryFault
-four f g h i make ws = four_words ws >>= λ p. f p.0 >>= λ x. g p.1 >>= λ y. h p.2 >>= λ z. i p.3 >>= λ w. Ok (make x y z w)
+abbrev pub with_four_words : {A B C D : Type 0} → WordReader A → WordReader B → WordReader C → WordReader D → (A → B → C → D → EventValue) → List (List ℕ)
+    → Result EventValue EntryFault
+with_four_words f g h i make ws = four_words ws >>= λ p. f p.0 >>= λ x. g p.1 >>= λ y. h p.2 >>= λ z. i p.3 >>= λ w. Ok (make x y z w)
 
-abbrev pub five : {A B C D E : Type 0} → Reader A → Reader B → Reader C → Reader D → Reader E → (A → B → C → D → E → Act) → List (List ℕ)
-    → Result Act EntryFault
-five f g h i j make ws = five_words ws >>= λ p. f p.0 >>= λ x. g p.1 >>= λ y. h p.2 >>= λ z. i p.3 >>= λ w. j p.4
+abbrev pub with_five_words : {A B C D E : Type 0} → WordReader A → WordReader B → WordReader C → WordReader D → WordReader E → (A → B → C → D → E → EventValue) → List (List ℕ)
+    → Result EventValue EntryFault
+with_five_words f g h i j make ws = five_words ws >>= λ p. f p.0 >>= λ x. g p.1 >>= λ y. h p.2 >>= λ z. i p.3 >>= λ w. j p.4
     >>= λ v. Ok (make x y z w v)
 
-abbrev pub configured : ℕ → ℕ → ℕ → ℕ → Bool → Act
-configured s port key priority aggregatable = configure s port
+abbrev pub configure_event : ℕ → ℕ → ℕ → ℕ → Bool → EventValue
+configure_event s port key priority aggregatable = configure s port
     (record { key = record { 0 = key }; priority = priority; aggregatable = aggregatable })
 
 -- the event by its first word and the words after it; all events but `offer`, whose octets take memory
-abbrev pub plain_named : ℕ → List ℕ → List (List ℕ) → Result Act EntryFault
+abbrev pub plain_named : ℕ → List ℕ → List (List ℕ) → Result EventValue EntryFault
 plain_named cables name =
-    if bytes_eq name (codes "tick") then two system_word ticks_word tick
-    else if bytes_eq name (codes "emit") then two system_word number_word emit
-    else if bytes_eq name (codes "deliver") then two (cable_word cables) system_word deliver
-    else if bytes_eq name (codes "lose") then two (cable_word cables) system_word lose
-    else if bytes_eq name (codes "repeat") then two (cable_word cables) system_word repeat
-    else if bytes_eq name (codes "cut") then one (cable_word cables) cut
-    else if bytes_eq name (codes "join") then one (cable_word cables) join
-    else if bytes_eq name (codes "sense") then two (cable_word cables) system_word sense
-    else if bytes_eq name (codes "restart") then one system_word restart
-    else if bytes_eq name (codes "configure") then five system_word number_word number_word number_word kind_word configured
-    else if bytes_eq name (codes "move") then four system_word number_word number_word number_word move_to
-    else if bytes_eq name (codes "force") then three system_word number_word number_word force
+    if bytes_eq name (codes "tick") then with_two_words system_word ticks_word tick
+    else if bytes_eq name (codes "emit") then with_two_words system_word number_word emit
+    else if bytes_eq name (codes "deliver") then with_two_words (cable_word cables) system_word deliver
+    else if bytes_eq name (codes "lose") then with_two_words (cable_word cables) system_word lose
+    else if bytes_eq name (codes "repeat") then with_two_words (cable_word cables) system_word repeat
+    else if bytes_eq name (codes "cut") then with_one_word (cable_word cables) cut
+    else if bytes_eq name (codes "join") then with_one_word (cable_word cables) join
+    else if bytes_eq name (codes "sense") then with_two_words (cable_word cables) system_word sense
+    else if bytes_eq name (codes "restart") then with_one_word system_word restart
+    else if bytes_eq name (codes "configure") then with_five_words system_word number_word number_word number_word kind_word configure_event
+    else if bytes_eq name (codes "move") then with_four_words system_word number_word number_word number_word move_to
+    else if bytes_eq name (codes "force") then with_three_words system_word number_word number_word force
     else (λ _. Err entry.Word)
 
-abbrev pub act_named : ℕ → List ℕ → List (List ℕ) → Result Act EntryFault
-act_named cables name ws = if bytes_eq name (codes "offer") then three system_word number_word hex_word offer ws
+abbrev pub event_named : ℕ → List ℕ → List (List ℕ) → Result EventValue EntryFault
+event_named cables name ws = if bytes_eq name (codes "offer") then with_three_words system_word number_word hex_word offer ws
     else plain_named cables name ws
 
 -- an event that was read, as a value of the logic; or its fault
-abbrev pub seen : Result Event EntryFault → Result Act EntryFault
-seen (Ok e) = Ok (act_of e)
-seen (Err e) = Err e
+abbrev pub event_or_fault : Result Event EntryFault → Result EventValue EntryFault
+event_or_fault (Ok e) = Ok (event_value e)
+event_or_fault (Err e) = Err e
 
-abbrev pub act_of_words : ℕ → List (List ℕ) → Result Act EntryFault
-act_of_words cables [] = Err entry.Word
-act_of_words cables (name ∷ ws) = act_named cables name ws
+abbrev pub event_of_words : ℕ → List (List ℕ) → Result EventValue EntryFault
+event_of_words cables [] = Err entry.Word
+event_of_words cables (name ∷ ws) = event_named cables name ws
 
-abbrev pub act_in : ℕ → List ℕ → Result Act EntryFault
-act_in cables text = act_of_words cables (words_of text)
+abbrev pub event_in : ℕ → List ℕ → Result EventValue EntryFault
+event_in cables text = event_of_words cables (words_of text)
 
 -- the fault of the entry at this place
 abbrev pub at_entry : {A : Type 0} → ℕ → Result A EntryFault → Result A ScriptFault
 at_entry place (Ok x) = Ok x
 at_entry place (Err e) = Err (fault.Entry place e)
 
-abbrev pub act_at : ℕ → ℕ → List ℕ → Result Act ScriptFault
-act_at cables place text = at_entry place (act_in cables text)
+abbrev pub event_at : ℕ → ℕ → List ℕ → Result EventValue ScriptFault
+event_at cables place text = at_entry place (event_in cables text)
 
-abbrev pub acts_from : ℕ → ℕ → List (List ℕ) → Result (List Act) ScriptFault
-acts_from cables = in_place (act_at cables)
+abbrev pub events_from : ℕ → ℕ → List (List ℕ) → Result (List EventValue) ScriptFault
+events_from cables = in_place (event_at cables)

@@ -26,16 +26,16 @@ abbrev pub natural_below : ℕ → ℤ → Option ℕ
 natural_below limit (pos n) = if nat_lt n limit then Some n else None
 natural_below limit (negsuc n) = None
 
-abbrev pub number_in : ℕ → Data → Option ℕ
-number_in limit (integer z) = natural_below limit z
-number_in limit _ = None
+abbrev pub integer_in : ℕ → Data → Option ℕ
+integer_in limit (integer z) = natural_below limit z
+integer_in limit _ = None
 
 abbrev pub from_one : ℕ → Option ℕ
 from_one n = if nat_le 1 n then Some n else None
 
 -- a number of 1 to 65535
 abbrev pub limit_in : Data → Option ℕ
-limit_in d = option_and_then from_one (number_in 65536 d)
+limit_in d = option_and_then from_one (integer_in 65536 d)
 
 abbrev pub flag_in : Data → Option Bool
 flag_in (boolean b) = Some b
@@ -45,7 +45,7 @@ abbrev pub mac_in : Data → Option (List ℕ)
 mac_in d = option_and_then mac_of (as_str d)
 
 abbrev pub key_in : Data → Option Key
-key_in d = option_map (λ n. record { 0 = n }) (number_in 65536 d)
+key_in d = option_map (λ n. record { 0 = n }) (integer_in 65536 d)
 
 -- every item is read by this function, if it can read each
 abbrev pub each_in : {A : Type 0} → (Data → Option A) → Items → Option (List A)
@@ -57,9 +57,9 @@ abbrev pub list_in : {A : Type 0} → (Data → Option A) → Data → Option (L
 list_in says d = option_and_then (each_in says) (as_array d)
 
 -- the elements of a list of exactly two
-abbrev pub pair_of : {A : Type 0} → Option (List A) → Option (A × A)
-pair_of (Some (a ∷ b ∷ [])) = Some (a, b)
-pair_of _ = None
+abbrev pub just_two : {A : Type 0} → Option (List A) → Option (A × A)
+just_two (Some (a ∷ b ∷ [])) = Some (a, b)
+just_two _ = None
 
 abbrev pub ends_in : Data → Option (ℕ × ℕ)
-ends_in d = pair_of (list_in (number_in 65536) d)
+ends_in d = just_two (list_in (integer_in 65536) d)

@@ -1,9 +1,9 @@
 pub mod Configs
 pub mod Words
-pub mod Acts
+pub mod EventValues
 pub mod Readings
 pub mod Keys
 pub mod Tables
 pub mod Entries
 pub mod Scripts
-pub mod Seen
+pub mod Results

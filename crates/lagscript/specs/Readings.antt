@@ -13,8 +13,8 @@ or_fault e None = Err e
 or_fault e (Some x) = Ok x
 
 -- the result if the test holds, else this fault
-abbrev pub unless : {A E : Type 0} → Bool → E → Result A E → Result A E
-unless b e r = if b then r else Err e
+abbrev pub if_or_fault : {A E : Type 0} → Bool → E → Result A E → Result A E
+if_or_fault b e r = if b then r else Err e
 
 -- the elements, each read at its place, of which the first has this number; or the first fault
 abbrev pub in_place : {A X E : Type 0} → (ℕ → X → Result A E) → ℕ → List X → Result (List A) E
@@ -22,6 +22,6 @@ in_place f place [] = Ok []
 in_place f place (x ∷ rest) = f place x >>= λ y. in_place f (place + 1) rest >>= λ ys. Ok (y ∷ ys)
 
 -- the result is the stated one, or memory ran out
-abbrev pub Answers : {A B E : Type 0} → E → (A → B) → Result B E → Result A E → Type 0
-Answers memory see stated (Ok x) = stated ≡ Ok (see x)
-Answers memory see stated (Err e) = (e ≡ memory) ⊎ (stated ≡ Err e)
+abbrev pub ReadsAs : {A B E : Type 0} → E → (A → B) → Result B E → Result A E → Type 0
+ReadsAs memory see stated (Ok x) = stated ≡ Ok (see x)
+ReadsAs memory see stated (Err e) = (e ≡ memory) ⊎ (stated ≡ Err e)

@@ -4,11 +4,11 @@ use Rattle.std.specs.declared.alloc.Global.{Global}
 use Rattle.toml.specs.Data.{Data, Members, as_table, as_str}
 use Rattle.toml.specs.Parse.{parse_document}
 use Rattle.lagsystem.specs.declared.fault.BadConfig.TheVariants as bad
-use Rattle.lagscript.specs.Acts.{Act, acts_of}
-use Rattle.lagscript.specs.Configs.{SystemPlan, plan_of, refusal_of_all}
-use Rattle.lagscript.specs.Entries.{acts_from}
-use Rattle.lagscript.specs.Keys.{keys_among, list_in, pair_of, value_at}
-use Rattle.lagscript.specs.Readings.{◌>>=◌, in_place, or_fault, unless}
+use Rattle.lagscript.specs.EventValues.{EventValue, event_values}
+use Rattle.lagscript.specs.Configs.{ConfigValue, config_value, refusal_of_all}
+use Rattle.lagscript.specs.Entries.{events_from}
+use Rattle.lagscript.specs.Keys.{keys_among, list_in, just_two, value_at}
+use Rattle.lagscript.specs.Readings.{◌>>=◌, in_place, or_fault, if_or_fault}
 use Rattle.lagscript.specs.Tables.{cable_of, system_of}
 use Rattle.lagscript.specs.declared.config.BadWorld.{BadWorld}
 use Rattle.lagscript.specs.declared.config.BadWorld.TheVariants as refused
@@ -21,24 +21,24 @@ use Rattle.lagscript.specs.declared.tables.CablePlan.{CablePlan}
 
 -- a script: two systems, their cables, and the events
 pub record Script : Type 0 where
-  pub systems : List SystemPlan
+  pub systems : List ConfigValue
   pub cables : List (ℕ × ℕ)
-  pub acts : List Act
+  pub events : List EventValue
 
 -- a plan: a script, and the limit of each of its cables, in order
-pub record ScriptPlan : Type 0 where
+pub record PlanValue : Type 0 where
   pub script : Script
   pub limits : List (Option ℕ)
 
 -- the fault of a script whose configuration is refused for this reason; there is none for `Lines`, which a script does
 -- not have
-abbrev pub config_fault : BadWorld → Option ScriptFault
-config_fault (refused.System side bad.Ports) = Some (fault.Ports side)
-config_fault (refused.System side bad.Aggregators) = Some (fault.AggregatorCount side)
-config_fault (refused.System side (bad.PortNumber place)) = Some (fault.PortNumber side place)
-config_fault refused.SameSystem = Some fault.SameSystem
-config_fault (refused.CableEnd place) = Some (fault.CableEnd place)
-config_fault refused.Lines = None
+abbrev pub script_fault_for : BadWorld → Option ScriptFault
+script_fault_for (refused.System side bad.Ports) = Some (fault.Ports side)
+script_fault_for (refused.System side bad.Aggregators) = Some (fault.AggregatorCount side)
+script_fault_for (refused.System side (bad.PortNumber place)) = Some (fault.PortNumber side place)
+script_fault_for refused.SameSystem = Some fault.SameSystem
+script_fault_for (refused.CableEnd place) = Some (fault.CableEnd place)
+script_fault_for refused.Lines = None
 
 -- the value if there is no fault, else the fault
 abbrev pub no_fault : {A : Type 0} → Option ScriptFault → A → Result A ScriptFault
@@ -49,11 +49,11 @@ abbrev pub top_keys : List (List ℕ)
 top_keys = codes "system" ∷ codes "cable" ∷ codes "events" ∷ []
 
 -- the two systems of a list of exactly two tables
-abbrev pub two_systems : List Members → Result (List SystemPlan) ScriptFault
-two_systems mss = or_fault fault.Systems (pair_of (Some mss)) >>= λ p. system_of 1 p.0 >>= λ first. system_of 2 p.1
+abbrev pub two_systems : List Members → Result (List ConfigValue) ScriptFault
+two_systems mss = or_fault fault.Systems (just_two (Some mss)) >>= λ p. system_of 1 p.0 >>= λ first. system_of 2 p.1
     >>= λ second. Ok (first ∷ second ∷ [])
 
-abbrev pub systems_in : Members → Result (List SystemPlan) ScriptFault
+abbrev pub systems_in : Members → Result (List ConfigValue) ScriptFault
 systems_in ms = or_fault fault.Systems (value_at (codes "system") (list_in as_table) None ms) >>= two_systems
 
 abbrev pub cables_in : Members → Result (List CablePlan) ScriptFault
@@ -66,8 +66,8 @@ up_to_most texts = if nat_le (length texts) 100000 then Some texts else None
 abbrev pub entries_in : Data → Option (List (List ℕ))
 entries_in d = option_and_then up_to_most (list_in as_str d)
 
-abbrev pub acts_in : ℕ → Members → Result (List Act) ScriptFault
-acts_in cables ms = or_fault fault.Events (value_at (codes "events") entries_in (Some []) ms) >>= acts_from cables 1
+abbrev pub events_in : ℕ → Members → Result (List EventValue) ScriptFault
+events_in cables ms = or_fault fault.Events (value_at (codes "events") entries_in (Some []) ms) >>= events_from cables 1
 
 abbrev pub ends_of : List CablePlan → List (ℕ × ℕ)
 ends_of cables = map (λ c. c.ends) cables
@@ -76,20 +76,20 @@ abbrev pub limits_of : List CablePlan → List (Option ℕ)
 limits_of cables = map (λ c. c.limit) cables
 
 -- the plan made of the parts of a document
-abbrev pub planned : List SystemPlan → List CablePlan → List Act → ScriptPlan
-planned systems cables acts = record {
-  script = record { systems = systems; cables = ends_of cables; acts = acts };
+abbrev pub planned : List ConfigValue → List CablePlan → List EventValue → PlanValue
+planned systems cables events = record {
+  script = record { systems = systems; cables = ends_of cables; events = events };
   limits = limits_of cables;
 }
 
 -- the plan of a document, or its first fault
-abbrev pub plan_in : Members → Result ScriptPlan ScriptFault
+abbrev pub plan_in : Members → Result PlanValue ScriptFault
 plan_in ms =
-    unless (keys_among top_keys ms) fault.ExtraKey (
+    if_or_fault (keys_among top_keys ms) fault.ExtraKey (
     systems_in ms >>= λ systems.
     cables_in ms >>= λ cables.
-    acts_in (length cables) ms >>= λ acts.
-    no_fault (option_and_then config_fault (refusal_of_all systems (ends_of cables))) (planned systems cables acts)
+    events_in (length cables) ms >>= λ events.
+    no_fault (option_and_then script_fault_for (refusal_of_all systems (ends_of cables))) (planned systems cables events)
     )
 
 -- the script of a document: that of its plan
@@ -97,7 +97,7 @@ abbrev pub script_of : Members → Result Script ScriptFault
 script_of ms = plan_in ms >>= λ plan. Ok plan.script
 
 -- the text has this plan
-abbrev pub HasPlan : List ℕ → ScriptPlan → Type 0
+abbrev pub HasPlan : List ℕ → PlanValue → Type 0
 HasPlan text p = (ms : Members) × (parse_document text ≡ Some ms) × (plan_in ms ≡ Ok p)
 
 -- the text has this script
@@ -112,18 +112,18 @@ IsRefused text e = (ms : Members) × (parse_document text ≡ Some ms) × (plan_
 
 -- ---- what is read
 
-abbrev pub script_shown : WorldConfig → List Event → Script
-script_shown c events = record { systems = map plan_of c.systems; cables = c.cables.items; acts = acts_of events }
+abbrev pub script_value : WorldConfig → List Event → Script
+script_value c events = record { systems = map config_value c.systems; cables = c.cables.items; events = event_values events }
 
-abbrev pub plan_shown : Plan → ScriptPlan
-plan_shown p = record { script = script_shown p.config p.events.items; limits = p.limits.items }
+abbrev pub plan_value : Plan → PlanValue
+plan_value p = record { script = script_value p.config p.events.items; limits = p.limits.items }
 
 -- what `read_plan` returns
 abbrev pub ReadsPlan : List ℕ → Result Plan ScriptFault → Type 0
-ReadsPlan text (Ok plan) = HasPlan text (plan_shown plan)
+ReadsPlan text (Ok plan) = HasPlan text (plan_value plan)
 ReadsPlan text (Err e) = IsRefused text e
 
 -- what `read_script` returns
-abbrev pub Reads : List ℕ → Result (WorldConfig × Vec Event Global) ScriptFault → Type 0
-Reads text (Ok read) = HasScript text (script_shown read.0 read.1.items)
-Reads text (Err e) = IsRefused text e
+abbrev pub ReadsScript : List ℕ → Result (WorldConfig × Vec Event Global) ScriptFault → Type 0
+ReadsScript text (Ok read) = HasScript text (script_value read.0 read.1.items)
+ReadsScript text (Err e) = IsRefused text e

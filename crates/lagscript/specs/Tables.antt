@@ -3,9 +3,9 @@ use Rattle.std.specs.Prelude.{ℕ, true, List, [], ◌∷◌, codes, Option, Som
 use Rattle.toml.specs.Data.{Members, as_table}
 use Rattle.lagtypes.specs.declared.identifiers.Key.{Key}
 use Rattle.lagsystem.specs.declared.config.PortConfig.{PortConfig}
-use Rattle.lagscript.specs.Configs.{SystemPlan}
-use Rattle.lagscript.specs.Keys.{ends_in, flag_in, key_in, keys_among, limit_in, list_in, mac_in, number_in, value_at}
-use Rattle.lagscript.specs.Readings.{◌>>=◌, in_place, or_fault, unless}
+use Rattle.lagscript.specs.Configs.{ConfigValue}
+use Rattle.lagscript.specs.Keys.{ends_in, flag_in, key_in, keys_among, limit_in, list_in, mac_in, integer_in, value_at}
+use Rattle.lagscript.specs.Readings.{◌>>=◌, in_place, or_fault, if_or_fault}
 use Rattle.lagscript.specs.declared.fault.PortKey.TheVariants as port_key
 use Rattle.lagscript.specs.declared.fault.ScriptFault.{ScriptFault}
 use Rattle.lagscript.specs.declared.fault.ScriptFault.TheVariants as fault
@@ -19,14 +19,14 @@ abbrev pub port_keys : List (List ℕ)
 port_keys = codes "number" ∷ codes "priority" ∷ codes "mac" ∷ codes "key" ∷ codes "aggregatable" ∷ codes "active" ∷ codes "short" ∷ []
 
 -- the port of a table; if its MAC address is left out, it is that of the system
-abbrev pub port_of : ℕ → List ℕ → ℕ → Members → Result PortConfig ScriptFault
-port_of system own place ms =
+abbrev pub port_config_of : ℕ → List ℕ → ℕ → Members → Result PortConfig ScriptFault
+port_config_of system own place ms =
     let wrong = fault.PortValue system place in
-    unless (keys_among port_keys ms) (fault.PortExtraKey system place) (
-    or_fault (wrong port_key.Number) (value_at (codes "number") (number_in 65536) None ms) >>= λ number.
-    or_fault (wrong port_key.Priority) (value_at (codes "priority") (number_in 65536) (Some 128) ms) >>= λ priority.
+    if_or_fault (keys_among port_keys ms) (fault.PortExtraKey system place) (
+    or_fault (wrong port_key.Number) (value_at (codes "number") (integer_in 65536) None ms) >>= λ number.
+    or_fault (wrong port_key.Priority) (value_at (codes "priority") (integer_in 65536) (Some 128) ms) >>= λ priority.
     or_fault (wrong port_key.Mac) (value_at (codes "mac") mac_in (Some own) ms) >>= λ mac.
-    or_fault (wrong port_key.Key) (value_at (codes "key") (number_in 65536) None ms) >>= λ key.
+    or_fault (wrong port_key.Key) (value_at (codes "key") (integer_in 65536) None ms) >>= λ key.
     or_fault (wrong port_key.Aggregatable) (value_at (codes "aggregatable") flag_in (Some true) ms) >>= λ aggregatable.
     or_fault (wrong port_key.Active) (value_at (codes "active") flag_in (Some true) ms) >>= λ active.
     or_fault (wrong port_key.Short) (value_at (codes "short") flag_in (Some true) ms) >>= λ short.
@@ -50,11 +50,11 @@ system_keys = codes "priority" ∷ codes "mac" ∷ codes "max_delay" ∷ codes "
 abbrev pub numbers_in : ℕ → Members → Result Numbers ScriptFault
 numbers_in system ms =
     let wrong = fault.SystemValue system in
-    unless (keys_among system_keys ms) (fault.SystemExtraKey system) (
-    or_fault (wrong system_key.Priority) (value_at (codes "priority") (number_in 65536) (Some 32768) ms) >>= λ priority.
+    if_or_fault (keys_among system_keys ms) (fault.SystemExtraKey system) (
+    or_fault (wrong system_key.Priority) (value_at (codes "priority") (integer_in 65536) (Some 32768) ms) >>= λ priority.
     or_fault (wrong system_key.Mac) (value_at (codes "mac") mac_in None ms) >>= λ mac.
-    or_fault (wrong system_key.MaxDelay) (value_at (codes "max_delay") (number_in 65536) (Some 0) ms) >>= λ max_delay.
-    or_fault (wrong system_key.FirstMarker) (value_at (codes "first_marker") (number_in 4294967296) (Some 1) ms) >>= λ first_marker.
+    or_fault (wrong system_key.MaxDelay) (value_at (codes "max_delay") (integer_in 65536) (Some 0) ms) >>= λ max_delay.
+    or_fault (wrong system_key.FirstMarker) (value_at (codes "first_marker") (integer_in 4294967296) (Some 1) ms) >>= λ first_marker.
     Ok (record { id = record { priority = priority; mac = mac }; max_delay = max_delay; first_marker = first_marker })
     )
 
@@ -65,9 +65,9 @@ aggregators_in system ms = or_fault (fault.SystemValue system system_key.Aggrega
 -- every element is a table, and each is read as the port at its place
 abbrev pub ports_in : ℕ → List ℕ → Members → Result (List PortConfig) ScriptFault
 ports_in system own ms = or_fault (fault.SystemValue system system_key.Port) (value_at (codes "port") (list_in as_table) None ms)
-    >>= in_place (port_of system own) 1
+    >>= in_place (port_config_of system own) 1
 
-abbrev pub system_of : ℕ → Members → Result SystemPlan ScriptFault
+abbrev pub system_of : ℕ → Members → Result ConfigValue ScriptFault
 system_of system ms =
     numbers_in system ms >>= λ n.
     aggregators_in system ms >>= λ aggregators.
@@ -85,7 +85,7 @@ limit_of cable ms = or_fault (fault.CableLimit cable) (value_at (codes "limit") 
 
 abbrev pub cable_of : ℕ → Members → Result CablePlan ScriptFault
 cable_of cable ms =
-    unless (keys_among cable_keys ms) (fault.CableExtraKey cable) (
+    if_or_fault (keys_among cable_keys ms) (fault.CableExtraKey cable) (
     or_fault (fault.CableEnds cable) (value_at (codes "ends") ends_in None ms) >>= λ ends.
     limit_of cable ms >>= λ limit.
     Ok (record { ends = ends; limit = limit })

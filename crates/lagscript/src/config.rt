@@ -1,5 +1,5 @@
 ghost use Rattle.std.specs.Prelude.{◌≡◌, ◌<◌, length};
-ghost use Rattle.lagscript.specs.Configs.{bad_end, has_bad_end, has_port, refusal_of, shares_end};
+ghost use Rattle.lagscript.specs.Configs.{bad_end, has_bad_end, has_port, world_refusal, shares_end};
 
 use lagsystem::{BadConfig, Config, PortConfig};
 
@@ -77,7 +77,7 @@ impl WorldConfig {
     /// equal identifiers, then the first cable with an end that is no port of its system or that an earlier cable has.
     /// Never `Lines`.
     pub fn refusal(&self) -> Option<BadWorld>
-        ensures { result ≡ refusal_of self.now }
+        ensures { result ≡ world_refusal self.now }
     {
         let [first, second] = &self.systems;
         if let Some(reason) = first.refusal() {

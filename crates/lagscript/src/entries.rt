@@ -1,7 +1,7 @@
 ghost use Rattle.std.specs.Prelude.{◌≡◌, IfOk, map};
-ghost use Rattle.lagscript.specs.Entries.{act_in, act_named, cable_word, configured, five, five_words, four, four_words, hex_word, kind_word, number_word, one, one_word, plain_named, seen, system_word, three, three_words, ticks_word, two, two_words};
-ghost use Rattle.lagscript.specs.Acts as act;
-ghost use Rattle.lagscript.specs.Seen.{Enters, seen_five, seen_four, seen_one, seen_three, seen_two};
+ghost use Rattle.lagscript.specs.Entries.{event_in, event_named, cable_word, configure_event, with_five_words, five_words, with_four_words, four_words, hex_word, kind_word, number_word, with_one_word, one_word, plain_named, event_or_fault, system_word, with_three_words, three_words, ticks_word, with_two_words, two_words};
+ghost use Rattle.lagscript.specs.EventValues as act;
+ghost use Rattle.lagscript.specs.Results.{ReadsEntryAs, five_words_octets, four_words_octets, one_word_octets, three_words_octets, two_words_octets};
 ghost use Rattle.lagscript.specs.declared.entries.EntryError.TheVariants.{Fault, NoMemory as Spent};
 
 use crate::event::Event;
@@ -94,7 +94,7 @@ fn kind(word: &str) -> Result<bool, EntryFault>
 
 /// The word, if there is exactly one.
 fn one_word<'a>(words: &[&'a str]) -> Result<&'a str, EntryFault>
-    ensures { seen_one result ≡ one_word (map (λ w. w.now) words.now) }
+    ensures { one_word_octets result ≡ one_word (map (λ w. w.now) words.now) }
 {
     match words {
         [a] => Ok(*a),
@@ -104,7 +104,7 @@ fn one_word<'a>(words: &[&'a str]) -> Result<&'a str, EntryFault>
 
 /// The words, if there are exactly two.
 fn two_words<'a>(words: &[&'a str]) -> Result<(&'a str, &'a str), EntryFault>
-    ensures { seen_two result ≡ two_words (map (λ w. w.now) words.now) }
+    ensures { two_words_octets result ≡ two_words (map (λ w. w.now) words.now) }
 {
     match words {
         [a, b] => Ok((*a, *b)),
@@ -114,7 +114,7 @@ fn two_words<'a>(words: &[&'a str]) -> Result<(&'a str, &'a str), EntryFault>
 
 /// The words, if there are exactly three.
 fn three_words<'a>(words: &[&'a str]) -> Result<(&'a str, &'a str, &'a str), EntryFault>
-    ensures { seen_three result ≡ three_words (map (λ w. w.now) words.now) }
+    ensures { three_words_octets result ≡ three_words (map (λ w. w.now) words.now) }
 {
     match words {
         [a, b, c] => Ok((*a, *b, *c)),
@@ -124,7 +124,7 @@ fn three_words<'a>(words: &[&'a str]) -> Result<(&'a str, &'a str, &'a str), Ent
 
 /// Reads the words of `emit`: a system and a port.
 fn emit(words: &[&str]) -> Result<Event, EntryFault>
-    ensures { seen result ≡ two system_word number_word act.emit (map (λ w. w.now) words.now) }
+    ensures { event_or_fault result ≡ with_two_words system_word number_word act.emit (map (λ w. w.now) words.now) }
 {
     let (s, port) = two_words(words)?;
     Ok(Event::Emit(system(s)?, number(port)?))
@@ -132,7 +132,7 @@ fn emit(words: &[&str]) -> Result<Event, EntryFault>
 
 /// Reads the words of `tick`: a system and a number of ticks.
 fn tick(words: &[&str]) -> Result<Event, EntryFault>
-    ensures { seen result ≡ two system_word ticks_word act.tick (map (λ w. w.now) words.now) }
+    ensures { event_or_fault result ≡ with_two_words system_word ticks_word act.tick (map (λ w. w.now) words.now) }
 {
     let (s, n) = two_words(words)?;
     Ok(Event::Tick(system(s)?, ticks(n)?))
@@ -140,7 +140,7 @@ fn tick(words: &[&str]) -> Result<Event, EntryFault>
 
 /// The words, if there are exactly four.
 fn four_words<'a>(words: &[&'a str]) -> Result<(&'a str, &'a str, &'a str, &'a str), EntryFault>
-    ensures { seen_four result ≡ four_words (map (λ w. w.now) words.now) }
+    ensures { four_words_octets result ≡ four_words (map (λ w. w.now) words.now) }
 {
     match words {
         [a, b, c, d] => Ok((*a, *b, *c, *d)),
@@ -152,7 +152,7 @@ fn four_words<'a>(words: &[&'a str]) -> Result<(&'a str, &'a str, &'a str, &'a s
 fn five_words<'a>(
     words: &[&'a str],
 ) -> Result<(&'a str, &'a str, &'a str, &'a str, &'a str), EntryFault>
-    ensures { seen_five result ≡ five_words (map (λ w. w.now) words.now) }
+    ensures { five_words_octets result ≡ five_words (map (λ w. w.now) words.now) }
 {
     match words {
         [a, b, c, d, e] => Ok((*a, *b, *c, *d, *e)),
@@ -161,56 +161,56 @@ fn five_words<'a>(
 }
 
 fn deliver(cables: usize, words: &[&str]) -> Result<Event, EntryFault>
-    ensures { seen result ≡ two (cable_word cables) system_word act.deliver (map (λ w. w.now) words.now) }
+    ensures { event_or_fault result ≡ with_two_words (cable_word cables) system_word act.deliver (map (λ w. w.now) words.now) }
 {
     let (c, s) = two_words(words)?;
     Ok(Event::Deliver(cable(cables, c)?, system(s)?))
 }
 
 fn lose(cables: usize, words: &[&str]) -> Result<Event, EntryFault>
-    ensures { seen result ≡ two (cable_word cables) system_word act.lose (map (λ w. w.now) words.now) }
+    ensures { event_or_fault result ≡ with_two_words (cable_word cables) system_word act.lose (map (λ w. w.now) words.now) }
 {
     let (c, s) = two_words(words)?;
     Ok(Event::Lose(cable(cables, c)?, system(s)?))
 }
 
 fn repeat(cables: usize, words: &[&str]) -> Result<Event, EntryFault>
-    ensures { seen result ≡ two (cable_word cables) system_word act.repeat (map (λ w. w.now) words.now) }
+    ensures { event_or_fault result ≡ with_two_words (cable_word cables) system_word act.repeat (map (λ w. w.now) words.now) }
 {
     let (c, s) = two_words(words)?;
     Ok(Event::Repeat(cable(cables, c)?, system(s)?))
 }
 
 fn sense(cables: usize, words: &[&str]) -> Result<Event, EntryFault>
-    ensures { seen result ≡ two (cable_word cables) system_word act.sense (map (λ w. w.now) words.now) }
+    ensures { event_or_fault result ≡ with_two_words (cable_word cables) system_word act.sense (map (λ w. w.now) words.now) }
 {
     let (c, s) = two_words(words)?;
     Ok(Event::Sense(cable(cables, c)?, system(s)?))
 }
 
 fn cut(cables: usize, words: &[&str]) -> Result<Event, EntryFault>
-    ensures { seen result ≡ one (cable_word cables) act.cut (map (λ w. w.now) words.now) }
+    ensures { event_or_fault result ≡ with_one_word (cable_word cables) act.cut (map (λ w. w.now) words.now) }
 {
     let c = one_word(words)?;
     Ok(Event::Cut(cable(cables, c)?))
 }
 
 fn join(cables: usize, words: &[&str]) -> Result<Event, EntryFault>
-    ensures { seen result ≡ one (cable_word cables) act.join (map (λ w. w.now) words.now) }
+    ensures { event_or_fault result ≡ with_one_word (cable_word cables) act.join (map (λ w. w.now) words.now) }
 {
     let c = one_word(words)?;
     Ok(Event::Join(cable(cables, c)?))
 }
 
 fn restart(words: &[&str]) -> Result<Event, EntryFault>
-    ensures { seen result ≡ one system_word act.restart (map (λ w. w.now) words.now) }
+    ensures { event_or_fault result ≡ with_one_word system_word act.restart (map (λ w. w.now) words.now) }
 {
     let s = one_word(words)?;
     Ok(Event::Restart(system(s)?))
 }
 
 fn configure(words: &[&str]) -> Result<Event, EntryFault>
-    ensures { seen result ≡ five system_word number_word number_word number_word kind_word configured (map (λ w. w.now) words.now) }
+    ensures { event_or_fault result ≡ with_five_words system_word number_word number_word number_word kind_word configure_event (map (λ w. w.now) words.now) }
 {
     let (s, port, key, priority, aggregatable) = five_words(words)?;
     let s = system(s)?;
@@ -227,7 +227,7 @@ fn configure(words: &[&str]) -> Result<Event, EntryFault>
 }
 
 fn move_to(words: &[&str]) -> Result<Event, EntryFault>
-    ensures { seen result ≡ four system_word number_word number_word number_word act.move_to (map (λ w. w.now) words.now) }
+    ensures { event_or_fault result ≡ with_four_words system_word number_word number_word number_word act.move_to (map (λ w. w.now) words.now) }
 {
     let (s, agg, conv, port) = four_words(words)?;
     let s = system(s)?;
@@ -236,7 +236,7 @@ fn move_to(words: &[&str]) -> Result<Event, EntryFault>
 }
 
 fn force(words: &[&str]) -> Result<Event, EntryFault>
-    ensures { seen result ≡ three system_word number_word number_word act.force (map (λ w. w.now) words.now) }
+    ensures { event_or_fault result ≡ with_three_words system_word number_word number_word act.force (map (λ w. w.now) words.now) }
 {
     let (s, agg, conv) = three_words(words)?;
     Ok(Event::Force(system(s)?, AggId(number(agg)?), number(conv)?))
@@ -244,7 +244,7 @@ fn force(words: &[&str]) -> Result<Event, EntryFault>
 
 /// Reads an event, by its first word and the words after it; all events but `offer`.
 fn plain_named(cables: usize, name: &str, words: &[&str]) -> Result<Event, EntryFault>
-    ensures { seen result ≡ plain_named cables name.now (map (λ w. w.now) words.now) }
+    ensures { event_or_fault result ≡ plain_named cables name.now (map (λ w. w.now) words.now) }
 {
     match name {
         "tick" => tick(words),
@@ -265,7 +265,7 @@ fn plain_named(cables: usize, name: &str, words: &[&str]) -> Result<Event, Entry
 
 /// Reads the words of `offer`: a system, an aggregator and a frame.
 fn offer(alloc: Global, words: &[&str]) -> Result<Event, EntryError>
-    ensures { Enters (three system_word number_word hex_word act.offer (map (λ w. w.now) words.now)) result }
+    ensures { ReadsEntryAs (with_three_words system_word number_word hex_word act.offer (map (λ w. w.now) words.now)) result }
 {
     let (s, agg, frame) = three_words(words)?;
     let s = system(s)?;
@@ -284,7 +284,7 @@ fn event_named(
     name: &str,
     words: &[&str],
 ) -> Result<Event, EntryError>
-    ensures { Enters (act_named cables name.now (map (λ w. w.now) words.now)) result }
+    ensures { ReadsEntryAs (event_named cables name.now (map (λ w. w.now) words.now)) result }
 {
     if name == "offer" {
         return offer(alloc, words);
@@ -297,7 +297,7 @@ fn event_named(
 
 /// Reads the event of an entry, in a script with this many cables.
 pub(crate) fn event_in(alloc: Global, cables: usize, text: &str) -> Result<Event, EntryError>
-    ensures { Enters (act_in cables text.now) result }
+    ensures { ReadsEntryAs (event_in cables text.now) result }
 {
     let words = words_of(alloc, text)?;
     match words.as_slice() {

@@ -2,16 +2,16 @@ ghost use Rattle.std.specs.Prelude.{◌≡◌, IfOk, map, option_map};
 ghost use Rattle.toml.specs.Data.{as_str, as_table};
 ghost use Rattle.toml.specs.View.{items_view, table_view, view};
 ghost use Rattle.lagscript.specs.Keys.{each_in, key_in, list_in};
-ghost use Rattle.lagscript.specs.Seen.{table_seen, word_seen};
+ghost use Rattle.lagscript.specs.Results.{table_members, word_octets};
 
-use crate::values::number_in;
+use crate::values::integer_in;
 use lagtypes::Key;
 use std::alloc::{AllocError, Global};
 use toml::{Table, Value};
 
 /// Each value as a table; None if one is not a table.
 fn each_table<'a>(alloc: Global, values: &'a [Value]) -> Result<Option<Vec<&'a Table>>, AllocError>
-    ensures { IfOk result (λ o. option_map (λ v. map table_seen v.items) o ≡ each_in as_table (items_view values.now)) }
+    ensures { IfOk result (λ o. option_map (λ v. map table_members v.items) o ≡ each_in as_table (items_view values.now)) }
 {
     let mut tables = Vec::with_capacity(alloc, values.len())?;
     for value in values {
@@ -25,7 +25,7 @@ fn each_table<'a>(alloc: Global, values: &'a [Value]) -> Result<Option<Vec<&'a T
 
 /// Each value as a string; None if one is not a string.
 fn each_text<'a>(alloc: Global, values: &'a [Value]) -> Result<Option<Vec<&'a str>>, AllocError>
-    ensures { IfOk result (λ o. option_map (λ v. map word_seen v.items) o ≡ each_in as_str (items_view values.now)) }
+    ensures { IfOk result (λ o. option_map (λ v. map word_octets v.items) o ≡ each_in as_str (items_view values.now)) }
 {
     let mut texts = Vec::with_capacity(alloc, values.len())?;
     for value in values {
@@ -43,7 +43,7 @@ fn each_key(alloc: Global, values: &[Value]) -> Result<Option<Vec<Key>>, AllocEr
 {
     let mut keys = Vec::with_capacity(alloc, values.len())?;
     for value in values {
-        match number_in(value) {
+        match integer_in(value) {
             Some(number) => keys.push(Key(number))?,
             None => return Ok(None),
         }
@@ -56,7 +56,7 @@ pub(crate) fn tables_in<'a>(
     alloc: Global,
     value: &'a Value,
 ) -> Result<Option<Vec<&'a Table>>, AllocError>
-    ensures { IfOk result (λ o. option_map (λ v. map table_seen v.items) o ≡ list_in as_table (view value.now)) }
+    ensures { IfOk result (λ o. option_map (λ v. map table_members v.items) o ≡ list_in as_table (view value.now)) }
 {
     match value.as_array() {
         Some(values) => each_table(alloc, values),
@@ -69,7 +69,7 @@ pub(crate) fn texts_in<'a>(
     alloc: Global,
     value: &'a Value,
 ) -> Result<Option<Vec<&'a str>>, AllocError>
-    ensures { IfOk result (λ o. option_map (λ v. map word_seen v.items) o ≡ list_in as_str (view value.now)) }
+    ensures { IfOk result (λ o. option_map (λ v. map word_octets v.items) o ≡ list_in as_str (view value.now)) }
 {
     match value.as_array() {
         Some(values) => each_text(alloc, values),

@@ -1,14 +1,14 @@
 ghost use Rattle.std.specs.Prelude.{◌≡◌, ◌≢◌, All, IfOk, None, Some, length, map, option_and_then, option_map};
 ghost use Rattle.toml.specs.View.{table_view};
-ghost use Rattle.lagscript.specs.Acts.{act_of, acts_of};
-ghost use Rattle.lagscript.specs.Configs.{plan_of, refusal_of};
-ghost use Rattle.lagscript.specs.Entries.{act_at, acts_from};
-ghost use Rattle.lagscript.specs.Keys.{pair_of};
-ghost use Rattle.lagscript.specs.Readings.{Answers, in_place};
-ghost use Rattle.lagscript.specs.Scripts.{Reads, ReadsPlan, acts_in, cables_in, config_fault, ends_of, limits_of, plan_in, plan_shown, systems_in, two_systems};
+ghost use Rattle.lagscript.specs.EventValues.{event_value, event_values};
+ghost use Rattle.lagscript.specs.Configs.{config_value, world_refusal};
+ghost use Rattle.lagscript.specs.Entries.{event_at, events_from};
+ghost use Rattle.lagscript.specs.Keys.{just_two};
+ghost use Rattle.lagscript.specs.Readings.{ReadsAs, in_place};
+ghost use Rattle.lagscript.specs.Scripts.{ReadsScript, ReadsPlan, events_in, cables_in, script_fault_for, ends_of, limits_of, plan_in, plan_value, systems_in, two_systems};
 ghost use Rattle.lagscript.specs.Tables.{cable_of};
 ghost use Rattle.lagscript.specs.declared.fault.ScriptFault.TheVariants.{NoMemory};
-ghost use Rattle.lagscript.specs.Seen.{table_seen, word_seen};
+ghost use Rattle.lagscript.specs.Results.{table_members, word_octets};
 
 use crate::config::{BadWorld, WorldConfig};
 use crate::entries::{EntryError, event_in};
@@ -29,8 +29,8 @@ const TOP_KEYS: [&str; 3] = ["system", "cable", "events"];
 
 /// The fault of a script whose configuration is refused for this reason; None for `Lines`, which a script does not
 /// have.
-fn config_fault(reason: BadWorld) -> Option<ScriptFault>
-    ensures { result ≡ config_fault reason }
+fn script_fault_for(reason: BadWorld) -> Option<ScriptFault>
+    ensures { result ≡ script_fault_for reason }
 {
     match reason {
         BadWorld::System { side, reason } => match reason {
@@ -46,17 +46,17 @@ fn config_fault(reason: BadWorld) -> Option<ScriptFault>
 
 /// The fault of a script with this configuration, or None.
 fn fault_of(config: &WorldConfig) -> Option<ScriptFault>
-    ensures { result ≡ option_and_then config_fault (refusal_of config.now) }
+    ensures { result ≡ option_and_then script_fault_for (world_refusal config.now) }
 {
     match config.refusal() {
-        Some(reason) => config_fault(reason),
+        Some(reason) => script_fault_for(reason),
         None => None,
     }
 }
 
 /// Reads the cables from these tables, in order.
 fn each_cable(alloc: Global, tables: &[&Table]) -> Result<Vec<CablePlan>, ScriptFault>
-    ensures { Answers NoMemory (λ v. v.items) (in_place cable_of 1 (map table_seen tables.now)) result }
+    ensures { ReadsAs NoMemory (λ v. v.items) (in_place cable_of 1 (map table_members tables.now)) result }
 {
     let mut cables = Vec::with_capacity(alloc, tables.len())?;
     let mut place = 0;
@@ -70,7 +70,7 @@ fn each_cable(alloc: Global, tables: &[&Table]) -> Result<Vec<CablePlan>, Script
 
 /// Reads the cables of a script.
 fn cables_of(alloc: Global, top: &Table) -> Result<Vec<CablePlan>, ScriptFault>
-    ensures { Answers NoMemory (λ v. v.items) (cables_in (table_view top.now)) result }
+    ensures { ReadsAs NoMemory (λ v. v.items) (cables_in (table_view top.now)) result }
 {
     match member(top, "cable") {
         Some(value) => match tables_in(alloc, value)? {
@@ -83,7 +83,7 @@ fn cables_of(alloc: Global, top: &Table) -> Result<Vec<CablePlan>, ScriptFault>
 
 /// Reads the event of the entry at this place, counted from 1, in a script with this many cables.
 fn event_at(alloc: Global, cables: usize, place: usize, text: &str) -> Result<Event, ScriptFault>
-    ensures { Answers NoMemory act_of (act_at cables place text.now) result }
+    ensures { ReadsAs NoMemory event_value (event_at cables place text.now) result }
 {
     match event_in(alloc, cables, text) {
         Ok(event) => Ok(event),
@@ -94,7 +94,7 @@ fn event_at(alloc: Global, cables: usize, place: usize, text: &str) -> Result<Ev
 
 /// Reads the events of these entries, in order.
 fn each_event(alloc: Global, cables: usize, texts: &[&str]) -> Result<Vec<Event>, ScriptFault>
-    ensures { Answers NoMemory (λ v. acts_of v.items) (acts_from cables 1 (map word_seen texts.now)) result }
+    ensures { ReadsAs NoMemory (λ v. event_values v.items) (events_from cables 1 (map word_octets texts.now)) result }
 {
     let mut events = Vec::with_capacity(alloc, texts.len())?;
     let mut place = 0;
@@ -108,7 +108,7 @@ fn each_event(alloc: Global, cables: usize, texts: &[&str]) -> Result<Vec<Event>
 
 /// Reads the events of a script with this many cables.
 fn events_of(alloc: Global, cables: usize, top: &Table) -> Result<Vec<Event>, ScriptFault>
-    ensures { Answers NoMemory (λ v. acts_of v.items) (acts_in cables (table_view top.now)) result }
+    ensures { ReadsAs NoMemory (λ v. event_values v.items) (events_in cables (table_view top.now)) result }
 {
     match member(top, "events") {
         Some(value) => match texts_in(alloc, value)? {
@@ -121,7 +121,7 @@ fn events_of(alloc: Global, cables: usize, top: &Table) -> Result<Vec<Event>, Sc
 
 /// The tables, if there are exactly two.
 fn pair<'a>(tables: &[&'a Table]) -> Option<(&'a Table, &'a Table)>
-    ensures { option_map (λ p. (table_seen p.0, table_seen p.1)) result ≡ pair_of (Some (map table_seen tables.now)) }
+    ensures { option_map (λ p. (table_members p.0, table_members p.1)) result ≡ just_two (Some (map table_members tables.now)) }
 {
     match tables {
         [first, second] => Some((*first, *second)),
@@ -131,7 +131,7 @@ fn pair<'a>(tables: &[&'a Table]) -> Option<(&'a Table, &'a Table)>
 
 /// Reads the two systems from these tables.
 fn two_systems(alloc: Global, tables: &[&Table]) -> Result<[Config; 2], ScriptFault>
-    ensures { Answers NoMemory (map plan_of) (two_systems (map table_seen tables.now)) result }
+    ensures { ReadsAs NoMemory (map config_value) (two_systems (map table_members tables.now)) result }
 {
     let (first, second) = pair(tables).ok_or(ScriptFault::Systems)?;
     let first = system_of(alloc, 1, first)?;
@@ -141,7 +141,7 @@ fn two_systems(alloc: Global, tables: &[&Table]) -> Result<[Config; 2], ScriptFa
 
 /// Reads the two systems of a script.
 fn systems_of(alloc: Global, top: &Table) -> Result<[Config; 2], ScriptFault>
-    ensures { Answers NoMemory (map plan_of) (systems_in (table_view top.now)) result }
+    ensures { ReadsAs NoMemory (map config_value) (systems_in (table_view top.now)) result }
 {
     match member(top, "system") {
         Some(value) => match tables_in(alloc, value)? {
@@ -168,8 +168,8 @@ fn limits_of(alloc: Global, cables: &[CablePlan]) -> Result<Vec<Option<u16>>, Al
 
 /// Reads the plan of a document.
 fn plan_in(alloc: Global, top: &Table) -> Result<Plan, ScriptFault>
-    ensures reads { Answers NoMemory plan_shown (plan_in (table_view top.now)) result }
-    ensures accepted { IfOk result (λ plan. refusal_of plan.config ≡ None) }
+    ensures reads { ReadsAs NoMemory plan_value (plan_in (table_view top.now)) result }
+    ensures accepted { IfOk result (λ plan. world_refusal plan.config ≡ None) }
     ensures one_each { IfOk result (λ plan. length plan.limits.items ≡ length plan.config.cables.items) }
     ensures from_one { IfOk result (λ plan. All (λ limit. limit ≢ Some 0) plan.limits.items) }
 {
@@ -202,7 +202,7 @@ fn plan_in(alloc: Global, top: &Table) -> Result<Plan, ScriptFault>
 /// document, in the order of `ScriptFault`.
 pub fn read_plan(alloc: Global, text: &str) -> Result<Plan, ScriptFault>
     ensures reads { ReadsPlan text.now result }
-    ensures accepted { IfOk result (λ plan. refusal_of plan.config ≡ None) }
+    ensures accepted { IfOk result (λ plan. world_refusal plan.config ≡ None) }
     ensures one_each { IfOk result (λ plan. length plan.limits.items ≡ length plan.config.cables.items) }
     ensures from_one { IfOk result (λ plan. All (λ limit. limit ≢ Some 0) plan.limits.items) }
 {
@@ -221,8 +221,8 @@ pub fn read_plan(alloc: Global, text: &str) -> Result<Plan, ScriptFault>
 /// Reads a script without the limits of its cables (profile): the configuration of two systems and their cables, and
 /// the events. The faults are those of `read_plan`.
 pub fn read_script(alloc: Global, text: &str) -> Result<(WorldConfig, Vec<Event>), ScriptFault>
-    ensures reads { Reads text.now result }
-    ensures accepted { IfOk result (λ r. refusal_of r.0 ≡ None) }
+    ensures reads { ReadsScript text.now result }
+    ensures accepted { IfOk result (λ r. world_refusal r.0 ≡ None) }
 {
     let plan = read_plan(alloc, text)?;
     Ok((plan.config, plan.events))

@@ -1,10 +1,10 @@
 ghost use Rattle.std.specs.Prelude.{◌≡◌, map};
 ghost use Rattle.toml.specs.View.{table_view};
-ghost use Rattle.lagscript.specs.Configs.{plan_of};
-ghost use Rattle.lagscript.specs.Readings.{Answers, in_place};
-ghost use Rattle.lagscript.specs.Tables.{aggregators_in, cable_of, limit_of, numbers_in, port_of, ports_in, system_of};
+ghost use Rattle.lagscript.specs.Configs.{config_value};
+ghost use Rattle.lagscript.specs.Readings.{ReadsAs, in_place};
+ghost use Rattle.lagscript.specs.Tables.{aggregators_in, cable_of, limit_of, numbers_in, port_config_of, ports_in, system_of};
 ghost use Rattle.lagscript.specs.declared.fault.ScriptFault.TheVariants.{NoMemory};
-ghost use Rattle.lagscript.specs.Seen.{table_seen};
+ghost use Rattle.lagscript.specs.Results.{table_members};
 
 use crate::fault::{PortKey, ScriptFault, SystemKey};
 use crate::lists::{keys_in, tables_in};
@@ -38,8 +38,13 @@ const PORT_KEYS: [&str; 7] = [
 const CABLE_KEYS: [&str; 2] = ["ends", "limit"];
 
 /// Reads the port at this place of a system. If the MAC address is left out, it is that of the system.
-fn port_of(system: u8, own: [u8; 6], place: usize, table: &Table) -> Result<PortConfig, ScriptFault>
-    ensures { result ≡ port_of system own place (table_view table.now) }
+fn port_config_of(
+    system: u8,
+    own: [u8; 6],
+    place: usize,
+    table: &Table,
+) -> Result<PortConfig, ScriptFault>
+    ensures { result ≡ port_config_of system own place (table_view table.now) }
 {
     if !has_only(table, &PORT_KEYS) {
         return Err(ScriptFault::PortExtraKey(system, place));
@@ -72,13 +77,13 @@ fn each_port(
     own: [u8; 6],
     tables: &[&Table],
 ) -> Result<Vec<PortConfig>, ScriptFault>
-    ensures { Answers NoMemory (λ v. v.items) (in_place (port_of system own) 1 (map table_seen tables.now)) result }
+    ensures { ReadsAs NoMemory (λ v. v.items) (in_place (port_config_of system own) 1 (map table_members tables.now)) result }
 {
     let mut ports = Vec::with_capacity(alloc, tables.len())?;
     let mut place = 0;
     for table in tables {
         place += 1;
-        let port = port_of(system, own, place, *table)?;
+        let port = port_config_of(system, own, place, *table)?;
         ports.push(port)?;
     }
     Ok(ports)
@@ -91,7 +96,7 @@ fn ports_of(
     own: [u8; 6],
     table: &Table,
 ) -> Result<Vec<PortConfig>, ScriptFault>
-    ensures { Answers NoMemory (λ v. v.items) (ports_in system own (table_view table.now)) result }
+    ensures { ReadsAs NoMemory (λ v. v.items) (ports_in system own (table_view table.now)) result }
 {
     let wrong = ScriptFault::SystemValue(system, SystemKey::Port);
     match member(table, "port") {
@@ -105,7 +110,7 @@ fn ports_of(
 
 /// Reads the keys of a system's aggregators.
 fn aggregators_of(alloc: Global, system: u8, table: &Table) -> Result<Vec<Key>, ScriptFault>
-    ensures { Answers NoMemory (λ v. v.items) (aggregators_in system (table_view table.now)) result }
+    ensures { ReadsAs NoMemory (λ v. v.items) (aggregators_in system (table_view table.now)) result }
 {
     let wrong = ScriptFault::SystemValue(system, SystemKey::Aggregators);
     match member(table, "aggregators") {
@@ -148,7 +153,7 @@ fn numbers_of(system: u8, table: &Table) -> Result<Numbers, ScriptFault>
 
 /// Reads the configuration of a system.
 pub(crate) fn system_of(alloc: Global, system: u8, table: &Table) -> Result<Config, ScriptFault>
-    ensures { Answers NoMemory plan_of (system_of system (table_view table.now)) result }
+    ensures { ReadsAs NoMemory config_value (system_of system (table_view table.now)) result }
 {
     let numbers = numbers_of(system, table)?;
     let aggregators = aggregators_of(alloc, system, table)?;

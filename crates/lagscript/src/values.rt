@@ -4,7 +4,7 @@ ghost use Rattle.std.specs.List.{list_all, list_any};
 ghost use Rattle.std.specs.Str.{bytes_eq};
 ghost use Rattle.toml.specs.Data.{get_member};
 ghost use Rattle.toml.specs.View.{items_view, table_view, view};
-ghost use Rattle.lagscript.specs.Keys.{each_in, ends_in, flag_in, keys_among, limit_in, mac_in, number_in, pair_of, value_at};
+ghost use Rattle.lagscript.specs.Keys.{each_in, ends_in, flag_in, keys_among, limit_in, mac_in, integer_in, just_two, value_at};
 
 use crate::words::mac_of;
 use toml::{Table, Value};
@@ -38,8 +38,8 @@ pub(crate) fn member<'a>(table: &'a Table, key: &str) -> Option<&'a Value>
 }
 
 /// The value as a number from 0 to 65535.
-pub(crate) fn number_in(value: &Value) -> Option<u16>
-    ensures { result ≡ number_in 65536 (view value.now) }
+pub(crate) fn integer_in(value: &Value) -> Option<u16>
+    ensures { result ≡ integer_in 65536 (view value.now) }
 {
     match value {
         Value::Integer(n) => u16::try_from(*n).ok(),
@@ -49,7 +49,7 @@ pub(crate) fn number_in(value: &Value) -> Option<u16>
 
 /// The value as a number from 0 to 4294967295.
 pub(crate) fn long_number_in(value: &Value) -> Option<u32>
-    ensures { result ≡ number_in 4294967296 (view value.now) }
+    ensures { result ≡ integer_in 4294967296 (view value.now) }
 {
     match value {
         Value::Integer(n) => u32::try_from(*n).ok(),
@@ -61,7 +61,7 @@ pub(crate) fn long_number_in(value: &Value) -> Option<u32>
 pub(crate) fn limit_in(value: &Value) -> Option<u16>
     ensures { result ≡ limit_in (view value.now) }
 {
-    match number_in(value) {
+    match integer_in(value) {
         Some(n) if n >= 1 => Some(n),
         _ => None,
     }
@@ -89,17 +89,17 @@ pub(crate) fn mac_in(value: &Value) -> Option<[u8; 6]>
 
 /// The number of a key, or this default if the key is left out.
 pub(crate) fn number_at(table: &Table, key: &str, default: Option<u16>) -> Option<u16>
-    ensures { result ≡ value_at key.now (number_in 65536) default (table_view table.now) }
+    ensures { result ≡ value_at key.now (integer_in 65536) default (table_view table.now) }
 {
     match member(table, key) {
-        Some(value) => number_in(value),
+        Some(value) => integer_in(value),
         None => default,
     }
 }
 
 /// The number of a key, 0 to 4294967295, or this default if the key is left out.
 pub(crate) fn long_number_at(table: &Table, key: &str, default: Option<u32>) -> Option<u32>
-    ensures { result ≡ value_at key.now (number_in 4294967296) default (table_view table.now) }
+    ensures { result ≡ value_at key.now (integer_in 4294967296) default (table_view table.now) }
 {
     match member(table, key) {
         Some(value) => long_number_in(value),
@@ -129,10 +129,10 @@ pub(crate) fn mac_at(table: &Table, key: &str, default: Option<[u8; 6]>) -> Opti
 
 /// The numbers, if there are exactly two.
 fn two_numbers(values: &[Value]) -> Option<(u16, u16)>
-    ensures { result ≡ pair_of (each_in (number_in 65536) (items_view values.now)) }
+    ensures { result ≡ just_two (each_in (integer_in 65536) (items_view values.now)) }
 {
     match values {
-        [a, b] => Some((number_in(a)?, number_in(b)?)),
+        [a, b] => Some((integer_in(a)?, integer_in(b)?)),
         _ => None,
     }
 }

@@ -12,7 +12,7 @@ use Rattle.lagtypes.specs.Group.{SamePair}
 use Rattle.portmachines.specs.declared.mux.MuxState.{MuxState}
 use Rattle.portmachines.specs.declared.mux.MuxState.TheVariants.{Detached, Waiting, Attached, CollectingDistributing}
 use Rattle.lagtypes.specs.Choices.{is_selected}
-use Rattle.portmachines.specs.Mux.{is_mux, partner_synchronized}
+use Rattle.portmachines.specs.Mux.{same_mux_state, partner_synchronized}
 use Rattle.selection.specs.declared.view.PortView.{PortView as Seen}
 use Rattle.selection.specs.Choice.{choice, choice_of_view}
 use Rattle.selection.specs.Joining.{Joins, ends}
@@ -20,62 +20,62 @@ use Rattle.lagtypes.specs.Same.{same_system}
 use Rattle.lagtypes.specs.Choices.{is_unselected}
 use Rattle.selection.specs.Views.{is_detached, is_eligible}
 use Rattle.selection.proofs.Joining.{choice-joins, if-some}
-use Rattle.lagmodel.specs.View.{PortView, Setup, Call, Flows}
-use Rattle.lagmodel.specs.Move.{PortMove, PortAllowed, port_after, group_at, FreeMoves}
-use Rattle.lagmodel.specs.Kept.{find_number, ports_of}
+use Rattle.lagmodel.specs.View.{PortFacts, SystemSetup, ModelCall, Flows}
+use Rattle.lagmodel.specs.Move.{PortMove, PortAllowed, port_after, pair_at, FreeMoves}
+use Rattle.lagmodel.specs.Bridge.{find_number, ports_of}
 use Rattle.lagmodel.proofs.Base.{mapped_some}
 use Rattle.lagmodel.proofs.Uses.{moves_at, moves_joined}
-use Rattle.lagsystem.specs.declared.slots.Slot.{Slot}
-use Rattle.lagsystem.specs.Settling.{chosen, choose_slot, given, takes}
-use Rattle.lagsystem.specs.Shown.{number, shown_slot, view_at, key_of, aggregator_of}
-use Rattle.lagsystem.specs.State.{numbers}
-use Rattle.lagsystem.specs.Views.{views, view_of, stage_of}
+use Rattle.lagsystem.specs.declared.slots.SystemPort.{SystemPort}
+use Rattle.lagsystem.specs.Settling.{chosen, choose_slot, given, aggregator_for}
+use Rattle.lagsystem.specs.ModelView.{number, model_port_of, model_view_at, key_of, selected_number}
+use Rattle.lagsystem.specs.State.{port_numbers}
+use Rattle.lagsystem.specs.Views.{views, selection_view, stage_of}
 use Rattle.lagsystem.proofs.Keeps.{chosen_numbers}
 use Rattle.lagsystem.proofs.Rising.{Rises, all_found, are_numbered, find_here}
 use Rattle.lagsystem.proofs.SettlingLemmas.{set_same}
 
 -- the keys of the aggregators are those of the configuration
-abbrev pub Fits : Setup → List Key → Type 0
+abbrev pub Fits : SystemSetup → List Key → Type 0
 Fits u keys = (g : ℕ) → u.key g ≡ key_of keys g
 
 key_there : (keys : List Key) (n : ℕ) (k : Key) → 0 < n → slice_get keys (n - 1) ≡ Some k → key_of keys n ≡ Some k
 key_there keys zero k l e = absurd (omega arith)
 key_there keys (suc n) k l e = let same : suc n - 1 ≡ n = omega arith in subst (λ m. slice_get keys m ≡ Some k) same e
 
-each_seen : (P : Seen → Type 0) (slots : List Slot) → All P (views slots) → AllByRecursion (λ s. P (view_of s)) slots
+each_seen : (P : Seen → Type 0) (slots : List SystemPort) → All P (views slots) → AllByRecursion (λ s. P (selection_view s)) slots
 each_seen P [] h = tt
-each_seen P (s ∷ ss) h = (h 0 (view_of s) (omega arith), each_seen P ss (λ k d within. h (suc k) d (omega arith)))
+each_seen P (s ∷ ss) h = (h 0 (selection_view s) (omega arith), each_seen P ss (λ k d within. h (suc k) d (omega arith)))
 
-all_weaker : (P Q : Slot → Type 0) → ((s : Slot) → P s → Q s) → (slots : List Slot) → AllByRecursion P slots → AllByRecursion Q slots
+all_weaker : (P Q : SystemPort → Type 0) → ((s : SystemPort) → P s → Q s) → (slots : List SystemPort) → AllByRecursion P slots → AllByRecursion Q slots
 all_weaker P Q w [] h = tt
 all_weaker P Q w (s ∷ ss) h = (w s h.0, all_weaker P Q w ss h.1)
 
-all_shown : (P : PortView → Type 0) (slots : List Slot) → AllByRecursion (λ s. P (shown_slot s)) slots → (q : ℕ) (b : PortView) → ports_of number shown_slot slots q ≡ Some b → P b
+all_shown : (P : PortFacts → Type 0) (slots : List SystemPort) → AllByRecursion (λ s. P (model_port_of s)) slots → (q : ℕ) (b : PortFacts) → ports_of number model_port_of slots q ≡ Some b → P b
 all_shown P slots all q b e =
-    let x = mapped_some shown_slot (find_number number slots q) b e in
-    subst P x.2 (all_found (λ s. P (shown_slot s)) slots all q x.0 x.1)
+    let x = mapped_some model_port_of (find_number number slots q) b e in
+    subst P x.2 (all_found (λ s. P (model_port_of s)) slots all q x.0 x.1)
 
-given_there : (agg : AggId) (c : Choice) → aggregator_of c ≡ Some agg.0 → c ≡ Selected agg
+given_there : (agg : AggId) (c : Choice) → selected_number c ≡ Some agg.0 → c ≡ Selected agg
 given_there agg Unselected e = absurd (none-some agg.0 e)
 given_there agg (Selected a) e = let same = same_Some a.0 agg.0 e in λ i. Selected (record { 0 = same i })
 
-join_allowed : (u : Setup) (call : Call) (keys : List Key) (slots : List Slot) (slot : Slot) (agg : AggId) → Fits u keys → Joins keys (views slots) agg (view_of slot)
-    → PortAllowed u call (ports_of number shown_slot slots) slot.number (PortMove.Join agg.0) (shown_slot slot)
+join_allowed : (u : SystemSetup) (call : ModelCall) (keys : List Key) (slots : List SystemPort) (slot : SystemPort) (agg : AggId) → Fits u keys → Joins keys (views slots) agg (selection_view slot)
+    → PortAllowed u call (ports_of number model_port_of slots) slot.number (PortMove.Join agg.0) (model_port_of slot)
 join_allowed u call keys slots slot agg fits j = (
-  ap aggregator_of j.outside,
+  ap selected_number j.outside,
   j.apart,
   fits agg.0 ∙ key_there keys agg.0 slot.port.party.key j.numbered j.key,
   elim j.members [
     | inl none ↦
         inl (all_shown (λ b. b.aggregator ≢ Some agg.0) slots
-        (all_weaker (λ s. s.port.choice ≢ Selected agg) (λ s. (shown_slot s).aggregator ≢ Some agg.0) (λ s away e. away (given_there agg s.port.choice e)) slots
+        (all_weaker (λ s. s.port.choice ≢ Selected agg) (λ s. (model_port_of s).aggregator ≢ Some agg.0) (λ s away e. away (given_there agg s.port.choice e)) slots
         (each_seen (λ w. w.choice ≢ Selected agg) slots none)))
     | inr shared ↦
         inr (
-          all_shown (λ b. b.aggregator ≡ Some agg.0 → SamePair (group_at b) (group_at (shown_slot slot))) slots
-              (all_weaker (λ s. s.port.choice ≡ Selected agg → SamePair (ends (view_of s)) (ends (view_of slot))) (λ s. (shown_slot s).aggregator ≡ Some agg.0 → SamePair (group_at (shown_slot s)) (group_at (shown_slot slot)))
+          all_shown (λ b. b.aggregator ≡ Some agg.0 → SamePair (pair_at b) (pair_at (model_port_of slot))) slots
+              (all_weaker (λ s. s.port.choice ≡ Selected agg → SamePair (ends (selection_view s)) (ends (selection_view slot))) (λ s. (model_port_of s).aggregator ≡ Some agg.0 → SamePair (pair_at (model_port_of s)) (pair_at (model_port_of slot)))
               (λ s here e. here (given_there agg s.port.choice e)) slots
-              (each_seen (λ w. w.choice ≡ Selected agg → SamePair (ends w) (ends (view_of slot))) slots shared.one_group)),
+              (each_seen (λ w. w.choice ≡ Selected agg → SamePair (ends w) (ends (selection_view slot))) slots shared.one_group)),
           shared.aggregatable,
         )
   ],
@@ -88,7 +88,7 @@ detached_part true true false d e h = absurd (false≢true h)
 detached_part true false c d e h = absurd (false≢true h)
 detached_part false b c d e h = absurd (false≢true h)
 
-detached : (m : MuxState) (w : ℕ) → is_detached (stage_of m w) ≡ true → is_mux CollectingDistributing m ≡ false
+detached : (m : MuxState) (w : ℕ) → is_detached (stage_of m w) ≡ true → same_mux_state CollectingDistributing m ≡ false
 detached Detached w h = refl
 detached Waiting w h = refl
 detached Attached w h = refl
@@ -99,32 +99,32 @@ still true true m h = h
 still true false m h = refl
 still false x m h = refl
 
-joined : (s : Slot) (agg : AggId) → is_eligible (view_of s) ≡ true → shown_slot (given s (Some agg)) ≡ port_after (PortMove.Join agg.0) (shown_slot s)
+joined : (s : SystemPort) (agg : AggId) → is_eligible (selection_view s) ≡ true → model_port_of (given s (Some agg)) ≡ port_after (PortMove.Join agg.0) (model_port_of s)
 joined s agg ok =
-    let v = view_of s in
+    let v = selection_view s in
     let mux = detached s.port.mux s.port.wait_while (detached_part v.enabled v.settled (is_detached v.stage) (is_unselected v.choice) (not (same_system v.partner.system v.party.system)) ok) in
     let sync = partner_synchronized s.port in
-    let view : Bool → PortView = λ d. record (shown_slot s) { aggregator = Some agg.0; distributes = d } in
-    ap view (still sync true (is_mux CollectingDistributing s.port.mux) mux ∙ sym (still sync (is_selected s.port.choice) (is_mux CollectingDistributing s.port.mux) mux))
+    let view : Bool → PortFacts = λ d. record (model_port_of s) { aggregator = Some agg.0; distributes = d } in
+    ap view (still sync true (same_mux_state CollectingDistributing s.port.mux) mux ∙ sym (still sync (is_selected s.port.choice) (same_mux_state CollectingDistributing s.port.mux) mux))
 
-given_moves : (u : Setup) (call : Call) (f : Flows) (keys : List Key) (slots : List Slot) (i : ℕ) (slot : Slot) (o : Option AggId) → Fits u keys → Rises 0 (numbers slots) → slice_get slots i ≡ Some slot
-    → takes keys slots slot ≡ o → FreeMoves u call (view_at f slots) [] (view_at f (slice_set slots i (given slot o)))
-given_moves u call f keys slots i slot None fits r h k = ([], tt, refl, ap (view_at f) (set_same slots i slot h))
+given_moves : (u : SystemSetup) (call : ModelCall) (f : Flows) (keys : List Key) (slots : List SystemPort) (i : ℕ) (slot : SystemPort) (o : Option AggId) → Fits u keys → Rises 0 (port_numbers slots) → slice_get slots i ≡ Some slot
+    → aggregator_for keys slots slot ≡ o → FreeMoves u call (model_view_at f slots) [] (model_view_at f (slice_set slots i (given slot o)))
+given_moves u call f keys slots i slot None fits r h k = ([], tt, refl, ap (model_view_at f) (set_same slots i slot h))
 given_moves u call f keys slots i slot (Some agg) fits r h k =
-    let x = if-some (is_eligible (view_of slot)) (choice keys (views slots) slot.number) agg k in
-    let j = choice-joins keys (views slots) (view_of slot) agg (sym (ap (choice_of_view keys (views slots)) (find_here 0 slots i slot r h)) ∙ x.1) in
-    moves_at number shown_slot u call f slots i slot (given slot (Some agg)) (PortMove.Join agg.0) (are_numbered 0 slots r) h refl (joined slot agg x.0) (join_allowed u call keys slots slot agg fits j)
+    let x = if-some (is_eligible (selection_view slot)) (choice keys (views slots) slot.number) agg k in
+    let j = choice-joins keys (views slots) (selection_view slot) agg (sym (ap (choice_of_view keys (views slots)) (find_here 0 slots i slot r h)) ∙ x.1) in
+    moves_at number model_port_of u call f slots i slot (given slot (Some agg)) (PortMove.Join agg.0) (are_numbered 0 slots r) h refl (joined slot agg x.0) (join_allowed u call keys slots slot agg fits j)
 
-choose_moves : (u : Setup) (call : Call) (f : Flows) (keys : List Key) (slots : List Slot) (i : ℕ) (o : Option Slot) → slice_get slots i ≡ o → Fits u keys → Rises 0 (numbers slots)
-    → FreeMoves u call (view_at f slots) [] (view_at f (choose_slot keys slots i o))
+choose_moves : (u : SystemSetup) (call : ModelCall) (f : Flows) (keys : List Key) (slots : List SystemPort) (i : ℕ) (o : Option SystemPort) → slice_get slots i ≡ o → Fits u keys → Rises 0 (port_numbers slots)
+    → FreeMoves u call (model_view_at f slots) [] (model_view_at f (choose_slot keys slots i o))
 choose_moves u call f keys slots i None e fits r = ([], tt, refl, refl)
-choose_moves u call f keys slots i (Some slot) e fits r = given_moves u call f keys slots i slot (takes keys slots slot) fits r e refl
+choose_moves u call f keys slots i (Some slot) e fits r = given_moves u call f keys slots i slot (aggregator_for keys slots slot) fits r e refl
 
 -- step 2 of settling
-pub chosen_moves : (u : Setup) (call : Call) (f : Flows) (keys : List Key) (slots : List Slot) (n : ℕ) → Fits u keys → Rises 0 (numbers slots) → FreeMoves u call (view_at f slots) [] (view_at f (chosen keys n slots))
+pub chosen_moves : (u : SystemSetup) (call : ModelCall) (f : Flows) (keys : List Key) (slots : List SystemPort) (n : ℕ) → Fits u keys → Rises 0 (port_numbers slots) → FreeMoves u call (model_view_at f slots) [] (model_view_at f (chosen keys n slots))
 chosen_moves u call f keys slots zero fits r = ([], tt, refl, refl)
 chosen_moves u call f keys slots (suc n) fits r =
     let mid = chosen keys n slots in
-    moves_joined u call (view_at f slots) (view_at f mid) (view_at f (chosen keys (suc n) slots)) [] []
+    moves_joined u call (model_view_at f slots) (model_view_at f mid) (model_view_at f (chosen keys (suc n) slots)) [] []
     (chosen_moves u call f keys slots n fits r)
     (choose_moves u call f keys mid n (slice_get mid n) refl fits (subst (λ ns. Rises 0 ns) (sym (chosen_numbers keys n slots)) r))

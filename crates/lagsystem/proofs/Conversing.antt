@@ -9,37 +9,37 @@ use Rattle.lagtypes.specs.declared.party.Choice.{Choice}
 use Rattle.lagtypes.specs.declared.party.Choice.TheVariants.{Unselected, Selected}
 use Rattle.portmachines.specs.declared.mux.MuxState.{MuxState}
 use Rattle.portmachines.specs.declared.mux.MuxState.TheVariants.{Detached, Waiting, Attached, CollectingDistributing}
-use Rattle.portmachines.specs.Mux.{is_mux, partner_synchronized, selected}
-use Rattle.selection.specs.Views.{is_given}
+use Rattle.portmachines.specs.Mux.{same_mux_state, partner_synchronized, selected}
+use Rattle.selection.specs.Views.{has_chosen}
 use Rattle.distributor.specs.declared.assignment.Assignment.{Assignment}
 use Rattle.distributor.specs.declared.assignment.Assignment.TheVariants.{Free, On, Wanted, Flushing}
 use Rattle.distributor.specs.declared.fault.DistFault.{DistFault}
 use Rattle.distributor.specs.Calls.{Assigns, MaySend, PicksPort, distributes}
 use Rattle.distributor.specs.Conversations.{Table}
-use Rattle.distributor.specs.Moves.{Among, Nowhere, flows_of}
+use Rattle.distributor.specs.Moves.{Among, Nowhere, model_flows}
 use Rattle.distributor.proofs.MoveLemmas.{Makes, each_moves}
-use Rattle.lagmodel.specs.View.{Call as Told, PortView, Setup}
-use Rattle.lagmodel.specs.Move.{Act, Change, Distributes, FlowMoves, FreeMoves}
-use Rattle.lagmodel.specs.Kept.{find_number}
+use Rattle.lagmodel.specs.View.{ModelCall as Told, PortFacts, SystemSetup}
+use Rattle.lagmodel.specs.Move.{Act, ConversationMove, Distributes, FlowMoves, FreeMoves}
+use Rattle.lagmodel.specs.Bridge.{find_number}
 use Rattle.lagmodel.proofs.Base.{cond_false, cond_true}
 use Rattle.lagmodel.proofs.Uses.{flows_weaker, moves_flows}
-use Rattle.lagsystem.specs.declared.slots.Slot.{Slot}
-use Rattle.lagsystem.specs.Readers.{agg_of_number, distributes_in, distributing}
-use Rattle.lagsystem.specs.Settling.{LeavesPorts, left_on}
-use Rattle.lagsystem.specs.Shown.{AreSteady, aggregator_of, number, shown_slot, steady_of, view_at, view_of}
-use Rattle.lagsystem.specs.State.{State, numbers}
+use Rattle.lagsystem.specs.declared.slots.SystemPort.{SystemPort}
+use Rattle.lagsystem.specs.Readers.{aggregator_numbered, distributes_in, distributing}
+use Rattle.lagsystem.specs.Settling.{HoldsConversations, held_unless_on}
+use Rattle.lagsystem.specs.ModelView.{MuxesConsistent, selected_number, number, model_port_of, mux_consistent_of, model_view_at, model_view}
+use Rattle.lagsystem.specs.State.{SystemState, port_numbers}
 use Rattle.lagsystem.proofs.Stopped.{from_here, from_rest, none_on, on, on_more}
 use Rattle.lagsystem.proofs.Rising.{Rises}
 
 -- moves of the conversations, whatever the ports do
-pub table_moves : (u : Setup) (call : Told) (slots : List Slot) (t new : Table) (seen : List Act) → FlowMoves u.system.mac call Nowhere (flows_of t) seen (flows_of new)
-    → FreeMoves u call (view_at (flows_of t) slots) seen (view_at (flows_of new) slots)
+pub table_moves : (u : SystemSetup) (call : Told) (slots : List SystemPort) (t new : Table) (seen : List Act) → FlowMoves u.system.mac call Nowhere (model_flows t) seen (model_flows new)
+    → FreeMoves u call (model_view_at (model_flows t) slots) seen (model_view_at (model_flows new) slots)
 table_moves u call slots t new seen h =
-    let v = view_at (flows_of t) slots in
-    moves_flows u call v seen (flows_of new) (flows_weaker u.system.mac call Nowhere (Distributes v.port) (flows_of t) (flows_of new) seen (λ g p x. absurd x) h)
+    let v = model_view_at (model_flows t) slots in
+    moves_flows u call v seen (model_flows new) (flows_weaker u.system.mac call Nowhere (Distributes v.port) (model_flows t) (model_flows new) seen (λ g p x. absurd x) h)
 
 -- step 6 of settling
-leaves_one : (mac : List ℕ) (call : Told) (ports : List ℕ) (g k : ℕ) (a : Assignment) → Makes mac call g k a (left_on ports a)
+leaves_one : (mac : List ℕ) (call : Told) (ports : List ℕ) (g k : ℕ) (a : Assignment) → Makes mac call g k a (held_unless_on ports a)
 leaves_one mac call ports g k (Free preferred) = inl refl
 leaves_one mac call ports g k (Wanted p preferred) = inl refl
 leaves_one mac call ports g k (Flushing p id preferred age) = inl refl
@@ -47,16 +47,16 @@ leaves_one mac call ports g k (On p) = either (distributes ports p)
   where
     either : (b : Bool) → Makes mac call g k (On p) (if b then On p else Wanted p None)
     either true = inl refl
-    either false = inr (Change.Want p, refl, refl)
+    either false = inr (ConversationMove.Want p, refl, refl)
 
-pub leaving_moves : (u : Setup) (call : Told) (old new : State) → LeavesPorts old new → FreeMoves u call (view_of old) [] (view_of new)
+pub leaving_moves : (u : SystemSetup) (call : Told) (old new : SystemState) → HoldsConversations old new → FreeMoves u call (model_view old) [] (model_view new)
 leaving_moves u call old new h =
-    let ports : ℕ → List ℕ = λ g. distributing (agg_of_number g) old.slots in
-    let moves = each_moves u.system.mac call old.table new.table (λ g k. left_on (ports g)) (λ g k. refl) (λ g k a. leaves_one u.system.mac call (ports g) g k a) h.next h.states in
-    subst (λ l. FreeMoves u call (view_of old) [] (view_at (flows_of new.table) l)) (sym (ap (λ (s : State). s.slots) h.frame)) (table_moves u call old.slots old.table new.table [] moves)
+    let ports : ℕ → List ℕ = λ g. distributing (aggregator_numbered g) old.slots in
+    let moves = each_moves u.system.mac call old.table new.table (λ g k. held_unless_on (ports g)) (λ g k. refl) (λ g k a. leaves_one u.system.mac call (ports g) g k a) h.next h.states in
+    subst (λ l. FreeMoves u call (model_view old) [] (model_view_at (model_flows new.table) l)) (sym (ap (λ (s : SystemState). s.slots) h.frame)) (table_moves u call old.slots old.table new.table [] moves)
 
 -- at rest a port distributes exactly if its mux machine does
-pub rest_distributes : (m : MuxState) (x s : Bool) → steady_of m x s ≡ true → (s && (x && is_mux CollectingDistributing m)) ≡ is_mux CollectingDistributing m
+pub rest_distributes : (m : MuxState) (x s : Bool) → mux_consistent_of m x s ≡ true → (s && (x && same_mux_state CollectingDistributing m)) ≡ same_mux_state CollectingDistributing m
 rest_distributes Detached true true h = refl
 rest_distributes Detached true false h = refl
 rest_distributes Detached false true h = refl
@@ -73,15 +73,15 @@ rest_distributes CollectingDistributing true false h = absurd (false≢true h)
 rest_distributes CollectingDistributing false s h = absurd (false≢true h)
 
 -- a port that distributes in an aggregator is seen to do so
-given_number : (agg : AggId) (c : Choice) → is_given agg c ≡ true → aggregator_of c ≡ Some agg.0
+given_number : (agg : AggId) (c : Choice) → has_chosen agg c ≡ true → selected_number c ≡ Some agg.0
 given_number agg Unselected h = absurd (false≢true h)
 given_number agg (Selected a) h = ap (λ n. Some n) ((Decides-eqb a.0 agg.0).0 h)
 
-seen_there : (agg : AggId) (s : Slot) → (steady_of s.port.mux (selected s.port) (partner_synchronized s.port) ≡ true) → distributes_in agg s ≡ true
-    → ((shown_slot s).aggregator ≡ Some agg.0) × ((shown_slot s).distributes ≡ true)
+seen_there : (agg : AggId) (s : SystemPort) → (mux_consistent_of s.port.mux (selected s.port) (partner_synchronized s.port) ≡ true) → distributes_in agg s ≡ true
+    → ((model_port_of s).aggregator ≡ Some agg.0) × ((model_port_of s).distributes ≡ true)
 seen_there agg s h d = (
-  given_number agg s.port.choice ((and_parts (is_given agg s.port.choice) (is_mux CollectingDistributing s.port.mux) d).0),
-  rest_distributes s.port.mux (selected s.port) (partner_synchronized s.port) h ∙ (and_parts (is_given agg s.port.choice) (is_mux CollectingDistributing s.port.mux) d).1,
+  given_number agg s.port.choice ((and_parts (has_chosen agg s.port.choice) (same_mux_state CollectingDistributing s.port.mux) d).0),
+  rest_distributes s.port.mux (selected s.port) (partner_synchronized s.port) h ∙ (and_parts (has_chosen agg s.port.choice) (same_mux_state CollectingDistributing s.port.mux) d).1,
 )
 
 flipped : (m n : ℕ) → eqb m n ≡ true → eqb n m ≡ true
@@ -90,10 +90,10 @@ flipped m n h = eq-eqb n m (sym (eqb-true m n h))
 unflipped : (m n : ℕ) → eqb m n ≡ false → eqb n m ≡ false
 unflipped m n h = elim (cases_Bool (eqb n m)) [ inl t ↦ absurd (false≢true (sym h ∙ flipped n m t)) | inr f ↦ f ]
 
-abbrev Sees : AggId → Option Slot → Type 0
-Sees agg o = IsSomeAnd (option_map shown_slot o) (λ (a : PortView). (a.aggregator ≡ Some agg.0) × (a.distributes ≡ true))
+abbrev Sees : AggId → Option SystemPort → Type 0
+Sees agg o = IsSomeAnd (option_map model_port_of o) (λ (a : PortFacts). (a.aggregator ≡ Some agg.0) × (a.distributes ≡ true))
 
-pub seen_distributing : (agg : AggId) (p low : ℕ) (slots : List Slot) → Rises low (numbers slots) → AreSteady slots → on agg slots p ≡ true → Sees agg (find_number number slots p)
+pub seen_distributing : (agg : AggId) (p low : ℕ) (slots : List SystemPort) → Rises low (port_numbers slots) → MuxesConsistent slots → on agg slots p ≡ true → Sees agg (find_number number slots p)
 seen_distributing agg p low [] r a h = absurd (false≢true h)
 seen_distributing agg p low (s ∷ slots) r a h = elim (cases_Bool (eqb s.number p)) [
   | inl t ↦ (let none = none_on agg s.number slots p r.1 (let same = eqb-true s.number p t in omega (arith, same)) in
@@ -104,12 +104,12 @@ seen_distributing agg p low (s ∷ slots) r a h = elim (cases_Bool (eqb s.number
 ]
 
 -- moves of the conversations, if a port may carry one that distributes in its aggregator
-pub carrying_moves : (u : Setup) (call : Told) (agg : AggId) (slots : List Slot) (t new : Table) (seen : List Act) → Rises 0 (numbers slots) → AreSteady slots
-    → FlowMoves u.system.mac call (Among agg.0 (distributing agg slots)) (flows_of t) seen (flows_of new) → FreeMoves u call (view_at (flows_of t) slots) seen (view_at (flows_of new) slots)
+pub carrying_moves : (u : SystemSetup) (call : Told) (agg : AggId) (slots : List SystemPort) (t new : Table) (seen : List Act) → Rises 0 (port_numbers slots) → MuxesConsistent slots
+    → FlowMoves u.system.mac call (Among agg.0 (distributing agg slots)) (model_flows t) seen (model_flows new) → FreeMoves u call (model_view_at (model_flows t) slots) seen (model_view_at (model_flows new) slots)
 carrying_moves u call agg slots t new seen r a h =
-    let v = view_at (flows_of t) slots in
-    moves_flows u call v seen (flows_of new)
-    (flows_weaker u.system.mac call (Among agg.0 (distributing agg slots)) (Distributes v.port) (flows_of t) (flows_of new) seen
+    let v = model_view_at (model_flows t) slots in
+    moves_flows u call v seen (model_flows new)
+    (flows_weaker u.system.mac call (Among agg.0 (distributing agg slots)) (Distributes v.port) (model_flows t) (model_flows new) seen
     (λ g p x. subst (λ m. Distributes v.port m p) (sym x.0) (seen_distributing agg p 0 slots r a x.1)) h)
 
 -- the port that the distributor answers may carry the frame

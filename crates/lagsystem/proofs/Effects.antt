@@ -15,31 +15,31 @@ use Rattle.slowpdu.specs.Parties.{party_of}
 use Rattle.portmachines.specs.declared.mux.MuxState.TheVariants.{CollectingDistributing}
 use Rattle.portmachines.specs.Machines.{Machines}
 use Rattle.lagtypes.specs.Same.{same_party}
-use Rattle.portmachines.specs.Mux.{is_mux, is_synchronized, partner_synchronized}
+use Rattle.portmachines.specs.Mux.{same_mux_state, is_synchronized, partner_synchronized}
 use Rattle.portmachines.specs.Receive.{receive_rows, taking_rows, default_partner, start_receive, is_maintained, says_synchronized}
-use Rattle.portmachines.specs.Rows.{Fires, Settles}
+use Rattle.portmachines.specs.Rows.{Fires, RunsToRest}
 use Rattle.portmachines.specs.Transmit.{count_down, pdu_of, sent}
-use Rattle.lagmodel.specs.View.{zero_party, PortView, Setup, Call, Lacp, Receive, replies_frame, Lacpdu as Told_lacpdu}
+use Rattle.lagmodel.specs.View.{zero_party, PortFacts, SystemSetup, ModelCall, Lacp, Receive, replies_frame, LacpMessage as Told_lacpdu}
 use Rattle.lagmodel.specs.Move.{Act, Sends as Shows, Took, PortMove}
 use Rattle.lagsystem.specs.declared.config.PortChange.{PortChange}
-use Rattle.lagsystem.specs.Calls.{ChangesLink, ChangesParty, changed}
-use Rattle.lagsystem.specs.Shown.{aggregator_of, message_of}
+use Rattle.lagsystem.specs.Calls.{ChangesLink, ChangesParty, changed_party}
+use Rattle.lagsystem.specs.ModelView.{selected_number, lacp_message}
 use Rattle.lagsystem.proofs.OfPort.{PortMoves, port_joined}
 use Rattle.lagsystem.proofs.Rows.{quiet, QuietMoves, EachMoves, settles_moves}
 
 -- a stopped port, by the bits of its partner's state
-abbrev stopped : Party → Party → Bool → Bool → Option ℕ → PortView
+abbrev stopped : Party → Party → Bool → Bool → Option ℕ → PortFacts
 stopped party partner s d g = record { party = party; partner = partner; synchronised = s; defaulted = d; aggregator = g; distributes = false }
 
 abbrev pub named : Info → StateBits → Party
 named info bits = record { system = info.system; key = info.key; port = info.port; aggregatable = bits.aggregation }
 
-abbrev with_bits : Party → Info → Bool → Option ℕ → StateBits → PortView
+abbrev with_bits : Party → Info → Bool → Option ℕ → StateBits → PortFacts
 with_bits party info d g bits = stopped party (named info bits) bits.synchronization d g
 
 -- update_Default_Selected and recordDefault
-defaulting : (u : Setup) (call : Call) (n : ℕ) (party partner : Party) (s d : Bool) (c : Choice) (b : Bool) → (b ≡ true → zero_party ≡ partner)
-    → PortMoves u call n (stopped party partner s d (aggregator_of c)) [] (stopped party zero_party true true (aggregator_of (if b then c else Unselected)))
+defaulting : (u : SystemSetup) (call : ModelCall) (n : ℕ) (party partner : Party) (s d : Bool) (c : Choice) (b : Bool) → (b ≡ true → zero_party ≡ partner)
+    → PortMoves u call n (stopped party partner s d (selected_number c)) [] (stopped party zero_party true true (selected_number (if b then c else Unselected)))
 defaulting u call n party partner s d c true h = (PortMove.Default ∷ [], (λ ports. inr (sym (h refl)), tt), refl, refl)
 defaulting u call n party partner s d c false h = (PortMove.Leave ∷ PortMove.Default ∷ [], (λ ports. tt, (λ ports. inl refl, tt)), refl, refl)
 
@@ -63,35 +63,35 @@ expiring party info d g =
     ap (with_bits party info d g) (read_back (record (bits_of (with_synchronization false info.state)) { timeout = true }))
     ∙ ap (λ (b : StateBits). with_bits party info d g (record b { timeout = true })) (read_back (record (bits_of info.state) { synchronization = false }))
 
-pub receive_moves : (u : Setup) (call : Call) (n : ℕ) → EachMoves u call n receive_rows
+pub receive_moves : (u : SystemSetup) (call : ModelCall) (n : ℕ) → EachMoves u call n receive_rows
 receive_moves u call n = (
-  λ p h. (PortMove.Desynchronise ∷ [], (λ ports. tt, tt), refl, desynchronised p.party p.partner p.defaulted (aggregator_of p.choice)),
+  λ p h. (PortMove.Desynchronise ∷ [], (λ ports. tt, tt), refl, desynchronised p.party p.partner p.defaulted (selected_number p.choice)),
   (
-    λ p h. (PortMove.Desynchronise ∷ [], (λ ports. tt, tt), refl, desynchronised p.party p.partner p.defaulted (aggregator_of p.choice)),
+    λ p h. (PortMove.Desynchronise ∷ [], (λ ports. tt, tt), refl, desynchronised p.party p.partner p.defaulted (selected_number p.choice)),
     (
-      λ p h. (PortMove.Desynchronise ∷ [], (λ ports. tt, tt), refl, expiring p.party p.partner p.defaulted (aggregator_of p.choice)),
+      λ p h. (PortMove.Desynchronise ∷ [], (λ ports. tt, tt), refl, expiring p.party p.partner p.defaulted (selected_number p.choice)),
       (
         λ p h.
             let same = same_party (party_of default_partner) (party_of p.partner) in
-            subst (λ v. PortMoves u call n (quiet p) [] v) (sym (on_defaults p.party true (aggregator_of (if same then p.choice else Unselected))))
+            subst (λ v. PortMoves u call n (quiet p) [] v) (sym (on_defaults p.party true (selected_number (if same then p.choice else Unselected))))
             (defaulting u call n p.party (party_of p.partner) (partner_synchronized p) p.defaulted p.choice same (λ t. zero_named ∙ exact_party (party_of default_partner) (party_of p.partner) t)),
-        (λ p h. (PortMove.Desynchronise ∷ [], (λ ports. tt, tt), refl, expiring p.party p.partner p.defaulted (aggregator_of p.choice)), tt),
+        (λ p h. (PortMove.Desynchronise ∷ [], (λ ports. tt, tt), refl, expiring p.party p.partner p.defaulted (selected_number p.choice)), tt),
       ),
     ),
   ),
 )
 
-pub tick_moves : (u : Setup) (call : Call) (n : ℕ) (p q : Machines) → Settles receive_rows (count_down p) q → QuietMoves u call n p [] q
+pub tick_moves : (u : SystemSetup) (call : ModelCall) (n : ℕ) (p q : Machines) → RunsToRest receive_rows (count_down p) q → QuietMoves u call n p [] q
 tick_moves u call n p q h = settles_moves u call n receive_rows (receive_moves u call n) (count_down p) q h
 
-pub links_moves : (u : Setup) (call : Call) (n : ℕ) (up : Bool) (p q : Machines) → ChangesLink up p q → QuietMoves u call n p [] q
+pub links_moves : (u : SystemSetup) (call : ModelCall) (n : ℕ) (up : Bool) (p q : Machines) → ChangesLink up p q → QuietMoves u call n p [] q
 links_moves u call n up p q h = settles_moves u call n receive_rows (receive_moves u call n) (record p { enabled = up }) q h
 
 -- update_Selected and recordPDU
-taking : (u : Setup) (call : Call) (n : ℕ) (party partner : Party) (s d : Bool) (c : Choice) (b : Bool) (v : Told_lacpdu) (t : Bool)
+taking : (u : SystemSetup) (call : ModelCall) (n : ℕ) (party partner : Party) (s d : Bool) (c : Choice) (b : Bool) (v : Told_lacpdu) (t : Bool)
     → call ≡ Receive n (Some (Lacp v)) → (b ≡ true → v.actor ≡ partner)
     → (t ≡ true → (v.synchronised ≡ true) × ((v.partner ≡ party) ⊎ (v.actor.aggregatable ≡ false)))
-    → PortMoves u call n (stopped party partner s d (aggregator_of c)) (Took n v ∷ []) (stopped party v.actor t false (aggregator_of (if b then c else Unselected)))
+    → PortMoves u call n (stopped party partner s d (selected_number c)) (Took n v ∷ []) (stopped party v.actor t false (selected_number (if b then c else Unselected)))
 taking u call n party partner s d c true v t e h k = (PortMove.Take v t ∷ PortMove.Stop ∷ [], (λ ports. (e, inl (h refl), k), (λ ports. tt, tt)), refl, refl)
 taking u call n party partner s d c false v t e h k =
     (PortMove.Leave ∷ PortMove.Take v t ∷ PortMove.Stop ∷ [], (λ ports. tt, (λ ports. (e, inr refl, k), (λ ports. tt, tt))), refl, refl)
@@ -116,29 +116,29 @@ says_so v p h =
       ],
     )
 
-pub taking_moves : (u : Setup) (n : ℕ) (v : Lacpdu) (p q : Machines) → Fires (taking_rows v) p q → QuietMoves u (Receive n (Some (Lacp (message_of v)))) n p (Took n (message_of v) ∷ []) q
+pub taking_moves : (u : SystemSetup) (n : ℕ) (v : Lacpdu) (p q : Machines) → Fires (taking_rows v) p q → QuietMoves u (Receive n (Some (Lacp (lacp_message v)))) n p (Took n (lacp_message v) ∷ []) q
 taking_moves u n v p q h = elim h [
   | inl f ↦
-      let call = Receive n (Some (Lacp (message_of v))) in
+      let call = Receive n (Some (Lacp (lacp_message v))) in
       let same = same_party (party_of v.actor) (party_of p.partner) in
       let t = says_synchronized v p in
-      let taken = taking u call n p.party (party_of p.partner) (partner_synchronized p) p.defaulted p.choice same (message_of v) t refl
+      let taken = taking u call n p.party (party_of p.partner) (partner_synchronized p) p.defaulted p.choice same (lacp_message v) t refl
       (exact_party (party_of v.actor) (party_of p.partner)) (says_so v p) in
-      let recorded = ap (with_bits p.party v.actor false (aggregator_of (if same then p.choice else Unselected))) (read_back (record (bits_of v.actor.state) { synchronization = t })) in
-      subst (λ r. QuietMoves u call n p (Took n (message_of v) ∷ []) r) (sym f.1)
-      (subst (λ w. PortMoves u call n (quiet p) (Took n (message_of v) ∷ []) w) (sym recorded) taken)
+      let recorded = ap (with_bits p.party v.actor false (selected_number (if same then p.choice else Unselected))) (read_back (record (bits_of v.actor.state) { synchronization = t })) in
+      subst (λ r. QuietMoves u call n p (Took n (lacp_message v) ∷ []) r) (sym f.1)
+      (subst (λ w. PortMoves u call n (quiet p) (Took n (lacp_message v) ∷ []) w) (sym recorded) taken)
   | inr f ↦ absurd f
 ]
 
 -- a configure: the port leaves, takes another party, and starts again
-pub configures_moves : (u : Setup) (n : ℕ) (c : PortChange) (p q : Machines) → ChangesParty c p q → QuietMoves u Call.Configure n p [] q
+pub configures_moves : (u : SystemSetup) (n : ℕ) (c : PortChange) (p q : Machines) → ChangesParty c p q → QuietMoves u ModelCall.Configure n p [] q
 configures_moves u n c p q h =
-    let again : Machines = start_receive (record p { party = changed c p.party }) in
-    let begin : QuietMoves u Call.Configure n p [] again =
-    (PortMove.Leave ∷ PortMove.Reconfigure (changed c p.party) ∷ [], (λ ports. tt, (λ ports. (refl, refl, refl, refl), tt)), refl, on_defaults (changed c p.party) true None) in
-    let rest : QuietMoves u Call.Configure n again [] h.1.0 = settles_moves u Call.Configure n receive_rows (receive_moves u Call.Configure n) again h.1.0 h.1.1 in
-    subst (λ r. QuietMoves u Call.Configure n p [] r) (sym h.1.2)
-    (port_joined u Call.Configure n (quiet p) (quiet again) (quiet h.1.0) [] [] begin rest)
+    let again : Machines = start_receive (record p { party = changed_party c p.party }) in
+    let begin : QuietMoves u ModelCall.Configure n p [] again =
+    (PortMove.Leave ∷ PortMove.Reconfigure (changed_party c p.party) ∷ [], (λ ports. tt, (λ ports. (refl, refl, refl, refl), tt)), refl, on_defaults (changed_party c p.party) true None) in
+    let rest : QuietMoves u ModelCall.Configure n again [] h.1.0 = settles_moves u ModelCall.Configure n receive_rows (receive_moves u ModelCall.Configure n) again h.1.0 h.1.1 in
+    subst (λ r. QuietMoves u ModelCall.Configure n p [] r) (sym h.1.2)
+    (port_joined u ModelCall.Configure n (quiet p) (quiet again) (quiet h.1.0) [] [] begin rest)
 
 -- an LACPDU that goes out
 abbrev own_bits : Machines → StateBits
@@ -147,8 +147,8 @@ own_bits p = record {
   timeout = p.short;
   aggregation = p.party.aggregatable;
   synchronization = is_synchronized p.mux;
-  collecting = is_mux CollectingDistributing p.mux;
-  distributing = is_mux CollectingDistributing p.mux;
+  collecting = same_mux_state CollectingDistributing p.mux;
+  distributing = same_mux_state CollectingDistributing p.mux;
   defaulted = p.defaulted;
   expired = p.expired;
 }
@@ -161,7 +161,7 @@ announced n p b =
       synchronised = b.synchronization;
     })) ∷ []
 
-pub sending : (u : Setup) (call : Call) (n max_delay : ℕ) (p : Machines) → replies_frame call ≡ true → (is_synchronized p.mux ≡ true → IsSome (aggregator_of p.choice))
-    → QuietMoves u call n p (Shows n (Lacp (message_of (pdu_of p max_delay))) ∷ []) (sent p)
+pub sending : (u : SystemSetup) (call : ModelCall) (n max_delay : ℕ) (p : Machines) → replies_frame call ≡ true → (is_synchronized p.mux ≡ true → IsSome (selected_number p.choice))
+    → QuietMoves u call n p (Shows n (Lacp (lacp_message (pdu_of p max_delay))) ∷ []) (sent p)
 sending u call n max_delay p e k =
     (PortMove.Announce (is_synchronized p.mux) ∷ [], (λ ports. (e, k), tt), sym (ap (announced n p) (read_back (own_bits p))), refl)

@@ -14,27 +14,27 @@ use Rattle.portmachines.specs.declared.port.Setup.{Setup as Start}
 use Rattle.portmachines.specs.declared.receive.ReceiveState.TheVariants.{Initialize, PortDisabled, Expired, Current}
 use Rattle.portmachines.specs.Machines.{Machines}
 use Rattle.lagtypes.specs.Choices.{is_selected, is_unselected}
-use Rattle.portmachines.specs.Mux.{is_mux, mux_rows, partner_synchronized}
+use Rattle.portmachines.specs.Mux.{same_mux_state, mux_rows, partner_synchronized}
 use Rattle.portmachines.specs.Periodic.{periodic_rows, RunsPeriodic}
-use Rattle.portmachines.specs.Receive.{is_receive, receive_rows, start_receive}
-use Rattle.portmachines.specs.Rows.{AtRest, Fires, Reaches, Row, Settles}
+use Rattle.portmachines.specs.Receive.{same_receive_state, receive_rows, start_receive}
+use Rattle.portmachines.specs.Rows.{AtRest, Fires, Reaches, Row, RunsToRest}
 use Rattle.portmachines.specs.Start.{Starts, blank}
 use Rattle.selection.specs.Choice.{choice}
 use Rattle.selection.specs.Views.{is_eligible}
-use Rattle.lagmodel.specs.View.{PortView, first_port, first_view, IsSetup}
-use Rattle.lagmodel.specs.Kept.{find_number, ports_of}
-use Rattle.distributor.specs.Moves.{flows_of}
+use Rattle.lagmodel.specs.View.{PortFacts, first_port, first_view, IsSystemSetup}
+use Rattle.lagmodel.specs.Bridge.{find_number, ports_of}
+use Rattle.distributor.specs.Moves.{model_flows}
 use Rattle.distributor.proofs.MoveLemmas.{first_flows}
 use Rattle.lagmodel.proofs.Base.{mapped_some, chosen as whichever}
 use Rattle.std.proofs.Common.{eqb-true}
 use Rattle.std.proofs.lemmas.Option.{none-some, same_Some}
 use Rattle.lagsystem.specs.declared.config.PortConfig.{PortConfig}
-use Rattle.lagsystem.specs.declared.slots.Slot.{Slot}
-use Rattle.lagsystem.specs.First.{IsFirst, IsNew, number_of, setup_of}
-use Rattle.lagsystem.specs.Settling.{AllMove, Moves, choose_slot, chosen, given, ready_of, takes}
-use Rattle.lagsystem.specs.Shown.{configured, number, party_in, shown, shown_slot, view_of}
-use Rattle.lagsystem.specs.State.{State, with_slots, with_table}
-use Rattle.lagsystem.specs.Views.{views, view_of as seen_at}
+use Rattle.lagsystem.specs.declared.slots.SystemPort.{SystemPort}
+use Rattle.lagsystem.specs.First.{IsFirst, IsNew, configured_number, setup_of}
+use Rattle.lagsystem.specs.Settling.{PortsGo, PortGoes, choose_slot, chosen, given, ready_of, aggregator_for}
+use Rattle.lagsystem.specs.ModelView.{model_setup, number, configured_party, model_port, model_port_of, model_view}
+use Rattle.lagsystem.specs.State.{SystemState, with_slots, with_table}
+use Rattle.lagsystem.specs.Views.{views, selection_view as seen_at}
 use Rattle.lagsystem.proofs.Effects.{named, zero_named}
 use Rattle.portmachines.proofs.Runs.{Reaches-keeps}
 use Rattle.lagsystem.proofs.Rest.{last_slots, zip_all}
@@ -46,11 +46,11 @@ clash true h k = cc
 clash false h k = cc
 
 -- lists that are alike in numbers and views show the same ports
-pushed : {X : Type 0} (v : X → PortView) (b : Bool) (x : X) (o : Option X) → option_map v (cond b (Some x) o) ≡ cond b (Some (v x)) (option_map v o)
+pushed : {X : Type 0} (v : X → PortFacts) (b : Bool) (x : X) (o : Option X) → option_map v (cond b (Some x) o) ≡ cond b (Some (v x)) (option_map v o)
 pushed v true x o = refl
 pushed v false x o = refl
 
-zip_ports : {X Y : Type 0} (n : X → ℕ) (m : Y → ℕ) (v : X → PortView) (w : Y → PortView) (xs : List X) (ys : List Y) → AllZip (λ x y. (m y ≡ n x) × (w y ≡ v x)) xs ys
+zip_ports : {X Y : Type 0} (n : X → ℕ) (m : Y → ℕ) (v : X → PortFacts) (w : Y → PortFacts) (xs : List X) (ys : List Y) → AllZip (λ x y. (m y ≡ n x) × (w y ≡ v x)) xs ys
     → (q : ℕ) → ports_of m w ys q ≡ ports_of n v xs q
 zip_ports n m v w [] [] h q = refl
 zip_ports n m v w [] (y ∷ ys) h q = absurd h
@@ -62,8 +62,8 @@ zip_ports n m v w (x ∷ xs) (y ∷ ys) h q =
     ∙ sym (pushed v (eqb q (n x)) x (find_number n xs q))
 
 -- the start rows, with the link down
-abbrev hushed : Machines → PortView
-hushed p = record (shown p) { synchronised = false; distributes = false }
+abbrev hushed : Machines → PortFacts
+hushed p = record (model_port p) { synchronised = false; distributes = false }
 
 record Beginning (party : Party) (p : Machines) : Type 0 where
   pub looks : hushed p ≡ first_port party
@@ -90,11 +90,11 @@ begins_on party p q h x = elim h [
   | inr h ↦ elim h [
     | inl f ↦ disabled_now party p q f.1 x
     | inr h ↦ elim h [
-      | inl f ↦ absurd (clash p.enabled ((and_parts (is_receive PortDisabled p.receive) p.enabled f.0).1) x.down)
+      | inl f ↦ absurd (clash p.enabled ((and_parts (same_receive_state PortDisabled p.receive) p.enabled f.0).1) x.down)
       | inr h ↦ elim h [
-        | inl f ↦ absurd (clash (is_receive Expired p.receive) ((and_parts (is_receive Expired p.receive) _ f.0).0) (elim x.where_ [ inl e ↦ ap (is_receive Expired) e | inr e ↦ ap (is_receive Expired) e.0 ]))
+        | inl f ↦ absurd (clash (same_receive_state Expired p.receive) ((and_parts (same_receive_state Expired p.receive) _ f.0).0) (elim x.where_ [ inl e ↦ ap (same_receive_state Expired) e | inr e ↦ ap (same_receive_state Expired) e.0 ]))
         | inr h ↦ elim h [
-          | inl f ↦ absurd (clash (is_receive Current p.receive) ((and_parts (is_receive Current p.receive) _ f.0).0) (elim x.where_ [ inl e ↦ ap (is_receive Current) e | inr e ↦ ap (is_receive Current) e.0 ]))
+          | inl f ↦ absurd (clash (same_receive_state Current p.receive) ((and_parts (same_receive_state Current p.receive) _ f.0).0) (elim x.where_ [ inl e ↦ ap (same_receive_state Current) e | inr e ↦ ap (same_receive_state Current) e.0 ]))
           | inr h ↦ absurd h
         ]
       ]
@@ -108,7 +108,7 @@ begins_all party (suc n) p q run x = begins_on party run.0 q run.2 (begins_all p
 
 -- an idle port, whose link is down
 record Idle (party : Party) (p : Machines) : Type 0 where
-  pub looks : shown p ≡ first_port party
+  pub looks : model_port p ≡ first_port party
   pub down : p.enabled ≡ false
   pub detached : p.mux ≡ Detached
   pub nobody : p.choice ≡ Unselected
@@ -119,11 +119,11 @@ starts_idle s q h =
     let begun : Beginning s.party (start_receive (blank s)) = record { looks = ap (λ x. record (first_port s.party) { partner = x }) (sym zero_named); down = refl; nobody = refl; where_ = inl refl } in
     let x = begins_all s.party h.1.0 (start_receive (blank s)) mid h.1.1 begun in
     let sync : partner_synchronized mid ≡ false = elim x.where_ [
-      | inl e ↦ absurd (clash (is_receive Initialize mid.receive && true) (ap (λ r. is_receive Initialize r && true) e) h.1.2.0)
+      | inl e ↦ absurd (clash (same_receive_state Initialize mid.receive && true) (ap (λ r. same_receive_state Initialize r && true) e) h.1.2.0)
       | inr e ↦ e.1
     ] in
     subst (Idle s.party) (sym h.2) (record {
-      looks = (λ i. record (shown mid) { synchronised = sync i; distributes = sync i && (is_selected mid.choice && false) }) ∙ x.looks;
+      looks = (λ i. record (model_port mid) { synchronised = sync i; distributes = sync i && (is_selected mid.choice && false) }) ∙ x.looks;
       down = x.down;
       detached = refl;
       nobody = x.nobody;
@@ -146,18 +146,18 @@ and_none : (a b : Bool) → b ≡ false → (a && b) ≡ false
 and_none true b e = e
 and_none false b e = refl
 
-idle_mux : (ready : Bool) (party : Party) (p q : Machines) → Idle party p → Settles (mux_rows ready) p q → q ≡ p
+idle_mux : (ready : Bool) (party : Party) (p q : Machines) → Idle party p → RunsToRest (mux_rows ready) p q → q ≡ p
 idle_mux ready party p q x h = stays (mux_rows ready) h.0 p q (
-  and_none (is_mux Detached p.mux) (not (is_unselected p.choice)) (ap (λ c. not (is_unselected c)) x.nobody),
+  and_none (same_mux_state Detached p.mux) (not (is_unselected p.choice)) (ap (λ c. not (is_unselected c)) x.nobody),
   (
-    and_no (is_mux Waiting p.mux) _ (ap (is_mux Waiting) x.detached),
+    and_no (same_mux_state Waiting p.mux) _ (ap (same_mux_state Waiting) x.detached),
     (
-      and_no (is_mux Waiting p.mux) _ (ap (is_mux Waiting) x.detached),
+      and_no (same_mux_state Waiting p.mux) _ (ap (same_mux_state Waiting) x.detached),
       (
-        and_no (is_mux Attached p.mux) _ (ap (is_mux Attached) x.detached),
+        and_no (same_mux_state Attached p.mux) _ (ap (same_mux_state Attached) x.detached),
         (
-          and_no (is_mux Attached p.mux) _ (ap (is_mux Attached) x.detached),
-          (and_no (is_mux CollectingDistributing p.mux) _ (ap (is_mux CollectingDistributing) x.detached), tt),
+          and_no (same_mux_state Attached p.mux) _ (ap (same_mux_state Attached) x.detached),
+          (and_no (same_mux_state CollectingDistributing p.mux) _ (ap (same_mux_state CollectingDistributing) x.detached), tt),
         ),
       ),
     ),
@@ -165,39 +165,39 @@ idle_mux ready party p q x h = stays (mux_rows ready) h.0 p q (
 ) h.1
 
 -- each slot idles as its configuration says
-abbrev Idles : SystemId → PortConfig → Slot → Type 0
-Idles system c s = (s.number ≡ c.number) × Idle (party_in system c) s.port
+abbrev Idles : SystemId → PortConfig → SystemPort → Type 0
+Idles system c s = (s.number ≡ c.number) × Idle (configured_party system c) s.port
 
 idle_slots : (system : SystemId) (R : Machines → Machines → Type 0) → ((party : Party) (p q : Machines) → Idle party p → R p q → q ≡ p)
-    → (ports : List PortConfig) (olds news : List Slot) → AllZip (Idles system) ports olds → AllMove R olds news → news ≡ olds
+    → (ports : List PortConfig) (olds news : List SystemPort) → AllZip (Idles system) ports olds → PortsGo R olds news → news ≡ olds
 idle_slots system R k [] [] [] a h = refl
 idle_slots system R k [] [] (y ∷ ys) a h = absurd h
 idle_slots system R k [] (x ∷ xs) news a h = absurd a
 idle_slots system R k (c ∷ cs) [] news a h = absurd a
 idle_slots system R k (c ∷ cs) (x ∷ xs) [] a h = absurd h
 idle_slots system R k (c ∷ cs) (x ∷ xs) (y ∷ ys) a h =
-    let port : y.port ≡ x.port = k (party_in system c) x.port y.port a.0.1 h.0.1 in
+    let port : y.port ≡ x.port = k (configured_party system c) x.port y.port a.0.1 h.0.1 in
     let here : y ≡ x = h.0.0 ∙ ap (λ (p : Machines). record x { port = p }) port in
     let rest = idle_slots system R k cs xs ys a.1 h.1 in
     λ i. here i ∷ rest i
 
 -- no port is eligible while its link is down
-not_eligible : (s : Slot) → s.port.enabled ≡ false → is_eligible (seen_at s) ≡ false
+not_eligible : (s : SystemPort) → s.port.enabled ≡ false → is_eligible (seen_at s) ≡ false
 not_eligible s e = ap (λ b. is_eligible (record (seen_at s) { enabled = b })) e
 
-choose_idle : (keys : List Key) (slots : List Slot) (i : ℕ) (o : Option Slot) → slice_get slots i ≡ o → AllByRecursion (λ s. s.port.enabled ≡ false) slots → choose_slot keys slots i o ≡ slots
+choose_idle : (keys : List Key) (slots : List SystemPort) (i : ℕ) (o : Option SystemPort) → slice_get slots i ≡ o → AllByRecursion (λ s. s.port.enabled ≡ false) slots → choose_slot keys slots i o ≡ slots
 choose_idle keys slots i None e down = refl
 choose_idle keys slots i (Some s) e down =
-    let none : takes keys slots s ≡ None = ap (λ b. if b then choice keys (views slots) s.number else None) (not_eligible s (all-get (λ s. s.port.enabled ≡ false) slots i s e down)) in
+    let none : aggregator_for keys slots s ≡ None = ap (λ b. if b then choice keys (views slots) s.number else None) (not_eligible s (all-get (λ s. s.port.enabled ≡ false) slots i s e down)) in
     ap (λ o. slice_set slots i (given s o)) none ∙ set_same slots i s e
 
-chosen_idle : (keys : List Key) (n : ℕ) (slots : List Slot) → AllByRecursion (λ s. s.port.enabled ≡ false) slots → chosen keys n slots ≡ slots
+chosen_idle : (keys : List Key) (n : ℕ) (slots : List SystemPort) → AllByRecursion (λ s. s.port.enabled ≡ false) slots → chosen keys n slots ≡ slots
 chosen_idle keys zero slots down = refl
 chosen_idle keys (suc n) slots down =
-    ap (λ (l : List Slot). choose_slot keys l n (slice_get l n)) (chosen_idle keys n slots down) ∙ choose_idle keys slots n (slice_get slots n) refl down
+    ap (λ (l : List SystemPort). choose_slot keys l n (slice_get l n)) (chosen_idle keys n slots down) ∙ choose_idle keys slots n (slice_get slots n) refl down
 
-periodic_shown : (p q : Machines) → RunsPeriodic p q → shown q ≡ shown p
-periodic_shown p q h = ap shown h.2 ∙ Reaches-keeps shown periodic_rows ((λ p. refl), ((λ p. refl), ((λ p. refl), ((λ p. refl), ((λ p. refl), ((λ p. refl), ((λ p. refl), tt))))))) h.1.0 p h.0 h.1.1
+periodic_shown : (p q : Machines) → RunsPeriodic p q → model_port q ≡ model_port p
+periodic_shown p q h = ap model_port h.2 ∙ Reaches-keeps model_port periodic_rows ((λ p. refl), ((λ p. refl), ((λ p. refl), ((λ p. refl), ((λ p. refl), ((λ p. refl), ((λ p. refl), tt))))))) h.1.0 p h.0 h.1.1
 
 zip_weaker : {X Y : Type 0} (R S : X → Y → Type 0) → ((x : X) (y : Y) → R x y → S x y) → (xs : List X) (ys : List Y) → AllZip R xs ys → AllZip S xs ys
 zip_weaker R S w [] [] h = tt
@@ -205,12 +205,12 @@ zip_weaker R S w [] (y ∷ ys) h = absurd h
 zip_weaker R S w (x ∷ xs) [] h = absurd h
 zip_weaker R S w (x ∷ xs) (y ∷ ys) h = (w x y h.0, zip_weaker R S w xs ys h.1)
 
-composed : {X : Type 0} (f : Party → PortView) (g : X → Party) (o : Option X) → option_map (λ x. f (g x)) o ≡ option_map f (option_map g o)
+composed : {X : Type 0} (f : Party → PortFacts) (g : X → Party) (o : Option X) → option_map (λ x. f (g x)) o ≡ option_map f (option_map g o)
 composed f g None = refl
 composed f g (Some x) = refl
 
 -- so the periodic rows alone change the ports
-pub first_periodic : (s : State) (h : IsFirst s) → AllMove RunsPeriodic h.0 s.slots
+pub first_periodic : (s : SystemState) (h : IsFirst s) → PortsGo RunsPeriodic h.0 s.slots
 first_periodic s h =
     let start = h.0 in
     let run = h.2 in
@@ -221,42 +221,42 @@ first_periodic s h =
     let five = run.2.2.2.2.0 in
     let idle : AllZip (Idles s.system) s.ports start = zip_weaker (IsNew s.system) (Idles s.system) (λ c x m. (m.0, starts_idle (setup_of s.system c) x.port m.2)) s.ports start h.1 in
     let down : AllByRecursion (λ x. x.port.enabled ≡ false) start = zip_all (Idles s.system) (λ x. x.port.enabled ≡ false) (λ c x m. m.1.down) s.ports start idle in
-    let s1 : one.slots ≡ start = idle_slots s.system (λ p q. Settles (mux_rows false) p q) (λ party p q a m. idle_mux false party p q a m) s.ports start one.slots idle run.1.0 in
-    let s2 : two.slots ≡ start = ap (λ (x : State). x.slots) run.2.1 ∙ ap (λ (l : List Slot). chosen one.keys (length l) l) s1 ∙ chosen_idle one.keys (length start) start down in
-    let s3 : three.slots ≡ start = ap (λ (x : State). x.slots) run.2.2.1 ∙ s2 in
-    let ready : Machines → Machines → Type 0 = λ p q. Settles (mux_rows (ready_of three.keys (views three.slots) p.choice)) p q in
+    let s1 : one.slots ≡ start = idle_slots s.system (λ p q. RunsToRest (mux_rows false) p q) (λ party p q a m. idle_mux false party p q a m) s.ports start one.slots idle run.1.0 in
+    let s2 : two.slots ≡ start = ap (λ (x : SystemState). x.slots) run.2.1 ∙ ap (λ (l : List SystemPort). chosen one.keys (length l) l) s1 ∙ chosen_idle one.keys (length start) start down in
+    let s3 : three.slots ≡ start = ap (λ (x : SystemState). x.slots) run.2.2.1 ∙ s2 in
+    let ready : Machines → Machines → Type 0 = λ p q. RunsToRest (mux_rows (ready_of three.keys (views three.slots) p.choice)) p q in
     let s4 : four.slots ≡ start =
-    idle_slots s.system ready (λ party p q a m. idle_mux (ready_of three.keys (views three.slots) p.choice) party p q a m) s.ports start four.slots idle (subst (λ l. AllMove ready l four.slots) s3 run.2.2.2.1.0) in
-    subst (λ l. AllMove RunsPeriodic start l) (sym (last_slots (with_slots s start) s run)) (subst (λ l. AllMove RunsPeriodic l five.slots) s4 run.2.2.2.2.1.0)
+    idle_slots s.system ready (λ party p q a m. idle_mux (ready_of three.keys (views three.slots) p.choice) party p q a m) s.ports start four.slots idle (subst (λ l. PortsGo ready l four.slots) s3 run.2.2.2.1.0) in
+    subst (λ l. PortsGo RunsPeriodic start l) (sym (last_slots (with_slots s start) s run)) (subst (λ l. PortsGo RunsPeriodic l five.slots) s4 run.2.2.2.2.1.0)
 
-pub first_shows : (s : State) → IsFirst s → view_of s ≡ first_view (configured s)
+pub first_shows : (s : SystemState) → IsFirst s → model_view s ≡ first_view (model_setup s)
 first_shows s h =
     let start = h.0 in
     let m5 = first_periodic s h in
     let idle : AllZip (Idles s.system) s.ports start = zip_weaker (IsNew s.system) (Idles s.system) (λ c x m. (m.0, starts_idle (setup_of s.system c) x.port m.2)) s.ports start h.1 in
-    let same_ports : (q : ℕ) → ports_of number shown_slot s.slots q ≡ ports_of number shown_slot start q =
-    zip_ports number number shown_slot shown_slot start s.slots (zip_weaker (Moves RunsPeriodic) _ (λ x y m. (ap number m.0, periodic_shown x.port y.port m.1)) start s.slots m5) in
-    let first_ports : (q : ℕ) → ports_of number shown_slot start q ≡ ports_of number_of (λ c. first_port (party_in s.system c)) s.ports q =
-    zip_ports number_of number (λ c. first_port (party_in s.system c)) shown_slot s.ports start (zip_weaker (Idles s.system) _ (λ c x m. (m.0, m.1.looks)) s.ports start idle) in
+    let same_ports : (q : ℕ) → ports_of number model_port_of s.slots q ≡ ports_of number model_port_of start q =
+    zip_ports number number model_port_of model_port_of start s.slots (zip_weaker (PortGoes RunsPeriodic) _ (λ x y m. (ap number m.0, periodic_shown x.port y.port m.1)) start s.slots m5) in
+    let first_ports : (q : ℕ) → ports_of number model_port_of start q ≡ ports_of configured_number (λ c. first_port (configured_party s.system c)) s.ports q =
+    zip_ports configured_number number (λ c. first_port (configured_party s.system c)) model_port_of s.ports start (zip_weaker (Idles s.system) _ (λ c x m. (m.0, m.1.looks)) s.ports start idle) in
     λ i. record {
-      port = λ q. (same_ports q ∙ first_ports q ∙ composed first_port (party_in s.system) (find_number number_of s.ports q)) i;
-      flows = (ap flows_of h.3 ∙ first_flows (configured s) (length s.keys)) i;
+      port = λ q. (same_ports q ∙ first_ports q ∙ composed first_port (configured_party s.system) (find_number configured_number s.ports q)) i;
+      flows = (ap model_flows h.3 ∙ first_flows (model_setup s) (length s.keys)) i;
     }
 
 -- a restart shows the first view
-pub restarted_shows : (old new : State) → new ≡ with_table (with_slots old new.slots) new.table → IsFirst new → view_of new ≡ first_view (configured old)
-restarted_shows old new e h = first_shows new h ∙ ap (λ (s : State). first_view (configured s)) e
+pub restarted_shows : (old new : SystemState) → new ≡ with_table (with_slots old new.slots) new.table → IsFirst new → model_view new ≡ first_view (model_setup old)
+restarted_shows old new e h = first_shows new h ∙ ap (λ (s : SystemState). first_view (model_setup s)) e
 
 -- a configuration is a setup
-number_found : (ports : List PortConfig) (q : ℕ) (c : PortConfig) → find_number number_of ports q ≡ Some c → c.number ≡ q
+number_found : (ports : List PortConfig) (q : ℕ) (c : PortConfig) → find_number configured_number ports q ≡ Some c → c.number ≡ q
 number_found [] q c e = absurd (none-some c e)
-number_found (x ∷ xs) q c e = elim (whichever (eqb q x.number) (Some x) (find_number number_of xs q) (Some c) e) [
+number_found (x ∷ xs) q c e = elim (whichever (eqb q x.number) (Some x) (find_number configured_number xs q) (Some c) e) [
   | inl h ↦ ap (λ (y : PortConfig). y.number) (sym (same_Some x c h.1)) ∙ sym (eqb-true q x.number h.0)
   | inr h ↦ number_found xs q c h.1
 ]
 
-pub configured_setup : (s : State) → IsSetup (configured s)
+pub configured_setup : (s : SystemState) → IsSystemSetup (model_setup s)
 configured_setup s = record {
-  system = λ p a e. (let x = mapped_some (party_in s.system) (find_number number_of s.ports p) a e in ap (λ (y : Party). y.system) (sym x.2));
-  number = λ p a e. (let x = mapped_some (party_in s.system) (find_number number_of s.ports p) a e in ap (λ (y : Party). y.port.number) (sym x.2) ∙ number_found s.ports p x.0 x.1);
+  system = λ p a e. (let x = mapped_some (configured_party s.system) (find_number configured_number s.ports p) a e in ap (λ (y : Party). y.system) (sym x.2));
+  number = λ p a e. (let x = mapped_some (configured_party s.system) (find_number configured_number s.ports p) a e in ap (λ (y : Party). y.port.number) (sym x.2) ∙ number_found s.ports p x.0 x.1);
 }

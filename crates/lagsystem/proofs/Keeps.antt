@@ -11,94 +11,94 @@ use Rattle.portmachines.specs.Machines.{Machines}
 use Rattle.portmachines.specs.Mux.{mux_rows}
 use Rattle.portmachines.specs.Periodic.{RunsPeriodic}
 use Rattle.portmachines.specs.Receive.{receive_rows}
-use Rattle.portmachines.specs.Rows.{Settles}
+use Rattle.portmachines.specs.Rows.{RunsToRest}
 use Rattle.portmachines.specs.Transmit.{count_down, is_due, sent}
 use Rattle.slowpdu.specs.declared.pdu.Marker.{Marker}
 use Rattle.distributor.specs.declared.assignment.Assignment.{Assignment}
 use Rattle.distributor.specs.declared.assignment.Assignment.TheVariants.{Free}
 use Rattle.distributor.specs.Changes.{marker_due}
-use Rattle.distributor.specs.Conversations.{Table, first_table, state_of}
+use Rattle.distributor.specs.Conversations.{Table, first_table, assignment_of}
 use Rattle.distributor.proofs.TableLemmas.{first_free}
-use Rattle.lagsystem.specs.Readers.{agg_of_number, distributing}
-use Rattle.lagsystem.specs.declared.answers.Heard.{Heard}
-use Rattle.lagsystem.specs.declared.answers.Heard.TheVariants.{Taken, Response, Answered}
-use Rattle.lagsystem.specs.declared.answers.Received.{Received}
+use Rattle.lagsystem.specs.Readers.{aggregator_numbered, distributing}
+use Rattle.lagsystem.specs.declared.received.FrameEffect.{FrameEffect}
+use Rattle.lagsystem.specs.declared.received.FrameEffect.TheVariants.{Taken, Response, Answered}
+use Rattle.lagsystem.specs.declared.received.Received.{Received}
 use Rattle.lagsystem.specs.declared.config.PortConfig.{PortConfig}
 use Rattle.lagsystem.specs.declared.fault.BadConfig.{BadConfig}
-use Rattle.lagsystem.specs.declared.slots.Slot.{Slot}
-use Rattle.lagsystem.specs.State.{State, with_slots, with_table, place_of}
-use Rattle.lagsystem.specs.Settling.{AllMove, EachPort, LeavesPorts, Settling, SettlesPorts, chosen, choose_slot, given, left_on, ready_of, takes}
+use Rattle.lagsystem.specs.declared.slots.SystemPort.{SystemPort}
+use Rattle.lagsystem.specs.State.{SystemState, with_slots, with_table, place_of}
+use Rattle.lagsystem.specs.Settling.{PortsGo, EachPort, HoldsConversations, Settling, SettlesPorts, chosen, choose_slot, given, held_unless_on, ready_of, aggregator_for}
 use Rattle.lagsystem.specs.Views.{views}
-use Rattle.lagsystem.specs.First.{IsConfigured, IsFirst, IsNew, numbers_of, refusal, refusal_of, is_count}
+use Rattle.lagsystem.specs.First.{IsConfigured, IsFirst, IsNew, configured_numbers, refusal, config_refusal, is_count}
 use Rattle.lagsystem.specs.declared.config.Config.{Config}
 use Rattle.lagsystem.specs.Sound.{HasPorts}
-use Rattle.lagsystem.specs.State.{numbers}
+use Rattle.lagsystem.specs.State.{port_numbers}
 use Rattle.lagsystem.specs.declared.drive.Reply.{Reply}
 use Rattle.lagsystem.specs.declared.drive.Reply.TheVariants as reply
 use Rattle.lagsystem.specs.declared.fault.SystemFault.{SystemFault}
 use Rattle.lagsystem.specs.Offers.{Becomes, Offers, force_answer, move_answer}
 use Rattle.lagsystem.specs.Sending.{SendsAt, SendsMarkerOf, SendsWhere}
-use Rattle.lagsystem.specs.Calls.{Call, Tick, Set_link, Receive, Configure, Restart, Transmit, Offer, Move_conversation, Force, AllTick, ChangesLink, ChangesParty, Frees, LinksPort, OnPlace, OnPort, Releases, Settled, Takes, Does, Step, is_for}
+use Rattle.lagsystem.specs.Calls.{Call, Tick, Set_link, Receive, Configure, Restart, Transmit, Offer, Move_conversation, Force, AllTick, ChangesLink, ChangesParty, FreesIfDown, LinksPort, PortAtGoes, OnPort, Releases, Settled, TakesLacpdu, Performs, Step, is_for}
 use Rattle.lagsystem.proofs.Rising.{if_then}
 
-pub record Keeps (old new : State) : Type 0 where
+pub record Keeps (old new : SystemState) : Type 0 where
   pub frame : new ≡ with_table (with_slots old new.slots) new.table
-  pub same : numbers new.slots ≡ numbers old.slots
+  pub same : port_numbers new.slots ≡ port_numbers old.slots
   pub aggs : new.table.aggs ≡ old.table.aggs
 
-pub keeps_joined : (a b c : State) → Keeps a b → Keeps b c → Keeps a c
+pub keeps_joined : (a b c : SystemState) → Keeps a b → Keeps b c → Keeps a c
 keeps_joined a b c h k = record {
-  frame = k.frame ∙ ap (λ (s : State). with_table (with_slots s c.slots) c.table) h.frame;
+  frame = k.frame ∙ ap (λ (s : SystemState). with_table (with_slots s c.slots) c.table) h.frame;
   same = k.same ∙ h.same;
   aggs = k.aggs ∙ h.aggs;
 }
 
 -- ports alone, or conversations alone
-pub keeps_slots : (old new : State) → new ≡ with_slots old new.slots → numbers new.slots ≡ numbers old.slots → Keeps old new
+pub keeps_slots : (old new : SystemState) → new ≡ with_slots old new.slots → port_numbers new.slots ≡ port_numbers old.slots → Keeps old new
 keeps_slots old new e n = record {
-  frame = e ∙ (λ i. record old { slots = new.slots; table = sym (ap (λ (s : State). s.table) e) i });
+  frame = e ∙ (λ i. record old { slots = new.slots; table = sym (ap (λ (s : SystemState). s.table) e) i });
   same = n;
-  aggs = ap (λ (s : State). s.table.aggs) e;
+  aggs = ap (λ (s : SystemState). s.table.aggs) e;
 }
 
-pub keeps_table : (old new : State) → new ≡ with_table old new.table → new.table.aggs ≡ old.table.aggs → Keeps old new
+pub keeps_table : (old new : SystemState) → new ≡ with_table old new.table → new.table.aggs ≡ old.table.aggs → Keeps old new
 keeps_table old new e a = record {
-  frame = e ∙ (λ i. record old { slots = sym (ap (λ (s : State). s.slots) e) i; table = new.table });
-  same = ap (λ (s : State). numbers s.slots) e;
+  frame = e ∙ (λ i. record old { slots = sym (ap (λ (s : SystemState). s.slots) e) i; table = new.table });
+  same = ap (λ (s : SystemState). port_numbers s.slots) e;
   aggs = a;
 }
 
-pub keeps_stays : (old new : State) → new ≡ old → Keeps old new
-keeps_stays old new e = keeps_slots old new (e ∙ ap (with_slots old) (sym (ap (λ (s : State). s.slots) e))) (ap (λ (s : State). numbers s.slots) e)
+pub keeps_stays : (old new : SystemState) → new ≡ old → Keeps old new
+keeps_stays old new e = keeps_slots old new (e ∙ ap (with_slots old) (sym (ap (λ (s : SystemState). s.slots) e))) (ap (λ (s : SystemState). port_numbers s.slots) e)
 
-pub zip_numbers : (R : Machines → Machines → Type 0) (xs ys : List Slot) → AllMove R xs ys → numbers ys ≡ numbers xs
+pub zip_numbers : (R : Machines → Machines → Type 0) (xs ys : List SystemPort) → PortsGo R xs ys → port_numbers ys ≡ port_numbers xs
 zip_numbers R [] [] h = refl
 zip_numbers R [] (y ∷ ys) h = absurd h
 zip_numbers R (x ∷ xs) [] h = absurd h
 zip_numbers R (x ∷ xs) (y ∷ ys) h = λ i. (h.0.0 i).number ∷ zip_numbers R xs ys h.1 i
 
-pub keeps_each : (R : Machines → Machines → Type 0) (old new : State) → EachPort R old new → Keeps old new
+pub keeps_each : (R : Machines → Machines → Type 0) (old new : SystemState) → EachPort R old new → Keeps old new
 keeps_each R old new h = keeps_slots old new h.1 (zip_numbers R old.slots new.slots h.0)
 
-pub numbers_set : (slots : List Slot) (i : ℕ) (s t : Slot) → slice_get slots i ≡ Some s → t.number ≡ s.number → numbers (slice_set slots i t) ≡ numbers slots
+pub numbers_set : (slots : List SystemPort) (i : ℕ) (s t : SystemPort) → slice_get slots i ≡ Some s → t.number ≡ s.number → port_numbers (slice_set slots i t) ≡ port_numbers slots
 numbers_set [] i s t e n = refl
-numbers_set (x ∷ xs) zero s t e n = let same : x ≡ s = cc in let here : x.number ≡ s.number = ap (λ (y : Slot). y.number) same in cc
+numbers_set (x ∷ xs) zero s t e n = let same : x ≡ s = cc in let here : x.number ≡ s.number = ap (λ (y : SystemPort). y.number) same in cc
 numbers_set (x ∷ xs) (suc i) s t e n = ap (λ ns. x.number ∷ ns) (numbers_set xs i s t e n)
 
-pub given_number : (s : Slot) (o : Option AggId) → (given s o).number ≡ s.number
+pub given_number : (s : SystemPort) (o : Option AggId) → (given s o).number ≡ s.number
 given_number s None = refl
 given_number s (Some agg) = refl
 
-choose_numbers : (keys : List Key) (slots : List Slot) (i : ℕ) (o : Option Slot) → slice_get slots i ≡ o → numbers (choose_slot keys slots i o) ≡ numbers slots
+choose_numbers : (keys : List Key) (slots : List SystemPort) (i : ℕ) (o : Option SystemPort) → slice_get slots i ≡ o → port_numbers (choose_slot keys slots i o) ≡ port_numbers slots
 choose_numbers keys slots i None e = refl
-choose_numbers keys slots i (Some s) e = let o = takes keys slots s in numbers_set slots i s (given s o) e (given_number s o)
+choose_numbers keys slots i (Some s) e = let o = aggregator_for keys slots s in numbers_set slots i s (given s o) e (given_number s o)
 
-pub chosen_numbers : (keys : List Key) (n : ℕ) (slots : List Slot) → numbers (chosen keys n slots) ≡ numbers slots
+pub chosen_numbers : (keys : List Key) (n : ℕ) (slots : List SystemPort) → port_numbers (chosen keys n slots) ≡ port_numbers slots
 chosen_numbers keys zero slots = refl
 chosen_numbers keys (suc n) slots = choose_numbers keys (chosen keys n slots) n (slice_get (chosen keys n slots) n) refl ∙ chosen_numbers keys n slots
 
 -- the steps that look at ports alone
-pub ports_keep : (old new : State) → SettlesPorts old new → Keeps old new
+pub ports_keep : (old new : SystemState) → SettlesPorts old new → Keeps old new
 ports_keep old new h =
     let one = h.0 in
     let two = h.2.0 in
@@ -106,113 +106,113 @@ ports_keep old new h =
     let four = h.2.2.2.0 in
     let five = h.2.2.2.2.0 in
     let chose : Keeps one two =
-    keeps_slots one two (h.2.1 ∙ ap (with_slots one) (sym (ap (λ (s : State). s.slots) h.2.1)))
-    (ap (λ (s : State). numbers s.slots) h.2.1 ∙ chosen_numbers one.keys (length one.slots) one.slots) in
-    keeps_joined old one new (keeps_each (Settles (mux_rows false)) old one h.1)
+    keeps_slots one two (h.2.1 ∙ ap (with_slots one) (sym (ap (λ (s : SystemState). s.slots) h.2.1)))
+    (ap (λ (s : SystemState). port_numbers s.slots) h.2.1 ∙ chosen_numbers one.keys (length one.slots) one.slots) in
+    keeps_joined old one new (keeps_each (RunsToRest (mux_rows false)) old one h.1)
     (keeps_joined one two new chose
     (keeps_joined two three new (keeps_stays two three h.2.2.1)
-    (keeps_joined three four new (keeps_each (λ p q. Settles (mux_rows (ready_of three.keys (views three.slots) p.choice)) p q) three four h.2.2.2.1)
+    (keeps_joined three four new (keeps_each (λ p q. RunsToRest (mux_rows (ready_of three.keys (views three.slots) p.choice)) p q) three four h.2.2.2.1)
     (keeps_joined four five new (keeps_each RunsPeriodic four five h.2.2.2.2.1) (keeps_stays five new h.2.2.2.2.2)))))
 
 -- they leave the conversations
-pub ports_table : (old new : State) → SettlesPorts old new → new.table ≡ old.table
+pub ports_table : (old new : SystemState) → SettlesPorts old new → new.table ≡ old.table
 ports_table old new h =
-    let table : State → Table = λ s. s.table in
+    let table : SystemState → Table = λ s. s.table in
     ap table h.2.2.2.2.2 ∙ ap table h.2.2.2.2.1.1 ∙ ap table h.2.2.2.1.1 ∙ ap table h.2.2.1 ∙ ap table h.2.1 ∙ ap table h.1.1
 
 -- one settling is those steps, and then the one of the conversations
-pub settling_parts : (old new : State) → Settling old new → (five : State) × SettlesPorts old five × LeavesPorts five new
+pub settling_parts : (old new : SystemState) → Settling old new → (five : SystemState) × SettlesPorts old five × HoldsConversations five new
 settling_parts old new h =
     let five = h.2.2.2.2.0 in (
       five,
       (h.0, h.1, (h.2.0, h.2.1, (h.2.2.0, h.2.2.1, (h.2.2.2.0, h.2.2.2.1, (five, h.2.2.2.2.1, refl))))),
-      subst (LeavesPorts five) (sym h.2.2.2.2.2.2) h.2.2.2.2.2.1,
+      subst (HoldsConversations five) (sym h.2.2.2.2.2.2) h.2.2.2.2.2.1,
     )
 
-pub settling_joined : (old mid new : State) → SettlesPorts old mid → LeavesPorts mid new → Settling old new
+pub settling_joined : (old mid new : SystemState) → SettlesPorts old mid → HoldsConversations mid new → Settling old new
 settling_joined old mid new h l =
     let five = h.2.2.2.2.0 in
-    (h.0, h.1, (h.2.0, h.2.1, (h.2.2.0, h.2.2.1, (h.2.2.2.0, h.2.2.2.1, (five, h.2.2.2.2.1, (new, subst (λ s. LeavesPorts s new) h.2.2.2.2.2 l, refl))))))
+    (h.0, h.1, (h.2.0, h.2.1, (h.2.2.0, h.2.2.1, (h.2.2.2.0, h.2.2.2.1, (five, h.2.2.2.2.1, (new, subst (λ s. HoldsConversations s new) h.2.2.2.2.2 l, refl))))))
 
-pub settling_keeps : (old new : State) → Settling old new → Keeps old new
+pub settling_keeps : (old new : SystemState) → Settling old new → Keeps old new
 settling_keeps old new h =
     let p = settling_parts old new h in
     keeps_joined old p.0 new (ports_keep old p.0 p.1) (keeps_table p.0 new p.2.frame p.2.aggs)
 
-place_numbers : (R : Machines → Machines → Type 0) (o : Option ℕ) (old new : List Slot) → OnPlace R o old new → numbers new ≡ numbers old
+place_numbers : (R : Machines → Machines → Type 0) (o : Option ℕ) (old new : List SystemPort) → PortAtGoes R o old new → port_numbers new ≡ port_numbers old
 place_numbers R None old new h = absurd h
-place_numbers R (Some i) old new h = ap numbers h.4 ∙ numbers_set old i h.0 (record h.0 { port = h.1 }) h.2 refl
+place_numbers R (Some i) old new h = ap port_numbers h.4 ∙ numbers_set old i h.0 (record h.0 { port = h.1 }) h.2 refl
 
-pub keeps_place : (R : Machines → Machines → Type 0) (o : Option ℕ) (old new : State) → OnPort o R old new → Keeps old new
+pub keeps_place : (R : Machines → Machines → Type 0) (o : Option ℕ) (old new : SystemState) → OnPort o R old new → Keeps old new
 keeps_place R o old new h = keeps_slots old new h.1 (place_numbers R o old.slots new.slots h.0)
 
-pub keeps_settled : (own : State → State → Type 0) (old new : State) → ((mid : State) → own old mid → Keeps old mid) → Settled own old new → Keeps old new
+pub keeps_settled : (own : SystemState → SystemState → Type 0) (old new : SystemState) → ((mid : SystemState) → own old mid → Keeps old mid) → Settled own old new → Keeps old new
 keeps_settled own old new k h = keeps_joined old h.0 new (k h.0 h.1) (settling_keeps h.0 new h.2)
 
-pub keeps_tick : (old new : State) → AllTick old new → Keeps old new
-keeps_tick old new h = record { frame = h.2; same = zip_numbers (λ p q. Settles receive_rows (count_down p) q) old.slots new.slots h.0; aggs = h.1.aggs }
+pub keeps_tick : (old new : SystemState) → AllTick old new → Keeps old new
+keeps_tick old new h = record { frame = h.2; same = zip_numbers (λ p q. RunsToRest receive_rows (count_down p) q) old.slots new.slots h.0; aggs = h.1.aggs }
 
-frees_aggs : (up : Bool) (n : ℕ) (old new : Table) → Frees up n old new → new.aggs ≡ old.aggs
+frees_aggs : (up : Bool) (n : ℕ) (old new : Table) → FreesIfDown up n old new → new.aggs ≡ old.aggs
 frees_aggs true n old new h = ap (λ (t : Table). t.aggs) h
 frees_aggs false n old new h = h.aggs
 
-pub keeps_link : (n : ℕ) (up : Bool) (old new : State) → LinksPort n up old new → Keeps old new
+pub keeps_link : (n : ℕ) (up : Bool) (old new : SystemState) → LinksPort n up old new → Keeps old new
 keeps_link n up old new h = record { frame = h.2; same = place_numbers (ChangesLink up) (place_of n old.slots) old.slots new.slots h.0; aggs = frees_aggs up n old.table new.table h.1 }
 
-keeps_marker : (o : Option ℕ) (port : ℕ) (mac : List ℕ) (old : State) (answer : Option (List ℕ)) (new : State) → SendsMarkerOf o port mac old answer new → Keeps old new
+keeps_marker : (o : Option ℕ) (port : ℕ) (mac : List ℕ) (old : SystemState) (answer : Option (List ℕ)) (new : SystemState) → SendsMarkerOf o port mac old answer new → Keeps old new
 keeps_marker None port mac old answer new h = keeps_stays old new h.1
 keeps_marker (Some id) port mac old answer new h = keeps_table old new h.5 h.4.aggs
 
-keeps_where : (up due : Bool) (i : ℕ) (slot : Slot) (old : State) (answer : Option (List ℕ)) (new : State) → slice_get old.slots i ≡ Some slot → SendsWhere up due i slot old answer new → Keeps old new
+keeps_where : (up due : Bool) (i : ℕ) (slot : SystemPort) (old : SystemState) (answer : Option (List ℕ)) (new : SystemState) → slice_get old.slots i ≡ Some slot → SendsWhere up due i slot old answer new → Keeps old new
 keeps_where false due i slot old answer new e h = keeps_stays old new h.1
 keeps_where true true i slot old answer new e h =
-    let sends : Slot = record slot { port = sent slot.port } in
-    let slots : new.slots ≡ slice_set old.slots i sends = ap (λ (s : State). s.slots) h.3 in
-    keeps_slots old new (h.3 ∙ ap (with_slots old) (sym slots)) (ap numbers slots ∙ numbers_set old.slots i slot sends e refl)
+    let sends : SystemPort = record slot { port = sent slot.port } in
+    let slots : new.slots ≡ slice_set old.slots i sends = ap (λ (s : SystemState). s.slots) h.3 in
+    keeps_slots old new (h.3 ∙ ap (with_slots old) (sym slots)) (ap port_numbers slots ∙ numbers_set old.slots i slot sends e refl)
 keeps_where true false i slot old answer new e h = keeps_marker (marker_due old.table slot.number) slot.number slot.mac old answer new h
 
-pub keeps_sends : (o : Option ℕ) (old : State) (answer : Option (List ℕ)) (new : State) → SendsAt o old answer new → Keeps old new
+pub keeps_sends : (o : Option ℕ) (old : SystemState) (answer : Option (List ℕ)) (new : SystemState) → SendsAt o old answer new → Keeps old new
 keeps_sends None old answer new h = absurd h
 keeps_sends (Some i) old answer new h = keeps_where h.0.port.enabled (is_due h.0.port) i h.0 old answer new h.1 h.2
 
-keeps_releases : (b : Bool) (port : ℕ) (m : Marker) (old : State) (answer : Received) (new : State) → Releases b port m old answer new → Keeps old new
+keeps_releases : (b : Bool) (port : ℕ) (m : Marker) (old : SystemState) (answer : Received) (new : SystemState) → Releases b port m old answer new → Keeps old new
 keeps_releases false port m old answer new h = keeps_stays old new h.1
 keeps_releases true port m old answer new h = keeps_table old new h.2 h.1.aggs
 
-pub keeps_does : (heard : Heard) (port : ℕ) (o : Option ℕ) (old : State) (answer : Received) (new : State) → Does heard port o old answer new → Keeps old new
-keeps_does (Taken v) port o old answer new h = keeps_settled (OnPort o (Takes v)) old new (λ mid own. keeps_place (Takes v) o old mid own) h.1
+pub keeps_does : (heard : FrameEffect) (port : ℕ) (o : Option ℕ) (old : SystemState) (answer : Received) (new : SystemState) → Performs heard port o old answer new → Keeps old new
+keeps_does (Taken v) port o old answer new h = keeps_settled (OnPort o (TakesLacpdu v)) old new (λ mid own. keeps_place (TakesLacpdu v) o old mid own) h.1
 keeps_does (Response m) port o old answer new h = keeps_releases (is_for old port m) port m old answer new h
 keeps_does (Answered a) port o old answer new h = keeps_stays old new h.1
 
-pub keeps_offers : (gives : ℕ → ℕ → ℕ → Type 0) (agg : AggId) (octets : List ℕ) (old : State) (answer : Result ℕ SystemFault) (new : State) → Offers gives agg octets old answer new → Keeps old new
+pub keeps_offers : (gives : ℕ → ℕ → ℕ → Type 0) (agg : AggId) (octets : List ℕ) (old : SystemState) (answer : Result ℕ SystemFault) (new : SystemState) → Offers gives agg octets old answer new → Keeps old new
 keeps_offers gives agg octets old (Ok port) new h = keeps_table old new h.2.1 h.2.0.aggs
 keeps_offers gives agg octets old (Err fault) new h = keeps_stays old new h.1
 
-pub keeps_becomes : (agg : AggId) (conv : ℕ) (what : Result Assignment SystemFault) (old : State) (answer : Result Unit SystemFault) (new : State) → Becomes agg conv what old answer new → Keeps old new
+pub keeps_becomes : (agg : AggId) (conv : ℕ) (what : Result Assignment SystemFault) (old : SystemState) (answer : Result Unit SystemFault) (new : SystemState) → Becomes agg conv what old answer new → Keeps old new
 keeps_becomes agg conv (Ok state) old answer new h = keeps_table old new h.1.1 h.1.0.aggs
 keeps_becomes agg conv (Err fault) old answer new h = keeps_stays old new h.1
 
-new_numbers : (system : SystemId) (ports : List PortConfig) (slots : List Slot) → AllZip (IsNew system) ports slots → numbers slots ≡ numbers_of ports
+new_numbers : (system : SystemId) (ports : List PortConfig) (slots : List SystemPort) → AllZip (IsNew system) ports slots → port_numbers slots ≡ configured_numbers ports
 new_numbers system [] [] h = refl
 new_numbers system [] (s ∷ ss) h = absurd h
 new_numbers system (p ∷ ps) [] h = absurd h
 new_numbers system (p ∷ ps) (s ∷ ss) h = λ i. h.0.0 i ∷ new_numbers system ps ss h.1 i
 
 -- the first state has the ports of its configuration
-pub first_numbers : (s : State) → IsFirst s → numbers s.slots ≡ numbers_of s.ports
+pub first_numbers : (s : SystemState) → IsFirst s → port_numbers s.slots ≡ configured_numbers s.ports
 first_numbers s h = (settling_keeps (with_slots s h.0) s h.2).same ∙ new_numbers s.system s.ports h.0 h.1
 
-pub ports_kept : (old new : State) → Keeps old new → HasPorts old → HasPorts new
+pub ports_kept : (old new : SystemState) → Keeps old new → HasPorts old → HasPorts new
 ports_kept old new k s = record {
-  accepted = ap (λ (x : State). refusal x.keys x.ports) k.frame ∙ s.accepted;
-  same = k.same ∙ s.same ∙ sym (ap (λ (x : State). numbers_of x.ports) k.frame);
+  accepted = ap (λ (x : SystemState). refusal x.keys x.ports) k.frame ∙ s.accepted;
+  same = k.same ∙ s.same ∙ sym (ap (λ (x : SystemState). configured_numbers x.ports) k.frame);
 }
 
-pub ports_first : (s : State) → refusal s.keys s.ports ≡ None → IsFirst s → HasPorts s
+pub ports_first : (s : SystemState) → refusal s.keys s.ports ≡ None → IsFirst s → HasPorts s
 ports_first s a h = record { accepted = a; same = first_numbers s h }
 
 -- every call but a restart keeps the configuration
-pub Step-keeps : (gives : ℕ → ℕ → ℕ → Type 0) (old : State) (call : Call) (answer : Reply) (new : State) → (call ≡ Restart → ⊥) → Step gives old call answer new → Keeps old new
+pub Step-keeps : (gives : ℕ → ℕ → ℕ → Type 0) (old : SystemState) (call : Call) (answer : Reply) (new : SystemState) → (call ≡ Restart → ⊥) → Step gives old call answer new → Keeps old new
 Step-keeps gives old Tick reply.Tick new n h = keeps_settled AllTick old new (λ mid own. keeps_tick old mid own) h
 Step-keeps gives old (Set_link p up) (reply.SetLink (Ok done)) new n h = keeps_settled (LinksPort p up) old new (λ mid own. keeps_link p up old mid own) h
 Step-keeps gives old (Set_link p up) (reply.SetLink (Err fault)) new n h = keeps_stays old new h.same
@@ -246,28 +246,28 @@ restart_or_not (Offer agg octets) = inr (λ e. false≢true (ap is_restart e))
 restart_or_not (Move_conversation agg conv port) = inr (λ e. false≢true (ap is_restart e))
 restart_or_not (Force agg conv) = inr (λ e. false≢true (ap is_restart e))
 
-restarts : (gives : ℕ → ℕ → ℕ → Type 0) (old : State) (answer : Reply) (new : State) → Step gives old Restart answer new → (new ≡ with_table (with_slots old new.slots) new.table) × IsFirst new
+restarts : (gives : ℕ → ℕ → ℕ → Type 0) (old : SystemState) (answer : Reply) (new : SystemState) → Step gives old Restart answer new → (new ≡ with_table (with_slots old new.slots) new.table) × IsFirst new
 restarts gives old reply.Restart new h = h
 restarts gives old answer new h = absurd h
 
-pub Step-frame : (gives : ℕ → ℕ → ℕ → Type 0) (old : State) (call : Call) (answer : Reply) (new : State) → Step gives old call answer new → new ≡ with_table (with_slots old new.slots) new.table
+pub Step-frame : (gives : ℕ → ℕ → ℕ → Type 0) (old : SystemState) (call : Call) (answer : Reply) (new : SystemState) → Step gives old call answer new → new ≡ with_table (with_slots old new.slots) new.table
 Step-frame gives old call answer new h = elim (restart_or_not call) [
   | inl e ↦ (restarts gives old answer new (subst (λ c. Step gives old c answer new) e h)).0
   | inr n ↦ (Step-keeps gives old call answer new n h).frame
 ]
 
-pub Step-ports : (gives : ℕ → ℕ → ℕ → Type 0) (old : State) (call : Call) (answer : Reply) (new : State) → Step gives old call answer new → HasPorts old → HasPorts new
+pub Step-ports : (gives : ℕ → ℕ → ℕ → Type 0) (old : SystemState) (call : Call) (answer : Reply) (new : SystemState) → Step gives old call answer new → HasPorts old → HasPorts new
 Step-ports gives old call answer new h s = elim (restart_or_not call) [
   | inl e ↦ (let r = restarts gives old answer new (subst (λ c. Step gives old c answer new) e h) in
-      ports_first new (ap (λ (x : State). refusal x.keys x.ports) r.0 ∙ s.accepted) r.1)
+      ports_first new (ap (λ (x : SystemState). refusal x.keys x.ports) r.0 ∙ s.accepted) r.1)
   | inr n ↦ ports_kept old new (Step-keeps gives old call answer new n h) s
 ]
 
 -- there are as many conversations as aggregators
-pub Step-aggregators : (gives : ℕ → ℕ → ℕ → Type 0) (old : State) (call : Call) (answer : Reply) (new : State) → Step gives old call answer new → old.table.aggs ≡ length old.keys → new.table.aggs ≡ length new.keys
+pub Step-aggregators : (gives : ℕ → ℕ → ℕ → Type 0) (old : SystemState) (call : Call) (answer : Reply) (new : SystemState) → Step gives old call answer new → old.table.aggs ≡ length old.keys → new.table.aggs ≡ length new.keys
 Step-aggregators gives old call answer new h e = elim (restart_or_not call) [
   | inl r ↦ ap (λ (t : Table). t.aggs) (restarts gives old answer new (subst (λ c. Step gives old c answer new) r h)).1.3
-  | inr n ↦ (let k = Step-keeps gives old call answer new n h in k.aggs ∙ e ∙ sym (ap (λ (s : State). length s.keys) k.frame))
+  | inr n ↦ (let k = Step-keeps gives old call answer new n h in k.aggs ∙ e ∙ sym (ap (λ (s : SystemState). length s.keys) k.frame))
 ]
 
 is_true : (b : Bool) (x : Option BadConfig) (y : BadConfig) → (if b then x else Some y) ≡ None → b ≡ true
@@ -281,11 +281,11 @@ pub accepted_keys_few : (keys : List Key) (ports : List PortConfig) → refusal 
 accepted_keys_few keys ports h = below (length keys) (is_true (is_count (length keys)) _ _ (if_then (is_count (length ports)) _ _ h))
 
 -- a configuration that a system has is accepted if the system's is
-pub is_accepted : (config : Config) (s : State) → IsConfigured config s → refusal s.keys s.ports ≡ None → refusal_of config ≡ None
+pub is_accepted : (config : Config) (s : SystemState) → IsConfigured config s → refusal s.keys s.ports ≡ None → config_refusal config ≡ None
 is_accepted config s h none = ap (λ keys. refusal keys config.ports.items) (sym h.keys) ∙ ap (λ ports. refusal s.keys ports) (sym h.ports) ∙ none
 
 -- what a new system is
-abbrev pub started : Config → List Key → List Slot → State
+abbrev pub started : Config → List Key → List SystemPort → SystemState
 started config keys start = record {
   system = config.system;
   max_delay = config.max_delay;
@@ -297,53 +297,53 @@ started config keys start = record {
 }
 
 -- every conversation is free, so none leaves its port
-first_leaves : (aggs first : ℕ) (s : State) → s.table ≡ first_table aggs first → LeavesPorts s s
+first_leaves : (aggs first : ℕ) (s : SystemState) → s.table ≡ first_table aggs first → HoldsConversations s s
 first_leaves aggs first s e = record {
   frame = refl;
   aggs = refl;
   first = refl;
   next = refl;
-  states = λ g k. (let free : state_of s.table g k ≡ Free None = ap (λ (t : Table). state_of t g k) e ∙ first_free aggs first g k in
-      free ∙ sym (ap (left_on (distributing (agg_of_number g) s.slots)) free));
+  states = λ g k. (let free : assignment_of s.table g k ≡ Free None = ap (λ (t : Table). assignment_of t g k) e ∙ first_free aggs first g k in
+      free ∙ sym (ap (held_unless_on (distributing (aggregator_numbered g) s.slots)) free));
 }
 
-pub first_settles : (aggs first : ℕ) (old new : State) → old.table ≡ first_table aggs first → SettlesPorts old new → Settling old new
+pub first_settles : (aggs first : ℕ) (old new : SystemState) → old.table ≡ first_table aggs first → SettlesPorts old new → Settling old new
 first_settles aggs first old new e h = settling_joined old new new h (first_leaves aggs first new (ports_table old new h ∙ e))
 
-pub first_made : (config : Config) (keys : List Key) (start : List Slot) (new : State) → AllZip (IsNew config.system) config.ports.items start
+pub first_made : (config : Config) (keys : List Key) (start : List SystemPort) (new : SystemState) → AllZip (IsNew config.system) config.ports.items start
     → SettlesPorts (started config keys start) new → IsFirst new
 first_made config keys start new h k =
     let old = started config keys start in
     let f = (ports_keep old new k).frame in
     let t : new.table ≡ old.table = ports_table old new k in
     let settles : Settling old new = first_settles (length keys) config.first_marker old new refl k in
-    let same : with_slots new start ≡ old = ap (λ (s : State). with_slots s start) f ∙ ap (λ (t : Table). with_table old t) t in
-    let keys_same : length new.keys ≡ length keys = ap (λ (s : State). length s.keys) f in
-    let marker : new.first_marker ≡ config.first_marker = ap (λ (s : State). s.first_marker) f in (
+    let same : with_slots new start ≡ old = ap (λ (s : SystemState). with_slots s start) f ∙ ap (λ (t : Table). with_table old t) t in
+    let keys_same : length new.keys ≡ length keys = ap (λ (s : SystemState). length s.keys) f in
+    let marker : new.first_marker ≡ config.first_marker = ap (λ (s : SystemState). s.first_marker) f in (
       start,
-      subst (λ (s : State). AllZip (IsNew s.system) s.ports start) (sym same) h,
-      subst (λ (s : State). Settling s new) (sym same) settles,
+      subst (λ (s : SystemState). AllZip (IsNew s.system) s.ports start) (sym same) h,
+      subst (λ (s : SystemState). Settling s new) (sym same) settles,
       t ∙ (λ i. first_table (sym keys_same i) (sym marker i)),
     )
 
-pub configured_made : (config : Config) (keys : List Key) (start : List Slot) (new : State) → keys ≡ config.aggregators.items → SettlesPorts (started config keys start) new → IsConfigured config new
+pub configured_made : (config : Config) (keys : List Key) (start : List SystemPort) (new : SystemState) → keys ≡ config.aggregators.items → SettlesPorts (started config keys start) new → IsConfigured config new
 configured_made config keys start new e k =
     let f = (ports_keep (started config keys start) new k).frame in record {
-      system = ap (λ (s : State). s.system) f;
-      max_delay = ap (λ (s : State). s.max_delay) f;
-      first_marker = ap (λ (s : State). s.first_marker) f;
-      keys = ap (λ (s : State). s.keys) f ∙ e;
-      ports = ap (λ (s : State). s.ports) f;
+      system = ap (λ (s : SystemState). s.system) f;
+      max_delay = ap (λ (s : SystemState). s.max_delay) f;
+      first_marker = ap (λ (s : SystemState). s.first_marker) f;
+      keys = ap (λ (s : SystemState). s.keys) f ∙ e;
+      ports = ap (λ (s : SystemState). s.ports) f;
     }
 
-pub ports_made : (config : Config) (keys : List Key) (start : List Slot) (new : State) → keys ≡ config.aggregators.items → refusal_of config ≡ None → AllZip (IsNew config.system) config.ports.items start
+pub ports_made : (config : Config) (keys : List Key) (start : List SystemPort) (new : SystemState) → keys ≡ config.aggregators.items → config_refusal config ≡ None → AllZip (IsNew config.system) config.ports.items start
     → SettlesPorts (started config keys start) new → HasPorts new
 ports_made config keys start new e a h k =
     ports_kept (started config keys start) new (ports_keep (started config keys start) new k)
     (record { accepted = ap (λ l. refusal l config.ports.items) e ∙ a; same = new_numbers config.system config.ports.items start h })
 
 -- the same, from the table that the distributor begins with
-pub started_by : (config : Config) (keys : List Key) (start : List Slot) (t : Table) (new : State) → t ≡ first_table (length keys) config.first_marker
+pub started_by : (config : Config) (keys : List Key) (start : List SystemPort) (t : Table) (new : SystemState) → t ≡ first_table (length keys) config.first_marker
     → SettlesPorts (record { system = config.system; max_delay = config.max_delay; first_marker = t.first; keys = keys; ports = config.ports.items; slots = start; table = t }) new → SettlesPorts (started config keys start) new
 started_by config keys start t new e h =
     subst (λ (t : Table). SettlesPorts (record { system = config.system; max_delay = config.max_delay; first_marker = t.first; keys = keys; ports = config.ports.items; slots = start; table = t }) new) e h

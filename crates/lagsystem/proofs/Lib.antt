@@ -3,7 +3,7 @@ pub mod SettlingLemmas
 pub mod Choosing
 pub mod StateLemmas
 pub mod TableLemmas
-pub mod LeavingLemmas
+pub mod HoldingLemmas
 pub mod OfferLemmas
 pub mod SendingLemmas
 pub mod Keeps

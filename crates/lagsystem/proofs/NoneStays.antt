@@ -7,18 +7,18 @@ use Rattle.lagtypes.specs.declared.identifiers.Key.{Key}
 use Rattle.lagtypes.specs.declared.party.Choice.TheVariants.{Unselected, Selected}
 use Rattle.lagtypes.specs.Group.{individual}
 use Rattle.selection.specs.declared.view.PortView.{PortView}
-use Rattle.selection.specs.Views.{is_given}
-use Rattle.selection.specs.Choice.{choice_for, given_to, has_group_of, has_member, is_empty, is_joinable, lowest, numbered, or_else}
-use Rattle.lagsystem.specs.declared.slots.Slot.{Slot}
+use Rattle.selection.specs.Views.{has_chosen}
+use Rattle.selection.specs.Choice.{choice_for, ports_that_chose, has_group_of, has_member, is_empty, is_joinable, lowest, aggregator_in_row, or_else}
+use Rattle.lagsystem.specs.declared.slots.SystemPort.{SystemPort}
 use Rattle.lagsystem.specs.Settling.{given}
-use Rattle.lagsystem.specs.Views.{view_of, views}
+use Rattle.lagsystem.specs.Views.{selection_view, views}
 
 none_or : (x y : Option AggId) → or_else x y ≡ None → (x ≡ None) × (y ≡ None)
 none_or None None e = (refl, refl)
 none_or None (Some agg) e = absurd cc
 none_or (Some agg) y e = absurd cc
 
-none_mapped : (o : Option (ℕ × Key)) → option_map numbered o ≡ None → o ≡ None
+none_mapped : (o : Option (ℕ × Key)) → option_map aggregator_in_row o ≡ None → o ≡ None
 none_mapped None e = refl
 none_mapped (Some row) e = absurd cc
 
@@ -40,7 +40,7 @@ two_false false s t u h g f = refl
 
 -- the first aggregator with this key that passes the test
 abbrev passing : Key → (AggId → Bool) → List (ℕ × Key) → Option (ℕ × Key)
-passing key test rows = find (λ (row : ℕ × Key). (row.1.0 == key.0) && test (numbered row)) rows
+passing key test rows = find (λ (row : ℕ × Key). (row.1.0 == key.0) && test (aggregator_in_row row)) rows
 
 still_none : (key : Key) (empty join later_empty later_join : AggId → Bool)
     → ((agg : AggId) → empty agg ≡ false → later_empty agg ≡ false)
@@ -49,7 +49,7 @@ still_none : (key : Key) (empty join later_empty later_join : AggId → Bool)
     → (passing key later_empty rows ≡ None) × (passing key later_join rows ≡ None)
 still_none key empty join later_empty later_join f g [] e j = (refl, refl)
 still_none key empty join later_empty later_join f g (row ∷ rows) e j =
-    let agg : AggId = numbered row in
+    let agg : AggId = aggregator_in_row row in
     let same : Bool = row.1.0 == key.0 in
     let he = first_fails (same && empty agg) row (passing key empty rows) e in
     let hj = first_fails (same && join agg) row (passing key join rows) j in
@@ -68,7 +68,7 @@ none_stays keys seen later v f g e =
     let rows : List (ℕ × Key) = enumerate_from 1 keys in
     let h = still_none v.party.key (is_empty seen) (is_joinable seen v) (is_empty later) (is_joinable later v) f g rows
     (none_mapped (passing v.party.key (is_empty seen) rows) both.1) (none_mapped (passing v.party.key (is_joinable seen v) rows) both.0) in
-    ap (λ o. or_else (option_map numbered o) (lowest keys v.party.key (is_empty later))) h.1 ∙ ap (option_map numbered) h.0
+    ap (λ o. or_else (option_map aggregator_in_row o) (lowest keys v.party.key (is_empty later))) h.1 ∙ ap (option_map aggregator_in_row) h.0
 
 -- one more member
 
@@ -89,16 +89,16 @@ or_still : (b c d : Bool) → (b || c) ≡ true → (c ≡ true → d ≡ true) 
 or_still true c d h f = refl
 or_still false c d h f = f h
 
-pub not_given : (agg : AggId) (s x : Slot) → x ≡ s → s.port.choice ≡ Unselected → is_given agg x.port.choice ≡ false
-not_given agg s x same u = ap (λ (y : Slot). is_given agg y.port.choice) same ∙ ap (is_given agg) u
+pub not_given : (agg : AggId) (s x : SystemPort) → x ≡ s → s.port.choice ≡ Unselected → has_chosen agg x.port.choice ≡ false
+not_given agg s x same u = ap (λ (y : SystemPort). has_chosen agg y.port.choice) same ∙ ap (has_chosen agg) u
 
-member_stays : (agg a : AggId) (slots : List Slot) (i : ℕ) (s : Slot) → slice_get slots i ≡ Some s → s.port.choice ≡ Unselected
+member_stays : (agg a : AggId) (slots : List SystemPort) (i : ℕ) (s : SystemPort) → slice_get slots i ≡ Some s → s.port.choice ≡ Unselected
     → has_member (views slots) agg ≡ true → has_member (views (slice_set slots i (given s (Some a)))) agg ≡ true
 member_stays agg a [] i s e u h = absurd cc
 member_stays agg a (x ∷ xs) zero s e u h =
-    or_other (is_given agg x.port.choice) (has_member (views xs) agg) (is_given agg (Selected a)) (not_given agg s x (same_Some x s e) u) h
+    or_other (has_chosen agg x.port.choice) (has_member (views xs) agg) (has_chosen agg (Selected a)) (not_given agg s x (same_Some x s e) u) h
 member_stays agg a (x ∷ xs) (suc i) s e u h =
-    or_still (is_given agg x.port.choice) (has_member (views xs) agg) (has_member (views (slice_set xs i (given s (Some a)))) agg) h (member_stays agg a xs i s e u)
+    or_still (has_chosen agg x.port.choice) (has_member (views xs) agg) (has_member (views (slice_set xs i (given s (Some a)))) agg) h (member_stays agg a xs i s e u)
 
 and_second : (b c : Bool) → c ≡ false → (b && c) ≡ false
 and_second true c h = h
@@ -117,14 +117,14 @@ all_still : (test : PortView → Bool) (b : Bool) (w : PortView) (rest more : Li
 all_still test true w rest more h f = both_false (test w) (list_all test rest) (list_all test more) h f
 all_still test false w rest more h f = f h
 
-others_stay : (agg a : AggId) (v : PortView) (slots : List Slot) (i : ℕ) (s : Slot) → slice_get slots i ≡ Some s → s.port.choice ≡ Unselected
-    → list_all (has_group_of v) (given_to agg (views slots)) ≡ false → list_all (has_group_of v) (given_to agg (views (slice_set slots i (given s (Some a))))) ≡ false
+others_stay : (agg a : AggId) (v : PortView) (slots : List SystemPort) (i : ℕ) (s : SystemPort) → slice_get slots i ≡ Some s → s.port.choice ≡ Unselected
+    → list_all (has_group_of v) (ports_that_chose agg (views slots)) ≡ false → list_all (has_group_of v) (ports_that_chose agg (views (slice_set slots i (given s (Some a))))) ≡ false
 others_stay agg a v [] i s e u h = absurd cc
 others_stay agg a v (x ∷ xs) zero s e u h =
-    all_later (has_group_of v) (is_given agg (Selected a)) (view_of (given s (Some a))) (given_to agg (views xs))
-    (all_skipped (has_group_of v) (is_given agg x.port.choice) (view_of x) (given_to agg (views xs)) (not_given agg s x (same_Some x s e) u) h)
+    all_later (has_group_of v) (has_chosen agg (Selected a)) (selection_view (given s (Some a))) (ports_that_chose agg (views xs))
+    (all_skipped (has_group_of v) (has_chosen agg x.port.choice) (selection_view x) (ports_that_chose agg (views xs)) (not_given agg s x (same_Some x s e) u) h)
 others_stay agg a v (x ∷ xs) (suc i) s e u h =
-    all_still (has_group_of v) (is_given agg x.port.choice) (view_of x) (given_to agg (views xs)) (given_to agg (views (slice_set xs i (given s (Some a))))) h
+    all_still (has_group_of v) (has_chosen agg x.port.choice) (selection_view x) (ports_that_chose agg (views xs)) (ports_that_chose agg (views (slice_set xs i (given s (Some a))))) h
     (others_stay agg a v xs i s e u)
 
 join_stays : (n m a later all : Bool) → m ≡ true → later ≡ true → ((n && m) && a) ≡ false → (a ≡ false → all ≡ false) → ((n && later) && all) ≡ false
@@ -134,7 +134,7 @@ join_stays true false a later all p q h f = absurd cc
 join_stays false m a later all p q h f = refl
 
 -- a port that found none finds none after another port took an aggregator
-pub none_after : (keys : List Key) (slots : List Slot) (i : ℕ) (s : Slot) (a : AggId) (v : PortView) → slice_get slots i ≡ Some s → s.port.choice ≡ Unselected
+pub none_after : (keys : List Key) (slots : List SystemPort) (i : ℕ) (s : SystemPort) (a : AggId) (v : PortView) → slice_get slots i ≡ Some s → s.port.choice ≡ Unselected
     → choice_for keys (views slots) v ≡ None → choice_for keys (views (slice_set slots i (given s (Some a)))) v ≡ None
 none_after keys slots i s a v e u h =
     let later : List PortView = views (slice_set slots i (given s (Some a))) in
@@ -142,18 +142,18 @@ none_after keys slots i s a v e u h =
     (λ agg k. not_true (has_member later agg) (member_stays agg a slots i s e u (not_false (has_member (views slots) agg) k)))
     (λ agg k j.
     let has = not_false (has_member (views slots) agg) k in
-    join_stays (not (individual v.party v.partner)) (has_member (views slots) agg) (list_all (has_group_of v) (given_to agg (views slots)))
-    (has_member later agg) (list_all (has_group_of v) (given_to agg later)) has (member_stays agg a slots i s e u has) j (others_stay agg a v slots i s e u))
+    join_stays (not (individual v.party v.partner)) (has_member (views slots) agg) (list_all (has_group_of v) (ports_that_chose agg (views slots)))
+    (has_member later agg) (list_all (has_group_of v) (ports_that_chose agg later)) has (member_stays agg a slots i s e u has) j (others_stay agg a v slots i s e u))
     h
 
 -- the same members in the same groups
 pub none_alike : (keys : List Key) (seen later : List PortView) (v : PortView)
     → ((agg : AggId) → has_member later agg ≡ has_member seen agg)
-    → ((agg : AggId) → list_all (has_group_of v) (given_to agg later) ≡ list_all (has_group_of v) (given_to agg seen))
+    → ((agg : AggId) → list_all (has_group_of v) (ports_that_chose agg later) ≡ list_all (has_group_of v) (ports_that_chose agg seen))
     → choice_for keys seen v ≡ None → choice_for keys later v ≡ None
 none_alike keys seen later v f g h =
     none_stays keys seen later v
     (λ agg k. ap not (f agg) ∙ k)
-    (λ agg k j. ap (λ b. (not (individual v.party v.partner) && b) && list_all (has_group_of v) (given_to agg later)) (f agg)
+    (λ agg k j. ap (λ b. (not (individual v.party v.partner) && b) && list_all (has_group_of v) (ports_that_chose agg later)) (f agg)
     ∙ ap (λ b. (not (individual v.party v.partner) && has_member seen agg) && b) (g agg) ∙ j)
     h

@@ -10,26 +10,26 @@ use Rattle.distributor.specs.declared.assignment.Assignment.{Assignment}
 use Rattle.distributor.specs.declared.assignment.Assignment.TheVariants.{Free, On, Wanted, Flushing}
 use Rattle.distributor.specs.Calls.{MaySend, distributes}
 use Rattle.distributor.specs.Changes.{Sets, after_mark, after_release, marker_due}
-use Rattle.distributor.specs.Conversations.{Table, next_identifier, state_of}
-use Rattle.distributor.specs.Moves.{conversation_of}
+use Rattle.distributor.specs.Conversations.{Table, next_identifier, assignment_of}
+use Rattle.distributor.specs.Moves.{model_conversation}
 use Rattle.distributor.proofs.MoveLemmas.{is_forced, is_moved}
 use Rattle.distributor.proofs.TableLemmas.{first_free}
 use Rattle.lagmodel.specs.View.{Conversation}
-use Rattle.lagsystem.specs.declared.answers.Heard.{Heard}
-use Rattle.lagsystem.specs.declared.answers.Heard.TheVariants.{Taken, Response, Answered}
-use Rattle.lagsystem.specs.declared.answers.Received.{Received}
+use Rattle.lagsystem.specs.declared.received.FrameEffect.{FrameEffect}
+use Rattle.lagsystem.specs.declared.received.FrameEffect.TheVariants.{Taken, Response, Answered}
+use Rattle.lagsystem.specs.declared.received.Received.{Received}
 use Rattle.lagsystem.specs.declared.drive.Reply.{Reply}
 use Rattle.lagsystem.specs.declared.drive.Reply.TheVariants as reply
 use Rattle.lagsystem.specs.declared.fault.SystemFault.{SystemFault}
-use Rattle.lagsystem.specs.declared.slots.Slot.{Slot}
-use Rattle.lagsystem.specs.Calls.{Call, Tick, Set_link, Receive, Configure, Restart, Transmit, Offer, Move_conversation, Force, AllTick, ChangesParty, Does, LinksPort, OnPort, Releases, Settled, Step, Takes, is_for}
+use Rattle.lagsystem.specs.declared.slots.SystemPort.{SystemPort}
+use Rattle.lagsystem.specs.Calls.{Call, Tick, Set_link, Receive, Configure, Restart, Transmit, Offer, Move_conversation, Force, AllTick, ChangesParty, Performs, LinksPort, OnPort, Releases, Settled, Step, TakesLacpdu, is_for}
 use Rattle.lagsystem.specs.First.{IsFirst}
 use Rattle.lagsystem.specs.Offers.{Becomes, Offers, force_answer, move_answer, state_for}
-use Rattle.lagsystem.specs.Readers.{agg_of_number, conversation_of as conversation_number, distributes_in, distributing}
+use Rattle.lagsystem.specs.Readers.{aggregator_numbered, number_of_conversation as conversation_number, distributes_in, distributing}
 use Rattle.lagsystem.specs.Sending.{SendsAt, SendsMarkerOf, SendsWhere}
-use Rattle.lagsystem.specs.Settling.{LeavesPorts, left_on}
-use Rattle.lagsystem.specs.Sound.{AreCarried}
-use Rattle.lagsystem.specs.State.{State, place_of, with_table}
+use Rattle.lagsystem.specs.Settling.{HoldsConversations, held_unless_on}
+use Rattle.lagsystem.specs.Sound.{OnlyOnDistributing}
+use Rattle.lagsystem.specs.State.{SystemState, place_of, with_table}
 use Rattle.lagsystem.proofs.Conversing.{assigned_may}
 use Rattle.lagsystem.proofs.Keeps.{settling_parts}
 use Rattle.lagsystem.proofs.Steps.{forced_to, moved_to}
@@ -37,17 +37,17 @@ use Rattle.lagsystem.proofs.Steps.{forced_to, moved_to}
 same_port : (p q : ℕ) → On p ≡ On q → p ≡ q
 same_port p q e = cc
 
-not_on : (p : ℕ) (a : Assignment) → a ≡ On p → conversation_of a ≡ Conversation.On p
-not_on p a e = ap conversation_of e
+not_on : (p : ℕ) (a : Assignment) → a ≡ On p → model_conversation a ≡ Conversation.On p
+not_on p a e = ap model_conversation e
 
-pub first_carried : (s : State) → IsFirst s → AreCarried s
-first_carried s h g k p e = absurd (free p (sym (ap (λ (t : Table). state_of t g k) h.3 ∙ first_free (length s.keys) s.first_marker g k) ∙ e))
+pub first_carried : (s : SystemState) → IsFirst s → OnlyOnDistributing s
+first_carried s h g k p e = absurd (free p (sym (ap (λ (t : Table). assignment_of t g k) h.3 ∙ first_free (length s.keys) s.first_marker g k) ∙ e))
   where
     free : (p : ℕ) → Free None ≡ On p → ⊥
     free p e = cc
 
 -- step 6 leaves those that are on ports that distribute
-left_is : (ports : List ℕ) (a : Assignment) (p : ℕ) → left_on ports a ≡ On p → distributes ports p ≡ true
+left_is : (ports : List ℕ) (a : Assignment) (p : ℕ) → held_unless_on ports a ≡ On p → distributes ports p ≡ true
 left_is ports (Free preferred) p e = absurd cc
 left_is ports (Wanted q preferred) p e = absurd cc
 left_is ports (Flushing q id preferred age) p e = absurd cc
@@ -57,24 +57,24 @@ left_is ports (On q) p e = still (distributes ports q) refl e
     still true t x = subst (λ r. distributes ports r ≡ true) (same_port q p x) t
     still false t x = absurd cc
 
-leaves_carried : (old new : State) → LeavesPorts old new → AreCarried new
+leaves_carried : (old new : SystemState) → HoldsConversations old new → OnlyOnDistributing new
 leaves_carried old new h g k p e =
-    subst (λ (s : State). distributes (distributing (agg_of_number g) s.slots) p ≡ true) (sym h.frame)
-    (left_is (distributing (agg_of_number g) old.slots) (state_of old.table g k) p (sym (h.states g k) ∙ e))
+    subst (λ (s : SystemState). distributes (distributing (aggregator_numbered g) s.slots) p ≡ true) (sym h.frame)
+    (left_is (distributing (aggregator_numbered g) old.slots) (assignment_of old.table g k) p (sym (h.states g k) ∙ e))
 
-settled_carried : (own : State → State → Type 0) (old new : State) → Settled own old new → AreCarried new
+settled_carried : (own : SystemState → SystemState → Type 0) (old new : SystemState) → Settled own old new → OnlyOnDistributing new
 settled_carried own old new h = let p = settling_parts h.0 new h.2 in leaves_carried p.0 new p.2
 
-same_carried : (old new : State) → new ≡ old → AreCarried old → AreCarried new
-same_carried old new e c = subst AreCarried (sym e) c
+same_carried : (old new : SystemState) → new ≡ old → OnlyOnDistributing old → OnlyOnDistributing new
+same_carried old new e c = subst OnlyOnDistributing (sym e) c
 
 -- the ports stay, and a conversation is where it was or on a port that distributes in its aggregator
-abbrev Carried : State → ℕ → Assignment → ℕ → Type 0
-Carried old g was p = (was ≡ On p) ⊎ (distributes (distributing (agg_of_number g) old.slots) p ≡ true)
+abbrev Carried : SystemState → ℕ → Assignment → ℕ → Type 0
+Carried old g was p = (was ≡ On p) ⊎ (distributes (distributing (aggregator_numbered g) old.slots) p ≡ true)
 
-table_carried : (old new : State) → new ≡ with_table old new.table → AreCarried old → ((g k p : ℕ) → state_of new.table g k ≡ On p → Carried old g (state_of old.table g k) p) → AreCarried new
+table_carried : (old new : SystemState) → new ≡ with_table old new.table → OnlyOnDistributing old → ((g k p : ℕ) → assignment_of new.table g k ≡ On p → Carried old g (assignment_of old.table g k) p) → OnlyOnDistributing new
 table_carried old new f c h g k p e =
-    subst (λ (s : State). distributes (distributing (agg_of_number g) s.slots) p ≡ true) (sym f)
+    subst (λ (s : SystemState). distributes (distributing (aggregator_numbered g) s.slots) p ≡ true) (sym f)
     (elim (h g k p e) [ inl w ↦ c g k p w | inr d ↦ d ])
 
 released : (port id p : ℕ) (a : Assignment) → after_release port id a ≡ On p → a ≡ On p
@@ -97,81 +97,81 @@ marked port id p (Wanted q preferred) e = flushed (eqb q port) e
     flushed true x = absurd cc
     flushed false x = x
 
-releases_carried : (b : Bool) (port : ℕ) (m : Marker) (old : State) (answer : Received) (new : State) → Releases b port m old answer new → AreCarried old → AreCarried new
+releases_carried : (b : Bool) (port : ℕ) (m : Marker) (old : SystemState) (answer : Received) (new : SystemState) → Releases b port m old answer new → OnlyOnDistributing old → OnlyOnDistributing new
 releases_carried false port m old answer new h c = same_carried old new h.1 c
-releases_carried true port m old answer new h c = table_carried old new h.2 c (λ g k p e. inl (released port m.id p (state_of old.table g k) (sym (h.1.states g k) ∙ e)))
+releases_carried true port m old answer new h c = table_carried old new h.2 c (λ g k p e. inl (released port m.id p (assignment_of old.table g k) (sym (h.1.states g k) ∙ e)))
 
-does_carried : (heard : Heard) (port : ℕ) (o : Option ℕ) (old : State) (answer : Received) (new : State) → Does heard port o old answer new → AreCarried old → AreCarried new
-does_carried (Taken v) port o old answer new h c = settled_carried (OnPort o (Takes v)) old new h.1
+does_carried : (heard : FrameEffect) (port : ℕ) (o : Option ℕ) (old : SystemState) (answer : Received) (new : SystemState) → Performs heard port o old answer new → OnlyOnDistributing old → OnlyOnDistributing new
+does_carried (Taken v) port o old answer new h c = settled_carried (OnPort o (TakesLacpdu v)) old new h.1
 does_carried (Response m) port o old answer new h c = releases_carried (is_for old port m) port m old answer new h c
 does_carried (Answered a) port o old answer new h c = same_carried old new h.1 c
 
 -- sending an LACPDU leaves what a port distributes in
-filtered : (b : Bool) (x y : Slot) (xs ys : List ℕ) → x.number ≡ y.number → xs ≡ ys → cond b (x.number ∷ xs) xs ≡ cond b (y.number ∷ ys) ys
+filtered : (b : Bool) (x y : SystemPort) (xs ys : List ℕ) → x.number ≡ y.number → xs ≡ ys → cond b (x.number ∷ xs) xs ≡ cond b (y.number ∷ ys) ys
 filtered true x y xs ys e h = λ i. e i ∷ h i
 filtered false x y xs ys e h = h
 
-through : (b : Bool) (x : Slot) (xs : List Slot) → map (λ (s : Slot). s.number) (cond b (x ∷ xs) xs) ≡ cond b (x.number ∷ map (λ (s : Slot). s.number) xs) (map (λ (s : Slot). s.number) xs)
+through : (b : Bool) (x : SystemPort) (xs : List SystemPort) → map (λ (s : SystemPort). s.number) (cond b (x ∷ xs) xs) ≡ cond b (x.number ∷ map (λ (s : SystemPort). s.number) xs) (map (λ (s : SystemPort). s.number) xs)
 through true x xs = refl
 through false x xs = refl
 
-more : (agg : AggId) (x : Slot) (xs : List Slot) → distributing agg (x ∷ xs) ≡ cond (distributes_in agg x) (x.number ∷ distributing agg xs) (distributing agg xs)
+more : (agg : AggId) (x : SystemPort) (xs : List SystemPort) → distributing agg (x ∷ xs) ≡ cond (distributes_in agg x) (x.number ∷ distributing agg xs) (distributing agg xs)
 more agg x xs = through (distributes_in agg x) x (filter (distributes_in agg) xs)
 
-sent_distributing : (agg : AggId) (slots : List Slot) (i : ℕ) (s : Slot) → slice_get slots i ≡ Some s → distributing agg (slice_set slots i (record s { port = sent s.port })) ≡ distributing agg slots
+sent_distributing : (agg : AggId) (slots : List SystemPort) (i : ℕ) (s : SystemPort) → slice_get slots i ≡ Some s → distributing agg (slice_set slots i (record s { port = sent s.port })) ≡ distributing agg slots
 sent_distributing agg [] i s e = refl
 sent_distributing agg (x ∷ xs) zero s e =
     let same : x ≡ s = same_Some x s e in
-    more agg (record s { port = sent s.port }) xs ∙ sym (ap (λ (y : Slot). cond (distributes_in agg y) (y.number ∷ distributing agg xs) (distributing agg xs)) same) ∙ sym (more agg x xs)
+    more agg (record s { port = sent s.port }) xs ∙ sym (ap (λ (y : SystemPort). cond (distributes_in agg y) (y.number ∷ distributing agg xs) (distributing agg xs)) same) ∙ sym (more agg x xs)
 sent_distributing agg (x ∷ xs) (suc i) s e =
     let ys = slice_set xs i (record s { port = sent s.port }) in
     more agg x ys ∙ filtered (distributes_in agg x) x x (distributing agg ys) (distributing agg xs) refl (sent_distributing agg xs i s e) ∙ sym (more agg x xs)
 
-marker_carried : (o : Option ℕ) (port : ℕ) (mac : List ℕ) (old : State) (answer : Option (List ℕ)) (new : State) → SendsMarkerOf o port mac old answer new → AreCarried old → AreCarried new
+marker_carried : (o : Option ℕ) (port : ℕ) (mac : List ℕ) (old : SystemState) (answer : Option (List ℕ)) (new : SystemState) → SendsMarkerOf o port mac old answer new → OnlyOnDistributing old → OnlyOnDistributing new
 marker_carried None port mac old answer new h c = same_carried old new h.1 c
-marker_carried (Some id) port mac old answer new h c = table_carried old new h.5 c (λ g k p e. inl (marked port id p (state_of old.table g k) (sym (h.4.states g k) ∙ e)))
+marker_carried (Some id) port mac old answer new h c = table_carried old new h.5 c (λ g k p e. inl (marked port id p (assignment_of old.table g k) (sym (h.4.states g k) ∙ e)))
 
-where_carried : (up due : Bool) (i : ℕ) (slot : Slot) (old : State) (answer : Option (List ℕ)) (new : State) → slice_get old.slots i ≡ Some slot → SendsWhere up due i slot old answer new → AreCarried old → AreCarried new
+where_carried : (up due : Bool) (i : ℕ) (slot : SystemPort) (old : SystemState) (answer : Option (List ℕ)) (new : SystemState) → slice_get old.slots i ≡ Some slot → SendsWhere up due i slot old answer new → OnlyOnDistributing old → OnlyOnDistributing new
 where_carried false due i slot old answer new g h c = same_carried old new h.1 c
 where_carried true true i slot old answer new e h c = λ g k p x.
-    let agg = agg_of_number g in
-    let slots : new.slots ≡ slice_set old.slots i (record slot { port = sent slot.port }) = ap (λ (s : State). s.slots) h.3 in
+    let agg = aggregator_numbered g in
+    let slots : new.slots ≡ slice_set old.slots i (record slot { port = sent slot.port }) = ap (λ (s : SystemState). s.slots) h.3 in
     let same : distributing agg new.slots ≡ distributing agg old.slots = ap (distributing agg) slots ∙ sent_distributing agg old.slots i slot e in
-    subst (λ l. distributes l p ≡ true) (sym same) (c g k p (sym (ap (λ (s : State). state_of s.table g k) h.3) ∙ x))
+    subst (λ l. distributes l p ≡ true) (sym same) (c g k p (sym (ap (λ (s : SystemState). assignment_of s.table g k) h.3) ∙ x))
 where_carried true false i slot old answer new e h c = marker_carried (marker_due old.table slot.number) slot.number slot.mac old answer new h c
 
-sends_carried : (o : Option ℕ) (old : State) (answer : Option (List ℕ)) (new : State) → SendsAt o old answer new → AreCarried old → AreCarried new
+sends_carried : (o : Option ℕ) (old : SystemState) (answer : Option (List ℕ)) (new : SystemState) → SendsAt o old answer new → OnlyOnDistributing old → OnlyOnDistributing new
 sends_carried None old answer new h c = absurd h
 sends_carried (Some i) old answer new h c = where_carried h.0.port.enabled (is_due h.0.port) i h.0 old answer new h.1 h.2 c
 
 -- one conversation takes a state
-sets_carried : (agg : AggId) (conv : ℕ) (s : Assignment) (old new : State) → Sets old.table new.table agg.0 conv s → new ≡ with_table old new.table → AreCarried old
-    → ((p : ℕ) → s ≡ On p → Carried old agg.0 (state_of old.table agg.0 conv) p) → AreCarried new
+sets_carried : (agg : AggId) (conv : ℕ) (s : Assignment) (old new : SystemState) → Sets old.table new.table agg.0 conv s → new ≡ with_table old new.table → OnlyOnDistributing old
+    → ((p : ℕ) → s ≡ On p → Carried old agg.0 (assignment_of old.table agg.0 conv) p) → OnlyOnDistributing new
 sets_carried agg conv s old new h f c here = table_carried old new f c (λ g k p e. either g k p (eqb agg.0 g && eqb conv k) refl (sym (h.states g k) ∙ e))
   where
-    either : (g k p : ℕ) (b : Bool) → (eqb agg.0 g && eqb conv k) ≡ b → cond b s (state_of old.table g k) ≡ On p → Carried old g (state_of old.table g k) p
+    either : (g k p : ℕ) (b : Bool) → (eqb agg.0 g && eqb conv k) ≡ b → cond b s (assignment_of old.table g k) ≡ On p → Carried old g (assignment_of old.table g k) p
     either g k p true t x =
         let both = and_parts (eqb agg.0 g) (eqb conv k) t in
-        subst (λ n. Carried old n (state_of old.table n k) p) (eqb-true agg.0 g both.0) (subst (λ m. Carried old agg.0 (state_of old.table agg.0 m) p) (eqb-true conv k both.1) (here p x))
+        subst (λ n. Carried old n (assignment_of old.table n k) p) (eqb-true agg.0 g both.0) (subst (λ m. Carried old agg.0 (assignment_of old.table agg.0 m) p) (eqb-true conv k both.1) (here p x))
     either g k p false t x = inl x
 
-may_carry : (old : State) (g p port : ℕ) (a : Assignment) → MaySend (distributing (agg_of_number g) old.slots) a port → On port ≡ On p → Carried old g a p
-may_carry old g p port (Free preferred) m e = inr (subst (λ q. distributes (distributing (agg_of_number g) old.slots) q ≡ true) (same_port port p e) m)
+may_carry : (old : SystemState) (g p port : ℕ) (a : Assignment) → MaySend (distributing (aggregator_numbered g) old.slots) a port → On port ≡ On p → Carried old g a p
+may_carry old g p port (Free preferred) m e = inr (subst (λ q. distributes (distributing (aggregator_numbered g) old.slots) q ≡ true) (same_port port p e) m)
 may_carry old g p port (On q) m e = inl (ap (λ r. On r) (sym m ∙ same_port port p e))
 may_carry old g p port (Wanted q preferred) m e = absurd m
 may_carry old g p port (Flushing q id preferred age) m e = absurd m
 
-offers_carried : (gives : ℕ → ℕ → ℕ → Type 0) (agg : AggId) (octets : List ℕ) (old : State) (answer : Result ℕ SystemFault) (new : State) → Offers gives agg octets old answer new → AreCarried old → AreCarried new
+offers_carried : (gives : ℕ → ℕ → ℕ → Type 0) (agg : AggId) (octets : List ℕ) (old : SystemState) (answer : Result ℕ SystemFault) (new : SystemState) → Offers gives agg octets old answer new → OnlyOnDistributing old → OnlyOnDistributing new
 offers_carried gives agg octets old (Ok port) new h c =
     let conv = conversation_number old octets in
     let may = assigned_may gives conv (distributing agg old.slots) (state_for old agg octets) port h.1 in
     sets_carried agg conv (On port) old new h.2.0 h.2.1 c (λ p e. may_carry old agg.0 p port (state_for old agg octets) may e)
 offers_carried gives agg octets old (Err fault) new h c = same_carried old new h.1 c
 
-moves_carried : (agg : AggId) (conv port : ℕ) (what : Result Assignment SystemFault) (old : State) (answer : Result Unit SystemFault) (new : State) → move_answer old agg conv port ≡ what
-    → Becomes agg conv what old answer new → AreCarried old → AreCarried new
+moves_carried : (agg : AggId) (conv port : ℕ) (what : Result Assignment SystemFault) (old : SystemState) (answer : Result Unit SystemFault) (new : SystemState) → move_answer old agg conv port ≡ what
+    → Becomes agg conv what old answer new → OnlyOnDistributing old → OnlyOnDistributing new
 moves_carried agg conv port (Ok s) old answer new e h c =
-    let was = state_of old.table agg.0 conv in
+    let was = assignment_of old.table agg.0 conv in
     let m = is_moved (next_identifier old.table) (distributing agg old.slots) port was s (moved_to agg conv port old s e) in
     sets_carried agg conv s old new h.1.0 h.1.1 c (λ p x. absurd (wanted m.0 p (sym m.2 ∙ not_on p s x)))
   where
@@ -179,17 +179,17 @@ moves_carried agg conv port (Ok s) old answer new e h c =
     wanted q p x = cc
 moves_carried agg conv port (Err fault) old answer new e h c = same_carried old new h.1 c
 
-forces_carried : (agg : AggId) (conv : ℕ) (what : Result Assignment SystemFault) (old : State) (answer : Result Unit SystemFault) (new : State) → force_answer old agg conv ≡ what
-    → Becomes agg conv what old answer new → AreCarried old → AreCarried new
+forces_carried : (agg : AggId) (conv : ℕ) (what : Result Assignment SystemFault) (old : SystemState) (answer : Result Unit SystemFault) (new : SystemState) → force_answer old agg conv ≡ what
+    → Becomes agg conv what old answer new → OnlyOnDistributing old → OnlyOnDistributing new
 forces_carried agg conv (Ok s) old answer new e h c =
-    let free = is_forced (state_of old.table agg.0 conv) s (forced_to agg conv old s e) in
+    let free = is_forced (assignment_of old.table agg.0 conv) s (forced_to agg conv old s e) in
     sets_carried agg conv s old new h.1.0 h.1.1 c (λ p x. absurd (freed p (sym free ∙ not_on p s x)))
   where
     freed : (p : ℕ) → Conversation.Free ≡ Conversation.On p → ⊥
     freed p x = cc
 forces_carried agg conv (Err fault) old answer new e h c = same_carried old new h.1 c
 
-pub Step-carried : (gives : ℕ → ℕ → ℕ → Type 0) (old : State) (call : Call) (answer : Reply) (new : State) → Step gives old call answer new → AreCarried old → AreCarried new
+pub Step-carried : (gives : ℕ → ℕ → ℕ → Type 0) (old : SystemState) (call : Call) (answer : Reply) (new : SystemState) → Step gives old call answer new → OnlyOnDistributing old → OnlyOnDistributing new
 Step-carried gives old Tick reply.Tick new h c = settled_carried AllTick old new h
 Step-carried gives old (Set_link n up) (reply.SetLink (Ok done)) new h c = settled_carried (LinksPort n up) old new h
 Step-carried gives old (Set_link n up) (reply.SetLink (Err fault)) new h c = same_carried old new h.same c

@@ -7,20 +7,20 @@ use Rattle.lagtypes.specs.declared.party.Choice.{Choice}
 use Rattle.lagtypes.specs.declared.party.Choice.TheVariants.{Unselected, Selected}
 use Rattle.lagtypes.specs.Choices.{is_selected, is_unselected}
 use Rattle.portmachines.specs.Machines.{Machines}
-use Rattle.portmachines.specs.Mux.{is_mux, mux_rows}
+use Rattle.portmachines.specs.Mux.{same_mux_state, mux_rows}
 use Rattle.portmachines.specs.declared.mux.MuxState.TheVariants.{Waiting}
 use Rattle.portmachines.specs.Periodic.{RunsPeriodic, clear_ntt, is_periodic, periodic_rows}
 use Rattle.portmachines.specs.declared.periodic.PeriodicState.TheVariants.{NoPeriodic}
-use Rattle.portmachines.specs.Rows.{AtRest, Fires, Reaches, Row, Settles}
+use Rattle.portmachines.specs.Rows.{AtRest, Fires, Reaches, Row, RunsToRest}
 use Rattle.portmachines.proofs.Runs.{Reaches-keeps}
 use Rattle.selection.specs.declared.view.PortView.{PortView}
-use Rattle.selection.specs.Views.{is_eligible, is_given}
-use Rattle.selection.specs.Choice.{choice_for, given_to, has_group_of, has_member}
-use Rattle.lagsystem.specs.declared.slots.Slot.{Slot}
+use Rattle.selection.specs.Views.{is_eligible, has_chosen}
+use Rattle.selection.specs.Choice.{choice_for, ports_that_chose, has_group_of, has_member}
+use Rattle.lagsystem.specs.declared.slots.SystemPort.{SystemPort}
 use Rattle.lagsystem.specs.Quiet.{ArePaced, AreStill, IsPaced, IsStill}
-use Rattle.lagsystem.specs.Settling.{AllMove, Moves, Settling, SettlesPorts, choose_slot, chosen, given, ready_of, takes}
-use Rattle.lagsystem.specs.State.{State, numbers, with_slots}
-use Rattle.lagsystem.specs.Views.{view_of, views}
+use Rattle.lagsystem.specs.Settling.{PortsGo, PortGoes, Settling, SettlesPorts, choose_slot, chosen, given, ready_of, aggregator_for}
+use Rattle.lagsystem.specs.State.{SystemState, port_numbers, with_slots}
+use Rattle.lagsystem.specs.Views.{selection_view, views}
 use Rattle.lagsystem.proofs.Keeps.{chosen_numbers, settling_parts, zip_numbers}
 use Rattle.lagsystem.proofs.NoneLeft.{TakesNone, each_place, none_takes, not_when, taken_none, when_still}
 use Rattle.lagsystem.proofs.NoneStays.{none_alike}
@@ -55,58 +55,58 @@ unselected_row false s b h = refl
 
 -- at rest with Ready is at rest without
 rest_unready : (b : Bool) (p : Machines) → AtRest (mux_rows b) p → AtRest (mux_rows false) p
-rest_unready b p h = (h.0, (h.1.0, (unready_row (is_mux Waiting p.mux) (is_selected p.choice) b h.1.1.0, h.1.1.1)))
+rest_unready b p h = (h.0, (h.1.0, (unready_row (same_mux_state Waiting p.mux) (is_selected p.choice) b h.1.1.0, h.1.1.1)))
 
 -- and Ready is nothing to an UNSELECTED port
 rest_unselected : (b : Bool) (p : Machines) → is_selected p.choice ≡ false → AtRest (mux_rows false) p → AtRest (mux_rows b) p
-rest_unselected b p s h = (h.0, (h.1.0, (unselected_row (is_mux Waiting p.mux) (is_selected p.choice) b s, h.1.1.1)))
+rest_unselected b p s h = (h.0, (h.1.0, (unselected_row (same_mux_state Waiting p.mux) (is_selected p.choice) b s, h.1.1.1)))
 
 -- the ports when all have chosen: an UNSELECTED one is at rest
 
-abbrev RestsAlone : Slot → Type 0
+abbrev RestsAlone : SystemPort → Type 0
 RestsAlone x = is_selected x.port.choice ≡ false → AtRest (mux_rows false) x.port
 
-given_rests : (s : Slot) (o : Option AggId) → RestsAlone s → RestsAlone (given s o)
+given_rests : (s : SystemPort) (o : Option AggId) → RestsAlone s → RestsAlone (given s o)
 given_rests s None h = h
 given_rests s (Some agg) h = λ e. absurd cc
 
-choose_rests : (keys : List Key) (slots : List Slot) (i : ℕ) (o : Option Slot) → slice_get slots i ≡ o → AllByRecursion RestsAlone slots → AllByRecursion RestsAlone (choose_slot keys slots i o)
+choose_rests : (keys : List Key) (slots : List SystemPort) (i : ℕ) (o : Option SystemPort) → slice_get slots i ≡ o → AllByRecursion RestsAlone slots → AllByRecursion RestsAlone (choose_slot keys slots i o)
 choose_rests keys slots i None e a = a
-choose_rests keys slots i (Some s) e a = all-set RestsAlone slots i (given s (takes keys slots s)) a (given_rests s (takes keys slots s) (all-get RestsAlone slots i s e a))
+choose_rests keys slots i (Some s) e a = all-set RestsAlone slots i (given s (aggregator_for keys slots s)) a (given_rests s (aggregator_for keys slots s) (all-get RestsAlone slots i s e a))
 
-chosen_rests : (keys : List Key) (n : ℕ) (slots : List Slot) → AllByRecursion RestsAlone slots → AllByRecursion RestsAlone (chosen keys n slots)
+chosen_rests : (keys : List Key) (n : ℕ) (slots : List SystemPort) → AllByRecursion RestsAlone slots → AllByRecursion RestsAlone (chosen keys n slots)
 chosen_rests keys zero slots a = a
 chosen_rests keys (suc n) slots a = choose_rests keys (chosen keys n slots) n (slice_get (chosen keys n slots) n) refl (chosen_rests keys n slots a)
 
 -- the mux step leaves members and groups
 
 abbrev Steps : List Key → List PortView → Machines → Machines → Type 0
-Steps keys seen p q = Settles (mux_rows (ready_of keys seen p.choice)) p q
+Steps keys seen p q = RunsToRest (mux_rows (ready_of keys seen p.choice)) p q
 
-mux_groups : (b : Bool) (v : PortView) (x y : Slot) → y ≡ record x { port = y.port } → Settles (mux_rows b) x.port y.port → has_group_of v (view_of y) ≡ has_group_of v (view_of x)
-mux_groups b v x y e h = Reaches-keeps (λ (p : Machines). has_group_of v (view_of (record x { port = p }))) (mux_rows b) ((λ p. refl), ((λ p. refl), ((λ p. refl), ((λ p. refl), ((λ p. refl), ((λ p. refl), tt)))))) h.0 x.port y.port h.1
+mux_groups : (b : Bool) (v : PortView) (x y : SystemPort) → y ≡ record x { port = y.port } → RunsToRest (mux_rows b) x.port y.port → has_group_of v (selection_view y) ≡ has_group_of v (selection_view x)
+mux_groups b v x y e h = Reaches-keeps (λ (p : Machines). has_group_of v (selection_view (record x { port = p }))) (mux_rows b) ((λ p. refl), ((λ p. refl), ((λ p. refl), ((λ p. refl), ((λ p. refl), ((λ p. refl), tt)))))) h.0 x.port y.port h.1
 
-same_members : (keys : List Key) (seen : List PortView) (agg : AggId) (xs ys : List Slot) → AllMove (Steps keys seen) xs ys → has_member (views ys) agg ≡ has_member (views xs) agg
+same_members : (keys : List Key) (seen : List PortView) (agg : AggId) (xs ys : List SystemPort) → PortsGo (Steps keys seen) xs ys → has_member (views ys) agg ≡ has_member (views xs) agg
 same_members keys seen agg [] [] h = refl
 same_members keys seen agg [] (y ∷ ys) h = absurd h
 same_members keys seen agg (x ∷ xs) [] h = absurd h
 same_members keys seen agg (x ∷ xs) (y ∷ ys) h =
     let same = mux_choice (ready_of keys seen x.port.choice) x.port y.port h.0.1 in
-    ap (λ c. is_given agg c || has_member (views ys) agg) same ∙ ap (λ b. is_given agg x.port.choice || b) (same_members keys seen agg xs ys h.1)
+    ap (λ c. has_chosen agg c || has_member (views ys) agg) same ∙ ap (λ b. has_chosen agg x.port.choice || b) (same_members keys seen agg xs ys h.1)
 
 next_all : (test : PortView → Bool) (b : Bool) (w v : PortView) (rest more : List PortView) → test v ≡ test w → list_all test more ≡ list_all test rest → list_all test (cond b (v ∷ more) more) ≡ list_all test (cond b (w ∷ rest) rest)
 next_all test true w v rest more e h = ap (λ x. x && list_all test more) e ∙ ap (λ x. test w && x) h
 next_all test false w v rest more e h = h
 
-same_groups : (keys : List Key) (seen : List PortView) (agg : AggId) (v : PortView) (xs ys : List Slot) → AllMove (Steps keys seen) xs ys
-    → list_all (has_group_of v) (given_to agg (views ys)) ≡ list_all (has_group_of v) (given_to agg (views xs))
+same_groups : (keys : List Key) (seen : List PortView) (agg : AggId) (v : PortView) (xs ys : List SystemPort) → PortsGo (Steps keys seen) xs ys
+    → list_all (has_group_of v) (ports_that_chose agg (views ys)) ≡ list_all (has_group_of v) (ports_that_chose agg (views xs))
 same_groups keys seen agg v [] [] h = refl
 same_groups keys seen agg v [] (y ∷ ys) h = absurd h
 same_groups keys seen agg v (x ∷ xs) [] h = absurd h
 same_groups keys seen agg v (x ∷ xs) (y ∷ ys) h =
     let same = mux_choice (ready_of keys seen x.port.choice) x.port y.port h.0.1 in
-    ap (λ c. list_all (has_group_of v) (cond (is_given agg c) (view_of y ∷ given_to agg (views ys)) (given_to agg (views ys)))) same
-    ∙ next_all (has_group_of v) (is_given agg x.port.choice) (view_of x) (view_of y) (given_to agg (views xs)) (given_to agg (views ys))
+    ap (λ c. list_all (has_group_of v) (cond (has_chosen agg c) (selection_view y ∷ ports_that_chose agg (views ys)) (ports_that_chose agg (views ys)))) same
+    ∙ next_all (has_group_of v) (has_chosen agg x.port.choice) (selection_view x) (selection_view y) (ports_that_chose agg (views xs)) (ports_that_chose agg (views ys))
     (mux_groups (ready_of keys seen x.port.choice) v x y h.0.0 h.0.1) (same_groups keys seen agg v xs ys h.1)
 
 -- a port that takes none takes none after the mux step
@@ -115,48 +115,48 @@ not_unselected b d Unselected h = absurd cc
 not_unselected true d (Selected agg) h = refl
 not_unselected false d (Selected agg) h = refl
 
-none_moved : (keys : List Key) (xs ys : List Slot) (x y : Slot) → AllMove (Steps keys (views xs)) xs ys → Moves (Steps keys (views xs)) x y → RestsAlone x → TakesNone keys (views xs) (view_of x)
-    → (s : Bool) → is_selected x.port.choice ≡ s → TakesNone keys (views ys) (view_of y)
+none_moved : (keys : List Key) (xs ys : List SystemPort) (x y : SystemPort) → PortsGo (Steps keys (views xs)) xs ys → PortGoes (Steps keys (views xs)) x y → RestsAlone x → TakesNone keys (views xs) (selection_view x)
+    → (s : Bool) → is_selected x.port.choice ≡ s → TakesNone keys (views ys) (selection_view y)
 none_moved keys xs ys x y all h a none true s =
     let same = mux_choice (ready_of keys (views xs) x.port.choice) x.port y.port h.1 in
-    not_when (is_eligible (view_of y)) (choice_for keys (views ys) (view_of y)) (not_unselected _ _ y.port.choice (ap is_selected same ∙ s))
+    not_when (is_eligible (selection_view y)) (choice_for keys (views ys) (selection_view y)) (not_unselected _ _ y.port.choice (ap is_selected same ∙ s))
 none_moved keys xs ys x y all h a none false s =
     let b = ready_of keys (views xs) x.port.choice in
     let still : y.port ≡ x.port = stays (mux_rows b) h.1.0 x.port y.port (rest_unselected b x.port s (a s)) h.1.1 in
     let same : y ≡ x = h.0 ∙ (λ i. record x { port = still i }) in
-    subst (λ (z : Slot). TakesNone keys (views ys) (view_of z)) (sym same)
-    (when_still (is_eligible (view_of x)) (choice_for keys (views xs) (view_of x)) (choice_for keys (views ys) (view_of x)) none
-    (none_alike keys (views xs) (views ys) (view_of x) (λ agg. same_members keys (views xs) agg xs ys all) (λ agg. same_groups keys (views xs) agg (view_of x) xs ys all)))
+    subst (λ (z : SystemPort). TakesNone keys (views ys) (selection_view z)) (sym same)
+    (when_still (is_eligible (selection_view x)) (choice_for keys (views xs) (selection_view x)) (choice_for keys (views ys) (selection_view x)) none
+    (none_alike keys (views xs) (views ys) (selection_view x) (λ agg. same_members keys (views xs) agg xs ys all) (λ agg. same_groups keys (views xs) agg (selection_view x) xs ys all)))
 
 -- what holds of one list, port for port, of the other
-zip_gives : (R : Slot → Slot → Type 0) (P Q : Slot → Type 0) → ((x y : Slot) → R x y → P x → Q y) → (xs ys : List Slot) → AllZip R xs ys → AllByRecursion P xs → AllByRecursion Q ys
+zip_gives : (R : SystemPort → SystemPort → Type 0) (P Q : SystemPort → Type 0) → ((x y : SystemPort) → R x y → P x → Q y) → (xs ys : List SystemPort) → AllZip R xs ys → AllByRecursion P xs → AllByRecursion Q ys
 zip_gives R P Q k [] [] h a = tt
 zip_gives R P Q k [] (y ∷ ys) h a = absurd h
 zip_gives R P Q k (x ∷ xs) [] h a = absurd h
 zip_gives R P Q k (x ∷ xs) (y ∷ ys) h a = (k x y h.0 a.0, zip_gives R P Q k xs ys h.1 a.1)
 
-all_both : (P Q : Slot → Type 0) (xs : List Slot) → AllByRecursion P xs → AllByRecursion Q xs → AllByRecursion (λ x. P x × Q x) xs
+all_both : (P Q : SystemPort → Type 0) (xs : List SystemPort) → AllByRecursion P xs → AllByRecursion Q xs → AllByRecursion (λ x. P x × Q x) xs
 all_both P Q [] h k = tt
 all_both P Q (x ∷ xs) h k = ((h.0, k.0), all_both P Q xs h.1 k.1)
 
 -- after the mux step a port takes none and no row is enabled without Ready
-abbrev Moved : List Key → List Slot → Slot → Type 0
-Moved keys slots y = TakesNone keys (views slots) (view_of y) × AtRest (mux_rows false) y.port
+abbrev Moved : List Key → List SystemPort → SystemPort → Type 0
+Moved keys slots y = TakesNone keys (views slots) (selection_view y) × AtRest (mux_rows false) y.port
 
-moved : (keys : List Key) (xs ys : List Slot) → AllMove (Steps keys (views xs)) xs ys → AllByRecursion (λ x. RestsAlone x × TakesNone keys (views xs) (view_of x)) xs → AllByRecursion (Moved keys ys) ys
+moved : (keys : List Key) (xs ys : List SystemPort) → PortsGo (Steps keys (views xs)) xs ys → AllByRecursion (λ x. RestsAlone x × TakesNone keys (views xs) (selection_view x)) xs → AllByRecursion (Moved keys ys) ys
 moved keys xs ys h a =
-    zip_gives (Moves (Steps keys (views xs))) (λ x. RestsAlone x × TakesNone keys (views xs) (view_of x)) (Moved keys ys)
+    zip_gives (PortGoes (Steps keys (views xs))) (λ x. RestsAlone x × TakesNone keys (views xs) (selection_view x)) (Moved keys ys)
     (λ x y m k. (none_moved keys xs ys x y h m k.0 k.1 (is_selected x.port.choice) refl, rest_unready (ready_of keys (views xs) x.port.choice) y.port m.1.2)) xs ys h a
 
 -- the periodic step
 
-periodic_view : (y z : Slot) → Moves RunsPeriodic y z → view_of z ≡ view_of y
+periodic_view : (y z : SystemPort) → PortGoes RunsPeriodic y z → selection_view z ≡ selection_view y
 periodic_view y z h =
-    ap view_of h.0
-    ∙ ap (λ (p : Machines). view_of (record y { port = p })) h.1.2
-    ∙ Reaches-keeps (λ (p : Machines). view_of (record y { port = p })) periodic_rows ((λ p. refl), ((λ p. refl), ((λ p. refl), ((λ p. refl), ((λ p. refl), ((λ p. refl), ((λ p. refl), tt))))))) h.1.1.0 y.port h.1.0 h.1.1.1
+    ap selection_view h.0
+    ∙ ap (λ (p : Machines). selection_view (record y { port = p })) h.1.2
+    ∙ Reaches-keeps (λ (p : Machines). selection_view (record y { port = p })) periodic_rows ((λ p. refl), ((λ p. refl), ((λ p. refl), ((λ p. refl), ((λ p. refl), ((λ p. refl), ((λ p. refl), tt))))))) h.1.1.0 y.port h.1.0 h.1.1.1
 
-periodic_views : (ys zs : List Slot) → AllMove RunsPeriodic ys zs → views zs ≡ views ys
+periodic_views : (ys zs : List SystemPort) → PortsGo RunsPeriodic ys zs → views zs ≡ views ys
 periodic_views [] [] h = refl
 periodic_views [] (z ∷ zs) h = absurd h
 periodic_views (y ∷ ys) [] h = absurd h
@@ -178,7 +178,7 @@ and_twice : (b c : Bool) → (b && (b && c)) ≡ (b && c)
 and_twice true c = refl
 and_twice false c = refl
 
-periodic_paced : (y z : Slot) → Moves RunsPeriodic y z → IsPaced z
+periodic_paced : (y z : SystemPort) → PortGoes RunsPeriodic y z → IsPaced z
 periodic_paced y z h =
     let mid : Machines = h.1.0 in
     let twice : clear_ntt (clear_ntt mid) ≡ clear_ntt mid = λ i. record mid { ntt = and_twice (not (is_periodic NoPeriodic mid.periodic)) mid.ntt i } in
@@ -188,7 +188,7 @@ periodic_paced y z h =
     }
 
 -- after a settling
-pub settling_still : (old new : State) → Rises 0 (numbers old.slots) → SettlesPorts old new → AreStill new.keys new.slots × ArePaced new.slots
+pub settling_still : (old new : SystemState) → Rises 0 (port_numbers old.slots) → SettlesPorts old new → AreStill new.keys new.slots × ArePaced new.slots
 settling_still old new r h =
     let one = h.0 in
     let two = h.2.0 in
@@ -196,71 +196,71 @@ settling_still old new r h =
     let four = h.2.2.2.0 in
     let five = h.2.2.2.2.0 in
     let keys : List Key = one.keys in
-    let last : List Slot = chosen keys (length one.slots) one.slots in
-    let r1 : Rises 0 (numbers one.slots) = subst (λ ns. Rises 0 ns) (sym (zip_numbers (Settles (mux_rows false)) old.slots one.slots h.1.0)) r in
-    let a1 : AllByRecursion RestsAlone one.slots = zip_all (Moves (Settles (mux_rows false))) RestsAlone (λ x y m s. m.1.2) old.slots one.slots h.1.0 in
-    let a2 : AllByRecursion (λ x. RestsAlone x × TakesNone keys (views last) (view_of x)) last =
-    all_both RestsAlone (λ x. TakesNone keys (views last) (view_of x)) last (chosen_rests keys (length one.slots) one.slots a1) (none_takes keys one.slots r1) in
+    let last : List SystemPort = chosen keys (length one.slots) one.slots in
+    let r1 : Rises 0 (port_numbers one.slots) = subst (λ ns. Rises 0 ns) (sym (zip_numbers (RunsToRest (mux_rows false)) old.slots one.slots h.1.0)) r in
+    let a1 : AllByRecursion RestsAlone one.slots = zip_all (PortGoes (RunsToRest (mux_rows false))) RestsAlone (λ x y m s. m.1.2) old.slots one.slots h.1.0 in
+    let a2 : AllByRecursion (λ x. RestsAlone x × TakesNone keys (views last) (selection_view x)) last =
+    all_both RestsAlone (λ x. TakesNone keys (views last) (selection_view x)) last (chosen_rests keys (length one.slots) one.slots a1) (none_takes keys one.slots r1) in
     let there : three ≡ with_slots one last = h.2.2.1 ∙ h.2.1 in
-    let m4 : AllMove (Steps keys (views last)) last four.slots =
-    subst (λ (s : State). AllMove (Steps s.keys (views s.slots)) s.slots four.slots) there h.2.2.2.1.0 in
+    let m4 : PortsGo (Steps keys (views last)) last four.slots =
+    subst (λ (s : SystemState). PortsGo (Steps s.keys (views s.slots)) s.slots four.slots) there h.2.2.2.1.0 in
     let a4 : AllByRecursion (Moved keys four.slots) four.slots = moved keys last four.slots m4 a2 in
-    let m5 : AllMove RunsPeriodic four.slots five.slots = h.2.2.2.2.1.0 in
+    let m5 : PortsGo RunsPeriodic four.slots five.slots = h.2.2.2.2.1.0 in
     let seen : views five.slots ≡ views four.slots = periodic_views four.slots five.slots m5 in
-    let r5 : Rises 0 (numbers five.slots) =
+    let r5 : Rises 0 (port_numbers five.slots) =
     subst (λ ns. Rises 0 ns) (sym (zip_numbers RunsPeriodic four.slots five.slots m5 ∙ zip_numbers (Steps keys (views last)) last four.slots m4 ∙ chosen_numbers keys (length one.slots) one.slots)) r1 in
-    let a5 : AllByRecursion (λ z. TakesNone keys (views five.slots) (view_of z) × AtRest (mux_rows false) z.port) five.slots =
-    zip_gives (Moves RunsPeriodic) (Moved keys four.slots) (λ z. TakesNone keys (views five.slots) (view_of z) × AtRest (mux_rows false) z.port)
-    (λ y z m k. (subst (λ l. TakesNone keys l (view_of z)) (sym seen) (subst (λ v. TakesNone keys (views four.slots) v) (sym (periodic_view y z m)) k.0), periodic_rest y.port z.port m.1 k.1)) four.slots five.slots m5 a4 in
+    let a5 : AllByRecursion (λ z. TakesNone keys (views five.slots) (selection_view z) × AtRest (mux_rows false) z.port) five.slots =
+    zip_gives (PortGoes RunsPeriodic) (Moved keys four.slots) (λ z. TakesNone keys (views five.slots) (selection_view z) × AtRest (mux_rows false) z.port)
+    (λ y z m k. (subst (λ l. TakesNone keys l (selection_view z)) (sym seen) (subst (λ v. TakesNone keys (views four.slots) v) (sym (periodic_view y z m)) k.0), periodic_rest y.port z.port m.1 k.1)) four.slots five.slots m5 a4 in
     let still : AreStill keys five.slots = each_place (IsStill keys five.slots) five.slots
     (λ j z e.
-    let k = all-get (λ z. TakesNone keys (views five.slots) (view_of z) × AtRest (mux_rows false) z.port) five.slots j z e a5 in
+    let k = all-get (λ z. TakesNone keys (views five.slots) (selection_view z) × AtRest (mux_rows false) z.port) five.slots j z e a5 in
     record {
       mux = k.1;
-      apart = taken_none keys five.slots r5 (both_first (λ z. TakesNone keys (views five.slots) (view_of z)) (λ z. AtRest (mux_rows false) z.port) five.slots a5) j z e;
+      apart = taken_none keys five.slots r5 (both_first (λ z. TakesNone keys (views five.slots) (selection_view z)) (λ z. AtRest (mux_rows false) z.port) five.slots a5) j z e;
       unready = ap (λ l. ready_of keys l z.port.choice) seen ∙ none_ready keys last four.slots m4 z.port.choice;
     }) in
-    let paced : ArePaced five.slots = zip_all (Moves RunsPeriodic) IsPaced periodic_paced four.slots five.slots m5 in
-    let same : five.keys ≡ keys = ap (λ (s : State). s.keys) h.2.2.2.2.1.1 ∙ ap (λ (s : State). s.keys) h.2.2.2.1.1 ∙ ap (λ (s : State). s.keys) there in
-    subst (λ (s : State). AreStill s.keys s.slots × ArePaced s.slots) (sym h.2.2.2.2.2) (subst (λ (k : List Key). AreStill k five.slots) (sym same) still, paced)
+    let paced : ArePaced five.slots = zip_all (PortGoes RunsPeriodic) IsPaced periodic_paced four.slots five.slots m5 in
+    let same : five.keys ≡ keys = ap (λ (s : SystemState). s.keys) h.2.2.2.2.1.1 ∙ ap (λ (s : SystemState). s.keys) h.2.2.2.1.1 ∙ ap (λ (s : SystemState). s.keys) there in
+    subst (λ (s : SystemState). AreStill s.keys s.slots × ArePaced s.slots) (sym h.2.2.2.2.2) (subst (λ (k : List Key). AreStill k five.slots) (sym same) still, paced)
   where
-    both_first : (P Q : Slot → Type 0) (xs : List Slot) → AllByRecursion (λ x. P x × Q x) xs → AllByRecursion P xs
+    both_first : (P Q : SystemPort → Type 0) (xs : List SystemPort) → AllByRecursion (λ x. P x × Q x) xs → AllByRecursion P xs
     both_first P Q [] h = tt
     both_first P Q (x ∷ xs) h = (h.0.0, both_first P Q xs h.1)
 
 -- if nothing is to be done
 
-still_mux : (keys : List Key) (slots xs : List Slot) → AllByRecursion (IsStill keys slots) xs → AllMove (Settles (mux_rows false)) xs xs
+still_mux : (keys : List Key) (slots xs : List SystemPort) → AllByRecursion (IsStill keys slots) xs → PortsGo (RunsToRest (mux_rows false)) xs xs
 still_mux keys slots [] h = tt
 still_mux keys slots (x ∷ xs) h = ((refl, (0, refl, h.0.mux)), still_mux keys slots xs h.1)
 
-still_ready : (keys : List Key) (slots xs : List Slot) → AllByRecursion (IsStill keys slots) xs → AllMove (Steps keys (views slots)) xs xs
+still_ready : (keys : List Key) (slots xs : List SystemPort) → AllByRecursion (IsStill keys slots) xs → PortsGo (Steps keys (views slots)) xs xs
 still_ready keys slots [] h = tt
 still_ready keys slots (x ∷ xs) h =
     ((refl, (0, refl, subst (λ b. AtRest (mux_rows b) x.port) (sym h.0.unready) h.0.mux)), still_ready keys slots xs h.1)
 
-still_choose : (keys : List Key) (slots : List Slot) (i : ℕ) (o : Option Slot) → slice_get slots i ≡ o → AreStill keys slots → choose_slot keys slots i o ≡ slots
+still_choose : (keys : List Key) (slots : List SystemPort) (i : ℕ) (o : Option SystemPort) → slice_get slots i ≡ o → AreStill keys slots → choose_slot keys slots i o ≡ slots
 still_choose keys slots i None e h = refl
 still_choose keys slots i (Some s) e h =
     ap (λ o. slice_set slots i (given s o)) ((all-get (IsStill keys slots) slots i s e h).apart) ∙ set_same slots i s e
 
-still_chosen : (keys : List Key) (n : ℕ) (slots : List Slot) → AreStill keys slots → chosen keys n slots ≡ slots
+still_chosen : (keys : List Key) (n : ℕ) (slots : List SystemPort) → AreStill keys slots → chosen keys n slots ≡ slots
 still_chosen keys zero slots h = refl
 still_chosen keys (suc n) slots h =
     ap (λ l. choose_slot keys l n (slice_get l n)) (still_chosen keys n slots h) ∙ still_choose keys slots n (slice_get slots n) refl h
 
 -- settling leaves all but the periodic machines
-pub still_settles : (s : State) (news : List Slot) → AreStill s.keys s.slots → AllMove RunsPeriodic s.slots news → SettlesPorts s (with_slots s news)
+pub still_settles : (s : SystemState) (news : List SystemPort) → AreStill s.keys s.slots → PortsGo RunsPeriodic s.slots news → SettlesPorts s (with_slots s news)
 still_settles s news h m =
     settling_made s s.keys s.slots s.slots s.slots s.slots news refl refl (still_mux s.keys s.slots s.slots h) (sym (still_chosen s.keys (length s.slots) s.slots h))
     (still_ready s.keys s.slots s.slots h) m
 
-pub paced_runs : (xs : List Slot) → ArePaced xs → AllMove RunsPeriodic xs xs
+pub paced_runs : (xs : List SystemPort) → ArePaced xs → PortsGo RunsPeriodic xs xs
 paced_runs [] h = tt
 paced_runs (x ∷ xs) h = ((refl, (x.port, (0, refl, h.0.rows), h.0.cleared)), paced_runs xs h.1)
 
 -- a settling with its last step
-pub settling_quiet : (old new : State) → Rises 0 (numbers old.slots) → Settling old new → AreStill new.keys new.slots × ArePaced new.slots
+pub settling_quiet : (old new : SystemState) → Rises 0 (port_numbers old.slots) → Settling old new → AreStill new.keys new.slots × ArePaced new.slots
 settling_quiet old new r h =
     let p = settling_parts old new h in
-    subst (λ (s : State). AreStill s.keys s.slots × ArePaced s.slots) (sym p.2.frame) (settling_still old p.0 r p.1)
+    subst (λ (s : SystemState). AreStill s.keys s.slots × ArePaced s.slots) (sym p.2.frame) (settling_still old p.0 r p.1)

@@ -16,42 +16,42 @@ use Rattle.portmachines.specs.declared.receive.ReceiveState.{ReceiveState}
 use Rattle.portmachines.specs.declared.receive.ReceiveState.TheVariants.{Initialize, PortDisabled, Expired, Defaulted, Current}
 use Rattle.portmachines.specs.Machines.{Machines}
 use Rattle.lagtypes.specs.Choices.{is_selected}
-use Rattle.portmachines.specs.Mux.{is_mux, mux_rows, partner_synchronized}
+use Rattle.portmachines.specs.Mux.{same_mux_state, mux_rows, partner_synchronized}
 use Rattle.portmachines.specs.Periodic.{periodic_rows, RunsPeriodic}
-use Rattle.portmachines.specs.Receive.{is_receive, receive_rows, start_receive}
-use Rattle.portmachines.specs.Rows.{Settles}
+use Rattle.portmachines.specs.Receive.{same_receive_state, receive_rows, start_receive}
+use Rattle.portmachines.specs.Rows.{RunsToRest}
 use Rattle.portmachines.specs.Start.{Starts, blank}
 use Rattle.portmachines.specs.Transmit.{count_down, is_due, sent}
-use Rattle.lagsystem.specs.declared.answers.Heard.{Heard}
-use Rattle.lagsystem.specs.declared.answers.Heard.TheVariants.{Taken, Response, Answered}
-use Rattle.lagsystem.specs.declared.answers.Received.{Received}
+use Rattle.lagsystem.specs.declared.received.FrameEffect.{FrameEffect}
+use Rattle.lagsystem.specs.declared.received.FrameEffect.TheVariants.{Taken, Response, Answered}
+use Rattle.lagsystem.specs.declared.received.Received.{Received}
 use Rattle.lagsystem.specs.declared.drive.Reply.{Reply}
 use Rattle.lagsystem.specs.declared.drive.Reply.TheVariants as reply
 use Rattle.lagsystem.specs.declared.fault.SystemFault.{SystemFault}
-use Rattle.lagsystem.specs.declared.slots.Slot.{Slot}
+use Rattle.lagsystem.specs.declared.slots.SystemPort.{SystemPort}
 use Rattle.lagsystem.specs.Views.{views}
-use Rattle.lagsystem.specs.State.{State, with_slots, place_of}
+use Rattle.lagsystem.specs.State.{SystemState, with_slots, place_of}
 use Rattle.lagsystem.specs.First.{IsFirst, IsNew, setup_of}
-use Rattle.lagsystem.specs.Settling.{Settling, chosen, choose_slot, given, ready_of, takes}
+use Rattle.lagsystem.specs.Settling.{Settling, chosen, choose_slot, given, ready_of, aggregator_for}
 use Rattle.lagsystem.specs.Offers.{Becomes, Offers, force_answer, move_answer}
 use Rattle.lagsystem.specs.Sending.{SendsAt, SendsMarkerOf, SendsWhere}
 use Rattle.distributor.specs.Changes.{marker_due}
-use Rattle.lagsystem.specs.Calls.{Call, Tick, Set_link, Receive, Configure, Restart, Transmit, Offer, Move_conversation, Force, AllTick, ChangesLink, ChangesParty, Does, LinksPort, OnPlace, OnPort, Releases, Settled, Takes, changed, is_for, Step}
-use Rattle.lagsystem.specs.Shown.{takes_in, awake, steady_of, steady, AreAwake, AreSteady, AreRested}
+use Rattle.lagsystem.specs.Calls.{Call, Tick, Set_link, Receive, Configure, Restart, Transmit, Offer, Move_conversation, Force, AllTick, ChangesLink, ChangesParty, Performs, LinksPort, PortAtGoes, OnPort, Releases, Settled, TakesLacpdu, changed_party, is_for, Step}
+use Rattle.lagsystem.specs.ModelView.{can_receive_in, can_receive, mux_consistent_of, mux_consistent, AllCanReceive, MuxesConsistent, PortsConsistent}
 use Rattle.portmachines.proofs.Runs.{Reaches-keeps}
 use Rattle.lagsystem.proofs.Rising.{all-set, all-get}
 
-mux_awake : (ready : Bool) (p q : Machines) → Settles (mux_rows ready) p q → awake q ≡ awake p
-mux_awake ready p q h = Reaches-keeps awake (mux_rows ready) ((λ p. refl), ((λ p. refl), ((λ p. refl), ((λ p. refl), ((λ p. refl), ((λ p. refl), tt)))))) h.0 p q h.1
+mux_awake : (ready : Bool) (p q : Machines) → RunsToRest (mux_rows ready) p q → can_receive q ≡ can_receive p
+mux_awake ready p q h = Reaches-keeps can_receive (mux_rows ready) ((λ p. refl), ((λ p. refl), ((λ p. refl), ((λ p. refl), ((λ p. refl), ((λ p. refl), tt)))))) h.0 p q h.1
 
-periodic_awake : (p q : Machines) → RunsPeriodic p q → awake q ≡ awake p
-periodic_awake p q h = ap awake h.2 ∙ Reaches-keeps awake periodic_rows ((λ p. refl), ((λ p. refl), ((λ p. refl), ((λ p. refl), ((λ p. refl), ((λ p. refl), ((λ p. refl), tt))))))) h.1.0 p h.0 h.1.1
+periodic_awake : (p q : Machines) → RunsPeriodic p q → can_receive q ≡ can_receive p
+periodic_awake p q h = ap can_receive h.2 ∙ Reaches-keeps can_receive periodic_rows ((λ p. refl), ((λ p. refl), ((λ p. refl), ((λ p. refl), ((λ p. refl), ((λ p. refl), ((λ p. refl), tt))))))) h.1.0 p h.0 h.1.1
 
-periodic_steady : (p q : Machines) → RunsPeriodic p q → steady q ≡ steady p
-periodic_steady p q h = ap steady h.2 ∙ Reaches-keeps steady periodic_rows ((λ p. refl), ((λ p. refl), ((λ p. refl), ((λ p. refl), ((λ p. refl), ((λ p. refl), ((λ p. refl), tt))))))) h.1.0 p h.0 h.1.1
+periodic_steady : (p q : Machines) → RunsPeriodic p q → mux_consistent q ≡ mux_consistent p
+periodic_steady p q h = ap mux_consistent h.2 ∙ Reaches-keeps mux_consistent periodic_rows ((λ p. refl), ((λ p. refl), ((λ p. refl), ((λ p. refl), ((λ p. refl), ((λ p. refl), ((λ p. refl), tt))))))) h.1.0 p h.0 h.1.1
 
 -- at rest
-rest_awake : (r : ReceiveState) (e : Bool) → (is_receive Initialize r && true) ≡ false → (is_receive PortDisabled r && e) ≡ false → (if e then takes_in r else true) ≡ true
+rest_awake : (r : ReceiveState) (e : Bool) → (same_receive_state Initialize r && true) ≡ false → (same_receive_state PortDisabled r && e) ≡ false → (if e then can_receive_in r else true) ≡ true
 rest_awake Initialize e h k = absurd (true≢false h)
 rest_awake PortDisabled true h k = absurd (true≢false k)
 rest_awake PortDisabled false h k = refl
@@ -62,10 +62,10 @@ rest_awake Defaulted false h k = refl
 rest_awake Current true h k = refl
 rest_awake Current false h k = refl
 
-receive_awake : (p q : Machines) → Settles receive_rows p q → awake q ≡ true
+receive_awake : (p q : Machines) → RunsToRest receive_rows p q → can_receive q ≡ true
 receive_awake p q h = rest_awake q.receive q.enabled h.2.0 h.2.1.1.0
 
-rest_steady : (m : MuxState) (c : Choice) (s : Bool) → (is_mux Attached m && not (is_selected c)) ≡ false → (is_mux CollectingDistributing m && (not (is_selected c) || not s)) ≡ false → steady_of m (is_selected c) s ≡ true
+rest_steady : (m : MuxState) (c : Choice) (s : Bool) → (same_mux_state Attached m && not (is_selected c)) ≡ false → (same_mux_state CollectingDistributing m && (not (is_selected c) || not s)) ≡ false → mux_consistent_of m (is_selected c) s ≡ true
 rest_steady Detached c s h k = refl
 rest_steady Waiting c s h k = refl
 rest_steady Attached (Selected agg) s h k = refl
@@ -74,140 +74,140 @@ rest_steady CollectingDistributing (Selected agg) true h k = refl
 rest_steady CollectingDistributing (Selected agg) false h k = absurd (true≢false k)
 rest_steady CollectingDistributing Unselected s h k = absurd (true≢false k)
 
-mux_steady : (ready : Bool) (p q : Machines) → Settles (mux_rows ready) p q → steady q ≡ true
+mux_steady : (ready : Bool) (p q : Machines) → RunsToRest (mux_rows ready) p q → mux_consistent q ≡ true
 mux_steady ready p q h = rest_steady q.mux q.choice (partner_synchronized q) h.2.1.1.1.0 h.2.1.1.1.1.1.0
 
 -- of each port
-pub zip_all : {X : Type 0} (R : X → Slot → Type 0) (P : Slot → Type 0) → ((x : X) (y : Slot) → R x y → P y) → (xs : List X) (ys : List Slot) → AllZip R xs ys → AllByRecursion P ys
+pub zip_all : {X : Type 0} (R : X → SystemPort → Type 0) (P : SystemPort → Type 0) → ((x : X) (y : SystemPort) → R x y → P y) → (xs : List X) (ys : List SystemPort) → AllZip R xs ys → AllByRecursion P ys
 zip_all R P k [] [] h = tt
 zip_all R P k [] (y ∷ ys) h = absurd h
 zip_all R P k (x ∷ xs) [] h = absurd h
 zip_all R P k (x ∷ xs) (y ∷ ys) h = (k x y h.0, zip_all R P k xs ys h.1)
 
-zip_kept : (R : Slot → Slot → Type 0) (P : Slot → Type 0) → ((x y : Slot) → R x y → P x → P y) → (xs ys : List Slot) → AllZip R xs ys → AllByRecursion P xs → AllByRecursion P ys
+zip_kept : (R : SystemPort → SystemPort → Type 0) (P : SystemPort → Type 0) → ((x y : SystemPort) → R x y → P x → P y) → (xs ys : List SystemPort) → AllZip R xs ys → AllByRecursion P xs → AllByRecursion P ys
 zip_kept R P k [] [] h a = tt
 zip_kept R P k [] (y ∷ ys) h a = absurd h
 zip_kept R P k (x ∷ xs) [] h a = absurd h
 zip_kept R P k (x ∷ xs) (y ∷ ys) h a = (k x y h.0 a.0, zip_kept R P k xs ys h.1 a.1)
 
-given_awake : (s : Slot) (o : Option AggId) → awake (given s o).port ≡ awake s.port
+given_awake : (s : SystemPort) (o : Option AggId) → can_receive (given s o).port ≡ can_receive s.port
 given_awake s None = refl
 given_awake s (Some agg) = refl
 
-abbrev IsAwake : Slot → Type 0
-IsAwake x = awake x.port ≡ true
+abbrev IsAwake : SystemPort → Type 0
+IsAwake x = can_receive x.port ≡ true
 
-abbrev IsSteady : Slot → Type 0
-IsSteady x = steady x.port ≡ true
+abbrev IsSteady : SystemPort → Type 0
+IsSteady x = mux_consistent x.port ≡ true
 
-choose_awake : (keys : List Key) (slots : List Slot) (i : ℕ) (o : Option Slot) → slice_get slots i ≡ o → AreAwake slots → AreAwake (choose_slot keys slots i o)
+choose_awake : (keys : List Key) (slots : List SystemPort) (i : ℕ) (o : Option SystemPort) → slice_get slots i ≡ o → AllCanReceive slots → AllCanReceive (choose_slot keys slots i o)
 choose_awake keys slots i None e a = a
 choose_awake keys slots i (Some s) e a =
-    let o = takes keys slots s in
+    let o = aggregator_for keys slots s in
     all-set IsAwake slots i (given s o) a (given_awake s o ∙ all-get IsAwake slots i s e a)
 
-chosen_awake : (keys : List Key) (n : ℕ) (slots : List Slot) → AreAwake slots → AreAwake (chosen keys n slots)
+chosen_awake : (keys : List Key) (n : ℕ) (slots : List SystemPort) → AllCanReceive slots → AllCanReceive (chosen keys n slots)
 chosen_awake keys zero slots a = a
 chosen_awake keys (suc n) slots a = choose_awake keys (chosen keys n slots) n (slice_get (chosen keys n slots) n) refl (chosen_awake keys n slots a)
 
 -- a state that is the same has the same ports
-pub same_slots : (s t : State) → t ≡ s → t.slots ≡ s.slots
-same_slots s t e = ap (λ (x : State). x.slots) e
+pub same_slots : (s t : SystemState) → t ≡ s → t.slots ≡ s.slots
+same_slots s t e = ap (λ (x : SystemState). x.slots) e
 
 -- the last step of settling leaves the ports
-pub last_slots : (old new : State) (h : Settling old new) → new.slots ≡ h.2.2.2.2.0.slots
-last_slots old new h = ap (λ (x : State). x.slots) h.2.2.2.2.2.2 ∙ ap (λ (x : State). x.slots) h.2.2.2.2.2.1.frame
+pub last_slots : (old new : SystemState) (h : Settling old new) → new.slots ≡ h.2.2.2.2.0.slots
+last_slots old new h = ap (λ (x : SystemState). x.slots) h.2.2.2.2.2.2 ∙ ap (λ (x : SystemState). x.slots) h.2.2.2.2.2.1.frame
 
 -- settling brings every mux machine to rest, and leaves the receive machines
-pub settling_rested : (old new : State) → Settling old new → AreAwake old.slots → AreRested new.slots
+pub settling_rested : (old new : SystemState) → Settling old new → AllCanReceive old.slots → PortsConsistent new.slots
 settling_rested old new h a =
     let one = h.0 in
     let two = h.2.0 in
     let three = h.2.2.0 in
     let four = h.2.2.2.0 in
     let five = h.2.2.2.2.0 in
-    let a1 : AreAwake one.slots = zip_kept _ IsAwake (λ x y m k. mux_awake false x.port y.port m.1 ∙ k) old.slots one.slots h.1.0 a in
-    let a2 : AreAwake two.slots = subst (λ (s : State). AreAwake s.slots) (sym h.2.1) (chosen_awake one.keys (length one.slots) one.slots a1) in
-    let a3 : AreAwake three.slots = subst (λ (s : State). AreAwake s.slots) (sym h.2.2.1) a2 in
-    let a4 : AreAwake four.slots = zip_kept _ IsAwake (λ x y m k. mux_awake (ready_of three.keys (views three.slots) x.port.choice) x.port y.port m.1 ∙ k) three.slots four.slots h.2.2.2.1.0 a3 in
-    let s4 : AreSteady four.slots = zip_all _ IsSteady (λ x y m. mux_steady (ready_of three.keys (views three.slots) x.port.choice) x.port y.port m.1) three.slots four.slots h.2.2.2.1.0 in
-    let r5 : AreRested five.slots = (
+    let a1 : AllCanReceive one.slots = zip_kept _ IsAwake (λ x y m k. mux_awake false x.port y.port m.1 ∙ k) old.slots one.slots h.1.0 a in
+    let a2 : AllCanReceive two.slots = subst (λ (s : SystemState). AllCanReceive s.slots) (sym h.2.1) (chosen_awake one.keys (length one.slots) one.slots a1) in
+    let a3 : AllCanReceive three.slots = subst (λ (s : SystemState). AllCanReceive s.slots) (sym h.2.2.1) a2 in
+    let a4 : AllCanReceive four.slots = zip_kept _ IsAwake (λ x y m k. mux_awake (ready_of three.keys (views three.slots) x.port.choice) x.port y.port m.1 ∙ k) three.slots four.slots h.2.2.2.1.0 a3 in
+    let s4 : MuxesConsistent four.slots = zip_all _ IsSteady (λ x y m. mux_steady (ready_of three.keys (views three.slots) x.port.choice) x.port y.port m.1) three.slots four.slots h.2.2.2.1.0 in
+    let r5 : PortsConsistent five.slots = (
       zip_kept _ IsAwake (λ x y m k. periodic_awake x.port y.port m.1 ∙ k) four.slots five.slots h.2.2.2.2.1.0 a4,
       zip_kept _ IsSteady (λ x y m k. periodic_steady x.port y.port m.1 ∙ k) four.slots five.slots h.2.2.2.2.1.0 s4,
     ) in
-    subst AreRested (sym (last_slots old new h)) r5
+    subst PortsConsistent (sym (last_slots old new h)) r5
 
 -- the own effects
-place_kept : (P : Slot → Type 0) (R : Machines → Machines → Type 0) (o : Option ℕ) (old new : List Slot)
-    → ((s : Slot) (q : Machines) → R s.port q → P s → P (record s { port = q })) → OnPlace R o old new → AllByRecursion P old → AllByRecursion P new
+place_kept : (P : SystemPort → Type 0) (R : Machines → Machines → Type 0) (o : Option ℕ) (old new : List SystemPort)
+    → ((s : SystemPort) (q : Machines) → R s.port q → P s → P (record s { port = q })) → PortAtGoes R o old new → AllByRecursion P old → AllByRecursion P new
 place_kept P R None old new k h a = absurd h
 place_kept P R (Some i) old new k h a =
     subst (AllByRecursion P) (sym h.4) (all-set P old i (record h.0 { port = h.1 }) a (k h.0 h.1 h.3 (all-get P old i h.0 h.2 a)))
 
-settled_rested : (own : State → State → Type 0) (s t : State) → ((mid : State) → own s mid → AreAwake mid.slots) → Settled own s t → AreRested t.slots
+settled_rested : (own : SystemState → SystemState → Type 0) (s t : SystemState) → ((mid : SystemState) → own s mid → AllCanReceive mid.slots) → Settled own s t → PortsConsistent t.slots
 settled_rested own s t k h = settling_rested h.0 t h.2 (k h.0 h.1)
 
-takes_awake : (v : Lacpdu) (p q : Machines) → Takes v p q → awake p ≡ true → awake q ≡ true
+takes_awake : (v : Lacpdu) (p q : Machines) → TakesLacpdu v p q → can_receive p ≡ true → can_receive q ≡ true
 takes_awake v p q h a = elim h [
-  | inl f ↦ elim f [ inl g ↦ ap awake g.1 ∙ whatever p.enabled | inr g ↦ absurd g ]
-  | inr r ↦ ap awake r.1 ∙ a
+  | inl f ↦ elim f [ inl g ↦ ap can_receive g.1 ∙ whatever p.enabled | inr g ↦ absurd g ]
+  | inr r ↦ ap can_receive r.1 ∙ a
 ]
   where
     whatever : (b : Bool) → (if b then true else true) ≡ true
     whatever true = refl
     whatever false = refl
 
-starts_awake : (p q : Machines) → Starts p q → awake q ≡ true
-starts_awake p q h = ap awake h.2 ∙ receive_awake (start_receive p) h.0 h.1
+starts_awake : (p q : Machines) → Starts p q → can_receive q ≡ true
+starts_awake p q h = ap can_receive h.2 ∙ receive_awake (start_receive p) h.0 h.1
 
 -- what has to do with conversations alone leaves the ports
-pub marker_slots : (o : Option ℕ) (port : ℕ) (mac : List ℕ) (old : State) (answer : Option (List ℕ)) (new : State) → SendsMarkerOf o port mac old answer new → new.slots ≡ old.slots
-marker_slots None port mac old answer new h = ap (λ (x : State). x.slots) h.1
-marker_slots (Some id) port mac old answer new h = ap (λ (x : State). x.slots) h.5
+pub marker_slots : (o : Option ℕ) (port : ℕ) (mac : List ℕ) (old : SystemState) (answer : Option (List ℕ)) (new : SystemState) → SendsMarkerOf o port mac old answer new → new.slots ≡ old.slots
+marker_slots None port mac old answer new h = ap (λ (x : SystemState). x.slots) h.1
+marker_slots (Some id) port mac old answer new h = ap (λ (x : SystemState). x.slots) h.5
 
-pub releases_slots : (b : Bool) (port : ℕ) (m : Marker) (old : State) (answer : Received) (new : State) → Releases b port m old answer new → new.slots ≡ old.slots
-releases_slots false port m old answer new h = ap (λ (x : State). x.slots) h.1
-releases_slots true port m old answer new h = ap (λ (x : State). x.slots) h.2
+pub releases_slots : (b : Bool) (port : ℕ) (m : Marker) (old : SystemState) (answer : Received) (new : SystemState) → Releases b port m old answer new → new.slots ≡ old.slots
+releases_slots false port m old answer new h = ap (λ (x : SystemState). x.slots) h.1
+releases_slots true port m old answer new h = ap (λ (x : SystemState). x.slots) h.2
 
-pub offers_slots : (gives : ℕ → ℕ → ℕ → Type 0) (agg : AggId) (octets : List ℕ) (old : State) (answer : Result ℕ SystemFault) (new : State) → Offers gives agg octets old answer new → new.slots ≡ old.slots
-offers_slots gives agg octets old (Ok port) new h = ap (λ (x : State). x.slots) h.2.1
-offers_slots gives agg octets old (Err fault) new h = ap (λ (x : State). x.slots) h.1
+pub offers_slots : (gives : ℕ → ℕ → ℕ → Type 0) (agg : AggId) (octets : List ℕ) (old : SystemState) (answer : Result ℕ SystemFault) (new : SystemState) → Offers gives agg octets old answer new → new.slots ≡ old.slots
+offers_slots gives agg octets old (Ok port) new h = ap (λ (x : SystemState). x.slots) h.2.1
+offers_slots gives agg octets old (Err fault) new h = ap (λ (x : SystemState). x.slots) h.1
 
-pub becomes_slots : (agg : AggId) (conv : ℕ) (state : Result Assignment SystemFault) (old : State) (answer : Result Unit SystemFault) (new : State) → Becomes agg conv state old answer new → new.slots ≡ old.slots
-becomes_slots agg conv (Ok state) old answer new h = ap (λ (x : State). x.slots) h.1.1
-becomes_slots agg conv (Err fault) old answer new h = ap (λ (x : State). x.slots) h.1
+pub becomes_slots : (agg : AggId) (conv : ℕ) (state : Result Assignment SystemFault) (old : SystemState) (answer : Result Unit SystemFault) (new : SystemState) → Becomes agg conv state old answer new → new.slots ≡ old.slots
+becomes_slots agg conv (Ok state) old answer new h = ap (λ (x : SystemState). x.slots) h.1.1
+becomes_slots agg conv (Err fault) old answer new h = ap (λ (x : SystemState). x.slots) h.1
 
 -- sending
-where_kept : (g : Machines → Bool) → ((p : Machines) → g (sent p) ≡ g p) → (up due : Bool) (i : ℕ) (slot : Slot) (old : State) (answer : Option (List ℕ)) (new : State) → slice_get old.slots i ≡ Some slot
+where_kept : (g : Machines → Bool) → ((p : Machines) → g (sent p) ≡ g p) → (up due : Bool) (i : ℕ) (slot : SystemPort) (old : SystemState) (answer : Option (List ℕ)) (new : SystemState) → slice_get old.slots i ≡ Some slot
     → SendsWhere up due i slot old answer new → AllByRecursion (λ x. g x.port ≡ true) old.slots → AllByRecursion (λ x. g x.port ≡ true) new.slots
 where_kept g k false due i slot old answer new e h a = subst (AllByRecursion (λ x. g x.port ≡ true)) (sym (same_slots old new h.1)) a
 where_kept g k true true i slot old answer new e h a =
-    subst (AllByRecursion (λ x. g x.port ≡ true)) (sym (ap (λ (x : State). x.slots) h.3))
+    subst (AllByRecursion (λ x. g x.port ≡ true)) (sym (ap (λ (x : SystemState). x.slots) h.3))
     (all-set (λ x. g x.port ≡ true) old.slots i (record slot { port = sent slot.port }) a (k slot.port ∙ all-get (λ x. g x.port ≡ true) old.slots i slot e a))
 where_kept g k true false i slot old answer new e h a =
     subst (AllByRecursion (λ x. g x.port ≡ true)) (sym (marker_slots (marker_due old.table slot.number) slot.number slot.mac old answer new h)) a
 
-sends_kept : (g : Machines → Bool) → ((p : Machines) → g (sent p) ≡ g p) → (o : Option ℕ) (old : State) (answer : Option (List ℕ)) (new : State) → SendsAt o old answer new
+sends_kept : (g : Machines → Bool) → ((p : Machines) → g (sent p) ≡ g p) → (o : Option ℕ) (old : SystemState) (answer : Option (List ℕ)) (new : SystemState) → SendsAt o old answer new
     → AllByRecursion (λ x. g x.port ≡ true) old.slots → AllByRecursion (λ x. g x.port ≡ true) new.slots
 sends_kept g k None old answer new h a = absurd h
 sends_kept g k (Some i) old answer new h a = where_kept g k h.0.port.enabled (is_due h.0.port) i h.0 old answer new h.1 h.2 a
 
-same_rested : (s t : State) → t.slots ≡ s.slots → AreRested s.slots → AreRested t.slots
-same_rested s t e a = subst AreRested (sym e) a
+same_rested : (s t : SystemState) → t.slots ≡ s.slots → PortsConsistent s.slots → PortsConsistent t.slots
+same_rested s t e a = subst PortsConsistent (sym e) a
 
-does_rested : (heard : Heard) (port : ℕ) (o : Option ℕ) (old : State) (answer : Received) (new : State) → Does heard port o old answer new → AreRested old.slots → AreRested new.slots
+does_rested : (heard : FrameEffect) (port : ℕ) (o : Option ℕ) (old : SystemState) (answer : Received) (new : SystemState) → Performs heard port o old answer new → PortsConsistent old.slots → PortsConsistent new.slots
 does_rested (Taken v) port o old answer new h a =
-    settled_rested (OnPort o (Takes v)) old new (λ mid own. place_kept IsAwake (Takes v) o old.slots mid.slots (λ s q r k. takes_awake v s.port q r k) own.0 a.0) h.1
+    settled_rested (OnPort o (TakesLacpdu v)) old new (λ mid own. place_kept IsAwake (TakesLacpdu v) o old.slots mid.slots (λ s q r k. takes_awake v s.port q r k) own.0 a.0) h.1
 does_rested (Response m) port o old answer new h a = same_rested old new (releases_slots (is_for old port m) port m old answer new h) a
 does_rested (Answered heard) port o old answer new h a = same_rested old new (same_slots old new h.1) a
 
 -- the start
-pub first_rested : (s : State) → IsFirst s → AreRested s.slots
+pub first_rested : (s : SystemState) → IsFirst s → PortsConsistent s.slots
 first_rested s h =
     settling_rested (with_slots s h.0) s h.2 (zip_all (IsNew s.system) IsAwake (λ c x m. starts_awake (blank (setup_of s.system c)) x.port m.2) s.ports h.0 h.1)
 
 -- every call leaves the machines at rest
-pub Step-rested : (gives : ℕ → ℕ → ℕ → Type 0) (old : State) (call : Call) (answer : Reply) (new : State) → Step gives old call answer new → AreRested old.slots → AreRested new.slots
+pub Step-rested : (gives : ℕ → ℕ → ℕ → Type 0) (old : SystemState) (call : Call) (answer : Reply) (new : SystemState) → Step gives old call answer new → PortsConsistent old.slots → PortsConsistent new.slots
 Step-rested gives old Tick reply.Tick new h a =
     settled_rested AllTick old new (λ mid own. zip_all _ IsAwake (λ x y m. receive_awake (count_down x.port) y.port m.1) old.slots mid.slots own.0) h
 Step-rested gives old (Set_link n up) (reply.SetLink (Ok done)) new h a =
@@ -219,12 +219,12 @@ Step-rested gives old (Receive n octets) (reply.Receive (Err fault)) new h a = s
 Step-rested gives old (Configure n change) (reply.Configure (Ok true)) new h a =
     let o = place_of n old.slots in
     settled_rested (OnPort o (ChangesParty change)) old new (λ mid own. place_kept IsAwake (ChangesParty change) o old.slots mid.slots
-    (λ s q r k. starts_awake (record s.port { party = changed change s.port.party }) q r.1) own.0 a.0) h
+    (λ s q r k. starts_awake (record s.port { party = changed_party change s.port.party }) q r.1) own.0 a.0) h
 Step-rested gives old (Configure n change) (reply.Configure (Ok false)) new h a = same_rested old new (same_slots old new h.1) a
 Step-rested gives old (Configure n change) (reply.Configure (Err fault)) new h a = same_rested old new (same_slots old new h.same) a
 Step-rested gives old Restart reply.Restart new h a = first_rested new h.1
 Step-rested gives old (Transmit n) (reply.Transmit (Ok answer)) new h a =
-    (sends_kept awake (λ p. refl) (place_of n old.slots) old answer new h a.0, sends_kept steady (λ p. refl) (place_of n old.slots) old answer new h a.1)
+    (sends_kept can_receive (λ p. refl) (place_of n old.slots) old answer new h a.0, sends_kept mux_consistent (λ p. refl) (place_of n old.slots) old answer new h a.1)
 Step-rested gives old (Transmit n) (reply.Transmit (Err fault)) new h a = same_rested old new (same_slots old new h.same) a
 Step-rested gives old (Offer agg octets) (reply.Offer answer) new h a = same_rested old new (offers_slots gives agg octets old answer new h) a
 Step-rested gives old (Move_conversation agg conv port) (reply.MoveConversation answer) new h a =

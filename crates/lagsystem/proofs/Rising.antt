@@ -6,17 +6,17 @@ use Rattle.std.proofs.lemmas.Bool.{eqb-true}
 use Rattle.std.proofs.lemmas.Bool.Decides.{Decides-eqb, nat_tests}
 use Rattle.std.proofs.lemmas.List.Quantifiers.{position-Some}
 use Rattle.std.proofs.lemmas.Option.{get_or_from_slice_get, none-some, same_Some}
-use Rattle.lagmodel.specs.Kept.{AreNumbered, find_number}
+use Rattle.lagmodel.specs.Bridge.{AreNumbered, find_number}
 use Rattle.lagmodel.proofs.Base.{chosen as whichever, cond_false}
 use Rattle.lagsystem.specs.declared.config.PortConfig.{PortConfig}
 use Rattle.lagsystem.specs.declared.fault.BadConfig.{BadConfig}
 use Rattle.lagsystem.specs.declared.fault.BadConfig.TheVariants.{PortNumber}
-use Rattle.lagsystem.specs.declared.slots.Slot.{Slot}
-use Rattle.lagsystem.specs.First.{misplaced, numbers_of, refusal}
-use Rattle.lagsystem.specs.Shown.{number}
+use Rattle.lagsystem.specs.declared.slots.SystemPort.{SystemPort}
+use Rattle.lagsystem.specs.First.{first_bad_port_number, configured_numbers, refusal}
+use Rattle.lagsystem.specs.ModelView.{number}
 use Rattle.lagsystem.specs.Sound.{HasPorts}
-use Rattle.lagsystem.specs.State.{State, numbers, place_of}
-use Rattle.lagsystem.specs.Views.{view_of, views}
+use Rattle.lagsystem.specs.State.{SystemState, port_numbers, place_of}
+use Rattle.lagsystem.specs.Views.{selection_view, views}
 use Rattle.lagtypes.specs.declared.identifiers.Key.{Key}
 use Rattle.selection.specs.declared.view.PortView.{PortView}
 
@@ -25,11 +25,11 @@ abbrev pub Rises : ℕ → List ℕ → Type 0
 Rises low [] = Unit {0}
 Rises low (n ∷ ns) = (low < n) × Rises n ns
 
-rises_on : (place low n : ℕ) (ns : List ℕ) (b : Bool) → nat_lt low n ≡ b → (if b then misplaced (place + 1) n ns else Some place) ≡ None → (low < n) × (misplaced (place + 1) n ns ≡ None)
+rises_on : (place low n : ℕ) (ns : List ℕ) (b : Bool) → nat_lt low n ≡ b → (if b then first_bad_port_number (place + 1) n ns else Some place) ≡ None → (low < n) × (first_bad_port_number (place + 1) n ns ≡ None)
 rises_on place low n ns true t e = (grind (arith, nat_tests), e)
 rises_on place low n ns false t e = cc
 
-rises : (place low : ℕ) (ns : List ℕ) → misplaced place low ns ≡ None → Rises low ns
+rises : (place low : ℕ) (ns : List ℕ) → first_bad_port_number place low ns ≡ None → Rises low ns
 rises place low [] e = tt
 rises place low (n ∷ ns) e = let both = rises_on place low n ns (nat_lt low n) refl e in (both.0, rises (place + 1) n ns both.1)
 
@@ -41,14 +41,14 @@ no_place : (o : Option ℕ) → option_map PortNumber o ≡ None → o ≡ None
 no_place None e = refl
 no_place (Some place) e = cc
 
-pub accepted_rises : (keys : List Key) (ports : List PortConfig) → refusal keys ports ≡ None → Rises 0 (numbers_of ports)
-accepted_rises keys ports h = rises 1 0 (numbers_of ports) (no_place (misplaced 1 0 (numbers_of ports)) (if_then _ _ _ (if_then _ _ _ h)))
+pub accepted_rises : (keys : List Key) (ports : List PortConfig) → refusal keys ports ≡ None → Rises 0 (configured_numbers ports)
+accepted_rises keys ports h = rises 1 0 (configured_numbers ports) (no_place (first_bad_port_number 1 0 (configured_numbers ports)) (if_then _ _ _ (if_then _ _ _ h)))
 
-pub ports_rise : (s : State) → HasPorts s → Rises 0 (numbers s.slots)
+pub ports_rise : (s : SystemState) → HasPorts s → Rises 0 (port_numbers s.slots)
 ports_rise s h = subst (λ ns. Rises 0 ns) (sym h.same) (accepted_rises s.keys s.ports h.accepted)
 
 -- no number twice
-not_found : (low n : ℕ) (slots : List Slot) → Rises low (numbers slots) → n < low + 1 → find_number number slots n ≡ None
+not_found : (low n : ℕ) (slots : List SystemPort) → Rises low (port_numbers slots) → n < low + 1 → find_number number slots n ≡ None
 not_found low n [] r l = refl
 not_found low n (s ∷ ss) r l =
     cond_false (eqb n s.number) (Some s) (find_number number ss n) (below n s.number (omega (arith, l, r.0))) ∙ not_found s.number n ss r.1 (omega (arith, l, r.0))
@@ -56,12 +56,12 @@ not_found low n (s ∷ ss) r l =
     below : (m k : ℕ) → m < k → eqb m k ≡ false
     below m k h = grind (arith, nat_tests)
 
-pub are_numbered : (low : ℕ) (slots : List Slot) → Rises low (numbers slots) → AreNumbered number slots
+pub are_numbered : (low : ℕ) (slots : List SystemPort) → Rises low (port_numbers slots) → AreNumbered number slots
 are_numbered low [] r = tt
 are_numbered low (s ∷ ss) r = (not_found s.number s.number ss r.1 (omega arith), are_numbered s.number ss r.1)
 
 -- the first view with the number of the port at a place is the port's
-rises-get : (low : ℕ) (slots : List Slot) (i : ℕ) (s : Slot) → Rises low (numbers slots) → slice_get slots i ≡ Some s → low < s.number
+rises-get : (low : ℕ) (slots : List SystemPort) (i : ℕ) (s : SystemPort) → Rises low (port_numbers slots) → slice_get slots i ≡ Some s → low < s.number
 rises-get low [] i s r e = cc
 rises-get low (t ∷ ts) zero s r e = let same : t ≡ s = cc in subst (λ x. low < x.number) same r.0
 rises-get low (t ∷ ts) (suc i) s r e = omega (arith, rises-get t.number ts i s r.1 e, r.0)
@@ -77,26 +77,26 @@ passed false v rest h = refl
 eqb-false : (m n : ℕ) → m < n → (m == n) ≡ false
 eqb-false m n h = grind (arith, nat_tests)
 
-pub find_here : (low : ℕ) (slots : List Slot) (i : ℕ) (s : Slot) → Rises low (numbers slots) → slice_get slots i ≡ Some s → find (λ v. v.number == s.number) (views slots) ≡ Some (view_of s)
+pub find_here : (low : ℕ) (slots : List SystemPort) (i : ℕ) (s : SystemPort) → Rises low (port_numbers slots) → slice_get slots i ≡ Some s → find (λ v. v.number == s.number) (views slots) ≡ Some (selection_view s)
 find_here low [] i s r e = cc
 find_here low (t ∷ ts) zero s r e =
     let same : t ≡ s = cc in
-    found (t.number == s.number) (view_of t) (view_of s) _ (subst (λ x. (t.number == x.number) ≡ true) same ((Decides-eqb t.number t.number).1 refl)) (ap view_of same)
+    found (t.number == s.number) (selection_view t) (selection_view s) _ (subst (λ x. (t.number == x.number) ≡ true) same ((Decides-eqb t.number t.number).1 refl)) (ap selection_view same)
 find_here low (t ∷ ts) (suc i) s r e =
-    passed (t.number == s.number) (view_of t) _ (eqb-false t.number s.number (rises-get t.number ts i s r.1 e)) ∙ find_here t.number ts i s r.1 e
+    passed (t.number == s.number) (selection_view t) _ (eqb-false t.number s.number (rises-get t.number ts i s r.1 e)) ∙ find_here t.number ts i s r.1 e
 
 -- what holds of each port
-pub all-set : (P : Slot → Type 0) (slots : List Slot) (i : ℕ) (t : Slot) → AllByRecursion P slots → P t → AllByRecursion P (slice_set slots i t)
+pub all-set : (P : SystemPort → Type 0) (slots : List SystemPort) (i : ℕ) (t : SystemPort) → AllByRecursion P slots → P t → AllByRecursion P (slice_set slots i t)
 all-set P [] i t all h = tt
 all-set P (s ∷ ss) zero t all h = (h, all.1)
 all-set P (s ∷ ss) (suc i) t all h = (all.0, all-set P ss i t all.1 h)
 
-pub all-get : (P : Slot → Type 0) (slots : List Slot) (i : ℕ) (s : Slot) → slice_get slots i ≡ Some s → AllByRecursion P slots → P s
+pub all-get : (P : SystemPort → Type 0) (slots : List SystemPort) (i : ℕ) (s : SystemPort) → slice_get slots i ≡ Some s → AllByRecursion P slots → P s
 all-get P [] i s e all = cc
 all-get P (t ∷ ts) zero s e all = let same : t ≡ s = cc in subst P same all.0
 all-get P (t ∷ ts) (suc i) s e all = all-get P ts i s e all.1
 
-pub all_found : (P : Slot → Type 0) (slots : List Slot) → AllByRecursion P slots → (q : ℕ) (s : Slot) → find_number number slots q ≡ Some s → P s
+pub all_found : (P : SystemPort → Type 0) (slots : List SystemPort) → AllByRecursion P slots → (q : ℕ) (s : SystemPort) → find_number number slots q ≡ Some s → P s
 all_found P [] all q s e = absurd (none-some s e)
 all_found P (t ∷ ts) all q s e = elim (whichever (eqb q (number t)) (Some t) (find_number number ts q) (Some s) e) [
   | inl h ↦ subst P (same_Some t s h.1) all.0
@@ -104,7 +104,7 @@ all_found P (t ∷ ts) all q s e = elim (whichever (eqb q (number t)) (Some t) (
 ]
 
 -- the port at the place of a number has that number
-pub found_place : (n : ℕ) (slots : List Slot) (i : ℕ) (s : Slot) → place_of n slots ≡ Some i → slice_get slots i ≡ Some s → s.number ≡ n
+pub found_place : (n : ℕ) (slots : List SystemPort) (i : ℕ) (s : SystemPort) → place_of n slots ≡ Some i → slice_get slots i ≡ Some s → s.number ≡ n
 found_place n slots i s e at =
-    let found = position-Some (λ (x : Slot). x.number == n) slots i s e in
-    eqb-true s.number n (subst (λ (x : Slot). (x.number == n) ≡ true) (get_or_from_slice_get slots i s s at) found.1)
+    let found = position-Some (λ (x : SystemPort). x.number == n) slots i s e in
+    eqb-true s.number n (subst (λ (x : SystemPort). (x.number == n) ≡ true) (get_or_from_slice_get slots i s s at) found.1)

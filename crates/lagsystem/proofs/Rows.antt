@@ -7,62 +7,62 @@ use Rattle.lagtypes.specs.declared.party.Choice.{Choice}
 use Rattle.lagtypes.specs.declared.party.Choice.TheVariants.{Unselected, Selected}
 use Rattle.portmachines.specs.declared.mux.MuxState.TheVariants.{CollectingDistributing}
 use Rattle.portmachines.specs.Machines.{Machines}
-use Rattle.portmachines.specs.Rows.{Row, Fires, Reaches, Settles}
+use Rattle.portmachines.specs.Rows.{Row, Fires, Reaches, RunsToRest}
 use Rattle.lagtypes.specs.Choices.{is_selected}
-use Rattle.portmachines.specs.Mux.{mux_rows, is_mux, partner_synchronized}
+use Rattle.portmachines.specs.Mux.{mux_rows, same_mux_state, partner_synchronized}
 use Rattle.portmachines.specs.Periodic.{periodic_rows, RunsPeriodic}
-use Rattle.lagmodel.specs.View.{PortView, Setup, Call}
+use Rattle.lagmodel.specs.View.{PortFacts, SystemSetup, ModelCall}
 use Rattle.lagmodel.specs.Move.{Act, PortMove}
-use Rattle.lagsystem.specs.Shown.{shown, aggregator_of}
+use Rattle.lagsystem.specs.ModelView.{model_port, selected_number}
 use Rattle.lagsystem.proofs.OfPort.{PortMoves, port_joined, port_stays}
 
 -- the view of a port that was stopped: rows are looked at between a stop and a new beginning
-abbrev pub quiet : Machines → PortView
-quiet p = record (shown p) { distributes = false }
+abbrev pub quiet : Machines → PortFacts
+quiet p = record (model_port p) { distributes = false }
 
-abbrev pub QuietMoves : Setup → Call → ℕ → Machines → List Act → Machines → Type 0
+abbrev pub QuietMoves : SystemSetup → ModelCall → ℕ → Machines → List Act → Machines → Type 0
 QuietMoves u call n p seen q = PortMoves u call n (quiet p) seen (quiet q)
 
-begins : (u : Setup) (call : Call) (n : ℕ) (party partner : Party) (s d : Bool) (g : Option ℕ) (on : Bool) → (on ≡ true → IsSome g × (s ≡ true))
+begins : (u : SystemSetup) (call : ModelCall) (n : ℕ) (party partner : Party) (s d : Bool) (g : Option ℕ) (on : Bool) → (on ≡ true → IsSome g × (s ≡ true))
     → PortMoves u call n (record { party = party; partner = partner; synchronised = s; defaulted = d; aggregator = g; distributes = false }) [] (record { party = party; partner = partner; synchronised = s; defaulted = d; aggregator = g; distributes = on })
 begins u call n party partner s d g true h = (PortMove.Distribute ∷ [], (λ ports. h refl, tt), refl, refl)
 begins u call n party partner s d g false h = ([], tt, refl, refl)
 
-may_begin : (s : Bool) (c : Choice) (m : Bool) → (s && (is_selected c && m)) ≡ true → IsSome (aggregator_of c) × (s ≡ true)
+may_begin : (s : Bool) (c : Choice) (m : Bool) → (s && (is_selected c && m)) ≡ true → IsSome (selected_number c) × (s ≡ true)
 may_begin true (Selected agg) m h = (refl, refl)
 may_begin true Unselected m h = absurd (false≢true h)
 may_begin false c m h = absurd (false≢true h)
 
 -- a port stops, moves, and begins again
-pub loudly : (u : Setup) (call : Call) (n : ℕ) (p q : Machines) (seen : List Act) → QuietMoves u call n p seen q → PortMoves u call n (shown p) seen (shown q)
+pub loudly : (u : SystemSetup) (call : ModelCall) (n : ℕ) (p q : Machines) (seen : List Act) → QuietMoves u call n p seen q → PortMoves u call n (model_port p) seen (model_port q)
 loudly u call n p q seen h =
-    let stop : PortMoves u call n (shown p) [] (quiet p) = (PortMove.Stop ∷ [], (λ ports. tt, tt), refl, refl) in
-    let begin = begins u call n q.party (shown q).partner (shown q).synchronised q.defaulted (aggregator_of q.choice) (shown q).distributes (may_begin (partner_synchronized q) q.choice (is_mux CollectingDistributing q.mux)) in
-    subst (λ l. PortMoves u call n (shown p) l (shown q)) (append-nil seen)
-    (port_joined u call n (shown p) (quiet q) (shown q) seen [] (port_joined u call n (shown p) (quiet p) (quiet q) [] seen stop h) begin)
+    let stop : PortMoves u call n (model_port p) [] (quiet p) = (PortMove.Stop ∷ [], (λ ports. tt, tt), refl, refl) in
+    let begin = begins u call n q.party (model_port q).partner (model_port q).synchronised q.defaulted (selected_number q.choice) (model_port q).distributes (may_begin (partner_synchronized q) q.choice (same_mux_state CollectingDistributing q.mux)) in
+    subst (λ l. PortMoves u call n (model_port p) l (model_port q)) (append-nil seen)
+    (port_joined u call n (model_port p) (quiet q) (model_port q) seen [] (port_joined u call n (model_port p) (quiet p) (quiet q) [] seen stop h) begin)
 
 -- rows whose effects others do not see
-abbrev pub EachMoves : Setup → Call → ℕ → List Row → Type 0
+abbrev pub EachMoves : SystemSetup → ModelCall → ℕ → List Row → Type 0
 EachMoves u call n [] = Unit {0}
 EachMoves u call n (row ∷ rows) = ((p : Machines) → IsTrue (row.enabled p) → QuietMoves u call n p [] (row.effect p)) × EachMoves u call n rows
 
-pub fires_moves : (u : Setup) (call : Call) (n : ℕ) (rows : List Row) → EachMoves u call n rows → (p q : Machines) → Fires rows p q → QuietMoves u call n p [] q
+pub fires_moves : (u : SystemSetup) (call : ModelCall) (n : ℕ) (rows : List Row) → EachMoves u call n rows → (p q : Machines) → Fires rows p q → QuietMoves u call n p [] q
 fires_moves u call n [] k p q h = absurd h
 fires_moves u call n (row ∷ rows) k p q h = elim h [
   | inl f ↦ subst (λ r. QuietMoves u call n p [] r) (sym f.1) (k.0 p f.0)
   | inr f ↦ fires_moves u call n rows k.1 p q f
 ]
 
-pub reaches_moves : (u : Setup) (call : Call) (n : ℕ) (rows : List Row) → EachMoves u call n rows → (m : ℕ) (p q : Machines) → Reaches rows m p q → QuietMoves u call n p [] q
+pub reaches_moves : (u : SystemSetup) (call : ModelCall) (n : ℕ) (rows : List Row) → EachMoves u call n rows → (m : ℕ) (p q : Machines) → Reaches rows m p q → QuietMoves u call n p [] q
 reaches_moves u call n rows k zero p q run = port_stays u call n (quiet p) (quiet q) (ap quiet run)
 reaches_moves u call n rows k (suc m) p q run =
     port_joined u call n (quiet p) (quiet run.0) (quiet q) [] [] (reaches_moves u call n rows k m p run.0 run.1) (fires_moves u call n rows k run.0 q run.2)
 
-pub settles_moves : (u : Setup) (call : Call) (n : ℕ) (rows : List Row) → EachMoves u call n rows → (p q : Machines) → Settles rows p q → QuietMoves u call n p [] q
+pub settles_moves : (u : SystemSetup) (call : ModelCall) (n : ℕ) (rows : List Row) → EachMoves u call n rows → (p q : Machines) → RunsToRest rows p q → QuietMoves u call n p [] q
 settles_moves u call n rows k p q h = reaches_moves u call n rows k h.0 p q h.1
 
 -- rows that leave what the view has, but for distribution
-pub mux_moves : (u : Setup) (call : Call) (n : ℕ) (ready : Bool) → EachMoves u call n (mux_rows ready)
+pub mux_moves : (u : SystemSetup) (call : ModelCall) (n : ℕ) (ready : Bool) → EachMoves u call n (mux_rows ready)
 mux_moves u call n ready = (
   λ p h. ([], tt, refl, refl),
   (
@@ -74,7 +74,7 @@ mux_moves u call n ready = (
   ),
 )
 
-pub periodic_moves : (u : Setup) (call : Call) (n : ℕ) → EachMoves u call n periodic_rows
+pub periodic_moves : (u : SystemSetup) (call : ModelCall) (n : ℕ) → EachMoves u call n periodic_rows
 periodic_moves u call n = (
   λ p h. ([], tt, refl, refl),
   (
@@ -86,6 +86,6 @@ periodic_moves u call n = (
   ),
 )
 
-pub runs_periodic_moves : (u : Setup) (call : Call) (n : ℕ) (p q : Machines) → RunsPeriodic p q → QuietMoves u call n p [] q
+pub runs_periodic_moves : (u : SystemSetup) (call : ModelCall) (n : ℕ) (p q : Machines) → RunsPeriodic p q → QuietMoves u call n p [] q
 runs_periodic_moves u call n p q h =
     subst (λ r. QuietMoves u call n p [] r) (sym h.2) (settles_moves u call n periodic_rows (periodic_moves u call n) p h.0 h.1)

@@ -6,7 +6,7 @@ use Rattle.slowpdu.specs.Frames.{IsSlow, frame_octets, slow_type}
 use Rattle.slowpdu.specs.Pdus.{WritesPdu}
 use Rattle.slowpdu.proofs.WritingLemmas.{framed_payload, framed_slow}
 use Rattle.lagsystem.specs.Calls.{IsControlFrame}
-use Rattle.lagsystem.specs.Shown.{IsSent}
+use Rattle.lagsystem.specs.ModelView.{IsSent}
 
 whole_payload : (written : List ℕ) (payload : Pdu) → WritesPdu written payload → length written ≡ 110
 whole_payload written (pdu.Lacpdu v) h = h.table.whole

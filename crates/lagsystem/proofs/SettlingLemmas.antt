@@ -6,93 +6,93 @@ use Rattle.lagtypes.specs.declared.identifiers.AggId.{AggId}
 use Rattle.lagtypes.specs.declared.identifiers.Key.{Key}
 use Rattle.lagtypes.specs.declared.party.Choice.{Choice}
 use Rattle.lagtypes.specs.declared.party.Choice.TheVariants.{Unselected, Selected}
-use Rattle.portmachines.specs.Rows.{Settles}
+use Rattle.portmachines.specs.Rows.{RunsToRest}
 use Rattle.portmachines.specs.Mux.{mux_rows}
 use Rattle.portmachines.specs.Periodic.{RunsPeriodic}
 use Rattle.selection.specs.declared.view.PortView.{PortView}
-use Rattle.selection.specs.Views.{has_expired, is_eligible, is_given, waits}
-use Rattle.selection.specs.Choice.{choice, given_to, is_known}
+use Rattle.selection.specs.Views.{has_waited, is_eligible, has_chosen, is_detached_or_waiting}
+use Rattle.selection.specs.Choice.{choice, ports_that_chose, is_known}
 use Rattle.selection.specs.Ready.{members}
-use Rattle.lagsystem.specs.declared.slots.Slot.{Slot}
-use Rattle.lagsystem.specs.Views.{view_of, views}
-use Rattle.lagsystem.specs.State.{State, with_slots}
-use Rattle.lagsystem.specs.Settling.{AllMove, Moves, SettlesPorts, choose_slot, chosen, given, ready_of, takes}
+use Rattle.lagsystem.specs.declared.slots.SystemPort.{SystemPort}
+use Rattle.lagsystem.specs.Views.{selection_view, views}
+use Rattle.lagsystem.specs.State.{SystemState, with_slots}
+use Rattle.lagsystem.specs.Settling.{PortsGo, PortGoes, SettlesPorts, choose_slot, chosen, given, ready_of, aggregator_for}
 use Rattle.lagsystem.proofs.Lists.{AllZip-weaker}
 
 abbrev one_expired : List PortView → Bool
-one_expired seen = list_any (λ v. has_expired v.stage) seen
+one_expired seen = list_any (λ v. has_waited v.stage) seen
 
 -- one of them waits, and each that does has waited long enough
 abbrev have_waited : List PortView → Bool
-have_waited seen = list_any (λ v. waits v.stage) seen && list_all (λ v. has_expired v.stage) (filter (λ v. waits v.stage) seen)
+have_waited seen = list_any (λ v. is_detached_or_waiting v.stage) seen && list_all (λ v. has_waited v.stage) (filter (λ v. is_detached_or_waiting v.stage) seen)
 
 pub or_false : (b c : Bool) → (b || c) ≡ false → (b ≡ false) × (c ≡ false)
 or_false true c h = cc
 or_false false c h = (refl, h)
 
-none_filtered : (b : Bool) (v : PortView) (rest : List PortView) → has_expired v.stage ≡ false → one_expired rest ≡ false → one_expired (cond b (v ∷ rest) rest) ≡ false
+none_filtered : (b : Bool) (v : PortView) (rest : List PortView) → has_waited v.stage ≡ false → one_expired rest ≡ false → one_expired (cond b (v ∷ rest) rest) ≡ false
 none_filtered true v rest h k = ap (λ x. x || one_expired rest) h ∙ k
 none_filtered false v rest h k = k
 
-none_given : (agg : AggId) (slots : List Slot) → list_any (λ s. has_expired (view_of s).stage) slots ≡ false → one_expired (given_to agg (views slots)) ≡ false
+none_given : (agg : AggId) (slots : List SystemPort) → list_any (λ s. has_waited (selection_view s).stage) slots ≡ false → one_expired (ports_that_chose agg (views slots)) ≡ false
 none_given agg [] h = refl
 none_given agg (s ∷ ss) h =
-    let both = or_false (has_expired (view_of s).stage) (list_any (λ s. has_expired (view_of s).stage) ss) h in
-    none_filtered (is_given agg s.port.choice) (view_of s) (given_to agg (views ss)) both.0 (none_given agg ss both.1)
+    let both = or_false (has_waited (selection_view s).stage) (list_any (λ s. has_waited (selection_view s).stage) ss) h in
+    none_filtered (has_chosen agg s.port.choice) (selection_view s) (ports_that_chose agg (views ss)) both.0 (none_given agg ss both.1)
 
 none_known : (b : Bool) (xs : List PortView) → one_expired xs ≡ false → one_expired (if b then xs else []) ≡ false
 none_known true xs h = h
 none_known false xs h = refl
 
-first_has_not : (b : Bool) (v : PortView) (rest : List PortView) → has_expired v.stage ≡ false → have_waited rest ≡ false
-    → ((b || list_any (λ w. waits w.stage) rest)
-    && list_all (λ w. has_expired w.stage) (cond b (v ∷ filter (λ w. waits w.stage) rest) (filter (λ w. waits w.stage) rest))) ≡ false
-first_has_not true v rest h k = ap (λ x. x && list_all (λ w. has_expired w.stage) (filter (λ w. waits w.stage) rest)) h
+first_has_not : (b : Bool) (v : PortView) (rest : List PortView) → has_waited v.stage ≡ false → have_waited rest ≡ false
+    → ((b || list_any (λ w. is_detached_or_waiting w.stage) rest)
+    && list_all (λ w. has_waited w.stage) (cond b (v ∷ filter (λ w. is_detached_or_waiting w.stage) rest) (filter (λ w. is_detached_or_waiting w.stage) rest))) ≡ false
+first_has_not true v rest h k = ap (λ x. x && list_all (λ w. has_waited w.stage) (filter (λ w. is_detached_or_waiting w.stage) rest)) h
 first_has_not false v rest h k = k
 
 none_has_waited : (seen : List PortView) → one_expired seen ≡ false → have_waited seen ≡ false
 none_has_waited [] h = refl
 none_has_waited (v ∷ vs) h =
-    let both = or_false (has_expired v.stage) (one_expired vs) h in
-    first_has_not (waits v.stage) v vs both.0 (none_has_waited vs both.1)
+    let both = or_false (has_waited v.stage) (one_expired vs) h in
+    first_has_not (is_detached_or_waiting v.stage) v vs both.0 (none_has_waited vs both.1)
 
 -- if no port has waited long enough, no aggregator is Ready
-pub no_ready : (keys : List Key) (slots : List Slot) → list_any (λ s. has_expired (view_of s).stage) slots ≡ false → (c : Choice) → ready_of keys (views slots) c ≡ false
+pub no_ready : (keys : List Key) (slots : List SystemPort) → list_any (λ s. has_waited (selection_view s).stage) slots ≡ false → (c : Choice) → ready_of keys (views slots) c ≡ false
 no_ready keys slots h Unselected = refl
 no_ready keys slots h (Selected agg) =
-    none_has_waited (members keys (views slots) agg) (none_known (is_known keys agg) (given_to agg (views slots)) (none_given agg slots h))
+    none_has_waited (members keys (views slots) agg) (none_known (is_known keys agg) (ports_that_chose agg (views slots)) (none_given agg slots h))
 
-pub runs_unready : (keys : List Key) (olds news : List Slot) → list_any (λ s. has_expired (view_of s).stage) olds ≡ false → AllMove (Settles (mux_rows false)) olds news
-    → AllMove (λ p q. Settles (mux_rows (ready_of keys (views olds) p.choice)) p q) olds news
+pub runs_unready : (keys : List Key) (olds news : List SystemPort) → list_any (λ s. has_waited (selection_view s).stage) olds ≡ false → PortsGo (RunsToRest (mux_rows false)) olds news
+    → PortsGo (λ p q. RunsToRest (mux_rows (ready_of keys (views olds) p.choice)) p q) olds news
 runs_unready keys olds news none h =
-    AllZip-weaker (Moves (Settles (mux_rows false))) (Moves (λ p q. Settles (mux_rows (ready_of keys (views olds) p.choice)) p q))
-    (λ x y m. (m.0, subst (λ b. Settles (mux_rows b) x.port y.port) (sym (no_ready keys olds none x.port.choice)) m.1)) olds news h
+    AllZip-weaker (PortGoes (RunsToRest (mux_rows false))) (PortGoes (λ p q. RunsToRest (mux_rows (ready_of keys (views olds) p.choice)) p q))
+    (λ x y m. (m.0, subst (λ b. RunsToRest (mux_rows b) x.port y.port) (sym (no_ready keys olds none x.port.choice)) m.1)) olds news h
 
-pub settling_made : (base : State) (keys : List Key) (slots one two four five : List Slot) → base.keys ≡ keys → base.slots ≡ slots
-    → AllMove (Settles (mux_rows false)) slots one → two ≡ chosen keys (length one) one
-    → AllMove (λ p q. Settles (mux_rows (ready_of keys (views two) p.choice)) p q) two four → AllMove RunsPeriodic four five
+pub settling_made : (base : SystemState) (keys : List Key) (slots one two four five : List SystemPort) → base.keys ≡ keys → base.slots ≡ slots
+    → PortsGo (RunsToRest (mux_rows false)) slots one → two ≡ chosen keys (length one) one
+    → PortsGo (λ p q. RunsToRest (mux_rows (ready_of keys (views two) p.choice)) p q) two four → PortsGo RunsPeriodic four five
     → SettlesPorts base (with_slots base five)
 settling_made base keys slots one two four five ek es h1 h2 h4 h5 =
-    let k1 : AllMove (Settles (mux_rows false)) base.slots one = subst (λ l. AllMove (Settles (mux_rows false)) l one) (sym es) h1 in
+    let k1 : PortsGo (RunsToRest (mux_rows false)) base.slots one = subst (λ l. PortsGo (RunsToRest (mux_rows false)) l one) (sym es) h1 in
     let k2 : two ≡ chosen base.keys (length one) one = h2 ∙ ap (λ k. chosen k (length one) one) (sym ek) in
-    let k4 : AllMove (λ p q. Settles (mux_rows (ready_of base.keys (views two) p.choice)) p q) two four =
-    subst (λ k. AllMove (λ p q. Settles (mux_rows (ready_of k (views two) p.choice)) p q) two four) (sym ek) h4 in
+    let k4 : PortsGo (λ p q. RunsToRest (mux_rows (ready_of base.keys (views two) p.choice)) p q) two four =
+    subst (λ k. PortsGo (λ p q. RunsToRest (mux_rows (ready_of k (views two) p.choice)) p q) two four) (sym ek) h4 in
     (with_slots base one, (k1, refl), (with_slots base two, ap (with_slots base) k2, (with_slots base two, refl, (with_slots base four, (k4, refl), (with_slots base five, (h5, refl), refl)))))
 
-pub set_same : (slots : List Slot) (i : ℕ) (s : Slot) → slice_get slots i ≡ Some s → slice_set slots i s ≡ slots
+pub set_same : (slots : List SystemPort) (i : ℕ) (s : SystemPort) → slice_get slots i ≡ Some s → slice_set slots i s ≡ slots
 set_same [] i s e = refl
 set_same (x ∷ xs) zero s e = let same : x ≡ s = cc in cc
 set_same (x ∷ xs) (suc i) s e = ap (λ ys. x ∷ ys) (set_same xs i s e)
 
-pub none_taken : (keys : List Key) (slots : List Slot) (i : ℕ) (s : Slot) → slice_get slots i ≡ Some s → is_eligible (view_of s) ≡ false → slots ≡ choose_slot keys slots i (slice_get slots i)
+pub none_taken : (keys : List Key) (slots : List SystemPort) (i : ℕ) (s : SystemPort) → slice_get slots i ≡ Some s → is_eligible (selection_view s) ≡ false → slots ≡ choose_slot keys slots i (slice_get slots i)
 none_taken keys slots i s e h =
-    let none : takes keys slots s ≡ None = ap (λ b. if b then choice keys (views slots) s.number else None) h in
+    let none : aggregator_for keys slots s ≡ None = ap (λ b. if b then choice keys (views slots) s.number else None) h in
     subst (λ o. slots ≡ choose_slot keys slots i o) (sym e) (sym (ap (λ o. slice_set slots i (given s o)) none ∙ set_same slots i s e))
 
-pub one_taken : (keys : List Key) (slots : List Slot) (i : ℕ) (s t : Slot) (o : Option AggId) → slice_get slots i ≡ Some s → slice_get slots i ≡ Some t → is_eligible (view_of s) ≡ true
+pub one_taken : (keys : List Key) (slots : List SystemPort) (i : ℕ) (s t : SystemPort) (o : Option AggId) → slice_get slots i ≡ Some s → slice_get slots i ≡ Some t → is_eligible (selection_view s) ≡ true
     → o ≡ choice keys (views slots) t.number → slice_set slots i (given t o) ≡ choose_slot keys slots i (slice_get slots i)
 one_taken keys slots i s t o e f h k =
     let same : s ≡ t = same_Some s t (sym e ∙ f) in
-    let ok : is_eligible (view_of t) ≡ true = subst (λ x. is_eligible (view_of x) ≡ true) same h in
-    let what : takes keys slots t ≡ o = ap (λ b. if b then choice keys (views slots) t.number else None) ok ∙ sym k in
+    let ok : is_eligible (selection_view t) ≡ true = subst (λ x. is_eligible (selection_view x) ≡ true) same h in
+    let what : aggregator_for keys slots t ≡ o = ap (λ b. if b then choice keys (views slots) t.number else None) ok ∙ sym k in
     subst (λ p. slice_set slots i (given t o) ≡ choose_slot keys slots i p) (sym f) (sym (ap (λ p. slice_set slots i (given t p)) what))

@@ -12,7 +12,7 @@ use Rattle.portmachines.specs.declared.mux.MuxState.{MuxState}
 use Rattle.portmachines.specs.Machines.{Machines}
 use Rattle.portmachines.specs.Mux.{mux_rows}
 use Rattle.portmachines.specs.Periodic.{RunsPeriodic, periodic_rows}
-use Rattle.portmachines.specs.Receive.{is_receive}
+use Rattle.portmachines.specs.Receive.{same_receive_state}
 use Rattle.portmachines.specs.declared.receive.ReceiveState.TheVariants.{Current, Defaulted}
 use Rattle.lagtypes.specs.declared.party.Choice.TheVariants.{Unselected}
 use Rattle.portmachines.specs.Rows.{AtRest}
@@ -20,34 +20,34 @@ use Rattle.portmachines.proofs.Runs.{Reaches-keeps}
 use Rattle.distributor.specs.declared.assignment.Assignment.{Assignment}
 use Rattle.distributor.specs.declared.assignment.Assignment.TheVariants.{Free, On, Wanted, Flushing}
 use Rattle.distributor.specs.Calls.{distributes}
-use Rattle.distributor.specs.Conversations.{state_of}
+use Rattle.distributor.specs.Conversations.{assignment_of}
 use Rattle.selection.specs.declared.view.PortView.{PortView}
 use Rattle.selection.specs.Views.{is_eligible}
 use Rattle.selection.specs.Choice.{choice}
-use Rattle.lagsystem.specs.declared.slots.Slot.{Slot}
-use Rattle.lagsystem.specs.Calls.{OnPlace, OnPort, Settled, Takes}
-use Rattle.lagsystem.specs.Quiet.{ArePaced, AreStill, IsSamePartner, IsStill, Knows, LooksAlike, TakesAt}
-use Rattle.lagsystem.specs.Readers.{agg_of_number, distributes_in, distributing}
-use Rattle.lagsystem.specs.Settling.{AllMove, LeavesPorts, Moves, Settling, left_on, ready_of}
-use Rattle.lagsystem.specs.Sound.{AreCarried}
-use Rattle.lagsystem.specs.State.{State, with_slots}
-use Rattle.lagsystem.specs.Views.{stage_of, view_of, views}
+use Rattle.lagsystem.specs.declared.slots.SystemPort.{SystemPort}
+use Rattle.lagsystem.specs.Calls.{PortAtGoes, OnPort, Settled, TakesLacpdu}
+use Rattle.lagsystem.specs.Quiet.{ArePaced, AreStill, IsSamePartner, IsStill, Knows, LooksAlike, TakesLacpduAt}
+use Rattle.lagsystem.specs.Readers.{aggregator_numbered, distributes_in, distributing}
+use Rattle.lagsystem.specs.Settling.{PortsGo, HoldsConversations, PortGoes, Settling, held_unless_on, ready_of}
+use Rattle.lagsystem.specs.Sound.{OnlyOnDistributing}
+use Rattle.lagsystem.specs.State.{SystemState, with_slots}
+use Rattle.lagsystem.specs.Views.{stage_of, selection_view, views}
 use Rattle.lagsystem.proofs.Keeps.{settling_joined}
 use Rattle.lagsystem.proofs.Quieting.{paced_runs, still_settles}
 use Rattle.lagsystem.proofs.Rising.{all-get, all-set}
 
 -- taking leaves the mux machine
-take_mux : (v : Lacpdu) (p q : Machines) → Takes v p q → q.mux ≡ p.mux
+take_mux : (v : Lacpdu) (p q : Machines) → TakesLacpdu v p q → q.mux ≡ p.mux
 take_mux v p q h = elim h [
   | inl f ↦ elim f [ inl g ↦ ap (λ (m : Machines). m.mux) g.1 | inr g ↦ absurd g ]
   | inr r ↦ ap (λ (m : Machines). m.mux) r.1
 ]
 
 -- the views
-pub alike_views : (slots : List Slot) (i : ℕ) (s t : Slot) → slice_get slots i ≡ Some s → view_of t ≡ view_of s → views (slice_set slots i t) ≡ views slots
+pub alike_views : (slots : List SystemPort) (i : ℕ) (s t : SystemPort) → slice_get slots i ≡ Some s → selection_view t ≡ selection_view s → views (slice_set slots i t) ≡ views slots
 alike_views [] i s t e h = refl
-alike_views (x ∷ xs) zero s t e h = let same : s ≡ x = sym (same_Some x s e) in λ i. (h ∙ ap view_of same) i ∷ views xs
-alike_views (x ∷ xs) (suc i) s t e h = ap (λ vs. view_of x ∷ vs) (alike_views xs i s t e h)
+alike_views (x ∷ xs) zero s t e h = let same : s ≡ x = sym (same_Some x s e) in λ i. (h ∙ ap selection_view same) i ∷ views xs
+alike_views (x ∷ xs) (suc i) s t e h = ap (λ vs. selection_view x ∷ vs) (alike_views xs i s t e h)
 
 -- what the mux rows look at
 with_looks : Machines → MuxState → Choice → Octet → Machines
@@ -63,25 +63,25 @@ alike_rest p q m c o h =
 abbrev takes_seen : List Key → List PortView → PortView → Option AggId
 takes_seen keys seen v = if is_eligible v then choice keys seen v.number else None
 
-still_among : (keys : List Key) (slots news : List Slot) (s : Slot) → views news ≡ views slots → IsStill keys slots s → IsStill keys news s
+still_among : (keys : List Key) (slots news : List SystemPort) (s : SystemPort) → views news ≡ views slots → IsStill keys slots s → IsStill keys news s
 still_among keys slots news s e h = record {
   mux = h.mux;
-  apart = ap (λ l. takes_seen keys l (view_of s)) e ∙ h.apart;
+  apart = ap (λ l. takes_seen keys l (selection_view s)) e ∙ h.apart;
   unready = ap (λ l. ready_of keys l s.port.choice) e ∙ h.unready;
 }
 
-pub all_among : (keys : List Key) (slots news xs : List Slot) → views news ≡ views slots → AllByRecursion (IsStill keys slots) xs → AllByRecursion (IsStill keys news) xs
+pub all_among : (keys : List Key) (slots news xs : List SystemPort) → views news ≡ views slots → AllByRecursion (IsStill keys slots) xs → AllByRecursion (IsStill keys news) xs
 all_among keys slots news [] e h = tt
 all_among keys slots news (x ∷ xs) e h = (still_among keys slots news x e h.0, all_among keys slots news xs e h.1)
 
-pub alike_still : (keys : List Key) (slots : List Slot) (s t : Slot) → view_of t ≡ view_of s → AtRest (mux_rows false) t.port → IsStill keys slots s → IsStill keys slots t
+pub alike_still : (keys : List Key) (slots : List SystemPort) (s t : SystemPort) → selection_view t ≡ selection_view s → AtRest (mux_rows false) t.port → IsStill keys slots s → IsStill keys slots t
 alike_still keys slots s t e r h = record {
   mux = r;
   apart = ap (takes_seen keys (views slots)) e ∙ h.apart;
   unready = ap (λ (v : PortView). ready_of keys (views slots) v.choice) e ∙ h.unready;
 }
 
-taken_still : (keys : List Key) (v : Lacpdu) (slots : List Slot) (i : ℕ) (s t : Slot) → slice_get slots i ≡ Some s → Moves (Takes v) s t → LooksAlike s t → AreStill keys slots → AreStill keys (slice_set slots i t)
+taken_still : (keys : List Key) (v : Lacpdu) (slots : List SystemPort) (i : ℕ) (s t : SystemPort) → slice_get slots i ≡ Some s → PortGoes (TakesLacpdu v) s t → LooksAlike s t → AreStill keys slots → AreStill keys (slice_set slots i t)
 taken_still keys v slots i s t e m a h =
     let here = all-get (IsStill keys slots) slots i s e h in
     let seen = alike_views slots i s t e a.0 in
@@ -89,26 +89,26 @@ taken_still keys v slots i s t e m a h =
     all_among keys slots (slice_set slots i t) (slice_set slots i t) seen (all-set (IsStill keys slots) slots i t h (alike_still keys slots s t a.0 rest here))
 
 -- all but the port at the place are paced
-set_runs : (slots : List Slot) (i : ℕ) (t u : Slot) → ArePaced slots → Moves RunsPeriodic t u → AllMove RunsPeriodic (slice_set slots i t) (slice_set (slice_set slots i t) i u)
+set_runs : (slots : List SystemPort) (i : ℕ) (t u : SystemPort) → ArePaced slots → PortGoes RunsPeriodic t u → PortsGo RunsPeriodic (slice_set slots i t) (slice_set (slice_set slots i t) i u)
 set_runs [] i t u h m = tt
 set_runs (x ∷ xs) zero t u h m = (m, paced_runs xs h.1)
 set_runs (x ∷ xs) (suc i) t u h m = ((refl, (x.port, (0, refl, h.0.rows), h.0.cleared)), set_runs xs i t u h.1 m)
 
 -- the ports that distribute
-through : (b : Bool) (x : Slot) (xs : List Slot) → map (λ (s : Slot). s.number) (cond b (x ∷ xs) xs) ≡ cond b (x.number ∷ map (λ (s : Slot). s.number) xs) (map (λ (s : Slot). s.number) xs)
+through : (b : Bool) (x : SystemPort) (xs : List SystemPort) → map (λ (s : SystemPort). s.number) (cond b (x ∷ xs) xs) ≡ cond b (x.number ∷ map (λ (s : SystemPort). s.number) xs) (map (λ (s : SystemPort). s.number) xs)
 through true x xs = refl
 through false x xs = refl
 
-more : (agg : AggId) (x : Slot) (xs : List Slot) → distributing agg (x ∷ xs) ≡ cond (distributes_in agg x) (x.number ∷ distributing agg xs) (distributing agg xs)
+more : (agg : AggId) (x : SystemPort) (xs : List SystemPort) → distributing agg (x ∷ xs) ≡ cond (distributes_in agg x) (x.number ∷ distributing agg xs) (distributing agg xs)
 more agg x xs = through (distributes_in agg x) x (filter (distributes_in agg) xs)
 
-alike_distributing : (agg : AggId) (slots : List Slot) (i : ℕ) (s t : Slot) → slice_get slots i ≡ Some s → t.number ≡ s.number → distributes_in agg t ≡ distributes_in agg s → distributing agg (slice_set slots i t) ≡ distributing agg slots
+alike_distributing : (agg : AggId) (slots : List SystemPort) (i : ℕ) (s t : SystemPort) → slice_get slots i ≡ Some s → t.number ≡ s.number → distributes_in agg t ≡ distributes_in agg s → distributing agg (slice_set slots i t) ≡ distributing agg slots
 alike_distributing agg [] i s t e n d = refl
 alike_distributing agg (x ∷ xs) zero s t e n d =
     let same : s ≡ x = sym (same_Some x s e) in
     more agg t xs
     ∙ ap (λ b. cond b (t.number ∷ distributing agg xs) (distributing agg xs)) (d ∙ ap (distributes_in agg) same)
-    ∙ ap (λ n. cond (distributes_in agg x) (n ∷ distributing agg xs) (distributing agg xs)) (n ∙ ap (λ (y : Slot). y.number) same)
+    ∙ ap (λ n. cond (distributes_in agg x) (n ∷ distributing agg xs) (distributing agg xs)) (n ∙ ap (λ (y : SystemPort). y.number) same)
     ∙ sym (more agg x xs)
 alike_distributing agg (x ∷ xs) (suc i) s t e n d =
     more agg x (slice_set xs i t)
@@ -116,20 +116,20 @@ alike_distributing agg (x ∷ xs) (suc i) s t e n d =
     ∙ sym (more agg x xs)
 
 -- no conversation leaves
-carried_on : (ports : List ℕ) (a : Assignment) → ((p : ℕ) → a ≡ On p → distributes ports p ≡ true) → a ≡ left_on ports a
+carried_on : (ports : List ℕ) (a : Assignment) → ((p : ℕ) → a ≡ On p → distributes ports p ≡ true) → a ≡ held_unless_on ports a
 carried_on ports (Free preferred) k = refl
 carried_on ports (On p) k = sym (ap (λ b. if b then On p else Wanted p None) (k p refl))
 carried_on ports (Wanted p preferred) k = refl
 carried_on ports (Flushing p id preferred age) k = refl
 
-stays_on : (old new : State) → AreCarried old → new.table ≡ old.table → ((g : ℕ) → distributing (agg_of_number g) new.slots ≡ distributing (agg_of_number g) old.slots) → LeavesPorts new new
+stays_on : (old new : SystemState) → OnlyOnDistributing old → new.table ≡ old.table → ((g : ℕ) → distributing (aggregator_numbered g) new.slots ≡ distributing (aggregator_numbered g) old.slots) → HoldsConversations new new
 stays_on old new c t d = record {
   frame = refl;
   aggs = refl;
   first = refl;
   next = refl;
-  states = λ g k. carried_on (distributing (agg_of_number g) new.slots) (state_of new.table g k)
-      (λ p e. ap (λ l. distributes l p) (d g) ∙ c g k p (sym (ap (λ x. state_of x g k) t) ∙ e));
+  states = λ g k. carried_on (distributing (aggregator_numbered g) new.slots) (assignment_of new.table g k)
+      (λ p e. ap (λ l. distributes l p) (d g) ∙ c g k p (sym (ap (λ x. assignment_of x g k) t) ∙ e));
 }
 
 -- the periodic machine leaves what conversations look at
@@ -139,44 +139,44 @@ paced_mux p q h = ap (λ (m : Machines). m.mux) h.2 ∙ Reaches-keeps (λ (m : M
 paced_choice : (p q : Machines) → RunsPeriodic p q → q.choice ≡ p.choice
 paced_choice p q h = ap (λ (m : Machines). m.choice) h.2 ∙ Reaches-keeps (λ (m : Machines). m.choice) periodic_rows ((λ p. refl), ((λ p. refl), ((λ p. refl), ((λ p. refl), ((λ p. refl), ((λ p. refl), ((λ p. refl), tt))))))) h.1.0 p h.0 h.1.1
 
-set_twice : (slots : List Slot) (i : ℕ) (t u : Slot) → slice_set (slice_set slots i t) i u ≡ slice_set slots i u
+set_twice : (slots : List SystemPort) (i : ℕ) (t u : SystemPort) → slice_set (slice_set slots i t) i u ≡ slice_set slots i u
 set_twice [] i t u = refl
 set_twice (x ∷ xs) zero t u = refl
 set_twice (x ∷ xs) (suc i) t u = ap (λ l. x ∷ l) (set_twice xs i t u)
 
-pub skipped : (v : Lacpdu) (old : State) (i : ℕ) (s t u : Slot) → AreStill old.keys old.slots × ArePaced old.slots → AreCarried old → slice_get old.slots i ≡ Some s
-    → Moves (Takes v) s t → LooksAlike s t → Moves RunsPeriodic t u
+pub skipped : (v : Lacpdu) (old : SystemState) (i : ℕ) (s t u : SystemPort) → AreStill old.keys old.slots × ArePaced old.slots → OnlyOnDistributing old → slice_get old.slots i ≡ Some s
+    → PortGoes (TakesLacpdu v) s t → LooksAlike s t → PortGoes RunsPeriodic t u
     → Settling (with_slots old (slice_set old.slots i t)) (with_slots old (slice_set (slice_set old.slots i t) i u))
 skipped v old i s t u q c e m a r =
-    let mid : State = with_slots old (slice_set old.slots i t) in
-    let news : List Slot = slice_set mid.slots i u in
-    let new : State = with_slots old news in
+    let mid : SystemState = with_slots old (slice_set old.slots i t) in
+    let news : List SystemPort = slice_set mid.slots i u in
+    let new : SystemState = with_slots old news in
     let mux : u.port.mux ≡ s.port.mux = paced_mux t.port u.port r.1 ∙ take_mux v s.port t.port m.1 in
     let choice : u.port.choice ≡ s.port.choice = paced_choice t.port u.port r.1 ∙ ap (λ (x : PortView). x.choice) a.0 in
-    let number : u.number ≡ s.number = ap (λ (x : Slot). x.number) r.0 ∙ ap (λ (x : Slot). x.number) m.0 in
+    let number : u.number ≡ s.number = ap (λ (x : SystemPort). x.number) r.0 ∙ ap (λ (x : SystemPort). x.number) m.0 in
     let same : (agg : AggId) → distributing agg news ≡ distributing agg old.slots =
     λ agg. ap (distributing agg) (set_twice old.slots i t u)
     ∙ alike_distributing agg old.slots i s u e number (λ j. distributes_in agg (record s { port = record s.port { mux = mux j; choice = choice j } })) in
     settling_joined mid new new (still_settles mid news (taken_still old.keys v old.slots i s t e m a q.0) (set_runs old.slots i t u q.1 r))
-    (stays_on old new c refl (λ g. same (agg_of_number g)))
+    (stays_on old new c refl (λ g. same (aggregator_numbered g)))
 
-pub on_place_taken : (v : Lacpdu) (i : ℕ) (old : List Slot) (alike : Bool) (new : List Slot) → TakesAt v i old alike new → OnPlace (Takes v) (Some i) old new
+pub on_place_taken : (v : Lacpdu) (i : ℕ) (old : List SystemPort) (alike : Bool) (new : List SystemPort) → TakesLacpduAt v i old alike new → PortAtGoes (TakesLacpdu v) (Some i) old new
 on_place_taken v i old alike new h = (h.0, h.1.port, h.2, h.3.1, h.4 ∙ ap (slice_set old i) h.3.0)
 
-get_set : (slots : List Slot) (i : ℕ) (s t u : Slot) → slice_get slots i ≡ Some s → slice_get (slice_set slots i t) i ≡ Some u → u ≡ t
+get_set : (slots : List SystemPort) (i : ℕ) (s t u : SystemPort) → slice_get slots i ≡ Some s → slice_get (slice_set slots i t) i ≡ Some u → u ≡ t
 get_set [] i s t u e h = absurd cc
 get_set (x ∷ xs) zero s t u e h = sym (same_Some t u h)
 get_set (x ∷ xs) (suc i) s t u e h = get_set xs i s t u e h
 
 -- the lists that the two parts of the call leave
-pub took_quietly : (v : Lacpdu) (old : State) (i : ℕ) (one two : List Slot) → AreStill old.keys old.slots × ArePaced old.slots → AreCarried old
-    → TakesAt v i old.slots true one → OnPlace RunsPeriodic (Some i) one two → Settled (OnPort (Some i) (Takes v)) old (with_slots old two)
+pub took_quietly : (v : Lacpdu) (old : SystemState) (i : ℕ) (one two : List SystemPort) → AreStill old.keys old.slots × ArePaced old.slots → OnlyOnDistributing old
+    → TakesLacpduAt v i old.slots true one → PortAtGoes RunsPeriodic (Some i) one two → Settled (OnPort (Some i) (TakesLacpdu v)) old (with_slots old two)
 took_quietly v old i one two q c h k =
     let s = h.0 in
     let t = h.1 in
     let is : k.0 ≡ t = get_set old.slots i s t k.0 h.2 (ap (λ l. slice_get l i) (sym h.4) ∙ k.2) in
-    let u : Slot = record t { port = k.1 } in
-    let runs : RunsPeriodic t.port k.1 = subst (λ (x : Slot). RunsPeriodic x.port k.1) is k.3 in
+    let u : SystemPort = record t { port = k.1 } in
+    let runs : RunsPeriodic t.port k.1 = subst (λ (x : SystemPort). RunsPeriodic x.port k.1) is k.3 in
     let last : two ≡ slice_set (slice_set old.slots i t) i u = k.4 ∙ (λ j. slice_set (h.4 j) i (record (is j) { port = k.1 })) in (
       with_slots old (slice_set old.slots i t),
       ((s, t.port, h.2, h.3.1, ap (slice_set old.slots i) h.3.0), refl),
@@ -188,19 +188,19 @@ now_settled : (c d : Bool) → c ≡ true → true ≡ (c || d)
 now_settled true d h = refl
 now_settled false d h = absurd cc
 
-pub took_alike : (v : Lacpdu) (s : Slot) (q : Machines) → Takes v s.port q → Knows v s → IsSamePartner s.port.partner q.partner → LooksAlike s (record s { port = q })
+pub took_alike : (v : Lacpdu) (s : SystemPort) (q : Machines) → TakesLacpdu v s.port q → Knows v s → IsSamePartner s.port.partner q.partner → LooksAlike s (record s { port = q })
 took_alike v s q h k same = (seen, same.1)
   where
     p : Machines
     p = s.port
 
-    seen : view_of (record s { port = q }) ≡ view_of s
+    seen : selection_view (record s { port = q }) ≡ selection_view s
     seen = elim h [
       | inl f ↦ elim f [
         | inl g ↦
             let choice : q.choice ≡ p.choice = ap (λ (m : Machines). m.choice) g.1 ∙ ap (λ b. if b then p.choice else Unselected) k.1 in
-            let settled : (is_receive Current q.receive || is_receive Defaulted q.receive) ≡ (is_receive Current p.receive || is_receive Defaulted p.receive) =
-            ap (λ (m : Machines). is_receive Current m.receive || is_receive Defaulted m.receive) g.1 ∙ now_settled (is_receive Current p.receive) (is_receive Defaulted p.receive) k.0 in
+            let settled : (same_receive_state Current q.receive || same_receive_state Defaulted q.receive) ≡ (same_receive_state Current p.receive || same_receive_state Defaulted p.receive) =
+            ap (λ (m : Machines). same_receive_state Current m.receive || same_receive_state Defaulted m.receive) g.1 ∙ now_settled (same_receive_state Current p.receive) (same_receive_state Defaulted p.receive) k.0 in
             λ i. record {
               number = s.number;
               party = (g.1 i).party;
@@ -212,7 +212,7 @@ took_alike v s q h k same = (seen, same.1)
             }
         | inr g ↦ absurd g
       ]
-      | inr r ↦ ap (λ (m : Machines). view_of (record s { port = m })) r.1
+      | inr r ↦ ap (λ (m : Machines). selection_view (record s { port = m })) r.1
     ]
 
 pub alike_if : (b : Bool) (P Q : Type 0) → OnTrue b P → (P → Q) → OnTrue b Q

@@ -6,13 +6,13 @@ use Rattle.lagmodel.specs.Law.{Members}
 use Rattle.lagmodel.specs.View.{View}
 use Rattle.lagmodel.proofs.Ports.{members_first, one_partner}
 use Rattle.lagmodel.proofs.Calls.{members_call}
-use Rattle.lagsystem.specs.declared.slots.Slot.{Slot}
+use Rattle.lagsystem.specs.declared.slots.SystemPort.{SystemPort}
 use Rattle.lagsystem.specs.declared.drive.Reply.{Reply}
 use Rattle.lagsystem.specs.Calls.{Call, Step}
 use Rattle.lagsystem.specs.First.{IsFirst}
-use Rattle.lagsystem.specs.Shown.{AreSteady, JoinsViews, configured, view_of}
+use Rattle.lagsystem.specs.ModelView.{MuxesConsistent, JoinedByFreeMoves, model_setup, model_view}
 use Rattle.lagsystem.specs.Sound.{Agrees, Answers, Distribute, HasPorts, IsSound}
-use Rattle.lagsystem.specs.State.{State}
+use Rattle.lagsystem.specs.State.{SystemState}
 use Rattle.lagsystem.specs.Windows.{AreWindowed}
 use Rattle.lagsystem.proofs.FirstView.{configured_setup, first_shows}
 use Rattle.lagsystem.proofs.Keeps.{Step-aggregators, Step-frame, Step-ports}
@@ -24,57 +24,57 @@ use Rattle.lagsystem.proofs.Steps.{Step-joins}
 use Rattle.lagsystem.proofs.StillSteps.{Step-quiet, first_quiet}
 use Rattle.lagsystem.proofs.Windows.{Step-three, first_three, window_law}
 
-pub first_sound : (s : State) → HasPorts s → IsFirst s → IsSound s
+pub first_sound : (s : SystemState) → HasPorts s → IsFirst s → IsSound s
 first_sound s p h = record {
   ports = p;
   aggregators = ap (λ (t : Table). t.aggs) h.3;
   carried = first_carried s h;
   rested = first_rested s h;
   windowed = first_three s h;
-  members = subst (λ (v : View). Members (configured s) v.port) (sym (first_shows s h)) (members_first (configured s) (configured_setup s));
+  members = subst (λ (v : View). Members (model_setup s) v.port) (sym (first_shows s h)) (members_first (model_setup s) (configured_setup s));
   quiet = first_quiet s p h;
 }
 
-pub joins : (gives : ℕ → ℕ → ℕ → Type 0) (old : State) (call : Call) (answer : Reply) (new : State) → Step gives old call answer new → IsSound old → JoinsViews old call answer new
+pub joins : (gives : ℕ → ℕ → ℕ → Type 0) (old : SystemState) (call : Call) (answer : Reply) (new : SystemState) → Step gives old call answer new → IsSound old → JoinedByFreeMoves old call answer new
 joins gives old call answer new h s = Step-joins gives old call answer new (ports_rise old s.ports) s.rested h
 
-pub Step-sound : (gives : ℕ → ℕ → ℕ → Type 0) (old : State) (call : Call) (answer : Reply) (new : State) → Step gives old call answer new → IsSound old → IsSound new
+pub Step-sound : (gives : ℕ → ℕ → ℕ → Type 0) (old : SystemState) (call : Call) (answer : Reply) (new : SystemState) → Step gives old call answer new → IsSound old → IsSound new
 Step-sound gives old call answer new h s =
     let j = joins gives old call answer new h s in
-    let kept = members_call (configured old) j.0 (view_of old) (view_of new) j.1 (configured_setup old) j.4 s.members in record {
+    let kept = members_call (model_setup old) j.0 (model_view old) (model_view new) j.1 (configured_setup old) j.4 s.members in record {
       ports = Step-ports gives old call answer new h s.ports;
       aggregators = Step-aggregators gives old call answer new h s.aggregators;
       carried = Step-carried gives old call answer new h s.carried;
       rested = Step-rested gives old call answer new h s.rested;
       windowed = Step-three gives old call answer new h s.windowed;
       quiet = Step-quiet gives old call answer new h s.ports s.quiet;
-      members = subst (λ u. Members u (view_of new).port) (sym (ap configured (Step-frame gives old call answer new h))) kept;
+      members = subst (λ u. Members u (model_view new).port) (sym (ap model_setup (Step-frame gives old call answer new h))) kept;
     }
 
 -- at rest a port distributes exactly if its mux machine does
-all_distribute : (slots : List Slot) → AreSteady slots → Distribute slots
+all_distribute : (slots : List SystemPort) → MuxesConsistent slots → Distribute slots
 all_distribute [] h = tt
 all_distribute (x ∷ xs) h = (rest_distributes x.port.mux (selected x.port) (partner_synchronized x.port) h.0, all_distribute xs h.1)
 
-pub agrees : (s : State) → IsSound s → Agrees s
+pub agrees : (s : SystemState) → IsSound s → Agrees s
 agrees s h = record {
   ports = h.ports;
   windowed = h.windowed;
   members = h.members;
-  one_partner = one_partner (configured s) (view_of s) h.members;
+  one_partner = one_partner (model_setup s) (model_view s) h.members;
   distribute = all_distribute s.slots h.rested.1;
 }
 
 -- a single call keeps the window
-pub one_windowed : (gives : ℕ → ℕ → ℕ → Type 0) (old : State) (call : Call) (answer : Reply) (new : State) → Step gives old call answer new → IsSound old → AreWindowed old (call ∷ []) (answer ∷ [])
+pub one_windowed : (gives : ℕ → ℕ → ℕ → Type 0) (old : SystemState) (call : Call) (answer : Reply) (new : SystemState) → Step gives old call answer new → IsSound old → AreWindowed old (call ∷ []) (answer ∷ [])
 one_windowed gives old call answer new h s = window_law gives old new (call ∷ []) (answer ∷ []) s.windowed (new, h, refl)
 
 -- a step of a sound system is what every call promises
-pub answers : (gives : ℕ → ℕ → ℕ → Type 0) (old : State) (call : Call) (reply : Reply) (new : State) → Step gives old call reply new → IsSound old → Answers gives old call reply new
+pub answers : (gives : ℕ → ℕ → ℕ → Type 0) (old : SystemState) (call : Call) (reply : Reply) (new : SystemState) → Step gives old call reply new → IsSound old → Answers gives old call reply new
 answers gives old call reply new h s = record {
   step = h;
   moves = joins gives old call reply new h s;
   window = one_windowed gives old call reply new h s;
   agrees = agrees new (Step-sound gives old call reply new h s);
-  configured = ap configured (Step-frame gives old call reply new h);
+  configured = ap model_setup (Step-frame gives old call reply new h);
 }

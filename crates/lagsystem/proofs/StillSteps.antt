@@ -4,33 +4,33 @@ use Rattle.portmachines.specs.Periodic.{is_periodic}
 use Rattle.portmachines.specs.declared.periodic.PeriodicState.TheVariants.{NoPeriodic}
 use Rattle.portmachines.specs.Transmit.{is_due, sent}
 use Rattle.distributor.specs.Changes.{marker_due}
-use Rattle.lagsystem.specs.declared.answers.Heard.{Heard}
-use Rattle.lagsystem.specs.declared.answers.Heard.TheVariants.{Taken, Response, Answered}
-use Rattle.lagsystem.specs.declared.answers.Received.{Received}
+use Rattle.lagsystem.specs.declared.received.FrameEffect.{FrameEffect}
+use Rattle.lagsystem.specs.declared.received.FrameEffect.TheVariants.{Taken, Response, Answered}
+use Rattle.lagsystem.specs.declared.received.Received.{Received}
 use Rattle.lagsystem.specs.declared.drive.Reply.{Reply}
 use Rattle.lagsystem.specs.declared.drive.Reply.TheVariants as reply
-use Rattle.lagsystem.specs.declared.slots.Slot.{Slot}
-use Rattle.lagsystem.specs.Calls.{Call, Tick, Set_link, Receive, Configure, Restart, Transmit, Offer, Move_conversation, Force, AllTick, ChangesParty, Does, LinksPort, OnPort, Settled, Takes, is_for, Step}
+use Rattle.lagsystem.specs.declared.slots.SystemPort.{SystemPort}
+use Rattle.lagsystem.specs.Calls.{Call, Tick, Set_link, Receive, Configure, Restart, Transmit, Offer, Move_conversation, Force, AllTick, ChangesParty, Performs, LinksPort, OnPort, Settled, TakesLacpdu, is_for, Step}
 use Rattle.lagsystem.specs.First.{IsFirst}
 use Rattle.lagsystem.specs.Offers.{force_answer, move_answer}
 use Rattle.lagsystem.specs.Quiet.{ArePaced, AreStill, IsPaced, IsStill}
 use Rattle.lagsystem.specs.Sending.{SendsAt, SendsWhere}
 use Rattle.lagsystem.specs.Sound.{HasPorts}
-use Rattle.lagsystem.specs.State.{State, numbers, place_of, with_slots}
+use Rattle.lagsystem.specs.State.{SystemState, port_numbers, place_of, with_slots}
 use Rattle.lagsystem.proofs.Keeps.{Keeps, Step-frame, Step-ports, keeps_link, keeps_place, keeps_tick, settling_keeps}
 use Rattle.lagsystem.proofs.Quieting.{settling_quiet}
 use Rattle.lagsystem.proofs.Rest.{becomes_slots, marker_slots, offers_slots, releases_slots, same_slots}
 use Rattle.lagsystem.proofs.Rising.{Rises, all-get, all-set, ports_rise}
 use Rattle.lagsystem.proofs.Skipping.{alike_still, alike_views, all_among}
 
-abbrev pub IsQuiet : State → Type 0
+abbrev pub IsQuiet : SystemState → Type 0
 IsQuiet s = AreStill s.keys s.slots × ArePaced s.slots
 
 -- the ports stay
-same_quiet : (s t : State) → t.keys ≡ s.keys → t.slots ≡ s.slots → IsQuiet s → IsQuiet t
+same_quiet : (s t : SystemState) → t.keys ≡ s.keys → t.slots ≡ s.slots → IsQuiet s → IsQuiet t
 same_quiet s t k e q = (subst (λ l. AreStill t.keys l) (sym e) (subst (λ ks. AreStill ks s.slots) (sym k) q.0), subst ArePaced (sym e) q.1)
 
-settled_quiet : (own : State → State → Type 0) (old new : State) → Rises 0 (numbers old.slots) → ((mid : State) → own old mid → Keeps old mid) → Settled own old new → IsQuiet new
+settled_quiet : (own : SystemState → SystemState → Type 0) (old new : SystemState) → Rises 0 (port_numbers old.slots) → ((mid : SystemState) → own old mid → Keeps old mid) → Settled own old new → IsQuiet new
 settled_quiet own old new r k h = settling_quiet h.0 new (subst (λ ns. Rises 0 ns) (sym (k h.0 h.1).same) r) h.2
 
 -- sending
@@ -38,48 +38,48 @@ and_none : (b : Bool) → false ≡ (b && false)
 and_none true = refl
 and_none false = refl
 
-sent_paced : (s : Slot) → IsPaced s → IsPaced (record s { port = sent s.port })
+sent_paced : (s : SystemPort) → IsPaced s → IsPaced (record s { port = sent s.port })
 sent_paced s h = record {
   rows = h.rows;
   cleared = λ i. record (sent s.port) { ntt = and_none (not (is_periodic NoPeriodic s.port.periodic)) i };
 }
 
-sent_quiet : (old : State) (i : ℕ) (s : Slot) → slice_get old.slots i ≡ Some s → IsQuiet old → IsQuiet (with_slots old (slice_set old.slots i (record s { port = sent s.port })))
+sent_quiet : (old : SystemState) (i : ℕ) (s : SystemPort) → slice_get old.slots i ≡ Some s → IsQuiet old → IsQuiet (with_slots old (slice_set old.slots i (record s { port = sent s.port })))
 sent_quiet old i s e q =
-    let t : Slot = record s { port = sent s.port } in
+    let t : SystemPort = record s { port = sent s.port } in
     let here = all-get (IsStill old.keys old.slots) old.slots i s e q.0 in
-    let news : List Slot = slice_set old.slots i t in (
+    let news : List SystemPort = slice_set old.slots i t in (
       all_among old.keys old.slots news news (alike_views old.slots i s t e refl) (all-set (IsStill old.keys old.slots) old.slots i t q.0 (alike_still old.keys old.slots s t refl here.mux here)),
       all-set IsPaced old.slots i t q.1 (sent_paced s (all-get IsPaced old.slots i s e q.1)),
     )
 
-where_quiet : (up due : Bool) (i : ℕ) (slot : Slot) (old : State) (answer : Option (List ℕ)) (new : State) → slice_get old.slots i ≡ Some slot → new.keys ≡ old.keys → SendsWhere up due i slot old answer new → IsQuiet old → IsQuiet new
+where_quiet : (up due : Bool) (i : ℕ) (slot : SystemPort) (old : SystemState) (answer : Option (List ℕ)) (new : SystemState) → slice_get old.slots i ≡ Some slot → new.keys ≡ old.keys → SendsWhere up due i slot old answer new → IsQuiet old → IsQuiet new
 where_quiet false due i slot old answer new e k h q = same_quiet old new k (same_slots old new h.1) q
 where_quiet true true i slot old answer new e k h q = subst IsQuiet (sym h.3) (sent_quiet old i slot e q)
 where_quiet true false i slot old answer new e k h q = same_quiet old new k (marker_slots (marker_due old.table slot.number) slot.number slot.mac old answer new h) q
 
-sends_quiet : (o : Option ℕ) (old : State) (answer : Option (List ℕ)) (new : State) → new.keys ≡ old.keys → SendsAt o old answer new → IsQuiet old → IsQuiet new
+sends_quiet : (o : Option ℕ) (old : SystemState) (answer : Option (List ℕ)) (new : SystemState) → new.keys ≡ old.keys → SendsAt o old answer new → IsQuiet old → IsQuiet new
 sends_quiet None old answer new k h q = absurd h
 sends_quiet (Some i) old answer new k h q = where_quiet h.0.port.enabled (is_due h.0.port) i h.0 old answer new h.1 k h.2 q
 
-does_quiet : (heard : Heard) (port : ℕ) (o : Option ℕ) (old : State) (answer : Received) (new : State) → Rises 0 (numbers old.slots) → new.keys ≡ old.keys → Does heard port o old answer new → IsQuiet old → IsQuiet new
-does_quiet (Taken v) port o old answer new r k h q = settled_quiet (OnPort o (Takes v)) old new r (keeps_place (Takes v) o old) h.1
+does_quiet : (heard : FrameEffect) (port : ℕ) (o : Option ℕ) (old : SystemState) (answer : Received) (new : SystemState) → Rises 0 (port_numbers old.slots) → new.keys ≡ old.keys → Performs heard port o old answer new → IsQuiet old → IsQuiet new
+does_quiet (Taken v) port o old answer new r k h q = settled_quiet (OnPort o (TakesLacpdu v)) old new r (keeps_place (TakesLacpdu v) o old) h.1
 does_quiet (Response m) port o old answer new r k h q = same_quiet old new k (releases_slots (is_for old port m) port m old answer new h) q
 does_quiet (Answered a) port o old answer new r k h q = same_quiet old new k (same_slots old new h.1) q
 
 -- the start
-pub first_quiet : (s : State) → HasPorts s → IsFirst s → IsQuiet s
+pub first_quiet : (s : SystemState) → HasPorts s → IsFirst s → IsQuiet s
 first_quiet s p h =
-    let start : State = with_slots s h.0 in
+    let start : SystemState = with_slots s h.0 in
     settling_quiet start s (subst (λ ns. Rises 0 ns) (settling_keeps start s h.2).same (ports_rise s p)) h.2
 
-pub Step-quiet : (gives : ℕ → ℕ → ℕ → Type 0) (old : State) (call : Call) (answer : Reply) (new : State) → Step gives old call answer new → HasPorts old → IsQuiet old → IsQuiet new
-Step-quiet gives old call answer new h p q = quiet call answer new h (ap (λ (s : State). s.keys) (Step-frame gives old call answer new h)) (Step-ports gives old call answer new h p)
+pub Step-quiet : (gives : ℕ → ℕ → ℕ → Type 0) (old : SystemState) (call : Call) (answer : Reply) (new : SystemState) → Step gives old call answer new → HasPorts old → IsQuiet old → IsQuiet new
+Step-quiet gives old call answer new h p q = quiet call answer new h (ap (λ (s : SystemState). s.keys) (Step-frame gives old call answer new h)) (Step-ports gives old call answer new h p)
   where
-    r : Rises 0 (numbers old.slots)
+    r : Rises 0 (port_numbers old.slots)
     r = ports_rise old p
 
-    quiet : (call : Call) (answer : Reply) (new : State) → Step gives old call answer new → new.keys ≡ old.keys → HasPorts new → IsQuiet new
+    quiet : (call : Call) (answer : Reply) (new : SystemState) → Step gives old call answer new → new.keys ≡ old.keys → HasPorts new → IsQuiet new
     quiet Tick reply.Tick new h k n = settled_quiet AllTick old new r (keeps_tick old) h
     quiet (Set_link m up) (reply.SetLink (Ok done)) new h k n = settled_quiet (LinksPort m up) old new r (keeps_link m up old) h
     quiet (Set_link m up) (reply.SetLink (Err fault)) new h k n = same_quiet old new k (same_slots old new h.same) q

@@ -7,29 +7,29 @@ use Rattle.lagtypes.specs.declared.identifiers.AggId.{AggId}
 use Rattle.lagtypes.specs.declared.party.Choice.{Choice}
 use Rattle.lagtypes.specs.declared.party.Choice.TheVariants.{Unselected, Selected}
 use Rattle.portmachines.specs.declared.mux.MuxState.TheVariants.{CollectingDistributing}
-use Rattle.portmachines.specs.Mux.{is_mux}
-use Rattle.selection.specs.Views.{is_given}
+use Rattle.portmachines.specs.Mux.{same_mux_state}
+use Rattle.selection.specs.Views.{has_chosen}
 use Rattle.distributor.specs.declared.assignment.Assignment.{Assignment}
 use Rattle.distributor.specs.declared.assignment.Assignment.TheVariants.{Free, On, Wanted, Flushing}
 use Rattle.distributor.specs.Calls.{distributes}
 use Rattle.distributor.specs.Changes.{Changes}
-use Rattle.distributor.specs.Conversations.{state_of}
-use Rattle.lagsystem.specs.declared.slots.Slot.{Slot}
-use Rattle.lagsystem.specs.Leaving.{WereCarried, after_leaving, carriers, has_stopped, stopped}
-use Rattle.lagsystem.specs.Readers.{agg_of, agg_of_number, collecting, distributes_in, distributing}
-use Rattle.lagsystem.specs.Settling.{LeavesPorts, left_on}
-use Rattle.lagsystem.specs.State.{State, numbers, with_table}
+use Rattle.distributor.specs.Conversations.{assignment_of}
+use Rattle.lagsystem.specs.declared.slots.SystemPort.{SystemPort}
+use Rattle.lagsystem.specs.Holding.{WereInUse, after_holding, aggregators_in_use, has_stopped, stopped}
+use Rattle.lagsystem.specs.Readers.{selected_aggregator, aggregator_numbered, collecting, distributes_in, distributing}
+use Rattle.lagsystem.specs.Settling.{HoldsConversations, held_unless_on}
+use Rattle.lagsystem.specs.State.{SystemState, port_numbers, with_table}
 use Rattle.lagsystem.proofs.Rising.{Rises, ports_rise}
 
 -- whether the port distributes in the aggregator
-abbrev pub on : AggId → List Slot → ℕ → Bool
+abbrev pub on : AggId → List SystemPort → ℕ → Bool
 on agg slots p = distributes (distributing agg slots) p
 
-one_more : (b : Bool) (s : Slot) (rest : List Slot) (p : ℕ) → distributes (map (λ (x : Slot). x.number) (cond b (s ∷ rest) rest)) p ≡ ((b && eqb s.number p) || distributes (map (λ (x : Slot). x.number) rest) p)
+one_more : (b : Bool) (s : SystemPort) (rest : List SystemPort) (p : ℕ) → distributes (map (λ (x : SystemPort). x.number) (cond b (s ∷ rest) rest)) p ≡ ((b && eqb s.number p) || distributes (map (λ (x : SystemPort). x.number) rest) p)
 one_more true s rest p = refl
 one_more false s rest p = refl
 
-pub on_more : (agg : AggId) (s : Slot) (slots : List Slot) (p : ℕ) → on agg (s ∷ slots) p ≡ ((distributes_in agg s && eqb s.number p) || on agg slots p)
+pub on_more : (agg : AggId) (s : SystemPort) (slots : List SystemPort) (p : ℕ) → on agg (s ∷ slots) p ≡ ((distributes_in agg s && eqb s.number p) || on agg slots p)
 on_more agg s slots p = one_more (distributes_in agg s) s (filter (distributes_in agg) slots) p
 
 other : (m p : ℕ) → m < p → eqb p m ≡ false
@@ -44,14 +44,14 @@ and_no true b h = h
 and_no false b h = refl
 
 -- none has a number past those of the ports
-pub none_on : (agg : AggId) (low : ℕ) (slots : List Slot) (p : ℕ) → Rises low (numbers slots) → p < low + 1 → on agg slots p ≡ false
+pub none_on : (agg : AggId) (low : ℕ) (slots : List SystemPort) (p : ℕ) → Rises low (port_numbers slots) → p < low + 1 → on agg slots p ≡ false
 none_on agg low [] p r l = refl
 none_on agg low (s ∷ slots) p r l =
     on_more agg s slots p
     ∙ or_no (distributes_in agg s && eqb s.number p) (on agg slots p) (and_no (distributes_in agg s) (eqb s.number p) (other p s.number (omega (arith, l, r.0))))
     (none_on agg s.number slots p r.1 (omega (arith, l, r.0)))
 
-none_stopped : (low : ℕ) (before : List (Option AggId)) (slots : List Slot) (p : ℕ) → Rises low (numbers slots) → p < low + 1 → stopped before slots p ≡ false
+none_stopped : (low : ℕ) (before : List (Option AggId)) (slots : List SystemPort) (p : ℕ) → Rises low (port_numbers slots) → p < low + 1 → stopped before slots p ≡ false
 none_stopped low [] slots p r l = refl
 none_stopped low (was ∷ before) [] p r l = refl
 none_stopped low (was ∷ before) (s ∷ slots) p r l =
@@ -59,7 +59,7 @@ none_stopped low (was ∷ before) (s ∷ slots) p r l =
     (ap (λ (b : Bool). b && has_stopped was s) (other p s.number (omega (arith, l, r.0)))) (none_stopped s.number before slots p r.1 (omega (arith, l, r.0)))
 
 -- the port was carrying in the aggregator if it distributed in it
-given_agg : (agg : AggId) (c : Choice) (b : Bool) → (is_given agg c && b) ≡ true → (if b then agg_of c else None) ≡ Some agg
+given_agg : (agg : AggId) (c : Choice) (b : Bool) → (has_chosen agg c && b) ≡ true → (if b then selected_aggregator c else None) ≡ Some agg
 given_agg agg Unselected b h = absurd (false≢true h)
 given_agg agg (Selected a) true h = let same = (Decides-eqb a.0 agg.0).0 (left (a.0 == agg.0) h) in λ i. Some (record { 0 = same i })
   where
@@ -68,8 +68,8 @@ given_agg agg (Selected a) true h = let same = (Decides-eqb a.0 agg.0).0 (left (
     left false e = absurd (false≢true e)
 given_agg agg (Selected a) false h = absurd (false≢true (sym (and_no (a.0 == agg.0) false refl) ∙ h))
 
-where_it_was : (agg : AggId) (s : Slot) → distributes_in agg s ≡ true → collecting s.port ≡ Some agg
-where_it_was agg s h = given_agg agg s.port.choice (is_mux CollectingDistributing s.port.mux) h
+where_it_was : (agg : AggId) (s : SystemPort) → distributes_in agg s ≡ true → collecting s.port ≡ Some agg
+where_it_was agg s h = given_agg agg s.port.choice (same_mux_state CollectingDistributing s.port.mux) h
 
 pub from_here : (d t rest : Bool) → t ≡ true → rest ≡ false → ((d && t) || rest) ≡ true → d ≡ true
 from_here true t rest h k e = refl
@@ -96,20 +96,20 @@ stopped_rest true h rest e = absurd (true≢false e)
 stopped_rest false h rest e = refl
 
 -- a port that carried a conversation stopped exactly if it no longer distributes in its aggregator
-pub stops_where : (agg : AggId) (p low : ℕ) (olds news : List Slot) → Rises low (numbers olds) → numbers news ≡ numbers olds → on agg olds p ≡ true → stopped (carriers olds) news p ≡ not (on agg news p)
+pub stops_where : (agg : AggId) (p low : ℕ) (olds news : List SystemPort) → Rises low (port_numbers olds) → port_numbers news ≡ port_numbers olds → on agg olds p ≡ true → stopped (aggregators_in_use olds) news p ≡ not (on agg news p)
 stops_where agg p low [] news r e h = absurd (false≢true h)
 stops_where agg p low (o ∷ olds) [] r e h = absurd cc
 stops_where agg p low (o ∷ olds) (n ∷ news) r e h =
-    let same = same_head n.number o.number (numbers news) (numbers olds) e in
-    let rest = stopped (carriers olds) news p in
+    let same = same_head n.number o.number (port_numbers news) (port_numbers olds) e in
+    let rest = stopped (aggregators_in_use olds) news p in
     elim (cases_Bool (eqb n.number p)) [
       | inl t ↦ (let here : p ≡ o.number = sym (eqb-true n.number p t) ∙ same.0 in
-          let rn : Rises n.number (numbers news) = subst (λ m. Rises m (numbers news)) (sym same.0) (subst (Rises o.number) (sym same.1) r.1) in
+          let rn : Rises n.number (port_numbers news) = subst (λ m. Rises m (port_numbers news)) (sym same.0) (subst (Rises o.number) (sym same.1) r.1) in
           let old_none = none_on agg o.number olds p r.1 (omega (arith, here)) in
           let new_none = none_on agg n.number news p rn (omega (arith, here, same.0)) in
           let was : distributes_in agg o ≡ true =
           from_here (distributes_in agg o) (eqb o.number p) (on agg olds p) (subst (λ m. eqb m p ≡ true) same.0 t) old_none (sym (on_more agg o olds p) ∙ h) in
-          stopped_more (eqb n.number p) (has_stopped (collecting o.port) n) rest t (none_stopped n.number (carriers olds) news p rn (omega (arith, here, same.0)))
+          stopped_more (eqb n.number p) (has_stopped (collecting o.port) n) rest t (none_stopped n.number (aggregators_in_use olds) news p rn (omega (arith, here, same.0)))
           ∙ ap (λ w. has_stopped w n) (where_it_was agg o was)
           ∙ ap not (sym (on_more agg n news p ∙ only_here (distributes_in agg n) (eqb n.number p) (on agg news p) t new_none)))
       | inr f ↦ (let old : on agg olds p ≡ true =
@@ -120,7 +120,7 @@ stops_where agg p low (o ∷ olds) (n ∷ news) r e h =
     ]
 
 -- what leaves these ports is left on the others
-left_by : (ports : List ℕ) (leaves : ℕ → Bool) (a : Assignment) → ((p : ℕ) → a ≡ On p → leaves p ≡ not (distributes ports p)) → after_leaving leaves a ≡ left_on ports a
+left_by : (ports : List ℕ) (leaves : ℕ → Bool) (a : Assignment) → ((p : ℕ) → a ≡ On p → leaves p ≡ not (distributes ports p)) → after_holding leaves a ≡ held_unless_on ports a
 left_by ports leaves (Free preferred) h = refl
 left_by ports leaves (Wanted p preferred) h = refl
 left_by ports leaves (Flushing p id preferred age) h = refl
@@ -131,27 +131,27 @@ left_by ports leaves (On p) h = turned (leaves p) (distributes ports p) (h p ref
     turned b false e = ap (λ (x : Bool). if x then Wanted p None else On p) e
 
 -- step 6 of settling
-pub leaves_made : (were : List (Option AggId)) (start mid new : State) → WereCarried were start → numbers mid.slots ≡ numbers start.slots → mid.table ≡ start.table
-    → Changes mid.table new.table (after_leaving (stopped were mid.slots)) → new ≡ with_table mid new.table → LeavesPorts mid new
+pub leaves_made : (were : List (Option AggId)) (start mid new : SystemState) → WereInUse were start → port_numbers mid.slots ≡ port_numbers start.slots → mid.table ≡ start.table
+    → Changes mid.table new.table (after_holding (stopped were mid.slots)) → new ≡ with_table mid new.table → HoldsConversations mid new
 leaves_made were start mid new w n t h e = record {
   frame = e;
   aggs = h.aggs;
   first = h.first;
   next = h.next;
-  states = λ g k. (let a = state_of mid.table g k in
-      h.states g k ∙ left_by (distributing (agg_of_number g) mid.slots) (stopped were mid.slots) a (λ p x.
-      let before : state_of w.old.table g k ≡ On p = w.carried g k p (ap (λ t. state_of t g k) (sym t) ∙ x) in
+  states = λ g k. (let a = assignment_of mid.table g k in
+      h.states g k ∙ left_by (distributing (aggregator_numbered g) mid.slots) (stopped were mid.slots) a (λ p x.
+      let before : assignment_of w.old.table g k ≡ On p = w.carried g k p (ap (λ t. assignment_of t g k) (sym t) ∙ x) in
       ap (λ l. stopped l mid.slots p) w.before
-      ∙ stops_where (agg_of_number g) p 0 w.old.slots mid.slots (ports_rise w.old w.sound.ports) (n ∙ w.same) (w.sound.carried g k p before)));
+      ∙ stops_where (aggregator_numbered g) p 0 w.old.slots mid.slots (ports_rise w.old w.sound.ports) (n ∙ w.same) (w.sound.carried g k p before)));
 }
 
-carriers_many : (slots : List Slot) → length (carriers slots) ≡ length (numbers slots)
+carriers_many : (slots : List SystemPort) → length (aggregators_in_use slots) ≡ length (port_numbers slots)
 carriers_many [] = refl
 carriers_many (s ∷ slots) = omega (arith, carriers_many slots)
 
-numbers_many : (slots : List Slot) → length (numbers slots) ≡ length slots
+numbers_many : (slots : List SystemPort) → length (port_numbers slots) ≡ length slots
 numbers_many [] = refl
 numbers_many (s ∷ slots) = omega (arith, numbers_many slots)
 
-pub were_many : (were : List (Option AggId)) (start mid : State) → WereCarried were start → numbers mid.slots ≡ numbers start.slots → length were ≡ length mid.slots
+pub were_many : (were : List (Option AggId)) (start mid : SystemState) → WereInUse were start → port_numbers mid.slots ≡ port_numbers start.slots → length were ≡ length mid.slots
 were_many were start mid w n = ap length w.before ∙ carriers_many w.old.slots ∙ ap length (sym (n ∙ w.same)) ∙ numbers_many mid.slots

@@ -10,16 +10,16 @@ use Rattle.lagtypes.specs.Choices.{is_selected, is_unselected}
 use Rattle.portmachines.specs.declared.mux.MuxState.{MuxState}
 use Rattle.portmachines.specs.declared.mux.MuxState.TheVariants.{Detached, Waiting, Attached, CollectingDistributing}
 use Rattle.portmachines.specs.Machines.{Machines}
-use Rattle.portmachines.specs.Mux.{is_mux, is_synchronized, mux_rows}
-use Rattle.portmachines.specs.Rows.{Fires, Reaches, Row, Settles}
+use Rattle.portmachines.specs.Mux.{same_mux_state, is_synchronized, mux_rows}
+use Rattle.portmachines.specs.Rows.{Fires, Reaches, Row, RunsToRest}
 use Rattle.portmachines.proofs.Runs.{Reaches-keeps}
 use Rattle.selection.specs.declared.view.PortView.{PortView}
-use Rattle.selection.specs.Views.{has_expired, is_given, waits}
-use Rattle.selection.specs.Choice.{given_to, is_known}
+use Rattle.selection.specs.Views.{has_waited, has_chosen, is_detached_or_waiting}
+use Rattle.selection.specs.Choice.{ports_that_chose, is_known}
 use Rattle.selection.specs.Ready.{is_ready}
-use Rattle.lagsystem.specs.declared.slots.Slot.{Slot}
-use Rattle.lagsystem.specs.Settling.{AllMove, ready_of}
-use Rattle.lagsystem.specs.Views.{stage_of, view_of, views}
+use Rattle.lagsystem.specs.declared.slots.SystemPort.{SystemPort}
+use Rattle.lagsystem.specs.Settling.{PortsGo, ready_of}
+use Rattle.lagsystem.specs.Views.{stage_of, selection_view, views}
 
 -- what rows keep if they are enabled
 abbrev KeptBy : (Machines → Bool) → List Row → Type 0
@@ -38,14 +38,14 @@ reaches_kept holds rows k (suc n) p q h run = fires_kept holds rows k run.0 q (r
 abbrev joined : Machines → Bool
 joined p = is_selected p.choice && is_synchronized p.mux
 
-joined_detached : (m : MuxState) (x g : Bool) → (x && is_synchronized m) ≡ true → (is_mux Detached m && g) ≡ true → ⊥
+joined_detached : (m : MuxState) (x g : Bool) → (x && is_synchronized m) ≡ true → (same_mux_state Detached m && g) ≡ true → ⊥
 joined_detached Detached true g h k = cc
 joined_detached Detached false g h k = cc
 joined_detached Waiting x g h k = cc
 joined_detached Attached x g h k = cc
 joined_detached CollectingDistributing x g h k = cc
 
-joined_waiting : (m : MuxState) (x g : Bool) → (x && is_synchronized m) ≡ true → (is_mux Waiting m && g) ≡ true → ⊥
+joined_waiting : (m : MuxState) (x g : Bool) → (x && is_synchronized m) ≡ true → (same_mux_state Waiting m && g) ≡ true → ⊥
 joined_waiting Detached x g h k = cc
 joined_waiting Waiting true g h k = cc
 joined_waiting Waiting false g h k = cc
@@ -74,7 +74,7 @@ joined_kept = (
     (
       λ p h e. absurd (joined_waiting p.mux (is_selected p.choice) _ h e),
       (
-        λ p h e. absurd (both_ways (is_selected p.choice) (is_synchronized p.mux) (is_mux Attached p.mux) h e),
+        λ p h e. absurd (both_ways (is_selected p.choice) (is_synchronized p.mux) (same_mux_state Attached p.mux) h e),
         (
           λ p h e. still_selected (is_selected p.choice) (is_synchronized p.mux) h,
           (λ p h e. still_selected (is_selected p.choice) (is_synchronized p.mux) h, tt),
@@ -86,19 +86,19 @@ joined_kept = (
 
 -- a member that waits and has not waited long enough stays one without Ready
 abbrev open_of : MuxState → ℕ → Bool
-open_of m w = waits (stage_of m w) && not (has_expired (stage_of m w))
+open_of m w = is_detached_or_waiting (stage_of m w) && not (has_waited (stage_of m w))
 
 abbrev is_open : Machines → Bool
 is_open p = is_selected p.choice && open_of p.mux p.wait_while
 
-open_attached : (m : MuxState) (w : ℕ) (x g : Bool) → (x && open_of m w) ≡ true → (is_mux Attached m && g) ≡ true → ⊥
+open_attached : (m : MuxState) (w : ℕ) (x g : Bool) → (x && open_of m w) ≡ true → (same_mux_state Attached m && g) ≡ true → ⊥
 open_attached Detached w x g h k = cc
 open_attached Waiting w x g h k = cc
 open_attached Attached w true g h k = cc
 open_attached Attached w false g h k = cc
 open_attached CollectingDistributing w x g h k = cc
 
-open_distributing : (m : MuxState) (w : ℕ) (x g : Bool) → (x && open_of m w) ≡ true → (is_mux CollectingDistributing m && g) ≡ true → ⊥
+open_distributing : (m : MuxState) (w : ℕ) (x g : Bool) → (x && open_of m w) ≡ true → (same_mux_state CollectingDistributing m && g) ≡ true → ⊥
 open_distributing Detached w x g h k = cc
 open_distributing Waiting w x g h k = cc
 open_distributing Attached w x g h k = cc
@@ -114,9 +114,9 @@ open_kept : KeptBy is_open (mux_rows false)
 open_kept = (
   λ p h e. still_selected (is_selected p.choice) (open_of p.mux p.wait_while) h,
   (
-    λ p h e. absurd (selected_not p.choice (open_of p.mux p.wait_while) (is_mux Waiting p.mux) h e),
+    λ p h e. absurd (selected_not p.choice (open_of p.mux p.wait_while) (same_mux_state Waiting p.mux) h e),
     (
-      λ p h e. absurd (not_so (is_mux Waiting p.mux) (is_selected p.choice) e),
+      λ p h e. absurd (not_so (same_mux_state Waiting p.mux) (is_selected p.choice) e),
       (
         λ p h e. absurd (open_attached p.mux p.wait_while (is_selected p.choice) _ h e),
         (
@@ -129,7 +129,7 @@ open_kept = (
 )
 
 -- a member of a Ready aggregator does not stay DETACHED or WAITING
-joined_at_rest : (m : MuxState) (w : ℕ) (c : Choice) → is_selected c ≡ true → (is_mux Detached m && not (is_unselected c)) ≡ false → (is_mux Waiting m && (is_selected c && true)) ≡ false → waits (stage_of m w) ≡ false
+joined_at_rest : (m : MuxState) (w : ℕ) (c : Choice) → is_selected c ≡ true → (same_mux_state Detached m && not (is_unselected c)) ≡ false → (same_mux_state Waiting m && (is_selected c && true)) ≡ false → is_detached_or_waiting (stage_of m w) ≡ false
 joined_at_rest Detached w Unselected s h k = absurd cc
 joined_at_rest Detached w (Selected agg) s h k = absurd cc
 joined_at_rest Waiting w Unselected s h k = absurd cc
@@ -137,7 +137,7 @@ joined_at_rest Waiting w (Selected agg) s h k = absurd cc
 joined_at_rest Attached w c s h k = refl
 joined_at_rest CollectingDistributing w c s h k = refl
 
-waits_not : (m : MuxState) (w : ℕ) (x : Bool) → (x && is_synchronized m) ≡ true → waits (stage_of m w) ≡ false
+waits_not : (m : MuxState) (w : ℕ) (x : Bool) → (x && is_synchronized m) ≡ true → is_detached_or_waiting (stage_of m w) ≡ false
 waits_not Detached w true h = absurd cc
 waits_not Detached w false h = absurd cc
 waits_not Waiting w true h = absurd cc
@@ -145,7 +145,7 @@ waits_not Waiting w false h = absurd cc
 waits_not Attached w x h = refl
 waits_not CollectingDistributing w x h = refl
 
-joined_where : (m : MuxState) (w : ℕ) (x : Bool) → x ≡ true → waits (stage_of m w) ≡ false → (x && is_synchronized m) ≡ true
+joined_where : (m : MuxState) (w : ℕ) (x : Bool) → x ≡ true → is_detached_or_waiting (stage_of m w) ≡ false → (x && is_synchronized m) ≡ true
 joined_where Detached w x s h = absurd cc
 joined_where Waiting w x s h = absurd cc
 joined_where Attached w true s h = refl
@@ -155,14 +155,14 @@ joined_where CollectingDistributing w false s h = absurd cc
 
 -- choices
 
-pub mux_choice : (b : Bool) (p q : Machines) → Settles (mux_rows b) p q → q.choice ≡ p.choice
+pub mux_choice : (b : Bool) (p q : Machines) → RunsToRest (mux_rows b) p q → q.choice ≡ p.choice
 mux_choice b p q h = Reaches-keeps (λ (p : Machines). p.choice) (mux_rows b) ((λ p. refl), ((λ p. refl), ((λ p. refl), ((λ p. refl), ((λ p. refl), ((λ p. refl), tt)))))) h.0 p q h.1
 
-given_selected : (agg : AggId) (c : Choice) → is_given agg c ≡ true → is_selected c ≡ true
+given_selected : (agg : AggId) (c : Choice) → has_chosen agg c ≡ true → is_selected c ≡ true
 given_selected agg Unselected h = absurd cc
 given_selected agg (Selected g) h = refl
 
-ready_given : (keys : List Key) (seen : List PortView) (agg : AggId) (c : Choice) → is_given agg c ≡ true → ready_of keys seen c ≡ is_ready keys seen agg
+ready_given : (keys : List Key) (seen : List PortView) (agg : AggId) (c : Choice) → has_chosen agg c ≡ true → ready_of keys seen c ≡ is_ready keys seen agg
 ready_given keys seen agg Unselected h = absurd cc
 ready_given keys seen agg (Selected g) h = let e : g.0 ≡ agg.0 = eqb-true g.0 agg.0 h in λ i. is_ready keys seen (record { 0 = e i })
 
@@ -184,10 +184,10 @@ any_next test true w v rest more h f g =
 any_next test false w v rest more h f g = g h
 
 abbrev W : PortView → Bool
-W v = waits v.stage
+W v = is_detached_or_waiting v.stage
 
 abbrev E : PortView → Bool
-E v = has_expired v.stage
+E v = has_waited v.stage
 
 abbrev all_waited : List PortView → Bool
 all_waited seen = list_all E (filter W seen)
@@ -227,35 +227,35 @@ all_next false w v rest more h f g = g h
 -- the mux step
 
 abbrev Steps : List Key → List PortView → Machines → Machines → Type 0
-Steps keys seen p q = Settles (mux_rows (ready_of keys seen p.choice)) p q
+Steps keys seen p q = RunsToRest (mux_rows (ready_of keys seen p.choice)) p q
 
 -- with Ready
-none_wait : (keys : List Key) (seen : List PortView) (agg : AggId) → is_ready keys seen agg ≡ true → (xs ys : List Slot) → AllMove (Steps keys seen) xs ys → list_any W (given_to agg (views ys)) ≡ false
+none_wait : (keys : List Key) (seen : List PortView) (agg : AggId) → is_ready keys seen agg ≡ true → (xs ys : List SystemPort) → PortsGo (Steps keys seen) xs ys → list_any W (ports_that_chose agg (views ys)) ≡ false
 none_wait keys seen agg r [] [] h = refl
 none_wait keys seen agg r [] (y ∷ ys) h = absurd h
 none_wait keys seen agg r (x ∷ xs) [] h = absurd h
 none_wait keys seen agg r (x ∷ xs) (y ∷ ys) h =
-    any_here W (is_given agg y.port.choice) (view_of y) (given_to agg (views ys))
+    any_here W (has_chosen agg y.port.choice) (selection_view y) (ports_that_chose agg (views ys))
     (λ g.
     let same = mux_choice (ready_of keys seen x.port.choice) x.port y.port h.0.1 in
-    let mine : is_given agg x.port.choice ≡ true = sym (ap (is_given agg) same) ∙ g in
-    let s : Settles (mux_rows true) x.port y.port = subst (λ b. Settles (mux_rows b) x.port y.port) (ready_given keys seen agg x.port.choice mine ∙ r) h.0.1 in
+    let mine : has_chosen agg x.port.choice ≡ true = sym (ap (has_chosen agg) same) ∙ g in
+    let s : RunsToRest (mux_rows true) x.port y.port = subst (λ b. RunsToRest (mux_rows b) x.port y.port) (ready_given keys seen agg x.port.choice mine ∙ r) h.0.1 in
     joined_at_rest y.port.mux y.port.wait_while y.port.choice (given_selected agg y.port.choice g) s.2.0 s.2.1.1.0)
     (none_wait keys seen agg r xs ys h.1)
 
 -- without
-unready_step : (keys : List Key) (seen : List PortView) (agg : AggId) (x y : Slot) → is_ready keys seen agg ≡ false → Steps keys seen x.port y.port → is_given agg x.port.choice ≡ true → Settles (mux_rows false) x.port y.port
-unready_step keys seen agg x y r h g = subst (λ b. Settles (mux_rows b) x.port y.port) (ready_given keys seen agg x.port.choice g ∙ r) h
+unready_step : (keys : List Key) (seen : List PortView) (agg : AggId) (x y : SystemPort) → is_ready keys seen agg ≡ false → Steps keys seen x.port y.port → has_chosen agg x.port.choice ≡ true → RunsToRest (mux_rows false) x.port y.port
+unready_step keys seen agg x y r h g = subst (λ b. RunsToRest (mux_rows b) x.port y.port) (ready_given keys seen agg x.port.choice g ∙ r) h
 
-any_stays : (keys : List Key) (seen : List PortView) (agg : AggId) → is_ready keys seen agg ≡ false → (xs ys : List Slot) → AllMove (Steps keys seen) xs ys
-    → list_any W (given_to agg (views xs)) ≡ false → list_any W (given_to agg (views ys)) ≡ false
+any_stays : (keys : List Key) (seen : List PortView) (agg : AggId) → is_ready keys seen agg ≡ false → (xs ys : List SystemPort) → PortsGo (Steps keys seen) xs ys
+    → list_any W (ports_that_chose agg (views xs)) ≡ false → list_any W (ports_that_chose agg (views ys)) ≡ false
 any_stays keys seen agg r [] [] h k = refl
 any_stays keys seen agg r [] (y ∷ ys) h k = absurd h
 any_stays keys seen agg r (x ∷ xs) [] h k = absurd h
 any_stays keys seen agg r (x ∷ xs) (y ∷ ys) h k =
     let same = mux_choice (ready_of keys seen x.port.choice) x.port y.port h.0.1 in
-    ap (λ c. list_any W (cond (is_given agg c) (view_of y ∷ given_to agg (views ys)) (given_to agg (views ys)))) same
-    ∙ any_next W (is_given agg x.port.choice) (view_of x) (view_of y) (given_to agg (views xs)) (given_to agg (views ys)) k
+    ap (λ c. list_any W (cond (has_chosen agg c) (selection_view y ∷ ports_that_chose agg (views ys)) (ports_that_chose agg (views ys)))) same
+    ∙ any_next W (has_chosen agg x.port.choice) (selection_view x) (selection_view y) (ports_that_chose agg (views xs)) (ports_that_chose agg (views ys)) k
     (λ g w.
     let s = unready_step keys seen agg x y r h.0.1 g in
     let j : joined x.port ≡ true = joined_where x.port.mux x.port.wait_while (is_selected x.port.choice) (given_selected agg x.port.choice g) w in
@@ -270,15 +270,15 @@ open_is : (x o : Bool) → (x && o) ≡ true → o ≡ true
 open_is true o h = h
 open_is false o h = absurd cc
 
-all_stay : (keys : List Key) (seen : List PortView) (agg : AggId) → is_ready keys seen agg ≡ false → (xs ys : List Slot) → AllMove (Steps keys seen) xs ys
-    → all_waited (given_to agg (views xs)) ≡ false → all_waited (given_to agg (views ys)) ≡ false
+all_stay : (keys : List Key) (seen : List PortView) (agg : AggId) → is_ready keys seen agg ≡ false → (xs ys : List SystemPort) → PortsGo (Steps keys seen) xs ys
+    → all_waited (ports_that_chose agg (views xs)) ≡ false → all_waited (ports_that_chose agg (views ys)) ≡ false
 all_stay keys seen agg r [] [] h k = k
 all_stay keys seen agg r [] (y ∷ ys) h k = absurd h
 all_stay keys seen agg r (x ∷ xs) [] h k = absurd h
 all_stay keys seen agg r (x ∷ xs) (y ∷ ys) h k =
     let same = mux_choice (ready_of keys seen x.port.choice) x.port y.port h.0.1 in
-    ap (λ c. all_waited (cond (is_given agg c) (view_of y ∷ given_to agg (views ys)) (given_to agg (views ys)))) same
-    ∙ all_next (is_given agg x.port.choice) (view_of x) (view_of y) (given_to agg (views xs)) (given_to agg (views ys)) k
+    ap (λ c. all_waited (cond (has_chosen agg c) (selection_view y ∷ ports_that_chose agg (views ys)) (ports_that_chose agg (views ys)))) same
+    ∙ all_next (has_chosen agg x.port.choice) (selection_view x) (selection_view y) (ports_that_chose agg (views xs)) (ports_that_chose agg (views ys)) k
     (λ g w.
     let s = unready_step keys seen agg x y r h.0.1 g in
     let o : is_open x.port ≡ true = open_given (is_selected x.port.choice) (open_of x.port.mux x.port.wait_while) (given_selected agg x.port.choice g) w in
@@ -299,18 +299,18 @@ one_false : (a b c d : Bool) → (a && b) ≡ false → (a ≡ false → c ≡ f
 one_false true b c d h f g = and_second c d (g h)
 one_false false b c d h f g = first_false c d (f refl)
 
-unready_cases : (keys : List Key) (agg : AggId) (xs ys : List Slot) → AllMove (Steps keys (views xs)) xs ys → (r : Bool) → is_ready keys (views xs) agg ≡ r → (k : Bool) → is_known keys agg ≡ k
+unready_cases : (keys : List Key) (agg : AggId) (xs ys : List SystemPort) → PortsGo (Steps keys (views xs)) xs ys → (r : Bool) → is_ready keys (views xs) agg ≡ r → (k : Bool) → is_known keys agg ≡ k
     → is_ready keys (views ys) agg ≡ false
 unready_cases keys agg xs ys h true e k i =
-    none_of (is_known keys agg) (given_to agg (views ys)) (first_false _ (all_waited (given_to agg (views ys))) (none_wait keys (views xs) agg e xs ys h))
-unready_cases keys agg xs ys h false e false i = ap (λ b. list_any W (if b then given_to agg (views ys) else []) && all_waited (if b then given_to agg (views ys) else [])) i
+    none_of (is_known keys agg) (ports_that_chose agg (views ys)) (first_false _ (all_waited (ports_that_chose agg (views ys))) (none_wait keys (views xs) agg e xs ys h))
+unready_cases keys agg xs ys h false e false i = ap (λ b. list_any W (if b then ports_that_chose agg (views ys) else []) && all_waited (if b then ports_that_chose agg (views ys) else [])) i
 unready_cases keys agg xs ys h false e true i =
-    let g = given_to agg (views xs) in
+    let g = ports_that_chose agg (views xs) in
     let was : (list_any W g && all_waited g) ≡ false = sym (ap (λ b. list_any W (if b then g else []) && all_waited (if b then g else [])) i) ∙ e in
-    none_of (is_known keys agg) (given_to agg (views ys))
-    (one_false (list_any W g) (all_waited g) (list_any W (given_to agg (views ys))) (all_waited (given_to agg (views ys))) was
+    none_of (is_known keys agg) (ports_that_chose agg (views ys))
+    (one_false (list_any W g) (all_waited g) (list_any W (ports_that_chose agg (views ys))) (all_waited (ports_that_chose agg (views ys))) was
     (any_stays keys (views xs) agg e xs ys h) (all_stay keys (views xs) agg e xs ys h))
 
-pub none_ready : (keys : List Key) (xs ys : List Slot) → AllMove (Steps keys (views xs)) xs ys → (c : Choice) → ready_of keys (views ys) c ≡ false
+pub none_ready : (keys : List Key) (xs ys : List SystemPort) → PortsGo (Steps keys (views xs)) xs ys → (c : Choice) → ready_of keys (views ys) c ≡ false
 none_ready keys xs ys h Unselected = refl
 none_ready keys xs ys h (Selected agg) = unready_cases keys agg xs ys h (is_ready keys (views xs) agg) refl (is_known keys agg) refl

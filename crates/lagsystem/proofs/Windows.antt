@@ -14,7 +14,7 @@ use Rattle.lagtypes.specs.declared.identifiers.Key.{Key}
 use Rattle.lagtypes.specs.declared.identifiers.SystemId.{SystemId}
 use Rattle.lagtypes.specs.declared.party.Choice.TheVariants.{Selected}
 use Rattle.slowpdu.specs.Frames.{frame_octets}
-use Rattle.slowpdu.specs.Layout.{IsAddress, StandsIn, place}
+use Rattle.slowpdu.specs.Layout.{IsAddress, HoldsNumber, read_field}
 use Rattle.slowpdu.proofs.LayoutLemmas.{octet_stands}
 use Rattle.slowpdu.proofs.WritingLemmas.{framed_payload}
 use Rattle.distributor.specs.Changes.{marker_due}
@@ -23,7 +23,7 @@ use Rattle.portmachines.specs.Machines.{Machines}
 use Rattle.portmachines.specs.Mux.{mux_rows}
 use Rattle.portmachines.specs.Periodic.{RunsPeriodic}
 use Rattle.portmachines.specs.Receive.{receive_rows}
-use Rattle.portmachines.specs.Rows.{Settles}
+use Rattle.portmachines.specs.Rows.{RunsToRest}
 use Rattle.portmachines.specs.Start.{Starts, blank}
 use Rattle.portmachines.specs.Transmit.{aged, count_down, is_due, sent}
 use Rattle.portmachines.specs.Window as window
@@ -31,22 +31,22 @@ use Rattle.portmachines.specs.Window.{KeepsWindow, sent_before}
 use Rattle.portmachines.proofs.Runs.{Reaches-keeps}
 use Rattle.portmachines.specs.declared.port.Setup.{Setup}
 use Rattle.portmachines.proofs.Windows.{ages_of, mux-same, periodic-ages, settles-same, starts-ages, taking-ages, window_law as port_window}
-use Rattle.lagsystem.specs.declared.answers.Heard.{Heard}
-use Rattle.lagsystem.specs.declared.answers.Heard.TheVariants.{Taken, Response, Answered}
-use Rattle.lagsystem.specs.declared.answers.Received.{Received}
+use Rattle.lagsystem.specs.declared.received.FrameEffect.{FrameEffect}
+use Rattle.lagsystem.specs.declared.received.FrameEffect.TheVariants.{Taken, Response, Answered}
+use Rattle.lagsystem.specs.declared.received.Received.{Received}
 use Rattle.lagsystem.specs.declared.config.PortChange.{PortChange}
 use Rattle.lagsystem.specs.declared.config.PortConfig.{PortConfig}
 use Rattle.lagsystem.specs.declared.drive.Reply.{Reply}
 use Rattle.lagsystem.specs.declared.drive.Reply.TheVariants as reply
-use Rattle.lagsystem.specs.declared.slots.Slot.{Slot}
-use Rattle.lagsystem.specs.State.{State, with_slots, place_of, port_of, slot_at}
-use Rattle.lagsystem.specs.Settling.{AllMove, Settling, chosen, choose_slot, given, ready_of, takes}
+use Rattle.lagsystem.specs.declared.slots.SystemPort.{SystemPort}
+use Rattle.lagsystem.specs.State.{SystemState, with_slots, place_of, machines_of, slot_at}
+use Rattle.lagsystem.specs.Settling.{PortsGo, Settling, chosen, choose_slot, given, ready_of, aggregator_for}
 use Rattle.lagsystem.specs.Views.{views}
 use Rattle.lagsystem.specs.First.{IsFirst, IsNew, setup_of}
-use Rattle.lagsystem.specs.Calls.{Call, Tick, Set_link, Receive, Configure, Restart, Transmit, Offer, Move_conversation, Force, ChangesLink, ChangesParty, changed, is_for, OnPlace, OnPort, Settled, Takes, Does, Step, Run}
+use Rattle.lagsystem.specs.Calls.{Call, Tick, Set_link, Receive, Configure, Restart, Transmit, Offer, Move_conversation, Force, ChangesLink, ChangesParty, changed_party, is_for, PortAtGoes, OnPort, Settled, TakesLacpdu, Performs, Step, TableRun}
 use Rattle.lagsystem.specs.Offers.{force_answer, move_answer}
 use Rattle.lagsystem.specs.Sending.{SendsAt, SendsMarkerOf, SendsWhere}
-use Rattle.lagsystem.specs.Windows.{KeepThree, KeepsThree, KeptSince, StartsEmpty, StaysWindowed, WindowFromStart, WindowLaw, after, kept_sends, later, subtype}
+use Rattle.lagsystem.specs.Windows.{EachAtMostThreeAges, AtMostThreeAges, AgesSince, StartsEmpty, StaysWindowed, WindowFromStart, SystemWindowLaw, sends_after, remembered_sends, tick_after, subtype}
 use Rattle.lagsystem.proofs.Keeps.{given_number}
 use Rattle.lagsystem.proofs.Rest.{becomes_slots, last_slots, offers_slots, releases_slots, same_slots}
 
@@ -54,7 +54,7 @@ use Rattle.lagsystem.proofs.Rest.{becomes_slots, last_slots, offers_slots, relea
 
 -- after these sends the port keeps the window, whatever calls of it follow
 abbrev Good : ℕ → Machines → List ℕ → Type 0
-Good now p before = (calls : List port.PortCall) (ticks : List ℕ) → window.Sends now calls p ticks → KeepsWindow (before ++ ticks)
+Good now p before = (calls : List port.PortCall) (ticks : List ℕ) → window.SendsAtTicks now calls p ticks → KeepsWindow (before ++ ticks)
 
 good_ages : (now : ℕ) (p : Machines) → AllByRecursion (λ a. a ≤ now) p.ages → length p.ages ≤ 3 → Good now p (sent_before now p.ages)
 good_ages now p kept few calls ticks run = port_window now calls p ticks kept few run
@@ -63,10 +63,10 @@ joined : (b : Bool) (now : ℕ) (before ticks : List ℕ) → (before ++ (if b t
 joined true now before ticks = sym (append_assoc before (now ∷ []) ticks)
 joined false now before ticks = refl
 
-good_call : (now : ℕ) (call : port.PortCall) (p q : Machines) (before : List ℕ) → port.Does call p q → Good now p before
-    → Good (window.later call now) q (if window.sends call p then before ++ now ∷ [] else before)
+good_call : (now : ℕ) (call : port.PortCall) (p q : Machines) (before : List ℕ) → port.CallEffect call p q → Good now p before
+    → Good (window.tick_after_port_call call now) q (if window.returns_lacpdu call p then before ++ now ∷ [] else before)
 good_call now call p q before does g calls ticks run =
-    let b = window.sends call p in
+    let b = window.returns_lacpdu call p in
     subst KeepsWindow (joined b now before ticks) (g (call ∷ calls) (if b then now ∷ ticks else ticks) (q, ticks, does, run, refl))
 
 none_sent : KeepsWindow []
@@ -74,10 +74,10 @@ none_sent first = omega arith
 
 -- the port with the number n among those of a system
 
-abbrev port_in : Option Slot → Option Machines
+abbrev port_in : Option SystemPort → Option Machines
 port_in o = option_map (λ x. x.port) o
 
-abbrev is_numbered : ℕ → Slot → Bool
+abbrev is_numbered : ℕ → SystemPort → Bool
 is_numbered n s = s.number == n
 
 -- P holds of the port, and N where there is none
@@ -85,43 +85,43 @@ abbrev At : (Machines → Type 0) → Type 0 → Option Machines → Type 0
 At P N None = N
 At P N (Some p) = P p
 
-abbrev In : (Machines → Type 0) → Type 0 → ℕ → List Slot → Type 0
+abbrev In : (Machines → Type 0) → Type 0 → ℕ → List SystemPort → Type 0
 In P N n slots = At P N (port_in (find (is_numbered n) slots))
 
 abbrev GoodAt : ℕ → List ℕ → Option Machines → Type 0
 GoodAt now before o = At (λ p. Good now p before) (KeepsWindow before) o
 
-abbrev GoodIn : ℕ → ℕ → List ℕ → List Slot → Type 0
+abbrev GoodIn : ℕ → ℕ → List ℕ → List SystemPort → Type 0
 GoodIn n now before slots = In (λ p. Good now p before) (KeepsWindow before) n slots
 
 good_end : (now : ℕ) (before : List ℕ) (o : Option Machines) → GoodAt now before o → KeepsWindow before
 good_end now before None g = g
 good_end now before (Some p) g = subst KeepsWindow (append-nil before) (g [] [] refl)
 
-at_first : (P Q : Machines → Type 0) (N : Type 0) (b : Bool) (x y : Slot) (o u : Option Slot) → (P x.port → Q y.port) → (At P N (port_in o) → At Q N (port_in u))
+at_first : (P Q : Machines → Type 0) (N : Type 0) (b : Bool) (x y : SystemPort) (o u : Option SystemPort) → (P x.port → Q y.port) → (At P N (port_in o) → At Q N (port_in u))
     → At P N (port_in (cond b (Some x) o)) → At Q N (port_in (cond b (Some y) u))
 at_first P Q N true x y o u here rest g = here g
 at_first P Q N false x y o u here rest g = rest g
 
 -- the same, if y has the number of x
-at_number : (P Q : Machines → Type 0) (N : Type 0) (n : ℕ) (x y : Slot) (o u : Option Slot) → y.number ≡ x.number → (P x.port → Q y.port) → (At P N (port_in o) → At Q N (port_in u))
+at_number : (P Q : Machines → Type 0) (N : Type 0) (n : ℕ) (x y : SystemPort) (o u : Option SystemPort) → y.number ≡ x.number → (P x.port → Q y.port) → (At P N (port_in o) → At Q N (port_in u))
     → At P N (port_in (cond (x.number == n) (Some x) o)) → At Q N (port_in (cond (y.number == n) (Some y) u))
 at_number P Q N n x y o u e here rest g =
     subst (λ k. At Q N (port_in (cond (k == n) (Some y) u))) (sym e) (at_first P Q N (x.number == n) x y o u here rest g)
 
-in_each : (P Q : Machines → Type 0) (N : Type 0) (R : Machines → Machines → Type 0) (n : ℕ) → ((p q : Machines) → R p q → P p → Q q) → (xs ys : List Slot) → AllMove R xs ys → In P N n xs → In Q N n ys
+in_each : (P Q : Machines → Type 0) (N : Type 0) (R : Machines → Machines → Type 0) (n : ℕ) → ((p q : Machines) → R p q → P p → Q q) → (xs ys : List SystemPort) → PortsGo R xs ys → In P N n xs → In Q N n ys
 in_each P Q N R n move [] [] h g = g
 in_each P Q N R n move [] (y ∷ ys) h g = absurd h
 in_each P Q N R n move (x ∷ xs) [] h g = absurd h
 in_each P Q N R n move (x ∷ xs) (y ∷ ys) h g =
-    at_number P Q N n x y (find (is_numbered n) xs) (find (is_numbered n) ys) (ap (λ (s : Slot). s.number) h.0.0) (move x.port y.port h.0.1) (in_each P Q N R n move xs ys h.1) g
+    at_number P Q N n x y (find (is_numbered n) xs) (find (is_numbered n) ys) (ap (λ (s : SystemPort). s.number) h.0.0) (move x.port y.port h.0.1) (in_each P Q N R n move xs ys h.1) g
 
-in_set : (P : Machines → Type 0) (N : Type 0) (n : ℕ) (xs : List Slot) (i : ℕ) (s t : Slot) → slice_get xs i ≡ Some s → t.number ≡ s.number → (P s.port → P t.port) → In P N n xs → In P N n (slice_set xs i t)
+in_set : (P : Machines → Type 0) (N : Type 0) (n : ℕ) (xs : List SystemPort) (i : ℕ) (s t : SystemPort) → slice_get xs i ≡ Some s → t.number ≡ s.number → (P s.port → P t.port) → In P N n xs → In P N n (slice_set xs i t)
 in_set P N n [] i s t e k move g = g
 in_set P N n (x ∷ xs) zero s t e k move g =
     let o = find (is_numbered n) xs in
     let same : x ≡ s = same_Some x s e in
-    at_number P P N n x t o o (k ∙ sym (ap (λ (y : Slot). y.number) same)) (subst (λ (y : Slot). P y.port → P t.port) (sym same) move) (λ h. h) g
+    at_number P P N n x t o o (k ∙ sym (ap (λ (y : SystemPort). y.number) same)) (subst (λ (y : SystemPort). P y.port → P t.port) (sym same) move) (λ h. h) g
 in_set P N n (x ∷ xs) (suc i) s t e k move g =
     at_number P P N n x x (find (is_numbered n) xs) (find (is_numbered n) (slice_set xs i t)) refl (λ h. h) (in_set P N n xs i s t e k move) g
 
@@ -129,31 +129,31 @@ in_set P N n (x ∷ xs) (suc i) s t e k move g =
 
 -- the machines keep P, but for a tick and a send
 record IsKept (P : Machines → Type 0) : Type 0 where
-  mux : (ready : Bool) (p q : Machines) → Settles (mux_rows ready) p q → P p → P q
+  mux : (ready : Bool) (p q : Machines) → RunsToRest (mux_rows ready) p q → P p → P q
   periodic : (p q : Machines) → RunsPeriodic p q → P p → P q
   select : (agg : AggId) (p : Machines) → P p → P (record p { choice = Selected agg })
   link : (up : Bool) (p q : Machines) → ChangesLink up p q → P p → P q
-  take : (v : Lacpdu) (p q : Machines) → Takes v p q → P p → P q
+  take : (v : Lacpdu) (p q : Machines) → TakesLacpdu v p q → P p → P q
   party : (change : PortChange) (p q : Machines) → ChangesParty change p q → P p → P q
 
-in_given : (P : Machines → Type 0) → IsKept P → (s : Slot) (o : Option AggId) → P s.port → P (given s o).port
+in_given : (P : Machines → Type 0) → IsKept P → (s : SystemPort) (o : Option AggId) → P s.port → P (given s o).port
 in_given P kept s None g = g
 in_given P kept s (Some agg) g = kept.select agg s.port g
 
-in_choose : (P : Machines → Type 0) (N : Type 0) (n : ℕ) → IsKept P → (keys : List Key) (slots : List Slot) (i : ℕ) (o : Option Slot) → slice_get slots i ≡ o → In P N n slots → In P N n (choose_slot keys slots i o)
+in_choose : (P : Machines → Type 0) (N : Type 0) (n : ℕ) → IsKept P → (keys : List Key) (slots : List SystemPort) (i : ℕ) (o : Option SystemPort) → slice_get slots i ≡ o → In P N n slots → In P N n (choose_slot keys slots i o)
 in_choose P N n kept keys slots i None e g = g
 in_choose P N n kept keys slots i (Some s) e g =
-    let o = takes keys slots s in in_set P N n slots i s (given s o) e (given_number s o) (in_given P kept s o) g
+    let o = aggregator_for keys slots s in in_set P N n slots i s (given s o) e (given_number s o) (in_given P kept s o) g
 
-in_chosen : (P : Machines → Type 0) (N : Type 0) (n : ℕ) → IsKept P → (keys : List Key) (k : ℕ) (slots : List Slot) → In P N n slots → In P N n (chosen keys k slots)
+in_chosen : (P : Machines → Type 0) (N : Type 0) (n : ℕ) → IsKept P → (keys : List Key) (k : ℕ) (slots : List SystemPort) → In P N n slots → In P N n (chosen keys k slots)
 in_chosen P N n kept keys zero slots g = g
 in_chosen P N n kept keys (suc k) slots g =
     let mid = chosen keys k slots in in_choose P N n kept keys mid k (slice_get mid k) refl (in_chosen P N n kept keys k slots g)
 
-in_same : (P : Machines → Type 0) (N : Type 0) (n : ℕ) (old new : State) → new.slots ≡ old.slots → In P N n old.slots → In P N n new.slots
+in_same : (P : Machines → Type 0) (N : Type 0) (n : ℕ) (old new : SystemState) → new.slots ≡ old.slots → In P N n old.slots → In P N n new.slots
 in_same P N n old new e g = subst (In P N n) (sym e) g
 
-in_settling : (P : Machines → Type 0) (N : Type 0) (n : ℕ) → IsKept P → (old new : State) → Settling old new → In P N n old.slots → In P N n new.slots
+in_settling : (P : Machines → Type 0) (N : Type 0) (n : ℕ) → IsKept P → (old new : SystemState) → Settling old new → In P N n old.slots → In P N n new.slots
 in_settling P N n kept old new h g =
     let one = h.0 in
     let two = h.2.0 in
@@ -161,10 +161,10 @@ in_settling P N n kept old new h g =
     let four = h.2.2.2.0 in
     let five = h.2.2.2.2.0 in
     let ready = λ (p : Machines). ready_of three.keys (views three.slots) p.choice in
-    let g1 = in_each P P N (Settles (mux_rows false)) n (kept.mux false) old.slots one.slots h.1.0 g in
+    let g1 = in_each P P N (RunsToRest (mux_rows false)) n (kept.mux false) old.slots one.slots h.1.0 g in
     let g2 = in_same P N n (with_slots one (chosen one.keys (length one.slots) one.slots)) two (same_slots (with_slots one (chosen one.keys (length one.slots) one.slots)) two h.2.1) (in_chosen P N n kept one.keys (length one.slots) one.slots g1) in
     let g3 = in_same P N n two three (same_slots two three h.2.2.1) g2 in
-    let g4 = in_each P P N (λ p q. Settles (mux_rows (ready p)) p q) n (λ p q d. kept.mux (ready p) p q d) three.slots four.slots h.2.2.2.1.0 g3 in
+    let g4 = in_each P P N (λ p q. RunsToRest (mux_rows (ready p)) p q) n (λ p q d. kept.mux (ready p) p q d) three.slots four.slots h.2.2.2.1.0 g3 in
     let g5 = in_each P P N RunsPeriodic n kept.periodic four.slots five.slots h.2.2.2.2.1.0 g4 in
     in_same P N n five new (last_slots old new h) g5
 
@@ -175,23 +175,23 @@ good_kept now before = record {
   select = λ agg p. good_call now (port.Select (Selected agg)) p (record p { choice = Selected agg }) before refl;
   link = λ up p q d. good_call now (port.Set_link up) p q before d;
   take = λ v p q d. good_call now (port.Take v) p q before d;
-  party = λ change p q d. good_call now (port.Reinit (changed change p.party)) p q before d.1;
+  party = λ change p q d. good_call now (port.Reinit (changed_party change p.party)) p q before d.1;
 }
 
 -- the calls' own effects
 
-in_place : (P : Machines → Type 0) (N : Type 0) (n : ℕ) (R : Machines → Machines → Type 0) → ((p q : Machines) → R p q → P p → P q) → (o : Option ℕ) (old new : List Slot) → OnPlace R o old new → In P N n old → In P N n new
+in_place : (P : Machines → Type 0) (N : Type 0) (n : ℕ) (R : Machines → Machines → Type 0) → ((p q : Machines) → R p q → P p → P q) → (o : Option ℕ) (old new : List SystemPort) → PortAtGoes R o old new → In P N n old → In P N n new
 in_place P N n R move None old new h g = absurd h
 in_place P N n R move (Some i) old new h g =
     subst (In P N n) (sym h.4) (in_set P N n old i h.0 (record h.0 { port = h.1 }) h.2 refl (move h.0.port h.1 h.3) g)
 
-in_on_port : (P : Machines → Type 0) (N : Type 0) (n : ℕ) → IsKept P → (R : Machines → Machines → Type 0) → ((p q : Machines) → R p q → P p → P q) → (o : Option ℕ) (old new : State) → Settled (OnPort o R) old new
+in_on_port : (P : Machines → Type 0) (N : Type 0) (n : ℕ) → IsKept P → (R : Machines → Machines → Type 0) → ((p q : Machines) → R p q → P p → P q) → (o : Option ℕ) (old new : SystemState) → Settled (OnPort o R) old new
     → In P N n old.slots → In P N n new.slots
 in_on_port P N n kept R move o old new h g = in_settling P N n kept h.0 new h.2 (in_place P N n R move o old.slots h.0.slots h.1.0 g)
 
-in_does : (P : Machines → Type 0) (N : Type 0) (n : ℕ) → IsKept P → (heard : Heard) (number : ℕ) (o : Option ℕ) (old : State) (answer : Received) (new : State) → Does heard number o old answer new
+in_does : (P : Machines → Type 0) (N : Type 0) (n : ℕ) → IsKept P → (heard : FrameEffect) (number : ℕ) (o : Option ℕ) (old : SystemState) (answer : Received) (new : SystemState) → Performs heard number o old answer new
     → In P N n old.slots → In P N n new.slots
-in_does P N n kept (Taken v) number o old answer new h g = in_on_port P N n kept (Takes v) (kept.take v) o old new h.1 g
+in_does P N n kept (Taken v) number o old answer new h g = in_on_port P N n kept (TakesLacpdu v) (kept.take v) o old new h.1 g
 in_does P N n kept (Response m) number o old answer new h g = in_same P N n old new (releases_slots (is_for old number m) number m old answer new h) g
 in_does P N n kept (Answered heard) number o old answer new h g = in_same P N n old new (same_slots old new h.1) g
 
@@ -202,7 +202,7 @@ IsOther Restart = ⊥
 IsOther (Transmit m) = ⊥
 IsOther call = Unit {0}
 
-in_step : (P : Machines → Type 0) (N : Type 0) (n : ℕ) → IsKept P → (gives : ℕ → ℕ → ℕ → Type 0) (old : State) (call : Call) (answer : Reply) (new : State) → IsOther call → Step gives old call answer new
+in_step : (P : Machines → Type 0) (N : Type 0) (n : ℕ) → IsKept P → (gives : ℕ → ℕ → ℕ → Type 0) (old : SystemState) (call : Call) (answer : Reply) (new : SystemState) → IsOther call → Step gives old call answer new
     → In P N n old.slots → In P N n new.slots
 in_step P N n kept gives old (Set_link m up) (reply.SetLink (Ok done)) new o h g =
     in_settling P N n kept h.0 new h.2 (in_place P N n (ChangesLink up) (kept.link up) (place_of m old.slots) old.slots h.0.slots h.1.0 g)
@@ -221,48 +221,48 @@ in_step P N n kept gives old Restart answer new o h g = absurd o
 in_step P N n kept gives old (Transmit m) answer new o h g = absurd o
 in_step P N n kept gives old call answer new o h g = absurd h
 
-good_settling : (n now : ℕ) (before : List ℕ) (old new : State) → Settling old new → GoodIn n now before old.slots → GoodIn n now before new.slots
+good_settling : (n now : ℕ) (before : List ℕ) (old new : SystemState) → Settling old new → GoodIn n now before old.slots → GoodIn n now before new.slots
 good_settling n now before old new h g = in_settling (λ p. Good now p before) (KeepsWindow before) n (good_kept now before) old new h g
 
-good_same : (n now : ℕ) (before : List ℕ) (old new : State) → new.slots ≡ old.slots → GoodIn n now before old.slots → GoodIn n now before new.slots
+good_same : (n now : ℕ) (before : List ℕ) (old new : SystemState) → new.slots ≡ old.slots → GoodIn n now before old.slots → GoodIn n now before new.slots
 good_same n now before old new e g = in_same (λ p. Good now p before) (KeepsWindow before) n old new e g
 
 -- sending
 
 -- the place of a number is that of the first port with it
-at_place : (n : ℕ) (xs : List Slot) (b : Bool) (k : ℕ) → nat_lt k (length xs) ≡ b → slot_at (cond b (Some k) None) xs ≡ slice_get xs k
+at_place : (n : ℕ) (xs : List SystemPort) (b : Bool) (k : ℕ) → nat_lt k (length xs) ≡ b → slot_at (cond b (Some k) None) xs ≡ slice_get xs k
 at_place n xs true k e = refl
 at_place n xs false k e = sym (slice_get_past xs k (grind (arith, nat_tests)))
 
-found : (n : ℕ) (xs : List Slot) → slot_at (place_of n xs) xs ≡ find (is_numbered n) xs
+found : (n : ℕ) (xs : List SystemPort) → slot_at (place_of n xs) xs ≡ find (is_numbered n) xs
 found n xs = let k = position_or_len (is_numbered n) xs in at_place n xs (nat_lt k (length xs)) k refl ∙ sym (find_at (is_numbered n) xs)
 
-found_set : (p : Slot → Bool) (xs : List Slot) (i : ℕ) (s t : Slot) → slice_get xs i ≡ Some s → ((k : ℕ) → k < i → p (get_or xs k s) ≡ false) → p t ≡ true → find p (slice_set xs i t) ≡ Some t
+found_set : (p : SystemPort → Bool) (xs : List SystemPort) (i : ℕ) (s t : SystemPort) → slice_get xs i ≡ Some s → ((k : ℕ) → k < i → p (get_or xs k s) ≡ false) → p t ≡ true → find p (slice_set xs i t) ≡ Some t
 found_set p [] i s t e h k = absurd cc
 found_set p (x ∷ xs) zero s t e h k = ap (λ b. cond b (Some t) (find p xs)) k
 found_set p (x ∷ xs) (suc i) s t e h k =
     ap (λ b. cond b (Some x) (find p (slice_set xs i t))) (h zero (omega arith)) ∙ found_set p xs i s t e (λ j l. h (suc j) (omega (arith, l))) k
 
-found_other : (p : Slot → Bool) (xs : List Slot) (i : ℕ) (s t : Slot) → slice_get xs i ≡ Some s → p s ≡ false → p t ≡ false → find p (slice_set xs i t) ≡ find p xs
+found_other : (p : SystemPort → Bool) (xs : List SystemPort) (i : ℕ) (s t : SystemPort) → slice_get xs i ≡ Some s → p s ≡ false → p t ≡ false → find p (slice_set xs i t) ≡ find p xs
 found_other p [] i s t e h k = refl
 found_other p (x ∷ xs) zero s t e h k =
     let here : p x ≡ false = ap p (same_Some x s e) ∙ h in
     ap (λ b. cond b (Some t) (find p xs)) k ∙ sym (ap (λ b. cond b (Some x) (find p xs)) here)
 found_other p (x ∷ xs) (suc i) s t e h k = ap (λ o. cond (p x) (Some x) o) (found_other p xs i s t e h k)
 
-good_sent : (m n now : ℕ) (before : List ℕ) (b : Bool) (xs : List Slot) (i : ℕ) (s t : Slot) → (m == n) ≡ b → place_of m xs ≡ Some i → slice_get xs i ≡ Some s → t.number ≡ s.number
+good_sent : (m n now : ℕ) (before : List ℕ) (b : Bool) (xs : List SystemPort) (i : ℕ) (s t : SystemPort) → (m == n) ≡ b → place_of m xs ≡ Some i → slice_get xs i ≡ Some s → t.number ≡ s.number
     → (Good now s.port before → Good now t.port (before ++ now ∷ [])) → GoodIn n now before xs → GoodIn n now (if b then before ++ now ∷ [] else before) (slice_set xs i t)
-good_sent m n now before true xs i s t b place at k send g =
+good_sent m n now before true xs i s t b read_field at k send g =
     let same : m ≡ n = eqb-true m n b in
-    let first = position-Some (is_numbered m) xs i s place in
+    let first = position-Some (is_numbered m) xs i s read_field in
     let numbered : (s.number == m) ≡ true = ap (is_numbered m) (sym (get_or_from_slice_get xs i s s at)) ∙ first.1 in
-    let old : find (is_numbered m) xs ≡ Some s = sym (found m xs) ∙ ap (λ o. slot_at o xs) place ∙ at in
+    let old : find (is_numbered m) xs ≡ Some s = sym (found m xs) ∙ ap (λ o. slot_at o xs) read_field ∙ at in
     let new : find (is_numbered m) (slice_set xs i t) ≡ Some t = found_set (is_numbered m) xs i s t at first.2 (ap (λ j. j == m) k ∙ numbered) in
     let g' : GoodIn m now before xs = subst (λ j. GoodIn j now before xs) (sym same) g in
     subst (λ j. GoodIn j now (before ++ now ∷ []) (slice_set xs i t)) same
     (subst (λ o. GoodAt now (before ++ now ∷ []) (port_in o)) (sym new) (send (subst (λ o. GoodAt now before (port_in o)) old g')))
-good_sent m n now before false xs i s t b place at k send g =
-    let first = position-Some (is_numbered m) xs i s place in
+good_sent m n now before false xs i s t b read_field at k send g =
+    let first = position-Some (is_numbered m) xs i s read_field in
     let numbered : s.number ≡ m = eqb-true s.number m (ap (is_numbered m) (sym (get_or_from_slice_get xs i s s at)) ∙ first.1) in
     let other : (s.number == n) ≡ false = ap (λ j. j == n) numbered ∙ b in
     subst (λ o. GoodAt now before (port_in o)) (sym (found_other (is_numbered n) xs i s t at other (ap (λ j. j == n) k ∙ other))) g
@@ -273,9 +273,9 @@ good_sends now before p due g =
     (good_call now (port.Transmit 0) p (sent p) before (sym (ap (λ b. if b then sent p else p) due)) g)
 
 -- the octet behind the header of a control frame
-subtype_of : (mac payload : List ℕ) (k : ℕ) → IsAddress mac → StandsIn payload (place 0 1 k) → subtype (frame_octets mac payload) ≡ k
+subtype_of : (mac payload : List ℕ) (k : ℕ) → IsAddress mac → HoldsNumber payload (read_field 0 1 k) → subtype (frame_octets mac payload) ≡ k
 subtype_of mac payload k a h =
-    let behind : StandsIn (drop 14 (frame_octets mac payload)) (place 0 1 k) = subst (λ b. StandsIn b (place 0 1 k)) (sym (framed_payload mac payload a.0)) h in
+    let behind : HoldsNumber (drop 14 (frame_octets mac payload)) (read_field 0 1 k) = subst (λ b. HoldsNumber b (read_field 0 1 k)) (sym (framed_payload mac payload a.0)) h in
     sym (octet_stands (frame_octets mac payload) 14) ∙ behind
 
 -- a call that answers nothing, or a frame with this subtype
@@ -283,7 +283,7 @@ abbrev after_frame : ℕ → ℕ → List ℕ → ℕ → ℕ → List ℕ
 after_frame m n before now k = if (m == n) && (k == 1) then before ++ now ∷ [] else before
 
 abbrev after_transmit : ℕ → ℕ → ℕ → List ℕ → Option (List ℕ) → List ℕ
-after_transmit m n now before answer = after n now (Transmit m) (reply.Transmit (Ok answer)) before
+after_transmit m n now before answer = sends_after n now (Transmit m) (reply.Transmit (Ok answer)) before
 
 first_kind : (m n now : ℕ) (before : List ℕ) → after_frame m n before now 1 ≡ (if m == n then before ++ now ∷ [] else before)
 first_kind m n now before = with_true (m == n)
@@ -299,7 +299,7 @@ other_kind m n now before = with_false (m == n)
     with_false true = refl
     with_false false = refl
 
-good_marker : (m n now : ℕ) (before : List ℕ) (o : Option ℕ) (number : ℕ) (mac : List ℕ) (old : State) (answer : Option (List ℕ)) (new : State) → SendsMarkerOf o number mac old answer new
+good_marker : (m n now : ℕ) (before : List ℕ) (o : Option ℕ) (number : ℕ) (mac : List ℕ) (old : SystemState) (answer : Option (List ℕ)) (new : SystemState) → SendsMarkerOf o number mac old answer new
     → GoodIn n now before old.slots → GoodIn n now (after_transmit m n now before answer) new.slots
 good_marker m n now before None number mac old answer new h g =
     subst (λ a. GoodIn n now (after_transmit m n now before a) new.slots) (sym h.0) (good_same n now before old new (same_slots old new h.1) g)
@@ -307,9 +307,9 @@ good_marker m n now before (Some id) number mac old answer new h g =
     let kind : subtype (frame_octets mac h.0) ≡ 2 = subtype_of mac h.0 2 h.1 h.2.table.stands.0 in
     let none : after_transmit m n now before (Some (frame_octets mac h.0)) ≡ before = ap (after_frame m n before now) kind ∙ other_kind m n now before in
     subst (λ a. GoodIn n now (after_transmit m n now before a) new.slots) (sym h.3)
-    (subst (λ sends. GoodIn n now sends new.slots) (sym none) (good_same n now before old new (ap (λ (x : State). x.slots) h.5) g))
+    (subst (λ sends. GoodIn n now sends new.slots) (sym none) (good_same n now before old new (ap (λ (x : SystemState). x.slots) h.5) g))
 
-good_where : (m n now : ℕ) (before : List ℕ) (up due : Bool) (i : ℕ) (slot : Slot) (old : State) (answer : Option (List ℕ)) (new : State)
+good_where : (m n now : ℕ) (before : List ℕ) (up due : Bool) (i : ℕ) (slot : SystemPort) (old : SystemState) (answer : Option (List ℕ)) (new : SystemState)
     → is_due slot.port ≡ due → place_of m old.slots ≡ Some i → slice_get old.slots i ≡ Some slot → SendsWhere up due i slot old answer new
     → GoodIn n now before old.slots → GoodIn n now (after_transmit m n now before answer) new.slots
 good_where m n now before false due i slot old answer new d at e h g =
@@ -319,12 +319,12 @@ good_where m n now before true true i slot old answer new d at e h g =
     let payload = h.1.0 in
     let kind : subtype h.0 ≡ 1 = ap subtype h.1.3 ∙ subtype_of slot.mac payload 1 h.1.1 h.1.2.table.stands.0 in
     let one : after_transmit m n now before (Some h.0) ≡ (if m == n then before ++ now ∷ [] else before) = ap (after_frame m n before now) kind ∙ first_kind m n now before in
-    let set : new.slots ≡ slice_set old.slots i (record slot { port = sent slot.port }) = ap (λ (x : State). x.slots) h.3 in
+    let set : new.slots ≡ slice_set old.slots i (record slot { port = sent slot.port }) = ap (λ (x : SystemState). x.slots) h.3 in
     let sent_on = good_sent m n now before (m == n) old.slots i slot (record slot { port = sent slot.port }) refl at e refl (good_sends now before slot.port d) g in
     subst (λ a. GoodIn n now (after_transmit m n now before a) new.slots) (sym h.2)
     (subst (λ sends. GoodIn n now sends new.slots) (sym one) (subst (GoodIn n now (if m == n then before ++ now ∷ [] else before)) (sym set) sent_on))
 
-good_transmit : (m n now : ℕ) (before : List ℕ) (o : Option ℕ) (old : State) (answer : Option (List ℕ)) (new : State) → place_of m old.slots ≡ o → SendsAt o old answer new
+good_transmit : (m n now : ℕ) (before : List ℕ) (o : Option ℕ) (old : SystemState) (answer : Option (List ℕ)) (new : SystemState) → place_of m old.slots ≡ o → SendsAt o old answer new
     → GoodIn n now before old.slots → GoodIn n now (after_transmit m n now before answer) new.slots
 good_transmit m n now before None old answer new at h g = absurd h
 good_transmit m n now before (Some i) old answer new at h g = good_where m n now before h.0.port.enabled (is_due h.0.port) i h.0 old answer new refl at h.1 h.2 g
@@ -339,7 +339,7 @@ ages_kept Q = record {
   select = λ agg p g. g;
   link = λ up p q d g. subst Q (sym (settles-same (record p { enabled = up }) q d)) g;
   take = λ v p q d g. subst Q (sym (taking-ages v p q d)) g;
-  party = λ change p q d g. subst Q (sym (starts-ages (record p { party = changed change p.party }) q d.1)) g;
+  party = λ change p q d g. subst Q (sym (starts-ages (record p { party = changed_party change p.party }) q d.1)) g;
 }
 
 abbrev IsEmpty : Machines → Type 0
@@ -351,7 +351,7 @@ empty_kept = ages_kept (λ ages. ages ≡ [])
 empty_start : (s : Setup) (p : Machines) → Starts (blank s) p → IsEmpty p
 empty_start s p h = starts-ages (blank s) p h
 
-empty_new : (n : ℕ) (system : SystemId) (ports : List PortConfig) (slots : List Slot) → AllZip (IsNew system) ports slots → In IsEmpty Unit n slots
+empty_new : (n : ℕ) (system : SystemId) (ports : List PortConfig) (slots : List SystemPort) → AllZip (IsNew system) ports slots → In IsEmpty Unit n slots
 empty_new n system [] [] h = tt
 empty_new n system [] (s ∷ ss) h = absurd h
 empty_new n system (c ∷ cs) [] h = absurd h
@@ -363,37 +363,37 @@ empty_new n system (c ∷ cs) (s ∷ ss) h =
     at_unit None = tt
     at_unit (Some p) = tt
 
-empty_first : (n : ℕ) (s : State) → IsFirst s → In IsEmpty Unit n s.slots
+empty_first : (n : ℕ) (s : SystemState) → IsFirst s → In IsEmpty Unit n s.slots
 empty_first n s h = in_settling IsEmpty Unit n empty_kept (with_slots s h.0) s h.2 (empty_new n s.system s.ports h.0 h.1)
 
-since_empty : (o : Option Machines) → At IsEmpty Unit o → KeptSince 0 o
+since_empty : (o : Option Machines) → At IsEmpty Unit o → AgesSince 0 o
 since_empty None h = tt
 since_empty (Some p) h = subst (λ ages. AllByRecursion (λ a. a ≤ 0) ages) (sym h) tt
 
-three_empty : (o : Option Machines) → At IsEmpty Unit o → KeepsThree o
+three_empty : (o : Option Machines) → At IsEmpty Unit o → AtMostThreeAges o
 three_empty None h = tt
 three_empty (Some p) h = subst (λ ages. length ages ≤ 3) (sym h) (omega arith)
 
-good_few : (now : ℕ) (o : Option Machines) → KeptSince now o → KeepsThree o → GoodAt now (kept_sends now o) o
+good_few : (now : ℕ) (o : Option Machines) → AgesSince now o → AtMostThreeAges o → GoodAt now (remembered_sends now o) o
 good_few now None h k = none_sent
 good_few now (Some p) h k = good_ages now p h k
 
-none_kept : (o : Option Machines) → At IsEmpty Unit o → kept_sends 0 o ≡ []
+none_kept : (o : Option Machines) → At IsEmpty Unit o → remembered_sends 0 o ≡ []
 none_kept None h = refl
 none_kept (Some p) h = ap (sent_before 0) h
 
-good_first : (n : ℕ) (s : State) → IsFirst s → GoodIn n 0 [] s.slots
+good_first : (n : ℕ) (s : SystemState) → IsFirst s → GoodIn n 0 [] s.slots
 good_first n s h =
     let o = port_in (find (is_numbered n) s.slots) in
     let e = empty_first n s h in subst (λ before. GoodAt 0 before o) (none_kept o e) (good_few 0 o (since_empty o e) (three_empty o e))
 
 -- runs
 
-good_step : (gives : ℕ → ℕ → ℕ → Type 0) (n now : ℕ) (before : List ℕ) (old : State) (call : Call) (answer : Reply) (new : State) → Step gives old call answer new
-    → GoodIn n now before old.slots → GoodIn n (later call now) (after n now call answer before) new.slots
+good_step : (gives : ℕ → ℕ → ℕ → Type 0) (n now : ℕ) (before : List ℕ) (old : SystemState) (call : Call) (answer : Reply) (new : SystemState) → Step gives old call answer new
+    → GoodIn n now before old.slots → GoodIn n (tick_after call now) (sends_after n now call answer before) new.slots
 good_step gives n now before old Tick reply.Tick new h g =
     good_settling n (now + 1) before h.0 new h.2
-    (in_each (λ p. Good now p before) (λ p. Good (now + 1) p before) (KeepsWindow before) (λ p q. Settles receive_rows (count_down p) q) n (λ p q d. good_call now port.Tick p q before d) old.slots h.0.slots h.1.0 g)
+    (in_each (λ p. Good now p before) (λ p. Good (now + 1) p before) (KeepsWindow before) (λ p q. RunsToRest receive_rows (count_down p) q) n (λ p q d. good_call now port.Tick p q before d) old.slots h.0.slots h.1.0 g)
 good_step gives n now before old Restart reply.Restart new h g = good_first n new h.1
 good_step gives n now before old (Transmit m) (reply.Transmit (Ok answer)) new h g = good_transmit m n now before (place_of m old.slots) old answer new refl h g
 good_step gives n now before old (Transmit m) (reply.Transmit (Err fault)) new h g = good_same n now before old new (same_slots old new h.same) g
@@ -406,28 +406,28 @@ good_step gives n now before old (Move_conversation agg conv to) answer new h g 
 good_step gives n now before old (Force agg conv) answer new h g = in_step (λ p. Good now p before) (KeepsWindow before) n (good_kept now before) gives old (Force agg conv) answer new tt h g
 good_step gives n now before old call answer new h g = absurd h
 
-good_run : (gives : ℕ → ℕ → ℕ → Type 0) (n now : ℕ) (before : List ℕ) (old new : State) (calls : List Call) (replies : List Reply) → Run gives old calls replies new
+good_run : (gives : ℕ → ℕ → ℕ → Type 0) (n now : ℕ) (before : List ℕ) (old new : SystemState) (calls : List Call) (replies : List Reply) → TableRun gives old calls replies new
     → GoodIn n now before old.slots → StaysWindowed n now before calls replies
 good_run gives n now before old new [] [] h g = good_end now before (port_in (find (is_numbered n) old.slots)) g
 good_run gives n now before old new [] (r ∷ rs) h g = absurd h
 good_run gives n now before old new (c ∷ cs) [] h g = absurd h
 good_run gives n now before old new (c ∷ cs) (r ∷ rs) h g =
-    (good_end now before (port_in (find (is_numbered n) old.slots)) g, good_run gives n (later c now) (after n now c r before) h.0 new cs rs h.2 (good_step gives n now before old c r h.0 h.1 g))
+    (good_end now before (port_in (find (is_numbered n) old.slots)) g, good_run gives n (tick_after c now) (sends_after n now c r before) h.0 new cs rs h.2 (good_step gives n now before old c r h.0 h.1 g))
 
-pub window_law : (gives : ℕ → ℕ → ℕ → Type 0) → WindowLaw gives
+pub window_law : (gives : ℕ → ℕ → ℕ → Type 0) → SystemWindowLaw gives
 window_law gives old new calls replies three run n now since =
-    let o = port_of n old in
+    let o = machines_of n old in
     let g = good_few now o since (three n) in
-    good_run gives n now (kept_sends now o) old new calls replies run (subst (λ x. GoodAt now (kept_sends now o) (port_in x)) (found n old.slots) g)
+    good_run gives n now (remembered_sends now o) old new calls replies run (subst (λ x. GoodAt now (remembered_sends now o) (port_in x)) (found n old.slots) g)
 
 pub window_from_start : (gives : ℕ → ℕ → ℕ → Type 0) → WindowFromStart gives
 window_from_start gives n old new calls replies first run = good_run gives n 0 [] old new calls replies run (good_first n old first)
 
-empty_of : (n : ℕ) (s : State) → IsFirst s → At IsEmpty Unit (port_of n s)
+empty_of : (n : ℕ) (s : SystemState) → IsFirst s → At IsEmpty Unit (machines_of n s)
 empty_of n s h = subst (λ x. At IsEmpty Unit (port_in x)) (sym (found n s.slots)) (empty_first n s h)
 
 pub starts_empty : StartsEmpty
-starts_empty n s h = let e = empty_of n s h in (since_empty (port_of n s) e, none_kept (port_of n s) e)
+starts_empty n s h = let e = empty_of n s h in (since_empty (machines_of n s) e, none_kept (machines_of n s) e)
 
 -- each port keeps at most three ages
 
@@ -442,7 +442,7 @@ aged_few : (ages : List ℕ) → length (aged ages) ≤ length ages
 aged_few [] = omega arith
 aged_few (a ∷ more) = omega (arith, aged_first (nat_lt (a + 1) 11) (a + 1) (length more) (aged more) (aged_few more))
 
-tick_few : (p q : Machines) → Settles receive_rows (count_down p) q → IsFew p → IsFew q
+tick_few : (p q : Machines) → RunsToRest receive_rows (count_down p) q → IsFew p → IsFew q
 tick_few p q d h = subst (λ ages. length ages ≤ 3) (sym (settles-same (count_down p) q d)) (omega (arith, aged_few p.ages, h))
 
 sent_few : (p : Machines) → is_due p ≡ true → IsFew (sent p)
@@ -451,25 +451,25 @@ sent_few p due =
     let few : length p.ages < 3 = grind (arith, nat_tests) in
     omega (arith, few, length-append p.ages (0 ∷ []))
 
-abbrev FewIn : ℕ → List Slot → Type 0
+abbrev FewIn : ℕ → List SystemPort → Type 0
 FewIn n slots = In IsFew Unit n slots
 
-few_same : (n : ℕ) (old new : State) → new.slots ≡ old.slots → FewIn n old.slots → FewIn n new.slots
+few_same : (n : ℕ) (old new : SystemState) → new.slots ≡ old.slots → FewIn n old.slots → FewIn n new.slots
 few_same n old new e g = in_same IsFew Unit n old new e g
 
-few_marker : (n : ℕ) (o : Option ℕ) (number : ℕ) (mac : List ℕ) (old : State) (answer : Option (List ℕ)) (new : State) → SendsMarkerOf o number mac old answer new → FewIn n old.slots → FewIn n new.slots
+few_marker : (n : ℕ) (o : Option ℕ) (number : ℕ) (mac : List ℕ) (old : SystemState) (answer : Option (List ℕ)) (new : SystemState) → SendsMarkerOf o number mac old answer new → FewIn n old.slots → FewIn n new.slots
 few_marker n None number mac old answer new h g = few_same n old new (same_slots old new h.1) g
-few_marker n (Some id) number mac old answer new h g = few_same n old new (ap (λ (x : State). x.slots) h.5) g
+few_marker n (Some id) number mac old answer new h g = few_same n old new (ap (λ (x : SystemState). x.slots) h.5) g
 
-few_where : (n : ℕ) (up due : Bool) (i : ℕ) (slot : Slot) (old : State) (answer : Option (List ℕ)) (new : State) → is_due slot.port ≡ due → slice_get old.slots i ≡ Some slot → SendsWhere up due i slot old answer new
+few_where : (n : ℕ) (up due : Bool) (i : ℕ) (slot : SystemPort) (old : SystemState) (answer : Option (List ℕ)) (new : SystemState) → is_due slot.port ≡ due → slice_get old.slots i ≡ Some slot → SendsWhere up due i slot old answer new
     → FewIn n old.slots → FewIn n new.slots
 few_where n false due i slot old answer new d e h g = few_same n old new (same_slots old new h.1) g
 few_where n true false i slot old answer new d e h g = few_marker n (marker_due old.table slot.number) slot.number slot.mac old answer new h g
 few_where n true true i slot old answer new d e h g =
-    let set : new.slots ≡ slice_set old.slots i (record slot { port = sent slot.port }) = ap (λ (x : State). x.slots) h.3 in
+    let set : new.slots ≡ slice_set old.slots i (record slot { port = sent slot.port }) = ap (λ (x : SystemState). x.slots) h.3 in
     subst (FewIn n) (sym set) (in_set IsFew Unit n old.slots i slot (record slot { port = sent slot.port }) e refl (λ _. sent_few slot.port d) g)
 
-few_transmit : (n : ℕ) (o : Option ℕ) (old : State) (answer : Option (List ℕ)) (new : State) → SendsAt o old answer new → FewIn n old.slots → FewIn n new.slots
+few_transmit : (n : ℕ) (o : Option ℕ) (old : SystemState) (answer : Option (List ℕ)) (new : SystemState) → SendsAt o old answer new → FewIn n old.slots → FewIn n new.slots
 few_transmit n None old answer new h g = absurd h
 few_transmit n (Some i) old answer new h g = few_where n h.0.port.enabled (is_due h.0.port) i h.0 old answer new refl h.1 h.2 g
 
@@ -480,8 +480,8 @@ at_few (Some p) h = subst (λ ages. length ages ≤ 3) (sym h) (omega arith)
 few_kept : IsKept IsFew
 few_kept = ages_kept (λ ages. length ages ≤ 3)
 
-few_step : (n : ℕ) (gives : ℕ → ℕ → ℕ → Type 0) (old : State) (call : Call) (answer : Reply) (new : State) → Step gives old call answer new → FewIn n old.slots → FewIn n new.slots
-few_step n gives old Tick reply.Tick new h g = in_settling IsFew Unit n few_kept h.0 new h.2 (in_each IsFew IsFew Unit (λ p q. Settles receive_rows (count_down p) q) n tick_few old.slots h.0.slots h.1.0 g)
+few_step : (n : ℕ) (gives : ℕ → ℕ → ℕ → Type 0) (old : SystemState) (call : Call) (answer : Reply) (new : SystemState) → Step gives old call answer new → FewIn n old.slots → FewIn n new.slots
+few_step n gives old Tick reply.Tick new h g = in_settling IsFew Unit n few_kept h.0 new h.2 (in_each IsFew IsFew Unit (λ p q. RunsToRest receive_rows (count_down p) q) n tick_few old.slots h.0.slots h.1.0 g)
 few_step n gives old Restart reply.Restart new h g = at_few (port_in (find (is_numbered n) new.slots)) (empty_first n new h.1)
 few_step n gives old (Transmit m) (reply.Transmit (Ok answer)) new h g = few_transmit n (place_of m old.slots) old answer new h g
 few_step n gives old (Transmit m) (reply.Transmit (Err fault)) new h g = few_same n old new (same_slots old new h.same) g
@@ -493,18 +493,18 @@ few_step n gives old (Move_conversation agg conv to) answer new h g = in_step Is
 few_step n gives old (Force agg conv) answer new h g = in_step IsFew Unit n few_kept gives old (Force agg conv) answer new tt h g
 few_step n gives old call answer new h g = absurd h
 
-three_from : (o : Option Machines) → At IsFew Unit o → KeepsThree o
+three_from : (o : Option Machines) → At IsFew Unit o → AtMostThreeAges o
 three_from None h = tt
 three_from (Some p) h = h
 
-few_from : (o : Option Machines) → KeepsThree o → At IsFew Unit o
+few_from : (o : Option Machines) → AtMostThreeAges o → At IsFew Unit o
 few_from None h = tt
 few_from (Some p) h = h
 
-pub first_three : (s : State) → IsFirst s → KeepThree s
-first_three s h n = three_empty (port_of n s) (empty_of n s h)
+pub first_three : (s : SystemState) → IsFirst s → EachAtMostThreeAges s
+first_three s h n = three_empty (machines_of n s) (empty_of n s h)
 
-pub Step-three : (gives : ℕ → ℕ → ℕ → Type 0) (old : State) (call : Call) (answer : Reply) (new : State) → Step gives old call answer new → KeepThree old → KeepThree new
+pub Step-three : (gives : ℕ → ℕ → ℕ → Type 0) (old : SystemState) (call : Call) (answer : Reply) (new : SystemState) → Step gives old call answer new → EachAtMostThreeAges old → EachAtMostThreeAges new
 Step-three gives old call answer new h three n =
-    let before : FewIn n old.slots = subst (λ x. At IsFew Unit (port_in x)) (found n old.slots) (few_from (port_of n old) (three n)) in
-    three_from (port_of n new) (subst (λ x. At IsFew Unit (port_in x)) (sym (found n new.slots)) (few_step n gives old call answer new h before))
+    let before : FewIn n old.slots = subst (λ x. At IsFew Unit (port_in x)) (found n old.slots) (few_from (machines_of n old) (three n)) in
+    three_from (machines_of n new) (subst (λ x. At IsFew Unit (port_in x)) (sym (found n new.slots)) (few_step n gives old call answer new h before))

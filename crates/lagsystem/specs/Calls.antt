@@ -20,25 +20,25 @@ use Rattle.distributor.specs.Conversations.{Table, how_many}
 use Rattle.portmachines.specs.Machines.{Machines}
 use Rattle.lagtypes.specs.Same.{same_party}
 use Rattle.portmachines.specs.Receive.{receive_rows, taking_rows}
-use Rattle.portmachines.specs.Rows.{Settles, FiresIfEnabled}
+use Rattle.portmachines.specs.Rows.{RunsToRest, FiresIfEnabled}
 use Rattle.portmachines.specs.Start.{Starts}
 use Rattle.portmachines.specs.Transmit.{count_down}
-use Rattle.lagsystem.specs.declared.answers.Heard.{Heard}
-use Rattle.lagsystem.specs.declared.answers.Heard.TheVariants.{Taken, Response, Answered}
-use Rattle.lagsystem.specs.declared.answers.Received.{Received}
-use Rattle.lagsystem.specs.declared.answers.Received.TheVariants.{Disabled, Dropped, Ignored, TookLacpdu, Respond, Released, Up}
+use Rattle.lagsystem.specs.declared.received.FrameEffect.{FrameEffect}
+use Rattle.lagsystem.specs.declared.received.FrameEffect.TheVariants.{Taken, Response, Answered}
+use Rattle.lagsystem.specs.declared.received.Received.{Received}
+use Rattle.lagsystem.specs.declared.received.Received.TheVariants.{Disabled, Dropped, Ignored, TookLacpdu, Respond, Released, Up}
 use Rattle.lagsystem.specs.declared.config.PortChange.{PortChange}
 use Rattle.lagsystem.specs.declared.drive.Reply.{Reply}
 use Rattle.lagsystem.specs.declared.drive.Reply.TheVariants as reply
 use Rattle.lagsystem.specs.declared.fault.SystemFault.{SystemFault}
 use Rattle.lagsystem.specs.declared.fault.SystemFault.TheVariants.{NoPort}
-use Rattle.lagsystem.specs.declared.slots.Slot.{Slot}
+use Rattle.lagsystem.specs.declared.slots.SystemPort.{SystemPort}
 use Rattle.lagsystem.specs.First.{IsFirst}
 use Rattle.lagsystem.specs.Readers.{collecting}
 use Rattle.lagsystem.specs.Offers.{Becomes, Offers, force_answer, move_answer}
 use Rattle.lagsystem.specs.Sending.{SendsAt}
-use Rattle.lagsystem.specs.Settling.{AllMove, Settling}
-use Rattle.lagsystem.specs.State.{State, with_slots, with_table, place_of, slot_at}
+use Rattle.lagsystem.specs.Settling.{PortsGo, Settling}
+use Rattle.lagsystem.specs.State.{SystemState, with_slots, with_table, place_of, slot_at}
 
 -- the calls, with their arguments
 pub data Call : Type 0 where
@@ -53,74 +53,74 @@ pub data Call : Type 0 where
   Force : (agg : AggId) (conv : ℕ) → Call
 
 -- in the list, the machines of the port at this index change by the relation, and the other ports stay
-abbrev pub OnPlace : (Machines → Machines → Type 0) → Option ℕ → List Slot → List Slot → Type 0
-OnPlace R None old new = ⊥
-OnPlace R (Some i) old new =
-    (slot : Slot) × (port : Machines) × (slice_get old i ≡ Some slot) × R slot.port port
+abbrev pub PortAtGoes : (Machines → Machines → Type 0) → Option ℕ → List SystemPort → List SystemPort → Type 0
+PortAtGoes R None old new = ⊥
+PortAtGoes R (Some i) old new =
+    (slot : SystemPort) × (port : Machines) × (slice_get old i ≡ Some slot) × R slot.port port
     × (new ≡ slice_set old i (record slot { port = port }))
 
 -- the machines of the port at this index change by the relation, and nothing else changes
-abbrev pub OnPort : Option ℕ → (Machines → Machines → Type 0) → State → State → Type 0
-OnPort place R old new = OnPlace R place old.slots new.slots × (new ≡ with_slots old new.slots)
+abbrev pub OnPort : Option ℕ → (Machines → Machines → Type 0) → SystemState → SystemState → Type 0
+OnPort place R old new = PortAtGoes R place old.slots new.slots × (new ≡ with_slots old new.slots)
 
 -- there is a port at this index, and the predicate holds of its machines
-abbrev pub IsAtPlace : (Machines → Type 0) → Option ℕ → List Slot → Type 0
+abbrev pub IsAtPlace : (Machines → Type 0) → Option ℕ → List SystemPort → Type 0
 IsAtPlace P None slots = ⊥
-IsAtPlace P (Some i) slots = (slot : Slot) × (slice_get slots i ≡ Some slot) × P slot.port
+IsAtPlace P (Some i) slots = (slot : SystemPort) × (slice_get slots i ≡ Some slot) × P slot.port
 
 -- nothing changes
-abbrev pub Stays : State → State → Type 0
-Stays old new = new ≡ old
+abbrev pub Unchanged : SystemState → SystemState → Type 0
+Unchanged old new = new ≡ old
 
 -- there is no such port: the call is refused with NoPort, and nothing changes
-pub record Refuses (place : Option ℕ) (fault : SystemFault) (old new : State) : Type 0 where
+pub record Refuses (place : Option ℕ) (fault : SystemFault) (old new : SystemState) : Type 0 where
   pub cause : place ≡ None
   pub named : fault ≡ NoPort
-  pub same : Stays old new
+  pub same : Unchanged old new
 
 -- the call's own effect, followed by one settling
-abbrev pub Settled : (State → State → Type 0) → State → State → Type 0
-Settled own old new = (mid : State) × own old mid × Settling mid new
+abbrev pub Settled : (SystemState → SystemState → Type 0) → SystemState → SystemState → Type 0
+Settled own old new = (mid : SystemState) × own old mid × Settling mid new
 
 -- a tick: each port counts down, then changes its receive state if current_while expired; then each conversation that
 -- waits for a response counts one tick more
-abbrev pub AllTick : State → State → Type 0
+abbrev pub AllTick : SystemState → SystemState → Type 0
 AllTick old new =
-    AllMove (λ p q. Settles receive_rows (count_down p) q) old.slots new.slots
+    PortsGo (λ p q. RunsToRest receive_rows (count_down p) q) old.slots new.slots
     × Changes old.table new.table after_tick
     × (new ≡ with_table (with_slots old new.slots) new.table)
 
 -- the receive machine of a port whose link is up or down now runs
 abbrev pub ChangesLink : Bool → Machines → Machines → Type 0
-ChangesLink up p q = Settles receive_rows (record p { enabled = up }) q
+ChangesLink up p q = RunsToRest receive_rows (record p { enabled = up }) q
 
 -- if the link is down, every conversation of the port with this number becomes free
-abbrev pub Frees : Bool → ℕ → Table → Table → Type 0
-Frees true port old new = new ≡ old
-Frees false port old new = Changes old new (after_down port)
+abbrev pub FreesIfDown : Bool → ℕ → Table → Table → Type 0
+FreesIfDown true port old new = new ≡ old
+FreesIfDown false port old new = Changes old new (after_down port)
 
 -- port_enabled of the port with this number is set
-abbrev pub LinksPort : ℕ → Bool → State → State → Type 0
+abbrev pub LinksPort : ℕ → Bool → SystemState → SystemState → Type 0
 LinksPort n up old new =
-    OnPlace (ChangesLink up) (place_of n old.slots) old.slots new.slots
-    × Frees up n old.table new.table
+    PortAtGoes (ChangesLink up) (place_of n old.slots) old.slots new.slots
+    × FreesIfDown up n old.table new.table
     × (new ≡ with_table (with_slots old new.slots) new.table)
 
 -- the row of the receive machine for an LACPDU
-abbrev pub Takes : Lacpdu → Machines → Machines → Type 0
-Takes pdu p q = FiresIfEnabled (taking_rows pdu) p q
+abbrev pub TakesLacpdu : Lacpdu → Machines → Machines → Type 0
+TakesLacpdu pdu p q = FiresIfEnabled (taking_rows pdu) p q
 
 -- the parameters of the port with the values of the change
-abbrev pub changed : PortChange → Party → Party
-changed c party = record party { key = c.key; port = record party.port { priority = c.priority }; aggregatable = c.aggregatable }
+abbrev pub changed_party : PortChange → Party → Party
+changed_party c party = record party { key = c.key; port = record party.port { priority = c.priority }; aggregatable = c.aggregatable }
 
 -- some value of the change differs from the port's
 abbrev pub differs : PortChange → Machines → Type 0
-differs c p = IsFalse (same_party (changed c p.party) p.party)
+differs c p = IsFalse (same_party (changed_party c p.party) p.party)
 
 -- the port gets the values of the change, and its receive and mux machines start again
 abbrev pub ChangesParty : PortChange → Machines → Machines → Type 0
-ChangesParty c p q = differs c p × Starts (record p { party = changed c p.party }) q
+ChangesParty c p q = differs c p × Starts (record p { party = changed_party c p.party }) q
 
 -- the kinds of received frames
 pub data Frame : Type 0 where
@@ -146,72 +146,72 @@ handed None = Dropped
 handed (Some agg) = Up agg
 
 -- a Marker PDU is answered by a response from this MAC address; a Marker Response asks for a release
-abbrev pub AnswersMarker : List ℕ → Marker → Option Marker → Heard → Type 0
+abbrev pub AnswersMarker : List ℕ → Marker → Option Marker → FrameEffect → Type 0
 AnswersMarker mac m None heard = heard ≡ Response m
 AnswersMarker mac m (Some answer) heard = (payload : List ℕ) × IsAddress mac × WritesMarker payload answer
     × (heard ≡ Answered (Respond (frame_octets mac payload)))
 
 -- what a frame asks for on a port whose link is up
-abbrev pub Makes : Slot → Frame → Heard → Type 0
-Makes slot Runt heard = heard ≡ Answered Dropped
-Makes slot Data_frame heard = heard ≡ Answered (handed (collecting slot.port))
-Makes slot (Faulty fault) heard = heard ≡ Answered (Ignored fault)
-Makes slot (Carries (pdu.Lacpdu v)) heard = heard ≡ Taken v
-Makes slot (Carries (pdu.Marker m)) heard = AnswersMarker slot.mac m (response_to m) heard
+abbrev pub GivesEffect : SystemPort → Frame → FrameEffect → Type 0
+GivesEffect slot Runt heard = heard ≡ Answered Dropped
+GivesEffect slot Data_frame heard = heard ≡ Answered (handed (collecting slot.port))
+GivesEffect slot (Faulty fault) heard = heard ≡ Answered (Ignored fault)
+GivesEffect slot (Carries (pdu.Lacpdu v)) heard = heard ≡ Taken v
+GivesEffect slot (Carries (pdu.Marker m)) heard = AnswersMarker slot.mac m (response_to m) heard
 
 -- what the payload of a control frame asks for on a port whose link is up
-abbrev pub HearsPayload : Slot → List ℕ → Heard → Type 0
-HearsPayload slot payload heard =
-    ((fault : WireFault) × (fault_of payload ≡ Some fault) × Makes slot (Faulty fault) heard)
-    ⊎ ((v : Pdu) × ReadsPdu payload v × Makes slot (Carries v) heard)
+abbrev pub ParsesPayload : SystemPort → List ℕ → FrameEffect → Type 0
+ParsesPayload slot payload heard =
+    ((fault : WireFault) × (fault_of payload ≡ Some fault) × GivesEffect slot (Faulty fault) heard)
+    ⊎ ((v : Pdu) × ReadsPdu payload v × GivesEffect slot (Carries v) heard)
 
 -- what received octets ask for: nothing while the link is down, else what their frame asks for
-abbrev pub HearsWhere : Bool → Slot → List ℕ → Heard → Type 0
-HearsWhere false slot octets heard = heard ≡ Answered Disabled
-HearsWhere true slot octets heard = (frame : Frame) × IsFrame octets frame × Makes slot frame heard
+abbrev pub ParsesWhere : Bool → SystemPort → List ℕ → FrameEffect → Type 0
+ParsesWhere false slot octets heard = heard ≡ Answered Disabled
+ParsesWhere true slot octets heard = (frame : Frame) × IsFrame octets frame × GivesEffect slot frame heard
 
-abbrev pub Hears : Slot → List ℕ → Heard → Type 0
-Hears slot octets heard = HearsWhere slot.port.enabled slot octets heard
+abbrev pub ParsesFrame : SystemPort → List ℕ → FrameEffect → Type 0
+ParsesFrame slot octets heard = ParsesWhere slot.port.enabled slot octets heard
 
 -- the response names this system and the port on which it came
-abbrev pub is_for : State → ℕ → Marker → Bool
+abbrev pub is_for : SystemState → ℕ → Marker → Bool
 is_for s port m = (m.port == port) && bytes_eq m.system s.system.mac
 
 -- a response frees the conversations of this port that wait for it, if it names this system and port; else it frees
 -- none
-abbrev pub Releases : Bool → ℕ → Marker → State → Received → State → Type 0
-Releases false port m old reply new = (reply ≡ Released 0) × Stays old new
+abbrev pub Releases : Bool → ℕ → Marker → SystemState → Received → SystemState → Type 0
+Releases false port m old reply new = (reply ≡ Released 0) × Unchanged old new
 Releases true port m old reply new =
     (reply ≡ Released (how_many (waits_for port m.id) old.table))
     × Changes old.table new.table (after_release port m.id)
     × (new ≡ with_table old new.table)
 
 -- what was asked for is done: an LACPDU is processed, a response releases conversations, and nothing else has an effect
-abbrev pub Does : Heard → ℕ → Option ℕ → State → Received → State → Type 0
-Does (Taken v) port place old reply new = (reply ≡ TookLacpdu) × Settled (OnPort place (Takes v)) old new
-Does (Response m) port place old reply new = Releases (is_for old port m) port m old reply new
-Does (Answered answer) port place old reply new = (reply ≡ answer) × Stays old new
+abbrev pub Performs : FrameEffect → ℕ → Option ℕ → SystemState → Received → SystemState → Type 0
+Performs (Taken v) port place old reply new = (reply ≡ TookLacpdu) × Settled (OnPort place (TakesLacpdu v)) old new
+Performs (Response m) port place old reply new = Releases (is_for old port m) port m old reply new
+Performs (Answered answer) port place old reply new = (reply ≡ answer) × Unchanged old new
 
 -- these octets are received on the port at this index
-abbrev pub ReceivesAt : Option ℕ → List ℕ → State → Received → State → Type 0
+abbrev pub ReceivesAt : Option ℕ → List ℕ → SystemState → Received → SystemState → Type 0
 ReceivesAt place octets old reply new =
-    (slot : Slot) × (heard : Heard) × (slot_at place old.slots ≡ Some slot) × Hears slot octets heard
-    × Does heard slot.number place old reply new
+    (slot : SystemPort) × (heard : FrameEffect) × (slot_at place old.slots ≡ Some slot) × ParsesFrame slot octets heard
+    × Performs heard slot.number place old reply new
 
 -- the port at this index has the values of the change already
-abbrev pub HasAlready : Option ℕ → PortChange → State → Type 0
-HasAlready place change s = IsAtPlace (λ p. same_party (changed change p.party) p.party ≡ true) place s.slots
+abbrev pub AlreadyConfigured : Option ℕ → PortChange → SystemState → Type 0
+AlreadyConfigured place change s = IsAtPlace (λ p. same_party (changed_party change p.party) p.party ≡ true) place s.slots
 
 -- In the state old, the call may have this reply and lead to the state new, if the algorithm may return the indices
 -- that the first argument allows.
-abbrev pub Step : (ℕ → ℕ → ℕ → Type 0) → State → Call → Reply → State → Type 0
+abbrev pub Step : (ℕ → ℕ → ℕ → Type 0) → SystemState → Call → Reply → SystemState → Type 0
 Step gives old Tick reply.Tick new = Settled AllTick old new
 Step gives old (Set_link n up) (reply.SetLink (Ok done)) new = Settled (LinksPort n up) old new
 Step gives old (Set_link n up) (reply.SetLink (Err fault)) new = Refuses (place_of n old.slots) fault old new
 Step gives old (Receive n octets) (reply.Receive (Ok answer)) new = ReceivesAt (place_of n old.slots) octets old answer new
 Step gives old (Receive n octets) (reply.Receive (Err fault)) new = Refuses (place_of n old.slots) fault old new
 Step gives old (Configure n change) (reply.Configure (Ok true)) new = Settled (OnPort (place_of n old.slots) (ChangesParty change)) old new
-Step gives old (Configure n change) (reply.Configure (Ok false)) new = HasAlready (place_of n old.slots) change old × Stays old new
+Step gives old (Configure n change) (reply.Configure (Ok false)) new = AlreadyConfigured (place_of n old.slots) change old × Unchanged old new
 Step gives old (Configure n change) (reply.Configure (Err fault)) new = Refuses (place_of n old.slots) fault old new
 Step gives old Restart reply.Restart new = (new ≡ with_table (with_slots old new.slots) new.table) × IsFirst new
 Step gives old (Transmit n) (reply.Transmit (Ok answer)) new = SendsAt (place_of n old.slots) old answer new
@@ -223,8 +223,8 @@ Step gives old (Force agg conv) (reply.Force answer) new = Becomes agg conv (for
 Step gives old call answer new = ⊥
 
 -- these calls, made one after another from the first state, may have these replies and lead to the last state
-abbrev pub Run : (ℕ → ℕ → ℕ → Type 0) → State → List Call → List Reply → State → Type 0
-Run gives old [] [] new = new ≡ old
-Run gives old (call ∷ calls) (answer ∷ answers) new = (mid : State) × Step gives old call answer mid × Run gives mid calls answers new
-Run gives old [] (answer ∷ answers) new = ⊥
-Run gives old (call ∷ calls) [] new = ⊥
+abbrev pub TableRun : (ℕ → ℕ → ℕ → Type 0) → SystemState → List Call → List Reply → SystemState → Type 0
+TableRun gives old [] [] new = new ≡ old
+TableRun gives old (call ∷ calls) (answer ∷ answers) new = (mid : SystemState) × Step gives old call answer mid × TableRun gives mid calls answers new
+TableRun gives old [] (answer ∷ answers) new = ⊥
+TableRun gives old (call ∷ calls) [] new = ⊥

@@ -5,7 +5,7 @@ use Rattle.lagsystem.specs.declared.drive.Call.TheVariants as asked
 use Rattle.lagsystem.specs.declared.drive.Reply.{Reply}
 use Rattle.lagsystem.specs.Calls.{Call, Receive, Tick, Set_link, Configure, Restart, Transmit, Offer, Move_conversation, Force}
 use Rattle.lagsystem.specs.Sound.{Answers}
-use Rattle.lagsystem.specs.State.{State}
+use Rattle.lagsystem.specs.State.{SystemState}
 
 -- an argument of `drive` as a call
 abbrev pub call_of : Asked → Call
@@ -20,9 +20,9 @@ call_of (asked.MoveConversation agg conv port) = Move_conversation agg conv port
 call_of (asked.Force agg conv) = Force agg conv
 
 -- These calls may have these replies, and each call keeps what every call promises.
-abbrev pub Drives : (ℕ → ℕ → ℕ → Type 0) → State → List Call → List Reply → State → Type 0
+abbrev pub Drives : (ℕ → ℕ → ℕ → Type 0) → SystemState → List Call → List Reply → SystemState → Type 0
 Drives gives old [] [] new = new ≡ old
 Drives gives old (call ∷ calls) (answer ∷ answers) new =
-    (mid : State) × Answers gives old call answer mid × Drives gives mid calls answers new
+    (mid : SystemState) × Answers gives old call answer mid × Drives gives mid calls answers new
 Drives gives old [] (answer ∷ answers) new = ⊥
 Drives gives old (call ∷ calls) [] new = ⊥

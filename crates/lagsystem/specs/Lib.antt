@@ -7,10 +7,10 @@ pub mod Readers
 pub mod Offers
 pub mod Sending
 pub mod Calls
-pub mod Shown
+pub mod ModelView
 pub mod Sound
-pub mod Leaving
-pub mod Kept
+pub mod Holding
+pub mod Inner
 pub mod Windows
 pub mod Drives
 pub mod Quiet

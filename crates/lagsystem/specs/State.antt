@@ -5,41 +5,41 @@ use Rattle.lagtypes.specs.declared.identifiers.SystemId.{SystemId}
 use Rattle.portmachines.specs.Machines.{Machines}
 use Rattle.distributor.specs.Conversations.{Table}
 use Rattle.lagsystem.specs.declared.config.PortConfig.{PortConfig}
-use Rattle.lagsystem.specs.declared.slots.Slot.{Slot}
+use Rattle.lagsystem.specs.declared.slots.SystemPort.{SystemPort}
 
 -- the configuration: system identifier, CollectorMaxDelay, first marker identifier, keys of the aggregators, and the
 -- ports as they were configured; then the ports as they are now, in the same order; and the conversations
-pub record State : Type 0 where
+pub record SystemState : Type 0 where
   pub system : SystemId
   pub max_delay : ℕ
   pub first_marker : ℕ
   pub keys : List Key
   pub ports : List PortConfig
-  pub slots : List Slot
+  pub slots : List SystemPort
   pub table : Table
 
 -- what contracts see of a system: its state, and the algorithm that picks the ports of conversations
-pub record Whole (F : Type 0) : Type 0 where
-  pub state : State
+pub record SystemValue (F : Type 0) : Type 0 where
+  pub state : SystemState
   pub algorithm : F
 
-abbrev pub with_slots : State → List Slot → State
+abbrev pub with_slots : SystemState → List SystemPort → SystemState
 with_slots s slots = record s { slots = slots }
 
-abbrev pub with_table : State → Table → State
+abbrev pub with_table : SystemState → Table → SystemState
 with_table s table = record s { table = table }
 
-abbrev pub numbers : List Slot → List ℕ
-numbers slots = map (λ s. s.number) slots
+abbrev pub port_numbers : List SystemPort → List ℕ
+port_numbers slots = map (λ s. s.number) slots
 
 -- the index of the port with this number
-abbrev pub place_of : ℕ → List Slot → Option ℕ
+abbrev pub place_of : ℕ → List SystemPort → Option ℕ
 place_of n slots = position (λ s. s.number == n) slots
 
-abbrev pub slot_at : Option ℕ → List Slot → Option Slot
+abbrev pub slot_at : Option ℕ → List SystemPort → Option SystemPort
 slot_at None slots = None
 slot_at (Some i) slots = slice_get slots i
 
 -- the machines of the port with this number
-abbrev pub port_of : ℕ → State → Option Machines
-port_of n s = option_map (λ x. x.port) (slot_at (place_of n s.slots) s.slots)
+abbrev pub machines_of : ℕ → SystemState → Option Machines
+machines_of n s = option_map (λ x. x.port) (slot_at (place_of n s.slots) s.slots)

@@ -4,11 +4,11 @@ use Rattle.slowpdu.specs.Parties.{party_of}
 use Rattle.portmachines.specs.declared.mux.MuxState.{MuxState}
 use Rattle.portmachines.specs.declared.mux.MuxState.TheVariants.{Detached, Waiting, Attached, CollectingDistributing}
 use Rattle.portmachines.specs.declared.receive.ReceiveState.TheVariants.{Defaulted, Current}
-use Rattle.portmachines.specs.Receive.{is_receive}
+use Rattle.portmachines.specs.Receive.{same_receive_state}
 use Rattle.selection.specs.declared.view.PortView.{PortView}
 use Rattle.selection.specs.declared.view.Stage.{Stage}
 use Rattle.selection.specs.declared.view.Stage.TheVariants as stage
-use Rattle.lagsystem.specs.declared.slots.Slot.{Slot}
+use Rattle.lagsystem.specs.declared.slots.SystemPort.{SystemPort}
 
 abbrev pub stage_of : MuxState → ℕ → Stage
 stage_of Detached wait_while = stage.Detached
@@ -16,17 +16,17 @@ stage_of Waiting wait_while = stage.Waiting (wait_while == 0)
 stage_of Attached wait_while = stage.Joined
 stage_of CollectingDistributing wait_while = stage.Joined
 
-abbrev pub view_of : Slot → PortView
-view_of s =
+abbrev pub selection_view : SystemPort → PortView
+selection_view s =
     record {
       number = s.number;
       party = s.port.party;
       partner = party_of s.port.partner;
       enabled = s.port.enabled;
-      settled = is_receive Current s.port.receive || is_receive Defaulted s.port.receive;
+      settled = same_receive_state Current s.port.receive || same_receive_state Defaulted s.port.receive;
       stage = stage_of s.port.mux s.port.wait_while;
       choice = s.port.choice;
     }
 
-abbrev pub views : List Slot → List PortView
-views slots = map view_of slots
+abbrev pub views : List SystemPort → List PortView
+views slots = map selection_view slots

@@ -3,31 +3,31 @@ use Rattle.std.specs.Prelude.{◌≡◌, ℕ, ◌+◌, ◌≤◌, ◌==◌, ◌&
 use Rattle.std.specs.List.{AllByRecursion}
 use Rattle.portmachines.specs.Machines.{Machines}
 use Rattle.portmachines.specs.Window.{KeepsWindow, sent_before}
-use Rattle.lagsystem.specs.State.{State, port_of}
+use Rattle.lagsystem.specs.State.{SystemState, machines_of}
 use Rattle.lagsystem.specs.First.{IsFirst}
 use Rattle.lagsystem.specs.declared.drive.Reply.{Reply}
 use Rattle.lagsystem.specs.declared.drive.Reply.TheVariants as reply
-use Rattle.lagsystem.specs.Calls.{Call, Tick, Restart, Transmit, Run}
+use Rattle.lagsystem.specs.Calls.{Call, Tick, Restart, Transmit, TableRun}
 
 -- the subtype of the payload of a control frame: 1 in an LACPDU, 2 in a Marker PDU
 abbrev pub subtype : List ℕ → ℕ
 subtype frame = slice_index frame 14
 
 -- the reply to this call is an LACPDU of the port with the number n
-abbrev pub sends : ℕ → Call → Reply → Bool
-sends n (Transmit port) (reply.Transmit (Ok (Some frame))) = (port == n) && (subtype frame == 1)
-sends n call answer = false
+abbrev pub reply_has_lacpdu : ℕ → Call → Reply → Bool
+reply_has_lacpdu n (Transmit port) (reply.Transmit (Ok (Some frame))) = (port == n) && (subtype frame == 1)
+reply_has_lacpdu n call answer = false
 
 -- the number of the current tick after the call, if it is this one before
-abbrev pub later : Call → ℕ → ℕ
-later Tick now = now + 1
-later Restart now = 0
-later call now = now
+abbrev pub tick_after : Call → ℕ → ℕ
+tick_after Tick now = now + 1
+tick_after Restart now = 0
+tick_after call now = now
 
 -- the ticks at which the port sent, after a call at this tick; a restart forgets them
-abbrev pub after : ℕ → ℕ → Call → Reply → List ℕ → List ℕ
-after n now Restart reply before = []
-after n now call reply before = if sends n call reply then before ++ now ∷ [] else before
+abbrev pub sends_after : ℕ → ℕ → Call → Reply → List ℕ → List ℕ
+sends_after n now Restart reply before = []
+sends_after n now call reply before = if reply_has_lacpdu n call reply then before ++ now ∷ [] else before
 
 -- Before each of these calls with these replies, and after the last one, any eleven consecutive ticks since the last
 -- start hold at most three LACPDUs of the port with the number n. The arguments: n, the tick of the first call, and the
@@ -36,43 +36,43 @@ abbrev pub StaysWindowed : ℕ → ℕ → List ℕ → List Call → List Reply
 StaysWindowed n now before [] replies = KeepsWindow before
 StaysWindowed n now before (call ∷ calls) [] = KeepsWindow before
 StaysWindowed n now before (call ∷ calls) (reply ∷ replies) = KeepsWindow before
-    × StaysWindowed n (later call now) (after n now call reply before) calls replies
+    × StaysWindowed n (tick_after call now) (sends_after n now call reply before) calls replies
 
 -- the ticks at which the kept ages of a port were sent, if this is the current tick
-abbrev pub kept_sends : ℕ → Option Machines → List ℕ
-kept_sends now None = []
-kept_sends now (Some p) = sent_before now p.ages
+abbrev pub remembered_sends : ℕ → Option Machines → List ℕ
+remembered_sends now None = []
+remembered_sends now (Some p) = sent_before now p.ages
 
 -- the port keeps no age from before the start, which was this many ticks ago
-abbrev pub KeptSince : ℕ → Option Machines → Type 0
-KeptSince now None = Unit {0}
-KeptSince now (Some p) = AllByRecursion (λ a. a ≤ now) p.ages
+abbrev pub AgesSince : ℕ → Option Machines → Type 0
+AgesSince now None = Unit {0}
+AgesSince now (Some p) = AllByRecursion (λ a. a ≤ now) p.ages
 
 -- the port keeps at most three ages
-abbrev pub KeepsThree : Option Machines → Type 0
-KeepsThree None = Unit {0}
-KeepsThree (Some p) = length p.ages ≤ 3
+abbrev pub AtMostThreeAges : Option Machines → Type 0
+AtMostThreeAges None = Unit {0}
+AtMostThreeAges (Some p) = length p.ages ≤ 3
 
 -- every port keeps at most three ages
-abbrev pub KeepThree : State → Type 0
-KeepThree s = (n : ℕ) → KeepsThree (port_of n s)
+abbrev pub EachAtMostThreeAges : SystemState → Type 0
+EachAtMostThreeAges s = (n : ℕ) → AtMostThreeAges (machines_of n s)
 
 -- each port keeps its transmit limit over these calls with these replies, from this state on
-abbrev pub AreWindowed : State → List Call → List Reply → Type 0
-AreWindowed old calls replies = (n now : ℕ) → KeptSince now (port_of n old)
-    → StaysWindowed n now (kept_sends now (port_of n old)) calls replies
+abbrev pub AreWindowed : SystemState → List Call → List Reply → Type 0
+AreWindowed old calls replies = (n now : ℕ) → AgesSince now (machines_of n old)
+    → StaysWindowed n now (remembered_sends now (machines_of n old)) calls replies
 
 -- every list of calls keeps the limit, whatever indices the algorithm returns
-abbrev pub WindowLaw : (ℕ → ℕ → ℕ → Type 0) → Type 0
-WindowLaw gives = (old new : State) (calls : List Call) (replies : List Reply) → KeepThree old → Run gives old calls replies new
+abbrev pub SystemWindowLaw : (ℕ → ℕ → ℕ → Type 0) → Type 0
+SystemWindowLaw gives = (old new : SystemState) (calls : List Call) (replies : List Reply) → EachAtMostThreeAges old → TableRun gives old calls replies new
     → AreWindowed old calls replies
 
 -- a state that has just started keeps no age
 abbrev pub StartsEmpty : Type 0
-StartsEmpty = (n : ℕ) (s : State) → IsFirst s → KeptSince 0 (port_of n s) × (kept_sends 0 (port_of n s) ≡ [])
+StartsEmpty = (n : ℕ) (s : SystemState) → IsFirst s → AgesSince 0 (machines_of n s) × (remembered_sends 0 (machines_of n s) ≡ [])
 
 -- every list of calls from a start keeps the limit
 abbrev pub WindowFromStart : (ℕ → ℕ → ℕ → Type 0) → Type 0
 WindowFromStart gives =
-    (n : ℕ) (old new : State) (calls : List Call) (replies : List Reply)
-    → IsFirst old → Run gives old calls replies new → StaysWindowed n 0 [] calls replies
+    (n : ℕ) (old new : SystemState) (calls : List Call) (replies : List Reply)
+    → IsFirst old → TableRun gives old calls replies new → StaysWindowed n 0 [] calls replies

@@ -1,16 +1,16 @@
 ghost use Rattle.std.specs.Prelude.{◌≡◌};
-ghost use Rattle.lagsystem.specs.Kept.{state_of};
+ghost use Rattle.lagsystem.specs.Inner.{inner_state};
 
 use crate::calls::System;
-use crate::kept::Core;
+use crate::inner::Inner;
 
-impl<F: Drop> Core<F> {
+impl<F: Drop> Inner<F> {
     /// The same system under another algorithm.
-    fn with_algorithm<G>(self, algorithm: G) -> Core<G>
-        ensures state { state_of result ≡ state_of self }
+    fn with_algorithm<G>(self, algorithm: G) -> Inner<G>
+        ensures state { inner_state result ≡ inner_state self }
         ensures algorithm { result.distributor.algorithm ≡ algorithm }
     {
-        let Core {
+        let Inner {
             system,
             max_delay,
             aggregators,
@@ -18,7 +18,7 @@ impl<F: Drop> Core<F> {
             slots,
             distributor,
         } = self;
-        Core {
+        Inner {
             system,
             max_delay,
             aggregators,
@@ -36,9 +36,9 @@ impl<F: Drop> System<F> {
         ensures state { result.state ≡ self.state }
         ensures algorithm { result.algorithm ≡ algorithm }
     {
-        let System { core } = self;
+        let System { inner } = self;
         System {
-            core: core.with_algorithm(algorithm),
+            inner: inner.with_algorithm(algorithm),
         }
     }
 }

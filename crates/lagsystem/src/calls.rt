@@ -1,17 +1,17 @@
 ghost use Rattle.std.specs.Prelude.{◌≡◌, ◌<◌, IfErr, IfOk, None};
 ghost use Rattle.distributor.specs.Calls.{PicksPlaces};
 ghost use Rattle.lagsystem.specs.Calls.{Call};
-ghost use Rattle.lagsystem.specs.First.{IsConfigured, IsFirst, fault_in, refusal_of};
-ghost use Rattle.lagsystem.specs.Readers.{conversation_of, conversations};
-ghost use Rattle.lagsystem.specs.Shown.{configured, view_of};
+ghost use Rattle.lagsystem.specs.First.{IsConfigured, IsFirst, fault_or_no_memory, config_refusal};
+ghost use Rattle.lagsystem.specs.Readers.{number_of_conversation, conversation_count};
+ghost use Rattle.lagsystem.specs.ModelView.{model_setup, model_view};
 ghost use Rattle.lagsystem.specs.Sound.{Agrees, Answers};
 ghost use Rattle.lagsystem.specs.declared.drive.Reply.{Reply};
 ghost use Rattle.lagmodel.specs.View.{first_view};
 
-use crate::answers::Received;
 use crate::config::{Config, PortChange};
 use crate::fault::SystemFault;
-use crate::kept::Core;
+use crate::inner::Inner;
+use crate::received::Received;
 use lagtypes::AggId;
 use std::alloc::Global;
 use std::marker::Model;
@@ -23,19 +23,19 @@ use std::marker::Model;
 /// list of the ports that distribute. `count` is 0 to 64; for 0 any result will do.
 #[derive(Drop)]
 pub struct System<F> {
-    pub(crate) core: Core<F>,
+    pub(crate) inner: Inner<F>,
 }
 
 impl<F> Model for System<F> {
-    ghost use Rattle.lagsystem.specs.Kept.{state_of, whole_of};
+    ghost use Rattle.lagsystem.specs.Inner.{inner_state, inner_value};
     ghost use Rattle.lagsystem.specs.Sound.{IsSound};
-    ghost use Rattle.lagsystem.specs.State.{Whole};
+    ghost use Rattle.lagsystem.specs.State.{SystemValue};
 
-    ghost Value = { Whole F };
+    ghost Value = { SystemValue F };
 
-    ghost view = { λ s. whole_of s.core };
+    ghost view = { λ s. inner_value s.inner };
 
-    ghost invariant = { λ s. IsSound (state_of s.core) };
+    ghost invariant = { λ s. IsSound (inner_state s.inner) };
 }
 
 impl<F: Fn(u16, usize) -> usize + Drop> System<F> {
@@ -46,15 +46,15 @@ impl<F: Fn(u16, usize) -> usize + Drop> System<F> {
     pub fn new(alloc: Global, config: Config, algorithm: F) -> Result<System<F>, SystemFault>
         requires usable { PicksPlaces (F.pre algorithm) (F.post algorithm) }
         ensures first { IfOk result (λ s. IsFirst s.state) }
-        ensures accepted { IfOk result (λ s. refusal_of config ≡ None) }
+        ensures accepted { IfOk result (λ s. config_refusal config ≡ None) }
         ensures configured { IfOk result (λ s. IsConfigured config s.state) }
         ensures algorithm { IfOk result (λ s. s.algorithm ≡ algorithm) }
-        ensures refused { IfErr result (λ fault. fault ≡ fault_in (refusal_of config)) }
-        ensures shows { IfOk result (λ s. view_of s.state ≡ first_view (configured s.state)) }
+        ensures refused { IfErr result (λ fault. fault ≡ fault_or_no_memory (config_refusal config)) }
+        ensures shows { IfOk result (λ s. model_view s.state ≡ first_view (model_setup s.state)) }
         ensures agrees { IfOk result (λ s. Agrees s.state) }
     {
-        let core = Core::new(alloc, config, algorithm)?;
-        Ok(System { core })
+        let inner = Inner::new(alloc, config, algorithm)?;
+        Ok(System { inner })
     }
 
     /// Takes a frame that came on a port, of any octets, and returns what became of it: `Disabled` while the link is
@@ -68,7 +68,7 @@ impl<F: Fn(u16, usize) -> usize + Drop> System<F> {
             (Reply.Receive result) self.new.state }
         ensures algorithm { self.new.algorithm ≡ self.old.algorithm }
     {
-        self.core.receive(port, frame)
+        self.inner.receive(port, frame)
     }
 
     /// One tick, 100 ms. Every timer of every port counts down, and a receive machine whose current_while expired
@@ -78,7 +78,7 @@ impl<F: Fn(u16, usize) -> usize + Drop> System<F> {
         ensures answers { Answers (F.post self.old.algorithm) self.old.state Call.Tick Reply.Tick self.new.state }
         ensures algorithm { self.new.algorithm ≡ self.old.algorithm }
     {
-        self.core.tick();
+        self.inner.tick();
     }
 
     /// Sets port_enabled: the link of a port is up or down now. Its receive machine runs; if the link is down now,
@@ -88,7 +88,7 @@ impl<F: Fn(u16, usize) -> usize + Drop> System<F> {
         ensures answers { Answers (F.post self.old.algorithm) self.old.state (Call.Set_link port up) (Reply.SetLink result) self.new.state }
         ensures algorithm { self.new.algorithm ≡ self.old.algorithm }
     {
-        self.core.set_link(port, up)
+        self.inner.set_link(port, up)
     }
 
     /// Gives a port another key, priority or Aggregation bit. Its receive and mux machines start again (BEGIN), and one
@@ -99,17 +99,17 @@ impl<F: Fn(u16, usize) -> usize + Drop> System<F> {
             (Reply.Configure result) self.new.state }
         ensures algorithm { self.new.algorithm ≡ self.old.algorithm }
     {
-        self.core.configure(port, change)
+        self.inner.configure(port, change)
     }
 
     /// Goes back to the state that `new` made: all links down, every conversation free, the first marker identifier
     /// next. What `configure` changed is undone. Takes no memory (profile).
     pub fn restart(&mut self)
         ensures answers { Answers (F.post self.old.algorithm) self.old.state Call.Restart Reply.Restart self.new.state }
-        ensures shows { view_of self.new.state ≡ first_view (configured self.old.state) }
+        ensures shows { model_view self.new.state ≡ first_view (model_setup self.old.state) }
         ensures algorithm { self.new.algorithm ≡ self.old.algorithm }
     {
-        self.core.restart();
+        self.inner.restart();
     }
 
     /// Returns the frame that is due on a port, a control frame of 124 octets from the port's MAC address; None while
@@ -120,7 +120,7 @@ impl<F: Fn(u16, usize) -> usize + Drop> System<F> {
         ensures answers { Answers (F.post self.old.algorithm) self.old.state (Call.Transmit port) (Reply.Transmit result) self.new.state }
         ensures algorithm { self.new.algorithm ≡ self.old.algorithm }
     {
-        self.core.transmit(port)
+        self.inner.transmit(port)
     }
 
     /// Returns the number of the port to send a client's frame on, and puts its conversation on that port. Refused in
@@ -131,10 +131,10 @@ impl<F: Fn(u16, usize) -> usize + Drop> System<F> {
         requires usable { PicksPlaces (F.pre self.old.algorithm) (F.post self.old.algorithm) }
         ensures answers { Answers (F.post self.old.algorithm) self.old.state (Call.Offer agg frame.now)
             (Reply.Offer result) self.new.state }
-        ensures within { IfOk result (λ port. conversation_of self.old.state frame.now < conversations self.old.state) }
+        ensures within { IfOk result (λ port. number_of_conversation self.old.state frame.now < conversation_count self.old.state) }
         ensures algorithm { self.new.algorithm ≡ self.old.algorithm }
     {
-        self.core.offer(agg, frame)
+        self.inner.offer(agg, frame)
     }
 
     /// Moves a conversation of an aggregator to another port. A marker is wanted on its present port, and its frames
@@ -147,7 +147,7 @@ impl<F: Fn(u16, usize) -> usize + Drop> System<F> {
             (Reply.MoveConversation result) self.new.state }
         ensures algorithm { self.new.algorithm ≡ self.old.algorithm }
     {
-        self.core.move_conversation(agg, conv, port)
+        self.inner.move_conversation(agg, conv, port)
     }
 
     /// Frees a conversation of an aggregator at once, so its frames may be reordered. If it is Wanted or Flushing, it
@@ -157,6 +157,6 @@ impl<F: Fn(u16, usize) -> usize + Drop> System<F> {
         ensures answers { Answers (F.post self.old.algorithm) self.old.state (Call.Force agg conv) (Reply.Force result) self.new.state }
         ensures algorithm { self.new.algorithm ≡ self.old.algorithm }
     {
-        self.core.force(agg, conv)
+        self.inner.force(agg, conv)
     }
 }

@@ -2,12 +2,12 @@ ghost use Rattle.std.specs.Prelude.{◌≡◌, IfOk, OnErr, map};
 ghost use Rattle.distributor.specs.Calls.{PicksPlaces};
 ghost use Rattle.lagsystem.specs.Drives.{Drives, call_of};
 ghost use Rattle.lagsystem.specs.Sound.{Answers};
-ghost use Rattle.lagsystem.specs.Windows.{AreWindowed, KeepThree};
+ghost use Rattle.lagsystem.specs.Windows.{AreWindowed, EachAtMostThreeAges};
 
-use crate::answers::Received;
 use crate::calls::System;
 use crate::config::PortChange;
 use crate::fault::SystemFault;
+use crate::received::Received;
 use lagtypes::{AggId, NoMemory};
 use std::alloc::Global;
 
@@ -68,25 +68,25 @@ impl<F: Fn(u16, usize) -> usize + Drop> System<F> {
         ensures refused { OnErr result (self.new ≡ self.old) }
         ensures algorithm { self.new.algorithm ≡ self.old.algorithm }
     {
-        self.keeps_three();
+        self.open_invariant();
         let mut replies = Vec::with_capacity(alloc, calls.len())?;
         for call in calls {
-            let reply = self.answer(call);
+            let reply = self.dispatch(call);
             replies.push_reserved(reply);
         }
         Ok(replies)
     }
 
     /// Does nothing when it runs. The prover knows the invariant of `System` (at most three ages a port) only where
-    /// `core` is read, and `drive` needs that invariant.
-    fn keeps_three(&self)
-        ensures { KeepThree self.now.state }
+    /// `inner` is read, and `drive` needs that invariant.
+    fn open_invariant(&self)
+        ensures { EachAtMostThreeAges self.now.state }
     {
-        let _core = &self.core;
+        let _inner = &self.inner;
     }
 
     /// Makes one call.
-    fn answer(&mut self, call: &Call) -> Reply
+    fn dispatch(&mut self, call: &Call) -> Reply
         requires usable { PicksPlaces (F.pre self.old.algorithm) (F.post self.old.algorithm) }
         ensures answers { Answers (F.post self.old.algorithm) self.old.state (call_of call.now) result self.new.state }
         ensures algorithm { self.new.algorithm ≡ self.old.algorithm }

@@ -2,8 +2,8 @@ ghost use Rattle.lagsystem.specs.Again.{SettlesOnce};
 ghost use Rattle.lagsystem.specs.Due.{AnswersDue};
 ghost use Rattle.std.specs.Prelude.{◌≡◌};
 ghost use Rattle.lagsystem.specs.First.{IsFirst};
-ghost use Rattle.lagsystem.specs.State.{State, with_slots, with_table};
-ghost use Rattle.lagsystem.specs.Windows.{StartsEmpty, WindowFromStart, WindowLaw};
+ghost use Rattle.lagsystem.specs.State.{SystemState, with_slots, with_table};
+ghost use Rattle.lagsystem.specs.Windows.{StartsEmpty, WindowFromStart, SystemWindowLaw};
 
 /// The transmit limit: any eleven consecutive ticks since the last start of a system hold at most three LACPDUs of each
 /// port (6.4.16). This holds before and after each call of every list of calls with their results.
@@ -12,14 +12,14 @@ ghost use Rattle.lagsystem.specs.Windows.{StartsEmpty, WindowFromStart, WindowLa
 /// counts as an LACPDU sent so many ticks earlier. `empty` and `start`: a first state keeps no age. A restart forgets
 /// what was sent before it (profile).
 pub fn window_holds<F: Fn(u16, usize) -> usize>()
-    ensures window { (algorithm : F) → WindowLaw (F.post algorithm) }
+    ensures window { (algorithm : F) → SystemWindowLaw (F.post algorithm) }
     ensures empty { StartsEmpty }
     ensures start { (algorithm : F) → WindowFromStart (F.post algorithm) }
 {}
 
 /// A configuration has exactly one first state, so a restart gives the state that `new` made (profile).
 pub fn first_state_is_one()
-    ensures { (s t : State) → t ≡ with_table (with_slots s t.slots) t.table → IsFirst s → IsFirst t → t ≡ s }
+    ensures { (s t : SystemState) → t ≡ with_table (with_slots s t.slots) t.table → IsFirst s → IsFirst t → t ≡ s }
 {}
 
 /// A second settling right after a settling changes nothing (profile).

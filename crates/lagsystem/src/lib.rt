@@ -5,23 +5,22 @@
 #![tactic(auto)]
 
 mod algorithm;
-mod answers;
 mod calls;
 mod config;
 mod drive;
 mod fault;
-mod first;
-mod kept;
+mod holding;
+mod inner;
 mod laws;
-mod leaving;
 mod load;
 mod offers;
 mod ports;
 mod readers;
+mod received;
 mod settling;
 mod slots;
+mod start;
 
-pub use answers::Received;
 pub use arrayvec::ArrayVec;
 pub use calls::System;
 pub use config::{Config, PortChange, PortConfig};
@@ -33,4 +32,5 @@ pub use laws::{
     first_state_is_one, settling_again_is_nothing, transmit_answers_what_is_due, window_holds,
 };
 pub use portmachines::{MuxState, ReceiveState};
+pub use received::Received;
 pub use slowpdu::{Info, WireFault};

@@ -1,10 +1,10 @@
 ghost use Rattle.std.specs.Prelude.{◌≡◌, ◌≤◌, ◌<◌, length, IfErr, IfOk};
 ghost use Rattle.lagsystem.specs.Offers.{MayBeSent, RefusesFrame};
-ghost use Rattle.lagsystem.specs.Kept.{state_of};
-ghost use Rattle.lagsystem.specs.Readers.{conversation_of, conversations};
+ghost use Rattle.lagsystem.specs.Inner.{inner_state};
+ghost use Rattle.lagsystem.specs.Readers.{number_of_conversation, conversation_count};
 
 use crate::fault::SystemFault;
-use crate::kept::Core;
+use crate::inner::Inner;
 use slowpdu::{Kind, classify};
 
 /// The longest frame that may be offered, in octets: a full frame with one VLAN tag (profile).
@@ -24,13 +24,13 @@ pub(crate) fn check_offer(octets: &[u8]) -> Result<(), SystemFault>
     }
 }
 
-impl<F: Fn(u16, usize) -> usize + Drop> Core<F> {
+impl<F: Fn(u16, usize) -> usize + Drop> Inner<F> {
     /// The number of the conversation of a frame, 0 to 255: octet 5 exclusive-or octet 11, the last octets of the two
     /// addresses. The frame has at least 14 octets (profile).
-    pub(crate) fn conversation_of(&self, octets: &[u8]) -> u16
+    pub(crate) fn number_of_conversation(&self, octets: &[u8]) -> u16
         requires { 14 ≤ length octets.now }
-        ensures is { result ≡ conversation_of (state_of self.now) octets.now }
-        ensures within { result < conversations (state_of self.now) }
+        ensures is { result ≡ number_of_conversation (inner_state self.now) octets.now }
+        ensures within { result < conversation_count (inner_state self.now) }
     {
         u16::from(octets[5] ^ octets[11])
     }

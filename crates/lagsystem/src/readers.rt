@@ -1,16 +1,16 @@
 ghost use Rattle.std.specs.Prelude.{◌≡◌, ◌≤◌, ◌<◌, [], None, Some, IfSome, MatchOption, length, option_map};
 ghost use Rattle.std.specs.Bool.{OnFalse};
 ghost use Rattle.std.specs.List.Sorted.{IsStrictlyIncreasing};
-ghost use Rattle.portmachines.specs.Mux.{is_mux};
+ghost use Rattle.portmachines.specs.Mux.{same_mux_state};
 ghost use Rattle.portmachines.specs.Transmit.{actor_state};
 ghost use Rattle.distributor.specs.Conversations.{next_identifier};
 ghost use Rattle.lagsystem.specs.Hosts.{conversation_at, due_of};
 ghost use Rattle.lagsystem.specs.Offers.{has_aggregator};
-ghost use Rattle.lagsystem.specs.State.{numbers, place_of, port_of, slot_at};
-ghost use Rattle.lagsystem.specs.Readers.{conversation_in, conversations, distributes_in, distributing, group_at};
+ghost use Rattle.lagsystem.specs.State.{port_numbers, place_of, machines_of, slot_at};
+ghost use Rattle.lagsystem.specs.Readers.{conversation_in, conversation_count, distributes_in, distributing, group_at};
 
 use crate::calls::System;
-use crate::slots::{Slot, place_of};
+use crate::slots::{SystemPort, place_of};
 use arrayvec::ArrayVec;
 use distributor::Assignment;
 use lagtypes::{AggId, Choice, Group, Party, State};
@@ -18,7 +18,7 @@ use portmachines::{MuxState, ReceiveState};
 use slowpdu::Info;
 
 /// The port with this number.
-fn slot_of(slots: &[Slot], number: u16) -> Option<&Slot>
+fn slot_of(slots: &[SystemPort], number: u16) -> Option<&SystemPort>
     ensures { MatchOption result (slot_at (place_of number slots.now) slots.now ≡ None)
         (λ slot. slot_at (place_of number slots.now) slots.now ≡ Some slot.now) }
 {
@@ -29,9 +29,9 @@ fn slot_of(slots: &[Slot], number: u16) -> Option<&Slot>
 }
 
 /// The numbers of all ports.
-fn numbers(slots: &[Slot]) -> ArrayVec<u16, 64>
+fn port_numbers(slots: &[SystemPort]) -> ArrayVec<u16, 64>
     requires { length slots.now ≤ 64 }
-    ensures { result.items ≡ numbers slots.now }
+    ensures { result.items ≡ port_numbers slots.now }
 {
     let mut found = ArrayVec::new();
     for slot in slots {
@@ -41,7 +41,7 @@ fn numbers(slots: &[Slot]) -> ArrayVec<u16, 64>
 }
 
 /// Whether a port distributes in this aggregator.
-pub(crate) fn distributes_in(slot: &Slot, agg: AggId) -> bool
+pub(crate) fn distributes_in(slot: &SystemPort, agg: AggId) -> bool
     ensures { result ≡ distributes_in agg slot.now }
 {
     match slot.port.choice() {
@@ -51,7 +51,7 @@ pub(crate) fn distributes_in(slot: &Slot, agg: AggId) -> bool
 }
 
 /// The numbers of the ports that distribute in this aggregator.
-pub(crate) fn distributing(slots: &[Slot], agg: AggId) -> ArrayVec<u16, 64>
+pub(crate) fn distributing(slots: &[SystemPort], agg: AggId) -> ArrayVec<u16, 64>
     requires { length slots.now ≤ 64 }
     ensures { result.items ≡ distributing agg slots.now }
 {
@@ -67,24 +67,24 @@ pub(crate) fn distributing(slots: &[Slot], agg: AggId) -> ArrayVec<u16, 64>
 impl<F: Fn(u16, usize) -> usize + Drop> System<F> {
     /// The numbers of the ports, 1 to 64 of them, ascending (profile).
     pub fn ports(&self) -> ArrayVec<u16, 64>
-        ensures all { result.items ≡ numbers self.now.state.slots }
+        ensures all { result.items ≡ port_numbers self.now.state.slots }
         ensures ascending { IsStrictlyIncreasing result.items }
     {
-        numbers(&self.core.slots)
+        port_numbers(&self.inner.slots)
     }
 
     /// How many aggregators there are, 1 to 64. They are numbered from 1 (6.4.6).
     pub fn aggregators(&self) -> usize
         ensures { result ≡ length self.now.state.keys }
     {
-        self.core.aggregators.count()
+        self.inner.aggregators.count()
     }
 
     /// port_enabled: whether the link of a port is up (6.4.7); None if there is no such port.
     pub fn is_up(&self, port: u16) -> Option<bool>
-        ensures { result ≡ option_map (λ p. p.enabled) (port_of port self.now.state) }
+        ensures { result ≡ option_map (λ p. p.enabled) (machines_of port self.now.state) }
     {
-        match slot_of(&self.core.slots, port) {
+        match slot_of(&self.inner.slots, port) {
             Some(slot) => Some(slot.port.is_enabled()),
             None => None,
         }
@@ -93,9 +93,9 @@ impl<F: Fn(u16, usize) -> usize + Drop> System<F> {
     /// The state octet of a port's own side, as its LACPDUs carry it (6.4.2.3, Actor_State); None if there is no such
     /// port.
     pub fn state(&self, port: u16) -> Option<State>
-        ensures { result ≡ option_map actor_state (port_of port self.now.state) }
+        ensures { result ≡ option_map actor_state (machines_of port self.now.state) }
     {
-        match slot_of(&self.core.slots, port) {
+        match slot_of(&self.inner.slots, port) {
             Some(slot) => Some(slot.port.state()),
             None => None,
         }
@@ -103,9 +103,9 @@ impl<F: Fn(u16, usize) -> usize + Drop> System<F> {
 
     /// The state of the receive machine of a port (6.4.12); None if there is no such port.
     pub fn receive_state(&self, port: u16) -> Option<ReceiveState>
-        ensures { result ≡ option_map (λ p. p.receive) (port_of port self.now.state) }
+        ensures { result ≡ option_map (λ p. p.receive) (machines_of port self.now.state) }
     {
-        match slot_of(&self.core.slots, port) {
+        match slot_of(&self.inner.slots, port) {
             Some(slot) => Some(slot.port.receive_state()),
             None => None,
         }
@@ -117,17 +117,17 @@ impl<F: Fn(u16, usize) -> usize + Drop> System<F> {
     pub fn is_due(&self, port: u16) -> Option<bool>
         ensures { result ≡ due_of port self.now.state }
     {
-        match slot_of(&self.core.slots, port) {
-            Some(slot) => Some(self.core.has_due(slot)),
+        match slot_of(&self.inner.slots, port) {
+            Some(slot) => Some(self.inner.has_due(slot)),
             None => None,
         }
     }
 
     /// The operational parameters of a port's own side, the Actor (6.4.7); None if there is no such port.
     pub fn party(&self, port: u16) -> Option<Party>
-        ensures { result ≡ option_map (λ p. p.party) (port_of port self.now.state) }
+        ensures { result ≡ option_map (λ p. p.party) (machines_of port self.now.state) }
     {
-        match slot_of(&self.core.slots, port) {
+        match slot_of(&self.inner.slots, port) {
             Some(slot) => Some(slot.port.party()),
             None => None,
         }
@@ -135,9 +135,9 @@ impl<F: Fn(u16, usize) -> usize + Drop> System<F> {
 
     /// The operational parameters of a port's Partner, as recorded (6.4.7); None if there is no such port.
     pub fn partner(&self, port: u16) -> Option<Info>
-        ensures { result ≡ option_map (λ p. p.partner) (port_of port self.now.state) }
+        ensures { result ≡ option_map (λ p. p.partner) (machines_of port self.now.state) }
     {
-        match slot_of(&self.core.slots, port) {
+        match slot_of(&self.inner.slots, port) {
             Some(slot) => Some(slot.port.partner()),
             None => None,
         }
@@ -146,9 +146,9 @@ impl<F: Fn(u16, usize) -> usize + Drop> System<F> {
     /// The Link Aggregation Group of a port, its LAG ID: from its own and its recorded partner's parameters (6.3.6);
     /// None if there is no such port.
     pub fn group(&self, port: u16) -> Option<Group>
-        ensures { result ≡ option_map group_at (port_of port self.now.state) }
+        ensures { result ≡ option_map group_at (machines_of port self.now.state) }
     {
-        match slot_of(&self.core.slots, port) {
+        match slot_of(&self.inner.slots, port) {
             Some(slot) => Some(Group::of(&slot.port.party(), &slot.port.partner().party())),
             None => None,
         }
@@ -157,9 +157,9 @@ impl<F: Fn(u16, usize) -> usize + Drop> System<F> {
     /// Actor_State.Defaulted: true if the recorded partner was set by recordDefault and not since by an LACPDU
     /// (6.4.2.3); None if there is no such port.
     pub fn defaulted(&self, port: u16) -> Option<bool>
-        ensures { result ≡ option_map (λ p. p.defaulted) (port_of port self.now.state) }
+        ensures { result ≡ option_map (λ p. p.defaulted) (machines_of port self.now.state) }
     {
-        match slot_of(&self.core.slots, port) {
+        match slot_of(&self.inner.slots, port) {
             Some(slot) => Some(slot.port.is_defaulted()),
             None => None,
         }
@@ -168,9 +168,9 @@ impl<F: Fn(u16, usize) -> usize + Drop> System<F> {
     /// Whether a port distributes: its mux machine is in COLLECTING_DISTRIBUTING (6.4.15); None if there is no such
     /// port.
     pub fn distributes(&self, port: u16) -> Option<bool>
-        ensures { result ≡ option_map (λ p. is_mux MuxState.CollectingDistributing p.mux) (port_of port self.now.state) }
+        ensures { result ≡ option_map (λ p. same_mux_state MuxState.CollectingDistributing p.mux) (machines_of port self.now.state) }
     {
-        match slot_of(&self.core.slots, port) {
+        match slot_of(&self.inner.slots, port) {
             Some(slot) => Some(slot.port.distributes()),
             None => None,
         }
@@ -178,9 +178,9 @@ impl<F: Fn(u16, usize) -> usize + Drop> System<F> {
 
     /// Selected, with the aggregator that the Selection Logic gave the port (6.4.8); None if there is no such port.
     pub fn choice(&self, port: u16) -> Option<Choice>
-        ensures { result ≡ option_map (λ p. p.choice) (port_of port self.now.state) }
+        ensures { result ≡ option_map (λ p. p.choice) (machines_of port self.now.state) }
     {
-        match slot_of(&self.core.slots, port) {
+        match slot_of(&self.inner.slots, port) {
             Some(slot) => Some(slot.port.choice()),
             None => None,
         }
@@ -188,9 +188,9 @@ impl<F: Fn(u16, usize) -> usize + Drop> System<F> {
 
     /// The state of the mux machine of a port (6.4.15); None if there is no such port.
     pub fn mux_state(&self, port: u16) -> Option<MuxState>
-        ensures { result ≡ option_map (λ p. p.mux) (port_of port self.now.state) }
+        ensures { result ≡ option_map (λ p. p.mux) (machines_of port self.now.state) }
     {
-        match slot_of(&self.core.slots, port) {
+        match slot_of(&self.inner.slots, port) {
             Some(slot) => Some(slot.port.mux_state()),
             None => None,
         }
@@ -203,19 +203,19 @@ impl<F: Fn(u16, usize) -> usize + Drop> System<F> {
         ensures ascending { IsStrictlyIncreasing result.items }
         ensures unknown { OnFalse (has_aggregator self.now.state agg) (result.items ≡ []) }
     {
-        distributing(&self.core.slots, agg)
+        distributing(&self.inner.slots, agg)
     }
 
     /// The conversation of a frame, in whichever aggregator, 0 to 255: octet 5 exclusive-or octet 11. None if the frame
     /// has fewer than 14 octets (profile).
     pub fn conversation(&self, frame: &[u8]) -> Option<u16>
         ensures is { result ≡ conversation_in self.now.state frame.now }
-        ensures within { IfSome result (λ conv. conv < conversations self.now.state) }
+        ensures within { IfSome result (λ conv. conv < conversation_count self.now.state) }
     {
         if frame.len() < 14 {
             return None;
         }
-        Some(self.core.conversation_of(frame))
+        Some(self.inner.number_of_conversation(frame))
     }
 
     /// The state of a conversation of an aggregator; None if there is no such aggregator, or if `conv` is not 0 to 255
@@ -223,7 +223,7 @@ impl<F: Fn(u16, usize) -> usize + Drop> System<F> {
     pub fn conversation_state(&self, agg: AggId, conv: u16) -> Option<Assignment>
         ensures { result ≡ conversation_at self.now.state agg conv }
     {
-        self.core.conversation_state(agg, conv)
+        self.inner.conversation_state(agg, conv)
     }
 
     /// The Requester_Transaction_ID of the next marker, 0 to 4294967295; None if all are used up (6.5.3.3;
@@ -231,6 +231,6 @@ impl<F: Fn(u16, usize) -> usize + Drop> System<F> {
     pub fn next_marker(&self) -> Option<u32>
         ensures { result ≡ next_identifier self.now.state.table }
     {
-        self.core.distributor.next_marker()
+        self.inner.distributor.next_marker()
     }
 }

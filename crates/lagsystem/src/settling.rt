@@ -1,135 +1,140 @@
 ghost use Rattle.std.specs.Prelude.{◌≡◌, ◌≤◌, ◌<◌, length, false, slice_get};
 ghost use Rattle.std.specs.List.{list_any};
-ghost use Rattle.portmachines.specs.Rows.{Settles};
+ghost use Rattle.portmachines.specs.Rows.{RunsToRest};
 ghost use Rattle.portmachines.specs.Mux.{mux_rows};
 ghost use Rattle.portmachines.specs.Periodic.{RunsPeriodic};
-ghost use Rattle.selection.specs.Views.{has_expired, is_eligible};
-ghost use Rattle.lagsystem.specs.Views.{view_of, views};
-ghost use Rattle.lagsystem.specs.Settling.{AllMove, Moves, SettlesPorts, choose_slot, chosen, ready_of};
-ghost use Rattle.lagsystem.specs.State.{State, with_slots};
+ghost use Rattle.selection.specs.Views.{has_waited, is_eligible};
+ghost use Rattle.lagsystem.specs.Views.{selection_view, views};
+ghost use Rattle.lagsystem.specs.Settling.{PortsGo, PortGoes, SettlesPorts, choose_slot, chosen, ready_of};
+ghost use Rattle.lagsystem.specs.State.{SystemState, with_slots};
 
-use crate::slots::{Slot, has_expired, is_eligible, views};
+use crate::slots::{SystemPort, has_waited, is_eligible, views};
 use lagtypes::Choice;
 use selection::{Aggregators, PortView};
 
-fn settle_mux(slot: &mut Slot, ready: bool)
-    ensures { Moves (Settles (mux_rows ready)) slot.old slot.new }
+fn run_mux_rows(slot: &mut SystemPort, ready: bool)
+    ensures { PortGoes (RunsToRest (mux_rows ready)) slot.old slot.new }
 {
     let _fired = slot.port.mux(ready);
 }
 
 /// Step 1: each mux machine runs with Ready false, so that ports leave their aggregators before any port chooses.
-fn run_free_mux(slots: &mut [Slot])
-    ensures { AllMove (Settles (mux_rows false)) slots.old slots.new }
+fn run_mux_not_ready(slots: &mut [SystemPort])
+    ensures { PortsGo (RunsToRest (mux_rows false)) slots.old slots.new }
 {
     for slot in slots.iter_mut() {
-        settle_mux(slot, false);
+        run_mux_rows(slot, false);
     }
 }
 
-fn one_is_eligible(slots: &[Slot]) -> bool
-    ensures { result ≡ list_any (λ s. is_eligible (view_of s)) slots.now }
+fn any_eligible(slots: &[SystemPort]) -> bool
+    ensures { result ≡ list_any (λ s. is_eligible (selection_view s)) slots.now }
 {
     slots.iter().any(|slot| is_eligible(slot))
 }
 
 /// Lets the port at this index choose an aggregator, if it is eligible. The list of the views of all ports is
 /// updated, so that the ports after it see the choice.
-fn choose_at(aggregators: &Aggregators, slots: &mut [Slot], seen: &mut [PortView], place: usize)
-    requires seen { seen.old ≡ views slots.old }
+fn choose_one(
+    aggregators: &Aggregators,
+    slots: &mut [SystemPort],
+    port_views: &mut [PortView],
+    place: usize,
+)
+    requires port_views { port_views.old ≡ views slots.old }
     requires within { place < length slots.old }
     ensures chosen { slots.new ≡ choose_slot aggregators.now slots.old place (slice_get slots.old place) }
-    ensures seen { seen.new ≡ views slots.new }
+    ensures port_views { port_views.new ≡ views slots.new }
 {
     if !is_eligible(&slots[place]) {
         return;
     }
     let slot = &mut slots[place];
-    if let Some(agg) = aggregators.choose(seen, slot.number) {
+    if let Some(agg) = aggregators.choose(port_views, slot.number) {
         let choice = Choice::Selected(agg);
         slot.port.select(choice);
-        seen[place].choice = choice;
+        port_views[place].choice = choice;
     }
 }
 
-fn choose_all_seeing(aggregators: &Aggregators, slots: &mut [Slot], seen: &mut [PortView])
-    requires { seen.old ≡ views slots.old }
+fn choose_each(aggregators: &Aggregators, slots: &mut [SystemPort], port_views: &mut [PortView])
+    requires { port_views.old ≡ views slots.old }
     ensures { slots.new ≡ chosen aggregators.now (length slots.old) slots.old }
 {
     for place in 0..slots.len() {
-        choose_at(aggregators, slots, seen, place);
+        choose_one(aggregators, slots, port_views, place);
     }
 }
 
 /// Step 2: each eligible port chooses its aggregator, in order; each sees the choices made before it.
-fn choose_all(aggregators: &Aggregators, slots: &mut [Slot])
+fn choose_all(aggregators: &Aggregators, slots: &mut [SystemPort])
     requires { length slots.old ≤ 64 }
     ensures { slots.new ≡ chosen aggregators.now (length slots.old) slots.old }
 {
-    if one_is_eligible(slots) {
-        let mut seen = views(slots);
-        choose_all_seeing(aggregators, slots, seen.as_mut_slice());
+    if any_eligible(slots) {
+        let mut port_views = views(slots);
+        choose_each(aggregators, slots, port_views.as_mut_slice());
     }
 }
 
 /// Whether some port is in WAITING and its wait_while has expired.
-fn one_has_waited(slots: &[Slot]) -> bool
-    ensures { result ≡ list_any (λ s. has_expired (view_of s).stage) slots.now }
+fn any_waited(slots: &[SystemPort]) -> bool
+    ensures { result ≡ list_any (λ s. has_waited (selection_view s).stage) slots.now }
 {
-    slots.iter().any(|slot| has_expired(slot))
+    slots.iter().any(|slot| has_waited(slot))
 }
 
 /// Steps 3 and 4: Ready is worked out for every aggregator; then each mux machine runs with it.
-fn run_mux(aggregators: &Aggregators, slots: &mut [Slot])
+fn run_mux(aggregators: &Aggregators, slots: &mut [SystemPort])
     requires { length slots.old ≤ 64 }
-    ensures { AllMove (λ p q. Settles (mux_rows (ready_of aggregators.now (views slots.old) p.choice)) p q) slots.old slots.new }
+    ensures { PortsGo (λ p q. RunsToRest (mux_rows (ready_of aggregators.now (views slots.old) p.choice)) p q) slots.old slots.new }
 {
-    if one_has_waited(slots) {
-        let seen = views(slots);
-        run_mux_seeing(aggregators, slots, seen.as_slice());
+    if any_waited(slots) {
+        let port_views = views(slots);
+        run_each_mux(aggregators, slots, port_views.as_slice());
     } else {
         // An aggregator can only be Ready if a member has waited long enough.
-        run_free_mux(slots);
+        run_mux_not_ready(slots);
     }
 }
 
 /// Runs each mux machine; Ready is worked out from the views before the first of them ran.
-fn run_mux_seeing(aggregators: &Aggregators, slots: &mut [Slot], seen: &[PortView])
-    ensures { AllMove (λ p q. Settles (mux_rows (ready_of aggregators.now seen.now p.choice)) p q) slots.old slots.new }
+fn run_each_mux(aggregators: &Aggregators, slots: &mut [SystemPort], port_views: &[PortView])
+    ensures { PortsGo (λ p q. RunsToRest (mux_rows (ready_of aggregators.now port_views.now p.choice)) p q) slots.old slots.new }
 {
     for slot in slots.iter_mut() {
-        settle_mux_seeing(aggregators, slot, seen);
+        run_one_mux(aggregators, slot, port_views);
     }
 }
 
-fn settle_mux_seeing(aggregators: &Aggregators, slot: &mut Slot, seen: &[PortView])
-    ensures { Moves (λ p q. Settles (mux_rows (ready_of aggregators.now seen.now p.choice)) p q) slot.old slot.new }
+fn run_one_mux(aggregators: &Aggregators, slot: &mut SystemPort, port_views: &[PortView])
+    ensures { PortGoes (λ p q. RunsToRest (mux_rows (ready_of aggregators.now port_views.now p.choice)) p q) slot.old slot.new }
 {
-    let ready = ready_of(aggregators, seen, slot.port.choice());
-    settle_mux(slot, ready);
+    let ready = ready_of(aggregators, port_views, slot.port.choice());
+    run_mux_rows(slot, ready);
 }
 
-fn ready_of(aggregators: &Aggregators, seen: &[PortView], choice: Choice) -> bool
-    ensures { result ≡ ready_of aggregators.now seen.now choice }
+fn ready_of(aggregators: &Aggregators, port_views: &[PortView], choice: Choice) -> bool
+    ensures { result ≡ ready_of aggregators.now port_views.now choice }
 {
     match choice {
         Choice::Unselected => false,
-        Choice::Selected(agg) => aggregators.ready(seen, agg),
+        Choice::Selected(agg) => aggregators.ready(port_views, agg),
     }
 }
 
-fn settle_periodic(slot: &mut Slot)
-    ensures { Moves RunsPeriodic slot.old slot.new }
+fn run_one_periodic(slot: &mut SystemPort)
+    ensures { PortGoes RunsPeriodic slot.old slot.new }
 {
     slot.port.periodic();
 }
 
 /// Step 5: each periodic machine runs.
-fn run_periodic(slots: &mut [Slot])
-    ensures { AllMove RunsPeriodic slots.old slots.new }
+fn run_each_periodic(slots: &mut [SystemPort])
+    ensures { PortsGo RunsPeriodic slots.old slots.new }
 {
     for slot in slots.iter_mut() {
-        settle_periodic(slot);
+        run_one_periodic(slot);
     }
 }
 
@@ -137,12 +142,12 @@ fn run_periodic(slots: &mut [Slot])
 /// cases. For each eligible port the views of all ports are searched for an aggregator; a port that finds none is tried
 /// again in each settling. And if some port is in WAITING with wait_while expired, the views are searched once for each
 /// SELECTED port. Step 6, the conversations, is in holding.rt.
-pub(crate) fn settle(aggregators: &Aggregators, slots: &mut [Slot])
+pub(crate) fn settle(aggregators: &Aggregators, slots: &mut [SystemPort])
     requires { length slots.old ≤ 64 }
-    ensures { (base : State) → base.keys ≡ aggregators.now → base.slots ≡ slots.old → SettlesPorts base (with_slots base slots.new) }
+    ensures { (base : SystemState) → base.keys ≡ aggregators.now → base.slots ≡ slots.old → SettlesPorts base (with_slots base slots.new) }
 {
-    run_free_mux(slots);
+    run_mux_not_ready(slots);
     choose_all(aggregators, slots);
     run_mux(aggregators, slots);
-    run_periodic(slots);
+    run_each_periodic(slots);
 }

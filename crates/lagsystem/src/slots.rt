@@ -1,8 +1,8 @@
 ghost use Rattle.std.specs.Prelude.{◌≡◌, ◌<◌, ◌≤◌, IfSome, length};
-ghost use Rattle.lagsystem.specs.Views.{stage_of, view_of, views};
+ghost use Rattle.lagsystem.specs.Views.{stage_of, selection_view, views};
 ghost use Rattle.lagsystem.specs.State.{place_of};
 ghost use Rattle.lagsystem.specs.First.{IsNew, setup_of};
-ghost use Rattle.selection.specs.Views.{has_expired, is_eligible};
+ghost use Rattle.selection.specs.Views.{has_waited, is_eligible};
 
 use crate::config::PortConfig;
 use arrayvec::ArrayVec;
@@ -12,7 +12,7 @@ use selection::{PortView, Stage};
 
 /// One port of a system: its number, its MAC address and its machines.
 #[derive(Drop)]
-pub(crate) struct Slot {
+pub(crate) struct SystemPort {
     /// The port number.
     pub(crate) number: u16,
     /// The MAC address of the port.
@@ -22,7 +22,7 @@ pub(crate) struct Slot {
 }
 
 /// The index of the port with this number, or None.
-pub(crate) fn place_of(slots: &[Slot], number: u16) -> Option<usize>
+pub(crate) fn place_of(slots: &[SystemPort], number: u16) -> Option<usize>
     ensures place { result ≡ place_of number slots.now }
     ensures within { IfSome result (λ place. place < length slots.now) }
 {
@@ -42,8 +42,8 @@ fn stage_of(mux: MuxState, wait_while: u8) -> Stage
 }
 
 /// What the Selection Logic reads of a port.
-pub(crate) fn view_of(slot: &Slot) -> PortView
-    ensures { result ≡ view_of slot.now }
+pub(crate) fn selection_view(slot: &SystemPort) -> PortView
+    ensures { result ≡ selection_view slot.now }
 {
     let port = &slot.port;
     PortView {
@@ -61,29 +61,29 @@ pub(crate) fn view_of(slot: &Slot) -> PortView
 }
 
 /// What the Selection Logic reads of all ports, in order.
-pub(crate) fn views(slots: &[Slot]) -> ArrayVec<PortView, 64>
+pub(crate) fn views(slots: &[SystemPort]) -> ArrayVec<PortView, 64>
     requires { length slots.now ≤ 64 }
     ensures { result.items ≡ views slots.now }
 {
     let mut found = ArrayVec::new();
     for slot in slots {
-        found.push(view_of(slot));
+        found.push(selection_view(slot));
     }
     found
 }
 
 /// Whether a port may choose an aggregator now.
-pub(crate) fn is_eligible(slot: &Slot) -> bool
-    ensures { result ≡ is_eligible (view_of slot.now) }
+pub(crate) fn is_eligible(slot: &SystemPort) -> bool
+    ensures { result ≡ is_eligible (selection_view slot.now) }
 {
-    view_of(slot).is_eligible()
+    selection_view(slot).is_eligible()
 }
 
 /// Whether a port is in WAITING and wait_while has expired.
-pub(crate) fn has_expired(slot: &Slot) -> bool
-    ensures { result ≡ has_expired (view_of slot.now).stage }
+pub(crate) fn has_waited(slot: &SystemPort) -> bool
+    ensures { result ≡ has_waited (selection_view slot.now).stage }
 {
-    view_of(slot).has_expired()
+    selection_view(slot).has_waited()
 }
 
 /// The start values of a port's machines, from its configuration.
@@ -105,12 +105,12 @@ fn setup_of(system: SystemId, config: &PortConfig) -> Setup
     }
 }
 
-impl Slot {
+impl SystemPort {
     /// A port whose machines have just started, with its link down.
-    pub(crate) fn new(system: SystemId, config: &PortConfig) -> Slot
+    pub(crate) fn new(system: SystemId, config: &PortConfig) -> SystemPort
         ensures { IsNew system config.now result }
     {
-        Slot {
+        SystemPort {
             number: config.number,
             mac: config.mac,
             port: Port::new(setup_of(system, config)),

@@ -55,7 +55,7 @@ enum Row<'a> {
     /// This Marker Response comes on a port and frees this many conversations.
     Releases(u16, Marker, u32),
     /// The readers return this for a port.
-    Shows(u16, Seen),
+    Shows(u16, PortFacts),
     Chosen(u16, Choice),
     Mux(u16, MuxState),
     Defaulted(u16, bool),
@@ -73,7 +73,7 @@ enum Row<'a> {
 
 /// What the readers return for a port.
 #[derive(Clone, Copy, Debug, PartialEq, Eq)]
-pub(crate) struct Seen {
+pub(crate) struct PortFacts {
     party: Option<Party>,
     partner: Option<Info>,
     group: Option<Group>,
@@ -88,7 +88,7 @@ pub(crate) struct Seen {
 }
 
 /// What the readers return for a port that does not exist.
-const NOTHING: Seen = Seen {
+const NOTHING: PortFacts = PortFacts {
     party: None,
     partner: None,
     group: None,
@@ -113,8 +113,8 @@ fn modulo(conv: u16, count: usize) -> usize
     }
 }
 
-pub(crate) fn look<F: Fn(u16, usize) -> usize + Drop>(system: &System<F>, port: u16) -> Seen {
-    Seen {
+pub(crate) fn look<F: Fn(u16, usize) -> usize + Drop>(system: &System<F>, port: u16) -> PortFacts {
+    PortFacts {
         party: system.party(port),
         partner: system.partner(port),
         group: system.group(port),
@@ -145,7 +145,7 @@ fn end(system: u8, port: u16, key: u16, state: u8) -> Info {
     }
 }
 
-fn zero(state: u8) -> Info {
+fn no_partner(state: u8) -> Info {
     Info {
         state: State::from_bits_retain(state),
         ..Info::default()
@@ -178,12 +178,12 @@ fn mac(number: u16) -> [u8; 6] {
 }
 
 /// What the readers return for port 1 of system 1, with this key, while its link is down and it was never SELECTED.
-fn unheard(key: u16) -> Seen {
+fn port_without_partner(key: u16) -> PortFacts {
     let party = end(1, 1, key, 0x04).party();
-    Seen {
+    PortFacts {
         party: Some(party),
-        partner: Some(zero(0)),
-        group: Some(Group::of(&zero(0).party(), &party)),
+        partner: Some(no_partner(0)),
+        group: Some(Group::of(&no_partner(0).party(), &party)),
         defaulted: Some(true),
         distributes: Some(false),
         choice: Some(Choice::Unselected),

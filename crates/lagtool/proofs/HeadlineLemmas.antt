@@ -16,8 +16,8 @@ use Rattle.lagscript.specs.declared.fault.ScriptFault.TheVariants as script
 use Rattle.lagworld.proofs.Running.{carries_of, in_order_of}
 use Rattle.lagworld.specs.Readers.{serials_of_system}
 use Rattle.lagworld.specs.Sound.{IsSound}
-use Rattle.lagworld.specs.State.{Joint, collected_in, forced_in, sent_in}
-use Rattle.lagtool.specs.Replayed.{HasNoScript}
+use Rattle.lagworld.specs.State.{WorldState, collected_in, forced_in, sent_in}
+use Rattle.lagtool.specs.ReplayReport.{HasNoScript}
 
 counted : (xs : List ℕ) → ((i : ℕ) → i < length xs → get_or xs i 0 ≡ i) → xs ≡ range_with_len 0 (length xs)
 counted xs h =
@@ -25,7 +25,7 @@ counted xs h =
     (λ k lt. let at : 0 + k ≡ k = omega arith in h k lt ∙ sym (get_or-range_with_len 0 (length xs) k 0 lt ∙ at))
 
 -- a flow of a sound world that was not forced
-pub flow_in_order : (j : Joint) (o : Option Side) (agg conv : ℕ) → IsSound j → forced_in (serials_of_system o agg conv j) ≡ false
+pub flow_in_order : (j : WorldState) (o : Option Side) (agg conv : ℕ) → IsSound j → forced_in (serials_of_system o agg conv j) ≡ false
     → IsSubsequence (collected_in (serials_of_system o agg conv j)) (range_with_len 0 (length (sent_in (serials_of_system o agg conv j))))
 flow_in_order j None agg conv sound free = tt
 flow_in_order j (Some s) agg conv sound free =

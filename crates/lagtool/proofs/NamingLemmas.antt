@@ -9,12 +9,12 @@ use Rattle.std.proofs.lemmas.List.{length-map}
 use Rattle.std.proofs.lemmas.Option.{none-some, same_Some}
 use Rattle.toml.specs.Data.{Data, Members, as_str, get_member}
 use Rattle.lagmodel.specs.World.{One, Two}
-use Rattle.lagscript.specs.Acts.{Act, act_of, acts_of, tick, emit, deliver, lose, repeat, cut, join, sense, restart, configure, offer, move_to, force}
-use Rattle.lagscript.specs.Entries.{Reader, act_at, act_in, act_of_words, acts_from, at_entry, cable_word, configured, five, five_words, four, four_words, hex_word, kind_word, number_word, one, one_word, plain_named, system_word, three, three_words, ticks_word, two, two_words}
-use Rattle.lagscript.specs.Configs.{SystemPlan, refusal_of_all}
+use Rattle.lagscript.specs.EventValues.{EventValue, event_value, event_values, tick, emit, deliver, lose, repeat, cut, join, sense, restart, configure, offer, move_to, force}
+use Rattle.lagscript.specs.Entries.{WordReader, event_at, event_in, event_of_words, events_from, at_entry, cable_word, configure_event, with_five_words, five_words, with_four_words, four_words, hex_word, kind_word, number_word, with_one_word, one_word, plain_named, system_word, with_three_words, three_words, ticks_word, with_two_words, two_words}
+use Rattle.lagscript.specs.Configs.{ConfigValue, refusal_of_all}
 use Rattle.lagscript.specs.Keys.{keys_among, list_in, value_at, value_or}
-use Rattle.lagscript.specs.Readings.{◌>>=◌, in_place, or_fault, unless}
-use Rattle.lagscript.specs.Scripts.{HasPlan, ScriptPlan, acts_in, cables_in, config_fault, ends_of, entries_in, no_fault, plan_in, plan_shown, planned, systems_in, top_keys, up_to_most}
+use Rattle.lagscript.specs.Readings.{◌>>=◌, in_place, or_fault, if_or_fault}
+use Rattle.lagscript.specs.Scripts.{HasPlan, PlanValue, events_in, cables_in, script_fault_for, ends_of, entries_in, no_fault, plan_in, plan_value, planned, systems_in, top_keys, up_to_most}
 use Rattle.lagscript.specs.Words.{words_of}
 use Rattle.lagscript.specs.declared.plan.Plan.{Plan}
 use Rattle.lagscript.specs.declared.event.Event.{Event}
@@ -41,12 +41,12 @@ bind_ok : {A B E : Type 0} (r : Result A E) (f : A → Result B E) (y : B) → (
 bind_ok (Ok x) f y e = (x, refl, e)
 bind_ok (Err fault) f y e = absurd (let h = e in cc)
 
-unless_ok : {A E : Type 0} (b : Bool) (fault : E) (r : Result A E) (y : A) → unless b fault r ≡ Ok y → (b ≡ true) × (r ≡ Ok y)
+unless_ok : {A E : Type 0} (b : Bool) (fault : E) (r : Result A E) (y : A) → if_or_fault b fault r ≡ Ok y → (b ≡ true) × (r ≡ Ok y)
 unless_ok true fault r y e = (refl, e)
 unless_ok false fault r y e = absurd (let h = e in cc)
 
 -- what an act names
-abbrev act_names : ℕ → Act → Bool
+abbrev act_names : ℕ → EventValue → Bool
 act_names cables (tick s n) = has_system (Some s)
 act_names cables (emit s port) = has_system (Some s)
 act_names cables (deliver c s) = is_cable cables (Some c) && has_system (Some s)
@@ -61,7 +61,7 @@ act_names cables (offer s agg frame) = has_system (Some s)
 act_names cables (move_to s agg conv port) = has_system (Some s)
 act_names cables (force s agg conv) = has_system (Some s)
 
-same_names : (cables : ℕ) (e : Event) → act_names cables (act_of e) ≡ names_existing cables e
+same_names : (cables : ℕ) (e : Event) → act_names cables (event_value e) ≡ names_existing cables e
 same_names cables (event.Tick s n) = refl
 same_names cables (event.Emit s port) = refl
 same_names cables (event.Deliver c s) = refl
@@ -100,27 +100,27 @@ both a b e f = ap (λ x. x && b) e ∙ f
 
 -- ---- entries
 
-abbrev Named : ℕ → Act → Type 0
+abbrev Named : ℕ → EventValue → Type 0
 Named cables act = act_names cables act ≡ true
 
 -- an entry of words of which the first two say what it names
-one_ok : {A : Type 0} (Q : Act → Type 0) (f : Reader A) (make : A → Act) (ws : List (List ℕ)) (act : Act)
-    → ((v : List ℕ) (x : A) → f v ≡ Ok x → Q (make x)) → one f make ws ≡ Ok act → Q act
+one_ok : {A : Type 0} (Q : EventValue → Type 0) (f : WordReader A) (make : A → EventValue) (ws : List (List ℕ)) (act : EventValue)
+    → ((v : List ℕ) (x : A) → f v ≡ Ok x → Q (make x)) → with_one_word f make ws ≡ Ok act → Q act
 one_ok Q f make ws act h e =
     let w = bind_ok (one_word ws) _ act e in
     let a = bind_ok (f w.0) _ act w.2 in
     subst Q (same_ok (make a.0) act a.2) (h w.0 a.0 a.1)
 
-two_ok : {A B : Type 0} (Q : Act → Type 0) (f : Reader A) (g : Reader B) (make : A → B → Act) (ws : List (List ℕ)) (act : Act)
-    → ((u v : List ℕ) (x : A) (y : B) → f u ≡ Ok x → g v ≡ Ok y → Q (make x y)) → two f g make ws ≡ Ok act → Q act
+two_ok : {A B : Type 0} (Q : EventValue → Type 0) (f : WordReader A) (g : WordReader B) (make : A → B → EventValue) (ws : List (List ℕ)) (act : EventValue)
+    → ((u v : List ℕ) (x : A) (y : B) → f u ≡ Ok x → g v ≡ Ok y → Q (make x y)) → with_two_words f g make ws ≡ Ok act → Q act
 two_ok Q f g make ws act h e =
     let w = bind_ok (two_words ws) _ act e in
     let a = bind_ok (f w.0.0) _ act w.2 in
     let b = bind_ok (g w.0.1) _ act a.2 in
     subst Q (same_ok (make a.0 b.0) act b.2) (h w.0.0 w.0.1 a.0 b.0 a.1 b.1)
 
-three_ok : {A B C : Type 0} (Q : Act → Type 0) (f : Reader A) (g : Reader B) (h : Reader C) (make : A → B → C → Act) (ws : List (List ℕ)) (act : Act)
-    → ((u : List ℕ) (x : A) (y : B) (z : C) → f u ≡ Ok x → Q (make x y z)) → three f g h make ws ≡ Ok act → Q act
+three_ok : {A B C : Type 0} (Q : EventValue → Type 0) (f : WordReader A) (g : WordReader B) (h : WordReader C) (make : A → B → C → EventValue) (ws : List (List ℕ)) (act : EventValue)
+    → ((u : List ℕ) (x : A) (y : B) (z : C) → f u ≡ Ok x → Q (make x y z)) → with_three_words f g h make ws ≡ Ok act → Q act
 three_ok Q f g h make ws act q e =
     let w = bind_ok (three_words ws) _ act e in
     let a = bind_ok (f w.0.0) _ act w.2 in
@@ -128,8 +128,8 @@ three_ok Q f g h make ws act q e =
     let c = bind_ok (h w.0.2) _ act b.2 in
     subst Q (same_ok (make a.0 b.0 c.0) act c.2) (q w.0.0 a.0 b.0 c.0 a.1)
 
-four_ok : {A B C D : Type 0} (Q : Act → Type 0) (f : Reader A) (g : Reader B) (h : Reader C) (i : Reader D) (make : A → B → C → D → Act) (ws : List (List ℕ)) (act : Act)
-    → ((u : List ℕ) (x : A) (y : B) (z : C) (t : D) → f u ≡ Ok x → Q (make x y z t)) → four f g h i make ws ≡ Ok act → Q act
+four_ok : {A B C D : Type 0} (Q : EventValue → Type 0) (f : WordReader A) (g : WordReader B) (h : WordReader C) (i : WordReader D) (make : A → B → C → D → EventValue) (ws : List (List ℕ)) (act : EventValue)
+    → ((u : List ℕ) (x : A) (y : B) (z : C) (t : D) → f u ≡ Ok x → Q (make x y z t)) → with_four_words f g h i make ws ≡ Ok act → Q act
 four_ok Q f g h i make ws act q e =
     let w = bind_ok (four_words ws) _ act e in
     let a = bind_ok (f w.0.0) _ act w.2 in
@@ -138,8 +138,8 @@ four_ok Q f g h i make ws act q e =
     let d = bind_ok (i w.0.3) _ act c.2 in
     subst Q (same_ok (make a.0 b.0 c.0 d.0) act d.2) (q w.0.0 a.0 b.0 c.0 d.0 a.1)
 
-five_ok : {A B C D E : Type 0} (Q : Act → Type 0) (f : Reader A) (g : Reader B) (h : Reader C) (i : Reader D) (j : Reader E) (make : A → B → C → D → E → Act) (ws : List (List ℕ)) (act : Act)
-    → ((u : List ℕ) (x : A) (y : B) (z : C) (t : D) (s : E) → f u ≡ Ok x → Q (make x y z t s)) → five f g h i j make ws ≡ Ok act → Q act
+five_ok : {A B C D E : Type 0} (Q : EventValue → Type 0) (f : WordReader A) (g : WordReader B) (h : WordReader C) (i : WordReader D) (j : WordReader E) (make : A → B → C → D → E → EventValue) (ws : List (List ℕ)) (act : EventValue)
+    → ((u : List ℕ) (x : A) (y : B) (z : C) (t : D) (s : E) → f u ≡ Ok x → Q (make x y z t s)) → with_five_words f g h i j make ws ≡ Ok act → Q act
 five_ok Q f g h i j make ws act q e =
     let w = bind_ok (five_words ws) _ act e in
     let a = bind_ok (f w.0.0) _ act w.2 in
@@ -151,23 +151,23 @@ five_ok Q f g h i j make ws act q e =
 
 -- one of two readings of words
 abbrev Reading : Type 0
-Reading = List (List ℕ) → Result Act EntryFault
+Reading = List (List ℕ) → Result EventValue EntryFault
 
-either : (b : Bool) (f g : Reading) (ws : List (List ℕ)) (act : Act) (P : Type 0) → (f ws ≡ Ok act → P) → (g ws ≡ Ok act → P) → (if b then f else g) ws ≡ Ok act → P
+either : (b : Bool) (f g : Reading) (ws : List (List ℕ)) (act : EventValue) (P : Type 0) → (f ws ≡ Ok act → P) → (g ws ≡ Ok act → P) → (if b then f else g) ws ≡ Ok act → P
 either true f g ws act P x y = x
 either false f g ws act P x y = y
 
-on_cable : (cables : ℕ) (make : ℕ → ℕ → Act) → ((c s : ℕ) → act_names cables (make c s) ≡ (is_cable cables (Some c) && has_system (Some s)))
-    → (ws : List (List ℕ)) (act : Act) → two (cable_word cables) system_word make ws ≡ Ok act → Named cables act
+on_cable : (cables : ℕ) (make : ℕ → ℕ → EventValue) → ((c s : ℕ) → act_names cables (make c s) ≡ (is_cable cables (Some c) && has_system (Some s)))
+    → (ws : List (List ℕ)) (act : EventValue) → with_two_words (cable_word cables) system_word make ws ≡ Ok act → Named cables act
 on_cable cables make names ws act =
     two_ok (Named cables) (cable_word cables) system_word make ws act
     (λ u v c s e f. names c s ∙ both (is_cable cables (Some c)) (has_system (Some s)) (cable_ok cables u c e) (system_ok v s f))
 
-cable_alone : (cables : ℕ) (make : ℕ → Act) → ((c : ℕ) → act_names cables (make c) ≡ (is_cable cables (Some c) && true))
-    → (ws : List (List ℕ)) (act : Act) → one (cable_word cables) make ws ≡ Ok act → Named cables act
+cable_alone : (cables : ℕ) (make : ℕ → EventValue) → ((c : ℕ) → act_names cables (make c) ≡ (is_cable cables (Some c) && true))
+    → (ws : List (List ℕ)) (act : EventValue) → with_one_word (cable_word cables) make ws ≡ Ok act → Named cables act
 cable_alone cables make names ws act = one_ok (Named cables) (cable_word cables) make ws act (λ u c e. names c ∙ both (is_cable cables (Some c)) true (cable_ok cables u c e) refl)
 
-plain_ok : (cables : ℕ) (name : List ℕ) (ws : List (List ℕ)) (act : Act) → plain_named cables name ws ≡ Ok act → Named cables act
+plain_ok : (cables : ℕ) (name : List ℕ) (ws : List (List ℕ)) (act : EventValue) → plain_named cables name ws ≡ Ok act → Named cables act
 plain_ok cables name ws act =
     either (bytes_eq name (codes "tick")) _ _ ws act (Named cables act) (two_ok (Named cables) system_word ticks_word tick ws act (λ u v s n e f. system_ok u s e))
     (either (bytes_eq name (codes "emit")) _ _ ws act (Named cables act) (two_ok (Named cables) system_word number_word emit ws act (λ u v s p e f. system_ok u s e))
@@ -179,19 +179,19 @@ plain_ok cables name ws act =
     (either (bytes_eq name (codes "sense")) _ _ ws act (Named cables act) (on_cable cables sense (λ c s. refl) ws act)
     (either (bytes_eq name (codes "restart")) _ _ ws act (Named cables act) (one_ok (Named cables) system_word restart ws act (λ u s e. system_ok u s e))
     (either (bytes_eq name (codes "configure")) _ _ ws act (Named cables act)
-    (five_ok (Named cables) system_word number_word number_word number_word kind_word configured ws act (λ u s p k i b e. system_ok u s e))
+    (five_ok (Named cables) system_word number_word number_word number_word kind_word configure_event ws act (λ u s p k i b e. system_ok u s e))
     (either (bytes_eq name (codes "move")) _ _ ws act (Named cables act)
     (four_ok (Named cables) system_word number_word number_word number_word move_to ws act (λ u s g k p e. system_ok u s e))
     (either (bytes_eq name (codes "force")) _ _ ws act (Named cables act)
     (three_ok (Named cables) system_word number_word number_word force ws act (λ u s g k e. system_ok u s e))
     (λ e. absurd (let h = e in cc)))))))))))))
 
-named_ok : (b : Bool) (cables : ℕ) (name : List ℕ) (ws : List (List ℕ)) (act : Act)
-    → (if b then three system_word number_word hex_word offer ws else plain_named cables name ws) ≡ Ok act → Named cables act
+named_ok : (b : Bool) (cables : ℕ) (name : List ℕ) (ws : List (List ℕ)) (act : EventValue)
+    → (if b then with_three_words system_word number_word hex_word offer ws else plain_named cables name ws) ≡ Ok act → Named cables act
 named_ok true cables name ws act = three_ok (Named cables) system_word number_word hex_word offer ws act (λ u s g o e. system_ok u s e)
 named_ok false cables name ws act = plain_ok cables name ws act
 
-words_ok : (cables : ℕ) (ws : List (List ℕ)) (act : Act) → act_of_words cables ws ≡ Ok act → Named cables act
+words_ok : (cables : ℕ) (ws : List (List ℕ)) (act : EventValue) → event_of_words cables ws ≡ Ok act → Named cables act
 words_ok cables [] act e = absurd (let h = e in cc)
 words_ok cables (name ∷ ws) act e = named_ok (bytes_eq name (codes "offer")) cables name ws act e
 
@@ -199,14 +199,14 @@ entry_ok : {A : Type 0} (place : ℕ) (r : Result A EntryFault) (x : A) → at_e
 entry_ok place (Ok y) x e = ap (good EntryFault) (same_ok y x e)
 entry_ok place (Err fault) x e = absurd (let h = e in cc)
 
-acts_ok : (cables place : ℕ) (texts : List (List ℕ)) (acts : List Act) → in_place (act_at cables) place texts ≡ Ok acts → list_all (act_names cables) acts ≡ true
-acts_ok cables place [] acts e = subst (λ xs. list_all (act_names cables) xs ≡ true) (same_ok [] acts e) refl
-acts_ok cables place (text ∷ texts) acts e =
-    let first = bind_ok (act_at cables place text) _ acts e in
-    let rest = bind_ok (in_place (act_at cables) (place + 1) texts) _ acts first.2 in
-    subst (λ xs. list_all (act_names cables) xs ≡ true) (same_ok (first.0 ∷ rest.0) acts rest.2)
+acts_ok : (cables place : ℕ) (texts : List (List ℕ)) (events : List EventValue) → in_place (event_at cables) place texts ≡ Ok events → list_all (act_names cables) events ≡ true
+acts_ok cables place [] events e = subst (λ xs. list_all (act_names cables) xs ≡ true) (same_ok [] events e) refl
+acts_ok cables place (text ∷ texts) events e =
+    let first = bind_ok (event_at cables place text) _ events e in
+    let rest = bind_ok (in_place (event_at cables) (place + 1) texts) _ events first.2 in
+    subst (λ xs. list_all (act_names cables) xs ≡ true) (same_ok (first.0 ∷ rest.0) events rest.2)
     (both (act_names cables first.0) (list_all (act_names cables) rest.0)
-    (words_ok cables (words_of text) first.0 (entry_ok place (act_in cables text) first.0 first.1))
+    (words_ok cables (words_of text) first.0 (entry_ok place (event_in cables text) first.0 first.1))
     (acts_ok cables (place + 1) texts rest.0 rest.1))
 
 -- ---- scripts
@@ -216,32 +216,32 @@ no_fault_ok None x y e = same_ok x y e
 no_fault_ok (Some fault) x y e = absurd (let h = e in cc)
 
 -- the entries that a document's parts make
-steps_ok : {S X Y : Type 0} (known : Bool) (rs : Result S ScriptFault) (rc : Result (List X) ScriptFault) (ra : ℕ → Result (List Act) ScriptFault) (bad : S → List X → Option ScriptFault) (made : S → List X → List Act → Y) (y : Y)
-    → unless known script.ExtraKey (rs >>= λ systems. rc >>= λ cables. ra (length cables) >>= λ acts. no_fault (bad systems cables) (made systems cables acts)) ≡ Ok y
-    → (systems : S) × (cables : List X) × (acts : List Act) × (ra (length cables) ≡ Ok acts) × (made systems cables acts ≡ y)
+steps_ok : {S X Y : Type 0} (known : Bool) (rs : Result S ScriptFault) (rc : Result (List X) ScriptFault) (ra : ℕ → Result (List EventValue) ScriptFault) (bad : S → List X → Option ScriptFault) (made : S → List X → List EventValue → Y) (y : Y)
+    → if_or_fault known script.ExtraKey (rs >>= λ systems. rc >>= λ cables. ra (length cables) >>= λ events. no_fault (bad systems cables) (made systems cables events)) ≡ Ok y
+    → (systems : S) × (cables : List X) × (events : List EventValue) × (ra (length cables) ≡ Ok events) × (made systems cables events ≡ y)
 steps_ok true (Ok systems) (Ok cables) ra bad made y e =
-    let acts = bind_ok (ra (length cables)) (λ acts. no_fault (bad systems cables) (made systems cables acts)) y e in
-    (systems, cables, acts.0, acts.1, no_fault_ok (bad systems cables) (made systems cables acts.0) y acts.2)
+    let events = bind_ok (ra (length cables)) (λ events. no_fault (bad systems cables) (made systems cables events)) y e in
+    (systems, cables, events.0, events.1, no_fault_ok (bad systems cables) (made systems cables events.0) y events.2)
 steps_ok true (Ok systems) (Err x) ra bad made y e = absurd (let h = e in cc)
 steps_ok true (Err x) rc ra bad made y e = absurd (let h = e in cc)
 steps_ok false rs rc ra bad made y e = absurd (let h = e in cc)
 
 -- the entries of a plan are those of its document
-plan_acts : (ms : Members) (p : ScriptPlan) → plan_in ms ≡ Ok p → acts_in (length p.script.cables) ms ≡ Ok p.script.acts
+plan_acts : (ms : Members) (p : PlanValue) → plan_in ms ≡ Ok p → events_in (length p.script.cables) ms ≡ Ok p.script.events
 plan_acts ms p e =
-    let parts = steps_ok (keys_among top_keys ms) (systems_in ms) (cables_in ms) (λ n. acts_in n ms) (λ systems cables. option_and_then config_fault (refusal_of_all systems (ends_of cables))) planned p e in
-    subst (λ (q : ScriptPlan). acts_in (length q.script.cables) ms ≡ Ok q.script.acts) parts.4
-    (subst (λ n. acts_in n ms ≡ Ok parts.2) (sym (length-map parts.1 (λ c. c.ends))) parts.3)
+    let parts = steps_ok (keys_among top_keys ms) (systems_in ms) (cables_in ms) (λ n. events_in n ms) (λ systems cables. option_and_then script_fault_for (refusal_of_all systems (ends_of cables))) planned p e in
+    subst (λ (q : PlanValue). events_in (length q.script.cables) ms ≡ Ok q.script.events) parts.4
+    (subst (λ n. events_in n ms ≡ Ok parts.2) (sym (length-map parts.1 (λ c. c.ends))) parts.3)
 
-acts_named : (cables : ℕ) (ms : Members) (acts : List Act) → acts_in cables ms ≡ Ok acts → list_all (act_names cables) acts ≡ true
-acts_named cables ms acts e =
-    let texts = bind_ok (or_fault script.Events (value_at (codes "events") entries_in (Some []) ms)) (acts_from cables 1) acts e in
-    acts_ok cables 1 texts.0 acts texts.2
+acts_named : (cables : ℕ) (ms : Members) (events : List EventValue) → events_in cables ms ≡ Ok events → list_all (act_names cables) events ≡ true
+acts_named cables ms events e =
+    let texts = bind_ok (or_fault script.Events (value_at (codes "events") entries_in (Some []) ms)) (events_from cables 1) events e in
+    acts_ok cables 1 texts.0 events texts.2
 
-events_named : (cables : ℕ) (es : List Event) → list_all (act_names cables) (acts_of es) ≡ true → AllNameExisting cables es
+events_named : (cables : ℕ) (es : List Event) → list_all (act_names cables) (event_values es) ≡ true → AllNameExisting cables es
 events_named cables [] h = refl
 events_named cables (e ∷ es) h =
-    let parts = halves (act_names cables (act_of e)) (list_all (act_names cables) (acts_of es)) h in
+    let parts = halves (act_names cables (event_value e)) (list_all (act_names cables) (event_values es)) h in
     both (names_existing cables e) (list_all (names_existing cables) es) (sym (same_names cables e) ∙ parts.0) (events_named cables es parts.1)
   where
     halves : (a b : Bool) → (a && b) ≡ true → (a ≡ true) × (b ≡ true)
@@ -249,9 +249,9 @@ events_named cables (e ∷ es) h =
     halves false b k = absurd (true≢false (sym k))
 
 -- the events of a plan name nothing but what there is
-pub plan_names : (text : List ℕ) (plan : Plan) → HasPlan text (plan_shown plan) → AllNameExisting (length plan.config.cables.items) plan.events.items
+pub plan_names : (text : List ℕ) (plan : Plan) → HasPlan text (plan_value plan) → AllNameExisting (length plan.config.cables.items) plan.events.items
 plan_names text plan (ms, parsed, read) =
-    events_named (length plan.config.cables.items) plan.events.items (acts_named (length plan.config.cables.items) ms (acts_of plan.events.items) (plan_acts ms (plan_shown plan) read))
+    events_named (length plan.config.cables.items) plan.events.items (acts_named (length plan.config.cables.items) ms (event_values plan.events.items) (plan_acts ms (plan_value plan) read))
 
 -- ---- how many entries a script has
 
@@ -281,16 +281,16 @@ few_texts (Some d) texts e = listed (list_in as_str d) e
     listed None h = absurd (none-some texts h)
     listed (Some xs) h = within xs (nat_le (length xs) 100000) refl h
 
-few_acts : (cables : ℕ) (ms : Members) (acts : List Act) → acts_in cables ms ≡ Ok acts → length acts ≤ 100000
-few_acts cables ms acts e =
-    let texts = bind_ok (or_fault script.Events (value_at (codes "events") entries_in (Some []) ms)) (acts_from cables 1) acts e in
+few_acts : (cables : ℕ) (ms : Members) (events : List EventValue) → events_in cables ms ≡ Ok events → length events ≤ 100000
+few_acts cables ms events e =
+    let texts = bind_ok (or_fault script.Events (value_at (codes "events") entries_in (Some []) ms)) (events_from cables 1) events e in
     let few = few_texts (get_member (codes "events") ms) texts.0 (there_ok script.Events (value_at (codes "events") entries_in (Some []) ms) texts.0 texts.1) in
-    let long = in_place_long (act_at cables) 1 texts.0 acts texts.2 in
+    let long = in_place_long (event_at cables) 1 texts.0 events texts.2 in
     subst (λ (n : ℕ). n ≤ 100000) (sym long) few
 
 -- a plan has no more entries than a world may see
-pub plan_few : (text : List ℕ) (plan : Plan) → HasPlan text (plan_shown plan) → length plan.events.items ≤ most_events
+pub plan_few : (text : List ℕ) (plan : Plan) → HasPlan text (plan_value plan) → length plan.events.items ≤ most_events
 plan_few text plan (ms, parsed, read) =
-    let few = few_acts (length plan.config.cables.items) ms (acts_of plan.events.items) (plan_acts ms (plan_shown plan) read) in
-    let same = length-map plan.events.items act_of in
+    let few = few_acts (length plan.config.cables.items) ms (event_values plan.events.items) (plan_acts ms (plan_value plan) read) in
+    let same = length-map plan.events.items event_value in
     omega (arith, few, same)

@@ -8,41 +8,41 @@ use Rattle.std.proofs.lemmas.List.{length-map, length-take-le}
 use Rattle.std.proofs.lemmas.Option.{none-some, same_Some, slice_get_within}
 use Rattle.cables.specs.AnyCable.{any_items, any_limit}
 use Rattle.cables.specs.declared.any.AnyCable.{AnyCable}
-use Rattle.lagmodel.specs.World.{Fixed}
+use Rattle.lagmodel.specs.World.{WorldSetup}
 use Rattle.lagscript.specs.Configs.{or_first}
 use Rattle.lagscript.specs.declared.config.BadWorld.{BadWorld}
 use Rattle.lagscript.specs.declared.config.BadWorld.TheVariants.{Lines}
 use Rattle.lagscript.specs.declared.event.Event.{Event}
-use Rattle.lagworld.specs.Events.{Gives, Runs, cable_named, cause, fault_for, first_cause, has_cable, has_system, most_events, system_named}
-use Rattle.lagworld.specs.Making.{Refuses, are_lines, first_line, is_empty}
+use Rattle.lagworld.specs.Events.{Algorithms, Runs, cable_named, cause, fault_for, first_event_cause, has_cable, has_system, most_events, system_named}
+use Rattle.lagworld.specs.Making.{RefusesToMake, are_lines, first_link, is_empty_line}
 use Rattle.lagworld.specs.Messages.{carried}
-use Rattle.lagworld.specs.Sound.{RefusesNext, Stops, next_of}
-use Rattle.lagworld.specs.State.{Joint, Line}
-use Rattle.lagworld.specs.Worlds.{ends_of, fixed_of}
+use Rattle.lagworld.specs.Sound.{RefusesNext, RunStops, next_of}
+use Rattle.lagworld.specs.State.{WorldState, LinkState}
+use Rattle.lagworld.specs.ModelWorld.{link_ends, world_setup}
 use Rattle.lagworld.specs.declared.fault.RunFault.{RunFault}
 use Rattle.lagworld.specs.declared.fault.WorldFault.{WorldFault}
 use Rattle.lagworld.specs.declared.fault.WorldFault.TheVariants.{NoMemory}
 use Rattle.lagworld.specs.declared.reply.Reply.{Reply}
 use Rattle.lagtool.specs.Naming.{AllNameExisting, is_cable, names_existing}
-use Rattle.lagtool.specs.Replayed.{first_cable, first_cables}
+use Rattle.lagtool.specs.ReplayReport.{empty_link, empty_links}
 
 -- ---- a world is made
 
 pub nothing_to_refuse : (reason : Option BadWorld) (empty : Bool) (fault : WorldFault) → reason ≡ None → empty ≡ true
-    → Refuses (or_first reason (if empty then None else Some Lines)) fault → fault ≡ NoMemory
+    → RefusesToMake (or_first reason (if empty then None else Some Lines)) fault → fault ≡ NoMemory
 nothing_to_refuse None true fault r e (inl h) = h
 nothing_to_refuse None true fault r e (inr (bad, is, h)) = absurd (none-some bad is)
 nothing_to_refuse None false fault r e h = absurd (true≢false (sym e))
 nothing_to_refuse (Some bad) empty fault r e h = absurd (none-some bad (sym r))
 
 -- nothing is on either direction of a cable
-abbrev pub is_bare : Line → Bool
+abbrev pub is_bare : LinkState → Bool
 is_bare l = (length l.to_one == 0) && (length l.to_two == 0)
 
-bare_line : (line : AnyCable × AnyCable) → is_empty any_items line ≡ is_bare (first_line any_items any_limit (0, 0) line)
+bare_line : (line : AnyCable × AnyCable) → is_empty_line any_items line ≡ is_bare (first_link any_items any_limit (0, 0) line)
 bare_line line = ap₂ (λ m n. (m == 0) && (n == 0)) (sym (length-map (any_items line.0) carried)) (sym (length-map (any_items line.1) carried))
 
-bare_lines : (lines : List (AnyCable × AnyCable)) → list_all (is_empty any_items) lines ≡ list_all is_bare (map (first_line any_items any_limit (0, 0)) lines)
+bare_lines : (lines : List (AnyCable × AnyCable)) → list_all (is_empty_line any_items) lines ≡ list_all is_bare (map (first_link any_items any_limit (0, 0)) lines)
 bare_lines [] = refl
 bare_lines (line ∷ lines) = ap₂ (λ x y. x && y) (bare_line line) (bare_lines lines)
 
@@ -50,19 +50,19 @@ both : (a b : Bool) → a ≡ true → b ≡ true → (a && b) ≡ true
 both a b e f = ap (λ x. x && b) e ∙ f
 
 -- as many lines as cables, of cables that are bare
-pub lines_there : (cables : List (ℕ × ℕ)) (lines : List (AnyCable × AnyCable)) (firsts : List Line) → map (first_line any_items any_limit (0, 0)) lines ≡ firsts
+pub lines_there : (cables : List (ℕ × ℕ)) (lines : List (AnyCable × AnyCable)) (firsts : List LinkState) → map (first_link any_items any_limit (0, 0)) lines ≡ firsts
     → length firsts ≡ length cables → list_all is_bare firsts ≡ true → are_lines any_items cables lines ≡ true
 lines_there cables lines firsts same long bare =
-    both (length lines == length cables) (list_all (is_empty any_items) lines)
-    (let counted : length lines ≡ length cables = sym (length-map lines (first_line any_items any_limit (0, 0))) ∙ ap length same ∙ long in grind (arith, nat_tests))
+    both (length lines == length cables) (list_all (is_empty_line any_items) lines)
+    (let counted : length lines ≡ length cables = sym (length-map lines (first_link any_items any_limit (0, 0))) ∙ ap length same ∙ long in grind (arith, nat_tests))
     (bare_lines lines ∙ ap (list_all is_bare) same ∙ bare)
 
-pub first_bare : (limits : List (Option ℕ)) → list_all is_bare (map (first_cable (0, 0)) limits) ≡ true
+pub first_bare : (limits : List (Option ℕ)) → list_all is_bare (map (empty_link (0, 0)) limits) ≡ true
 first_bare [] = refl
 first_bare (l ∷ limits) = first_bare limits
 
 -- one cable for each pair of ends, if there are as many limits
-pub cables_counted : (cables : List (ℕ × ℕ)) (limits : List (Option ℕ)) → length limits ≡ length cables → length (first_cables cables limits) ≡ length cables
+pub cables_counted : (cables : List (ℕ × ℕ)) (limits : List (Option ℕ)) → length limits ≡ length cables → length (empty_links cables limits) ≡ length cables
 cables_counted [] limits h = refl
 cables_counted (ends ∷ cables) [] h = absurd (omega (arith, h))
 cables_counted (ends ∷ cables) (l ∷ limits) h =
@@ -72,8 +72,8 @@ cables_counted (ends ∷ cables) (l ∷ limits) h =
 -- ---- events are played
 
 -- each event counts
-acted_by : (gives : Gives) (es : List Event) (rs : List Reply) (old new : Joint) → Runs gives old es rs new → new.acted ≡ old.acted + length es
-acted_by gives [] [] old new x = ap (λ (j : Joint). j.acted) x ∙ (let none : old.acted ≡ old.acted + 0 = omega arith in none)
+acted_by : (gives : Algorithms) (es : List Event) (rs : List Reply) (old new : WorldState) → Runs gives old es rs new → new.acted ≡ old.acted + length es
+acted_by gives [] [] old new x = ap (λ (j : WorldState). j.acted) x ∙ (let none : old.acted ≡ old.acted + 0 = omega arith in none)
 acted_by gives [] (r ∷ rs) old new x = absurd x
 acted_by gives (e ∷ es) [] old new x = absurd x
 acted_by gives (e ∷ es) (r ∷ rs) old new (mid, step, rest) =
@@ -81,8 +81,8 @@ acted_by gives (e ∷ es) (r ∷ rs) old new (mid, step, rest) =
     let next : mid.acted ≡ old.acted + 1 = step.1 in
     omega (arith, more, next)
 
-cables_kept : (old new : Joint) → fixed_of new ≡ fixed_of old → length new.lines ≡ length old.lines
-cables_kept old new e = sym (length-map new.lines ends_of) ∙ ap (λ (x : Fixed). length x.cables) e ∙ length-map old.lines ends_of
+cables_kept : (old new : WorldState) → world_setup new ≡ world_setup old → length new.links ≡ length old.links
+cables_kept old new e = sym (length-map new.links link_ends) ∙ ap (λ (x : WorldSetup). length x.cables) e ∙ length-map old.links link_ends
 
 there : {X : Type 0} (xs : List X) (i : ℕ) → i < length xs → is_some (slice_get xs i) ≡ true
 there [] i lt = absurd (omega (arith, lt))
@@ -93,14 +93,14 @@ halves : (a b : Bool) → (a && b) ≡ true → (a ≡ true) × (b ≡ true)
 halves true b h = (refl, h)
 halves false b h = absurd (true≢false (sym h))
 
-cable_there : (j : Joint) (o : Option ℕ) → is_cable (length j.lines) o ≡ true → has_cable j o ≡ true
+cable_there : (j : WorldState) (o : Option ℕ) → is_cable (length j.links) o ≡ true → has_cable j o ≡ true
 cable_there j None h = refl
-cable_there j (Some zero) h = absurd (true≢false (sym (halves (nat_le 1 0) (nat_le 0 (length j.lines)) h).0))
+cable_there j (Some zero) h = absurd (true≢false (sym (halves (nat_le 1 0) (nat_le 0 (length j.links)) h).0))
 cable_there j (Some (suc i)) h =
-    let within = (halves (nat_le 1 (suc i)) (nat_le (suc i) (length j.lines)) h).1 in
-    there j.lines i (grind (arith, nat_tests))
+    let within = (halves (nat_le 1 (suc i)) (nat_le (suc i) (length j.links)) h).1 in
+    there j.links i (grind (arith, nat_tests))
 
-no_cause : (cable system spent : Bool) → cable ≡ true → system ≡ true → spent ≡ false → first_cause cable system spent ≡ None
+no_cause : (cable system spent : Bool) → cable ≡ true → system ≡ true → spent ≡ false → first_event_cause cable system spent ≡ None
 no_cause true true false c s p = refl
 no_cause true true true c s p = absurd (true≢false p)
 no_cause true false spent c s p = absurd (true≢false (sym s))
@@ -115,10 +115,10 @@ not_spent : (n k : ℕ) → n ≡ k → k < most_events → nat_le most_events n
 not_spent n k e lt = grind (arith, nat_tests)
 
 -- the next event has no cause to be refused
-next_fine : (gives : Gives) (old new : Joint) (es : List Event) (rs : List Reply) (done : ℕ) (e : Event) → Runs gives old (take done es) rs new → done ≤ length es
-    → fixed_of new ≡ fixed_of old → old.acted ≡ 0 → AllNameExisting (length old.lines) es → length es ≤ most_events → slice_get es done ≡ Some e → cause new e ≡ None
+next_fine : (gives : Algorithms) (old new : WorldState) (es : List Event) (rs : List Reply) (done : ℕ) (e : Event) → Runs gives old (take done es) rs new → done ≤ length es
+    → world_setup new ≡ world_setup old → old.acted ≡ 0 → AllNameExisting (length old.links) es → length es ≤ most_events → slice_get es done ≡ Some e → cause new e ≡ None
 next_fine gives old new es rs done e ran within fixed acted named few at =
-    let held = halves (is_cable (length old.lines) (cable_named e)) (has_system (system_named e)) (named_at (names_existing (length old.lines)) es done e named at) in
+    let held = halves (is_cable (length old.links) (cable_named e)) (has_system (system_named e)) (named_at (names_existing (length old.links)) es done e named at) in
     let more = acted_by gives (take done es) rs old new ran in
     let long = length-take-le done es within in
     let lt = slice_get_within es done e at in
@@ -129,8 +129,8 @@ next_fine gives old new es rs done e ran within fixed acted named few at =
     (not_spent new.acted done count (omega (arith, lt, few)))
 
 -- so a run stops only for lack of memory
-pub stops_for_memory : (gives : Gives) (old new : Joint) (es : List Event) (stop : RunFault) → fixed_of new ≡ fixed_of old → old.acted ≡ 0
-    → AllNameExisting (length old.lines) es → length es ≤ most_events → Stops gives old es stop new → stop.fault ≡ NoMemory
+pub stops_for_memory : (gives : Algorithms) (old new : WorldState) (es : List Event) (stop : RunFault) → world_setup new ≡ world_setup old → old.acted ≡ 0
+    → AllNameExisting (length old.links) es → length es ≤ most_events → RunStops gives old es stop new → stop.fault ≡ NoMemory
 stops_for_memory gives old new es stop fixed acted named few s = elim s.fault [ inl h ↦ h.1 | inr h ↦ by_next (next_of es stop.done) refl h ]
   where
     by_next : (o : Option Event) → next_of es stop.done ≡ o → RefusesNext new o stop.fault → stop.fault ≡ NoMemory

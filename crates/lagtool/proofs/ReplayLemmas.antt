@@ -3,9 +3,9 @@ use Rattle.std.proofs.Common.{◌≡◌, ℕ, zero, suc, ◌+◌, ◌<◌, ◌�
 use Rattle.std.specs.Fmt.{decimal}
 use Rattle.std.specs.Prelude.{option_map, slice_get}
 use Rattle.std.proofs.lemmas.Option.{none-some}
-use Rattle.lagworld.specs.Agreement.{agreement_at, agreement_of, end_view}
-use Rattle.lagworld.specs.Events.{Gives, Runs}
-use Rattle.lagworld.specs.State.{Joint, Line}
+use Rattle.lagworld.specs.Agreement.{agreement_at, agreement_of, end_facts}
+use Rattle.lagworld.specs.Events.{Algorithms, Runs}
+use Rattle.lagworld.specs.State.{WorldState, LinkState}
 use Rattle.std.specs.Prelude.{flat_map}
 use Rattle.std.specs.List.{range_with_len}
 use Rattle.std.proofs.lemmas.List.{take_more}
@@ -14,7 +14,7 @@ use Rattle.std.proofs.lemmas.List.FromFn.{map-range_with_len_more}
 use Rattle.lagscript.specs.declared.event.Event.{Event}
 use Rattle.lagworld.specs.declared.reply.Reply.{Reply}
 use Rattle.lagworld.specs.declared.agreement.Agreement.{Agreement}
-use Rattle.lagtool.specs.Replayed.{agreement_line, agreements_text, cable_numbers, collected_text, entries_text, entry_line}
+use Rattle.lagtool.specs.ReplayReport.{agreement_line, agreements_text, cable_numbers, collected_text, entries_text, entry_line}
 
 -- a text to which one is appended, and then another
 pub appended_both : (t u v a b c : List ℕ) → u ≡ t ++ a → v ≡ u ++ b → a ++ b ≡ c → v ≡ t ++ c
@@ -69,7 +69,7 @@ range_rest f a (suc n) zero le h = absurd (omega arith)
 range_rest f a (suc n) (suc m) le h = ap (λ t. f a ++ t) (range_rest f (a + 1) n m (omega arith) (λ c lt. h c (omega arith)))
 
 -- if there is no cable with a number, there is none with a higher one
-past : (ls : List Line) (i k : ℕ) → slice_get ls i ≡ None → i ≤ k → slice_get ls k ≡ None
+past : (ls : List LinkState) (i k : ℕ) → slice_get ls i ≡ None → i ≤ k → slice_get ls k ≡ None
 past [] i k h le = refl
 past (l ∷ ls) zero k h le = absurd (none-some l (sym h))
 past (l ∷ ls) (suc i) zero h le = absurd (omega arith)
@@ -79,14 +79,14 @@ none_agrees : {A B : Type 0} (f : A → B) (o : Option A) → option_map f o ≡
 none_agrees f None h = refl
 none_agrees f (Some x) h = absurd (none-some (f x) (sym h))
 
-pub no_more_cables : (j : Joint) (c d : ℕ) → 1 ≤ c → c ≤ d → agreement_at j c ≡ None → agreement_at j d ≡ None
+pub no_more_cables : (j : WorldState) (c d : ℕ) → 1 ≤ c → c ≤ d → agreement_at j c ≡ None → agreement_at j d ≡ None
 no_more_cables j zero d one le h = absurd (omega arith)
 no_more_cables j (suc i) zero one le h = absurd (omega arith)
 no_more_cables j (suc i) (suc k) one le h =
-    ap (option_map (λ (l : Line). agreement_of (end_view j.one l.one) (end_view j.two l.two))) (past j.lines i k (none_agrees _ (slice_get j.lines i) h) (omega arith))
+    ap (option_map (λ (l : LinkState). agreement_of (end_facts j.one l.one) (end_facts j.two l.two))) (past j.links i k (none_agrees _ (slice_get j.links i) h) (omega arith))
 
 -- as many replies as events
-pub as_many : (gives : Gives) (old new : Joint) (es : List Event) (rs : List Reply) → Runs gives old es rs new → length rs ≡ length es
+pub as_many : (gives : Algorithms) (old new : WorldState) (es : List Event) (rs : List Reply) → Runs gives old es rs new → length rs ≡ length es
 as_many gives old new [] [] h = refl
 as_many gives old new [] (r ∷ rs) h = absurd h
 as_many gives old new (e ∷ es) [] h = absurd h
@@ -101,18 +101,18 @@ unfolding cable_numbers
 numbers = refl
 
 -- the lines of all cables, if there is none with the next number
-pub cables_end : (j : Joint) (i : ℕ) → i < 65535 → agreement_at j (i + 1) ≡ None → flat_map (λ c. agreement_line c (agreement_at j c)) (range_with_len 1 i) ≡ agreements_text j
+pub cables_end : (j : WorldState) (i : ℕ) → i < 65535 → agreement_at j (i + 1) ≡ None → flat_map (λ c. agreement_line c (agreement_at j c)) (range_with_len 1 i) ≡ agreements_text j
 cables_end j i lt none =
     range_rest (λ c. agreement_line c (agreement_at j c)) 1 i cable_numbers (omega (arith, numbers, lt)) (λ c le. ap (agreement_line c) (no_more_cables j (i + 1) c (omega arith) (omega (arith, le)) none))
 
 -- the lines of all cables, if each number was looked at
-pub cables_all : (j : Joint) (i : ℕ) → i ≤ 65535 → 65535 ≤ i → flat_map (λ c. agreement_line c (agreement_at j c)) (range_with_len 1 i) ≡ agreements_text j
+pub cables_all : (j : WorldState) (i : ℕ) → i ≤ 65535 → 65535 ≤ i → flat_map (λ c. agreement_line c (agreement_at j c)) (range_with_len 1 i) ≡ agreements_text j
 cables_all j i le ge =
     let all : i ≡ cable_numbers = omega (arith, numbers, le, ge) in
     ap (λ n. flat_map (λ c. agreement_line c (agreement_at j c)) (range_with_len 1 n)) all
 
 -- one more line
-pub cable_more : (t u v : List ℕ) (j : Joint) (i : ℕ) (a : Agreement) → u ≡ t ++ flat_map (λ c. agreement_line c (agreement_at j c)) (range_with_len 1 i)
+pub cable_more : (t u v : List ℕ) (j : WorldState) (i : ℕ) (a : Agreement) → u ≡ t ++ flat_map (λ c. agreement_line c (agreement_at j c)) (range_with_len 1 i)
     → Some a ≡ agreement_at j (i + 1) → v ≡ u ++ agreement_line (i + 1) (Some a) → v ≡ t ++ flat_map (λ c. agreement_line c (agreement_at j c)) (range_with_len 1 (i + 1))
 cable_more t u v j i a before at said =
     appended_both t u v (flat_map (λ c. agreement_line c (agreement_at j c)) (range_with_len 1 i)) (agreement_line (i + 1) (Some a)) _ before said

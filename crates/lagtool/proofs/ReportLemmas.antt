@@ -7,10 +7,10 @@ use Rattle.std.specs.Fmt.{decimal}
 use Rattle.std.specs.Io.KnownBytes.{Appends, IsAtEnd}
 use Rattle.memchr.specs.Find.{Nowhere, Passes, is_byte}
 use Rattle.hex.specs.Hex.{decode_of}
-use Rattle.lagtool.specs.Begun.{Checks, Ends, HasCause, Stops}
-use Rattle.lagtool.specs.Checked.{close, counted_from, counts_text, ended_text, faults_of, lines_of, newlines, numbered, prepend, report, report_from, summary, verdicts_from}
-use Rattle.lagtool.specs.Scans.{Reads, ScanState, counted, said_after, unwritten}
-use Rattle.lagtool.specs.Sinks.{Begins, SinkState, Takes}
+use Rattle.lagtool.specs.CheckEnds.{Checks, Completes, HasCause, Stops}
+use Rattle.lagtool.specs.CheckReport.{line_if_any, counted_from, counts_text, ended_lines_text, faults_of, lines_of, newline_count, numbered, continue_line, report, report_from, summary, verdicts_from}
+use Rattle.lagtool.specs.Scans.{ReadsOctets, ScanState, counts_after, said_after, unwritten}
+use Rattle.lagtool.specs.Sinks.{AppendsPart, SinkState, WritesWhole}
 use Rattle.lagtool.specs.Sources.{Fails, Gives, SourceState}
 use Rattle.lagtool.specs.Verdicts.{hex_verdict, is_fault, line_verdict, verdict_text, without_return}
 use Rattle.lagtool.specs.declared.fault.ToolFault.{ToolFault}
@@ -21,12 +21,12 @@ use Rattle.lagtool.specs.declared.verdict.Verdict.TheVariants.{TooLong}
 use Rattle.lagtool.proofs.OctetLemmas.{appends_both, appends_none, consumes_both, consumes_none}
 use Rattle.lagtool.proofs.SinkLemmas.{takes_more}
 
-prepend_none : (ls : List (List ℕ)) → prepend [] ls ≡ ls
+prepend_none : (ls : List (List ℕ)) → continue_line [] ls ≡ ls
 prepend_none [] = refl
 prepend_none (l ∷ ls) = refl
 
-prepend_both : (line xs : List ℕ) (ls : List (List ℕ)) → prepend line (prepend xs ls) ≡ prepend (line ++ xs) ls
-prepend_both line [] [] = ap close (sym (append-nil line))
+prepend_both : (line xs : List ℕ) (ls : List (List ℕ)) → continue_line line (continue_line xs ls) ≡ continue_line (line ++ xs) ls
+prepend_both line [] [] = ap line_if_any (sym (append-nil line))
 prepend_both [] (x ∷ xs) [] = refl
 prepend_both (y ∷ ys) (x ∷ xs) [] = refl
 prepend_both line xs (l ∷ ls) = ap (λ m. m ∷ ls) (sym (append_assoc line xs l))
@@ -39,12 +39,12 @@ not_true false h = refl
 abbrev pub InOneLine : List ℕ → Type 0
 InOneLine xs = Nowhere (Passes (is_byte 10) xs) 0 (length xs)
 
-lines_joined : (xs rest : List ℕ) → InOneLine xs → lines_of (xs ++ rest) ≡ prepend xs (lines_of rest)
+lines_joined : (xs rest : List ℕ) → InOneLine xs → lines_of (xs ++ rest) ≡ continue_line xs (lines_of rest)
 lines_joined [] rest h = sym (prepend_none (lines_of rest))
 lines_joined (b ∷ bs) rest h =
     let first : (b == 10) ≡ false = not_true (b == 10) (h 0 (omega arith) (omega arith)) in
     let later = lines_joined bs rest (λ k low high. h (suc k) (omega arith) (omega (arith, high))) in
-    ap (λ t. cond t ([] ∷ lines_of (bs ++ rest)) (prepend (b ∷ []) (lines_of (bs ++ rest)))) first ∙ ap (prepend (b ∷ [])) later ∙ prepend_both (b ∷ []) bs (lines_of rest)
+    ap (λ t. cond t ([] ∷ lines_of (bs ++ rest)) (continue_line (b ∷ []) (lines_of (bs ++ rest)))) first ∙ ap (continue_line (b ∷ [])) later ∙ prepend_both (b ∷ []) bs (lines_of rest)
 
 -- what stands before the first newline
 pub before_newline : (xs : List ℕ) (n : ℕ) → n ≤ length xs → Nowhere (Passes (is_byte 10) xs) 0 n → InOneLine (take n xs)
@@ -57,44 +57,44 @@ long_line l h = ap (λ t. cond t TooLong (hex_verdict (decode_of (without_return
 
 -- what is said of lines, if it depends on the verdict on the first
 module _ {X : Type 0} (F : List (List ℕ) → X) (by_verdict : (l m : List ℕ) (ls : List (List ℕ)) → line_verdict l ≡ line_verdict m → F (l ∷ ls) ≡ F (m ∷ ls)) where
-  same_long : (l m : List ℕ) (ls : List (List ℕ)) → 65536 < length l → 65536 < length m → F (prepend l ls) ≡ F (prepend m ls)
+  same_long : (l m : List ℕ) (ls : List (List ℕ)) → 65536 < length l → 65536 < length m → F (continue_line l ls) ≡ F (continue_line m ls)
   same_long [] m ls h j = absurd (omega arith)
   same_long (x ∷ l) [] ls h j = absurd (omega arith)
   same_long (x ∷ l) (y ∷ m) [] h j = by_verdict (x ∷ l) (y ∷ m) [] (long_line (x ∷ l) h ∙ sym (long_line (y ∷ m) j))
   same_long (x ∷ l) (y ∷ m) (k ∷ ls) h j =
       by_verdict ((x ∷ l) ++ k) ((y ∷ m) ++ k) ls (long_line ((x ∷ l) ++ k) (simp length-append (omega arith)) ∙ sym (long_line ((y ∷ m) ++ k) (simp length-append (omega arith))))
 
-  more_of_line : (line xs rest : List ℕ) → InOneLine xs → F (prepend line (lines_of (xs ++ rest))) ≡ F (prepend (line ++ xs) (lines_of rest))
-  more_of_line line xs rest h = ap (λ ls. F (prepend line ls)) (lines_joined xs rest h) ∙ ap F (prepend_both line xs (lines_of rest))
+  more_of_line : (line xs rest : List ℕ) → InOneLine xs → F (continue_line line (lines_of (xs ++ rest))) ≡ F (continue_line (line ++ xs) (lines_of rest))
+  more_of_line line xs rest h = ap (λ ls. F (continue_line line ls)) (lines_joined xs rest h) ∙ ap F (prepend_both line xs (lines_of rest))
 
-  kept_part : (line xs rest : List ℕ) (n : ℕ) → InOneLine xs → n ≤ length xs → length line + n ≡ 65537 → F (prepend line (lines_of (xs ++ rest))) ≡ F (prepend (line ++ take n xs) (lines_of rest))
+  kept_part : (line xs rest : List ℕ) (n : ℕ) → InOneLine xs → n ≤ length xs → length line + n ≡ 65537 → F (continue_line line (lines_of (xs ++ rest))) ≡ F (continue_line (line ++ take n xs) (lines_of rest))
   kept_part line xs rest n h le long =
       more_of_line line xs rest h
       ∙ same_long (line ++ xs) (line ++ take n xs) (lines_of rest) (simp length-append (omega arith)) (simp length-append (omega (arith, length-take-le n xs le)))
 
   kept_line : (line xs rest : List ℕ) (n : ℕ) → InOneLine xs → length line ≤ 65537 → n ≡ min (length xs) (65537 - length line)
-      → F (prepend line (lines_of (xs ++ rest))) ≡ F (prepend (line ++ take n xs) (lines_of rest))
+      → F (continue_line line (lines_of (xs ++ rest))) ≡ F (continue_line (line ++ take n xs) (lines_of rest))
   kept_line line xs rest n h short is = elim (cases_lt (65537 - length line) (length xs)) [
     | inl less ↦ kept_part line xs rest n h (omega (arith, is)) (omega (arith, is))
-    | inr more ↦ more_of_line line xs rest h ∙ ap (λ ys. F (prepend (line ++ ys) (lines_of rest))) (sym (take_all n xs (omega (arith, is))))
+    | inr more ↦ more_of_line line xs rest h ∙ ap (λ ys. F (continue_line (line ++ ys) (lines_of rest))) (sym (take_all n xs (omega (arith, is))))
   ]
 
-newlines_joined : (xs rest : List ℕ) → InOneLine xs → newlines (xs ++ rest) ≡ newlines rest
+newlines_joined : (xs rest : List ℕ) → InOneLine xs → newline_count (xs ++ rest) ≡ newline_count rest
 newlines_joined [] rest h = refl
 newlines_joined (b ∷ bs) rest h =
     let first : (b == 10) ≡ false = not_true (b == 10) (h 0 (omega arith) (omega arith)) in
-    ap (λ t. cond t (suc (newlines (bs ++ rest))) (newlines (bs ++ rest))) first ∙ newlines_joined bs rest (λ k low high. h (suc k) (omega arith) (omega (arith, high)))
+    ap (λ t. cond t (suc (newline_count (bs ++ rest))) (newline_count (bs ++ rest))) first ∙ newlines_joined bs rest (λ k low high. h (suc k) (omega arith) (omega (arith, high)))
 
 -- what is still to come after n lines with k faults, and some octets of the next
 abbrev pub pending : ℕ → ℕ → List ℕ → List ℕ → List ℕ
-pending n k line rest = report_from n k (prepend line (lines_of rest))
+pending n k line rest = report_from n k (continue_line line (lines_of rest))
 
 abbrev pub counts : ℕ → ℕ → List ℕ → List ℕ → Summary
-counts n k line rest = counted_from n k (prepend line (lines_of rest))
+counts n k line rest = counted_from n k (continue_line line (lines_of rest))
 
 -- what is said of the lines that these octets end, after n lines and some octets of the next
 abbrev pub ended : ℕ → List ℕ → List ℕ → List ℕ
-ended n line rest = verdicts_from n (take (newlines rest) (prepend line (lines_of rest)))
+ended n line rest = verdicts_from n (take (newline_count rest) (continue_line line (lines_of rest)))
 
 same_report : (n k : ℕ) (l m : List ℕ) (ls : List (List ℕ)) → line_verdict l ≡ line_verdict m → report_from n k (l ∷ ls) ≡ report_from n k (m ∷ ls)
 same_report n k l m ls e = ap (λ (v : Verdict). (decimal (n + 1) ++ 32 ∷ (verdict_text v ++ 10 ∷ [])) ++ report_from (n + 1) (k + cond (is_fault v) 1 0) ls) e
@@ -121,27 +121,27 @@ on_ok (Err e) h = tt
 
 -- more octets of a line were kept
 pub keeps : (s t : ScanState) (xs : List ℕ) (n : ℕ) → t.said ≡ s.said → t.lines ≡ s.lines → t.faults ≡ s.faults → t.line ≡ s.line ++ take n xs
-    → InOneLine xs → length s.line ≤ 65537 → n ≡ min (length xs) (65537 - length s.line) → Reads s t xs
+    → InOneLine xs → length s.line ≤ 65537 → n ≡ min (length xs) (65537 - length s.line) → ReadsOctets s t xs
 keeps s t xs n e f g h in_line short is = record {
   report = λ rest. ap (λ zs. s.said ++ zs) (kept_line (report_from s.lines s.faults) (same_report s.lines s.faults) s.line xs rest n in_line short is)
       ∙ sym (same_unwritten _ _ _ _ _ _ _ _ rest e f g h);
-  said = λ rest. ap (λ c. s.said ++ verdicts_from s.lines (take c (prepend s.line (lines_of (xs ++ rest))))) (newlines_joined xs rest in_line)
-      ∙ ap (λ zs. s.said ++ zs) (kept_line (λ ls. verdicts_from s.lines (take (newlines rest) ls)) (same_verdicts s.lines (newlines rest)) s.line xs rest n in_line short is)
+  said = λ rest. ap (λ c. s.said ++ verdicts_from s.lines (take c (continue_line s.line (lines_of (xs ++ rest))))) (newlines_joined xs rest in_line)
+      ∙ ap (λ zs. s.said ++ zs) (kept_line (λ ls. verdicts_from s.lines (take (newline_count rest) ls)) (same_verdicts s.lines (newline_count rest)) s.line xs rest n in_line short is)
       ∙ sym (same_said _ _ _ _ _ _ rest e f h);
   counts = λ rest. kept_line (counted_from s.lines s.faults) (same_counts s.lines s.faults) s.line xs rest n in_line short is ∙ sym (same_counted _ _ _ _ _ _ rest f g h);
 }
 
 -- a newline ended a line
 pub ends_line : (s t : ScanState) → t.said ≡ s.said ++ numbered (s.lines + 1) s.line → t.lines ≡ s.lines + 1
-    → t.faults ≡ s.faults + faults_of s.line → t.line ≡ [] → Reads s t (10 ∷ [])
+    → t.faults ≡ s.faults + faults_of s.line → t.line ≡ [] → ReadsOctets s t (10 ∷ [])
 ends_line s t e f g h = record {
   report = λ rest. ap (λ l. s.said ++ report_from s.lines s.faults (l ∷ lines_of rest)) (append-nil s.line)
       ∙ sym (append_assoc s.said (numbered (s.lines + 1) s.line) (report_from (s.lines + 1) (s.faults + faults_of s.line) (lines_of rest)))
       ∙ ap (λ ls. (s.said ++ numbered (s.lines + 1) s.line) ++ report_from (s.lines + 1) (s.faults + faults_of s.line) ls) (sym (prepend_none (lines_of rest)))
       ∙ sym (same_unwritten _ _ _ _ _ _ _ _ rest e f g h);
-  said = λ rest. ap (λ l. s.said ++ (numbered (s.lines + 1) l ++ verdicts_from (s.lines + 1) (take (newlines rest) (lines_of rest)))) (append-nil s.line)
-      ∙ sym (append_assoc s.said (numbered (s.lines + 1) s.line) (verdicts_from (s.lines + 1) (take (newlines rest) (lines_of rest))))
-      ∙ ap (λ ls. (s.said ++ numbered (s.lines + 1) s.line) ++ verdicts_from (s.lines + 1) (take (newlines rest) ls)) (sym (prepend_none (lines_of rest)))
+  said = λ rest. ap (λ l. s.said ++ (numbered (s.lines + 1) l ++ verdicts_from (s.lines + 1) (take (newline_count rest) (lines_of rest)))) (append-nil s.line)
+      ∙ sym (append_assoc s.said (numbered (s.lines + 1) s.line) (verdicts_from (s.lines + 1) (take (newline_count rest) (lines_of rest))))
+      ∙ ap (λ ls. (s.said ++ numbered (s.lines + 1) s.line) ++ verdicts_from (s.lines + 1) (take (newline_count rest) ls)) (sym (prepend_none (lines_of rest)))
       ∙ sym (same_said _ _ _ _ _ _ rest e f h);
   counts = λ rest. ap (λ l. counted_from s.lines s.faults (l ∷ lines_of rest)) (append-nil s.line)
       ∙ ap (counted_from (s.lines + 1) (s.faults + faults_of s.line)) (sym (prepend_none (lines_of rest)))
@@ -160,22 +160,22 @@ line_done all done rest n e lt is =
 pub rest_length : (rest : List ℕ) (n : ℕ) → n < length rest → length (take (length rest - (n + 1)) (drop (n + 1) rest)) + (n + 1) ≡ length rest
 rest_length rest n lt = ap (λ xs. length xs + (n + 1)) (take_rest rest (n + 1)) ∙ ap (λ m. m + (n + 1)) (length-drop (n + 1) rest) ∙ omega arith
 
-pub reads_none : (s : ScanState) → Reads s s []
+pub reads_none : (s : ScanState) → ReadsOctets s s []
 reads_none s = record { report = λ rest. refl; said = λ rest. refl; counts = λ rest. refl }
 
-pub reads_both : (a b c : ScanState) (xs ys : List ℕ) → Reads a b xs → Reads b c ys → Reads a c (xs ++ ys)
+pub reads_both : (a b c : ScanState) (xs ys : List ℕ) → ReadsOctets a b xs → ReadsOctets b c ys → ReadsOctets a c (xs ++ ys)
 reads_both a b c xs ys p q = record {
   report = λ rest. ap (unwritten a) (append_assoc xs ys rest) ∙ p.report (ys ++ rest) ∙ q.report rest;
   said = λ rest. ap (said_after a) (append_assoc xs ys rest) ∙ p.said (ys ++ rest) ∙ q.said rest;
-  counts = λ rest. ap (counted a) (append_assoc xs ys rest) ∙ p.counts (ys ++ rest) ∙ q.counts rest;
+  counts = λ rest. ap (counts_after a) (append_assoc xs ys rest) ∙ p.counts (ys ++ rest) ∙ q.counts rest;
 }
 
 -- what a write leaves
 pub all_said : (s t : ScanState) → t ≡ record s { said = [] } → (t.said ≡ []) × (t.lines ≡ s.lines)
 all_said s t e = (ap (λ v. v.said) e, ap (λ v. v.lines) e)
 
-pub reads_rest : {T E : Type 0} (r : Result T E) (a b c : ScanState) (all done rest : List ℕ) → all ≡ done ++ rest → Reads a b done → OnOk r (Reads b c rest) → OnOk r (Reads a c all)
-reads_rest (Ok x) a b c all done rest e p q = subst (Reads a c) (sym e) (reads_both a b c done rest p q)
+pub reads_rest : {T E : Type 0} (r : Result T E) (a b c : ScanState) (all done rest : List ℕ) → all ≡ done ++ rest → ReadsOctets a b done → OnOk r (ReadsOctets b c rest) → OnOk r (ReadsOctets a c all)
+reads_rest (Ok x) a b c all done rest e p q = subst (ReadsOctets a c) (sym e) (reads_both a b c done rest p q)
 reads_rest (Err x) a b c all done rest e p q = tt
 
 -- the stream ends behind some octets of a line, or behind none
@@ -195,10 +195,10 @@ module _ {R W : Type 0} (remaining : R → Option (List ℕ)) (contents : W → 
     pub octets : List ℕ
     pub read : Gives remaining from to octets
     pub out : List ℕ
-    pub written : Takes contents old new out
+    pub written : WritesWhole contents old new out
     pub report_is : (rest : List ℕ) → report (octets ++ rest) ≡ out ++ unwritten s rest
-    pub said_is : (rest : List ℕ) → ended_text (octets ++ rest) ≡ out ++ said_after s rest
-    pub counts_are : (rest : List ℕ) → summary (octets ++ rest) ≡ counted s rest
+    pub said_is : (rest : List ℕ) → ended_lines_text (octets ++ rest) ≡ out ++ said_after s rest
+    pub counts_are : (rest : List ℕ) → summary (octets ++ rest) ≡ counts_after s rest
 
   pub told_none : (r : SourceState R) (w : SinkState W) (s : ScanState) → s.said ≡ [] → s.lines ≡ 0 → s.faults ≡ 0 → s.line ≡ [] → Told r r w w s
   told_none r w s e f g h = record {
@@ -207,7 +207,7 @@ module _ {R W : Type 0} (remaining : R → Option (List ℕ)) (contents : W → 
     out = [];
     written = record { written = appends_none (contents w.writer); failed = refl };
     report_is = λ rest. ap (report_from 0 0) (sym (prepend_none (lines_of rest))) ∙ sym (same_unwritten _ [] _ 0 _ 0 _ [] rest e f g h);
-    said_is = λ rest. ap (λ ls. verdicts_from 0 (take (newlines rest) ls)) (sym (prepend_none (lines_of rest))) ∙ sym (same_said _ [] _ 0 _ [] rest e f h);
+    said_is = λ rest. ap (λ ls. verdicts_from 0 (take (newline_count rest) ls)) (sym (prepend_none (lines_of rest))) ∙ sym (same_said _ [] _ 0 _ [] rest e f h);
     counts_are = λ rest. ap (counted_from 0 0) (sym (prepend_none (lines_of rest))) ∙ sym (same_counted _ 0 _ 0 _ [] rest f g h);
   }
 
@@ -219,18 +219,18 @@ module _ {R W : Type 0} (remaining : R → Option (List ℕ)) (contents : W → 
   }
 
   module _ (from mid to : SourceState R) (old half new : SinkState W) (s : ScanState) where
-    pub told_reads : (t : ScanState) (ys : List ℕ) → Told from mid old half s → Gives remaining mid to ys → Reads s t ys → Told from to old half t
+    pub told_reads : (t : ScanState) (ys : List ℕ) → Told from mid old half s → Gives remaining mid to ys → ReadsOctets s t ys → Told from to old half t
     told_reads t ys p c q = record {
       octets = p.octets ++ ys;
       read = gives_both from mid to p.octets ys p.read c;
       out = p.out;
       written = p.written;
       report_is = λ rest. ap report (append_assoc p.octets ys rest) ∙ p.report_is (ys ++ rest) ∙ ap (λ zs. p.out ++ zs) (q.report rest);
-      said_is = λ rest. ap ended_text (append_assoc p.octets ys rest) ∙ p.said_is (ys ++ rest) ∙ ap (λ zs. p.out ++ zs) (q.said rest);
+      said_is = λ rest. ap ended_lines_text (append_assoc p.octets ys rest) ∙ p.said_is (ys ++ rest) ∙ ap (λ zs. p.out ++ zs) (q.said rest);
       counts_are = λ rest. ap summary (append_assoc p.octets ys rest) ∙ p.counts_are (ys ++ rest) ∙ q.counts rest;
     }
 
-    pub told_writes : (t : ScanState) → Told from mid old half s → Takes contents half new s.said → t ≡ record s { said = [] } → Told from mid old new t
+    pub told_writes : (t : ScanState) → Told from mid old half s → WritesWhole contents half new s.said → t ≡ record s { said = [] } → Told from mid old new t
     told_writes t p a e = record {
       octets = p.octets;
       read = p.read;
@@ -240,19 +240,19 @@ module _ {R W : Type 0} (remaining : R → Option (List ℕ)) (contents : W → 
           ∙ ap (λ zs. (p.out ++ s.said) ++ zs) (sym (ap (λ v. unwritten v rest) e));
       said_is = λ rest. p.said_is rest ∙ sym (append_assoc p.out s.said (ended s.lines s.line rest))
           ∙ ap (λ zs. (p.out ++ s.said) ++ zs) (sym (ap (λ v. said_after v rest) e));
-      counts_are = λ rest. p.counts_are rest ∙ sym (ap (λ v. counted v rest) e);
+      counts_are = λ rest. p.counts_are rest ∙ sym (ap (λ v. counts_after v rest) e);
     }
 
     -- an empty piece
     pub told_still : (ys : List ℕ) → Told from mid old half s → Gives remaining mid to ys → ys ≡ [] → Told from to old half s
-    told_still ys p c none = told_reads s ys p c (subst (Reads s s) (sym none) (reads_none s))
+    told_still ys p c none = told_reads s ys p c (subst (ReadsOctets s s) (sym none) (reads_none s))
 
     -- if nothing is said but not written, all is written of the lines that were ended
-    all_written : (p : Told from mid old half s) → s.said ≡ [] → p.out ≡ ended_text p.octets
-    all_written p e = sym (ap ended_text (sym (append-nil p.octets)) ∙ p.said_is [] ∙ ap (λ zs. p.out ++ (zs ++ [])) e ∙ append-nil p.out)
+    all_written : (p : Told from mid old half s) → s.said ≡ [] → p.out ≡ ended_lines_text p.octets
+    all_written p e = sym (ap ended_lines_text (sym (append-nil p.octets)) ∙ p.said_is [] ∙ ap (λ zs. p.out ++ (zs ++ [])) e ∙ append-nil p.out)
 
     pub stops_reading : Told from mid old half s → s.said ≡ [] → Fails remaining mid to → Stops remaining contents from to old half Read
-    stops_reading p e fails = record { octets = p.octets; before = mid; read = p.read; fails = fails; written = subst (Takes contents old half) (all_written p e) p.written }
+    stops_reading p e fails = record { octets = p.octets; before = mid; read = p.read; fails = fails; written = subst (WritesWhole contents old half) (all_written p e) p.written }
 
     pub stops_short : (ys : List ℕ) → Told from mid old half s → s.said ≡ [] → Gives remaining mid to ys → length ys ≤ 4096 → Stops remaining contents from to old half NoMemory
     stops_short ys p e c short = record {
@@ -260,12 +260,12 @@ module _ {R W : Type 0} (remaining : R → Option (List ℕ)) (contents : W → 
       last = ys;
       read = gives_both from mid to p.octets ys p.read c;
       one_read = short;
-      written = subst (Takes contents old half) (all_written p e) p.written;
+      written = subst (WritesWhole contents old half) (all_written p e) p.written;
     }
 
     -- a beginning of what was said is written
     pub stops_writing : (ys said tail : List ℕ) → Told from mid old half s → s.said ≡ [] → Gives remaining mid to ys → length ys ≤ 4096 → unwritten s ys ≡ said ++ tail
-        → Begins (contents half.writer) (contents new.writer) said → Stops remaining contents from to old new Write
+        → AppendsPart (contents half.writer) (contents new.writer) said → Stops remaining contents from to old new Write
     stops_writing ys said tail p e c short is b =
         let n = b.0 in
         let out = all_written p e in record {
@@ -281,8 +281,8 @@ module _ {R W : Type 0} (remaining : R → Option (List ℕ)) (contents : W → 
         }
 
     -- all is written
-    pub ends : (said : List ℕ) (counts : Summary) → Told from mid old half s → said ≡ unwritten s [] → counts ≡ counted s [] → IsAtEnd (remaining mid.reader)
-        → Takes contents half new said → Ends remaining contents from mid old new counts
+    pub ends : (said : List ℕ) (counts : Summary) → Told from mid old half s → said ≡ unwritten s [] → counts ≡ counts_after s [] → IsAtEnd (remaining mid.reader)
+        → WritesWhole contents half new said → Completes remaining contents from mid old new counts
     ends said counts p e k end a =
         let whole : report p.octets ≡ p.out ++ said = ap report (sym (append-nil p.octets)) ∙ p.report_is [] ∙ ap (λ zs. p.out ++ zs) (sym e) in
         record {
@@ -290,7 +290,7 @@ module _ {R W : Type 0} (remaining : R → Option (List ℕ)) (contents : W → 
           read = p.read.read;
           unfailed = p.read.failed;
           end = end;
-          written = subst (Takes contents old new) (sym whole) (takes_more contents _ _ _ _ _ p.written a);
+          written = subst (WritesWhole contents old new) (sym whole) (takes_more contents _ _ _ _ _ p.written a);
           counts_are = k ∙ sym (p.counts_are []) ∙ ap summary (append-nil p.octets);
         }
 
@@ -301,7 +301,7 @@ on_fault P f (Err x) e p = subst P (sym e) p
 
 -- how `check` ends, by the clauses on its fault
 pub ends_by : {R W : Type 0} (remaining : R → Option (List ℕ)) (contents : W → Option (List ℕ)) (from to : SourceState R) (old new : SinkState W) (r : Result Summary ToolFault)
-    → IfOk r (λ s. Ends remaining contents from to old new s) → IfErr r (Stops remaining contents from to old new) → IfErr r (HasCause to.failed new.failed)
+    → IfOk r (λ s. Completes remaining contents from to old new s) → IfErr r (Stops remaining contents from to old new) → IfErr r (HasCause to.failed new.failed)
     → Checks remaining contents from to old new r
 ends_by remaining contents from to old new (Ok s) ok err cause = ok
 ends_by remaining contents from to old new (Err e) ok err cause = (err, cause)

@@ -4,16 +4,16 @@ use Rattle.std.proofs.lemmas.List.{take_rest, take_at}
 use Rattle.std.specs.Prelude.{OnErr}
 use Rattle.std.specs.Io.KnownBytes.{Appends, Keeps}
 use Rattle.std.proofs.KnownBytes.{Appends-kept, Appends-trans}
-use Rattle.lagtool.specs.Sinks.{Breaks, SinkState, Takes}
+use Rattle.lagtool.specs.Sinks.{WritesPart, SinkState, WritesWhole}
 
 module _ {W : Type 0} (contents : W → Option (List ℕ)) where
-  pub takes_more : (a b c : SinkState W) (xs ys : List ℕ) → Takes contents a b xs → Takes contents b c ys → Takes contents a c (xs ++ ys)
+  pub takes_more : (a b c : SinkState W) (xs ys : List ℕ) → WritesWhole contents a b xs → WritesWhole contents b c ys → WritesWhole contents a c (xs ++ ys)
   takes_more a b c xs ys first second =
       record { written = Appends-trans _ _ _ _ _ first.written second.written; failed = second.failed ∙ first.failed }
 
   -- what was taken before a failure is a beginning
-  pub breaks_after : (a b c : SinkState W) (all done rest : List ℕ) → all ≡ done ++ rest → Takes contents a b done → Keeps (contents b.writer) (contents c.writer)
-      → c.failed ≡ true → Breaks contents a c all
+  pub breaks_after : (a b c : SinkState W) (all done rest : List ℕ) → all ≡ done ++ rest → WritesWhole contents a b done → Keeps (contents b.writer) (contents c.writer)
+      → c.failed ≡ true → WritesPart contents a c all
   breaks_after a b c all done rest e taken kept failed =
       let front : take (length done) all ≡ done = ap (take (length done)) e ∙ take_at done rest (length done) refl in
       let written = Appends-kept _ _ _ done taken.written kept in

@@ -3,42 +3,42 @@ use Rattle.std.proofs.Common.{◌≡◌, ◌++◌, ℕ, List, [], ◌∷◌, map
 use Rattle.std.specs.Prelude.{⊤, IsErrAnd, Option, Result, Ok, Err}
 use Rattle.cables.specs.AnyCable.{any_items, any_limit}
 use Rattle.cables.specs.declared.any.AnyCable.{AnyCable}
-use Rattle.lagscript.specs.Scripts.{HasPlan, plan_shown}
+use Rattle.lagscript.specs.Scripts.{HasPlan, plan_value}
 use Rattle.lagscript.specs.declared.event.Event.{Event}
 use Rattle.lagscript.specs.declared.plan.Plan.{Plan}
 use Rattle.lagsystem.specs.declared.config.Config.{Config}
-use Rattle.lagworld.specs.Events.{Gives}
-use Rattle.lagworld.specs.Making.{first_line, first_lines}
-use Rattle.lagworld.specs.State.{Joint, Line}
+use Rattle.lagworld.specs.Events.{Algorithms}
+use Rattle.lagworld.specs.Making.{first_link, first_links}
+use Rattle.lagworld.specs.State.{WorldState, LinkState}
 use Rattle.lagworld.specs.declared.reply.Reply.{Reply}
-use Rattle.lagtool.specs.Replayed.{IsReplayed, IsReport, Replays, agreements_text, entries_text, first_cable, first_cables, flows_text, report_text}
-use Rattle.lagtool.specs.Reporting.{Counts, reported}
-use Rattle.lagtool.specs.Sinks.{Breaks, SinkState}
+use Rattle.lagtool.specs.ReplayReport.{IsReplayed, IsReplayReport, Replays, agreements_text, entries_text, empty_link, empty_links, flows_text, report_text}
+use Rattle.lagtool.specs.ReplaySteps.{AreAggregatorCounts, report_with_counts}
+use Rattle.lagtool.specs.Sinks.{WritesPart, SinkState}
 use Rattle.lagtool.specs.declared.fault.ToolFault.{ToolFault}
 use Rattle.lagtool.specs.declared.fault.ToolFault.TheVariants.{Write}
 
-abbrev with_ends : ℕ × ℕ → Line → Line
+abbrev with_ends : ℕ × ℕ → LinkState → LinkState
 with_ends ends l = record l { one = ends.0; two = ends.1 }
 
 -- a line for each cable, with its limit
 pub first_lines_are : (cables : List (ℕ × ℕ)) (given : List (AnyCable × AnyCable)) (limits : List (Option ℕ))
-    → map (first_line any_items any_limit (0, 0)) given ≡ map (first_cable (0, 0)) limits
-    → first_lines any_items any_limit cables given ≡ first_cables cables limits
+    → map (first_link any_items any_limit (0, 0)) given ≡ map (empty_link (0, 0)) limits
+    → first_links any_items any_limit cables given ≡ empty_links cables limits
 first_lines_are [] given limits h = refl
 first_lines_are (c ∷ cables) [] [] h = refl
 first_lines_are (c ∷ cables) [] (l ∷ limits) h = absurd (let e = h in cc)
 first_lines_are (c ∷ cables) (g ∷ given) [] h = absurd (let e = h in cc)
 first_lines_are (c ∷ cables) (g ∷ given) (l ∷ limits) h =
-    ap₂ (λ x xs. x ∷ xs) (ap (λ ls. with_ends c (get_or ls 0 (first_cable (0, 0) None))) h) (first_lines_are cables given limits (ap (drop 1) h))
+    ap₂ (λ x xs. x ∷ xs) (ap (λ ls. with_ends c (get_or ls 0 (empty_link (0, 0) None))) h) (first_lines_are cables given limits (ap (drop 1) h))
 
 -- a cable of two empty directions with one limit
 pub empty_line : (a b : AnyCable) (limit : Option ℕ) → any_items a ≡ [] → any_items b ≡ [] → any_limit a ≡ limit → any_limit b ≡ limit
-    → first_line any_items any_limit (0, 0) (a, b) ≡ first_cable (0, 0) limit
+    → first_link any_items any_limit (0, 0) (a, b) ≡ empty_link (0, 0) limit
 empty_line a b limit e f g h = rw (e, f, g, h) refl
 
 -- the report by counts of aggregators is that of the systems
-pub reported_is : (first second : ℕ) (systems : List Config) (es : List Event) (rs : List Reply) (j : Joint)
-    → Counts first second systems → reported first second es rs j ≡ report_text systems es rs j
+pub reported_is : (first second : ℕ) (systems : List Config) (es : List Event) (rs : List Reply) (j : WorldState)
+    → AreAggregatorCounts first second systems → report_with_counts first second es rs j ≡ report_text systems es rs j
 reported_is first second [] es rs j h = absurd h
 reported_is first second (a ∷ []) es rs j h = absurd h
 reported_is first second (a ∷ b ∷ []) es rs j (e, f) =
@@ -46,16 +46,16 @@ reported_is first second (a ∷ b ∷ []) es rs j (e, f) =
 reported_is first second (a ∷ b ∷ c ∷ rest) es rs j h = absurd h
 
 -- the report of the events of a plan is that of its text
-pub replayed_is : (gives : Gives) (text : List ℕ) (plan : Plan) (limits : List (Option ℕ)) (es : List Event) (report said : List ℕ)
-    → HasPlan text (plan_shown plan) → limits ≡ plan.limits.items → es ≡ plan.events.items → said ≡ report → IsReport gives plan.config limits es report → IsReplayed gives text said
+pub replayed_is : (gives : Algorithms) (text : List ℕ) (plan : Plan) (limits : List (Option ℕ)) (es : List Event) (report said : List ℕ)
+    → HasPlan text (plan_value plan) → limits ≡ plan.limits.items → es ≡ plan.events.items → said ≡ report → IsReplayReport gives plan.config limits es report → IsReplayed gives text said
 replayed_is gives text plan limits es report said has same_limits same_events says is = record {
   plan = plan;
   has = has;
-  is_report = subst (IsReport gives plan.config plan.limits.items plan.events.items) (sym says) (subst (λ xs. IsReport gives plan.config plan.limits.items xs report) same_events (subst (λ ls. IsReport gives plan.config ls es report) same_limits is));
+  is_report = subst (IsReplayReport gives plan.config plan.limits.items plan.events.items) (sym says) (subst (λ xs. IsReplayReport gives plan.config plan.limits.items xs report) same_events (subst (λ ls. IsReplayReport gives plan.config ls es report) same_limits is));
 }
 
 -- a report that could not be written whole
-pub write_failed : {W : Type 0} (contents : W → Option (List ℕ)) (gives : Gives) (text : List ℕ) (old new : SinkState W) (r : Result ⊤ ToolFault) (report : List ℕ)
-    → IsErrAnd r (λ e. e ≡ Write) → IsReplayed gives text report → Breaks contents old new report → Replays contents gives text old new r
+pub write_failed : {W : Type 0} (contents : W → Option (List ℕ)) (gives : Algorithms) (text : List ℕ) (old new : SinkState W) (r : Result ⊤ ToolFault) (report : List ℕ)
+    → IsErrAnd r (λ e. e ≡ Write) → IsReplayed gives text report → WritesPart contents old new report → Replays contents gives text old new r
 write_failed contents gives text old new (Ok x) report e is breaks = absurd e
 write_failed contents gives text old new (Err f) report e is breaks = subst (λ x. Replays contents gives text old new (Err x)) (sym e) (report, is, breaks)

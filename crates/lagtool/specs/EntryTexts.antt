@@ -5,7 +5,7 @@ use Rattle.lagtypes.specs.Texts.{hex_text}
 use Rattle.lagsystem.specs.declared.config.PortChange.{PortChange}
 use Rattle.lagsystem.specs.declared.fault.SystemFault.{SystemFault}
 use Rattle.lagsystem.specs.declared.fault.SystemFault.TheVariants as refusal
-use Rattle.lagscript.specs.Acts.{Act, tick, emit, deliver, lose, repeat, cut, join, sense, restart, configure, offer, move_to, force}
+use Rattle.lagscript.specs.EventValues.{EventValue, tick, emit, deliver, lose, repeat, cut, join, sense, restart, configure, offer, move_to, force}
 use Rattle.lagworld.specs.declared.agreement.Agreement.{Agreement}
 use Rattle.lagworld.specs.declared.agreement.Agreement.TheVariants as agreement
 use Rattle.lagworld.specs.declared.reply.Reply.{Reply}
@@ -36,24 +36,24 @@ abbrev pub frame_text : List ℕ → List ℕ
 frame_text octets = flat_map hex_text octets
 
 -- an event as the entry of a script: numbers without leading zeros, octets in lower case
-abbrev pub act_text : Act → List ℕ
-act_text (tick s n) = codes "tick " ++ two_text s n
-act_text (emit s port) = codes "emit " ++ two_text s port
-act_text (deliver c s) = codes "deliver " ++ two_text c s
-act_text (lose c s) = codes "lose " ++ two_text c s
-act_text (repeat c s) = codes "repeat " ++ two_text c s
-act_text (cut c) = codes "cut " ++ one_text c
-act_text (join c) = codes "join " ++ one_text c
-act_text (sense c s) = codes "sense " ++ two_text c s
-act_text (restart s) = codes "restart " ++ one_text s
-act_text (configure s port change) = codes "configure " ++ (two_text s port ++ 32 ∷ change_text change)
-act_text (offer s agg frame) = codes "offer " ++ (two_text s agg ++ 32 ∷ frame_text frame)
-act_text (move_to s agg conv port) = codes "move " ++ four_text s agg conv port
-act_text (force s agg conv) = codes "force " ++ three_text s agg conv
+abbrev pub entry_text : EventValue → List ℕ
+entry_text (tick s n) = codes "tick " ++ two_text s n
+entry_text (emit s port) = codes "emit " ++ two_text s port
+entry_text (deliver c s) = codes "deliver " ++ two_text c s
+entry_text (lose c s) = codes "lose " ++ two_text c s
+entry_text (repeat c s) = codes "repeat " ++ two_text c s
+entry_text (cut c) = codes "cut " ++ one_text c
+entry_text (join c) = codes "join " ++ one_text c
+entry_text (sense c s) = codes "sense " ++ two_text c s
+entry_text (restart s) = codes "restart " ++ one_text s
+entry_text (configure s port change) = codes "configure " ++ (two_text s port ++ 32 ∷ change_text change)
+entry_text (offer s agg frame) = codes "offer " ++ (two_text s agg ++ 32 ∷ frame_text frame)
+entry_text (move_to s agg conv port) = codes "move " ++ four_text s agg conv port
+entry_text (force s agg conv) = codes "force " ++ three_text s agg conv
 
 -- whether a cable accepted what was sent
-abbrev pub kept_text : Bool → List ℕ
-kept_text kept = if kept then codes "sent" else codes "lost"
+abbrev pub accepted_text : Bool → List ℕ
+accepted_text accepted = if accepted then codes "sent" else codes "lost"
 
 -- the number of a fault and its name
 abbrev pub refused_text : SystemFault → List ℕ
@@ -72,11 +72,11 @@ refused_text refusal.NoMemory = codes "refused 12 no-memory"
 
 abbrev pub reply_text : Reply → List ℕ
 reply_text reply.Ticked = codes "ticked"
-reply_text (reply.Lacpdu state kept) = codes "lacpdu " ++ (hex_text (octet state) ++ 32 ∷ kept_text kept)
-reply_text (reply.Marker id kept) = codes "marker " ++ (decimal id ++ 32 ∷ kept_text kept)
+reply_text (reply.Lacpdu state accepted) = codes "lacpdu " ++ (hex_text (octet state) ++ 32 ∷ accepted_text accepted)
+reply_text (reply.Marker id accepted) = codes "marker " ++ (decimal id ++ 32 ∷ accepted_text accepted)
 reply_text reply.Nothing = codes "nothing"
 reply_text reply.Took = codes "took"
-reply_text (reply.Responded kept) = codes "responded " ++ kept_text kept
+reply_text (reply.Responded accepted) = codes "responded " ++ accepted_text accepted
 reply_text (reply.Released n) = codes "released " ++ decimal n
 reply_text (reply.Up agg) = codes "up " ++ decimal agg.0
 reply_text reply.Dropped = codes "dropped"
@@ -90,7 +90,7 @@ reply_text reply.Joined = codes "joined"
 reply_text reply.Restarted = codes "restarted"
 reply_text (reply.Sensed up) = if up then codes "up" else codes "down"
 reply_text (reply.Configured changed) = if changed then codes "configured" else codes "unchanged"
-reply_text (reply.Port port serial kept) = codes "port " ++ (decimal port ++ (codes " serial " ++ (decimal serial ++ 32 ∷ kept_text kept)))
+reply_text (reply.Port port serial accepted) = codes "port " ++ (decimal port ++ (codes " serial " ++ (decimal serial ++ 32 ∷ accepted_text accepted)))
 reply_text reply.Moved = codes "moved"
 reply_text reply.Forced = codes "forced"
 reply_text (reply.Refused fault) = refused_text fault

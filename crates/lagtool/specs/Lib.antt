@@ -4,12 +4,12 @@ pub mod Sources
 pub mod Reports
 pub mod Engines
 pub mod Verdicts
-pub mod Checked
+pub mod CheckReport
 pub mod Scans
-pub mod Begun
+pub mod CheckEnds
 pub mod EntryTexts
 pub mod Naming
 pub mod Offered
-pub mod Replayed
-pub mod Reporting
+pub mod ReplayReport
+pub mod ReplaySteps
 pub mod Vectors

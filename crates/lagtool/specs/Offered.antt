@@ -5,7 +5,7 @@ use Rattle.lagscript.specs.declared.event.Event.{Event}
 use Rattle.lagscript.specs.declared.event.Event.TheVariants as event
 use Rattle.lagworld.specs.Events.{side_of}
 use Rattle.lagworld.specs.Readers.{serials_of_system}
-use Rattle.lagworld.specs.State.{Joint, sent_in}
+use Rattle.lagworld.specs.State.{WorldState, sent_in}
 
 -- the event offers a frame to this aggregator of the system with this number
 abbrev pub offers_to : ℕ → ℕ → Event → Bool
@@ -21,9 +21,9 @@ abbrev pub AreOffers : ℕ → List Event → List Bool → Type 0
 AreOffers s events flags = (agg : ℕ) → agg < length flags → get_or flags agg false ≡ is_offered s agg events
 
 -- no conversation of the aggregator sent a frame
-abbrev pub IsQuiet : Joint → ℕ → ℕ → Type 0
+abbrev pub IsQuiet : WorldState → ℕ → ℕ → Type 0
 IsQuiet j s agg = (conv : ℕ) → sent_in (serials_of_system (side_of s) agg conv j) ≡ []
 
 -- only aggregators that one of the events offers frames to have sent one
-abbrev pub IsSentWhereOffered : List Event → Joint → Type 0
+abbrev pub IsSentWhereOffered : List Event → WorldState → Type 0
 IsSentWhereOffered events j = (s agg : ℕ) → is_offered s agg events ≡ false → IsQuiet j s agg

@@ -17,37 +17,37 @@ abbrev pub decoded_text : Result Pdu WireFault → List ℕ
 decoded_text (Ok v) = pdu_text v
 decoded_text (Err e) = wire_fault_text e
 
-abbrev pub is_accepted : Result Pdu WireFault → Bool
-is_accepted (Ok v) = true
-is_accepted (Err e) = false
+abbrev pub payload_is_accepted : Result Pdu WireFault → Bool
+payload_is_accepted (Ok v) = true
+payload_is_accepted (Err e) = false
 
 -- the text for the payload, and whether it is accepted
-pub record IsReport (payload text : List ℕ) (accepted : Bool) : Type 0 where
+pub record IsPayloadReport (payload text : List ℕ) (accepted : Bool) : Type 0 where
   pub decoded : Result Pdu WireFault
   pub is_decoded : IsDecoded payload decoded
   pub says : text ≡ decoded_text decoded
-  pub verdict : accepted ≡ is_accepted decoded
+  pub verdict : accepted ≡ payload_is_accepted decoded
 
 -- the text for a payload in hexadecimal
 pub record IsShown (hex text : List ℕ) (accepted : Bool) : Type 0 where
   pub payload : List ℕ
   pub digits : decode_of hex ≡ Ok payload
-  pub report : IsReport payload text accepted
+  pub report : IsPayloadReport payload text accepted
 
 -- the text says why there is no response
-abbrev pub Declines : List ℕ → Bool → List ℕ → Type 0
-Declines text answered why = (text ≡ why) × (answered ≡ false)
+abbrev pub IsUnanswered : List ℕ → Bool → List ℕ → Type 0
+IsUnanswered text answered why = (text ≡ why) × (answered ≡ false)
 
 -- the text is the frame of the response in lower-case hexadecimal; or it says that a Marker Response gets none
 abbrev pub IsAnswer : List ℕ → List ℕ → Bool → Option Marker → Type 0
-IsAnswer mac text answered None = Declines text answered (codes "no answer marker-response\n")
+IsAnswer mac text answered None = IsUnanswered text answered (codes "no answer marker-response\n")
 IsAnswer mac text answered (Some m) =
     (payload : List ℕ) × WritesMarker payload m × (text ≡ encode_lower (frame_octets mac payload) ++ 10 ∷ []) × (answered ≡ true)
 
 abbrev pub AnswersPayload : List ℕ → List ℕ → Bool → Result Pdu WireFault → Type 0
 AnswersPayload mac text answered (Ok (pdu.Marker m)) = IsAnswer mac text answered (response_to m)
-AnswersPayload mac text answered (Ok (pdu.Lacpdu v)) = Declines text answered (codes "no answer lacpdu\n")
-AnswersPayload mac text answered (Err e) = Declines text answered (wire_fault_text e)
+AnswersPayload mac text answered (Ok (pdu.Lacpdu v)) = IsUnanswered text answered (codes "no answer lacpdu\n")
+AnswersPayload mac text answered (Err e) = IsUnanswered text answered (wire_fault_text e)
 
 -- the text for the payload of a control frame
 abbrev pub RepliesTo : List ℕ → List ℕ → List ℕ → Bool → Type 0
@@ -56,8 +56,8 @@ RepliesTo mac payload text answered = (decoded : Result Pdu WireFault) × IsDeco
 
 abbrev pub AnswersKind : List ℕ → List ℕ → Bool → Kind → Type 0
 AnswersKind mac text answered (Control payload) = RepliesTo mac payload.now text answered
-AnswersKind mac text answered Data = Declines text answered (codes "no answer data\n")
-AnswersKind mac text answered TooShort = Declines text answered (codes "no answer runt\n")
+AnswersKind mac text answered Data = IsUnanswered text answered (codes "no answer data\n")
+AnswersKind mac text answered TooShort = IsUnanswered text answered (codes "no answer runt\n")
 
 -- the text for a frame, and whether the frame gets a response
 pub record IsReply (mac octets text : List ℕ) (answered : Bool) : Type 0 where

@@ -29,13 +29,13 @@ lacpdu_text v =
     ++ (info_text v.partner ++ (codes "\nmax-delay " ++ (decimal v.max_delay ++ 10 ∷ [])))))
 
 -- the two lines of a Marker PDU
-abbrev pub kind_text : MarkerKind → List ℕ
-kind_text Information = codes "marker"
-kind_text Response = codes "marker-response"
+abbrev pub marker_kind_text : MarkerKind → List ℕ
+marker_kind_text Information = codes "marker"
+marker_kind_text Response = codes "marker-response"
 
 abbrev pub marker_text : Marker → List ℕ
 marker_text m =
-    kind_text m.kind ++ (codes "\nport " ++ (decimal m.port ++ (codes " system "
+    marker_kind_text m.kind ++ (codes "\nport " ++ (decimal m.port ++ (codes " system "
     ++ (mac_text m.system ++ (codes " id " ++ (decimal m.id ++ 10 ∷ []))))))
 
 abbrev pub pdu_text : Pdu → List ℕ
@@ -64,9 +64,9 @@ tool_fault_text NotHex = Some (codes "not hex")
 tool_fault_text NotMac = Some (codes "not a mac")
 
 -- a fault in reading names the file, as the command line has it
-abbrev pub said_text : ToolFault → List ℕ → Option (List ℕ)
-said_text Read file = Some (codes "cannot read " ++ file)
-said_text fault file = tool_fault_text fault
+abbrev pub fault_with_file_text : ToolFault → List ℕ → Option (List ℕ)
+fault_with_file_text Read file = Some (codes "cannot read " ++ file)
+fault_with_file_text fault file = tool_fault_text fault
 
 abbrev pub tool_fault_number : ToolFault → ℕ
 tool_fault_number Read = 1

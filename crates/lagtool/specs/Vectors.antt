@@ -1,6 +1,6 @@
 -- What `vectors` prints (profile).
 use Rattle.std.specs.Prelude.{◌≡◌, ⊤, ℕ, ◌+◌, ◌++◌, Bool, List, [], ◌∷◌, Option, Result, Ok, Err, codes, count_by, decimal, length, not, if◌then◌else◌}
-use Rattle.lagtool.specs.Sinks.{Breaks, SinkState, Takes}
+use Rattle.lagtool.specs.Sinks.{WritesPart, SinkState, WritesWhole}
 use Rattle.lagtool.specs.declared.fault.ToolFault.{ToolFault}
 use Rattle.lagtool.specs.declared.fault.ToolFault.TheVariants.{Read, Write, NoMemory, Script, NotHex, NotMac}
 use Rattle.lagtool.specs.declared.summary.Summary.{Summary}
@@ -25,9 +25,9 @@ vectors_text passed = lines_from 1 passed ++ (codes "vectors "
 -- what `vectors` returns and has written, if these ten say whether each vector passes
 abbrev pub RunsVectors : {W : Type 0} → (W → Option (List ℕ)) → SinkState W → SinkState W → Result Summary ToolFault → Type 0
 RunsVectors contents old new (Ok summary) =
-    (passed : List Bool) × (length passed ≡ 10) × Takes contents old new (vectors_text passed)
+    (passed : List Bool) × (length passed ≡ 10) × WritesWhole contents old new (vectors_text passed)
     × (summary ≡ record { checked = 10; faults = failures passed })
-RunsVectors contents old new (Err Write) = (passed : List Bool) × (length passed ≡ 10) × Breaks contents old new (vectors_text passed)
+RunsVectors contents old new (Err Write) = (passed : List Bool) × (length passed ≡ 10) × WritesPart contents old new (vectors_text passed)
 RunsVectors contents old new (Err NoMemory) = new ≡ old
 RunsVectors contents old new (Err Read) = ⊥
 RunsVectors contents old new (Err (Script fault)) = ⊥

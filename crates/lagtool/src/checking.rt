@@ -1,5 +1,5 @@
 ghost use Rattle.std.specs.Prelude.{◌≡◌, false, IfErr, IfOk};
-ghost use Rattle.lagtool.specs.Begun.{Checks, Ends, HasCause, Stops};
+ghost use Rattle.lagtool.specs.CheckEnds.{Checks, Completes, HasCause, Stops};
 
 use crate::fault::ToolFault;
 use crate::scan::Scan;
@@ -17,7 +17,7 @@ fn check_all<R: Read, W: Write>(
 ) -> Result<Summary, ToolFault>
     requires source { source.old.failed ≡ false }
     requires sink { sink.old.failed ≡ false }
-    ensures ok { IfOk result (λ s. Ends R.remaining W.contents source.old source.new sink.old sink.new s) }
+    ensures ok { IfOk result (λ s. Completes R.remaining W.contents source.old source.new sink.old sink.new s) }
     ensures err { IfErr result (Stops R.remaining W.contents source.old source.new sink.old sink.new) }
     ensures cause { IfErr result (HasCause source.new.failed sink.new.failed) }
 {

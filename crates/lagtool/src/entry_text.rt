@@ -1,6 +1,6 @@
 ghost use Rattle.std.specs.Prelude.{Some};
-ghost use Rattle.lagscript.specs.Acts.{act_of};
-ghost use Rattle.lagtool.specs.EntryTexts.{act_text, change_text, frame_text};
+ghost use Rattle.lagscript.specs.EventValues.{event_value};
+ghost use Rattle.lagtool.specs.EntryTexts.{entry_text, change_text, frame_text};
 ghost use Rattle.lagtypes.specs.Texts.{hex_text};
 
 use lagsystem::PortChange;
@@ -61,7 +61,7 @@ impl fmt::Display for ChangeText {
 pub struct EntryText<'a>(pub &'a Event);
 
 impl fmt::Display for EntryText<'_> {
-    ghost output = { λ t. Some (act_text (act_of t.0.now)) };
+    ghost output = { λ t. Some (entry_text (event_value t.0.now)) };
 
     fn fmt<W: fmt::Write>(&self, f: &mut fmt::Formatter<W>) -> fmt::Result {
         match self.0 {

@@ -1,6 +1,6 @@
 ghost use Rattle.std.specs.Prelude.{◌≡◌};
 ghost use Rattle.lagtool.specs.declared.fault.ToolFault.TheVariants.{NoMemory, Read, Write};
-ghost use Rattle.lagtool.specs.Texts.{of_script, said_text, tool_fault_number, tool_fault_text};
+ghost use Rattle.lagtool.specs.Texts.{of_script, fault_with_file_text, tool_fault_number, tool_fault_text};
 
 use crate::sink::WriteFailed;
 use crate::source::ReadFailed;
@@ -68,7 +68,7 @@ pub struct FaultText<'a> {
 }
 
 impl fmt::Display for FaultText<'_> {
-    ghost output = { λ t. said_text t.fault t.file.now };
+    ghost output = { λ t. fault_with_file_text t.fault t.file.now };
 
     fn fmt<W: fmt::Write>(&self, f: &mut fmt::Formatter<W>) -> fmt::Result {
         match self.fault {

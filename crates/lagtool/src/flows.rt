@@ -1,9 +1,9 @@
 ghost use Rattle.std.specs.Prelude.{◌≡◌, ◌<◌, ◌+◌, ◌++◌, ◌||◌, ℕ, OnOk, IfOk, false, get_or, length, string_bytes};
 ghost use Rattle.lagworld.specs.Events.{side_of};
-ghost use Rattle.lagworld.specs.Making.{conversations};
+ghost use Rattle.lagworld.specs.Making.{conversations_per_aggregator};
 ghost use Rattle.lagworld.specs.Readers.{serials_of_system};
 ghost use Rattle.lagtool.specs.Offered.{AreOffers, IsSentWhereOffered, offers_to};
-ghost use Rattle.lagtool.specs.Replayed.{collected_text, flow_line, flows_text, row_text};
+ghost use Rattle.lagtool.specs.ReplayReport.{collected_text, flow_line, flows_text, aggregator_flows_text};
 
 use cables::AnyCable;
 use lagtypes::AggId;
@@ -11,8 +11,8 @@ use lagworld::{Event, World};
 use std::alloc::{AllocError, Global};
 
 /// How many conversations an aggregator has (profile).
-fn conversations() -> u16
-    ensures { result ≡ conversations }
+fn conversations_per_aggregator() -> u16
+    ensures { result ≡ conversations_per_aggregator }
 {
     256
 }
@@ -39,7 +39,7 @@ fn push_flow<F: Fn(u16, usize) -> usize + Drop>(
     conv: u16,
 ) -> Result<(), AllocError>
     ensures { OnOk result (string_bytes text.new ≡ string_bytes text.old
-        ++ flow_line system agg conv (serials_of_system (side_of system) agg conv world.now.joint)) }
+        ++ flow_line system agg conv (serials_of_system (side_of system) agg conv world.now.state)) }
 {
     let sent = world.sent(system, AggId(agg), conv).len();
     if sent == 0 {
@@ -60,9 +60,9 @@ fn push_row<F: Fn(u16, usize) -> usize + Drop>(
     system: u8,
     agg: u16,
 ) -> Result<(), AllocError>
-    ensures { OnOk result (string_bytes text.new ≡ string_bytes text.old ++ row_text world.now.joint system agg) }
+    ensures { OnOk result (string_bytes text.new ≡ string_bytes text.old ++ aggregator_flows_text world.now.state system agg) }
 {
-    for conv in 0..conversations() {
+    for conv in 0..conversations_per_aggregator() {
         push_flow(text, world, system, agg, conv)?;
     }
     Ok(())
@@ -110,8 +110,8 @@ pub(crate) fn push_flows<F: Fn(u16, usize) -> usize + Drop>(
     system: u8,
     aggs: u16,
 ) -> Result<(), AllocError>
-    requires { IsSentWhereOffered events.now world.now.joint }
-    ensures { OnOk result (string_bytes text.new ≡ string_bytes text.old ++ flows_text world.now.joint system aggs) }
+    requires { IsSentWhereOffered events.now world.now.state }
+    ensures { OnOk result (string_bytes text.new ≡ string_bytes text.old ++ flows_text world.now.state system aggs) }
 {
     let offers = offers_of(alloc, events, system, aggs)?;
     for place in 0..aggs {

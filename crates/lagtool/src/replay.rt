@@ -1,21 +1,21 @@
 ghost use Rattle.std.specs.Prelude.{◌≡◌, ◌≢◌, ◌≤◌, ◌++◌, All, None, Some, OnOk, IfOk, IfErr, false, length, string_bytes};
 ghost use Rattle.distributor.specs.Calls.{PicksPlaces};
-ghost use Rattle.lagscript.specs.Configs.{refusal_of};
-ghost use Rattle.lagsystem.specs.First.{refusal_of as refusal_of_one};
+ghost use Rattle.lagscript.specs.Configs.{world_refusal};
+ghost use Rattle.lagsystem.specs.First.{config_refusal as refusal_of_one};
 ghost use Rattle.lagworld.specs.Events.{most_events};
-ghost use Rattle.lagworld.specs.Sound.{gives_by};
+ghost use Rattle.lagworld.specs.Sound.{both_algorithms};
 ghost use Rattle.lagtool.specs.Naming.{AllNameExisting};
 ghost use Rattle.lagtool.specs.Offered.{IsSentWhereOffered};
-ghost use Rattle.lagtool.specs.Replayed.{IsReport, Replays, agreement_line, agreements_text, entries_text, entry_line};
-ghost use Rattle.lagtool.specs.Reporting.{Counts, reported};
+ghost use Rattle.lagtool.specs.ReplayReport.{IsReplayReport, Replays, agreement_line, agreements_text, entries_text, entry_line};
+ghost use Rattle.lagtool.specs.ReplaySteps.{AreAggregatorCounts, report_with_counts};
 ghost use Rattle.lagtool.specs.declared.fault.ToolFault.TheVariants.{NoMemory};
 
+use crate::directions::all_directions;
 use crate::entry_text::EntryText;
 use crate::fault::ToolFault;
 use crate::flows::push_flows;
-use crate::laying::first_lines;
-use crate::playing::{make, play};
 use crate::reply_text::{AgreementText, ReplyText};
+use crate::running::{make_world, run_events};
 use crate::sink::Sink;
 use cables::AnyCable;
 use lagscript::read_plan;
@@ -68,7 +68,7 @@ fn push_agreements<F: Fn(u16, usize) -> usize + Drop>(
     text: &mut String,
     world: &World<AnyCable, F>,
 ) -> Result<(), AllocError>
-    ensures { OnOk result (string_bytes text.new ≡ string_bytes text.old ++ agreements_text world.now.joint) }
+    ensures { OnOk result (string_bytes text.new ≡ string_bytes text.old ++ agreements_text world.now.state) }
 {
     for place in 0..u16::MAX {
         let cable = place + 1;
@@ -81,7 +81,7 @@ fn push_agreements<F: Fn(u16, usize) -> usize + Drop>(
 }
 
 /// How many aggregators a system has; its configuration is accepted.
-fn count_of(config: &Config) -> u16
+fn aggregator_count(config: &Config) -> u16
     requires { refusal_of_one config.now ≡ None }
     ensures { result ≡ length config.now.aggregators.items }
 {
@@ -89,12 +89,12 @@ fn count_of(config: &Config) -> u16
 }
 
 /// How many aggregators system 1 and system 2 have.
-fn counts_of(config: &WorldConfig) -> (u16, u16)
-    requires { refusal_of config.now ≡ None }
-    ensures { Counts result.0 result.1 config.now.systems }
+fn aggregator_counts(config: &WorldConfig) -> (u16, u16)
+    requires { world_refusal config.now ≡ None }
+    ensures { AreAggregatorCounts result.0 result.1 config.now.systems }
 {
     let [first, second] = &config.systems;
-    (count_of(first), count_of(second))
+    (aggregator_count(first), aggregator_count(second))
 }
 
 /// The report of a run: the entries with their replies, and the state of cables and conversations at the end.
@@ -106,8 +106,8 @@ fn report_of<F: Fn(u16, usize) -> usize + Drop>(
     replies: &[Reply],
 ) -> Result<String, AllocError>
     requires replies { length replies.now ≡ length events.now }
-    requires offered { IsSentWhereOffered events.now world.now.joint }
-    ensures { IfOk result (λ text. string_bytes text ≡ reported counts.0 counts.1 events.now replies.now world.now.joint) }
+    requires offered { IsSentWhereOffered events.now world.now.state }
+    ensures { IfOk result (λ text. string_bytes text ≡ report_with_counts counts.0 counts.1 events.now replies.now world.now.state) }
 {
     let mut text = String::new(alloc);
     push_entries(&mut text, events, replies)?;
@@ -118,7 +118,7 @@ fn report_of<F: Fn(u16, usize) -> usize + Drop>(
 }
 
 /// The report of a script after it was read.
-fn played<F: Fn(u16, usize) -> usize + Drop>(
+fn report_of_script<F: Fn(u16, usize) -> usize + Drop>(
     alloc: Global,
     config: WorldConfig,
     limits: &[Option<u16>],
@@ -128,23 +128,23 @@ fn played<F: Fn(u16, usize) -> usize + Drop>(
 ) -> Result<String, ToolFault>
     requires one { PicksPlaces (F.pre one) (F.post one) }
     requires two { PicksPlaces (F.pre two) (F.post two) }
-    requires accepted { refusal_of config ≡ None }
+    requires accepted { world_refusal config ≡ None }
     requires limits { All (λ limit. limit ≢ Some 0) limits.now }
     requires one_each { length limits.now ≡ length config.cables.items }
     requires named { AllNameExisting (length config.cables.items) events.now }
     requires few { length events.now ≤ most_events }
-    ensures ok { IfOk result (λ report. IsReport (gives_by (F.post one) (F.post two)) config limits.now events.now (string_bytes report)) }
+    ensures ok { IfOk result (λ report. IsReplayReport (both_algorithms (F.post one) (F.post two)) config limits.now events.now (string_bytes report)) }
     ensures err { IfErr result (λ fault. fault ≡ NoMemory) }
 {
-    let counts = counts_of(&config);
+    let counts = aggregator_counts(&config);
     // Only memory can be refused here, by the contracts of the three calls.
-    let Ok(lines) = first_lines(alloc, limits) else {
+    let Ok(lines) = all_directions(alloc, limits) else {
         return Err(ToolFault::NoMemory);
     };
-    let Ok(mut world) = make(alloc, config, one, two, lines) else {
+    let Ok(mut world) = make_world(alloc, config, one, two, lines) else {
         return Err(ToolFault::NoMemory);
     };
-    let Ok(replies) = play(&mut world, events) else {
+    let Ok(replies) = run_events(&mut world, events) else {
         return Err(ToolFault::NoMemory);
     };
     Ok(report_of(alloc, &world, counts, events, &replies)?)
@@ -165,10 +165,10 @@ pub fn replay<F: Fn(u16, usize) -> usize + Drop, W: Write>(
     requires one { PicksPlaces (F.pre one) (F.post one) }
     requires two { PicksPlaces (F.pre two) (F.post two) }
     requires sink { sink.old.failed ≡ false }
-    ensures { Replays W.contents (gives_by (F.post one) (F.post two)) text.now sink.old sink.new result }
+    ensures { Replays W.contents (both_algorithms (F.post one) (F.post two)) text.now sink.old sink.new result }
 {
     let plan = read_plan(alloc, text)?;
-    let report = played(alloc, plan.config, &plan.limits, &plan.events, one, two)?;
+    let report = report_of_script(alloc, plan.config, &plan.limits, &plan.events, one, two)?;
     sink.put(report.as_bytes())?;
     Ok(())
 }

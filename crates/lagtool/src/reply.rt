@@ -26,7 +26,7 @@ fn mac_of(text: &str) -> Result<[u8; 6], ToolFault>
 }
 
 /// The report for a frame that gets no response, with the line that says why.
-fn declined(text: String) -> Report
+fn unanswered(text: String) -> Report
     ensures { result ≡ record { text = text; accepted = false } }
 {
     Report {
@@ -49,7 +49,7 @@ fn answer(alloc: Global, mac: [u8; 6], marker: &Marker) -> Result<Report, AllocE
                 accepted: true,
             })
         }
-        None => Ok(declined(format!(in alloc; "no answer marker-response\n")?)),
+        None => Ok(unanswered(format!(in alloc; "no answer marker-response\n")?)),
     }
 }
 
@@ -59,8 +59,8 @@ fn answer_payload(alloc: Global, mac: [u8; 6], payload: &[u8]) -> Result<Report,
 {
     match decode(payload) {
         Ok(Pdu::Marker(marker)) => answer(alloc, mac, &marker),
-        Ok(Pdu::Lacpdu(_)) => Ok(declined(format!(in alloc; "no answer lacpdu\n")?)),
-        Err(fault) => Ok(declined(format!(in alloc; "{}", WireFaultText(fault))?)),
+        Ok(Pdu::Lacpdu(_)) => Ok(unanswered(format!(in alloc; "no answer lacpdu\n")?)),
+        Err(fault) => Ok(unanswered(format!(in alloc; "{}", WireFaultText(fault))?)),
     }
 }
 
@@ -69,8 +69,8 @@ fn answer_frame(alloc: Global, mac: [u8; 6], octets: &[u8]) -> Result<Report, Al
     ensures { IfOk result (λ r. IsReply mac octets.now (string_bytes r.text) r.accepted) }
 {
     match classify(octets) {
-        Kind::TooShort => Ok(declined(format!(in alloc; "no answer runt\n")?)),
-        Kind::Data => Ok(declined(format!(in alloc; "no answer data\n")?)),
+        Kind::TooShort => Ok(unanswered(format!(in alloc; "no answer runt\n")?)),
+        Kind::Data => Ok(unanswered(format!(in alloc; "no answer data\n")?)),
         Kind::Control(payload) => answer_payload(alloc, mac, payload),
     }
 }

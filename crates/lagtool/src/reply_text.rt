@@ -1,5 +1,5 @@
 ghost use Rattle.std.specs.Prelude.{Some};
-ghost use Rattle.lagtool.specs.EntryTexts.{agreement_text, kept_text, refused_text, reply_text};
+ghost use Rattle.lagtool.specs.EntryTexts.{agreement_text, accepted_text, refused_text, reply_text};
 
 use crate::entry_text::OctetText;
 use bitflags::Flags;
@@ -9,10 +9,10 @@ use std::fmt;
 
 /// Whether a cable accepted what was sent.
 #[derive(Clone, Copy)]
-struct KeptText(bool);
+struct AcceptedText(bool);
 
-impl fmt::Display for KeptText {
-    ghost output = { λ t. Some (kept_text t.0) };
+impl fmt::Display for AcceptedText {
+    ghost output = { λ t. Some (accepted_text t.0) };
 
     fn fmt<W: fmt::Write>(&self, f: &mut fmt::Formatter<W>) -> fmt::Result {
         if self.0 {
@@ -58,13 +58,18 @@ impl fmt::Display for ReplyText {
     fn fmt<W: fmt::Write>(&self, f: &mut fmt::Formatter<W>) -> fmt::Result {
         match self.0 {
             Reply::Ticked => f.write_str("ticked"),
-            Reply::Lacpdu(state, kept) => {
-                write!(f, "lacpdu {} {}", OctetText(state.bits()), KeptText(kept))
+            Reply::Lacpdu(state, accepted) => {
+                write!(
+                    f,
+                    "lacpdu {} {}",
+                    OctetText(state.bits()),
+                    AcceptedText(accepted)
+                )
             }
-            Reply::Marker(id, kept) => write!(f, "marker {id} {}", KeptText(kept)),
+            Reply::Marker(id, accepted) => write!(f, "marker {id} {}", AcceptedText(accepted)),
             Reply::Nothing => f.write_str("nothing"),
             Reply::Took => f.write_str("took"),
-            Reply::Responded(kept) => write!(f, "responded {}", KeptText(kept)),
+            Reply::Responded(accepted) => write!(f, "responded {}", AcceptedText(accepted)),
             Reply::Released(count) => write!(f, "released {count}"),
             Reply::Up(agg) => write!(f, "up {agg}"),
             Reply::Dropped => f.write_str("dropped"),
@@ -80,8 +85,8 @@ impl fmt::Display for ReplyText {
             Reply::Sensed(false) => f.write_str("down"),
             Reply::Configured(true) => f.write_str("configured"),
             Reply::Configured(false) => f.write_str("unchanged"),
-            Reply::Port(port, serial, kept) => {
-                write!(f, "port {port} serial {serial} {}", KeptText(kept))
+            Reply::Port(port, serial, accepted) => {
+                write!(f, "port {port} serial {serial} {}", AcceptedText(accepted))
             }
             Reply::Moved => f.write_str("moved"),
             Reply::Forced => f.write_str("forced"),

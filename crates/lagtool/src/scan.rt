@@ -1,12 +1,12 @@
 ghost use Rattle.std.specs.Prelude.{◌≡◌, ◌+◌, ◌<◌, ◌≤◌, ◌^◌, ◌++◌, [], length, IfOk, OnOk, OnErr};
 ghost use Rattle.memchr.specs.Find.{Nowhere, Passes, is_byte};
-ghost use Rattle.lagtool.specs.Checked.{counts_text, faults_of, numbered};
-ghost use Rattle.lagtool.specs.Scans.{Reads, counted, unwritten};
-ghost use Rattle.lagtool.specs.Sinks.{Breaks, Takes};
+ghost use Rattle.lagtool.specs.CheckReport.{counts_text, faults_of, numbered};
+ghost use Rattle.lagtool.specs.Scans.{ReadsOctets, counts_after, unwritten};
+ghost use Rattle.lagtool.specs.Sinks.{WritesPart, WritesWhole};
 
 use crate::sink::{Sink, WriteFailed};
 use crate::summary::Summary;
-use crate::verdict::{LONGEST, of_line};
+use crate::verdict::{LONGEST, line_verdict};
 use memchr::memchr;
 use std::alloc::{AllocError, Global};
 use std::io::Write;
@@ -56,7 +56,7 @@ impl Scan {
         ensures faults { OnOk result (self.new.faults ≡ self.old.faults + faults_of self.old.line) }
         ensures line { OnOk result (self.new.line ≡ []) }
     {
-        let verdict = of_line(alloc, &self.line)?;
+        let verdict = line_verdict(alloc, &self.line)?;
         let number = self.lines + 1;
         write!(self.report, "{number} {verdict}\n")?;
         if verdict.is_fault() {
@@ -71,7 +71,7 @@ impl Scan {
     /// `AllocError` if memory is refused.
     fn keep(&mut self, octets: &[u8]) -> Result<(), AllocError>
         requires { Nowhere (Passes (is_byte 10) octets.now) 0 (length octets.now) }
-        ensures reads { OnOk result (Reads self.old self.new octets.now) }
+        ensures reads { OnOk result (ReadsOctets self.old self.new octets.now) }
         ensures lines { OnOk result (self.new.lines ≡ self.old.lines) }
     {
         let room = LONGEST + 1 - self.line.len();
@@ -83,7 +83,7 @@ impl Scan {
     /// line. `AllocError` if memory is refused.
     pub fn feed(&mut self, alloc: Global, piece: &[u8]) -> Result<(), AllocError>
         requires { self.old.lines + length piece.now < 2 ^ 64 }
-        ensures reads { OnOk result (Reads self.old self.new piece.now) }
+        ensures reads { OnOk result (ReadsOctets self.old self.new piece.now) }
         ensures lines { OnOk result (self.new.lines ≤ self.old.lines + length piece.now) }
     {
         let mut rest = piece;
@@ -110,7 +110,7 @@ impl Scan {
     pub fn finish(&mut self, alloc: Global) -> Result<Summary, AllocError>
         requires { self.old.lines + 1 < 2 ^ 64 }
         ensures said { OnOk result (self.new.said ≡ unwritten self.old []) }
-        ensures counts { IfOk result (λ s. s ≡ counted self.old []) }
+        ensures counts { IfOk result (λ s. s ≡ counts_after self.old []) }
     {
         if !self.line.is_empty() {
             self.end_line(alloc)?;
@@ -121,8 +121,8 @@ impl Scan {
     /// Writes the part of the report that is not written yet, in one call of the sink. `WriteFailed` if the sink
     /// failed.
     pub fn write<W: Write>(&mut self, sink: &mut Sink<W>) -> Result<(), WriteFailed>
-        ensures ok { OnOk result (Takes W.contents sink.old sink.new (self.old.said)) }
-        ensures err { OnErr result (Breaks W.contents sink.old sink.new (self.old.said)) }
+        ensures ok { OnOk result (WritesWhole W.contents sink.old sink.new (self.old.said)) }
+        ensures err { OnErr result (WritesPart W.contents sink.old sink.new (self.old.said)) }
         ensures said { OnOk result (self.new ≡ record self.old { said = [] }) }
     {
         sink.put(self.report.as_bytes())?;

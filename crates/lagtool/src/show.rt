@@ -1,7 +1,7 @@
 ghost use Rattle.std.specs.Prelude.{◌≡◌, false, Ok, IfOk, IfErr, string_bytes};
 ghost use Rattle.hex.specs.Hex.{decode_of};
 ghost use Rattle.lagtool.specs.Engines.{HasNoOctets, Shows};
-ghost use Rattle.lagtool.specs.Reports.{IsReport};
+ghost use Rattle.lagtool.specs.Reports.{IsPayloadReport};
 
 use crate::fault::ToolFault;
 use crate::report::Report;
@@ -26,7 +26,7 @@ pub fn octets_of(alloc: Global, text: &str) -> Result<Vec<u8>, ToolFault>
 
 /// The report for a payload.
 fn report_on(alloc: Global, payload: &[u8]) -> Result<Report, AllocError>
-    ensures { IfOk result (λ r. IsReport payload.now (string_bytes r.text) r.accepted) }
+    ensures { IfOk result (λ r. IsPayloadReport payload.now (string_bytes r.text) r.accepted) }
 {
     match decode(payload) {
         Ok(pdu) => Ok(Report {

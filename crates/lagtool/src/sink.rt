@@ -1,6 +1,6 @@
 ghost use Rattle.std.specs.Prelude.{◌≡◌, ◌≤◌, ◌<◌, length, take, true, false, IfOk, OnOk, OnErr};
 ghost use Rattle.std.specs.Io.KnownBytes.{Keeps};
-ghost use Rattle.lagtool.specs.Sinks.{Breaks, Takes};
+ghost use Rattle.lagtool.specs.Sinks.{WritesPart, WritesWhole};
 
 use std::io::Write;
 use std::marker::Model;
@@ -54,7 +54,7 @@ impl<W: Write> Sink<W> {
     fn put_some(&mut self, octets: &[u8]) -> Result<usize, WriteFailed>
         requires { 0 < length octets.now }
         ensures some { IfOk result (λ n. (0 < n) × (n ≤ length octets.now)) }
-        ensures ok { IfOk result (λ n. Takes W.contents self.old self.new (take n octets.now)) }
+        ensures ok { IfOk result (λ n. WritesWhole W.contents self.old self.new (take n octets.now)) }
         ensures err { OnErr result (Keeps (W.contents self.old.writer) (W.contents self.new.writer) × (self.new.failed ≡ true)) }
     {
         match self.inner.write(octets) {
@@ -68,8 +68,8 @@ impl<W: Write> Sink<W> {
 
     /// Writes all of the octets; after a failure, a beginning of them is written.
     pub fn put(&mut self, octets: &[u8]) -> Result<(), WriteFailed>
-        ensures ok { OnOk result (Takes W.contents self.old self.new octets.now) }
-        ensures err { OnErr result (Breaks W.contents self.old self.new octets.now) }
+        ensures ok { OnOk result (WritesWhole W.contents self.old self.new octets.now) }
+        ensures err { OnErr result (WritesPart W.contents self.old self.new octets.now) }
     {
         let mut rest = octets;
         while !rest.is_empty() {

@@ -1,5 +1,5 @@
 ghost use Rattle.std.specs.Prelude.{Some};
-ghost use Rattle.lagtool.specs.Texts.{info_text, kind_text, lacpdu_text, marker_text, pdu_text, refusal_text, wire_fault_text};
+ghost use Rattle.lagtool.specs.Texts.{info_text, marker_kind_text, lacpdu_text, marker_text, pdu_text, refusal_text, wire_fault_text};
 
 use lagtypes::MacText;
 use slowpdu::{Info, Lacpdu, Marker, MarkerKind, Pdu, WireFault};
@@ -24,10 +24,10 @@ impl fmt::Display for EndText<'_> {
 
 /// The name of a kind of Marker PDU.
 #[derive(Clone, Copy)]
-struct KindText(MarkerKind);
+struct MarkerKindText(MarkerKind);
 
-impl fmt::Display for KindText {
-    ghost output = { λ t. Some (kind_text t.0) };
+impl fmt::Display for MarkerKindText {
+    ghost output = { λ t. Some (marker_kind_text t.0) };
 
     fn fmt<W: fmt::Write>(&self, f: &mut fmt::Formatter<W>) -> fmt::Result {
         match self.0 {
@@ -68,7 +68,7 @@ impl fmt::Display for MarkerText<'_> {
         write!(
             f,
             "{}\nport {} system {} id {}\n",
-            KindText(marker.kind),
+            MarkerKindText(marker.kind),
             marker.port,
             MacText(&marker.system),
             marker.id

@@ -61,7 +61,7 @@ impl fmt::Display for Verdict {
 }
 
 /// The verdict on a frame with a Marker PDU of this type.
-fn of_kind(kind: MarkerKind) -> Verdict
+fn kind_verdict(kind: MarkerKind) -> Verdict
     ensures { result ≡ kind_verdict kind }
 {
     match kind {
@@ -71,24 +71,24 @@ fn of_kind(kind: MarkerKind) -> Verdict
 }
 
 /// The verdict on a frame with this payload of a control frame.
-fn of_payload(payload: &[u8]) -> Verdict
+fn payload_verdict(payload: &[u8]) -> Verdict
     ensures { result ≡ payload_verdict payload.now }
 {
     match decode(payload) {
         Ok(Pdu::Lacpdu(_)) => Verdict::Lacpdu,
-        Ok(Pdu::Marker(marker)) => of_kind(marker.kind),
+        Ok(Pdu::Marker(marker)) => kind_verdict(marker.kind),
         Err(fault) => Verdict::Refused(fault),
     }
 }
 
 /// The verdict on a frame.
-fn of_frame(octets: &[u8]) -> Verdict
+fn frame_verdict(octets: &[u8]) -> Verdict
     ensures { result ≡ frame_verdict octets.now }
 {
     match classify(octets) {
         Kind::TooShort => Verdict::Runt,
         Kind::Data => Verdict::Data,
-        Kind::Control(payload) => of_payload(payload),
+        Kind::Control(payload) => payload_verdict(payload),
     }
 }
 
@@ -105,14 +105,14 @@ fn without_return(line: &[u8]) -> &[u8]
 }
 
 /// The verdict on a line.
-pub fn of_line(alloc: Global, line: &[u8]) -> Result<Verdict, AllocError>
+pub fn line_verdict(alloc: Global, line: &[u8]) -> Result<Verdict, AllocError>
     ensures { IfOk result (λ v. v ≡ line_verdict line.now) }
 {
     if line.len() > LONGEST {
         return Ok(Verdict::TooLong);
     }
     match hex::decode(alloc, without_return(line)) {
-        Ok(octets) => Ok(of_frame(octets.as_slice())),
+        Ok(octets) => Ok(frame_verdict(octets.as_slice())),
         Err(FromHexError::OutOfMemory) => Err(AllocError),
         Err(_) => Ok(Verdict::NotHex),
     }

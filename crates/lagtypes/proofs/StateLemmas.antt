@@ -5,7 +5,7 @@ use Rattle.std.specs.Prelude.{◌==◌, if◌then◌else◌}
 use Rattle.std.specs.Int.RustNames.{bit_or}
 use Rattle.lagtypes.specs.declared.state.State.{State}
 use Rattle.lagtypes.specs.declared.state.StateBits.{StateBits}
-use Rattle.lagtypes.specs.States.{bits_of, state_of}
+use Rattle.lagtypes.specs.States.{bits_of, state_from_bits}
 
 -- a test that both values pass
 abbrev both : (Bool → Bool) → Bool
@@ -54,8 +54,8 @@ added b =
 same : (m n : ℕ) → (m == n) ≡ true → m ≡ n
 same m n e = grind arith
 
-pub added_state : (b : StateBits) → added b ≡ (state_of b).0
-added_state b = same (added b) (state_of b).0 (one_state (λ b. added b == (state_of b).0) b refl)
+pub added_state : (b : StateBits) → added b ≡ (state_from_bits b).0
+added_state b = same (added b) (state_from_bits b).0 (one_state (λ b. added b == (state_from_bits b).0) b refl)
 
 abbrev alike : Bool → Bool → Bool
 alike true true = true
@@ -94,8 +94,8 @@ all_alike_same a b e =
     }
 
 -- the bits of a state that is made of bits are these
-pub read_back : (b : StateBits) → bits_of (state_of b) ≡ b
-read_back b = all_alike_same (bits_of (state_of b)) b (one_state (λ b. all_alike (bits_of (state_of b)) b) b refl)
+pub read_back : (b : StateBits) → bits_of (state_from_bits b) ≡ b
+read_back b = all_alike_same (bits_of (state_from_bits b)) b (one_state (λ b. all_alike (bits_of (state_from_bits b)) b) b refl)
 
 -- a test that all numbers below this one pass
 abbrev below : ℕ → (ℕ → Bool) → Bool
@@ -111,6 +111,6 @@ below_is (suc k) p n e h =
     ] refl
 
 -- the state that is made of the bits of a state octet is that octet
-pub write_back : (s : State) → s.0 < 256 → state_of (bits_of s) ≡ s
+pub write_back : (s : State) → s.0 < 256 → state_from_bits (bits_of s) ≡ s
 write_back s h =
-    λ i. record { 0 = same (state_of (bits_of s)).0 s.0 (below_is 256 (λ n. (state_of (bits_of (record { 0 = n }))).0 == n) s.0 refl h) i }
+    λ i. record { 0 = same (state_from_bits (bits_of s)).0 s.0 (below_is 256 (λ n. (state_from_bits (bits_of (record { 0 = n }))).0 == n) s.0 refl h) i }

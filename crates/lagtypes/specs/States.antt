@@ -25,16 +25,16 @@ abbrev weight : Bool → ℕ → ℕ
 weight set bit = if set then bit else 0
 
 -- the state octet with just these bits
-abbrev pub state_of : StateBits → State
-state_of b = record {
+abbrev pub state_from_bits : StateBits → State
+state_from_bits b = record {
   0 = weight b.activity 1 + weight b.timeout 2 + weight b.aggregation 4 + weight b.synchronization 8
       + weight b.collecting 16 + weight b.distributing 32 + weight b.defaulted 64 + weight b.expired 128;
 }
 
 -- the same state, but Synchronization has this value
 abbrev pub with_synchronization : Bool → State → State
-with_synchronization on s = state_of (record (bits_of s) { synchronization = on })
+with_synchronization on s = state_from_bits (record (bits_of s) { synchronization = on })
 
 -- the same state, but LACP_Timeout has this value
 abbrev pub with_timeout : Bool → State → State
-with_timeout on s = state_of (record (bits_of s) { timeout = on })
+with_timeout on s = state_from_bits (record (bits_of s) { timeout = on })

@@ -3,7 +3,7 @@ ghost use Rattle.lagtypes.specs.declared.party.Party.{Party};
 ghost use Rattle.lagtypes.specs.declared.state.State.{State};
 ghost use Rattle.lagtypes.specs.declared.state.StateBits.{StateBits};
 ghost use Rattle.lagtypes.specs.Group.{SamePair, group_of, pair_of};
-ghost use Rattle.lagtypes.specs.States.{bits_of, state_of};
+ghost use Rattle.lagtypes.specs.States.{bits_of, state_from_bits};
 
 /// Two groups are equal exactly if their unordered pairs of ends are equal (6.3.6).
 pub fn equal_groups_are_equal_pairs()
@@ -12,6 +12,6 @@ pub fn equal_groups_are_equal_pairs()
 
 /// A state octet and its eight bits determine each other (6.4.2.3).
 pub fn state_bits_are_kept()
-    ensures read { (bits : StateBits) → bits_of (state_of bits) ≡ bits }
-    ensures written { (state : State) → state.0 < 256 → state_of (bits_of state) ≡ state }
+    ensures read { (bits : StateBits) → bits_of (state_from_bits bits) ≡ bits }
+    ensures written { (state : State) → state.0 < 256 → state_from_bits (bits_of state) ≡ state }
 {}

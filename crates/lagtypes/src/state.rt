@@ -1,7 +1,7 @@
 ghost use Rattle.std.specs.Prelude.{⊤, ◌≡◌, [], ◌∷◌, Some, codes, map, if◌then◌else◌};
 ghost use Rattle.std.specs.Fmt.{DisplaysOnOk};
 ghost use Rattle.std.specs.Int.RustNames.{bit_or};
-ghost use Rattle.lagtypes.specs.States.{bits_of, state_of, with_synchronization, with_timeout};
+ghost use Rattle.lagtypes.specs.States.{bits_of, state_from_bits, with_synchronization, with_timeout};
 ghost use Rattle.lagtypes.specs.Texts.{joined_words, set_words, state_text};
 
 use crate::identifiers::HexOctet;
@@ -70,7 +70,7 @@ impl Flags for State {
 }
 
 impl From<StateBits> for State {
-    ghost from_gives = { λ bits state. state ≡ state_of bits };
+    ghost from_gives = { λ bits state. state ≡ state_from_bits bits };
 
     fn from(bits: StateBits) -> State {
         let mut state = State(0);

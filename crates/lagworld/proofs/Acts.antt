@@ -9,13 +9,13 @@ use Rattle.lagscript.specs.declared.event.Event.{Event}
 use Rattle.lagscript.specs.declared.event.Event.TheVariants as event
 use Rattle.lagworld.specs.declared.fault.WorldFault.{WorldFault}
 use Rattle.lagworld.specs.declared.reply.Reply.{Reply}
-use Rattle.lagworld.specs.Asking.{ForcesAs}
-use Rattle.lagworld.specs.State.{Joint}
+use Rattle.lagworld.specs.Asking.{WorldForces}
+use Rattle.lagworld.specs.State.{WorldState}
 use Rattle.lagworld.specs.Messages.{side_named}
-use Rattle.lagworld.specs.Events.{Gives, Does, Emits, Offers, side_of, cause, first_cause, has_cable, has_system, most_events}
-use Rattle.lagworld.specs.Joints.{TicksAs}
+use Rattle.lagworld.specs.Events.{Algorithms, DoesEvent, Emits, OffersFrame, side_of, cause, first_event_cause, has_cable, has_system, most_events}
+use Rattle.lagworld.specs.WorldCalls.{WorldTicks}
 
-pub second : (a b c : Bool) → first_cause a b c ≡ None → (a ≡ true) × (b ≡ true)
+pub second : (a b c : Bool) → first_event_cause a b c ≡ None → (a ≡ true) × (b ≡ true)
 second true true c h = (refl, refl)
 second true false c h = absurd (let e = h in cc)
 second false b c h = absurd (let e = h in cc)
@@ -31,9 +31,9 @@ side_there n h = by_one (n == 1) (n == 2) h
 pub at_side_of : (n : ℕ) (P : Side → Type 0) → is_some (side_of n) ≡ true → P (side_named n) → IsSomeAnd (side_of n) P
 at_side_of n P h x = subst (λ o. IsSomeAnd o P) (sym (side_there n h)) x
 
-pub tick_does : (gives : Gives) (n count : ℕ) (e : Event) (r : Reply) (old new : Joint) → e ≡ event.Tick n count → cause old e ≡ None → TicksAs gives (side_named n) count old r new → Does gives old e r new
+pub tick_does : (gives : Algorithms) (n count : ℕ) (e : Event) (r : Reply) (old new : WorldState) → e ≡ event.Tick n count → cause old e ≡ None → WorldTicks gives (side_named n) count old r new → DoesEvent gives old e r new
 tick_does gives n count e r old new is c x =
-    subst (λ e. Does gives old e r new) (sym is)
+    subst (λ e. DoesEvent gives old e r new) (sym is)
     (at_side_of n _ (second (has_cable old None) (is_some (side_of n)) _ (subst (λ e. cause old e ≡ None) is c)).1 x)
 
 if_ok : {T E : Type 0} (r : Result T E) (P Q : T → Type 0) → ((x : T) → P x → Q x) → IfOk r P → IfOk r Q
@@ -41,18 +41,18 @@ if_ok (Ok x) P Q f h = f x h
 if_ok (Err e) P Q f h = tt
 
 -- of an event that names a system, and no cable
-there : (j : Joint) (n : ℕ) → first_cause (has_cable j None) (has_system (Some n)) (nat_le most_events j.acted) ≡ None → is_some (side_of n) ≡ true
+there : (j : WorldState) (n : ℕ) → first_event_cause (has_cable j None) (has_system (Some n)) (nat_le most_events j.acted) ≡ None → is_some (side_of n) ≡ true
 there j n h = (second (has_cable j None) (is_some (side_of n)) (nat_le most_events j.acted) h).1
 
-pub emit_does : (gives : Gives) (n p : ℕ) (e : Event) (r : Result Reply WorldFault) (old new : Joint) → e ≡ event.Emit n p → cause old e ≡ None → IfOk r (λ x. Emits gives (side_named n) p old x new) → IfOk r (λ x. Does gives old e x new)
-emit_does gives n p e r old new is c = if_ok r (λ x. Emits gives (side_named n) p old x new) (λ x. Does gives old e x new)
-    (λ x h. subst (λ e. Does gives old e x new) (sym is) (at_side_of n (λ s. Emits gives s p old x new) (there old n (subst (λ e. cause old e ≡ None) is c)) h))
+pub emit_does : (gives : Algorithms) (n p : ℕ) (e : Event) (r : Result Reply WorldFault) (old new : WorldState) → e ≡ event.Emit n p → cause old e ≡ None → IfOk r (λ x. Emits gives (side_named n) p old x new) → IfOk r (λ x. DoesEvent gives old e x new)
+emit_does gives n p e r old new is c = if_ok r (λ x. Emits gives (side_named n) p old x new) (λ x. DoesEvent gives old e x new)
+    (λ x h. subst (λ e. DoesEvent gives old e x new) (sym is) (at_side_of n (λ s. Emits gives s p old x new) (there old n (subst (λ e. cause old e ≡ None) is c)) h))
 
-pub offer_does : (gives : Gives) (n : ℕ) (agg : AggId) (octets : Vec ℕ) (e : Event) (r : Result Reply WorldFault) (old new : Joint) → e ≡ event.Offer n agg octets → cause old e ≡ None
-    → IfOk r (λ x. Offers gives (side_named n) agg octets.items old x new) → IfOk r (λ x. Does gives old e x new)
-offer_does gives n agg octets e r old new is c = if_ok r (λ x. Offers gives (side_named n) agg octets.items old x new) (λ x. Does gives old e x new)
-    (λ x h. subst (λ e. Does gives old e x new) (sym is) (at_side_of n (λ s. Offers gives s agg octets.items old x new) (there old n (subst (λ e. cause old e ≡ None) is c)) h))
+pub offer_does : (gives : Algorithms) (n : ℕ) (agg : AggId) (octets : Vec ℕ) (e : Event) (r : Result Reply WorldFault) (old new : WorldState) → e ≡ event.Offer n agg octets → cause old e ≡ None
+    → IfOk r (λ x. OffersFrame gives (side_named n) agg octets.items old x new) → IfOk r (λ x. DoesEvent gives old e x new)
+offer_does gives n agg octets e r old new is c = if_ok r (λ x. OffersFrame gives (side_named n) agg octets.items old x new) (λ x. DoesEvent gives old e x new)
+    (λ x h. subst (λ e. DoesEvent gives old e x new) (sym is) (at_side_of n (λ s. OffersFrame gives s agg octets.items old x new) (there old n (subst (λ e. cause old e ≡ None) is c)) h))
 
-pub force_does : (gives : Gives) (n : ℕ) (agg : AggId) (conv : ℕ) (e : Event) (r : Reply) (old new : Joint) → e ≡ event.Force n agg conv → cause old e ≡ None → ForcesAs gives (side_named n) agg conv old r new → Does gives old e r new
+pub force_does : (gives : Algorithms) (n : ℕ) (agg : AggId) (conv : ℕ) (e : Event) (r : Reply) (old new : WorldState) → e ≡ event.Force n agg conv → cause old e ≡ None → WorldForces gives (side_named n) agg conv old r new → DoesEvent gives old e r new
 force_does gives n agg conv e r old new is c x =
-    subst (λ e. Does gives old e r new) (sym is) (at_side_of n (λ s. ForcesAs gives s agg conv old r new) (there old n (subst (λ e. cause old e ≡ None) is c)) x)
+    subst (λ e. DoesEvent gives old e r new) (sym is) (at_side_of n (λ s. WorldForces gives s agg conv old r new) (there old n (subst (λ e. cause old e ≡ None) is c)) x)

@@ -12,121 +12,121 @@ use Rattle.cables.specs.declared.item.Stamp.TheVariants as stamp
 use Rattle.slowpdu.specs.declared.pdu.Lacpdu.{Lacpdu}
 use Rattle.slowpdu.specs.Readings.{lacpdu_in}
 use Rattle.lagmodel.specs.World.{Side, One, Two}
-use Rattle.lagsystem.specs.declared.answers.Received.{Received}
-use Rattle.lagsystem.specs.declared.answers.Received.TheVariants as received
+use Rattle.lagsystem.specs.declared.received.Received.{Received}
+use Rattle.lagsystem.specs.declared.received.Received.TheVariants as received
 use Rattle.lagsystem.specs.declared.drive.Reply.TheVariants as answer
 use Rattle.lagsystem.specs.declared.fault.SystemFault.{SystemFault}
 use Rattle.lagsystem.specs.Calls.{Receive}
-use Rattle.lagsystem.specs.Shown.{JoinsViews}
+use Rattle.lagsystem.specs.ModelView.{JoinedByFreeMoves}
 use Rattle.lagsystem.specs.Sound.{Answers}
-use Rattle.lagsystem.specs.State.{State}
-use Rattle.lagworld.specs.declared.arriving.Head.{Head}
-use Rattle.lagworld.specs.declared.line.Line.{Line as Cabled}
-use Rattle.lagworld.specs.declared.logs.Heard.{Heard}
-use Rattle.lagworld.specs.declared.logs.PortLog.{PortLog}
+use Rattle.lagsystem.specs.State.{SystemState}
+use Rattle.lagworld.specs.declared.delivering.Head.{Head}
+use Rattle.lagworld.specs.declared.link.Link.{Link as Cabled}
+use Rattle.lagworld.specs.declared.histories.StampedLacpdu.{StampedLacpdu}
+use Rattle.lagworld.specs.declared.histories.PortHistory.{PortHistory}
 use Rattle.lagworld.specs.declared.reply.Reply.{Reply}
-use Rattle.lagworld.specs.State.{Carried, Half, Line, Joint, Serials, half, with_half, with_lines, port_at, towards, with_towards, line_of_port}
-use Rattle.lagworld.specs.Calls.{set_taken, with_state}
-use Rattle.lagworld.specs.Events.{Gives, InHalf, Arrives, Arrived, DeliversFrom, RepeatsFrom, RepeatsItem, heard_in, set_heard}
-use Rattle.lagworld.specs.Messages.{carried, count_of, payload_in}
-use Rattle.lagworld.specs.Kept.{line_of, lines_of}
+use Rattle.lagworld.specs.State.{Carried, HalfState, LinkState, WorldState, Serials, half, with_half, with_links, port_at, towards, with_towards, link_of_port}
+use Rattle.lagworld.specs.HalfCalls.{set_taken, with_state}
+use Rattle.lagworld.specs.Events.{Algorithms, InHalf, Arrives, Arrived, DeliversFrom, RepeatsFrom, RepeatsItem, stamped_in, set_last_lacpdu}
+use Rattle.lagworld.specs.Messages.{carried, stamp_count, payload_in}
+use Rattle.lagworld.specs.Inner.{link_state, link_states}
 use Rattle.lagworld.specs.Places.{IsReserved, IsReservedAt, is_reserved}
-use Rattle.lagworld.specs.Arriving.{CarriesLacpdu, Comes, Concludes, DeliversAs, FirstComes, FirstComesIn, IsHeard, RepeatsAs, first_told, head_in, is_data, kept_heard, log_place, logged, without_first}
+use Rattle.lagworld.specs.Arriving.{CarriesLacpdu, ReceivesItem, Concludes, WorldDelivers, ReceivesFirst, ReceivesFirstIn, IsToKeep, WorldRepeats, first_head, head_in, is_data, last_lacpdu_kept, history_place, logged, without_first}
 use Rattle.lagworld.proofs.LineLemmas.{on_place}
 use Rattle.lagworld.proofs.Arrives.{lacpdu_read}
 
-abbrev make_heard : Lacpdu → ℕ → Heard
+abbrev make_heard : Lacpdu → ℕ → StampedLacpdu
 make_heard v n = record { pdu = v; stamp = n }
 
 abbrev make_head : ℕ → Stamp → Head
 make_head p st = record { port = p; stamp = st }
 
 -- an LACPDU was taken, so the frame carries one
-took_lacpdu : (p : ℕ) (octets : List ℕ) (old new : State) → JoinsViews old (Receive p octets) (answer.Receive (Ok received.TookLacpdu)) new → (v : Lacpdu) × CarriesLacpdu octets v
+took_lacpdu : (p : ℕ) (octets : List ℕ) (old new : SystemState) → JoinedByFreeMoves old (Receive p octets) (answer.Receive (Ok received.TookLacpdu)) new → (v : Lacpdu) × CarriesLacpdu octets v
 took_lacpdu p octets old new h = (h.3.0, h.3.1)
 
 -- what is to be kept of it
-pub heard_is : (octets b : List ℕ) (st : Stamp) (found v : Lacpdu) (n : ℕ) → CarriesLacpdu octets v → b ≡ octets → ((v : Lacpdu) → CarriesLacpdu b v → Some found ≡ Some v) → n ≡ count_of st
-    → Some (make_heard found n) ≡ Some (heard_in (record { octets = octets; stamp = st }))
+pub heard_is : (octets b : List ℕ) (st : Stamp) (found v : Lacpdu) (n : ℕ) → CarriesLacpdu octets v → b ≡ octets → ((v : Lacpdu) → CarriesLacpdu b v → Some found ≡ Some v) → n ≡ stamp_count st
+    → Some (make_heard found n) ≡ Some (stamped_in (record { octets = octets; stamp = st }))
 heard_is octets b st found v n h same only e =
     let is : found ≡ v = same_Some found v (only v (subst (λ b. CarriesLacpdu b v) (sym same) h)) in
-    ap (λ (x : Heard). Some x) (ap (λ (x : Lacpdu). make_heard x n) (is ∙ sym (lacpdu_read (payload_in octets) v h.1)) ∙ ap (make_heard (lacpdu_in (payload_in octets))) e)
+    ap (λ (x : StampedLacpdu). Some x) (ap (λ (x : Lacpdu). make_heard x n) (is ∙ sym (lacpdu_read (payload_in octets) v h.1)) ∙ ap (make_heard (lacpdu_in (payload_in octets))) e)
 
 pub none_heard : (octets b : List ℕ) (v : Lacpdu) → CarriesLacpdu octets v → b ≡ octets → ((v : Lacpdu) → CarriesLacpdu b v → None ≡ Some v) → ⊥
 none_heard octets b v h same only = none-some v (only v (subst (λ b. CarriesLacpdu b v) (sym same) h))
 
-heard_next : (p : ℕ) (heard : Heard) (d log : PortLog) (logs : List PortLog) (rest : ℕ) (b : Bool) → set_heard p heard logs ≡ set logs rest (set_taken heard (get_or logs rest d))
-    → cond b (set_taken heard log ∷ logs) (log ∷ set_heard p heard logs) ≡ set (log ∷ logs) (cond (not b) (1 + rest) 0) (set_taken heard (get_or (log ∷ logs) (cond (not b) (1 + rest) 0) d))
-heard_next p heard d log logs rest true ih = refl
-heard_next p heard d log logs rest false ih =
+heard_next : (p : ℕ) (heard : StampedLacpdu) (d history : PortHistory) (histories : List PortHistory) (rest : ℕ) (b : Bool) → set_last_lacpdu p heard histories ≡ set histories rest (set_taken heard (get_or histories rest d))
+    → cond b (set_taken heard history ∷ histories) (history ∷ set_last_lacpdu p heard histories) ≡ set (history ∷ histories) (cond (not b) (1 + rest) 0) (set_taken heard (get_or (history ∷ histories) (cond (not b) (1 + rest) 0) d))
+heard_next p heard d history histories rest true ih = refl
+heard_next p heard d history histories rest false ih =
     let one : 1 + rest ≡ suc rest = omega arith in
-    ap (λ l. log ∷ l) ih ∙ ap (λ n. set (log ∷ logs) n (set_taken heard (get_or (log ∷ logs) n d))) (sym one)
+    ap (λ l. history ∷ l) ih ∙ ap (λ n. set (history ∷ histories) n (set_taken heard (get_or (history ∷ histories) n d))) (sym one)
 
 -- the log of the first port with the number
-pub heard_at : (p : ℕ) (heard : Heard) (d : PortLog) (logs : List PortLog)
-    → set_heard p heard logs ≡ set logs (position_or_len (λ log. log.number == p) logs) (set_taken heard (get_or logs (position_or_len (λ log. log.number == p) logs) d))
+pub heard_at : (p : ℕ) (heard : StampedLacpdu) (d : PortHistory) (histories : List PortHistory)
+    → set_last_lacpdu p heard histories ≡ set histories (position_or_len (λ history. history.number == p) histories) (set_taken heard (get_or histories (position_or_len (λ history. history.number == p) histories) d))
 heard_at p heard d [] = refl
-heard_at p heard d (log ∷ logs) = heard_next p heard d log logs (position_or_len (λ log. log.number == p) logs) (log.number == p) (heard_at p heard d logs)
+heard_at p heard d (history ∷ histories) = heard_next p heard d history histories (position_or_len (λ history. history.number == p) histories) (history.number == p) (heard_at p heard d histories)
 
-pub heard_found : (p : ℕ) (heard : Heard) (logs : List PortLog) (i : ℕ) (log : PortLog) → Some i ≡ log_place p logs → log ≡ get_or logs i log
-    → set logs i (set_taken heard log) ≡ set_heard p heard logs
-heard_found p heard logs i log found read =
-    let at = (cond_some (nat_lt (position_or_len (λ log. log.number == p) logs) (length logs)) (position_or_len (λ log. log.number == p) logs) i (sym found)).1 in
-    ap (λ l. set logs i (set_taken heard l)) read ∙ sym (heard_at p heard log logs ∙ ap (λ n. set logs n (set_taken heard (get_or logs n log))) at)
+pub heard_found : (p : ℕ) (heard : StampedLacpdu) (histories : List PortHistory) (i : ℕ) (history : PortHistory) → Some i ≡ history_place p histories → history ≡ get_or histories i history
+    → set histories i (set_taken heard history) ≡ set_last_lacpdu p heard histories
+heard_found p heard histories i history found read =
+    let at = (cond_some (nat_lt (position_or_len (λ history. history.number == p) histories) (length histories)) (position_or_len (λ history. history.number == p) histories) i (sym found)).1 in
+    ap (λ l. set histories i (set_taken heard l)) read ∙ sym (heard_at p heard history histories ∙ ap (λ n. set histories n (set_taken heard (get_or histories n history))) at)
 
-pub heard_nowhere : (p : ℕ) (heard : Heard) (logs : List PortLog) → None ≡ log_place p logs → logs ≡ set_heard p heard logs
+pub heard_nowhere : (p : ℕ) (heard : StampedLacpdu) (histories : List PortHistory) → None ≡ history_place p histories → histories ≡ set_last_lacpdu p heard histories
 heard_nowhere p heard [] none = refl
-heard_nowhere p heard (log ∷ logs) none =
-    sym (heard_at p heard log (log ∷ logs)
-    ∙ set_past (log ∷ logs) (position_or_len (λ l. l.number == p) (log ∷ logs)) _
-    (past (position_or_len (λ l. l.number == p) (log ∷ logs)) (length (log ∷ logs)) (nat_lt (position_or_len (λ l. l.number == p) (log ∷ logs)) (length (log ∷ logs))) refl none))
+heard_nowhere p heard (history ∷ histories) none =
+    sym (heard_at p heard history (history ∷ histories)
+    ∙ set_past (history ∷ histories) (position_or_len (λ l. l.number == p) (history ∷ histories)) _
+    (past (position_or_len (λ l. l.number == p) (history ∷ histories)) (length (history ∷ histories)) (nat_lt (position_or_len (λ l. l.number == p) (history ∷ histories)) (length (history ∷ histories))) refl none))
   where
     past : (n m : ℕ) (b : Bool) → nat_lt n m ≡ b → None ≡ cond b (Some n) None → m ≤ n
     past n m true e h = absurd (none-some n h)
     past n m false e h = grind (arith, nat_tests)
 
-abbrev make_half : State → List PortLog → List (List Serials) → Half
-make_half state logs flows = record { state = state; logs = logs; flows = flows }
+abbrev make_half : SystemState → List PortHistory → List (List Serials) → HalfState
+make_half state histories flows = record { state = state; histories = histories; flows = flows }
 
 -- what was kept of an item that a system answered
-logged_is : (p : ℕ) (item : Carried) (a : Result Received SystemFault) (heard : Option Heard) (old : Half) (state : State) (logs : List PortLog)
-    → JoinsViews old.state (Receive p item.octets) (answer.Receive a) state → IsHeard a item heard → logs ≡ kept_heard p heard old.logs
-    → make_half state logs old.flows ≡ logged a p item (with_state state old)
-logged_is p item (Err fault) heard old state logs j h e = ap (λ l. make_half state l old.flows) (e ∙ ap (λ o. kept_heard p o old.logs) h)
-logged_is p item (Ok received.Disabled) heard old state logs j h e = ap (λ l. make_half state l old.flows) (e ∙ ap (λ o. kept_heard p o old.logs) h)
-logged_is p item (Ok received.Dropped) heard old state logs j h e = ap (λ l. make_half state l old.flows) (e ∙ ap (λ o. kept_heard p o old.logs) h)
-logged_is p item (Ok (received.Ignored fault)) heard old state logs j h e = ap (λ l. make_half state l old.flows) (e ∙ ap (λ o. kept_heard p o old.logs) h)
-logged_is p item (Ok received.TookLacpdu) heard old state logs j h e =
+logged_is : (p : ℕ) (item : Carried) (a : Result Received SystemFault) (heard : Option StampedLacpdu) (old : HalfState) (state : SystemState) (histories : List PortHistory)
+    → JoinedByFreeMoves old.state (Receive p item.octets) (answer.Receive a) state → IsToKeep a item heard → histories ≡ last_lacpdu_kept p heard old.histories
+    → make_half state histories old.flows ≡ logged a p item (with_state state old)
+logged_is p item (Err fault) heard old state histories j h e = ap (λ l. make_half state l old.flows) (e ∙ ap (λ o. last_lacpdu_kept p o old.histories) h)
+logged_is p item (Ok received.Disabled) heard old state histories j h e = ap (λ l. make_half state l old.flows) (e ∙ ap (λ o. last_lacpdu_kept p o old.histories) h)
+logged_is p item (Ok received.Dropped) heard old state histories j h e = ap (λ l. make_half state l old.flows) (e ∙ ap (λ o. last_lacpdu_kept p o old.histories) h)
+logged_is p item (Ok (received.Ignored fault)) heard old state histories j h e = ap (λ l. make_half state l old.flows) (e ∙ ap (λ o. last_lacpdu_kept p o old.histories) h)
+logged_is p item (Ok received.TookLacpdu) heard old state histories j h e =
     let taken = took_lacpdu p item.octets old.state state j in
-    ap (λ l. make_half state l old.flows) (e ∙ ap (λ o. kept_heard p o old.logs) (h taken.0 taken.1))
-logged_is p item (Ok (received.Respond frame)) heard old state logs j h e = ap (λ l. make_half state l old.flows) (e ∙ ap (λ o. kept_heard p o old.logs) h)
-logged_is p item (Ok (received.Released n)) heard old state logs j h e = ap (λ l. make_half state l old.flows) (e ∙ ap (λ o. kept_heard p o old.logs) h)
-logged_is p item (Ok (received.Up agg)) heard old state logs j h e = ap (λ l. make_half state l old.flows) (e ∙ ap (λ o. kept_heard p o old.logs) h)
+    ap (λ l. make_half state l old.flows) (e ∙ ap (λ o. last_lacpdu_kept p o old.histories) (h taken.0 taken.1))
+logged_is p item (Ok (received.Respond frame)) heard old state histories j h e = ap (λ l. make_half state l old.flows) (e ∙ ap (λ o. last_lacpdu_kept p o old.histories) h)
+logged_is p item (Ok (received.Released n)) heard old state histories j h e = ap (λ l. make_half state l old.flows) (e ∙ ap (λ o. last_lacpdu_kept p o old.histories) h)
+logged_is p item (Ok (received.Up agg)) heard old state histories j h e = ap (λ l. make_half state l old.flows) (e ∙ ap (λ o. last_lacpdu_kept p o old.histories) h)
 
-pub comes_from : (gives : ℕ → ℕ → ℕ → Type 0) (p : ℕ) (item : Carried) (a : Result Received SystemFault) (b : List ℕ) (heard : Option Heard) (old : Half) (state : State) (logs : List PortLog)
+pub comes_from : (gives : ℕ → ℕ → ℕ → Type 0) (p : ℕ) (item : Carried) (a : Result Received SystemFault) (b : List ℕ) (heard : Option StampedLacpdu) (old : HalfState) (state : SystemState) (histories : List PortHistory)
     → b ≡ item.octets → Answers gives old.state (Receive p b) (answer.Receive a) state
-    → IsHeard a item heard → logs ≡ kept_heard p heard old.logs → Comes gives p item a old (make_half state logs old.flows)
-comes_from gives p item a b heard old state logs same answers h e =
+    → IsToKeep a item heard → histories ≡ last_lacpdu_kept p heard old.histories → ReceivesItem gives p item a old (make_half state histories old.flows)
+comes_from gives p item a b heard old state histories same answers h e =
     let answered = subst (λ b. Answers gives old.state (Receive p b) (answer.Receive a) state) same answers in (
       record { answers = answered; same = refl },
-      logged_is p item a heard old state logs answered.moves h e,
+      logged_is p item a heard old state histories answered.moves h e,
     )
 
 -- the first item on a cable
-pub told_first : (p : ℕ) (xs : List Item) (x : Item) → Some x ≡ slice_get xs 0 → Some (make_head p x.stamp) ≡ first_told p (map carried xs)
+pub told_first : (p : ℕ) (xs : List Item) (x : Item) → Some x ≡ slice_get xs 0 → Some (make_head p x.stamp) ≡ first_head p (map carried xs)
 told_first p [] x h = absurd (none-some x (sym h))
 told_first p (y ∷ ys) x h = ap (λ (z : Item). Some (make_head p z.stamp)) (same_Some x y h)
 
-pub told_none : (p : ℕ) (xs : List Item) → None ≡ slice_get xs 0 → None ≡ first_told p (map carried xs)
+pub told_none : (p : ℕ) (xs : List Item) → None ≡ slice_get xs 0 → None ≡ first_head p (map carried xs)
 told_none p [] h = refl
 told_none p (y ∷ ys) h = absurd (none-some y h)
 
-pub first_comes : (gives : ℕ → ℕ → ℕ → Type 0) (p : ℕ) (xs : List Item) (x : Item) (a : Result Received SystemFault) (old new : Half) → Some x ≡ slice_get xs 0
-    → Comes gives p (carried x) a old new → FirstComes gives p (map carried xs) (Some a) old new
+pub first_comes : (gives : ℕ → ℕ → ℕ → Type 0) (p : ℕ) (xs : List Item) (x : Item) (a : Result Received SystemFault) (old new : HalfState) → Some x ≡ slice_get xs 0
+    → ReceivesItem gives p (carried x) a old new → ReceivesFirst gives p (map carried xs) (Some a) old new
 first_comes gives p [] x a old new h k = absurd (none-some x (sym h))
-first_comes gives p (y ∷ ys) x a old new h k = subst (λ (z : Item). Comes gives p (carried z) a old new) (same_Some x y h) k
+first_comes gives p (y ∷ ys) x a old new h k = subst (λ (z : Item). ReceivesItem gives p (carried z) a old new) (same_Some x y h) k
 
-pub none_comes : (gives : ℕ → ℕ → ℕ → Type 0) (p : ℕ) (xs : List Item) (old : Half) → None ≡ slice_get xs 0 → FirstComes gives p (map carried xs) None old old
+pub none_comes : (gives : ℕ → ℕ → ℕ → Type 0) (p : ℕ) (xs : List Item) (old : HalfState) → None ≡ slice_get xs 0 → ReceivesFirst gives p (map carried xs) None old old
 none_comes gives p [] old h = (refl, refl)
 none_comes gives p (y ∷ ys) old h = absurd (none-some y h)
 
@@ -157,22 +157,22 @@ holds_after Q (y ∷ ys) (suc i) (suc k) x new h w there = holds_after Q ys i k 
 
 -- what is reserved for a system stays so if the first item towards it is taken off
 pub still_reserved : {C : Type 0} (items : C → List Item) (limit : C → Option ℕ) (reserved : C → Bool) (s : Side) (p : ℕ) (ls : List (Cabled C)) (i : ℕ) (x new : Cabled C)
-    → i < length ls → x ≡ get_or ls i x → line_of items limit new ≡ without_first s (line_of items limit x) → is_reserved reserved s new ≡ is_reserved reserved s x
+    → i < length ls → x ≡ get_or ls i x → link_state items limit new ≡ without_first s (link_state items limit x) → is_reserved reserved s new ≡ is_reserved reserved s x
     → IsReserved items limit reserved s p ls → IsReserved items limit reserved s p (set ls i new)
 still_reserved {C = C} items limit reserved s p ls i x new lt read e kept h =
     let there : slice_get ls i ≡ Some x = slice_get_read ls (length ls) i x refl lt read in
-    let seen : slice_get (lines_of items limit ls) i ≡ Some (line_of items limit x) = slice_get-map (line_of items limit) ls i ∙ ap (option_map (line_of items limit)) there in
-    let place : line_of_port s p (lines_of items limit (set ls i new)) ≡ line_of_port s p (lines_of items limit ls) =
-    ap (line_of_port s p) (map-set (line_of items limit) ls i new)
-    ∙ same_position (λ (l : Line). port_at s l == p) (lines_of items limit ls) i (line_of items limit x) (line_of items limit new) seen (ap (λ (l : Line). port_at s l == p) e) in
-    subst (λ o. IsReservedAt reserved s o (set ls i new)) (sym place) (at_place (line_of_port s p (lines_of items limit ls)) there h)
+    let seen : slice_get (link_states items limit ls) i ≡ Some (link_state items limit x) = slice_get-map (link_state items limit) ls i ∙ ap (option_map (link_state items limit)) there in
+    let place : link_of_port s p (link_states items limit (set ls i new)) ≡ link_of_port s p (link_states items limit ls) =
+    ap (link_of_port s p) (map-set (link_state items limit) ls i new)
+    ∙ same_position (λ (l : LinkState). port_at s l == p) (link_states items limit ls) i (link_state items limit x) (link_state items limit new) seen (ap (λ (l : LinkState). port_at s l == p) e) in
+    subst (λ o. IsReservedAt reserved s o (set ls i new)) (sym place) (at_place (link_of_port s p (link_states items limit ls)) there h)
   where
     at_place : (o : Option ℕ) → slice_get ls i ≡ Some x → IsReservedAt reserved s o ls → IsReservedAt reserved s o (set ls i new)
     at_place None there h = tt
     at_place (Some k) there h = holds_after (λ l. IsTrue (is_reserved reserved s l)) ls i k x new there (λ t. subst (λ b. IsTrue b) (sym kept) t) h
 
 -- an answer to what came, and what it leads to outside of the system
-concluded : (s : Side) (p : ℕ) (item : Carried) (a : Result Received SystemFault) (mid : Half) (old : Joint) (r : Reply) (new : Joint)
+concluded : (s : Side) (p : ℕ) (item : Carried) (a : Result Received SystemFault) (mid : HalfState) (old : WorldState) (r : Reply) (new : WorldState)
     → Concludes s p item.stamp a (with_half s (logged a p item mid) old) r new → Arrived s p item a (with_half s mid old) r new
 concluded s p item (Err fault) mid old r new h = h
 concluded s p item (Ok received.Disabled) mid old r new h = h
@@ -185,77 +185,77 @@ concluded s p item (Ok (received.Released n)) mid old r new h = h
 concluded s p item (Ok (received.Up agg)) mid old r new h = h
 
 -- the first item came, was answered, and what the answer leads to was done
-pub arrived : (gives : Gives) (s : Side) (p : ℕ) (item : Carried) (a : Result Received SystemFault) (lines : List Line) (old mid : Joint) (r : Reply) (new : Joint)
-    → InHalf s (Comes (gives s) p item a) old mid → Concludes s p item.stamp a (with_lines mid lines) r new → Arrives gives s p item (with_lines old lines) r new
-arrived gives s p item a lines old mid r new h k = (
+pub arrived : (gives : Algorithms) (s : Side) (p : ℕ) (item : Carried) (a : Result Received SystemFault) (links : List LinkState) (old mid : WorldState) (r : Reply) (new : WorldState)
+    → InHalf s (ReceivesItem (gives s) p item a) old mid → Concludes s p item.stamp a (with_links mid links) r new → Arrives gives s p item (with_links old links) r new
+arrived gives s p item a links old mid r new h k = (
   a,
   with_state (half s mid).state (half s old),
   h.0.0,
-  concluded s p item a (with_state (half s mid).state (half s old)) (with_lines old lines) r new
-      (subst (λ (x : Half). Concludes s p item.stamp a (with_half s x (with_lines old lines)) r new) h.0.1
-      (subst (λ (j : Joint). Concludes s p item.stamp a (with_lines j lines) r new) h.1 k)),
+  concluded s p item a (with_state (half s mid).state (half s old)) (with_links old links) r new
+      (subst (λ (x : HalfState). Concludes s p item.stamp a (with_half s x (with_links old links)) r new) h.0.1
+      (subst (λ (j : WorldState). Concludes s p item.stamp a (with_links j links) r new) h.1 k)),
 )
 
-pub delivered : (gives : Gives) (s : Side) (i : ℕ) (l : Line) (xs : List Carried) (head : Head) (a : Result Received SystemFault) (old mid : Joint) (r : Reply) (new : Joint)
-    → first_told (port_at s l) xs ≡ Some head → FirstComesIn gives s (port_at s l) xs (Some a) old mid
-    → Concludes s head.port head.stamp a (with_lines mid (slice_set old.lines i (with_towards s (drop 1 xs) l))) r new
+pub delivered : (gives : Algorithms) (s : Side) (i : ℕ) (l : LinkState) (xs : List Carried) (head : Head) (a : Result Received SystemFault) (old mid : WorldState) (r : Reply) (new : WorldState)
+    → first_head (port_at s l) xs ≡ Some head → ReceivesFirstIn gives s (port_at s l) xs (Some a) old mid
+    → Concludes s head.port head.stamp a (with_links mid (slice_set old.links i (with_towards s (drop 1 xs) l))) r new
     → DeliversFrom gives s i l xs old r new
 delivered gives s i l [] head a old mid r new e h k = absurd (none-some head e)
 delivered gives s i l (item ∷ rest) head a old mid r new e h k =
-    arrived gives s (port_at s l) item a (slice_set old.lines i (with_towards s rest l)) old mid r new h
-    (subst (λ (x : Head). Concludes s x.port x.stamp a (with_lines mid (slice_set old.lines i (with_towards s rest l))) r new) (sym (same_Some _ head e)) k)
+    arrived gives s (port_at s l) item a (slice_set old.links i (with_towards s rest l)) old mid r new h
+    (subst (λ (x : Head). Concludes s x.port x.stamp a (with_links mid (slice_set old.links i (with_towards s rest l))) r new) (sym (same_Some _ head e)) k)
 
 both : {X : Type 0} (P Q : X → Type 0) (o : Option X) → IsSomeAnd o P → IsSomeAnd o Q → IsSomeAnd o (λ x. P x × Q x)
 both P Q None h k = absurd h
 both P Q (Some x) h k = (h, k)
 
 -- the first item was looked at, came, was taken off, and what its answer leads to was done
-pub deliver_does : (gives : Gives) (s : Side) (c i : ℕ) (head : Head) (a : Result Received SystemFault) (first : Line → Type 0) (lines : List Line) (old ready heard : Joint) (r : Reply) (new : Joint)
-    → c ≡ i + 1 → ready ≡ old → heard.lines ≡ ready.lines
-    → IsSomeAnd (slice_get old.lines i) (λ l. Some head ≡ head_in s l)
-    → IsSomeAnd (slice_get ready.lines i) (λ l. FirstComesIn gives s (port_at s l) (towards s l) (Some a) ready heard)
-    → IsSomeAnd (slice_get heard.lines i) (λ l. first l × (lines ≡ slice_set heard.lines i (without_first s l)))
-    → Concludes s head.port head.stamp a (with_lines heard lines) r new
-    → DeliversAs gives s c old r new
-deliver_does gives s c i head a first lines old ready heard r new e same kept told comes taken ends =
-    let comes_old : IsSomeAnd (slice_get old.lines i) (λ l. FirstComesIn gives s (port_at s l) (towards s l) (Some a) old heard) =
-    subst (λ (j : Joint). IsSomeAnd (slice_get j.lines i) (λ l. FirstComesIn gives s (port_at s l) (towards s l) (Some a) j heard)) same comes in
-    let kept_old : heard.lines ≡ old.lines = kept ∙ ap (λ (j : Joint). j.lines) same in
-    let taken_old : IsSomeAnd (slice_get old.lines i) (λ l. first l × (lines ≡ slice_set old.lines i (without_first s l))) =
-    subst (λ ls. IsSomeAnd (slice_get ls i) (λ l. first l × (lines ≡ slice_set ls i (without_first s l)))) kept_old taken in
-    on_place c i _ (λ i l. DeliversFrom gives s i l (towards s l) old r new) old.lines e
+pub deliver_does : (gives : Algorithms) (s : Side) (c i : ℕ) (head : Head) (a : Result Received SystemFault) (first : LinkState → Type 0) (links : List LinkState) (old ready heard : WorldState) (r : Reply) (new : WorldState)
+    → c ≡ i + 1 → ready ≡ old → heard.links ≡ ready.links
+    → IsSomeAnd (slice_get old.links i) (λ l. Some head ≡ head_in s l)
+    → IsSomeAnd (slice_get ready.links i) (λ l. ReceivesFirstIn gives s (port_at s l) (towards s l) (Some a) ready heard)
+    → IsSomeAnd (slice_get heard.links i) (λ l. first l × (links ≡ slice_set heard.links i (without_first s l)))
+    → Concludes s head.port head.stamp a (with_links heard links) r new
+    → WorldDelivers gives s c old r new
+deliver_does gives s c i head a first links old ready heard r new e same kept told comes taken ends =
+    let comes_old : IsSomeAnd (slice_get old.links i) (λ l. ReceivesFirstIn gives s (port_at s l) (towards s l) (Some a) old heard) =
+    subst (λ (j : WorldState). IsSomeAnd (slice_get j.links i) (λ l. ReceivesFirstIn gives s (port_at s l) (towards s l) (Some a) j heard)) same comes in
+    let kept_old : heard.links ≡ old.links = kept ∙ ap (λ (j : WorldState). j.links) same in
+    let taken_old : IsSomeAnd (slice_get old.links i) (λ l. first l × (links ≡ slice_set old.links i (without_first s l))) =
+    subst (λ ls. IsSomeAnd (slice_get ls i) (λ l. first l × (links ≡ slice_set ls i (without_first s l)))) kept_old taken in
+    on_place c i _ (λ i l. DeliversFrom gives s i l (towards s l) old r new) old.links e
     (λ l x. delivered gives s i l (towards s l) head a old heard r new (sym x.0) x.1.0
-    (subst (λ ls. Concludes s head.port head.stamp a (with_lines heard ls) r new) x.1.1.1 ends))
-    (both (λ l. Some head ≡ head_in s l) _ (slice_get old.lines i) told
-    (both (λ l. FirstComesIn gives s (port_at s l) (towards s l) (Some a) old heard) (λ l. first l × (lines ≡ slice_set old.lines i (without_first s l))) (slice_get old.lines i) comes_old taken_old))
+    (subst (λ ls. Concludes s head.port head.stamp a (with_links heard ls) r new) x.1.1.1 ends))
+    (both (λ l. Some head ≡ head_in s l) _ (slice_get old.links i) told
+    (both (λ l. ReceivesFirstIn gives s (port_at s l) (towards s l) (Some a) old heard) (λ l. first l × (links ≡ slice_set old.links i (without_first s l))) (slice_get old.links i) comes_old taken_old))
 
-repeats_item : (gives : Gives) (s : Side) (p : ℕ) (octets : List ℕ) (st : Stamp) (old : Joint) (r : Reply) (new : Joint) → is_data st ≡ false
+repeats_item : (gives : Algorithms) (s : Side) (p : ℕ) (octets : List ℕ) (st : Stamp) (old : WorldState) (r : Reply) (new : WorldState) → is_data st ≡ false
     → Arrives gives s p (record { octets = octets; stamp = st }) old r new → RepeatsItem gives s p octets st old r new
 repeats_item gives s p octets (stamp.Control count) old r new e h = h
 repeats_item gives s p octets (stamp.Data system agg conv serial) old r new e h = absurd (true≢false e)
 
-repeated : (gives : Gives) (s : Side) (l : Line) (xs : List Carried) (head : Head) (a : Result Received SystemFault) (old mid : Joint) (r : Reply) (new : Joint)
-    → first_told (port_at s l) xs ≡ Some head → is_data head.stamp ≡ false → FirstComesIn gives s (port_at s l) xs (Some a) old mid
+repeated : (gives : Algorithms) (s : Side) (l : LinkState) (xs : List Carried) (head : Head) (a : Result Received SystemFault) (old mid : WorldState) (r : Reply) (new : WorldState)
+    → first_head (port_at s l) xs ≡ Some head → is_data head.stamp ≡ false → ReceivesFirstIn gives s (port_at s l) xs (Some a) old mid
     → Concludes s head.port head.stamp a mid r new
     → RepeatsFrom gives s l xs old r new
 repeated gives s l [] head a old mid r new e control h k = absurd (none-some head e)
 repeated gives s l (item ∷ rest) head a old mid r new e control h k =
     let is = same_Some _ head e in
     repeats_item gives s (port_at s l) item.octets item.stamp old r new (ap (λ (x : Head). is_data x.stamp) is ∙ control)
-    (arrived gives s (port_at s l) item a old.lines old mid r new h
-    (subst (λ ls. Concludes s (port_at s l) item.stamp a (with_lines mid ls) r new) (ap (λ (j : Joint). j.lines) h.1)
+    (arrived gives s (port_at s l) item a old.links old mid r new h
+    (subst (λ ls. Concludes s (port_at s l) item.stamp a (with_links mid ls) r new) (ap (λ (j : WorldState). j.links) h.1)
     (subst (λ (x : Head). Concludes s x.port x.stamp a mid r new) (sym is) k)))
 
 -- the first item is a control frame: it was looked at, came, and what its answer leads to was done
-pub repeat_does : (gives : Gives) (s : Side) (c i : ℕ) (head : Head) (a : Result Received SystemFault) (old ready heard : Joint) (r : Reply) (new : Joint)
+pub repeat_does : (gives : Algorithms) (s : Side) (c i : ℕ) (head : Head) (a : Result Received SystemFault) (old ready heard : WorldState) (r : Reply) (new : WorldState)
     → c ≡ i + 1 → ready ≡ old → is_data head.stamp ≡ false
-    → IsSomeAnd (slice_get old.lines i) (λ l. Some head ≡ head_in s l)
-    → IsSomeAnd (slice_get ready.lines i) (λ l. FirstComesIn gives s (port_at s l) (towards s l) (Some a) ready heard)
+    → IsSomeAnd (slice_get old.links i) (λ l. Some head ≡ head_in s l)
+    → IsSomeAnd (slice_get ready.links i) (λ l. ReceivesFirstIn gives s (port_at s l) (towards s l) (Some a) ready heard)
     → Concludes s head.port head.stamp a heard r new
-    → RepeatsAs gives s c old r new
+    → WorldRepeats gives s c old r new
 repeat_does gives s c i head a old ready heard r new e same control told comes ends =
-    let comes_old : IsSomeAnd (slice_get old.lines i) (λ l. FirstComesIn gives s (port_at s l) (towards s l) (Some a) old heard) =
-    subst (λ (j : Joint). IsSomeAnd (slice_get j.lines i) (λ l. FirstComesIn gives s (port_at s l) (towards s l) (Some a) j heard)) same comes in
-    on_place c i _ (λ i l. RepeatsFrom gives s l (towards s l) old r new) old.lines e
+    let comes_old : IsSomeAnd (slice_get old.links i) (λ l. ReceivesFirstIn gives s (port_at s l) (towards s l) (Some a) old heard) =
+    subst (λ (j : WorldState). IsSomeAnd (slice_get j.links i) (λ l. ReceivesFirstIn gives s (port_at s l) (towards s l) (Some a) j heard)) same comes in
+    on_place c i _ (λ i l. RepeatsFrom gives s l (towards s l) old r new) old.links e
     (λ l x. repeated gives s l (towards s l) head a old heard r new (sym x.0) control x.1 ends)
-    (both (λ l. Some head ≡ head_in s l) (λ l. FirstComesIn gives s (port_at s l) (towards s l) (Some a) old heard) (slice_get old.lines i) told comes_old)
+    (both (λ l. Some head ≡ head_in s l) (λ l. ReceivesFirstIn gives s (port_at s l) (towards s l) (Some a) old heard) (slice_get old.links i) told comes_old)

@@ -3,10 +3,10 @@ use Rattle.std.proofs.Common.{◌≡◌, ◌<◌, ◌≤◌, ◌+◌, ◌++◌, 
 use Rattle.std.specs.Prelude.{OnOk, slice_get, vec_capacity, vec_len}
 use Rattle.std.specs.Global.{Vec}
 use Rattle.std.proofs.lemmas.Option.{slice_get_read}
-use Rattle.lagworld.specs.declared.logs.Flow.{Flow}
+use Rattle.lagworld.specs.declared.histories.Flow.{Flow}
 use Rattle.lagworld.specs.State.{Serials, with_collected}
 use Rattle.lagworld.specs.Arriving.{CanCollect, CanCollectAt, CanCollectIn}
-use Rattle.lagworld.specs.Kept.{serials_of}
+use Rattle.lagworld.specs.Inner.{serials_of}
 use Rattle.lagworld.proofs.Cables.{mapped_set, set_here}
 
 -- what is written is seen as what was there

@@ -4,9 +4,9 @@ use Rattle.std.specs.Prelude.{slice_get, option_map}
 use Rattle.std.specs.Global.{Vec}
 use Rattle.std.proofs.lemmas.List.{map-set}
 use Rattle.std.proofs.lemmas.Option.{slice_get-map, slice_get_read, slice_get_past}
-use Rattle.lagworld.specs.declared.logs.Flow.{Flow}
-use Rattle.lagworld.specs.Kept.{serials_of}
-use Rattle.lagworld.specs.Places.{HasRoom, HasRoomAt, HasRoomIn, flows_of}
+use Rattle.lagworld.specs.declared.histories.Flow.{Flow}
+use Rattle.lagworld.specs.Inner.{serials_of}
+use Rattle.lagworld.specs.Places.{HasRoom, HasRoomAt, HasRoomIn, all_serials}
 use Rattle.lagworld.specs.State.{Serials, at_flow, set_flows, set_serials, sent_in, serials_at, serials_in, nth}
 
 abbrev pub row_of : Vec Flow → List Serials
@@ -38,17 +38,17 @@ one_more i = omega arith
 
 -- one conversation of one aggregator
 pub row_set : (f : Serials → Serials) (rows : List (Vec Flow)) (g i k : ℕ) (row new : Vec Flow) → g ≡ i + 1 → i < length rows → row ≡ get_or rows i row
-    → row_of new ≡ set_serials f (slice_get (row_of row) k) k (row_of row) → flows_of (set rows i new) ≡ at_flow f g k (flows_of rows)
+    → row_of new ≡ set_serials f (slice_get (row_of row) k) k (row_of row) → all_serials (set rows i new) ≡ at_flow f g k (all_serials rows)
 row_set f rows g i k row new is lt read e =
-    map-set row_of rows i new ∙ ap (set (flows_of rows) i) e
-    ∙ sym (ap (λ g. at_flow f g k (flows_of rows)) (is ∙ one_more i) ∙ ap (λ o. set_flows f o i k (flows_of rows)) (there row_of rows i row lt read))
+    map-set row_of rows i new ∙ ap (set (all_serials rows) i) e
+    ∙ sym (ap (λ g. at_flow f g k (all_serials rows)) (is ∙ one_more i) ∙ ap (λ o. set_flows f o i k (all_serials rows)) (there row_of rows i row lt read))
 
 no_row : (rows : List (Vec Flow)) (g : ℕ) → ((g ≡ 0) ⊎ (length rows < g)) → nth rows g ≡ None
 no_row rows zero h = refl
 no_row rows (suc i) (inl e) = absurd (omega (arith, e))
 no_row rows (suc i) (inr lt) = slice_get_past rows i (omega (arith, lt))
 
-no_row_seen : (rows : List (Vec Flow)) (g : ℕ) → ((g ≡ 0) ⊎ (length rows < g)) → nth (flows_of rows) g ≡ None
+no_row_seen : (rows : List (Vec Flow)) (g : ℕ) → ((g ≡ 0) ⊎ (length rows < g)) → nth (all_serials rows) g ≡ None
 no_row_seen rows zero h = refl
 no_row_seen rows (suc i) (inl e) = absurd (omega (arith, e))
 no_row_seen rows (suc i) (inr lt) = past row_of rows i (omega (arith, lt))
@@ -57,13 +57,13 @@ at_none : (f : Serials → Serials) (g k : ℕ) (flows : List (List Serials)) �
 at_none f zero k flows e = refl
 at_none f (suc i) k flows e = sym (ap (λ o. set_flows f o i k flows) e)
 
-pub no_row_set : (f : Serials → Serials) (rows : List (Vec Flow)) (g k : ℕ) → ((g ≡ 0) ⊎ (length rows < g)) → flows_of rows ≡ at_flow f g k (flows_of rows)
-no_row_set f rows g k h = at_none f g k (flows_of rows) (no_row_seen rows g h)
+pub no_row_set : (f : Serials → Serials) (rows : List (Vec Flow)) (g k : ℕ) → ((g ≡ 0) ⊎ (length rows < g)) → all_serials rows ≡ at_flow f g k (all_serials rows)
+no_row_set f rows g k h = at_none f g k (all_serials rows) (no_row_seen rows g h)
 
-pub row_read : (rows : List (Vec Flow)) (g i k : ℕ) (row : Vec Flow) → g ≡ i + 1 → i < length rows → row ≡ get_or rows i row → slice_get (row_of row) k ≡ serials_at (flows_of rows) g k
-row_read rows g i k row is lt read = sym (ap (λ g. serials_at (flows_of rows) g k) (is ∙ one_more i) ∙ ap (λ o. serials_in o k) (there row_of rows i row lt read))
+pub row_read : (rows : List (Vec Flow)) (g i k : ℕ) (row : Vec Flow) → g ≡ i + 1 → i < length rows → row ≡ get_or rows i row → slice_get (row_of row) k ≡ serials_at (all_serials rows) g k
+row_read rows g i k row is lt read = sym (ap (λ g. serials_at (all_serials rows) g k) (is ∙ one_more i) ∙ ap (λ o. serials_in o k) (there row_of rows i row lt read))
 
-pub no_row_read : (rows : List (Vec Flow)) (g k : ℕ) → ((g ≡ 0) ⊎ (length rows < g)) → serials_at (flows_of rows) g k ≡ None
+pub no_row_read : (rows : List (Vec Flow)) (g k : ℕ) → ((g ≡ 0) ⊎ (length rows < g)) → serials_at (all_serials rows) g k ≡ None
 no_row_read rows g k h = ap (λ o. serials_in o k) (no_row_seen rows g h)
 
 -- there is room for one more serial

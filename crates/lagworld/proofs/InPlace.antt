@@ -4,23 +4,23 @@ use Rattle.std.proofs.Math.ListN.{get_or-map}
 use Rattle.std.proofs.lemmas.List.{map-set, length-map}
 use Rattle.std.proofs.lemmas.List.Edits.{map_over_more}
 use Rattle.lagmodel.specs.World.{Side}
-use Rattle.lagworld.specs.declared.logs.PortLog.{PortLog}
-use Rattle.lagworld.specs.State.{Joint, half}
+use Rattle.lagworld.specs.declared.histories.PortHistory.{PortHistory}
+use Rattle.lagworld.specs.State.{WorldState, half}
 use Rattle.lagworld.specs.Events.{most_events}
 use Rattle.lagworld.specs.Sound.{AreBelow, IsSound}
 use Rattle.lagworld.proofs.Soundness.{below_more}
 
 -- no port can have changed so often that its count overflows
-pub few_changes : (s : Side) (j : Joint) → IsSound j → AreBelow most_events (half s j).logs
-few_changes s j i = below_more j.acted most_events (half s j).logs i.few (i.counts s)
+pub few_changes : (s : Side) (j : WorldState) → IsSound j → AreBelow most_events (half s j).histories
+few_changes s j i = below_more j.acted most_events (half s j).histories i.few (i.counts s)
 
 -- a port that is not yet written was below the limit
-pub below_at : (n i : ℕ) (f : PortLog → PortLog) (xs ys : List PortLog) (x : PortLog) → i < length xs → AreBelow n xs → ys ≡ map f (take i xs) ++ drop i xs → x ≡ get_or ys i x → x.count ≤ n
+pub below_at : (n i : ℕ) (f : PortHistory → PortHistory) (xs ys : List PortHistory) (x : PortHistory) → i < length xs → AreBelow n xs → ys ≡ map f (take i xs) ++ drop i xs → x ≡ get_or ys i x → x.count ≤ n
 below_at n i f xs ys x l h e r = there i xs l h (r ∙ ap (λ l. get_or l i x) e)
   where
-    there : (i : ℕ) (xs : List PortLog) → i < length xs → AreBelow n xs → x ≡ get_or (map f (take i xs) ++ drop i xs) i x → x.count ≤ n
+    there : (i : ℕ) (xs : List PortHistory) → i < length xs → AreBelow n xs → x ≡ get_or (map f (take i xs) ++ drop i xs) i x → x.count ≤ n
     there i [] l h r = absurd (omega arith)
-    there zero (y ∷ ys) l h r = subst (λ (y : PortLog). y.count ≤ n) (sym r) h.0
+    there zero (y ∷ ys) l h r = subst (λ (y : PortHistory). y.count ≤ n) (sym r) h.0
     there (suc i) (y ∷ ys) l h r = there i ys (omega arith) h.1 r
 
 -- one more of a list that is seen through v is written, as f says of what is seen

@@ -6,7 +6,7 @@ use Rattle.lagmodel.specs.World.{Side, One, Two}
 use Rattle.lagworld.specs.declared.reply.Reply.{Reply}
 use Rattle.lagworld.specs.Asking.{lost_reply, without_first}
 use Rattle.lagworld.specs.Events.{LosesFrom}
-use Rattle.lagworld.specs.State.{Carried, Line, Joint, towards, with_towards, with_lines}
+use Rattle.lagworld.specs.State.{Carried, LinkState, WorldState, towards, with_towards, with_links}
 
 pub first_some : {X Y : Type 0} (f : X → Y) (xs : List X) → is_some (slice_get xs 0) ≡ is_some (slice_get (map f xs) 0)
 first_some f [] = refl
@@ -16,7 +16,7 @@ pub rest_mapped : {X Y : Type 0} (f : X → Y) (xs : List X) → map f (drop 1 x
 rest_mapped f [] = refl
 rest_mapped f (x ∷ xs) = refl
 
-nothing_towards : (s : Side) (l : Line) → towards s l ≡ [] → with_towards s [] l ≡ l
+nothing_towards : (s : Side) (l : LinkState) → towards s l ≡ [] → with_towards s [] l ≡ l
 nothing_towards One l e = ap (λ xs. with_towards One xs l) (sym e)
 nothing_towards Two l e = ap (λ xs. with_towards Two xs l) (sym e)
 
@@ -25,20 +25,20 @@ set_same [] i x h = refl
 set_same (y ∷ xs) zero x h = ap (λ z. z ∷ xs) (sym (same_Some y x h))
 set_same (y ∷ xs) (suc i) x h = ap (λ zs. y ∷ zs) (set_same xs i x h)
 
-lost_from : (s : Side) (i : ℕ) (l : Line) (items : List Carried) (old : Joint) (lines : List Line) → slice_get old.lines i ≡ Some l → towards s l ≡ items → lines ≡ set old.lines i (with_towards s (drop 1 items) l)
-    → LosesFrom s i l items old (lost_reply (is_some (slice_get items 0))) (with_lines old lines)
-lost_from s i l [] old lines here is n = (refl, ap (with_lines old) (n ∙ ap (set old.lines i) (nothing_towards s l is) ∙ set_same old.lines i l here))
-lost_from s i l (item ∷ rest) old lines here is n = (refl, ap (with_lines old) n)
+lost_from : (s : Side) (i : ℕ) (l : LinkState) (items : List Carried) (old : WorldState) (links : List LinkState) → slice_get old.links i ≡ Some l → towards s l ≡ items → links ≡ set old.links i (with_towards s (drop 1 items) l)
+    → LosesFrom s i l items old (lost_reply (is_some (slice_get items 0))) (with_links old links)
+lost_from s i l [] old links here is n = (refl, ap (with_links old) (n ∙ ap (set old.links i) (nothing_towards s l is) ∙ set_same old.links i l here))
+lost_from s i l (item ∷ rest) old links here is n = (refl, ap (with_links old) n)
 
 -- the first item of the cable at a place is lost
-pub lost_there : (s : Side) (i : ℕ) (r : Reply) (lost : Bool) (old : Joint) (lines : List Line) → r ≡ lost_reply lost
-    → IsSomeAnd (slice_get old.lines i) (λ l. (lines ≡ set old.lines i (without_first s l)) × (lost ≡ is_some (slice_get (towards s l) 0)))
-    → IsSomeAnd (slice_get old.lines i) (λ l. LosesFrom s i l (towards s l) old r (with_lines old lines))
-lost_there s i r lost old lines e h = at_it (slice_get old.lines i) refl h
+pub lost_there : (s : Side) (i : ℕ) (r : Reply) (lost : Bool) (old : WorldState) (links : List LinkState) → r ≡ lost_reply lost
+    → IsSomeAnd (slice_get old.links i) (λ l. (links ≡ set old.links i (without_first s l)) × (lost ≡ is_some (slice_get (towards s l) 0)))
+    → IsSomeAnd (slice_get old.links i) (λ l. LosesFrom s i l (towards s l) old r (with_links old links))
+lost_there s i r lost old links e h = at_it (slice_get old.links i) refl h
   where
-    at_it : (found : Option Line) → slice_get old.lines i ≡ found → IsSomeAnd found (λ l. (lines ≡ set old.lines i (without_first s l)) × (lost ≡ is_some (slice_get (towards s l) 0)))
-        → IsSomeAnd found (λ l. LosesFrom s i l (towards s l) old r (with_lines old lines))
+    at_it : (found : Option LinkState) → slice_get old.links i ≡ found → IsSomeAnd found (λ l. (links ≡ set old.links i (without_first s l)) × (lost ≡ is_some (slice_get (towards s l) 0)))
+        → IsSomeAnd found (λ l. LosesFrom s i l (towards s l) old r (with_links old links))
     at_it None here h = absurd h
     at_it (Some l) here h =
-        subst (λ r. LosesFrom s i l (towards s l) old r (with_lines old lines)) (sym (e ∙ ap lost_reply h.1))
-        (lost_from s i l (towards s l) old lines here refl h.0)
+        subst (λ r. LosesFrom s i l (towards s l) old r (with_links old links)) (sym (e ∙ ap lost_reply h.1))
+        (lost_from s i l (towards s l) old links here refl h.0)

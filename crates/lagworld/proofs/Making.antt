@@ -7,52 +7,52 @@ use Rattle.std.proofs.lemmas.Option.{none-some, same_Some, slice_get-map, slice_
 use Rattle.cables.specs.declared.item.Item.{Item}
 use Rattle.lagtypes.specs.declared.identifiers.SystemId.{SystemId}
 use Rattle.lagtypes.specs.declared.party.Party.{Party}
-use Rattle.lagmodel.specs.View.{PortView, first_port, first_view}
+use Rattle.lagmodel.specs.View.{PortFacts, first_port, first_view}
 use Rattle.lagmodel.specs.World.{Side, One, Two, IsCabling, end_at, party_at, port_on}
-use Rattle.lagmodel.specs.Kept.{find_number}
+use Rattle.lagmodel.specs.Bridge.{find_number}
 use Rattle.lagmodel.proofs.Base.{cond_true, cond_false}
 use Rattle.lagsystem.specs.declared.config.Config.{Config}
 use Rattle.lagsystem.specs.declared.config.PortConfig.{PortConfig}
-use Rattle.lagsystem.specs.First.{number_of, refusal, refusal_of as refusal_of_one}
-use Rattle.lagsystem.specs.Shown.{configured, party_in, view_of}
+use Rattle.lagsystem.specs.First.{configured_number, refusal, config_refusal as refusal_of_one}
+use Rattle.lagsystem.specs.ModelView.{model_setup, configured_party, model_view}
 use Rattle.lagsystem.specs.Sound.{Agrees}
-use Rattle.lagsystem.specs.State.{State}
-use Rattle.lagsystem.specs.Readers.{conversations as conversations_of}
+use Rattle.lagsystem.specs.State.{SystemState}
+use Rattle.lagsystem.specs.Readers.{conversation_count as conversations_of}
 use Rattle.lagsystem.proofs.FirstView.{first_shows}
 use Rattle.lagsystem.proofs.Seen.{party_seen}
 use Rattle.lagscript.specs.declared.config.BadWorld.TheVariants.{SameSystem, CableEnd, System}
 use Rattle.lagscript.specs.declared.config.WorldConfig.{WorldConfig}
-use Rattle.lagscript.specs.Configs.{SystemPlan, bad_end, can_join, first_below, has_bad_end, has_port, or_first, plan_of, refusal_of, refusal_of_all, refusal_of_two, same_system, shares_end, system_refusal}
-use Rattle.lagworld.specs.declared.logs.PortLog.{PortLog}
-use Rattle.lagworld.specs.State.{Half, Joint, Line, Serials, half, port_at, towards, log_at, serials_at, serials_in}
+use Rattle.lagscript.specs.Configs.{ConfigValue, bad_end, can_join, first_below, has_bad_end, has_port, or_first, config_value, world_refusal, refusal_of_all, refusal_of_two, same_system, shares_end, system_refusal}
+use Rattle.lagworld.specs.declared.histories.PortHistory.{PortHistory}
+use Rattle.lagworld.specs.State.{HalfState, WorldState, LinkState, Serials, half, port_at, towards, history_at, serials_at, serials_in}
 use Rattle.lagworld.specs.Messages.{carried}
-use Rattle.lagworld.specs.Calls.{party_of_port}
-use Rattle.lagworld.specs.Making.{IsFirstHalf, are_lines, conversations, first_flows, first_line, first_lines, first_log, first_logs, first_row, is_empty, nothing_sent}
-use Rattle.lagworld.specs.Sound.{AreBelow, IsKept, IsStart}
-use Rattle.lagworld.specs.Worlds.{ends_of}
+use Rattle.lagworld.specs.HalfCalls.{party_of_port}
+use Rattle.lagworld.specs.Making.{IsFirstHalf, are_lines, conversations_per_aggregator, first_flows, first_link, first_links, first_history, first_histories, first_row, is_empty_line, nothing_sent}
+use Rattle.lagworld.specs.Sound.{AreBelow, IsHalfSound, IsStart}
+use Rattle.lagworld.specs.ModelWorld.{link_ends}
 
 -- what is kept of a port is what its configuration says
-log_found : (system : SystemId) (ports : List PortConfig) (p : ℕ) → log_at (first_logs system ports) p ≡ option_map (first_log system) (find_number number_of ports p)
+log_found : (system : SystemId) (ports : List PortConfig) (p : ℕ) → history_at (first_histories system ports) p ≡ option_map (first_history system) (find_number configured_number ports p)
 log_found system [] p = refl
 log_found system (c ∷ cs) p = elim (cases_Bool (eqb p c.number)) [
-  | inl e ↦ cond_true (eqb p c.number) (Some (first_log system c)) _ e ∙ sym (ap (option_map (first_log system)) (cond_true (eqb p c.number) (Some c) (find_number number_of cs p) e))
-  | inr e ↦ cond_false (eqb p c.number) (Some (first_log system c)) _ e ∙ log_found system cs p ∙ sym (ap (option_map (first_log system)) (cond_false (eqb p c.number) (Some c) (find_number number_of cs p) e))
+  | inl e ↦ cond_true (eqb p c.number) (Some (first_history system c)) _ e ∙ sym (ap (option_map (first_history system)) (cond_true (eqb p c.number) (Some c) (find_number configured_number cs p) e))
+  | inr e ↦ cond_false (eqb p c.number) (Some (first_history system c)) _ e ∙ log_found system cs p ∙ sym (ap (option_map (first_history system)) (cond_false (eqb p c.number) (Some c) (find_number configured_number cs p) e))
 ]
 
-party_back : (o : Option Party) → option_map (λ (a : PortView). a.party) (option_map first_port o) ≡ o
+party_back : (o : Option Party) → option_map (λ (a : PortFacts). a.party) (option_map first_port o) ≡ o
 party_back None = refl
 party_back (Some a) = refl
 
 -- the party of a port in the first state
-first_party : (s : State) (p : ℕ) → view_of s ≡ first_view (configured s) → party_of_port s p ≡ option_map (party_in s.system) (find_number number_of s.ports p)
-first_party s p e = sym (party_seen s p) ∙ ap (λ v. party_at v p) e ∙ party_back ((configured s).party p)
+first_party : (s : SystemState) (p : ℕ) → model_view s ≡ first_view (model_setup s) → party_of_port s p ≡ option_map (configured_party s.system) (find_number configured_number s.ports p)
+first_party s p e = sym (party_seen s p) ∙ ap (λ v. party_at v p) e ∙ party_back ((model_setup s).party p)
 
 -- so each log has the party of its port, and each port has a log
-log_party : (system : SystemId) (o : Option PortConfig) (log : PortLog) → option_map (first_log system) o ≡ Some log → option_map (party_in system) o ≡ Some log.party
-log_party system None log e = absurd (none-some log e)
-log_party system (Some c) log e = ap (λ (l : PortLog). Some l.party) (same_Some (first_log system c) log e)
+log_party : (system : SystemId) (o : Option PortConfig) (history : PortHistory) → option_map (first_history system) o ≡ Some history → option_map (configured_party system) o ≡ Some history.party
+log_party system None history e = absurd (none-some history e)
+log_party system (Some c) history e = ap (λ (l : PortHistory). Some l.party) (same_Some (first_history system c) history e)
 
-log_some : {X : Type 0} (f : PortConfig → X) (system : SystemId) (o : Option PortConfig) → IsSome (option_map f o) → IsSome (option_map (first_log system) o)
+log_some : {X : Type 0} (f : PortConfig → X) (system : SystemId) (o : Option PortConfig) → IsSome (option_map f o) → IsSome (option_map (first_history system) o)
 log_some f system None h = absurd (let e = h in cc)
 log_some f system (Some c) h = refl
 
@@ -73,54 +73,54 @@ flow_empty n (suc g) k x e = by_row (slice_get (first_flows n) g) refl e
   where
     by_row : (o : Option (List Serials)) → slice_get (first_flows n) g ≡ o → serials_at (first_flows n) (suc g) k ≡ Some x → x ≡ nothing_sent
     by_row None h e = absurd (none-some x (sym (ap (λ o. serials_in o k) h) ∙ e))
-    by_row (Some row) h e = same_item conversations k nothing_sent x (sym (ap (λ r. slice_get r k) (same_item n g first_row row h)) ∙ sym (ap (λ o. serials_in o k) h) ∙ e)
+    by_row (Some row) h e = same_item conversations_per_aggregator k nothing_sent x (sym (ap (λ r. slice_get r k) (same_item n g first_row row h)) ∙ sym (ap (λ o. serials_in o k) h) ∙ e)
 
-enough : (s : State) → conversations_of s ≤ conversations
-unfolding conversations
+enough : (s : SystemState) → conversations_of s ≤ conversations_per_aggregator
+unfolding conversations_per_aggregator
 enough s = omega arith
 
-flow_there : (s : State) (n g k : ℕ) → 0 < g → g ≤ n → k < conversations_of s → IsSome (serials_at (first_flows n) g k)
+flow_there : (s : SystemState) (n g k : ℕ) → 0 < g → g ≤ n → k < conversations_of s → IsSome (serials_at (first_flows n) g k)
 flow_there s n zero k low high small = absurd (omega arith)
 flow_there s n (suc g) k low high small =
     let row : slice_get (first_flows n) g ≡ Some first_row = item_there n g first_row (omega arith) in
-    let x : slice_get first_row k ≡ Some nothing_sent = item_there conversations k nothing_sent (omega (arith, enough s)) in
+    let x : slice_get first_row k ≡ Some nothing_sent = item_there conversations_per_aggregator k nothing_sent (omega (arith, enough s)) in
     subst IsSome (sym (ap (λ o. serials_in o k) row ∙ x)) refl
 
 -- what holds of a system that is made
-logs_named : (config : Config) (h : Half) → IsFirstHalf config h → h.logs ≡ first_logs h.state.system h.state.ports
-logs_named config h f = f.logs ∙ (λ i. first_logs (sym f.configured.system i) (sym f.configured.ports i))
+logs_named : (config : Config) (h : HalfState) → IsFirstHalf config h → h.histories ≡ first_histories h.state.system h.state.ports
+logs_named config h f = f.histories ∙ (λ i. first_histories (sym f.configured.system i) (sym f.configured.ports i))
 
-flows_named : (config : Config) (h : Half) → IsFirstHalf config h → h.flows ≡ first_flows (length h.state.keys)
+flows_named : (config : Config) (h : HalfState) → IsFirstHalf config h → h.flows ≡ first_flows (length h.state.keys)
 flows_named config h f = f.flows ∙ ap (λ keys. first_flows (length keys)) (sym f.configured.keys)
 
-half_kept : (config : Config) (h : Half) → IsFirstHalf config h → Agrees h.state → IsKept h
+half_kept : (config : Config) (h : HalfState) → IsFirstHalf config h → Agrees h.state → IsHalfSound h
 half_kept config h f a = record {
   agrees = a;
-  parties = λ p l e. first_party h.state p shows ∙ log_party h.state.system (find_number number_of h.state.ports p) l (sym (log p) ∙ e);
-  logged = λ p x. subst IsSome (sym (log p)) (log_some (party_in h.state.system) h.state.system (find_number number_of h.state.ports p) (subst IsSome (first_party h.state p shows) x));
+  parties = λ p l e. first_party h.state p shows ∙ log_party h.state.system (find_number configured_number h.state.ports p) l (sym (history p) ∙ e);
+  logged = λ p x. subst IsSome (sym (history p)) (log_some (configured_party h.state.system) h.state.system (find_number configured_number h.state.ports p) (subst IsSome (first_party h.state p shows) x));
   flows = λ g k low high small. subst (λ f. IsSome (serials_at f g k)) (sym (flows_named config h f)) (flow_there h.state (length h.state.keys) g k low high small);
 }
   where
-    shows : view_of h.state ≡ first_view (configured h.state)
+    shows : model_view h.state ≡ first_view (model_setup h.state)
     shows = first_shows h.state f.first
 
-    log : (p : ℕ) → log_at h.logs p ≡ option_map (first_log h.state.system) (find_number number_of h.state.ports p)
-    log p = ap (λ l. log_at l p) (logs_named config h f) ∙ log_found h.state.system h.state.ports p
+    history : (p : ℕ) → history_at h.histories p ≡ option_map (first_history h.state.system) (find_number configured_number h.state.ports p)
+    history p = ap (λ l. history_at l p) (logs_named config h f) ∙ log_found h.state.system h.state.ports p
 
-none_counted : (system : SystemId) (ports : List PortConfig) → AreBelow 0 (first_logs system ports)
+none_counted : (system : SystemId) (ports : List PortConfig) → AreBelow 0 (first_histories system ports)
 none_counted system [] = tt
 none_counted system (c ∷ cs) = (omega arith, none_counted system cs)
 
-log_first : (system : SystemId) (o : Option PortConfig) (log : PortLog) → option_map (first_log system) o ≡ Some log → (log.count ≡ 0) × (log.taken ≡ None)
-log_first system None log e = absurd (none-some log e)
-log_first system (Some c) log e = let same = same_Some (first_log system c) log e in (sym (ap (λ (l : PortLog). l.count) same), sym (ap (λ (l : PortLog). l.taken) same))
+log_first : (system : SystemId) (o : Option PortConfig) (history : PortHistory) → option_map (first_history system) o ≡ Some history → (history.count ≡ 0) × (history.taken ≡ None)
+log_first system None history e = absurd (none-some history e)
+log_first system (Some c) history e = let same = same_Some (first_history system c) history e in (sym (ap (λ (l : PortHistory). l.count) same), sym (ap (λ (l : PortHistory). l.taken) same))
 
 -- a port of the configuration has a log
-port_found : (ports : List PortConfig) (p : ℕ) → has_port ports p ≡ true → IsSome (find_number number_of ports p)
+port_found : (ports : List PortConfig) (p : ℕ) → has_port ports p ≡ true → IsSome (find_number configured_number ports p)
 port_found [] p h = absurd (true≢false (sym h))
 port_found (c ∷ cs) p h = elim (cases_Bool (eqb p c.number)) [
-  | inl e ↦ subst IsSome (sym (cond_true (eqb p c.number) (Some c) (find_number number_of cs p) e)) refl
-  | inr e ↦ subst IsSome (sym (cond_false (eqb p c.number) (Some c) (find_number number_of cs p) e)) (port_found cs p (or_second (eqb c.number p) (has_port cs p) (other e) h))
+  | inl e ↦ subst IsSome (sym (cond_true (eqb p c.number) (Some c) (find_number configured_number cs p) e)) refl
+  | inr e ↦ subst IsSome (sym (cond_false (eqb p c.number) (Some c) (find_number configured_number cs p) e)) (port_found cs p (or_second (eqb c.number p) (has_port cs p) (other e) h))
 ]
   where
     or_second : (a b : Bool) → a ≡ false → (a || b) ≡ true → b ≡ true
@@ -139,24 +139,24 @@ module _ {C : Type 0} (items : C → List Item) (limit : C → Option ℕ) where
   emptied_line [] h = refl
   emptied_line (x ∷ xs) h = let none : length (x ∷ xs) ≡ 0 = eqb-true (length (x ∷ xs)) 0 h in absurd (omega (arith, none))
 
-  pub line_empty : (cables : List (ℕ × ℕ)) (lines : List (C × C)) (i : ℕ) (l : Line) → list_all (is_empty items) lines ≡ true → slice_get (first_lines items limit cables lines) i ≡ Some l → (s : Side) → (towards s l ≡ []) × (l.whole ≡ true)
+  pub line_empty : (cables : List (ℕ × ℕ)) (lines : List (C × C)) (i : ℕ) (l : LinkState) → list_all (is_empty_line items) lines ≡ true → slice_get (first_links items limit cables lines) i ≡ Some l → (s : Side) → (towards s l ≡ []) × (l.whole ≡ true)
   line_empty [] lines i l h e s = absurd (none-some l e)
   line_empty (c ∷ cs) [] i l h e s = absurd (none-some l e)
   line_empty (c ∷ cs) (x ∷ xs) zero l h e s =
-      let here = and_parts (is_empty items x) (list_all (is_empty items) xs) h in
+      let here = and_parts (is_empty_line items x) (list_all (is_empty_line items) xs) h in
       let both = and_parts (length (items x.0) == 0) (length (items x.1) == 0) here.0 in
-      subst (λ (l : Line). (towards s l ≡ []) × (l.whole ≡ true)) (same_Some (first_line items limit c x) l e) (on_side s both)
+      subst (λ (l : LinkState). (towards s l ≡ []) × (l.whole ≡ true)) (same_Some (first_link items limit c x) l e) (on_side s both)
     where
-      on_side : (s : Side) → ((length (items x.0) == 0) ≡ true) × ((length (items x.1) == 0) ≡ true) → (towards s (first_line items limit c x) ≡ []) × ((first_line items limit c x).whole ≡ true)
+      on_side : (s : Side) → ((length (items x.0) == 0) ≡ true) × ((length (items x.1) == 0) ≡ true) → (towards s (first_link items limit c x) ≡ []) × ((first_link items limit c x).whole ≡ true)
       on_side One b = (emptied_line (items x.0) b.0, refl)
       on_side Two b = (emptied_line (items x.1) b.1, refl)
-  line_empty (c ∷ cs) (x ∷ xs) (suc i) l h e s = line_empty cs xs i l (and_parts (is_empty items x) (list_all (is_empty items) xs) h).1 e s
+  line_empty (c ∷ cs) (x ∷ xs) (suc i) l h e s = line_empty cs xs i l (and_parts (is_empty_line items x) (list_all (is_empty_line items) xs) h).1 e s
 
   -- each joins the ports that the configuration names
-  ends_made : (cables : List (ℕ × ℕ)) (lines : List (C × C)) (i : ℕ) (l : Line) → slice_get (first_lines items limit cables lines) i ≡ Some l → slice_get cables i ≡ Some (l.one, l.two)
+  ends_made : (cables : List (ℕ × ℕ)) (lines : List (C × C)) (i : ℕ) (l : LinkState) → slice_get (first_links items limit cables lines) i ≡ Some l → slice_get cables i ≡ Some (l.one, l.two)
   ends_made [] lines i l e = absurd (none-some l e)
   ends_made (c ∷ cs) [] i l e = absurd (none-some l e)
-  ends_made (c ∷ cs) (x ∷ xs) zero l e = ap (λ (l : Line). Some (l.one, l.two)) (same_Some (first_line items limit c x) l e)
+  ends_made (c ∷ cs) (x ∷ xs) zero l e = ap (λ (l : LinkState). Some (l.one, l.two)) (same_Some (first_link items limit c x) l e)
   ends_made (c ∷ cs) (x ∷ xs) (suc i) l e = ends_made cs xs i l e
 
 -- the configuration of cables is not refused: each can be joined behind those before it
@@ -199,7 +199,7 @@ are_joined first second cables h i l =
     is_false (can_join first second (take i cables) (get_or cables i (0, 0)))
     (none_below (has_bad_end first second cables) (length cables) i (mapped_none suc (first_below (has_bad_end first second cables) (length cables)) h) l)
 
-two_joined : (a b : SystemPlan) (cables : List (ℕ × ℕ)) → refusal_of_two a b cables ≡ None → (refusal a.aggregators a.ports ≡ None) × (refusal b.aggregators b.ports ≡ None) × AreJoined a.ports b.ports cables
+two_joined : (a b : ConfigValue) (cables : List (ℕ × ℕ)) → refusal_of_two a b cables ≡ None → (refusal a.aggregators a.ports ≡ None) × (refusal b.aggregators b.ports ≡ None) × AreJoined a.ports b.ports cables
 two_joined a b cables h =
     let one = first_none (system_refusal 1 a) _ h in
     let two = first_none (system_refusal 2 b) _ one.1 in
@@ -267,22 +267,22 @@ ports_there first second cables i c h e = and_parts (has_port first c.0) (has_po
 
 module _ {C : Type 0} (items : C → List Item) (limit : C → Option ℕ) where
   -- the end of a cable that was made
-  end_made : (cables : List (ℕ × ℕ)) (lines : List (C × C)) (s : Side) (n p : ℕ) → end_at (map ends_of (first_lines items limit cables lines)) s n ≡ Some p → (i : ℕ) × (c : ℕ × ℕ) × (n ≡ suc i) × (slice_get cables i ≡ Some c) × (end_of_pair s c ≡ p)
+  end_made : (cables : List (ℕ × ℕ)) (lines : List (C × C)) (s : Side) (n p : ℕ) → end_at (map link_ends (first_links items limit cables lines)) s n ≡ Some p → (i : ℕ) × (c : ℕ × ℕ) × (n ≡ suc i) × (slice_get cables i ≡ Some c) × (end_of_pair s c ≡ p)
   end_made cables lines s zero p e = absurd (none-some p e)
-  end_made cables lines s (suc i) p e = by_line (slice_get ls i) refl (sym (ap (option_map (port_on s)) (slice_get-map ends_of ls i)) ∙ e)
+  end_made cables lines s (suc i) p e = by_line (slice_get ls i) refl (sym (ap (option_map (port_on s)) (slice_get-map link_ends ls i)) ∙ e)
     where
-      ls : List Line
-      ls = first_lines items limit cables lines
+      ls : List LinkState
+      ls = first_links items limit cables lines
 
-      by_line : (o : Option Line) → slice_get ls i ≡ o → option_map (port_on s) (option_map ends_of o) ≡ Some p → (k : ℕ) × (c : ℕ × ℕ) × (suc i ≡ suc k) × (slice_get cables k ≡ Some c) × (end_of_pair s c ≡ p)
+      by_line : (o : Option LinkState) → slice_get ls i ≡ o → option_map (port_on s) (option_map link_ends o) ≡ Some p → (k : ℕ) × (c : ℕ × ℕ) × (suc i ≡ suc k) × (slice_get cables k ≡ Some c) × (end_of_pair s c ≡ p)
       by_line None h e = absurd (none-some p e)
-      by_line (Some l) h e = (i, (l.one, l.two), refl, ends_made items limit cables lines i l h, on_side s ∙ same_Some (port_on s (ends_of l)) p e)
+      by_line (Some l) h e = (i, (l.one, l.two), refl, ends_made items limit cables lines i l h, on_side s ∙ same_Some (port_on s (link_ends l)) p e)
         where
-          on_side : (s : Side) → end_of_pair s (l.one, l.two) ≡ port_on s (ends_of l)
+          on_side : (s : Side) → end_of_pair s (l.one, l.two) ≡ port_on s (link_ends l)
           on_side One = refl
           on_side Two = refl
 
-  cabled : (first second : List PortConfig) (cables : List (ℕ × ℕ)) (lines : List (C × C)) → AreJoined first second cables → IsCabling (map ends_of (first_lines items limit cables lines))
+  cabled : (first second : List PortConfig) (cables : List (ℕ × ℕ)) (lines : List (C × C)) → AreJoined first second cables → IsCabling (map link_ends (first_links items limit cables lines))
   cabled first second cables lines h s m n p e f =
       let x = end_made cables lines s m p e in
       let y = end_made cables lines s n p f in
@@ -296,50 +296,50 @@ module _ {C : Type 0} (items : C → List Item) (limit : C → Option ℕ) where
       ]
 
   -- each end of a cable that was made has a log
-  end_logged : (config : Config) (h : Half) (p : ℕ) → IsFirstHalf config h → has_port config.ports.items p ≡ true → IsSome (log_at h.logs p)
+  end_logged : (config : Config) (h : HalfState) (p : ℕ) → IsFirstHalf config h → has_port config.ports.items p ≡ true → IsSome (history_at h.histories p)
   end_logged config h p f x =
-      subst IsSome (sym (ap (λ l. log_at l p) f.logs ∙ log_found config.system config.ports.items p)) (logged (find_number number_of config.ports.items p) (port_found config.ports.items p x))
+      subst IsSome (sym (ap (λ l. history_at l p) f.histories ∙ log_found config.system config.ports.items p)) (logged (find_number configured_number config.ports.items p) (port_found config.ports.items p x))
     where
-      logged : (o : Option PortConfig) → IsSome o → IsSome (option_map (first_log config.system) o)
+      logged : (o : Option PortConfig) → IsSome o → IsSome (option_map (first_history config.system) o)
       logged None e = absurd (let h = e in cc)
       logged (Some c) e = refl
 
-  pub is_start : (a b : Config) (cables : List (ℕ × ℕ)) (lines : List (C × C)) (j : Joint) → IsFirstHalf a j.one → IsFirstHalf b j.two → Agrees j.one.state → Agrees j.two.state
-      → refusal_of_two (plan_of a) (plan_of b) cables ≡ None → list_all (is_empty items) lines ≡ true → j.lines ≡ first_lines items limit cables lines → j.acted ≡ 0 → IsStart j
+  pub is_start : (a b : Config) (cables : List (ℕ × ℕ)) (lines : List (C × C)) (j : WorldState) → IsFirstHalf a j.one → IsFirstHalf b j.two → Agrees j.one.state → Agrees j.two.state
+      → refusal_of_two (config_value a) (config_value b) cables ≡ None → list_all (is_empty_line items) lines ≡ true → j.links ≡ first_links items limit cables lines → j.acted ≡ 0 → IsStart j
   is_start a b cables lines j f g agrees_one agrees_two accepted empty made acted = record {
     kept = kept;
     shows = shows;
-    cabling = subst (λ ls. IsCabling (map ends_of ls)) (sym made) (cabled a.ports.items b.ports.items cables lines joined);
+    cabling = subst (λ ls. IsCabling (map link_ends ls)) (sym made) (cabled a.ports.items b.ports.items cables lines joined);
     empty = λ s i l e. line_empty items limit cables lines i l empty (sym (ap (λ ls. slice_get ls i) made) ∙ e) s;
     ends = λ s i l e. end_there s l (ports_there a.ports.items b.ports.items cables i (l.one, l.two) joined (ends_made items limit cables lines i l (sym (ap (λ ls. slice_get ls i) made) ∙ e)));
     counts = counts;
-    logs = logs;
+    histories = histories;
     flows = flows;
     acted = acted;
   }
     where
       joined : AreJoined a.ports.items b.ports.items cables
-      joined = (two_joined (plan_of a) (plan_of b) cables accepted).2
+      joined = (two_joined (config_value a) (config_value b) cables accepted).2
 
-      kept : (s : Side) → IsKept (half s j)
+      kept : (s : Side) → IsHalfSound (half s j)
       kept One = half_kept a j.one f agrees_one
       kept Two = half_kept b j.two g agrees_two
 
-      shows : (s : Side) → view_of (half s j).state ≡ first_view (configured (half s j).state)
+      shows : (s : Side) → model_view (half s j).state ≡ first_view (model_setup (half s j).state)
       shows One = first_shows j.one.state f.first
       shows Two = first_shows j.two.state g.first
 
-      end_there : (s : Side) (l : Line) → (has_port a.ports.items l.one ≡ true) × (has_port b.ports.items l.two ≡ true) → IsSome (log_at (half s j).logs (port_at s l))
+      end_there : (s : Side) (l : LinkState) → (has_port a.ports.items l.one ≡ true) × (has_port b.ports.items l.two ≡ true) → IsSome (history_at (half s j).histories (port_at s l))
       end_there One l x = end_logged a j.one l.one f x.0
       end_there Two l x = end_logged b j.two l.two g x.1
 
-      counts : (s : Side) → AreBelow 0 (half s j).logs
-      counts One = subst (AreBelow 0) (sym f.logs) (none_counted a.system a.ports.items)
-      counts Two = subst (AreBelow 0) (sym g.logs) (none_counted b.system b.ports.items)
+      counts : (s : Side) → AreBelow 0 (half s j).histories
+      counts One = subst (AreBelow 0) (sym f.histories) (none_counted a.system a.ports.items)
+      counts Two = subst (AreBelow 0) (sym g.histories) (none_counted b.system b.ports.items)
 
-      logs : (s : Side) (p : ℕ) (log : PortLog) → log_at (half s j).logs p ≡ Some log → (log.count ≡ 0) × (log.taken ≡ None)
-      logs One p log e = log_first a.system (find_number number_of a.ports.items p) log (sym (ap (λ l. log_at l p) f.logs ∙ log_found a.system a.ports.items p) ∙ e)
-      logs Two p log e = log_first b.system (find_number number_of b.ports.items p) log (sym (ap (λ l. log_at l p) g.logs ∙ log_found b.system b.ports.items p) ∙ e)
+      histories : (s : Side) (p : ℕ) (history : PortHistory) → history_at (half s j).histories p ≡ Some history → (history.count ≡ 0) × (history.taken ≡ None)
+      histories One p history e = log_first a.system (find_number configured_number a.ports.items p) history (sym (ap (λ l. history_at l p) f.histories ∙ log_found a.system a.ports.items p) ∙ e)
+      histories Two p history e = log_first b.system (find_number configured_number b.ports.items p) history (sym (ap (λ l. history_at l p) g.histories ∙ log_found b.system b.ports.items p) ∙ e)
 
       nothing : (x : Serials) → x ≡ nothing_sent → (x.sent ≡ []) × (x.collected ≡ []) × (x.forced ≡ false)
       nothing x e = (ap (λ (x : Serials). x.sent) e, ap (λ (x : Serials). x.collected) e, ap (λ (x : Serials). x.forced) e)
@@ -353,16 +353,16 @@ pub same_test : {X Y : Type 0} (f : X → Y → Bool) (x there : X) (y here : Y)
 same_test f x there y here r e g h t = (λ i. f (sym e i) (sym g i)) ∙ sym h ∙ t
 
 -- the configuration of system 2 is not refused if both are not
-pub second_accepted : (config : WorldConfig) (a b : Config) → config.systems ≡ a ∷ b ∷ [] → refusal_of config ≡ None → refusal_of_one b ≡ None
-second_accepted config a b e h = (two_joined (plan_of a) (plan_of b) config.cables.items (sym (ap (λ systems. refusal_of_all (map plan_of systems) config.cables.items) e) ∙ h)).1
+pub second_accepted : (config : WorldConfig) (a b : Config) → config.systems ≡ a ∷ b ∷ [] → world_refusal config ≡ None → refusal_of_one b ≡ None
+second_accepted config a b e h = (two_joined (config_value a) (config_value b) config.cables.items (sym (ap (λ systems. refusal_of_all (map config_value systems) config.cables.items) e) ∙ h)).1
 
 -- what code knows of a world that it made
 module _ {C : Type 0} (items : C → List Item) (limit : C → Option ℕ) where
-  two_accepted : (config : WorldConfig) (a b : Config) → config.systems ≡ a ∷ b ∷ [] → refusal_of config ≡ None → refusal_of_two (plan_of a) (plan_of b) config.cables.items ≡ None
-  two_accepted config a b e h = sym (ap (λ systems. refusal_of_all (map plan_of systems) config.cables.items) e) ∙ h
+  two_accepted : (config : WorldConfig) (a b : Config) → config.systems ≡ a ∷ b ∷ [] → world_refusal config ≡ None → refusal_of_two (config_value a) (config_value b) config.cables.items ≡ None
+  two_accepted config a b e h = sym (ap (λ systems. refusal_of_all (map config_value systems) config.cables.items) e) ∙ h
 
-  pub made_start : (config : WorldConfig) (a b : Config) (lines : List (C × C)) (j : Joint) → config.systems ≡ a ∷ b ∷ [] → refusal_of config ≡ None → are_lines items config.cables.items lines ≡ true
-      → IsFirstHalf a j.one → IsFirstHalf b j.two → Agrees j.one.state → Agrees j.two.state → j.lines ≡ first_lines items limit config.cables.items lines → j.acted ≡ 0 → IsStart j
+  pub made_start : (config : WorldConfig) (a b : Config) (lines : List (C × C)) (j : WorldState) → config.systems ≡ a ∷ b ∷ [] → world_refusal config ≡ None → are_lines items config.cables.items lines ≡ true
+      → IsFirstHalf a j.one → IsFirstHalf b j.two → Agrees j.one.state → Agrees j.two.state → j.links ≡ first_links items limit config.cables.items lines → j.acted ≡ 0 → IsStart j
   made_start config a b lines j e h fit f g agrees_one agrees_two made acted =
       is_start items limit a b config.cables.items lines j f g agrees_one agrees_two (two_accepted config a b e h)
-      (and_parts (length lines == length config.cables.items) (list_all (is_empty items) lines) fit).1 made acted
+      (and_parts (length lines == length config.cables.items) (list_all (is_empty_line items) lines) fit).1 made acted

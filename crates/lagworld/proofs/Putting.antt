@@ -6,7 +6,7 @@ use Rattle.std.proofs.lemmas.List.{length-map, map-set, set-get_or}
 use Rattle.std.proofs.lemmas.Bool.{cases_Bool, true≢false}
 use Rattle.std.proofs.lemmas.Option.{slice_get-map, slice_get_read}
 use Rattle.lagmodel.specs.World.{Side}
-use Rattle.lagworld.specs.State.{Carried, Line, takes, sent_on, line_of_port, line_at, set_line, takes_at, put, is_kept}
+use Rattle.lagworld.specs.State.{Carried, LinkState, accepts, sent_on, link_of_port, link_at, change_link, accepts_at, put, is_accepted}
 
 first_seen : {X Y : Type 0} (f : X → Y) (q : Y → Bool) (xs : List X) → position_or_len q (map f xs) ≡ position_or_len (λ x. q (f x)) xs
 first_seen f q [] = refl
@@ -19,20 +19,20 @@ place_seen f q xs =
     ∙ ap (λ m. cond (nat_lt (position_or_len (λ x. q (f x)) xs) m) (Some (position_or_len (λ x. q (f x)) xs)) None) (length-map xs f)
 
 -- the port has no cable
-pub put_nowhere : (s : Side) (p : ℕ) (item : Carried) (lines : List Line) → line_of_port s p lines ≡ None → (put s p item lines ≡ lines) × (is_kept s p lines ≡ false)
-put_nowhere s p item lines e = (ap (λ o. set_line o (sent_on s item) (line_at o lines) lines) e, ap (λ o. takes_at s (line_at o lines)) e)
+pub put_nowhere : (s : Side) (p : ℕ) (item : Carried) (links : List LinkState) → link_of_port s p links ≡ None → (put s p item links ≡ links) × (is_accepted s p links ≡ false)
+put_nowhere s p item links e = (ap (λ o. change_link o (sent_on s item) (link_at o links) links) e, ap (λ o. accepts_at s (link_at o links)) e)
 
 -- its cable was sent the item
-pub put_there : (s : Side) (p : ℕ) (item : Carried) (lines new : List Line) (kept : Bool) (i : ℕ) → line_of_port s p lines ≡ Some i
-    → IsSomeAnd (slice_get lines i) (λ l. (new ≡ set lines i (sent_on s item l)) × (kept ≡ takes s l)) → (new ≡ put s p item lines) × (kept ≡ is_kept s p lines)
-put_there s p item lines new kept i e h = at_it (slice_get lines i) refl h
+pub put_there : (s : Side) (p : ℕ) (item : Carried) (links new : List LinkState) (kept : Bool) (i : ℕ) → link_of_port s p links ≡ Some i
+    → IsSomeAnd (slice_get links i) (λ l. (new ≡ set links i (sent_on s item l)) × (kept ≡ accepts s l)) → (new ≡ put s p item links) × (kept ≡ is_accepted s p links)
+put_there s p item links new kept i e h = at_it (slice_get links i) refl h
   where
-    at_it : (o : Option Line) → slice_get lines i ≡ o → IsSomeAnd o (λ l. (new ≡ set lines i (sent_on s item l)) × (kept ≡ takes s l))
-        → (new ≡ put s p item lines) × (kept ≡ is_kept s p lines)
+    at_it : (o : Option LinkState) → slice_get links i ≡ o → IsSomeAnd o (λ l. (new ≡ set links i (sent_on s item l)) × (kept ≡ accepts s l))
+        → (new ≡ put s p item links) × (kept ≡ is_accepted s p links)
     at_it None is h = absurd h
     at_it (Some l) is h = (
-      h.0 ∙ sym (ap (λ o. set_line o (sent_on s item) (line_at o lines) lines) e ∙ ap (λ o. set_line (Some i) (sent_on s item) o lines) is),
-      h.1 ∙ sym (ap (λ o. takes_at s (line_at o lines)) e ∙ ap (takes_at s) is),
+      h.0 ∙ sym (ap (λ o. change_link o (sent_on s item) (link_at o links) links) e ∙ ap (λ o. change_link (Some i) (sent_on s item) o links) is),
+      h.1 ∙ sym (ap (λ o. accepts_at s (link_at o links)) e ∙ ap (accepts_at s) is),
     )
 
 -- the cable at a place was sent the item

@@ -7,39 +7,39 @@ use Rattle.lagsystem.specs.Calls.{Transmit, Offer, Force}
 use Rattle.lagmodel.specs.World.{Side}
 use Rattle.lagworld.specs.declared.reply.Reply.{Reply}
 use Rattle.lagworld.specs.declared.reply.Reply.TheVariants as reply
-use Rattle.lagworld.specs.State.{Half, Joint, Line, at_flow, towards, with_sent, with_towards}
-use Rattle.lagworld.specs.Calls.{Asks, Forces}
-use Rattle.lagworld.specs.Events.{Gives, InHalf, LosesFrom, OnLine}
+use Rattle.lagworld.specs.State.{HalfState, WorldState, LinkState, at_flow, towards, with_sent, with_towards}
+use Rattle.lagworld.specs.HalfCalls.{Asks, HalfForces}
+use Rattle.lagworld.specs.Events.{Algorithms, InHalf, LosesFrom, OnLink}
 
-abbrev pub Transmits : (ℕ → ℕ → ℕ → Type 0) → ℕ → Result (Option (List ℕ)) SystemFault → Half → Half → Type 0
-Transmits gives p a old new = Asks gives (Transmit p) (answer.Transmit a) old new
+abbrev pub HalfTransmits : (ℕ → ℕ → ℕ → Type 0) → ℕ → Result (Option (List ℕ)) SystemFault → HalfState → HalfState → Type 0
+HalfTransmits gives p a old new = Asks gives (Transmit p) (answer.Transmit a) old new
 
-abbrev pub TransmitsAs : Gives → Side → ℕ → Result (Option (List ℕ)) SystemFault → Joint → Joint → Type 0
-TransmitsAs gives s p a old new = InHalf s (λ h k. Transmits (gives s) p a h k) old new
+abbrev pub WorldTransmits : Algorithms → Side → ℕ → Result (Option (List ℕ)) SystemFault → WorldState → WorldState → Type 0
+WorldTransmits gives s p a old new = InHalf s (λ h k. HalfTransmits (gives s) p a h k) old new
 
-abbrev pub Assigns : (ℕ → ℕ → ℕ → Type 0) → AggId → List ℕ → Result ℕ SystemFault → Half → Half → Type 0
-Assigns gives agg octets a old new = Asks gives (Offer agg octets) (answer.Offer a) old new
+abbrev pub HalfAssigns : (ℕ → ℕ → ℕ → Type 0) → AggId → List ℕ → Result ℕ SystemFault → HalfState → HalfState → Type 0
+HalfAssigns gives agg octets a old new = Asks gives (Offer agg octets) (answer.Offer a) old new
 
-abbrev pub AssignsAs : Gives → Side → AggId → List ℕ → Result ℕ SystemFault → Joint → Joint → Type 0
-AssignsAs gives s agg octets a old new = InHalf s (λ h k. Assigns (gives s) agg octets a h k) old new
+abbrev pub WorldAssigns : Algorithms → Side → AggId → List ℕ → Result ℕ SystemFault → WorldState → WorldState → Type 0
+WorldAssigns gives s agg octets a old new = InHalf s (λ h k. HalfAssigns (gives s) agg octets a h k) old new
 
-abbrev pub Frees : (ℕ → ℕ → ℕ → Type 0) → AggId → ℕ → Result Unit SystemFault → Half → Half → Type 0
-Frees gives agg conv a old new = Asks gives (Force agg conv) (answer.Force a) old new
+abbrev pub HalfFrees : (ℕ → ℕ → ℕ → Type 0) → AggId → ℕ → Result Unit SystemFault → HalfState → HalfState → Type 0
+HalfFrees gives agg conv a old new = Asks gives (Force agg conv) (answer.Force a) old new
 
-abbrev pub ForcesAs : Gives → Side → AggId → ℕ → Joint → Reply → Joint → Type 0
-ForcesAs gives s agg conv old r new = InHalf s (λ h k. Forces (gives s) agg conv h r k) old new
+abbrev pub WorldForces : Algorithms → Side → AggId → ℕ → WorldState → Reply → WorldState → Type 0
+WorldForces gives s agg conv old r new = InHalf s (λ h k. HalfForces (gives s) agg conv h r k) old new
 
 -- a conversation of an aggregator has sent one more frame
-abbrev pub count_sent_in : ℕ → ℕ → Half → Half
+abbrev pub count_sent_in : ℕ → ℕ → HalfState → HalfState
 count_sent_in g k h = record h { flows = at_flow with_sent g k h.flows }
 
 -- the cable without its first item towards a system
-abbrev pub without_first : Side → Line → Line
+abbrev pub without_first : Side → LinkState → LinkState
 without_first s l = with_towards s (drop 1 (towards s l)) l
 
 abbrev pub lost_reply : Bool → Reply
 lost_reply lost = if lost then reply.Lost else reply.Empty
 
 -- the first item on a cable towards a system is lost
-abbrev pub LosesAs : Side → ℕ → Joint → Reply → Joint → Type 0
-LosesAs s c old r new = OnLine c (λ i l. LosesFrom s i l (towards s l) old r new) old.lines
+abbrev pub WorldLoses : Side → ℕ → WorldState → Reply → WorldState → Type 0
+WorldLoses s c old r new = OnLink c (λ i l. LosesFrom s i l (towards s l) old r new) old.links

@@ -6,51 +6,51 @@ use Rattle.cables.specs.declared.item.Stamp.TheVariants as stamp
 use Rattle.slowpdu.specs.declared.pdu.Pdu.{Pdu}
 use Rattle.slowpdu.specs.declared.pdu.Pdu.TheVariants as pdu
 use Rattle.slowpdu.specs.Readings.{pdu_in, lacpdu_in}
-use Rattle.lagmodel.specs.View.{PortChange as Told_change}
-use Rattle.lagmodel.specs.World.{Side, One, Two, Event as Told}
-use Rattle.lagsystem.specs.declared.answers.Received.{Received}
-use Rattle.lagsystem.specs.declared.answers.Received.TheVariants as received
+use Rattle.lagmodel.specs.View.{PartyChange as ModelChange}
+use Rattle.lagmodel.specs.World.{Side, One, Two, Event as ModelEvent}
+use Rattle.lagsystem.specs.declared.received.Received.{Received}
+use Rattle.lagsystem.specs.declared.received.Received.TheVariants as received
 use Rattle.lagsystem.specs.declared.config.PortChange.{PortChange}
 use Rattle.lagsystem.specs.declared.drive.Reply.TheVariants as answer
 use Rattle.lagsystem.specs.declared.fault.SystemFault.{SystemFault}
 use Rattle.lagsystem.specs.Calls.{Receive, Transmit, Offer}
-use Rattle.lagsystem.specs.Readers.{conversation_of}
+use Rattle.lagsystem.specs.Readers.{number_of_conversation}
 use Rattle.lagscript.specs.declared.event.Event.{Event}
 use Rattle.lagscript.specs.declared.event.Event.TheVariants as event
 use Rattle.lagworld.specs.declared.reply.Reply.{Reply}
 use Rattle.lagworld.specs.declared.reply.Reply.TheVariants as reply
 use Rattle.lagworld.specs.declared.fault.WorldFault.{WorldFault}
 use Rattle.lagworld.specs.declared.fault.WorldFault.TheVariants.{NoCable, NoSystem, Spent, NoMemory}
-use Rattle.lagworld.specs.declared.logs.Heard.{Heard}
-use Rattle.lagworld.specs.declared.logs.PortLog.{PortLog}
-use Rattle.lagworld.specs.State.{Carried, Half, Line, Joint, half, with_half, with_lines, port_at, towards, with_towards, emptied, cut, joined, nth, put, is_kept, log_at, count_in, at_flow, with_sent, with_collected, serials_at, sent_in}
-use Rattle.lagworld.specs.Messages.{payload_in, side_number, side_named, count_of}
-use Rattle.lagworld.specs.Calls.{Asks, Ticks, Senses, Configures, Restarts, Moves, Forces, set_taken}
+use Rattle.lagworld.specs.declared.histories.StampedLacpdu.{StampedLacpdu}
+use Rattle.lagworld.specs.declared.histories.PortHistory.{PortHistory}
+use Rattle.lagworld.specs.State.{Carried, HalfState, LinkState, WorldState, half, with_half, with_links, port_at, towards, with_towards, emptied, cut, joined, nth, put, is_accepted, history_at, count_in, at_flow, with_sent, with_collected, serials_at, sent_in}
+use Rattle.lagworld.specs.Messages.{payload_in, side_number, side_named, stamp_count}
+use Rattle.lagworld.specs.HalfCalls.{Asks, HalfTicks, HalfSenses, HalfConfigures, HalfRestarts, HalfMoves, HalfForces, set_taken}
 
 -- the system with this number, 1 or 2
 abbrev pub side_of : ℕ → Option Side
 side_of n = if n == 1 then Some One else (if n == 2 then Some Two else None)
 
 -- for each system: conversation number, count of ports, and an index that its distribution algorithm may return
-abbrev pub Gives : Type 1
-Gives = Side → ℕ → ℕ → ℕ → Type 0
+abbrev pub Algorithms : Type 1
+Algorithms = Side → ℕ → ℕ → ℕ → Type 0
 
 -- system s, with its logs and records, changes by the relation; nothing else changes
-abbrev pub InHalf : Side → (Half → Half → Type 0) → Joint → Joint → Type 0
+abbrev pub InHalf : Side → (HalfState → HalfState → Type 0) → WorldState → WorldState → Type 0
 InHalf s R old new = R (half s old) (half s new) × (new ≡ with_half s (half s new) old)
 
 -- cable c exists, and the relation holds of its index and of the cable
-abbrev pub OnLine : ℕ → (ℕ → Line → Type 0) → List Line → Type 0
-OnLine zero P lines = ⊥
-OnLine (suc i) P lines = IsSomeAnd (slice_get lines i) (P i)
+abbrev pub OnLink : ℕ → (ℕ → LinkState → Type 0) → List LinkState → Type 0
+OnLink zero P links = ⊥
+OnLink (suc i) P links = IsSomeAnd (slice_get links i) (P i)
 
 -- one cable is replaced, and nothing else changes
-abbrev pub set_at : ℕ → Line → Joint → Joint
-set_at i l j = with_lines j (slice_set j.lines i l)
+abbrev pub set_at : ℕ → LinkState → WorldState → WorldState
+set_at i l j = with_links j (slice_set j.links i l)
 
 -- the cables after port p of system s sent this
-abbrev pub puts : Side → ℕ → Carried → Joint → Joint
-puts s p item j = with_lines j (put s p item j.lines)
+abbrev pub puts : Side → ℕ → Carried → WorldState → WorldState
+puts s p item j = with_links j (put s p item j.links)
 
 -- the stamp of a PDU that is sent
 abbrev pub stamp_for : Pdu → ℕ → Stamp
@@ -58,136 +58,136 @@ stamp_for (pdu.Lacpdu v) count = stamp.Control count
 stamp_for (pdu.Marker m) count = stamp.Control 0
 
 abbrev pub sent_reply : Pdu → Bool → Reply
-sent_reply (pdu.Lacpdu v) kept = reply.Lacpdu v.actor.state kept
-sent_reply (pdu.Marker m) kept = reply.Marker m.id kept
+sent_reply (pdu.Lacpdu v) accepted = reply.Lacpdu v.actor.state accepted
+sent_reply (pdu.Marker m) accepted = reply.Marker m.id accepted
 
-abbrev pub transmitted : Side → ℕ → List ℕ → Half → Carried
-transmitted s p frame h = record { octets = frame; stamp = stamp_for (pdu_in (payload_in frame)) (count_in (log_at h.logs p)) }
+abbrev pub transmitted : Side → ℕ → List ℕ → HalfState → Carried
+transmitted s p frame h = record { octets = frame; stamp = stamp_for (pdu_in (payload_in frame)) (count_in (history_at h.histories p)) }
 
 -- what becomes of the result of transmit
-abbrev pub Emitted : Side → ℕ → Result (Option (List ℕ)) SystemFault → Joint → Reply → Joint → Type 0
+abbrev pub Emitted : Side → ℕ → Result (Option (List ℕ)) SystemFault → WorldState → Reply → WorldState → Type 0
 Emitted s p (Err fault) old r new = (r ≡ reply.Refused fault) × (new ≡ old)
 Emitted s p (Ok None) old r new = (r ≡ reply.Nothing) × (new ≡ old)
 Emitted s p (Ok (Some frame)) old r new =
-    (r ≡ sent_reply (pdu_in (payload_in frame)) (is_kept s p old.lines)) × (new ≡ puts s p (transmitted s p frame (half s old)) old)
+    (r ≡ sent_reply (pdu_in (payload_in frame)) (is_accepted s p old.links)) × (new ≡ puts s p (transmitted s p frame (half s old)) old)
 
-abbrev pub Emits : Gives → Side → ℕ → Joint → Reply → Joint → Type 0
+abbrev pub Emits : Algorithms → Side → ℕ → WorldState → Reply → WorldState → Type 0
 Emits gives s p old r new =
-    (a : Result (Option (List ℕ)) SystemFault) × (mid : Half) × Asks (gives s) (Transmit p) (answer.Transmit a) (half s old) mid
+    (a : Result (Option (List ℕ)) SystemFault) × (mid : HalfState) × Asks (gives s) (Transmit p) (answer.Transmit a) (half s old) mid
     × Emitted s p a (with_half s mid old) r new
 
 -- the LACPDU in an item, with its stamp
-abbrev pub heard_in : Carried → Heard
-heard_in item = record { pdu = lacpdu_in (payload_in item.octets); stamp = count_of item.stamp }
+abbrev pub stamped_in : Carried → StampedLacpdu
+stamped_in item = record { pdu = lacpdu_in (payload_in item.octets); stamp = stamp_count item.stamp }
 
 -- it is recorded as the one that port p received last
-abbrev pub set_heard : ℕ → Heard → List PortLog → List PortLog
-set_heard p heard [] = []
-set_heard p heard (log ∷ logs) = if log.number == p then set_taken heard log ∷ logs else log ∷ set_heard p heard logs
+abbrev pub set_last_lacpdu : ℕ → StampedLacpdu → List PortHistory → List PortHistory
+set_last_lacpdu p heard [] = []
+set_last_lacpdu p heard (history ∷ histories) = if history.number == p then set_taken heard history ∷ histories else history ∷ set_last_lacpdu p heard histories
 
-abbrev pub with_heard : ℕ → Heard → Half → Half
-with_heard p heard h = record h { logs = set_heard p heard h.logs }
+abbrev pub with_last_lacpdu : ℕ → StampedLacpdu → HalfState → HalfState
+with_last_lacpdu p heard h = record h { histories = set_last_lacpdu p heard h.histories }
 
 -- the half, with this serial added to what was collected of a conversation
-abbrev pub with_flow_of : ℕ → ℕ → ℕ → Half → Half
+abbrev pub with_flow_of : ℕ → ℕ → ℕ → HalfState → HalfState
 with_flow_of agg conv serial h = record h { flows = at_flow (with_collected serial) agg conv h.flows }
 
 -- a data frame counts as collected, for the system that sent it
-abbrev pub collected : Stamp → Joint → Joint
+abbrev pub collected : Stamp → WorldState → WorldState
 collected (stamp.Control count) j = j
 collected (stamp.Data system agg conv serial) j =
     with_half (side_named system) (with_flow_of agg conv serial (half (side_named system) j)) j
 
 -- what becomes of the answer to an item that came on port p of system s
-abbrev pub Arrived : Side → ℕ → Carried → Result Received SystemFault → Joint → Reply → Joint → Type 0
+abbrev pub Arrived : Side → ℕ → Carried → Result Received SystemFault → WorldState → Reply → WorldState → Type 0
 Arrived s p item (Err fault) old r new = (r ≡ reply.Refused fault) × (new ≡ old)
 Arrived s p item (Ok received.Disabled) old r new = (r ≡ reply.Disabled) × (new ≡ old)
 Arrived s p item (Ok received.Dropped) old r new = (r ≡ reply.Dropped) × (new ≡ old)
 Arrived s p item (Ok (received.Ignored fault)) old r new = (r ≡ reply.Ignored) × (new ≡ old)
-Arrived s p item (Ok received.TookLacpdu) old r new = (r ≡ reply.Took) × (new ≡ with_half s (with_heard p (heard_in item) (half s old)) old)
+Arrived s p item (Ok received.TookLacpdu) old r new = (r ≡ reply.Took) × (new ≡ with_half s (with_last_lacpdu p (stamped_in item) (half s old)) old)
 Arrived s p item (Ok (received.Respond frame)) old r new =
-    (r ≡ reply.Responded (is_kept s p old.lines)) × (new ≡ puts s p (record { octets = frame; stamp = stamp.Control 0 }) old)
+    (r ≡ reply.Responded (is_accepted s p old.links)) × (new ≡ puts s p (record { octets = frame; stamp = stamp.Control 0 }) old)
 Arrived s p item (Ok (received.Released n)) old r new = (r ≡ reply.Released n) × (new ≡ old)
 Arrived s p item (Ok (received.Up agg)) old r new = (r ≡ reply.Up agg) × (new ≡ collected item.stamp old)
 
 -- an item arrives on port p of system s
-abbrev pub Arrives : Gives → Side → ℕ → Carried → Joint → Reply → Joint → Type 0
+abbrev pub Arrives : Algorithms → Side → ℕ → Carried → WorldState → Reply → WorldState → Type 0
 Arrives gives s p item old r new =
-    (a : Result Received SystemFault) × (mid : Half) × Asks (gives s) (Receive p item.octets) (answer.Receive a) (half s old) mid
+    (a : Result Received SystemFault) × (mid : HalfState) × Asks (gives s) (Receive p item.octets) (answer.Receive a) (half s old) mid
     × Arrived s p item a (with_half s mid old) r new
 
 -- the first item towards s is taken off and arrives at the end of cable i
-abbrev pub DeliversFrom : Gives → Side → ℕ → Line → List Carried → Joint → Reply → Joint → Type 0
+abbrev pub DeliversFrom : Algorithms → Side → ℕ → LinkState → List Carried → WorldState → Reply → WorldState → Type 0
 DeliversFrom gives s i l [] old r new = (r ≡ reply.Empty) × (new ≡ old)
 DeliversFrom gives s i l (item ∷ rest) old r new = Arrives gives s (port_at s l) item (set_at i (with_towards s rest l) old) r new
 
-abbrev pub LosesFrom : Side → ℕ → Line → List Carried → Joint → Reply → Joint → Type 0
+abbrev pub LosesFrom : Side → ℕ → LinkState → List Carried → WorldState → Reply → WorldState → Type 0
 LosesFrom s i l [] old r new = (r ≡ reply.Empty) × (new ≡ old)
 LosesFrom s i l (item ∷ rest) old r new = (r ≡ reply.Lost) × (new ≡ set_at i (with_towards s rest l) old)
 
 -- the first item arrives but stays, unless it is a data frame
-abbrev pub RepeatsItem : Gives → Side → ℕ → List ℕ → Stamp → Joint → Reply → Joint → Type 0
+abbrev pub RepeatsItem : Algorithms → Side → ℕ → List ℕ → Stamp → WorldState → Reply → WorldState → Type 0
 RepeatsItem gives s p octets (stamp.Control count) old r new =
     Arrives gives s p (record { octets = octets; stamp = stamp.Control count }) old r new
 RepeatsItem gives s p octets (stamp.Data system agg conv serial) old r new = (r ≡ reply.NotControl) × (new ≡ old)
 
-abbrev pub RepeatsFrom : Gives → Side → Line → List Carried → Joint → Reply → Joint → Type 0
+abbrev pub RepeatsFrom : Algorithms → Side → LinkState → List Carried → WorldState → Reply → WorldState → Type 0
 RepeatsFrom gives s l [] old r new = (r ≡ reply.Empty) × (new ≡ old)
 RepeatsFrom gives s l (item ∷ rest) old r new = RepeatsItem gives s (port_at s l) item.octets item.stamp old r new
 
 -- the frame is sent on the port that the system returned, as the next of its conversation
-abbrev pub offered : Side → ℕ → AggId → List ℕ → Half → Carried
+abbrev pub offered : Side → ℕ → AggId → List ℕ → HalfState → Carried
 offered s port agg octets h = record {
   octets = octets;
-  stamp = stamp.Data (side_number s) agg.0 (conversation_of h.state octets)
-      (length (sent_in (serials_at h.flows agg.0 (conversation_of h.state octets))));
+  stamp = stamp.Data (side_number s) agg.0 (number_of_conversation h.state octets)
+      (length (sent_in (serials_at h.flows agg.0 (number_of_conversation h.state octets))));
 }
 
-abbrev pub count_sent : AggId → List ℕ → Half → Half
-count_sent agg octets h = record h { flows = at_flow with_sent agg.0 (conversation_of h.state octets) h.flows }
+abbrev pub count_sent : AggId → List ℕ → HalfState → HalfState
+count_sent agg octets h = record h { flows = at_flow with_sent agg.0 (number_of_conversation h.state octets) h.flows }
 
-abbrev pub Offered : Side → AggId → List ℕ → Result ℕ SystemFault → Joint → Reply → Joint → Type 0
+abbrev pub Offered : Side → AggId → List ℕ → Result ℕ SystemFault → WorldState → Reply → WorldState → Type 0
 Offered s agg octets (Err fault) old r new = (r ≡ reply.Refused fault) × (new ≡ old)
 Offered s agg octets (Ok port) old r new =
-    IsSome (serials_at (half s old).flows agg.0 (conversation_of (half s old).state octets))
-    × (r ≡ reply.Port port (length (sent_in (serials_at (half s old).flows agg.0 (conversation_of (half s old).state octets))))
-    (is_kept s port old.lines))
+    IsSome (serials_at (half s old).flows agg.0 (number_of_conversation (half s old).state octets))
+    × (r ≡ reply.Port port (length (sent_in (serials_at (half s old).flows agg.0 (number_of_conversation (half s old).state octets))))
+    (is_accepted s port old.links))
     × (new ≡ puts s port (offered s port agg octets (half s old)) (with_half s (count_sent agg octets (half s old)) old))
 
-abbrev pub Offers : Gives → Side → AggId → List ℕ → Joint → Reply → Joint → Type 0
-Offers gives s agg octets old r new =
-    (a : Result ℕ SystemFault) × (mid : Half) × Asks (gives s) (Offer agg octets) (answer.Offer a) (half s old) mid
+abbrev pub OffersFrame : Algorithms → Side → AggId → List ℕ → WorldState → Reply → WorldState → Type 0
+OffersFrame gives s agg octets old r new =
+    (a : Result ℕ SystemFault) × (mid : HalfState) × Asks (gives s) (Offer agg octets) (answer.Offer a) (half s old) mid
     × Offered s agg octets a (with_half s mid old) r new
 
 -- what the event does, if its system and cable exist
-abbrev pub Does : Gives → Joint → Event → Reply → Joint → Type 0
-Does gives old (event.Tick n count) r new = IsSomeAnd (side_of n) (λ s. InHalf s (Ticks (gives s) count) old new × (r ≡ reply.Ticked))
-Does gives old (event.Emit n p) r new = IsSomeAnd (side_of n) (λ s. Emits gives s p old r new)
-Does gives old (event.Deliver c n) r new =
-    IsSomeAnd (side_of n) (λ s. OnLine c (λ i l. DeliversFrom gives s i l (towards s l) old r new) old.lines)
-Does gives old (event.Lose c n) r new = IsSomeAnd (side_of n) (λ s. OnLine c (λ i l. LosesFrom s i l (towards s l) old r new) old.lines)
-Does gives old (event.Repeat c n) r new =
-    IsSomeAnd (side_of n) (λ s. OnLine c (λ i l. RepeatsFrom gives s l (towards s l) old r new) old.lines)
-Does gives old (event.Cut c) r new = OnLine c (λ i l. (r ≡ reply.Cut) × (new ≡ set_at i (cut l) old)) old.lines
-Does gives old (event.Join c) r new = OnLine c (λ i l. (r ≡ reply.Joined) × (new ≡ set_at i (joined l) old)) old.lines
-Does gives old (event.Sense c n) r new =
-    IsSomeAnd (side_of n) (λ s. OnLine c (λ i l. InHalf s (λ h k. Senses (gives s) (port_at s l) l.whole h r k) old new) old.lines)
-Does gives old (event.Restart n) r new =
-    IsSomeAnd (side_of n) (λ s. (r ≡ reply.Restarted) × InHalf s (Restarts (gives s)) (with_lines old (map emptied old.lines)) new)
-Does gives old (event.Configure n p change) r new = IsSomeAnd (side_of n)
-    (λ s. InHalf s (λ h k. Configures (gives s) p change h r k) old new)
-Does gives old (event.Offer n agg octets) r new = IsSomeAnd (side_of n) (λ s. Offers gives s agg octets.items old r new)
-Does gives old (event.Move n agg conv p) r new = IsSomeAnd (side_of n) (λ s. InHalf s (λ h k. Moves (gives s) agg conv p h r k) old new)
-Does gives old (event.Force n agg conv) r new = IsSomeAnd (side_of n) (λ s. InHalf s (λ h k. Forces (gives s) agg conv h r k) old new)
+abbrev pub DoesEvent : Algorithms → WorldState → Event → Reply → WorldState → Type 0
+DoesEvent gives old (event.Tick n count) r new = IsSomeAnd (side_of n) (λ s. InHalf s (HalfTicks (gives s) count) old new × (r ≡ reply.Ticked))
+DoesEvent gives old (event.Emit n p) r new = IsSomeAnd (side_of n) (λ s. Emits gives s p old r new)
+DoesEvent gives old (event.Deliver c n) r new =
+    IsSomeAnd (side_of n) (λ s. OnLink c (λ i l. DeliversFrom gives s i l (towards s l) old r new) old.links)
+DoesEvent gives old (event.Lose c n) r new = IsSomeAnd (side_of n) (λ s. OnLink c (λ i l. LosesFrom s i l (towards s l) old r new) old.links)
+DoesEvent gives old (event.Repeat c n) r new =
+    IsSomeAnd (side_of n) (λ s. OnLink c (λ i l. RepeatsFrom gives s l (towards s l) old r new) old.links)
+DoesEvent gives old (event.Cut c) r new = OnLink c (λ i l. (r ≡ reply.Cut) × (new ≡ set_at i (cut l) old)) old.links
+DoesEvent gives old (event.Join c) r new = OnLink c (λ i l. (r ≡ reply.Joined) × (new ≡ set_at i (joined l) old)) old.links
+DoesEvent gives old (event.Sense c n) r new =
+    IsSomeAnd (side_of n) (λ s. OnLink c (λ i l. InHalf s (λ h k. HalfSenses (gives s) (port_at s l) l.whole h r k) old new) old.links)
+DoesEvent gives old (event.Restart n) r new =
+    IsSomeAnd (side_of n) (λ s. (r ≡ reply.Restarted) × InHalf s (HalfRestarts (gives s)) (with_links old (map emptied old.links)) new)
+DoesEvent gives old (event.Configure n p change) r new = IsSomeAnd (side_of n)
+    (λ s. InHalf s (λ h k. HalfConfigures (gives s) p change h r k) old new)
+DoesEvent gives old (event.Offer n agg octets) r new = IsSomeAnd (side_of n) (λ s. OffersFrame gives s agg octets.items old r new)
+DoesEvent gives old (event.Move n agg conv p) r new = IsSomeAnd (side_of n) (λ s. InHalf s (λ h k. HalfMoves (gives s) agg conv p h r k) old new)
+DoesEvent gives old (event.Force n agg conv) r new = IsSomeAnd (side_of n) (λ s. InHalf s (λ h k. HalfForces (gives s) agg conv h r k) old new)
 
 -- From old, the world may give this reply to the event and change to new.
-abbrev pub Steps : Gives → Joint → Event → Reply → Joint → Type 0
-Steps gives old e r new = Does gives old e r (record new { acted = old.acted }) × (new.acted ≡ old.acted + 1)
+abbrev pub Steps : Algorithms → WorldState → Event → Reply → WorldState → Type 0
+Steps gives old e r new = DoesEvent gives old e r (record new { acted = old.acted }) × (new.acted ≡ old.acted + 1)
 
 -- these events may have these replies, one after another
-abbrev pub Runs : Gives → Joint → List Event → List Reply → Joint → Type 0
+abbrev pub Runs : Algorithms → WorldState → List Event → List Reply → WorldState → Type 0
 Runs gives old [] [] new = new ≡ old
-Runs gives old (e ∷ es) (r ∷ rs) new = (mid : Joint) × Steps gives old e r mid × Runs gives mid es rs new
+Runs gives old (e ∷ es) (r ∷ rs) new = (mid : WorldState) × Steps gives old e r mid × Runs gives mid es rs new
 Runs gives old [] (r ∷ rs) new = ⊥
 Runs gives old (e ∷ es) [] new = ⊥
 
@@ -219,9 +219,9 @@ system_named (event.Offer n agg octets) = Some n
 system_named (event.Move n agg conv p) = Some n
 system_named (event.Force n agg conv) = Some n
 
-abbrev pub has_cable : Joint → Option ℕ → Bool
+abbrev pub has_cable : WorldState → Option ℕ → Bool
 has_cable j None = true
-has_cable j (Some c) = is_some (nth j.lines c)
+has_cable j (Some c) = is_some (nth j.links c)
 
 abbrev pub has_system : Option ℕ → Bool
 has_system None = true
@@ -229,12 +229,12 @@ has_system (Some n) = is_some (side_of n)
 
 -- The first of three reasons to refuse an event: its cable does not exist, its system does not exist, no more events may
 -- act. The arguments: the cable exists; the system exists; no more may act.
-abbrev pub first_cause : Bool → Bool → Bool → Option WorldFault
-first_cause cable system spent = if cable then (if system then (if spent then Some Spent else None) else Some NoSystem) else Some NoCable
+abbrev pub first_event_cause : Bool → Bool → Bool → Option WorldFault
+first_event_cause cable system spent = if cable then (if system then (if spent then Some Spent else None) else Some NoSystem) else Some NoCable
 
 -- the first reason to refuse an event, leaving memory aside
-abbrev pub cause : Joint → Event → Option WorldFault
-cause j e = first_cause (has_cable j (cable_named e)) (has_system (system_named e)) (nat_le most_events j.acted)
+abbrev pub cause : WorldState → Event → Option WorldFault
+cause j e = first_event_cause (has_cable j (cable_named e)) (has_system (system_named e)) (nat_le most_events j.acted)
 
 -- the events that may take memory; only these can be refused for lack of it
 abbrev pub may_take_memory : Event → Bool
@@ -257,20 +257,20 @@ fault_for None = NoMemory
 fault_for (Some fault) = fault
 
 -- the change of a port, as the model has it
-abbrev pub told_change : PortChange → Told_change
-told_change c = record { key = c.key; priority = c.priority; aggregatable = c.aggregatable }
+abbrev pub model_change : PortChange → ModelChange
+model_change c = record { key = c.key; priority = c.priority; aggregatable = c.aggregatable }
 
-abbrev pub told : Event → Told
-told (event.Tick n count) = Told.Tick (side_named n) count
-told (event.Emit n p) = Told.Emit (side_named n) p
-told (event.Deliver c n) = Told.Deliver c (side_named n)
-told (event.Lose c n) = Told.Lose c (side_named n)
-told (event.Repeat c n) = Told.Repeat c (side_named n)
-told (event.Cut c) = Told.Cut c
-told (event.Join c) = Told.Join c
-told (event.Sense c n) = Told.Sense c (side_named n)
-told (event.Restart n) = Told.Restart (side_named n)
-told (event.Configure n p change) = Told.Configure (side_named n) p (told_change change)
-told (event.Offer n agg octets) = Told.Offer (side_named n) agg.0 octets.items
-told (event.Move n agg conv p) = Told.Move_conversation (side_named n) agg.0 conv p
-told (event.Force n agg conv) = Told.Force (side_named n) agg.0 conv
+abbrev pub model_event : Event → ModelEvent
+model_event (event.Tick n count) = ModelEvent.Tick (side_named n) count
+model_event (event.Emit n p) = ModelEvent.Emit (side_named n) p
+model_event (event.Deliver c n) = ModelEvent.Deliver c (side_named n)
+model_event (event.Lose c n) = ModelEvent.Lose c (side_named n)
+model_event (event.Repeat c n) = ModelEvent.Repeat c (side_named n)
+model_event (event.Cut c) = ModelEvent.Cut c
+model_event (event.Join c) = ModelEvent.Join c
+model_event (event.Sense c n) = ModelEvent.Sense c (side_named n)
+model_event (event.Restart n) = ModelEvent.Restart (side_named n)
+model_event (event.Configure n p change) = ModelEvent.Configure (side_named n) p (model_change change)
+model_event (event.Offer n agg octets) = ModelEvent.Offer (side_named n) agg.0 octets.items
+model_event (event.Move n agg conv p) = ModelEvent.Move_conversation (side_named n) agg.0 conv p
+model_event (event.Force n agg conv) = ModelEvent.Force (side_named n) agg.0 conv

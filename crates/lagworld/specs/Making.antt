@@ -9,50 +9,50 @@ use Rattle.lagsystem.specs.First.{IsConfigured, IsFirst, setup_of}
 use Rattle.lagscript.specs.declared.config.BadWorld.{BadWorld}
 use Rattle.lagscript.specs.declared.config.BadWorld.TheVariants.{Lines}
 use Rattle.lagscript.specs.declared.config.WorldConfig.{WorldConfig}
-use Rattle.lagscript.specs.Configs.{or_first, refusal_of}
+use Rattle.lagscript.specs.Configs.{or_first, world_refusal}
 use Rattle.lagworld.specs.declared.fault.WorldFault.{WorldFault}
 use Rattle.lagworld.specs.declared.fault.WorldFault.TheVariants.{NoMemory, BadConfig}
-use Rattle.lagworld.specs.declared.logs.PortLog.{PortLog}
-use Rattle.lagworld.specs.State.{Half, Joint, Line, Serials}
+use Rattle.lagworld.specs.declared.histories.PortHistory.{PortHistory}
+use Rattle.lagworld.specs.State.{HalfState, WorldState, LinkState, Serials}
 use Rattle.lagworld.specs.Messages.{carried}
 
 -- the log of a port before any event
-abbrev pub first_log : SystemId → PortConfig → PortLog
-first_log system c = record { number = c.number; party = (setup_of system c).party; count = 0; taken = None }
+abbrev pub first_history : SystemId → PortConfig → PortHistory
+first_history system c = record { number = c.number; party = (setup_of system c).party; count = 0; taken = None }
 
-abbrev pub first_logs : SystemId → List PortConfig → List PortLog
-first_logs system ports = map (first_log system) ports
+abbrev pub first_histories : SystemId → List PortConfig → List PortHistory
+first_histories system ports = map (first_history system) ports
 
 -- how many conversations an aggregator has: as many as in lagsystem
-unfoldable pub conversations : ℕ
-conversations = 256
+unfoldable pub conversations_per_aggregator : ℕ
+conversations_per_aggregator = 256
 
 abbrev pub nothing_sent : Serials
 nothing_sent = record { sent = []; collected = []; forced = false }
 
 abbrev pub first_row : List Serials
-first_row = replicate conversations nothing_sent
+first_row = replicate conversations_per_aggregator nothing_sent
 
 -- the records of the conversations of this many aggregators before any event
 abbrev pub first_flows : ℕ → List (List Serials)
 first_flows aggs = replicate aggs first_row
 
 -- a system in its first state, with this configuration
-pub record IsFirstHalf (config : Config) (h : Half) : Type 0 where
+pub record IsFirstHalf (config : Config) (h : HalfState) : Type 0 where
   pub first : IsFirst h.state
   pub configured : IsConfigured config h.state
-  pub logs : h.logs ≡ first_logs config.system config.ports.items
+  pub histories : h.histories ≡ first_histories config.system config.ports.items
   pub flows : h.flows ≡ first_flows (length config.aggregators.items)
 
 -- both systems are in their first state
-abbrev pub AreFirst : List Config → Joint → Type 0
+abbrev pub AreFirst : List Config → WorldState → Type 0
 AreFirst (a ∷ b ∷ []) j = IsFirstHalf a j.one × IsFirstHalf b j.two
 AreFirst _ j = ⊥
 
 module _ {C : Type 0} (items : C → List Item) (limit : C → Option ℕ) where
   -- a cable at the start: whole, with what is on its lines
-  abbrev pub first_line : ℕ × ℕ → C × C → Line
-  first_line ends line = record {
+  abbrev pub first_link : ℕ × ℕ → C × C → LinkState
+  first_link ends line = record {
     one = ends.0;
     two = ends.1;
     whole = true;
@@ -62,30 +62,30 @@ module _ {C : Type 0} (items : C → List Item) (limit : C → Option ℕ) where
     limit_two = limit line.1;
   }
 
-  abbrev pub first_lines : List (ℕ × ℕ) → List (C × C) → List Line
-  first_lines [] lines = []
-  first_lines (ends ∷ rest) [] = []
-  first_lines (ends ∷ rest) (line ∷ lines) = first_line ends line ∷ first_lines rest lines
+  abbrev pub first_links : List (ℕ × ℕ) → List (C × C) → List LinkState
+  first_links [] lines = []
+  first_links (ends ∷ rest) [] = []
+  first_links (ends ∷ rest) (line ∷ lines) = first_link ends line ∷ first_links rest lines
 
   -- what is made of a configuration and lines
-  pub record IsMade (config : WorldConfig) (given : List (C × C)) (j : Joint) : Type 0 where
+  pub record IsMade (config : WorldConfig) (given : List (C × C)) (j : WorldState) : Type 0 where
     pub systems : AreFirst config.systems j
-    pub lines : j.lines ≡ first_lines config.cables.items given
+    pub links : j.links ≡ first_links config.cables.items given
     pub acted : j.acted ≡ 0
 
 module _ {C : Type 0} (items : C → List Item) where
   -- both directions of a cable are empty
-  abbrev pub is_empty : C × C → Bool
-  is_empty line = (length (items line.0) == 0) && (length (items line.1) == 0)
+  abbrev pub is_empty_line : C × C → Bool
+  is_empty_line line = (length (items line.0) == 0) && (length (items line.1) == 0)
 
   -- there are as many lines as cables, and all are empty
   abbrev pub are_lines : List (ℕ × ℕ) → List (C × C) → Bool
-  are_lines cables lines = (length lines == length cables) && list_all is_empty lines
+  are_lines cables lines = (length lines == length cables) && list_all is_empty_line lines
 
   -- the first reason to refuse a configuration and lines
   abbrev pub refusal_with : WorldConfig → List (C × C) → Option BadWorld
-  refusal_with config lines = or_first (refusal_of config) (if are_lines config.cables.items lines then None else Some Lines)
+  refusal_with config lines = or_first (world_refusal config) (if are_lines config.cables.items lines then None else Some Lines)
 
 -- memory was refused, or this is the first reason to refuse
-abbrev pub Refuses : Option BadWorld → WorldFault → Type 0
-Refuses reason fault = (fault ≡ NoMemory) ⊎ ((bad : BadWorld) × (reason ≡ Some bad) × (fault ≡ BadConfig bad))
+abbrev pub RefusesToMake : Option BadWorld → WorldFault → Type 0
+RefusesToMake reason fault = (fault ≡ NoMemory) ⊎ ((bad : BadWorld) × (reason ≡ Some bad) × (fault ≡ BadConfig bad))

@@ -4,10 +4,10 @@ use Rattle.std.specs.Prelude.{ℕ, ◌<◌, Bool, IsTrue, IfSome, List, map, Opt
 use Rattle.std.specs.Global.{Vec}
 use Rattle.cables.specs.declared.item.Item.{Item}
 use Rattle.lagmodel.specs.World.{Side}
-use Rattle.lagworld.specs.declared.line.Line.{Line as Cabled}
-use Rattle.lagworld.specs.declared.logs.Flow.{Flow}
-use Rattle.lagworld.specs.State.{Serials, pick, line_of_port, nth}
-use Rattle.lagworld.specs.Kept.{lines_of, serials_of}
+use Rattle.lagworld.specs.declared.link.Link.{Link as Cabled}
+use Rattle.lagworld.specs.declared.histories.Flow.{Flow}
+use Rattle.lagworld.specs.State.{Serials, pick, link_of_port, nth}
+use Rattle.lagworld.specs.Inner.{link_states, serials_of}
 
 -- a place is reserved on the cable, in the direction away from a system
 abbrev pub is_reserved : {C : Type 0} → (C → Bool) → Side → Cabled C → Bool
@@ -20,7 +20,7 @@ IsReservedAt reserved s (Some i) ls = IfSome (slice_get ls i) (λ l. IsTrue (is_
 
 -- the same on the cable of a port, if it has one
 abbrev pub IsReserved : {C : Type 0} → (C → List Item) → (C → Option ℕ) → (C → Bool) → Side → ℕ → List (Cabled C) → Type 0
-IsReserved items limit reserved s p ls = IsReservedAt reserved s (line_of_port s p (lines_of items limit ls)) ls
+IsReserved items limit reserved s p ls = IsReservedAt reserved s (link_of_port s p (link_states items limit ls)) ls
 
 -- the same on every cable
 abbrev pub AreReserved : {C : Type 0} → (C → Bool) → Side → List (Cabled C) → Type 0
@@ -39,5 +39,5 @@ abbrev pub HasRoom : ℕ → ℕ → List (Vec Flow) → Type 0
 HasRoom g k flows = HasRoomAt (nth flows g) k
 
 -- the records of the conversations of a system, as contracts see them
-abbrev pub flows_of : List (Vec Flow) → List (List Serials)
-flows_of flows = map (λ xs. map serials_of xs.items) flows
+abbrev pub all_serials : List (Vec Flow) → List (List Serials)
+all_serials flows = map (λ xs. map serials_of xs.items) flows

@@ -1,14 +1,14 @@
 -- What the readers of a world return.
 use Rattle.std.specs.Prelude.{ℕ, Option, Some, None}
 use Rattle.lagmodel.specs.World.{Side}
-use Rattle.lagsystem.specs.State.{Whole as System}
-use Rattle.lagworld.specs.State.{Joint, Serials, Whole, half, pick, serials_at}
+use Rattle.lagsystem.specs.State.{SystemValue as System}
+use Rattle.lagworld.specs.State.{WorldState, Serials, WorldValue, half, pick, serials_at}
 
 -- the record of a conversation of an aggregator of a system, if it exists
-abbrev pub serials_of_system : Option Side → ℕ → ℕ → Joint → Option Serials
+abbrev pub serials_of_system : Option Side → ℕ → ℕ → WorldState → Option Serials
 serials_of_system None g k j = None
 serials_of_system (Some s) g k j = serials_at (half s j).flows g k
 
-abbrev pub system_at : {F : Type 0} → Option Side → Whole F → Option (System F)
+abbrev pub system_at : {F : Type 0} → Option Side → WorldValue F → Option (System F)
 system_at None w = None
-system_at (Some s) w = Some (record { state = (half s w.joint).state; algorithm = pick s w.one w.two })
+system_at (Some s) w = Some (record { state = (half s w.state).state; algorithm = pick s w.one w.two })

@@ -1,13 +1,13 @@
 ghost use Rattle.std.specs.Prelude.{◌≡◌};
-ghost use Rattle.lagworld.specs.Agreement.{agreement_at, agreement_of, end_view, first_of_five, is_stamp, same_groups};
-ghost use Rattle.lagworld.specs.Joints.{joint_of};
-ghost use Rattle.lagworld.specs.Kept.{half_of};
+ghost use Rattle.lagworld.specs.Agreement.{agreement_at, agreement_of, end_facts, first_of_five, is_stamp, same_groups};
+ghost use Rattle.lagworld.specs.WorldCalls.{world_state};
+ghost use Rattle.lagworld.specs.Inner.{half_state};
 ghost use Rattle.lagworld.specs.State.{count_in, taken_in};
 
-use crate::half::End;
-use crate::kept::Core;
-use crate::line::told_of;
-use crate::logs::{Heard, PortLog, log_of};
+use crate::half::Half;
+use crate::histories::{PortHistory, StampedLacpdu, history_of};
+use crate::inner::Inner;
+use crate::link::link_status;
 use cables::Cable;
 use lagtypes::Group;
 
@@ -30,34 +30,34 @@ pub enum Agreement {
 
 /// The values of one end that `agreement` compares.
 #[derive(Clone, Copy, Debug, PartialEq, Eq)]
-pub(crate) struct EndView {
+pub(crate) struct EndFacts {
     distributes: bool,
     defaulted: bool,
     count: u64,
-    taken: Option<Heard>,
+    taken: Option<StampedLacpdu>,
     group: Option<Group>,
 }
 
-fn count_in(log: Option<PortLog>) -> u64
-    ensures { result ≡ count_in log }
+fn count_in(history: Option<PortHistory>) -> u64
+    ensures { result ≡ count_in history }
 {
-    match log {
-        Some(log) => log.count,
+    match history {
+        Some(history) => history.count,
         None => 0,
     }
 }
 
-fn taken_in(log: Option<PortLog>) -> Option<Heard>
-    ensures { result ≡ taken_in log }
+fn taken_in(history: Option<PortHistory>) -> Option<StampedLacpdu>
+    ensures { result ≡ taken_in history }
 {
-    match log {
-        Some(log) => log.taken,
+    match history {
+        Some(history) => history.taken,
         None => None,
     }
 }
 
 /// Whether the change count of an end is the stamp of the LACPDU that its peer received last.
-fn is_stamp(count: u64, taken: Option<Heard>) -> bool
+fn is_stamp(count: u64, taken: Option<StampedLacpdu>) -> bool
     ensures { result ≡ is_stamp count taken }
 {
     match taken {
@@ -96,7 +96,7 @@ fn first_of_five(not_both: bool, defaults: bool, changed: bool, same: bool) -> A
 }
 
 /// How these two ends stand to each other.
-fn agreement_of(one: &EndView, two: &EndView) -> Agreement
+fn agreement_of(one: &EndFacts, two: &EndFacts) -> Agreement
     ensures { result ≡ agreement_of one.now two.now }
 {
     let both = one.distributes && two.distributes;
@@ -105,33 +105,33 @@ fn agreement_of(one: &EndView, two: &EndView) -> Agreement
     first_of_five(!both, defaults, !heard, same_groups(one.group, two.group))
 }
 
-impl<F: Fn(u16, usize) -> usize + Drop> End<F> {
+impl<F: Fn(u16, usize) -> usize + Drop> Half<F> {
     /// The values of a port that `agreement` compares.
-    fn end_view(&self, port: u16) -> EndView
-        ensures { result ≡ end_view (half_of self.now) port }
+    fn end_facts(&self, port: u16) -> EndFacts
+        ensures { result ≡ end_facts (half_state self.now) port }
     {
-        let log = log_of(&self.logs, port);
-        EndView {
+        let history = history_of(&self.histories, port);
+        EndFacts {
             distributes: self.system.distributes(port).unwrap_or(false),
             defaulted: self.system.defaulted(port).unwrap_or(false),
-            count: count_in(log),
-            taken: taken_in(log),
+            count: count_in(history),
+            taken: taken_in(history),
             group: self.system.group(port),
         }
     }
 }
 
-impl<C: Cable, F: Fn(u16, usize) -> usize + Drop> Core<C, F> {
+impl<C: Cable, F: Fn(u16, usize) -> usize + Drop> Inner<C, F> {
     /// How the ends of a cable stand to each other; None if there is no such cable.
     pub(crate) fn agreement(&self, cable: u16) -> Option<Agreement>
-        ensures { result ≡ agreement_at (joint_of C.items C.limit self.now) cable }
+        ensures { result ≡ agreement_at (world_state C.items C.limit self.now) cable }
     {
         if !self.has_cable(Some(cable)) {
             return None;
         }
-        let told = told_of(&self.lines, self.place_of(cable));
-        let one = self.one.end_view(told.one);
-        let two = self.two.end_view(told.two);
+        let status = link_status(&self.links, self.place_of(cable));
+        let one = self.one.end_facts(status.one);
+        let two = self.two.end_facts(status.two);
         Some(agreement_of(&one, &two))
     }
 }

@@ -1,7 +1,7 @@
 ghost use Rattle.std.specs.Prelude.{◌≡◌};
-ghost use Rattle.lagworld.specs.Events.{cable_named, system_named, first_cause, has_system};
+ghost use Rattle.lagworld.specs.Events.{cable_named, system_named, first_event_cause, has_system};
 ghost use Rattle.lagworld.specs.Messages.{side_named};
-ghost use Rattle.lagworld.specs.Sides.{told_side};
+ghost use Rattle.lagworld.specs.Sides.{model_side};
 
 use crate::fault::WorldFault;
 use lagscript::Event;
@@ -17,7 +17,7 @@ pub(crate) enum Side {
 
 /// System 1 for the number 1, else system 2; callers have refused every other number.
 pub(crate) fn side_named(number: u8) -> Side
-    ensures { told_side result ≡ side_named number }
+    ensures { model_side result ≡ side_named number }
 {
     if number == 1 { Side::One } else { Side::Two }
 }
@@ -76,8 +76,8 @@ pub(crate) fn has_system(number: Option<u8>) -> bool
 
 /// The first of three reasons to refuse an event; the arguments say whether the cable exists, whether the system
 /// exists, and whether no more events may act.
-pub(crate) fn first_cause(cable: bool, system: bool, spent: bool) -> Option<WorldFault>
-    ensures { result ≡ first_cause cable system spent }
+pub(crate) fn first_event_cause(cable: bool, system: bool, spent: bool) -> Option<WorldFault>
+    ensures { result ≡ first_event_cause cable system spent }
 {
     if !cable {
         return Some(WorldFault::NoCable);

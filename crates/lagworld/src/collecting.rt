@@ -1,9 +1,9 @@
 ghost use Rattle.std.specs.Prelude.{◌≡◌, OnOk, slice_get};
 ghost use Rattle.lagworld.specs.Arriving.{CanCollect, CanCollectAt, row_of};
-ghost use Rattle.lagworld.specs.Places.{flows_of};
+ghost use Rattle.lagworld.specs.Places.{all_serials};
 ghost use Rattle.lagworld.specs.State.{at_flow, set_serials, with_collected};
 
-use crate::logs::Flow;
+use crate::histories::Flow;
 use std::alloc::AllocError;
 
 /// Reserves a place for a serial number in a conversation's list of collected ones, in the conversations of an
@@ -25,7 +25,7 @@ pub(crate) fn reserve_collected(
     agg: u16,
     conv: u16,
 ) -> Result<(), AllocError>
-    ensures same { flows_of flows.new.items ≡ flows_of flows.old.items }
+    ensures same { all_serials flows.new.items ≡ all_serials flows.old.items }
     ensures room { OnOk result (CanCollectAt agg conv flows.new.items) }
 {
     let place = match usize::from(agg).checked_sub(1) {
@@ -54,7 +54,7 @@ fn collect_in(row: &mut Vec<Flow>, conv: usize, serial: u64)
 /// The same in the conversations of a system.
 pub(crate) fn collect(flows: &mut Vec<Vec<Flow>>, agg: u16, conv: u16, serial: u64)
     requires room { CanCollectAt agg conv flows.old.items }
-    ensures { flows_of flows.new.items ≡ at_flow (with_collected serial) agg conv (flows_of flows.old.items) }
+    ensures { all_serials flows.new.items ≡ at_flow (with_collected serial) agg conv (all_serials flows.old.items) }
 {
     let place = match usize::from(agg).checked_sub(1) {
         Some(place) => place,

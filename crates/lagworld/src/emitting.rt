@@ -2,23 +2,23 @@ ghost use Rattle.std.specs.Prelude.{◌≡◌, ◌≤◌, ◌+◌, [], length, I
 ghost use Rattle.slowpdu.specs.declared.pdu.Pdu.{Pdu};
 ghost use Rattle.slowpdu.specs.Pdus.{ReadsPdu};
 ghost use Rattle.slowpdu.specs.Readings.{pdu_in};
-ghost use Rattle.lagsystem.specs.Shown.{IsSent};
+ghost use Rattle.lagsystem.specs.ModelView.{IsSent};
 ghost use Rattle.lagworld.specs.declared.fault.WorldFault.TheVariants.{NoMemory as OutOfMemory};
-ghost use Rattle.lagworld.specs.Asking.{Transmits, TransmitsAs};
+ghost use Rattle.lagworld.specs.Asking.{HalfTransmits, WorldTransmits};
 ghost use Rattle.lagworld.specs.Events.{Emits, Emitted, sent_reply, stamp_for};
-ghost use Rattle.lagworld.specs.Joints.{joint_of};
-ghost use Rattle.lagworld.specs.Kept.{half_of};
+ghost use Rattle.lagworld.specs.WorldCalls.{world_state};
+ghost use Rattle.lagworld.specs.Inner.{half_state};
 ghost use Rattle.lagworld.specs.Messages.{payload_in, side_named};
 ghost use Rattle.lagworld.specs.Places.{IsReserved};
-ghost use Rattle.lagworld.specs.Sides.{told_side};
-ghost use Rattle.lagworld.specs.Sound.{gives_by};
-ghost use Rattle.lagworld.specs.State.{count_in, half, log_at};
+ghost use Rattle.lagworld.specs.Sides.{model_side};
+ghost use Rattle.lagworld.specs.Sound.{both_algorithms};
+ghost use Rattle.lagworld.specs.State.{count_in, half, history_at};
 
 use crate::causes::{Side, side_named};
 use crate::fault::WorldFault;
-use crate::half::End;
-use crate::kept::Core;
-use crate::logs::{PortLog, log_of};
+use crate::half::Half;
+use crate::histories::{PortHistory, history_of};
+use crate::inner::Inner;
 use crate::reply::Reply;
 use crate::sending::{put, reserve_on};
 use cables::{Cable, Item, Stamp};
@@ -53,22 +53,22 @@ fn stamp_for(pdu: Pdu, count: u64) -> Stamp
     }
 }
 
-/// The reply to `Emit` for a PDU that was sent. `kept`: whether the cable took it.
-fn sent_reply(pdu: Pdu, kept: bool) -> Reply
-    ensures { result ≡ sent_reply pdu kept }
+/// The reply to `Emit` for a PDU that was sent. `accepted`: whether the cable took it.
+fn sent_reply(pdu: Pdu, accepted: bool) -> Reply
+    ensures { result ≡ sent_reply pdu accepted }
 {
     match pdu {
-        Pdu::Lacpdu(lacpdu) => Reply::Lacpdu(lacpdu.actor.state, kept),
-        Pdu::Marker(marker) => Reply::Marker(marker.id, kept),
+        Pdu::Lacpdu(lacpdu) => Reply::Lacpdu(lacpdu.actor.state, accepted),
+        Pdu::Marker(marker) => Reply::Marker(marker.id, accepted),
     }
 }
 
 /// The change count of a port; 0 if there is no such port.
-fn count_of(logs: &[PortLog], port: u16) -> u64
-    ensures { result ≡ count_in (log_at logs.now port) }
+fn change_count(histories: &[PortHistory], port: u16) -> u64
+    ensures { result ≡ count_in (history_at histories.now port) }
 {
-    match log_of(logs, port) {
-        Some(log) => log.count,
+    match history_of(histories, port) {
+        Some(history) => history.count,
         None => 0,
     }
 }
@@ -86,22 +86,22 @@ pub(crate) fn filled(octets: Vec<u8>, frame: &[u8]) -> Vec<u8>
     }
 }
 
-impl<F: Fn(u16, usize) -> usize + Drop> End<F> {
+impl<F: Fn(u16, usize) -> usize + Drop> Half<F> {
     /// Returns the frame that is due on a port of this system.
     fn transmit(&mut self, port: u16) -> Result<Option<[u8; 124]>, SystemFault>
-        ensures transmits { Transmits (F.post self.old.system.algorithm) port result (half_of self.old) (half_of self.new) }
+        ensures transmits { HalfTransmits (F.post self.old.system.algorithm) port result (half_state self.old) (half_state self.new) }
         ensures algorithm { self.new.system.algorithm ≡ self.old.system.algorithm }
     {
         self.system.transmit(port)
     }
 }
 
-impl<C: Cable, F: Fn(u16, usize) -> usize + Drop> Core<C, F> {
+impl<C: Cable, F: Fn(u16, usize) -> usize + Drop> Inner<C, F> {
     /// Returns the frame that is due on a port of a system.
     fn transmit(&mut self, side: Side, port: u16) -> Result<Option<[u8; 124]>, SystemFault>
-        ensures transmits { TransmitsAs (gives_by (F.post self.old.one.system.algorithm) (F.post self.old.two.system.algorithm))
-            (told_side side) port result (joint_of C.items C.limit self.old) (joint_of C.items C.limit self.new) }
-        ensures lines { self.new.lines ≡ self.old.lines }
+        ensures transmits { WorldTransmits (both_algorithms (F.post self.old.one.system.algorithm) (F.post self.old.two.system.algorithm))
+            (model_side side) port result (world_state C.items C.limit self.old) (world_state C.items C.limit self.new) }
+        ensures links { self.new.links ≡ self.old.links }
         ensures acted { self.new.acted ≡ self.old.acted }
         ensures algorithm_one { self.new.one.system.algorithm ≡ self.old.one.system.algorithm }
         ensures algorithm_two { self.new.two.system.algorithm ≡ self.old.two.system.algorithm }
@@ -113,44 +113,44 @@ impl<C: Cable, F: Fn(u16, usize) -> usize + Drop> Core<C, F> {
     }
 
     /// The change count of a port of a system.
-    fn count_of(&self, side: Side, port: u16) -> u64
-        ensures { result ≡ count_in (log_at (half (told_side side) (joint_of C.items C.limit self.now)).logs port) }
+    fn change_count(&self, side: Side, port: u16) -> u64
+        ensures { result ≡ count_in (history_at (half (model_side side) (world_state C.items C.limit self.now)).histories port) }
     {
         match side {
-            Side::One => count_of(&self.one.logs, port),
-            Side::Two => count_of(&self.two.logs, port),
+            Side::One => change_count(&self.one.histories, port),
+            Side::Two => change_count(&self.two.histories, port),
         }
     }
 
     /// Sends a frame on a port of a system.
     fn send(&mut self, side: Side, port: u16, frame: &[u8; 124], octets: Vec<u8>) -> Reply
         requires sent { (v : Pdu) × IsSent frame.now v }
-        requires place { IsReserved C.items C.limit C.reserved (told_side side) port self.old.lines.items }
+        requires place { IsReserved C.items C.limit C.reserved (model_side side) port self.old.links.items }
         requires empty { octets.items ≡ [] }
         requires room { vec_len octets + 124 ≤ vec_capacity octets }
-        ensures emitted { Emitted (told_side side) port (Ok (Some frame.now)) (joint_of C.items C.limit self.old) result
-            (joint_of C.items C.limit self.new) }
+        ensures emitted { Emitted (model_side side) port (Ok (Some frame.now)) (world_state C.items C.limit self.old) result
+            (world_state C.items C.limit self.new) }
         ensures acted { self.new.acted ≡ self.old.acted }
         ensures algorithm_one { self.new.one.system.algorithm ≡ self.old.one.system.algorithm }
         ensures algorithm_two { self.new.two.system.algorithm ≡ self.old.two.system.algorithm }
     {
         let pdu = pdu_of(frame);
-        let count = self.count_of(side, port);
+        let count = self.change_count(side, port);
         let item = Item {
             bytes: filled(octets, frame),
             stamp: stamp_for(pdu, count),
         };
-        let kept = put(&mut self.lines, side, port, item);
-        sent_reply(pdu, kept)
+        let accepted = put(&mut self.links, side, port, item);
+        sent_reply(pdu, accepted)
     }
 
     /// Sends what is due on a port of a system. The places that this needs are reserved.
     fn emit_due(&mut self, side: Side, port: u16, octets: Vec<u8>) -> Reply
-        requires place { IsReserved C.items C.limit C.reserved (told_side side) port self.old.lines.items }
+        requires place { IsReserved C.items C.limit C.reserved (model_side side) port self.old.links.items }
         requires empty { octets.items ≡ [] }
         requires room { vec_len octets + 124 ≤ vec_capacity octets }
-        ensures emits { Emits (gives_by (F.post self.old.one.system.algorithm) (F.post self.old.two.system.algorithm)) (told_side side) port
-            (joint_of C.items C.limit self.old) result (joint_of C.items C.limit self.new) }
+        ensures emits { Emits (both_algorithms (F.post self.old.one.system.algorithm) (F.post self.old.two.system.algorithm)) (model_side side) port
+            (world_state C.items C.limit self.old) result (world_state C.items C.limit self.new) }
         ensures acted { self.new.acted ≡ self.old.acted }
         ensures algorithm_one { self.new.one.system.algorithm ≡ self.old.one.system.algorithm }
         ensures algorithm_two { self.new.two.system.algorithm ≡ self.old.two.system.algorithm }
@@ -164,17 +164,17 @@ impl<C: Cable, F: Fn(u16, usize) -> usize + Drop> Core<C, F> {
 
     /// Sends what is due on a port of a system.
     pub(crate) fn emit(&mut self, system: u8, port: u16) -> Result<Reply, WorldFault>
-        ensures emits { IfOk result (λ reply. Emits (gives_by (F.post self.old.one.system.algorithm) (F.post self.old.two.system.algorithm))
-            (side_named system) port (joint_of C.items C.limit self.old) reply (joint_of C.items C.limit self.new)) }
+        ensures emits { IfOk result (λ reply. Emits (both_algorithms (F.post self.old.one.system.algorithm) (F.post self.old.two.system.algorithm))
+            (side_named system) port (world_state C.items C.limit self.old) reply (world_state C.items C.limit self.new)) }
         ensures refused { IfErr result (λ fault. fault ≡ OutOfMemory) }
-        ensures unchanged { IfErr result (λ fault. joint_of C.items C.limit self.new ≡ joint_of C.items C.limit self.old) }
+        ensures unchanged { IfErr result (λ fault. world_state C.items C.limit self.new ≡ world_state C.items C.limit self.old) }
         ensures acted { self.new.acted ≡ self.old.acted }
         ensures algorithm_one { self.new.one.system.algorithm ≡ self.old.one.system.algorithm }
         ensures algorithm_two { self.new.two.system.algorithm ≡ self.old.two.system.algorithm }
     {
         let side = side_named(system);
         let octets = Vec::with_capacity(self.alloc, FRAME_LEN)?;
-        reserve_on(&mut self.lines, side, port)?;
+        reserve_on(&mut self.links, side, port)?;
         Ok(self.emit_due(side, port, octets))
     }
 }

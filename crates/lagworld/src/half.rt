@@ -1,24 +1,24 @@
 ghost use Rattle.std.specs.Prelude.{◌≡◌, ℕ, Bool};
-ghost use Rattle.lagworld.specs.Kept.{half_of};
-ghost use Rattle.lagworld.specs.Calls.{Ticks, Senses, Configures, Restarts, Moves, Forces};
+ghost use Rattle.lagworld.specs.Inner.{half_state};
+ghost use Rattle.lagworld.specs.HalfCalls.{HalfTicks, HalfSenses, HalfConfigures, HalfRestarts, HalfMoves, HalfForces};
 
-use crate::logs::{Flow, PortLog};
+use crate::histories::{Flow, PortHistory};
 use crate::reply::Reply;
 use lagsystem::{PortChange, System};
 use lagtypes::AggId;
 
 /// One system, with the logs of its ports and the records of its conversations.
 #[derive(Drop)]
-pub(crate) struct End<F> {
+pub(crate) struct Half<F> {
     pub(crate) system: System<F>,
-    pub(crate) logs: Vec<PortLog>,
+    pub(crate) histories: Vec<PortHistory>,
     pub(crate) flows: Vec<Vec<Flow>>,
 }
 
-impl<F: Fn(u16, usize) -> usize + Drop> End<F> {
+impl<F: Fn(u16, usize) -> usize + Drop> Half<F> {
     /// Ticks the system this many times; a tick is 100 ms.
     pub(crate) fn tick(&mut self, count: u16)
-        ensures ticks { Ticks (F.post self.old.system.algorithm) count (half_of self.old) (half_of self.new) }
+        ensures ticks { HalfTicks (F.post self.old.system.algorithm) count (half_state self.old) (half_state self.new) }
         ensures algorithm { self.new.system.algorithm ≡ self.old.system.algorithm }
     {
         let mut done = 0;
@@ -30,7 +30,7 @@ impl<F: Fn(u16, usize) -> usize + Drop> End<F> {
 
     /// Tells the system that the link of a port is up or down.
     pub(crate) fn sense(&mut self, port: u16, up: bool) -> Reply
-        ensures senses { Senses (F.post self.old.system.algorithm) port up (half_of self.old) result (half_of self.new) }
+        ensures senses { HalfSenses (F.post self.old.system.algorithm) port up (half_state self.old) result (half_state self.new) }
         ensures algorithm { self.new.system.algorithm ≡ self.old.system.algorithm }
     {
         match self.system.set_link(port, up) {
@@ -41,7 +41,7 @@ impl<F: Fn(u16, usize) -> usize + Drop> End<F> {
 
     /// Moves a conversation to a port.
     pub(crate) fn move_to(&mut self, agg: AggId, conv: u16, port: u16) -> Reply
-        ensures moves { Moves (F.post self.old.system.algorithm) agg conv port (half_of self.old) result (half_of self.new) }
+        ensures moves { HalfMoves (F.post self.old.system.algorithm) agg conv port (half_state self.old) result (half_state self.new) }
         ensures algorithm { self.new.system.algorithm ≡ self.old.system.algorithm }
     {
         match self.system.move_conversation(agg, conv, port) {

@@ -8,23 +8,23 @@
 #![tactic(auto)]
 
 mod agreement;
-mod arriving;
 mod causes;
+mod changes;
 mod collecting;
-mod counting;
+mod delivering;
 mod emitting;
 mod fault;
 mod half;
-mod kept;
+mod histories;
+mod inner;
 mod laws;
-mod line;
-mod logs;
+mod link;
 mod losing;
 mod offering;
 mod readers;
 mod reply;
 mod sending;
-mod sent;
+mod serials;
 mod start;
 mod world;
 

@@ -1,15 +1,15 @@
 ghost use Rattle.std.specs.Prelude.{◌≡◌, ◌<◌, Some, drop, is_some, length, map, slice_get, slice_set, true, IsSomeAnd};
-ghost use Rattle.lagworld.specs.Asking.{LosesAs, lost_reply, without_first};
+ghost use Rattle.lagworld.specs.Asking.{WorldLoses, lost_reply, without_first};
 ghost use Rattle.lagworld.specs.Events.{has_cable};
-ghost use Rattle.lagworld.specs.Joints.{joint_of};
-ghost use Rattle.lagworld.specs.Kept.{line_of, lines_of};
+ghost use Rattle.lagworld.specs.WorldCalls.{world_state};
+ghost use Rattle.lagworld.specs.Inner.{link_state, link_states};
 ghost use Rattle.lagworld.specs.Messages.{carried, side_named};
-ghost use Rattle.lagworld.specs.Sides.{told_side};
+ghost use Rattle.lagworld.specs.Sides.{model_side};
 ghost use Rattle.lagworld.specs.State.{towards};
 
 use crate::causes::{Side, side_named};
-use crate::kept::Core;
-use crate::line::Line;
+use crate::inner::Inner;
+use crate::link::Link;
 use crate::reply::Reply;
 use cables::Cable;
 
@@ -22,11 +22,11 @@ fn lose_first<C: Cable>(cable: &mut C) -> bool
     cable.pop().is_some()
 }
 
-impl<C: Cable> Line<C> {
+impl<C: Cable> Link<C> {
     /// Loses the first item on this cable towards a system; returns whether there was one.
     fn lose(&mut self, side: Side) -> bool
-        ensures rest { line_of C.items C.limit self.new ≡ without_first (told_side side) (line_of C.items C.limit self.old) }
-        ensures lost { result ≡ is_some (slice_get (towards (told_side side) (line_of C.items C.limit self.old)) 0) }
+        ensures rest { link_state C.items C.limit self.new ≡ without_first (model_side side) (link_state C.items C.limit self.old) }
+        ensures lost { result ≡ is_some (slice_get (towards (model_side side) (link_state C.items C.limit self.old)) 0) }
     {
         match side {
             Side::One => lose_first(&mut self.to_one),
@@ -36,13 +36,13 @@ impl<C: Cable> Line<C> {
 }
 
 /// Loses the first item towards a system on the cable at an index; returns whether there was one.
-fn lose_at<C: Cable>(lines: &mut Vec<Line<C>>, place: usize, side: Side) -> bool
-    requires { place < length lines.old.items }
-    ensures { IsSomeAnd (slice_get (lines_of C.items C.limit lines.old.items) place)
-        (λ l. (lines_of C.items C.limit lines.new.items ≡ slice_set (lines_of C.items C.limit lines.old.items) place
-        (without_first (told_side side) l)) × (result ≡ is_some (slice_get (towards (told_side side) l) 0))) }
+fn lose_at<C: Cable>(links: &mut Vec<Link<C>>, place: usize, side: Side) -> bool
+    requires { place < length links.old.items }
+    ensures { IsSomeAnd (slice_get (link_states C.items C.limit links.old.items) place)
+        (λ l. (link_states C.items C.limit links.new.items ≡ slice_set (link_states C.items C.limit links.old.items) place
+        (without_first (model_side side) l)) × (result ≡ is_some (slice_get (towards (model_side side) l) 0))) }
 {
-    let line = &mut lines[place];
+    let line = &mut links[place];
     line.lose(side)
 }
 
@@ -53,17 +53,17 @@ fn lost_reply(lost: bool) -> Reply
     if lost { Reply::Lost } else { Reply::Empty }
 }
 
-impl<C: Cable, F: Fn(u16, usize) -> usize + Drop> Core<C, F> {
+impl<C: Cable, F: Fn(u16, usize) -> usize + Drop> Inner<C, F> {
     /// Loses the first item on a cable towards a system.
     pub(crate) fn lose(&mut self, cable: u16, system: u8) -> Reply
-        requires there { has_cable (joint_of C.items C.limit self.old) (Some cable) ≡ true }
-        ensures loses { LosesAs (side_named system) cable (joint_of C.items C.limit self.old) result (joint_of C.items C.limit self.new) }
+        requires there { has_cable (world_state C.items C.limit self.old) (Some cable) ≡ true }
+        ensures loses { WorldLoses (side_named system) cable (world_state C.items C.limit self.old) result (world_state C.items C.limit self.new) }
         ensures acted { self.new.acted ≡ self.old.acted }
         ensures algorithm_one { self.new.one.system.algorithm ≡ self.old.one.system.algorithm }
         ensures algorithm_two { self.new.two.system.algorithm ≡ self.old.two.system.algorithm }
     {
         let side = side_named(system);
         let place = self.place_of(cable);
-        lost_reply(lose_at(&mut self.lines, place, side))
+        lost_reply(lose_at(&mut self.links, place, side))
     }
 }

@@ -1,25 +1,25 @@
 ghost use Rattle.std.specs.Prelude.{◌≡◌, ◌<◌, ◌≤◌, IfErr, IfOk, IsSome, Ok, OnOk, length};
 ghost use Rattle.distributor.specs.Calls.{PicksPlaces};
-ghost use Rattle.lagsystem.specs.Readers.{conversation_of, conversations};
+ghost use Rattle.lagsystem.specs.Readers.{number_of_conversation, conversation_count};
 ghost use Rattle.lagworld.specs.declared.fault.WorldFault.TheVariants.{NoMemory as OutOfMemory};
-ghost use Rattle.lagworld.specs.Asking.{Assigns, AssignsAs, ForcesAs, Frees, count_sent_in};
-ghost use Rattle.lagworld.specs.Calls.{Forces};
-ghost use Rattle.lagworld.specs.Events.{Offered, Offers};
-ghost use Rattle.lagworld.specs.Joints.{joint_of};
-ghost use Rattle.lagworld.specs.Kept.{half_of};
+ghost use Rattle.lagworld.specs.Asking.{HalfAssigns, WorldAssigns, WorldForces, HalfFrees, count_sent_in};
+ghost use Rattle.lagworld.specs.HalfCalls.{HalfForces};
+ghost use Rattle.lagworld.specs.Events.{Offered, OffersFrame};
+ghost use Rattle.lagworld.specs.WorldCalls.{world_state};
+ghost use Rattle.lagworld.specs.Inner.{half_state};
 ghost use Rattle.lagworld.specs.Messages.{side_named, side_number};
 ghost use Rattle.lagworld.specs.Places.{AreReserved, HasRoom};
-ghost use Rattle.lagworld.specs.Sides.{told_side};
-ghost use Rattle.lagworld.specs.Sound.{IsSound, gives_by};
+ghost use Rattle.lagworld.specs.Sides.{model_side};
+ghost use Rattle.lagworld.specs.Sound.{IsSound, both_algorithms};
 ghost use Rattle.lagworld.specs.State.{half, pick, sent_in, serials_at, with_half};
 
 use crate::causes::{Side, side_named};
 use crate::fault::WorldFault;
-use crate::half::End;
-use crate::kept::Core;
+use crate::half::Half;
+use crate::inner::Inner;
 use crate::reply::Reply;
 use crate::sending::{put, reserve_all};
-use crate::sent::{count_forced, count_sent, reserve_serial};
+use crate::serials::{count_forced, count_sent, reserve_serial};
 use cables::{Cable, Item, Stamp};
 use lagsystem::SystemFault;
 use lagtypes::AggId;
@@ -27,7 +27,7 @@ use std::alloc::AllocError;
 
 /// The number of a system.
 fn side_number(side: Side) -> u8
-    ensures { result ≡ side_number (told_side side) }
+    ensures { result ≡ side_number (model_side side) }
 {
     match side {
         Side::One => 1,
@@ -35,11 +35,11 @@ fn side_number(side: Side) -> u8
     }
 }
 
-impl<F: Fn(u16, usize) -> usize + Drop> End<F> {
+impl<F: Fn(u16, usize) -> usize + Drop> Half<F> {
     /// The conversation of a frame, 0 to 255; 0 if the frame has fewer than 14 octets.
     fn conversation(&self, frame: &[u8]) -> u16
-        ensures is { 14 ≤ length frame.now → result ≡ conversation_of self.now.system.state frame.now }
-        ensures within { result < conversations self.now.system.state }
+        ensures is { 14 ≤ length frame.now → result ≡ number_of_conversation self.now.system.state frame.now }
+        ensures within { result < conversation_count self.now.system.state }
     {
         match self.system.conversation(frame) {
             Some(conv) => conv,
@@ -50,7 +50,7 @@ impl<F: Fn(u16, usize) -> usize + Drop> End<F> {
     /// The port of this system to send a frame on, in an aggregator.
     fn assign(&mut self, agg: AggId, frame: &[u8]) -> Result<u16, SystemFault>
         requires { PicksPlaces (F.pre self.old.system.algorithm) (F.post self.old.system.algorithm) }
-        ensures assigns { Assigns (F.post self.old.system.algorithm) agg frame.now result (half_of self.old) (half_of self.new) }
+        ensures assigns { HalfAssigns (F.post self.old.system.algorithm) agg frame.now result (half_state self.old) (half_state self.new) }
         ensures flows { self.new.flows ≡ self.old.flows }
         ensures algorithm { self.new.system.algorithm ≡ self.old.system.algorithm }
     {
@@ -59,7 +59,7 @@ impl<F: Fn(u16, usize) -> usize + Drop> End<F> {
 
     /// Frees a conversation of an aggregator of this system at once.
     fn free(&mut self, agg: AggId, conv: u16) -> Result<(), SystemFault>
-        ensures frees { Frees (F.post self.old.system.algorithm) agg conv result (half_of self.old) (half_of self.new) }
+        ensures frees { HalfFrees (F.post self.old.system.algorithm) agg conv result (half_state self.old) (half_state self.new) }
         ensures algorithm { self.new.system.algorithm ≡ self.old.system.algorithm }
     {
         self.system.force(agg, conv)
@@ -67,7 +67,7 @@ impl<F: Fn(u16, usize) -> usize + Drop> End<F> {
 
     /// Frees a conversation of an aggregator at once; it counts as forced from then on, unless the system refuses.
     fn force(&mut self, agg: AggId, conv: u16) -> Reply
-        ensures forces { Forces (F.post self.old.system.algorithm) agg conv (half_of self.old) result (half_of self.new) }
+        ensures forces { HalfForces (F.post self.old.system.algorithm) agg conv (half_state self.old) result (half_state self.new) }
         ensures algorithm { self.new.system.algorithm ≡ self.old.system.algorithm }
     {
         match self.free(agg, conv) {
@@ -80,11 +80,11 @@ impl<F: Fn(u16, usize) -> usize + Drop> End<F> {
     }
 }
 
-impl<C: Cable, F: Fn(u16, usize) -> usize + Drop> Core<C, F> {
+impl<C: Cable, F: Fn(u16, usize) -> usize + Drop> Inner<C, F> {
     /// Frees a conversation of a system at once.
     pub(crate) fn force(&mut self, system: u8, agg: AggId, conv: u16) -> Reply
-        ensures forces { ForcesAs (gives_by (F.post self.old.one.system.algorithm) (F.post self.old.two.system.algorithm))
-            (side_named system) agg conv (joint_of C.items C.limit self.old) result (joint_of C.items C.limit self.new) }
+        ensures forces { WorldForces (both_algorithms (F.post self.old.one.system.algorithm) (F.post self.old.two.system.algorithm))
+            (side_named system) agg conv (world_state C.items C.limit self.old) result (world_state C.items C.limit self.new) }
         ensures acted { self.new.acted ≡ self.old.acted }
         ensures algorithm_one { self.new.one.system.algorithm ≡ self.old.one.system.algorithm }
         ensures algorithm_two { self.new.two.system.algorithm ≡ self.old.two.system.algorithm }
@@ -97,9 +97,9 @@ impl<C: Cable, F: Fn(u16, usize) -> usize + Drop> Core<C, F> {
 
     /// The conversation of a frame in a system.
     fn conversation(&self, side: Side, frame: &[u8]) -> u16
-        ensures is { 14 ≤ length frame.now → result ≡ conversation_of
-            (half (told_side side) (joint_of C.items C.limit self.now)).state frame.now }
-        ensures within { result < conversations (half (told_side side) (joint_of C.items C.limit self.now)).state }
+        ensures is { 14 ≤ length frame.now → result ≡ number_of_conversation
+            (half (model_side side) (world_state C.items C.limit self.now)).state frame.now }
+        ensures within { result < conversation_count (half (model_side side) (world_state C.items C.limit self.now)).state }
     {
         match side {
             Side::One => self.one.conversation(frame),
@@ -111,9 +111,9 @@ impl<C: Cable, F: Fn(u16, usize) -> usize + Drop> Core<C, F> {
     fn assign(&mut self, side: Side, agg: AggId, frame: &[u8]) -> Result<u16, SystemFault>
         requires one { PicksPlaces (F.pre self.old.one.system.algorithm) (F.post self.old.one.system.algorithm) }
         requires two { PicksPlaces (F.pre self.old.two.system.algorithm) (F.post self.old.two.system.algorithm) }
-        ensures assigns { AssignsAs (gives_by (F.post self.old.one.system.algorithm) (F.post self.old.two.system.algorithm))
-            (told_side side) agg frame.now result (joint_of C.items C.limit self.old) (joint_of C.items C.limit self.new) }
-        ensures lines { self.new.lines ≡ self.old.lines }
+        ensures assigns { WorldAssigns (both_algorithms (F.post self.old.one.system.algorithm) (F.post self.old.two.system.algorithm))
+            (model_side side) agg frame.now result (world_state C.items C.limit self.old) (world_state C.items C.limit self.new) }
+        ensures links { self.new.links ≡ self.old.links }
         ensures flows_one { self.new.one.flows ≡ self.old.one.flows }
         ensures flows_two { self.new.two.flows ≡ self.old.two.flows }
         ensures acted { self.new.acted ≡ self.old.acted }
@@ -128,9 +128,9 @@ impl<C: Cable, F: Fn(u16, usize) -> usize + Drop> Core<C, F> {
 
     /// Reserves a place for the next serial number of a conversation of a system, if the conversation exists.
     fn reserve_serial(&mut self, side: Side, agg: AggId, conv: u16) -> Result<(), AllocError>
-        ensures same { joint_of C.items C.limit self.new ≡ joint_of C.items C.limit self.old }
-        ensures ok { OnOk result (HasRoom agg.0 conv (pick (told_side side) self.new.one.flows.items self.new.two.flows.items)) }
-        ensures lines { self.new.lines ≡ self.old.lines }
+        ensures same { world_state C.items C.limit self.new ≡ world_state C.items C.limit self.old }
+        ensures ok { OnOk result (HasRoom agg.0 conv (pick (model_side side) self.new.one.flows.items self.new.two.flows.items)) }
+        ensures links { self.new.links ≡ self.old.links }
         ensures acted { self.new.acted ≡ self.old.acted }
         ensures algorithm_one { self.new.one.system.algorithm ≡ self.old.one.system.algorithm }
         ensures algorithm_two { self.new.two.system.algorithm ≡ self.old.two.system.algorithm }
@@ -143,11 +143,11 @@ impl<C: Cable, F: Fn(u16, usize) -> usize + Drop> Core<C, F> {
 
     /// Records that a conversation of a system sends one more frame; returns the serial number of that frame.
     fn count_sent(&mut self, side: Side, agg: AggId, conv: u16) -> u64
-        requires { HasRoom agg.0 conv (pick (told_side side) self.old.one.flows.items self.old.two.flows.items) }
-        ensures serial { result ≡ length (sent_in (serials_at (half (told_side side) (joint_of C.items C.limit self.old)).flows agg.0 conv)) }
-        ensures sent { joint_of C.items C.limit self.new ≡ with_half (told_side side)
-            (count_sent_in agg.0 conv (half (told_side side) (joint_of C.items C.limit self.old))) (joint_of C.items C.limit self.old) }
-        ensures lines { self.new.lines ≡ self.old.lines }
+        requires { HasRoom agg.0 conv (pick (model_side side) self.old.one.flows.items self.old.two.flows.items) }
+        ensures serial { result ≡ length (sent_in (serials_at (half (model_side side) (world_state C.items C.limit self.old)).flows agg.0 conv)) }
+        ensures sent { world_state C.items C.limit self.new ≡ with_half (model_side side)
+            (count_sent_in agg.0 conv (half (model_side side) (world_state C.items C.limit self.old))) (world_state C.items C.limit self.old) }
+        ensures links { self.new.links ≡ self.old.links }
         ensures acted { self.new.acted ≡ self.old.acted }
         ensures algorithm_one { self.new.one.system.algorithm ≡ self.old.one.system.algorithm }
         ensures algorithm_two { self.new.two.system.algorithm ≡ self.old.two.system.algorithm }
@@ -167,12 +167,12 @@ impl<C: Cable, F: Fn(u16, usize) -> usize + Drop> Core<C, F> {
         conv: u16,
         octets: Vec<u8>,
     ) -> Reply
-        requires conversation { conv ≡ conversation_of (half (told_side side) (joint_of C.items C.limit self.old)).state octets.items }
-        requires there { IsSome (serials_at (half (told_side side) (joint_of C.items C.limit self.old)).flows agg.0 conv) }
-        requires place { AreReserved C.reserved (told_side side) self.old.lines.items }
-        requires room { HasRoom agg.0 conv (pick (told_side side) self.old.one.flows.items self.old.two.flows.items) }
-        ensures offered { Offered (told_side side) agg octets.items (Ok port) (joint_of C.items C.limit self.old) result
-            (joint_of C.items C.limit self.new) }
+        requires conversation { conv ≡ number_of_conversation (half (model_side side) (world_state C.items C.limit self.old)).state octets.items }
+        requires there { IsSome (serials_at (half (model_side side) (world_state C.items C.limit self.old)).flows agg.0 conv) }
+        requires place { AreReserved C.reserved (model_side side) self.old.links.items }
+        requires room { HasRoom agg.0 conv (pick (model_side side) self.old.one.flows.items self.old.two.flows.items) }
+        ensures offered { Offered (model_side side) agg octets.items (Ok port) (world_state C.items C.limit self.old) result
+            (world_state C.items C.limit self.new) }
         ensures acted { self.new.acted ≡ self.old.acted }
         ensures algorithm_one { self.new.one.system.algorithm ≡ self.old.one.system.algorithm }
         ensures algorithm_two { self.new.two.system.algorithm ≡ self.old.two.system.algorithm }
@@ -188,22 +188,22 @@ impl<C: Cable, F: Fn(u16, usize) -> usize + Drop> Core<C, F> {
             bytes: octets,
             stamp,
         };
-        let kept = put(&mut self.lines, side, port, item);
-        Reply::Port(port, serial, kept)
+        let accepted = put(&mut self.links, side, port, item);
+        Reply::Port(port, serial, accepted)
     }
 
     /// Offers a frame to a system. The places that this needs are reserved.
     fn offer_reserved(&mut self, side: Side, agg: AggId, conv: u16, octets: Vec<u8>) -> Reply
         requires one { PicksPlaces (F.pre self.old.one.system.algorithm) (F.post self.old.one.system.algorithm) }
         requires two { PicksPlaces (F.pre self.old.two.system.algorithm) (F.post self.old.two.system.algorithm) }
-        requires sound { IsSound (joint_of C.items C.limit self.old) }
+        requires sound { IsSound (world_state C.items C.limit self.old) }
         requires conversation { 14 ≤ length octets.items → conv
-            ≡ conversation_of (half (told_side side) (joint_of C.items C.limit self.old)).state octets.items }
-        requires below { conv < conversations (half (told_side side) (joint_of C.items C.limit self.old)).state }
-        requires place { AreReserved C.reserved (told_side side) self.old.lines.items }
-        requires room { HasRoom agg.0 conv (pick (told_side side) self.old.one.flows.items self.old.two.flows.items) }
-        ensures offers { Offers (gives_by (F.post self.old.one.system.algorithm) (F.post self.old.two.system.algorithm))
-            (told_side side) agg octets.items (joint_of C.items C.limit self.old) result (joint_of C.items C.limit self.new) }
+            ≡ number_of_conversation (half (model_side side) (world_state C.items C.limit self.old)).state octets.items }
+        requires below { conv < conversation_count (half (model_side side) (world_state C.items C.limit self.old)).state }
+        requires place { AreReserved C.reserved (model_side side) self.old.links.items }
+        requires room { HasRoom agg.0 conv (pick (model_side side) self.old.one.flows.items self.old.two.flows.items) }
+        ensures offers { OffersFrame (both_algorithms (F.post self.old.one.system.algorithm) (F.post self.old.two.system.algorithm))
+            (model_side side) agg octets.items (world_state C.items C.limit self.old) result (world_state C.items C.limit self.new) }
         ensures acted { self.new.acted ≡ self.old.acted }
         ensures algorithm_one { self.new.one.system.algorithm ≡ self.old.one.system.algorithm }
         ensures algorithm_two { self.new.two.system.algorithm ≡ self.old.two.system.algorithm }
@@ -223,12 +223,12 @@ impl<C: Cable, F: Fn(u16, usize) -> usize + Drop> Core<C, F> {
     ) -> Result<Reply, WorldFault>
         requires one { PicksPlaces (F.pre self.old.one.system.algorithm) (F.post self.old.one.system.algorithm) }
         requires two { PicksPlaces (F.pre self.old.two.system.algorithm) (F.post self.old.two.system.algorithm) }
-        requires sound { IsSound (joint_of C.items C.limit self.old) }
-        ensures offers { IfOk result (λ reply. Offers (gives_by (F.post self.old.one.system.algorithm)
-            (F.post self.old.two.system.algorithm)) (side_named system) agg frame.now.items (joint_of C.items C.limit self.old) reply
-            (joint_of C.items C.limit self.new)) }
+        requires sound { IsSound (world_state C.items C.limit self.old) }
+        ensures offers { IfOk result (λ reply. OffersFrame (both_algorithms (F.post self.old.one.system.algorithm)
+            (F.post self.old.two.system.algorithm)) (side_named system) agg frame.now.items (world_state C.items C.limit self.old) reply
+            (world_state C.items C.limit self.new)) }
         ensures refused { IfErr result (λ fault. fault ≡ OutOfMemory) }
-        ensures unchanged { IfErr result (λ fault. joint_of C.items C.limit self.new ≡ joint_of C.items C.limit self.old) }
+        ensures unchanged { IfErr result (λ fault. world_state C.items C.limit self.new ≡ world_state C.items C.limit self.old) }
         ensures acted { self.new.acted ≡ self.old.acted }
         ensures algorithm_one { self.new.one.system.algorithm ≡ self.old.one.system.algorithm }
         ensures algorithm_two { self.new.two.system.algorithm ≡ self.old.two.system.algorithm }
@@ -236,7 +236,7 @@ impl<C: Cable, F: Fn(u16, usize) -> usize + Drop> Core<C, F> {
         let side = side_named(system);
         let octets = Vec::from_slice(self.alloc, frame.as_slice())?;
         let conv = self.conversation(side, octets.as_slice());
-        reserve_all(&mut self.lines, side)?;
+        reserve_all(&mut self.links, side)?;
         self.reserve_serial(side, agg, conv)?;
         Ok(self.offer_reserved(side, agg, conv, octets))
     }

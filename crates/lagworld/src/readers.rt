@@ -2,14 +2,14 @@ ghost use Rattle.std.specs.Prelude.{◌≡◌, ◌≢◌, None, Some, MatchOptio
 ghost use Rattle.lagworld.specs.declared.agreement.Agreement.TheVariants.{Differ};
 ghost use Rattle.lagworld.specs.Agreement.{agreement_at};
 ghost use Rattle.lagworld.specs.Events.{side_of};
-ghost use Rattle.lagworld.specs.Joints.{joint_of};
-ghost use Rattle.lagworld.specs.Kept.{serials_of};
+ghost use Rattle.lagworld.specs.WorldCalls.{world_state};
+ghost use Rattle.lagworld.specs.Inner.{serials_of};
 ghost use Rattle.lagworld.specs.Readers.{serials_of_system, system_at};
 ghost use Rattle.lagworld.specs.State.{collected_in, forced_in, sent_in, serials_at};
 
 use crate::agreement::Agreement;
-use crate::kept::Core;
-use crate::logs::Flow;
+use crate::histories::Flow;
+use crate::inner::Inner;
 use crate::world::World;
 use cables::Cable;
 use lagsystem::System;
@@ -35,11 +35,11 @@ fn flow_at(flows: &[Vec<Flow>], agg: AggId, conv: u16) -> Option<&Flow>
     Some(&row[conv])
 }
 
-impl<C: Cable, F: Fn(u16, usize) -> usize + Drop> Core<C, F> {
+impl<C: Cable, F: Fn(u16, usize) -> usize + Drop> Inner<C, F> {
     /// The record of a conversation of an aggregator of a system.
     fn flow(&self, system: u8, agg: AggId, conv: u16) -> Option<&Flow>
-        ensures { MatchOption result (serials_of_system (side_of system) agg.0 conv (joint_of C.items C.limit self.now) ≡ None)
-            (λ flow. serials_of_system (side_of system) agg.0 conv (joint_of C.items C.limit self.now) ≡ Some (serials_of flow.now)) }
+        ensures { MatchOption result (serials_of_system (side_of system) agg.0 conv (world_state C.items C.limit self.now) ≡ None)
+            (λ flow. serials_of_system (side_of system) agg.0 conv (world_state C.items C.limit self.now) ≡ Some (serials_of flow.now)) }
     {
         if system == 1 {
             return flow_at(&self.one.flows, agg, conv);
@@ -55,18 +55,18 @@ impl<C: Cable, F: Fn(u16, usize) -> usize + Drop> World<C, F> {
     /// How the two ends of a cable stand to each other; None if there is no such cable. It is never `Differ` (6.3.6;
     /// profile).
     pub fn agreement(&self, cable: u16) -> Option<Agreement>
-        ensures exact { result ≡ agreement_at self.now.joint cable }
+        ensures exact { result ≡ agreement_at self.now.state cable }
         ensures never { result ≢ Some Differ }
     {
-        self.core.agreement(cable)
+        self.inner.agreement(cable)
     }
 
     /// The serial numbers of the frames that a conversation of a system sent, lost ones too: 0, 1, 2 and so on. Empty
     /// if there is no such system, aggregator or conversation (profile).
     pub fn sent(&self, system: u8, agg: AggId, conv: u16) -> &[u64]
-        ensures { result.now ≡ sent_in (serials_of_system (side_of system) agg.0 conv self.now.joint) }
+        ensures { result.now ≡ sent_in (serials_of_system (side_of system) agg.0 conv self.now.state) }
     {
-        match self.core.flow(system, agg, conv) {
+        match self.inner.flow(system, agg, conv) {
             Some(flow) => &flow.sent,
             None => &[],
         }
@@ -75,9 +75,9 @@ impl<C: Cable, F: Fn(u16, usize) -> usize + Drop> World<C, F> {
     /// The serial numbers of this conversation's frames that the other system handed up, in that order. Empty if there
     /// is no such system, aggregator or conversation (profile).
     pub fn collected(&self, system: u8, agg: AggId, conv: u16) -> &[u64]
-        ensures { result.now ≡ collected_in (serials_of_system (side_of system) agg.0 conv self.now.joint) }
+        ensures { result.now ≡ collected_in (serials_of_system (side_of system) agg.0 conv self.now.state) }
     {
-        match self.core.flow(system, agg, conv) {
+        match self.inner.flow(system, agg, conv) {
             Some(flow) => &flow.collected,
             None => &[],
         }
@@ -86,9 +86,9 @@ impl<C: Cable, F: Fn(u16, usize) -> usize + Drop> World<C, F> {
     /// Whether a `Force` event for the conversation was ever accepted. False if there is no such system, aggregator or
     /// conversation (profile).
     pub fn forced(&self, system: u8, agg: AggId, conv: u16) -> bool
-        ensures { result ≡ forced_in (serials_of_system (side_of system) agg.0 conv self.now.joint) }
+        ensures { result ≡ forced_in (serials_of_system (side_of system) agg.0 conv self.now.state) }
     {
-        match self.core.flow(system, agg, conv) {
+        match self.inner.flow(system, agg, conv) {
             Some(flow) => flow.forced,
             None => false,
         }
@@ -100,8 +100,8 @@ impl<C: Cable, F: Fn(u16, usize) -> usize + Drop> World<C, F> {
             (λ found. system_at (side_of system) self.now ≡ Some found.now) }
     {
         match system {
-            1 => Some(&self.core.one.system),
-            2 => Some(&self.core.two.system),
+            1 => Some(&self.inner.one.system),
+            2 => Some(&self.inner.two.system),
             _ => None,
         }
     }

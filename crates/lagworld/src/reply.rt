@@ -1,21 +1,21 @@
 use lagsystem::SystemFault;
 use lagtypes::{AggId, State};
 
-/// The reply to an event (profile). If a variant has a last value `kept`, that is false if what was sent was lost at
+/// The reply to an event (profile). If a variant has a last value `accepted`, that is false if what was sent was lost at
 /// once: the port has no cable, the cable is cut, or the cable is full.
 #[derive(Clone, Copy, Debug, PartialEq, Eq)]
 pub enum Reply {
     /// Of `Tick`: the ticks have passed.
     Ticked,
-    /// Of `Emit`: an LACPDU was sent; its Actor_State, and `kept`.
+    /// Of `Emit`: an LACPDU was sent; its Actor_State, and `accepted`.
     Lacpdu(State, bool),
-    /// Of `Emit`: a marker was sent; its Requester_Transaction_ID, and `kept`.
+    /// Of `Emit`: a marker was sent; its Requester_Transaction_ID, and `accepted`.
     Marker(u32, bool),
     /// Of `Emit`: nothing was due.
     Nothing,
     /// Of `Deliver` and `Repeat`: an LACPDU was received (6.4.12).
     Took,
-    /// Of `Deliver` and `Repeat`: a marker came, and the response was sent; `kept` of the response (6.5.4).
+    /// Of `Deliver` and `Repeat`: a marker came, and the response was sent; `accepted` of the response (6.5.4).
     Responded(bool),
     /// Of `Deliver` and `Repeat`: a Marker Response came; how many conversations it freed.
     Released(u32),
@@ -44,7 +44,7 @@ pub enum Reply {
     Sensed(bool),
     /// Of `Configure`: whether a value differed.
     Configured(bool),
-    /// Of `Offer`: the port that the frame was sent on, its serial number within its conversation, from 0, and `kept`.
+    /// Of `Offer`: the port that the frame was sent on, its serial number within its conversation, from 0, and `accepted`.
     Port(u16, u64, bool),
     /// Of `Move`: the conversation is Wanted, so it waits for a marker.
     Moved,

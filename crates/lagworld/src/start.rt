@@ -1,18 +1,18 @@
 ghost use Rattle.std.specs.Prelude.{◌≡◌, [], ◌∷◌, None, IfErr, IfOk, IfSome, length, map};
 ghost use Rattle.distributor.specs.Calls.{PicksPlaces};
-ghost use Rattle.lagsystem.specs.First.{refusal_of as refusal_of_one};
+ghost use Rattle.lagsystem.specs.First.{config_refusal as refusal_of_one};
 ghost use Rattle.lagsystem.specs.Sound.{Agrees};
-ghost use Rattle.lagworld.specs.Joints.{joint_of};
-ghost use Rattle.lagworld.specs.Kept.{half_of, lines_of, serials_of};
-ghost use Rattle.lagworld.specs.Making.{IsFirstHalf, IsMade, Refuses, are_lines, conversations, first_flows, first_lines, first_log, first_logs, first_row, is_empty, nothing_sent, refusal_with};
+ghost use Rattle.lagworld.specs.WorldCalls.{world_state};
+ghost use Rattle.lagworld.specs.Inner.{half_state, link_states, serials_of};
+ghost use Rattle.lagworld.specs.Making.{IsFirstHalf, IsMade, RefusesToMake, are_lines, conversations_per_aggregator, first_flows, first_links, first_history, first_histories, first_row, is_empty_line, nothing_sent, refusal_with};
 ghost use Rattle.lagworld.specs.Sound.{IsStart};
 ghost use Rattle.lagworld.specs.declared.fault.WorldFault.TheVariants.{NoMemory as OutOfMemory};
 
 use crate::fault::WorldFault;
-use crate::half::End;
-use crate::kept::Core;
-use crate::line::Line;
-use crate::logs::{Flow, PortLog};
+use crate::half::Half;
+use crate::histories::{Flow, PortHistory};
+use crate::inner::Inner;
+use crate::link::Link;
 use cables::Cable;
 use lagscript::{BadWorld, WorldConfig};
 use lagsystem::{Config, PortConfig, System};
@@ -20,15 +20,15 @@ use lagtypes::{Party, PortId, SystemId};
 use std::alloc::{AllocError, Global};
 
 /// How many conversations an aggregator has (profile).
-fn conversations() -> usize
-    ensures { result ≡ conversations }
+fn conversations_per_aggregator() -> usize
+    ensures { result ≡ conversations_per_aggregator }
 {
     256
 }
 
 /// The log of a port before any event.
-fn first_log(system: SystemId, port: &PortConfig) -> PortLog
-    ensures { result ≡ first_log system port.now }
+fn first_history(system: SystemId, port: &PortConfig) -> PortHistory
+    ensures { result ≡ first_history system port.now }
 {
     let party = Party {
         system,
@@ -39,7 +39,7 @@ fn first_log(system: SystemId, port: &PortConfig) -> PortLog
         },
         aggregatable: port.aggregatable,
     };
-    PortLog {
+    PortHistory {
         number: port.number,
         party,
         count: 0,
@@ -48,18 +48,18 @@ fn first_log(system: SystemId, port: &PortConfig) -> PortLog
 }
 
 /// The logs of all ports before any event, in order.
-fn first_logs(
+fn first_histories(
     alloc: Global,
     system: SystemId,
     ports: &[PortConfig],
-) -> Result<Vec<PortLog>, AllocError>
-    ensures { IfOk result (λ logs. logs.items ≡ first_logs system ports.now) }
+) -> Result<Vec<PortHistory>, AllocError>
+    ensures { IfOk result (λ histories. histories.items ≡ first_histories system ports.now) }
 {
-    let mut logs = Vec::with_capacity(alloc, ports.len())?;
+    let mut histories = Vec::with_capacity(alloc, ports.len())?;
     for port in ports {
-        logs.push_reserved(first_log(system, port));
+        histories.push_reserved(first_history(system, port));
     }
-    Ok(logs)
+    Ok(histories)
 }
 
 /// The record of a conversation before any event.
@@ -77,7 +77,7 @@ fn first_flow(alloc: Global) -> Flow
 fn first_row(alloc: Global) -> Result<Vec<Flow>, AllocError>
     ensures { IfOk result (λ row. map serials_of row.items ≡ first_row) }
 {
-    let count = conversations();
+    let count = conversations_per_aggregator();
     let mut row = Vec::with_capacity(alloc, count)?;
     let mut made = 0;
     while made < count {
@@ -101,22 +101,22 @@ fn first_flows(alloc: Global, count: usize) -> Result<Vec<Vec<Flow>>, AllocError
     Ok(rows)
 }
 
-impl<F: Fn(u16, usize) -> usize + Drop> End<F> {
+impl<F: Fn(u16, usize) -> usize + Drop> Half<F> {
     /// A system in its first state, with its logs and records. The configuration is one that is accepted.
-    fn new(alloc: Global, config: Config, algorithm: F) -> Result<End<F>, WorldFault>
+    fn new(alloc: Global, config: Config, algorithm: F) -> Result<Half<F>, WorldFault>
         requires usable { PicksPlaces (F.pre algorithm) (F.post algorithm) }
         requires accepted { refusal_of_one config ≡ None }
-        ensures first { IfOk result (λ end. IsFirstHalf config (half_of end)) }
+        ensures first { IfOk result (λ end. IsFirstHalf config (half_state end)) }
         ensures agrees { IfOk result (λ end. Agrees end.system.state) }
         ensures algorithm { IfOk result (λ end. end.system.algorithm ≡ algorithm) }
         ensures refused { IfErr result (λ fault. fault ≡ OutOfMemory) }
     {
-        let logs = first_logs(alloc, config.system, &config.ports)?;
+        let histories = first_histories(alloc, config.system, &config.ports)?;
         let flows = first_flows(alloc, config.aggregators.len())?;
         match System::new(alloc, config, algorithm) {
-            Ok(system) => Ok(End {
+            Ok(system) => Ok(Half {
                 system,
-                logs,
+                histories,
                 flows,
             }),
             Err(_) => Err(WorldFault::NoMemory),
@@ -125,8 +125,8 @@ impl<F: Fn(u16, usize) -> usize + Drop> End<F> {
 }
 
 /// Whether both directions of a cable are empty.
-fn is_empty<C: Cable>(line: &(C, C)) -> bool
-    ensures { result ≡ is_empty C.items line.now }
+fn is_empty_line<C: Cable>(line: &(C, C)) -> bool
+    ensures { result ≡ is_empty_line C.items line.now }
 {
     line.0.len() == 0 && line.1.len() == 0
 }
@@ -139,7 +139,7 @@ fn are_lines<C: Cable>(cables: &[(u16, u16)], lines: &[(C, C)]) -> bool
         return false;
     }
     for line in lines {
-        if !is_empty(line) {
+        if !is_empty_line(line) {
             return false;
         }
     }
@@ -147,19 +147,19 @@ fn are_lines<C: Cable>(cables: &[(u16, u16)], lines: &[(C, C)]) -> bool
 }
 
 /// The cables at the start: whole, with their ports and the given lines.
-fn first_lines<C: Cable>(
+fn first_links<C: Cable>(
     alloc: Global,
     cables: &[(u16, u16)],
     lines: Vec<(C, C)>,
-) -> Result<Vec<Line<C>>, AllocError>
+) -> Result<Vec<Link<C>>, AllocError>
     requires { length lines.items ≡ length cables.now }
-    ensures { IfOk result (λ made. lines_of C.items C.limit made.items ≡ first_lines C.items C.limit cables.now lines.items) }
+    ensures { IfOk result (λ made. link_states C.items C.limit made.items ≡ first_links C.items C.limit cables.now lines.items) }
 {
     let mut made = Vec::with_capacity(alloc, cables.len())?;
     for line in lines {
         let ends = cables[made.len()];
         let (to_one, to_two) = line;
-        made.push_reserved(Line {
+        made.push_reserved(Link {
             one: ends.0,
             two: ends.1,
             whole: true,
@@ -180,7 +180,7 @@ fn both(systems: [Config; 2]) -> Option<(Config, Config)>
     Some((first, second))
 }
 
-impl<C: Cable, F: Fn(u16, usize) -> usize + Drop> Core<C, F> {
+impl<C: Cable, F: Fn(u16, usize) -> usize + Drop> Inner<C, F> {
     /// Both systems in their first states, and every cable whole and empty.
     pub(crate) fn new(
         alloc: Global,
@@ -188,15 +188,15 @@ impl<C: Cable, F: Fn(u16, usize) -> usize + Drop> Core<C, F> {
         one: F,
         two: F,
         lines: Vec<(C, C)>,
-    ) -> Result<Core<C, F>, WorldFault>
+    ) -> Result<Inner<C, F>, WorldFault>
         requires one { PicksPlaces (F.pre one) (F.post one) }
         requires two { PicksPlaces (F.pre two) (F.post two) }
-        ensures accepted { IfOk result (λ core. refusal_with C.items config lines.items ≡ None) }
-        ensures made { IfOk result (λ core. IsMade C.items C.limit config lines.items (joint_of C.items C.limit core)) }
-        ensures start { IfOk result (λ core. IsStart (joint_of C.items C.limit core)) }
-        ensures one { IfOk result (λ core. core.one.system.algorithm ≡ one) }
-        ensures two { IfOk result (λ core. core.two.system.algorithm ≡ two) }
-        ensures refused { IfErr result (λ fault. Refuses (refusal_with C.items config lines.items) fault) }
+        ensures accepted { IfOk result (λ inner. refusal_with C.items config lines.items ≡ None) }
+        ensures made { IfOk result (λ inner. IsMade C.items C.limit config lines.items (world_state C.items C.limit inner)) }
+        ensures start { IfOk result (λ inner. IsStart (world_state C.items C.limit inner)) }
+        ensures one { IfOk result (λ inner. inner.one.system.algorithm ≡ one) }
+        ensures two { IfOk result (λ inner. inner.two.system.algorithm ≡ two) }
+        ensures refused { IfErr result (λ fault. RefusesToMake (refusal_with C.items config lines.items) fault) }
     {
         if let Some(reason) = config.refusal() {
             return Err(WorldFault::BadConfig(reason));
@@ -204,18 +204,18 @@ impl<C: Cable, F: Fn(u16, usize) -> usize + Drop> Core<C, F> {
         if !are_lines(&config.cables, &lines) {
             return Err(WorldFault::BadConfig(BadWorld::Lines));
         }
-        let lines = first_lines(alloc, &config.cables, lines)?;
+        let links = first_links(alloc, &config.cables, lines)?;
         let (first, second) = match both(config.systems) {
             Some(systems) => systems,
             None => return Err(WorldFault::NoMemory),
         };
-        let one = End::new(alloc, first, one)?;
-        let two = End::new(alloc, second, two)?;
-        Ok(Core {
+        let one = Half::new(alloc, first, one)?;
+        let two = Half::new(alloc, second, two)?;
+        Ok(Inner {
             alloc,
             one,
             two,
-            lines,
+            links,
             acted: 0,
         })
     }

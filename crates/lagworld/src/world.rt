@@ -2,13 +2,13 @@ ghost use Rattle.std.specs.Prelude.{◌≡◌, IfErr, IfOk, OnErr, None, true};
 ghost use Rattle.distributor.specs.Calls.{PicksPlaces};
 ghost use Rattle.lagmodel.specs.World.{Side, Happens};
 ghost use Rattle.lagmodel.specs.Law.{OnePartner, Agree, InOrder};
-ghost use Rattle.lagworld.specs.Events.{Runs, Steps, cause, fault_for, may_take_memory, told};
-ghost use Rattle.lagworld.specs.Making.{IsMade, Refuses, refusal_with};
-ghost use Rattle.lagworld.specs.Sound.{Carries, IsSound, IsStart, Stops, WorldRun, gives_by};
-ghost use Rattle.lagworld.specs.Worlds.{fixed_of, world_of};
+ghost use Rattle.lagworld.specs.Events.{Runs, Steps, cause, fault_for, may_take_memory, model_event};
+ghost use Rattle.lagworld.specs.Making.{IsMade, RefusesToMake, refusal_with};
+ghost use Rattle.lagworld.specs.Sound.{HeadlineFacts, IsSound, IsStart, RunStops, WorldRun, both_algorithms};
+ghost use Rattle.lagworld.specs.ModelWorld.{world_setup, model_world};
 
 use crate::fault::{RunFault, WorldFault};
-use crate::kept::Core;
+use crate::inner::Inner;
 use crate::reply::Reply;
 use cables::Cable;
 use lagscript::{Event, WorldConfig};
@@ -19,19 +19,19 @@ use std::marker::Model;
 /// direction of a cable. `F` is the type of the distribution algorithms; each system has one (profile).
 #[derive(Drop)]
 pub struct World<C: Cable, F> {
-    pub(crate) core: Core<C, F>,
+    pub(crate) inner: Inner<C, F>,
 }
 
 impl<C: Cable, F> Model for World<C, F> {
-    ghost use Rattle.lagworld.specs.Joints.{joint_of, whole_of};
+    ghost use Rattle.lagworld.specs.WorldCalls.{world_state, world_value};
     ghost use Rattle.lagworld.specs.Sound.{IsSound};
-    ghost use Rattle.lagworld.specs.State.{Whole};
+    ghost use Rattle.lagworld.specs.State.{WorldValue};
 
-    ghost Value = { Whole F };
+    ghost Value = { WorldValue F };
 
-    ghost view = { λ w. whole_of C.items C.limit w.core };
+    ghost view = { λ w. world_value C.items C.limit w.inner };
 
-    ghost invariant = { λ w. IsSound (joint_of C.items C.limit w.core) };
+    ghost invariant = { λ w. IsSound (world_state C.items C.limit w.inner) };
 }
 
 impl<C: Cable, F: Fn(u16, usize) -> usize + Drop> World<C, F> {
@@ -51,14 +51,14 @@ impl<C: Cable, F: Fn(u16, usize) -> usize + Drop> World<C, F> {
         requires one { PicksPlaces (F.pre one) (F.post one) }
         requires two { PicksPlaces (F.pre two) (F.post two) }
         ensures accepted { IfOk result (λ world. refusal_with C.items config lines.items ≡ None) }
-        ensures made { IfOk result (λ world. IsMade C.items C.limit config lines.items world.joint) }
-        ensures start { IfOk result (λ world. IsStart world.joint) }
+        ensures made { IfOk result (λ world. IsMade C.items C.limit config lines.items world.state) }
+        ensures start { IfOk result (λ world. IsStart world.state) }
         ensures algorithm_one { IfOk result (λ world. world.one ≡ one) }
         ensures algorithm_two { IfOk result (λ world. world.two ≡ two) }
-        ensures refused { IfErr result (λ fault. Refuses (refusal_with C.items config lines.items) fault) }
+        ensures refused { IfErr result (λ fault. RefusesToMake (refusal_with C.items config lines.items) fault) }
     {
-        let core = Core::new(alloc, config, one, two, lines)?;
-        Ok(World { core })
+        let inner = Inner::new(alloc, config, one, two, lines)?;
+        Ok(World { inner })
     }
 
     /// Plays one event and returns its reply. Refused in this order: `NoCable` and `NoSystem` if the event names one
@@ -68,28 +68,28 @@ impl<C: Cable, F: Fn(u16, usize) -> usize + Drop> World<C, F> {
     pub fn step(&mut self, event: &Event) -> Result<Reply, WorldFault>
         requires one { PicksPlaces (F.pre self.old.one) (F.post self.old.one) }
         requires two { PicksPlaces (F.pre self.old.two) (F.post self.old.two) }
-        ensures accepted { IfOk result (λ reply. cause self.old.joint event.now ≡ None) }
-        ensures steps { IfOk result (λ reply. Steps (gives_by (F.post self.old.one) (F.post self.old.two)) self.old.joint event.now reply
-            self.new.joint) }
-        ensures happens { IfOk result (λ reply. Happens (fixed_of self.old.joint) (told event.now) (world_of self.old.joint)
-            (world_of self.new.joint)) }
-        ensures refused { IfErr result (λ fault. fault ≡ fault_for (cause self.old.joint event.now)) }
-        ensures memory { IfErr result (λ fault. cause self.old.joint event.now ≡ None → may_take_memory event.now ≡ true) }
-        ensures unchanged { IfErr result (λ fault. self.new.joint ≡ self.old.joint) }
-        ensures fixed { fixed_of self.new.joint ≡ fixed_of self.old.joint }
-        ensures sound { IsSound self.new.joint }
+        ensures accepted { IfOk result (λ reply. cause self.old.state event.now ≡ None) }
+        ensures steps { IfOk result (λ reply. Steps (both_algorithms (F.post self.old.one) (F.post self.old.two)) self.old.state event.now reply
+            self.new.state) }
+        ensures happens { IfOk result (λ reply. Happens (world_setup self.old.state) (model_event event.now) (model_world self.old.state)
+            (model_world self.new.state)) }
+        ensures refused { IfErr result (λ fault. fault ≡ fault_for (cause self.old.state event.now)) }
+        ensures memory { IfErr result (λ fault. cause self.old.state event.now ≡ None → may_take_memory event.now ≡ true) }
+        ensures unchanged { IfErr result (λ fault. self.new.state ≡ self.old.state) }
+        ensures fixed { world_setup self.new.state ≡ world_setup self.old.state }
+        ensures sound { IsSound self.new.state }
         ensures algorithm_one { self.new.one ≡ self.old.one }
         ensures algorithm_two { self.new.two ≡ self.old.two }
     {
-        self.core.step(event)
+        self.inner.step(event)
     }
 
-    /// The allocator. Reading `core` also shows the prover the invariant of the world, which `run` needs before its
+    /// The allocator. Reading `inner` also shows the prover the invariant of the world, which `run` needs before its
     /// first event.
     fn alloc(&self) -> Global
-        ensures { IsSound self.now.joint }
+        ensures { IsSound self.now.state }
     {
-        self.core.alloc
+        self.inner.alloc
     }
 
     /// Plays events in order and returns their replies. If an event is refused, `run` stops there: `RunFault` says how
@@ -102,17 +102,17 @@ impl<C: Cable, F: Fn(u16, usize) -> usize + Drop> World<C, F> {
     pub fn run(&mut self, events: &[Event]) -> Result<Vec<Reply>, RunFault>
         requires one { PicksPlaces (F.pre self.old.one) (F.post self.old.one) }
         requires two { PicksPlaces (F.pre self.old.two) (F.post self.old.two) }
-        ensures ran { IfOk result (λ replies. Runs (gives_by (F.post self.old.one) (F.post self.old.two)) self.old.joint events.now
-            replies.items self.new.joint) }
-        ensures happened { IfOk result (λ replies. WorldRun self.old.joint events.now self.new.joint) }
-        ensures stopped { IfErr result (λ stop. Stops (gives_by (F.post self.old.one) (F.post self.old.two)) self.old.joint events.now stop
-            self.new.joint) }
-        ensures one_partner { (s : Side) → OnePartner ((world_of self.new.joint).view s) }
-        ensures agree { Agree (fixed_of self.new.joint) (world_of self.new.joint) }
-        ensures in_order { InOrder (world_of self.new.joint) }
-        ensures carries { Carries self.new.joint }
-        ensures sound { IsSound self.new.joint }
-        ensures fixed { fixed_of self.new.joint ≡ fixed_of self.old.joint }
+        ensures ran { IfOk result (λ replies. Runs (both_algorithms (F.post self.old.one) (F.post self.old.two)) self.old.state events.now
+            replies.items self.new.state) }
+        ensures happened { IfOk result (λ replies. WorldRun self.old.state events.now self.new.state) }
+        ensures stopped { IfErr result (λ stop. RunStops (both_algorithms (F.post self.old.one) (F.post self.old.two)) self.old.state events.now stop
+            self.new.state) }
+        ensures one_partner { (s : Side) → OnePartner ((model_world self.new.state).view s) }
+        ensures agree { Agree (world_setup self.new.state) (model_world self.new.state) }
+        ensures in_order { InOrder (model_world self.new.state) }
+        ensures carries { HeadlineFacts self.new.state }
+        ensures sound { IsSound self.new.state }
+        ensures fixed { world_setup self.new.state ≡ world_setup self.old.state }
         ensures algorithm_one { self.new.one ≡ self.old.one }
         ensures algorithm_two { self.new.two ≡ self.old.two }
     {

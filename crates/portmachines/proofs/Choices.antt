@@ -9,7 +9,7 @@ use Rattle.portmachines.specs.declared.mux.MuxState.TheVariants.{Detached, Waiti
 use Rattle.portmachines.specs.declared.receive.ReceiveState.{ReceiveState}
 use Rattle.portmachines.specs.declared.receive.ReceiveState.TheVariants.{Initialize, PortDisabled, Expired, Defaulted, Current}
 use Rattle.portmachines.specs.Machines.{Machines}
-use Rattle.portmachines.specs.Rows.{Row, Fires, AtRest, Reaches, Settles, in_order}
+use Rattle.portmachines.specs.Rows.{Row, Fires, AtRest, Reaches, RunsToRest, in_order}
 use Rattle.portmachines.specs.Receive.{receive_rows, taking_rows, start_receive, current_while_expired, partner_not_synchronized}
 use Rattle.portmachines.specs.Periodic.{periodic_table, periodic_rows, clear_ntt}
 use Rattle.portmachines.specs.Mux.{mux_rows, start_mux, partner_synchronized}
@@ -52,7 +52,7 @@ one_end I rows way (suc n) (suc m) p q r i g h a b =
     let e : g.0 ≡ h.0 = way.same p g.0 h.0 i g.1 h.1 in
     one_end I rows way n m g.0 q r (way.stays p g.0 i g.1) g.2 (subst (λ (x : Machines). Goes rows m x r) (sym e) h.2) a b
 
-settles_one : (I : Machines → Type 0) (rows : List Row) → OneWay I rows → (p q r : Machines) → I p → Settles rows p q → Settles rows p r → q ≡ r
+settles_one : (I : Machines → Type 0) (rows : List Row) → OneWay I rows → (p q r : Machines) → I p → RunsToRest rows p q → RunsToRest rows p r → q ≡ r
 settles_one I rows way p q r i g h = one_end I rows way g.0 h.0 p q r i (goes rows g.0 p q g.1) (goes rows h.0 p r h.1) g.2 h.2
 
 -- rows of which at most one is enabled

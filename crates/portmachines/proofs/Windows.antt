@@ -4,7 +4,7 @@ use Rattle.std.specs.List.{AllByRecursion}
 use Rattle.std.proofs.lemmas.Bool.Decides.{nat_tests}
 use Rattle.slowpdu.specs.declared.pdu.Lacpdu.{Lacpdu}
 use Rattle.portmachines.specs.Machines.{Machines}
-use Rattle.portmachines.specs.Rows.{FiresIfEnabled, Settles}
+use Rattle.portmachines.specs.Rows.{FiresIfEnabled, RunsToRest}
 use Rattle.portmachines.specs.Receive.{receive_rows, taking_rows, start_receive}
 use Rattle.portmachines.specs.Periodic.{RunsPeriodic, periodic_rows}
 use Rattle.portmachines.specs.Mux.{mux_rows}
@@ -12,7 +12,7 @@ use Rattle.portmachines.specs.Transmit.{count_down, aged, is_due, sent}
 use Rattle.portmachines.specs.Start.{Starts}
 use Rattle.portmachines.proofs.Runs.{EachKeeps, Fires-keeps, Reaches-keeps}
 use Rattle.portmachines.specs.Calls.{PortCall, Tick, Transmit, Set_link, Take, Mux, Periodic, Select, Reinit}
-use Rattle.portmachines.specs.Window.{Sends, sent_before, within_eleven, count_of, KeepsWindow, WindowLaw}
+use Rattle.portmachines.specs.Window.{SendsAtTicks, sent_before, within_eleven, count_passing, KeepsWindow, WindowLaw}
 
 -- rows leave the ages as they are
 
@@ -22,7 +22,7 @@ ages_of p = p.ages
 receive-same : EachKeeps ages_of receive_rows
 receive-same = (λ p. refl, (λ p. refl, (λ p. refl, (λ p. refl, (λ p. refl, tt)))))
 
-pub settles-same : (p q : Machines) → Settles receive_rows p q → q.ages ≡ p.ages
+pub settles-same : (p q : Machines) → RunsToRest receive_rows p q → q.ages ≡ p.ages
 settles-same p q h = Reaches-keeps ages_of receive_rows receive-same h.0 p q h.1
 
 pub mux-same : (ready : Bool) → EachKeeps ages_of (mux_rows ready)
@@ -44,7 +44,7 @@ and_right : (x y : Bool) → (x && y) ≡ true → y ≡ true
 and_right true y h = h
 and_right false y h = cc
 
-count-last : (p : ℕ → Bool) (xs : List ℕ) (x : ℕ) → count_of p (xs ++ x ∷ []) ≡ count_of p xs + cond (p x) 1 0
+count-last : (p : ℕ → Bool) (xs : List ℕ) (x : ℕ) → count_passing p (xs ++ x ∷ []) ≡ count_passing p xs + cond (p x) 1 0
 count-last p [] x = omega arith
 count-last p (y ∷ ys) x = omega (arith, count-last p ys x)
 
@@ -58,11 +58,11 @@ bit-weaker false true h = omega arith
 bit-weaker false false h = omega arith
 
 -- if each element that passes the one test passes the other
-count-weaker : (p q : ℕ → Bool) (xs : List ℕ) → AllByRecursion (λ x. p x ≡ true → q x ≡ true) xs → count_of p xs ≤ count_of q xs
+count-weaker : (p q : ℕ → Bool) (xs : List ℕ) → AllByRecursion (λ x. p x ≡ true → q x ≡ true) xs → count_passing p xs ≤ count_passing q xs
 count-weaker p q [] h = omega arith
 count-weaker p q (x ∷ xs) h = omega (arith, count-weaker p q xs h.1, bit-weaker (p x) (q x) h.0)
 
-count-length : (p : ℕ → Bool) (xs : List ℕ) → count_of p xs ≤ length xs
+count-length : (p : ℕ → Bool) (xs : List ℕ) → count_passing p xs ≤ length xs
 count-length p [] = omega arith
 count-length p (x ∷ xs) = omega (arith, count-length p xs, bit-weaker (p x) true (λ _. refl))
 
@@ -85,21 +85,21 @@ ge_from : (a k : ℕ) → nat_lt a k ≡ false → k ≤ a
 ge_from a k h = grind (arith, nat_tests)
 
 -- the ages that are at most k + 1 after the tick were at most k before it
-aged-one : (k a : ℕ) (rest : List ℕ) (b : Bool) → k + 1 ≤ 10 → nat_lt (a + 1) 11 ≡ b → count_of (λ x. nat_le x (k + 1)) (cond b ((a + 1) ∷ rest) rest) ≡ cond (nat_le a k) 1 0 + count_of (λ x. nat_le x (k + 1)) rest
-aged-one k a rest true h e = ap (λ b. cond b 1 0 + count_of (λ x. nat_le x (k + 1)) rest) (le_suc a k)
+aged-one : (k a : ℕ) (rest : List ℕ) (b : Bool) → k + 1 ≤ 10 → nat_lt (a + 1) 11 ≡ b → count_passing (λ x. nat_le x (k + 1)) (cond b ((a + 1) ∷ rest) rest) ≡ cond (nat_le a k) 1 0 + count_passing (λ x. nat_le x (k + 1)) rest
+aged-one k a rest true h e = ap (λ b. cond b 1 0 + count_passing (λ x. nat_le x (k + 1)) rest) (le_suc a k)
 aged-one k a rest false h e =
     let old = ge_from (a + 1) 11 e in
     let no : nat_le a k ≡ false = le_false a k (omega (arith, old)) in
     rw no (omega arith)
 
-count-aged : (k : ℕ) (ages : List ℕ) → k + 1 ≤ 10 → count_of (λ a. nat_le a (k + 1)) (aged ages) ≡ count_of (λ a. nat_le a k) ages
+count-aged : (k : ℕ) (ages : List ℕ) → k + 1 ≤ 10 → count_passing (λ a. nat_le a (k + 1)) (aged ages) ≡ count_passing (λ a. nat_le a k) ages
 count-aged k [] h = refl
 count-aged k (a ∷ more) h = aged-one k a (aged more) (nat_lt (a + 1) 11) h refl ∙ ap (λ n. cond (nat_le a k) 1 0 + n) (count-aged k more h)
 
 -- what holds of the ages at the tick now and all sends so far
 pub record Inv (now : ℕ) (ages ticks : List ℕ) : Type 0 where
   pub past : AllByRecursion (λ s. s ≤ now) ticks
-  pub recent : (k : ℕ) → k ≤ 10 → count_of (λ s. nat_le now (s + k)) ticks ≤ count_of (λ a. nat_le a k) ages
+  pub recent : (k : ℕ) → k ≤ 10 → count_passing (λ s. nat_le now (s + k)) ticks ≤ count_passing (λ a. nat_le a k) ages
   pub window : KeepsWindow ticks
 
 all-weaker : (P Q : ℕ → Type 0) (xs : List ℕ) → ((x : ℕ) → P x → Q x) → AllByRecursion P xs → AllByRecursion Q xs
@@ -110,11 +110,11 @@ all-last : (P : ℕ → Type 0) (xs : List ℕ) (x : ℕ) → AllByRecursion P x
 all-last P [] x h p = (p, tt)
 all-last P (y ∷ ys) x h p = (h.0, all-last P ys x h.1 p)
 
-none : (p : ℕ → Bool) (xs : List ℕ) → AllByRecursion (λ x. p x ≡ false) xs → count_of p xs ≡ 0
+none : (p : ℕ → Bool) (xs : List ℕ) → AllByRecursion (λ x. p x ≡ false) xs → count_passing p xs ≡ 0
 none p [] h = refl
 none p (x ∷ xs) h = let here : bit (p x) ≡ 0 = ap bit h.0 in omega (arith, here, none p xs h.1)
 
-later-recent : (now : ℕ) (ages ticks : List ℕ) → Inv now ages ticks → (k : ℕ) → k ≤ 10 → count_of (λ s. nat_le (now + 1) (s + k)) ticks ≤ count_of (λ a. nat_le a k) (aged ages)
+later-recent : (now : ℕ) (ages ticks : List ℕ) → Inv now ages ticks → (k : ℕ) → k ≤ 10 → count_passing (λ s. nat_le (now + 1) (s + k)) ticks ≤ count_passing (λ a. nat_le a k) (aged ages)
 later-recent now ages ticks i zero h =
     let no = none (λ s. nat_le (now + 1) (s + 0)) ticks (all-weaker (λ s. s ≤ now) (λ s. nat_le (now + 1) (s + 0) ≡ false) ticks (λ s e. le_false (now + 1) (s + 0) (omega (arith, e))) i.past) in
     omega (arith, no)
@@ -123,7 +123,7 @@ later-recent now ages ticks i (suc k) h =
     (all-weaker (λ s. s ≤ now) (λ s. nat_le (now + 1) (s + suc k) ≡ true → nat_le now (s + k) ≡ true) ticks (λ s e t. let l = le_from (now + 1) (s + suc k) t in le_true now (s + k) (omega (arith, l))) i.past) in
     let old = i.recent k (omega (arith, h)) in
     let e : suc k ≡ k + 1 = omega arith in
-    let same : count_of (λ a. nat_le a (suc k)) (aged ages) ≡ count_of (λ a. nat_le a k) ages = rw e (count-aged k ages (omega (arith, h))) in
+    let same : count_passing (λ a. nat_le a (suc k)) (aged ages) ≡ count_passing (λ a. nat_le a k) ages = rw e (count-aged k ages (omega (arith, h))) in
     omega (arith, fewer, old, same)
 
 Inv-tick : (now : ℕ) (ages ticks : List ℕ) → Inv now ages ticks → Inv (now + 1) (aged ages) ticks
@@ -178,9 +178,9 @@ append-nil [] = refl
 append-nil (x ∷ xs) = ap (λ ys. x ∷ ys) (append-nil xs)
 
 abbrev Continues : ℕ → List PortCall → Machines → Type 0
-Continues now calls mid = (before rest : List ℕ) → Inv now mid.ages before → Sends now calls mid rest → KeepsWindow (before ++ rest)
+Continues now calls mid = (before rest : List ℕ) → Inv now mid.ages before → SendsAtTicks now calls mid rest → KeepsWindow (before ++ rest)
 
-transmit-window : (now : ℕ) (calls : List PortCall) (old mid : Machines) (before ticks rest : List ℕ) (due : Bool) → is_due old ≡ due → Continues now calls mid → Inv now old.ages before → mid ≡ (if due then sent old else old) → Sends now calls mid rest → ticks ≡ (if due then now ∷ rest else rest) → KeepsWindow (before ++ ticks)
+transmit-window : (now : ℕ) (calls : List PortCall) (old mid : Machines) (before ticks rest : List ℕ) (due : Bool) → is_due old ≡ due → Continues now calls mid → Inv now old.ages before → mid ≡ (if due then sent old else old) → SendsAtTicks now calls mid rest → ticks ≡ (if due then now ∷ rest else rest) → KeepsWindow (before ++ ticks)
 transmit-window now calls old mid before ticks rest true due go i e run t =
     let few = lt_from (length old.ages) 3 (and_right old.ntt _ due) in
     let next : Inv now mid.ages (before ++ now ∷ []) = subst (λ (p : Machines). Inv now p.ages (before ++ now ∷ [])) (sym e) (Inv-send now old.ages before few i) in
@@ -188,11 +188,11 @@ transmit-window now calls old mid before ticks rest true due go i e run t =
 transmit-window now calls old mid before ticks rest false due go i e run t =
     subst KeepsWindow (ap (λ xs. before ++ xs) (sym t)) (go before rest (Inv-same now old mid before (ap (λ (x : Machines). x.ages) e) i) run)
 
-quiet-window : (now : ℕ) (calls : List PortCall) (old mid : Machines) (before ticks rest : List ℕ) → Continues now calls mid → mid.ages ≡ old.ages → Inv now old.ages before → Sends now calls mid rest → ticks ≡ rest → KeepsWindow (before ++ ticks)
+quiet-window : (now : ℕ) (calls : List PortCall) (old mid : Machines) (before ticks rest : List ℕ) → Continues now calls mid → mid.ages ≡ old.ages → Inv now old.ages before → SendsAtTicks now calls mid rest → ticks ≡ rest → KeepsWindow (before ++ ticks)
 quiet-window now calls old mid before ticks rest go e i run t =
     subst KeepsWindow (ap (λ xs. before ++ xs) (sym t)) (go before rest (Inv-same now old mid before e i) run)
 
-run-window : (now : ℕ) (calls : List PortCall) (old : Machines) (before ticks : List ℕ) → Inv now old.ages before → Sends now calls old ticks → KeepsWindow (before ++ ticks)
+run-window : (now : ℕ) (calls : List PortCall) (old : Machines) (before ticks : List ℕ) → Inv now old.ages before → SendsAtTicks now calls old ticks → KeepsWindow (before ++ ticks)
 run-window now [] old before ticks i h = subst KeepsWindow (sym (ap (λ xs. before ++ xs) h ∙ append-nil before)) i.window
 run-window now (Tick ∷ calls) old before ticks i h =
     let ages : h.0.ages ≡ aged old.ages = settles-same (count_down old) h.0 h.2 in
@@ -219,7 +219,7 @@ past-before : (now : ℕ) (ages : List ℕ) → AllByRecursion (λ s. s ≤ now)
 past-before now [] = tt
 past-before now (a ∷ more) = (omega arith, past-before now more)
 
-recent-before : (now k : ℕ) (ages : List ℕ) → AllByRecursion (λ a. a ≤ now) ages → count_of (λ s. nat_le now (s + k)) (sent_before now ages) ≤ count_of (λ a. nat_le a k) ages
+recent-before : (now k : ℕ) (ages : List ℕ) → AllByRecursion (λ a. a ≤ now) ages → count_passing (λ s. nat_le now (s + k)) (sent_before now ages) ≤ count_passing (λ a. nat_le a k) ages
 recent-before now k [] h = omega arith
 recent-before now k (a ∷ more) h =
     omega (arith, recent-before now k more h.1, bit-weaker (nat_le now (now - a + k)) (nat_le a k) (λ t. let l = le_from now (now - a + k) t in le_true a k (omega (arith, l, h.0))))

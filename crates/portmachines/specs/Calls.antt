@@ -4,7 +4,7 @@ use Rattle.lagtypes.specs.declared.party.Party.{Party}
 use Rattle.lagtypes.specs.declared.party.Choice.{Choice}
 use Rattle.slowpdu.specs.declared.pdu.Lacpdu.{Lacpdu}
 use Rattle.portmachines.specs.Machines.{Machines}
-use Rattle.portmachines.specs.Rows.{AtRest, Settles, FiresIfEnabled}
+use Rattle.portmachines.specs.Rows.{AtRest, RunsToRest, FiresIfEnabled}
 use Rattle.portmachines.specs.Receive.{receive_rows, taking_rows}
 use Rattle.portmachines.specs.Periodic.{RunsPeriodic}
 use Rattle.portmachines.specs.Mux.{mux_rows}
@@ -23,18 +23,18 @@ pub data PortCall : Type 0 where
   Reinit : (party : Party) → PortCall
 
 -- the relation that the contract of a call states between the port before and after it
-abbrev pub Does : PortCall → Machines → Machines → Type 0
-Does Tick old new = Settles receive_rows (count_down old) new
-Does (Transmit max_delay) old new = new ≡ (if is_due old then sent old else old)
-Does (Set_link enabled) old new = Settles receive_rows (record old { enabled = enabled }) new
-Does (Take pdu) old new = FiresIfEnabled (taking_rows pdu) old new
-Does (Mux ready) old new = Settles (mux_rows ready) old new
-Does Periodic old new = RunsPeriodic old new
-Does (Select choice) old new = new ≡ record old { choice = choice }
-Does (Reinit party) old new = Starts (record old { party = party }) new
+abbrev pub CallEffect : PortCall → Machines → Machines → Type 0
+CallEffect Tick old new = RunsToRest receive_rows (count_down old) new
+CallEffect (Transmit max_delay) old new = new ≡ (if is_due old then sent old else old)
+CallEffect (Set_link enabled) old new = RunsToRest receive_rows (record old { enabled = enabled }) new
+CallEffect (Take pdu) old new = FiresIfEnabled (taking_rows pdu) old new
+CallEffect (Mux ready) old new = RunsToRest (mux_rows ready) old new
+CallEffect Periodic old new = RunsPeriodic old new
+CallEffect (Select choice) old new = new ≡ record old { choice = choice }
+CallEffect (Reinit party) old new = Starts (record old { party = party }) new
 
 -- the machines are deterministic: if the receive machine is at rest, each call has exactly one effect
 abbrev pub OneEffect : Type 0
 OneEffect =
     (call : PortCall) (old one other : Machines)
-    → AtRest receive_rows old → Does call old one → Does call old other → one ≡ other
+    → AtRest receive_rows old → CallEffect call old one → CallEffect call old other → one ≡ other

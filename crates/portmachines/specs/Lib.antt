@@ -5,6 +5,6 @@ pub mod Periodic
 pub mod Mux
 pub mod Transmit
 pub mod Start
-pub mod Left
+pub mod RowsToFire
 pub mod Calls
 pub mod Window

@@ -8,16 +8,16 @@ use Rattle.portmachines.specs.Machines.{Machines}
 use Rattle.portmachines.specs.Rows.{Row}
 
 -- whether the two states are the same
-abbrev pub is_mux : MuxState → MuxState → Bool
-is_mux Detached Detached = true
-is_mux Waiting Waiting = true
-is_mux Attached Attached = true
-is_mux CollectingDistributing CollectingDistributing = true
-is_mux _ _ = false
+abbrev pub same_mux_state : MuxState → MuxState → Bool
+same_mux_state Detached Detached = true
+same_mux_state Waiting Waiting = true
+same_mux_state Attached Attached = true
+same_mux_state CollectingDistributing CollectingDistributing = true
+same_mux_state _ _ = false
 
 -- Actor_State.Synchronization in this state
 abbrev pub is_synchronized : MuxState → Bool
-is_synchronized s = is_mux Attached s || is_mux CollectingDistributing s
+is_synchronized s = same_mux_state Attached s || same_mux_state CollectingDistributing s
 
 abbrev pub selected : Machines → Bool
 selected p = is_selected p.choice
@@ -40,7 +40,7 @@ set_ntt p = record p { ntt = true }
 abbrev pub mux_row : MuxState → (Machines → Bool) → MuxState → (Machines → Machines) → Row
 mux_row from guard to effect =
     record {
-      enabled = λ p. is_mux from p.mux && guard p;
+      enabled = λ p. same_mux_state from p.mux && guard p;
       effect = λ p. effect (record p { mux = to });
     }
 

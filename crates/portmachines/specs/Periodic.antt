@@ -4,7 +4,7 @@ use Rattle.lagtypes.specs.States.{bits_of}
 use Rattle.portmachines.specs.declared.periodic.PeriodicState.{PeriodicState}
 use Rattle.portmachines.specs.declared.periodic.PeriodicState.TheVariants.{NoPeriodic, Fast, Slow, PeriodicTx}
 use Rattle.portmachines.specs.Machines.{Machines}
-use Rattle.portmachines.specs.Rows.{Row, Settles, in_order}
+use Rattle.portmachines.specs.Rows.{Row, RunsToRest, in_order}
 use Rattle.portmachines.specs.Mux.{set_ntt}
 
 abbrev pub is_periodic : PeriodicState → PeriodicState → Bool
@@ -63,4 +63,4 @@ clear_ntt p = record p { ntt = not (is_periodic NoPeriodic p.periodic) && p.ntt 
 
 -- the machine runs until no row is enabled; then, in NO_PERIODIC, NTT becomes false
 abbrev pub RunsPeriodic : Machines → Machines → Type 0
-RunsPeriodic old new = (mid : Machines) × Settles periodic_rows old mid × (new ≡ clear_ntt mid)
+RunsPeriodic old new = (mid : Machines) × RunsToRest periodic_rows old mid × (new ≡ clear_ntt mid)

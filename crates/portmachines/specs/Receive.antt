@@ -1,6 +1,6 @@
 -- The receive machine (6.4.12), with its functions (6.4.9).
 use Rattle.std.specs.Prelude.{◌==◌, Bool, true, false, not, ◌&&◌, ◌||◌, List, [], ◌∷◌, if◌then◌else◌}
-use Rattle.lagtypes.specs.States.{bits_of, state_of, with_synchronization, with_timeout}
+use Rattle.lagtypes.specs.States.{bits_of, state_from_bits, with_synchronization, with_timeout}
 use Rattle.lagtypes.specs.declared.party.Party.{Party}
 use Rattle.lagtypes.specs.declared.party.Choice.TheVariants.{Unselected}
 use Rattle.slowpdu.specs.Parties.{party_of}
@@ -21,7 +21,7 @@ default_partner =
       key = record { 0 = 0 };
       port = record { priority = 0; number = 0 };
       state =
-          state_of
+          state_from_bits
           (record {
             activity = false;
             timeout = false;
@@ -45,8 +45,8 @@ partner_not_synchronized p =
 
 -- the actions of EXPIRED: partner Synchronization false; partner Timeout short; current_while starts with 30 ticks;
 -- Expired true
-abbrev pub expire : Machines → Machines
-expire p =
+abbrev pub enter_expired : Machines → Machines
+enter_expired p =
     record p {
       partner = record p.partner { state = with_timeout true (with_synchronization false p.partner.state) };
       current_while = 30;
@@ -60,21 +60,21 @@ update_selected party p =
     record p { choice = if same_party party (party_of p.partner) then p.choice else Unselected }
 
 -- the actions of DEFAULTED: update_Default_Selected; recordDefault; Expired false
-abbrev pub default : Machines → Machines
-default p = record (record_default (update_selected (party_of default_partner) p)) { expired = false }
+abbrev pub enter_defaulted : Machines → Machines
+enter_defaulted p = record (record_default (update_selected (party_of default_partner) p)) { expired = false }
 
 -- BEGIN, or reinit in any state; to INITIALIZE; Selected UNSELECTED; recordDefault; Expired false
 abbrev pub start_receive : Machines → Machines
 start_receive p = record (record_default p) { receive = Initialize; choice = Unselected; expired = false }
 
 -- whether the two states are the same
-abbrev pub is_receive : ReceiveState → ReceiveState → Bool
-is_receive Initialize Initialize = true
-is_receive PortDisabled PortDisabled = true
-is_receive Expired Expired = true
-is_receive Defaulted Defaulted = true
-is_receive Current Current = true
-is_receive _ _ = false
+abbrev pub same_receive_state : ReceiveState → ReceiveState → Bool
+same_receive_state Initialize Initialize = true
+same_receive_state PortDisabled PortDisabled = true
+same_receive_state Expired Expired = true
+same_receive_state Defaulted Defaulted = true
+same_receive_state Current Current = true
+same_receive_state _ _ = false
 
 abbrev pub receive_row : (ReceiveState → Bool) → (Machines → Bool) → ReceiveState → (Machines → Machines) → Row
 receive_row from guard to effect =
@@ -90,29 +90,29 @@ current_while_expired p = p.current_while == 0
 abbrev pub receive_rows : List Row
 receive_rows =
     -- INITIALIZE; at once; to PORT_DISABLED; partner Synchronization false
-    receive_row (is_receive Initialize) (λ p. true) PortDisabled partner_not_synchronized
+    receive_row (same_receive_state Initialize) (λ p. true) PortDisabled partner_not_synchronized
     -- any but PORT_DISABLED; link down; to PORT_DISABLED; partner Synchronization false
-    ∷ receive_row (λ s. not (is_receive PortDisabled s)) (λ p. not p.enabled) PortDisabled partner_not_synchronized
+    ∷ receive_row (λ s. not (same_receive_state PortDisabled s)) (λ p. not p.enabled) PortDisabled partner_not_synchronized
     -- PORT_DISABLED; link up; to EXPIRED, with its actions
-    ∷ receive_row (is_receive PortDisabled) (λ p. p.enabled) Expired expire
+    ∷ receive_row (same_receive_state PortDisabled) (λ p. p.enabled) Expired enter_expired
     -- EXPIRED; current_while expired; to DEFAULTED, with its actions
-    ∷ receive_row (is_receive Expired) current_while_expired Defaulted default
+    ∷ receive_row (same_receive_state Expired) current_while_expired Defaulted enter_defaulted
     -- CURRENT; current_while expired; to EXPIRED, with its actions
-    ∷ receive_row (is_receive Current) current_while_expired Expired expire
+    ∷ receive_row (same_receive_state Current) current_while_expired Expired enter_expired
     ∷ []
 
 -- the partner's view of this port is up to date: the Partner information of the PDU equals the port's own parameters,
 -- and its Activity, Timeout and Synchronization bits are the port's own
-abbrev pub knows_actor : Info → Machines → Bool
-knows_actor told p =
-    same_party (party_of told) p.party
-    && same_bit (bits_of told.state).activity p.active
-    && same_bit (bits_of told.state).timeout p.short
-    && same_bit (bits_of told.state).synchronization (is_synchronized p.mux)
+abbrev pub partner_is_up_to_date : Info → Machines → Bool
+partner_is_up_to_date pdu_partner p =
+    same_party (party_of pdu_partner) p.party
+    && same_bit (bits_of pdu_partner.state).activity p.active
+    && same_bit (bits_of pdu_partner.state).timeout p.short
+    && same_bit (bits_of pdu_partner.state).synchronization (is_synchronized p.mux)
 
 -- update_NTT: NTT becomes true unless the partner's view of this port is up to date
 abbrev pub update_ntt : Lacpdu → Machines → Machines
-update_ntt pdu p = record p { ntt = if knows_actor pdu.partner p then p.ntt else true }
+update_ntt pdu p = record p { ntt = if partner_is_up_to_date pdu.partner p then p.ntt else true }
 
 -- the link is actively maintained: the PDU's Actor is active, or both this port and the PDU's Partner information are
 -- active
@@ -143,6 +143,6 @@ abbrev pub taking_rows : Lacpdu → List Row
 taking_rows pdu =
     -- EXPIRED, DEFAULTED, CURRENT; an LACPDU came; to CURRENT; update_Selected; update_NTT; recordPDU; current_while
     -- starts; Expired false
-    receive_row (λ s. is_receive Expired s || is_receive Defaulted s || is_receive Current s) (λ p. p.enabled) Current
+    receive_row (λ s. same_receive_state Expired s || same_receive_state Defaulted s || same_receive_state Current s) (λ p. p.enabled) Current
     (λ p. start_current_while (record_pdu pdu (update_ntt pdu (update_selected (party_of pdu.actor) p))))
     ∷ []

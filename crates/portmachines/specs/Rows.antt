@@ -24,8 +24,8 @@ Reaches rows zero old new = new ≡ old
 Reaches rows (suc n) old new = (mid : Machines) × Reaches rows n old mid × Fires rows mid new
 
 -- rows fire until none is enabled
-abbrev pub Settles : List Row → Machines → Machines → Type 0
-Settles rows old new = (n : ℕ) × Reaches rows n old new × AtRest rows new
+abbrev pub RunsToRest : List Row → Machines → Machines → Type 0
+RunsToRest rows old new = (n : ℕ) × Reaches rows n old new × AtRest rows new
 
 -- an enabled row fires; or none is enabled and nothing changes
 abbrev pub FiresIfEnabled : List Row → Machines → Machines → Type 0

@@ -6,13 +6,13 @@ use Rattle.portmachines.specs.declared.receive.ReceiveState.TheVariants.{Initial
 use Rattle.portmachines.specs.declared.periodic.PeriodicState.TheVariants.{NoPeriodic}
 use Rattle.portmachines.specs.declared.mux.MuxState.TheVariants.{Detached}
 use Rattle.portmachines.specs.Machines.{Machines}
-use Rattle.portmachines.specs.Rows.{Settles}
+use Rattle.portmachines.specs.Rows.{RunsToRest}
 use Rattle.portmachines.specs.Receive.{receive_rows, start_receive, default_partner}
 use Rattle.portmachines.specs.Mux.{start_mux}
 
 -- the receive and mux machines start (BEGIN, or reinit)
 abbrev pub Starts : Machines → Machines → Type 0
-Starts old new = (mid : Machines) × Settles receive_rows (start_receive old) mid × (new ≡ start_mux mid)
+Starts old new = (mid : Machines) × RunsToRest receive_rows (start_receive old) mid × (new ≡ start_mux mid)
 
 -- a port before its machines start: the link is down, and every timer is 0
 abbrev pub blank : Setup → Machines

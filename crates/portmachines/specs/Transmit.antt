@@ -1,12 +1,12 @@
 -- Timers, and the transmit machine with its limit (6.4.16).
 use Rattle.std.specs.Prelude.{ℕ, ◌+◌, ◌-◌, Bool, false, ◌&&◌, List, [], ◌∷◌, ◌++◌, length, map, filter, nat_lt}
-use Rattle.lagtypes.specs.States.{state_of}
+use Rattle.lagtypes.specs.States.{state_from_bits}
 use Rattle.lagtypes.specs.declared.state.State.{State}
 use Rattle.slowpdu.specs.declared.pdu.Info.{Info}
 use Rattle.slowpdu.specs.declared.pdu.Lacpdu.{Lacpdu}
 use Rattle.portmachines.specs.declared.mux.MuxState.TheVariants.{CollectingDistributing}
 use Rattle.portmachines.specs.Machines.{Machines}
-use Rattle.portmachines.specs.Mux.{is_mux, is_synchronized}
+use Rattle.portmachines.specs.Mux.{same_mux_state, is_synchronized}
 
 -- each age becomes one tick older; an age of 11 is removed
 abbrev pub aged : List ℕ → List ℕ
@@ -33,14 +33,14 @@ sent p = record p { ntt = false; ages = p.ages ++ 0 ∷ [] }
 -- Actor_State: the state octet of the port's own side
 abbrev pub actor_state : Machines → State
 actor_state p =
-    state_of
+    state_from_bits
     (record {
       activity = p.active;
       timeout = p.short;
       aggregation = p.party.aggregatable;
       synchronization = is_synchronized p.mux;
-      collecting = is_mux CollectingDistributing p.mux;
-      distributing = is_mux CollectingDistributing p.mux;
+      collecting = same_mux_state CollectingDistributing p.mux;
+      distributing = same_mux_state CollectingDistributing p.mux;
       defaulted = p.defaulted;
       expired = p.expired;
     })

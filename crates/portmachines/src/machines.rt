@@ -5,7 +5,7 @@ ghost use Rattle.portmachines.specs.Start.{Starts};
 use crate::mux::MuxState;
 use crate::periodic::PeriodicState;
 use crate::receive::ReceiveState;
-use crate::transmit::grow_older;
+use crate::transmit::age_window;
 use arrayvec::ArrayVec;
 use lagtypes::{Choice, Party, State, StateBits};
 use slowpdu::Info;
@@ -79,7 +79,7 @@ impl Machines {
         self.current_while = self.current_while.saturating_sub(1);
         self.periodic_timer = self.periodic_timer.saturating_sub(1);
         self.wait_while = self.wait_while.saturating_sub(1);
-        grow_older(&mut self.ages);
+        age_window(&mut self.ages);
     }
 
     /// Starts the receive and mux machines (BEGIN).
@@ -87,7 +87,7 @@ impl Machines {
         ensures { Starts self.old self.new }
     {
         self.start_receive();
-        self.settle_receive();
+        self.run_receive();
         self.start_mux();
     }
 

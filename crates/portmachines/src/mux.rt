@@ -2,7 +2,7 @@ ghost use Rattle.std.specs.Prelude.{◌≡◌, ◌≤◌, ◌+◌};
 ghost use Rattle.std.specs.Bool.{OnTrue, OnFalse};
 ghost use Rattle.portmachines.specs.Rows.{Fires, AtRest, Reaches};
 ghost use Rattle.portmachines.specs.Mux.{mux_rows, start_mux, is_synchronized};
-ghost use Rattle.portmachines.specs.Left.{left};
+ghost use Rattle.portmachines.specs.RowsToFire.{mux_rows_to_fire};
 
 use crate::machines::Machines;
 use lagtypes::Choice;
@@ -42,7 +42,7 @@ impl Machines {
         ensures fired { OnTrue result (Fires (mux_rows ready) self.old self.new) }
         ensures rest { OnFalse result (AtRest (mux_rows ready) self.old) }
         ensures same { OnFalse result (self.new ≡ self.old) }
-        ensures fewer { OnTrue result (left ready self.new + 1 ≡ left ready self.old) }
+        ensures fewer { OnTrue result (mux_rows_to_fire ready self.new + 1 ≡ mux_rows_to_fire ready self.old) }
     {
         let synchronized = self.partner.state.is_synchronized();
         let next = match (self.mux, self.choice) {

@@ -2,7 +2,7 @@ ghost use Rattle.std.specs.Prelude.{◌≡◌, ◌+◌};
 ghost use Rattle.std.specs.Bool.{OnTrue, OnFalse};
 ghost use Rattle.portmachines.specs.Rows.{Fires, AtRest, Reaches};
 ghost use Rattle.portmachines.specs.Periodic.{periodic_rows, RunsPeriodic};
-ghost use Rattle.portmachines.specs.Left.{periodic_left};
+ghost use Rattle.portmachines.specs.RowsToFire.{periodic_rows_to_fire};
 
 use crate::machines::Machines;
 
@@ -30,7 +30,7 @@ impl Machines {
         ensures fired { OnTrue result (Fires periodic_rows self.old self.new) }
         ensures rest { OnFalse result (AtRest periodic_rows self.old) }
         ensures same { OnFalse result (self.new ≡ self.old) }
-        ensures fewer { OnTrue result (periodic_left self.new + 1 ≡ periodic_left self.old) }
+        ensures fewer { OnTrue result (periodic_rows_to_fire self.new + 1 ≡ periodic_rows_to_fire self.old) }
     {
         let silent = !self.enabled || (!self.active && !self.partner.state.is_active());
         let expired = self.periodic_timer == 0;

@@ -1,8 +1,8 @@
 ghost use Rattle.std.specs.Prelude.{◌≡◌, ◌≤◌, ◌==◌, if◌then◌else◌, Some, None};
-ghost use Rattle.portmachines.specs.Rows.{AtRest, Reaches, Settles, FiresIfEnabled};
+ghost use Rattle.portmachines.specs.Rows.{AtRest, Reaches, RunsToRest, FiresIfEnabled};
 ghost use Rattle.portmachines.specs.Receive.{receive_rows, taking_rows};
 ghost use Rattle.portmachines.specs.Periodic.{RunsPeriodic};
-ghost use Rattle.portmachines.specs.Mux.{mux_rows, is_mux};
+ghost use Rattle.portmachines.specs.Mux.{mux_rows, same_mux_state};
 ghost use Rattle.portmachines.specs.Transmit.{actor_state, count_down, is_due, pdu_of, sent};
 ghost use Rattle.portmachines.specs.Start.{Starts, blank};
 ghost use Rattle.portmachines.specs.Calls.{OneEffect};
@@ -77,10 +77,10 @@ impl Port {
     /// Sets port_enabled: the link is up or down now. The receive machine runs until none of its rows is enabled
     /// (6.4.7, 6.4.12).
     pub fn set_link(&mut self, enabled: bool)
-        ensures { Settles receive_rows (record self.old { enabled = enabled }) self.new }
+        ensures { RunsToRest receive_rows (record self.old { enabled = enabled }) self.new }
     {
         self.machines.enabled = enabled;
-        self.machines.settle_receive();
+        self.machines.run_receive();
     }
 
     /// Processes an LACPDU that came on the port; while the link is down this has no effect (6.4.12).
@@ -93,10 +93,10 @@ impl Port {
     /// One tick, 100 ms: each timer counts down, each LACPDU sent becomes one tick older, and the receive machine
     /// changes its state if current_while expired (6.4.10, 6.4.12, 6.4.16).
     pub fn tick(&mut self)
-        ensures { Settles receive_rows (count_down self.old) self.new }
+        ensures { RunsToRest receive_rows (count_down self.old) self.new }
     {
         self.machines.count_down();
-        self.machines.settle_receive();
+        self.machines.run_receive();
     }
 
     /// Runs the mux machine until none of its rows is enabled, and returns how many fired, at most 3 (6.4.15). `ready`
@@ -139,7 +139,7 @@ impl Port {
         ensures pdu { result ≡ (if is_due self.old then Some (pdu_of self.old max_delay) else None) }
         ensures state { self.new ≡ (if is_due self.old then sent self.old else self.old) }
     {
-        self.machines.take_due(max_delay)
+        self.machines.transmit_due(max_delay)
     }
 
     /// The operational parameters of the port's own side, the Actor (6.4.7).
@@ -200,7 +200,7 @@ impl Port {
 
     /// Whether the port distributes: its mux machine is in COLLECTING_DISTRIBUTING (6.4.15).
     pub fn distributes(&self) -> bool
-        ensures { result ≡ is_mux MuxState.CollectingDistributing self.now.mux }
+        ensures { result ≡ same_mux_state MuxState.CollectingDistributing self.now.mux }
     {
         self.machines.mux == MuxState::CollectingDistributing
     }
@@ -252,7 +252,7 @@ impl Port {
     pub fn ages(&self) -> ArrayVec<u8, 3>
         ensures { result.items ≡ self.now.ages }
     {
-        self.machines.kept_ages()
+        self.machines.window_ages()
     }
 }
 

@@ -1,21 +1,21 @@
 ghost use Rattle.std.specs.Prelude.{◌≡◌, ◌+◌, if◌then◌else◌, true};
 ghost use Rattle.std.specs.Bool.{OnTrue, OnFalse};
-ghost use Rattle.portmachines.specs.Rows.{Fires, FiresIfEnabled, AtRest, Reaches, Settles};
+ghost use Rattle.portmachines.specs.Rows.{Fires, FiresIfEnabled, AtRest, Reaches, RunsToRest};
 ghost use Rattle.portmachines.specs.Receive.{
   receive_rows,
   taking_rows,
   partner_not_synchronized,
-  expire,
-  default,
+  enter_expired,
+  enter_defaulted,
   default_partner,
   update_selected,
   record_default,
   record_pdu,
   start_current_while,
   start_receive,
-  knows_actor,
+  partner_is_up_to_date,
 };
-ghost use Rattle.portmachines.specs.Left.{receive_left};
+ghost use Rattle.portmachines.specs.RowsToFire.{receive_rows_to_fire};
 
 use crate::machines::Machines;
 use lagtypes::{Choice, Party, State, StateBits};
@@ -47,16 +47,16 @@ impl Machines {
         ensures fired { OnTrue result (Fires receive_rows self.old self.new) }
         ensures rest { OnFalse result (AtRest receive_rows self.old) }
         ensures same { OnFalse result (self.new ≡ self.old) }
-        ensures fewer { OnTrue result (receive_left self.new + 1 ≡ receive_left self.old) }
+        ensures fewer { OnTrue result (receive_rows_to_fire self.new + 1 ≡ receive_rows_to_fire self.old) }
     {
         let expired = self.current_while == 0;
         match self.receive {
-            ReceiveState::PortDisabled if self.enabled => self.expire(),
+            ReceiveState::PortDisabled if self.enabled => self.enter_expired(),
             ReceiveState::PortDisabled => return false,
-            ReceiveState::Initialize => self.disable(),
-            _ if !self.enabled => self.disable(),
-            ReceiveState::Expired if expired => self.default(),
-            ReceiveState::Current if expired => self.expire(),
+            ReceiveState::Initialize => self.enter_port_disabled(),
+            _ if !self.enabled => self.enter_port_disabled(),
+            ReceiveState::Expired if expired => self.enter_defaulted(),
+            ReceiveState::Current if expired => self.enter_expired(),
             _ => return false,
         }
         true
@@ -75,14 +75,14 @@ impl Machines {
     }
 
     /// Fires receive rows until none is enabled.
-    pub(crate) fn settle_receive(&mut self)
-        ensures { Settles receive_rows self.old self.new }
+    pub(crate) fn run_receive(&mut self)
+        ensures { RunsToRest receive_rows self.old self.new }
     {
         let _fired = self.fire_receive_rows();
     }
 
     /// The row to PORT_DISABLED.
-    fn disable(&mut self)
+    fn enter_port_disabled(&mut self)
         ensures { self.new ≡ partner_not_synchronized (record self.old { receive = ReceiveState.PortDisabled }) }
     {
         self.receive = ReceiveState::PortDisabled;
@@ -90,8 +90,8 @@ impl Machines {
     }
 
     /// The row to EXPIRED.
-    fn expire(&mut self)
-        ensures { self.new ≡ expire (record self.old { receive = ReceiveState.Expired }) }
+    fn enter_expired(&mut self)
+        ensures { self.new ≡ enter_expired (record self.old { receive = ReceiveState.Expired }) }
     {
         self.receive = ReceiveState::Expired;
         self.partner.state = self
@@ -104,8 +104,8 @@ impl Machines {
     }
 
     /// The row to DEFAULTED.
-    fn default(&mut self)
-        ensures { self.new ≡ default (record self.old { receive = ReceiveState.Defaulted }) }
+    fn enter_defaulted(&mut self)
+        ensures { self.new ≡ enter_defaulted (record self.old { receive = ReceiveState.Defaulted }) }
     {
         self.receive = ReceiveState::Defaulted;
         self.update_selected(&default_partner().party());
@@ -162,13 +162,13 @@ impl Machines {
 
     /// update_NTT (6.4.9): sets NTT unless the partner's view of this port is up to date. The argument is
     /// the Partner information of the LACPDU.
-    fn update_ntt(&mut self, told: &Info)
-        ensures { self.new ≡ record self.old { ntt = if knows_actor told.now self.old then self.old.ntt else true } }
+    fn update_ntt(&mut self, pdu_partner: &Info)
+        ensures { self.new ≡ record self.old { ntt = if partner_is_up_to_date pdu_partner.now self.old then self.old.ntt else true } }
     {
-        let known = told.party().matches(&self.party)
-            && told.state.is_active() == self.active
-            && told.state.is_short() == self.short
-            && told.state.is_synchronized() == self.mux.is_synchronized();
+        let known = pdu_partner.party().matches(&self.party)
+            && pdu_partner.state.is_active() == self.active
+            && pdu_partner.state.is_short() == self.short
+            && pdu_partner.state.is_synchronized() == self.mux.is_synchronized();
         if !known {
             self.ntt = true;
         }

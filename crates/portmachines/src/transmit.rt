@@ -9,7 +9,7 @@ use slowpdu::Lacpdu;
 impl Machines {
     /// Returns the LACPDU that is due, and sets NTT to false; None if none is due or three were sent in the last eleven
     /// ticks (6.4.16).
-    pub(crate) fn take_due(&mut self, max_delay: u16) -> Option<Lacpdu>
+    pub(crate) fn transmit_due(&mut self, max_delay: u16) -> Option<Lacpdu>
         ensures pdu { result ≡ (if is_due self.old then Some (pdu_of self.old max_delay) else None) }
         ensures state { self.new ≡ (if is_due self.old then sent self.old else self.old) }
     {
@@ -26,7 +26,7 @@ impl Machines {
     }
 
     /// The ages of the LACPDUs sent in the last eleven ticks.
-    pub(crate) fn kept_ages(&self) -> ArrayVec<u8, 3>
+    pub(crate) fn window_ages(&self) -> ArrayVec<u8, 3>
         ensures { result.items ≡ self.now.ages }
     {
         let mut ages = ArrayVec::new();
@@ -38,7 +38,7 @@ impl Machines {
 }
 
 /// Makes each age one tick older; an age of 11 is removed.
-pub(crate) fn grow_older(ages: &mut ArrayVec<u8, 3>)
+pub(crate) fn age_window(ages: &mut ArrayVec<u8, 3>)
     ensures { ages.new.items ≡ aged ages.old.items }
 {
     let mut kept = ArrayVec::new();

@@ -14,8 +14,8 @@ use Rattle.selection.proofs.Equal.{group-test}
 use Rattle.selection.specs.declared.view.PortView.{PortView}
 use Rattle.lagtypes.specs.Same.{same_system}
 use Rattle.lagtypes.specs.Choices.{is_unselected}
-use Rattle.selection.specs.Views.{is_detached, is_eligible, is_given}
-use Rattle.selection.specs.Choice.{choice_for, choice_of_view, given_to, has_group_of, has_member, is_empty, is_joinable, lowest_from, numbered, or_else}
+use Rattle.selection.specs.Views.{is_detached, is_eligible, has_chosen}
+use Rattle.selection.specs.Choice.{choice_for, choice_of_view, ports_that_chose, has_group_of, has_member, is_empty, is_joinable, lowest_from, aggregator_in_row, or_else}
 use Rattle.selection.specs.Joining.{IsEmpty, IsShared, Joins, ends}
 
 -- tests
@@ -34,7 +34,7 @@ or-false_right false c h = h
 
 -- members
 
-given-member : (agg : AggId) (choice : Choice) → choice ≡ Selected agg → is_given agg choice ≡ true
+given-member : (agg : AggId) (choice : Choice) → choice ≡ Selected agg → has_chosen agg choice ≡ true
 given-member agg choice e = rw e (itself agg.0)
 
 all-from_each : (P : PortView → Type 0) (views : List PortView) → AllByRecursion P views → All P views
@@ -49,8 +49,8 @@ not_both false h k = cc
 none_is_member : (agg : AggId) (views : List PortView) → has_member views agg ≡ false → AllByRecursion (λ w. w.choice ≢ Selected agg) views
 none_is_member agg [] h = tt
 none_is_member agg (w ∷ ws) h = (
-  λ e. not_both (is_given agg w.choice) (given-member agg w.choice e) (or-false_left (is_given agg w.choice) (has_member ws agg) h),
-  none_is_member agg ws (or-false_right (is_given agg w.choice) (has_member ws agg) h),
+  λ e. not_both (has_chosen agg w.choice) (given-member agg w.choice e) (or-false_left (has_chosen agg w.choice) (has_member ws agg) h),
+  none_is_member agg ws (or-false_right (has_chosen agg w.choice) (has_member ws agg) h),
 )
 
 -- what all that are kept pass, the first passes if it is kept
@@ -58,10 +58,10 @@ kept_passes : (test : PortView → Bool) (b : Bool) (w : PortView) (rest : List 
 kept_passes test true w rest h = (λ _. (and_parts (test w) (list_all test rest) h).0, (and_parts (test w) (list_all test rest) h).1)
 kept_passes test false w rest h = (λ k. absurd cc, h)
 
-members_share : (agg : AggId) (v : PortView) (views : List PortView) → list_all (has_group_of v) (given_to agg views) ≡ true → AllByRecursion (λ w. w.choice ≡ Selected agg → SamePair (ends w) (ends v)) views
+members_share : (agg : AggId) (v : PortView) (views : List PortView) → list_all (has_group_of v) (ports_that_chose agg views) ≡ true → AllByRecursion (λ w. w.choice ≡ Selected agg → SamePair (ends w) (ends v)) views
 members_share agg v [] h = tt
 members_share agg v (w ∷ ws) h =
-    let both = kept_passes (has_group_of v) (is_given agg w.choice) w (given_to agg ws) h in (
+    let both = kept_passes (has_group_of v) (has_chosen agg w.choice) w (ports_that_chose agg ws) h in (
       λ e. (group-test v w).0 (both.0 (given-member agg w.choice e)),
       members_share agg v ws both.1,
     )
@@ -76,11 +76,11 @@ record Found (first : ℕ) (keys : List Key) (key : Key) (test : AggId → Bool)
   passes : test agg ≡ true
 
 here : (first : ℕ) (k key : Key) (keys : List Key) (test : AggId → Bool) (agg : AggId) (rest : Option (ℕ × Key))
-    → (option_map numbered rest ≡ Some agg → Found (first + 1) keys key test agg)
-    → (b t : Bool) → (k.0 == key.0) ≡ b → test (numbered (first, k)) ≡ t
-    → option_map numbered (cond (b && t) (Some (first, k)) rest) ≡ Some agg → Found first (k ∷ keys) key test agg
+    → (option_map aggregator_in_row rest ≡ Some agg → Found (first + 1) keys key test agg)
+    → (b t : Bool) → (k.0 == key.0) ≡ b → test (aggregator_in_row (first, k)) ≡ t
+    → option_map aggregator_in_row (cond (b && t) (Some (first, k)) rest) ≡ Some agg → Found first (k ∷ keys) key test agg
 here first k key keys test agg rest later true true same passed e =
-    let is : numbered (first, k) ≡ agg = cc in
+    let is : aggregator_in_row (first, k) ≡ agg = cc in
     record { place = 0; counted = omega (arith, ap (λ (a : AggId). a.0) is); has_key = ap Some (exact_key k key same); passes = subst (λ a. test a ≡ true) is passed }
 here first k key keys test agg rest later true false same passed e =
     let found = later e in record { place = suc found.place; counted = omega (arith, found.counted); has_key = found.has_key; passes = found.passes }
@@ -90,8 +90,8 @@ here first k key keys test agg rest later false t same passed e =
 lowest-found : (first : ℕ) (keys : List Key) (key : Key) (test : AggId → Bool) (agg : AggId) → lowest_from first keys key test ≡ Some agg → Found first keys key test agg
 lowest-found first [] key test agg e = absurd cc
 lowest-found first (k ∷ ks) key test agg e =
-    here first k key ks test agg (find (λ row. (row.1.0 == key.0) && test (numbered row)) (enumerate_from (first + 1) ks))
-    (lowest-found (first + 1) ks key test agg) (k.0 == key.0) (test (numbered (first, k))) refl refl e
+    here first k key ks test agg (find (λ row. (row.1.0 == key.0) && test (aggregator_in_row row)) (enumerate_from (first + 1) ks))
+    (lowest-found (first + 1) ks key test agg) (k.0 == key.0) (test (aggregator_in_row (first, k))) refl refl e
 
 -- eligible
 
@@ -125,10 +125,10 @@ joins-by keys views v agg test ok found members =
 
 shared-members : (views : List PortView) (v : PortView) (agg : AggId) → is_joinable views v agg ≡ true → IsShared views agg v
 shared-members views v agg h =
-    let some = (and_parts (not (individual v.party v.partner) && has_member views agg) (list_all (has_group_of v) (given_to agg views)) h).0 in
+    let some = (and_parts (not (individual v.party v.partner) && has_member views agg) (list_all (has_group_of v) (ports_that_chose agg views)) h).0 in
     record {
       aggregatable = not-true (individual v.party v.partner) ((and_parts (not (individual v.party v.partner)) (has_member views agg) some).0);
-      one_group = all-from_each _ views (members_share agg v views ((and_parts (not (individual v.party v.partner) && has_member views agg) (list_all (has_group_of v) (given_to agg views)) h).1));
+      one_group = all-from_each _ views (members_share agg v views ((and_parts (not (individual v.party v.partner) && has_member views agg) (list_all (has_group_of v) (ports_that_chose agg views)) h).1));
     }
 
 chosen : (keys : List Key) (views : List PortView) (v : PortView) (agg : AggId) → is_eligible v ≡ true → (o : Option AggId) → lowest_from 1 keys v.party.key (is_joinable views v) ≡ o

@@ -7,23 +7,23 @@ use Rattle.lagtypes.specs.declared.identifiers.Key.{Key}
 use Rattle.lagtypes.specs.Group.{group_of, individual}
 use Rattle.selection.specs.declared.view.PortView.{PortView}
 use Rattle.lagtypes.specs.Same.{same_group}
-use Rattle.selection.specs.Views.{is_eligible, is_given, view_of}
+use Rattle.selection.specs.Views.{is_eligible, has_chosen, find_view}
 
 -- the first 65535 keys: as many as there are aggregator numbers
-unfoldable pub kept : List Key → List Key
-kept keys = take 65535 keys
+unfoldable pub first_65535 : List Key → List Key
+first_65535 keys = take 65535 keys
 
 -- there is such an aggregator; they are numbered from 1
 abbrev pub is_known : List Key → AggId → Bool
 is_known keys agg = nat_le 1 agg.0 && nat_le agg.0 (length keys)
 
 -- the ports that have chosen this aggregator
-abbrev pub given_to : AggId → List PortView → List PortView
-given_to agg views = filter (λ w. is_given agg w.choice) views
+abbrev pub ports_that_chose : AggId → List PortView → List PortView
+ports_that_chose agg views = filter (λ w. has_chosen agg w.choice) views
 
 -- some port has chosen this aggregator
 abbrev pub has_member : List PortView → AggId → Bool
-has_member views agg = list_any (λ w. is_given agg w.choice) views
+has_member views agg = list_any (λ w. has_chosen agg w.choice) views
 
 -- the links of both ports have the same group
 abbrev pub has_group_of : PortView → PortView → Bool
@@ -32,19 +32,19 @@ has_group_of v w = same_group (group_of w.party w.partner) (group_of v.party v.p
 -- the aggregator has a member, and all its members have the port's group, which is not Individual
 abbrev pub is_joinable : List PortView → PortView → AggId → Bool
 is_joinable views v agg =
-    (not (individual v.party v.partner) && has_member views agg) && list_all (has_group_of v) (given_to agg views)
+    (not (individual v.party v.partner) && has_member views agg) && list_all (has_group_of v) (ports_that_chose agg views)
 
 abbrev pub is_empty : List PortView → AggId → Bool
 is_empty views agg = not (has_member views agg)
 
-abbrev pub numbered : ℕ × Key → AggId
-numbered row = record { 0 = row.0 }
+abbrev pub aggregator_in_row : ℕ × Key → AggId
+aggregator_in_row row = record { 0 = row.0 }
 
 -- the lowest aggregator with this key that passes the test; the first key of the list is that of the aggregator with
 -- the first argument as its number
 abbrev pub lowest_from : ℕ → List Key → Key → (AggId → Bool) → Option AggId
 lowest_from first keys key test =
-    option_map numbered (find (λ row. (row.1.0 == key.0) && test (numbered row)) (enumerate_from first keys))
+    option_map aggregator_in_row (find (λ row. (row.1.0 == key.0) && test (aggregator_in_row row)) (enumerate_from first keys))
 
 abbrev pub lowest : List Key → Key → (AggId → Bool) → Option AggId
 lowest keys key test = lowest_from 1 keys key test
@@ -64,4 +64,4 @@ choice_of_view keys views (Some v) = if is_eligible v then choice_for keys views
 
 -- the aggregator that the port with this number chooses
 abbrev pub choice : List Key → List PortView → ℕ → Option AggId
-choice keys views port = choice_of_view keys views (view_of views port)
+choice keys views port = choice_of_view keys views (find_view views port)

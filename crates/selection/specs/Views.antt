@@ -19,13 +19,13 @@ pub record AreViews (views : List PortView) : Type 0 where
   pub ascending : IsStrictlyIncreasing (numbers views)
 
 -- the view of the port with this number, if there is one
-abbrev pub view_of : List PortView → ℕ → Option PortView
-view_of views port = find (λ v. v.number == port) views
+abbrev pub find_view : List PortView → ℕ → Option PortView
+find_view views port = find (λ v. v.number == port) views
 
 -- the port is SELECTED and has chosen this aggregator
-abbrev pub is_given : AggId → Choice → Bool
-is_given agg Unselected = false
-is_given agg (Selected given) = given.0 == agg.0
+abbrev pub has_chosen : AggId → Choice → Bool
+has_chosen agg Unselected = false
+has_chosen agg (Selected given) = given.0 == agg.0
 
 abbrev pub is_detached : Stage → Bool
 is_detached Detached = true
@@ -33,16 +33,16 @@ is_detached (Waiting expired) = false
 is_detached Joined = false
 
 -- DETACHED or WAITING
-abbrev pub waits : Stage → Bool
-waits Detached = true
-waits (Waiting expired) = true
-waits Joined = false
+abbrev pub is_detached_or_waiting : Stage → Bool
+is_detached_or_waiting Detached = true
+is_detached_or_waiting (Waiting expired) = true
+is_detached_or_waiting Joined = false
 
 -- WAITING with wait_while expired
-abbrev pub has_expired : Stage → Bool
-has_expired Detached = false
-has_expired (Waiting expired) = expired
-has_expired Joined = false
+abbrev pub has_waited : Stage → Bool
+has_waited Detached = false
+has_waited (Waiting expired) = expired
+has_waited Joined = false
 
 -- the port may choose an aggregator: its link is up, its receive machine is in CURRENT or DEFAULTED, its mux machine is
 -- in DETACHED, it is UNSELECTED, and its partner is not its own system (profile)

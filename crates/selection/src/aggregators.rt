@@ -2,11 +2,11 @@ ghost use Rattle.std.specs.Prelude.{◌≡◌, ◌≤◌, IfOk, IfSome, IsSomeAn
 ghost use Rattle.std.specs.List.{list_all, list_any};
 ghost use Rattle.std.specs.List.Sorted.{IsStrictlyIncreasing};
 ghost use Rattle.lagtypes.specs.Group.{group_of};
-ghost use Rattle.selection.specs.Views.{has_expired, waits};
-ghost use Rattle.selection.specs.Choice.{choice_for, given_to, has_member, is_joinable, kept};
+ghost use Rattle.selection.specs.Views.{has_waited, is_detached_or_waiting};
+ghost use Rattle.selection.specs.Choice.{choice_for, ports_that_chose, has_member, is_joinable, first_65535};
 ghost use Rattle.lagtypes.specs.Same.{same_group};
 
-use crate::view::{PortView, view_of};
+use crate::view::{PortView, find_view};
 use arrayvec::ArrayVec;
 use lagtypes::{AggId, Group, Key, NoMemory};
 use std::alloc::Global;
@@ -31,17 +31,17 @@ impl Model for Aggregators {
 
 impl Aggregators {
     ghost use Rattle.selection.specs.Joining.{Joins};
-    ghost use Rattle.selection.specs.Views.{AreViews, numbers, view_of};
+    ghost use Rattle.selection.specs.Views.{AreViews, numbers, find_view};
     ghost use Rattle.selection.specs.Choice.{choice, is_known};
     ghost use Rattle.selection.specs.Ready.{is_ready, members};
 
     /// Makes aggregators 1, 2 and so on with these keys. Keys after the first 65535 are left out. `NoMemory` if memory
     /// for them is refused (profile).
     pub fn new(alloc: Global, keys: &[Key]) -> Result<Aggregators, NoMemory>
-        ensures first { IfOk result (λ a. a ≡ kept keys.now) }
+        ensures first { IfOk result (λ a. a ≡ first_65535 keys.now) }
         ensures all { IfOk result (λ a. length keys.now ≤ 65535 → a ≡ keys.now) }
     {
-        let keys = Vec::from_slice(alloc, kept(keys))?;
+        let keys = Vec::from_slice(alloc, first_65535(keys))?;
         Ok(Aggregators { keys })
     }
 
@@ -51,10 +51,10 @@ impl Aggregators {
     /// eligible.
     pub fn choose(&self, views: &[PortView], port: u16) -> Option<AggId>
         ensures exact { result ≡ choice self.now views.now port }
-        ensures joins { IfSome result (λ agg. IsSomeAnd (view_of views.now port) (Joins self.now views.now agg)) }
+        ensures joins { IfSome result (λ agg. IsSomeAnd (find_view views.now port) (Joins self.now views.now agg)) }
     {
-        match view_of(views, port) {
-            Some(view) if view.is_eligible() => lowest(self.keys.as_slice(), views, &view),
+        match find_view(views, port) {
+            Some(view) if view.is_eligible() => choose_for(self.keys.as_slice(), views, &view),
             _ => None,
         }
     }
@@ -64,7 +64,7 @@ impl Aggregators {
     pub fn ready(&self, views: &[PortView], agg: AggId) -> bool
         ensures { result ≡ is_ready self.now views.now agg }
     {
-        self.has(agg) && one_waits(views, agg) && all_have_expired(views, agg)
+        self.has(agg) && any_waiting(views, agg) && all_have_waited(views, agg)
     }
 
     /// The numbers of the SELECTED ports that were given this aggregator, ascending. Empty if there is no such
@@ -101,8 +101,8 @@ impl Aggregators {
 }
 
 /// The first 65535 keys: aggregator numbers have 16 bits.
-fn kept(keys: &[Key]) -> &[Key]
-    ensures first { result.now ≡ kept keys.now }
+fn first_65535(keys: &[Key]) -> &[Key]
+    ensures first { result.now ≡ first_65535 keys.now }
     ensures all { length keys.now ≤ 65535 → result.now ≡ keys.now }
     ensures few { length result.now ≤ 65535 }
 {
@@ -113,23 +113,23 @@ fn kept(keys: &[Key]) -> &[Key]
     }
 }
 
-fn one_waits(views: &[PortView], agg: AggId) -> bool
-    ensures { result ≡ list_any (λ v. waits v.stage) (given_to agg views.now) }
+fn any_waiting(views: &[PortView], agg: AggId) -> bool
+    ensures { result ≡ list_any (λ v. is_detached_or_waiting v.stage) (ports_that_chose agg views.now) }
 {
     views
         .iter()
         .filter(|view| view.is_in(agg))
-        .any(|view| view.waits())
+        .any(|view| view.is_detached_or_waiting())
 }
 
-fn all_have_expired(views: &[PortView], agg: AggId) -> bool
-    ensures { result ≡ list_all (λ v. has_expired v.stage) (filter (λ v. waits v.stage) (given_to agg views.now)) }
+fn all_have_waited(views: &[PortView], agg: AggId) -> bool
+    ensures { result ≡ list_all (λ v. has_waited v.stage) (filter (λ v. is_detached_or_waiting v.stage) (ports_that_chose agg views.now)) }
 {
     views
         .iter()
         .filter(|view| view.is_in(agg))
-        .filter(|view| view.waits())
-        .all(|view| view.has_expired())
+        .filter(|view| view.is_detached_or_waiting())
+        .all(|view| view.has_waited())
 }
 
 fn has_member(views: &[PortView], agg: AggId) -> bool
@@ -139,8 +139,8 @@ fn has_member(views: &[PortView], agg: AggId) -> bool
 }
 
 /// Whether all members of the aggregator have this group.
-fn all_have(views: &[PortView], agg: AggId, group: &Group) -> bool
-    ensures { result ≡ list_all (λ w. same_group (group_of w.party w.partner) group.now) (given_to agg views.now) }
+fn all_share_group(views: &[PortView], agg: AggId, group: &Group) -> bool
+    ensures { result ≡ list_all (λ w. same_group (group_of w.party w.partner) group.now) (ports_that_chose agg views.now) }
 {
     views
         .iter()
@@ -153,11 +153,11 @@ fn is_joinable(views: &[PortView], port: &PortView, group: &Group, agg: AggId) -
     requires { group.now ≡ group_of port.now.party port.now.partner }
     ensures { result ≡ is_joinable views.now port.now agg }
 {
-    !port.is_individual() && has_member(views, agg) && all_have(views, agg, group)
+    !port.is_individual() && has_member(views, agg) && all_share_group(views, agg, group)
 }
 
 /// The lowest aggregator that an eligible port can join, else the lowest one with no member.
-fn lowest(keys: &[Key], views: &[PortView], port: &PortView) -> Option<AggId>
+fn choose_for(keys: &[Key], views: &[PortView], port: &PortView) -> Option<AggId>
     requires { length keys.now ≤ 65535 }
     ensures { result ≡ choice_for keys.now views.now port.now }
 {

@@ -2,7 +2,7 @@ ghost use Rattle.std.specs.Prelude.{◌≡◌, ◌↔◌, IsTrue};
 ghost use Rattle.std.specs.List.Sorted.{IsStrictlyIncreasing};
 ghost use Rattle.lagtypes.specs.Group.{group_of, individual};
 ghost use Rattle.lagtypes.specs.Same.{same_group, same_system};
-ghost use Rattle.selection.specs.Views.{AreViews, has_expired, is_eligible, is_given, numbers, view_of, waits};
+ghost use Rattle.selection.specs.Views.{AreViews, has_waited, is_eligible, has_chosen, numbers, find_view, is_detached_or_waiting};
 
 use lagtypes::{AggId, Choice, Group, Party};
 
@@ -39,15 +39,15 @@ pub struct PortView {
 
 impl Stage {
     /// Whether it is DETACHED or WAITING.
-    fn waits(self) -> bool
-        ensures { result ≡ waits self }
+    fn is_detached_or_waiting(self) -> bool
+        ensures { result ≡ is_detached_or_waiting self }
     {
         !matches!(self, Stage::Joined)
     }
 
     /// Whether it is WAITING and wait_while has expired.
-    fn has_expired(self) -> bool
-        ensures { result ≡ has_expired self }
+    fn has_waited(self) -> bool
+        ensures { result ≡ has_waited self }
     {
         matches!(self, Stage::Waiting { expired: true })
     }
@@ -56,7 +56,7 @@ impl Stage {
 impl PortView {
     /// Whether the port is SELECTED and was given this aggregator.
     pub(crate) fn is_in(&self, agg: AggId) -> bool
-        ensures { result ≡ is_given agg self.now.choice }
+        ensures { result ≡ has_chosen agg self.now.choice }
     {
         match self.choice {
             Choice::Unselected => false,
@@ -82,17 +82,17 @@ impl PortView {
         self.partner.system == self.party.system
     }
 
-    pub(crate) fn waits(&self) -> bool
-        ensures { result ≡ waits self.now.stage }
+    pub(crate) fn is_detached_or_waiting(&self) -> bool
+        ensures { result ≡ is_detached_or_waiting self.now.stage }
     {
-        self.stage.waits()
+        self.stage.is_detached_or_waiting()
     }
 
     /// Whether the port is in WAITING and wait_while has expired (6.4.14).
-    pub fn has_expired(&self) -> bool
-        ensures { result ≡ has_expired self.now.stage }
+    pub fn has_waited(&self) -> bool
+        ensures { result ≡ has_waited self.now.stage }
     {
-        self.stage.has_expired()
+        self.stage.has_waited()
     }
 
     /// Whether the link is Individual.
@@ -118,8 +118,8 @@ impl PortView {
 }
 
 /// The view of the port with this number.
-pub(crate) fn view_of(views: &[PortView], port: u16) -> Option<PortView>
-    ensures { result ≡ view_of views.now port }
+pub(crate) fn find_view(views: &[PortView], port: u16) -> Option<PortView>
+    ensures { result ≡ find_view views.now port }
 {
     for view in views {
         if view.number == port {

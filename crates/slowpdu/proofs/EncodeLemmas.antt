@@ -4,7 +4,7 @@ use Rattle.byteorder.specs.Endian.{big_bytes}
 use Rattle.lagtypes.specs.Octet.{octet}
 use Rattle.slowpdu.specs.declared.pdu.Lacpdu.{Lacpdu}
 use Rattle.std.specs.List.{AllByRecursion}
-use Rattle.slowpdu.specs.Layout.{Place, place, unread, StandsIn, AreOctets, IsAddress}
+use Rattle.slowpdu.specs.Layout.{Field, read_field, ignored_field, HoldsNumber, AreOctets, IsAddress}
 use Rattle.slowpdu.specs.Lacpdus.{Writes, info_fields, lacpdu_table}
 use Rattle.slowpdu.specs.declared.pdu.MarkerKind.{MarkerKind}
 use Rattle.slowpdu.specs.declared.pdu.Marker.{Marker}
@@ -33,20 +33,20 @@ written_cells p k q n s p' k' q' n' s' t a b c d e f a' b' c' d' e' f' = λ fits
     let v : Lacpdu = make_lacpdu (make_info p (a ∷ b ∷ c ∷ d ∷ e ∷ f ∷ []) k q n s) (make_info p' (a' ∷ b' ∷ c' ∷ d' ∷ e' ∷ f' ∷ []) k' q' n' s') t in
     let octet_alone : s * 1 + 0 ≡ s = omega arith in
     let octet_alone' : s' * 1 + 0 ≡ s' = omega arith in
-    let actor : AllByRecursion (StandsIn (encoded v)) (info_fields 4 v.actor) =
+    let actor : AllByRecursion (HoldsNumber (encoded v)) (info_fields 4 v.actor) =
     (two_bytes p fits.system_priority, (refl, (two_bytes k fits.key, (two_bytes q fits.port_priority, (two_bytes n fits.port, (octet_alone, tt)))))) in
-    let partner : AllByRecursion (StandsIn (encoded v)) (info_fields 24 v.partner) =
+    let partner : AllByRecursion (HoldsNumber (encoded v)) (info_fields 24 v.partner) =
     (two_bytes p' fits'.system_priority, (refl, (two_bytes k' fits'.key, (two_bytes q' fits'.port_priority, (two_bytes n' fits'.port, (octet_alone', tt)))))) in
-    let collector : List Place = unread 42 1 3 ∷ place 43 1 16 ∷ place 44 2 t ∷ unread 58 1 0 ∷ unread 59 1 0 ∷ [] in
-    let last : AllByRecursion (StandsIn (encoded v)) collector = (refl, (refl, (two_bytes t delay, (refl, (refl, tt))))) in
-    let partner_on : List Place = unread 22 1 2 ∷ place 23 1 20 ∷ (info_fields 24 v.partner ++ collector) in
-    let second : AllByRecursion (StandsIn (encoded v)) partner_on = (refl, (refl, all-append (StandsIn (encoded v)) (info_fields 24 v.partner) collector partner last)) in
+    let collector : List Field = ignored_field 42 1 3 ∷ read_field 43 1 16 ∷ read_field 44 2 t ∷ ignored_field 58 1 0 ∷ ignored_field 59 1 0 ∷ [] in
+    let last : AllByRecursion (HoldsNumber (encoded v)) collector = (refl, (refl, (two_bytes t delay, (refl, (refl, tt))))) in
+    let partner_on : List Field = ignored_field 22 1 2 ∷ read_field 23 1 20 ∷ (info_fields 24 v.partner ++ collector) in
+    let second : AllByRecursion (HoldsNumber (encoded v)) partner_on = (refl, (refl, all-append (HoldsNumber (encoded v)) (info_fields 24 v.partner) collector partner last)) in
     record {
       addresses = (fits.address, fits'.address);
       table = record {
         whole = refl;
         octets = octets;
-        stands = (refl, (refl, (refl, (refl, all-append (StandsIn (encoded v)) (info_fields 4 v.actor) partner_on actor second))));
+        stands = (refl, (refl, (refl, (refl, all-append (HoldsNumber (encoded v)) (info_fields 4 v.actor) partner_on actor second))));
         others = others_zero (lacpdu_table v) (encoded v) refl;
       };
     }

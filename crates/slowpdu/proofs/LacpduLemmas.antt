@@ -5,7 +5,7 @@ use Rattle.lagtypes.specs.Octet.{octet}
 use Rattle.slowpdu.specs.declared.pdu.Info.{Info}
 use Rattle.slowpdu.specs.declared.pdu.Lacpdu.{Lacpdu}
 use Rattle.std.specs.List.{AllByRecursion}
-use Rattle.slowpdu.specs.Layout.{IsAddress, Place, StandsIn, looked_at, payload_len, place}
+use Rattle.slowpdu.specs.Layout.{IsAddress, Field, HoldsNumber, read_fields, payload_len, read_field}
 use Rattle.slowpdu.specs.Lacpdus.{Reads, Writes, lacpdu_table, info_fields}
 use Rattle.slowpdu.specs.Faults.{fault_of}
 use Rattle.slowpdu.proofs.FaultLemmas.{no_fault_1}
@@ -43,12 +43,12 @@ same_lacpdu v w actor partner delay =
     parts
 
 abbrev read_numbers : Lacpdu → List ℕ
-read_numbers v = numbers (looked_at (lacpdu_table v))
+read_numbers v = numbers (read_fields (lacpdu_table v))
 
 -- a payload has one reading
 pub one_reading : (b : List ℕ) (v w : Lacpdu) → Reads b v → Reads b w → w ≡ v
 one_reading b v w hv hw =
-    let e : read_numbers w ≡ read_numbers v = one_table b (looked_at (lacpdu_table w)) (looked_at (lacpdu_table v)) refl hw.table.stands hv.table.stands in
+    let e : read_numbers w ≡ read_numbers v = one_table b (read_fields (lacpdu_table w)) (read_fields (lacpdu_table v)) refl hw.table.stands hv.table.stands in
     same_lacpdu w v
     (same_info w.actor v.actor (ap (number_at 2) e) (one_address w.actor.system.mac v.actor.system.mac hw.addresses.0 hv.addresses.0 (ap (number_at 3) e))
     (ap (number_at 4) e) (ap (number_at 5) e) (ap (number_at 6) e) (ap (number_at 7) e))
@@ -70,21 +70,21 @@ reads_of_append b rest v long h = record { addresses = h.addresses; table = tabl
 -- what the checks and the fields come to
 pub all_read : (b : List ℕ) (v : Lacpdu) → payload_len ≤ length b → slice_index b 0 ≡ 1 → slice_index b 3 ≡ 20 → slice_index b 23 ≡ 20 → slice_index b 43 ≡ 16
     → IsAddress v.actor.system.mac → IsAddress v.partner.system.mac
-    → AllByRecursion (StandsIn b) (info_fields 4 v.actor) → AllByRecursion (StandsIn b) (info_fields 24 v.partner)
+    → AllByRecursion (HoldsNumber b) (info_fields 4 v.actor) → AllByRecursion (HoldsNumber b) (info_fields 24 v.partner)
     → big_number 2 (drop 44 b) ≡ v.max_delay → Reads b v
 all_read b v long subtype actor_length partner_length collector_length actor_mac partner_mac actor partner delay =
-    let after : List Place = place 43 1 16 ∷ place 44 2 v.max_delay ∷ [] in
-    let after_stands : AllByRecursion (StandsIn b) after = (octet_stands b 43 ∙ collector_length, (delay, tt)) in
-    let second : List Place = place 23 1 20 ∷ (info_fields 24 v.partner ++ after) in
-    let second_stands : AllByRecursion (StandsIn b) second =
-    (octet_stands b 23 ∙ partner_length, all-append (StandsIn b) (info_fields 24 v.partner) after partner after_stands) in
-    let stands : AllByRecursion (StandsIn b) (place 0 1 1 ∷ place 3 1 20 ∷ (info_fields 4 v.actor ++ second)) =
-    (octet_stands b 0 ∙ subtype, (octet_stands b 3 ∙ actor_length, all-append (StandsIn b) (info_fields 4 v.actor) second actor second_stands)) in
+    let after : List Field = read_field 43 1 16 ∷ read_field 44 2 v.max_delay ∷ [] in
+    let after_stands : AllByRecursion (HoldsNumber b) after = (octet_stands b 43 ∙ collector_length, (delay, tt)) in
+    let second : List Field = read_field 23 1 20 ∷ (info_fields 24 v.partner ++ after) in
+    let second_stands : AllByRecursion (HoldsNumber b) second =
+    (octet_stands b 23 ∙ partner_length, all-append (HoldsNumber b) (info_fields 24 v.partner) after partner after_stands) in
+    let stands : AllByRecursion (HoldsNumber b) (read_field 0 1 1 ∷ read_field 3 1 20 ∷ (info_fields 4 v.actor ++ second)) =
+    (octet_stands b 0 ∙ subtype, (octet_stands b 3 ∙ actor_length, all-append (HoldsNumber b) (info_fields 4 v.actor) second actor second_stands)) in
     record { addresses = (actor_mac, partner_mac); table = record { long_enough = long; stands = stands } }
 
 -- an LACPDU is not refused
 pub no_lacpdu_fault : (b : List ℕ) (v : Lacpdu) → Reads b v → fault_of b ≡ None
 no_lacpdu_fault b v h =
-    let s : AllByRecursion (StandsIn b) (looked_at (lacpdu_table v)) = h.table.stands in
+    let s : AllByRecursion (HoldsNumber b) (read_fields (lacpdu_table v)) = h.table.stands in
     no_fault_1 b h.table.long_enough (sym (octet_stands b 0) ∙ s.0) (sym (octet_stands b 3) ∙ s.1.0)
     (sym (octet_stands b 23) ∙ s.1.1.1.1.1.1.1.1.0) (sym (octet_stands b 43) ∙ s.1.1.1.1.1.1.1.1.1.1.1.1.1.1.1.0)

@@ -7,33 +7,33 @@ use Rattle.std.proofs.lemmas.Bool.{and_parts, cases_Bool, cases_lt, or_cases}
 use Rattle.std.proofs.lemmas.Nat.{div-mul-add}
 use Rattle.byteorder.specs.Endian.{big_from, big_number}
 use Rattle.byteorder.specs.Numbers.{big_from-cons, big_from-lt, big_from-append, big_from-take}
-use Rattle.slowpdu.specs.Layout.{Place, StandsIn, is_within, is_covered, AreOctets, ReadsTable, WritesTable, looked_at, payload_len}
+use Rattle.slowpdu.specs.Layout.{Field, HoldsNumber, is_within, is_covered, AreOctets, ReadsTable, WritesTable, read_fields, payload_len}
 
 -- what stands in a payload stands in it whatever follows
-pub stands-append : (b rest : List ℕ) (p : Place) → p.offset + p.width ≤ length b → big_number p.width (drop p.offset (b ++ rest)) ≡ big_number p.width (drop p.offset b)
+pub stands-append : (b rest : List ℕ) (p : Field) → p.offset + p.width ≤ length b → big_number p.width (drop p.offset (b ++ rest)) ≡ big_number p.width (drop p.offset b)
 stands-append b rest p h =
     let inside : p.offset ≤ length b = omega arith in
     let long : p.width ≤ length (drop p.offset b) = omega (arith, length-drop p.offset b) in
     ap (big_number p.width) (drop-append-le p.offset b rest inside) ∙ big_from-append p.width (drop p.offset b) rest long
 
 -- the place ends in a payload
-abbrev pub fits : Place → Bool
+abbrev pub fits : Field → Bool
 fits p = nat_le (p.offset + p.width) 110
 
 le_of_test : (m n : ℕ) → nat_le m n ≡ true → m ≤ n
 le_of_test m n h = grind arith
 
 -- what stands in a payload stands in it with what follows, and the other way round
-pub all_stand-append : (b rest : List ℕ) (places : List Place) → payload_len ≤ length b → list_all fits places ≡ true
-    → AllByRecursion (StandsIn b) places → AllByRecursion (StandsIn (b ++ rest)) places
+pub all_stand-append : (b rest : List ℕ) (places : List Field) → payload_len ≤ length b → list_all fits places ≡ true
+    → AllByRecursion (HoldsNumber b) places → AllByRecursion (HoldsNumber (b ++ rest)) places
 all_stand-append b rest [] long fit h = tt
 all_stand-append b rest (p ∷ places) long fit h =
     let parts = and_parts (fits p) (list_all fits places) fit in
     let within : p.offset + p.width ≤ 110 = le_of_test (p.offset + p.width) 110 parts.0 in
     (stands-append b rest p (omega arith) ∙ h.0, all_stand-append b rest places long parts.1 h.1)
 
-all_stood : (b rest : List ℕ) (places : List Place) → payload_len ≤ length b → list_all fits places ≡ true
-    → AllByRecursion (StandsIn (b ++ rest)) places → AllByRecursion (StandsIn b) places
+all_stood : (b rest : List ℕ) (places : List Field) → payload_len ≤ length b → list_all fits places ≡ true
+    → AllByRecursion (HoldsNumber (b ++ rest)) places → AllByRecursion (HoldsNumber b) places
 all_stood b rest [] long fit h = tt
 all_stood b rest (p ∷ places) long fit h =
     let parts = and_parts (fits p) (list_all fits places) fit in
@@ -41,16 +41,16 @@ all_stood b rest (p ∷ places) long fit h =
     (sym (stands-append b rest p (omega arith)) ∙ h.0, all_stood b rest places long parts.1 h.1)
 
 -- a table is read in a payload exactly if it is read with what follows
-pub table-append : (b rest : List ℕ) (places : List Place) → payload_len ≤ length b → list_all fits (looked_at places) ≡ true
+pub table-append : (b rest : List ℕ) (places : List Field) → payload_len ≤ length b → list_all fits (read_fields places) ≡ true
     → ReadsTable b places → ReadsTable (b ++ rest) places
 table-append b rest places long fit h = record {
   long_enough = omega (arith, length-append b rest);
-  stands = all_stand-append b rest (looked_at places) long fit h.stands;
+  stands = all_stand-append b rest (read_fields places) long fit h.stands;
 }
 
-pub table_of_append : (b rest : List ℕ) (places : List Place) → payload_len ≤ length b → list_all fits (looked_at places) ≡ true
+pub table_of_append : (b rest : List ℕ) (places : List Field) → payload_len ≤ length b → list_all fits (read_fields places) ≡ true
     → ReadsTable (b ++ rest) places → ReadsTable b places
-table_of_append b rest places long fit h = record { long_enough = long; stands = all_stood b rest (looked_at places) long fit h.stands }
+table_of_append b rest places long fit h = record { long_enough = long; stands = all_stood b rest (read_fields places) long fit h.stands }
 
 choose_all : {X : Type 0} (P : X → Type 0) (t : Bool) (x : X) (xs : List X) → P x → AllByRecursion P xs → AllByRecursion P (cond t (x ∷ xs) xs)
 choose_all P true x xs h rest = (h, rest)
@@ -61,10 +61,10 @@ all-filter P test [] h = tt
 all-filter P test (x ∷ xs) h = choose_all P (test x) x (filter test xs) h.0 (all-filter P test xs h.1)
 
 -- a table that is written is read
-pub written_table : (b : List ℕ) (places : List Place) → WritesTable b places → ReadsTable b places
+pub written_table : (b : List ℕ) (places : List Field) → WritesTable b places → ReadsTable b places
 written_table b places h = record {
   long_enough = omega (arith, h.whole);
-  stands = all-filter (StandsIn b) (λ p. p.is_looked_at) places h.stands;
+  stands = all-filter (HoldsNumber b) (λ p. p.is_looked_at) places h.stands;
 }
 
 -- a quotient and a remainder are those of one number alone
@@ -97,18 +97,18 @@ one_number (suc n) (x ∷ xs) (y ∷ ys) lx ly ox oy e =
     cc (parts.0, rest)
 
 -- the offsets and widths of a table
-abbrev pub shapes : List Place → List (ℕ × ℕ)
+abbrev pub shapes : List Field → List (ℕ × ℕ)
 shapes places = map (λ p. (p.offset, p.width)) places
 
-abbrev pub numbers : List Place → List ℕ
+abbrev pub numbers : List Field → List ℕ
 numbers places = map (λ p. p.number) places
 
 same_parts : {X : Type 0} (x y : X) (xs ys : List X) → x ∷ xs ≡ y ∷ ys → (x ≡ y) × (xs ≡ ys)
 same_parts x y xs ys e = (cc, cc)
 
 -- two tables of one shape that stand in one payload have the same numbers
-pub one_table : (b : List ℕ) (ps qs : List Place) → shapes ps ≡ shapes qs
-    → AllByRecursion (StandsIn b) ps → AllByRecursion (StandsIn b) qs → numbers ps ≡ numbers qs
+pub one_table : (b : List ℕ) (ps qs : List Field) → shapes ps ≡ shapes qs
+    → AllByRecursion (HoldsNumber b) ps → AllByRecursion (HoldsNumber b) qs → numbers ps ≡ numbers qs
 one_table b [] [] e hp hq = refl
 one_table b [] (q ∷ qs) e hp hq = absurd cc
 one_table b (p ∷ ps) [] e hp hq = absurd cc
@@ -135,10 +135,10 @@ all-append P [] ys hx hy = hy
 all-append P (x ∷ xs) ys hx hy = (hx.0, all-append P xs ys hx.1 hy)
 
 -- the octets of one place
-abbrev pub cut : List ℕ → Place → List ℕ
+abbrev pub cut : List ℕ → Field → List ℕ
 cut b p = take p.width (drop p.offset b)
 
-pub octets-cut : (b : List ℕ) (p : Place) → AreOctets b → AreOctets (cut b p)
+pub octets-cut : (b : List ℕ) (p : Field) → AreOctets b → AreOctets (cut b p)
 octets-cut b p h i = elim (cases_lt i p.width) [
   | inl low ↦
       let e : slice_index (cut b p) i ≡ slice_index b (p.offset + i) = get_or-take p.width (drop p.offset b) i 0 low ∙ get_or-drop p.offset b i 0 in
@@ -150,28 +150,28 @@ octets-cut b p h i = elim (cases_lt i p.width) [
 ]
 
 -- the same number stands in two payloads, so the same octets do
-same_cut : (b c : List ℕ) (p : Place) → length b ≡ payload_len → length c ≡ payload_len → AreOctets b → AreOctets c → p.offset + p.width ≤ 110
-    → StandsIn b p → StandsIn c p → cut b p ≡ cut c p
+same_cut : (b c : List ℕ) (p : Field) → length b ≡ payload_len → length c ≡ payload_len → AreOctets b → AreOctets c → p.offset + p.width ≤ 110
+    → HoldsNumber b p → HoldsNumber c p → cut b p ≡ cut c p
 same_cut b c p lb lc ob oc within hb hc =
     one_number p.width (cut b p) (cut c p)
     (omega (arith, length-take p.width (drop p.offset b), length-drop p.offset b)) (omega (arith, length-take p.width (drop p.offset c), length-drop p.offset c))
     (octets-cut b p ob) (octets-cut c p oc)
     (number_of_taken p.width (drop p.offset b) ∙ hb ∙ sym hc ∙ sym (number_of_taken p.width (drop p.offset c)))
 
-in_cut : (b : List ℕ) (p : Place) (i : ℕ) → p.offset ≤ i → i < p.offset + p.width → slice_index b i ≡ slice_index (cut b p) (i - p.offset)
+in_cut : (b : List ℕ) (p : Field) (i : ℕ) → p.offset ≤ i → i < p.offset + p.width → slice_index b i ≡ slice_index (cut b p) (i - p.offset)
 in_cut b p i low high =
     let within : i - p.offset < p.width = omega arith in
     let back : p.offset + (i - p.offset) ≡ i = omega arith in
     sym (get_or-take p.width (drop p.offset b) (i - p.offset) 0 within ∙ get_or-drop p.offset b (i - p.offset) 0 ∙ ap (slice_index b) back)
 
-within_of_test : (i : ℕ) (p : Place) → is_within i p ≡ true → (p.offset ≤ i) × (i < p.offset + p.width)
+within_of_test : (i : ℕ) (p : Field) → is_within i p ≡ true → (p.offset ≤ i) × (i < p.offset + p.width)
 within_of_test i p h =
     let parts = and_parts (nat_le p.offset i) (nat_lt i (p.offset + p.width)) h in
     (le_of_test p.offset i parts.0, grind (arith, parts.1))
 
 -- a covered octet is the same in both
-covered_same : (b c : List ℕ) (places : List Place) (i : ℕ) → length b ≡ payload_len → length c ≡ payload_len → AreOctets b → AreOctets c
-    → list_all fits places ≡ true → AllByRecursion (StandsIn b) places → AllByRecursion (StandsIn c) places
+covered_same : (b c : List ℕ) (places : List Field) (i : ℕ) → length b ≡ payload_len → length c ≡ payload_len → AreOctets b → AreOctets c
+    → list_all fits places ≡ true → AllByRecursion (HoldsNumber b) places → AllByRecursion (HoldsNumber c) places
     → is_covered places i ≡ true → slice_index b i ≡ slice_index c i
 covered_same b c [] i lb lc ob oc fit hb hc h = absurd cc
 covered_same b c (p ∷ places) i lb lc ob oc fit hb hc h =
@@ -186,7 +186,7 @@ covered_same b c (p ∷ places) i lb lc ob oc fit hb hc h =
     ]
 
 -- one payload is written by a table
-pub one_payload : (b c : List ℕ) (places : List Place) → list_all fits places ≡ true → WritesTable b places → WritesTable c places → b ≡ c
+pub one_payload : (b c : List ℕ) (places : List Field) → list_all fits places ≡ true → WritesTable b places → WritesTable c places → b ≡ c
 one_payload b c places fit hb hc =
     ext_get_or 0 b c (hb.whole ∙ sym hc.whole) (λ i small.
     let within : i < payload_len = omega (arith, hb.whole) in

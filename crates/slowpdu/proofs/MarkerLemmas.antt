@@ -6,7 +6,7 @@ use Rattle.slowpdu.specs.declared.pdu.Marker.{Marker}
 use Rattle.slowpdu.specs.declared.pdu.MarkerKind.{MarkerKind}
 use Rattle.slowpdu.specs.declared.pdu.MarkerKind.TheVariants.{Information, Response}
 use Rattle.std.specs.List.{AllByRecursion}
-use Rattle.slowpdu.specs.Layout.{IsAddress, StandsIn, looked_at, payload_len, place}
+use Rattle.slowpdu.specs.Layout.{IsAddress, HoldsNumber, read_fields, payload_len, read_field}
 use Rattle.slowpdu.specs.Lacpdus.{Reads}
 use Rattle.slowpdu.specs.Markers.{ReadsMarker, WritesMarker, kind_number, marker_table}
 use Rattle.slowpdu.specs.Faults.{fault_of}
@@ -29,12 +29,12 @@ same_marker m n kind port system id =
     parts
 
 abbrev read_numbers : Marker → List ℕ
-read_numbers m = numbers (looked_at (marker_table m))
+read_numbers m = numbers (read_fields (marker_table m))
 
 -- a payload has one reading
 pub one_marker : (b : List ℕ) (m n : Marker) → ReadsMarker b m → ReadsMarker b n → n ≡ m
 one_marker b m n hm hn =
-    let e : read_numbers n ≡ read_numbers m = one_table b (looked_at (marker_table n)) (looked_at (marker_table m)) refl hn.table.stands hm.table.stands in
+    let e : read_numbers n ≡ read_numbers m = one_table b (read_fields (marker_table n)) (read_fields (marker_table m)) refl hn.table.stands hm.table.stands in
     same_marker n m (one_kind n.kind m.kind (ap (number_at 1) e)) (ap (number_at 3) e) (one_address n.system m.system hn.address hm.address (ap (number_at 4) e)) (ap (number_at 5) e)
 
 -- what is written is read
@@ -50,7 +50,7 @@ marker_of_append b rest m long h = record { address = h.address; table = table_o
 
 -- what the checks and the fields come to
 pub marker_read : (b : List ℕ) (m : Marker) → payload_len ≤ length b → slice_index b 0 ≡ 2 → slice_index b 3 ≡ 16 → slice_index b 2 ≡ kind_number m.kind
-    → StandsIn b (place 4 2 m.port) → IsAddress m.system → StandsIn b (place 6 6 (big_number 6 m.system)) → StandsIn b (place 12 4 m.id) → ReadsMarker b m
+    → HoldsNumber b (read_field 4 2 m.port) → IsAddress m.system → HoldsNumber b (read_field 6 6 (big_number 6 m.system)) → HoldsNumber b (read_field 12 4 m.id) → ReadsMarker b m
 marker_read b m long subtype size kind port address system id = record {
   address = address;
   table = record {
@@ -66,7 +66,7 @@ a_kind Response n e = inr e
 -- a Marker PDU is not refused
 pub no_marker_fault : (b : List ℕ) (m : Marker) → ReadsMarker b m → fault_of b ≡ None
 no_marker_fault b m h =
-    let s : AllByRecursion (StandsIn b) (looked_at (marker_table m)) = h.table.stands in
+    let s : AllByRecursion (HoldsNumber b) (read_fields (marker_table m)) = h.table.stands in
     no_fault_2 b h.table.long_enough (sym (octet_stands b 0) ∙ s.0) (sym (octet_stands b 3) ∙ s.1.1.0) (a_kind m.kind (slice_index b 2) (sym (octet_stands b 2) ∙ s.1.0))
 
 -- the first octet tells the two apart

@@ -10,7 +10,7 @@ use Rattle.slowpdu.specs.declared.pdu.MarkerKind.{MarkerKind}
 use Rattle.slowpdu.specs.declared.pdu.MarkerKind.TheVariants.{Information, Response}
 use Rattle.slowpdu.specs.declared.pdu.Pdu.{Pdu}
 use Rattle.slowpdu.specs.declared.pdu.Pdu.TheVariants as pdu
-use Rattle.slowpdu.specs.Layout.{AreOctets, IsAddress, StandsIn, payload_len, place}
+use Rattle.slowpdu.specs.Layout.{AreOctets, IsAddress, HoldsNumber, payload_len, read_field}
 use Rattle.slowpdu.specs.Lacpdus.{Reads, info_fields}
 use Rattle.slowpdu.specs.Markers.{ReadsMarker, kind_number}
 use Rattle.slowpdu.specs.Pdus.{ReadsPdu}
@@ -30,14 +30,14 @@ address_in b at = take 6 (drop at b)
 is_address : (b : List ℕ) (at : ℕ) → AreOctets b → at + 6 ≤ length b → IsAddress (address_in b at)
 is_address b at octets room =
     let six : length (address_in b at) ≡ 6 = omega (arith, length-take 6 (drop at b), length-drop at b) in
-    (six, octets-cut b (place at 6 0) octets)
+    (six, octets-cut b (read_field at 6 0) octets)
 
 -- what is said of one end
 abbrev info_in : List ℕ → ℕ → Info
 info_in b at =
     make_info (number_in 2 b at) (address_in b (at + 2)) (number_in 2 b (at + 8)) (number_in 2 b (at + 10)) (number_in 2 b (at + 12)) (number_in 1 b (at + 14))
 
-info_stands : (b : List ℕ) (at : ℕ) → AllByRecursion (StandsIn b) (info_fields at (info_in b at))
+info_stands : (b : List ℕ) (at : ℕ) → AllByRecursion (HoldsNumber b) (info_fields at (info_in b at))
 info_stands b at =
     let address : number_in 6 b (at + 2) ≡ big_number 6 (address_in b (at + 2)) = sym (number_of_taken 6 (drop (at + 2) b)) in
     (refl, (address, (refl, (refl, (refl, (refl, tt))))))

@@ -3,7 +3,7 @@ use Rattle.std.proofs.Common.{◌≡◌, ◌≤◌, ◌<◌, ◌+◌, ℕ, zero,
 use Rattle.std.specs.Prelude.{◌&&◌, ◌||◌, ◌==◌}
 use Rattle.std.proofs.lemmas.Bool.{and_parts}
 use Rattle.std.proofs.lemmas.List.{take_at, drop_at, drop-drop, drop_all, length-append, length-take}
-use Rattle.slowpdu.specs.Layout.{Place, is_covered, payload_len}
+use Rattle.slowpdu.specs.Layout.{Field, is_covered, payload_len}
 use Rattle.slowpdu.specs.Frames.{IsSlow, frame_octets}
 use Rattle.slowpdu.specs.Writing.{replaced}
 
@@ -24,7 +24,7 @@ then_put b p q xs ys o m ep eq em room =
     eq ∙ rw (taken, rest) (append_assoc (take o b) xs (ys ++ drop (o + length (xs ++ ys)) b) ∙ ap (λ (t : List ℕ). take o b ++ t) (sym (append_assoc xs ys (drop (o + length (xs ++ ys)) b))))
 
 -- whether every octet from place k on that belongs to no place of the table is 0
-abbrev pub others_are_zero : List Place → ℕ → List ℕ → Bool
+abbrev pub others_are_zero : List Field → ℕ → List ℕ → Bool
 others_are_zero places k [] = true
 others_are_zero places k (x ∷ xs) = (is_covered places k || x == 0) && others_are_zero places (suc k) xs
 
@@ -32,7 +32,7 @@ second : (a b : Bool) → (a || b) ≡ true → a ≡ false → b ≡ true
 second true b h e = absurd cc
 second false b h e = h
 
-pub other_is_zero : (places : List Place) (k : ℕ) (b : List ℕ) → others_are_zero places k b ≡ true
+pub other_is_zero : (places : List Field) (k : ℕ) (b : List ℕ) → others_are_zero places k b ≡ true
     → (i : ℕ) → is_covered places (k + i) ≡ false → slice_index b i ≡ 0
 other_is_zero places k [] h i e = refl
 other_is_zero places k (x ∷ xs) h zero e =
@@ -45,7 +45,7 @@ other_is_zero places k (x ∷ xs) h (suc i) e =
     let moved : suc k + i ≡ k + suc i = omega arith in
     other_is_zero places (suc k) xs parts.1 i (ap (is_covered places) moved ∙ e)
 
-pub others_zero : (places : List Place) (b : List ℕ) → others_are_zero places 0 b ≡ true
+pub others_zero : (places : List Field) (b : List ℕ) → others_are_zero places 0 b ≡ true
     → (i : ℕ) → i < payload_len → is_covered places i ≡ false → slice_index b i ≡ 0
 others_zero places b h i small e = other_is_zero places 0 b h i (ap (is_covered places) (zero-add i) ∙ e)
 

@@ -4,34 +4,34 @@ use Rattle.std.specs.List.{AllByRecursion, list_any}
 use Rattle.byteorder.specs.Endian.{big_number}
 
 -- a row of a table: offset, width in octets, the number that a sender writes there, and whether a receiver reads it
-pub record Place : Type 0 where
+pub record Field : Type 0 where
   pub offset : ℕ
   pub width : ℕ
   pub number : ℕ
   pub is_looked_at : Bool
 
 -- a field that a receiver reads
-abbrev pub place : ℕ → ℕ → ℕ → Place
-place offset width number = record { offset = offset; width = width; number = number; is_looked_at = true }
+abbrev pub read_field : ℕ → ℕ → ℕ → Field
+read_field offset width number = record { offset = offset; width = width; number = number; is_looked_at = true }
 
 -- a field that a receiver ignores
-abbrev pub unread : ℕ → ℕ → ℕ → Place
-unread offset width number = record { offset = offset; width = width; number = number; is_looked_at = false }
+abbrev pub ignored_field : ℕ → ℕ → ℕ → Field
+ignored_field offset width number = record { offset = offset; width = width; number = number; is_looked_at = false }
 
 -- the fields that a receiver reads
-abbrev pub looked_at : List Place → List Place
-looked_at places = filter (λ p. p.is_looked_at) places
+abbrev pub read_fields : List Field → List Field
+read_fields places = filter (λ p. p.is_looked_at) places
 
 -- the octets of the field have its number
-abbrev pub StandsIn : List ℕ → Place → Type 0
-StandsIn b p = big_number p.width (drop p.offset b) ≡ p.number
+abbrev pub HoldsNumber : List ℕ → Field → Type 0
+HoldsNumber b p = big_number p.width (drop p.offset b) ≡ p.number
 
 -- whether the octet at offset i belongs to the field
-abbrev pub is_within : ℕ → Place → Bool
+abbrev pub is_within : ℕ → Field → Bool
 is_within i p = nat_le p.offset i && nat_lt i (p.offset + p.width)
 
 -- whether the octet at offset i belongs to one of the fields
-abbrev pub is_covered : List Place → ℕ → Bool
+abbrev pub is_covered : List Field → ℕ → Bool
 is_covered places i = list_any (is_within i) places
 
 -- the length of a payload in octets
@@ -47,13 +47,13 @@ abbrev pub IsAddress : List ℕ → Type 0
 IsAddress mac = (length mac ≡ 6) × AreOctets mac
 
 -- The list is long enough, and each field that a receiver reads has its number there; nothing else matters.
-pub record ReadsTable (b : List ℕ) (places : List Place) : Type 0 where
+pub record ReadsTable (b : List ℕ) (places : List Field) : Type 0 where
   pub long_enough : payload_len ≤ length b
-  pub stands : AllByRecursion (StandsIn b) (looked_at places)
+  pub stands : AllByRecursion (HoldsNumber b) (read_fields places)
 
 -- The list is a whole payload: each field has its number there, and every other octet is 0.
-pub record WritesTable (b : List ℕ) (places : List Place) : Type 0 where
+pub record WritesTable (b : List ℕ) (places : List Field) : Type 0 where
   pub whole : length b ≡ payload_len
   pub octets : AreOctets b
-  pub stands : AllByRecursion (StandsIn b) places
+  pub stands : AllByRecursion (HoldsNumber b) places
   pub others : (i : ℕ) → i < payload_len → is_covered places i ≡ false → slice_index b i ≡ 0

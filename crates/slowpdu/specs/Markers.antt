@@ -4,7 +4,7 @@ use Rattle.byteorder.specs.Endian.{big_number}
 use Rattle.slowpdu.specs.declared.pdu.MarkerKind.{MarkerKind}
 use Rattle.slowpdu.specs.declared.pdu.MarkerKind.TheVariants.{Information, Response}
 use Rattle.slowpdu.specs.declared.pdu.Marker.{Marker}
-use Rattle.slowpdu.specs.Layout.{Place, place, unread, IsAddress, ReadsTable, WritesTable}
+use Rattle.slowpdu.specs.Layout.{Field, read_field, ignored_field, IsAddress, ReadsTable, WritesTable}
 
 -- the TLV type of each kind
 abbrev pub kind_number : MarkerKind → ℕ
@@ -13,12 +13,12 @@ kind_number Response = 2
 
 -- The table of a Marker PDU, in order: subtype and version; type and length of the TLV; Requester_Port,
 -- Requester_System, Requester_Transaction_ID and the pad; type and length of the Terminator.
-abbrev pub marker_table : Marker → List Place
+abbrev pub marker_table : Marker → List Field
 marker_table m =
-    place 0 1 2 ∷ unread 1 1 1
-    ∷ place 2 1 (kind_number m.kind) ∷ place 3 1 16
-    ∷ place 4 2 m.port ∷ place 6 6 (big_number 6 m.system) ∷ place 12 4 m.id ∷ unread 16 2 0
-    ∷ unread 18 1 0 ∷ unread 19 1 0 ∷ []
+    read_field 0 1 2 ∷ ignored_field 1 1 1
+    ∷ read_field 2 1 (kind_number m.kind) ∷ read_field 3 1 16
+    ∷ read_field 4 2 m.port ∷ read_field 6 6 (big_number 6 m.system) ∷ read_field 12 4 m.id ∷ ignored_field 16 2 0
+    ∷ ignored_field 18 1 0 ∷ ignored_field 19 1 0 ∷ []
 
 -- the payload b reads as the Marker PDU m
 pub record ReadsMarker (b : List ℕ) (m : Marker) : Type 0 where

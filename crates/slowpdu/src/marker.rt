@@ -1,5 +1,5 @@
 ghost use Rattle.std.specs.Prelude.{◌≡◌, ◌≤◌, ◌+◌, length, slice_index};
-ghost use Rattle.slowpdu.specs.Layout.{StandsIn, payload_len, place};
+ghost use Rattle.slowpdu.specs.Layout.{HoldsNumber, payload_len, read_field};
 ghost use Rattle.slowpdu.specs.Markers.{WritesMarker, kind_number, response_to};
 ghost use Rattle.slowpdu.specs.Pdus.{IsDecoded};
 
@@ -13,7 +13,7 @@ use byteorder::{BigEndian, ByteOrder};
 /// The number in four octets, the most significant first, from this offset on.
 fn u32_at(payload: &[u8], offset: usize) -> u32
     requires { offset + 4 ≤ length payload.now }
-    ensures { StandsIn payload.now (place offset 4 result) }
+    ensures { HoldsNumber payload.now (read_field offset 4 result) }
 {
     BigEndian::read_u32(&payload[offset..])
 }

@@ -4,7 +4,7 @@ ghost use Rattle.byteorder.specs.Endian.{big_number};
 ghost use Rattle.slowpdu.specs.declared.pdu.Pdu.{Pdu};
 ghost use Rattle.slowpdu.specs.declared.fault.WireFault.{WireFault};
 ghost use Rattle.slowpdu.specs.declared.fault.WireFault.TheVariants.{BadLength};
-ghost use Rattle.slowpdu.specs.Layout.{IsAddress, StandsIn, payload_len, place};
+ghost use Rattle.slowpdu.specs.Layout.{IsAddress, HoldsNumber, payload_len, read_field};
 ghost use Rattle.slowpdu.specs.Lacpdus.{info_fields};
 ghost use Rattle.slowpdu.specs.Pdus.{IsDecoded, ReadsPdu};
 ghost use Rattle.slowpdu.specs.Faults.{fault_of};
@@ -20,7 +20,7 @@ use lagtypes::{Key, PortId, State, SystemId};
 /// The number in two octets, the most significant first, from this offset on.
 pub(crate) fn u16_at(payload: &[u8], offset: usize) -> u16
     requires { offset + 2 ≤ length payload.now }
-    ensures { StandsIn payload.now (place offset 2 result) }
+    ensures { HoldsNumber payload.now (read_field offset 2 result) }
 {
     BigEndian::read_u16(&payload[offset..])
 }
@@ -29,7 +29,7 @@ pub(crate) fn u16_at(payload: &[u8], offset: usize) -> u16
 pub(crate) fn mac_at(payload: &[u8], offset: usize) -> [u8; 6]
     requires { offset + 6 ≤ length payload.now }
     ensures address { IsAddress result }
-    ensures number { StandsIn payload.now (place offset 6 (big_number 6 result)) }
+    ensures number { HoldsNumber payload.now (read_field offset 6 (big_number 6 result)) }
 {
     let mut mac = [0; 6];
     mac.copy_from_slice(&payload[offset..offset + 6]);
@@ -40,7 +40,7 @@ pub(crate) fn mac_at(payload: &[u8], offset: usize) -> [u8; 6]
 fn info_at(payload: &[u8], offset: usize) -> Info
     requires { offset + 15 ≤ length payload.now }
     ensures address { IsAddress result.system.mac }
-    ensures fields { AllByRecursion (StandsIn payload.now) (info_fields offset result) }
+    ensures fields { AllByRecursion (HoldsNumber payload.now) (info_fields offset result) }
 {
     Info {
         system: SystemId {

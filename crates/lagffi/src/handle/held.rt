@@ -1,9 +1,9 @@
 ghost use Rattle.std.specs.Prelude.{◌≡◌, Option, None, Some, IsTrue, is_some};
 ghost use Rattle.lagffi.specs.Owned.{held_owns, kept_coded};
-ghost use Rattle.lagffi.specs.declared.kept.Kept.{Kept};
+ghost use Rattle.lagffi.specs.declared.stored.StoredSystem.{StoredSystem};
 
 use super::parts::Parts;
-use crate::kept::Kept;
+use crate::stored::StoredSystem;
 use std::alloc::Global;
 use std::marker::Model;
 use std::ptr::null_mut;
@@ -14,7 +14,7 @@ use std::ptr::null_mut;
 pub struct Held {
     ptr: *mut u8,
     alloc: Global,
-    pub ghost kept: { Option Kept } by { kept_coded },
+    pub ghost kept: { Option StoredSystem } by { kept_coded },
 }
 
 impl Model for Held {
@@ -33,7 +33,7 @@ impl Held {
     }
 
     /// Holds a kept system.
-    pub(super) fn of_parts(parts: Parts<Kept, Global>) -> Held
+    pub(super) fn of_parts(parts: Parts<StoredSystem, Global>) -> Held
         ensures { result.kept ≡ Some parts.value }
     {
         let Parts { ptr, alloc } = parts;
@@ -44,13 +44,13 @@ impl Held {
     }
 
     /// Hands out the kept system that it holds.
-    pub(super) fn into_parts(self) -> Parts<Kept, Global>
+    pub(super) fn into_parts(self) -> Parts<StoredSystem, Global>
         requires { IsTrue (is_some self.kept) }
         ensures { self.kept ≡ Some result.value }
     {
         let Held { ptr, alloc } = self;
         Parts {
-            ptr: ptr as *mut Kept,
+            ptr: ptr as *mut StoredSystem,
             alloc,
         }
     }

@@ -1,4 +1,4 @@
-use crate::systems::{Row, config, end, lacpdu, mac, modulo, plays, zero};
+use crate::systems::{Row, config, end, lacpdu, mac, modulo, no_partner, plays};
 use bitflags::Flags;
 use lagsystem::{
     BadConfig, Choice, Key, PortChange, PortConfig, Received, State, System, SystemFault,
@@ -147,7 +147,7 @@ fn a_port_is_as_it_is_configured(rt: HostRuntime) -> Result<(), Fail> {
     let mut system = System::new(rt.alloc(), given, modulo)?;
     assert_eq!(rt; system.party(1), Some(own.party()));
     assert_eq!(rt; system.set_link(1, true), Ok(()));
-    let heard = frame(mac(9), &lacpdu(theirs, zero(0)));
+    let heard = frame(mac(9), &lacpdu(theirs, no_partner(0)));
     assert_eq!(rt; system.receive(1, &heard), Ok(Received::TookLacpdu));
     let due = Lacpdu {
         actor: own,

@@ -1,12 +1,12 @@
 use crate::systems::conversations::{coming_up, leaving};
 use crate::systems::plan::plan_of_all;
-use crate::systems::{DATA, Row, Seen, config, end, joined, look, marker, modulo};
+use crate::systems::{DATA, PortFacts, Row, config, end, joined, look, marker, modulo};
 use lagsystem::{AggId, Received, System, SystemFault};
 use slowpdu::MarkerKind;
 use std::alloc::Global;
 use std::test::Fail;
 
-fn looks<F: Fn(u16, usize) -> usize + Drop>(system: &System<F>) -> [Seen; 2] {
+fn looks<F: Fn(u16, usize) -> usize + Drop>(system: &System<F>) -> [PortFacts; 2] {
     [look(system, 1), look(system, 2)]
 }
 

@@ -1,4 +1,7 @@
-use crate::systems::{DATA, NOTHING, Row, Seen, config, end, lacpdu, mac, plays, unheard, zero};
+use crate::systems::{
+    DATA, NOTHING, PortFacts, Row, config, end, lacpdu, mac, no_partner, plays,
+    port_without_partner,
+};
 use bitflags::Flags;
 use lagsystem::{AggId, Choice, Group, MuxState, ReceiveState, Received, State, WireFault};
 use slowpdu::frame;
@@ -32,10 +35,10 @@ pub(crate) fn response_frame() -> [u8; 124] {
 #[test]
 fn three_answers_then_the_window_then_a_restart(rt: HostRuntime) -> Result<(), Fail> {
     let theirs = end(2, 1, 1, 0x07);
-    let takes = Row::Takes(1, theirs, zero(0));
+    let takes = Row::Takes(1, theirs, no_partner(0));
     let answers = Row::Sends(1, end(1, 1, 1, 0x07), theirs);
     let rows = [
-        Row::Shows(1, unheard(1)),
+        Row::Shows(1, port_without_partner(1)),
         Row::Link(1, true),
         takes,
         answers,
@@ -51,11 +54,11 @@ fn three_answers_then_the_window_then_a_restart(rt: HostRuntime) -> Result<(), F
         Row::Due(1, true),
         answers,
         Row::Restart,
-        Row::Shows(1, unheard(1)),
+        Row::Shows(1, port_without_partner(1)),
         Row::Silent(1),
         Row::Link(1, true),
         Row::Ticks(10),
-        Row::Sends(1, end(1, 1, 1, 0xc7), zero(0x02)),
+        Row::Sends(1, end(1, 1, 1, 0xc7), no_partner(0x02)),
     ];
     let given = config(rt.alloc(), &[1], 1)?;
     plays(&rt, rt.alloc(), given, &rows)?;
@@ -95,7 +98,7 @@ fn another_key_of_the_partner(rt: HostRuntime) -> Result<(), Fail> {
 fn an_lacpdu_of_the_own_system(rt: HostRuntime) -> Result<(), Fail> {
     let rows = [
         Row::Link(1, true),
-        Row::Takes(1, end(1, 1, 1, 0x07), zero(0)),
+        Row::Takes(1, end(1, 1, 1, 0x07), no_partner(0)),
         Row::Ticks(29),
         Row::Chosen(1, Choice::Unselected),
         Row::Distributing(1, &[]),
@@ -115,7 +118,7 @@ fn an_lacpdu_of_the_own_system(rt: HostRuntime) -> Result<(), Fail> {
 
 #[test]
 fn frames_that_change_nothing(rt: HostRuntime) -> Result<(), Fail> {
-    let mut other = lacpdu(end(1, 1, 1, 0xc7), zero(0x02));
+    let mut other = lacpdu(end(1, 1, 1, 0xc7), no_partner(0x02));
     other[0] = 3;
     let other = frame(mac(1), &other);
     let marker = marker_frame();
@@ -136,7 +139,7 @@ fn frames_that_change_nothing(rt: HostRuntime) -> Result<(), Fail> {
 fn a_port_is_given_another_key(rt: HostRuntime) -> Result<(), Fail> {
     let theirs = end(2, 1, 1, 0x07);
     let party = end(1, 1, 1, 0x04).party();
-    let chosen = Seen {
+    let chosen = PortFacts {
         party: Some(party),
         partner: Some(theirs),
         group: Some(Group::of(&party, &theirs.party())),
@@ -149,23 +152,23 @@ fn a_port_is_given_another_key(rt: HostRuntime) -> Result<(), Fail> {
         up: Some(true),
         due: Some(true),
     };
-    let again = Seen {
-        partner: Some(zero(0x02)),
+    let again = PortFacts {
+        partner: Some(no_partner(0x02)),
         receive: Some(ReceiveState::Expired),
         state: Some(State::from_bits_retain(0xc7)),
         up: Some(true),
         due: Some(true),
-        ..unheard(2)
+        ..port_without_partner(2)
     };
     let rows = [
         Row::Link(1, true),
-        Row::Takes(1, theirs, zero(0)),
+        Row::Takes(1, theirs, no_partner(0)),
         Row::Shows(1, chosen),
         Row::Configures(1, 1, false),
         Row::Shows(1, chosen),
         Row::Configures(1, 2, true),
         Row::Shows(1, again),
-        Row::Sends(1, end(1, 1, 2, 0xc7), zero(0x02)),
+        Row::Sends(1, end(1, 1, 2, 0xc7), no_partner(0x02)),
     ];
     let given = config(rt.alloc(), &[1], 1)?;
     plays(&rt, rt.alloc(), given, &rows)?;

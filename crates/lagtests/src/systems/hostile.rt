@@ -1,6 +1,6 @@
 ghost use Rattle.std.specs.Prelude.{◌<◌};
 
-use crate::systems::{config, end, lacpdu, mac, marker, modulo, zero};
+use crate::systems::{config, end, lacpdu, mac, marker, modulo, no_partner};
 use lagsystem::{AggId, Info, Key, Received, System, SystemFault, SystemId};
 use slowpdu::{MarkerKind, frame};
 use std::process::Abort;
@@ -80,7 +80,7 @@ impl Peers {
 /// The information about a port as its peer has recorded it, mostly the right one.
 fn known(draw: &mut Congruence, port: u16) -> Info {
     if draw.one_in(32) {
-        zero(0)
+        no_partner(0)
     } else {
         end(1, port, 1, draw.octet() | 0x04)
     }

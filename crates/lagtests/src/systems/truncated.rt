@@ -1,7 +1,7 @@
 use crate::systems::conversations::coming_up;
 use crate::systems::frames::response_frame;
 use crate::systems::plan::plan_of_all;
-use crate::systems::{DATA, Row, Seen, config, joined, look, modulo};
+use crate::systems::{DATA, PortFacts, Row, config, joined, look, modulo};
 use lagsystem::{AggId, Assignment, NoMemory, Received, System, SystemFault, WireFault};
 use std::alloc::Global;
 use std::test::Fail;
@@ -10,7 +10,7 @@ use std::test::Fail;
 #[derive(Debug, PartialEq, Drop)]
 struct Told {
     ports: Vec<u16>,
-    seen: [Seen; 2],
+    seen: [PortFacts; 2],
     loads: [Result<u32, SystemFault>; 2],
     aggregators: usize,
     in_first: Vec<u16>,

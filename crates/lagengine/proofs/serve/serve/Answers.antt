@@ -1,8 +1,8 @@
 use Rattle.std.proofs.Common.{ℕ, ◌∙◌, ◌≡◌, ◌≤◌, [], ap, arith, length, subst, sym, take}
 use Rattle.std.proofs.lemmas.List.{length-take-le}
 use Rattle.distributor.specs.Calls.{PicksPlaces}
-use Rattle.lagengine.specs.Inputs.{close, lines_of, prepend}
-use Rattle.lagengine.specs.Sessions.{Feeds, Finishes, Halts, session_of}
+use Rattle.lagengine.specs.Inputs.{line_if_any, lines_of, continue_line}
+use Rattle.lagengine.specs.Sessions.{Feeds, Finishes, StopsAnswering, session_of}
 use Rattle.lagengine.specs.declared.stopped.Stopped.TheVariants.{Read}
 use Rattle.lagengine.proofs.ServeLemmas.{ends, stops_by, stops_inside, stops_reading, told_first, told_more}
 use Rattle.lagengine.proofs.serve.serve.Goals as goal
@@ -73,7 +73,7 @@ returns-in_err-feed g c =
     let bound = c.in_ok-n.ensures.bound in
     let short : length ys ≤ 4096 = omega (arith, bound, c.read.auto.piece, length-take-le n piece bound) in
     let why = c.in_err-feed.field-0.0 in
-    let here = subst (λ (f : g.row.F.Denot). Halts (post f) w s.held half new (prepend s.line (lines_of ys)) why) i.algorithm c.in_err-feed.ensures.err in
+    let here = subst (λ (f : g.row.F.Denot). StopsAnswering (post f) w s.state half new (continue_line s.line (lines_of ys)) why) i.algorithm c.in_err-feed.ensures.err in
     stops_by gives r w from to old new why c.from_residual-in_err-feed.result c.from_residual-in_err-feed.ensures.1
     (stops_inside gives r w from mid to old half new s ys why i.told c.in_ok-n.ensures.ok short here c.requires.source c.requires.sink)
 
@@ -98,8 +98,8 @@ returns-in_err-finish g c =
     let short : length ys ≤ 4096 = omega (arith, bound, c.read.auto.piece, length-take-le n piece bound) in
     let none : ys ≡ [] = ap (λ k. take k piece) c.if-n-eq0.true in
     let why = c.in_err-finish.field-0.0 in
-    let here = subst (λ (f : g.row.F.Denot). Halts (post f) w s.held half new (close s.line) why) i.algorithm c.in_err-finish.ensures.err in
-    let there = subst (λ zs. Halts gives w s.held half new (prepend s.line (lines_of zs)) why) (sym none) here in
+    let here = subst (λ (f : g.row.F.Denot). StopsAnswering (post f) w s.state half new (line_if_any s.line) why) i.algorithm c.in_err-finish.ensures.err in
+    let there = subst (λ zs. StopsAnswering gives w s.state half new (continue_line s.line (lines_of zs)) why) (sym none) here in
     stops_by gives r w from to old new why c.from_residual-in_err-finish.result c.from_residual-in_err-finish.ensures.1
     (stops_inside gives r w from mid to old half new s ys why i.told c.in_ok-n.ensures.ok short there c.requires.source c.requires.sink)
 
@@ -115,5 +115,5 @@ returns g c =
     let s = session_of c.loop-session.session in
     let ys = take c.in_ok-n.n c.read.new.piece in
     let none : ys ≡ [] = ap (λ k. take k c.read.new.piece) c.if-n-eq0.true in
-    let done = subst (λ (f : g.row.F.Denot). Finishes (post f) w s.held half new (close s.line)) i.algorithm c.in_ok-finish.ensures.ok in
+    let done = subst (λ (f : g.row.F.Denot). Finishes (post f) w s.state half new (line_if_any s.line)) i.algorithm c.in_ok-finish.ensures.ok in
     ends gives r w c.args.source.now c.loop-session.source c.read.new.self c.args.sink.now half new s ys i.told c.in_ok-n.ensures.ok none (c.in_ok-n.ensures.end c.if-n-eq0.true) done

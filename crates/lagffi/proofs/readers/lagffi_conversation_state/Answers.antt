@@ -1,5 +1,5 @@
 use mathlib.Core.Path.{◌∙◌, ap}
-use Rattle.lagffi.specs.Told.{assignment_in}
+use Rattle.lagffi.specs.ReaderValues.{assignment_in}
 use Rattle.lagffi.proofs.AskingLemmas.{asked}
 use Rattle.lagffi.proofs.readers.lagffi_conversation_state.Goals as goal
 

@@ -1,5 +1,5 @@
 use mathlib.Core.Path.{◌∙◌, ap}
-use Rattle.lagffi.specs.Told.{marker_of}
+use Rattle.lagffi.specs.ReaderValues.{marker_of}
 use Rattle.lagffi.proofs.AskingLemmas.{asked}
 use Rattle.lagffi.proofs.readers.lagffi_next_marker.Goals as goal
 

@@ -1,5 +1,5 @@
 use mathlib.Core.Path.{◌∙◌, ap}
-use Rattle.lagffi.specs.Told.{info_in}
+use Rattle.lagffi.specs.ReaderValues.{info_in}
 use Rattle.lagffi.proofs.AskingLemmas.{asked}
 use Rattle.lagffi.proofs.readers.lagffi_partner.Goals as goal
 

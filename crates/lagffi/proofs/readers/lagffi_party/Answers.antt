@@ -1,5 +1,5 @@
 use mathlib.Core.Path.{◌∙◌, ap}
-use Rattle.lagffi.specs.Told.{party_in}
+use Rattle.lagffi.specs.ReaderValues.{party_in}
 use Rattle.lagffi.proofs.AskingLemmas.{asked}
 use Rattle.lagffi.proofs.readers.lagffi_party.Goals as goal
 

@@ -1,7 +1,7 @@
 use mathlib.Core.Path.{◌∙◌, ap}
-use Rattle.lagffi.specs.Told.{receive_told}
+use Rattle.lagffi.specs.ReaderValues.{receive_answer}
 use Rattle.lagffi.proofs.AskingLemmas.{asked}
 use Rattle.lagffi.proofs.readers.lagffi_receive_state.Goals as goal
 
 pub returns : goal.returns
-returns c = asked _ _ c.in-Some.ensures.taken c.with_algorithm-system.ensures.state c.with_algorithm.ensures.state c.put.ensures (c.receive_told-answer.ensures ∙ ap receive_told c.receive_state.ensures)
+returns c = asked _ _ c.in-Some.ensures.taken c.with_algorithm-system.ensures.state c.with_algorithm.ensures.state c.put.ensures (c.receive_answer-answer.ensures ∙ ap receive_answer c.receive_state.ensures)

@@ -2,35 +2,35 @@ use Rattle.std.proofs.Common.{◌≡◌, ◌∙◌, ℕ, Bool, true, false, List
 use Rattle.distributor.specs.declared.assignment.Assignment.{Assignment}
 use Rattle.distributor.specs.declared.assignment.Assignment.TheVariants.{Free, On, Wanted, Flushing}
 use Rattle.distributor.specs.Calls.{distributes}
-use Rattle.distributor.specs.Conversations.{state_of}
-use Rattle.lagsystem.specs.Readers.{agg_of_number, distributing}
-use Rattle.lagsystem.specs.Settling.{LeavesPorts, left_on}
-use Rattle.lagsystem.specs.State.{State}
+use Rattle.distributor.specs.Conversations.{assignment_of}
+use Rattle.lagsystem.specs.Readers.{aggregator_numbered, distributing}
+use Rattle.lagsystem.specs.Settling.{HoldsConversations, held_unless_on}
+use Rattle.lagsystem.specs.State.{SystemState}
 use Rattle.lagsystem.proofs.Keeps.{settling_joined, settling_parts}
 use Rattle.lagsystem.proofs.Quieting.{paced_runs, settling_quiet, still_settles}
 use Rattle.lagsystem.proofs.Rising.{ports_rise}
 use Rattle.lagsystem.proofs.laws.settling_again_is_nothing.Goals as goal
 
-still_on : (ports : List ℕ) (p : ℕ) (b : Bool) → distributes ports p ≡ b → left_on ports (if b then On p else Wanted p None) ≡ (if b then On p else Wanted p None)
+still_on : (ports : List ℕ) (p : ℕ) (b : Bool) → distributes ports p ≡ b → held_unless_on ports (if b then On p else Wanted p None) ≡ (if b then On p else Wanted p None)
 still_on ports p true e = ap (λ x. if x then On p else Wanted p None) e
 still_on ports p false e = refl
 
-left_once : (ports : List ℕ) (a : Assignment) → left_on ports (left_on ports a) ≡ left_on ports a
+left_once : (ports : List ℕ) (a : Assignment) → held_unless_on ports (held_unless_on ports a) ≡ held_unless_on ports a
 left_once ports (Free preferred) = refl
 left_once ports (On p) = still_on ports p (distributes ports p) refl
 left_once ports (Wanted p preferred) = refl
 left_once ports (Flushing p id preferred age) = refl
 
-leaves_once : (old new : State) → LeavesPorts old new → LeavesPorts new new
+leaves_once : (old new : SystemState) → HoldsConversations old new → HoldsConversations new new
 leaves_once old new h = record {
   frame = refl;
   aggs = refl;
   first = refl;
   next = refl;
   states = λ g k.
-      let ports = distributing (agg_of_number g) old.slots in
-      let same : distributing (agg_of_number g) new.slots ≡ ports = ap (λ (s : State). distributing (agg_of_number g) s.slots) h.frame in
-      h.states g k ∙ sym (left_once ports (state_of old.table g k)) ∙ ap (left_on ports) (sym (h.states g k)) ∙ ap (λ l. left_on l (state_of new.table g k)) (sym same);
+      let ports = distributing (aggregator_numbered g) old.slots in
+      let same : distributing (aggregator_numbered g) new.slots ≡ ports = ap (λ (s : SystemState). distributing (aggregator_numbered g) s.slots) h.frame in
+      h.states g k ∙ sym (left_once ports (assignment_of old.table g k)) ∙ ap (held_unless_on ports) (sym (h.states g k)) ∙ ap (λ l. held_unless_on l (assignment_of new.table g k)) (sym same);
 }
 
 pub returns : goal.returns

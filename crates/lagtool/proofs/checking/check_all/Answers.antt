@@ -1,6 +1,6 @@
 use Rattle.std.proofs.Common.{◌∙◌, ◌≡◌, ◌≤◌, [], ap, append-nil, arith, length, sym, take}
 use Rattle.std.proofs.lemmas.List.{length-take-le}
-use Rattle.lagtool.specs.Begun.{Stops}
+use Rattle.lagtool.specs.CheckEnds.{Stops}
 use Rattle.lagtool.specs.Scans.{unwritten}
 use Rattle.lagtool.specs.declared.fault.ToolFault.TheVariants.{NoMemory, Read, Write}
 use Rattle.lagtool.proofs.ReportLemmas.{all_said, ends, on_fault, pending, stops_reading, stops_short, stops_writing, told_reads, told_still, told_writes}

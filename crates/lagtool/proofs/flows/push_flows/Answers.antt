@@ -1,6 +1,6 @@
 use Rattle.std.proofs.Common.{◌<◌, ◌+◌, ◌∙◌, ap, sym, arith, refl, length}
 use Rattle.std.specs.Prelude.{string_bytes}
-use Rattle.lagtool.specs.Replayed.{row_text}
+use Rattle.lagtool.specs.ReplayReport.{aggregator_flows_text}
 use Rattle.lagtool.proofs.OfferedLemmas.{row_skipped, unset}
 use Rattle.lagtool.proofs.ReplayLemmas.{appended_both, range_more}
 use Rattle.lagtool.proofs.flows.push_flows.Goals as goal
@@ -10,10 +10,10 @@ pub loop-place-preserved : goal.loop-place-preserved
 loop-place-preserved g c =
     let i = c.loop-place.place in
     let s = c.args.system in
-    let j = c.args.world.now.joint in
+    let j = c.args.world.now.state in
     let offers = c.in_ok-offers.offers.items in
     elim c.if-index.branch [
-      | then-index+in_ok-push_row w ↦ ap string_bytes w.text-is ∙ appended_both _ _ _ _ _ _ c.loop-place.invariant w.in_ok-push_row.ensures (range_more (row_text j s) 1 i (i + 1) (i + 1) (omega arith) refl)
+      | then-index+in_ok-push_row w ↦ ap string_bytes w.text-is ∙ appended_both _ _ _ _ _ _ c.loop-place.invariant w.in_ok-push_row.ensures (range_more (aggregator_flows_text j s) 1 i (i + 1) (i + 1) (omega arith) refl)
       | else-index w ↦ (
           let inside : i + 1 < length offers = omega (arith, c.in_ok-offers.ensures.length, c.loop-place-test.true) in
           let off = unset offers c.from.result (i + 1) c.index.result.now (omega (arith, c.from.ensures)) inside c.index.ensures w.if-index.false in

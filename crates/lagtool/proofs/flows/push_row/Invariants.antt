@@ -3,9 +3,9 @@ use Rattle.std.specs.Prelude.{flat_map, string_bytes}
 use Rattle.std.specs.List.{range_with_len}
 use Rattle.lagworld.specs.Events.{side_of}
 use Rattle.lagworld.specs.Readers.{serials_of_system}
-use Rattle.lagtool.specs.Replayed.{flow_line}
+use Rattle.lagtool.specs.ReplayReport.{flow_line}
 use Rattle.lagtool.proofs.flows.push_row.Given as goal
 
 abbrev pub invariant-loop-conv : goal.invariant-loop-conv
 invariant-loop-conv g l =
-    string_bytes l.text ≡ string_bytes l.initial.text ++ flat_map (λ conv. flow_line l.system l.agg conv (serials_of_system (side_of l.system) l.agg conv l.world.joint)) (range_with_len 0 l.conv)
+    string_bytes l.text ≡ string_bytes l.initial.text ++ flat_map (λ conv. flow_line l.system l.agg conv (serials_of_system (side_of l.system) l.agg conv l.world.state)) (range_with_len 0 l.conv)

@@ -1,6 +1,6 @@
 use Rattle.std.proofs.Common.{◌≡◌, ◌++◌, take}
 use Rattle.std.specs.Prelude.{string_bytes}
-use Rattle.lagtool.specs.Replayed.{entries_text}
+use Rattle.lagtool.specs.ReplayReport.{entries_text}
 use Rattle.lagtool.proofs.replay.push_entries.Given as goal
 
 abbrev pub invariant-loop-index : goal.invariant-loop-index

@@ -1,6 +1,6 @@
 use Rattle.std.proofs.Common.{◌<◌, length, arith}
 use Rattle.lagworld.proofs.CollectingLemmas.{same_seen, put_collected, same_serials, room_there}
-use Rattle.lagworld.specs.Kept.{serials_of}
+use Rattle.lagworld.specs.Inner.{serials_of}
 use Rattle.lagworld.proofs.collecting.reserve_in.Goals as goal
 
 pub returns-clause-same : goal.returns-clause-same

@@ -1,12 +1,12 @@
 use Rattle.std.specs.Prelude.{is_some, slice_get}
 use Rattle.lagworld.specs.Asking.{without_first}
-use Rattle.lagworld.specs.Kept.{line_of}
-use Rattle.lagworld.specs.Sides.{told_side}
+use Rattle.lagworld.specs.Inner.{link_state}
+use Rattle.lagworld.specs.Sides.{model_side}
 use Rattle.lagworld.specs.State.{towards}
 use Rattle.lagworld.proofs.Putting.{sent_at}
 use Rattle.lagworld.proofs.losing.lose_at.Goals as goal
 
 pub returns : goal.returns
 returns g c =
-    sent_at (line_of g.C.Cable.items g.C.Cable.limit) (without_first (told_side c.args.side)) (λ l. is_some (slice_get (towards (told_side c.args.side) l) 0)) c.args.lines.now.items c.args.place
+    sent_at (link_state g.C.Cable.items g.C.Cable.limit) (without_first (model_side c.args.side)) (λ l. is_some (slice_get (towards (model_side c.args.side) l) 0)) c.args.links.now.items c.args.place
     c.index_mut-line.result.now c.lose.new.self c.lose.result c.requires c.index_mut-line.ensures.value c.lose.ensures.rest c.lose.ensures.lost

@@ -1,6 +1,6 @@
 use Rattle.std.proofs.Common.{◌≡◌, ◌<◌, ◌≤◌, Global, None, Some, Vec, arith, length, map, subst, suc}
-use Rattle.lagworld.specs.declared.logs.Flow.{Flow}
-use Rattle.lagworld.specs.Kept.{serials_of}
+use Rattle.lagworld.specs.declared.histories.Flow.{Flow}
+use Rattle.lagworld.specs.Inner.{serials_of}
 use Rattle.lagworld.specs.State.{serials_at}
 use Rattle.lagworld.proofs.Finding.{flow_there, flow_past}
 use Rattle.lagworld.proofs.readers.flow_at.Goals as goal

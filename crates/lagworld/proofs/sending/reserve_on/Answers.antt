@@ -1,21 +1,21 @@
 use Rattle.std.proofs.Common.{◌==◌, ap, sym, ◌∙◌, subst}
-use Rattle.lagworld.specs.Kept.{line_of}
+use Rattle.lagworld.specs.Inner.{link_state}
 use Rattle.lagworld.specs.Places.{IsReservedAt}
-use Rattle.lagworld.specs.Sides.{told_side}
-use Rattle.lagworld.specs.State.{line_of_port, port_at}
+use Rattle.lagworld.specs.Sides.{model_side}
+use Rattle.lagworld.specs.State.{link_of_port, port_at}
 use Rattle.lagworld.proofs.Putting.{place_seen}
 use Rattle.lagworld.proofs.sending.reserve_on.Goals as goal
 
 pub returns-in_ok-reserve_at-in-Some-clause-ok : goal.returns-in_ok-reserve_at-in-Some-clause-ok
 returns-in_ok-reserve_at-in-Some-clause-ok g c =
-    let s = told_side c.args.side in
-    subst (λ o. IsReservedAt g.C.Cable.reserved s o c.reserve_at.new.lines.items)
-    (sym (ap (line_of_port s c.args.port) c.reserve_at.ensures.same
-    ∙ place_seen (line_of g.C.Cable.items g.C.Cable.limit) (λ l. port_at s l == c.args.port) c.args.lines.now.items ∙ sym c.in-Some.ensures.place))
+    let s = model_side c.args.side in
+    subst (λ o. IsReservedAt g.C.Cable.reserved s o c.reserve_at.new.links.items)
+    (sym (ap (link_of_port s c.args.port) c.reserve_at.ensures.same
+    ∙ place_seen (link_state g.C.Cable.items g.C.Cable.limit) (λ l. port_at s l == c.args.port) c.args.links.now.items ∙ sym c.in-Some.ensures.place))
     c.in_ok-reserve_at-in-Some.ensures.ok
 
 pub returns-in-None-clause-ok : goal.returns-in-None-clause-ok
 returns-in-None-clause-ok g c =
-    let s = told_side c.args.side in
-    subst (λ o. IsReservedAt g.C.Cable.reserved s o c.args.lines.now.items)
-    (sym (place_seen (line_of g.C.Cable.items g.C.Cable.limit) (λ l. port_at s l == c.args.port) c.args.lines.now.items ∙ sym c.in-None.ensures.place)) tt
+    let s = model_side c.args.side in
+    subst (λ o. IsReservedAt g.C.Cable.reserved s o c.args.links.now.items)
+    (sym (place_seen (link_state g.C.Cable.items g.C.Cable.limit) (λ l. port_at s l == c.args.port) c.args.links.now.items ∙ sym c.in-None.ensures.place)) tt

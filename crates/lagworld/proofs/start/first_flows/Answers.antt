@@ -1,6 +1,6 @@
 use Rattle.std.proofs.Common.{Global, Vec, arith, map}
-use Rattle.lagworld.specs.declared.logs.Flow.{Flow}
-use Rattle.lagworld.specs.Kept.{serials_of}
+use Rattle.lagworld.specs.declared.histories.Flow.{Flow}
+use Rattle.lagworld.specs.Inner.{serials_of}
 use Rattle.lagworld.specs.Making.{first_row}
 use Rattle.lagworld.proofs.StartLemmas.{filled}
 use Rattle.lagworld.proofs.start.first_flows.Goals as goal

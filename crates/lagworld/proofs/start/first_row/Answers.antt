@@ -1,5 +1,5 @@
 use Rattle.std.proofs.Common.{arith}
-use Rattle.lagworld.specs.Kept.{serials_of}
+use Rattle.lagworld.specs.Inner.{serials_of}
 use Rattle.lagworld.specs.Making.{nothing_sent}
 use Rattle.lagworld.proofs.StartLemmas.{filled}
 use Rattle.lagworld.proofs.start.first_row.Goals as goal

@@ -4,8 +4,8 @@ use Rattle.std.proofs.lemmas.Bool.{or_left, or_right}
 use Rattle.distributor.specs.declared.assignment.Assignment.{Assignment}
 use Rattle.distributor.specs.declared.assignment.Assignment.TheVariants.{Free}
 use Rattle.distributor.specs.declared.change.Change.{Change}
-use Rattle.distributor.specs.Changes.{after}
-use Rattle.distributor.specs.Chains.{port_of, state_at, IsLinked}
+use Rattle.distributor.specs.Changes.{after_change}
+use Rattle.distributor.specs.Chains.{assignment_port, state_at, IsLinked}
 use Rattle.distributor.proofs.FlagLemmas.{change_flagged}
 use Rattle.distributor.proofs.WalkLemmas.{Walking, steps, walk_begins, walk_ends, walk_below, walk_after, walk_before, step_stays, step_leaves, stays_smaller, leaves_smaller, port_kept, walk_all, walk_found}
 use Rattle.distributor.proofs.slots.Slots.change_chain.Goals as goal
@@ -18,9 +18,9 @@ begin count states next prev h chain at f lt read =
     subst (λ a. Walking chain f count states states next prev a false) (sym e) (walk_begins chain f count states next prev h lt false)
 
 -- what is read at a place of the walk
-module _ (chain : ℕ) (change : Change) (count : ℕ) (olds states : List Assignment) (next prev : List ℕ) (at : ℕ) (found : Bool) (w : Walking chain (after change) count olds states next prev at found) (n : at ≡ count + chain → ⊥) where
+module _ (chain : ℕ) (change : Change) (count : ℕ) (olds states : List Assignment) (next prev : List ℕ) (at : ℕ) (found : Bool) (w : Walking chain (after_change change) count olds states next prev at found) (n : at ≡ count + chain → ⊥) where
   below : at < count
-  below = walk_below chain (after change) count olds states next prev at found w n
+  below = walk_below chain (after_change change) count olds states next prev at found w n
 
   read_state : (s : Assignment) → s ≡ get_or states at s → s ≡ state_at states at
   read_state s r = get_or_read states at s (omega (arith, below, w.linked.states_len)) r (Free None)
@@ -62,14 +62,14 @@ unlink-requires-clause-after c =
     let i = c.loop-at.invariant in
     let w = i.walking in
     let n : c.loop-at.at ≡ c.args.self.now.count + c.args.chain → ⊥ = λ e. c.loop-at-test.true (e ∙ sym i.end) in
-    omega (arith, walk_after c.args.chain (after c.args.change) _ _ _ _ _ _ _ w n, w.linked.prev_len)
+    omega (arith, walk_after c.args.chain (after_change c.args.change) _ _ _ _ _ _ _ w n, w.linked.prev_len)
 
 pub unlink-requires-clause-before : goal.unlink-requires-clause-before
 unlink-requires-clause-before c =
     let i = c.loop-at.invariant in
     let w = i.walking in
     let n : c.loop-at.at ≡ c.args.self.now.count + c.args.chain → ⊥ = λ e. c.loop-at-test.true (e ∙ sym i.end) in
-    omega (arith, walk_before c.args.chain (after c.args.change) _ _ _ _ _ _ _ w n, w.linked.next_len)
+    omega (arith, walk_before c.args.chain (after_change c.args.change) _ _ _ _ _ _ _ w n, w.linked.next_len)
 
 pub index_mut-requires : goal.index_mut-requires
 index_mut-requires c =
@@ -90,12 +90,12 @@ loop-at-preserved-in-None c =
     let i = c.loop-at.invariant in
     let w = i.walking in
     let n : c.loop-at.at ≡ c.args.self.now.count + c.args.chain → ⊥ = λ e. c.loop-at-test.true (e ∙ sym i.end) in
-    let is : c.apply-state.result ≡ after c.args.change (state_at c.loop-at.self.states.items c.loop-at.at) =
-    c.apply-state.ensures ∙ ap (after c.args.change) (read_state c.args.chain c.args.change _ _ _ _ _ _ _ w n _ c.index.ensures) in
+    let is : c.apply-state.result ≡ after_change c.args.change (state_at c.loop-at.self.states.items c.loop-at.at) =
+    c.apply-state.ensures ∙ ap (after_change c.args.change) (read_state c.args.chain c.args.change _ _ _ _ _ _ _ w n _ c.index.ensures) in
     let goes = read_next c.args.chain c.args.change _ _ _ _ _ _ _ w n _ c.index-at-in-loop-at.ensures in
-    let free : port_of c.apply-state.result ≡ None = sym c.port.ensures ∙ c.in-None.is in
+    let free : assignment_port c.apply-state.result ≡ None = sym c.port.ensures ∙ c.in-None.is in
     record {
-      walking = step_leaves c.args.chain (after c.args.change) _ _ _ _ _ _ _ w n _ is _ goes _ _ c.unlink.ensures.next c.unlink.ensures.prev (c.loop-at.flushing || c.is_flushing-flushing.result) (λ e. or_left c.loop-at.flushing c.is_flushing-flushing.result e) (λ e. or_right c.loop-at.flushing c.is_flushing-flushing.result (c.is_flushing-flushing.ensures ∙ e)) free;
+      walking = step_leaves c.args.chain (after_change c.args.change) _ _ _ _ _ _ _ w n _ is _ goes _ _ c.unlink.ensures.next c.unlink.ensures.prev (c.loop-at.flushing || c.is_flushing-flushing.result) (λ e. or_left c.loop-at.flushing c.is_flushing-flushing.result e) (λ e. or_right c.loop-at.flushing c.is_flushing-flushing.result (c.is_flushing-flushing.ensures ∙ e)) free;
       count = i.count;
       flags = i.flags;
       end = i.end;
@@ -106,11 +106,11 @@ loop-at-smaller-in-None c =
     let i = c.loop-at.invariant in
     let w = i.walking in
     let n : c.loop-at.at ≡ c.args.self.now.count + c.args.chain → ⊥ = λ e. c.loop-at-test.true (e ∙ sym i.end) in
-    let is : c.apply-state.result ≡ after c.args.change (state_at c.loop-at.self.states.items c.loop-at.at) =
-    c.apply-state.ensures ∙ ap (after c.args.change) (read_state c.args.chain c.args.change _ _ _ _ _ _ _ w n _ c.index.ensures) in
+    let is : c.apply-state.result ≡ after_change c.args.change (state_at c.loop-at.self.states.items c.loop-at.at) =
+    c.apply-state.ensures ∙ ap (after_change c.args.change) (read_state c.args.chain c.args.change _ _ _ _ _ _ _ w n _ c.index.ensures) in
     let goes = read_next c.args.chain c.args.change _ _ _ _ _ _ _ w n _ c.index-at-in-loop-at.ensures in
-    let free : port_of c.apply-state.result ≡ None = sym c.port.ensures ∙ c.in-None.is in
-    let small = leaves_smaller c.args.chain (after c.args.change) _ _ _ _ _ _ _ w n _ is _ goes _ _ c.unlink.ensures.next c.unlink.ensures.prev free in
+    let free : assignment_port c.apply-state.result ≡ None = sym c.port.ensures ∙ c.in-None.is in
+    let small = leaves_smaller c.args.chain (after_change c.args.change) _ _ _ _ _ _ _ w n _ is _ goes _ _ c.unlink.ensures.next c.unlink.ensures.prev free in
     subst (λ e. steps c.unlink.new.next.items e c.loop-at.self.count c.index-at-in-loop-at.result.now < steps c.loop-at.self.next.items e c.loop-at.self.count c.loop-at.at) (sym i.end)
     (subst (λ m. steps c.unlink.new.next.items (c.args.self.now.count + c.args.chain) m c.index-at-in-loop-at.result.now < steps c.loop-at.self.next.items (c.args.self.now.count + c.args.chain) m c.loop-at.at) (sym i.count) small)
 
@@ -120,12 +120,12 @@ loop-at-preserved c =
     let w = i.walking in
     let n : c.loop-at.at ≡ c.args.self.now.count + c.args.chain → ⊥ = λ e. c.loop-at-test.true (e ∙ sym i.end) in
     let same = read_state c.args.chain c.args.change _ _ _ _ _ _ _ w n _ c.index.ensures in
-    let is : c.apply-state.result ≡ after c.args.change (state_at c.loop-at.self.states.items c.loop-at.at) = c.apply-state.ensures ∙ ap (after c.args.change) same in
+    let is : c.apply-state.result ≡ after_change c.args.change (state_at c.loop-at.self.states.items c.loop-at.at) = c.apply-state.ensures ∙ ap (after_change c.args.change) same in
     let goes = read_next c.args.chain c.args.change _ _ _ _ _ _ _ w n _ c.index-at-in-loop-at.ensures in
-    let stays : port_of c.apply-state.result ≡ port_of (state_at c.loop-at.self.states.items c.loop-at.at) =
-    ap port_of is ∙ port_kept c.args.change _ c.in-Some.field-0 (sym (ap port_of is) ∙ sym c.port.ensures ∙ c.in-Some.is) in
+    let stays : assignment_port c.apply-state.result ≡ assignment_port (state_at c.loop-at.self.states.items c.loop-at.at) =
+    ap assignment_port is ∙ port_kept c.args.change _ c.in-Some.field-0 (sym (ap assignment_port is) ∙ sym c.port.ensures ∙ c.in-Some.is) in
     record {
-      walking = step_stays c.args.chain (after c.args.change) _ _ _ _ _ _ _ w n _ is _ goes (c.loop-at.flushing || c.is_flushing-flushing.result) (λ e. or_left c.loop-at.flushing c.is_flushing-flushing.result e) (λ e. or_right c.loop-at.flushing c.is_flushing-flushing.result (c.is_flushing-flushing.ensures ∙ e)) stays;
+      walking = step_stays c.args.chain (after_change c.args.change) _ _ _ _ _ _ _ w n _ is _ goes (c.loop-at.flushing || c.is_flushing-flushing.result) (λ e. or_left c.loop-at.flushing c.is_flushing-flushing.result e) (λ e. or_right c.loop-at.flushing c.is_flushing-flushing.result (c.is_flushing-flushing.ensures ∙ e)) stays;
       count = i.count;
       flags = i.flags;
       end = i.end;
@@ -137,18 +137,18 @@ loop-at-smaller c =
     let w = i.walking in
     let n : c.loop-at.at ≡ c.args.self.now.count + c.args.chain → ⊥ = λ e. c.loop-at-test.true (e ∙ sym i.end) in
     let same = read_state c.args.chain c.args.change _ _ _ _ _ _ _ w n _ c.index.ensures in
-    let is : c.apply-state.result ≡ after c.args.change (state_at c.loop-at.self.states.items c.loop-at.at) = c.apply-state.ensures ∙ ap (after c.args.change) same in
+    let is : c.apply-state.result ≡ after_change c.args.change (state_at c.loop-at.self.states.items c.loop-at.at) = c.apply-state.ensures ∙ ap (after_change c.args.change) same in
     let goes = read_next c.args.chain c.args.change _ _ _ _ _ _ _ w n _ c.index-at-in-loop-at.ensures in
-    let stays : port_of c.apply-state.result ≡ port_of (state_at c.loop-at.self.states.items c.loop-at.at) =
-    ap port_of is ∙ port_kept c.args.change _ c.in-Some.field-0 (sym (ap port_of is) ∙ sym c.port.ensures ∙ c.in-Some.is) in
-    let small = stays_smaller c.args.chain (after c.args.change) _ _ _ _ _ _ _ w n _ is _ goes stays in
+    let stays : assignment_port c.apply-state.result ≡ assignment_port (state_at c.loop-at.self.states.items c.loop-at.at) =
+    ap assignment_port is ∙ port_kept c.args.change _ c.in-Some.field-0 (sym (ap assignment_port is) ∙ sym c.port.ensures ∙ c.in-Some.is) in
+    let small = stays_smaller c.args.chain (after_change c.args.change) _ _ _ _ _ _ _ w n _ is _ goes stays in
     subst (λ e. steps c.loop-at.self.next.items e c.loop-at.self.count c.index-at-in-loop-at.result.now < steps c.loop-at.self.next.items e c.loop-at.self.count c.loop-at.at) (sym i.end)
     (subst (λ m. steps c.loop-at.self.next.items (c.args.self.now.count + c.args.chain) m c.index-at-in-loop-at.result.now < steps c.loop-at.self.next.items (c.args.self.now.count + c.args.chain) m c.loop-at.at) (sym i.count) small)
 
 pub returns-clause-states : goal.returns-clause-states
 returns-clause-states c =
     let i = c.loop-at.invariant in
-    walk_ends c.args.chain (after c.args.change) _ _ _ _ _ _ _ i.walking (c.loop-at-test.false ∙ i.end)
+    walk_ends c.args.chain (after_change c.args.change) _ _ _ _ _ _ _ i.walking (c.loop-at-test.false ∙ i.end)
 
 pub returns-clause-flagged : goal.returns-clause-flagged
 returns-clause-flagged c =
@@ -156,4 +156,4 @@ returns-clause-flagged c =
     let e = c.loop-at-test.false ∙ i.end in
     rw i.flags
     (change_flagged c.args.change c.args.chain c.args.self.now.states.items c.loop-at.self.states.items c.args.self.now.flushing.items c.loop-at.flushing c.requires.below c.requires.flagged
-    (walk_all c.args.chain (after c.args.change) _ _ _ _ _ _ _ i.walking e) (walk_found c.args.chain (after c.args.change) _ _ _ _ _ _ _ i.walking e))
+    (walk_all c.args.chain (after_change c.args.change) _ _ _ _ _ _ _ i.walking e) (walk_found c.args.chain (after_change c.args.change) _ _ _ _ _ _ _ i.walking e))

@@ -4,17 +4,17 @@ use Rattle.std.proofs.lemmas.List.{get_or_read}
 use Rattle.std.proofs.lemmas.Nat.{mod_below}
 use Rattle.distributor.specs.declared.assignment.Assignment.{Assignment}
 use Rattle.distributor.specs.declared.assignment.Assignment.TheVariants.{Free}
-use Rattle.distributor.specs.Chains.{port_of, chain_of, occurs, state_at, IsLinked}
+use Rattle.distributor.specs.Chains.{assignment_port, chain_of, occurs, state_at, IsLinked}
 use Rattle.distributor.proofs.ChainLemmas.{counted, stands_some, split_at, before_on, after_on, on_below, taken_out}
 use Rattle.distributor.proofs.slots.Slots.vacate.Goals as goal
 
 -- the slot stands in the chain of its port
 standing : (count : ℕ) (states : List Assignment) (next prev : List ℕ) (h : IsLinked count states next prev) (slot port : ℕ) (seen : Assignment) → slot < count → seen ≡ get_or states slot seen
-    → port_of seen ≡ Some port → (chain_of port < 64) × (0 < occurs slot (h.chains (chain_of port)))
+    → assignment_port seen ≡ Some port → (chain_of port < 64) × (0 < occurs slot (h.chains (chain_of port)))
 standing count states next prev h slot port seen inside read is =
     let lt : chain_of port < 64 = mod_below port 64 (omega arith) in
     let same : seen ≡ state_at states slot = get_or_read states slot seen (omega (arith, inside, h.states_len)) read (Free None) in
-    let stands = stands_some (chain_of port) port (state_at states slot) (sym (ap port_of same) ∙ is) ∙ eq-eqb (chain_of port) (chain_of port) refl in
+    let stands = stands_some (chain_of port) port (state_at states slot) (sym (ap assignment_port same) ∙ is) ∙ eq-eqb (chain_of port) (chain_of port) refl in
     (lt, omega (arith, h.homes (chain_of port) slot ∙ ap counted stands))
 
 pub unlink-requires-clause-after : goal.unlink-requires-clause-after

@@ -1,6 +1,6 @@
 use Rattle.std.proofs.Common.{ℕ, ◌∙◌, refl, subst}
-use Rattle.lagengine.specs.Sessions.{TellsNot}
-use Rattle.lagengine.specs.Sinks.{Begins, Sends}
+use Rattle.lagengine.specs.Sessions.{FailsToAnswer}
+use Rattle.lagengine.specs.Sinks.{AppendsPart, WritesAndFlushes}
 use Rattle.lagengine.specs.declared.stopped.Stopped.TheVariants.{Write, NoMemory}
 use Rattle.lagengine.proofs.SessionLemmas.{on_stop}
 use Rattle.lagengine.proofs.session.Session.end_line.Goals as goal
@@ -9,22 +9,22 @@ pub returns-in_err-answer_line-clause-err : goal.returns-in_err-answer_line-clau
 returns-in_err-answer_line-clause-err g c =
     let gives = λ (conv count place : ℕ). g.F.Fn.post c.args.self.now.engine.algorithm (conv, (count, tt)) place in
     let line = c.args.self.now.line.items in
-    let held = c.args.self.now.engine.held in
-    on_stop (TellsNot gives g.W.Write.contents line held c.args.sink.now c.args.sink.now) NoMemory c.from_residual.result c.from_residual.ensures.1 refl
+    let state = c.args.self.now.engine.state in
+    on_stop (FailsToAnswer gives g.W.Write.contents line state c.args.sink.now c.args.sink.now) NoMemory c.from_residual.result c.from_residual.ensures.1 refl
 
 pub returns-in_err-send-clause-err : goal.returns-in_err-send-clause-err
 returns-in_err-send-clause-err g c =
     let gives = λ (conv count place : ℕ). g.F.Fn.post c.args.self.now.engine.algorithm (conv, (count, tt)) place in
     let line = c.args.self.now.line.items in
-    let held = c.args.self.now.engine.held in
+    let state = c.args.self.now.engine.state in
     let (answer, answered, text) = c.in_ok-answer_line.ensures.ok in
     let e = c.in_err-send.ensures.err in
     let whole = c.as_bytes.ensures.value ∙ text in
-    on_stop (TellsNot gives g.W.Write.contents line held c.args.sink.now c.send.new.self) Write c.from_residual-in_err-send.result c.from_residual-in_err-send.ensures.1 (record {
+    on_stop (FailsToAnswer gives g.W.Write.contents line state c.args.sink.now c.send.new.self) Write c.from_residual-in_err-send.result c.from_residual-in_err-send.ensures.1 (record {
       answer = answer;
-      last = c.answer_line.new.self.engine.held;
+      last = c.answer_line.new.self.engine.state;
       answered = answered;
-      written = subst (Begins (g.W.Write.contents c.args.sink.now.writer) (g.W.Write.contents c.send.new.self.writer)) whole e.written;
+      written = subst (AppendsPart (g.W.Write.contents c.args.sink.now.writer) (g.W.Write.contents c.send.new.self.writer)) whole e.written;
       failed = e.failed;
     })
 
@@ -33,5 +33,5 @@ returns-clause-ok g c =
     let (answer, answered, text) = c.in_ok-answer_line.ensures.ok in record {
       answer = answer;
       answered = answered;
-      sent = subst (Sends g.W.Write.contents c.args.sink.now c.send.new.self) (c.as_bytes.ensures.value ∙ text) c.in_ok-send.ensures.ok;
+      sent = subst (WritesAndFlushes g.W.Write.contents c.args.sink.now c.send.new.self) (c.as_bytes.ensures.value ∙ text) c.in_ok-send.ensures.ok;
     }

@@ -1,19 +1,19 @@
 use Rattle.std.proofs.Common.{subst}
 use Rattle.lagsystem.specs.declared.drive.Reply.{Reply}
 use Rattle.lagsystem.specs.Calls.{Call}
-use Rattle.lagsystem.specs.Kept.{state_of}
+use Rattle.lagsystem.specs.Inner.{inner_state}
 use Rattle.lagsystem.specs.Sound.{Answers}
-use Rattle.lagsystem.specs.State.{Whole}
+use Rattle.lagsystem.specs.State.{SystemValue}
 use Rattle.lagsystem.proofs.Sound.{Step-sound, answers}
 use Rattle.lagsystem.proofs.calls.System.receive.Goals as goal
 
 pub invariant_of-self : goal.invariant_of-self
 invariant_of-self g c =
-    Step-sound (λ conv count place. g.F.Fn.post c.self.inside.core.distributor.algorithm (conv, (count, tt)) place) (state_of c.self.inside.core) (Call.Receive c.args.port c.args.frame.now) (Reply.Receive c.receive.result) (state_of c.receive.new.self)
+    Step-sound (λ conv count place. g.F.Fn.post c.self.inside.inner.distributor.algorithm (conv, (count, tt)) place) (inner_state c.self.inside.inner) (Call.Receive c.args.port c.args.frame.now) (Reply.Receive c.receive.result) (inner_state c.receive.new.self)
     c.receive.ensures.step c.self.invariant
 
 pub returns-clause-answers : goal.returns-clause-answers
 returns-clause-answers g c =
-    subst (λ (w : Whole g.row.F.Denot). Answers (λ conv count place. g.F.Fn.post w.algorithm (conv, (count, tt)) place) w.state (Call.Receive c.args.port c.args.frame.now) (Reply.Receive c.receive.result) (state_of c.receive.new.self)) c.self.view_is
-    (answers (λ conv count place. g.F.Fn.post c.self.inside.core.distributor.algorithm (conv, (count, tt)) place) (state_of c.self.inside.core) (Call.Receive c.args.port c.args.frame.now) (Reply.Receive c.receive.result) (state_of c.receive.new.self)
+    subst (λ (w : SystemValue g.row.F.Denot). Answers (λ conv count place. g.F.Fn.post w.algorithm (conv, (count, tt)) place) w.state (Call.Receive c.args.port c.args.frame.now) (Reply.Receive c.receive.result) (inner_state c.receive.new.self)) c.self.view_is
+    (answers (λ conv count place. g.F.Fn.post c.self.inside.inner.distributor.algorithm (conv, (count, tt)) place) (inner_state c.self.inside.inner) (Call.Receive c.args.port c.args.frame.now) (Reply.Receive c.receive.result) (inner_state c.receive.new.self)
     c.receive.ensures.step c.self.invariant)

@@ -1,5 +1,5 @@
 use Rattle.std.proofs.Common.{◌++◌, ◌∙◌, ap, arith, cond, refl, string_bytes, subst, take}
-use Rattle.lagtool.specs.Scans.{Reads, ScanState}
+use Rattle.lagtool.specs.Scans.{ReadsOctets, ScanState}
 use Rattle.lagtool.proofs.ReportLemmas.{keeps, on_ok}
 use Rattle.lagtool.proofs.scan.Scan.keep.Goals as goal
 
@@ -10,6 +10,6 @@ returns-clause-reads c =
     let t : ScanState = record { lines = i.lines; faults = i.faults; line = c.extend_from_slice.new.self.items; said = string_bytes i.report } in
     let xs = c.args.octets.now in
     let n = c.min-kept.result in
-    on_ok c.extend_from_slice.result (λ ok. subst (λ v. Reads v t xs) c.self.view_is
+    on_ok c.extend_from_slice.result (λ ok. subst (λ v. ReadsOctets v t xs) c.self.view_is
     (keeps s t xs n refl refl refl (c.extend_from_slice.ensures.items ∙ ap (λ b. cond b (i.line.items ++ take n xs) i.line.items) ok) c.requires (omega (arith, c.self.invariant, i.line.ok.0))
     (omega (arith, c.min-kept.ensures, c.len.ensures, i.line.ok.0, c.self.invariant))))

@@ -1,8 +1,8 @@
 use Rattle.std.proofs.Common.{◌∙◌, sym}
-use Rattle.lagworld.specs.Joints.{joint_of}
+use Rattle.lagworld.specs.WorldCalls.{world_state}
 use Rattle.lagworld.proofs.Agreeing.{never_differs}
 use Rattle.lagworld.proofs.world.World.agreement.Goals as goal
 
 pub returns-clause-never : goal.returns-clause-never
 returns-clause-never g c =
-    λ e. never_differs (joint_of g.C.Cable.items g.C.Cable.limit c.self.inside.core) c.args.cable c.self.invariant (sym c.agreement.ensures ∙ e)
+    λ e. never_differs (world_state g.C.Cable.items g.C.Cable.limit c.self.inside.inner) c.args.cable c.self.invariant (sym c.agreement.ensures ∙ e)

@@ -2,27 +2,27 @@ use Rattle.std.proofs.Common.{◌≡◌, ◌⊎◌, ◌∙◌, None, arith, inr,
 use Rattle.distributor.specs.Calls.{PicksPlaces}
 use Rattle.lagmodel.specs.World.{Run, Happens}
 use Rattle.lagscript.specs.declared.event.Event.{Event}
-use Rattle.lagworld.specs.State.{Joint}
-use Rattle.lagworld.specs.Events.{Gives, Runs, Steps, cause, fault_for, may_take_memory, told}
-use Rattle.lagworld.specs.Sound.{RefusesNext, gives_by, next_of}
-use Rattle.lagworld.specs.Worlds.{fixed_of, world_of}
+use Rattle.lagworld.specs.State.{WorldState}
+use Rattle.lagworld.specs.Events.{Algorithms, Runs, Steps, cause, fault_for, may_take_memory, model_event}
+use Rattle.lagworld.specs.Sound.{RefusesNext, both_algorithms, next_of}
+use Rattle.lagworld.specs.ModelWorld.{world_setup, model_world}
 use Rattle.lagworld.proofs.Running.{one_partner_of, agree_of, in_order_of, carries_of, runs_on, world_on, stopped_by}
 use Rattle.lagworld.proofs.world.World.run.Goals as goal
 
 pub returns-in-Err-clause-one_partner : goal.returns-in-Err-clause-one_partner
-returns-in-Err-clause-one_partner g c = one_partner_of c.args.self.now.joint c.alloc-alloc.ensures
+returns-in-Err-clause-one_partner g c = one_partner_of c.args.self.now.state c.alloc-alloc.ensures
 
 pub returns-in-Err-clause-agree : goal.returns-in-Err-clause-agree
-returns-in-Err-clause-agree g c = agree_of c.args.self.now.joint c.alloc-alloc.ensures
+returns-in-Err-clause-agree g c = agree_of c.args.self.now.state c.alloc-alloc.ensures
 
 pub returns-in-Err-clause-in_order : goal.returns-in-Err-clause-in_order
-returns-in-Err-clause-in_order g c = in_order_of c.args.self.now.joint c.alloc-alloc.ensures
+returns-in-Err-clause-in_order g c = in_order_of c.args.self.now.state c.alloc-alloc.ensures
 
 pub returns-in-Err-clause-sound : goal.returns-in-Err-clause-sound
 returns-in-Err-clause-sound g c = c.alloc-alloc.ensures
 
 pub returns-in-Err-clause-carries : goal.returns-in-Err-clause-carries
-returns-in-Err-clause-carries g c = carries_of c.args.self.now.joint c.alloc-alloc.ensures
+returns-in-Err-clause-carries g c = carries_of c.args.self.now.state c.alloc-alloc.ensures
 
 pub step-requires-clause-one : goal.step-requires-clause-one
 step-requires-clause-one g c =
@@ -34,54 +34,54 @@ step-requires-clause-two g c =
 
 pub returns-in-Err-step-clause-stopped : goal.returns-in-Err-step-clause-stopped
 returns-in-Err-step-clause-stopped g c =
-    let gives : Gives = gives_by (λ conv count place. g.F.Fn.post c.args.self.now.one (conv, (count, tt)) place) (λ conv count place. g.F.Fn.post c.args.self.now.two (conv, (count, tt)) place) in
-    let old = c.args.self.now.joint in
+    let gives : Algorithms = both_algorithms (λ conv count place. g.F.Fn.post c.args.self.now.one (conv, (count, tt)) place) (λ conv count place. g.F.Fn.post c.args.self.now.two (conv, (count, tt)) place) in
+    let old = c.args.self.now.state in
     let es = c.args.events.now in
     let n = c.loop-done.done in
     let e = c.index-events-done.result in
     let same = sym c.in-Err-step.ensures.unchanged in
-    let refused = subst (λ (x : Event). c.in-Err-step.fault ≡ fault_for (cause c.loop-done.self.joint x)) c.index-events-done.is c.in-Err-step.ensures.refused in
-    let memory = subst (λ (x : Event). cause c.loop-done.self.joint x ≡ None → may_take_memory x ≡ true) c.index-events-done.is c.in-Err-step.ensures.memory in
+    let refused = subst (λ (x : Event). c.in-Err-step.fault ≡ fault_for (cause c.loop-done.self.state x)) c.index-events-done.is c.in-Err-step.ensures.refused in
+    let memory = subst (λ (x : Event). cause c.loop-done.self.state x ≡ None → may_take_memory x ≡ true) c.index-events-done.is c.in-Err-step.ensures.memory in
     record {
       replies = c.loop-done.replies.items;
       within = c.loop-done.invariant.within;
-      acted = subst (λ (j : Joint). Runs gives old (take n es) c.loop-done.replies.items j) same c.loop-done.invariant.ran;
-      happened = subst (λ (j : Joint). Run (fixed_of old) (map told (take n es)) (world_of old) (world_of j)) same c.loop-done.invariant.happened;
-      fault = inr (subst (λ (j : Joint). RefusesNext j (next_of es n) c.in-Err-step.fault) same (stopped_by c.loop-done.self.joint es n e c.in-Err-step.fault c.loop-done-test.true refused memory));
+      acted = subst (λ (j : WorldState). Runs gives old (take n es) c.loop-done.replies.items j) same c.loop-done.invariant.ran;
+      happened = subst (λ (j : WorldState). Run (world_setup old) (map model_event (take n es)) (model_world old) (model_world j)) same c.loop-done.invariant.happened;
+      fault = inr (subst (λ (j : WorldState). RefusesNext j (next_of es n) c.in-Err-step.fault) same (stopped_by c.loop-done.self.state es n e c.in-Err-step.fault c.loop-done-test.true refused memory));
     }
 
 pub returns-in-Err-step-clause-one_partner : goal.returns-in-Err-step-clause-one_partner
-returns-in-Err-step-clause-one_partner g c = one_partner_of c.step.new.self.joint c.step.ensures.sound
+returns-in-Err-step-clause-one_partner g c = one_partner_of c.step.new.self.state c.step.ensures.sound
 
 pub returns-in-Err-step-clause-agree : goal.returns-in-Err-step-clause-agree
-returns-in-Err-step-clause-agree g c = agree_of c.step.new.self.joint c.step.ensures.sound
+returns-in-Err-step-clause-agree g c = agree_of c.step.new.self.state c.step.ensures.sound
 
 pub returns-in-Err-step-clause-in_order : goal.returns-in-Err-step-clause-in_order
-returns-in-Err-step-clause-in_order g c = in_order_of c.step.new.self.joint c.step.ensures.sound
+returns-in-Err-step-clause-in_order g c = in_order_of c.step.new.self.state c.step.ensures.sound
 
 pub returns-in-Err-step-clause-sound : goal.returns-in-Err-step-clause-sound
 returns-in-Err-step-clause-sound g c = c.step.ensures.sound
 
 pub returns-in-Err-step-clause-carries : goal.returns-in-Err-step-clause-carries
-returns-in-Err-step-clause-carries g c = carries_of c.step.new.self.joint c.step.ensures.sound
+returns-in-Err-step-clause-carries g c = carries_of c.step.new.self.state c.step.ensures.sound
 
 pub loop-done-preserved : goal.loop-done-preserved
 loop-done-preserved g c =
-    let old = c.args.self.now.joint in
-    let mid = c.loop-done.self.joint in
-    let new = c.step.new.self.joint in
+    let old = c.args.self.now.state in
+    let mid = c.loop-done.self.state in
+    let new = c.step.new.self.state in
     let es = c.args.events.now in
     let n = c.loop-done.done in
     let e = c.index-events-done.result in
     let r = c.in-Ok-step.reply in
-    let steps_one = subst (λ f. Steps (gives_by (λ conv count place. g.F.Fn.post f (conv, (count, tt)) place) (λ conv count place. g.F.Fn.post c.loop-done.self.two (conv, (count, tt)) place)) mid e r new) c.loop-done.invariant.one c.in-Ok-step.ensures.steps in
-    let steps_two = subst (λ f. Steps (gives_by (λ conv count place. g.F.Fn.post c.args.self.now.one (conv, (count, tt)) place) (λ conv count place. g.F.Fn.post f (conv, (count, tt)) place)) mid e r new) c.loop-done.invariant.two steps_one in
-    let gives : Gives = gives_by (λ conv count place. g.F.Fn.post c.args.self.now.one (conv, (count, tt)) place) (λ conv count place. g.F.Fn.post c.args.self.now.two (conv, (count, tt)) place) in
-    let happens = subst (λ x. Happens x (told e) (world_of mid) (world_of new)) c.loop-done.invariant.fixed c.in-Ok-step.ensures.happens in
+    let steps_one = subst (λ f. Steps (both_algorithms (λ conv count place. g.F.Fn.post f (conv, (count, tt)) place) (λ conv count place. g.F.Fn.post c.loop-done.self.two (conv, (count, tt)) place)) mid e r new) c.loop-done.invariant.one c.in-Ok-step.ensures.steps in
+    let steps_two = subst (λ f. Steps (both_algorithms (λ conv count place. g.F.Fn.post c.args.self.now.one (conv, (count, tt)) place) (λ conv count place. g.F.Fn.post f (conv, (count, tt)) place)) mid e r new) c.loop-done.invariant.two steps_one in
+    let gives : Algorithms = both_algorithms (λ conv count place. g.F.Fn.post c.args.self.now.one (conv, (count, tt)) place) (λ conv count place. g.F.Fn.post c.args.self.now.two (conv, (count, tt)) place) in
+    let happens = subst (λ x. Happens x (model_event e) (model_world mid) (model_world new)) c.loop-done.invariant.fixed c.in-Ok-step.ensures.happens in
     record {
       within = omega arith;
       ran = rw c.push_reserved.ensures.items (runs_on gives old mid new es c.loop-done.replies.items n e r c.loop-done-test.true c.loop-done.invariant.ran (subst (λ (x : Event). Steps gives mid x r new) c.index-events-done.is steps_two));
-      happened = world_on (fixed_of old) (world_of old) (world_of mid) (world_of new) es n e c.loop-done-test.true c.loop-done.invariant.happened (subst (λ (x : Event). Happens (fixed_of old) (told x) (world_of mid) (world_of new)) c.index-events-done.is happens);
+      happened = world_on (world_setup old) (model_world old) (model_world mid) (model_world new) es n e c.loop-done-test.true c.loop-done.invariant.happened (subst (λ (x : Event). Happens (world_setup old) (model_event x) (model_world mid) (model_world new)) c.index-events-done.is happens);
       fixed = c.step.ensures.fixed ∙ c.loop-done.invariant.fixed;
       sound = c.step.ensures.sound;
       one = c.step.ensures.algorithm_one ∙ c.loop-done.invariant.one;
@@ -91,16 +91,16 @@ loop-done-preserved g c =
     }
 
 pub returns-clause-one_partner : goal.returns-clause-one_partner
-returns-clause-one_partner g c = one_partner_of c.loop-done.self.joint c.loop-done.invariant.sound
+returns-clause-one_partner g c = one_partner_of c.loop-done.self.state c.loop-done.invariant.sound
 
 pub returns-clause-agree : goal.returns-clause-agree
-returns-clause-agree g c = agree_of c.loop-done.self.joint c.loop-done.invariant.sound
+returns-clause-agree g c = agree_of c.loop-done.self.state c.loop-done.invariant.sound
 
 pub returns-clause-in_order : goal.returns-clause-in_order
-returns-clause-in_order g c = in_order_of c.loop-done.self.joint c.loop-done.invariant.sound
+returns-clause-in_order g c = in_order_of c.loop-done.self.state c.loop-done.invariant.sound
 
 pub returns-clause-sound : goal.returns-clause-sound
 returns-clause-sound g c = c.loop-done.invariant.sound
 
 pub returns-clause-carries : goal.returns-clause-carries
-returns-clause-carries g c = carries_of c.loop-done.self.joint c.loop-done.invariant.sound
+returns-clause-carries g c = carries_of c.loop-done.self.state c.loop-done.invariant.sound

@@ -1,14 +1,14 @@
 use Rattle.std.proofs.Common.{◌+◌, ◌≤◌}
 use Rattle.portmachines.specs.Rows.{Reaches}
 use Rattle.portmachines.specs.Receive.{receive_rows}
-use Rattle.portmachines.specs.Left.{receive_left}
+use Rattle.portmachines.specs.RowsToFire.{receive_rows_to_fire}
 use Rattle.portmachines.proofs.machines.Machines.fire_receive_rows.Given as goal
 
 abbrev pub invariant-loop-fired : goal.invariant-loop-fired
 invariant-loop-fired l = record {
   reached : Reaches receive_rows l.fired l.initial.self l.self;
-  few : l.fired + receive_left l.self ≤ 2;
+  few : l.fired + receive_rows_to_fire l.self ≤ 2;
 }
 
 abbrev pub decreases-loop-fired : goal.decreases-loop-fired
-decreases-loop-fired l = receive_left l.self
+decreases-loop-fired l = receive_rows_to_fire l.self

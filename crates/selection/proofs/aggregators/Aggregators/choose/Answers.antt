@@ -5,5 +5,5 @@ use Rattle.selection.proofs.aggregators.Aggregators.choose.Goals as goal
 
 pub returns-in-Some-clause-joins : goal.returns-in-Some-clause-joins
 returns-in-Some-clause-joins c =
-    let e : c.lowest.result ≡ choice_for c.args.self.now c.args.views.now c.in-Some.view = search rules in
-    answer-joins _ _ _ c.in-Some.view c.lowest.result (sym c.view_of.ensures ∙ c.in-Some.is) (sym c.is_eligible.ensures ∙ c.if-is_eligible.true) e
+    let e : c.choose_for.result ≡ choice_for c.args.self.now c.args.views.now c.in-Some.view = search rules in
+    answer-joins _ _ _ c.in-Some.view c.choose_for.result (sym c.find_view.ensures ∙ c.in-Some.is) (sym c.is_eligible.ensures ∙ c.if-is_eligible.true) e

@@ -1,10 +1,10 @@
 use Rattle.std.proofs.Common.{◌≡◌, ◌≤◌, take, length}
 use Rattle.selection.specs.Views.{numbers}
-use Rattle.selection.specs.Choice.{given_to}
+use Rattle.selection.specs.Choice.{ports_that_chose}
 use Rattle.selection.proofs.aggregators.Aggregators.members.Given as goal
 
 abbrev pub invariant-loop-view : goal.invariant-loop-view
 invariant-loop-view l = record {
-  so_far : l.found.items ≡ numbers (given_to l.agg (take l.view-index l.views));
+  so_far : l.found.items ≡ numbers (ports_that_chose l.agg (take l.view-index l.views));
   few : length l.found.items ≤ l.view-index;
 }

@@ -1,9 +1,0 @@
-use Rattle.std.proofs.Common.{take, map}
-use Rattle.std.specs.Fmt.{HasWritten, IsPlainFormatter}
-use Rattle.lagengine.specs.Texts.{each_text, bar_sharing}
-use Rattle.lagengine.specs.Looks.{sharing_of}
-use Rattle.lagengine.proofs.facts.write_more.Given as goal
-
--- those so far are written
-abbrev pub invariant-loop-agg : goal.invariant-loop-agg
-invariant-loop-agg g l = IsPlainFormatter l.initial.f → HasWritten g.W.Write.write_str_gives l.initial.f (each_text bar_sharing (map sharing_of (take l.agg-index l.aggs))) l.f

@@ -1,0 +1,141 @@
+ghost use Rattle.std.specs.Prelude.{◌≡◌, map};
+ghost use Rattle.lagengine.specs.Requests.{call_named, configure_task, with_four_words, with_no_words, with_one_word, port_question, question_named, task_or_fault, with_three_words, with_two_words};
+ghost use Rattle.lagengine.specs.Requests as asked;
+ghost use Rattle.lagsystem.specs.Calls as call;
+ghost use Rattle.lagengine.specs.Words.{kind_word, link_word, number_word};
+ghost use Rattle.lagengine.specs.declared.request.Question.TheVariants as question;
+
+use crate::fault::RequestFault;
+use crate::request::{PortQuestion, Question, Task, one_word, task_alone, two_words};
+use crate::words::{kind, link, number};
+use lagsystem::{AggId, Call, Key, PortChange};
+
+/// The words, if there are exactly three.
+fn three_words<'a>(words: &[&'a str]) -> Result<(&'a str, &'a str, &'a str), RequestFault>
+    ensures { asked.three_words_octets result ≡ asked.three_words (map (λ w. w.now) words.now) }
+{
+    match words {
+        [a, b, c] => Ok((*a, *b, *c)),
+        _ => Err(RequestFault::Count),
+    }
+}
+
+/// The words, if there are exactly four.
+fn four_words<'a>(words: &[&'a str]) -> Result<(&'a str, &'a str, &'a str, &'a str), RequestFault>
+    ensures { asked.four_words_octets result ≡ asked.four_words (map (λ w. w.now) words.now) }
+{
+    match words {
+        [a, b, c, d] => Ok((*a, *b, *c, *d)),
+        _ => Err(RequestFault::Count),
+    }
+}
+
+fn set_link(words: &[&str]) -> Result<Task, RequestFault>
+    ensures { task_or_fault result ≡ with_two_words number_word link_word (λ port up. asked.Make (call.Set_link port up)) (map (λ w. w.now) words.now) }
+{
+    let (port, up) = two_words(words)?;
+    Ok(Task::Make(Call::SetLink(number(port)?, link(up)?)))
+}
+
+fn transmit(words: &[&str]) -> Result<Task, RequestFault>
+    ensures { task_or_fault result ≡ with_one_word number_word (λ port. asked.Make (call.Transmit port)) (map (λ w. w.now) words.now) }
+{
+    let port = one_word(words)?;
+    Ok(Task::Make(Call::Transmit(number(port)?)))
+}
+
+fn configure(words: &[&str]) -> Result<Task, RequestFault>
+    ensures { task_or_fault result ≡ with_four_words number_word number_word number_word kind_word configure_task (map (λ w. w.now) words.now) }
+{
+    let (port, key, priority, aggregatable) = four_words(words)?;
+    let port = number(port)?;
+    let key = Key(number(key)?);
+    let priority = number(priority)?;
+    let aggregatable = kind(aggregatable)?;
+    let change = PortChange {
+        key,
+        priority,
+        aggregatable,
+    };
+    Ok(Task::Make(Call::Configure(port, change)))
+}
+
+fn move_conversation(words: &[&str]) -> Result<Task, RequestFault>
+    ensures { task_or_fault result ≡ with_three_words number_word number_word number_word
+        (λ g k port. asked.Make (call.Move_conversation (asked.agg_id g) k port)) (map (λ w. w.now) words.now) }
+{
+    let (agg, conv, port) = three_words(words)?;
+    let agg = AggId(number(agg)?);
+    let conv = number(conv)?;
+    let port = number(port)?;
+    Ok(Task::Make(Call::MoveConversation(agg, conv, port)))
+}
+
+fn force(words: &[&str]) -> Result<Task, RequestFault>
+    ensures { task_or_fault result ≡ with_two_words number_word number_word (λ g k. asked.Make (call.Force (asked.agg_id g) k)) (map (λ w. w.now) words.now) }
+{
+    let (agg, conv) = two_words(words)?;
+    let agg = AggId(number(agg)?);
+    Ok(Task::Make(Call::Force(agg, number(conv)?)))
+}
+
+/// Reads the words of a question about one port.
+fn port_question(asked: PortQuestion, words: &[&str]) -> Result<Task, RequestFault>
+    ensures { task_or_fault result ≡ port_question asked (map (λ w. w.now) words.now) }
+{
+    let port = one_word(words)?;
+    Ok(Task::Ask(Question::Port(asked, number(port)?)))
+}
+
+fn distributing(words: &[&str]) -> Result<Task, RequestFault>
+    ensures { task_or_fault result ≡ with_one_word number_word (λ n. asked.Ask (question.Distributing (asked.agg_id n))) (map (λ w. w.now) words.now) }
+{
+    let agg = one_word(words)?;
+    Ok(Task::Ask(Question::Distributing(AggId(number(agg)?))))
+}
+
+fn conversation_state(words: &[&str]) -> Result<Task, RequestFault>
+    ensures { task_or_fault result ≡ with_two_words number_word number_word (λ g k. asked.Ask (question.ConversationState (asked.agg_id g) k))
+        (map (λ w. w.now) words.now) }
+{
+    let (agg, conv) = two_words(words)?;
+    let agg = AggId(number(agg)?);
+    Ok(Task::Ask(Question::ConversationState(agg, number(conv)?)))
+}
+
+/// Reads a question, by its first word and the words after it.
+fn question_named(name: &str, words: &[&str]) -> Result<Task, RequestFault>
+    ensures { task_or_fault result ≡ question_named name.now (map (λ w. w.now) words.now) }
+{
+    match name {
+        "look" => port_question(PortQuestion::Look, words),
+        "up" => port_question(PortQuestion::Up, words),
+        "state" => port_question(PortQuestion::State, words),
+        "receive-state" => port_question(PortQuestion::ReceiveState, words),
+        "due" => port_question(PortQuestion::Due, words),
+        "load" => port_question(PortQuestion::Load, words),
+        "ports" => task_alone(Task::Ask(Question::Ports), words),
+        "aggregators" => task_alone(Task::Ask(Question::Aggregators), words),
+        "distributing" => distributing(words),
+        "conversation-state" => conversation_state(words),
+        "next-marker" => task_alone(Task::Ask(Question::NextMarker), words),
+        "all" => task_alone(Task::Ask(Question::All), words),
+        _ => Err(RequestFault::Word),
+    }
+}
+
+/// Reads a call or a question, by its first word and the words after it.
+pub(crate) fn call_named(name: &str, words: &[&str]) -> Result<Task, RequestFault>
+    ensures { task_or_fault result ≡ call_named name.now (map (λ w. w.now) words.now) }
+{
+    match name {
+        "tick" => task_alone(Task::Make(Call::Tick), words),
+        "restart" => task_alone(Task::Make(Call::Restart), words),
+        "link" => set_link(words),
+        "transmit" => transmit(words),
+        "configure" => configure(words),
+        "move" => move_conversation(words),
+        "force" => force(words),
+        _ => question_named(name, words),
+    }
+}

@@ -1,0 +1,414 @@
+ghost use Rattle.std.specs.Prelude.{◌≡◌, Option};
+ghost use Rattle.lagffi.specs.ReaderValues.{assigned, assignment_in, assignment_of, choice_answer, end_of, group_in, group_of, info_in, info_of, marker_of, mux_answer, no_assignment, no_end, no_group, no_info, no_marker, no_party, state_answer, party_in, party_of, receive_answer};
+
+use crate::values::{LagNumber, NO_PORT, NOT_ASSIGNED, OK};
+use bitflags::Flags;
+use lagsystem::{AggId, Assignment, Choice, Group, Info, MuxState, Party, ReceiveState, State};
+use lagtypes::End;
+
+/// The state octet of a port.
+pub(crate) fn state_answer(answer: Option<State>) -> LagNumber
+    ensures { result ≡ state_answer answer }
+{
+    match answer {
+        Some(state) => LagNumber::told(u64::from(state.bits())),
+        None => LagNumber::refused(NO_PORT),
+    }
+}
+
+/// The state of a receive machine.
+pub(crate) fn receive_answer(answer: Option<ReceiveState>) -> LagNumber
+    ensures { result ≡ receive_answer answer }
+{
+    let Some(state) = answer else {
+        return LagNumber::refused(NO_PORT);
+    };
+    let number = match state {
+        ReceiveState::Initialize => 0,
+        ReceiveState::PortDisabled => 1,
+        ReceiveState::Expired => 2,
+        ReceiveState::Defaulted => 3,
+        ReceiveState::Current => 4,
+    };
+    LagNumber::told(number)
+}
+
+/// The state of a mux machine.
+pub(crate) fn mux_answer(answer: Option<MuxState>) -> LagNumber
+    ensures { result ≡ mux_answer answer }
+{
+    let Some(state) = answer else {
+        return LagNumber::refused(NO_PORT);
+    };
+    let number = match state {
+        MuxState::Detached => 0,
+        MuxState::Waiting => 1,
+        MuxState::Attached => 2,
+        MuxState::CollectingDistributing => 3,
+    };
+    LagNumber::told(number)
+}
+
+/// The aggregator that a port has chosen, or 0.
+pub(crate) fn choice_answer(answer: Option<Choice>) -> LagNumber
+    ensures { result ≡ choice_answer answer }
+{
+    match answer {
+        Some(Choice::Unselected) => LagNumber::told(0),
+        Some(Choice::Selected(AggId(agg))) => LagNumber::told(u64::from(agg)),
+        None => LagNumber::refused(NO_PORT),
+    }
+}
+
+/// The own parameters of a port, or why they are not told.
+#[repr(C)]
+#[derive(Clone, Copy)]
+pub struct LagParty {
+    /// 0, or the number of the refusal.
+    pub status: u32,
+    /// The system priority.
+    pub system_priority: u16,
+    /// The MAC address of the system.
+    pub system_mac: [u8; 6],
+    /// The key.
+    pub key: u16,
+    /// The port priority.
+    pub port_priority: u16,
+    /// The port number.
+    pub port: u16,
+    /// The Aggregation bit.
+    pub aggregatable: bool,
+}
+
+impl LagParty {
+    /// Refused with this number.
+    pub(crate) fn refused(why: u32) -> LagParty
+        ensures { result ≡ no_party why }
+    {
+        LagParty {
+            status: why,
+            system_priority: 0,
+            system_mac: [0; 6],
+            key: 0,
+            port_priority: 0,
+            port: 0,
+            aggregatable: false,
+        }
+    }
+
+    /// The own parameters of a port.
+    fn this(party: &Party) -> LagParty
+        ensures { result ≡ party_of party.now }
+    {
+        LagParty {
+            status: OK,
+            system_priority: party.system.priority,
+            system_mac: party.system.mac,
+            key: party.key.0,
+            port_priority: party.port.priority,
+            port: party.port.number,
+            aggregatable: party.aggregatable,
+        }
+    }
+
+    /// What a reader tells.
+    pub(crate) fn of(answer: Option<Party>) -> LagParty
+        ensures { result ≡ party_in answer }
+    {
+        match answer {
+            Some(party) => LagParty::this(&party),
+            None => LagParty::refused(NO_PORT),
+        }
+    }
+}
+
+/// The recorded partner of a port, or why it is not told.
+#[repr(C)]
+#[derive(Clone, Copy)]
+pub struct LagInfo {
+    /// 0, or the number of the refusal.
+    pub status: u32,
+    /// The system priority.
+    pub system_priority: u16,
+    /// The MAC address of the system.
+    pub system_mac: [u8; 6],
+    /// The key.
+    pub key: u16,
+    /// The port priority.
+    pub port_priority: u16,
+    /// The port number.
+    pub port: u16,
+    /// The state octet.
+    pub state: u8,
+}
+
+impl LagInfo {
+    /// Refused with this number.
+    pub(crate) fn refused(why: u32) -> LagInfo
+        ensures { result ≡ no_info why }
+    {
+        LagInfo {
+            status: why,
+            system_priority: 0,
+            system_mac: [0; 6],
+            key: 0,
+            port_priority: 0,
+            port: 0,
+            state: 0,
+        }
+    }
+
+    /// The recorded partner of a port.
+    fn this(info: &Info) -> LagInfo
+        ensures { result ≡ info_of info.now }
+    {
+        LagInfo {
+            status: OK,
+            system_priority: info.system.priority,
+            system_mac: info.system.mac,
+            key: info.key.0,
+            port_priority: info.port.priority,
+            port: info.port.number,
+            state: info.state.bits(),
+        }
+    }
+
+    /// What a reader tells.
+    pub(crate) fn of(answer: Option<Info>) -> LagInfo
+        ensures { result ≡ info_in answer }
+    {
+        match answer {
+            Some(info) => LagInfo::this(&info),
+            None => LagInfo::refused(NO_PORT),
+        }
+    }
+}
+
+/// One end of a group.
+#[repr(C)]
+#[derive(Clone, Copy)]
+pub struct LagEnd {
+    /// The system priority.
+    pub system_priority: u16,
+    /// The MAC address of the system.
+    pub system_mac: [u8; 6],
+    /// The key.
+    pub key: u16,
+    /// Whether the link is individual, and the port named.
+    pub individual: bool,
+    /// The port priority, or 0.
+    pub port_priority: u16,
+    /// The port number, or 0.
+    pub port: u16,
+}
+
+impl LagEnd {
+    /// This end.
+    fn of(end: &End) -> LagEnd
+        ensures { result ≡ end_of end.now }
+    {
+        let (individual, port_priority, port) = match end.port {
+            Some(port) => (true, port.priority, port.number),
+            None => (false, 0, 0),
+        };
+        LagEnd {
+            system_priority: end.system.priority,
+            system_mac: end.system.mac,
+            key: end.key.0,
+            individual,
+            port_priority,
+            port,
+        }
+    }
+
+    /// No end.
+    fn none() -> LagEnd
+        ensures { result ≡ no_end }
+    {
+        LagEnd {
+            system_priority: 0,
+            system_mac: [0; 6],
+            key: 0,
+            individual: false,
+            port_priority: 0,
+            port: 0,
+        }
+    }
+}
+
+/// The group of a port, or why it is not told.
+#[repr(C)]
+#[derive(Clone, Copy)]
+pub struct LagGroup {
+    /// 0, or the number of the refusal.
+    pub status: u32,
+    /// The lower end.
+    pub lower: LagEnd,
+    /// The other end.
+    pub upper: LagEnd,
+}
+
+impl LagGroup {
+    /// Refused with this number.
+    pub(crate) fn refused(why: u32) -> LagGroup
+        ensures { result ≡ no_group why }
+    {
+        LagGroup {
+            status: why,
+            lower: LagEnd::none(),
+            upper: LagEnd::none(),
+        }
+    }
+
+    /// The group of a port.
+    fn this(group: &Group) -> LagGroup
+        ensures { result ≡ group_of group.now }
+    {
+        LagGroup {
+            status: OK,
+            lower: LagEnd::of(&group.lower()),
+            upper: LagEnd::of(&group.upper()),
+        }
+    }
+
+    /// What a reader tells.
+    pub(crate) fn of(answer: Option<Group>) -> LagGroup
+        ensures { result ≡ group_in answer }
+    {
+        match answer {
+            Some(group) => LagGroup::this(&group),
+            None => LagGroup::refused(NO_PORT),
+        }
+    }
+}
+
+/// The state of a conversation, or why it is not told.
+#[repr(C)]
+#[derive(Clone, Copy)]
+pub struct LagAssignment {
+    /// 0, or the number of the refusal.
+    pub status: u32,
+    /// 0 Free, 1 On, 2 Wanted, 3 Flushing.
+    pub what: u32,
+    /// Of 1, 2 and 3 the port; else 0.
+    pub port: u16,
+    /// Whether there is a preferred port.
+    pub prefers: bool,
+    /// The preferred port, or 0.
+    pub preferred: u16,
+    /// Of 3 the identifier of its marker; else 0.
+    pub id: u32,
+    /// Of 3 the ticks since its marker; else 0.
+    pub age: u8,
+}
+
+impl LagAssignment {
+    /// Refused with this number.
+    pub(crate) fn refused(why: u32) -> LagAssignment
+        ensures { result ≡ no_assignment why }
+    {
+        LagAssignment {
+            status: why,
+            what: 0,
+            port: 0,
+            prefers: false,
+            preferred: 0,
+            id: 0,
+            age: 0,
+        }
+    }
+
+    /// The state with this number, the port of the conversation or 0, and its preferred port, if it has one.
+    fn on(what: u32, port: u16, preferred: Option<u16>) -> LagAssignment
+        ensures { result ≡ assigned what port preferred }
+    {
+        let (prefers, preferred) = match preferred {
+            Some(port) => (true, port),
+            None => (false, 0),
+        };
+        LagAssignment {
+            status: OK,
+            what,
+            port,
+            prefers,
+            preferred,
+            id: 0,
+            age: 0,
+        }
+    }
+
+    /// The state of a conversation.
+    fn this(assignment: &Assignment) -> LagAssignment
+        ensures { result ≡ assignment_of assignment.now }
+    {
+        match *assignment {
+            Assignment::Free { preferred } => LagAssignment::on(0, 0, preferred),
+            Assignment::On(port) => LagAssignment::on(1, port, None),
+            Assignment::Wanted { port, preferred } => LagAssignment::on(2, port, preferred),
+            Assignment::Flushing {
+                port,
+                id,
+                preferred,
+                age,
+            } => {
+                let mut told = LagAssignment::on(3, port, preferred);
+                told.id = id;
+                told.age = age;
+                told
+            }
+        }
+    }
+
+    /// What a reader tells.
+    pub(crate) fn of(answer: Option<Assignment>) -> LagAssignment
+        ensures { result ≡ assignment_in answer }
+    {
+        match answer {
+            Some(assignment) => LagAssignment::this(&assignment),
+            None => LagAssignment::refused(NOT_ASSIGNED),
+        }
+    }
+}
+
+/// The identifier of the next marker, or why it is not told.
+#[repr(C)]
+#[derive(Clone, Copy)]
+pub struct LagMarker {
+    /// 0, or the number of the refusal.
+    pub status: u32,
+    /// Whether one is left.
+    pub left: bool,
+    /// The identifier, or 0.
+    pub id: u32,
+}
+
+impl LagMarker {
+    /// Refused with this number.
+    pub(crate) fn refused(why: u32) -> LagMarker
+        ensures { result ≡ no_marker why }
+    {
+        LagMarker {
+            status: why,
+            left: false,
+            id: 0,
+        }
+    }
+
+    /// The identifier, if one is left.
+    pub(crate) fn of(next: Option<u32>) -> LagMarker
+        ensures { result ≡ marker_of next }
+    {
+        match next {
+            Some(id) => LagMarker {
+                status: OK,
+                left: true,
+                id,
+            },
+            None => LagMarker {
+                status: OK,
+                left: false,
+                id: 0,
+            },
+        }
+    }
+}

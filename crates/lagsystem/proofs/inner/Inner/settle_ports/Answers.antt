@@ -1,0 +1,13 @@
+use Rattle.std.proofs.Common.{arith, refl, sym}
+use Rattle.std.specs.Vec.{with_items}
+use Rattle.std.proofs.lemmas.List.{with_items_is}
+use Rattle.lagsystem.specs.Inner.{inner_state}
+use Rattle.lagsystem.proofs.StateLemmas.{settled_made}
+use Rattle.lagsystem.proofs.inner.Inner.settle_ports.Goals as goal
+
+pub returns-clause-settled : goal.returns-clause-settled
+returns-clause-settled g c =
+    let v = c.args.self.now.slots in
+    let s = inner_state c.args.self.now in
+    let ws = c.settle.new.slots in
+    settled_made s ws (with_items v ws).items (with_items_is v ws (omega arith)) (c.settle.ensures s refl (sym c.deref_mut.ensures.value))

@@ -1,0 +1,29 @@
+use Rattle.std.proofs.Common.{◌∙◌, ap, arith, refl}
+use Rattle.std.specs.Vec.{with_items}
+use Rattle.std.proofs.lemmas.List.{with_items_is}
+use Rattle.lagsystem.specs.Inner.{inner_state}
+use Rattle.lagsystem.specs.Holding.{aggregators_in_use}
+use Rattle.lagsystem.proofs.Settled.{moved_on, tick_carried, tick_made}
+use Rattle.lagsystem.proofs.inner.Inner.tick.Goals as goal
+
+pub settle-requires : goal.settle-requires
+settle-requires g c =
+    let s = inner_state c.args.self.now in
+    let v = c.args.self.now.slots in
+    let ws = c.tick_each.new.slots in
+    let news = (with_items v ws).items in
+    let t = c.tick.new.self.table in
+    let own = tick_made s c.deref_mut.result.now ws news t c.deref_mut.ensures.value (with_items_is v ws (omega arith)) refl c.tick_each.ensures c.tick.ensures.changed in
+    tick_carried s (moved_on s news t) c.as_slice.result.now c.requires own (c.as_slice.ensures.value ∙ c.aggregators_in_use-before.ensures ∙ ap aggregators_in_use c.deref.ensures.value)
+
+pub returns-clause-step : goal.returns-clause-step
+returns-clause-step g c =
+    let s = inner_state c.args.self.now in
+    let v = c.args.self.now.slots in
+    let ws = c.tick_each.new.slots in
+    let news = (with_items v ws).items in
+    let t = c.tick.new.self.table in (
+      moved_on s news t,
+      tick_made s c.deref_mut.result.now ws news t c.deref_mut.ensures.value (with_items_is v ws (omega arith)) refl c.tick_each.ensures c.tick.ensures.changed,
+      c.settle.ensures.settled,
+    )

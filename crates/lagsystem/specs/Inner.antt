@@ -1,0 +1,17 @@
+-- The fields of a system as a state.
+use Rattle.lagsystem.specs.declared.inner.Inner.{Inner}
+use Rattle.lagsystem.specs.State.{SystemState, SystemValue}
+
+abbrev pub inner_state : {F : Type 0} → Inner F → SystemState
+inner_state c = record {
+  system = c.system;
+  max_delay = c.max_delay;
+  first_marker = c.distributor.table.first;
+  keys = c.aggregators;
+  ports = c.ports.items;
+  slots = c.slots.items;
+  table = c.distributor.table;
+}
+
+abbrev pub inner_value : {F : Type 0} → Inner F → SystemValue F
+inner_value c = record { state = inner_state c; algorithm = c.distributor.algorithm }

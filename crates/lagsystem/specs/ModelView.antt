@@ -1,0 +1,164 @@
+-- A system, its calls and its replies, as the two-system theorem (lagmodel) sees them.
+use Rattle.std.specs.Prelude.{◌≡◌, ℕ, zero, suc, Bool, true, ◌&&◌, ◌||◌, if◌then◌else◌, Option, Some, None, List, [], ◌∷◌, slice_get, option_map, Ok}
+use Rattle.std.specs.List.{AllByRecursion}
+use Rattle.lagtypes.specs.declared.identifiers.Key.{Key}
+use Rattle.lagtypes.specs.declared.identifiers.SystemId.{SystemId}
+use Rattle.lagtypes.specs.declared.party.Choice.{Choice}
+use Rattle.lagtypes.specs.declared.party.Choice.TheVariants.{Unselected, Selected}
+use Rattle.lagtypes.specs.declared.party.Party.{Party}
+use Rattle.lagtypes.specs.States.{bits_of}
+use Rattle.slowpdu.specs.declared.pdu.Lacpdu.{Lacpdu}
+use Rattle.slowpdu.specs.declared.pdu.Marker.{Marker}
+use Rattle.slowpdu.specs.declared.pdu.MarkerKind.{MarkerKind}
+use Rattle.slowpdu.specs.declared.pdu.MarkerKind.TheVariants as kind
+use Rattle.slowpdu.specs.declared.pdu.Pdu.{Pdu}
+use Rattle.slowpdu.specs.declared.pdu.Pdu.TheVariants as pdu
+use Rattle.slowpdu.specs.Frames.{frame_octets}
+use Rattle.slowpdu.specs.Layout.{IsAddress}
+use Rattle.slowpdu.specs.Pdus.{WritesPdu}
+use Rattle.slowpdu.specs.Parties.{party_of}
+use Rattle.portmachines.specs.declared.mux.MuxState.{MuxState}
+use Rattle.portmachines.specs.declared.mux.MuxState.TheVariants.{CollectingDistributing}
+use Rattle.portmachines.specs.declared.receive.ReceiveState.{ReceiveState}
+use Rattle.portmachines.specs.declared.receive.ReceiveState.TheVariants.{Expired, Defaulted, Current}
+use Rattle.portmachines.specs.Machines.{Machines}
+use Rattle.portmachines.specs.Mux.{same_mux_state, is_synchronized, partner_synchronized, selected}
+use Rattle.portmachines.specs.Receive.{same_receive_state}
+use Rattle.lagmodel.specs.View.{PortFacts, View, Flows, SystemSetup, ControlMessage, LacpMessage, Lacp, ModelCall}
+use Rattle.lagmodel.specs.Move.{Act, Sends, Sends_frame, Took, FreeMoves}
+use Rattle.lagmodel.specs.Bridge.{ports_of, find_number}
+use Rattle.lagsystem.specs.declared.received.Received.TheVariants.{TookLacpdu, Respond}
+use Rattle.lagsystem.specs.declared.config.PortConfig.{PortConfig}
+use Rattle.lagsystem.specs.declared.slots.SystemPort.{SystemPort}
+use Rattle.distributor.specs.Moves.{model_flows}
+use Rattle.lagsystem.specs.State.{SystemState}
+use Rattle.lagsystem.specs.First.{setup_of, configured_number}
+use Rattle.lagsystem.specs.declared.drive.Reply.{Reply}
+use Rattle.lagsystem.specs.declared.drive.Reply.TheVariants as reply
+use Rattle.lagsystem.specs.Calls.{Call, Tick, Set_link, Receive, Configure, Restart, Transmit, Offer, Move_conversation, Force, IsFrame, Carries}
+use Rattle.lagsystem.specs.Readers.{number_of_conversation}
+
+abbrev pub selected_number : Choice → Option ℕ
+selected_number Unselected = None
+selected_number (Selected agg) = Some agg.0
+
+-- a port in the model, also in the middle of a settling: it distributes if its mux machine does and no mux row is about
+-- to stop it
+abbrev pub model_port : Machines → PortFacts
+model_port p = record {
+  party = p.party;
+  partner = party_of p.partner;
+  synchronised = partner_synchronized p;
+  defaulted = p.defaulted;
+  aggregator = selected_number p.choice;
+  distributes = partner_synchronized p && (selected p && same_mux_state CollectingDistributing p.mux);
+}
+
+abbrev pub number : SystemPort → ℕ
+number s = s.number
+
+abbrev pub model_port_of : SystemPort → PortFacts
+model_port_of s = model_port s.port
+
+abbrev pub model_view_at : Flows → List SystemPort → View
+model_view_at f slots = record { port = ports_of number model_port_of slots; flows = f }
+
+abbrev pub model_view : SystemState → View
+model_view s = model_view_at (model_flows s.table) s.slots
+
+-- the key of an aggregator; aggregators are numbered from 1
+abbrev pub key_of : List Key → ℕ → Option Key
+key_of keys zero = None
+key_of keys (suc n) = slice_get keys n
+
+abbrev pub configured_party : SystemId → PortConfig → Party
+configured_party system c = (setup_of system c).party
+
+-- the configuration of a system, as the model has it
+abbrev pub model_setup : SystemState → SystemSetup
+model_setup s = record {
+  system = s.system;
+  party = λ p. option_map (configured_party s.system) (find_number configured_number s.ports p);
+  key = key_of s.keys;
+  first_marker = s.first_marker;
+}
+
+-- an LACPDU as the model has it
+abbrev pub lacp_message : Lacpdu → LacpMessage
+lacp_message v = record { actor = party_of v.actor; partner = party_of v.partner; synchronised = (bits_of v.actor.state).synchronization }
+
+-- a marker or its response as the model has it
+abbrev pub marker_message : MarkerKind → Marker → ControlMessage
+marker_message kind.Information m = ControlMessage.Marker m.system m.port m.id
+marker_message kind.Response m = ControlMessage.Response m.system m.port m.id
+
+abbrev pub control_message : Pdu → ControlMessage
+control_message (pdu.Lacpdu v) = Lacp (lacp_message v)
+control_message (pdu.Marker m) = marker_message m.kind m
+
+-- these received octets are a control frame with this PDU; or they are none, and there is no PDU
+abbrev pub FrameSeenAs : List ℕ → Option ControlMessage → Type 0
+FrameSeenAs octets None = Unit {0}
+FrameSeenAs octets (Some message) = (payload : Pdu) × IsFrame octets (Carries payload) × (message ≡ control_message payload)
+
+-- the call, as the model has it
+abbrev pub CallSeenAs : Call → ModelCall → Type 0
+CallSeenAs Tick model_call = model_call ≡ ModelCall.Tick
+CallSeenAs (Set_link n up) model_call = model_call ≡ ModelCall.Set_link n up
+CallSeenAs (Receive n octets) model_call = (o : Option ControlMessage) × FrameSeenAs octets o × (model_call ≡ ModelCall.Receive n o)
+CallSeenAs (Configure n change) model_call = model_call ≡ ModelCall.Configure
+CallSeenAs Restart model_call = model_call ≡ ModelCall.Restart
+CallSeenAs (Transmit n) model_call = model_call ≡ ModelCall.Transmit
+CallSeenAs (Offer agg octets) model_call = model_call ≡ ModelCall.Offer
+CallSeenAs (Move_conversation agg conv port) model_call = model_call ≡ ModelCall.Move_conversation
+CallSeenAs (Force agg conv) model_call = model_call ≡ ModelCall.Force agg.0 conv
+
+-- the octets are a control frame with this PDU, from some MAC address
+abbrev pub IsSent : List ℕ → Pdu → Type 0
+IsSent octets payload = (mac : List ℕ) × (written : List ℕ) × IsAddress mac × WritesPdu written payload
+    × (octets ≡ frame_octets mac written)
+
+-- the visible acts of a call, as its reply has them: the LACPDU that was processed, the PDU of the frame to send, or
+-- the conversation of a client's frame and the port to send it on
+abbrev pub EffectsSeenAs : SystemState → Call → Reply → List Act → Type 0
+EffectsSeenAs s (Receive n octets) (reply.Receive (Ok TookLacpdu)) acts = (v : Lacpdu) × IsFrame octets (Carries (pdu.Lacpdu v))
+    × (acts ≡ Took n (lacp_message v) ∷ [])
+EffectsSeenAs s (Receive n octets) (reply.Receive (Ok (Respond frame))) acts = (m : Marker) × IsSent frame (pdu.Marker m)
+    × (acts ≡ Sends n (marker_message m.kind m) ∷ [])
+EffectsSeenAs s (Transmit n) (reply.Transmit (Ok (Some frame))) acts = (payload : Pdu) × IsSent frame payload
+    × (acts ≡ Sends n (control_message payload) ∷ [])
+EffectsSeenAs s (Offer agg octets) (reply.Offer (Ok port)) acts = acts ≡ Sends_frame port agg.0 (number_of_conversation s octets) ∷ []
+EffectsSeenAs s call answer acts = acts ≡ []
+
+-- the model allows this call: its free moves lead from the view before the call to the view after it, with just these
+-- visible acts
+abbrev pub JoinedByFreeMoves : SystemState → Call → Reply → SystemState → Type 0
+JoinedByFreeMoves old call reply new =
+    (model_call : ModelCall) × (acts : List Act) × CallSeenAs call model_call × EffectsSeenAs old call reply acts
+    × FreeMoves (model_setup old) model_call (model_view old) acts (model_view new)
+
+-- the receive states in which an LACPDU is processed
+abbrev pub can_receive_in : ReceiveState → Bool
+can_receive_in s = (same_receive_state Expired s || same_receive_state Defaulted s) || same_receive_state Current s
+
+-- a port whose link is up is in a state in which it processes LACPDUs
+abbrev pub can_receive : Machines → Bool
+can_receive p = if p.enabled then can_receive_in p.receive else true
+
+-- a port that is synchronized is SELECTED, and one that collects and distributes has a synchronized partner
+abbrev pub mux_consistent_of : MuxState → Bool → Bool → Bool
+mux_consistent_of mux is_member synchronised =
+    (if is_synchronized mux then is_member else true) && (if same_mux_state CollectingDistributing mux then synchronised else true)
+
+abbrev pub mux_consistent : Machines → Bool
+mux_consistent p = mux_consistent_of p.mux (selected p) (partner_synchronized p)
+
+abbrev pub AllCanReceive : List SystemPort → Type 0
+AllCanReceive slots = AllByRecursion (λ x. can_receive x.port ≡ true) slots
+
+abbrev pub MuxesConsistent : List SystemPort → Type 0
+MuxesConsistent slots = AllByRecursion (λ x. mux_consistent x.port ≡ true) slots
+
+-- these hold of each port after every call
+abbrev pub PortsConsistent : List SystemPort → Type 0
+PortsConsistent slots = AllCanReceive slots × MuxesConsistent slots

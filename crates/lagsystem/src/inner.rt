@@ -1,0 +1,334 @@
+ghost use Rattle.std.specs.Prelude.{◌≡◌, ◌<◌, ◌≤◌, IfErr, IfOk, Some, length, vec_len};
+ghost use Rattle.distributor.specs.Calls.{PicksPlaces};
+ghost use Rattle.lagsystem.specs.Calls.{Call, OnPort, ReceivesAt, Releases, Settled, Step, TakesLacpdu, is_for};
+ghost use Rattle.lagsystem.specs.First.{fault_or_no_memory, config_refusal};
+ghost use Rattle.lagsystem.specs.Hosts.{conversation_at, has_due};
+ghost use Rattle.lagsystem.specs.Inner.{inner_state};
+ghost use Rattle.lagsystem.specs.Holding.{WereInUse, aggregators_in_use};
+ghost use Rattle.lagsystem.specs.Offers.{has_aggregator};
+ghost use Rattle.lagsystem.specs.Readers.{number_of_conversation, conversation_count};
+ghost use Rattle.lagsystem.specs.Sending.{SendsMarker};
+ghost use Rattle.lagsystem.specs.Settling.{Settling, SettlesPorts};
+ghost use Rattle.lagsystem.specs.Sound.{IsMade, IsSound};
+ghost use Rattle.lagsystem.specs.declared.received.Received.{Received};
+ghost use Rattle.lagsystem.specs.declared.drive.Reply.{Reply};
+
+use crate::config::{Config, PortChange, PortConfig};
+use crate::fault::SystemFault;
+use crate::holding::{aggregators_in_use, free_conversations_if_down, hold_conversations};
+use crate::offers::check_offer;
+use crate::ports::{
+    configure_port, control_frame, is_lacpdu_due, pace_at, parse_frame, set_port_link, take_at,
+    tick_each, transmit_at,
+};
+use crate::readers::distributing;
+use crate::received::{FrameEffect, Received};
+use crate::settling::settle;
+use crate::slots::{SystemPort, place_of};
+use crate::start::{aggregator_count, new_system_ports, restart_each};
+use distributor::{Assignment, Distributor};
+use lagtypes::{AggId, SystemId};
+use selection::Aggregators;
+use slowpdu::{Lacpdu, Marker, MarkerKind};
+use std::alloc::Global;
+
+/// The fields of a `System`. Its calls are proved on this struct; `System` wraps it, so that contracts do not name the
+/// fields.
+#[derive(Drop)]
+pub(crate) struct Inner<F> {
+    pub(crate) system: SystemId,
+    pub(crate) max_delay: u16,
+    pub(crate) aggregators: Aggregators,
+    /// The ports as they were configured. `restart` goes back to them.
+    pub(crate) ports: Vec<PortConfig>,
+    /// The ports as they are now, in the same order.
+    pub(crate) slots: Vec<SystemPort>,
+    /// The conversations of all aggregators.
+    pub(crate) distributor: Distributor<F>,
+}
+
+impl<F: Fn(u16, usize) -> usize + Drop> Inner<F> {
+    /// Makes a system whose links are down, as `System::new` does.
+    pub(crate) fn new(alloc: Global, config: Config, algorithm: F) -> Result<Inner<F>, SystemFault>
+        requires usable { PicksPlaces (F.pre algorithm) (F.post algorithm) }
+        ensures made { IfOk result (λ inner. IsMade config (inner_state inner)) }
+        ensures algorithm { IfOk result (λ inner. inner.distributor.algorithm ≡ algorithm) }
+        ensures refused { IfErr result (λ fault. fault ≡ fault_or_no_memory (config_refusal config)) }
+    {
+        match config.refusal() {
+            Some(reason) => return Err(SystemFault::BadConfig(reason)),
+            None => {}
+        }
+        let Config {
+            system,
+            max_delay,
+            first_marker,
+            aggregators: keys,
+            ports,
+        } = config;
+        let aggregators = Aggregators::new(alloc, &keys)?;
+        let slots = new_system_ports(alloc, system, &ports)?;
+        let distributor = Distributor::new(
+            alloc,
+            aggregator_count(&keys),
+            first_marker,
+            algorithm,
+        )?;
+        let mut inner = Inner {
+            system,
+            max_delay,
+            aggregators,
+            ports,
+            slots,
+            distributor,
+        };
+        inner.settle_ports();
+        Ok(inner)
+    }
+
+    /// Steps 1 to 5 of settling, which read and change ports only.
+    fn settle_ports(&mut self)
+        requires { vec_len self.old.slots ≤ 64 }
+        ensures settled { SettlesPorts (inner_state self.old) (inner_state self.new) }
+        ensures distributor { self.new.distributor ≡ self.old.distributor }
+    {
+        settle(&self.aggregators, &mut self.slots);
+    }
+
+    /// One settling. `before` has for each port the aggregator in which it distributed before the call.
+    fn settle(&mut self, before: &[Option<AggId>])
+        requires { WereInUse before.now (inner_state self.old) }
+        ensures settled { Settling (inner_state self.old) (inner_state self.new) }
+        ensures algorithm { self.new.distributor.algorithm ≡ self.old.distributor.algorithm }
+    {
+        self.settle_ports();
+        hold_conversations(&mut self.distributor, &self.slots, before);
+    }
+
+    pub(crate) fn tick(&mut self)
+        requires { IsSound (inner_state self.old) }
+        ensures step { Step (F.post self.old.distributor.algorithm) (inner_state self.old) Call.Tick Reply.Tick (inner_state self.new) }
+        ensures algorithm { self.new.distributor.algorithm ≡ self.old.distributor.algorithm }
+    {
+        let before = aggregators_in_use(&self.slots);
+        tick_each(&mut self.slots);
+        self.distributor.tick();
+        self.settle(before.as_slice());
+    }
+
+    pub(crate) fn set_link(&mut self, number: u16, up: bool) -> Result<(), SystemFault>
+        requires { IsSound (inner_state self.old) }
+        ensures step { Step (F.post self.old.distributor.algorithm) (inner_state self.old) (Call.Set_link number up) (Reply.SetLink result)
+            (inner_state self.new) }
+        ensures algorithm { self.new.distributor.algorithm ≡ self.old.distributor.algorithm }
+    {
+        let before = aggregators_in_use(&self.slots);
+        if !set_port_link(&mut self.slots, number, up) {
+            return Err(SystemFault::NoPort);
+        }
+        free_conversations_if_down(&mut self.distributor, number, up);
+        self.settle(before.as_slice());
+        Ok(())
+    }
+
+    pub(crate) fn receive(&mut self, number: u16, octets: &[u8]) -> Result<Received, SystemFault>
+        requires { IsSound (inner_state self.old) }
+        ensures step { Step (F.post self.old.distributor.algorithm) (inner_state self.old) (Call.Receive number octets.now)
+            (Reply.Receive result) (inner_state self.new) }
+        ensures algorithm { self.new.distributor.algorithm ≡ self.old.distributor.algorithm }
+    {
+        match place_of(&self.slots, number) {
+            Some(place) => Ok(self.receive_at(place, octets)),
+            None => Err(SystemFault::NoPort),
+        }
+    }
+
+    fn receive_at(&mut self, place: usize, octets: &[u8]) -> Received
+        requires sound { IsSound (inner_state self.old) }
+        requires within { place < length self.old.slots.items }
+        ensures received { ReceivesAt (Some place) octets.now (inner_state self.old) result (inner_state self.new) }
+        ensures algorithm { self.new.distributor.algorithm ≡ self.old.distributor.algorithm }
+    {
+        let number = self.slots[place].number;
+        match parse_frame(&self.slots[place], octets) {
+            FrameEffect::Taken(pdu) => {
+                self.take_lacpdu(place, &pdu);
+                Received::TookLacpdu
+            }
+            FrameEffect::Response(marker) => Received::Released(self.release(number, &marker)),
+            FrameEffect::Answered(reply) => reply,
+        }
+    }
+
+    /// Processes an LACPDU on the port at this index, and settles. If the port looks the same to others afterwards,
+    /// only the periodic machine of this port has anything to do, so nothing else is run.
+    fn take_lacpdu(&mut self, place: usize, pdu: &Lacpdu)
+        requires sound { IsSound (inner_state self.old) }
+        requires within { place < length self.old.slots.items }
+        ensures settled { Settled (OnPort (Some place) (TakesLacpdu pdu.now)) (inner_state self.old) (inner_state self.new) }
+        ensures algorithm { self.new.distributor.algorithm ≡ self.old.distributor.algorithm }
+    {
+        let before = aggregators_in_use(&self.slots);
+        if take_at(&mut self.slots, place, pdu) {
+            pace_at(&mut self.slots, place);
+        } else {
+            self.settle(before.as_slice());
+        }
+    }
+
+    /// Frees the conversations that wait for a Marker Response that came on a port, and returns how many.
+    fn release(&mut self, number: u16, response: &Marker) -> u32
+        ensures released { Releases (is_for (inner_state self.old) number response.now) number response.now (inner_state self.old)
+            (Received.Released result) (inner_state self.new) }
+        ensures algorithm { self.new.distributor.algorithm ≡ self.old.distributor.algorithm }
+    {
+        if response.port == number && response.system == self.system.mac {
+            self.distributor.response(number, response.id)
+        } else {
+            0
+        }
+    }
+
+    /// Gives a port another key, priority or Aggregation bit and settles; false, and nothing changes, if it has these values
+    /// already.
+    pub(crate) fn configure(&mut self, number: u16, change: PortChange) -> Result<bool, SystemFault>
+        requires { IsSound (inner_state self.old) }
+        ensures step { Step (F.post self.old.distributor.algorithm) (inner_state self.old) (Call.Configure number change)
+            (Reply.Configure result) (inner_state self.new) }
+        ensures algorithm { self.new.distributor.algorithm ≡ self.old.distributor.algorithm }
+    {
+        let before = aggregators_in_use(&self.slots);
+        match configure_port(&mut self.slots, number, change) {
+            None => Err(SystemFault::NoPort),
+            Some(false) => Ok(false),
+            Some(true) => {
+                self.settle(before.as_slice());
+                Ok(true)
+            }
+        }
+    }
+
+    pub(crate) fn restart(&mut self)
+        requires { IsSound (inner_state self.old) }
+        ensures step { Step (F.post self.old.distributor.algorithm) (inner_state self.old) Call.Restart Reply.Restart (inner_state self.new) }
+        ensures algorithm { self.new.distributor.algorithm ≡ self.old.distributor.algorithm }
+    {
+        restart_each(self.system, &self.ports, &mut self.slots);
+        self.distributor.clear();
+        self.settle_ports();
+    }
+
+    pub(crate) fn transmit(&mut self, number: u16) -> Result<Option<[u8; 124]>, SystemFault>
+        ensures step { Step (F.post self.old.distributor.algorithm) (inner_state self.old) (Call.Transmit number) (Reply.Transmit result)
+            (inner_state self.new) }
+        ensures algorithm { self.new.distributor.algorithm ≡ self.old.distributor.algorithm }
+    {
+        let Some(place) = place_of(&self.slots, number) else {
+            return Err(SystemFault::NoPort);
+        };
+        if !self.slots[place].port.is_enabled() {
+            return Ok(None);
+        }
+        if let Some(frame) = transmit_at(&mut self.slots, place, self.max_delay) {
+            return Ok(Some(frame));
+        }
+        let mac = self.slots[place].mac;
+        Ok(self.transmit_marker(number, mac))
+    }
+
+    /// The marker that is due on a port, as a control frame of 124 octets.
+    fn transmit_marker(&mut self, number: u16, mac: [u8; 6]) -> Option<[u8; 124]>
+        ensures sends { SendsMarker number mac (inner_state self.old) result (inner_state self.new) }
+        ensures algorithm { self.new.distributor.algorithm ≡ self.old.distributor.algorithm }
+    {
+        let id = self.distributor.marker_for(number)?;
+        let marker = Marker {
+            kind: MarkerKind::Information,
+            port: number,
+            system: self.system.mac,
+            id,
+        };
+        Some(control_frame(mac, &marker.encode()))
+    }
+
+    /// Whether the system has an aggregator of this number.
+    fn has_aggregator(&self, agg: AggId) -> bool
+        requires { IsSound (inner_state self.now) }
+        ensures { result ≡ has_aggregator (inner_state self.now) agg }
+    {
+        self.distributor.is_conversation(agg, 0)
+    }
+
+    /// The state of a conversation; None if there is none of this number.
+    pub(crate) fn conversation_state(&self, agg: AggId, conv: u16) -> Option<Assignment>
+        requires { IsSound (inner_state self.now) }
+        ensures { result ≡ conversation_at (inner_state self.now) agg conv }
+    {
+        if self.distributor.is_conversation(agg, conv) {
+            Some(self.distributor.state(agg, conv))
+        } else {
+            None
+        }
+    }
+
+    /// Whether an LACPDU or a marker is due on a port.
+    pub(crate) fn has_due(&self, slot: &SystemPort) -> bool
+        ensures { result ≡ has_due (inner_state self.now) slot.now }
+    {
+        slot.port.is_enabled()
+            && (is_lacpdu_due(&slot.port) || self.distributor.due_marker(slot.number).is_some())
+    }
+
+    pub(crate) fn offer(&mut self, agg: AggId, octets: &[u8]) -> Result<u16, SystemFault>
+        requires usable { PicksPlaces (F.pre self.old.distributor.algorithm) (F.post self.old.distributor.algorithm) }
+        requires sound { IsSound (inner_state self.old) }
+        ensures step { Step (F.post self.old.distributor.algorithm) (inner_state self.old) (Call.Offer agg octets.now) (Reply.Offer result)
+            (inner_state self.new) }
+        ensures within { IfOk result (λ port. number_of_conversation (inner_state self.old) octets.now < conversation_count (inner_state self.old)) }
+        ensures algorithm { self.new.distributor.algorithm ≡ self.old.distributor.algorithm }
+    {
+        if !self.has_aggregator(agg) {
+            return Err(SystemFault::NoAggregator);
+        }
+        check_offer(octets)?;
+        let ports = distributing(&self.slots, agg);
+        let conv = self.number_of_conversation(octets);
+        let port = self.distributor.assign(agg, conv, ports.as_slice())?;
+        Ok(port)
+    }
+
+    pub(crate) fn move_conversation(
+        &mut self,
+        agg: AggId,
+        conv: u16,
+        port: u16,
+    ) -> Result<(), SystemFault>
+        requires { IsSound (inner_state self.old) }
+        ensures step { Step (F.post self.old.distributor.algorithm) (inner_state self.old) (Call.Move_conversation agg conv port)
+            (Reply.MoveConversation result) (inner_state self.new) }
+        ensures algorithm { self.new.distributor.algorithm ≡ self.old.distributor.algorithm }
+    {
+        if !self.has_aggregator(agg) {
+            return Err(SystemFault::NoAggregator);
+        }
+        if place_of(&self.slots, port).is_none() {
+            return Err(SystemFault::NoPort);
+        }
+        let ports = distributing(&self.slots, agg);
+        self.distributor.move_to(agg, conv, port, ports.as_slice())?;
+        Ok(())
+    }
+
+    pub(crate) fn force(&mut self, agg: AggId, conv: u16) -> Result<(), SystemFault>
+        requires { IsSound (inner_state self.old) }
+        ensures step { Step (F.post self.old.distributor.algorithm) (inner_state self.old) (Call.Force agg conv) (Reply.Force result)
+            (inner_state self.new) }
+        ensures algorithm { self.new.distributor.algorithm ≡ self.old.distributor.algorithm }
+    {
+        if !self.has_aggregator(agg) {
+            return Err(SystemFault::NoAggregator);
+        }
+        self.distributor.force(agg, conv)?;
+        Ok(())
+    }
+}

@@ -1,0 +1,85 @@
+ghost use Rattle.std.specs.Prelude.{◌≡◌, ◌≤◌, length, vec_len, IfOk};
+ghost use Rattle.std.specs.List.{AllZip};
+ghost use Rattle.lagsystem.specs.First.{IsNew, first_bad_port_number, configured_numbers, refusal, config_refusal};
+
+use crate::config::{Config, PortConfig};
+use crate::fault::BadConfig;
+use crate::slots::SystemPort;
+use lagtypes::{Key, NoMemory, SystemId};
+use std::alloc::Global;
+
+/// The ports of a new system, with their machines started.
+pub(crate) fn new_system_ports(
+    alloc: Global,
+    system: SystemId,
+    ports: &[PortConfig],
+) -> Result<Vec<SystemPort>, NoMemory>
+    ensures new { IfOk result (λ slots. AllZip (IsNew system) ports.now slots.items) }
+    ensures count { IfOk result (λ slots. vec_len slots ≡ length ports.now) }
+{
+    let mut slots = Vec::with_capacity(alloc, ports.len())?;
+    for port in ports {
+        slots.push(SystemPort::new(system, port))?;
+    }
+    Ok(slots)
+}
+
+/// Starts every port again from its configuration, in the same `Vec`, so without taking memory. Values that `configure`
+/// set are lost.
+pub(crate) fn restart_each(system: SystemId, ports: &[PortConfig], slots: &mut [SystemPort])
+    requires { length slots.old ≡ length ports.now }
+    ensures { AllZip (IsNew system) ports.now slots.new }
+{
+    for place in 0..ports.len() {
+        let config = ports[place];
+        let slot = &mut slots[place];
+        slot.restart(system, &config);
+    }
+}
+
+/// The place, counted from 1, of the first port whose number is not above the one before it, or is 0.
+fn first_bad_port_number(ports: &[PortConfig]) -> Option<usize>
+    ensures { result ≡ first_bad_port_number 1 0 (configured_numbers ports.now) }
+{
+    let mut place = 0;
+    let mut low = 0;
+    for port in ports {
+        place += 1;
+        if port.number <= low {
+            return Some(place);
+        }
+        low = port.number;
+    }
+    None
+}
+
+/// The first reason to refuse a configuration; None if it is accepted.
+fn refusal(keys: &[Key], ports: &[PortConfig]) -> Option<BadConfig>
+    ensures { result ≡ refusal keys.now ports.now }
+{
+    if ports.is_empty() || ports.len() > 64 {
+        return Some(BadConfig::Ports);
+    }
+    if keys.is_empty() || keys.len() > 64 {
+        return Some(BadConfig::Aggregators);
+    }
+    first_bad_port_number(ports).map(BadConfig::PortNumber)
+}
+
+impl Config {
+    /// The first reason for which `System::new` refuses this configuration: not 1 to 64 ports, not 1 to 64 aggregators,
+    /// or a port whose number is 0 or not above the one before it. None if it is accepted (profile).
+    pub fn refusal(&self) -> Option<BadConfig>
+        ensures { result ≡ config_refusal self.now }
+    {
+        refusal(&self.aggregators, &self.ports)
+    }
+}
+
+/// The number of aggregators, 1 to 64, of a configuration that is accepted.
+pub(crate) fn aggregator_count(keys: &[Key]) -> u16
+    requires { length keys.now ≤ 64 }
+    ensures { result ≡ length keys.now }
+{
+    keys.len() as u16
+}

@@ -1,0 +1,11 @@
+use Rattle.std.proofs.Common.{ap, refl}
+use Rattle.lagworld.specs.State.{HalfState}
+use Rattle.lagworld.specs.HalfCalls.{with_state}
+use Rattle.lagworld.specs.Inner.{half_state}
+use Rattle.lagworld.proofs.half.Half.restart.Goals as goal
+
+pub returns-clause-restarts : goal.returns-clause-restarts
+returns-clause-restarts g c =
+    let e = c.restart.ensures in
+    let mid : HalfState = with_state c.restart.new.self.state (half_state c.args.self.now) in
+    (mid, record { answers = e.answers; same = refl }, ap (λ l. record mid { histories = l }) c.count_changes.ensures)

@@ -1,0 +1,6 @@
+use Rattle.std.proofs.Common.{◌≡◌, drop}
+use Rattle.lagworld.specs.State.{history_at}
+use Rattle.lagworld.proofs.histories.history_of.Given as goal
+
+abbrev pub invariant-loop-history : goal.invariant-loop-history
+invariant-loop-history l = history_at l.histories l.number ≡ history_at (drop l.history-index l.histories) l.number

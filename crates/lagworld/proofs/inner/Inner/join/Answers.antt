@@ -1,0 +1,10 @@
+use Rattle.std.proofs.Common.{refl, ap}
+use Rattle.lagworld.specs.State.{with_links}
+use Rattle.lagworld.specs.WorldCalls.{world_state}
+use Rattle.lagworld.proofs.LineLemmas.{on_place}
+use Rattle.lagworld.proofs.inner.Inner.join.Goals as goal
+
+pub returns-clause-joined : goal.returns-clause-joined
+returns-clause-joined g c =
+    let old = world_state g.C.Cable.items g.C.Cable.limit c.args.self.now in
+    on_place c.args.cable c.place_of-place.result _ _ old.links c.place_of-place.ensures.at (λ l e. (refl, ap (with_links old) e)) c.join_at.ensures

@@ -1,0 +1,10 @@
+use Rattle.std.proofs.Common.{◌≡◌, ◌≤◌, length, map, take, vec_capacity, vec_len}
+use Rattle.lagworld.specs.Making.{first_history}
+use Rattle.lagworld.proofs.start.first_histories.Given as goal
+
+abbrev pub invariant-loop-port : goal.invariant-loop-port
+invariant-loop-port l = record {
+  same : l.histories.items ≡ map (first_history l.system) (take l.port-index l.ports);
+  count : vec_len l.histories ≡ l.port-index;
+  room : length l.ports ≤ vec_capacity l.histories;
+}

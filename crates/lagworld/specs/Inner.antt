@@ -1,0 +1,29 @@
+-- The fields of a world as contracts see them.
+use Rattle.std.specs.Prelude.{ℕ, List, map, Option}
+use Rattle.cables.specs.declared.item.Item.{Item}
+use Rattle.lagworld.specs.declared.half.Half.{Half}
+use Rattle.lagworld.specs.declared.link.Link.{Link as Cabled}
+use Rattle.lagworld.specs.declared.histories.Flow.{Flow}
+use Rattle.lagworld.specs.State.{HalfState, LinkState, Serials}
+use Rattle.lagworld.specs.Messages.{carried}
+
+abbrev pub serials_of : Flow → Serials
+serials_of f = record { sent = f.sent.items; collected = f.collected.items; forced = f.forced }
+
+abbrev pub half_state : {F : Type 0} → Half F → HalfState
+half_state e = record { state = e.system.state; histories = e.histories.items; flows = map (λ xs. map serials_of xs.items) e.flows.items }
+
+module _ {C : Type 0} (items : C → List Item) (limit : C → Option ℕ) where
+  abbrev pub link_state : Cabled C → LinkState
+  link_state l = record {
+    one = l.one;
+    two = l.two;
+    whole = l.whole;
+    to_one = map carried (items l.to_one);
+    to_two = map carried (items l.to_two);
+    limit_one = limit l.to_one;
+    limit_two = limit l.to_two;
+  }
+
+  abbrev pub link_states : List (Cabled C) → List LinkState
+  link_states ls = map link_state ls

@@ -1,0 +1,97 @@
+ghost use Rattle.std.specs.Prelude.{◌≡◌, ◌<◌, length, map, slice_get, slice_set, IsSomeAnd};
+ghost use Rattle.lagworld.specs.Inner.{link_state, link_states};
+ghost use Rattle.lagworld.specs.State.{cut, emptied, joined};
+
+use cables::Cable;
+
+/// A cable and the ports that it joins (profile).
+#[derive(Drop)]
+pub(crate) struct Link<C: Cable> {
+    /// The port of system 1.
+    pub(crate) one: u16,
+    /// The port of system 2.
+    pub(crate) two: u16,
+    /// Whether the cable is whole, not cut.
+    pub(crate) whole: bool,
+    /// The items on it towards system 1.
+    pub(crate) to_one: C,
+    /// The items on it towards system 2.
+    pub(crate) to_two: C,
+}
+
+impl<C: Cable> Link<C> {
+    /// Cuts the cable; all that is on it is lost.
+    pub(crate) fn cut(&mut self)
+        ensures { link_state C.items C.limit self.new ≡ cut (link_state C.items C.limit self.old) }
+    {
+        self.whole = false;
+        self.empty();
+    }
+
+    /// All that is on the cable is lost.
+    pub(crate) fn empty(&mut self)
+        ensures { link_state C.items C.limit self.new ≡ emptied (link_state C.items C.limit self.old) }
+    {
+        self.to_one.clear();
+        self.to_two.clear();
+    }
+
+    /// Makes the cable whole again.
+    pub(crate) fn join(&mut self)
+        ensures { link_state C.items C.limit self.new ≡ joined (link_state C.items C.limit self.old) }
+    {
+        self.whole = true;
+    }
+}
+
+/// Cuts the cable at an index.
+pub(crate) fn cut_at<C: Cable>(links: &mut Vec<Link<C>>, place: usize)
+    requires { place < length links.old.items }
+    ensures { IsSomeAnd (slice_get (link_states C.items C.limit links.old.items) place)
+        (λ l. link_states C.items C.limit links.new.items ≡ slice_set (link_states C.items C.limit links.old.items) place (cut l)) }
+{
+    let line = &mut links[place];
+    line.cut();
+}
+
+/// Makes the cable at an index whole again.
+pub(crate) fn join_at<C: Cable>(links: &mut Vec<Link<C>>, place: usize)
+    requires { place < length links.old.items }
+    ensures { IsSomeAnd (slice_get (link_states C.items C.limit links.old.items) place)
+        (λ l. link_states C.items C.limit links.new.items ≡ slice_set (link_states C.items C.limit links.old.items) place (joined l)) }
+{
+    let line = &mut links[place];
+    line.join();
+}
+
+/// What a system learns about a cable: the ports that it joins, and whether it is whole.
+#[derive(Clone, Copy)]
+pub(crate) struct LinkStatus {
+    pub(crate) one: u16,
+    pub(crate) two: u16,
+    pub(crate) whole: bool,
+}
+
+/// What a system learns about the cable at an index.
+pub(crate) fn link_status<C: Cable>(links: &Vec<Link<C>>, place: usize) -> LinkStatus
+    requires { place < length links.now.items }
+    ensures { IsSomeAnd (slice_get (link_states C.items C.limit links.now.items) place) (λ l. (result.one ≡ l.one) × (result.two ≡ l.two)
+        × (result.whole ≡ l.whole)) }
+{
+    let line = &links[place];
+    LinkStatus {
+        one: line.one,
+        two: line.two,
+        whole: line.whole,
+    }
+}
+
+/// All that is on any cable is lost.
+pub(crate) fn empty_all<C: Cable>(links: &mut Vec<Link<C>>)
+    ensures { link_states C.items C.limit links.new.items ≡ map emptied (link_states C.items C.limit links.old.items) }
+{
+    for place in 0..links.len() {
+        let line = &mut links[place];
+        line.empty();
+    }
+}

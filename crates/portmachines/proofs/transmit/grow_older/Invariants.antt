@@ -1,9 +1,0 @@
-use Rattle.std.proofs.Common.{◌≡◌, ◌≤◌, take, length}
-use Rattle.portmachines.specs.Transmit.{aged}
-use Rattle.portmachines.proofs.transmit.grow_older.Given as goal
-
-abbrev pub invariant-loop-age : goal.invariant-loop-age
-invariant-loop-age l = record {
-  so_far : l.kept.items ≡ aged (take l.age-index l.age-items);
-  few : length l.kept.items ≤ l.age-index;
-}
