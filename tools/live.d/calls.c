@@ -1,6 +1,6 @@
 /* Calls every function of lag.h and checks what it answers: two systems of two ports each, joined port by port, come to
- * distribute; a conversation moves behind a marker; refusals have their numbers. It prints one line for each check that fails
- * and then 'calls: N passed, M failed', and ends with status 1 where one failed. */
+ * distribute; a conversation moves behind a marker; refusals have their numbers, and each function refuses each null pointer.
+ * It prints one line for each check that fails and then 'calls: N passed, M failed', and ends with status 1 if one failed. */
 #include <stdio.h>
 #include <stdlib.h>
 
@@ -77,6 +77,45 @@ static void turn(struct lag *one, struct lag *other, unsigned ticks) {
     }
 }
 
+/* Each call refuses each pointer that is null. */
+static void check_null_in_calls(struct lag *live) {
+    struct lag empty = LAG_EMPTY;
+    struct lag_config config = {0, {0}, 0, 0};
+    struct lag_port port = {0};
+    struct lag_change change = {7, 128, true};
+    uint8_t frame[LAG_FRAME] = {0};
+    uint16_t key = 1;
+    CHECK(lag_new(NULL, &config, &key, 1, &port, 1).status == LAG_NULL && lag_new(&empty, NULL, &key, 1, &port, 1).status == LAG_NULL);
+    CHECK(lag_new(&empty, &config, NULL, 1, &port, 1).status == LAG_NULL);
+    CHECK(lag_new(&empty, &config, &key, 1, NULL, 1).status == LAG_NULL && !empty.live);
+    CHECK(lag_free(NULL) == LAG_NULL && lag_tick(NULL) == LAG_NULL && lag_restart(NULL) == LAG_NULL);
+    CHECK(lag_receive(NULL, 1, frame, sizeof frame, frame, sizeof frame).status == LAG_NULL);
+    CHECK(lag_receive(live, 1, NULL, 0, frame, sizeof frame).status == LAG_NULL);
+    CHECK(lag_receive(live, 1, frame, sizeof frame, NULL, LAG_FRAME).status == LAG_NULL);
+    CHECK(lag_set_link(NULL, 1, true) == LAG_NULL);
+    CHECK(lag_configure(NULL, 1, &change).status == LAG_NULL && lag_configure(live, 1, NULL).status == LAG_NULL);
+    CHECK(lag_transmit(NULL, 1, frame, LAG_FRAME).status == LAG_NULL && lag_transmit(live, 1, NULL, LAG_FRAME).status == LAG_NULL);
+    CHECK(lag_offer(NULL, 1, frame, sizeof frame).status == LAG_NULL && lag_offer(live, 1, NULL, LAG_FRAME).status == LAG_NULL);
+    CHECK(lag_move_conversation(NULL, 1, 4, 2) == LAG_NULL && lag_force(NULL, 1, 4) == LAG_NULL);
+}
+
+/* Each reader refuses each pointer that is null. */
+static void check_null_in_readers(struct lag *live) {
+    uint8_t frame[LAG_FRAME] = {0};
+    uint16_t numbers[LAG_MOST];
+    CHECK(lag_ports(NULL, numbers, LAG_MOST).status == LAG_NULL && lag_ports(live, NULL, LAG_MOST).status == LAG_NULL);
+    CHECK(lag_aggregators(NULL).status == LAG_NULL && lag_is_up(NULL, 1).status == LAG_NULL);
+    CHECK(lag_state(NULL, 1).status == LAG_NULL && lag_receive_state(NULL, 1).status == LAG_NULL);
+    CHECK(lag_is_due(NULL, 1).status == LAG_NULL && lag_party(NULL, 1).status == LAG_NULL);
+    CHECK(lag_partner(NULL, 1).status == LAG_NULL && lag_group(NULL, 1).status == LAG_NULL);
+    CHECK(lag_defaulted(NULL, 1).status == LAG_NULL && lag_distributes(NULL, 1).status == LAG_NULL);
+    CHECK(lag_choice(NULL, 1).status == LAG_NULL && lag_mux_state(NULL, 1).status == LAG_NULL);
+    CHECK(lag_load(NULL, 1).status == LAG_NULL && lag_distributing(NULL, 1, numbers, LAG_MOST).status == LAG_NULL);
+    CHECK(lag_distributing(live, 1, NULL, LAG_MOST).status == LAG_NULL);
+    CHECK(lag_conversation(NULL, frame, sizeof frame).status == LAG_NULL && lag_conversation(live, NULL, LAG_FRAME).status == LAG_NULL);
+    CHECK(lag_conversation_state(NULL, 1, 4).status == LAG_NULL && lag_next_marker(NULL).status == LAG_NULL);
+}
+
 static void check_refusals(struct lag *live) {
     struct lag empty = LAG_EMPTY;
     struct lag_config config = {0, {0}, 0, 0};
@@ -84,9 +123,6 @@ static void check_refusals(struct lag *live) {
     uint8_t frame[LAG_FRAME] = {0};
     uint16_t numbers[LAG_MOST], key = 1;
     struct lag_made made;
-    CHECK(lag_tick(NULL) == LAG_NULL && lag_free(NULL) == LAG_NULL && lag_is_up(NULL, 1).status == LAG_NULL);
-    CHECK(lag_receive(live, 1, NULL, 0, frame, sizeof frame).status == LAG_NULL);
-    CHECK(lag_transmit(live, 1, NULL, LAG_FRAME).status == LAG_NULL && lag_new(&empty, NULL, &key, 1, falls, 1).status == LAG_NULL);
     CHECK(lag_tick(&empty) == LAG_NO_SYSTEM && lag_restart(&empty) == LAG_NO_SYSTEM && lag_free(&empty) == LAG_NO_SYSTEM);
     CHECK(lag_party(&empty, 1).status == LAG_NO_SYSTEM && lag_next_marker(&empty).status == LAG_NO_SYSTEM);
     CHECK(lag_transmit(live, 1, frame, LAG_FRAME - 1).status == LAG_BUFFER);
@@ -172,6 +208,8 @@ int main(void) {
     for (size_t i = 0; i < sizeof exports / sizeof *exports; i++) check(exports[i].at != 0, exports[i].name);
     make(&one, 1, 7);
     make(&other, 2, 9);
+    check_null_in_calls(&one);
+    check_null_in_readers(&one);
     check_refusals(&one);
     check_first_frame(&one);
     CHECK(lag_set_link(&one, 2, true) == LAG_OK && lag_set_link(&other, 1, true) == LAG_OK);
