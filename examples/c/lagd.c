@@ -95,7 +95,7 @@ static void open_link(struct link *link, const char *name) {
     struct packet_mreq member;
     if (strlen(name) >= IFNAMSIZ) stop(2, "no such interface", name);
     link->name = name;
-    link->socket = socket(AF_PACKET, SOCK_RAW | SOCK_NONBLOCK | SOCK_CLOEXEC, htons(SLOW));
+    link->socket = socket(AF_PACKET, SOCK_RAW | SOCK_NONBLOCK | SOCK_CLOEXEC, 0); /* it takes nothing before it is bound */
     if (link->socket < 0) stop(2, "no packet socket", strerror(errno));
     link->index = asked(link, SIOCGIFINDEX).ifr_ifindex;
     memcpy(link->mac, asked(link, SIOCGIFHWADDR).ifr_hwaddr.sa_data, 6);
@@ -190,16 +190,17 @@ static void follow_links(void) {
     }
 }
 
-/* Hands over every frame that waits at an interface; its own ones come back too, and are passed over. */
+/* Hands over the frames that wait at an interface, at most 64 a turn, so that no flood stops the clock. Its own ones come back
+ * too, and are passed over, as are those for other hosts. */
 static void take_frames(uint16_t port) {
     uint8_t frame[LONGEST], response[LAG_FRAME];
     struct sockaddr_ll from;
-    for (;;) {
+    for (int turn = 0; turn < 64; turn++) {
         socklen_t length = sizeof from;
         ssize_t got = recvfrom(links[port - 1].socket, frame, sizeof frame, 0, (struct sockaddr *)&from, &length);
         struct lag_received received;
         if (got < 0) return;
-        if (from.sll_pkttype == PACKET_OUTGOING) continue;
+        if (from.sll_pkttype == PACKET_OUTGOING || from.sll_pkttype == PACKET_OTHERHOST) continue;
         received = lag_receive(&system_handle, port, frame, (size_t)got, response, sizeof response);
         refuse(received.status, "lag_receive");
         if (received.what == LAG_RESPOND) put(&links[port - 1], response);
@@ -220,7 +221,7 @@ static int open_signals(void) {
 
 static int open_clock(void) {
     struct itimerspec every = {{0, 100000000}, {0, 100000000}};
-    int fd = timerfd_create(CLOCK_MONOTONIC, TFD_CLOEXEC);
+    int fd = timerfd_create(CLOCK_MONOTONIC, TFD_NONBLOCK | TFD_CLOEXEC);
     if (fd < 0 || timerfd_settime(fd, 0, &every, NULL) < 0) stop(2, "no clock", strerror(errno));
     return fd;
 }
@@ -258,7 +259,10 @@ int main(int argc, char **argv) {
     for (;;) {
         follow_links();
         serve();
-        if (poll(waits, (nfds_t)count + 2, -1) < 0 && errno != EINTR) stop(1, "poll", strerror(errno));
+        if (poll(waits, (nfds_t)count + 2, -1) < 0) {
+            if (errno != EINTR) stop(1, "poll", strerror(errno));
+            continue;
+        }
         if (waits[count + 1].revents) break;
         for (uint16_t i = 0; i < count; i++)
             if (waits[i].revents) take_frames((uint16_t)(i + 1));

@@ -7,8 +7,9 @@
  * - A `lag` is LAG_EMPTY before its first call, and only the functions below write it. It is not copied while it is live.
  * - A pointer that is not null points to what its type says, and a buffer or frame has as many octets as its length says.
  *   What a call may write overlaps nothing else that the call is given.
- * - One thread at a time calls with one `lag`, and no signal handler does.
- * - The program's malloc, realloc and free belong together.
+ * - The thread that made a `lag` alone calls with it, and no signal handler does; nor does a forked child of a program with threads.
+ * - The program's malloc, realloc and free belong together, and align to 16 octets.
+ * - A program that calls `lagffi_` functions itself, without those below, gives them no null pointer.
  *
  * Every function answers a number: LAG_OK, or why it refused. Then it changed nothing, and wrote to no buffer. A null pointer,
  * a handle with no system, a wrong length and an unknown port are refused so. */
@@ -47,10 +48,10 @@ enum {
     LAG_NONE_DISTRIBUTING = 6, /* the conversation is free, and no port distributes in the aggregator */
     LAG_NOT_DISTRIBUTING = 7,  /* the port to move to does not distribute in the aggregator */
     LAG_SAME_PORT = 8,         /* the port to move to is the one that the conversation is on */
-    LAG_NOT_ASSIGNED = 9,      /* the conversation is free, or there is no such conversation */
+    LAG_NOT_ASSIGNED = 9,      /* the conversation is free, or there is no such conversation or aggregator */
     LAG_MARKERS_SPENT = 10,    /* no marker identifier is left */
     LAG_BAD_CONFIG = 11,       /* the configuration is refused */
-    LAG_NO_MEMORY = 12,        /* memory was refused; only lag_new answers it */
+    LAG_NO_MEMORY = 12,        /* memory was refused; only lag_new answers it, maybe before it looks for a bad configuration */
     LAG_NO_SYSTEM = 13,        /* the handle holds no system */
     LAG_LIVE = 14,             /* lag_new: the handle holds a system already */
     LAG_BUFFER = 15,           /* a buffer has another length than the function asks */
@@ -289,7 +290,7 @@ static inline uint32_t lag_force(struct lag *handle, uint16_t agg, uint16_t conv
     return handle ? lagffi_force(handle, agg, conv) : (uint32_t)LAG_NULL;
 }
 
-/* How many ports there are. `numbers` has LAG_MOST places; their numbers are written, ascending. */
+/* How many ports there are. `numbers` has LAG_MOST places, which `room` counts; their numbers are written, ascending. */
 static inline struct lag_number lag_ports(struct lag *handle, uint16_t *numbers, size_t room) {
     struct lag_number refused;
     if (handle && numbers) return lagffi_ports(handle, numbers, room);
