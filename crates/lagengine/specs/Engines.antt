@@ -35,6 +35,7 @@ pub record EngineValue (F : Type 0) : Type 0 where
 abbrev pub system_state : {F : Type 0} → Option (SystemValue F) → Option SystemState
 system_state system = option_map (λ w. w.state) system
 
+-- the stored calls, with lists in the place of Vecs
 abbrev pub kept_of : Option (Vec Handed Global) → Option (List Call)
 kept_of kept = option_map (λ calls. map call_of calls.items) kept
 
@@ -79,7 +80,7 @@ CallsOrKeeps gives call s None answer new =
     × (new ≡ record { system = Some t; kept = None })
 CallsOrKeeps gives call s (Some calls) answer new = (answer ≡ said.Kept) × (new ≡ record { system = Some s; kept = Some (calls ++ call ∷ []) })
 
--- from now on, calls are stored
+-- the calls stored until now; none if calls were not stored
 abbrev pub kept_so_far : Option (List Call) → List Call
 kept_so_far None = []
 kept_so_far (Some calls) = calls
@@ -104,6 +105,7 @@ reader_answer question.All s = said.All (all_ports s) (all_aggregators s)
 -- a task is done with the system
 abbrev pub DoesTask : (ℕ → ℕ → ℕ → Type 0) → TaskValue → SystemState → Option (List Call) → AnswerValue → EngineState → Type 0
 DoesTask gives (Make call) s kept answer new = CallsOrKeeps gives call s kept answer new
+-- from now on, calls are stored
 DoesTask gives Keep s kept answer new = (answer ≡ said.Done) × (new ≡ record { system = Some s; kept = Some (kept_so_far kept) })
 DoesTask gives Drive s kept answer new = DrivesKept gives s kept answer new
 DoesTask gives (Conversation octets) s kept answer new = (answer ≡ said.Conversation (conversation_in s octets))

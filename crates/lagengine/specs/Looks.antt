@@ -61,6 +61,6 @@ agg_answer s g = record { agg = g; ports = distributing (aggregator_numbered g) 
 abbrev pub all_ports : SystemState → List PortAnswer
 all_ports s = map (port_answer of_port.Look s) (port_numbers s.slots)
 
--- for number 0, which is no aggregator, and for each aggregator
+-- which ports distribute in it, for number 0, which is no aggregator, and for each aggregator
 abbrev pub all_aggregators : SystemState → List AggAnswerValue
 all_aggregators s = map (agg_answer s) (range_with_len 0 (length s.keys + 1))

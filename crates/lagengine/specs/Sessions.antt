@@ -57,7 +57,8 @@ module _ (gives : ℕ → ℕ → ℕ → Type 0) where
         ++ continue_line new.line (lines_of rest))
     pub answered : AnswersLines gives lines old.state answers new.state
 
-  -- the first of these lines were answered
+  -- The first of these lines were answered. Lines are compared by what they ask for, since of a line that is too long
+  -- only 65,537 octets are stored.
   pub record AnswersSome (sent : List AnswerValue → Type 0) (old : EngineState) (all : List (List ℕ)) : Type 0 where
     pub lines : List (List ℕ)
     pub later : List (List ℕ)

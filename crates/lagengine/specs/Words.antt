@@ -65,14 +65,13 @@ kind_word = one_of (codes "aggregatable") (codes "individual") fault.Kind
 abbrev pub hex_word : List ℕ → Result (List ℕ) RequestFault
 hex_word w = or_fault fault.Hex (result_ok (decode_of w))
 
--- keys joined by commas, or a dash for none
 abbrev pub key_word : List ℕ → Result Key RequestFault
 key_word w = number_word w >>= λ n. Ok (record { 0 = n })
 
+-- keys joined by commas, or a dash for none
 abbrev pub keys_word : List ℕ → Result (List Key) RequestFault
 keys_word w = if bytes_eq w (codes "-") then Ok [] else each key_word (parts 44 w)
 
--- NUMBER:PRIORITY:MAC:KEY:AGGREGATABLE:ACTIVE:SHORT
 abbrev pub SevenFields : Type 0
 SevenFields = List ℕ × List ℕ × List ℕ × List ℕ × List ℕ × List ℕ × List ℕ
 
@@ -80,6 +79,7 @@ abbrev pub seven_fields : List (List ℕ) → Result SevenFields RequestFault
 seven_fields (a ∷ b ∷ c ∷ d ∷ e ∷ f ∷ g ∷ []) = Ok (a, b, c, d, e, f, g)
 seven_fields _ = Err fault.Count
 
+-- the port in these seven fields; Count if there are not seven, else the fault of the first field that has one
 abbrev pub port_fields : List (List ℕ) → Result PortConfig RequestFault
 port_fields ws =
     seven_fields ws >>= λ p. number_word p.0 >>= λ number. number_word p.1 >>= λ priority. mac_word p.2 >>= λ mac. number_word p.3
@@ -95,5 +95,6 @@ port_fields ws =
       short = short;
     })
 
+-- NUMBER:PRIORITY:MAC:KEY:AGGREGATABLE:ACTIVE:SHORT
 abbrev pub port_word : List ℕ → Result PortConfig RequestFault
 port_word w = port_fields (parts 58 w)

@@ -124,7 +124,8 @@ fn question_named(name: &str, words: &[&str]) -> Result<Task, RequestFault>
     }
 }
 
-/// Reads a call or a question, by its first word and the words after it.
+/// Reads a task, by its first word and the words after it: all but receive, offer and conversation, whose words take
+/// memory, and keep and drive.
 pub(crate) fn call_named(name: &str, words: &[&str]) -> Result<Task, RequestFault>
     ensures { task_or_fault result ≡ call_named name.now (map (λ w. w.now) words.now) }
 {

@@ -13,8 +13,8 @@ abbrev pub CallsSystem : Option SystemState → Option SystemState → (SystemSt
 CallsSystem None new does refuses = refuses × (new ≡ None)
 CallsSystem (Some s) new does refuses = (t : SystemState) × (new ≡ Some t) × does s t
 
--- A reader: this is told of the system that the handle holds, which stays as it is; or the handle holds none, and answers
--- its refusal.
+-- A reader: tells is true of the system that the handle holds, which stays as it is; or the handle held none, holds
+-- none, and refuses is true.
 abbrev pub AsksSystem : Option SystemState → Option SystemState → (SystemState → Type 0) → Type 0 → Type 0
 AsksSystem None new tells refuses = refuses × (new ≡ None)
 AsksSystem (Some s) new tells refuses = tells s × (new ≡ Some s)

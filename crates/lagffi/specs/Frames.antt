@@ -9,7 +9,7 @@ use Rattle.lagffi.specs.declared.values.LagReceived.{LagReceived}
 use Rattle.lagffi.specs.declared.values.LagTruth.{LagTruth}
 use Rattle.lagffi.specs.Numbers.{no_received, no_truth, truth}
 
--- how many octets a frame has that is answered
+-- the octets of a frame that a system makes: 14 of header, 110 of payload
 abbrev pub frame_length : ℕ
 frame_length = 124
 

@@ -49,7 +49,7 @@ pub record IsMade (config : LagConfig) (of_keys : List ℕ) (of_ports : List Lag
 abbrev pub RefusesToMake : List ℕ → List LagPort → SystemFault → Type 0
 RefusesToMake keys ports fault = (fault ≡ NoMemory) ⊎ (fault ≡ fault_or_no_memory (refusal (map key_of keys) (map port_config_of ports)))
 
--- a status alone, without a reason to refuse a configuration
+-- a status alone, without a reason to refuse a configuration; with status 0, the system was made
 abbrev pub not_made : ℕ → LagMade
 not_made status = record { status = status; reason = 0; place = 0 }
 

@@ -22,7 +22,7 @@ pub(crate) const FRAME_LENGTH: u32 = 3;
 pub(crate) const NOT_ASSIGNED: u32 = 9;
 /// The most ports and the most aggregators of a system.
 pub(crate) const MOST: usize = 64;
-/// How many octets a frame has that is answered.
+/// The octets of a frame that a system makes: 14 of header, 110 of payload.
 pub(crate) const FRAME: usize = 124;
 
 /// The number of an answer: 0, or that of its refusal.

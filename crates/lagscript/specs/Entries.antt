@@ -58,6 +58,8 @@ abbrev pub five_words : List (List ℕ) → Result (List ℕ × List ℕ × List
 five_words (a ∷ b ∷ c ∷ d ∷ e ∷ []) = Ok (a, b, c, d, e)
 five_words _ = Err entry.Count
 
+-- The event made of exactly this many words, each read by its function; Count if there are more or fewer, else the
+-- fault of the first word that has one.
 abbrev pub with_one_word : {A : Type 0} → WordReader A → (A → EventValue) → List (List ℕ) → Result EventValue EntryFault
 with_one_word f make ws = one_word ws >>= λ a. f a >>= λ x. Ok (make x)
 

@@ -16,7 +16,7 @@ or_fault e (Some x) = Ok x
 abbrev pub if_or_fault : {A E : Type 0} → Bool → E → Result A E → Result A E
 if_or_fault b e r = if b then r else Err e
 
--- the elements, each read at its place, of which the first has this number; or the first fault
+-- each element read by f with its place, the first at this place; or the first fault
 abbrev pub in_place : {A X E : Type 0} → (ℕ → X → Result A E) → ℕ → List X → Result (List A) E
 in_place f place [] = Ok []
 in_place f place (x ∷ rest) = f place x >>= λ y. in_place f (place + 1) rest >>= λ ys. Ok (y ∷ ys)

@@ -58,7 +58,7 @@ chosen keys (suc n) slots = choose_slot keys (chosen keys n slots) n (slice_get 
 abbrev pub Chooses : SystemState → SystemState → Type 0
 Chooses old new = new ≡ with_slots old (chosen old.keys (length old.slots) old.slots)
 
--- Ready of the aggregator that a port is given
+-- Ready of the aggregator that the port has chosen; false if it has chosen none
 abbrev pub ready_of : List Key → List PortView → Choice → Bool
 ready_of keys seen Unselected = false
 ready_of keys seen (Selected agg) = is_ready keys seen agg

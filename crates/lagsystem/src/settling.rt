@@ -114,6 +114,7 @@ fn run_one_mux(aggregators: &Aggregators, slot: &mut SystemPort, port_views: &[P
     run_mux_rows(slot, ready);
 }
 
+/// Ready of the aggregator that the port has chosen; false if it has chosen none.
 fn ready_of(aggregators: &Aggregators, port_views: &[PortView], choice: Choice) -> bool
     ensures { result ≡ ready_of aggregators.now port_views.now choice }
 {

@@ -3,11 +3,12 @@ use Rattle.std.specs.Prelude.{ℕ, suc, ◌+◌, ◌++◌, ◌==◌, List, [], �
 use Rattle.lagtool.specs.declared.summary.Summary.{Summary}
 use Rattle.lagtool.specs.Verdicts.{is_fault, line_verdict, verdict_text}
 
--- octets of a line before the lines that follow; without octets and without following lines there is no line
+-- a list of this one line; empty if the line has no octets
 abbrev pub line_if_any : List ℕ → List (List ℕ)
 line_if_any [] = []
 line_if_any (x ∷ xs) = (x ∷ xs) ∷ []
 
+-- octets of a line before the lines that follow; without octets and without following lines there is no line
 abbrev pub continue_line : List ℕ → List (List ℕ) → List (List ℕ)
 continue_line line [] = line_if_any line
 continue_line line (l ∷ ls) = (line ++ l) ∷ ls

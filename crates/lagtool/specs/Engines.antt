@@ -1,4 +1,4 @@
--- What the engines of the program return and have written (profile).
+-- What the commands of the program return and have written (profile).
 use Rattle.std.specs.Prelude.{◌≡◌, ⊤, ℕ, Bool, List, Option, Result, Ok, Err, IsErr, if◌then◌else◌}
 use Rattle.hex.specs.Hex.{decode_of}
 use Rattle.lagtool.specs.declared.fault.ToolFault.{ToolFault}

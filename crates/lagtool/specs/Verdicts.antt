@@ -15,7 +15,8 @@ abbrev pub kind_verdict : MarkerKind → Verdict
 kind_verdict Information = Marker
 kind_verdict Response = MarkerResponse
 
--- the verdict on a frame whose payload is not refused
+-- The verdict on a frame whose payload is not refused. Octet 0 is the subtype, 1 for LACP; octet 2 of a Marker PDU is
+-- its TLV type, 1 for Marker Information.
 abbrev pub accepted_verdict : List ℕ → Verdict
 accepted_verdict b = if slice_index b 0 == 1 then Lacpdu else if slice_index b 2 == 1 then Marker else MarkerResponse
 

@@ -53,7 +53,7 @@ fn push_flow<F: Fn(u16, usize) -> usize + Drop>(
     text.push_str("\n")
 }
 
-/// Writes the flow lines of one aggregator: one for each of its conversations that has frames.
+/// Adds the flow lines of one aggregator: one for each of its conversations that has frames.
 fn push_row<F: Fn(u16, usize) -> usize + Drop>(
     text: &mut String,
     world: &World<AnyCable, F>,

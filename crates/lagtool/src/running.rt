@@ -12,7 +12,8 @@ use cables::AnyCable;
 use lagworld::{Event, Reply, RunFault, World, WorldConfig, WorldFault};
 use std::alloc::Global;
 
-/// Makes a world from a configuration that is accepted, and an empty line for each cable. Only memory can be refused.
+/// Makes a world from a configuration that is accepted, and an empty line for each cable. Only memory can be refused:
+/// `World::new` has more faults, and this contract says that none of them comes here.
 pub(crate) fn make_world<F: Fn(u16, usize) -> usize + Drop>(
     alloc: Global,
     config: WorldConfig,
@@ -33,7 +34,8 @@ pub(crate) fn make_world<F: Fn(u16, usize) -> usize + Drop>(
     World::new(alloc, config, one, two, lines)
 }
 
-/// Plays events from the start of a world; each names a cable and a system that exist. Only memory can be refused.
+/// Plays events from the start of a world; each names a cable and a system that exist. Only memory can be refused:
+/// `World::run` has more faults, and this contract says that none of them comes here.
 pub(crate) fn run_events<F: Fn(u16, usize) -> usize + Drop>(
     world: &mut World<AnyCable, F>,
     events: &[Event],

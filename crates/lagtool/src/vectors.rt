@@ -27,7 +27,7 @@ fn joined(alloc: Global, pieces: Pieces) -> Result<String, AllocError> {
     Ok(text)
 }
 
-/// Whether an engine returned this and wrote this text. A sink in memory fails only if memory is refused.
+/// Whether a command returned this and wrote this text. A sink in memory fails only if memory is refused.
 fn wrote(
     ended: Result<bool, ToolFault>,
     sink: Sink<Vec<u8>>,

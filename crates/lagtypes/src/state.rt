@@ -234,6 +234,8 @@ fn write_words<W: fmt::Write>(
 impl fmt::Display for State {
     ghost output = { λ s. Some (state_text s.0) };
 
+    /// Two lower-case hexadecimal digits, a space, and the names of the bits that are 1, lowest bit first, with commas
+    /// between, or `none`.
     fn fmt<W: fmt::Write>(&self, f: &mut fmt::Formatter<W>) -> fmt::Result {
         write!(f, "{} ", HexOctet(self.0))?;
         write_words(f, *self, &WORDS)

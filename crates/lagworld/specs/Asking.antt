@@ -11,21 +11,29 @@ use Rattle.lagworld.specs.State.{HalfState, WorldState, LinkState, at_flow, towa
 use Rattle.lagworld.specs.HalfCalls.{Asks, HalfForces}
 use Rattle.lagworld.specs.Events.{Algorithms, InHalf, LosesFrom, OnLink}
 
+-- One of the two systems is asked for the frame that port p is to send and answers a: the frame, None if none is due,
+-- or why not; gives is what its distribution algorithm may return.
 abbrev pub HalfTransmits : (ℕ → ℕ → ℕ → Type 0) → ℕ → Result (Option (List ℕ)) SystemFault → HalfState → HalfState → Type 0
 HalfTransmits gives p a old new = Asks gives (Transmit p) (answer.Transmit a) old new
 
+-- the same of system s; nothing else changes
 abbrev pub WorldTransmits : Algorithms → Side → ℕ → Result (Option (List ℕ)) SystemFault → WorldState → WorldState → Type 0
 WorldTransmits gives s p a old new = InHalf s (λ h k. HalfTransmits (gives s) p a h k) old new
 
+-- One of the two systems is offered this frame and answers a: the port to send it on, or why not; gives is what its
+-- distribution algorithm may return.
 abbrev pub HalfAssigns : (ℕ → ℕ → ℕ → Type 0) → AggId → List ℕ → Result ℕ SystemFault → HalfState → HalfState → Type 0
 HalfAssigns gives agg octets a old new = Asks gives (Offer agg octets) (answer.Offer a) old new
 
+-- the same of system s; nothing else changes
 abbrev pub WorldAssigns : Algorithms → Side → AggId → List ℕ → Result ℕ SystemFault → WorldState → WorldState → Type 0
 WorldAssigns gives s agg octets a old new = InHalf s (λ h k. HalfAssigns (gives s) agg octets a h k) old new
 
+-- one of the two systems is asked to free this conversation by force and answers a: done, or why not
 abbrev pub HalfFrees : (ℕ → ℕ → ℕ → Type 0) → AggId → ℕ → Result Unit SystemFault → HalfState → HalfState → Type 0
 HalfFrees gives agg conv a old new = Asks gives (Force agg conv) (answer.Force a) old new
 
+-- system s does what a Force event asks, with this reply; nothing else changes
 abbrev pub WorldForces : Algorithms → Side → AggId → ℕ → WorldState → Reply → WorldState → Type 0
 WorldForces gives s agg conv old r new = InHalf s (λ h k. HalfForces (gives s) agg conv h r k) old new
 

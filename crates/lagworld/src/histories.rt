@@ -13,7 +13,7 @@ pub(crate) struct StampedLacpdu {
     pub(crate) stamp: u64,
 }
 
-/// The log of one port of a system (profile).
+/// The history of one port of a system (profile).
 #[derive(Clone, Copy, Debug, PartialEq, Eq)]
 pub(crate) struct PortHistory {
     /// The port number.
@@ -43,7 +43,7 @@ impl PortHistory {
     }
 }
 
-/// The log of the port with this number.
+/// The history of the port with this number.
 pub(crate) fn history_of(histories: &[PortHistory], number: u16) -> Option<PortHistory>
     ensures { result ≡ history_at histories.now number }
 {

@@ -54,7 +54,8 @@ pub(crate) fn cut_at<C: Cable>(links: &mut Vec<Link<C>>, place: usize)
     line.cut();
 }
 
-/// Makes the cable at an index whole again.
+/// Makes the cable at an index whole again. What was on it when it was cut stays lost, and its ports learn it only by
+/// Sense.
 pub(crate) fn join_at<C: Cable>(links: &mut Vec<Link<C>>, place: usize)
     requires { place < length links.old.items }
     ensures { IsSomeAnd (slice_get (link_states C.items C.limit links.old.items) place)

@@ -8,7 +8,8 @@ pub record Row : Type 0 where
   pub enabled : Machines → Bool
   pub effect : Machines → Machines
 
--- one of the rows is enabled in the first state, and firing it gives the second
+-- One of the rows is enabled in the first state, and firing it gives the second. Any enabled row may fire; `in_order`
+-- makes an order.
 abbrev pub Fires : List Row → Machines → Machines → Type 0
 Fires [] old new = ⊥
 Fires (row ∷ rows) old new = (IsTrue (row.enabled old) × (new ≡ row.effect old)) ⊎ Fires rows old new
