@@ -258,7 +258,7 @@ fn tells_which_port_has_waited(rt: HostRuntime) {
             stage,
             ..view(1, B)
         };
-        assert_eq!(rt; view.has_expired(), want, "has_expired in {stage:?}");
+        assert_eq!(rt; view.has_waited(), want, "has_waited in {stage:?}");
     }
 }
 
