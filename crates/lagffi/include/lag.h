@@ -212,6 +212,20 @@ struct lag_marker lagffi_next_marker(struct lag *handle);
 
 /* The functions to call: they refuse a null pointer, and else pass on. */
 
+static inline struct lag_number lag_null_number(void) {
+    struct lag_number refused;
+    memset(&refused, 0, sizeof refused);
+    refused.status = LAG_NULL;
+    return refused;
+}
+
+static inline struct lag_truth lag_null_truth(void) {
+    struct lag_truth refused;
+    memset(&refused, 0, sizeof refused);
+    refused.status = LAG_NULL;
+    return refused;
+}
+
 /* Makes a system with all links down and puts it into an empty handle. The keys are those of aggregators 1, 2 and on; the
  * port numbers rise. */
 static inline struct lag_made lag_new(struct lag *handle, const struct lag_config *config, const uint16_t *keys,
@@ -250,11 +264,7 @@ static inline uint32_t lag_set_link(struct lag *handle, uint16_t port, bool up) 
 
 /* Gives a port another key, priority or Aggregation bit; answers whether anything differs. */
 static inline struct lag_truth lag_configure(struct lag *handle, uint16_t port, const struct lag_change *change) {
-    struct lag_truth refused;
-    if (handle && change) return lagffi_configure(handle, port, change);
-    memset(&refused, 0, sizeof refused);
-    refused.status = LAG_NULL;
-    return refused;
+    return (handle && change) ? lagffi_configure(handle, port, change) : lag_null_truth();
 }
 
 /* Starts the system again as lag_new left it. */
@@ -264,20 +274,12 @@ static inline uint32_t lag_restart(struct lag *handle) {
 
 /* Whether a frame is due on a port; `frame` has LAG_FRAME octets, and is written only then. To be called until it answers false. */
 static inline struct lag_truth lag_transmit(struct lag *handle, uint16_t port, uint8_t *frame, size_t room) {
-    struct lag_truth refused;
-    if (handle && frame) return lagffi_transmit(handle, port, frame, room);
-    memset(&refused, 0, sizeof refused);
-    refused.status = LAG_NULL;
-    return refused;
+    return (handle && frame) ? lagffi_transmit(handle, port, frame, room) : lag_null_truth();
 }
 
 /* The port to send a frame on, in an aggregator. */
 static inline struct lag_number lag_offer(struct lag *handle, uint16_t agg, const uint8_t *frame, size_t length) {
-    struct lag_number refused;
-    if (handle && frame) return lagffi_offer(handle, agg, frame, length);
-    memset(&refused, 0, sizeof refused);
-    refused.status = LAG_NULL;
-    return refused;
+    return (handle && frame) ? lagffi_offer(handle, agg, frame, length) : lag_null_number();
 }
 
 /* Moves a conversation to a port, behind a marker on the port that it is on. */
@@ -292,56 +294,32 @@ static inline uint32_t lag_force(struct lag *handle, uint16_t agg, uint16_t conv
 
 /* How many ports there are. `numbers` has LAG_MOST places, which `room` counts; their numbers are written, ascending. */
 static inline struct lag_number lag_ports(struct lag *handle, uint16_t *numbers, size_t room) {
-    struct lag_number refused;
-    if (handle && numbers) return lagffi_ports(handle, numbers, room);
-    memset(&refused, 0, sizeof refused);
-    refused.status = LAG_NULL;
-    return refused;
+    return (handle && numbers) ? lagffi_ports(handle, numbers, room) : lag_null_number();
 }
 
 /* How many aggregators there are. They are numbered from 1. */
 static inline struct lag_number lag_aggregators(struct lag *handle) {
-    struct lag_number refused;
-    if (handle) return lagffi_aggregators(handle);
-    memset(&refused, 0, sizeof refused);
-    refused.status = LAG_NULL;
-    return refused;
+    return handle ? lagffi_aggregators(handle) : lag_null_number();
 }
 
 /* Whether the link of a port is up. */
 static inline struct lag_truth lag_is_up(struct lag *handle, uint16_t port) {
-    struct lag_truth refused;
-    if (handle) return lagffi_is_up(handle, port);
-    memset(&refused, 0, sizeof refused);
-    refused.status = LAG_NULL;
-    return refused;
+    return handle ? lagffi_is_up(handle, port) : lag_null_truth();
 }
 
 /* The state octet of a port's own side. */
 static inline struct lag_number lag_state(struct lag *handle, uint16_t port) {
-    struct lag_number refused;
-    if (handle) return lagffi_state(handle, port);
-    memset(&refused, 0, sizeof refused);
-    refused.status = LAG_NULL;
-    return refused;
+    return handle ? lagffi_state(handle, port) : lag_null_number();
 }
 
 /* The state of the receive machine of a port. */
 static inline struct lag_number lag_receive_state(struct lag *handle, uint16_t port) {
-    struct lag_number refused;
-    if (handle) return lagffi_receive_state(handle, port);
-    memset(&refused, 0, sizeof refused);
-    refused.status = LAG_NULL;
-    return refused;
+    return handle ? lagffi_receive_state(handle, port) : lag_null_number();
 }
 
 /* Whether lag_transmit would answer a frame now. */
 static inline struct lag_truth lag_is_due(struct lag *handle, uint16_t port) {
-    struct lag_truth refused;
-    if (handle) return lagffi_is_due(handle, port);
-    memset(&refused, 0, sizeof refused);
-    refused.status = LAG_NULL;
-    return refused;
+    return handle ? lagffi_is_due(handle, port) : lag_null_truth();
 }
 
 /* The own parameters of a port. */
@@ -373,66 +351,38 @@ static inline struct lag_group lag_group(struct lag *handle, uint16_t port) {
 
 /* Whether the recorded partner is the administrative default. */
 static inline struct lag_truth lag_defaulted(struct lag *handle, uint16_t port) {
-    struct lag_truth refused;
-    if (handle) return lagffi_defaulted(handle, port);
-    memset(&refused, 0, sizeof refused);
-    refused.status = LAG_NULL;
-    return refused;
+    return handle ? lagffi_defaulted(handle, port) : lag_null_truth();
 }
 
 /* Whether a port distributes. */
 static inline struct lag_truth lag_distributes(struct lag *handle, uint16_t port) {
-    struct lag_truth refused;
-    if (handle) return lagffi_distributes(handle, port);
-    memset(&refused, 0, sizeof refused);
-    refused.status = LAG_NULL;
-    return refused;
+    return handle ? lagffi_distributes(handle, port) : lag_null_truth();
 }
 
 /* The aggregator that a port is given, or 0. */
 static inline struct lag_number lag_choice(struct lag *handle, uint16_t port) {
-    struct lag_number refused;
-    if (handle) return lagffi_choice(handle, port);
-    memset(&refused, 0, sizeof refused);
-    refused.status = LAG_NULL;
-    return refused;
+    return handle ? lagffi_choice(handle, port) : lag_null_number();
 }
 
 /* The state of the mux machine of a port. */
 static inline struct lag_number lag_mux_state(struct lag *handle, uint16_t port) {
-    struct lag_number refused;
-    if (handle) return lagffi_mux_state(handle, port);
-    memset(&refused, 0, sizeof refused);
-    refused.status = LAG_NULL;
-    return refused;
+    return handle ? lagffi_mux_state(handle, port) : lag_null_number();
 }
 
 /* How many conversations are on a port, those that are held among them. */
 static inline struct lag_number lag_load(struct lag *handle, uint16_t port) {
-    struct lag_number refused;
-    if (handle) return lagffi_load(handle, port);
-    memset(&refused, 0, sizeof refused);
-    refused.status = LAG_NULL;
-    return refused;
+    return handle ? lagffi_load(handle, port) : lag_null_number();
 }
 
 /* How many ports distribute in an aggregator; 0 if there is none. `numbers` has LAG_MOST places; their numbers are
  * written, ascending. */
 static inline struct lag_number lag_distributing(struct lag *handle, uint16_t agg, uint16_t *numbers, size_t room) {
-    struct lag_number refused;
-    if (handle && numbers) return lagffi_distributing(handle, agg, numbers, room);
-    memset(&refused, 0, sizeof refused);
-    refused.status = LAG_NULL;
-    return refused;
+    return (handle && numbers) ? lagffi_distributing(handle, agg, numbers, room) : lag_null_number();
 }
 
 /* The conversation of a frame in its aggregator. */
 static inline struct lag_number lag_conversation(struct lag *handle, const uint8_t *frame, size_t length) {
-    struct lag_number refused;
-    if (handle && frame) return lagffi_conversation(handle, frame, length);
-    memset(&refused, 0, sizeof refused);
-    refused.status = LAG_NULL;
-    return refused;
+    return (handle && frame) ? lagffi_conversation(handle, frame, length) : lag_null_number();
 }
 
 /* What a conversation of an aggregator is doing. */
