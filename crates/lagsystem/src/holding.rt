@@ -3,8 +3,7 @@ ghost use Rattle.distributor.specs.Changes.{Changes};
 ghost use Rattle.lagsystem.specs.Calls.{FreesIfDown};
 ghost use Rattle.lagsystem.specs.Holding.{after_holding, aggregators_in_use, has_stopped, stopped};
 
-use crate::ports::collecting;
-use crate::readers::distributes_in;
+use crate::distributing_ports::{collecting, distributes_in};
 use crate::slots::SystemPort;
 use arrayvec::ArrayVec;
 use distributor::Distributor;

@@ -14,18 +14,20 @@ ghost use Rattle.lagsystem.specs.declared.received.Received.{Received};
 ghost use Rattle.lagsystem.specs.declared.drive.Reply.{Reply};
 
 use crate::config::{Config, PortChange, PortConfig};
+use crate::configure::configure_port;
+use crate::distributing_ports::distributing;
 use crate::fault::SystemFault;
 use crate::holding::{aggregators_in_use, free_conversations_if_down, hold_conversations};
 use crate::offers::check_offer;
-use crate::ports::{
-    configure_port, control_frame, is_lacpdu_due, pace_at, parse_frame, set_port_link, take_at,
-    tick_each, transmit_at,
-};
-use crate::readers::distributing;
+use crate::parse::parse_frame;
 use crate::received::{FrameEffect, Received};
+use crate::set_link::set_port_link;
 use crate::settling::settle;
 use crate::slots::{SystemPort, place_of};
 use crate::start::{aggregator_count, new_system_ports, restart_each};
+use crate::take_lacpdu::{pace_at, take_at};
+use crate::tick::tick_each;
+use crate::transmit::{control_frame, is_lacpdu_due, transmit_at};
 use distributor::{Assignment, Distributor};
 use lagtypes::{AggId, SystemId};
 use selection::Aggregators;

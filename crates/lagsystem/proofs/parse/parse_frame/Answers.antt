@@ -1,6 +1,6 @@
 use Rattle.std.proofs.Common.{◌∙◌, sym}
 use Rattle.lagsystem.proofs.StateLemmas.{hears_control}
-use Rattle.lagsystem.proofs.ports.parse_frame.Goals as goal
+use Rattle.lagsystem.proofs.parse.parse_frame.Goals as goal
 
 pub returns-in-Control : goal.returns-in-Control
 returns-in-Control c =

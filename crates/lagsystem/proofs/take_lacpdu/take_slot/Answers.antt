@@ -3,7 +3,7 @@ use Rattle.std.specs.Bool.{OnTrue}
 use Rattle.slowpdu.specs.declared.pdu.Info.{Info}
 use Rattle.lagsystem.specs.Quiet.{IsSamePartner, Knows, LooksAlike}
 use Rattle.lagsystem.proofs.Skipping.{alike_if, took_alike}
-use Rattle.lagsystem.proofs.ports.take_slot.Goals as goal
+use Rattle.lagsystem.proofs.take_lacpdu.take_slot.Goals as goal
 
 pub returns-then-known-clause-same : goal.returns-then-known-clause-same
 returns-then-known-clause-same c =

@@ -1,5 +1,5 @@
 use Rattle.lagsystem.proofs.SendingLemmas.{lacpdu_sent}
-use Rattle.lagsystem.proofs.ports.transmit_slot.Goals as goal
+use Rattle.lagsystem.proofs.transmit.transmit_slot.Goals as goal
 
 pub returns-in-Some-clause-sends : goal.returns-in-Some-clause-sends
 returns-in-Some-clause-sends c =

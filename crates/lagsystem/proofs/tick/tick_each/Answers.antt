@@ -4,7 +4,7 @@ use Rattle.portmachines.specs.Receive.{receive_rows}
 use Rattle.portmachines.specs.Transmit.{count_down}
 use Rattle.lagsystem.specs.Settling.{PortGoes}
 use Rattle.lagsystem.proofs.Lists.{SoFar-more, SoFar-all}
-use Rattle.lagsystem.proofs.ports.tick_each.Goals as goal
+use Rattle.lagsystem.proofs.tick.tick_each.Goals as goal
 
 pub loop-slot-preserved : goal.loop-slot-preserved
 loop-slot-preserved c =

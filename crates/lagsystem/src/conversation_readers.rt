@@ -1,0 +1,55 @@
+ghost use Rattle.std.specs.Prelude.{◌≡◌, ◌<◌, IfSome, MatchOption, Ok, Err};
+ghost use Rattle.distributor.specs.Conversations.{next_identifier, how_many};
+ghost use Rattle.lagsystem.specs.Hosts.{conversation_at};
+ghost use Rattle.lagsystem.specs.State.{place_of};
+ghost use Rattle.lagsystem.specs.Readers.{conversation_in, conversation_count};
+ghost use Rattle.distributor.specs.Chains.{names_port};
+ghost use Rattle.lagsystem.specs.declared.fault.SystemFault.{SystemFault};
+
+use crate::calls::System;
+use crate::fault::SystemFault;
+use crate::slots::place_of;
+use distributor::Assignment;
+use lagtypes::AggId;
+
+impl<F: Fn(u16, usize) -> usize + Drop> System<F> {
+    /// The conversation of a frame, in whichever aggregator, 0 to 255: octet 5 exclusive-or octet 11. None if the frame
+    /// has fewer than 14 octets (profile).
+    pub fn conversation(&self, frame: &[u8]) -> Option<u16>
+        ensures is { result ≡ conversation_in self.now.state frame.now }
+        ensures within { IfSome result (λ conv. conv < conversation_count self.now.state) }
+    {
+        if frame.len() < 14 {
+            return None;
+        }
+        Some(self.inner.number_of_conversation(frame))
+    }
+
+    /// The state of a conversation of an aggregator; None if there is no such aggregator, or if `conv` is not 0 to 255
+    /// (profile).
+    pub fn conversation_state(&self, agg: AggId, conv: u16) -> Option<Assignment>
+        ensures { result ≡ conversation_at self.now.state agg conv }
+    {
+        self.inner.conversation_state(agg, conv)
+    }
+
+    /// How many conversations, of all aggregators together, are On, Wanted or Flushing on a port. `NoPort` if there is
+    /// no such port (profile).
+    pub fn load(&self, port: u16) -> Result<u32, SystemFault>
+        ensures { MatchOption (place_of port self.now.state.slots) (result ≡ Err SystemFault.NoPort)
+            (λ place. result ≡ Ok (how_many (names_port port) self.now.state.table)) }
+    {
+        match place_of(&self.inner.slots, port) {
+            Some(_) => Ok(self.inner.distributor.load(port)),
+            None => Err(SystemFault::NoPort),
+        }
+    }
+
+    /// The Requester_Transaction_ID of the next marker, 0 to 4294967295; None if all are used up (6.5.3.3;
+    /// profile).
+    pub fn next_marker(&self) -> Option<u32>
+        ensures { result ≡ next_identifier self.now.state.table }
+    {
+        self.inner.distributor.next_marker()
+    }
+}

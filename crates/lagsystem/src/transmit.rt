@@ -1,0 +1,52 @@
+ghost use Rattle.std.specs.Prelude.{◌≡◌, ◌<◌, length};
+ghost use Rattle.slowpdu.specs.Frames.{frame_octets};
+ghost use Rattle.slowpdu.specs.Layout.{IsAddress};
+ghost use Rattle.portmachines.specs.Transmit.{is_due};
+ghost use Rattle.lagsystem.specs.Sending.{SendsIfDue, PortSendsIfDue};
+
+use crate::slots::SystemPort;
+use portmachines::Port;
+use slowpdu::frame;
+
+/// A control frame of 124 octets from this source address, with this payload.
+pub(crate) fn control_frame(mac: [u8; 6], payload: &[u8; 110]) -> [u8; 124]
+    ensures octets { result ≡ frame_octets mac payload.now }
+    ensures address { IsAddress mac }
+{
+    frame(mac, payload)
+}
+
+/// How many LACPDUs a port may send in eleven ticks (6.4.16).
+const WINDOW: usize = 3;
+
+/// Whether the port may send an LACPDU now: NTT is set, and the window is not full.
+pub(crate) fn is_lacpdu_due(port: &Port) -> bool
+    ensures { result ≡ is_due port.now }
+{
+    port.ntt() && port.ages().len() < WINDOW
+}
+
+/// The LACPDU that is due on a port, as a control frame; None if none is due.
+fn transmit_slot(slot: &mut SystemPort, max_delay: u16) -> Option<[u8; 124]>
+    ensures kept { slot.new ≡ record slot.old { port = slot.new.port } }
+    ensures sends { SendsIfDue max_delay slot.old result slot.new.port }
+{
+    let mac = slot.mac;
+    match slot.port.transmit(max_delay) {
+        Some(pdu) => Some(control_frame(mac, &pdu.encode())),
+        None => None,
+    }
+}
+
+/// The LACPDU that is due on the port at this index, as a control frame; None if none is due.
+pub(crate) fn transmit_at(
+    slots: &mut [SystemPort],
+    place: usize,
+    max_delay: u16,
+) -> Option<[u8; 124]>
+    requires { place < length slots.old }
+    ensures { PortSendsIfDue max_delay place result slots.old slots.new }
+{
+    let slot = &mut slots[place];
+    transmit_slot(slot, max_delay)
+}
