@@ -5,6 +5,7 @@ pub mod StateLemmas
 pub mod TableLemmas
 pub mod HoldingLemmas
 pub mod OfferLemmas
+pub mod PlaceLemmas
 pub mod SendingLemmas
 pub mod Keeps
 pub mod Stopped

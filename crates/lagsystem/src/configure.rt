@@ -1,40 +1,27 @@
-ghost use Rattle.std.specs.Prelude.{◌≡◌, None, true, IfNone, IfSome};
+ghost use Rattle.std.specs.Prelude.{◌≡◌, ◌<◌, Some, true, length};
 ghost use Rattle.std.specs.Bool.{OnFalse, OnTrue};
 ghost use Rattle.lagtypes.specs.Same.{same_party};
 ghost use Rattle.portmachines.specs.Start.{Starts};
 ghost use Rattle.lagsystem.specs.Calls.{ChangesParty, IsAtPlace, PortAtGoes, changed_party};
-ghost use Rattle.lagsystem.specs.State.{place_of};
 
 use crate::config::PortChange;
-use crate::slots::{SystemPort, place_of};
+use crate::slots::SystemPort;
 use lagtypes::{Party, PortId};
 use portmachines::Port;
 
-/// Gives a port another key, priority or Aggregation bit, and returns whether a value differs; None if there is no such
-/// port.
-pub(crate) fn configure_port(
-    slots: &mut [SystemPort],
-    number: u16,
-    change: PortChange,
-) -> Option<bool>
-    ensures none { IfNone result (place_of number slots.old ≡ None) }
-    ensures same { IfNone result (slots.new ≡ slots.old) }
-    ensures acted { IfSome result (λ did. OnTrue did (PortAtGoes (ChangesParty change) (place_of number slots.old) slots.old slots.new)) }
-    ensures stays { IfSome result (λ did. OnFalse did (IsAtPlace (λ p. same_party (changed_party change p.party) p.party ≡ true)
-        (place_of number slots.old) slots.old)) }
-    ensures unchanged { IfSome result (λ did. OnFalse did (slots.new ≡ slots.old)) }
+/// Gives the port at this index another key, priority or Aggregation bit, and returns whether a value differs.
+pub(crate) fn configure_at(slots: &mut [SystemPort], place: usize, change: PortChange) -> bool
+    requires { place < length slots.old }
+    ensures acted { OnTrue result (PortAtGoes (ChangesParty change) (Some place) slots.old slots.new) }
+    ensures stays { OnFalse result (IsAtPlace (λ p. same_party (changed_party change p.party) p.party ≡ true) (Some place) slots.old) }
+    ensures unchanged { OnFalse result (slots.new ≡ slots.old) }
 {
-    match place_of(slots, number) {
-        Some(place) => {
-            if is_same(&slots[place].port, change) {
-                return Some(false);
-            }
-            let slot = &mut slots[place];
-            reinit_slot(slot, change);
-            Some(true)
-        }
-        None => None,
+    if is_same(&slots[place].port, change) {
+        return false;
     }
+    let slot = &mut slots[place];
+    reinit_slot(slot, change);
+    true
 }
 
 /// Whether the change leaves the port's own parameters as they are.

@@ -8,7 +8,6 @@ ghost use Rattle.lagsystem.specs.declared.fault.SystemFault.{SystemFault};
 
 use crate::calls::System;
 use crate::fault::SystemFault;
-use crate::slots::place_of;
 use distributor::Assignment;
 use lagtypes::AggId;
 
@@ -39,10 +38,8 @@ impl<F: Fn(u16, usize) -> usize + Drop> System<F> {
         ensures { MatchOption (place_of port self.now.state.slots) (result ≡ Err SystemFault.NoPort)
             (λ place. result ≡ Ok (how_many (names_port port) self.now.state.table)) }
     {
-        match place_of(&self.inner.slots, port) {
-            Some(_) => Ok(self.inner.distributor.load(port)),
-            None => Err(SystemFault::NoPort),
-        }
+        self.inner.place_of(port)?;
+        Ok(self.inner.distributor.load(port))
     }
 
     /// The Requester_Transaction_ID of the next marker, 0 to 4294967295; None if all are used up (6.5.3.3;

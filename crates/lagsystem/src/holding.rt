@@ -1,4 +1,4 @@
-ghost use Rattle.std.specs.Prelude.{◌≡◌, ◌≤◌, length};
+ghost use Rattle.std.specs.Prelude.{◌≡◌, ◌<◌, ◌≤◌, length, slice_set};
 ghost use Rattle.distributor.specs.Changes.{Changes};
 ghost use Rattle.lagsystem.specs.Calls.{FreesIfDown};
 ghost use Rattle.lagsystem.specs.Holding.{after_holding, aggregators_in_use, has_stopped, stopped};
@@ -18,6 +18,22 @@ pub(crate) fn aggregators_in_use(slots: &[SystemPort]) -> ArrayVec<Option<AggId>
     for slot in slots {
         found.push(collecting(&slot.port));
     }
+    found
+}
+
+/// The same for a time when the port at this index distributed in the aggregator `was`.
+pub(crate) fn aggregators_in_use_before(
+    slots: &[SystemPort],
+    place: usize,
+    was: Option<AggId>,
+) -> ArrayVec<Option<AggId>, 64>
+    requires few { length slots.now ≤ 64 }
+    requires within { place < length slots.now }
+    ensures { result.items ≡ slice_set (aggregators_in_use slots.now) place was }
+{
+    let mut found = aggregators_in_use(slots);
+    let all = found.as_mut_slice();
+    all[place] = was;
     found
 }
 

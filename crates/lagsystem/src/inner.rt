@@ -1,4 +1,4 @@
-ghost use Rattle.std.specs.Prelude.{◌≡◌, ◌<◌, ◌≤◌, IfErr, IfOk, Some, length, vec_len};
+ghost use Rattle.std.specs.Prelude.{◌≡◌, ◌<◌, ◌≤◌, IfErr, IfOk, None, Some, length, vec_len};
 ghost use Rattle.distributor.specs.Calls.{PicksPlaces};
 ghost use Rattle.lagsystem.specs.Calls.{Call, OnPort, ReceivesAt, Releases, Settled, Step, TakesLacpdu, is_for};
 ghost use Rattle.lagsystem.specs.First.{fault_or_no_memory, config_refusal};
@@ -10,18 +10,22 @@ ghost use Rattle.lagsystem.specs.Readers.{number_of_conversation, conversation_c
 ghost use Rattle.lagsystem.specs.Sending.{SendsMarker};
 ghost use Rattle.lagsystem.specs.Settling.{Settling, SettlesPorts};
 ghost use Rattle.lagsystem.specs.Sound.{IsMade, IsSound};
+ghost use Rattle.lagsystem.specs.State.{place_of};
 ghost use Rattle.lagsystem.specs.declared.received.Received.{Received};
 ghost use Rattle.lagsystem.specs.declared.drive.Reply.{Reply};
+ghost use Rattle.lagsystem.specs.declared.fault.SystemFault.{SystemFault};
 
 use crate::config::{Config, PortChange, PortConfig};
-use crate::configure::configure_port;
-use crate::distributing_ports::distributing;
+use crate::configure::configure_at;
+use crate::distributing_ports::{collecting, distributing};
 use crate::fault::SystemFault;
-use crate::holding::{aggregators_in_use, free_conversations_if_down, hold_conversations};
+use crate::holding::{
+    aggregators_in_use, aggregators_in_use_before, free_conversations_if_down, hold_conversations,
+};
 use crate::offers::check_offer;
 use crate::parse::parse_frame;
 use crate::received::{FrameEffect, Received};
-use crate::set_link::set_port_link;
+use crate::set_link::set_link_at;
 use crate::settling::settle;
 use crate::slots::{SystemPort, place_of};
 use crate::start::{aggregator_count, new_system_ports, restart_each};
@@ -88,6 +92,20 @@ impl<F: Fn(u16, usize) -> usize + Drop> Inner<F> {
         Ok(inner)
     }
 
+    /// The index of the port with this number; `NoPort` if there is none.
+    pub(crate) fn place_of(&self, number: u16) -> Result<usize, SystemFault>
+        requires { IsSound (inner_state self.now) }
+        ensures place { IfOk result (λ place. place_of number self.now.slots.items ≡ Some place) }
+        ensures within { IfOk result (λ place. place < length self.now.slots.items) }
+        ensures none { IfErr result (λ fault. place_of number self.now.slots.items ≡ None) }
+        ensures named { IfErr result (λ fault. fault ≡ SystemFault.NoPort) }
+    {
+        match place_of(&self.slots, number) {
+            Some(place) => Ok(place),
+            None => Err(SystemFault::NoPort),
+        }
+    }
+
     /// Steps 1 to 5 of settling, which read and change ports only.
     fn settle_ports(&mut self)
         requires { vec_len self.old.slots ≤ 64 }
@@ -124,10 +142,9 @@ impl<F: Fn(u16, usize) -> usize + Drop> Inner<F> {
             (inner_state self.new) }
         ensures algorithm { self.new.distributor.algorithm ≡ self.old.distributor.algorithm }
     {
+        let place = self.place_of(number)?;
         let before = aggregators_in_use(&self.slots);
-        if !set_port_link(&mut self.slots, number, up) {
-            return Err(SystemFault::NoPort);
-        }
+        set_link_at(&mut self.slots, place, up);
         free_conversations_if_down(&mut self.distributor, number, up);
         self.settle(before.as_slice());
         Ok(())
@@ -139,10 +156,8 @@ impl<F: Fn(u16, usize) -> usize + Drop> Inner<F> {
             (Reply.Receive result) (inner_state self.new) }
         ensures algorithm { self.new.distributor.algorithm ≡ self.old.distributor.algorithm }
     {
-        match place_of(&self.slots, number) {
-            Some(place) => Ok(self.receive_at(place, octets)),
-            None => Err(SystemFault::NoPort),
-        }
+        let place = self.place_of(number)?;
+        Ok(self.receive_at(place, octets))
     }
 
     fn receive_at(&mut self, place: usize, octets: &[u8]) -> Received
@@ -170,10 +185,11 @@ impl<F: Fn(u16, usize) -> usize + Drop> Inner<F> {
         ensures settled { Settled (OnPort (Some place) (TakesLacpdu pdu.now)) (inner_state self.old) (inner_state self.new) }
         ensures algorithm { self.new.distributor.algorithm ≡ self.old.distributor.algorithm }
     {
-        let before = aggregators_in_use(&self.slots);
+        let was = collecting(&self.slots[place].port);
         if take_at(&mut self.slots, place, pdu) {
             pace_at(&mut self.slots, place);
         } else {
+            let before = aggregators_in_use_before(&self.slots, place, was);
             self.settle(before.as_slice());
         }
     }
@@ -199,15 +215,14 @@ impl<F: Fn(u16, usize) -> usize + Drop> Inner<F> {
             (Reply.Configure result) (inner_state self.new) }
         ensures algorithm { self.new.distributor.algorithm ≡ self.old.distributor.algorithm }
     {
-        let before = aggregators_in_use(&self.slots);
-        match configure_port(&mut self.slots, number, change) {
-            None => Err(SystemFault::NoPort),
-            Some(false) => Ok(false),
-            Some(true) => {
-                self.settle(before.as_slice());
-                Ok(true)
-            }
+        let place = self.place_of(number)?;
+        let was = collecting(&self.slots[place].port);
+        if !configure_at(&mut self.slots, place, change) {
+            return Ok(false);
         }
+        let before = aggregators_in_use_before(&self.slots, place, was);
+        self.settle(before.as_slice());
+        Ok(true)
     }
 
     pub(crate) fn restart(&mut self)
@@ -221,13 +236,12 @@ impl<F: Fn(u16, usize) -> usize + Drop> Inner<F> {
     }
 
     pub(crate) fn transmit(&mut self, number: u16) -> Result<Option<[u8; 124]>, SystemFault>
+        requires { IsSound (inner_state self.old) }
         ensures step { Step (F.post self.old.distributor.algorithm) (inner_state self.old) (Call.Transmit number) (Reply.Transmit result)
             (inner_state self.new) }
         ensures algorithm { self.new.distributor.algorithm ≡ self.old.distributor.algorithm }
     {
-        let Some(place) = place_of(&self.slots, number) else {
-            return Err(SystemFault::NoPort);
-        };
+        let place = self.place_of(number)?;
         if !self.slots[place].port.is_enabled() {
             return Ok(None);
         }
@@ -313,9 +327,7 @@ impl<F: Fn(u16, usize) -> usize + Drop> Inner<F> {
         if !self.has_aggregator(agg) {
             return Err(SystemFault::NoAggregator);
         }
-        if place_of(&self.slots, port).is_none() {
-            return Err(SystemFault::NoPort);
-        }
+        self.place_of(port)?;
         let ports = distributing(&self.slots, agg);
         self.distributor.move_to(agg, conv, port, ports.as_slice())?;
         Ok(())

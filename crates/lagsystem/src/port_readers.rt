@@ -2,23 +2,29 @@ ghost use Rattle.std.specs.Prelude.{◌≡◌, None, Some, MatchOption, option_m
 ghost use Rattle.portmachines.specs.Mux.{same_mux_state};
 ghost use Rattle.portmachines.specs.Transmit.{actor_state};
 ghost use Rattle.lagsystem.specs.Hosts.{due_of};
+ghost use Rattle.lagsystem.specs.Inner.{inner_state};
+ghost use Rattle.lagsystem.specs.Sound.{IsSound};
 ghost use Rattle.lagsystem.specs.State.{place_of, machines_of, slot_at};
 ghost use Rattle.lagsystem.specs.Readers.{group_at};
 
 use crate::calls::System;
-use crate::slots::{SystemPort, place_of};
+use crate::inner::Inner;
+use crate::slots::SystemPort;
 use lagtypes::{Choice, Group, Party, State};
 use portmachines::{MuxState, ReceiveState};
 use slowpdu::Info;
 
-/// The port with this number.
-fn slot_of(slots: &[SystemPort], number: u16) -> Option<&SystemPort>
-    ensures { MatchOption result (slot_at (place_of number slots.now) slots.now ≡ None)
-        (λ slot. slot_at (place_of number slots.now) slots.now ≡ Some slot.now) }
-{
-    match place_of(slots, number) {
-        Some(place) => Some(&slots[place]),
-        None => None,
+impl<F: Fn(u16, usize) -> usize + Drop> Inner<F> {
+    /// The port with this number.
+    fn slot_of(&self, number: u16) -> Option<&SystemPort>
+        requires { IsSound (inner_state self.now) }
+        ensures { MatchOption result (slot_at (place_of number self.now.slots.items) self.now.slots.items ≡ None)
+            (λ slot. slot_at (place_of number self.now.slots.items) self.now.slots.items ≡ Some slot.now) }
+    {
+        match self.place_of(number) {
+            Ok(place) => Some(&self.slots[place]),
+            Err(_) => None,
+        }
     }
 }
 
@@ -27,7 +33,7 @@ impl<F: Fn(u16, usize) -> usize + Drop> System<F> {
     pub fn is_up(&self, port: u16) -> Option<bool>
         ensures { result ≡ option_map (λ p. p.enabled) (machines_of port self.now.state) }
     {
-        match slot_of(&self.inner.slots, port) {
+        match self.inner.slot_of(port) {
             Some(slot) => Some(slot.port.is_enabled()),
             None => None,
         }
@@ -38,7 +44,7 @@ impl<F: Fn(u16, usize) -> usize + Drop> System<F> {
     pub fn state(&self, port: u16) -> Option<State>
         ensures { result ≡ option_map actor_state (machines_of port self.now.state) }
     {
-        match slot_of(&self.inner.slots, port) {
+        match self.inner.slot_of(port) {
             Some(slot) => Some(slot.port.state()),
             None => None,
         }
@@ -48,7 +54,7 @@ impl<F: Fn(u16, usize) -> usize + Drop> System<F> {
     pub fn receive_state(&self, port: u16) -> Option<ReceiveState>
         ensures { result ≡ option_map (λ p. p.receive) (machines_of port self.now.state) }
     {
-        match slot_of(&self.inner.slots, port) {
+        match self.inner.slot_of(port) {
             Some(slot) => Some(slot.port.receive_state()),
             None => None,
         }
@@ -60,7 +66,7 @@ impl<F: Fn(u16, usize) -> usize + Drop> System<F> {
     pub fn is_due(&self, port: u16) -> Option<bool>
         ensures { result ≡ due_of port self.now.state }
     {
-        match slot_of(&self.inner.slots, port) {
+        match self.inner.slot_of(port) {
             Some(slot) => Some(self.inner.has_due(slot)),
             None => None,
         }
@@ -70,7 +76,7 @@ impl<F: Fn(u16, usize) -> usize + Drop> System<F> {
     pub fn party(&self, port: u16) -> Option<Party>
         ensures { result ≡ option_map (λ p. p.party) (machines_of port self.now.state) }
     {
-        match slot_of(&self.inner.slots, port) {
+        match self.inner.slot_of(port) {
             Some(slot) => Some(slot.port.party()),
             None => None,
         }
@@ -80,7 +86,7 @@ impl<F: Fn(u16, usize) -> usize + Drop> System<F> {
     pub fn partner(&self, port: u16) -> Option<Info>
         ensures { result ≡ option_map (λ p. p.partner) (machines_of port self.now.state) }
     {
-        match slot_of(&self.inner.slots, port) {
+        match self.inner.slot_of(port) {
             Some(slot) => Some(slot.port.partner()),
             None => None,
         }
@@ -91,7 +97,7 @@ impl<F: Fn(u16, usize) -> usize + Drop> System<F> {
     pub fn group(&self, port: u16) -> Option<Group>
         ensures { result ≡ option_map group_at (machines_of port self.now.state) }
     {
-        match slot_of(&self.inner.slots, port) {
+        match self.inner.slot_of(port) {
             Some(slot) => Some(Group::of(&slot.port.party(), &slot.port.partner().party())),
             None => None,
         }
@@ -102,7 +108,7 @@ impl<F: Fn(u16, usize) -> usize + Drop> System<F> {
     pub fn defaulted(&self, port: u16) -> Option<bool>
         ensures { result ≡ option_map (λ p. p.defaulted) (machines_of port self.now.state) }
     {
-        match slot_of(&self.inner.slots, port) {
+        match self.inner.slot_of(port) {
             Some(slot) => Some(slot.port.is_defaulted()),
             None => None,
         }
@@ -113,7 +119,7 @@ impl<F: Fn(u16, usize) -> usize + Drop> System<F> {
     pub fn distributes(&self, port: u16) -> Option<bool>
         ensures { result ≡ option_map (λ p. same_mux_state MuxState.CollectingDistributing p.mux) (machines_of port self.now.state) }
     {
-        match slot_of(&self.inner.slots, port) {
+        match self.inner.slot_of(port) {
             Some(slot) => Some(slot.port.distributes()),
             None => None,
         }
@@ -123,7 +129,7 @@ impl<F: Fn(u16, usize) -> usize + Drop> System<F> {
     pub fn choice(&self, port: u16) -> Option<Choice>
         ensures { result ≡ option_map (λ p. p.choice) (machines_of port self.now.state) }
     {
-        match slot_of(&self.inner.slots, port) {
+        match self.inner.slot_of(port) {
             Some(slot) => Some(slot.port.choice()),
             None => None,
         }
@@ -133,7 +139,7 @@ impl<F: Fn(u16, usize) -> usize + Drop> System<F> {
     pub fn mux_state(&self, port: u16) -> Option<MuxState>
         ensures { result ≡ option_map (λ p. p.mux) (machines_of port self.now.state) }
     {
-        match slot_of(&self.inner.slots, port) {
+        match self.inner.slot_of(port) {
             Some(slot) => Some(slot.port.mux_state()),
             None => None,
         }

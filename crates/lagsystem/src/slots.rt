@@ -1,6 +1,7 @@
 ghost use Rattle.std.specs.Prelude.{◌≡◌, ◌<◌, ◌≤◌, IfSome, length};
+ghost use Rattle.std.specs.List.Sorted.{IsStrictlyIncreasing};
 ghost use Rattle.lagsystem.specs.Views.{stage_of, selection_view, views};
-ghost use Rattle.lagsystem.specs.State.{place_of};
+ghost use Rattle.lagsystem.specs.State.{place_of, port_numbers};
 ghost use Rattle.lagsystem.specs.First.{IsNew, setup_of};
 ghost use Rattle.selection.specs.Views.{has_waited, is_eligible};
 
@@ -21,11 +22,17 @@ pub(crate) struct SystemPort {
     pub(crate) port: Port,
 }
 
-/// The index of the port with this number, or None.
+/// The index of the port with this number, or None. Nearly always the ports have the numbers from 1 on without a gap, so
+/// the index below the number is looked at first.
 pub(crate) fn place_of(slots: &[SystemPort], number: u16) -> Option<usize>
+    requires { IsStrictlyIncreasing (port_numbers slots.now) }
     ensures place { result ≡ place_of number slots.now }
     ensures within { IfSome result (λ place. place < length slots.now) }
 {
+    let guess = usize::from(number.saturating_sub(1));
+    if guess < slots.len() && slots[guess].number == number {
+        return Some(guess);
+    }
     slots.iter().position(|slot| slot.number == number)
 }
 

@@ -1,9 +1,8 @@
-use Rattle.std.proofs.Common.{◌∙◌, ◌≡◌, Bool, List, Option, Some, ap, subst, sym}
+use Rattle.std.proofs.Common.{◌∙◌, ◌≡◌, Bool, Option, Some, ap, subst, sym}
 use Rattle.std.specs.Prelude.{option_map}
-use Rattle.lagsystem.specs.declared.slots.SystemPort.{SystemPort}
 use Rattle.lagsystem.specs.Hosts.{due_of, has_due}
 use Rattle.lagsystem.specs.Inner.{inner_state}
-use Rattle.lagsystem.specs.State.{SystemValue, place_of, slot_at}
+use Rattle.lagsystem.specs.State.{SystemValue}
 use Rattle.lagsystem.proofs.calls.System.is_due.Goals as goal
 
 abbrev answer : Bool → Option Bool
@@ -13,7 +12,5 @@ pub returns-in-Some : goal.returns-in-Some
 returns-in-Some g c =
     let s = inner_state c.self.inside.inner in
     let n = c.args.port in
-    let slot = c.in-Some.slot.now in
-    let there : slot_at (place_of n s.slots) s.slots ≡ Some slot = subst (λ (l : List SystemPort). slot_at (place_of n l) l ≡ Some slot) c.deref.ensures.value c.in-Some.ensures in
     subst (λ (w : SystemValue g.row.F.Denot). answer c.has_due.result ≡ due_of n w.state) c.self.view_is
-    (ap answer c.has_due.ensures ∙ sym (ap (option_map (has_due s)) there))
+    (ap answer c.has_due.ensures ∙ sym (ap (option_map (has_due s)) c.in-Some.ensures))

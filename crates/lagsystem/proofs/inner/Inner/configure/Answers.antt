@@ -1,11 +1,13 @@
-use Rattle.std.proofs.Common.{◌∙◌, ap, arith}
+use Rattle.std.proofs.Common.{◌≡◌, ◌∙◌, Some, arith, slice_get, subst, sym}
 use Rattle.std.specs.Vec.{with_items}
 use Rattle.std.proofs.lemmas.Bool.{OnTrue_at}
 use Rattle.std.proofs.lemmas.List.{with_items_is}
+use Rattle.std.proofs.lemmas.Option.{slice_get-get_or}
+use Rattle.lagsystem.specs.declared.slots.SystemPort.{SystemPort}
 use Rattle.lagsystem.specs.Calls.{ChangesParty, PortAtGoes}
 use Rattle.lagsystem.specs.Inner.{inner_state}
-use Rattle.lagsystem.specs.Holding.{aggregators_in_use}
-use Rattle.lagsystem.specs.State.{with_slots, place_of}
+use Rattle.lagsystem.specs.State.{place_of, with_slots}
+use Rattle.lagsystem.proofs.PlaceLemmas.{goes_by_number, were_before}
 use Rattle.lagsystem.proofs.Settled.{place_carried}
 use Rattle.lagsystem.proofs.StateLemmas.{on_port_made}
 use Rattle.lagsystem.proofs.inner.Inner.configure.Goals as goal
@@ -14,22 +16,31 @@ pub settle-requires : goal.settle-requires
 settle-requires g c =
     let s = inner_state c.args.self.now in
     let v = c.args.self.now.slots in
-    let ws = c.configure_port.new.slots in
-    let news = (with_items v ws).items in
+    let i = c.in_ok-place.place in
+    let change = c.args.change in
+    let slot = c.index.result.now in
     let olds = c.deref_mut.result.now in
-    let acted : PortAtGoes (ChangesParty c.args.change) (place_of c.args.number olds) olds ws = OnTrue_at {P = PortAtGoes (ChangesParty c.args.change) (place_of c.args.number olds) olds ws} c.in-Some-true.field-0-test c.in-Some-true.ensures.acted in
-    let own = on_port_made (ChangesParty c.args.change) (place_of c.args.number) s olds ws news c.deref_mut.ensures.value (with_items_is v ws (omega arith)) acted in
-    place_carried (ChangesParty c.args.change) (place_of c.args.number s.slots) s (with_slots s news) c.as_slice.result.now c.requires own (c.as_slice.ensures.value ∙ c.aggregators_in_use-before.ensures ∙ ap aggregators_in_use c.deref.ensures.value)
+    let ws = c.configure_at.new.slots in
+    let news = (with_items v ws).items in
+    let there : slice_get v.items i ≡ Some slot = subst (λ (x : SystemPort). slice_get v.items i ≡ Some x) (sym c.index.ensures) (slice_get-get_or v.items i slot c.in_ok-place.ensures.within) in
+    let acted : PortAtGoes (ChangesParty change) (Some i) olds ws = OnTrue_at {P = PortAtGoes (ChangesParty change) (Some i) olds ws} c.if-not-configure_at.false c.configure_at.ensures.acted in
+    let numbered = goes_by_number (ChangesParty change) c.args.number i s.slots olds ws c.deref_mut.ensures.value c.in_ok-place.ensures.place acted in
+    let own = on_port_made (ChangesParty change) (place_of c.args.number) s olds ws news c.deref_mut.ensures.value (with_items_is v ws (omega arith)) numbered in
+    place_carried (ChangesParty change) (place_of c.args.number s.slots) s (with_slots s news) c.as_slice.result.now c.requires own
+    (c.as_slice.ensures.value ∙ were_before (ChangesParty change) i s.slots olds ws news c.deref.result.now slot c.collecting-was.result c.aggregators_in_use_before-before.result.items c.deref_mut.ensures.value (with_items_is v ws (omega arith)) c.deref.ensures.value there acted c.collecting-was.ensures c.aggregators_in_use_before-before.ensures)
 
-pub returns-in-Some-true-clause-step : goal.returns-in-Some-true-clause-step
-returns-in-Some-true-clause-step g c =
+pub returns-clause-step : goal.returns-clause-step
+returns-clause-step g c =
     let s = inner_state c.args.self.now in
     let v = c.args.self.now.slots in
-    let ws = c.configure_port.new.slots in
-    let news = (with_items v ws).items in
+    let i = c.in_ok-place.place in
+    let change = c.args.change in
     let olds = c.deref_mut.result.now in
-    let acted : PortAtGoes (ChangesParty c.args.change) (place_of c.args.number olds) olds ws = OnTrue_at {P = PortAtGoes (ChangesParty c.args.change) (place_of c.args.number olds) olds ws} c.in-Some-true.field-0-test c.in-Some-true.ensures.acted in (
+    let ws = c.configure_at.new.slots in
+    let news = (with_items v ws).items in
+    let acted : PortAtGoes (ChangesParty change) (Some i) olds ws = OnTrue_at {P = PortAtGoes (ChangesParty change) (Some i) olds ws} c.if-not-configure_at.false c.configure_at.ensures.acted in
+    let numbered = goes_by_number (ChangesParty change) c.args.number i s.slots olds ws c.deref_mut.ensures.value c.in_ok-place.ensures.place acted in (
       with_slots s news,
-      on_port_made (ChangesParty c.args.change) (place_of c.args.number) s olds ws news c.deref_mut.ensures.value (with_items_is v ws (omega arith)) acted,
+      on_port_made (ChangesParty change) (place_of c.args.number) s olds ws news c.deref_mut.ensures.value (with_items_is v ws (omega arith)) numbered,
       c.settle.ensures.settled,
     )

@@ -1,4 +1,4 @@
-use Rattle.std.proofs.Common.{◌≡◌, ◌∙◌, ◌<◌, true, List, Some, arith, length, slice_get, subst, sym}
+use Rattle.std.proofs.Common.{◌≡◌, ◌∙◌, true, Some, arith, slice_get, subst, sym}
 use Rattle.std.specs.Vec.{with_items}
 use Rattle.std.proofs.lemmas.List.{with_items_is}
 use Rattle.std.proofs.lemmas.Option.{slice_get-get_or}
@@ -9,17 +9,17 @@ use Rattle.lagsystem.specs.State.{place_of}
 use Rattle.lagsystem.proofs.SendingLemmas.{sends_lacpdu, sends_marker}
 use Rattle.lagsystem.proofs.inner.Inner.transmit.Goals as goal
 
-pub returns-in-Some-transmit_at-clause-step : goal.returns-in-Some-transmit_at-clause-step
-returns-in-Some-transmit_at-clause-step g c =
+pub returns-in-Some-clause-step : goal.returns-in-Some-clause-step
+returns-in-Some-clause-step g c =
     let v = c.args.self.now.slots in
     let s = inner_state c.args.self.now in
-    let i = c.in-Some.place in
+    let i = c.in_ok-place.place in
     let slot = c.index.result.now in
-    let octets = c.in-Some-transmit_at.frame in
+    let octets = c.in-Some.frame in
     let olds = c.deref_mut.result.now in
     let ws = c.transmit_at.new.slots in
-    let within : i < length v.items = subst (λ (l : List SystemPort). i < length l) c.deref.ensures.value c.in-Some.ensures.within in
-    let placed : place_of c.args.number v.items ≡ Some i = sym (subst (λ (l : List SystemPort). Some i ≡ place_of c.args.number l) c.deref.ensures.value c.in-Some.ensures.place) in
+    let within = c.in_ok-place.ensures.within in
+    let placed = c.in_ok-place.ensures.place in
     let there : slice_get v.items i ≡ Some slot = subst (λ (x : SystemPort). slice_get v.items i ≡ Some x) (sym c.index.ensures) (slice_get-get_or v.items i slot within) in
     let up : slot.port.enabled ≡ true = sym c.is_enabled.ensures ∙ c.if-not-is_enabled.false in
     sends_lacpdu s (place_of c.args.number v.items) i slot octets olds ws (with_items v ws).items
@@ -27,18 +27,18 @@ returns-in-Some-transmit_at-clause-step g c =
     there
     up
     c.deref_mut.ensures.value (with_items_is v ws (omega arith))
-    (subst (λ o. PortSendsIfDue s.max_delay i o olds ws) c.in-Some-transmit_at.is c.transmit_at.ensures)
+    (subst (λ o. PortSendsIfDue s.max_delay i o olds ws) c.in-Some.is c.transmit_at.ensures)
 
 pub returns-clause-step : goal.returns-clause-step
 returns-clause-step g c =
     let v = c.args.self.now.slots in
     let s = inner_state c.args.self.now in
-    let i = c.in-Some.place in
+    let i = c.in_ok-place.place in
     let slot = c.index.result.now in
     let olds = c.deref_mut.result.now in
     let ws = c.transmit_at.new.slots in
-    let within : i < length v.items = subst (λ (l : List SystemPort). i < length l) c.deref.ensures.value c.in-Some.ensures.within in
-    let placed : place_of c.args.number v.items ≡ Some i = sym (subst (λ (l : List SystemPort). Some i ≡ place_of c.args.number l) c.deref.ensures.value c.in-Some.ensures.place) in
+    let within = c.in_ok-place.ensures.within in
+    let placed = c.in_ok-place.ensures.place in
     let there : slice_get v.items i ≡ Some slot = subst (λ (x : SystemPort). slice_get v.items i ≡ Some x) (sym c.index.ensures) (slice_get-get_or v.items i slot within) in
     let up : slot.port.enabled ≡ true = sym c.is_enabled.ensures ∙ c.if-not-is_enabled.false in
     sends_marker s c.args.number i slot c.index-2.result.now olds ws (with_items v ws).items c.transmit_marker.result (inner_state c.transmit_marker.new.self)
@@ -47,5 +47,5 @@ returns-clause-step g c =
     there
     up
     c.deref_mut.ensures.value (with_items_is v ws (omega arith))
-    (subst (λ o. PortSendsIfDue s.max_delay i o olds ws) c.in_default-transmit_at.is c.transmit_at.ensures)
+    (subst (λ o. PortSendsIfDue s.max_delay i o olds ws) c.in_default.is c.transmit_at.ensures)
     c.index-2.ensures c.transmit_marker.ensures.sends
