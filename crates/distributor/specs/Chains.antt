@@ -54,7 +54,7 @@ tested_port (WantsMarker port) = port
 tested_port (WaitsFor port id) = port
 tested_port (NamesPort port) = port
 
--- the change, applied only to states in this chain
+-- the state after a change that applies only to the conversations in this chain
 abbrev pub within : ℕ → (Assignment → Assignment) → Assignment → Assignment
 within chain change s = cond (stands_in chain s) (change s) s
 
@@ -63,11 +63,11 @@ abbrev pub occurs : ℕ → List ℕ → ℕ
 occurs k [] = 0
 occurs k (x ∷ xs) = cond (eqb k x) 1 0 + occurs k xs
 
--- the slot b comes right after the slot a, by the links in both directions
+-- the slot b comes right after the slot a: `next` leads from a to b, and `prev` from b to a
 abbrev pub Joined : List ℕ → List ℕ → ℕ → ℕ → Type 0
 Joined next prev a b = (get_or next a 0 ≡ b) × (get_or prev b 0 ≡ a)
 
--- the links lead from a through these slots to b, and back
+-- `next` leads from a through these slots to b, and `prev` leads back
 abbrev pub Path : List ℕ → List ℕ → ℕ → List ℕ → ℕ → Type 0
 Path next prev a [] b = Joined next prev a b
 Path next prev a (x ∷ xs) b = Joined next prev a x × Path next prev x xs b

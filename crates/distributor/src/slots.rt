@@ -38,6 +38,7 @@ pub(crate) enum Test {
 }
 
 impl Test {
+    /// Whether a conversation in this state is counted.
     fn passes(&self, state: Assignment) -> bool
         ensures { result ≡ passes self.now state }
     {
@@ -248,6 +249,7 @@ fn close(links: &mut Vec<u32>, places: u32)
     }
 }
 
+/// Makes each of these states free.
 fn free_each(states: &mut Vec<Assignment>, count: u32)
     requires { length states.old.items ≡ count }
     ensures len { length states.new.items ≡ count }

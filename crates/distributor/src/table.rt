@@ -53,6 +53,7 @@ impl ConversationTable {
         self.next = u64::from(self.first);
     }
 
+    /// Whether there is such a conversation.
     pub(crate) fn contains(&self, agg: u16, conv: u16) -> bool
         ensures { IsTrue result ↔ IsConversation self.now agg conv }
     {
@@ -76,24 +77,28 @@ impl ConversationTable {
         self.slots.set(slot_index(agg, conv), state);
     }
 
+    /// Whether some conversation is Wanted on the port.
     pub(crate) fn is_wanted_on(&self, port: u16) -> bool
         ensures { result ≡ nat_lt 0 (how_many (wants_marker port) self.now) }
     {
         self.slots.count(Test::WantsMarker(port)) > 0
     }
 
+    /// How many conversations wait for the response to this marker on the port.
     pub(crate) fn count_waiting(&self, port: u16, id: u32) -> u32
         ensures { result ≡ how_many (waits_for port id) self.now }
     {
         self.slots.count(Test::WaitsFor(port, id))
     }
 
+    /// How many conversations are On, Wanted or Flushing on the port.
     pub(crate) fn load(&self, port: u16) -> u32
         ensures { result ≡ how_many (names_port port) self.now }
     {
         self.slots.count(Test::NamesPort(port))
     }
 
+    /// Applies a change to every conversation.
     pub(crate) fn change(&mut self, change: Change)
         ensures { Changes self.old self.new (after_change change) }
     {

@@ -9,9 +9,11 @@ use Rattle.std.specs.Global.{Global}
 use Rattle.std_heap.specs.contracts.GlobalAllocator.TheImpl.{ghosts}
 use Rattle.lagffi.specs.contracts.stored.StoredSystem.{the_row}
 
+-- the memory that the handle owns: the block of its system, if it holds one
 abbrev pub held_owns : Global → Ptr → Option the_row.Denot → Fml
 held_owns alloc ptr None = ftrue
 held_owns alloc ptr (Some kept) = box_owns (ghosts.dealloc_token alloc) the_row ptr kept
 
+-- the kept system as the ghost field of a handle records it
 abbrev pub kept_coded : Coded (Option the_row.Denot)
 kept_coded = coded_option the_row.coded

@@ -44,15 +44,17 @@ abbrev pub choice_number : Choice → ℕ
 choice_number Unselected = 0
 choice_number (Selected agg) = agg.0
 
--- The next three: the number of what a reader tells of a port, or that there is no such port.
+-- the number of the state of the receive machine of a port, or that there is no such port
 abbrev pub receive_answer : Option ReceiveState → LagNumber
 receive_answer (Some state) = number (receive_number state)
 receive_answer None = no_number 1
 
+-- likewise of the mux machine
 abbrev pub mux_answer : Option MuxState → LagNumber
 mux_answer (Some state) = number (mux_number state)
 mux_answer None = no_number 1
 
+-- likewise of Selected: the aggregator that the port has chosen, or 0
 abbrev pub choice_answer : Option Choice → LagNumber
 choice_answer (Some choice) = number (choice_number choice)
 choice_answer None = no_number 1

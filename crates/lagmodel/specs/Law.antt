@@ -11,6 +11,7 @@ IsSubsequence [] ys = Unit {0}
 IsSubsequence (x ∷ xs) [] = ⊥
 IsSubsequence (x ∷ xs) (y ∷ ys) = ((x ≡ y) × IsSubsequence xs ys) ⊎ IsSubsequence (x ∷ xs) ys
 
+-- both are the same system
 abbrev pub same_side : Side → Side → Bool
 same_side One One = true
 same_side One Two = false

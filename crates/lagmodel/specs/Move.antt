@@ -185,15 +185,18 @@ Allowed u call v (Port p m) = IsSomeAnd (v.port p) (PortAllowed u call v.port p 
 Allowed u call v (Flow m) = FlowAllowed u.system.mac call (Distributes v.port) v.flows m
 Allowed u call v Restart = is_restart call ≡ true
 
+-- the view of a system after a move
 abbrev pub view_after : SystemSetup → Move → View → View
 view_after u (Port p m) v = record v { port = at_port v.port p (port_after m) }
 view_after u (Flow m) v = record v { flows = flows_after m v.flows }
 view_after u Restart v = first_view u
 
+-- the visible act of a move of port p; none if there is no such port
 abbrev pub act_of_port : ℕ → PortMove → Option PortFacts → Option Act
 act_of_port p m None = None
 act_of_port p m (Some a) = port_act p m a
 
+-- the visible act of a move in this view, if it has one
 abbrev pub act : SystemSetup → Move → View → Option Act
 act u (Port p m) v = act_of_port p m (v.port p)
 act u (Flow m) v = flow_act u.system.mac m v.flows
@@ -204,10 +207,12 @@ abbrev pub AllAllowed : SystemSetup → ModelCall → View → List Move → Typ
 AllAllowed u call v [] = Unit {0}
 AllAllowed u call v (m ∷ ms) = Allowed u call v m × AllAllowed u call (view_after u m v) ms
 
+-- the view after a list of moves
 abbrev pub view_after_all : SystemSetup → List Move → View → View
 view_after_all u [] v = v
 view_after_all u (m ∷ ms) v = view_after_all u ms (view_after u m v)
 
+-- the visible acts of a list of moves, in their order
 abbrev pub acts : SystemSetup → List Move → View → List Act
 acts u [] v = []
 acts u (m ∷ ms) v = option_to_list (act u m v) ++ acts u ms (view_after u m v)

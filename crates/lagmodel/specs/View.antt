@@ -123,6 +123,7 @@ replies_frame Restart = false
 replies_frame Move_conversation = false
 replies_frame (Force g k) = false
 
+-- the call is a restart, the only one that leads back to the first view
 abbrev pub is_restart : ModelCall → Bool
 is_restart Restart = true
 is_restart _ = false

@@ -9,6 +9,7 @@ pub data Side : Type 0 where
   One : Side
   Two : Side
 
+-- the other one of the two systems
 abbrev pub peer : Side → Side
 peer One = Two
 peer Two = One
@@ -119,12 +120,14 @@ line_after s ends whole count sent accepted (Some (Sends p pdu)) lines = put_on_
 line_after s ends whole count sent accepted (Some (Sends_frame p g k)) lines = put_on_cable ends whole accepted p (Data s g k (length (sent g k))) lines
 line_after s ends whole count sent accepted (Some (Took p pdu)) lines = lines
 
+-- the serial numbers that each conversation sent: one more for a conversation that sends a frame
 abbrev pub sent_after : Option Act → (ℕ → ℕ → List ℕ) → ℕ → ℕ → List ℕ
 sent_after None sent = sent
 sent_after (Some (Sends p pdu)) sent = sent
 sent_after (Some (Sends_frame p g k)) sent = at_two sent g k (sent g k ++ length (sent g k) ∷ [])
 sent_after (Some (Took p pdu)) sent = sent
 
+-- the LACPDU that each port received last: another one for a port that receives one
 abbrev pub taken_after : ℕ → Option Act → (ℕ → Option TakenLacpdu) → ℕ → Option TakenLacpdu
 taken_after stamp None taken = taken
 taken_after stamp (Some (Sends p pdu)) taken = taken

@@ -129,6 +129,7 @@ pub data Frame : Type 0 where
   Faulty : (fault : WireFault) → Frame
   Carries : (payload : Pdu) → Frame
 
+-- at least 14 octets, and the EtherType is that of the slow protocols
 abbrev pub IsControlFrame : List ℕ → Type 0
 IsControlFrame octets = (14 ≤ length octets) × IsSlow octets
 
@@ -140,7 +141,8 @@ IsFrame octets Data_frame = IsDataFrame octets
 IsFrame octets (Faulty fault) = IsControlFrame octets × (fault_of (drop 14 octets) ≡ Some fault)
 IsFrame octets (Carries payload) = IsControlFrame octets × ReadsPdu (drop 14 octets) payload
 
--- what becomes of a data frame: it is handed up in that aggregator, or dropped if there is none
+-- what receive answers for a data frame: it is handed up in the aggregator in which the port collects, or dropped if there
+-- is none
 abbrev pub handed : Option AggId → Received
 handed None = Dropped
 handed (Some agg) = Up agg
@@ -170,6 +172,7 @@ abbrev pub ParsesWhere : Bool → SystemPort → List ℕ → FrameEffect → Ty
 ParsesWhere false slot octets heard = heard ≡ Answered Disabled
 ParsesWhere true slot octets heard = (frame : Frame) × IsFrame octets frame × GivesEffect slot frame heard
 
+-- what received octets ask for on this port
 abbrev pub ParsesFrame : SystemPort → List ℕ → FrameEffect → Type 0
 ParsesFrame slot octets heard = ParsesWhere slot.port.enabled slot octets heard
 
@@ -186,13 +189,14 @@ Releases true port m old reply new =
     × Changes old.table new.table (after_release port m.id)
     × (new ≡ with_table old new.table)
 
--- what was asked for is done: an LACPDU is processed, a response releases conversations, and nothing else has an effect
+-- What a frame asked for is done, and this is the answer of receive: an LACPDU is processed, a response releases
+-- conversations, and nothing else changes the system.
 abbrev pub Performs : FrameEffect → ℕ → Option ℕ → SystemState → Received → SystemState → Type 0
 Performs (Taken v) port place old reply new = (reply ≡ TookLacpdu) × Settled (OnPort place (TakesLacpdu v)) old new
 Performs (Response m) port place old reply new = Releases (is_for old port m) port m old reply new
 Performs (Answered answer) port place old reply new = (reply ≡ answer) × Unchanged old new
 
--- these octets are received on the port at this index
+-- receive, of these octets on the port at this index
 abbrev pub ReceivesAt : Option ℕ → List ℕ → SystemState → Received → SystemState → Type 0
 ReceivesAt place octets old reply new =
     (slot : SystemPort) × (heard : FrameEffect) × (slot_at place old.slots ≡ Some slot) × ParsesFrame slot octets heard

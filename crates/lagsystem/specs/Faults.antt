@@ -7,11 +7,13 @@ use Rattle.lagsystem.specs.declared.fault.BadConfig.TheVariants.{Ports, Aggregat
 use Rattle.lagsystem.specs.declared.fault.SystemFault.{SystemFault}
 use Rattle.lagsystem.specs.declared.fault.SystemFault.TheVariants.{NoPort, NoAggregator, FrameLength, SlowFrame, Held, NoneDistributing, NotDistributing, SamePort, NotAssigned, MarkersSpent, BadConfig, NoMemory}
 
+-- the number of a reason to refuse a configuration, in the order of checking
 abbrev pub reason_number : Reason → ℕ
 reason_number Ports = 1
 reason_number Aggregators = 2
 reason_number (PortNumber place) = 3
 
+-- the number of a fault of a system
 abbrev pub fault_number : SystemFault → ℕ
 fault_number NoPort = 1
 fault_number NoAggregator = 2

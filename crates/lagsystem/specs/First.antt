@@ -16,6 +16,7 @@ use Rattle.distributor.specs.Conversations.{first_table}
 use Rattle.lagsystem.specs.Settling.{Settling}
 use Rattle.lagsystem.specs.State.{SystemState, with_slots}
 
+-- the start values of a port's machines, from its configuration
 abbrev pub setup_of : SystemId → PortConfig → Setup
 setup_of system c =
     record {
@@ -47,9 +48,11 @@ pub record IsConfigured (config : Config) (s : SystemState) : Type 0 where
   pub keys : s.keys ≡ config.aggregators.items
   pub ports : s.ports ≡ config.ports.items
 
+-- the number of a configured port
 abbrev pub configured_number : PortConfig → ℕ
 configured_number c = c.number
 
+-- the numbers of the configured ports, in their order
 abbrev pub configured_numbers : List PortConfig → List ℕ
 configured_numbers ports = map configured_number ports
 
@@ -59,6 +62,7 @@ abbrev pub first_bad_port_number : ℕ → ℕ → List ℕ → Option ℕ
 first_bad_port_number place low [] = None
 first_bad_port_number place low (n ∷ ns) = if nat_lt low n then first_bad_port_number (place + 1) n ns else Some place
 
+-- 1 to 64
 abbrev pub is_count : ℕ → Bool
 is_count n = nat_le 1 n && nat_le n 64
 
@@ -67,6 +71,7 @@ abbrev pub refusal : List Key → List PortConfig → Option BadConfig
 refusal keys ports =
     if is_count (length ports) then (if is_count (length keys) then option_map PortNumber (first_bad_port_number 1 0 (configured_numbers ports)) else Some Aggregators) else Some Ports
 
+-- the first reason to refuse this configuration; None if it is accepted
 abbrev pub config_refusal : Config → Option BadConfig
 config_refusal config = refusal config.aggregators.items config.ports.items
 

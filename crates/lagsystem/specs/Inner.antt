@@ -2,6 +2,7 @@
 use Rattle.lagsystem.specs.declared.inner.Inner.{Inner}
 use Rattle.lagsystem.specs.State.{SystemState, SystemValue}
 
+-- the state of a system, from its fields
 abbrev pub inner_state : {F : Type 0} → Inner F → SystemState
 inner_state c = record {
   system = c.system;
@@ -13,5 +14,6 @@ inner_state c = record {
   table = c.distributor.table;
 }
 
+-- the state and the algorithm of a system, from its fields
 abbrev pub inner_value : {F : Type 0} → Inner F → SystemValue F
 inner_value c = record { state = inner_state c; algorithm = c.distributor.algorithm }

@@ -38,6 +38,7 @@ use Rattle.lagsystem.specs.declared.drive.Reply.TheVariants as reply
 use Rattle.lagsystem.specs.Calls.{Call, Tick, Set_link, Receive, Configure, Restart, Transmit, Offer, Move_conversation, Force, IsFrame, Carries}
 use Rattle.lagsystem.specs.Readers.{number_of_conversation}
 
+-- the number of the aggregator that a port has chosen; None if it is UNSELECTED
 abbrev pub selected_number : Choice → Option ℕ
 selected_number Unselected = None
 selected_number (Selected agg) = Some agg.0
@@ -54,15 +55,19 @@ model_port p = record {
   distributes = partner_synchronized p && (selected p && same_mux_state CollectingDistributing p.mux);
 }
 
+-- the number of a port of a system
 abbrev pub number : SystemPort → ℕ
 number s = s.number
 
+-- a port of a system, as the model has it
 abbrev pub model_port_of : SystemPort → PortFacts
 model_port_of s = model_port s.port
 
+-- the view of a system with these conversations and ports
 abbrev pub model_view_at : Flows → List SystemPort → View
 model_view_at f slots = record { port = ports_of number model_port_of slots; flows = f }
 
+-- a system, as the model has it
 abbrev pub model_view : SystemState → View
 model_view s = model_view_at (model_flows s.table) s.slots
 
@@ -71,6 +76,7 @@ abbrev pub key_of : List Key → ℕ → Option Key
 key_of keys zero = None
 key_of keys (suc n) = slice_get keys n
 
+-- the own parameters of a port, from its configuration
 abbrev pub configured_party : SystemId → PortConfig → Party
 configured_party system c = (setup_of system c).party
 
@@ -92,6 +98,7 @@ abbrev pub marker_message : MarkerKind → Marker → ControlMessage
 marker_message kind.Information m = ControlMessage.Marker m.system m.port m.id
 marker_message kind.Response m = ControlMessage.Response m.system m.port m.id
 
+-- a PDU as the model has it
 abbrev pub control_message : Pdu → ControlMessage
 control_message (pdu.Lacpdu v) = Lacp (lacp_message v)
 control_message (pdu.Marker m) = marker_message m.kind m
@@ -150,12 +157,15 @@ abbrev pub mux_consistent_of : MuxState → Bool → Bool → Bool
 mux_consistent_of mux is_member synchronised =
     (if is_synchronized mux then is_member else true) && (if same_mux_state CollectingDistributing mux then synchronised else true)
 
+-- the same of the mux machine of a port
 abbrev pub mux_consistent : Machines → Bool
 mux_consistent p = mux_consistent_of p.mux (selected p) (partner_synchronized p)
 
+-- every port whose link is up is in a state in which it processes LACPDUs
 abbrev pub AllCanReceive : List SystemPort → Type 0
 AllCanReceive slots = AllByRecursion (λ x. can_receive x.port ≡ true) slots
 
+-- the mux machine of every port fits its Selected and its partner
 abbrev pub MuxesConsistent : List SystemPort → Type 0
 MuxesConsistent slots = AllByRecursion (λ x. mux_consistent x.port ≡ true) slots
 

@@ -20,9 +20,11 @@ use Rattle.lagsystem.specs.State.{SystemState, with_table, place_of}
 unfoldable pub longest_frame : ℕ
 longest_frame = 1518
 
+-- the system has this aggregator; they are numbered from 1
 abbrev pub has_aggregator : SystemState → AggId → Bool
 has_aggregator s agg = nat_lt 0 agg.0 && nat_le agg.0 (length s.keys)
 
+-- 14 to 1518 octets
 abbrev pub is_frame_length : List ℕ → Bool
 is_frame_length octets = nat_le 14 (length octets) && nat_le (length octets) longest_frame
 
@@ -70,6 +72,7 @@ Offers gives agg octets old (Err fault) new = RefusesOffer gives old agg octets 
 abbrev pub known : SystemState → ℕ → Result Assignment DistFault → Result Assignment DistFault
 known s conv answer = if nat_lt conv (conversation_count s) then answer else Err dist.NotAssigned
 
+-- what the distributor returns, with its refusal as a fault of the system
 abbrev pub in_system : Result Assignment DistFault → Result Assignment SystemFault
 in_system (Ok state) = Ok state
 in_system (Err fault) = Err (system_fault fault)

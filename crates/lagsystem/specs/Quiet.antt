@@ -28,9 +28,11 @@ pub record IsPaced (s : SystemPort) : Type 0 where
   pub rows : AtRest periodic_rows s.port
   pub cleared : s.port ≡ clear_ntt s.port
 
+-- no port has a mux row to fire or an aggregator to choose
 abbrev pub AreStill : List Key → List SystemPort → Type 0
 AreStill keys slots = AllByRecursion (IsStill keys slots) slots
 
+-- the periodic machine of every port is at rest
 abbrev pub ArePaced : List SystemPort → Type 0
 ArePaced slots = AllByRecursion IsPaced slots
 

@@ -21,6 +21,7 @@ group_at p = group_of p.party (party_of p.partner)
 abbrev pub distributes_in : AggId → SystemPort → Bool
 distributes_in agg s = has_chosen agg s.port.choice && same_mux_state CollectingDistributing s.port.mux
 
+-- the aggregator that a port has chosen; None if it is UNSELECTED
 abbrev pub selected_aggregator : Choice → Option AggId
 selected_aggregator Unselected = None
 selected_aggregator (Selected agg) = Some agg
@@ -29,6 +30,7 @@ selected_aggregator (Selected agg) = Some agg
 abbrev pub collecting : Machines → Option AggId
 collecting p = if same_mux_state CollectingDistributing p.mux then selected_aggregator p.choice else None
 
+-- the aggregator with this number
 abbrev pub aggregator_numbered : ℕ → AggId
 aggregator_numbered g = record { 0 = g }
 

@@ -27,7 +27,7 @@ SendsLacpdu i slot old answer new =
     (octets : List ℕ) × IsLacpduOf old.max_delay slot octets × (answer ≡ Some octets)
     × (new ≡ with_slots old (slice_set old.slots i (record slot { port = sent slot.port })))
 
--- a marker with this identifier, if there is one, is sent on the port from this MAC address
+-- a marker with this identifier is sent on the port, from this MAC address; without an identifier nothing is sent
 abbrev pub SendsMarkerOf : Option ℕ → ℕ → List ℕ → SystemState → Option (List ℕ) → SystemState → Type 0
 SendsMarkerOf None port mac old answer new = (answer ≡ None) × (new ≡ old)
 SendsMarkerOf (Some id) port mac old answer new =
@@ -38,7 +38,7 @@ SendsMarkerOf (Some id) port mac old answer new =
 abbrev pub SendsMarker : ℕ → List ℕ → SystemState → Option (List ℕ) → SystemState → Type 0
 SendsMarker port mac old answer new = SendsMarkerOf (marker_due old.table port) port mac old answer new
 
--- `true` first: the link is up; `true` second: an LACPDU is due
+-- What transmit does on the port at index i. The first argument: its link is up; the second: an LACPDU is due.
 abbrev pub SendsWhere : Bool → Bool → ℕ → SystemPort → SystemState → Option (List ℕ) → SystemState → Type 0
 SendsWhere false due i slot old answer new = (answer ≡ None) × (new ≡ old)
 SendsWhere true true i slot old answer new = SendsLacpdu i slot old answer new
@@ -48,15 +48,17 @@ SendsWhere true false i slot old answer new = SendsMarker slot.number slot.mac o
 abbrev pub SendsFrom : ℕ → SystemPort → SystemState → Option (List ℕ) → SystemState → Type 0
 SendsFrom i slot old answer new = SendsWhere slot.port.enabled (is_due slot.port) i slot old answer new
 
+-- what transmit does on the port at this index
 abbrev pub SendsAt : Option ℕ → SystemState → Option (List ℕ) → SystemState → Type 0
 SendsAt None old answer new = ⊥
 SendsAt (Some i) old answer new = (slot : SystemPort) × (slice_get old.slots i ≡ Some slot) × SendsFrom i slot old answer new
 
--- the transmit machine of a port: it sends the LACPDU that is due, if one is
+-- the port sends the LACPDU that is due, and its machines change so; or none is due, and they stay
 abbrev pub SendsIfDue : ℕ → SystemPort → Option (List ℕ) → Machines → Type 0
 SendsIfDue max_delay slot None port = (is_due slot.port ≡ false) × (port ≡ slot.port)
 SendsIfDue max_delay slot (Some octets) port = (is_due slot.port ≡ true) × IsLacpduOf max_delay slot octets × (port ≡ sent slot.port)
 
+-- in the list, the port at this index sends the LACPDU that is due, if one is, and the other ports stay
 abbrev pub PortSendsIfDue : ℕ → ℕ → Option (List ℕ) → List SystemPort → List SystemPort → Type 0
 PortSendsIfDue max_delay i answer olds news =
     (slot : SystemPort) × (port : Machines) × (slice_get olds i ≡ Some slot) × SendsIfDue max_delay slot answer port

@@ -22,10 +22,11 @@ use Rattle.lagsystem.specs.Readers.{aggregator_numbered, distributing}
 use Rattle.lagsystem.specs.Views.{selection_view, views}
 use Rattle.lagsystem.specs.State.{SystemState, with_slots, with_table}
 
--- the port keeps its number and MAC address, and its machines change by the relation
+-- the port keeps its number and its MAC address, and its machines change by the relation
 abbrev pub PortGoes : (Machines → Machines → Type 0) → SystemPort → SystemPort → Type 0
 PortGoes R old new = (new ≡ record old { port = new.port }) × R old.port new.port
 
+-- in the list, the machines of every port change by the relation
 abbrev pub PortsGo : (Machines → Machines → Type 0) → List SystemPort → List SystemPort → Type 0
 PortsGo R old new = AllZip (PortGoes R) old new
 
@@ -37,6 +38,7 @@ EachPort R old new = PortsGo R old.slots new.slots × (new ≡ with_slots old ne
 abbrev pub RunsMuxNotReady : SystemState → SystemState → Type 0
 RunsMuxNotReady old new = EachPort (RunsToRest (mux_rows false)) old new
 
+-- the port, SELECTED with this aggregator if there is one
 abbrev pub given : SystemPort → Option AggId → SystemPort
 given slot None = slot
 given slot (Some agg) = record slot { port = record slot.port { choice = Selected agg } }
@@ -45,6 +47,7 @@ given slot (Some agg) = record slot { port = record slot.port { choice = Selecte
 abbrev pub aggregator_for : List Key → List SystemPort → SystemPort → Option AggId
 aggregator_for keys slots slot = if is_eligible (selection_view slot) then choice keys (views slots) slot.number else None
 
+-- the ports after the one at this index has chosen an aggregator, if it is eligible
 abbrev pub choose_slot : List Key → List SystemPort → ℕ → Option SystemPort → List SystemPort
 choose_slot keys slots place None = slots
 choose_slot keys slots place (Some slot) = slice_set slots place (given slot (aggregator_for keys slots slot))
@@ -90,7 +93,7 @@ pub record HoldsConversations (old new : SystemState) : Type 0 where
   pub next : new.table.next ≡ old.table.next
   pub states : (g k : ℕ) → assignment_of new.table g k ≡ held_unless_on (distributing (aggregator_numbered g) old.slots) (assignment_of old.table g k)
 
--- steps one after another
+-- these steps follow one another, from the first state to the last
 abbrev pub Follows : List (SystemState → SystemState → Type 0) → SystemState → SystemState → Type 0
 Follows [] old new = new ≡ old
 Follows (step ∷ steps) old new = (mid : SystemState) × step old mid × Follows steps mid new
@@ -99,6 +102,7 @@ Follows (step ∷ steps) old new = (mid : SystemState) × step old mid × Follow
 abbrev pub SettlesPorts : SystemState → SystemState → Type 0
 SettlesPorts old new = Follows (RunsMuxNotReady ∷ Chooses ∷ TakesReady ∷ RunsMux ∷ RunsAllPeriodic ∷ []) old new
 
+-- the steps of a settling, in their order
 abbrev pub six_steps : List (SystemState → SystemState → Type 0)
 six_steps = RunsMuxNotReady ∷ Chooses ∷ TakesReady ∷ RunsMux ∷ RunsAllPeriodic ∷ HoldsConversations ∷ []
 

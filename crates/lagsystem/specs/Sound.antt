@@ -27,6 +27,7 @@ pub record HasPorts (s : SystemState) : Type 0 where
 abbrev pub OnlyOnDistributing : SystemState → Type 0
 OnlyOnDistributing s = (g k p : ℕ) → assignment_of s.table g k ≡ On p → distributes (distributing (aggregator_numbered g) s.slots) p ≡ true
 
+-- what holds of every system: the invariant of `System`
 pub record IsSound (s : SystemState) : Type 0 where
   pub ports : HasPorts s
   pub aggregators : s.table.aggs ≡ length s.keys

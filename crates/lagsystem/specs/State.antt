@@ -23,12 +23,15 @@ pub record SystemValue (F : Type 0) : Type 0 where
   pub state : SystemState
   pub algorithm : F
 
+-- the state, but with these ports
 abbrev pub with_slots : SystemState → List SystemPort → SystemState
 with_slots s slots = record s { slots = slots }
 
+-- the state, but with these conversations
 abbrev pub with_table : SystemState → Table → SystemState
 with_table s table = record s { table = table }
 
+-- the numbers of the ports, in their order
 abbrev pub port_numbers : List SystemPort → List ℕ
 port_numbers slots = map (λ s. s.number) slots
 
@@ -36,6 +39,7 @@ port_numbers slots = map (λ s. s.number) slots
 abbrev pub place_of : ℕ → List SystemPort → Option ℕ
 place_of n slots = position (λ s. s.number == n) slots
 
+-- the port at this index, if there is one
 abbrev pub slot_at : Option ℕ → List SystemPort → Option SystemPort
 slot_at None slots = None
 slot_at (Some i) slots = slice_get slots i

@@ -5,12 +5,14 @@ use Rattle.lagsystem.specs.declared.fault.BadConfig.TheVariants.{Ports, Aggregat
 use Rattle.lagsystem.specs.declared.fault.SystemFault.{SystemFault}
 use Rattle.lagsystem.specs.declared.fault.SystemFault.TheVariants.{NoPort, NoAggregator, FrameLength, SlowFrame, Held, NoneDistributing, NotDistributing, SamePort, NotAssigned, MarkersSpent, BadConfig, NoMemory}
 
+-- the text of a reason to refuse a configuration
 abbrev pub reason_text : Reason → List ℕ
 reason_text Ports = codes "the configuration has not 1 to 64 ports"
 reason_text Aggregators = codes "the configuration has not 1 to 64 aggregators"
 reason_text (PortNumber place) = codes "the port at place " ++ (decimal place
     ++ codes " has the number 0 or one that is not above the number before it")
 
+-- the text of a fault of a system
 abbrev pub fault_text : SystemFault → List ℕ
 fault_text NoPort = codes "the system has no port of this number"
 fault_text NoAggregator = codes "the system has no such aggregator"

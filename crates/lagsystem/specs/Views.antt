@@ -10,12 +10,14 @@ use Rattle.selection.specs.declared.view.Stage.{Stage}
 use Rattle.selection.specs.declared.view.Stage.TheVariants as stage
 use Rattle.lagsystem.specs.declared.slots.SystemPort.{SystemPort}
 
+-- how far the mux machine has come, from its state and the ticks that wait_while has left
 abbrev pub stage_of : MuxState → ℕ → Stage
 stage_of Detached wait_while = stage.Detached
 stage_of Waiting wait_while = stage.Waiting (wait_while == 0)
 stage_of Attached wait_while = stage.Joined
 stage_of CollectingDistributing wait_while = stage.Joined
 
+-- what the Selection Logic reads of a port
 abbrev pub selection_view : SystemPort → PortView
 selection_view s =
     record {
@@ -28,5 +30,6 @@ selection_view s =
       choice = s.port.choice;
     }
 
+-- what the Selection Logic reads of all ports, in their order
 abbrev pub views : List SystemPort → List PortView
 views slots = map selection_view slots

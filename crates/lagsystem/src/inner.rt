@@ -160,6 +160,7 @@ impl<F: Fn(u16, usize) -> usize + Drop> Inner<F> {
         Ok(self.receive_at(place, octets))
     }
 
+    /// Takes a frame that came on the port at this index, as `System::receive` does.
     fn receive_at(&mut self, place: usize, octets: &[u8]) -> Received
         requires sound { IsSound (inner_state self.old) }
         requires within { place < length self.old.slots.items }

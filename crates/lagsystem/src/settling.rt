@@ -12,6 +12,7 @@ use crate::slots::{SystemPort, has_waited, is_eligible, views};
 use lagtypes::Choice;
 use selection::{Aggregators, PortView};
 
+/// Runs the mux machine of a port, with this value of Ready.
 fn run_mux_rows(slot: &mut SystemPort, ready: bool)
     ensures { PortGoes (RunsToRest (mux_rows ready)) slot.old slot.new }
 {
@@ -27,6 +28,7 @@ fn run_mux_not_ready(slots: &mut [SystemPort])
     }
 }
 
+/// Whether some port may choose an aggregator.
 fn any_eligible(slots: &[SystemPort]) -> bool
     ensures { result ≡ list_any (λ s. is_eligible (selection_view s)) slots.now }
 {
@@ -57,6 +59,7 @@ fn choose_one(
     }
 }
 
+/// Lets each port in turn choose an aggregator, if it is eligible.
 fn choose_each(aggregators: &Aggregators, slots: &mut [SystemPort], port_views: &mut [PortView])
     requires { port_views.old ≡ views slots.old }
     ensures { slots.new ≡ chosen aggregators.now (length slots.old) slots.old }
@@ -107,6 +110,7 @@ fn run_each_mux(aggregators: &Aggregators, slots: &mut [SystemPort], port_views:
     }
 }
 
+/// Runs the mux machine of a port; Ready is worked out from these views.
 fn run_one_mux(aggregators: &Aggregators, slot: &mut SystemPort, port_views: &[PortView])
     ensures { PortGoes (λ p q. RunsToRest (mux_rows (ready_of aggregators.now port_views.now p.choice)) p q) slot.old slot.new }
 {
@@ -124,6 +128,7 @@ fn ready_of(aggregators: &Aggregators, port_views: &[PortView], choice: Choice) 
     }
 }
 
+/// Runs the periodic machine of a port.
 fn run_one_periodic(slot: &mut SystemPort)
     ensures { PortGoes RunsPeriodic slot.old slot.new }
 {

@@ -19,6 +19,7 @@ pub record Pair : Type 0 where
   pub one : End
   pub other : End
 
+-- the ends of the link between two parties, in the order of the arguments
 abbrev pub pair_of : Party → Party → Pair
 pair_of one other = record { one = end_of (individual one other) one; other = end_of (individual one other) other }
 
@@ -34,8 +35,10 @@ sorted p = if is_lt (end_cmp p.other p.one) then record { lower = p.other; upper
 abbrev pub group_of : Party → Party → Group
 group_of one other = sorted (pair_of one other)
 
+-- the lower end of a group
 abbrev pub lower : Group → End
 lower g = g.lower
 
+-- the upper end of a group
 abbrev pub upper : Group → End
 upper g = g.upper

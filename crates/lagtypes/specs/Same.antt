@@ -8,15 +8,18 @@ use Rattle.lagtypes.specs.declared.party.Party.{Party}
 use Rattle.lagtypes.specs.declared.group.End.{End}
 use Rattle.lagtypes.specs.declared.group.Group.{Group}
 
+-- both bits are 1, or both are 0
 abbrev pub same_bit : Bool → Bool → Bool
 same_bit true true = true
 same_bit false false = true
 same_bit true false = false
 same_bit false true = false
 
+-- equal priorities and equal MAC addresses
 abbrev pub same_system : SystemId → SystemId → Bool
 same_system s t = (s.priority == t.priority) && bytes_eq s.mac t.mac
 
+-- equal priorities and equal numbers
 abbrev pub same_port : PortId → PortId → Bool
 same_port p q = (p.priority == q.priority) && (p.number == q.number)
 
@@ -28,8 +31,10 @@ same_party a b =
     && same_port a.port b.port
     && same_bit a.aggregatable b.aggregatable
 
+-- equal systems and keys; and the same port, or none
 abbrev pub same_end : End → End → Bool
 same_end e f = same_system e.system f.system && ((e.key.0 == f.key.0) && option_eq same_port e.port f.port)
 
+-- equal lower ends and equal upper ends
 abbrev pub same_group : Group → Group → Bool
 same_group g h = same_end g.lower h.lower && same_end g.upper h.upper

@@ -21,6 +21,7 @@ bits_of s = record {
   expired = has s 128;
 }
 
+-- what a bit adds to the octet: its value if it is 1, else nothing
 abbrev weight : Bool → ℕ → ℕ
 weight set bit = if set then bit else 0
 

@@ -19,9 +19,11 @@ same_mux_state _ _ = false
 abbrev pub is_synchronized : MuxState → Bool
 is_synchronized s = same_mux_state Attached s || same_mux_state CollectingDistributing s
 
+-- Selected is SELECTED
 abbrev pub selected : Machines → Bool
 selected p = is_selected p.choice
 
+-- Selected is UNSELECTED
 abbrev pub unselected : Machines → Bool
 unselected p = is_unselected p.choice
 
@@ -29,9 +31,11 @@ unselected p = is_unselected p.choice
 abbrev pub partner_synchronized : Machines → Bool
 partner_synchronized p = (bits_of p.partner.state).synchronization
 
+-- wait_while starts with Aggregate_Wait_Time, 20 ticks
 abbrev pub start_wait_while : Machines → Machines
 start_wait_while p = record p { wait_while = 20 }
 
+-- NTT true
 abbrev pub set_ntt : Machines → Machines
 set_ntt p = record p { ntt = true }
 
@@ -44,6 +48,7 @@ mux_row from guard to effect =
       effect = λ p. effect (record p { mux = to });
     }
 
+-- all rows of the mux machine; the argument is Ready of the aggregator that the port was given
 abbrev pub mux_rows : Bool → List Row
 mux_rows ready =
     -- DETACHED; not UNSELECTED; to WAITING; wait_while starts with 20 ticks

@@ -7,6 +7,7 @@ use Rattle.portmachines.specs.Machines.{Machines}
 use Rattle.portmachines.specs.Rows.{Row, RunsToRest, in_order}
 use Rattle.portmachines.specs.Mux.{set_ntt}
 
+-- whether the two states are the same
 abbrev pub is_periodic : PeriodicState → PeriodicState → Bool
 is_periodic NoPeriodic NoPeriodic = true
 is_periodic Fast Fast = true
@@ -18,6 +19,7 @@ is_periodic _ _ = false
 abbrev pub is_silent : Machines → Bool
 is_silent p = not p.enabled || (not p.active && not (bits_of p.partner.state).activity)
 
+-- periodic_timer has no ticks left
 abbrev pub timer_expired : Machines → Bool
 timer_expired p = p.periodic_timer == 0
 
@@ -25,9 +27,11 @@ timer_expired p = p.periodic_timer == 0
 abbrev pub partner_short : Machines → Bool
 partner_short p = (bits_of p.partner.state).timeout
 
+-- periodic_timer starts with this many ticks
 abbrev pub start_periodic : ℕ → Machines → Machines
 start_periodic n p = record p { periodic_timer = n }
 
+-- a row: from states that pass the test, if the condition holds, to that state, with the action
 abbrev pub periodic_row : (PeriodicState → Bool) → (Machines → Bool) → PeriodicState → (Machines → Machines) → Row
 periodic_row from guard to effect =
     record {
@@ -35,6 +39,7 @@ periodic_row from guard to effect =
       effect = λ p. effect (record p { periodic = to });
     }
 
+-- all rows of the periodic machine
 abbrev pub periodic_table : List Row
 periodic_table =
     -- any but NO_PERIODIC; link down, or both ends passive; to NO_PERIODIC

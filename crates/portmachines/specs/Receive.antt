@@ -76,6 +76,7 @@ same_receive_state Defaulted Defaulted = true
 same_receive_state Current Current = true
 same_receive_state _ _ = false
 
+-- a row: from states that pass the test, if the condition holds, to that state, with the action
 abbrev pub receive_row : (ReceiveState → Bool) → (Machines → Bool) → ReceiveState → (Machines → Machines) → Row
 receive_row from guard to effect =
     record {
@@ -83,6 +84,7 @@ receive_row from guard to effect =
       effect = λ p. effect (record p { receive = to });
     }
 
+-- current_while has no ticks left
 abbrev pub current_while_expired : Machines → Bool
 current_while_expired p = p.current_while == 0
 

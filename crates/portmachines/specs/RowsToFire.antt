@@ -59,6 +59,7 @@ receive_bound true expired Defaulted = 0
 receive_bound true true Current = 1
 receive_bound true false Current = 0
 
+-- how many mux rows may still fire
 abbrev pub mux_rows_to_fire : Bool → Machines → ℕ
 mux_rows_to_fire ready p = mux_bound (selected p) ready (partner_synchronized p) p.mux
 

@@ -51,6 +51,8 @@ within_eleven first ticks = count_passing (λ s. nat_le first s && nat_lt s (fir
 abbrev pub KeepsWindow : List ℕ → Type 0
 KeepsWindow ticks = (first : ℕ) → within_eleven first ticks ≤ 3
 
+-- Over every list of calls, the LACPDUs that the port sends, and those of its ages before the calls, keep the limit: at
+-- most three in any eleven consecutive ticks.
 abbrev pub WindowLaw : Type 0
 WindowLaw =
     (now : ℕ) (calls : List PortCall) (old : Machines) (ticks : List ℕ)

@@ -34,9 +34,11 @@ abbrev pub is_joinable : List PortView → PortView → AggId → Bool
 is_joinable views v agg =
     (not (individual v.party v.partner) && has_member views agg) && list_all (has_group_of v) (ports_that_chose agg views)
 
+-- no port has chosen this aggregator
 abbrev pub is_empty : List PortView → AggId → Bool
 is_empty views agg = not (has_member views agg)
 
+-- the aggregator of an entry, which has its number and its key
 abbrev pub aggregator_in_row : ℕ × Key → AggId
 aggregator_in_row row = record { 0 = row.0 }
 
@@ -46,9 +48,11 @@ abbrev pub lowest_from : ℕ → List Key → Key → (AggId → Bool) → Optio
 lowest_from first keys key test =
     option_map aggregator_in_row (find (λ row. (row.1.0 == key.0) && test (aggregator_in_row row)) (enumerate_from first keys))
 
+-- the lowest aggregator of the system with this key that passes the test
 abbrev pub lowest : List Key → Key → (AggId → Bool) → Option AggId
 lowest keys key test = lowest_from 1 keys key test
 
+-- the first aggregator if there is one, else the second
 abbrev pub or_else : Option AggId → Option AggId → Option AggId
 or_else None other = other
 or_else (Some agg) other = Some agg
@@ -58,6 +62,7 @@ abbrev pub choice_for : List Key → List PortView → PortView → Option AggId
 choice_for keys views v =
     or_else (lowest keys v.party.key (is_joinable views v)) (lowest keys v.party.key (is_empty views))
 
+-- the aggregator that the port of this view chooses; None without a view, or if the port is not eligible
 abbrev pub choice_of_view : List Key → List PortView → Option PortView → Option AggId
 choice_of_view keys views None = None
 choice_of_view keys views (Some v) = if is_eligible v then choice_for keys views v else None

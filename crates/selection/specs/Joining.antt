@@ -10,6 +10,7 @@ use Rattle.selection.specs.declared.view.PortView.{PortView}
 abbrev pub ends : PortView → Pair
 ends v = pair_of v.party v.partner
 
+-- no port has chosen this aggregator
 abbrev pub IsEmpty : List PortView → AggId → Type 0
 IsEmpty views agg = All (λ w. w.choice ≢ Selected agg) views
 

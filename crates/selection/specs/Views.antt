@@ -10,6 +10,7 @@ use Rattle.selection.specs.declared.view.Stage.TheVariants.{Detached, Waiting, J
 use Rattle.lagtypes.specs.Choices.{is_unselected}
 use Rattle.lagtypes.specs.Same.{same_system}
 
+-- the port numbers of the views, in their order
 abbrev pub numbers : List PortView → List ℕ
 numbers views = map (λ v. v.number) views
 
@@ -27,6 +28,7 @@ abbrev pub has_chosen : AggId → Choice → Bool
 has_chosen agg Unselected = false
 has_chosen agg (Selected given) = given.0 == agg.0
 
+-- DETACHED
 abbrev pub is_detached : Stage → Bool
 is_detached Detached = true
 is_detached (Waiting expired) = false

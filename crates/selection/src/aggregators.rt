@@ -113,6 +113,7 @@ fn first_65535(keys: &[Key]) -> &[Key]
     }
 }
 
+/// Whether some member of the aggregator is in DETACHED or WAITING.
 fn any_waiting(views: &[PortView], agg: AggId) -> bool
     ensures { result ≡ list_any (λ v. is_detached_or_waiting v.stage) (ports_that_chose agg views.now) }
 {
@@ -122,6 +123,7 @@ fn any_waiting(views: &[PortView], agg: AggId) -> bool
         .any(|view| view.is_detached_or_waiting())
 }
 
+/// Whether each member that is in DETACHED or WAITING is in WAITING with wait_while expired.
 fn all_have_waited(views: &[PortView], agg: AggId) -> bool
     ensures { result ≡ list_all (λ v. has_waited v.stage) (filter (λ v. is_detached_or_waiting v.stage) (ports_that_chose agg views.now)) }
 {
@@ -132,6 +134,7 @@ fn all_have_waited(views: &[PortView], agg: AggId) -> bool
         .all(|view| view.has_waited())
 }
 
+/// Whether some port has chosen the aggregator.
 fn has_member(views: &[PortView], agg: AggId) -> bool
     ensures { result ≡ has_member views.now agg }
 {

@@ -76,6 +76,7 @@ impl PortView {
             && !self.partner_is_own_system()
     }
 
+    /// Whether the partner's system is the port's own.
     fn partner_is_own_system(&self) -> bool
         ensures { result ≡ same_system self.now.partner.system self.now.party.system }
     {
@@ -129,6 +130,7 @@ pub(crate) fn find_view(views: &[PortView], port: u16) -> Option<PortView>
     None
 }
 
+/// Whether the port numbers ascend strictly.
 fn is_rising(views: &[PortView]) -> bool
     ensures { IsTrue result ↔ IsStrictlyIncreasing (numbers views.now) }
 {

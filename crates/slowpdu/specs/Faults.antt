@@ -29,6 +29,7 @@ abbrev pub first_cause : List Cause → Option WireFault
 first_cause [] = None
 first_cause (cause ∷ rest) = if cause.0 then Some cause.1 else first_cause rest
 
+-- the fault of a payload; None if it has none
 abbrev pub fault_of : List ℕ → Option WireFault
 fault_of b = first_cause (causes b)
 

@@ -35,5 +35,6 @@ abbrev pub answer_of : MarkerKind → Marker → Option Marker
 answer_of Information m = Some (record m { kind = Response })
 answer_of Response m = None
 
+-- the response to a Marker PDU; None if it is itself a response
 abbrev pub response_to : Marker → Option Marker
 response_to m = answer_of m.kind m

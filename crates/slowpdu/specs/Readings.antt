@@ -28,12 +28,15 @@ info_in b at = record {
   state = record { 0 = number_in b (at + 14) 1 };
 }
 
+-- the LACPDU that the payload reads as, if it has no fault and its subtype is 1
 unfoldable pub lacpdu_in : List ℕ → Lacpdu
 lacpdu_in b = record { actor = info_in b 4; partner = info_in b 24; max_delay = number_in b 44 2 }
 
+-- the kind with this TLV type; for a number other than 1 it is a response
 abbrev pub kind_in : ℕ → MarkerKind
 kind_in n = if n == 1 then Information else Response
 
+-- the Marker PDU that the payload reads as, if it has no fault and its subtype is 2
 unfoldable pub marker_in : List ℕ → Marker
 marker_in b = record { kind = kind_in (number_in b 2 1); port = number_in b 4 2; system = address_in b 6; id = number_in b 12 4 }
 
