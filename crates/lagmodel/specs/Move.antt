@@ -88,11 +88,11 @@ port_act p _ a = None
 
 -- the changes of one conversation, other than sending a frame (profile; 6.5.2 says what markers are for)
 pub data ConversationMove : Type 0 where
-  Want : (port : ℕ) → ConversationMove
-  Retry : (port identifier : ℕ) → ConversationMove
-  Answered : (port identifier : ℕ) → ConversationMove  -- 6.5.3.3
-  Down : (port : ℕ) → ConversationMove
-  Forced : ConversationMove
+  Want : (port : ℕ) → ConversationMove  -- it is to leave its port, so a marker is wanted there
+  Retry : (port identifier : ℕ) → ConversationMove  -- no response came, so another marker is wanted
+  Answered : (port identifier : ℕ) → ConversationMove  -- the response came (6.5.3.3)
+  Down : (port : ℕ) → ConversationMove  -- the link of its port went down
+  Forced : ConversationMove  -- it was freed by force
 
 -- the changes that the conversation c may make; it is conversation k of aggregator g, in a system with this MAC address
 abbrev pub ConversationMoveAllowed : List ℕ → ModelCall → ℕ → ℕ → ConversationMove → Conversation → Type 0

@@ -90,7 +90,7 @@ AllTick old new =
     × Changes old.table new.table after_tick
     × (new ≡ with_table (with_slots old new.slots) new.table)
 
--- the receive machine of a port whose link is up or down now runs
+-- port_enabled gets this value, and then the receive machine runs until it is at rest
 abbrev pub ChangesLink : Bool → Machines → Machines → Type 0
 ChangesLink up p q = RunsToRest receive_rows (record p { enabled = up }) q
 

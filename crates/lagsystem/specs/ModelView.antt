@@ -103,7 +103,8 @@ abbrev pub control_message : Pdu → ControlMessage
 control_message (pdu.Lacpdu v) = Lacp (lacp_message v)
 control_message (pdu.Marker m) = marker_message m.kind m
 
--- these received octets are a control frame with this PDU; or they are none, and there is no PDU
+-- These received octets are a control frame with this PDU. Without a PDU they may be any: the model then takes the receive
+-- for one of something else.
 abbrev pub FrameSeenAs : List ℕ → Option ControlMessage → Type 0
 FrameSeenAs octets None = Unit {0}
 FrameSeenAs octets (Some message) = (payload : Pdu) × IsFrame octets (Carries payload) × (message ≡ control_message payload)
