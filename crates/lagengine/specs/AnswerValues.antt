@@ -26,6 +26,7 @@ pub data AnswerValue : Type 0 where
   All : List PortAnswer → List AggAnswerValue → AnswerValue
   Fault : RequestFault → AnswerValue
 
+-- the answer, as a value of the logic
 abbrev pub answer_value : Answer → AnswerValue
 answer_value answer.Done = Done
 answer_value answer.Kept = Kept

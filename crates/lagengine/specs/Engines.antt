@@ -32,6 +32,7 @@ pub record EngineValue (F : Type 0) : Type 0 where
   pub algorithm : F
   pub state : EngineState
 
+-- the state of the system, if there is one
 abbrev pub system_state : {F : Type 0} → Option (SystemValue F) → Option SystemState
 system_state system = option_map (λ w. w.state) system
 
@@ -39,9 +40,11 @@ system_state system = option_map (λ w. w.state) system
 abbrev pub kept_of : Option (Vec Handed Global) → Option (List Call)
 kept_of kept = option_map (λ calls. map call_of calls.items) kept
 
+-- the state of an engine that has this system and these stored calls
 abbrev pub engine_state : {F : Type 0} → SystemValue F → Option (Vec Handed Global) → EngineState
 engine_state w kept = record { system = Some w.state; kept = kept_of kept }
 
+-- an engine, from its fields
 abbrev pub engine_value : {F : Type 0} → Inner F → EngineValue F
 engine_value c = record { algorithm = c.algorithm; state = record { system = system_state c.system; kept = kept_of c.kept } }
 

@@ -16,6 +16,7 @@ abbrev pub lines_of : List ℕ → List (List ℕ)
 lines_of [] = []
 lines_of (b ∷ bs) = if b == 10 then [] ∷ lines_of bs else continue_line (b ∷ []) (lines_of bs)
 
+-- how many newlines there are
 abbrev pub newline_count : List ℕ → ℕ
 newline_count [] = 0
 newline_count (b ∷ bs) = if b == 10 then suc (newline_count bs) else newline_count bs

@@ -10,12 +10,15 @@ use Rattle.lagengine.specs.declared.fault.RequestFault.TheVariants.{TooLong, Not
 abbrev pub longest : ℕ
 longest = 65536
 
+-- the request of the words of a line; Word if there is none
 abbrev pub request_of_words : List (List ℕ) → Result RequestValue RequestFault
 request_of_words [] = Err Word
 request_of_words (name ∷ ws) = request_named name ws
 
+-- the request of a line that is UTF-8: its words are cut at every single space
 abbrev pub request_of_text : List ℕ → Result RequestValue RequestFault
 request_of_text text = request_of_words (parts 32 text)
 
+-- the request of a line of octets, or the first fault
 abbrev pub request_in : List ℕ → Result RequestValue RequestFault
 request_in line = if nat_lt longest (length line) then Err TooLong else if is_utf8 line then request_of_text line else Err NotText

@@ -43,6 +43,7 @@ fact_of of_port.ReceiveState n s = option_map (λ p. fact.ReceiveState p.receive
 fact_of of_port.Due n s = option_map fact.Due (due_of n s)
 fact_of of_port.Load n s = option_map fact.Load (load_of n s)
 
+-- the answer to a question about the port with this number, with that number
 abbrev pub port_answer : PortQuestion → SystemState → ℕ → PortAnswer
 port_answer q s n = record { port = n; fact = fact_of q n s }
 
@@ -51,9 +52,11 @@ pub record AggAnswerValue : Type 0 where
   pub agg : ℕ
   pub ports : List ℕ
 
+-- the answer, as a value of the logic
 abbrev pub agg_answer_value : AggAnswer → AggAnswerValue
 agg_answer_value a = record { agg = a.agg; ports = a.ports.items }
 
+-- which ports distribute in aggregator g
 abbrev pub agg_answer : SystemState → ℕ → AggAnswerValue
 agg_answer s g = record { agg = g; ports = distributing (aggregator_numbered g) s.slots }
 

@@ -31,6 +31,7 @@ pub record ConfigValue : Type 0 where
   pub keys : List Key
   pub ports : List PortConfig
 
+-- the configuration, as a value of the logic
 abbrev pub config_value : Config → ConfigValue
 config_value c = record {
   system = c.system;
@@ -48,6 +49,7 @@ pub data TaskValue : Type 0 where
   Conversation : List ℕ → TaskValue
   Ask : Question → TaskValue
 
+-- the task, as a value of the logic
 abbrev pub task_value : Task → TaskValue
 task_value (task.Make call) = Make (call_of call)
 task_value task.Keep = Keep
@@ -60,6 +62,7 @@ pub data RequestValue : Type 0 where
   Start : ConfigValue → RequestValue
   Work : TaskValue → RequestValue
 
+-- the request, as a value of the logic
 abbrev pub request_value : Request → RequestValue
 request_value (request.System config) = Start (config_value config)
 request_value (request.Work task) = Work (task_value task)
@@ -79,25 +82,31 @@ ReadsAs see stated (Err NoMemory) = ⊤
 abbrev pub Word : Type 0
 Word = Bor (List ℕ)
 
+-- the octets of a word
 abbrev pub word_octets : Word → List ℕ
 word_octets w = w.now
 
+-- the octets of one word, or the fault
 abbrev pub one_word_octets : Result Word RequestFault → Result (List ℕ) RequestFault
 one_word_octets (Ok a) = Ok a.now
 one_word_octets (Err e) = Err e
 
+-- the octets of two words, or the fault
 abbrev pub two_words_octets : Result (Word × Word) RequestFault → Result (List ℕ × List ℕ) RequestFault
 two_words_octets (Ok p) = Ok (p.0.now, p.1.now)
 two_words_octets (Err e) = Err e
 
+-- the octets of three words, or the fault
 abbrev pub three_words_octets : Result (Word × Word × Word) RequestFault → Result (List ℕ × List ℕ × List ℕ) RequestFault
 three_words_octets (Ok p) = Ok (p.0.now, p.1.now, p.2.now)
 three_words_octets (Err e) = Err e
 
+-- the octets of four words, or the fault
 abbrev pub four_words_octets : Result (Word × Word × Word × Word) RequestFault → Result (List ℕ × List ℕ × List ℕ × List ℕ) RequestFault
 four_words_octets (Ok p) = Ok (p.0.now, p.1.now, p.2.now, p.3.now)
 four_words_octets (Err e) = Err e
 
+-- the octets of seven words, or the fault
 abbrev pub seven_words_octets : Result (Word × Word × Word × Word × Word × Word × Word) RequestFault → Result SevenFields RequestFault
 seven_words_octets (Ok p) = Ok (p.0.now, p.1.now, p.2.now, p.3.now, p.4.now, p.5.now, p.6.now)
 seven_words_octets (Err e) = Err e
@@ -107,18 +116,22 @@ abbrev pub no_words : List (List ℕ) → Result Unit RequestFault
 no_words [] = Ok tt
 no_words _ = Err fault.Count
 
+-- the word after the first, if there is exactly one; else Count
 abbrev pub one_word : List (List ℕ) → Result (List ℕ) RequestFault
 one_word (a ∷ []) = Ok a
 one_word _ = Err fault.Count
 
+-- the two words after the first, if there are exactly two; else Count
 abbrev pub two_words : List (List ℕ) → Result (List ℕ × List ℕ) RequestFault
 two_words (a ∷ b ∷ []) = Ok (a, b)
 two_words _ = Err fault.Count
 
+-- the three words after the first, if there are exactly three; else Count
 abbrev pub three_words : List (List ℕ) → Result (List ℕ × List ℕ × List ℕ) RequestFault
 three_words (a ∷ b ∷ c ∷ []) = Ok (a, b, c)
 three_words _ = Err fault.Count
 
+-- the four words after the first, if there are exactly four; else Count
 abbrev pub four_words : List (List ℕ) → Result (List ℕ × List ℕ × List ℕ × List ℕ) RequestFault
 four_words (a ∷ b ∷ c ∷ d ∷ []) = Ok (a, b, c, d)
 four_words _ = Err fault.Count
@@ -127,25 +140,32 @@ four_words _ = Err fault.Count
 abbrev pub WordReader : Type 0 → Type 0
 WordReader A = List ℕ → Result A RequestFault
 
+-- the task, if no words come after the first; else Count
 abbrev pub with_no_words : TaskValue → List (List ℕ) → Result TaskValue RequestFault
 with_no_words asked ws = no_words ws >>= λ _. Ok asked
 
+-- the task made of exactly one word after the first, or the fault
 abbrev pub with_one_word : {A : Type 0} → WordReader A → (A → TaskValue) → List (List ℕ) → Result TaskValue RequestFault
 with_one_word f make ws = one_word ws >>= λ a. f a >>= λ x. Ok (make x)
 
+-- the task made of exactly two words after the first, or the first fault
 abbrev pub with_two_words : {A B : Type 0} → WordReader A → WordReader B → (A → B → TaskValue) → List (List ℕ) → Result TaskValue RequestFault
 with_two_words f g make ws = two_words ws >>= λ p. f p.0 >>= λ x. g p.1 >>= λ y. Ok (make x y)
 
+-- the task made of exactly three words after the first, or the first fault
 abbrev pub with_three_words : {A B C : Type 0} → WordReader A → WordReader B → WordReader C → (A → B → C → TaskValue) → List (List ℕ) → Result TaskValue RequestFault
 with_three_words f g h make ws = three_words ws >>= λ p. f p.0 >>= λ x. g p.1 >>= λ y. h p.2 >>= λ z. Ok (make x y z)
 
+-- the task made of exactly four words after the first, or the first fault
 abbrev pub with_four_words : {A B C D : Type 0} → WordReader A → WordReader B → WordReader C → WordReader D → (A → B → C → D → TaskValue) → List (List ℕ)
     → Result TaskValue RequestFault
 with_four_words f g h i make ws = four_words ws >>= λ p. f p.0 >>= λ x. g p.1 >>= λ y. h p.2 >>= λ z. i p.3 >>= λ w. Ok (make x y z w)
 
+-- the aggregator with this number
 abbrev pub agg_id : ℕ → AggId
 agg_id n = record { 0 = n }
 
+-- the call by which a port gets these values
 abbrev pub configure_task : ℕ → ℕ → ℕ → Bool → TaskValue
 configure_task port key priority aggregatable = Make (Configure port
     (record { key = record { 0 = key }; priority = priority; aggregatable = aggregatable }))

@@ -64,11 +64,13 @@ module _ {R W : Type 0} (gives : ℕ → ℕ → ℕ → Type 0) (remaining : R 
     pub answered : AnswersLines gives (take (length answers + 1) (lines_of (octets ++ part))) first_engine_state (answers ++ answer ∷ []) last
     pub written : (n : ℕ) × Appends (contents old.writer) (contents new.writer) (answer_lines answers ++ take n (answer_line answer))
 
+  -- how `serve` stopped for this reason: what it read and answered until then
   abbrev pub Stops : SourceState R → SourceState R → SinkState W → SinkState W → Stopped → Type 0
   Stops from to old new Read = StopsReading from to old new
   Stops from to old new Write = StopsWriting from to old new
   Stops from to old new NoMemory = StopsShort from to old new
 
+  -- what `serve` read and answered, for its result: all of the input, or why it stopped
   abbrev pub Serves : SourceState R → SourceState R → SinkState W → SinkState W → Result ⊤ Stopped → Type 0
   Serves from to old new (Ok x) = Completes from to old new
   Serves from to old new (Err why) = Stops from to old new why × HasCause to.failed new.failed why

@@ -17,6 +17,7 @@ use Rattle.lagengine.specs.declared.stopped.Stopped.TheVariants.{Read, Write, No
 abbrev pub answer_line : AnswerValue → List ℕ
 answer_line answer = answer_text answer ++ 10 ∷ []
 
+-- the texts of answers, each with a line end
 abbrev pub answer_lines : List AnswerValue → List ℕ
 answer_lines answers = each_text answer_line answers
 
@@ -33,6 +34,7 @@ pub record SessionState : Type 0 where
   pub state : EngineState
   pub line : List ℕ
 
+-- a session, from its fields
 abbrev pub session_of : {F : Type 0} → Session F → SessionState
 session_of s = record { state = s.engine.state; line = s.line.items }
 
@@ -40,6 +42,7 @@ session_of s = record { state = s.engine.state; line = s.line.items }
 abbrev pub first_engine_state : EngineState
 first_engine_state = record { system = None; kept = None }
 
+-- a session before anything is read
 abbrev pub first_session : SessionState
 first_session = record { state = first_engine_state; line = [] }
 

@@ -63,6 +63,7 @@ reason_name reason.Ports = codes "ports"
 reason_name reason.Aggregators = codes "aggregators"
 reason_name (reason.PortNumber place) = codes "port-number " ++ decimal place
 
+-- the name of a fault of a system
 abbrev pub fault_name : SystemFault → List ℕ
 fault_name system.NoPort = codes "no-port"
 fault_name system.NoAggregator = codes "no-aggregator"
@@ -102,6 +103,7 @@ received_text (Up agg) = codes "up " ++ decimal agg.0
 abbrev pub sent_word : List ℕ → List ℕ
 sent_word octets = if slice_index octets 14 == 1 then codes "lacpdu " else codes "marker "
 
+-- `lacpdu` or `marker`, and the octets of the frame
 abbrev pub sent_text : List ℕ → List ℕ
 sent_text octets = sent_word octets ++ encode_lower octets
 
@@ -132,6 +134,7 @@ reply_text (reply.Force answer) = done_text answer
 abbrev pub reply_and_semicolon : Reply → List ℕ
 reply_and_semicolon r = reply_text r ++ 59 ∷ []
 
+-- the results of the stored calls
 abbrev pub replies_text : List Reply → List ℕ
 replies_text = each_text reply_and_semicolon
 
@@ -140,6 +143,7 @@ abbrev pub flag_text : Bool → List ℕ
 flag_text true = codes "true"
 flag_text false = codes "false"
 
+-- aggregatable or individual
 abbrev pub kind_text : Bool → List ℕ
 kind_text true = codes "aggregatable"
 kind_text false = codes "individual"
@@ -154,16 +158,19 @@ abbrev pub partner_text : Info → List ℕ
 partner_text p = system_text p.system ++ (codes " key " ++ (decimal p.key.0
     ++ (codes " port " ++ (port_text p.port ++ (codes " state " ++ state_text (octet p.state))))))
 
+-- Selected, with the aggregator of a port
 abbrev pub choice_text : Choice → List ℕ
 choice_text Unselected = codes "unselected"
 choice_text (Selected agg) = codes "selected " ++ decimal agg.0
 
+-- the state of a mux machine
 abbrev pub mux_text : MuxState → List ℕ
 mux_text mux.Detached = codes "detached"
 mux_text mux.Waiting = codes "waiting"
 mux_text mux.Attached = codes "attached"
 mux_text mux.CollectingDistributing = codes "collecting-distributing"
 
+-- the state of a receive machine
 abbrev pub receive_text : ReceiveState → List ℕ
 receive_text receive.Initialize = codes "initialize"
 receive_text receive.PortDisabled = codes "port-disabled"
@@ -182,6 +189,7 @@ machines_text l =
     codes "defaulted " ++ (flag_text l.defaulted ++ (codes "; distributes " ++ (flag_text l.distributes
     ++ (codes "; " ++ (choice_text l.choice ++ (codes "; mux " ++ mux_text l.mux))))))
 
+-- the answer to `look` for a port
 abbrev pub look_text : Look → List ℕ
 look_text l = ends_text l ++ (codes "; " ++ machines_text l)
 
@@ -194,6 +202,7 @@ fact_text (fact.ReceiveState s) = codes "receive-state " ++ receive_text s
 fact_text (fact.Due due) = codes "due " ++ flag_text due
 fact_text (fact.Load load) = codes "load " ++ decimal load
 
+-- the answer for a port, or `none` if there is no such port
 abbrev pub fact_or_none : Option PortFact → List ℕ
 fact_or_none None = codes "none"
 fact_or_none (Some f) = fact_text f
@@ -206,6 +215,7 @@ port_answer_text t = codes "port " ++ (decimal t.port ++ (codes ": " ++ fact_or_
 abbrev pub spaced : ℕ → List ℕ
 spaced n = 32 ∷ decimal n
 
+-- port numbers, with a space before each; or none
 abbrev pub numbers_text : List ℕ → List ℕ
 numbers_text [] = codes " none"
 numbers_text (n ∷ ns) = each_text spaced (n ∷ ns)
@@ -232,6 +242,7 @@ conversation_text (Wanted port preferred) = codes "wanted " ++ (decimal port ++ 
 conversation_text (Flushing port id preferred age) = codes "flushing "
     ++ (decimal port ++ (codes " id " ++ (decimal id ++ (codes " age " ++ (decimal age ++ preferred_text preferred)))))
 
+-- the state of a conversation, or `none` if there is no such conversation
 abbrev pub conversation_or_none : Option Assignment → List ℕ
 conversation_or_none None = codes "none"
 conversation_or_none (Some doing) = conversation_text doing
@@ -240,13 +251,16 @@ conversation_or_none (Some doing) = conversation_text doing
 abbrev pub port_bar : PortAnswer → List ℕ
 port_bar t = port_answer_text t ++ codes " | "
 
+-- an aggregator with a bar before it
 abbrev pub bar_agg_answer : AggAnswerValue → List ℕ
 bar_agg_answer t = codes " | " ++ agg_answer_text t
 
+-- the aggregators, with a bar between them
 abbrev pub agg_answers_text : List AggAnswerValue → List ℕ
 agg_answers_text [] = []
 agg_answers_text (t ∷ ts) = agg_answer_text t ++ each_text bar_agg_answer ts
 
+-- the answer to `all`: the ports, then the aggregators
 abbrev pub all_text : List PortAnswer → List AggAnswerValue → List ℕ
 all_text ports aggs = each_text port_bar ports ++ agg_answers_text aggs
 

@@ -38,9 +38,11 @@ is_numeral w = nat_lt 0 (length w) && all_ascii_digits w
 abbrev pub number_below : ℕ → List ℕ → Option ℕ
 number_below limit w = if is_numeral w && nat_lt (digits_value 10 w) limit then Some (digits_value 10 w) else None
 
+-- a number from 0 to 65535
 abbrev pub number_word : List ℕ → Result ℕ RequestFault
 number_word w = or_fault fault.Number (number_below 65536 w)
 
+-- a number from 0 to 4294967295
 abbrev pub long_word : List ℕ → Result ℕ RequestFault
 long_word w = or_fault fault.Number (number_below 4294967296 w)
 
@@ -52,12 +54,15 @@ mac_word w = or_fault fault.Mac (result_ok (decode_sized w 6))
 abbrev pub one_of : List ℕ → List ℕ → RequestFault → List ℕ → Result Bool RequestFault
 one_of yes_word no_word e w = if bytes_eq w yes_word then Ok true else if bytes_eq w no_word then Ok false else Err e
 
+-- `1` as true, `0` as false
 abbrev pub flag_word : List ℕ → Result Bool RequestFault
 flag_word = one_of (codes "1") (codes "0") fault.Flag
 
+-- `up` as true, `down` as false
 abbrev pub link_word : List ℕ → Result Bool RequestFault
 link_word = one_of (codes "up") (codes "down") fault.Link
 
+-- `aggregatable` as true, `individual` as false
 abbrev pub kind_word : List ℕ → Result Bool RequestFault
 kind_word = one_of (codes "aggregatable") (codes "individual") fault.Kind
 
@@ -65,6 +70,7 @@ kind_word = one_of (codes "aggregatable") (codes "individual") fault.Kind
 abbrev pub hex_word : List ℕ → Result (List ℕ) RequestFault
 hex_word w = or_fault fault.Hex (result_ok (decode_of w))
 
+-- an operational key, 0 to 65535
 abbrev pub key_word : List ℕ → Result Key RequestFault
 key_word w = number_word w >>= λ n. Ok (record { 0 = n })
 
@@ -72,9 +78,11 @@ key_word w = number_word w >>= λ n. Ok (record { 0 = n })
 abbrev pub keys_word : List ℕ → Result (List Key) RequestFault
 keys_word w = if bytes_eq w (codes "-") then Ok [] else each key_word (parts 44 w)
 
+-- seven texts
 abbrev pub SevenFields : Type 0
 SevenFields = List ℕ × List ℕ × List ℕ × List ℕ × List ℕ × List ℕ × List ℕ
 
+-- the seven texts, if there are exactly seven; else Count
 abbrev pub seven_fields : List (List ℕ) → Result SevenFields RequestFault
 seven_fields (a ∷ b ∷ c ∷ d ∷ e ∷ f ∷ g ∷ []) = Ok (a, b, c, d, e, f, g)
 seven_fields _ = Err fault.Count

@@ -30,6 +30,7 @@ fn four_words<'a>(words: &[&'a str]) -> Result<(&'a str, &'a str, &'a str, &'a s
     }
 }
 
+/// Reads the words of `link`: a port, and `up` or `down`.
 fn set_link(words: &[&str]) -> Result<Task, RequestFault>
     ensures { task_or_fault result ≡ with_two_words number_word link_word (λ port up. asked.Make (call.Set_link port up)) (map (λ w. w.now) words.now) }
 {
@@ -37,6 +38,7 @@ fn set_link(words: &[&str]) -> Result<Task, RequestFault>
     Ok(Task::Make(Call::SetLink(number(port)?, link(up)?)))
 }
 
+/// Reads the word of `transmit`: a port.
 fn transmit(words: &[&str]) -> Result<Task, RequestFault>
     ensures { task_or_fault result ≡ with_one_word number_word (λ port. asked.Make (call.Transmit port)) (map (λ w. w.now) words.now) }
 {
@@ -44,6 +46,7 @@ fn transmit(words: &[&str]) -> Result<Task, RequestFault>
     Ok(Task::Make(Call::Transmit(number(port)?)))
 }
 
+/// Reads the words of `configure`: a port, its key and priority, and `aggregatable` or `individual`.
 fn configure(words: &[&str]) -> Result<Task, RequestFault>
     ensures { task_or_fault result ≡ with_four_words number_word number_word number_word kind_word configure_task (map (λ w. w.now) words.now) }
 {
@@ -60,6 +63,7 @@ fn configure(words: &[&str]) -> Result<Task, RequestFault>
     Ok(Task::Make(Call::Configure(port, change)))
 }
 
+/// Reads the words of `move`: an aggregator, a conversation and a port.
 fn move_conversation(words: &[&str]) -> Result<Task, RequestFault>
     ensures { task_or_fault result ≡ with_three_words number_word number_word number_word
         (λ g k port. asked.Make (call.Move_conversation (asked.agg_id g) k port)) (map (λ w. w.now) words.now) }
@@ -71,6 +75,7 @@ fn move_conversation(words: &[&str]) -> Result<Task, RequestFault>
     Ok(Task::Make(Call::MoveConversation(agg, conv, port)))
 }
 
+/// Reads the words of `force`: an aggregator and a conversation.
 fn force(words: &[&str]) -> Result<Task, RequestFault>
     ensures { task_or_fault result ≡ with_two_words number_word number_word (λ g k. asked.Make (call.Force (asked.agg_id g) k)) (map (λ w. w.now) words.now) }
 {
@@ -87,6 +92,7 @@ fn port_question(asked: PortQuestion, words: &[&str]) -> Result<Task, RequestFau
     Ok(Task::Ask(Question::Port(asked, number(port)?)))
 }
 
+/// Reads the word of `distributing`: an aggregator.
 fn distributing(words: &[&str]) -> Result<Task, RequestFault>
     ensures { task_or_fault result ≡ with_one_word number_word (λ n. asked.Ask (question.Distributing (asked.agg_id n))) (map (λ w. w.now) words.now) }
 {
@@ -94,6 +100,7 @@ fn distributing(words: &[&str]) -> Result<Task, RequestFault>
     Ok(Task::Ask(Question::Distributing(AggId(number(agg)?))))
 }
 
+/// Reads the words of `conversation-state`: an aggregator and a conversation.
 fn conversation_state(words: &[&str]) -> Result<Task, RequestFault>
     ensures { task_or_fault result ≡ with_two_words number_word number_word (λ g k. asked.Ask (question.ConversationState (asked.agg_id g) k))
         (map (λ w. w.now) words.now) }

@@ -61,6 +61,7 @@ fn status_of(ended: &Result<(), Stopped>) -> u8
     }
 }
 
+/// Answers the lines of standard input, and returns the exit status.
 fn main(rt: HostRuntime) -> ExitCode {
     let ended = run(&rt);
     let status = status_of(&ended);

@@ -106,6 +106,7 @@ pub(crate) fn two_words<'a>(words: &[&'a str]) -> Result<(&'a str, &'a str), Req
     }
 }
 
+/// Reads the words of `receive`: a port and the octets of a frame.
 fn receive(alloc: Global, words: &[&str]) -> Result<Task, RequestError>
     ensures { ReadsAs task_value (with_two_words number_word hex_word (λ port octets. asked.Make (call.Receive port octets)) (map (λ w. w.now) words.now))
         result }
@@ -116,6 +117,7 @@ fn receive(alloc: Global, words: &[&str]) -> Result<Task, RequestError>
     Ok(Task::Make(Call::Receive(port, octets)))
 }
 
+/// Reads the words of `offer`: an aggregator and the octets of a frame.
 fn offer(alloc: Global, words: &[&str]) -> Result<Task, RequestError>
     ensures { ReadsAs task_value (with_two_words number_word hex_word (λ g octets. asked.Make (call.Offer (asked.agg_id g) octets))
         (map (λ w. w.now) words.now)) result }
@@ -126,6 +128,7 @@ fn offer(alloc: Global, words: &[&str]) -> Result<Task, RequestError>
     Ok(Task::Make(Call::Offer(agg, octets)))
 }
 
+/// Reads the word of `conversation`: the octets of a frame.
 fn conversation(alloc: Global, words: &[&str]) -> Result<Task, RequestError>
     ensures { ReadsAs task_value (with_one_word hex_word asked.Conversation (map (λ w. w.now) words.now)) result }
 {

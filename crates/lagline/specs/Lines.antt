@@ -15,18 +15,23 @@ use Rattle.lagline.specs.declared.line.Job.TheVariants.{Decode, Respond, Check, 
 abbrev pub required_word : Text → Rule
 required_word id = record (new_rule id) { required = true }
 
+-- `decode HEX`
 abbrev pub decode_subcommand : App
 decode_subcommand = with_rule (new_app (codes "decode")) (required_word (codes "HEX"))
 
+-- `respond MAC HEX`
 abbrev pub respond_subcommand : App
 respond_subcommand = with_rule (with_rule (new_app (codes "respond")) (required_word (codes "MAC"))) (required_word (codes "HEX"))
 
+-- `check FILE`
 abbrev pub check_subcommand : App
 check_subcommand = with_rule (new_app (codes "check")) (required_word (codes "FILE"))
 
+-- `replay SCRIPT`
 abbrev pub replay_subcommand : App
 replay_subcommand = with_rule (new_app (codes "replay")) (required_word (codes "SCRIPT"))
 
+-- `vectors`, without arguments
 abbrev pub vectors_subcommand : App
 vectors_subcommand = new_app (codes "vectors")
 
@@ -43,6 +48,7 @@ program =
     check_subcommand.top)
     replay_subcommand.top) vectors_subcommand.top
 
+-- the name of the subcommand that a job is
 abbrev pub name_of : Job → Text
 name_of (Decode hex) = codes "decode"
 name_of (Respond mac hex) = codes "respond"
@@ -64,6 +70,7 @@ pub record IsJob (found : Option (Text × List Row)) (job : Job) : Type 0 where
   pub named : found ≡ Some (name_of job, rows)
   pub values : HasValues job rows
 
+-- there is a value for the argument with this name
 abbrev pub has_text : Text → List Row → Bool
 has_text id rows = is_some (first_of id rows)
 

@@ -19,6 +19,7 @@ pub record ConfigValue : Type 0 where
   pub aggregators : List Key
   pub ports : List PortConfig
 
+-- the configuration, as a value of the logic
 abbrev pub config_value : Config → ConfigValue
 config_value c =
     record {
@@ -29,6 +30,7 @@ config_value c =
       ports = c.ports.items;
     }
 
+-- one of these ports has this number
 abbrev pub has_port : List PortConfig → ℕ → Bool
 has_port ports number = list_any (λ port. port.number == number) ports
 
@@ -40,6 +42,7 @@ shares_end cables cable = list_any (λ c. (c.0 == cable.0) || (c.1 == cable.1)) 
 abbrev pub can_join : List PortConfig → List PortConfig → List (ℕ × ℕ) → ℕ × ℕ → Bool
 can_join ports1 ports2 earlier cable = (has_port ports1 cable.0 && has_port ports2 cable.1) && not (shares_end earlier cable)
 
+-- the cable at this index, from 0, cannot join two ports: an end is no port, or an earlier cable has it
 abbrev pub has_bad_end : List PortConfig → List PortConfig → List (ℕ × ℕ) → ℕ → Bool
 has_bad_end ports1 ports2 cables i = not (can_join ports1 ports2 (take i cables) (get_or cables i (0, 0)))
 
@@ -57,9 +60,11 @@ first_below test (suc n) = or_first (first_below test n) (if test n then Some n 
 abbrev pub bad_end : List PortConfig → List PortConfig → List (ℕ × ℕ) → Option ℕ
 bad_end ports1 ports2 cables = option_map suc (first_below (has_bad_end ports1 ports2 cables) (length cables))
 
+-- two system identifiers have the same priority and the same MAC address
 abbrev pub same_system : SystemId → SystemId → Bool
 same_system a b = (a.priority == b.priority) && bytes_eq a.mac b.mac
 
+-- why the configuration of system 1 or 2 is refused, if it is
 abbrev pub system_refusal : ℕ → ConfigValue → Option BadWorld
 system_refusal side plan = option_map (System side) (refusal plan.aggregators plan.ports)
 
@@ -71,9 +76,11 @@ refusal_of_two a b cables =
     (or_first (if same_system a.system b.system then Some SameSystem else None)
     (option_map CableEnd (bad_end a.ports b.ports cables))))
 
+-- the same for a list of exactly two systems
 abbrev pub refusal_of_all : List ConfigValue → List (ℕ × ℕ) → Option BadWorld
 refusal_of_all (a ∷ b ∷ []) cables = refusal_of_two a b cables
 refusal_of_all _ cables = None
 
+-- the first reason to refuse the configuration of two systems and their cables, if there is one
 abbrev pub world_refusal : WorldConfig → Option BadWorld
 world_refusal w = refusal_of_all (map config_value w.systems) w.cables.items

@@ -20,6 +20,7 @@ pub data EventValue : Type 0 where
   move_to : ℕ → ℕ → ℕ → ℕ → EventValue
   force : ℕ → ℕ → ℕ → EventValue
 
+-- the event, as a value of the logic
 abbrev pub event_value : Event → EventValue
 event_value (event.Tick s n) = tick s n
 event_value (event.Emit s port) = emit s port
@@ -35,5 +36,6 @@ event_value (event.Offer s agg frame) = offer s agg.0 frame.items
 event_value (event.Move s agg conv port) = move_to s agg.0 conv port
 event_value (event.Force s agg conv) = force s agg.0 conv
 
+-- the events, as values of the logic
 abbrev pub event_values : List Event → List EventValue
 event_values events = map event_value events

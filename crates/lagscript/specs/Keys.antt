@@ -26,10 +26,12 @@ abbrev pub natural_below : ℕ → ℤ → Option ℕ
 natural_below limit (pos n) = if nat_lt n limit then Some n else None
 natural_below limit (negsuc n) = None
 
+-- the value of an integer that is not negative and below a limit; None for any other value
 abbrev pub integer_in : ℕ → Data → Option ℕ
 integer_in limit (integer z) = natural_below limit z
 integer_in limit _ = None
 
+-- the number, unless it is 0
 abbrev pub from_one : ℕ → Option ℕ
 from_one n = if nat_le 1 n then Some n else None
 
@@ -37,13 +39,16 @@ from_one n = if nat_le 1 n then Some n else None
 abbrev pub limit_in : Data → Option ℕ
 limit_in d = option_and_then from_one (integer_in 65536 d)
 
+-- the value of a Boolean; None for any other value
 abbrev pub flag_in : Data → Option Bool
 flag_in (boolean b) = Some b
 flag_in _ = None
 
+-- the six octets of a string that is a MAC address; None for any other value
 abbrev pub mac_in : Data → Option (List ℕ)
 mac_in d = option_and_then mac_of (as_str d)
 
+-- the operational key that is an integer of 0 to 65535; None for any other value
 abbrev pub key_in : Data → Option Key
 key_in d = option_map (λ n. record { 0 = n }) (integer_in 65536 d)
 
@@ -61,5 +66,6 @@ abbrev pub just_two : {A : Type 0} → Option (List A) → Option (A × A)
 just_two (Some (a ∷ b ∷ [])) = Some (a, b)
 just_two _ = None
 
+-- the two port numbers in an array of exactly two; None for any other value
 abbrev pub ends_in : Data → Option (ℕ × ℕ)
 ends_in d = just_two (list_in (integer_in 65536) d)

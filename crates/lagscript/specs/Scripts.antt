@@ -45,6 +45,7 @@ abbrev pub no_fault : {A : Type 0} → Option ScriptFault → A → Result A Scr
 no_fault None x = Ok x
 no_fault (Some e) x = Err e
 
+-- the keys at the top of a script
 abbrev pub top_keys : List (List ℕ)
 top_keys = codes "system" ∷ codes "cable" ∷ codes "events" ∷ []
 
@@ -53,9 +54,11 @@ abbrev pub two_systems : List Members → Result (List ConfigValue) ScriptFault
 two_systems mss = or_fault fault.Systems (just_two (Some mss)) >>= λ p. system_of 1 p.0 >>= λ first. system_of 2 p.1
     >>= λ second. Ok (first ∷ second ∷ [])
 
+-- the two systems of a script, or the first fault
 abbrev pub systems_in : Members → Result (List ConfigValue) ScriptFault
 systems_in ms = or_fault fault.Systems (value_at (codes "system") (list_in as_table) None ms) >>= two_systems
 
+-- the cables of a script, none if the key is left out; or the first fault
 abbrev pub cables_in : Members → Result (List CablePlan) ScriptFault
 cables_in ms = or_fault fault.Cables (value_at (codes "cable") (list_in as_table) (Some []) ms) >>= in_place cable_of 1
 
@@ -63,15 +66,19 @@ cables_in ms = or_fault fault.Cables (value_at (codes "cable") (list_in as_table
 abbrev pub up_to_most : List (List ℕ) → Option (List (List ℕ))
 up_to_most texts = if nat_le (length texts) 100000 then Some texts else None
 
+-- the entries in an array of at most 100,000 strings; None for any other value
 abbrev pub entries_in : Data → Option (List (List ℕ))
 entries_in d = option_and_then up_to_most (list_in as_str d)
 
+-- the events of a script with this many cables, none if the key is left out; or the first fault
 abbrev pub events_in : ℕ → Members → Result (List EventValue) ScriptFault
 events_in cables ms = or_fault fault.Events (value_at (codes "events") entries_in (Some []) ms) >>= events_from cables 1
 
+-- the two port numbers of each cable
 abbrev pub ends_of : List CablePlan → List (ℕ × ℕ)
 ends_of cables = map (λ c. c.ends) cables
 
+-- the limit of each cable
 abbrev pub limits_of : List CablePlan → List (Option ℕ)
 limits_of cables = map (λ c. c.limit) cables
 
@@ -112,9 +119,11 @@ IsRefused text e = (ms : Members) × (parse_document text ≡ Some ms) × (plan_
 
 -- ---- what is read
 
+-- the configuration and events that were read, as a value of the logic
 abbrev pub script_value : WorldConfig → List Event → Script
 script_value c events = record { systems = map config_value c.systems; cables = c.cables.items; events = event_values events }
 
+-- the plan that was read, as a value of the logic
 abbrev pub plan_value : Plan → PlanValue
 plan_value p = record { script = script_value p.config p.events.items; limits = p.limits.items }
 

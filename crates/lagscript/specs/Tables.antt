@@ -15,6 +15,7 @@ use Rattle.lagscript.specs.declared.tables.Numbers.{Numbers}
 
 -- ---- ports
 
+-- the keys in the table of a port
 abbrev pub port_keys : List (List ℕ)
 port_keys = codes "number" ∷ codes "priority" ∷ codes "mac" ∷ codes "key" ∷ codes "aggregatable" ∷ codes "active" ∷ codes "short" ∷ []
 
@@ -43,6 +44,7 @@ port_config_of system own place ms =
 
 -- ---- systems
 
+-- the keys in the table of a system
 abbrev pub system_keys : List (List ℕ)
 system_keys = codes "priority" ∷ codes "mac" ∷ codes "max_delay" ∷ codes "first_marker" ∷ codes "aggregators" ∷ codes "port" ∷ []
 
@@ -58,6 +60,7 @@ numbers_in system ms =
     Ok (record { id = record { priority = priority; mac = mac }; max_delay = max_delay; first_marker = first_marker })
     )
 
+-- the operational keys of a system's aggregators
 abbrev pub aggregators_in : ℕ → Members → Result (List Key) ScriptFault
 aggregators_in system ms = or_fault (fault.SystemValue system system_key.Aggregators)
     (value_at (codes "aggregators") (list_in key_in) None ms)
@@ -67,6 +70,7 @@ abbrev pub ports_in : ℕ → List ℕ → Members → Result (List PortConfig) 
 ports_in system own ms = or_fault (fault.SystemValue system system_key.Port) (value_at (codes "port") (list_in as_table) None ms)
     >>= in_place (port_config_of system own) 1
 
+-- the configuration of the system in a table, or the first fault
 abbrev pub system_of : ℕ → Members → Result ConfigValue ScriptFault
 system_of system ms =
     numbers_in system ms >>= λ n.
@@ -76,6 +80,7 @@ system_of system ms =
 
 -- ---- cables
 
+-- the keys in the table of a cable
 abbrev pub cable_keys : List (List ℕ)
 cable_keys = codes "ends" ∷ codes "limit" ∷ []
 
@@ -83,6 +88,7 @@ cable_keys = codes "ends" ∷ codes "limit" ∷ []
 abbrev pub limit_of : ℕ → Members → Result (Option ℕ) ScriptFault
 limit_of cable ms = or_fault (fault.CableLimit cable) (value_at (codes "limit") (λ d. option_map Some (limit_in d)) (Some None) ms)
 
+-- the cable in a table, or the first fault
 abbrev pub cable_of : ℕ → Members → Result CablePlan ScriptFault
 cable_of cable ms =
     if_or_fault (keys_among cable_keys ms) (fault.CableExtraKey cable) (

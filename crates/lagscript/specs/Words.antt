@@ -22,9 +22,11 @@ number_below limit w = if is_numeral w && nat_lt (digits_value 10 w) limit then 
 abbrev pub dash_places : List ℕ
 dash_places = 2 ∷ 5 ∷ 8 ∷ 11 ∷ 14 ∷ []
 
+-- the indices of the twelve hexadecimal digits in the text of a MAC address
 abbrev pub digit_places : List ℕ
 digit_places = 0 ∷ 1 ∷ 3 ∷ 4 ∷ 6 ∷ 7 ∷ 9 ∷ 10 ∷ 12 ∷ 13 ∷ 15 ∷ 16 ∷ []
 
+-- the text has 17 octets, and dashes where a MAC address has them
 abbrev pub is_dashed : List ℕ → Bool
 is_dashed text = (length text == 17) && list_all (λ i. slice_index text i == 45) dash_places
 

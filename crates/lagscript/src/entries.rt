@@ -160,6 +160,7 @@ fn five_words<'a>(
     }
 }
 
+/// Reads the words of `deliver`: a cable and the system that receives.
 fn deliver(cables: usize, words: &[&str]) -> Result<Event, EntryFault>
     ensures { event_or_fault result ≡ with_two_words (cable_word cables) system_word act.deliver (map (λ w. w.now) words.now) }
 {
@@ -167,6 +168,7 @@ fn deliver(cables: usize, words: &[&str]) -> Result<Event, EntryFault>
     Ok(Event::Deliver(cable(cables, c)?, system(s)?))
 }
 
+/// Reads the words of `lose`: a cable and the system towards which an item is lost.
 fn lose(cables: usize, words: &[&str]) -> Result<Event, EntryFault>
     ensures { event_or_fault result ≡ with_two_words (cable_word cables) system_word act.lose (map (λ w. w.now) words.now) }
 {
@@ -174,6 +176,7 @@ fn lose(cables: usize, words: &[&str]) -> Result<Event, EntryFault>
     Ok(Event::Lose(cable(cables, c)?, system(s)?))
 }
 
+/// Reads the words of `repeat`: a cable and the system that receives.
 fn repeat(cables: usize, words: &[&str]) -> Result<Event, EntryFault>
     ensures { event_or_fault result ≡ with_two_words (cable_word cables) system_word act.repeat (map (λ w. w.now) words.now) }
 {
@@ -181,6 +184,7 @@ fn repeat(cables: usize, words: &[&str]) -> Result<Event, EntryFault>
     Ok(Event::Repeat(cable(cables, c)?, system(s)?))
 }
 
+/// Reads the words of `sense`: a cable and a system.
 fn sense(cables: usize, words: &[&str]) -> Result<Event, EntryFault>
     ensures { event_or_fault result ≡ with_two_words (cable_word cables) system_word act.sense (map (λ w. w.now) words.now) }
 {
@@ -188,6 +192,7 @@ fn sense(cables: usize, words: &[&str]) -> Result<Event, EntryFault>
     Ok(Event::Sense(cable(cables, c)?, system(s)?))
 }
 
+/// Reads the word of `cut`: a cable.
 fn cut(cables: usize, words: &[&str]) -> Result<Event, EntryFault>
     ensures { event_or_fault result ≡ with_one_word (cable_word cables) act.cut (map (λ w. w.now) words.now) }
 {
@@ -195,6 +200,7 @@ fn cut(cables: usize, words: &[&str]) -> Result<Event, EntryFault>
     Ok(Event::Cut(cable(cables, c)?))
 }
 
+/// Reads the word of `join`: a cable.
 fn join(cables: usize, words: &[&str]) -> Result<Event, EntryFault>
     ensures { event_or_fault result ≡ with_one_word (cable_word cables) act.join (map (λ w. w.now) words.now) }
 {
@@ -202,6 +208,7 @@ fn join(cables: usize, words: &[&str]) -> Result<Event, EntryFault>
     Ok(Event::Join(cable(cables, c)?))
 }
 
+/// Reads the word of `restart`: a system.
 fn restart(words: &[&str]) -> Result<Event, EntryFault>
     ensures { event_or_fault result ≡ with_one_word system_word act.restart (map (λ w. w.now) words.now) }
 {
@@ -209,6 +216,7 @@ fn restart(words: &[&str]) -> Result<Event, EntryFault>
     Ok(Event::Restart(system(s)?))
 }
 
+/// Reads the words of `configure`: a system, a port, its key and priority, and `aggregatable` or `individual`.
 fn configure(words: &[&str]) -> Result<Event, EntryFault>
     ensures { event_or_fault result ≡ with_five_words system_word number_word number_word number_word kind_word configure_event (map (λ w. w.now) words.now) }
 {
@@ -226,6 +234,7 @@ fn configure(words: &[&str]) -> Result<Event, EntryFault>
     Ok(Event::Configure(s, port, change))
 }
 
+/// Reads the words of `move`: a system, an aggregator, a conversation and a port.
 fn move_to(words: &[&str]) -> Result<Event, EntryFault>
     ensures { event_or_fault result ≡ with_four_words system_word number_word number_word number_word act.move_to (map (λ w. w.now) words.now) }
 {
@@ -235,6 +244,7 @@ fn move_to(words: &[&str]) -> Result<Event, EntryFault>
     Ok(Event::Move(s, agg, number(conv)?, number(port)?))
 }
 
+/// Reads the words of `force`: a system, an aggregator and a conversation.
 fn force(words: &[&str]) -> Result<Event, EntryFault>
     ensures { event_or_fault result ≡ with_three_words system_word number_word number_word act.force (map (λ w. w.now) words.now) }
 {

@@ -25,6 +25,7 @@ use toml::Table;
 /// The most entries that a script may have in `events`.
 const MOST: usize = 100_000;
 
+/// The keys at the top of a script.
 const TOP_KEYS: [&str; 3] = ["system", "cable", "events"];
 
 /// The fault of a script whose configuration is refused for this reason; None for `Lines`, which a script does not

@@ -16,6 +16,7 @@ use lagtypes::{Key, SystemId};
 use std::alloc::Global;
 use toml::Table;
 
+/// The keys in the table of a system.
 const SYSTEM_KEYS: [&str; 6] = [
     "priority",
     "mac",
@@ -25,6 +26,7 @@ const SYSTEM_KEYS: [&str; 6] = [
     "port",
 ];
 
+/// The keys in the table of a port.
 const PORT_KEYS: [&str; 7] = [
     "number",
     "priority",
@@ -35,6 +37,7 @@ const PORT_KEYS: [&str; 7] = [
     "short",
 ];
 
+/// The keys in the table of a cable.
 const CABLE_KEYS: [&str; 2] = ["ends", "limit"];
 
 /// Reads the port at this place of a system. If the MAC address is left out, it is that of the system.

@@ -47,6 +47,7 @@ module _ {R W : Type 0} (remaining : R → Option (List ℕ)) (contents : W → 
     pub written : Appends (contents old.writer) (contents new.writer) (ended_lines_text octets ++ more)
     pub report_is : report (octets ++ last) ≡ (ended_lines_text octets ++ more) ++ unsaid
 
+  -- how `check` stopped with this fault: what it read and wrote until then
   abbrev pub Stops : SourceState R → SourceState R → SinkState W → SinkState W → ToolFault → Type 0
   Stops from to old new Read = StopsReading from to old new
   Stops from to old new Write = StopsWriting from to old new
@@ -64,6 +65,7 @@ module _ {R W : Type 0} (remaining : R → Option (List ℕ)) (contents : W → 
     pub written : WritesWhole contents old new (report octets)
     pub counts_are : counts ≡ summary octets
 
+  -- what `check` read and wrote, for its result: counts of lines and faults, or why it stopped
   abbrev pub Checks : SourceState R → SourceState R → SinkState W → SinkState W → Result Summary ToolFault → Type 0
   Checks from to old new (Ok counts) = Completes from to old new counts
   Checks from to old new (Err fault) = Stops from to old new fault × HasCause to.failed new.failed fault

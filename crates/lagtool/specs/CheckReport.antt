@@ -18,6 +18,7 @@ abbrev pub lines_of : List ℕ → List (List ℕ)
 lines_of [] = []
 lines_of (b ∷ bs) = if b == 10 then [] ∷ lines_of bs else continue_line (b ∷ []) (lines_of bs)
 
+-- 1 if the line is a fault, else 0
 abbrev pub faults_of : List ℕ → ℕ
 faults_of line = if is_fault (line_verdict line) then 1 else 0
 
@@ -25,6 +26,7 @@ faults_of line = if is_fault (line_verdict line) then 1 else 0
 abbrev pub numbered : ℕ → List ℕ → List ℕ
 numbered n line = decimal n ++ 32 ∷ (verdict_text (line_verdict line) ++ 10 ∷ [])
 
+-- checked N faults N
 abbrev pub counts_text : Summary → List ℕ
 counts_text s = codes "checked " ++ (decimal s.checked ++ (codes " faults " ++ (decimal s.faults ++ 10 ∷ [])))
 
@@ -38,9 +40,11 @@ abbrev pub report_from : ℕ → ℕ → List (List ℕ) → List ℕ
 report_from n k [] = counts_text (record { checked = n; faults = k })
 report_from n k (line ∷ lines) = numbered (n + 1) line ++ report_from (n + 1) (k + faults_of line) lines
 
+-- the report of `check` on these octets
 abbrev pub report : List ℕ → List ℕ
 report octets = report_from 0 0 (lines_of octets)
 
+-- how many newlines there are
 abbrev pub newline_count : List ℕ → ℕ
 newline_count [] = 0
 newline_count (b ∷ bs) = if b == 10 then suc (newline_count bs) else newline_count bs

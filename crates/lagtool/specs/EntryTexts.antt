@@ -15,15 +15,19 @@ use Rattle.lagworld.specs.declared.reply.Reply.TheVariants as reply
 abbrev pub one_text : ℕ → List ℕ
 one_text a = decimal a
 
+-- two numbers, with a space between
 abbrev pub two_text : ℕ → ℕ → List ℕ
 two_text a b = decimal a ++ 32 ∷ decimal b
 
+-- three numbers, with spaces between
 abbrev pub three_text : ℕ → ℕ → ℕ → List ℕ
 three_text a b c = decimal a ++ 32 ∷ (decimal b ++ 32 ∷ decimal c)
 
+-- four numbers, with spaces between
 abbrev pub four_text : ℕ → ℕ → ℕ → ℕ → List ℕ
 four_text a b c d = decimal a ++ 32 ∷ (decimal b ++ 32 ∷ (decimal c ++ 32 ∷ decimal d))
 
+-- aggregatable or individual
 abbrev pub kind_text : Bool → List ℕ
 kind_text aggregatable = if aggregatable then codes "aggregatable" else codes "individual"
 
@@ -70,6 +74,7 @@ refused_text refusal.MarkersSpent = codes "refused 10 markers-spent"
 refused_text (refusal.BadConfig reason) = codes "refused 11 bad-config"
 refused_text refusal.NoMemory = codes "refused 12 no-memory"
 
+-- the reply to an event, as a replay prints it
 abbrev pub reply_text : Reply → List ℕ
 reply_text reply.Ticked = codes "ticked"
 reply_text (reply.Lacpdu state accepted) = codes "lacpdu " ++ (hex_text (octet state) ++ 32 ∷ accepted_text accepted)
@@ -95,6 +100,7 @@ reply_text reply.Moved = codes "moved"
 reply_text reply.Forced = codes "forced"
 reply_text (reply.Refused fault) = refused_text fault
 
+-- how the two ends of a cable stand to each other, as a replay prints it
 abbrev pub agreement_text : Agreement → List ℕ
 agreement_text agreement.NotBoth = codes "not-both"
 agreement_text agreement.Defaults = codes "defaults"

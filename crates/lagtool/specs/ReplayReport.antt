@@ -50,6 +50,7 @@ abbrev pub collected_text : List ℕ → List ℕ
 collected_text [] = codes " none"
 collected_text (n ∷ ns) = flat_map (λ serial. 32 ∷ decimal serial) (n ∷ ns)
 
+-- a space and `forced`, for a conversation that was ever forced
 abbrev pub forced_text : Bool → List ℕ
 forced_text forced = if forced then codes " forced" else []
 
@@ -65,6 +66,7 @@ flow_line s agg conv x =
 abbrev pub aggregator_flows_text : WorldState → ℕ → ℕ → List ℕ
 aggregator_flows_text j s agg = flat_map (λ conv. flow_line s agg conv (serials_of_system (side_of s) agg conv j)) (range_with_len 0 conversations_per_aggregator)
 
+-- the lines of all conversations of system s, which has this many aggregators
 abbrev pub flows_text : WorldState → ℕ → ℕ → List ℕ
 flows_text j s aggs = flat_map (aggregator_flows_text j s) (range_with_len 1 aggs)
 

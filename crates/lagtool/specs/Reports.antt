@@ -17,6 +17,7 @@ abbrev pub decoded_text : Result Pdu WireFault → List ℕ
 decoded_text (Ok v) = pdu_text v
 decoded_text (Err e) = wire_fault_text e
 
+-- the payload has a PDU
 abbrev pub payload_is_accepted : Result Pdu WireFault → Bool
 payload_is_accepted (Ok v) = true
 payload_is_accepted (Err e) = false
@@ -44,6 +45,7 @@ IsAnswer mac text answered None = IsUnanswered text answered (codes "no answer m
 IsAnswer mac text answered (Some m) =
     (payload : List ℕ) × WritesMarker payload m × (text ≡ encode_lower (frame_octets mac payload) ++ 10 ∷ []) × (answered ≡ true)
 
+-- the text that `respond` prints for a decoded payload, and whether that gets a response
 abbrev pub AnswersPayload : List ℕ → List ℕ → Bool → Result Pdu WireFault → Type 0
 AnswersPayload mac text answered (Ok (pdu.Marker m)) = IsAnswer mac text answered (response_to m)
 AnswersPayload mac text answered (Ok (pdu.Lacpdu v)) = IsUnanswered text answered (codes "no answer lacpdu\n")
@@ -54,6 +56,7 @@ abbrev pub RepliesTo : List ℕ → List ℕ → List ℕ → Bool → Type 0
 RepliesTo mac payload text answered = (decoded : Result Pdu WireFault) × IsDecoded payload decoded
     × AnswersPayload mac text answered decoded
 
+-- the text that `respond` prints for a frame of this kind, and whether that gets a response
 abbrev pub AnswersKind : List ℕ → List ℕ → Bool → Kind → Type 0
 AnswersKind mac text answered (Control payload) = RepliesTo mac payload.now text answered
 AnswersKind mac text answered Data = IsUnanswered text answered (codes "no answer data\n")

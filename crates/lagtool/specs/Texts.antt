@@ -33,11 +33,13 @@ abbrev pub marker_kind_text : MarkerKind → List ℕ
 marker_kind_text Information = codes "marker"
 marker_kind_text Response = codes "marker-response"
 
+-- the lines of a Marker PDU
 abbrev pub marker_text : Marker → List ℕ
 marker_text m =
     marker_kind_text m.kind ++ (codes "\nport " ++ (decimal m.port ++ (codes " system "
     ++ (mac_text m.system ++ (codes " id " ++ (decimal m.id ++ 10 ∷ []))))))
 
+-- the lines of an LACPDU or Marker PDU
 abbrev pub pdu_text : Pdu → List ℕ
 pdu_text (pdu.Lacpdu v) = lacpdu_text v
 pdu_text (pdu.Marker m) = marker_text m
@@ -68,6 +70,7 @@ abbrev pub fault_with_file_text : ToolFault → List ℕ → Option (List ℕ)
 fault_with_file_text Read file = Some (codes "cannot read " ++ file)
 fault_with_file_text fault file = tool_fault_text fault
 
+-- the number of a fault of the program
 abbrev pub tool_fault_number : ToolFault → ℕ
 tool_fault_number Read = 1
 tool_fault_number Write = 2

@@ -18,6 +18,7 @@ abbrev pub lines_from : ℕ → List Bool → List ℕ
 lines_from n [] = []
 lines_from n (pass ∷ passed) = vector_line n pass ++ lines_from (n + 1) passed
 
+-- all that `vectors` prints: a line for each vector, and then the counts
 abbrev pub vectors_text : List Bool → List ℕ
 vectors_text passed = lines_from 1 passed ++ (codes "vectors "
     ++ (decimal (length passed) ++ (codes " failed " ++ (decimal (failures passed) ++ 10 ∷ []))))

@@ -20,6 +20,7 @@ kind_verdict Response = MarkerResponse
 abbrev pub accepted_verdict : List ℕ → Verdict
 accepted_verdict b = if slice_index b 0 == 1 then Lacpdu else if slice_index b 2 == 1 then Marker else MarkerResponse
 
+-- the verdict on a control frame with this payload and this fault of the payload, if it has one
 abbrev pub verdict_in : List ℕ → Option WireFault → Verdict
 verdict_in b None = accepted_verdict b
 verdict_in b (Some e) = Refused e
@@ -28,6 +29,7 @@ verdict_in b (Some e) = Refused e
 abbrev pub payload_verdict : List ℕ → Verdict
 payload_verdict b = verdict_in b (fault_of b)
 
+-- the frame has the EtherType of the Slow Protocols, 0x8809
 abbrev pub is_slow : List ℕ → Bool
 is_slow octets = (slice_index octets 12 == 0x88) && (slice_index octets 13 == 0x09)
 
@@ -36,6 +38,7 @@ abbrev pub frame_verdict : List ℕ → Verdict
 frame_verdict octets =
     if nat_lt (length octets) 14 then Runt else if is_slow octets then payload_verdict (drop 14 octets) else Data
 
+-- the verdict on a line whose hexadecimal digits were decoded
 abbrev pub hex_verdict : Result (List ℕ) FromHexError → Verdict
 hex_verdict (Ok octets) = frame_verdict octets
 hex_verdict (Err e) = NotHex
@@ -63,6 +66,7 @@ is_fault (Refused e) = true
 is_fault NotHex = true
 is_fault TooLong = true
 
+-- the verdict, as `check` prints it
 abbrev pub verdict_text : Verdict → List ℕ
 verdict_text Lacpdu = codes "lacpdu"
 verdict_text Marker = codes "marker"

@@ -94,7 +94,7 @@ told_receive p octets st a old new t h =
       | inr e ↦ subst (λ o. FreeMoves (model_setup old) (ModelEvent.Receive p o) (model_view old) h.1 (model_view new)) e moves
     ])
 
--- The LACPDU that a port took last, as its log has it.
+-- The LACPDU that a port took last, as its history has it.
 heard_here : (p : ℕ) (heard : StampedLacpdu) (histories : List PortHistory) → IsSome (history_at histories p) → option_map model_taken (taken_in (history_at (set_last_lacpdu p heard histories) p)) ≡ Some (model_taken heard)
 heard_here p heard [] h = absurd (let e = h in cc)
 heard_here p heard (history ∷ histories) h = elim (cases_Bool (history.number == p)) [

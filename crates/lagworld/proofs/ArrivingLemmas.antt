@@ -62,7 +62,7 @@ heard_next p heard d history histories rest false ih =
     let one : 1 + rest ≡ suc rest = omega arith in
     ap (λ l. history ∷ l) ih ∙ ap (λ n. set (history ∷ histories) n (set_taken heard (get_or (history ∷ histories) n d))) (sym one)
 
--- the log of the first port with the number
+-- the history of the first port with the number
 pub heard_at : (p : ℕ) (heard : StampedLacpdu) (d : PortHistory) (histories : List PortHistory)
     → set_last_lacpdu p heard histories ≡ set histories (position_or_len (λ history. history.number == p) histories) (set_taken heard (get_or histories (position_or_len (λ history. history.number == p) histories) d))
 heard_at p heard d [] = refl

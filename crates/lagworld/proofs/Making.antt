@@ -47,7 +47,7 @@ party_back (Some a) = refl
 first_party : (s : SystemState) (p : ℕ) → model_view s ≡ first_view (model_setup s) → party_of_port s p ≡ option_map (configured_party s.system) (find_number configured_number s.ports p)
 first_party s p e = sym (party_seen s p) ∙ ap (λ v. party_at v p) e ∙ party_back ((model_setup s).party p)
 
--- so each log has the party of its port, and each port has a log
+-- so each history has the party of its port, and each port has a history
 log_party : (system : SystemId) (o : Option PortConfig) (history : PortHistory) → option_map (first_history system) o ≡ Some history → option_map (configured_party system) o ≡ Some history.party
 log_party system None history e = absurd (none-some history e)
 log_party system (Some c) history e = ap (λ (l : PortHistory). Some l.party) (same_Some (first_history system c) history e)
@@ -115,7 +115,7 @@ log_first : (system : SystemId) (o : Option PortConfig) (history : PortHistory) 
 log_first system None history e = absurd (none-some history e)
 log_first system (Some c) history e = let same = same_Some (first_history system c) history e in (sym (ap (λ (l : PortHistory). l.count) same), sym (ap (λ (l : PortHistory). l.taken) same))
 
--- a port of the configuration has a log
+-- a port of the configuration has a history
 port_found : (ports : List PortConfig) (p : ℕ) → has_port ports p ≡ true → IsSome (find_number configured_number ports p)
 port_found [] p h = absurd (true≢false (sym h))
 port_found (c ∷ cs) p h = elim (cases_Bool (eqb p c.number)) [
@@ -295,7 +295,7 @@ module _ {C : Type 0} (items : C → List Item) (limit : C → Option ℕ) where
         | inr e ↦ (let ne : i ≢ k = λ h. true≢false (sym (eq-eqb i k h) ∙ e) in absurd (neither i k ne a b))
       ]
 
-  -- each end of a cable that was made has a log
+  -- each end of a cable that was made has a history
   end_logged : (config : Config) (h : HalfState) (p : ℕ) → IsFirstHalf config h → has_port config.ports.items p ≡ true → IsSome (history_at h.histories p)
   end_logged config h p f x =
       subst IsSome (sym (ap (λ l. history_at l p) f.histories ∙ log_found config.system config.ports.items p)) (logged (find_number configured_number config.ports.items p) (port_found config.ports.items p x))

@@ -29,6 +29,7 @@ abbrev pub is_stamp : ℕ → Option StampedLacpdu → Bool
 is_stamp count None = false
 is_stamp count (Some heard) = heard.stamp == count
 
+-- there are two groups, and they are one Link Aggregation Group (6.3.6)
 abbrev pub same_groups : Option Group → Option Group → Bool
 same_groups (Some a) (Some b) = same_group a b
 same_groups _ _ = false
@@ -38,6 +39,7 @@ abbrev pub first_of_five : Bool → Bool → Bool → Bool → Agreement
 first_of_five not_both defaults changed same =
     if not_both then NotBoth else (if defaults then Defaults else (if changed then Changed else (if same then Same else Differ)))
 
+-- how two ends of a cable with these values stand to each other
 abbrev pub agreement_of : EndFacts → EndFacts → Agreement
 agreement_of a b =
     first_of_five (not (a.distributes && b.distributes)) (a.defaulted

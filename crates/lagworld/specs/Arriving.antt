@@ -46,10 +46,11 @@ abbrev pub IsToKeep : Result Received SystemFault → Carried → Option Stamped
 IsToKeep (Ok received.TookLacpdu) item heard = (v : Lacpdu) → CarriesLacpdu item.octets v → heard ≡ Some (stamped_in item)
 IsToKeep _ item heard = heard ≡ None
 
--- the index of the log of a port
+-- the index of the history of a port
 abbrev pub history_place : ℕ → List PortHistory → Option ℕ
 history_place p histories = position (λ history. history.number == p) histories
 
+-- the histories, with this LACPDU as the one that port p took last; unchanged if there is none
 abbrev pub last_lacpdu_kept : ℕ → Option StampedLacpdu → List PortHistory → List PortHistory
 last_lacpdu_kept p None histories = histories
 last_lacpdu_kept p (Some heard) histories = set_last_lacpdu p heard histories
@@ -82,6 +83,7 @@ abbrev pub first_head : ℕ → List Carried → Option Head
 first_head p [] = None
 first_head p (item ∷ rest) = Some (record { port = p; stamp = item.stamp })
 
+-- the same of the first item towards system s on this cable
 abbrev pub head_in : Side → LinkState → Option Head
 head_in s l = first_head (port_at s l) (towards s l)
 
@@ -89,6 +91,7 @@ head_in s l = first_head (port_at s l) (towards s l)
 abbrev pub without_first : Side → LinkState → LinkState
 without_first s l = with_towards s (drop 1 (towards s l)) l
 
+-- the stamp is that of a data frame
 abbrev pub is_data : Stamp → Bool
 is_data (stamp.Control count) = false
 is_data (stamp.Data system agg conv serial) = true
@@ -102,10 +105,12 @@ abbrev pub CanCollect : Option Flow → Type 0
 CanCollect None = Unit {0}
 CanCollect (Some flow) = vec_len flow.collected < vec_capacity flow.collected
 
+-- the same for conversation k of an aggregator, if that exists
 abbrev pub CanCollectIn : ℕ → Option (Vec Flow) → Type 0
 CanCollectIn k None = Unit {0}
 CanCollectIn k (Some row) = CanCollect (slice_get row.items k)
 
+-- the same for a conversation of the aggregator with this number, if both exist
 abbrev pub CanCollectAt : ℕ → ℕ → List (Vec Flow) → Type 0
 CanCollectAt agg conv flows = CanCollectIn conv (nth flows agg)
 
@@ -121,8 +126,10 @@ pub record IsReady {C F : Type 0} (items : C → List Item) (limit : C → Optio
   pub place : IsReserved items limit reserved s head.port inner.links.items
   pub serial : CanCollectFor head.stamp inner.one.flows.items inner.two.flows.items
 
+-- a Deliver event does this: the first item on cable c towards system s is taken off and arrives
 abbrev pub WorldDelivers : Algorithms → Side → ℕ → WorldState → Reply → WorldState → Type 0
 WorldDelivers gives s c old r new = OnLink c (λ i l. DeliversFrom gives s i l (towards s l) old r new) old.links
 
+-- a Repeat event does this: the first item on cable c towards s arrives but stays, unless it is a data frame
 abbrev pub WorldRepeats : Algorithms → Side → ℕ → WorldState → Reply → WorldState → Type 0
 WorldRepeats gives s c old r new = OnLink c (λ i l. RepeatsFrom gives s l (towards s l) old r new) old.links

@@ -45,6 +45,7 @@ count_sent_in g k h = record h { flows = at_flow with_sent g k h.flows }
 abbrev pub without_first : Side → LinkState → LinkState
 without_first s l = with_towards s (drop 1 (towards s l)) l
 
+-- the reply to a Lose event: whether there was an item to lose
 abbrev pub lost_reply : Bool → Reply
 lost_reply lost = if lost then reply.Lost else reply.Empty
 

@@ -35,7 +35,7 @@ side_of n = if n == 1 then Some One else (if n == 2 then Some Two else None)
 abbrev pub Algorithms : Type 1
 Algorithms = Side → ℕ → ℕ → ℕ → Type 0
 
--- system s, with its logs and records, changes by the relation; nothing else changes
+-- system s, with its histories and records, changes by the relation; nothing else changes
 abbrev pub InHalf : Side → (HalfState → HalfState → Type 0) → WorldState → WorldState → Type 0
 InHalf s R old new = R (half s old) (half s new) × (new ≡ with_half s (half s new) old)
 
@@ -57,10 +57,12 @@ abbrev pub stamp_for : Pdu → ℕ → Stamp
 stamp_for (pdu.Lacpdu v) count = stamp.Control count
 stamp_for (pdu.Marker m) count = stamp.Control 0
 
+-- the reply to an Emit event that sent this PDU; `accepted` is whether a cable accepted it
 abbrev pub sent_reply : Pdu → Bool → Reply
 sent_reply (pdu.Lacpdu v) accepted = reply.Lacpdu v.actor.state accepted
 sent_reply (pdu.Marker m) accepted = reply.Marker m.id accepted
 
+-- the frame that port p sends, with its stamp: for an LACPDU the port's change count, else 0
 abbrev pub transmitted : Side → ℕ → List ℕ → HalfState → Carried
 transmitted s p frame h = record { octets = frame; stamp = stamp_for (pdu_in (payload_in frame)) (count_in (history_at h.histories p)) }
 
@@ -71,6 +73,7 @@ Emitted s p (Ok None) old r new = (r ≡ reply.Nothing) × (new ≡ old)
 Emitted s p (Ok (Some frame)) old r new =
     (r ≡ sent_reply (pdu_in (payload_in frame)) (is_accepted s p old.links)) × (new ≡ puts s p (transmitted s p frame (half s old)) old)
 
+-- an Emit event does this: system s is asked for the frame that is due on port p, which is then sent
 abbrev pub Emits : Algorithms → Side → ℕ → WorldState → Reply → WorldState → Type 0
 Emits gives s p old r new =
     (a : Result (Option (List ℕ)) SystemFault) × (mid : HalfState) × Asks (gives s) (Transmit p) (answer.Transmit a) (half s old) mid
@@ -85,6 +88,7 @@ abbrev pub set_last_lacpdu : ℕ → StampedLacpdu → List PortHistory → List
 set_last_lacpdu p heard [] = []
 set_last_lacpdu p heard (history ∷ histories) = if history.number == p then set_taken heard history ∷ histories else history ∷ set_last_lacpdu p heard histories
 
+-- the half, with this LACPDU as the one that port p took last
 abbrev pub with_last_lacpdu : ℕ → StampedLacpdu → HalfState → HalfState
 with_last_lacpdu p heard h = record h { histories = set_last_lacpdu p heard h.histories }
 
@@ -121,6 +125,7 @@ abbrev pub DeliversFrom : Algorithms → Side → ℕ → LinkState → List Car
 DeliversFrom gives s i l [] old r new = (r ≡ reply.Empty) × (new ≡ old)
 DeliversFrom gives s i l (item ∷ rest) old r new = Arrives gives s (port_at s l) item (set_at i (with_towards s rest l) old) r new
 
+-- the first item towards s is taken off cable i and is lost; the reply is Empty if there is none
 abbrev pub LosesFrom : Side → ℕ → LinkState → List Carried → WorldState → Reply → WorldState → Type 0
 LosesFrom s i l [] old r new = (r ≡ reply.Empty) × (new ≡ old)
 LosesFrom s i l (item ∷ rest) old r new = (r ≡ reply.Lost) × (new ≡ set_at i (with_towards s rest l) old)
@@ -131,6 +136,7 @@ RepeatsItem gives s p octets (stamp.Control count) old r new =
     Arrives gives s p (record { octets = octets; stamp = stamp.Control count }) old r new
 RepeatsItem gives s p octets (stamp.Data system agg conv serial) old r new = (r ≡ reply.NotControl) × (new ≡ old)
 
+-- the first item towards s on a cable arrives but stays, unless it is a data frame; Empty if there is none
 abbrev pub RepeatsFrom : Algorithms → Side → LinkState → List Carried → WorldState → Reply → WorldState → Type 0
 RepeatsFrom gives s l [] old r new = (r ≡ reply.Empty) × (new ≡ old)
 RepeatsFrom gives s l (item ∷ rest) old r new = RepeatsItem gives s (port_at s l) item.octets item.stamp old r new
@@ -143,9 +149,11 @@ offered s port agg octets h = record {
       (length (sent_in (serials_at h.flows agg.0 (number_of_conversation h.state octets))));
 }
 
+-- the half, after the conversation of this frame sent one more frame in the aggregator
 abbrev pub count_sent : AggId → List ℕ → HalfState → HalfState
 count_sent agg octets h = record h { flows = at_flow with_sent agg.0 (number_of_conversation h.state octets) h.flows }
 
+-- what becomes of the answer to an offered frame: the port to send it on, or a refusal
 abbrev pub Offered : Side → AggId → List ℕ → Result ℕ SystemFault → WorldState → Reply → WorldState → Type 0
 Offered s agg octets (Err fault) old r new = (r ≡ reply.Refused fault) × (new ≡ old)
 Offered s agg octets (Ok port) old r new =
@@ -154,6 +162,7 @@ Offered s agg octets (Ok port) old r new =
     (is_accepted s port old.links))
     × (new ≡ puts s port (offered s port agg octets (half s old)) (with_half s (count_sent agg octets (half s old)) old))
 
+-- an Offer event does this: system s is offered the frame, which is then sent on the port that it answers
 abbrev pub OffersFrame : Algorithms → Side → AggId → List ℕ → WorldState → Reply → WorldState → Type 0
 OffersFrame gives s agg octets old r new =
     (a : Result ℕ SystemFault) × (mid : HalfState) × Asks (gives s) (Offer agg octets) (answer.Offer a) (half s old) mid
@@ -195,6 +204,7 @@ Runs gives old (e ∷ es) [] new = ⊥
 abbrev pub most_events : ℕ
 most_events = 9223372036854775808
 
+-- the number of the cable that an event names, if it names one
 abbrev pub cable_named : Event → Option ℕ
 cable_named (event.Deliver c n) = Some c
 cable_named (event.Lose c n) = Some c
@@ -204,6 +214,7 @@ cable_named (event.Join c) = Some c
 cable_named (event.Sense c n) = Some c
 cable_named _ = None
 
+-- the number of the system that an event names, if it names one
 abbrev pub system_named : Event → Option ℕ
 system_named (event.Tick n count) = Some n
 system_named (event.Emit n p) = Some n
@@ -219,10 +230,12 @@ system_named (event.Offer n agg octets) = Some n
 system_named (event.Move n agg conv p) = Some n
 system_named (event.Force n agg conv) = Some n
 
+-- the cable with this number exists; true if there is no number
 abbrev pub has_cable : WorldState → Option ℕ → Bool
 has_cable j None = true
 has_cable j (Some c) = is_some (nth j.links c)
 
+-- the number is that of a system, 1 or 2; true if there is no number
 abbrev pub has_system : Option ℕ → Bool
 has_system None = true
 has_system (Some n) = is_some (side_of n)
@@ -252,6 +265,7 @@ may_take_memory (event.Offer n agg octets) = true
 may_take_memory (event.Move n agg conv p) = false
 may_take_memory (event.Force n agg conv) = false
 
+-- the reason to refuse an event; without one, memory was refused
 abbrev pub fault_for : Option WorldFault → WorldFault
 fault_for None = NoMemory
 fault_for (Some fault) = fault
@@ -260,6 +274,7 @@ fault_for (Some fault) = fault
 abbrev pub model_change : PortChange → ModelChange
 model_change c = record { key = c.key; priority = c.priority; aggregatable = c.aggregatable }
 
+-- the event, as the two-system theorem (lagmodel) has it
 abbrev pub model_event : Event → ModelEvent
 model_event (event.Tick n count) = ModelEvent.Tick (side_named n) count
 model_event (event.Emit n p) = ModelEvent.Emit (side_named n) p

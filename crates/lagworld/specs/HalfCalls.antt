@@ -1,4 +1,4 @@
--- What an event does to one system, and to its logs and records.
+-- What an event does to one system, and to its histories and records.
 use Rattle.std.specs.Prelude.{◌≡◌, ℕ, zero, suc, ◌+◌, Bool, false, map, Option, Some, None, option_map, Result, Ok, Err, if◌then◌else◌}
 use Rattle.lagtypes.specs.declared.identifiers.AggId.{AggId}
 use Rattle.lagtypes.specs.declared.party.Party.{Party}
@@ -16,6 +16,7 @@ use Rattle.lagworld.specs.declared.histories.StampedLacpdu.{StampedLacpdu}
 use Rattle.lagworld.specs.declared.histories.PortHistory.{PortHistory}
 use Rattle.lagworld.specs.State.{HalfState, at_flow, with_forced}
 
+-- the half, with this state of its system
 abbrev pub with_state : SystemState → HalfState → HalfState
 with_state s h = record h { state = s }
 
@@ -34,25 +35,29 @@ HalfTicks gives (suc n) old new = (mid : HalfState) × HalfTicks gives n old mid
 abbrev pub party_of_port : SystemState → ℕ → Option Party
 party_of_port s p = option_map (λ x. x.party) (machines_of p s)
 
+-- the port has exactly these own parameters
 abbrev pub is_party : Party → Option Party → Bool
 is_party a None = false
 is_party a (Some b) = same_party b a
 
+-- the second value, or the first if there is none
 abbrev pub party_or : Party → Option Party → Party
 party_or a None = a
 party_or a (Some b) = b
 
--- the log of a port after an event: its own parameters, and its change count, which is one more if they differ
+-- the history of a port after an event: its own parameters, and its change count, which is one more if they differ
 abbrev pub party_noted : Option Party → PortHistory → PortHistory
 party_noted party history = record history { party = party_or history.party party; count = if is_party history.party party then history.count else history.count + 1 }
 
+-- the history of a port, with the own parameters that it has in this state, and its changes counted
 abbrev pub change_counted : SystemState → PortHistory → PortHistory
 change_counted s history = party_noted (party_of_port s history.number) history
 
+-- the half, with the changes of every port's own parameters counted
 abbrev pub with_changes_counted : HalfState → HalfState
 with_changes_counted h = record h { histories = map (change_counted h.state) h.histories }
 
--- the log, with this LACPDU as the one that the port received last
+-- the history, with this LACPDU as the one that the port received last
 abbrev pub set_taken : StampedLacpdu → PortHistory → PortHistory
 set_taken heard history = record history { taken = Some heard }
 
@@ -72,9 +77,11 @@ HalfConfigures gives p change old r new =
     (a : Result Bool SystemFault) × (mid : HalfState) × Asks gives (Configure p change) (answer.Configure a) old mid
     × (r ≡ or_refused (λ done. reply.Configured done) a) × (new ≡ with_changes_counted mid)
 
+-- one of the two systems restarts, and changes are counted
 abbrev pub HalfRestarts : (ℕ → ℕ → ℕ → Type 0) → HalfState → HalfState → Type 0
 HalfRestarts gives old new = (mid : HalfState) × Asks gives Restart answer.Restart old mid × (new ≡ with_changes_counted mid)
 
+-- one of the two systems is asked to move a conversation to a port
 abbrev pub HalfMoves : (ℕ → ℕ → ℕ → Type 0) → AggId → ℕ → ℕ → HalfState → Reply → HalfState → Type 0
 HalfMoves gives agg conv port old r new =
     (a : Result Unit SystemFault) × Asks gives (Move_conversation agg conv port) (answer.MoveConversation a) old new
@@ -85,6 +92,7 @@ abbrev pub forced_where : Result Unit SystemFault → AggId → ℕ → HalfStat
 forced_where (Ok done) agg conv h = record h { flows = at_flow with_forced agg.0 conv h.flows }
 forced_where (Err fault) agg conv h = h
 
+-- one of the two systems is asked to free a conversation by force, which then counts as forced
 abbrev pub HalfForces : (ℕ → ℕ → ℕ → Type 0) → AggId → ℕ → HalfState → Reply → HalfState → Type 0
 HalfForces gives agg conv old r new =
     (a : Result Unit SystemFault) × (mid : HalfState) × Asks gives (Force agg conv) (answer.Force a) old mid

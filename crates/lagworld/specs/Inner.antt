@@ -7,13 +7,16 @@ use Rattle.lagworld.specs.declared.histories.Flow.{Flow}
 use Rattle.lagworld.specs.State.{HalfState, LinkState, Serials}
 use Rattle.lagworld.specs.Messages.{carried}
 
+-- the record of a conversation, as contracts see it
 abbrev pub serials_of : Flow → Serials
 serials_of f = record { sent = f.sent.items; collected = f.collected.items; forced = f.forced }
 
+-- a half, as contracts see it
 abbrev pub half_state : {F : Type 0} → Half F → HalfState
 half_state e = record { state = e.system.state; histories = e.histories.items; flows = map (λ xs. map serials_of xs.items) e.flows.items }
 
 module _ {C : Type 0} (items : C → List Item) (limit : C → Option ℕ) where
+  -- a cable with its ports, as contracts see it
   abbrev pub link_state : Cabled C → LinkState
   link_state l = record {
     one = l.one;
@@ -25,5 +28,6 @@ module _ {C : Type 0} (items : C → List Item) (limit : C → Option ℕ) where
     limit_two = limit l.to_two;
   }
 
+  -- the cables with their ports, as contracts see them
   abbrev pub link_states : List (Cabled C) → List LinkState
   link_states ls = map link_state ls

@@ -16,10 +16,11 @@ use Rattle.lagworld.specs.declared.histories.PortHistory.{PortHistory}
 use Rattle.lagworld.specs.State.{HalfState, WorldState, LinkState, Serials}
 use Rattle.lagworld.specs.Messages.{carried}
 
--- the log of a port before any event
+-- the history of a port before any event
 abbrev pub first_history : SystemId → PortConfig → PortHistory
 first_history system c = record { number = c.number; party = (setup_of system c).party; count = 0; taken = None }
 
+-- the histories of all ports before any event, in order
 abbrev pub first_histories : SystemId → List PortConfig → List PortHistory
 first_histories system ports = map (first_history system) ports
 
@@ -27,9 +28,11 @@ first_histories system ports = map (first_history system) ports
 unfoldable pub conversations_per_aggregator : ℕ
 conversations_per_aggregator = 256
 
+-- the record of a conversation before any event
 abbrev pub nothing_sent : Serials
 nothing_sent = record { sent = []; collected = []; forced = false }
 
+-- the records of an aggregator's conversations before any event
 abbrev pub first_row : List Serials
 first_row = replicate conversations_per_aggregator nothing_sent
 
@@ -62,6 +65,7 @@ module _ {C : Type 0} (items : C → List Item) (limit : C → Option ℕ) where
     limit_two = limit line.1;
   }
 
+  -- the cables at the start, each with the two ports that it joins and its two directions
   abbrev pub first_links : List (ℕ × ℕ) → List (C × C) → List LinkState
   first_links [] lines = []
   first_links (ends ∷ rest) [] = []

@@ -6,6 +6,7 @@ use Rattle.lagworld.specs.declared.histories.StampedLacpdu.{StampedLacpdu}
 use Rattle.lagworld.specs.State.{WorldState, LinkState, half, towards, nth, history_at, count_in, taken_in, serials_at, sent_in, collected_in, forced_in}
 use Rattle.lagworld.specs.Messages.{item_message}
 
+-- the two ports that a cable joins
 abbrev pub link_ends : LinkState → Ends
 link_ends l = record { one = l.one; two = l.two }
 
@@ -18,13 +19,16 @@ abbrev pub is_whole : Option LinkState → Bool
 is_whole None = true
 is_whole (Some l) = l.whole
 
+-- the messages on the cable towards system s, in order; none if there is no such cable
 abbrev pub messages : Side → Option LinkState → List Message
 messages s None = []
 messages s (Some l) = map item_message (towards s l)
 
+-- the LACPDU that a port took last, with its stamp, as the theorem has it
 abbrev pub model_taken : StampedLacpdu → TakenLacpdu
 model_taken heard = record { pdu = model_lacpdu heard.pdu; stamp = heard.stamp }
 
+-- the world, as the theorem sees it
 abbrev pub model_world : WorldState → World
 model_world j = record {
   view = λ s. model_view (half s j).state;

@@ -30,6 +30,7 @@ AreReserved reserved s ls = (i : ℕ) → IsReservedAt reserved s (Some i) ls
 abbrev pub HasRoomIn : ℕ → List Flow → Type 0
 HasRoomIn k flows = IfSome (slice_get flows k) (λ f. vec_len f.sent < vec_capacity f.sent)
 
+-- the same for conversation k of an aggregator, if the aggregator exists
 abbrev pub HasRoomAt : Option (Vec Flow) → ℕ → Type 0
 HasRoomAt None k = Unit {0}
 HasRoomAt (Some flows) k = HasRoomIn k flows.items

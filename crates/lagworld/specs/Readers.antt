@@ -9,6 +9,7 @@ abbrev pub serials_of_system : Option Side → ℕ → ℕ → WorldState → Op
 serials_of_system None g k j = None
 serials_of_system (Some s) g k j = serials_at (half s j).flows g k
 
+-- the system of the world with this number, if there is one
 abbrev pub system_at : {F : Type 0} → Option Side → WorldValue F → Option (System F)
 system_at None w = None
 system_at (Some s) w = Some (record { state = (half s w.state).state; algorithm = pick s w.one w.two })

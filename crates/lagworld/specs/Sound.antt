@@ -21,6 +21,7 @@ use Rattle.lagworld.specs.Events.{Algorithms, Runs, most_events, cause, fault_fo
 use Rattle.lagworld.specs.Messages.{side_named}
 use Rattle.lagworld.specs.ModelWorld.{world_setup, model_world}
 
+-- the distribution algorithms of system 1 and of system 2
 abbrev pub both_algorithms : (ℕ → ℕ → ℕ → Type 0) → (ℕ → ℕ → ℕ → Type 0) → Algorithms
 both_algorithms a b One = a
 both_algorithms a b Two = b
@@ -73,12 +74,13 @@ IsItem s octets (stamp.Control count) j = Unit {0}
 IsItem s octets (stamp.Data system agg conv serial) j =
     (side_named system ≡ peer s) × IsSome (serials_at (half (peer s) j).flows agg conv) × (IsSlow octets → ⊥)
 
+-- the same of every item of a list
 abbrev pub AreItems : Side → List Carried → WorldState → Type 0
 AreItems s [] j = Unit {0}
 AreItems s (item ∷ rest) j = IsItem s item.octets item.stamp j × AreItems s rest j
 
--- The logs and records of a system fit its state: each port has a log with its own parameters, and each conversation of
--- each aggregator has its record.
+-- The histories and records of a system fit its state: each port has a history with its own parameters, and each
+-- conversation of each aggregator has its record.
 pub record IsHalfSound (h : HalfState) : Type 0 where
   pub agrees : Agrees h.state
   pub parties : (p : ℕ) (history : PortHistory) → history_at h.histories p ≡ Some history → party_of_port h.state p ≡ Some history.party
@@ -90,8 +92,8 @@ abbrev pub AreBelow : ℕ → List PortHistory → Type 0
 AreBelow n [] = Unit {0}
 AreBelow n (history ∷ histories) = (history.count ≤ n) × AreBelow n histories
 
--- The invariant of a world: of the logs and records of each system; no port has two cables; items are what their stamps
--- say; ends of cables are ports; counts cannot overflow; and the world is reached in the model.
+-- The invariant of a world: of the histories and records of each system; no port has two cables; items are what their
+-- stamps say; ends of cables are ports; counts cannot overflow; and the world is reached in the model.
 pub record IsSound (j : WorldState) : Type 0 where
   pub kept : (s : Side) → IsHalfSound (half s j)
   pub cabling : IsCabling (world_setup j).cables

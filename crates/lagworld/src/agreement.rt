@@ -38,6 +38,7 @@ pub(crate) struct EndFacts {
     group: Option<Group>,
 }
 
+/// The change count in a history; 0 if there is none.
 fn count_in(history: Option<PortHistory>) -> u64
     ensures { result ≡ count_in history }
 {
@@ -47,6 +48,7 @@ fn count_in(history: Option<PortHistory>) -> u64
     }
 }
 
+/// The LACPDU that a port took last, from its history.
 fn taken_in(history: Option<PortHistory>) -> Option<StampedLacpdu>
     ensures { result ≡ taken_in history }
 {
@@ -66,6 +68,7 @@ fn is_stamp(count: u64, taken: Option<StampedLacpdu>) -> bool
     }
 }
 
+/// Whether there are two groups, and they are one Link Aggregation Group (6.3.6).
 fn same_groups(one: Option<Group>, two: Option<Group>) -> bool
     ensures { result ≡ same_groups one two }
 {

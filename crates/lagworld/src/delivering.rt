@@ -106,7 +106,7 @@ fn lacpdu_to_keep(answer: Result<Received, SystemFault>, item: &Item) -> Option<
     }
 }
 
-/// The index of the log of a port.
+/// The index of the history of a port.
 fn history_place(histories: &[PortHistory], port: u16) -> Option<usize>
     ensures place { result ≡ history_place port histories.now }
     ensures within { IfSome result (λ place. place < length histories.now) }

@@ -7,7 +7,7 @@ use crate::reply::Reply;
 use lagsystem::{PortChange, System};
 use lagtypes::AggId;
 
-/// One system, with the logs of its ports and the records of its conversations.
+/// One system, with the histories of its ports and the records of its conversations.
 #[derive(Drop)]
 pub(crate) struct Half<F> {
     pub(crate) system: System<F>,

@@ -26,7 +26,7 @@ fn conversations_per_aggregator() -> usize
     256
 }
 
-/// The log of a port before any event.
+/// The history of a port before any event.
 fn first_history(system: SystemId, port: &PortConfig) -> PortHistory
     ensures { result ≡ first_history system port.now }
 {
@@ -47,7 +47,7 @@ fn first_history(system: SystemId, port: &PortConfig) -> PortHistory
     }
 }
 
-/// The logs of all ports before any event, in order.
+/// The histories of all ports before any event, in order.
 fn first_histories(
     alloc: Global,
     system: SystemId,
@@ -102,7 +102,7 @@ fn first_flows(alloc: Global, count: usize) -> Result<Vec<Vec<Flow>>, AllocError
 }
 
 impl<F: Fn(u16, usize) -> usize + Drop> Half<F> {
-    /// A system in its first state, with its logs and records. The configuration is one that is accepted.
+    /// A system in its first state, with its histories and records. The configuration is one that is accepted.
     fn new(alloc: Global, config: Config, algorithm: F) -> Result<Half<F>, WorldFault>
         requires usable { PicksPlaces (F.pre algorithm) (F.post algorithm) }
         requires accepted { refusal_of_one config ≡ None }
