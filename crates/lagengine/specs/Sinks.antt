@@ -19,7 +19,8 @@ module _ {W : Type 0} (contents : W → Option (List ℕ)) where
     pub written : Appends (contents old.writer) (contents new.writer) text
     pub failed : new.failed ≡ old.failed
 
-  -- the same; and if nothing waited for a flush before, nothing does now
+  -- The sink accepted the whole text, and did not fail in this; and if nothing waited for a flush before, nothing
+  -- does now.
   pub record WritesAndFlushes (old new : SinkState W) (text : List ℕ) : Type 0 where
     pub written : Appends (contents old.writer) (contents new.writer) text
     pub failed : new.failed ≡ old.failed

@@ -50,7 +50,7 @@ long_word w = or_fault fault.Number (number_below 4294967296 w)
 abbrev pub mac_word : List ℕ → Result (List ℕ) RequestFault
 mac_word w = or_fault fault.Mac (result_ok (decode_sized w 6))
 
--- one of two words
+-- true for the first of these two words, false for the second, this fault for any other
 abbrev pub one_of : List ℕ → List ℕ → RequestFault → List ℕ → Result Bool RequestFault
 one_of yes_word no_word e w = if bytes_eq w yes_word then Ok true else if bytes_eq w no_word then Ok false else Err e
 

@@ -76,7 +76,7 @@ refusal_of_two a b cables =
     (or_first (if same_system a.system b.system then Some SameSystem else None)
     (option_map CableEnd (bad_end a.ports b.ports cables))))
 
--- the same for a list of exactly two systems
+-- the first reason to refuse a list of exactly two systems and their cables, if there is one
 abbrev pub refusal_of_all : List ConfigValue → List (ℕ × ℕ) → Option BadWorld
 refusal_of_all (a ∷ b ∷ []) cables = refusal_of_two a b cables
 refusal_of_all _ cables = None

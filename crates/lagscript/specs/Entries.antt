@@ -10,8 +10,7 @@ use Rattle.lagscript.specs.declared.fault.EntryFault.TheVariants as entry
 use Rattle.lagscript.specs.declared.fault.ScriptFault.{ScriptFault}
 use Rattle.lagscript.specs.declared.fault.ScriptFault.TheVariants as fault
 
--- the words of an entry, one by one: a number from 0 to 65535; a system; one of this many cables; a number of ticks; a
--- kind of link; a frame
+-- a number from 0 to 65535 in a word of decimal digits
 abbrev pub number_word : List ℕ → Result ℕ EntryFault
 number_word w = or_fault entry.Number (number_below 65536 w)
 
@@ -42,7 +41,7 @@ hex_word w = or_fault entry.Hex (octets_of w)
 abbrev pub WordReader : Type 0 → Type 0
 WordReader A = List ℕ → Result A EntryFault
 
--- an entry with exactly this many words after its first; they are read from left to right
+-- the word after the first, if there is exactly one; else Count
 abbrev pub one_word : List (List ℕ) → Result (List ℕ) EntryFault
 one_word (a ∷ []) = Ok a
 one_word _ = Err entry.Count
@@ -67,25 +66,28 @@ abbrev pub five_words : List (List ℕ) → Result (List ℕ × List ℕ × List
 five_words (a ∷ b ∷ c ∷ d ∷ e ∷ []) = Ok (a, b, c, d, e)
 five_words _ = Err entry.Count
 
--- The event made of exactly this many words, each read by its function; Count if there are more or fewer, else the
--- fault of the first word that has one.
+-- The event made of exactly one word, read by its function; Count if there are more or none, else the word's fault.
 abbrev pub with_one_word : {A : Type 0} → WordReader A → (A → EventValue) → List (List ℕ) → Result EventValue EntryFault
 with_one_word f make ws = one_word ws >>= λ a. f a >>= λ x. Ok (make x)
 
--- the same with exactly two words
+-- The event made of exactly two words, each read by its function; Count if there are more or fewer, else the first
+-- fault.
 abbrev pub with_two_words : {A B : Type 0} → WordReader A → WordReader B → (A → B → EventValue) → List (List ℕ) → Result EventValue EntryFault
 with_two_words f g make ws = two_words ws >>= λ p. f p.0 >>= λ x. g p.1 >>= λ y. Ok (make x y)
 
--- the same with exactly three words
+-- The event made of exactly three words, each read by its function; Count if there are more or fewer, else the first
+-- fault.
 abbrev pub with_three_words : {A B C : Type 0} → WordReader A → WordReader B → WordReader C → (A → B → C → EventValue) → List (List ℕ) → Result EventValue EntryFault
 with_three_words f g h make ws = three_words ws >>= λ p. f p.0 >>= λ x. g p.1 >>= λ y. h p.2 >>= λ z. Ok (make x y z)
 
--- the same with exactly four words
+-- The event made of exactly four words, each read by its function; Count if there are more or fewer, else the first
+-- fault.
 abbrev pub with_four_words : {A B C D : Type 0} → WordReader A → WordReader B → WordReader C → WordReader D → (A → B → C → D → EventValue) → List (List ℕ)
     → Result EventValue EntryFault
 with_four_words f g h i make ws = four_words ws >>= λ p. f p.0 >>= λ x. g p.1 >>= λ y. h p.2 >>= λ z. i p.3 >>= λ w. Ok (make x y z w)
 
--- the same with exactly five words
+-- The event made of exactly five words, each read by its function; Count if there are more or fewer, else the first
+-- fault.
 abbrev pub with_five_words : {A B C D E : Type 0} → WordReader A → WordReader B → WordReader C → WordReader D → WordReader E → (A → B → C → D → E → EventValue) → List (List ℕ)
     → Result EventValue EntryFault
 with_five_words f g h i j make ws = five_words ws >>= λ p. f p.0 >>= λ x. g p.1 >>= λ y. h p.2 >>= λ z. i p.3 >>= λ w. j p.4

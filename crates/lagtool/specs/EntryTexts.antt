@@ -11,7 +11,7 @@ use Rattle.lagworld.specs.declared.agreement.Agreement.TheVariants as agreement
 use Rattle.lagworld.specs.declared.reply.Reply.{Reply}
 use Rattle.lagworld.specs.declared.reply.Reply.TheVariants as reply
 
--- one to four numbers, with spaces between
+-- a number in decimal digits
 abbrev pub one_text : ℕ → List ℕ
 one_text a = decimal a
 
@@ -31,11 +31,11 @@ four_text a b c d = decimal a ++ 32 ∷ (decimal b ++ 32 ∷ (decimal c ++ 32 �
 abbrev pub kind_text : Bool → List ℕ
 kind_text aggregatable = if aggregatable then codes "aggregatable" else codes "individual"
 
--- KEY PRIORITY KIND
+-- the new values of a port in `configure`: KEY PRIORITY KIND
 abbrev pub change_text : PortChange → List ℕ
 change_text c = two_text c.key.0 c.priority ++ 32 ∷ kind_text c.aggregatable
 
--- each octet as two digits
+-- the octets of a frame, each as two hexadecimal digits
 abbrev pub frame_text : List ℕ → List ℕ
 frame_text octets = flat_map hex_text octets
 
@@ -59,7 +59,7 @@ entry_text (force s agg conv) = codes "force " ++ three_text s agg conv
 abbrev pub accepted_text : Bool → List ℕ
 accepted_text accepted = if accepted then codes "sent" else codes "lost"
 
--- the number of a fault and its name
+-- why a system refused an event: `refused`, the number of the fault and its name
 abbrev pub refused_text : SystemFault → List ℕ
 refused_text refusal.NoPort = codes "refused 1 no-port"
 refused_text refusal.NoAggregator = codes "refused 2 no-aggregator"

@@ -13,6 +13,6 @@ is_cable cables (Some c) = nat_le 1 c && nat_le c cables
 abbrev pub names_existing : ℕ → Event → Bool
 names_existing cables e = is_cable cables (cable_named e) && has_system (system_named e)
 
--- each of the events does so
+-- each of the events names only a cable of this many, and only system 1 or 2
 abbrev pub AllNameExisting : ℕ → List Event → Type 0
 AllNameExisting cables events = list_all (names_existing cables) events ≡ true

@@ -12,7 +12,7 @@ abbrev pub offers_to : ℕ → ℕ → Event → Bool
 offers_to s agg (event.Offer n a frame) = (n == s) && (a.0 == agg)
 offers_to s agg _ = false
 
--- one of the events does so
+-- one of the events offers a frame to this aggregator of system s
 abbrev pub is_offered : ℕ → ℕ → List Event → Bool
 is_offered s agg events = list_any (offers_to s agg) events
 

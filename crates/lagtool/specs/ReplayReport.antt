@@ -62,7 +62,7 @@ flow_line s agg conv x =
     ∷ (decimal conv ++ (codes " sent " ++ (decimal (length (sent_in x)) ++ (codes " collected"
     ++ (collected_text (collected_in x) ++ (forced_text (forced_in x) ++ 10 ∷ []))))))))
 
--- the conversations of an aggregator, then those of all aggregators of a system
+-- the lines of all conversations of one aggregator of system s
 abbrev pub aggregator_flows_text : WorldState → ℕ → ℕ → List ℕ
 aggregator_flows_text j s agg = flat_map (λ conv. flow_line s agg conv (serials_of_system (side_of s) agg conv j)) (range_with_len 0 conversations_per_aggregator)
 
@@ -70,7 +70,7 @@ aggregator_flows_text j s agg = flat_map (λ conv. flow_line s agg conv (serials
 abbrev pub flows_text : WorldState → ℕ → ℕ → List ℕ
 flows_text j s aggs = flat_map (aggregator_flows_text j s) (range_with_len 1 aggs)
 
--- those of system 1, then those of system 2
+-- the lines of all conversations of system 1, then of system 2; each system has the aggregators of its configuration
 abbrev pub both_flows_text : WorldState → List Config → List ℕ
 both_flows_text j (a ∷ b ∷ []) = flows_text j 1 (length a.aggregators.items) ++ flows_text j 2 (length b.aggregators.items)
 both_flows_text j _ = []

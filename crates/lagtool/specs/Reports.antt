@@ -12,7 +12,7 @@ use Rattle.slowpdu.specs.Markers.{WritesMarker, response_to}
 use Rattle.slowpdu.specs.Frames.{IsKind, frame_octets}
 use Rattle.lagtool.specs.Texts.{pdu_text, wire_fault_text}
 
--- the lines for the result of decoding a payload
+-- the lines that `decode` prints for the PDU in a payload, or for why the payload is refused
 abbrev pub decoded_text : Result Pdu WireFault → List ℕ
 decoded_text (Ok v) = pdu_text v
 decoded_text (Err e) = wire_fault_text e
@@ -22,24 +22,25 @@ abbrev pub payload_is_accepted : Result Pdu WireFault → Bool
 payload_is_accepted (Ok v) = true
 payload_is_accepted (Err e) = false
 
--- the text for the payload, and whether it is accepted
+-- the text that `decode` prints for a payload, and whether it is accepted
 pub record IsPayloadReport (payload text : List ℕ) (accepted : Bool) : Type 0 where
   pub decoded : Result Pdu WireFault
   pub is_decoded : IsDecoded payload decoded
   pub says : text ≡ decoded_text decoded
   pub verdict : accepted ≡ payload_is_accepted decoded
 
--- the text for a payload in hexadecimal
+-- the text that `decode` prints for a payload in hexadecimal, and whether it is accepted
 pub record IsShown (hex text : List ℕ) (accepted : Bool) : Type 0 where
   pub payload : List ℕ
   pub digits : decode_of hex ≡ Ok payload
   pub report : IsPayloadReport payload text accepted
 
--- the text says why there is no response
+-- the frame gets no response, and the text is the line that says why
 abbrev pub IsUnanswered : List ℕ → Bool → List ℕ → Type 0
 IsUnanswered text answered why = (text ≡ why) × (answered ≡ false)
 
--- the text is the frame of the response in lower-case hexadecimal; or it says that a Marker Response gets none
+-- The text that `respond` prints for a marker: the frame of its response in lower-case hexadecimal; or the line that
+-- says that a Marker Response gets none.
 abbrev pub IsAnswer : List ℕ → List ℕ → Bool → Option Marker → Type 0
 IsAnswer mac text answered None = IsUnanswered text answered (codes "no answer marker-response\n")
 IsAnswer mac text answered (Some m) =
@@ -51,7 +52,7 @@ AnswersPayload mac text answered (Ok (pdu.Marker m)) = IsAnswer mac text answere
 AnswersPayload mac text answered (Ok (pdu.Lacpdu v)) = IsUnanswered text answered (codes "no answer lacpdu\n")
 AnswersPayload mac text answered (Err e) = IsUnanswered text answered (wire_fault_text e)
 
--- the text for the payload of a control frame
+-- the text that `respond` prints for the payload of a control frame, and whether that gets a response
 abbrev pub RepliesTo : List ℕ → List ℕ → List ℕ → Bool → Type 0
 RepliesTo mac payload text answered = (decoded : Result Pdu WireFault) × IsDecoded payload decoded
     × AnswersPayload mac text answered decoded
@@ -62,7 +63,7 @@ AnswersKind mac text answered (Control payload) = RepliesTo mac payload.now text
 AnswersKind mac text answered Data = IsUnanswered text answered (codes "no answer data\n")
 AnswersKind mac text answered TooShort = IsUnanswered text answered (codes "no answer runt\n")
 
--- the text for a frame, and whether the frame gets a response
+-- the text that `respond` prints for the octets of a frame, and whether the frame gets a response
 pub record IsReply (mac octets text : List ℕ) (answered : Bool) : Type 0 where
   pub kind : Kind
   pub is_kind : IsKind octets kind
@@ -73,7 +74,8 @@ pub record IsMac (text mac : List ℕ) : Type 0 where
   pub twelve : length text ≡ 12
   pub digits : decode_of text ≡ Ok mac
 
--- the text for a frame in hexadecimal, with this source address for the response
+-- the text that `respond` prints for a MAC address and a frame, both in hexadecimal, and whether the frame gets a
+-- response
 pub record IsReplied (mac hex text : List ℕ) (answered : Bool) : Type 0 where
   pub source : List ℕ
   pub address : IsMac mac source

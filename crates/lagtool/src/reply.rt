@@ -25,7 +25,7 @@ fn mac_of(text: &str) -> Result<[u8; 6], ToolFault>
     }
 }
 
-/// The report for a frame that gets no response, with the line that says why.
+/// What `respond` prints for a frame that gets no response: the line that says why.
 fn unanswered(text: String) -> Report
     ensures { result ≡ record { text = text; accepted = false } }
 {
@@ -35,7 +35,7 @@ fn unanswered(text: String) -> Report
     }
 }
 
-/// The report for a marker or a Marker Response.
+/// What `respond` prints for a marker or a Marker Response, with this MAC address as the source of the response.
 fn answer(alloc: Global, mac: [u8; 6], marker: &Marker) -> Result<Report, AllocError>
     ensures { IfOk result (λ r. IsAnswer mac (string_bytes r.text) r.accepted (response_to marker.now)) }
 {
@@ -53,7 +53,7 @@ fn answer(alloc: Global, mac: [u8; 6], marker: &Marker) -> Result<Report, AllocE
     }
 }
 
-/// The report for the payload of a control frame.
+/// What `respond` prints for the payload of a control frame.
 fn answer_payload(alloc: Global, mac: [u8; 6], payload: &[u8]) -> Result<Report, AllocError>
     ensures { IfOk result (λ r. RepliesTo mac payload.now (string_bytes r.text) r.accepted) }
 {
@@ -64,7 +64,7 @@ fn answer_payload(alloc: Global, mac: [u8; 6], payload: &[u8]) -> Result<Report,
     }
 }
 
-/// The report for a frame.
+/// What `respond` prints for a frame.
 fn answer_frame(alloc: Global, mac: [u8; 6], octets: &[u8]) -> Result<Report, AllocError>
     ensures { IfOk result (λ r. IsReply mac octets.now (string_bytes r.text) r.accepted) }
 {

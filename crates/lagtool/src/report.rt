@@ -1,4 +1,4 @@
-/// The text for a payload or a frame (profile).
+/// What `decode` or `respond` prints for a payload or a frame (profile).
 #[derive(Drop)]
 pub struct Report {
     /// Its lines.

@@ -19,7 +19,7 @@ partner 0/00-00-00-00-00-00 key 0 port 0/0 state 02 short
 max-delay 0
 ";
 
-/// The same with version 2, other TLV types, and reserved octets that are not zero.
+/// `LACPDU` with version 2, other TLV types, and reserved octets that are not zero.
 pub const LACPDU_OF_VERSION_2: Pieces = &[
     ("010209148000020000000001000100800001c7ffffff", 1),
     ("0914", 1),
@@ -29,7 +29,7 @@ pub const LACPDU_OF_VERSION_2: Pieces = &[
     ("ff", 64),
 ];
 
-/// The first one without its last octet.
+/// `LACPDU` without its last octet.
 pub const SHORT: Pieces = &[
     (
         "010101148000020000000001000100800001c700000002140000000000000000000000000000020000000310",
@@ -38,7 +38,7 @@ pub const SHORT: Pieces = &[
     ("00", 65),
 ];
 
-/// The first one with more octets at the end.
+/// `LACPDU` with more octets at the end.
 pub const LACPDU_AND_MORE: Pieces = &[
     (
         "010101148000020000000001000100800001c700000002140000000000000000000000000000020000000310",
@@ -48,7 +48,7 @@ pub const LACPDU_AND_MORE: Pieces = &[
     ("aa", 40),
 ];
 
-/// The first one with two wrong lengths.
+/// `LACPDU` with two wrong lengths.
 pub const TWO_BAD_LENGTHS: Pieces = &[
     ("010101148000020000000001000100800001c7000000", 1),
     ("0213", 1),
@@ -58,7 +58,7 @@ pub const TWO_BAD_LENGTHS: Pieces = &[
     ("00", 66),
 ];
 
-/// The first one with another subtype.
+/// `LACPDU` with another subtype.
 pub const SUBTYPE_3: Pieces = &[
     (
         "030101148000020000000001000100800001c700000002140000000000000000000000000000020000000310",
@@ -77,7 +77,7 @@ pub const MARKER_FRAME: Pieces = &[
     ("00", 92),
 ];
 
-/// The response to it.
+/// The response to the marker in `MARKER_FRAME`.
 pub const RESPONSE_FRAME: Pieces = &[
     ("0180c20000020200000000028809", 1),
     ("020102100001020000000001ffffffff", 1),
@@ -125,7 +125,7 @@ pub const ALONE: &str = r#"events = [
 ]
 "#;
 
-/// What `replay` prints for these events.
+/// What `replay` prints for the events `ALONE` of the systems `ONE_CABLE`.
 pub const ALONE_TEXT: &str = "1 sense 1 1 -> up
 2 tick 1 9 -> ticked
 3 emit 1 1 -> nothing
@@ -167,7 +167,7 @@ pub const UP: &str = r#"events = [
 ]
 "#;
 
-/// What `replay` prints for these events.
+/// What `replay` prints for the events `UP` of the systems `ONE_CABLE`.
 pub const UP_TEXT: &str = "1 sense 1 1 -> up
 2 sense 1 2 -> up
 3 tick 1 10 -> ticked

@@ -24,7 +24,7 @@ pub fn octets_of(alloc: Global, text: &str) -> Result<Vec<u8>, ToolFault>
     }
 }
 
-/// The report for a payload.
+/// What `decode` prints for a payload.
 fn report_on(alloc: Global, payload: &[u8]) -> Result<Report, AllocError>
     ensures { IfOk result (λ r. IsPayloadReport payload.now (string_bytes r.text) r.accepted) }
 {

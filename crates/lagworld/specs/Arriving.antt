@@ -31,7 +31,7 @@ abbrev pub logged : Result Received SystemFault → ℕ → Carried → HalfStat
 logged (Ok received.TookLacpdu) p item h = with_last_lacpdu p (stamped_in item) h
 logged _ p item h = h
 
--- the item arrives on port p of a system, which answers a
+-- this item arrives on port p of one of the two systems, which answers a; an LACPDU that it took is recorded
 abbrev pub ReceivesItem : (ℕ → ℕ → ℕ → Type 0) → ℕ → Carried → Result Received SystemFault → HalfState → HalfState → Type 0
 ReceivesItem gives p item a old new =
     Asks gives (Receive p item.octets) (answer.Receive a) old (with_state new.state old)
@@ -55,12 +55,14 @@ abbrev pub last_lacpdu_kept : ℕ → Option StampedLacpdu → List PortHistory 
 last_lacpdu_kept p None histories = histories
 last_lacpdu_kept p (Some heard) histories = set_last_lacpdu p heard histories
 
--- the first item of the list arrives, if there is one
+-- The first item of the list arrives on port p of one of the two systems, which answers a; without an item, a is None
+-- and nothing changes.
 abbrev pub ReceivesFirst : (ℕ → ℕ → ℕ → Type 0) → ℕ → List Carried → Option (Result Received SystemFault) → HalfState → HalfState → Type 0
 ReceivesFirst gives p [] a old new = (a ≡ None) × (new ≡ old)
 ReceivesFirst gives p (item ∷ rest) a old new = IsSomeAnd a (λ a. ReceivesItem gives p item a old new)
 
--- the same, for one of the two systems
+-- The first item of the list arrives on port p of system s, which answers a; without an item, a is None and nothing
+-- changes.
 abbrev pub ReceivesFirstIn : Algorithms → Side → ℕ → List Carried → Option (Result Received SystemFault) → WorldState → WorldState → Type 0
 ReceivesFirstIn gives s p [] a old new = (a ≡ None) × (new ≡ old)
 ReceivesFirstIn gives s p (item ∷ rest) a old new = IsSomeAnd a (λ a. InHalf s (ReceivesItem (gives s) p item a) old new)
@@ -78,12 +80,12 @@ Concludes s p st (Ok (received.Respond frame)) old r new =
 Concludes s p st (Ok (received.Released n)) old r new = (r ≡ reply.Released n) × (new ≡ old)
 Concludes s p st (Ok (received.Up agg)) old r new = (r ≡ reply.Up agg) × (new ≡ collected st old)
 
--- what is read of the first item on a cable towards a system before it arrives
+-- the port p that the first item of the list will arrive on, and its stamp; None without an item
 abbrev pub first_head : ℕ → List Carried → Option Head
 first_head p [] = None
 first_head p (item ∷ rest) = Some (record { port = p; stamp = item.stamp })
 
--- the same of the first item towards system s on this cable
+-- the port that the first item towards system s on this cable will arrive on, and its stamp; None without an item
 abbrev pub head_in : Side → LinkState → Option Head
 head_in s l = first_head (port_at s l) (towards s l)
 
@@ -105,16 +107,18 @@ abbrev pub CanCollect : Option Flow → Type 0
 CanCollect None = Unit {0}
 CanCollect (Some flow) = vec_len flow.collected < vec_capacity flow.collected
 
--- the same for conversation k of an aggregator, if that exists
+-- a place is reserved in the list of collected serial numbers of conversation k of an aggregator, if both exist
 abbrev pub CanCollectIn : ℕ → Option (Vec Flow) → Type 0
 CanCollectIn k None = Unit {0}
 CanCollectIn k (Some row) = CanCollect (slice_get row.items k)
 
--- the same for a conversation of the aggregator with this number, if both exist
+-- A place is reserved in the list of collected serial numbers of this conversation of the aggregator with this
+-- number, if both exist.
 abbrev pub CanCollectAt : ℕ → ℕ → List (Vec Flow) → Type 0
 CanCollectAt agg conv flows = CanCollectIn conv (nth flows agg)
 
--- the same for the conversation that a stamp names, among those of systems 1 and 2
+-- A place is reserved in the list of collected serial numbers of the conversation that a stamp names, among the
+-- conversations of systems 1 and 2; nothing is asked for a control frame.
 abbrev pub CanCollectFor : Stamp → List (Vec Flow) → List (Vec Flow) → Type 0
 CanCollectFor (stamp.Control count) one two = Unit {0}
 CanCollectFor (stamp.Data system agg conv serial) one two = CanCollectAt agg conv (pick (side_named system) one two)

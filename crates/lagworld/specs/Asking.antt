@@ -16,7 +16,8 @@ use Rattle.lagworld.specs.Events.{Algorithms, InHalf, LosesFrom, OnLink}
 abbrev pub HalfTransmits : (ℕ → ℕ → ℕ → Type 0) → ℕ → Result (Option (List ℕ)) SystemFault → HalfState → HalfState → Type 0
 HalfTransmits gives p a old new = Asks gives (Transmit p) (answer.Transmit a) old new
 
--- the same of system s; nothing else changes
+-- System s is asked for the frame that port p is to send and answers a: the frame, None if none is due, or why not.
+-- Nothing else changes.
 abbrev pub WorldTransmits : Algorithms → Side → ℕ → Result (Option (List ℕ)) SystemFault → WorldState → WorldState → Type 0
 WorldTransmits gives s p a old new = InHalf s (λ h k. HalfTransmits (gives s) p a h k) old new
 
@@ -25,7 +26,7 @@ WorldTransmits gives s p a old new = InHalf s (λ h k. HalfTransmits (gives s) p
 abbrev pub HalfAssigns : (ℕ → ℕ → ℕ → Type 0) → AggId → List ℕ → Result ℕ SystemFault → HalfState → HalfState → Type 0
 HalfAssigns gives agg octets a old new = Asks gives (Offer agg octets) (answer.Offer a) old new
 
--- the same of system s; nothing else changes
+-- System s is offered this frame and answers a: the port to send it on, or why not. Nothing else changes.
 abbrev pub WorldAssigns : Algorithms → Side → AggId → List ℕ → Result ℕ SystemFault → WorldState → WorldState → Type 0
 WorldAssigns gives s agg octets a old new = InHalf s (λ h k. HalfAssigns (gives s) agg octets a h k) old new
 

@@ -44,15 +44,15 @@ abbrev pub OnLink : ℕ → (ℕ → LinkState → Type 0) → List LinkState �
 OnLink zero P links = ⊥
 OnLink (suc i) P links = IsSomeAnd (slice_get links i) (P i)
 
--- one cable is replaced, and nothing else changes
+-- the world, with this link in the place of the one at index i
 abbrev pub set_at : ℕ → LinkState → WorldState → WorldState
 set_at i l j = with_links j (slice_set j.links i l)
 
--- the cables after port p of system s sent this
+-- the world, after port p of system s sent this item
 abbrev pub puts : Side → ℕ → Carried → WorldState → WorldState
 puts s p item j = with_links j (put s p item j.links)
 
--- the stamp of a PDU that is sent
+-- the stamp of a PDU that is sent: for an LACPDU its sender's change count, else 0
 abbrev pub stamp_for : Pdu → ℕ → Stamp
 stamp_for (pdu.Lacpdu v) count = stamp.Control count
 stamp_for (pdu.Marker m) count = stamp.Control 0
@@ -66,7 +66,8 @@ sent_reply (pdu.Marker m) accepted = reply.Marker m.id accepted
 abbrev pub transmitted : Side → ℕ → List ℕ → HalfState → Carried
 transmitted s p frame h = record { octets = frame; stamp = stamp_for (pdu_in (payload_in frame)) (count_in (history_at h.histories p)) }
 
--- what becomes of the result of transmit
+-- What the world does with the answer to Transmit of port p of system s: it sends the frame, and gives the reply of
+-- Emit.
 abbrev pub Emitted : Side → ℕ → Result (Option (List ℕ)) SystemFault → WorldState → Reply → WorldState → Type 0
 Emitted s p (Err fault) old r new = (r ≡ reply.Refused fault) × (new ≡ old)
 Emitted s p (Ok None) old r new = (r ≡ reply.Nothing) × (new ≡ old)
@@ -83,7 +84,7 @@ Emits gives s p old r new =
 abbrev pub stamped_in : Carried → StampedLacpdu
 stamped_in item = record { pdu = lacpdu_in (payload_in item.octets); stamp = stamp_count item.stamp }
 
--- it is recorded as the one that port p received last
+-- the histories, with this LACPDU recorded as the one that port p took last
 abbrev pub set_last_lacpdu : ℕ → StampedLacpdu → List PortHistory → List PortHistory
 set_last_lacpdu p heard [] = []
 set_last_lacpdu p heard (history ∷ histories) = if history.number == p then set_taken heard history ∷ histories else history ∷ set_last_lacpdu p heard histories
@@ -102,7 +103,8 @@ collected (stamp.Control count) j = j
 collected (stamp.Data system agg conv serial) j =
     with_half (side_named system) (with_flow_of agg conv serial (half (side_named system) j)) j
 
--- what becomes of the answer to an item that came on port p of system s
+-- What the world does with the answer to an item that came on port p of system s: it records an LACPDU, sends a
+-- response, or counts a data frame as collected.
 abbrev pub Arrived : Side → ℕ → Carried → Result Received SystemFault → WorldState → Reply → WorldState → Type 0
 Arrived s p item (Err fault) old r new = (r ≡ reply.Refused fault) × (new ≡ old)
 Arrived s p item (Ok received.Disabled) old r new = (r ≡ reply.Disabled) × (new ≡ old)
@@ -141,7 +143,7 @@ abbrev pub RepeatsFrom : Algorithms → Side → LinkState → List Carried → 
 RepeatsFrom gives s l [] old r new = (r ≡ reply.Empty) × (new ≡ old)
 RepeatsFrom gives s l (item ∷ rest) old r new = RepeatsItem gives s (port_at s l) item.octets item.stamp old r new
 
--- the frame is sent on the port that the system returned, as the next of its conversation
+-- the frame as an item, with the stamp of the next frame of its conversation
 abbrev pub offered : Side → ℕ → AggId → List ℕ → HalfState → Carried
 offered s port agg octets h = record {
   octets = octets;
@@ -153,7 +155,8 @@ offered s port agg octets h = record {
 abbrev pub count_sent : AggId → List ℕ → HalfState → HalfState
 count_sent agg octets h = record h { flows = at_flow with_sent agg.0 (number_of_conversation h.state octets) h.flows }
 
--- what becomes of the answer to an offered frame: the port to send it on, or a refusal
+-- What the world does with the answer to an offered frame: it sends the frame on that port, as the next of its
+-- conversation; or it gives the refusal as the reply.
 abbrev pub Offered : Side → AggId → List ℕ → Result ℕ SystemFault → WorldState → Reply → WorldState → Type 0
 Offered s agg octets (Err fault) old r new = (r ≡ reply.Refused fault) × (new ≡ old)
 Offered s agg octets (Ok port) old r new =

@@ -20,7 +20,7 @@ use Rattle.lagworld.specs.State.{HalfState, at_flow, with_forced}
 abbrev pub with_state : SystemState → HalfState → HalfState
 with_state s h = record h { state = s }
 
--- The system answers a call, and keeps what every call promises. Nothing else changes.
+-- The system of this half answers a call, and keeps what every call promises. Nothing else changes.
 pub record Asks (gives : ℕ → ℕ → ℕ → Type 0) (call : Call) (a : Answer) (old new : HalfState) : Type 0 where
   pub answers : Answers gives old.state call a new.state
   pub same : new ≡ with_state new.state old
@@ -45,7 +45,7 @@ abbrev pub party_or : Party → Option Party → Party
 party_or a None = a
 party_or a (Some b) = b
 
--- the history of a port after an event: its own parameters, and its change count, which is one more if they differ
+-- The history of a port after an event: its own parameters, and its change count, which is one more if they differ.
 abbrev pub party_noted : Option Party → PortHistory → PortHistory
 party_noted party history = record history { party = party_or history.party party; count = if is_party history.party party then history.count else history.count + 1 }
 

@@ -13,29 +13,29 @@ use Rattle.lagworld.specs.Inner.{link_states, serials_of}
 abbrev pub is_reserved : {C : Type 0} → (C → Bool) → Side → Cabled C → Bool
 is_reserved reserved s l = pick s (reserved l.to_two) (reserved l.to_one)
 
--- the same on the cable at an index, if there is one
+-- a place is reserved for what system s sends, on the cable at this index, if there is one
 abbrev pub IsReservedAt : {C : Type 0} → (C → Bool) → Side → Option ℕ → List (Cabled C) → Type 0
 IsReservedAt reserved s None ls = Unit {0}
 IsReservedAt reserved s (Some i) ls = IfSome (slice_get ls i) (λ l. IsTrue (is_reserved reserved s l))
 
--- the same on the cable of a port, if it has one
+-- a place is reserved for what port p of system s sends, on the cable of that port, if it has one
 abbrev pub IsReserved : {C : Type 0} → (C → List Item) → (C → Option ℕ) → (C → Bool) → Side → ℕ → List (Cabled C) → Type 0
 IsReserved items limit reserved s p ls = IsReservedAt reserved s (link_of_port s p (link_states items limit ls)) ls
 
--- the same on every cable
+-- a place is reserved for what system s sends, on every cable
 abbrev pub AreReserved : {C : Type 0} → (C → Bool) → Side → List (Cabled C) → Type 0
 AreReserved reserved s ls = (i : ℕ) → IsReservedAt reserved s (Some i) ls
 
--- there is room for one more serial number that a conversation sends, if the conversation exists
+-- there is room for one more serial number that conversation k sends, if it exists among these
 abbrev pub HasRoomIn : ℕ → List Flow → Type 0
 HasRoomIn k flows = IfSome (slice_get flows k) (λ f. vec_len f.sent < vec_capacity f.sent)
 
--- the same for conversation k of an aggregator, if the aggregator exists
+-- there is room for one more serial number that conversation k of an aggregator sends, if both exist
 abbrev pub HasRoomAt : Option (Vec Flow) → ℕ → Type 0
 HasRoomAt None k = Unit {0}
 HasRoomAt (Some flows) k = HasRoomIn k flows.items
 
--- the same, if the aggregator exists too
+-- there is room for one more serial number that conversation k of aggregator g sends, if both exist
 abbrev pub HasRoom : ℕ → ℕ → List (Vec Flow) → Type 0
 HasRoom g k flows = HasRoomAt (nth flows g) k
 

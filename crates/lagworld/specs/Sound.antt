@@ -74,7 +74,7 @@ IsItem s octets (stamp.Control count) j = Unit {0}
 IsItem s octets (stamp.Data system agg conv serial) j =
     (side_named system ≡ peer s) × IsSome (serials_at (half (peer s) j).flows agg conv) × (IsSlow octets → ⊥)
 
--- the same of every item of a list
+-- each item of the list, on its way to system s, is what its stamp says
 abbrev pub AreItems : Side → List Carried → WorldState → Type 0
 AreItems s [] j = Unit {0}
 AreItems s (item ∷ rest) j = IsItem s item.octets item.stamp j × AreItems s rest j

@@ -19,7 +19,8 @@ fn reserve_in(row: &mut Vec<Flow>, conv: usize) -> Result<(), AllocError>
     flow.collected.reserve(1)
 }
 
-/// The same in the conversations of a system. Aggregators are numbered from 1, conversations from 0.
+/// Reserves a place for a serial number in the list of collected ones of a conversation of a system, if it exists.
+/// Aggregators are numbered from 1, conversations from 0.
 pub(crate) fn reserve_collected(
     flows: &mut Vec<Vec<Flow>>,
     agg: u16,
@@ -51,7 +52,7 @@ fn collect_in(row: &mut Vec<Flow>, conv: usize, serial: u64)
     flow.collected.push_reserved(serial);
 }
 
-/// The same in the conversations of a system.
+/// Adds a serial number to the list of collected ones of a conversation of a system, for which a place is reserved.
 pub(crate) fn collect(flows: &mut Vec<Vec<Flow>>, agg: u16, conv: u16, serial: u64)
     requires room { CanCollectAt agg conv flows.old.items }
     ensures { all_serials flows.new.items ≡ at_flow (with_collected serial) agg conv (all_serials flows.old.items) }

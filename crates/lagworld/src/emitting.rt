@@ -28,7 +28,7 @@ use slowpdu::{Pdu, decode};
 /// The length of a control frame in octets.
 pub(crate) const FRAME_LEN: usize = 124;
 
-/// The octets before its payload.
+/// The octets of a control frame before its payload.
 const HEADER_LEN: usize = 14;
 
 /// The PDU in a control frame; the frame has one.

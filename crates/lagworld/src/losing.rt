@@ -46,7 +46,7 @@ fn lose_at<C: Cable>(links: &mut Vec<Link<C>>, place: usize, side: Side) -> bool
     line.lose(side)
 }
 
-/// The reply to `Lose`.
+/// The reply to `Lose`: whether there was an item to lose.
 fn lost_reply(lost: bool) -> Reply
     ensures { result ≡ lost_reply lost }
 {

@@ -47,7 +47,7 @@ impl<F: Fn(u16, usize) -> usize + Drop> Half<F> {
         }
     }
 
-    /// The port of this system to send a frame on, in an aggregator.
+    /// Offers a frame to an aggregator of this system; returns the port to send it on.
     fn assign(&mut self, agg: AggId, frame: &[u8]) -> Result<u16, SystemFault>
         requires { PicksPlaces (F.pre self.old.system.algorithm) (F.post self.old.system.algorithm) }
         ensures assigns { HalfAssigns (F.post self.old.system.algorithm) agg frame.now result (half_state self.old) (half_state self.new) }
@@ -57,7 +57,7 @@ impl<F: Fn(u16, usize) -> usize + Drop> Half<F> {
         self.system.offer(agg, frame)
     }
 
-    /// Frees a conversation of an aggregator of this system at once.
+    /// Asks this system to free a conversation of an aggregator at once.
     fn free(&mut self, agg: AggId, conv: u16) -> Result<(), SystemFault>
         ensures frees { HalfFrees (F.post self.old.system.algorithm) agg conv result (half_state self.old) (half_state self.new) }
         ensures algorithm { self.new.system.algorithm ≡ self.old.system.algorithm }

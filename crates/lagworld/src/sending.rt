@@ -11,7 +11,7 @@ use crate::fault::WorldFault;
 use crate::link::Link;
 use cables::{Cable, Item, NoMemory};
 
-/// Puts an item behind the others; returns false, and loses the item, if the cable is full.
+/// Puts an item behind the others on a direction of a cable; returns false, and loses the item, if that is full.
 fn put_on<C: Cable>(cable: &mut C, item: Item) -> bool
     requires { IsTrue (C.reserved cable.old) }
     ensures accepted { result ≡ not (is_at_limit (C.limit cable.old) (length (map carried (C.items cable.old)))) }

@@ -35,7 +35,7 @@ impl Flow {
     }
 }
 
-/// The index of the conversations of an aggregator, if there are this many aggregators; they are numbered from 1.
+/// The index of an aggregator in a list of this many; aggregators are numbered from 1.
 fn place_of(agg: AggId, count: usize) -> Option<usize>
     ensures there { IfSome result (λ place. (agg.0 ≡ place + 1) × (place < count)) }
     ensures nowhere { IfNone result ((agg.0 ≡ 0) ⊎ (count < agg.0)) }
@@ -44,7 +44,7 @@ fn place_of(agg: AggId, count: usize) -> Option<usize>
     if place < count { Some(place) } else { None }
 }
 
-/// Reserves a place for the next serial number of a conversation, if it exists.
+/// Reserves a place for the next serial number that a conversation sends, if it exists among these.
 fn reserve_in(conversations: &mut Vec<Flow>, conv: usize) -> Result<(), AllocError>
     ensures same { map serials_of conversations.new.items ≡ map serials_of conversations.old.items }
     ensures ok { OnOk result (HasRoomIn conv conversations.new.items) }
@@ -70,7 +70,7 @@ fn send_in(conversations: &mut Vec<Flow>, conv: usize) -> u64
     flow.send()
 }
 
-/// Records that a conversation was forced.
+/// Records that a conversation of these was forced, if it exists.
 fn force_in(conversations: &mut Vec<Flow>, conv: usize)
     ensures { map serials_of conversations.new.items ≡ set_serials with_forced
         (slice_get (map serials_of conversations.old.items) conv) conv (map serials_of conversations.old.items) }
