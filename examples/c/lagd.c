@@ -4,14 +4,18 @@
  *     lagd 7 32768,02:00:00:00:00:01 eth1 eth2
  *
  * The interfaces are ports 1, 2 and on, with one aggregator for each, all with the key. It ticks every 100 ms, carries the
- * control frames of the interfaces, follows their links, and prints each change of a port in one line. SIGTERM and SIGINT take
- * its ports down and end it with status 0. Status 2: a wrong word; 1: the system refused something. */
+ * control frames of the interfaces, follows their links, and prints each change of a port in one line. An interface that
+ * vanishes is a link that is down, and stays so. SIGTERM and SIGINT take the ports down and end it with status 0. Status 2: a
+ * wrong word; 1: the system or the kernel refused something, or no interface is left. */
 #define _GNU_SOURCE
+#include <ctype.h>
 #include <errno.h>
 #include <inttypes.h>
 #include <linux/if_packet.h>
+#include <linux/rtnetlink.h>
 #include <net/ethernet.h>
 #include <net/if.h>
+#include <net/if_arp.h>
 #include <netinet/in.h>
 #include <poll.h>
 #include <signal.h>
@@ -31,7 +35,7 @@
 
 struct link {
     const char *name;
-    int socket;
+    int socket; /* -1: the interface is gone */
     int index;
     uint8_t mac[6];
     bool up;
@@ -40,7 +44,7 @@ struct link {
 
 static struct lag system_handle = LAG_EMPTY;
 static struct link links[LAG_MOST];
-static uint16_t count;
+static uint16_t count, left;
 
 static void stop(int status, const char *what, const char *of) {
     fprintf(stderr, "lagd: %s: %s\n", what, of);
@@ -54,81 +58,58 @@ static void refuse(uint32_t status, const char *call) {
     stop(1, call, why);
 }
 
-static unsigned long number(const char *word, unsigned long least, unsigned long most) {
-    char *end;
-    unsigned long n;
-    errno = 0;
-    n = strtoul(word, &end, 10);
-    if (errno || end == word || *end || *word < '0' || *word > '9' || n < least || n > most) stop(2, "no such number", word);
-    return n;
+/* A number in decimal digits alone, 0 to 65535. */
+static uint16_t number(const char *word) {
+    size_t digits = strspn(word, "0123456789");
+    if (digits == 0 || digits > 5 || word[digits] || strtoul(word, NULL, 10) > UINT16_MAX) stop(2, "not a number from 0 to 65535", word);
+    return (uint16_t)strtoul(word, NULL, 10);
 }
 
-static void read_system(const char *word, struct lag_config *config) {
-    char priority[8];
-    unsigned octets[6];
-    char more;
-    if (sscanf(word, "%7[0-9],%2x:%2x:%2x:%2x:%2x:%2x%c", priority, octets, octets + 1, octets + 2, octets + 3, octets + 4,
-            octets + 5, &more) != 7)
-        stop(2, "a system is PRIORITY,MAC", word);
-    config->priority = (uint16_t)number(priority, 0, 65535);
-    for (int i = 0; i < 6; i++) config->mac[i] = (uint8_t)octets[i];
+/* PRIORITY,MAC: a number, and six octets of two hexadecimal digits each. */
+static void read_system(char *word, struct lag_config *config) {
+    char *mac = strchr(word, ',');
+    bool right = mac && strlen(mac) == 18;
+    for (int i = 1; right && i < 18; i++) right = i % 3 ? isxdigit((unsigned char)mac[i]) : mac[i] == ':';
+    if (!right) stop(2, "a system is PRIORITY,MAC, as 32768,02:00:00:00:00:01", word);
+    for (int i = 0; i < 6; i++) config->mac[i] = (uint8_t)strtoul(mac + 1 + 3 * i, NULL, 16);
+    *mac = 0;
+    config->priority = number(word);
 }
 
-/* Asks the kernel one thing of an interface. */
-static struct ifreq asked(const struct link *link, unsigned long what) {
-    struct ifreq request;
-    memset(&request, 0, sizeof request);
-    strncpy(request.ifr_name, link->name, IFNAMSIZ - 1);
-    if (ioctl(link->socket, what, &request) < 0) stop(2, link->name, strerror(errno));
-    return request;
-}
-
-static bool is_running(const struct link *link) {
-    short flags = asked(link, SIOCGIFFLAGS).ifr_flags;
-    return (flags & IFF_UP) && (flags & IFF_RUNNING);
-}
-
-/* Opens an interface for frames of the slow protocols, and joins their group. */
-static void open_link(struct link *link, const char *name) {
-    static const uint8_t group[6] = {0x01, 0x80, 0xc2, 0x00, 0x00, 0x02};
-    struct sockaddr_ll address;
-    struct packet_mreq member;
-    if (strlen(name) >= IFNAMSIZ) stop(2, "no such interface", name);
+/* Opens an interface for the frames of the slow protocols, and joins their group. */
+static void open_link(const char *name) {
+    struct link *link = &links[count];
+    int index = (int)if_nametoindex(name);
+    struct sockaddr_ll address = {.sll_family = AF_PACKET, .sll_protocol = htons(SLOW), .sll_ifindex = index};
+    struct packet_mreq member = {index, PACKET_MR_MULTICAST, 6, {0x01, 0x80, 0xc2, 0x00, 0x00, 0x02}};
+    socklen_t length = sizeof address;
+    if (index == 0) stop(2, name, strerror(errno));
+    for (uint16_t i = 0; i < count; i++)
+        if (links[i].index == index) stop(2, "an interface is given twice", name);
     link->name = name;
+    link->index = index;
     link->socket = socket(AF_PACKET, SOCK_RAW | SOCK_NONBLOCK | SOCK_CLOEXEC, 0); /* it takes nothing before it is bound */
-    if (link->socket < 0) stop(2, "no packet socket", strerror(errno));
-    link->index = asked(link, SIOCGIFINDEX).ifr_ifindex;
-    memcpy(link->mac, asked(link, SIOCGIFHWADDR).ifr_hwaddr.sa_data, 6);
-    memset(&address, 0, sizeof address);
-    address.sll_family = AF_PACKET;
-    address.sll_protocol = htons(SLOW);
-    address.sll_ifindex = link->index;
-    if (bind(link->socket, (struct sockaddr *)&address, sizeof address) < 0) stop(2, name, strerror(errno));
-    memset(&member, 0, sizeof member);
-    member.mr_ifindex = link->index;
-    member.mr_type = PACKET_MR_MULTICAST;
-    member.mr_alen = 6;
-    memcpy(member.mr_address, group, 6);
-    if (setsockopt(link->socket, SOL_PACKET, PACKET_ADD_MEMBERSHIP, &member, sizeof member) < 0) stop(2, name, strerror(errno));
+    if (link->socket < 0) stop(1, "no packet socket", strerror(errno));
+    if (bind(link->socket, (struct sockaddr *)&address, sizeof address) < 0
+        || setsockopt(link->socket, SOL_PACKET, PACKET_ADD_MEMBERSHIP, &member, sizeof member) < 0
+        || getsockname(link->socket, (struct sockaddr *)&address, &length) < 0)
+        stop(1, name, strerror(errno));
+    if (address.sll_hatype != ARPHRD_ETHER) stop(2, "not an Ethernet interface", name);
+    memcpy(link->mac, address.sll_addr, 6);
+    count++;
+    left++;
 }
 
 static void make_system(const struct lag_config *config, uint16_t key) {
     struct lag_port ports[LAG_MOST];
     uint16_t keys[LAG_MOST];
-    struct lag_made made;
-    memset(ports, 0, sizeof ports);
     for (uint16_t i = 0; i < count; i++) {
         keys[i] = key;
-        ports[i].number = (uint16_t)(i + 1);
-        ports[i].priority = 32768;
+        ports[i] = (struct lag_port){.number = (uint16_t)(i + 1), .priority = 32768, .key = key};
+        ports[i].aggregatable = ports[i].active = ports[i].short_timeout = true;
         memcpy(ports[i].mac, links[i].mac, 6);
-        ports[i].key = key;
-        ports[i].aggregatable = true;
-        ports[i].active = true;
-        ports[i].short_timeout = true;
     }
-    made = lag_new(&system_handle, config, keys, count, ports, count);
-    refuse(made.status, "lag_new");
+    refuse(lag_new(&system_handle, config, keys, count, ports, count).status, "lag_new");
 }
 
 static const char *const MUX[] = {"detached", "waiting", "attached", "distributing"};
@@ -159,12 +140,12 @@ static void show(uint16_t port) {
     fflush(stdout);
 }
 
+/* A frame that the kernel does not take is lost, as on a wire. */
 static void put(const struct link *link, const uint8_t *frame) {
-    /* A frame that the kernel does not take is lost, as on a wire. */
-    if (send(link->socket, frame, LAG_FRAME, 0) < 0 && errno == ENODEV) stop(1, link->name, strerror(errno));
+    (void)send(link->socket, frame, LAG_FRAME, 0);
 }
 
-/* Sends what is due, and tells what changed. */
+/* Sends what is due, and tells what changed: after each call that may change anything. */
 static void serve(void) {
     uint8_t frame[LAG_FRAME];
     for (uint16_t port = 1; port <= count; port++) {
@@ -179,15 +160,57 @@ static void serve(void) {
 }
 
 static void set_link(uint16_t port, bool up) {
+    if (links[port - 1].up == up) return;
     links[port - 1].up = up;
     refuse(lag_set_link(&system_handle, port, up), "lag_set_link");
+    serve();
 }
 
-static void follow_links(void) {
+static void lose(uint16_t port) {
+    struct link *link = &links[port - 1];
+    fprintf(stderr, "lagd: %s is gone\n", link->name);
+    set_link(port, false);
+    close(link->socket);
+    link->socket = -1;
+    left--;
+}
+
+static bool is_running(unsigned flags) {
+    return (flags & IFF_UP) && (flags & IFF_RUNNING);
+}
+
+/* Looks at each link that is not gone. */
+static void read_links(void) {
     for (uint16_t port = 1; port <= count; port++) {
-        bool up = is_running(&links[port - 1]);
-        if (up != links[port - 1].up) set_link(port, up);
+        struct link *link = &links[port - 1];
+        struct ifreq answer = {0};
+        if (link->socket < 0) continue;
+        if (if_indextoname((unsigned)link->index, answer.ifr_name) && ioctl(link->socket, SIOCGIFFLAGS, &answer) == 0)
+            set_link(port, is_running((unsigned short)answer.ifr_flags));
+        else
+            lose(port);
     }
+}
+
+/* Takes the changes that the kernel tells of interfaces, in their order, so that none is too short to be seen. Each is one
+ * datagram, whose head has all that is wanted. Where the kernel had no room for some, it says so. */
+static void take_changes(int route) {
+    struct {
+        struct nlmsghdr head;
+        struct ifinfomsg of;
+    } change;
+    bool dropped = false;
+    ssize_t got;
+    while ((got = recv(route, &change, sizeof change, 0)) >= 0 || errno == ENOBUFS) {
+        dropped |= got < 0;
+        if (got != sizeof change || change.of.ifi_family != AF_UNSPEC) continue; /* a bridge tells of its ports, too */
+        for (uint16_t port = 1; port <= count; port++) {
+            if (links[port - 1].socket < 0 || links[port - 1].index != change.of.ifi_index) continue;
+            if (change.head.nlmsg_type == RTM_NEWLINK) set_link(port, is_running(change.of.ifi_flags));
+            if (change.head.nlmsg_type == RTM_DELLINK) lose(port);
+        }
+    }
+    if (dropped) read_links();
 }
 
 /* Hands over the frames that wait at an interface, at most 64 a turn, so that no flood stops the clock. Its own ones come back
@@ -204,6 +227,7 @@ static void take_frames(uint16_t port) {
         received = lag_receive(&system_handle, port, frame, (size_t)got, response, sizeof response);
         refuse(received.status, "lag_receive");
         if (received.what == LAG_RESPOND) put(&links[port - 1], response);
+        serve();
     }
 }
 
@@ -215,14 +239,21 @@ static int open_signals(void) {
     sigaddset(&ends, SIGINT);
     sigprocmask(SIG_BLOCK, &ends, NULL);
     fd = signalfd(-1, &ends, SFD_CLOEXEC);
-    if (fd < 0) stop(2, "no signals", strerror(errno));
+    if (fd < 0) stop(1, "no signals", strerror(errno));
     return fd;
 }
 
 static int open_clock(void) {
     struct itimerspec every = {{0, 100000000}, {0, 100000000}};
     int fd = timerfd_create(CLOCK_MONOTONIC, TFD_NONBLOCK | TFD_CLOEXEC);
-    if (fd < 0 || timerfd_settime(fd, 0, &every, NULL) < 0) stop(2, "no clock", strerror(errno));
+    if (fd < 0 || timerfd_settime(fd, 0, &every, NULL) < 0) stop(1, "no clock", strerror(errno));
+    return fd;
+}
+
+static int open_route(void) {
+    struct sockaddr_nl address = {.nl_family = AF_NETLINK, .nl_groups = RTMGRP_LINK};
+    int fd = socket(AF_NETLINK, SOCK_RAW | SOCK_NONBLOCK | SOCK_CLOEXEC, NETLINK_ROUTE);
+    if (fd < 0 || bind(fd, (struct sockaddr *)&address, sizeof address) < 0) stop(1, "no changes of links", strerror(errno));
     return fd;
 }
 
@@ -235,39 +266,43 @@ static void pass_ticks(int clock) {
     }
 }
 
-static void take_down(void) {
-    for (uint16_t port = 1; port <= count; port++) set_link(port, false);
-    serve();
-    refuse(lag_free(&system_handle), "lag_free");
+/* Waits, and serves what comes, until a signal comes or no interface is left. */
+static void run(int signals, int clock, int route) {
+    struct pollfd waits[LAG_MOST + 3];
+    while (left > 0) {
+        for (uint16_t i = 0; i < count; i++) waits[i] = (struct pollfd){links[i].socket, POLLIN, 0};
+        waits[count] = (struct pollfd){signals, POLLIN, 0};
+        waits[count + 1] = (struct pollfd){clock, POLLIN, 0};
+        waits[count + 2] = (struct pollfd){route, POLLIN, 0};
+        if (poll(waits, (nfds_t)count + 3, -1) < 0) {
+            if (errno != EINTR) stop(1, "poll", strerror(errno));
+            continue;
+        }
+        if (waits[count].revents) return;
+        if (waits[count + 2].revents) take_changes(route);
+        for (uint16_t i = 0; i < count; i++)
+            if (waits[i].revents && links[i].socket >= 0) take_frames((uint16_t)(i + 1));
+        if (waits[count + 1].revents) pass_ticks(clock);
+    }
 }
 
 int main(int argc, char **argv) {
     struct lag_config config = {0, {0}, 0, 1};
-    struct pollfd waits[LAG_MOST + 2];
-    int signals, clock;
     uint16_t key;
+    int signals, clock, route;
     if (argc < 4 || argc > 3 + LAG_MOST) stop(2, "usage", "lagd KEY PRIORITY,MAC INTERFACE..");
-    key = (uint16_t)number(argv[1], 0, 65535);
+    key = number(argv[1]);
     read_system(argv[2], &config);
-    for (int i = 3; i < argc; i++) open_link(&links[count++], argv[i]);
+    for (int i = 3; i < argc; i++) open_link(argv[i]);
     make_system(&config, key);
     signals = open_signals();
     clock = open_clock();
-    for (uint16_t i = 0; i < count; i++) waits[i] = (struct pollfd){links[i].socket, POLLIN, 0};
-    waits[count] = (struct pollfd){clock, POLLIN, 0};
-    waits[count + 1] = (struct pollfd){signals, POLLIN, 0};
-    for (;;) {
-        follow_links();
-        serve();
-        if (poll(waits, (nfds_t)count + 2, -1) < 0) {
-            if (errno != EINTR) stop(1, "poll", strerror(errno));
-            continue;
-        }
-        if (waits[count + 1].revents) break;
-        for (uint16_t i = 0; i < count; i++)
-            if (waits[i].revents) take_frames((uint16_t)(i + 1));
-        if (waits[count].revents) pass_ticks(clock);
-    }
-    take_down();
+    route = open_route();
+    read_links();
+    serve();
+    run(signals, clock, route);
+    for (uint16_t port = 1; port <= count; port++) set_link(port, false);
+    refuse(lag_free(&system_handle), "lag_free");
+    if (left == 0) stop(1, "it ends", "no interface is left");
     return 0;
 }
