@@ -1,0 +1,210 @@
+"""Compares crates/lagffi/include/lag.h with the sources of what it declares: fields, functions and numbers.
+
+Each struct and each prototype is written here in C from the `#[repr(C)]` struct and the export in crates/lagffi/src, and has to
+stand in the header word by word. Sizes and offsets are worked out from the sources too, and a C program asserts them.
+"""
+
+import os
+import re
+
+TOP = os.path.dirname(os.path.dirname(os.path.dirname(os.path.abspath(__file__))))
+HEADER = f"{TOP}/crates/lagffi/include/lag.h"
+SOURCES = f"{TOP}/crates/lagffi/src"
+FAULTS = f"{TOP}/crates/lagsystem/src/fault.rt"
+# Types of C, and their sizes on x86-64, which are their alignments too.
+TYPES = {"u8": "uint8_t", "u16": "uint16_t", "u32": "uint32_t", "u64": "uint64_t", "usize": "size_t", "bool": "bool", "*mut u8": "void *"}
+SIZES = {"uint8_t": 1, "uint16_t": 2, "uint32_t": 4, "uint64_t": 8, "size_t": 8, "bool": 1, "void *": 8}
+# What has a name of its own in C: a handle, its block, and a buffer for port numbers.
+NAMES = {"lag": "handle", "held": "at", "buffer": "numbers"}
+# A slice is a pointer and a length, which has no name in the sources.
+LENGTHS = {"keys": "key_count", "ports": "port_count", "response": "room", "numbers": "room"}
+# The enums whose variants lagffi tells as numbers; and the one number of the header alone, for what it refuses itself.
+TOLD = "Received|ReceiveState|MuxState|Assignment"
+OWN = {"LAG_NULL": 16}
+
+
+class Unread(Exception):
+    """Something in the sources or in the header is not written as this program reads it."""
+
+
+def text_of(*paths):
+    """The text of files, without comments."""
+    texts = [open(path, encoding="utf-8").read() for path in paths]
+    return re.sub(r"/\*.*?\*/|//[^\n]*", "", "\n".join(texts), flags=re.S)
+
+
+def sources():
+    found = [os.path.join(folder, name) for folder, _, names in os.walk(SOURCES) for name in sorted(names) if name.endswith(".rt")]
+    return text_of(*found)
+
+
+def one_line(text):
+    return " ".join(text.split())
+
+
+def snake(name):
+    """SystemFault is system_fault."""
+    return re.sub(r"(?<=[a-z])(?=[A-Z])", "_", name).lower()
+
+
+def declared(kind, name, tail=""):
+    """A field or a parameter, as C declares it."""
+    return f"{kind}{'' if kind.endswith('*') else ' '}{name}{tail}"
+
+
+def prototype(answer, given):
+    return f"{answer} ({one_line(given)})"
+
+
+class Structs:
+    """The structs of C that the sources have: lists of a type, a name and how many of them stand there, or 0 for one alone."""
+
+    def __init__(self, text):
+        bodies = dict(re.findall(r"#\[repr\(C\)\]\s*(?:#\[[^\n]*\]\s*)*pub struct (\w+) \{(.*?)\n\}", text, re.S))
+        self.rattle = {name: self.fields(body) for name, body in bodies.items()}
+        self.all = {snake(name): [self.in_c(*field) for field in body] for name, body in self.rattle.items() if name.startswith("Lag")}
+
+    @staticmethod
+    def fields(body):
+        """The fields that take room: neither ghost ones nor an allocator."""
+        lines = re.findall(r"^ +(?:pub(?:\(\w+\))? )?((?:ghost )?\w+): (.*),$", body, re.M)
+        return [(name, kind) for name, kind in lines if not name.startswith("ghost ") and kind != "Global"]
+
+    def in_c(self, name, kind):
+        """A field in C. A struct that is not called Lag.. has one field, which stands in its place."""
+        many = re.fullmatch(r"\[(\w+); (\d+)\]", kind)
+        if many:
+            return self.in_c(name, many[1])[0], name, int(many[2])
+        if kind in self.rattle and not kind.startswith("Lag"):
+            [(_, kind)] = self.rattle[kind]
+        return self.kind(kind), NAMES.get(name, name), 0
+
+    def kind(self, kind):
+        if kind in TYPES:
+            return TYPES[kind]
+        if kind in self.rattle:
+            return f"struct {snake(kind)}"
+        raise Unread(f"no type of C for {kind}")
+
+    def layout(self, name):
+        """The size of a struct, its alignment and the offsets of its fields, by the rules of C."""
+        end, most, offsets = 0, 1, {}
+        for kind, field, many in self.all[name]:
+            size, aligned = self.layout(kind[7:])[:2] if kind.startswith("struct ") else (SIZES[kind],) * 2
+            offsets[field] = end = -(-end // aligned) * aligned
+            end, most = end + size * (many or 1), max(most, aligned)
+        return -(-end // most) * most, most, offsets
+
+    def written(self):
+        """Each struct as the header should have it."""
+        lines = {}
+        for name, body in self.all.items():
+            lines[name] = " ".join(declared(kind, field, f"[{many}]" if many else "") + ";" for kind, field, many in body)
+        return lines
+
+    def parameters(self, text):
+        """The parameters of an export, as C has them."""
+        found = []
+        for name, kind in re.findall(r"(\w+): ([^,]+)", text):
+            name = NAMES.get(name, name)
+            if kind == "Global":
+                continue
+            to = re.fullmatch(r"&(mut )?(\[)?(\w+)\]?", kind)
+            if not to:
+                found.append(declared(self.kind(kind), name))
+                continue
+            found.append(declared(f"{'' if to[1] else 'const '}{self.kind(to[3])} *", name))
+            if to[2]:
+                found.append(f"size_t {LENGTHS.get(name, 'room' if to[1] else 'length')}")
+        return ", ".join(found)
+
+    def functions(self, text):
+        """Each export: what it answers, and its parameters."""
+        exports = re.findall(r'pub extern "C" fn lagffi_(\w+)\(([^)]*)\) -> (\w+)', text)
+        return {name: prototype(self.kind(answer), self.parameters(one_line(given))) for name, given, answer in exports}
+
+
+def unlike(what, wanted, found):
+    """What differs between the sources and the header, a line each."""
+    for name in sorted(wanted.keys() | found.keys()):
+        if wanted.get(name) != found.get(name):
+            yield f"{what} {name}: the sources have {wanted.get(name)}; the header has {found.get(name)}"
+
+
+def check_structs(structs, header):
+    found = {name: one_line(body) for name, body in re.findall(r"^struct (\w+) \{(.*?)\};", header, re.M | re.S)}
+    return unlike("struct", structs.written(), found)
+
+
+def check_functions(structs, header, text):
+    """The prototypes of the exports, and the inline functions over them, which pass on what they are given in its order."""
+    exports = structs.functions(text)
+    found = re.findall(r"^((?:struct )?\w+) lagffi_(\w+)\((.*?)\);", header, re.M | re.S)
+    yield from unlike("lagffi", exports, {name: prototype(answer, given) for answer, name, given in found})
+    inline = re.findall(r"^static inline ((?:struct )?\w+) lag_(?!null_)(\w+)\((.*?)\) \{(.*?)^\}", header, re.M | re.S)
+    yield from unlike("lag", exports, {name: prototype(answer, given) for answer, name, given, _ in inline})
+    for _, name, given, body in inline:
+        passed = ", ".join(re.findall(r"(\w+)(?:,|$)", one_line(given)))
+        if re.findall(r"lagffi_(\w+\(.*?\))", body) != [f"{name}({passed})"]:
+            yield f"lag {name}: it should pass on ({passed})"
+
+
+def numbers_of_header(header):
+    """The enumerators and the numbers that the header defines."""
+    found = {name: int(number) for name, number in re.findall(r"^#define (LAG_\w+) (\d+)$", header, re.M)}
+    for body in re.findall(r"^enum \{(.*?)\};", header, re.M | re.S):
+        number = -1
+        for name, given in re.findall(r"(\w+)(?: = (\d+))?", body):
+            number = int(given) if given else number + 1
+            if name in found:
+                raise Unread(f"{name} stands twice")
+            found[name] = number
+    return found
+
+
+def variants(text, enums):
+    """The variants of enums that are matched on, and the number that stands first behind the arrow, if there is one."""
+    arms = text.split("=>")
+    for before, after in zip(arms, arms[1:]):
+        matched = re.search(rf"\b(?:{enums})::(\w+)(?:\([^=]*\)| \{{[^}}]*\}})?\)*\s*$", before)
+        number = re.search(r"\b\d+\b", after)
+        if matched and number:
+            yield snake(matched[1]).upper(), number[0]
+
+
+def numbers_of_sources(text):
+    """The constants, the refusals of a system, and the numbers that lagffi gives to variants."""
+    found = {}
+    faults = re.search(r"impl SystemFault \{(.*?)\n\}", text_of(FAULTS), re.S)[1]
+    constants = re.findall(r"\bconst (\w+): \w+ = (\d+);", text)
+    for name, number in [*constants, *variants(faults, "SystemFault"), *variants(text, TOLD)]:
+        if found.setdefault(f"LAG_{name}", int(number)) != int(number):
+            raise Unread(f"{name} has two numbers")
+    return found
+
+
+def check_numbers(header, text):
+    return unlike("number", {**numbers_of_sources(text), **OWN}, numbers_of_header(header))
+
+
+def assertions(structs):
+    """A program that does not compile where a size or an offset is another one."""
+    lines = ['#include "lag.h"']
+    for name in structs.all:
+        size, _, offsets = structs.layout(name)
+        lines.append(f'_Static_assert(sizeof(struct {name}) == {size}, "size of {name}");')
+        for field, at in offsets.items():
+            lines.append(f'_Static_assert(offsetof(struct {name}, {field}) == {at}, "offset of {name}.{field}");')
+    return "\n".join(lines) + "\n"
+
+
+def compared():
+    """What is compared, and how it differs; and the program that asserts sizes and offsets."""
+    text, header = sources(), text_of(HEADER)
+    structs = Structs(text)
+    count, numbers = len(structs.functions(text)), len(numbers_of_header(header))
+    return [
+        (f"the header's {len(structs.all)} structs have the fields of the sources, in their order", list(check_structs(structs, header))),
+        (f"its {count} functions take and answer what the exports do", list(check_functions(structs, header, text))),
+        (f"its {numbers} numbers are those of the sources", list(check_numbers(header, text))),
+    ], assertions(structs)
