@@ -76,6 +76,8 @@ class Structs:
         if many:
             return self.in_c(name, many[1])[0], name, int(many[2])
         if kind in self.rattle and not kind.startswith("Lag"):
+            if len(self.rattle[kind]) != 1:
+                raise Unread(f"{kind} has not one field")
             [(_, kind)] = self.rattle[kind]
         return self.kind(kind), NAMES.get(name, name), 0
 
@@ -127,8 +129,9 @@ class Structs:
 def unlike(what, wanted, found):
     """What differs between the sources and the header, a line each."""
     for name in sorted(wanted.keys() | found.keys()):
-        if wanted.get(name) != found.get(name):
-            yield f"{what} {name}: the sources have {wanted.get(name)}; the header has {found.get(name)}"
+        here, there = wanted.get(name, "nothing"), found.get(name, "nothing")
+        if here != there:
+            yield f"{what} {name}: the sources have {here}; the header has {there}"
 
 
 def check_structs(structs, header):
