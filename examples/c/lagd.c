@@ -192,7 +192,7 @@ static void read_links(void) {
     }
 }
 
-/* Takes the changes that the kernel tells of interfaces, in their order, so that none is too short to be seen. Each is one
+/* Takes the changes that the kernel tells of interfaces, in their order: a link may go down and up between two ticks. Each is one
  * datagram, whose head has all that is wanted. Where the kernel had no room for some, it says so. */
 static void take_changes(int route) {
     struct {

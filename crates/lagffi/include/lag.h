@@ -11,8 +11,8 @@
  * - The program's malloc, realloc and free belong together, and align to 16 octets.
  * - A program that calls `lagffi_` functions itself, without those below, gives them no null pointer.
  *
- * Every function answers a number: LAG_OK, or why it refused. Then it changed nothing, and wrote to no buffer. A null pointer,
- * a handle with no system, a wrong length and an unknown port are refused so. */
+ * Every function answers a number: LAG_OK, or why it refused. One that refuses changes nothing and writes to no buffer. A null
+ * pointer, a handle with no system, a wrong length and an unknown port are refused so. */
 #ifndef LAG_H
 #define LAG_H
 
@@ -174,7 +174,7 @@ struct lag_assignment {
 struct lag_marker {
     uint32_t status;
     bool left;   /* whether an identifier is left */
-    uint32_t id; /* the next one */
+    uint32_t id; /* the next one, or 0 */
 };
 
 /* The library itself. No pointer given to these is null. */
