@@ -160,7 +160,7 @@ def numbers_of_header(header):
         for name, given in re.findall(r"(\w+)(?: = (\d+))?", body):
             number = int(given) if given else number + 1
             if name in found:
-                raise Unread(f"{name} stands twice")
+                raise Unread(f"{name} stands twice in the header")
             found[name] = number
     return found
 
@@ -175,19 +175,26 @@ def variants(text, enums):
             yield snake(matched[1]).upper(), number[0]
 
 
-def numbers_of_sources(text):
-    """The constants, the refusals of a system, and the numbers that lagffi gives to variants."""
-    found = {}
+def numbers_of_sources(text, header):
+    """The refusals of a system, the numbers that lagffi gives to variants, and its constants. A constant may have another name in
+    the header, but no other number: there it is looked for by its number."""
     faults = re.search(r"impl SystemFault \{(.*?)\n\}", text_of(FAULTS), re.S)[1]
-    constants = re.findall(r"\bconst (\w+): \w+ = (\d+);", text)
-    for name, number in [*constants, *variants(faults, "SystemFault"), *variants(text, TOLD)]:
-        if found.setdefault(f"LAG_{name}", int(number)) != int(number):
-            raise Unread(f"{name} has two numbers")
+    numbers = [(f"LAG_{name}", int(number)) for name, number in [*variants(faults, "SystemFault"), *variants(text, TOLD)]]
+    for name, number in re.findall(r"\bconst (\w+): (?:u32|usize) = (\d+);", text):
+        name, number = f"LAG_{name}", int(number)
+        if name not in header:
+            name = next((other for other in header if header[other] == number), name)
+        numbers.append((name, number))
+    found = {}
+    for name, number in numbers:
+        if found.setdefault(name, number) != number:
+            raise Unread(f"{name} has two numbers in the sources")
     return found
 
 
 def check_numbers(header, text):
-    return unlike("number", {**numbers_of_sources(text), **OWN}, numbers_of_header(header))
+    found = numbers_of_header(header)
+    return unlike("number", {**numbers_of_sources(text, found), **OWN}, found)
 
 
 def assertions(structs):
