@@ -1,11 +1,9 @@
 /* Calls every function of lag.h and checks what it answers: two systems of two ports each, joined port by port, come to
  * distribute; a conversation moves behind a marker; each refusal has its number, each field its place, and each function refuses
- * each null pointer. It prints one line for each check that fails and then 'calls: N passed, M failed', and ends with status 1 if
- * one failed. */
-#define _XOPEN_SOURCE 700
+ * each null pointer; lag_new and lag_free alone take and give back memory. It prints one line for each check that fails and then
+ * 'calls: N passed, M failed', and ends with status 1 if one failed. It is linked with --wrap for malloc, realloc and free. */
 #include <stdio.h>
 #include <stdlib.h>
-#include <sys/resource.h>
 
 #include "lag.h"
 
@@ -34,7 +32,34 @@ static void check(bool holds, const char *what) {
 }
 #define CHECK(fact) check((fact), #fact)
 
-/* The last two identifiers of a marker. */
+/* The library's memory: how many blocks it holds, how often it asked, and which asking is refused, if any. */
+static unsigned blocks, askings, refused;
+void *__real_malloc(size_t size);
+void *__real_realloc(void *block, size_t size);
+void __real_free(void *block);
+
+static bool refuses(void) {
+    return ++askings == refused;
+}
+
+void *__wrap_malloc(size_t size) {
+    void *block = refuses() ? NULL : __real_malloc(size);
+    blocks += block != NULL;
+    return block;
+}
+
+void *__wrap_realloc(void *old, size_t size) {
+    void *block = refuses() ? NULL : __real_realloc(old, size);
+    blocks += old == NULL && block != NULL;
+    return block;
+}
+
+void __wrap_free(void *block) {
+    blocks -= block != NULL;
+    __real_free(block);
+}
+
+/* The last but one of the identifiers of markers. */
 #define FIRST_MARKER 0xfffffffe
 
 /* Makes a system of two ports. What differs between systems and ports tells which. */
@@ -150,30 +175,31 @@ static void check_refusals(struct lag *live) {
     CHECK(lag_receive(live, 1, frame, sizeof frame, frame, sizeof frame).what == LAG_DISABLED);
 }
 
-/* Those of lag_new. It needs some 400,000 octets for 64 ports, which are not there where no more memory may be mapped. */
+/* Those of a configuration, and of memory: each asking for it is refused in turn. */
 static void check_refused_makes(void) {
     struct lag empty = LAG_EMPTY;
     struct lag_config config = {0, {0}, 0, 0};
     struct lag_port ports[LAG_MOST + 1] = {{0}};
     uint16_t keys[LAG_MOST + 1] = {0};
-    struct rlimit all, none;
     struct lag_made made;
+    unsigned nth = 0, before = blocks;
     for (uint16_t i = 0; i <= LAG_MOST; i++) ports[i].number = (uint16_t)(i + 1);
     made = lag_new(&empty, &config, keys, 1, ports, LAG_MOST + 1);
     CHECK(made.status == LAG_BAD_CONFIG && made.reason == 1 && made.place == 0);
     made = lag_new(&empty, &config, keys, LAG_MOST + 1, ports, 1);
     CHECK(made.status == LAG_BAD_CONFIG && made.reason == 2 && made.place == 0);
     CHECK(lag_new(&empty, &config, keys, 0, ports, 1).reason == 2 && lag_new(&empty, &config, keys, 1, ports, 0).reason == 1);
-    CHECK(getrlimit(RLIMIT_AS, &all) == 0);
-    none = all;
-    none.rlim_cur = 0;
-    CHECK(setrlimit(RLIMIT_AS, &none) == 0);
-    made = lag_new(&empty, &config, keys, LAG_MOST, ports, LAG_MOST);
-    CHECK(setrlimit(RLIMIT_AS, &all) == 0);
-    CHECK(made.status == LAG_NO_MEMORY && made.reason == 0 && made.place == 0);
+    do {
+        refused = askings + ++nth;
+        made = lag_new(&empty, &config, keys, LAG_MOST, ports, LAG_MOST);
+        CHECK(made.status == LAG_OK || (made.status == LAG_NO_MEMORY && made.reason == 0 && made.place == 0));
+        CHECK(made.status == LAG_OK || (!empty.live && !empty.at && blocks == before));
+    } while (made.status == LAG_NO_MEMORY && nth < 100);
+    refused = 0;
+    CHECK(nth > 1 && blocks > before && lag_free(&empty) == LAG_OK && blocks == before);
     ports[4].number = 4;
     made = lag_new(&empty, &config, keys, 1, ports, LAG_MOST);
-    CHECK(made.status == LAG_BAD_CONFIG && made.reason == 3 && made.place == 5 && !empty.live && !empty.at);
+    CHECK(made.status == LAG_BAD_CONFIG && made.reason == 3 && made.place == 5 && !empty.live && !empty.at && blocks == before);
 }
 
 /* Three ports, each with a flag of its own, and no two numbers alike: each field is seen in its place. */
@@ -346,6 +372,7 @@ static void check_individual(struct lag *one, struct lag *other) {
 int main(void) {
     struct lag one = LAG_EMPTY, other = LAG_EMPTY;
     uint16_t agg;
+    unsigned asked;
     for (size_t i = 0; i < sizeof exports / sizeof *exports; i++) check(exports[i].at != 0, exports[i].name);
     CHECK(!one.live && !one.at);
     make(&one, 1, 7);
@@ -355,6 +382,7 @@ int main(void) {
     check_refusals(&one);
     check_refused_makes();
     check_fields();
+    asked = askings;
     check_first_frame(&one);
     check_faults(&one);
     CHECK(lag_set_link(&one, 2, true) == LAG_OK && lag_set_link(&other, 1, true) == LAG_OK);
@@ -367,7 +395,8 @@ int main(void) {
     check_last_marker(&one, &other, agg);
     check_individual(&one, &other);
     CHECK(lag_restart(&one) == LAG_OK && !lag_is_up(&one, 1).is && lag_next_marker(&one).id == FIRST_MARKER);
-    CHECK(lag_free(&one) == LAG_OK && !one.live && lag_free(&one) == LAG_NO_SYSTEM && lag_free(&other) == LAG_OK);
+    CHECK(askings == asked && blocks > 0);
+    CHECK(lag_free(&one) == LAG_OK && !one.live && lag_free(&one) == LAG_NO_SYSTEM && lag_free(&other) == LAG_OK && blocks == 0);
     printf("calls: %u passed, %u failed\n", passed, failed);
     return failed > 0;
 }
