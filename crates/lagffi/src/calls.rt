@@ -1,7 +1,9 @@
-ghost use Rattle.std.specs.Prelude.{◌≡◌, ◌==◌, Bool, IsTrue, ℕ, List, Option, Result, length};
+ghost use Rattle.std.specs.Prelude.{◌≡◌, ◌==◌, ◌<◌, Bool, IfOk, IsTrue, ℕ, List, Option, Result, length};
 ghost use Rattle.std.specs.Bool.{IsFalse};
 ghost use Rattle.lagsystem.specs.Calls.{Call};
-ghost use Rattle.lagsystem.specs.Readers.{aggregator_numbered};
+ghost use Rattle.lagmodel.specs.View.{first_view};
+ghost use Rattle.lagsystem.specs.ModelView.{model_setup, model_view};
+ghost use Rattle.lagsystem.specs.Readers.{aggregator_numbered, conversation_count, number_of_conversation};
 ghost use Rattle.lagsystem.specs.declared.received.Received.{Received};
 ghost use Rattle.lagsystem.specs.declared.drive.Reply.{Reply};
 ghost use Rattle.lagsystem.specs.declared.fault.SystemFault.{SystemFault};
@@ -123,7 +125,8 @@ pub extern "C" fn lagffi_configure(
 #[unsafe(no_mangle)]
 pub extern "C" fn lagffi_restart(alloc: Global, lag: &mut Lag) -> u32
     ensures { CallsSystem (held_state lag.old.held.kept) (held_state lag.new.held.kept)
-        (λ old new. Answers by_number_gives old Call.Restart Reply.Restart new × (result ≡ 0)) (result ≡ no_system) }
+        (λ old new. Answers by_number_gives old Call.Restart Reply.Restart new × (model_view new ≡ first_view (model_setup old)) × (result ≡ 0))
+        (result ≡ no_system) }
 {
     let Some((kept, block)) = lag.take(alloc) else {
         return NO_SYSTEM;
@@ -166,6 +169,7 @@ pub extern "C" fn lagffi_transmit(
 pub extern "C" fn lagffi_offer(alloc: Global, lag: &mut Lag, agg: u16, frame: &[u8]) -> LagNumber
     ensures { CallsSystem (held_state lag.old.held.kept) (held_state lag.new.held.kept)
         (λ old new. (answer : Result ℕ SystemFault) × Answers by_number_gives old (Call.Offer (aggregator_numbered agg) frame.now) (Reply.Offer answer) new
+        × IfOk answer (λ port. number_of_conversation old frame.now < conversation_count old)
         × (result ≡ number_of answer)) (result ≡ no_number no_system) }
 {
     let Some((kept, block)) = lag.take(alloc) else {

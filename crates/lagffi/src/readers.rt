@@ -1,12 +1,14 @@
-ghost use Rattle.std.specs.Prelude.{◌≡◌, ◌==◌, IsTrue, MatchOption, length, option_map};
-ghost use Rattle.std.specs.Bool.{IsFalse};
+ghost use Rattle.std.specs.Prelude.{◌≡◌, ◌==◌, ◌<◌, [], IfSome, IsTrue, MatchOption, length, option_map};
+ghost use Rattle.std.specs.Bool.{IsFalse, OnFalse};
+ghost use Rattle.std.specs.List.Sorted.{IsStrictlyIncreasing};
 ghost use Rattle.portmachines.specs.Mux.{same_mux_state};
 ghost use Rattle.portmachines.specs.Transmit.{actor_state};
 ghost use Rattle.portmachines.specs.declared.mux.MuxState.{MuxState};
 ghost use Rattle.distributor.specs.Chains.{names_port};
 ghost use Rattle.distributor.specs.Conversations.{how_many, next_identifier};
 ghost use Rattle.lagsystem.specs.Hosts.{conversation_at, due_of};
-ghost use Rattle.lagsystem.specs.Readers.{aggregator_numbered, conversation_in, distributing, group_at};
+ghost use Rattle.lagsystem.specs.Offers.{has_aggregator};
+ghost use Rattle.lagsystem.specs.Readers.{aggregator_numbered, conversation_count, conversation_in, distributing, group_at};
 ghost use Rattle.lagsystem.specs.State.{port_numbers, place_of, machines_of};
 ghost use Rattle.lagffi.specs.Asking.{AsksSystem};
 ghost use Rattle.lagffi.specs.Holding.{held_state};
@@ -223,7 +225,8 @@ pub extern "C" fn lagffi_aggregators(alloc: Global, lag: &mut Lag) -> LagNumber
 #[unsafe(no_mangle)]
 pub extern "C" fn lagffi_conversation(alloc: Global, lag: &mut Lag, frame: &[u8]) -> LagNumber
     ensures { AsksSystem (held_state lag.old.held.kept) (held_state lag.new.held.kept)
-        (λ s. result ≡ number_in 3 (conversation_in s frame.now)) (result ≡ no_number no_system) }
+        (λ s. (result ≡ number_in 3 (conversation_in s frame.now)) × IfSome (conversation_in s frame.now) (λ conv. conv < conversation_count s))
+        (result ≡ no_number no_system) }
 {
     let Some((kept, block)) = lag.take(alloc) else {
         return LagNumber::refused(NO_SYSTEM);
@@ -274,7 +277,8 @@ pub extern "C" fn lagffi_next_marker(alloc: Global, lag: &mut Lag) -> LagMarker
 pub extern "C" fn lagffi_ports(alloc: Global, lag: &mut Lag, buffer: &mut [u16]) -> LagNumber
     ensures room { IsFalse (length buffer.old == list_length) → (result ≡ no_number wrong_buffer_length) × (held_state lag.new.held.kept ≡ held_state lag.old.held.kept) × (buffer.new ≡ buffer.old) }
     ensures answers { IsTrue (length buffer.old == list_length) → AsksSystem (held_state lag.old.held.kept) (held_state lag.new.held.kept)
-        (λ s. (result ≡ number (length (port_numbers s.slots))) × (buffer.new ≡ put_first (port_numbers s.slots) buffer.old))
+        (λ s. (result ≡ number (length (port_numbers s.slots))) × (buffer.new ≡ put_first (port_numbers s.slots) buffer.old)
+        × IsStrictlyIncreasing (port_numbers s.slots))
         ((result ≡ no_number no_system) × (buffer.new ≡ buffer.old)) }
 {
     if buffer.len() != MOST {
@@ -299,7 +303,9 @@ pub extern "C" fn lagffi_distributing(
 ) -> LagNumber
     ensures room { IsFalse (length buffer.old == list_length) → (result ≡ no_number wrong_buffer_length) × (held_state lag.new.held.kept ≡ held_state lag.old.held.kept) × (buffer.new ≡ buffer.old) }
     ensures answers { IsTrue (length buffer.old == list_length) → AsksSystem (held_state lag.old.held.kept) (held_state lag.new.held.kept)
-        (λ s. (result ≡ number (length (distributing (aggregator_numbered agg) s.slots))) × (buffer.new ≡ put_first (distributing (aggregator_numbered agg) s.slots) buffer.old))
+        (λ s. (result ≡ number (length (distributing (aggregator_numbered agg) s.slots))) × (buffer.new ≡ put_first (distributing (aggregator_numbered agg) s.slots) buffer.old)
+        × IsStrictlyIncreasing (distributing (aggregator_numbered agg) s.slots)
+        × OnFalse (has_aggregator s (aggregator_numbered agg)) (distributing (aggregator_numbered agg) s.slots ≡ []))
         ((result ≡ no_number no_system) × (buffer.new ≡ buffer.old)) }
 {
     if buffer.len() != MOST {

@@ -1,5 +1,9 @@
-use mathlib.Core.Path.{◌∙◌, ap}
-use Rattle.std.specs.Prelude.{length}
+use mathlib.Core.Path.{◌≡◌, ◌∙◌, ap, subst}
+use Rattle.std.specs.Prelude.{ℕ, List, [], length}
+use Rattle.std.specs.Bool.{OnFalse}
+use Rattle.std.specs.List.Sorted.{IsStrictlyIncreasing}
+use Rattle.lagsystem.specs.Offers.{has_aggregator}
+use Rattle.lagsystem.specs.Readers.{aggregator_numbered}
 use Rattle.lagffi.specs.Lists.{put_first}
 use Rattle.lagffi.specs.Numbers.{number}
 use Rattle.lagffi.proofs.AskingLemmas.{asked}
@@ -10,4 +14,6 @@ returns-clause-answers c fits =
     asked _ _ c.in-Some.ensures.taken c.with_algorithm-system.ensures.state c.with_algorithm.ensures.state c.put.ensures (
       c.told.ensures ∙ ap number (c.put_first.ensures.count ∙ ap length c.distributing-told.ensures.all),
       c.put_first.ensures.written ∙ ap (λ ns. put_first ns c.args.buffer.now) c.distributing-told.ensures.all,
+      subst (λ ns. IsStrictlyIncreasing ns) c.distributing-told.ensures.all c.distributing-told.ensures.ascending,
+      subst (λ (ns : List ℕ). OnFalse (has_aggregator c.with_algorithm-system.result.state (aggregator_numbered c.args.agg)) (ns ≡ [])) c.distributing-told.ensures.all c.distributing-told.ensures.unknown,
     )

@@ -1,5 +1,6 @@
-use mathlib.Core.Path.{◌∙◌, ap}
+use mathlib.Core.Path.{◌∙◌, ap, subst}
 use Rattle.std.specs.Prelude.{length}
+use Rattle.std.specs.List.Sorted.{IsStrictlyIncreasing}
 use Rattle.lagffi.specs.Lists.{put_first}
 use Rattle.lagffi.specs.Numbers.{number}
 use Rattle.lagffi.proofs.AskingLemmas.{asked}
@@ -10,4 +11,5 @@ returns-clause-answers c fits =
     asked _ _ c.in-Some.ensures.taken c.with_algorithm-system.ensures.state c.with_algorithm.ensures.state c.put.ensures (
       c.told.ensures ∙ ap number (c.put_first.ensures.count ∙ ap length c.ports-told.ensures.all),
       c.put_first.ensures.written ∙ ap (λ ns. put_first ns c.args.buffer.now) c.ports-told.ensures.all,
+      subst (λ ns. IsStrictlyIncreasing ns) c.ports-told.ensures.all c.ports-told.ensures.ascending,
     )
