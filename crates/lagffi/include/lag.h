@@ -51,7 +51,7 @@ enum {
     LAG_NOT_ASSIGNED = 9,      /* the conversation is free, or there is no such conversation or aggregator */
     LAG_MARKERS_SPENT = 10,    /* no marker identifier is left */
     LAG_BAD_CONFIG = 11,       /* the configuration is refused */
-    LAG_NO_MEMORY = 12,        /* memory was refused; only lag_new answers it, maybe before it looks for a bad configuration */
+    LAG_NO_MEMORY = 12,        /* memory was refused; only lag_new answers it, of a configuration that is not refused */
     LAG_NO_SYSTEM = 13,        /* the handle holds no system */
     LAG_LIVE = 14,             /* lag_new: the handle holds a system already */
     LAG_BUFFER = 15,           /* a buffer has another length than the function asks */

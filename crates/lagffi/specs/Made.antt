@@ -1,12 +1,15 @@
 -- What lag_new makes of a configuration, and what it tells.
-use Rattle.std.specs.Prelude.{◌≡◌, ◌⊎◌, ℕ, List, map}
+use Rattle.std.specs.Prelude.{◌≡◌, ℕ, List, Option, None, map}
 use Rattle.lagtypes.specs.declared.identifiers.Key.{Key}
 use Rattle.lagsystem.specs.declared.config.PortConfig.{PortConfig}
+use Rattle.lagsystem.specs.declared.fault.BadConfig.{BadConfig}
 use Rattle.lagsystem.specs.declared.fault.BadConfig.TheVariants.{Ports, Aggregators, PortNumber}
 use Rattle.lagsystem.specs.declared.fault.SystemFault.{SystemFault}
-use Rattle.lagsystem.specs.declared.fault.SystemFault.TheVariants.{BadConfig, NoMemory}
+use Rattle.lagsystem.specs.declared.fault.SystemFault.TheVariants.{BadConfig as Bad}
 use Rattle.lagsystem.specs.Faults.{fault_number}
+use Rattle.lagmodel.specs.View.{first_view}
 use Rattle.lagsystem.specs.First.{IsFirst, fault_or_no_memory, refusal}
+use Rattle.lagsystem.specs.ModelView.{model_setup, model_view}
 use Rattle.lagsystem.specs.Sound.{Agrees}
 use Rattle.lagsystem.specs.State.{SystemState}
 use Rattle.lagffi.specs.declared.made.LagConfig.{LagConfig}
@@ -34,10 +37,17 @@ port_config_of p =
       short = p.short_timeout;
     }
 
--- the first state of a system with this configuration, whose ports agree
+-- the first reason to refuse these keys and ports
+abbrev pub refusal_of : List ℕ → List LagPort → Option BadConfig
+refusal_of keys ports = refusal (map key_of keys) (map port_config_of ports)
+
+-- The first state of a system with this configuration, which is accepted: its ports agree, and it shows as the first view of the
+-- law does.
 pub record IsMade (config : LagConfig) (of_keys : List ℕ) (of_ports : List LagPort) (s : SystemState) : Type 0 where
   pub first : IsFirst s
   pub agrees : Agrees s
+  pub shows : model_view s ≡ first_view (model_setup s)
+  pub accepted : refusal_of of_keys of_ports ≡ None
   pub priority : s.system.priority ≡ config.priority
   pub mac : s.system.mac ≡ config.mac
   pub max_delay : s.max_delay ≡ config.max_delay
@@ -45,9 +55,9 @@ pub record IsMade (config : LagConfig) (of_keys : List ℕ) (of_ports : List Lag
   pub keys : s.keys ≡ map key_of of_keys
   pub ports : s.ports ≡ map port_config_of of_ports
 
--- why none is made: memory was refused, or the first reason to refuse the configuration
-abbrev pub RefusesToMake : List ℕ → List LagPort → SystemFault → Type 0
-RefusesToMake keys ports fault = (fault ≡ NoMemory) ⊎ (fault ≡ fault_or_no_memory (refusal (map key_of keys) (map port_config_of ports)))
+-- why none is made: the first reason to refuse the configuration; without a reason, memory was refused
+abbrev pub why_refused : List ℕ → List LagPort → SystemFault
+why_refused keys ports = fault_or_no_memory (refusal_of keys ports)
 
 -- a status alone, without a reason to refuse a configuration; with status 0, the system was made
 abbrev pub not_made : ℕ → LagMade
@@ -55,7 +65,7 @@ not_made status = record { status = status; reason = 0; place = 0 }
 
 -- a refusal, with the reason to refuse a configuration
 abbrev pub no_made : SystemFault → LagMade
-no_made (BadConfig Ports) = record { status = 11; reason = 1; place = 0 }
-no_made (BadConfig Aggregators) = record { status = 11; reason = 2; place = 0 }
-no_made (BadConfig (PortNumber place)) = record { status = 11; reason = 3; place = place }
+no_made (Bad Ports) = record { status = 11; reason = 1; place = 0 }
+no_made (Bad Aggregators) = record { status = 11; reason = 2; place = 0 }
+no_made (Bad (PortNumber place)) = record { status = 11; reason = 3; place = place }
 no_made fault = not_made (fault_number fault)

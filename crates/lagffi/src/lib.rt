@@ -11,5 +11,6 @@ mod handle;
 mod made;
 mod reader_values;
 mod readers;
+mod refusal;
 mod stored;
 mod values;

@@ -1,10 +1,12 @@
 ghost use Rattle.std.specs.Prelude.{◌≡◌, IfErr, IfOk, IsTrue, MatchOption, None, is_some, map};
 ghost use Rattle.lagsystem.specs.declared.fault.SystemFault.{SystemFault};
 ghost use Rattle.lagffi.specs.Holding.{held_state};
-ghost use Rattle.lagffi.specs.Made.{IsMade, RefusesToMake, key_of, holds_system_already, no_made, not_made, port_config_of};
+ghost use Rattle.lagffi.specs.Numbers.{no_system};
+ghost use Rattle.lagffi.specs.Made.{IsMade, holds_system_already, key_of, no_made, not_made, port_config_of, refusal_of, why_refused};
 
-use crate::handle::Lag;
-use crate::stored::{StoredSystem, by_number};
+use crate::handle::{Held, Lag};
+use crate::refusal::refusal;
+use crate::stored::by_number;
 use crate::values::{NO_SYSTEM, OK};
 use lagsystem::{BadConfig, Config, Key, NoMemory, PortConfig, System, SystemFault, SystemId};
 use std::alloc::Global;
@@ -130,15 +132,16 @@ fn ports_of(alloc: Global, ports: &[LagPort]) -> Result<Vec<PortConfig>, NoMemor
     Ok(found)
 }
 
-/// Makes the system of this configuration, with no algorithm.
+/// Makes the system of this configuration, which is accepted, with no algorithm; refused if memory is.
 fn system_of(
     alloc: Global,
     config: &LagConfig,
     keys: &[u16],
     ports: &[LagPort],
 ) -> Result<System<()>, SystemFault>
+    requires accepted { refusal_of keys.now ports.now ≡ None }
     ensures made { IfOk result (λ system. IsMade config.now keys.now ports.now system.state) }
-    ensures refused { IfErr result (λ fault. RefusesToMake keys.now ports.now fault) }
+    ensures refused { IfErr result (λ fault. fault ≡ SystemFault.NoMemory) }
 {
     let config = Config {
         system: SystemId {
@@ -154,17 +157,8 @@ fn system_of(
     Ok(system.with_algorithm(()))
 }
 
-/// An empty block, with room for a system.
-fn room(alloc: Global) -> Result<Box<StoredSystem>, SystemFault>
-    ensures { IfErr result (λ fault. fault ≡ SystemFault.NoMemory) }
-{
-    match Box::new(alloc, StoredSystem { system: None }) {
-        Ok(block) => Ok(block),
-        Err(_) => Err(SystemFault::NoMemory),
-    }
-}
-
-/// Makes a system with all links down, and puts it into an empty handle. It is refused for what `System::new` refuses.
+/// Makes a system with all links down, and puts it into an empty handle. It is refused for what `System::new` refuses,
+/// and a configuration is looked at before memory is taken.
 #[unsafe(no_mangle)]
 pub extern "C" fn lagffi_new(
     alloc: Global,
@@ -175,23 +169,28 @@ pub extern "C" fn lagffi_new(
 ) -> LagMade
     ensures live { IsTrue (is_some (held_state lag.old.held.kept)) → (result ≡ not_made holds_system_already) × (held_state lag.new.held.kept ≡ held_state lag.old.held.kept) }
     ensures made { held_state lag.old.held.kept ≡ None → MatchOption (held_state lag.new.held.kept)
-        ((fault : SystemFault) × RefusesToMake keys.now ports.now fault × (result ≡ no_made fault))
+        (result ≡ no_made (why_refused keys.now ports.now))
         (λ s. IsMade config.now keys.now ports.now s × (result ≡ not_made 0)) }
 {
     if let Some((system, block)) = lag.take(alloc) {
         lag.put(system, block);
         return LagMade::told(LIVE);
     }
-    let block = match room(alloc) {
-        Ok(block) => block,
-        Err(fault) => return LagMade::refused(&fault),
+    if let Some(reason) = refusal(keys, ports) {
+        return LagMade::refused(&SystemFault::BadConfig(reason));
+    }
+    let Some(room) = Held::room(alloc) else {
+        return LagMade::refused(&SystemFault::NoMemory);
     };
     match system_of(alloc, config, keys, ports) {
         Ok(system) => {
-            lag.put(system, block);
+            lag.put(system, room);
             LagMade::told(OK)
         }
-        Err(fault) => LagMade::refused(&fault),
+        Err(fault) => {
+            room.free();
+            LagMade::refused(&fault)
+        }
     }
 }
 
@@ -199,10 +198,13 @@ pub extern "C" fn lagffi_new(
 #[unsafe(no_mangle)]
 pub extern "C" fn lagffi_free(alloc: Global, lag: &mut Lag) -> u32
     ensures left { held_state lag.new.held.kept ≡ None }
-    ensures told { MatchOption (held_state lag.old.held.kept) (result ≡ 13) (λ s. result ≡ 0) }
+    ensures told { MatchOption (held_state lag.old.held.kept) (result ≡ no_system) (λ s. result ≡ 0) }
 {
     match lag.take(alloc) {
-        Some(_) => OK,
+        Some((_, block)) => {
+            block.free();
+            OK
+        }
         None => NO_SYSTEM,
     }
 }

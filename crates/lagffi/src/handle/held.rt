@@ -1,4 +1,4 @@
-ghost use Rattle.std.specs.Prelude.{◌≡◌, Option, None, Some, IsTrue, is_some};
+ghost use Rattle.std.specs.Prelude.{◌≡◌, IfSome, Option, None, Some, IsTrue, is_some};
 ghost use Rattle.lagffi.specs.Owned.{held_owns, kept_coded};
 ghost use Rattle.lagffi.specs.declared.stored.StoredSystem.{StoredSystem};
 
@@ -8,9 +8,9 @@ use std::alloc::Global;
 use std::marker::Model;
 use std::ptr::null_mut;
 
-/// The block of a kept system, or none. Its type names no system, as C has to see it.
+/// The block of a kept system, or none. Its type names no system, as C has to see it. Only an empty one may be dropped: a block
+/// goes by `free`.
 #[repr(C)]
-#[derive(Drop)]
 pub struct Held {
     ptr: *mut u8,
     alloc: Global,
@@ -21,8 +21,16 @@ impl Model for Held {
     ghost also_owns = { λ h. held_owns h.alloc h.ptr h.kept };
 }
 
+impl Drop for Held {
+    fn drop(self)
+        requires { self.kept ≡ None }
+    {
+        let Held { ptr: _, alloc: _ } = self;
+    }
+}
+
 impl Held {
-    /// No system.
+    /// No block.
     pub(super) fn none(alloc: Global) -> Held
         ensures { result.kept ≡ None }
     {
@@ -32,8 +40,18 @@ impl Held {
         }
     }
 
+    /// A block with room for a system, if memory is not refused.
+    pub(crate) fn room(alloc: Global) -> Option<Held>
+        ensures { IfSome result (λ held. IsTrue (is_some held.kept)) }
+    {
+        match Box::new(alloc, StoredSystem { system: None }) {
+            Ok(block) => Some(Held::of_parts(Parts::of(block))),
+            Err(_) => None,
+        }
+    }
+
     /// Holds a kept system.
-    pub(super) fn of_parts(parts: Parts<StoredSystem, Global>) -> Held
+    fn of_parts(parts: Parts<StoredSystem, Global>) -> Held
         ensures { result.kept ≡ Some parts.value }
     {
         let Parts { ptr, alloc } = parts;
@@ -44,7 +62,7 @@ impl Held {
     }
 
     /// Hands out the kept system that it holds.
-    pub(super) fn into_parts(self) -> Parts<StoredSystem, Global>
+    fn into_parts(self) -> Parts<StoredSystem, Global>
         requires { IsTrue (is_some self.kept) }
         ensures { self.kept ≡ Some result.value }
     {
@@ -53,5 +71,22 @@ impl Held {
             ptr: ptr as *mut StoredSystem,
             alloc,
         }
+    }
+
+    /// Keeps this in the block, and hands out what was there.
+    pub(super) fn replace(self, stored: StoredSystem) -> (StoredSystem, Held)
+        requires { IsTrue (is_some self.kept) }
+        ensures out { self.kept ≡ Some result.0 }
+        ensures kept { result.1.kept ≡ Some stored }
+    {
+        let (old, parts) = self.into_parts().replace(stored);
+        (old, Held::of_parts(parts))
+    }
+
+    /// Frees the block, and what it keeps.
+    pub(crate) fn free(self)
+        requires { IsTrue (is_some self.kept) }
+    {
+        drop(self.into_parts().free());
     }
 }

@@ -1,0 +1,35 @@
+ghost use Rattle.std.specs.Prelude.{◌≡◌, map};
+ghost use Rattle.lagsystem.specs.First.{configured_numbers, first_bad_port_number};
+ghost use Rattle.lagffi.specs.Made.{port_config_of, refusal_of};
+
+use crate::made::LagPort;
+use lagsystem::BadConfig;
+
+/// The place, counted from 1, of the first port whose number is not above the one before it, or is 0.
+fn first_bad_port_number(ports: &[LagPort]) -> Option<usize>
+    ensures { result ≡ first_bad_port_number 1 0 (configured_numbers (map port_config_of ports.now)) }
+{
+    let mut place = 0;
+    let mut low = 0;
+    for port in ports {
+        place += 1;
+        if port.number <= low {
+            return Some(place);
+        }
+        low = port.number;
+    }
+    None
+}
+
+/// The first reason to refuse these keys and ports, found before memory is taken; None if they are accepted.
+pub(crate) fn refusal(keys: &[u16], ports: &[LagPort]) -> Option<BadConfig>
+    ensures { result ≡ refusal_of keys.now ports.now }
+{
+    if ports.is_empty() || ports.len() > 64 {
+        return Some(BadConfig::Ports);
+    }
+    if keys.is_empty() || keys.len() > 64 {
+        return Some(BadConfig::Aggregators);
+    }
+    first_bad_port_number(ports).map(BadConfig::PortNumber)
+}
