@@ -1,11 +1,19 @@
 -- The Boolean tests in the definitions mean equality.
-use Rattle.std.proofs.Common.{◌≡◌, ◌↔◌, IsTrue, true, subst}
+use Rattle.std.proofs.Common.{◌≡◌, ◌↔◌, ◌||◌, Bool, IsTrue, true, false, refl, subst}
+use Rattle.std.specs.Prelude.{if◌then◌else◌}
+use Rattle.std.specs.Ordering.{is_lt}
+use Rattle.std.proofs.lemmas.Bool.{and_from, or_left, or_right}
 use Rattle.lagtypes.specs.declared.identifiers.SystemId.{SystemId}
-use Rattle.lagtypes.specs.Group.{SamePair, group_of}
+use Rattle.lagtypes.specs.declared.group.End.{End}
+use Rattle.lagtypes.specs.declared.group.Group.{Group}
+use Rattle.lagtypes.specs.declared.party.Party.{Party}
+use Rattle.lagtypes.specs.Group.{SamePair, end_of, group_of, individual}
+use Rattle.lagtypes.specs.Order.{end_cmp}
 use Rattle.lagtypes.proofs.GroupLemmas.{groups_from_pairs, pairs_from_groups}
-use Rattle.lagtypes.proofs.SameLemmas.{exact_group, exact_system, group-itself, system-itself}
+use Rattle.lagtypes.proofs.SameLemmas.{exact_group, exact_system, group-itself, itself, system-itself}
 use Rattle.selection.specs.declared.view.PortView.{PortView}
 use Rattle.lagtypes.specs.Same.{same_group, same_system}
+use Rattle.selection.specs.Standing.{has_side}
 use Rattle.selection.specs.Choice.{has_group_of}
 use Rattle.selection.specs.Joining.{ends}
 
@@ -21,3 +29,32 @@ test-from_group v w h =
 
 pub group-test : (v w : PortView) → IsTrue (has_group_of v w) ↔ SamePair (ends w) (ends v)
 group-test v w = (group-from_test v w, test-from_group v w)
+
+-- One end of the group of a link has the partner's key and system.
+
+abbrev ordered : Bool → End → End → Group
+ordered swapped e f = if swapped then record { lower = f; upper = e } else record { lower = e; upper = f }
+
+abbrev is_side : Group → Party → Bool
+is_side g p = has_side g.lower p || has_side g.upper p
+
+side-itself : (alone : Bool) (p : Party) → has_side (end_of alone p) p ≡ true
+side-itself alone p = and_from _ _ (itself p.key.0) (system-itself p.system)
+
+ordered-has : (swapped : Bool) (e f : End) (p : Party) → has_side f p ≡ true → is_side (ordered swapped e f) p ≡ true
+ordered-has true e f p h = or_left (has_side f p) (has_side e p) h
+ordered-has false e f p h = or_right (has_side e p) (has_side f p) h
+
+partner-kept : (a b : Party) → is_side (group_of a b) b ≡ true
+partner-kept a b =
+    ordered-has (is_lt (end_cmp (end_of (individual a b) b) (end_of (individual a b) a))) (end_of (individual a b) a) (end_of (individual a b) b) b
+    (side-itself (individual a b) b)
+
+differs : (a b : Party) (g : Group) (same : Bool) → same_group (group_of a b) g ≡ same → is_side g b ≡ false → same ≡ false
+differs a b g false e h = refl
+differs a b g true e h =
+    let kept : is_side g b ≡ true = subst (λ k. is_side k b ≡ true) (exact_group (group_of a b) g e) (partner-kept a b) in absurd cc
+
+-- so a group with no such end is another one
+pub group-without_partner : (a b : Party) (g : Group) → (has_side g.lower b || has_side g.upper b) ≡ false → same_group (group_of a b) g ≡ false
+group-without_partner a b g h = differs a b g (same_group (group_of a b) g) refl h

@@ -1,3 +1,4 @@
 pub mod Equal
 pub mod Joining
 pub mod Rising
+pub mod StandingLemmas

@@ -2,3 +2,4 @@ pub mod Views
 pub mod Choice
 pub mod Ready
 pub mod Joining
+pub mod Standing

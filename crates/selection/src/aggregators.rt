@@ -1,14 +1,13 @@
 ghost use Rattle.std.specs.Prelude.{◌≡◌, ◌≤◌, IfOk, IfSome, IsSomeAnd, filter, length};
 ghost use Rattle.std.specs.List.{list_all, list_any};
 ghost use Rattle.std.specs.List.Sorted.{IsStrictlyIncreasing};
-ghost use Rattle.lagtypes.specs.Group.{group_of};
 ghost use Rattle.selection.specs.Views.{has_waited, is_detached_or_waiting};
-ghost use Rattle.selection.specs.Choice.{choice_for, ports_that_chose, has_member, is_joinable, first_65535};
-ghost use Rattle.lagtypes.specs.Same.{same_group};
+ghost use Rattle.selection.specs.Choice.{choice_for, ports_that_chose, first_65535};
 
+use crate::standings::{Standing, Standings};
 use crate::view::{PortView, find_view};
 use arrayvec::ArrayVec;
-use lagtypes::{AggId, Group, Key, NoMemory};
+use lagtypes::{AggId, Key, NoMemory};
 use std::alloc::Global;
 use std::marker::Model;
 
@@ -134,48 +133,22 @@ fn all_have_waited(views: &[PortView], agg: AggId) -> bool
         .all(|view| view.has_waited())
 }
 
-/// Whether some port has chosen the aggregator.
-fn has_member(views: &[PortView], agg: AggId) -> bool
-    ensures { result ≡ has_member views.now agg }
-{
-    views.iter().any(|view| view.is_in(agg))
-}
-
-/// Whether all members of the aggregator have this group.
-fn all_share_group(views: &[PortView], agg: AggId, group: &Group) -> bool
-    ensures { result ≡ list_all (λ w. same_group (group_of w.party w.partner) group.now) (ports_that_chose agg views.now) }
-{
-    views
-        .iter()
-        .filter(|view| view.is_in(agg))
-        .all(|view| view.has_group(group))
-}
-
-/// Whether the aggregator has a member, and all members have this group, which is not Individual.
-fn is_joinable(views: &[PortView], port: &PortView, group: &Group, agg: AggId) -> bool
-    requires { group.now ≡ group_of port.now.party port.now.partner }
-    ensures { result ≡ is_joinable views.now port.now agg }
-{
-    !port.is_individual() && has_member(views, agg) && all_share_group(views, agg, group)
-}
-
 /// The lowest aggregator that an eligible port can join, else the lowest one with no member.
 fn choose_for(keys: &[Key], views: &[PortView], port: &PortView) -> Option<AggId>
     requires { length keys.now ≤ 65535 }
     ensures { result ≡ choice_for keys.now views.now port.now }
 {
-    let group = port.group();
+    let mut standings = Standings::after(0, views, port);
     let mut empty = None;
     let mut number = 0;
     for key in keys {
         number += 1;
         let agg = AggId(number);
         if *key == port.party.key {
-            if is_joinable(views, port, &group, agg) {
-                return Some(agg);
-            }
-            if empty.is_none() && !has_member(views, agg) {
-                empty = Some(agg);
+            match standings.of(agg, views, port) {
+                Standing::Joinable => return Some(agg),
+                Standing::Empty if empty.is_none() => empty = Some(agg),
+                _ => {}
             }
         }
     }

@@ -6,6 +6,7 @@
 
 mod aggregators;
 mod laws;
+mod standings;
 mod view;
 
 pub use aggregators::Aggregators;

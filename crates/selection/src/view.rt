@@ -1,10 +1,11 @@
-ghost use Rattle.std.specs.Prelude.{◌≡◌, ◌↔◌, IsTrue};
+ghost use Rattle.std.specs.Prelude.{◌≡◌, ◌↔◌, ◌||◌, IsTrue};
 ghost use Rattle.std.specs.List.Sorted.{IsStrictlyIncreasing};
 ghost use Rattle.lagtypes.specs.Group.{group_of, individual};
 ghost use Rattle.lagtypes.specs.Same.{same_group, same_system};
 ghost use Rattle.selection.specs.Views.{AreViews, has_waited, is_eligible, has_chosen, numbers, find_view, is_detached_or_waiting};
+ghost use Rattle.selection.specs.Standing.{has_side};
 
-use lagtypes::{AggId, Choice, Group, Party};
+use lagtypes::{AggId, Choice, End, Group, Party};
 
 /// How far the mux machine of a port has come, as the Selection Logic needs it (6.4.15).
 #[derive(Clone, Copy, Debug, Default, PartialEq, Eq)]
@@ -110,12 +111,26 @@ impl PortView {
         Group::of(&self.party, &self.partner)
     }
 
-    /// Whether the link has this group.
+    /// Whether the link has this group. What tells most groups apart is compared first.
     pub(crate) fn has_group(&self, group: &Group) -> bool
         ensures { result ≡ same_group (group_of self.now.party self.now.partner) group.now }
     {
-        self.group() == *group
+        self.has_partner_in(group) && self.group() == *group
     }
+
+    /// Whether an end of this group has the partner's key and system.
+    fn has_partner_in(&self, group: &Group) -> bool
+        ensures { result ≡ (has_side group.now.lower self.now.partner || has_side group.now.upper self.now.partner) }
+    {
+        has_side(&group.lower(), &self.partner) || has_side(&group.upper(), &self.partner)
+    }
+}
+
+/// Whether the end has the key and the system of these parameters.
+fn has_side(end: &End, party: &Party) -> bool
+    ensures { result ≡ has_side end.now party.now }
+{
+    end.key == party.key && end.system == party.system
 }
 
 /// The view of the port with this number.

@@ -1,0 +1,80 @@
+-- How an aggregator stands after one view more.
+use Rattle.std.proofs.Common.{◌≡◌, ℕ, ◌+◌, ◌<◌, Bool, true, false, not, ◌&&◌, ◌||◌, cond, List, [], ◌∷◌, length, take, get_or, refl, ◌∙◌, ap}
+use Rattle.std.specs.Prelude.{filter, if◌then◌else◌}
+use Rattle.std.specs.List.{list_all, list_any}
+use Rattle.std.proofs.lemmas.List.Folds.{list_all-append, list_any_more}
+use Rattle.std.proofs.lemmas.List.Elements.{filter_more}
+use Rattle.lagtypes.specs.declared.identifiers.AggId.{AggId}
+use Rattle.lagtypes.specs.Group.{individual}
+use Rattle.selection.specs.declared.standings.Standing.{Standing}
+use Rattle.selection.specs.declared.standings.Standing.TheVariants.{Empty, Joinable, Taken}
+use Rattle.selection.specs.declared.view.PortView.{PortView}
+use Rattle.selection.specs.Views.{has_chosen}
+use Rattle.selection.specs.Choice.{has_group_of}
+use Rattle.selection.specs.Standing.{standing, with_member, with_port}
+
+-- tests
+
+and-true : (b : Bool) → (b && true) ≡ b
+and-true true = refl
+and-true false = refl
+
+none_first : (f : PortView → Bool) (w : PortView) (rest : List PortView) (b any : Bool) → (b || any) ≡ false → (any ≡ false → list_all f rest ≡ true)
+    → list_all f (cond b (w ∷ rest) rest) ≡ true
+none_first f w rest true any h k = absurd cc
+none_first f w rest false any h k = k h
+
+-- where there is no member, all members pass
+none_differs : (p f : PortView → Bool) (views : List PortView) → list_any p views ≡ false → list_all f (filter p views) ≡ true
+none_differs p f [] h = refl
+none_differs p f (w ∷ ws) h = none_first f w (filter p ws) (p w) (list_any p ws) h (none_differs p f ws)
+
+-- a list of one or none
+of_one : (f : PortView → Bool) (w : PortView) (b : Bool) → list_all f (cond b (w ∷ []) []) ≡ cond b (f w) true
+of_one f w true = and-true (f w)
+of_one f w false = refl
+
+-- how an aggregator stands: whether the port is in no Individual link, there is a member, and all members have its group
+abbrev stands : Bool → Bool → Bool → Standing
+stands shared some all = if not some then Empty else (if (shared && some) && all then Joinable else Taken)
+
+stands-same : (shared some other_some all other_all : Bool) → some ≡ other_some → all ≡ other_all → stands shared some all ≡ stands shared other_some other_all
+stands-same shared some other_some all other_all e h = rw (e, h) refl
+
+-- one more port, which is a member or not
+stands-more : (shared some all is_in same : Bool) → (some ≡ false → all ≡ true)
+    → stands shared (some || is_in) (all && cond is_in same true) ≡ (if is_in then with_member (shared && same) (stands shared some all) else stands shared some all)
+stands-more shared false false is_in same h = let e : false ≡ true = h refl in absurd cc
+stands-more shared false true false same h = refl
+stands-more true false true true same h = refl
+stands-more false false true true same h = refl
+stands-more shared true true false same h = refl
+stands-more shared true false false same h = refl
+stands-more true true true true same h = refl
+stands-more true true false true same h = refl
+stands-more false true true true same h = refl
+stands-more false true false true same h = refl
+
+-- the same of views: which of them are members, and which have the port's group
+abbrev stands_in : (PortView → Bool) → (PortView → Bool) → Bool → List PortView → Standing
+stands_in p f shared views = stands shared (list_any p views) (list_all f (filter p views))
+
+all-next : (p f : PortView → Bool) (views : List PortView) (i : ℕ) (d : PortView) → i < length views
+    → list_all f (filter p (take (i + 1) views)) ≡ (list_all f (filter p (take i views)) && cond (p (get_or views i d)) (f (get_or views i d)) true)
+all-next p f views i d within =
+    ap (λ l. list_all f l) (filter_more p views i d within)
+    ∙ list_all-append f (filter p (take i views)) (cond (p (get_or views i d)) (get_or views i d ∷ []) [])
+    ∙ ap (λ b. list_all f (filter p (take i views)) && b) (of_one f (get_or views i d) (p (get_or views i d)))
+
+stands-next : (p f : PortView → Bool) (shared : Bool) (views : List PortView) (i : ℕ) (d : PortView) → i < length views
+    → stands_in p f shared (take (i + 1) views)
+    ≡ (if p (get_or views i d) then with_member (shared && f (get_or views i d)) (stands_in p f shared (take i views)) else stands_in p f shared (take i views))
+stands-next p f shared views i d within =
+    stands-same shared _ _ _ _ (list_any_more p views i d within) (all-next p f views i d within)
+    ∙ stands-more shared (list_any p (take i views)) (list_all f (filter p (take i views))) (p (get_or views i d)) (f (get_or views i d))
+    (none_differs p f (take i views))
+
+pub standing-more : (v : PortView) (agg : AggId) (views : List PortView) (i : ℕ) (d : PortView) → i < length views
+    → standing (take (i + 1) views) v agg ≡ with_port agg v (get_or views i d) (standing (take i views) v agg)
+standing-more v agg views i d within =
+    stands-next (λ w. has_chosen agg w.choice) (has_group_of v) (not (individual v.party v.partner)) views i d within

@@ -1,0 +1,10 @@
+use Rattle.std.proofs.Common.{◌≡◌, take}
+use Rattle.lagtypes.specs.Group.{group_of}
+use Rattle.selection.specs.Standing.{Tells}
+use Rattle.selection.proofs.standings.Standings.after.Given as goal
+
+abbrev pub invariant-loop-view : goal.invariant-loop-view
+invariant-loop-view l = record {
+  group : l.group ≡ group_of l.port.party l.port.partner;
+  tells : Tells (take l.view-index l.views) l.port l.before l.list;
+}

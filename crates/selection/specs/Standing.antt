@@ -1,0 +1,46 @@
+-- How an aggregator stands to a port that chooses.
+use Rattle.std.specs.Prelude.{◌≡◌, ℕ, ◌+◌, ◌<◌, ◌==◌, ◌&&◌, Bool, not, List, get_or, length, if◌then◌else◌}
+use Rattle.lagtypes.specs.declared.identifiers.AggId.{AggId}
+use Rattle.lagtypes.specs.declared.group.End.{End}
+use Rattle.lagtypes.specs.declared.party.Party.{Party}
+use Rattle.lagtypes.specs.Group.{individual}
+use Rattle.lagtypes.specs.Same.{same_system}
+use Rattle.selection.specs.declared.standings.Standing.{Standing}
+use Rattle.selection.specs.declared.standings.Standing.TheVariants.{Empty, Joinable, Taken}
+use Rattle.selection.specs.declared.view.PortView.{PortView}
+use Rattle.selection.specs.Views.{has_chosen}
+use Rattle.selection.specs.Choice.{has_group_of, is_empty, is_joinable}
+
+-- it has no member, or the port can join its members, or neither
+abbrev pub standing : List PortView → PortView → AggId → Standing
+standing views v agg = if is_empty views agg then Empty else (if is_joinable views v agg then Joinable else Taken)
+
+-- the member has the port's group, which is not Individual
+abbrev pub goes_with : PortView → PortView → Bool
+goes_with v member = not (individual v.party v.partner) && has_group_of v member
+
+-- how an aggregator stands once a port is a member too, which goes with the port or not
+abbrev pub with_member : Bool → Standing → Standing
+with_member goes Empty = if goes then Joinable else Taken
+with_member goes Joinable = if goes then Joinable else Taken
+with_member goes Taken = Taken
+
+-- the same of a port that may be in another aggregator, or in none
+abbrev pub with_port : AggId → PortView → PortView → Standing → Standing
+with_port agg v other was = if has_chosen agg other.choice then with_member (goes_with v other) was else was
+
+-- the aggregator at this place among those after a number
+abbrev pub aggregator_after : ℕ → ℕ → AggId
+aggregator_after before place = record { 0 = before + 1 + place }
+
+abbrev pub standing_at : List Standing → ℕ → Standing
+standing_at list place = get_or list place Empty
+
+-- the 64 aggregators after a number stand so to the port
+pub record Tells (views : List PortView) (v : PortView) (before : ℕ) (list : List Standing) : Type 0 where
+  pub many : length list ≡ 64
+  pub each : (place : ℕ) → place < 64 → standing_at list place ≡ standing views v (aggregator_after before place)
+
+-- the end of a group has the key and the system of these parameters
+abbrev pub has_side : End → Party → Bool
+has_side end party = (end.key.0 == party.key.0) && same_system end.system party.system
