@@ -66,7 +66,7 @@ pub const REPLAY: &str = "Runs a script of two systems and their cables, and pri
 
 /// The argument SCRIPT of `replay`.
 pub const SCRIPT: &str =
-    "A file in TOML, or - for standard input; docs/PROFILE.md has its keys and entries";
+    "A file in TOML, or - for standard input; docs/COMMAND.md has its keys and entries";
 
 /// What `replay` prints, and an example.
 pub const REPLAY_EXAMPLE: &str = "\

@@ -103,6 +103,7 @@ fn help_says_what_words_mean(rt: HostRuntime) -> Result<(), Fail> {
                 "lagtool replay <SCRIPT>",
                 "TOML",
                 "standard input",
+                "docs/COMMAND.md",
                 "lagtool replay examples/",
             ],
         ),
