@@ -4,7 +4,7 @@ use Rattle.std.proofs.lemmas.Bool.{cases_Bool, cases_eq, eqb-true, eq-eqb, ne_eq
 use Rattle.std.proofs.lemmas.List.{length-set, get_or-set_same, get_or-set_other, get_or_past, append-nil}
 use Rattle.distributor.specs.declared.assignment.Assignment.{Assignment}
 use Rattle.distributor.specs.declared.assignment.Assignment.TheVariants.{Free, On, Wanted, Flushing}
-use Rattle.distributor.specs.Chains.{assignment_port, chain_of, stands_in, occurs, Path, state_at, IsLinked}
+use Rattle.distributor.specs.Chains.{assignment_port, chain_of, is_in_chain, occurs, Path, slot_state, IsChained}
 
 abbrev pub last_of : ℕ → List ℕ → ℕ
 last_of a [] = a
@@ -159,32 +159,32 @@ cond_some true h = refl
 cond_some false h = absurd (omega arith)
 
 -- a state stands in one chain at most
-pub stands_once : (c d : ℕ) (s : Assignment) → stands_in c s ≡ true → stands_in d s ≡ true → c ≡ d
+pub stands_once : (c d : ℕ) (s : Assignment) → is_in_chain c s ≡ true → is_in_chain d s ≡ true → c ≡ d
 stands_once c d (Free preferred) h k = absurd (false≢true h)
 stands_once c d (On port) h k = sym (eqb-true (chain_of port) c h) ∙ eqb-true (chain_of port) d k
 stands_once c d (Wanted port preferred) h k = sym (eqb-true (chain_of port) c h) ∙ eqb-true (chain_of port) d k
 stands_once c d (Flushing port id preferred age) h k = sym (eqb-true (chain_of port) c h) ∙ eqb-true (chain_of port) d k
 
 -- the state of a port stands in the port's chain alone, a free one in none
-pub stands_some : (c port : ℕ) (s : Assignment) → assignment_port s ≡ Some port → stands_in c s ≡ eqb (chain_of port) c
+pub stands_some : (c port : ℕ) (s : Assignment) → assignment_port s ≡ Some port → is_in_chain c s ≡ eqb (chain_of port) c
 stands_some c port (Free preferred) h = absurd (cc)
 stands_some c port (On p) h = let e : p ≡ port = cc in ap (λ q. eqb (chain_of q) c) e
 stands_some c port (Wanted p preferred) h = let e : p ≡ port = cc in ap (λ q. eqb (chain_of q) c) e
 stands_some c port (Flushing p id preferred age) h = let e : p ≡ port = cc in ap (λ q. eqb (chain_of q) c) e
 
-pub stands_none : (c : ℕ) (s : Assignment) → assignment_port s ≡ None → stands_in c s ≡ false
+pub stands_none : (c : ℕ) (s : Assignment) → assignment_port s ≡ None → is_in_chain c s ≡ false
 stands_none c (Free preferred) h = refl
 stands_none c (On p) h = absurd (cc)
 stands_none c (Wanted p preferred) h = absurd (cc)
 stands_none c (Flushing p id preferred age) h = absurd (cc)
 
-module _ (count : ℕ) (states : List Assignment) (next prev : List ℕ) (h : IsLinked count states next prev) where
-  pub member_stands : (c k : ℕ) → 0 < occurs k (h.chains c) → stands_in c (state_at states k) ≡ true
+module _ (count : ℕ) (states : List Assignment) (next prev : List ℕ) (h : IsChained count states next prev) where
+  pub member_stands : (c k : ℕ) → 0 < occurs k (h.chains c) → is_in_chain c (slot_state states k) ≡ true
   member_stands c k l = cond_some _ (omega (arith, l, h.homes c k))
 
   pub member_below : (c k : ℕ) → 0 < occurs k (h.chains c) → k < count
   member_below c k l =
-      let past : count ≤ k → ⊥ = λ m. false≢true (ap (stands_in c) (sym (get_or_past states k (Free None) (omega (arith, m, h.states_len)))) ∙ member_stands c k l) in
+      let past : count ≤ k → ⊥ = λ m. false≢true (ap (is_in_chain c) (sym (get_or_past states k (Free None) (omega (arith, m, h.states_len)))) ∙ member_stands c k l) in
       omega (arith, past)
 
   end_apart : (c k : ℕ) → k ≡ count + c → occurs k (h.chains c) ≡ 0
@@ -195,7 +195,7 @@ module _ (count : ℕ) (states : List Assignment) (next prev : List ℕ) (h : Is
   pub few_on : (c k : ℕ) → occurs k ((count + c) ∷ h.chains c) ≤ 1
   few_on c k = ⊎_elim
       (λ (m : k ≡ count + c). omega (arith, end_apart c k m, cond_few (eqb k (count + c))))
-      (λ (n : k ≡ count + c → ⊥). omega (arith, one_other k (count + c) n, h.homes c k, cond_few (stands_in c (state_at states k))))
+      (λ (n : k ≡ count + c → ⊥). omega (arith, one_other k (count + c) n, h.homes c k, cond_few (is_in_chain c (slot_state states k))))
       (cases_eq k (count + c))
 
   -- a place is on one ring at most
@@ -207,7 +207,7 @@ module _ (count : ℕ) (states : List Assignment) (next prev : List ℕ) (h : Is
       (cases_eq k (count + d)))
       (λ (n : k ≡ count + c → ⊥). (let low = member_below c k (omega (arith, l, one_other k (count + c) n)) in
       let g : k ≡ count + d → ⊥ = λ f. omega (arith, f, low) in
-      stands_once c d (state_at states k) (member_stands c k (omega (arith, l, one_other k (count + c) n))) (member_stands d k (omega (arith, m, one_other k (count + d) g)))))
+      stands_once c d (slot_state states k) (member_stands c k (omega (arith, l, one_other k (count + c) n))) (member_stands d k (omega (arith, m, one_other k (count + d) g)))))
       (cases_eq k (count + c))
 
   off : (c d x k : ℕ) → eqb c d ≡ false → 0 < occurs x ((count + c) ∷ h.chains c) → 0 < occurs k ((count + d) ∷ h.chains d) → k ≡ x → ⊥
@@ -269,18 +269,18 @@ module _ (count : ℕ) (states : List Assignment) (next prev : List ℕ) (h : Is
         P : List ℕ
         P = set prev q p
 
-    pub out_homes : (s : Assignment) → ((d : ℕ) → stands_in d s ≡ false) → (d k : ℕ) → occurs k (put_chain h.chains c (ys ++ zs) d) ≡ cond (stands_in d (state_at (set states i s) k)) 1 0
+    pub out_homes : (s : Assignment) → ((d : ℕ) → is_in_chain d s ≡ false) → (d k : ℕ) → occurs k (put_chain h.chains c (ys ++ zs) d) ≡ cond (is_in_chain d (slot_state (set states i s) k)) 1 0
     out_homes s free d k = ⊎_elim
-        (λ (e : k ≡ i). subst (λ x. occurs x (put_chain h.chains c (ys ++ zs) d) ≡ counted (stands_in d (state_at (set states i s) x))) (sym e)
-        (gone ∙ sym (ap (λ t. counted (stands_in d t)) (get_or-set_same states i s (Free None) (omega (arith, member_below c i member, h.states_len))) ∙ ap counted (free d))))
-        (λ (n : k ≡ i → ⊥). same n ∙ h.homes d k ∙ sym (ap (λ t. counted (stands_in d t)) (get_or-set_other states i k s (Free None) n)))
+        (λ (e : k ≡ i). subst (λ x. occurs x (put_chain h.chains c (ys ++ zs) d) ≡ counted (is_in_chain d (slot_state (set states i s) x))) (sym e)
+        (gone ∙ sym (ap (λ t. counted (is_in_chain d t)) (get_or-set_same states i s (Free None) (omega (arith, member_below c i member, h.states_len))) ∙ ap counted (free d))))
+        (λ (n : k ≡ i → ⊥). same n ∙ h.homes d k ∙ sym (ap (λ t. counted (is_in_chain d t)) (get_or-set_other states i k s (Free None) n)))
         (cases_eq k i)
       where
         gone : occurs i (put_chain h.chains c (ys ++ zs) d) ≡ 0
         gone = elim (cases_Bool (eqb c d)) [
           | inl e ↦ (let none : occurs i (ys ++ zs) ≡ 0 = omega (arith, few i, one_same i, occurs_append i ys (i ∷ zs), occurs_append i ys zs) in
               ap (occurs i) (cond-true (eqb c d) (ys ++ zs) (h.chains d) e) ∙ none)
-          | inr f ↦ (let no : 0 < occurs i (h.chains d) → ⊥ = λ l. false≢true (sym f ∙ eq-eqb c d (stands_once c d (state_at states i) (member_stands c i member) (member_stands d i l))) in
+          | inr f ↦ (let no : 0 < occurs i (h.chains d) → ⊥ = λ l. false≢true (sym f ∙ eq-eqb c d (stands_once c d (slot_state states i) (member_stands c i member) (member_stands d i l))) in
               let none : occurs i (h.chains d) ≡ 0 = omega (arith, no) in
               ap (occurs i) (cond-false (eqb c d) (ys ++ zs) (h.chains d) f) ∙ none)
         ]
@@ -293,8 +293,8 @@ module _ (count : ℕ) (states : List Assignment) (next prev : List ℕ) (h : Is
         ]
 
     -- the slot is taken out of its chain, and becomes free
-    abbrev pub taken_out : (s : Assignment) → ((d : ℕ) → stands_in d s ≡ false)
-        → IsLinked count (set states i s) (set next (get_or prev i 0) (get_or next i 0)) (set prev (get_or next i 0) (get_or prev i 0))
+    abbrev pub taken_out : (s : Assignment) → ((d : ℕ) → is_in_chain d s ≡ false)
+        → IsChained count (set states i s) (set next (get_or prev i 0) (get_or next i 0)) (set prev (get_or next i 0) (get_or prev i 0))
     taken_out s free = record {
       few = h.few;
       states_len = length-set states i s ∙ h.states_len;
@@ -306,7 +306,7 @@ module _ (count : ℕ) (states : List Assignment) (next prev : List ℕ) (h : Is
     }
 
   -- a free slot is put in front of a chain, by a state that stands there
-  module _ (c i : ℕ) (s : Assignment) (lt : c < 64) (inside : i < count) (free : (d : ℕ) → stands_in d (state_at states i) ≡ false) (stands : (d : ℕ) → stands_in d s ≡ eqb c d) where
+  module _ (c i : ℕ) (s : Assignment) (lt : c < 64) (inside : i < count) (free : (d : ℕ) → is_in_chain d (slot_state states i) ≡ false) (stands : (d : ℕ) → is_in_chain d s ≡ eqb c d) where
     nowhere : (d : ℕ) → occurs i ((count + d) ∷ h.chains d) ≡ 0
     nowhere d =
         let apart : i ≡ count + d → ⊥ = λ e. omega (arith, e, inside) in
@@ -345,11 +345,11 @@ module _ (count : ℕ) (states : List Assignment) (next prev : List ℕ) (h : Is
         P : List ℕ
         P = set (set prev i (count + c)) f i
 
-    pub in_homes : (d k : ℕ) → occurs k (put_chain h.chains c (i ∷ h.chains c) d) ≡ cond (stands_in d (state_at (set states i s) k)) 1 0
+    pub in_homes : (d k : ℕ) → occurs k (put_chain h.chains c (i ∷ h.chains c) d) ≡ cond (is_in_chain d (slot_state (set states i s) k)) 1 0
     in_homes d k = ⊎_elim
-        (λ (e : k ≡ i). subst (λ x. occurs x (put_chain h.chains c (i ∷ h.chains c) d) ≡ counted (stands_in d (state_at (set states i s) x))) (sym e)
-        (here ∙ sym (ap (λ t. counted (stands_in d t)) (get_or-set_same states i s (Free None) (omega (arith, inside, h.states_len))) ∙ ap counted (stands d))))
-        (λ (n : k ≡ i → ⊥). same n ∙ h.homes d k ∙ sym (ap (λ t. counted (stands_in d t)) (get_or-set_other states i k s (Free None) n)))
+        (λ (e : k ≡ i). subst (λ x. occurs x (put_chain h.chains c (i ∷ h.chains c) d) ≡ counted (is_in_chain d (slot_state (set states i s) x))) (sym e)
+        (here ∙ sym (ap (λ t. counted (is_in_chain d t)) (get_or-set_same states i s (Free None) (omega (arith, inside, h.states_len))) ∙ ap counted (stands d))))
+        (λ (n : k ≡ i → ⊥). same n ∙ h.homes d k ∙ sym (ap (λ t. counted (is_in_chain d t)) (get_or-set_other states i k s (Free None) n)))
         (cases_eq k i)
       where
         here : occurs i (put_chain h.chains c (i ∷ h.chains c) d) ≡ counted (eqb c d)
@@ -367,7 +367,7 @@ module _ (count : ℕ) (states : List Assignment) (next prev : List ℕ) (h : Is
           | inr f ↦ ap (occurs k) (cond-false (eqb c d) (i ∷ h.chains c) (h.chains d) f)
         ]
 
-    abbrev pub put_in : IsLinked count (set states i s) (set (set next i (get_or next (count + c) 0)) (count + c) i) (set (set prev i (count + c)) (get_or next (count + c) 0) i)
+    abbrev pub put_in : IsChained count (set states i s) (set (set next i (get_or next (count + c) 0)) (count + c) i) (set (set prev i (count + c)) (get_or next (count + c) 0) i)
     put_in = record {
       few = h.few;
       states_len = length-set states i s ∙ h.states_len;
@@ -379,7 +379,7 @@ module _ (count : ℕ) (states : List Assignment) (next prev : List ℕ) (h : Is
     }
 
   -- a slot takes another state that stands where the old one did
-  abbrev pub stayed : (i : ℕ) (s : Assignment) → i < count → ((d : ℕ) → stands_in d s ≡ stands_in d (state_at states i)) → IsLinked count (set states i s) next prev
+  abbrev pub stayed : (i : ℕ) (s : Assignment) → i < count → ((d : ℕ) → is_in_chain d s ≡ is_in_chain d (slot_state states i)) → IsChained count (set states i s) next prev
   stayed i s inside alike = record {
     few = h.few;
     states_len = length-set states i s ∙ h.states_len;
@@ -388,8 +388,8 @@ module _ (count : ℕ) (states : List Assignment) (next prev : List ℕ) (h : Is
     chains = h.chains;
     joined = h.joined;
     homes = λ d k. (h.homes d k ∙ ⊎_elim
-        (λ (e : k ≡ i). subst (λ x. counted (stands_in d (state_at states x)) ≡ counted (stands_in d (state_at (set states i s) x))) (sym e)
-        (ap counted (sym (alike d)) ∙ sym (ap (λ t. counted (stands_in d t)) (get_or-set_same states i s (Free None) (omega (arith, inside, h.states_len))))))
-        (λ (n : k ≡ i → ⊥). sym (ap (λ t. counted (stands_in d t)) (get_or-set_other states i k s (Free None) n)))
+        (λ (e : k ≡ i). subst (λ x. counted (is_in_chain d (slot_state states x)) ≡ counted (is_in_chain d (slot_state (set states i s) x))) (sym e)
+        (ap counted (sym (alike d)) ∙ sym (ap (λ t. counted (is_in_chain d t)) (get_or-set_same states i s (Free None) (omega (arith, inside, h.states_len))))))
+        (λ (n : k ≡ i → ⊥). sym (ap (λ t. counted (is_in_chain d t)) (get_or-set_other states i k s (Free None) n)))
         (cases_eq k i));
   }

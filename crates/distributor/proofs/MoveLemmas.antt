@@ -8,14 +8,14 @@ use Rattle.distributor.specs.declared.assignment.Assignment.{Assignment}
 use Rattle.distributor.specs.declared.assignment.Assignment.TheVariants as state
 use Rattle.distributor.specs.declared.fault.DistFault.{DistFault}
 use Rattle.lagmodel.specs.View.{Conversation, ModelCall, ControlMessage, SystemSetup, at_conversation, first_view, replies_frame, conversation_port}
-use Rattle.lagmodel.specs.Move.{Act, ConversationMove, ConversationMoveAllowed, conversation_after, FlowMove, FlowMoves, flushed}
+use Rattle.lagmodel.specs.Move.{Act, ConversationMove, ConversationMoveAllowed, conversation_after, DistributorMove, DistributorMoves, flushed}
 use Rattle.lagmodel.specs.Bridge.{IsAmong, BecomeByMoves}
 use Rattle.lagmodel.proofs.Uses.{flows_become}
 use Rattle.distributor.specs.Conversations.{Table, first_table, assignment_of, slot_index}
-use Rattle.distributor.specs.Changes.{Sets, Changes, Marks, after_leave, after_mark, after_release, after_down, after_tick}
+use Rattle.distributor.specs.Changes.{SetsAssignment, ChangesAssignments, Marks, after_leave, after_mark, after_release, after_down, after_tick}
 use Rattle.distributor.specs.Calls.{MaySend, move_result, force_result, distributes}
 use Rattle.distributor.proofs.TableLemmas.{first_free}
-use Rattle.distributor.specs.Moves.{model_conversation, model_flows, Among, Nowhere}
+use Rattle.distributor.specs.Moves.{model_conversation, model_distributor, OnlyListedDistribute, NoneDistributes}
 
 eqb_flip : (m n : ℕ) → eqb m n ≡ eqb n m
 eqb_flip m n = elim (cases_Bool (eqb m n)) [
@@ -32,39 +32,39 @@ chosen_state true true s r = refl
 chosen_state true false s r = refl
 chosen_state false y s r = refl
 
-seen_at : (t u : Table) (agg conv : ℕ) (s : Assignment) → Sets t u agg conv s → (g k : ℕ) → model_conversation (assignment_of u g k) ≡ at_conversation (model_flows t).state agg conv (model_conversation s) g k
+seen_at : (t u : Table) (agg conv : ℕ) (s : Assignment) → SetsAssignment t u agg conv s → (g k : ℕ) → model_conversation (assignment_of u g k) ≡ at_conversation (model_distributor t).state agg conv (model_conversation s) g k
 seen_at t u agg conv s h g k =
     ap model_conversation (h.states g k)
     ∙ chosen_state (eqb agg g) (eqb conv k) s (assignment_of t g k)
     ∙ ap (λ (x : Bool). cond x (cond (eqb conv k) (model_conversation s) (model_conversation (assignment_of t g k))) (model_conversation (assignment_of t g k))) (eqb_flip agg g)
     ∙ ap (λ (y : Bool). cond (eqb g agg) (cond y (model_conversation s) (model_conversation (assignment_of t g k))) (model_conversation (assignment_of t g k))) (eqb_flip conv k)
 
-seen_after : (t u : Table) (agg conv : ℕ) (s : Assignment) (d : Conversation) → Sets t u agg conv s → model_conversation s ≡ d → model_flows u ≡ record (model_flows t) { state = at_conversation (model_flows t).state agg conv d }
+seen_after : (t u : Table) (agg conv : ℕ) (s : Assignment) (d : Conversation) → SetsAssignment t u agg conv s → model_conversation s ≡ d → model_distributor u ≡ record (model_distributor t) { state = at_conversation (model_distributor t).state agg conv d }
 seen_after t u agg conv s d h e = λ i. record {
-  state = λ g k. (seen_at t u agg conv s h g k ∙ ap (λ (c : Conversation). at_conversation (model_flows t).state agg conv c g k) e) i;
+  state = λ g k. (seen_at t u agg conv s h g k ∙ ap (λ (c : Conversation). at_conversation (model_distributor t).state agg conv c g k) e) i;
   next = h.next i;
 }
 
 -- a frame is sent
-may_send : (agg conv port : ℕ) (ports : List ℕ) (s : Assignment) → MaySend ports s port → ((model_conversation s ≡ Conversation.Free) × Among agg ports agg port) ⊎ (model_conversation s ≡ Conversation.On port)
+may_send : (agg conv port : ℕ) (ports : List ℕ) (s : Assignment) → MaySend ports s port → ((model_conversation s ≡ Conversation.Free) × OnlyListedDistribute agg ports agg port) ⊎ (model_conversation s ≡ Conversation.On port)
 may_send agg conv port ports (state.Free preferred) h = inl (refl, (refl, h))
 may_send agg conv port ports (state.On p) h = inr (ap (λ q. Conversation.On q) (sym h))
 may_send agg conv port ports (state.Wanted p preferred) h = absurd h
 may_send agg conv port ports (state.Flushing p n preferred age) h = absurd h
 
-pub send_moves : (mac : List ℕ) (call : ModelCall) (t u : Table) (agg conv port : ℕ) (ports : List ℕ) → replies_frame call ≡ true → MaySend ports (assignment_of t agg conv) port → Sets t u agg conv (state.On port)
-    → FlowMoves mac call (Among agg ports) (model_flows t) (Act.Sends_frame port agg conv ∷ []) (model_flows u)
+pub send_moves : (mac : List ℕ) (call : ModelCall) (t u : Table) (agg conv port : ℕ) (ports : List ℕ) → replies_frame call ≡ true → MaySend ports (assignment_of t agg conv) port → SetsAssignment t u agg conv (state.On port)
+    → DistributorMoves mac call (OnlyListedDistribute agg ports) (model_distributor t) (Act.Sends_frame port agg conv ∷ []) (model_distributor u)
 send_moves mac call t u agg conv port ports r m h = (
-  FlowMove.Send agg conv port ∷ [],
+  DistributorMove.Send agg conv port ∷ [],
   ((r, may_send agg conv port ports (assignment_of t agg conv) m), tt),
   refl,
   seen_after t u agg conv (state.On port) (Conversation.On port) h refl,
 )
 
 -- a conversation changes while nothing is sent
-one_moves : (mac : List ℕ) (call : ModelCall) (t u : Table) (agg conv : ℕ) (s : Assignment) (m : ConversationMove) → ConversationMoveAllowed mac call agg conv m (model_conversation (assignment_of t agg conv)) → model_conversation s ≡ conversation_after m → Sets t u agg conv s
-    → FlowMoves mac call Nowhere (model_flows t) [] (model_flows u)
-one_moves mac call t u agg conv s m a e h = (FlowMove.Become agg conv m ∷ [], (a, tt), refl, seen_after t u agg conv s (conversation_after m) h e)
+one_moves : (mac : List ℕ) (call : ModelCall) (t u : Table) (agg conv : ℕ) (s : Assignment) (m : ConversationMove) → ConversationMoveAllowed mac call agg conv m (model_conversation (assignment_of t agg conv)) → model_conversation s ≡ conversation_after m → SetsAssignment t u agg conv s
+    → DistributorMoves mac call NoneDistributes (model_distributor t) [] (model_distributor u)
+one_moves mac call t u agg conv s m a e h = (DistributorMove.Become agg conv m ∷ [], (a, tt), refl, seen_after t u agg conv s (conversation_after m) h e)
 
 -- what a move makes of a conversation
 pub is_moved : (next : Option ℕ) (ports : List ℕ) (to : ℕ) (old new : Assignment) → move_result next ports to old ≡ Ok new → (p : ℕ) × (model_conversation old ≡ Conversation.On p) × (model_conversation new ≡ Conversation.Wanted p)
@@ -79,8 +79,8 @@ is_moved next ports to (state.On p) new h = (p, refl, checked (distributes ports
     checked true false true e = absurd cc
     checked true false false e = let same : state.Wanted p (Some to) ≡ new = cc in ap model_conversation (sym same)
 
-pub move_moves : (mac : List ℕ) (call : ModelCall) (t u : Table) (agg conv to : ℕ) (next : Option ℕ) (ports : List ℕ) (s : Assignment) → move_result next ports to (assignment_of t agg conv) ≡ Ok s → Sets t u agg conv s
-    → FlowMoves mac call Nowhere (model_flows t) [] (model_flows u)
+pub move_moves : (mac : List ℕ) (call : ModelCall) (t u : Table) (agg conv to : ℕ) (next : Option ℕ) (ports : List ℕ) (s : Assignment) → move_result next ports to (assignment_of t agg conv) ≡ Ok s → SetsAssignment t u agg conv s
+    → DistributorMoves mac call NoneDistributes (model_distributor t) [] (model_distributor u)
 move_moves mac call t u agg conv to next ports s e h =
     let m = is_moved next ports to (assignment_of t agg conv) s e in
     one_moves mac call t u agg conv s (ConversationMove.Want m.0) m.1 m.2 h
@@ -92,7 +92,7 @@ is_forced (state.On p) new h = let same : state.Free None ≡ new = cc in ap mod
 is_forced (state.Wanted p preferred) new h = let same : state.Free preferred ≡ new = cc in ap model_conversation (sym same)
 is_forced (state.Flushing p n preferred age) new h = let same : state.Free preferred ≡ new = cc in ap model_conversation (sym same)
 
-pub force_moves : (mac : List ℕ) (t u : Table) (agg conv : ℕ) (s : Assignment) → force_result (assignment_of t agg conv) ≡ Ok s → Sets t u agg conv s → FlowMoves mac (ModelCall.Force agg conv) Nowhere (model_flows t) [] (model_flows u)
+pub force_moves : (mac : List ℕ) (t u : Table) (agg conv : ℕ) (s : Assignment) → force_result (assignment_of t agg conv) ≡ Ok s → SetsAssignment t u agg conv s → DistributorMoves mac (ModelCall.Force agg conv) NoneDistributes (model_distributor t) [] (model_distributor u)
 force_moves mac t u agg conv s e h = one_moves mac (ModelCall.Force agg conv) t u agg conv s ConversationMove.Forced refl (is_forced (assignment_of t agg conv) s e) h
 
 -- Every conversation changes alike.
@@ -125,13 +125,13 @@ Makes mac call g k old new =
 
 -- each conversation makes what it makes of itself, by its aggregator and number
 pub each_moves : (mac : List ℕ) (call : ModelCall) (t u : Table) (change : ℕ → ℕ → Assignment → Assignment) → ((g k : ℕ) → change g k (state.Free None) ≡ state.Free None) → ((g k : ℕ) (s : Assignment) → Makes mac call g k s (change g k s))
-    → u.next ≡ t.next → ((g k : ℕ) → assignment_of u g k ≡ change g k (assignment_of t g k)) → FlowMoves mac call Nowhere (model_flows t) [] (model_flows u)
+    → u.next ≡ t.next → ((g k : ℕ) → assignment_of u g k ≡ change g k (assignment_of t g k)) → DistributorMoves mac call NoneDistributes (model_distributor t) [] (model_distributor u)
 each_moves mac call t u change free makes next states =
-    let z = flows_become mac call Nowhere (keys_of (length t.states)) (model_flows t) (model_flows u).state each in
-    let same : model_flows u ≡ record (model_flows t) { state = (model_flows u).state } = λ i. record { state = (model_flows u).state; next = next i } in
+    let z = flows_become mac call NoneDistributes (keys_of (length t.states)) (model_distributor t) (model_distributor u).state each in
+    let same : model_distributor u ≡ record (model_distributor t) { state = (model_distributor u).state } = λ i. record { state = (model_distributor u).state; next = next i } in
     (z.0, z.1, z.2, same ∙ z.3)
   where
-    each : BecomeByMoves (keys_of (length t.states)) mac call (model_flows t).state (model_flows u).state
+    each : BecomeByMoves (keys_of (length t.states)) mac call (model_distributor t).state (model_distributor u).state
     each g k = elim (makes g k (assignment_of t g k)) [
       | inl e ↦ inl (ap model_conversation (states g k) ∙ e)
       | inr x ↦ elim (in_states t g k) [
@@ -141,8 +141,8 @@ each_moves mac call t u change free makes next states =
     ]
 
 -- all in the same way
-all_moves : (mac : List ℕ) (call : ModelCall) (t u : Table) (change : Assignment → Assignment) → change (state.Free None) ≡ state.Free None → ((g k : ℕ) (s : Assignment) → Makes mac call g k s (change s)) → Changes t u change
-    → FlowMoves mac call Nowhere (model_flows t) [] (model_flows u)
+all_moves : (mac : List ℕ) (call : ModelCall) (t u : Table) (change : Assignment → Assignment) → change (state.Free None) ≡ state.Free None → ((g k : ℕ) (s : Assignment) → Makes mac call g k s (change s)) → ChangesAssignments t u change
+    → DistributorMoves mac call NoneDistributes (model_distributor t) [] (model_distributor u)
 all_moves mac call t u change free makes h = each_moves mac call t u (λ g k. change) (λ g k. free) makes h.next h.states
 
 makes_leave : (mac : List ℕ) (call : ModelCall) (port g k : ℕ) (s : Assignment) → Makes mac call g k s (after_leave port s)
@@ -154,7 +154,7 @@ makes_leave mac call port g k (state.On p) = elim (cases_Bool (eqb p port)) [
 makes_leave mac call port g k (state.Wanted p preferred) = inl refl
 makes_leave mac call port g k (state.Flushing p n preferred age) = inl refl
 
-pub leave_moves : (mac : List ℕ) (call : ModelCall) (t u : Table) (port : ℕ) → Changes t u (after_leave port) → FlowMoves mac call Nowhere (model_flows t) [] (model_flows u)
+pub leave_moves : (mac : List ℕ) (call : ModelCall) (t u : Table) (port : ℕ) → ChangesAssignments t u (after_leave port) → DistributorMoves mac call NoneDistributes (model_distributor t) [] (model_distributor u)
 leave_moves mac call t u port h = all_moves mac call t u (after_leave port) refl (makes_leave mac call port) h
 
 -- a conversation that has to do with the port is free if its port goes down
@@ -170,7 +170,7 @@ makes_down mac port g k (state.On p) = freed mac port g k p None (state.On p) re
 makes_down mac port g k (state.Wanted p preferred) = freed mac port g k p preferred (state.Wanted p preferred) refl
 makes_down mac port g k (state.Flushing p n preferred age) = freed mac port g k p preferred (state.Flushing p n preferred age) refl
 
-pub down_moves : (mac : List ℕ) (t u : Table) (port : ℕ) → Changes t u (after_down port) → FlowMoves mac (ModelCall.Set_link port false) Nowhere (model_flows t) [] (model_flows u)
+pub down_moves : (mac : List ℕ) (t u : Table) (port : ℕ) → ChangesAssignments t u (after_down port) → DistributorMoves mac (ModelCall.Set_link port false) NoneDistributes (model_distributor t) [] (model_distributor u)
 down_moves mac t u port h = all_moves mac (ModelCall.Set_link port false) t u (after_down port) refl (makes_down mac port) h
 
 makes_release : (mac : List ℕ) (port id g k : ℕ) (s : Assignment) → Makes mac (ModelCall.Receive port (Some (ControlMessage.Response mac port id))) g k s (after_release port id s)
@@ -186,7 +186,7 @@ makes_release mac port id g k (state.Flushing p n preferred age) = elim (cases_B
   | inr f ↦ inl (ap model_conversation (cond-false (eqb p port && eqb n id) (state.Free preferred) (state.Flushing p n preferred age) f))
 ]
 
-pub release_moves : (mac : List ℕ) (t u : Table) (port id : ℕ) → Changes t u (after_release port id) → FlowMoves mac (ModelCall.Receive port (Some (ControlMessage.Response mac port id))) Nowhere (model_flows t) [] (model_flows u)
+pub release_moves : (mac : List ℕ) (t u : Table) (port id : ℕ) → ChangesAssignments t u (after_release port id) → DistributorMoves mac (ModelCall.Receive port (Some (ControlMessage.Response mac port id))) NoneDistributes (model_distributor t) [] (model_distributor u)
 release_moves mac t u port id h = all_moves mac (ModelCall.Receive port (Some (ControlMessage.Response mac port id))) t u (after_release port id) refl (makes_release mac port id) h
 
 makes_tick : (mac : List ℕ) (call : ModelCall) (g k : ℕ) (s : Assignment) → Makes mac call g k s (after_tick s)
@@ -198,7 +198,7 @@ makes_tick mac call g k (state.Flushing p n preferred age) = elim (cases_Bool (l
   | inr f ↦ inr (ConversationMove.Retry p n, refl, ap model_conversation (cond-false (ltb (age + 1) 30) (state.Flushing p n preferred (age + 1)) (state.Wanted p preferred) f))
 ]
 
-pub tick_moves : (mac : List ℕ) (call : ModelCall) (t u : Table) → Changes t u after_tick → FlowMoves mac call Nowhere (model_flows t) [] (model_flows u)
+pub tick_moves : (mac : List ℕ) (call : ModelCall) (t u : Table) → ChangesAssignments t u after_tick → DistributorMoves mac call NoneDistributes (model_distributor t) [] (model_distributor u)
 tick_moves mac call t u h = all_moves mac call t u after_tick refl (makes_tick mac call) h
 
 -- A marker is sent.
@@ -215,18 +215,18 @@ is_flushed port id n (state.Wanted p preferred) e = elim (cases_Bool (eqb p port
 is_flushed port id n (state.Flushing p m preferred age) e = refl
 
 pub mark_moves : (mac : List ℕ) (call : ModelCall) (t u : Table) (port id : ℕ) → replies_frame call ≡ true → id < 2 ^ 32 → Marks t u port id
-    → FlowMoves mac call Nowhere (model_flows t) (Act.Sends port (ControlMessage.Marker mac port id) ∷ []) (model_flows u)
+    → DistributorMoves mac call NoneDistributes (model_distributor t) (Act.Sends port (ControlMessage.Marker mac port id) ∷ []) (model_distributor u)
 mark_moves mac call t u port id r lt h = (
-  FlowMove.Mark port ∷ [],
+  DistributorMove.Mark port ∷ [],
   ((r, subst (λ n. n < 2 ^ 32) h.sent lt), tt),
   ap (λ n. Act.Sends port (ControlMessage.Marker mac port n) ∷ []) (sym h.sent),
   λ i. record { state = λ g k. (ap model_conversation (h.states g k) ∙ is_flushed port id t.next (assignment_of t g k) h.sent) i; next = h.next i },
 )
 
 -- nothing changes
-pub same_moves : (mac : List ℕ) (call : ModelCall) (t u : Table) → u ≡ t → FlowMoves mac call Nowhere (model_flows t) [] (model_flows u)
-same_moves mac call t u e = ([], tt, refl, ap model_flows e)
+pub same_moves : (mac : List ℕ) (call : ModelCall) (t u : Table) → u ≡ t → DistributorMoves mac call NoneDistributes (model_distributor t) [] (model_distributor u)
+same_moves mac call t u e = ([], tt, refl, ap model_distributor e)
 
 -- at the start every conversation is free for the law too
-pub first_flows : (u : SystemSetup) (aggs : ℕ) → model_flows (first_table aggs u.first_marker) ≡ (first_view u).flows
+pub first_flows : (u : SystemSetup) (aggs : ℕ) → model_distributor (first_table aggs u.first_marker) ≡ (first_view u).flows
 first_flows u aggs = λ i. record { state = λ agg conv. model_conversation (first_free aggs u.first_marker agg conv i); next = u.first_marker }

@@ -5,15 +5,15 @@ use Rattle.std.proofs.lemmas.Bool.{cases_Bool, and_from, cond-true, cond-false, 
 use Rattle.std.proofs.lemmas.List.{get_or-map, get_or_past, get_or-replicate, length-map, length-replicate}
 use Rattle.distributor.specs.declared.assignment.Assignment.{Assignment}
 use Rattle.distributor.specs.declared.assignment.Assignment.TheVariants.{Free}
-use Rattle.distributor.specs.Conversations.{Table, first_table, assignment_of, slot_index, how_many, sum_below}
-use Rattle.distributor.specs.Chains.{state_at}
+use Rattle.distributor.specs.Conversations.{Table, first_table, assignment_of, slot_index, count_conversations, sum_below}
+use Rattle.distributor.specs.Chains.{slot_state}
 use Rattle.distributor.proofs.WalkLemmas.{same_sum, bit}
 
 -- the state at a place, if the numbers are in range
 abbrev pub stated : List Assignment → ℕ → ℕ → Assignment
 stated states agg conv = cond (ltb 0 agg && ltb conv 256) (get_or states (slot_index agg conv) (Free None)) (Free None)
 
-pub stated_in : (states : List Assignment) (agg conv : ℕ) → 0 < agg → conv < 256 → stated states agg conv ≡ state_at states (slot_index agg conv)
+pub stated_in : (states : List Assignment) (agg conv : ℕ) → 0 < agg → conv < 256 → stated states agg conv ≡ slot_state states (slot_index agg conv)
 stated_in states agg conv p l = cond-true (ltb 0 agg && ltb conv 256) _ _ (and_from _ _ (lt-ltb 0 agg p) (lt-ltb conv 256 l))
 
 -- the state at a place, if every state is changed alike
@@ -59,13 +59,13 @@ sum_rows g w (suc rows) =
     suc_times m n = grind arith
 
 -- the count over aggregators and numbers is that over the places
-pub counted_places : (passes : Assignment → Bool) (t : Table) → sum_below (λ k. bit (passes (state_at t.states k))) (t.aggs * 256) ≡ how_many passes t
+pub counted_places : (passes : Assignment → Bool) (t : Table) → sum_below (λ k. bit (passes (slot_state t.states k))) (t.aggs * 256) ≡ count_conversations passes t
 counted_places passes t =
-    sym (sum_rows (λ k. bit (passes (state_at t.states k))) 256 t.aggs)
+    sym (sum_rows (λ k. bit (passes (slot_state t.states k))) 256 t.aggs)
     ∙ same_sum _ _ t.aggs (λ a l. same_sum _ _ 256 (λ c m. ap (λ s. bit (passes s)) (at a c m)))
   where
-    at : (a c : ℕ) → c < 256 → state_at t.states (a * 256 + c) ≡ assignment_of t (a + 1) c
+    at : (a c : ℕ) → c < 256 → slot_state t.states (a * 256 + c) ≡ assignment_of t (a + 1) c
     at a c m =
         let pos : 0 < a + 1 = omega arith in
         let here : a * 256 + c ≡ slot_index (a + 1) c = omega arith in
-        ap (state_at t.states) here ∙ sym (stated_in t.states (a + 1) c pos m)
+        ap (slot_state t.states) here ∙ sym (stated_in t.states (a + 1) c pos m)

@@ -7,7 +7,7 @@ use Rattle.std.proofs.lemmas.Nat.{mod_below}
 use Rattle.distributor.specs.declared.assignment.Assignment.{Assignment}
 use Rattle.distributor.specs.declared.assignment.Assignment.TheVariants.{Free, On, Wanted, Flushing}
 use Rattle.distributor.specs.Changes.{after_tick}
-use Rattle.distributor.specs.Chains.{chain_of, assignment_port, stands_in, flushes_in, within, state_at, IsFlagged}
+use Rattle.distributor.specs.Chains.{chain_of, assignment_port, is_in_chain, is_flushing_in_chain, changed_in_chain, slot_state, IsFlagged}
 use Rattle.distributor.proofs.WalkLemmas.{cond_same, stands_alike, tick_port}
 use Rattle.distributor.proofs.TableLemmas.{map_at}
 
@@ -21,7 +21,7 @@ ticked chain (Flushing port id preferred age) = cond (ltb (chain_of port) chain)
 -- the tick has passed for the chains below this one
 pub record Ticking (chain : ℕ) (olds states : List Assignment) : Type 0 where
   pub long : length states ≡ length olds
-  pub each : (k : ℕ) → state_at states k ≡ ticked chain (state_at olds k)
+  pub each : (k : ℕ) → slot_state states k ≡ ticked chain (slot_state olds k)
 
 ticked_first : (s : Assignment) → s ≡ ticked 0 s
 ticked_first (Free preferred) = refl
@@ -46,24 +46,24 @@ next_below n c g = elim (cases_Bool (eqb n c)) [
     apart m e = false≢true (sym m ∙ eq-eqb n c e)
 
 -- one more chain
-ticked_more : (c : ℕ) (s : Assignment) → within c after_tick (ticked c s) ≡ ticked (c + 1) s
+ticked_more : (c : ℕ) (s : Assignment) → changed_in_chain c after_tick (ticked c s) ≡ ticked (c + 1) s
 ticked_more c (Free preferred) = refl
 ticked_more c (On port) = cond_same (eqb (chain_of port) c) (On port)
 ticked_more c (Wanted port preferred) = cond_same (eqb (chain_of port) c) (Wanted port preferred)
 ticked_more c (Flushing port id preferred age) = elim (cases_Bool (ltb (chain_of port) c)) [
   | inl e ↦ (let below : chain_of port < c = ltb-true (chain_of port) c e in
       let apart : chain_of port ≡ c → ⊥ = λ m. omega (arith, m, below) in
-      let out : stands_in c (after_tick (Flushing port id preferred age)) ≡ false = stands_alike c (after_tick (Flushing port id preferred age)) (Flushing port id preferred age) (assignment_port (Flushing port id preferred age)) (tick_port (Flushing port id preferred age)) refl ∙ ne_eqb (chain_of port) c apart in
+      let out : is_in_chain c (after_tick (Flushing port id preferred age)) ≡ false = stands_alike c (after_tick (Flushing port id preferred age)) (Flushing port id preferred age) (assignment_port (Flushing port id preferred age)) (tick_port (Flushing port id preferred age)) refl ∙ ne_eqb (chain_of port) c apart in
       let more : chain_of port < c + 1 = omega (arith, below) in
-      ap (within c after_tick) (cond-true (ltb (chain_of port) c) (after_tick (Flushing port id preferred age)) (Flushing port id preferred age) e)
-      ∙ cond-false (stands_in c (after_tick (Flushing port id preferred age))) (after_tick (after_tick (Flushing port id preferred age))) (after_tick (Flushing port id preferred age)) out
+      ap (changed_in_chain c after_tick) (cond-true (ltb (chain_of port) c) (after_tick (Flushing port id preferred age)) (Flushing port id preferred age) e)
+      ∙ cond-false (is_in_chain c (after_tick (Flushing port id preferred age))) (after_tick (after_tick (Flushing port id preferred age))) (after_tick (Flushing port id preferred age)) out
       ∙ sym (cond-true (ltb (chain_of port) (c + 1)) (after_tick (Flushing port id preferred age)) (Flushing port id preferred age) (lt-ltb (chain_of port) (c + 1) more)))
-  | inr g ↦ ap (within c after_tick) (cond-false (ltb (chain_of port) c) (after_tick (Flushing port id preferred age)) (Flushing port id preferred age) g)
+  | inr g ↦ ap (changed_in_chain c after_tick) (cond-false (ltb (chain_of port) c) (after_tick (Flushing port id preferred age)) (Flushing port id preferred age) g)
       ∙ ap (λ b. cond b (after_tick (Flushing port id preferred age)) (Flushing port id preferred age)) (next_below (chain_of port) c g)
 ]
 
 -- a chain in which nothing is Flushing
-ticked_still : (c : ℕ) (s : Assignment) → flushes_in c (ticked c s) ≡ false → ticked c s ≡ ticked (c + 1) s
+ticked_still : (c : ℕ) (s : Assignment) → is_flushing_in_chain c (ticked c s) ≡ false → ticked c s ≡ ticked (c + 1) s
 ticked_still c (Free preferred) n = refl
 ticked_still c (On port) n = refl
 ticked_still c (Wanted port preferred) n = refl
@@ -73,7 +73,7 @@ ticked_still c (Flushing port id preferred age) n = elim (cases_Bool (ltb (chain
       ∙ sym (cond-true (ltb (chain_of port) (c + 1)) (after_tick (Flushing port id preferred age)) (Flushing port id preferred age) (lt-ltb (chain_of port) (c + 1) more)))
   | inr g ↦ (let same = cond-false (ltb (chain_of port) c) (after_tick (Flushing port id preferred age)) (Flushing port id preferred age) g in
       same ∙ sym (cond-false (ltb (chain_of port) (c + 1)) (after_tick (Flushing port id preferred age)) (Flushing port id preferred age)
-      (sym (next_below (chain_of port) c g) ∙ sym (and_one (eqb (chain_of port) c)) ∙ sym (ap (flushes_in c) same) ∙ n)))
+      (sym (next_below (chain_of port) c g) ∙ sym (and_one (eqb (chain_of port) c)) ∙ sym (ap (is_flushing_in_chain c) same) ∙ n)))
 ]
   where
     and_one : (b : Bool) → (b && true) ≡ b
@@ -81,22 +81,22 @@ ticked_still c (Flushing port id preferred age) n = elim (cases_Bool (ltb (chain
     and_one false = refl
 
 pub tick_begins : (olds : List Assignment) → Ticking 0 olds olds
-tick_begins olds = record { long = refl; each = λ k. ticked_first (state_at olds k) }
+tick_begins olds = record { long = refl; each = λ k. ticked_first (slot_state olds k) }
 
-pub tick_walked : (c : ℕ) (olds states news : List Assignment) → Ticking c olds states → news ≡ map (within c after_tick) states → Ticking (c + 1) olds news
+pub tick_walked : (c : ℕ) (olds states news : List Assignment) → Ticking c olds states → news ≡ map (changed_in_chain c after_tick) states → Ticking (c + 1) olds news
 tick_walked c olds states news h is = record {
-  long = ap length is ∙ length-map states (within c after_tick) ∙ h.long;
-  each = λ k. ap (λ l. state_at l k) is ∙ map_at (within c after_tick) refl states k ∙ ap (within c after_tick) (h.each k) ∙ ticked_more c (state_at olds k);
+  long = ap length is ∙ length-map states (changed_in_chain c after_tick) ∙ h.long;
+  each = λ k. ap (λ l. slot_state l k) is ∙ map_at (changed_in_chain c after_tick) refl states k ∙ ap (changed_in_chain c after_tick) (h.each k) ∙ ticked_more c (slot_state olds k);
 }
 
 pub tick_passed : (c : ℕ) (olds states : List Assignment) (flags : List Bool) → Ticking c olds states → IsFlagged states flags → get_or flags c false ≡ false → Ticking (c + 1) olds states
 tick_passed c olds states flags h f none = record {
   long = h.long;
-  each = λ k. h.each k ∙ ticked_still c (state_at olds k) (sym (ap (flushes_in c) (h.each k)) ∙ still k);
+  each = λ k. h.each k ∙ ticked_still c (slot_state olds k) (sym (ap (is_flushing_in_chain c) (h.each k)) ∙ still k);
 }
   where
-    still : (k : ℕ) → flushes_in c (state_at states k) ≡ false
-    still k = elim (cases_Bool (flushes_in c (state_at states k))) [
+    still : (k : ℕ) → is_flushing_in_chain c (slot_state states k) ≡ false
+    still k = elim (cases_Bool (is_flushing_in_chain c (slot_state states k))) [
       | inl e ↦ absurd (false≢true (sym none ∙ f.flagged c k e))
       | inr g ↦ g
     ]
@@ -104,4 +104,4 @@ tick_passed c olds states flags h f none = record {
 pub tick_ends : (olds states : List Assignment) → Ticking 64 olds states → states ≡ map after_tick olds
 tick_ends olds states h = ext_get_or (Free None) states (map after_tick olds) (h.long ∙ sym (length-map olds after_tick))
     (λ k lt. (let low : k < length olds = omega (arith, lt, h.long) in
-    h.each k ∙ ticked_last (state_at olds k) ∙ sym (get_or-map after_tick olds k (Free None) (Free None) low)))
+    h.each k ∙ ticked_last (slot_state olds k) ∙ sym (get_or-map after_tick olds k (Free None) (Free None) low)))

@@ -7,11 +7,11 @@ use Rattle.distributor.specs.declared.assignment.Assignment.{Assignment}
 use Rattle.distributor.specs.declared.assignment.Assignment.TheVariants.{Free, On, Wanted, Flushing}
 use Rattle.distributor.specs.declared.change.Change.{Change}
 use Rattle.distributor.specs.declared.change.Change.TheVariants.{Leave, Mark, Release, Tick, Down}
-use Rattle.distributor.specs.declared.slots.Test.{Test}
-use Rattle.distributor.specs.declared.slots.Test.TheVariants.{WantsMarker, WaitsFor, NamesPort}
+use Rattle.distributor.specs.declared.slots.ConversationTest.{ConversationTest}
+use Rattle.distributor.specs.declared.slots.ConversationTest.TheVariants.{WantsMarker, AwaitsResponse, NamesPort}
 use Rattle.distributor.specs.Conversations.{sum_below}
 use Rattle.distributor.specs.Changes.{after_change, after_tick}
-use Rattle.distributor.specs.Chains.{assignment_port, chain_of, stands_in, is_flushing, flushes_in, within, occurs, Path, state_at, IsLinked, passes, tested_port}
+use Rattle.distributor.specs.Chains.{assignment_port, chain_of, is_in_chain, is_flushing, is_flushing_in_chain, changed_in_chain, occurs, Path, slot_state, IsChained, passes, tested_port}
 use Rattle.distributor.proofs.ChainLemmas.{last_of, first_of, one, one_same, one_other, occurs_append, path_first, path_split, stands_some, stands_none, member_stands, member_below, few_on, on_below, before_on, after_on, taken_out, stayed}
 
 abbrev pub after_first : List ℕ → List ℕ
@@ -82,7 +82,7 @@ few_long xs n once below = omega (arith, length_sum xs n below, small_sum (λ k.
 
 -- ---- changes
 
-pub stands_alike : (d : ℕ) (s t : Assignment) (o : Option ℕ) → assignment_port s ≡ o → assignment_port t ≡ o → stands_in d s ≡ stands_in d t
+pub stands_alike : (d : ℕ) (s t : Assignment) (o : Option ℕ) → assignment_port s ≡ o → assignment_port t ≡ o → is_in_chain d s ≡ is_in_chain d t
 stands_alike d s t None h k = stands_none d s h ∙ sym (stands_none d t k)
 stands_alike d s t (Some port) h k = stands_some d port s h ∙ sym (stands_some d port t k)
 
@@ -93,42 +93,42 @@ path_drop next prev a (y ∷ ys) rest b h = path_drop next prev y ys rest b h.1
 -- a walk along a chain that changes each state by f has come to the place `at`; found says whether it has left a
 -- conversation Flushing
 pub record Walking (chain : ℕ) (f : Assignment → Assignment) (count : ℕ) (olds states : List Assignment) (next prev : List ℕ) (at : ℕ) (found : Bool) : Type 0 where
-  pub linked : IsLinked count states next prev
+  pub chained : IsChained count states next prev
   pub lt : chain < 64
   pub olds_len : length olds ≡ count
   pub front : List ℕ
   pub rest : List ℕ
-  pub split : linked.chains chain ≡ front ++ rest
+  pub split : chained.chains chain ≡ front ++ rest
   pub here : at ≡ first_of rest (count + chain)
-  pub changed : (k : ℕ) → state_at states k ≡ cond (ltb 0 (occurs k rest)) (state_at olds k) (within chain f (state_at olds k))
-  pub noted : (k : ℕ) → occurs k rest ≡ 0 → flushes_in chain (state_at states k) ≡ true → found ≡ true
+  pub changed : (k : ℕ) → slot_state states k ≡ cond (ltb 0 (occurs k rest)) (slot_state olds k) (changed_in_chain chain f (slot_state olds k))
+  pub noted : (k : ℕ) → occurs k rest ≡ 0 → is_flushing_in_chain chain (slot_state states k) ≡ true → found ≡ true
 
-abbrev pub walk_begins : (chain : ℕ) (f : Assignment → Assignment) (count : ℕ) (states : List Assignment) (next prev : List ℕ) (h : IsLinked count states next prev) → chain < 64 → (found : Bool)
+abbrev pub walk_begins : (chain : ℕ) (f : Assignment → Assignment) (count : ℕ) (states : List Assignment) (next prev : List ℕ) (h : IsChained count states next prev) → chain < 64 → (found : Bool)
     → Walking chain f count states states next prev (get_or next (count + chain) 0) found
 walk_begins chain f count states next prev h lt found = record {
-  linked = h;
+  chained = h;
   lt = lt;
   olds_len = h.states_len;
   front = [];
   rest = h.chains chain;
   split = refl;
   here = path_first next prev (count + chain) (h.chains chain) (count + chain) (h.joined chain lt);
-  changed = λ k. elim (cases_Bool (stands_in chain (state_at states k))) [
+  changed = λ k. elim (cases_Bool (is_in_chain chain (slot_state states k))) [
     | inl e ↦ (let comes : 0 < occurs k (h.chains chain) = omega (arith, h.homes chain k ∙ ap (λ b. cond b 1 0) e) in
         sym (cond-true (ltb 0 (occurs k (h.chains chain))) _ _ (lt-ltb 0 (occurs k (h.chains chain)) comes)))
     | inr g ↦ (let none : occurs k (h.chains chain) ≡ 0 = h.homes chain k ∙ ap (λ b. cond b 1 0) g in
-        sym (ap (λ n. cond (ltb 0 n) (state_at states k) (within chain f (state_at states k))) none ∙ cond-false (stands_in chain (state_at states k)) _ _ g))
+        sym (ap (λ n. cond (ltb 0 n) (slot_state states k) (changed_in_chain chain f (slot_state states k))) none ∙ cond-false (is_in_chain chain (slot_state states k)) _ _ g))
   ];
-  noted = λ k none e. (let stands : occurs k (h.chains chain) ≡ 1 = h.homes chain k ∙ ap (λ b. cond b 1 0) (and_parts (stands_in chain (state_at states k)) (is_flushing (state_at states k)) e).0 in
+  noted = λ k none e. (let stands : occurs k (h.chains chain) ≡ 1 = h.homes chain k ∙ ap (λ b. cond b 1 0) (and_parts (is_in_chain chain (slot_state states k)) (is_flushing (slot_state states k)) e).0 in
       absurd (omega (arith, none, stands)));
 }
 
 module _ (chain : ℕ) (f : Assignment → Assignment) (count : ℕ) (olds states : List Assignment) (next prev : List ℕ) (at : ℕ) (found : Bool) (w : Walking chain f count olds states next prev at found) where
   few_rest : (k : ℕ) → occurs k w.rest ≤ 1
-  few_rest k = omega (arith, few_on _ _ _ _ w.linked chain k, ap (occurs k) w.split, occurs_append k w.front w.rest)
+  few_rest k = omega (arith, few_on _ _ _ _ w.chained chain k, ap (occurs k) w.split, occurs_append k w.front w.rest)
 
   rest_below : (k : ℕ) → 0 < occurs k w.rest → k < count
-  rest_below k l = member_below _ _ _ _ w.linked chain k (omega (arith, l, ap (occurs k) w.split, occurs_append k w.front w.rest))
+  rest_below k l = member_below _ _ _ _ w.chained chain k (omega (arith, l, ap (occurs k) w.split, occurs_append k w.front w.rest))
 
   no_end : occurs (count + chain) w.rest ≡ 0
   no_end =
@@ -139,7 +139,7 @@ module _ (chain : ℕ) (f : Assignment → Assignment) (count : ℕ) (olds state
   walk_steps =
       ap (steps next (count + chain) count) w.here
       ∙ steps_path next prev (last_of (count + chain) w.front) w.rest (count + chain) count
-      (path_drop next prev (count + chain) w.front w.rest (count + chain) (subst (λ l. Path next prev (count + chain) l (count + chain)) w.split (w.linked.joined chain w.lt)))
+      (path_drop next prev (count + chain) w.front w.rest (count + chain) (subst (λ l. Path next prev (count + chain) l (count + chain)) w.split (w.chained.joined chain w.lt)))
       no_end
       (few_long w.rest count few_rest rest_below)
 
@@ -151,21 +151,21 @@ module _ (chain : ℕ) (f : Assignment → Assignment) (count : ℕ) (olds state
       over (x ∷ xs) m z = absurd (omega (arith, z, one_same (count + chain), ap (one (count + chain)) (sym m ∙ e)))
 
   -- at the end every state in the chain is changed, and it is found whether one is Flushing
-  pub walk_all : at ≡ count + chain → (k : ℕ) → state_at states k ≡ within chain f (state_at olds k)
-  walk_all e k = w.changed k ∙ ap (λ l. cond (ltb 0 (occurs k l)) (state_at olds k) (within chain f (state_at olds k))) (walk_over e)
+  pub walk_all : at ≡ count + chain → (k : ℕ) → slot_state states k ≡ changed_in_chain chain f (slot_state olds k)
+  walk_all e k = w.changed k ∙ ap (λ l. cond (ltb 0 (occurs k l)) (slot_state olds k) (changed_in_chain chain f (slot_state olds k))) (walk_over e)
 
-  pub walk_found : at ≡ count + chain → (k : ℕ) → flushes_in chain (state_at states k) ≡ true → found ≡ true
+  pub walk_found : at ≡ count + chain → (k : ℕ) → is_flushing_in_chain chain (slot_state states k) ≡ true → found ≡ true
   walk_found e k = w.noted k (ap (occurs k) (walk_over e))
 
-  pub walk_ends : at ≡ count + chain → states ≡ map (within chain f) olds
-  walk_ends e = ext_get_or (Free None) states (map (within chain f) olds) (w.linked.states_len ∙ sym w.olds_len ∙ sym (length-map olds (within chain f)))
-      (λ k lt. walk_all e k ∙ sym (get_or-map (within chain f) olds k (Free None) (Free None) (omega (arith, lt, w.linked.states_len, w.olds_len))))
+  pub walk_ends : at ≡ count + chain → states ≡ map (changed_in_chain chain f) olds
+  walk_ends e = ext_get_or (Free None) states (map (changed_in_chain chain f) olds) (w.chained.states_len ∙ sym w.olds_len ∙ sym (length-map olds (changed_in_chain chain f)))
+      (λ k lt. walk_all e k ∙ sym (get_or-map (changed_in_chain chain f) olds k (Free None) (Free None) (omega (arith, lt, w.chained.states_len, w.olds_len))))
 
   module _ (n : at ≡ count + chain → ⊥) where
     on : w.rest ≡ at ∷ after_first w.rest
     on = split_first w.rest at (count + chain) w.here n
 
-    pub walk_split : w.linked.chains chain ≡ w.front ++ at ∷ after_first w.rest
+    pub walk_split : w.chained.chains chain ≡ w.front ++ at ∷ after_first w.rest
     walk_split = w.split ∙ ap (λ l. w.front ++ l) on
 
     comes : 0 < occurs at w.rest
@@ -182,41 +182,41 @@ module _ (chain : ℕ) (f : Assignment → Assignment) (count : ℕ) (olds state
 
     pub walk_next : get_or next at 0 ≡ first_of (after_first w.rest) (count + chain)
     walk_next = path_first next prev at (after_first w.rest) (count + chain)
-        (path_split next prev (count + chain) w.front at (after_first w.rest) (count + chain) (subst (λ l. Path next prev (count + chain) l (count + chain)) walk_split (w.linked.joined chain w.lt))).1
+        (path_split next prev (count + chain) w.front at (after_first w.rest) (count + chain) (subst (λ l. Path next prev (count + chain) l (count + chain)) walk_split (w.chained.joined chain w.lt))).1
 
-    old_here : state_at states at ≡ state_at olds at
+    old_here : slot_state states at ≡ slot_state olds at
     old_here = w.changed at ∙ cond-true (ltb 0 (occurs at w.rest)) _ _ (lt-ltb 0 (occurs at w.rest) comes)
 
-    stands_here : stands_in chain (state_at states at) ≡ true
-    stands_here = member_stands _ _ _ _ w.linked chain at (subst (λ l. 0 < occurs at l) (sym walk_split) (omega (arith, one_same at, occurs_append at w.front (at ∷ after_first w.rest))))
+    stands_here : is_in_chain chain (slot_state states at) ≡ true
+    stands_here = member_stands _ _ _ _ w.chained chain at (subst (λ l. 0 < occurs at l) (sym walk_split) (omega (arith, one_same at, occurs_append at w.front (at ∷ after_first w.rest))))
 
-    pub walk_changed : (k : ℕ) → state_at (set states at (f (state_at states at))) k ≡ cond (ltb 0 (occurs k (after_first w.rest))) (state_at olds k) (within chain f (state_at olds k))
+    pub walk_changed : (k : ℕ) → slot_state (set states at (f (slot_state states at))) k ≡ cond (ltb 0 (occurs k (after_first w.rest))) (slot_state olds k) (changed_in_chain chain f (slot_state olds k))
     walk_changed k = ⊎_elim
-        (λ (e : k ≡ at). subst (λ x. state_at (set states at (f (state_at states at))) x ≡ cond (ltb 0 (occurs x (after_first w.rest))) (state_at olds x) (within chain f (state_at olds x))) (sym e)
-        (get_or-set_same states at (f (state_at states at)) (Free None) (omega (arith, walk_below, w.linked.states_len))
+        (λ (e : k ≡ at). subst (λ x. slot_state (set states at (f (slot_state states at))) x ≡ cond (ltb 0 (occurs x (after_first w.rest))) (slot_state olds x) (changed_in_chain chain f (slot_state olds x))) (sym e)
+        (get_or-set_same states at (f (slot_state states at)) (Free None) (omega (arith, walk_below, w.chained.states_len))
         ∙ ap f old_here
-        ∙ sym (ap (λ m. cond (ltb 0 m) (state_at olds at) (within chain f (state_at olds at))) walk_once ∙ cond-true (stands_in chain (state_at olds at)) _ _ (ap (stands_in chain) (sym old_here) ∙ stands_here))))
+        ∙ sym (ap (λ m. cond (ltb 0 m) (slot_state olds at) (changed_in_chain chain f (slot_state olds at))) walk_once ∙ cond-true (is_in_chain chain (slot_state olds at)) _ _ (ap (is_in_chain chain) (sym old_here) ∙ stands_here))))
         (λ (m : k ≡ at → ⊥). (let less : occurs k w.rest ≡ occurs k (after_first w.rest) = omega (arith, ap (occurs k) on, one_other k at m) in
-        get_or-set_other states at k (f (state_at states at)) (Free None) m ∙ w.changed k ∙ ap (λ x. cond (ltb 0 x) (state_at olds k) (within chain f (state_at olds k))) less))
+        get_or-set_other states at k (f (slot_state states at)) (Free None) m ∙ w.changed k ∙ ap (λ x. cond (ltb 0 x) (slot_state olds k) (changed_in_chain chain f (slot_state olds k))) less))
         (cases_eq k at)
 
     less_rest : (k : ℕ) → (k ≡ at → ⊥) → occurs k w.rest ≡ occurs k (after_first w.rest)
     less_rest k m = omega (arith, ap (occurs k) on, one_other k at m)
 
-    pub walk_noted : (found' : Bool) → (found ≡ true → found' ≡ true) → (is_flushing (f (state_at states at)) ≡ true → found' ≡ true)
-        → (k : ℕ) → occurs k (after_first w.rest) ≡ 0 → flushes_in chain (state_at (set states at (f (state_at states at))) k) ≡ true → found' ≡ true
+    pub walk_noted : (found' : Bool) → (found ≡ true → found' ≡ true) → (is_flushing (f (slot_state states at)) ≡ true → found' ≡ true)
+        → (k : ℕ) → occurs k (after_first w.rest) ≡ 0 → is_flushing_in_chain chain (slot_state (set states at (f (slot_state states at))) k) ≡ true → found' ≡ true
     walk_noted found' more new k none e = ⊎_elim
-        (λ (m : k ≡ at). (let same = get_or-set_same states at (f (state_at states at)) (Free None) (omega (arith, walk_below, w.linked.states_len)) in
-        new (sym (ap is_flushing same) ∙ sym (ap (λ x. is_flushing (state_at (set states at (f (state_at states at))) x)) m)
-        ∙ (and_parts (stands_in chain (state_at (set states at (f (state_at states at))) k)) (is_flushing (state_at (set states at (f (state_at states at))) k)) e).1)))
-        (λ (m : k ≡ at → ⊥). more (w.noted k (less_rest k m ∙ none) (sym (ap (flushes_in chain) (get_or-set_other states at k (f (state_at states at)) (Free None) m)) ∙ e)))
+        (λ (m : k ≡ at). (let same = get_or-set_same states at (f (slot_state states at)) (Free None) (omega (arith, walk_below, w.chained.states_len)) in
+        new (sym (ap is_flushing same) ∙ sym (ap (λ x. is_flushing (slot_state (set states at (f (slot_state states at))) x)) m)
+        ∙ (and_parts (is_in_chain chain (slot_state (set states at (f (slot_state states at))) k)) (is_flushing (slot_state (set states at (f (slot_state states at))) k)) e).1)))
+        (λ (m : k ≡ at → ⊥). more (w.noted k (less_rest k m ∙ none) (sym (ap (is_flushing_in_chain chain) (get_or-set_other states at k (f (slot_state states at)) (Free None) m)) ∙ e)))
         (cases_eq k at)
 
     -- the state at this place stays in its chain
-    abbrev pub walk_stays : (found' : Bool) → (found ≡ true → found' ≡ true) → (is_flushing (f (state_at states at)) ≡ true → found' ≡ true)
-        → assignment_port (f (state_at states at)) ≡ assignment_port (state_at states at) → Walking chain f count olds (set states at (f (state_at states at))) next prev (get_or next at 0) found'
+    abbrev pub walk_stays : (found' : Bool) → (found ≡ true → found' ≡ true) → (is_flushing (f (slot_state states at)) ≡ true → found' ≡ true)
+        → assignment_port (f (slot_state states at)) ≡ assignment_port (slot_state states at) → Walking chain f count olds (set states at (f (slot_state states at))) next prev (get_or next at 0) found'
     walk_stays found' more new same = record {
-      linked = stayed _ _ _ _ w.linked at (f (state_at states at)) walk_below (λ d. stands_alike d _ _ (assignment_port (state_at states at)) same refl);
+      chained = stayed _ _ _ _ w.chained at (f (slot_state states at)) walk_below (λ d. stands_alike d _ _ (assignment_port (slot_state states at)) same refl);
       lt = w.lt;
       olds_len = w.olds_len;
       front = w.front ++ at ∷ [];
@@ -228,33 +228,33 @@ module _ (chain : ℕ) (f : Assignment → Assignment) (count : ℕ) (olds state
     }
 
     -- the state at this place leaves its chain
-    abbrev pub walk_leaves : (found' : Bool) → (found ≡ true → found' ≡ true) → (is_flushing (f (state_at states at)) ≡ true → found' ≡ true) → assignment_port (f (state_at states at)) ≡ None
-        → Walking chain f count olds (set states at (f (state_at states at))) (set next (get_or prev at 0) (get_or next at 0)) (set prev (get_or next at 0) (get_or prev at 0)) (get_or next at 0) found'
+    abbrev pub walk_leaves : (found' : Bool) → (found ≡ true → found' ≡ true) → (is_flushing (f (slot_state states at)) ≡ true → found' ≡ true) → assignment_port (f (slot_state states at)) ≡ None
+        → Walking chain f count olds (set states at (f (slot_state states at))) (set next (get_or prev at 0) (get_or next at 0)) (set prev (get_or next at 0) (get_or prev at 0)) (get_or next at 0) found'
     walk_leaves found' more new free = record {
-      linked = taken_out _ _ _ _ w.linked chain at w.front (after_first w.rest) w.lt walk_split (f (state_at states at)) (λ d. stands_none d _ free);
+      chained = taken_out _ _ _ _ w.chained chain at w.front (after_first w.rest) w.lt walk_split (f (slot_state states at)) (λ d. stands_none d _ free);
       lt = w.lt;
       olds_len = w.olds_len;
       front = w.front;
       rest = after_first w.rest;
-      split = cond-true (eqb chain chain) (w.front ++ after_first w.rest) (w.linked.chains chain) (eq-eqb chain chain refl);
+      split = cond-true (eqb chain chain) (w.front ++ after_first w.rest) (w.chained.chains chain) (eq-eqb chain chain refl);
       here = walk_next;
       changed = walk_changed;
       noted = walk_noted found' more new;
     }
 
 module _ (chain : ℕ) (f : Assignment → Assignment) (count : ℕ) (olds states : List Assignment) (next prev : List ℕ) (at : ℕ) (found : Bool) (w : Walking chain f count olds states next prev at found) (n : at ≡ count + chain → ⊥)
-    (new : Assignment) (is : new ≡ f (state_at states at)) (place : ℕ) (goes : place ≡ get_or next at 0) where
-  pub step_stays : (found' : Bool) → (found ≡ true → found' ≡ true) → (is_flushing new ≡ true → found' ≡ true) → assignment_port new ≡ assignment_port (state_at states at)
+    (new : Assignment) (is : new ≡ f (slot_state states at)) (place : ℕ) (goes : place ≡ get_or next at 0) where
+  pub step_stays : (found' : Bool) → (found ≡ true → found' ≡ true) → (is_flushing new ≡ true → found' ≡ true) → assignment_port new ≡ assignment_port (slot_state states at)
       → Walking chain f count olds (set states at new) next prev place found'
   step_stays found' more noted same =
       subst (λ x. Walking chain f count olds (set states at x) next prev place found') (sym is)
-      (subst (λ a. Walking chain f count olds (set states at (f (state_at states at))) next prev a found') (sym goes)
+      (subst (λ a. Walking chain f count olds (set states at (f (slot_state states at))) next prev a found') (sym goes)
       (walk_stays chain f count olds states next prev at found w n found' more (λ e. noted (ap is_flushing is ∙ e)) (sym (ap assignment_port is) ∙ same)))
 
-  pub stays_smaller : assignment_port new ≡ assignment_port (state_at states at) → steps next (count + chain) count place < steps next (count + chain) count at
+  pub stays_smaller : assignment_port new ≡ assignment_port (slot_state states at) → steps next (count + chain) count place < steps next (count + chain) count at
   stays_smaller same =
       let v = walk_stays chain f count olds states next prev at found w n true (λ e. refl) (λ e. refl) (sym (ap assignment_port is) ∙ same) in
-      let less : steps next (count + chain) count (get_or next at 0) ≡ length (after_first w.rest) = walk_steps chain f count olds (set states at (f (state_at states at))) next prev (get_or next at 0) true v in
+      let less : steps next (count + chain) count (get_or next at 0) ≡ length (after_first w.rest) = walk_steps chain f count olds (set states at (f (slot_state states at))) next prev (get_or next at 0) true v in
       omega (arith, ap (steps next (count + chain) count) goes, less, walk_shorter chain f count olds states next prev at found w n, walk_steps chain f count olds states next prev at found w)
 
   module _ (next' prev' : List ℕ) (nexts : next' ≡ set next (get_or prev at 0) (get_or next at 0)) (prevs : prev' ≡ set prev (get_or next at 0) (get_or prev at 0)) where
@@ -262,24 +262,24 @@ module _ (chain : ℕ) (f : Assignment → Assignment) (count : ℕ) (olds state
         → Walking chain f count olds (set states at new) next' prev' place found'
     step_leaves found' more noted free =
         subst (λ x. Walking chain f count olds (set states at x) next' prev' place found') (sym is)
-        (subst (λ a. Walking chain f count olds (set states at (f (state_at states at))) next' prev' a found') (sym goes)
-        (subst (λ l. Walking chain f count olds (set states at (f (state_at states at))) l prev' (get_or next at 0) found') (sym nexts)
-        (subst (λ l. Walking chain f count olds (set states at (f (state_at states at))) (set next (get_or prev at 0) (get_or next at 0)) l (get_or next at 0) found') (sym prevs)
+        (subst (λ a. Walking chain f count olds (set states at (f (slot_state states at))) next' prev' a found') (sym goes)
+        (subst (λ l. Walking chain f count olds (set states at (f (slot_state states at))) l prev' (get_or next at 0) found') (sym nexts)
+        (subst (λ l. Walking chain f count olds (set states at (f (slot_state states at))) (set next (get_or prev at 0) (get_or next at 0)) l (get_or next at 0) found') (sym prevs)
         (walk_leaves chain f count olds states next prev at found w n found' more (λ e. noted (ap is_flushing is ∙ e)) (sym (ap assignment_port is) ∙ free)))))
 
     pub leaves_smaller : assignment_port new ≡ None → steps next' (count + chain) count place < steps next (count + chain) count at
     leaves_smaller free =
         let v = walk_leaves chain f count olds states next prev at found w n true (λ e. refl) (λ e. refl) (sym (ap assignment_port is) ∙ free) in
         let N = set next (get_or prev at 0) (get_or next at 0) in
-        let less : steps N (count + chain) count (get_or next at 0) ≡ length (after_first w.rest) = walk_steps chain f count olds (set states at (f (state_at states at))) N (set prev (get_or next at 0) (get_or prev at 0)) (get_or next at 0) true v in
+        let less : steps N (count + chain) count (get_or next at 0) ≡ length (after_first w.rest) = walk_steps chain f count olds (set states at (f (slot_state states at))) N (set prev (get_or next at 0) (get_or prev at 0)) (get_or next at 0) true v in
         omega (arith, ap (steps next' (count + chain) count) goes ∙ ap (λ l. steps l (count + chain) count (get_or next at 0)) nexts, less, walk_shorter chain f count olds states next prev at found w n, walk_steps chain f count olds states next prev at found w)
 
 module _ (chain : ℕ) (f : Assignment → Assignment) (count : ℕ) (olds states : List Assignment) (next prev : List ℕ) (at : ℕ) (found : Bool) (w : Walking chain f count olds states next prev at found) (n : at ≡ count + chain → ⊥) where
   pub walk_after : get_or next at 0 < count + 64
-  walk_after = on_below _ _ _ _ w.linked chain _ w.lt (after_on _ _ _ _ w.linked chain at w.front (after_first w.rest) w.lt (walk_split chain f count olds states next prev at found w n))
+  walk_after = on_below _ _ _ _ w.chained chain _ w.lt (after_on _ _ _ _ w.chained chain at w.front (after_first w.rest) w.lt (walk_split chain f count olds states next prev at found w n))
 
   pub walk_before : get_or prev at 0 < count + 64
-  walk_before = on_below _ _ _ _ w.linked chain _ w.lt (before_on _ _ _ _ w.linked chain at w.front (after_first w.rest) w.lt (walk_split chain f count olds states next prev at found w n))
+  walk_before = on_below _ _ _ _ w.chained chain _ w.lt (before_on _ _ _ _ w.chained chain at w.front (after_first w.rest) w.lt (walk_split chain f count olds states next prev at found w n))
 
 -- a tick leaves a conversation at its port
 pub tick_port : (s : Assignment) → assignment_port (after_tick s) ≡ assignment_port s
@@ -341,7 +341,7 @@ bit b = cond b 1 0
 
 -- 1 for a state that passes and is not left to be looked at
 abbrev pub seen : (Assignment → Bool) → List Assignment → List ℕ → ℕ → ℕ
-seen p states rest k = bit (p (state_at states k) && eqb (occurs k rest) 0)
+seen p states rest k = bit (p (slot_state states k) && eqb (occurs k rest) 0)
 
 -- a walk along a chain has counted what it has seen
 pub record Counting (chain : ℕ) (p : Assignment → Bool) (count : ℕ) (states : List Assignment) (next prev : List ℕ) (at n : ℕ) : Type 0 where
@@ -353,7 +353,7 @@ cond_same true x = refl
 cond_same false x = refl
 
 seen_few : (p : Assignment → Bool) (states : List Assignment) (rest : List ℕ) (k : ℕ) → seen p states rest k ≤ 1
-seen_few p states rest k = few (p (state_at states k) && eqb (occurs k rest) 0)
+seen_few p states rest k = few (p (slot_state states k) && eqb (occurs k rest) 0)
   where
     few : (b : Bool) → bit b ≤ 1
     few true = omega arith
@@ -375,58 +375,58 @@ and_true true c h = h
 and_true false c h = refl
 
 -- what passes stands in the chain
-pub counting_begins : (chain : ℕ) (p : Assignment → Bool) (count : ℕ) (states : List Assignment) (next prev : List ℕ) (h : IsLinked count states next prev) → chain < 64
-    → ((s : Assignment) → stands_in chain s ≡ false → p s ≡ false) → Counting chain p count states next prev (get_or next (count + chain) 0) 0
+pub counting_begins : (chain : ℕ) (p : Assignment → Bool) (count : ℕ) (states : List Assignment) (next prev : List ℕ) (h : IsChained count states next prev) → chain < 64
+    → ((s : Assignment) → is_in_chain chain s ≡ false → p s ≡ false) → Counting chain p count states next prev (get_or next (count + chain) 0) 0
 counting_begins chain p count states next prev h lt stands = record {
   walk = walk_begins chain (λ s. s) count states next prev h lt true;
   counted = sym (same_sum (seen p states (h.chains chain)) (λ k. 0) count (λ k l. none k) ∙ none_sum count);
 }
   where
     none : (k : ℕ) → seen p states (h.chains chain) k ≡ 0
-    none k = elim (cases_Bool (stands_in chain (state_at states k))) [
+    none k = elim (cases_Bool (is_in_chain chain (slot_state states k))) [
       | inl e ↦ (let one : occurs k (h.chains chain) ≡ 1 = h.homes chain k ∙ ap bit e in
-          ap bit (and_right (p (state_at states k)) (eqb (occurs k (h.chains chain)) 0) (ne_eqb (occurs k (h.chains chain)) 0 (λ z. omega (arith, one, z)))))
-      | inr g ↦ ap bit (and_left (p (state_at states k)) (eqb (occurs k (h.chains chain)) 0) (stands (state_at states k) g))
+          ap bit (and_right (p (slot_state states k)) (eqb (occurs k (h.chains chain)) 0) (ne_eqb (occurs k (h.chains chain)) 0 (λ z. omega (arith, one, z)))))
+      | inr g ↦ ap bit (and_left (p (slot_state states k)) (eqb (occurs k (h.chains chain)) 0) (stands (slot_state states k) g))
     ]
 
 module _ (chain : ℕ) (p : Assignment → Bool) (count : ℕ) (states : List Assignment) (next prev : List ℕ) (at m : ℕ) (h : Counting chain p count states next prev at m) where
-  pub counting_ends : at ≡ count + chain → m ≡ sum_below (λ k. bit (p (state_at states k))) count
-  counting_ends e = h.counted ∙ same_sum (seen p states h.walk.rest) (λ k. bit (p (state_at states k))) count (λ k l.
-      ap bit (and_true (p (state_at states k)) (eqb (occurs k h.walk.rest) 0) (ap (λ xs. eqb (occurs k xs) 0) (walk_over chain (λ s. s) count states states next prev at true h.walk e))))
+  pub counting_ends : at ≡ count + chain → m ≡ sum_below (λ k. bit (p (slot_state states k))) count
+  counting_ends e = h.counted ∙ same_sum (seen p states h.walk.rest) (λ k. bit (p (slot_state states k))) count (λ k l.
+      ap bit (and_true (p (slot_state states k)) (eqb (occurs k h.walk.rest) 0) (ap (λ xs. eqb (occurs k xs) 0) (walk_over chain (λ s. s) count states states next prev at true h.walk e))))
 
   module _ (n : at ≡ count + chain → ⊥) where
     abbrev on_walk : Walking chain (λ s. s) count states states next prev (get_or next at 0) true
     on_walk = record {
-      linked = h.walk.linked;
+      chained = h.walk.chained;
       lt = h.walk.lt;
       olds_len = h.walk.olds_len;
       front = h.walk.front ++ at ∷ [];
       rest = after_first h.walk.rest;
       split = walk_split chain (λ s. s) count states states next prev at true h.walk n ∙ sym (append_assoc h.walk.front (at ∷ []) (after_first h.walk.rest));
       here = walk_next chain (λ s. s) count states states next prev at true h.walk n;
-      changed = λ k. sym (ap (cond (ltb 0 (occurs k (after_first h.walk.rest))) (state_at states k)) (cond_same (stands_in chain (state_at states k)) (state_at states k)) ∙ cond_same (ltb 0 (occurs k (after_first h.walk.rest))) (state_at states k));
+      changed = λ k. sym (ap (cond (ltb 0 (occurs k (after_first h.walk.rest))) (slot_state states k)) (cond_same (is_in_chain chain (slot_state states k)) (slot_state states k)) ∙ cond_same (ltb 0 (occurs k (after_first h.walk.rest))) (slot_state states k));
       noted = λ k none e. refl;
     }
 
-    more : sum_below (seen p states (after_first h.walk.rest)) count ≡ bit (p (state_at states at)) + sum_below (seen p states h.walk.rest) count
-    more = greater_sum (seen p states (after_first h.walk.rest)) (seen p states h.walk.rest) count at (bit (p (state_at states at)))
+    more : sum_below (seen p states (after_first h.walk.rest)) count ≡ bit (p (slot_state states at)) + sum_below (seen p states h.walk.rest) count
+    more = greater_sum (seen p states (after_first h.walk.rest)) (seen p states h.walk.rest) count at (bit (p (slot_state states at)))
         (walk_below chain (λ s. s) count states states next prev at true h.walk n) here others
       where
         on : h.walk.rest ≡ at ∷ after_first h.walk.rest
         on = split_first h.walk.rest at (count + chain) h.walk.here n
 
-        here : seen p states (after_first h.walk.rest) at ≡ bit (p (state_at states at)) + seen p states h.walk.rest at
+        here : seen p states (after_first h.walk.rest) at ≡ bit (p (slot_state states at)) + seen p states h.walk.rest at
         here =
-            let left = ap bit (and_true (p (state_at states at)) (eqb (occurs at (after_first h.walk.rest)) 0) (eq-eqb (occurs at (after_first h.walk.rest)) 0 (walk_once chain (λ s. s) count states states next prev at true h.walk n))) in
-            let right = ap bit (and_right (p (state_at states at)) (eqb (occurs at h.walk.rest) 0) (ne_eqb (occurs at h.walk.rest) 0 (λ z. omega (arith, z, ap (occurs at) on, one_same at)))) in
+            let left = ap bit (and_true (p (slot_state states at)) (eqb (occurs at (after_first h.walk.rest)) 0) (eq-eqb (occurs at (after_first h.walk.rest)) 0 (walk_once chain (λ s. s) count states states next prev at true h.walk n))) in
+            let right = ap bit (and_right (p (slot_state states at)) (eqb (occurs at h.walk.rest) 0) (ne_eqb (occurs at h.walk.rest) 0 (λ z. omega (arith, z, ap (occurs at) on, one_same at)))) in
             omega (arith, left, right)
 
         others : (j : ℕ) → (j ≡ at → ⊥) → seen p states (after_first h.walk.rest) j ≡ seen p states h.walk.rest j
         others j m =
             let less : occurs j (after_first h.walk.rest) ≡ occurs j h.walk.rest = omega (arith, ap (occurs j) on, one_other j at m) in
-            ap (λ x. bit (p (state_at states j) && eqb x 0)) less
+            ap (λ x. bit (p (slot_state states j) && eqb x 0)) less
 
-    pub counting_on : (b : Bool) (place m' : ℕ) → p (state_at states at) ≡ b → m' ≡ bit b + m → place ≡ get_or next at 0 → Counting chain p count states next prev place m'
+    pub counting_on : (b : Bool) (place m' : ℕ) → p (slot_state states at) ≡ b → m' ≡ bit b + m → place ≡ get_or next at 0 → Counting chain p count states next prev place m'
     counting_on b place m' e f goes = subst (λ a. Counting chain p count states next prev a m') (sym goes)
         (record { walk = on_walk; counted = f ∙ ap (λ x. bit b + x) h.counted ∙ sym (more ∙ ap (λ x. bit x + sum_below (seen p states h.walk.rest) count) e) })
 
@@ -439,22 +439,22 @@ other_port : (p port : ℕ) → eqb (chain_of p) (chain_of port) ≡ false → e
 other_port p port h = ne_eqb p port (λ e. false≢true (sym h ∙ eq-eqb (chain_of p) (chain_of port) (ap chain_of e)))
 
 -- what passes stands in the chain of the port that it is tested for
-pub passes_stands : (test : Test) (s : Assignment) → stands_in (chain_of (tested_port test)) s ≡ false → passes test s ≡ false
+pub passes_stands : (test : ConversationTest) (s : Assignment) → is_in_chain (chain_of (tested_port test)) s ≡ false → passes test s ≡ false
 passes_stands (WantsMarker port) (Free preferred) h = refl
 passes_stands (WantsMarker port) (On p) h = refl
 passes_stands (WantsMarker port) (Wanted p preferred) h = other_port p port h
 passes_stands (WantsMarker port) (Flushing p id preferred age) h = refl
-passes_stands (WaitsFor port n) (Free preferred) h = refl
-passes_stands (WaitsFor port n) (On p) h = refl
-passes_stands (WaitsFor port n) (Wanted p preferred) h = refl
-passes_stands (WaitsFor port n) (Flushing p id preferred age) h = and_left (eqb p port) (eqb id n) (other_port p port h)
+passes_stands (AwaitsResponse port n) (Free preferred) h = refl
+passes_stands (AwaitsResponse port n) (On p) h = refl
+passes_stands (AwaitsResponse port n) (Wanted p preferred) h = refl
+passes_stands (AwaitsResponse port n) (Flushing p id preferred age) h = and_left (eqb p port) (eqb id n) (other_port p port h)
 passes_stands (NamesPort port) (Free preferred) h = refl
 passes_stands (NamesPort port) (On p) h = other_port p port h
 passes_stands (NamesPort port) (Wanted p preferred) h = other_port p port h
 passes_stands (NamesPort port) (Flushing p id preferred age) h = other_port p port h
 
 -- past the last slot a state reads as free
-pub free_past : (count : ℕ) (states : List Assignment) → length states ≡ count → ((k : ℕ) → k < count → state_at states k ≡ Free None) → (k : ℕ) → state_at states k ≡ Free None
+pub free_past : (count : ℕ) (states : List Assignment) → length states ≡ count → ((k : ℕ) → k < count → slot_state states k ≡ Free None) → (k : ℕ) → slot_state states k ≡ Free None
 free_past count states long free k = elim (cases_Bool (ltb k count)) [
   | inl e ↦ free k (ltb-true k count e)
   | inr g ↦ (let past : length states ≤ k = omega (arith, long, ltb-false k count g) in get_or_past states k (Free None) past)
@@ -462,8 +462,8 @@ free_past count states long free k = elim (cases_Bool (ltb k count)) [
 
 -- if every place is a ring of its own and every slot is free, the slots are chained
 pub all_free : (count : ℕ) (states : List Assignment) (next prev : List ℕ) → count + 64 < 2 ^ 32 → length states ≡ count → length next ≡ count + 64 → length prev ≡ count + 64
-    → ((k : ℕ) → k < count + 64 → get_or next k 0 ≡ k) → ((k : ℕ) → k < count + 64 → get_or prev k 0 ≡ k) → ((k : ℕ) → k < count → state_at states k ≡ Free None)
-    → IsLinked count states next prev
+    → ((k : ℕ) → k < count + 64 → get_or next k 0 ≡ k) → ((k : ℕ) → k < count + 64 → get_or prev k 0 ≡ k) → ((k : ℕ) → k < count → slot_state states k ≡ Free None)
+    → IsChained count states next prev
 all_free count states next prev few long nexts_long prevs_long nexts prevs free = record {
   few = few;
   states_len = long;
@@ -471,9 +471,9 @@ all_free count states next prev few long nexts_long prevs_long nexts prevs free 
   prev_len = prevs_long;
   chains = λ c. [];
   joined = λ c lt. (nexts (count + c) (omega (arith, lt)), prevs (count + c) (omega (arith, lt)));
-  homes = λ c k. sym (ap (λ s. bit (stands_in c s)) (free_past count states long free k));
+  homes = λ c k. sym (ap (λ s. bit (is_in_chain c s)) (free_past count states long free k));
 }
 
-pub freed_all : (count : ℕ) (states : List Assignment) → length states ≡ count → ((k : ℕ) → k < count → state_at states k ≡ Free None) → states ≡ replicate count (Free None)
+pub freed_all : (count : ℕ) (states : List Assignment) → length states ≡ count → ((k : ℕ) → k < count → slot_state states k ≡ Free None) → states ≡ replicate count (Free None)
 freed_all count states long free = ext_get_or (Free None) states (replicate count (Free None)) (long ∙ sym (length-replicate count (Free None)))
     (λ k lt. (let low : k < count = omega (arith, lt, long) in free k low ∙ sym (get_or-replicate count k (Free None) (Free None) low)))

@@ -2,9 +2,9 @@
 use Rattle.std.specs.Prelude.{ℕ, ◌+◌, ◌%◌, ◌<◌, ◌^◌, ◌≡◌, ◌&&◌, Bool, true, false, cond, eqb, List, [], ◌∷◌, length, get_or, Option, None, Some}
 use Rattle.distributor.specs.declared.assignment.Assignment.{Assignment}
 use Rattle.distributor.specs.declared.assignment.Assignment.TheVariants.{Free, On, Wanted, Flushing}
-use Rattle.distributor.specs.declared.slots.Test.{Test}
-use Rattle.distributor.specs.declared.slots.Test.TheVariants.{WantsMarker, WaitsFor, NamesPort}
-use Rattle.distributor.specs.Changes.{wants_marker, waits_for}
+use Rattle.distributor.specs.declared.slots.ConversationTest.{ConversationTest}
+use Rattle.distributor.specs.declared.slots.ConversationTest.TheVariants.{WantsMarker, AwaitsResponse, NamesPort}
+use Rattle.distributor.specs.Changes.{wants_marker, awaits_response}
 
 -- the port on which a conversation is On, Wanted or Flushing
 abbrev pub assignment_port : Assignment → Option ℕ
@@ -18,11 +18,11 @@ abbrev pub chain_of : ℕ → ℕ
 chain_of port = port % 64
 
 -- whether a conversation in this state is in the chain
-abbrev pub stands_in : ℕ → Assignment → Bool
-stands_in chain (Free preferred) = false
-stands_in chain (On port) = eqb (chain_of port) chain
-stands_in chain (Wanted port preferred) = eqb (chain_of port) chain
-stands_in chain (Flushing port id preferred age) = eqb (chain_of port) chain
+abbrev pub is_in_chain : ℕ → Assignment → Bool
+is_in_chain chain (Free preferred) = false
+is_in_chain chain (On port) = eqb (chain_of port) chain
+is_in_chain chain (Wanted port preferred) = eqb (chain_of port) chain
+is_in_chain chain (Flushing port id preferred age) = eqb (chain_of port) chain
 
 -- whether the conversation waits for a Marker Response
 abbrev pub is_flushing : Assignment → Bool
@@ -32,8 +32,8 @@ is_flushing (Wanted port preferred) = false
 is_flushing (Flushing port id preferred age) = true
 
 -- whether the conversation is in the chain and waits for a Marker Response
-abbrev pub flushes_in : ℕ → Assignment → Bool
-flushes_in chain s = stands_in chain s && is_flushing s
+abbrev pub is_flushing_in_chain : ℕ → Assignment → Bool
+is_flushing_in_chain chain s = is_in_chain chain s && is_flushing s
 
 -- whether the conversation is On, Wanted or Flushing on the port
 abbrev pub names_port : ℕ → Assignment → Bool
@@ -43,20 +43,20 @@ names_port port (Wanted p preferred) = eqb p port
 names_port port (Flushing p id preferred age) = eqb p port
 
 -- whether the test counts a conversation in this state
-abbrev pub passes : Test → Assignment → Bool
+abbrev pub passes : ConversationTest → Assignment → Bool
 passes (WantsMarker port) s = wants_marker port s
-passes (WaitsFor port id) s = waits_for port id s
+passes (AwaitsResponse port id) s = awaits_response port id s
 passes (NamesPort port) s = names_port port s
 
 -- the port of a test; every conversation that the test counts is on that port
-abbrev pub tested_port : Test → ℕ
+abbrev pub tested_port : ConversationTest → ℕ
 tested_port (WantsMarker port) = port
-tested_port (WaitsFor port id) = port
+tested_port (AwaitsResponse port id) = port
 tested_port (NamesPort port) = port
 
 -- the state after a change that applies only to the conversations in this chain
-abbrev pub within : ℕ → (Assignment → Assignment) → Assignment → Assignment
-within chain change s = cond (stands_in chain s) (change s) s
+abbrev pub changed_in_chain : ℕ → (Assignment → Assignment) → Assignment → Assignment
+changed_in_chain chain change s = cond (is_in_chain chain s) (change s) s
 
 -- how often a slot number occurs in the list
 abbrev pub occurs : ℕ → List ℕ → ℕ
@@ -64,30 +64,30 @@ occurs k [] = 0
 occurs k (x ∷ xs) = cond (eqb k x) 1 0 + occurs k xs
 
 -- the slot b comes right after the slot a: `next` leads from a to b, and `prev` from b to a
-abbrev pub Joined : List ℕ → List ℕ → ℕ → ℕ → Type 0
-Joined next prev a b = (get_or next a 0 ≡ b) × (get_or prev b 0 ≡ a)
+abbrev pub AreNeighbours : List ℕ → List ℕ → ℕ → ℕ → Type 0
+AreNeighbours next prev a b = (get_or next a 0 ≡ b) × (get_or prev b 0 ≡ a)
 
 -- `next` leads from a through these slots to b, and `prev` leads back
 abbrev pub Path : List ℕ → List ℕ → ℕ → List ℕ → ℕ → Type 0
-Path next prev a [] b = Joined next prev a b
-Path next prev a (x ∷ xs) b = Joined next prev a x × Path next prev x xs b
+Path next prev a [] b = AreNeighbours next prev a b
+Path next prev a (x ∷ xs) b = AreNeighbours next prev a x × Path next prev x xs b
 
 -- the state of a slot; free if there is no such slot
-abbrev pub state_at : List Assignment → ℕ → Assignment
-state_at states slot = get_or states slot (Free None)
+abbrev pub slot_state : List Assignment → ℕ → Assignment
+slot_state states slot = get_or states slot (Free None)
 
 -- The links of 64 chains through the slots. Chain c is a ring that begins and ends at entry c after the slots. A slot
 -- is once in the chain of its state, and in no other.
-pub record IsLinked (count : ℕ) (states : List Assignment) (next prev : List ℕ) : Type 0 where
+pub record IsChained (count : ℕ) (states : List Assignment) (next prev : List ℕ) : Type 0 where
   pub few : count + 64 < 2 ^ 32
   pub states_len : length states ≡ count
   pub next_len : length next ≡ count + 64
   pub prev_len : length prev ≡ count + 64
   pub chains : ℕ → List ℕ
   pub joined : (c : ℕ) → c < 64 → Path next prev (count + c) (chains c) (count + c)
-  pub homes : (c k : ℕ) → occurs k (chains c) ≡ cond (stands_in c (state_at states k)) 1 0
+  pub homes : (c k : ℕ) → occurs k (chains c) ≡ cond (is_in_chain c (slot_state states k)) 1 0
 
 -- The flag of a chain is set if a conversation in it is Flushing.
 pub record IsFlagged (states : List Assignment) (flags : List Bool) : Type 0 where
   pub flags_len : length flags ≡ 64
-  pub flagged : (c k : ℕ) → flushes_in c (state_at states k) ≡ true → get_or flags c false ≡ true
+  pub flagged : (c k : ℕ) → is_flushing_in_chain c (slot_state states k) ≡ true → get_or flags c false ≡ true

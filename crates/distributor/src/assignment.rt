@@ -1,7 +1,7 @@
 ghost use Rattle.std.specs.Prelude.{◌≡◌};
 ghost use Rattle.distributor.specs.Conversations.{preference_of};
 ghost use Rattle.distributor.specs.Chains.{assignment_port, names_port, is_flushing};
-ghost use Rattle.distributor.specs.Changes.{wants_marker, waits_for};
+ghost use Rattle.distributor.specs.Changes.{wants_marker, awaits_response};
 
 /// The state of a conversation (profile). Ports are port numbers. `preferred` is the port that the next frame goes on
 /// once the conversation is free, if that port distributes then.
@@ -81,8 +81,8 @@ impl Assignment {
     }
 
     /// Whether the conversation waits for the response to the marker `id` on this port.
-    pub(crate) fn waits_for(&self, port: u16, id: u32) -> bool
-        ensures { result ≡ waits_for port id self.now }
+    pub(crate) fn awaits_response(&self, port: u16, id: u32) -> bool
+        ensures { result ≡ awaits_response port id self.now }
     {
         matches!(*self, Assignment::Flushing { port: p, id: n, .. } if p == port && n == id)
     }

@@ -21,4 +21,4 @@ pub use algorithm::by_number;
 pub use assignment::Assignment;
 pub use conversations::Distributor;
 pub use fault::DistFault;
-pub use laws::{by_number_picks_places, calls_are_moves, first_is_the_first_view};
+pub use laws::{by_number_picks_indexes, calls_are_moves, first_is_the_first_view};

@@ -1,8 +1,8 @@
 ghost use Rattle.std.specs.Prelude.{false, ◌≡◌, ◌+◌, ◌%◌, ◌<◌, ◌≤◌, ◌^◌, length, get_or, set, map, cond, ℕ, None, IfOk, replicate};
-ghost use Rattle.distributor.specs.Chains.{assignment_port, chain_of, state_at, is_flushing};
-ghost use Rattle.distributor.specs.Slots.{AreLinked, AreFlagged};
+ghost use Rattle.distributor.specs.Chains.{assignment_port, chain_of, slot_state, is_flushing};
+ghost use Rattle.distributor.specs.Slots.{AreChained, AreFlagged};
 ghost use Rattle.distributor.specs.Changes.{after_change, after_tick};
-ghost use Rattle.distributor.specs.Chains.{within, passes, tested_port};
+ghost use Rattle.distributor.specs.Chains.{changed_in_chain, passes, tested_port};
 ghost use Rattle.distributor.specs.Conversations.{sum_below};
 ghost use Rattle.distributor.specs.declared.assignment.Assignment.{Assignment};
 
@@ -28,24 +28,24 @@ pub(crate) struct Slots {
 
 /// Which conversations are counted.
 #[derive(Clone, Copy, Debug)]
-pub(crate) enum Test {
+pub(crate) enum ConversationTest {
     /// Those that wait for a marker to be sent on this port.
     WantsMarker(u16),
     /// Those that wait for the response to this marker on this port.
-    WaitsFor(u16, u32),
+    AwaitsResponse(u16, u32),
     /// Those that are On, Wanted or Flushing on this port.
     NamesPort(u16),
 }
 
-impl Test {
+impl ConversationTest {
     /// Whether a conversation in this state is counted.
     fn passes(&self, state: Assignment) -> bool
         ensures { result ≡ passes self.now state }
     {
         match *self {
-            Test::WantsMarker(port) => state.wants_marker(port),
-            Test::WaitsFor(port, id) => state.waits_for(port, id),
-            Test::NamesPort(port) => state.names_port(port),
+            ConversationTest::WantsMarker(port) => state.wants_marker(port),
+            ConversationTest::AwaitsResponse(port, id) => state.awaits_response(port, id),
+            ConversationTest::NamesPort(port) => state.names_port(port),
         }
     }
 
@@ -54,9 +54,9 @@ impl Test {
         ensures below { result < 64 }
     {
         match *self {
-            Test::WantsMarker(port) | Test::WaitsFor(port, _) | Test::NamesPort(port) => chain(
-                port,
-            ),
+            ConversationTest::WantsMarker(port)
+            | ConversationTest::AwaitsResponse(port, _)
+            | ConversationTest::NamesPort(port) => chain(port),
         }
     }
 }
@@ -65,7 +65,7 @@ impl Slots {
     /// This many slots, all free.
     pub(crate) fn new(alloc: Global, count: u32) -> Result<Slots, AllocError>
         requires few { count + 64 < 2 ^ 32 }
-        ensures linked { IfOk result (λ s. AreLinked s) }
+        ensures chained { IfOk result (λ s. AreChained s) }
         ensures flagged { IfOk result (λ s. AreFlagged s) }
         ensures states { IfOk result (λ s. s.states.items ≡ replicate count (Assignment.Free None)) }
         ensures count { IfOk result (λ s. s.count ≡ count) }
@@ -87,20 +87,20 @@ impl Slots {
     }
 
     pub(crate) fn state(&self, slot: u32) -> Assignment
-        requires linked { AreLinked self.now }
+        requires chained { AreChained self.now }
         requires inside { slot < self.now.count }
-        ensures { result ≡ state_at self.now.states.items slot }
+        ensures { result ≡ slot_state self.now.states.items slot }
     {
         self.states[slot as usize]
     }
 
     /// Gives a slot a state that is not Flushing, and puts it into the chain of that state.
     pub(crate) fn set(&mut self, slot: u32, state: Assignment)
-        requires linked { AreLinked self.old }
+        requires chained { AreChained self.old }
         requires flagged { AreFlagged self.old }
         requires inside { slot < self.old.count }
         requires still { is_flushing state ≡ false }
-        ensures linked { AreLinked self.new }
+        ensures chained { AreChained self.new }
         ensures flagged { AreFlagged self.new }
         ensures states { self.new.states.items ≡ set self.old.states.items slot state }
         ensures count { self.new.count ≡ self.old.count }
@@ -111,11 +111,11 @@ impl Slots {
 
     /// Applies a change to each slot in the chain of this port.
     pub(crate) fn change(&mut self, port: u16, change: Change)
-        requires linked { AreLinked self.old }
+        requires chained { AreChained self.old }
         requires flagged { AreFlagged self.old }
-        ensures linked { AreLinked self.new }
+        ensures chained { AreChained self.new }
         ensures flagged { AreFlagged self.new }
-        ensures states { self.new.states.items ≡ map (within (chain_of port) (after_change change)) self.old.states.items }
+        ensures states { self.new.states.items ≡ map (changed_in_chain (chain_of port) (after_change change)) self.old.states.items }
         ensures count { self.new.count ≡ self.old.count }
     {
         self.change_chain(chain(port), change);
@@ -123,12 +123,12 @@ impl Slots {
 
     /// Applies a change to each slot in this chain, and works out the flag of the chain again.
     fn change_chain(&mut self, chain: u32, change: Change)
-        requires linked { AreLinked self.old }
+        requires chained { AreChained self.old }
         requires flagged { AreFlagged self.old }
         requires below { chain < 64 }
-        ensures linked { AreLinked self.new }
+        ensures chained { AreChained self.new }
         ensures flagged { AreFlagged self.new }
-        ensures states { self.new.states.items ≡ map (within chain (after_change change)) self.old.states.items }
+        ensures states { self.new.states.items ≡ map (changed_in_chain chain (after_change change)) self.old.states.items }
         ensures count { self.new.count ≡ self.old.count }
     {
         let end = self.count + chain;
@@ -141,7 +141,7 @@ impl Slots {
             flushing |= state.is_flushing();
             match state.port() {
                 None => {
-                    unlink(&mut self.next, &mut self.prev, slot);
+                    take_from_ring(&mut self.next, &mut self.prev, slot);
                     self.states[slot as usize] = state;
                 }
                 Some(_) => self.states[slot as usize] = state,
@@ -151,9 +151,9 @@ impl Slots {
     }
 
     /// How many conversations the test counts.
-    pub(crate) fn count(&self, test: Test) -> u32
-        requires linked { AreLinked self.now }
-        ensures { result ≡ sum_below (λ k. cond (passes test (state_at self.now.states.items k)) 1 0) self.now.count }
+    pub(crate) fn count(&self, test: ConversationTest) -> u32
+        requires chained { AreChained self.now }
+        ensures { result ≡ sum_below (λ k. cond (passes test (slot_state self.now.states.items k)) 1 0) self.now.count }
     {
         let end = self.count + test.chain();
         let mut at = self.next[end as usize];
@@ -168,9 +168,9 @@ impl Slots {
 
     /// One tick for each conversation. Only chains whose flag is set are read.
     pub(crate) fn tick(&mut self)
-        requires linked { AreLinked self.old }
+        requires chained { AreChained self.old }
         requires flagged { AreFlagged self.old }
-        ensures linked { AreLinked self.new }
+        ensures chained { AreChained self.new }
         ensures flagged { AreFlagged self.new }
         ensures states { self.new.states.items ≡ map after_tick self.old.states.items }
         ensures count { self.new.count ≡ self.old.count }
@@ -184,9 +184,9 @@ impl Slots {
 
     /// Makes every slot free.
     pub(crate) fn clear(&mut self)
-        requires linked { AreLinked self.old }
+        requires chained { AreChained self.old }
         requires flagged { AreFlagged self.old }
-        ensures linked { AreLinked self.new }
+        ensures chained { AreChained self.new }
         ensures flagged { AreFlagged self.new }
         ensures states { self.new.states.items ≡ replicate self.old.count (Assignment.Free None) }
         ensures count { self.new.count ≡ self.old.count }
@@ -199,9 +199,9 @@ impl Slots {
 
     /// Makes a slot free, and takes it out of its chain.
     fn vacate(&mut self, slot: u32)
-        requires linked { AreLinked self.old }
+        requires chained { AreChained self.old }
         requires inside { slot < self.old.count }
-        ensures linked { AreLinked self.new }
+        ensures chained { AreChained self.new }
         ensures states { self.new.states.items ≡ set self.old.states.items slot (Assignment.Free None) }
         ensures count { self.new.count ≡ self.old.count }
         ensures flushing { self.new.flushing ≡ self.old.flushing }
@@ -211,7 +211,7 @@ impl Slots {
         match state.port() {
             None => self.states[slot as usize] = free,
             Some(_) => {
-                unlink(&mut self.next, &mut self.prev, slot);
+                take_from_ring(&mut self.next, &mut self.prev, slot);
                 self.states[slot as usize] = free;
             }
         }
@@ -219,10 +219,10 @@ impl Slots {
 
     /// Gives a free slot a state, and puts it into the chain of that state.
     fn fill(&mut self, slot: u32, state: Assignment)
-        requires linked { AreLinked self.old }
+        requires chained { AreChained self.old }
         requires inside { slot < self.old.count }
-        requires free { assignment_port (state_at self.old.states.items slot) ≡ None }
-        ensures linked { AreLinked self.new }
+        requires free { assignment_port (slot_state self.old.states.items slot) ≡ None }
+        ensures chained { AreChained self.new }
         ensures states { self.new.states.items ≡ set self.old.states.items slot state }
         ensures count { self.new.count ≡ self.old.count }
         ensures flushing { self.new.flushing ≡ self.old.flushing }
@@ -231,7 +231,7 @@ impl Slots {
             None => self.states[slot as usize] = state,
             Some(port) => {
                 let end = self.count + chain(port);
-                link(&mut self.next, &mut self.prev, end, slot);
+                put_into_ring(&mut self.next, &mut self.prev, end, slot);
                 self.states[slot as usize] = state;
             }
         }
@@ -253,7 +253,7 @@ fn close(links: &mut Vec<u32>, places: u32)
 fn free_each(states: &mut Vec<Assignment>, count: u32)
     requires { length states.old.items ≡ count }
     ensures len { length states.new.items ≡ count }
-    ensures freed { (k : ℕ) → k < count → state_at states.new.items k ≡ Assignment.Free None }
+    ensures freed { (k : ℕ) → k < count → slot_state states.new.items k ≡ Assignment.Free None }
 {
     for slot in 0..count {
         states[slot as usize] = Assignment::Free { preferred: None };
@@ -269,7 +269,7 @@ fn chain(port: u16) -> u32
 }
 
 /// Takes a slot out of the ring that it is in.
-fn unlink(next: &mut Vec<u32>, prev: &mut Vec<u32>, slot: u32)
+fn take_from_ring(next: &mut Vec<u32>, prev: &mut Vec<u32>, slot: u32)
     requires slot { slot < length next.old.items }
     requires same { length prev.old.items ≡ length next.old.items }
     requires after { get_or next.old.items slot 0 < length prev.old.items }
@@ -284,7 +284,7 @@ fn unlink(next: &mut Vec<u32>, prev: &mut Vec<u32>, slot: u32)
 }
 
 /// Puts a slot that is in no ring into a ring, right after the ring's end.
-fn link(next: &mut Vec<u32>, prev: &mut Vec<u32>, end: u32, slot: u32)
+fn put_into_ring(next: &mut Vec<u32>, prev: &mut Vec<u32>, end: u32, slot: u32)
     requires slot { slot < length next.old.items }
     requires end { end < length next.old.items }
     requires same { length prev.old.items ≡ length next.old.items }

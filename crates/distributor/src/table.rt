@@ -1,11 +1,11 @@
 ghost use Rattle.std.specs.Prelude.{false, ◌≡◌, ◌≤◌, ◌<◌, ◌+◌, ◌*◌, ◌-◌, ◌↔◌, nat_lt, IfOk, IfSome, IfNone, IsTrue};
-ghost use Rattle.distributor.specs.Conversations.{first_table, assignment_of, slot_index, how_many, next_identifier, IsConversation};
-ghost use Rattle.distributor.specs.Changes.{Sets, Changes, Marks, after_change, wants_marker, waits_for, marker_due};
+ghost use Rattle.distributor.specs.Conversations.{first_table, assignment_of, slot_index, count_conversations, next_identifier, IsConversation};
+ghost use Rattle.distributor.specs.Changes.{SetsAssignment, ChangesAssignments, Marks, after_change, wants_marker, awaits_response, marker_due};
 ghost use Rattle.distributor.specs.Chains.{names_port, is_flushing};
 
 use crate::assignment::Assignment;
 use crate::change::Change;
-use crate::slots::{Slots, Test};
+use crate::slots::{ConversationTest, Slots};
 use lagtypes::NoMemory;
 use std::alloc::Global;
 use std::marker::Model;
@@ -72,35 +72,35 @@ impl ConversationTable {
     pub(crate) fn set(&mut self, agg: u16, conv: u16, state: Assignment)
         requires known { IsConversation self.old agg conv }
         requires still { is_flushing state ≡ false }
-        ensures { Sets self.old self.new agg conv state }
+        ensures { SetsAssignment self.old self.new agg conv state }
     {
         self.slots.set(slot_index(agg, conv), state);
     }
 
     /// Whether some conversation is Wanted on the port.
     pub(crate) fn is_wanted_on(&self, port: u16) -> bool
-        ensures { result ≡ nat_lt 0 (how_many (wants_marker port) self.now) }
+        ensures { result ≡ nat_lt 0 (count_conversations (wants_marker port) self.now) }
     {
-        self.slots.count(Test::WantsMarker(port)) > 0
+        self.slots.count(ConversationTest::WantsMarker(port)) > 0
     }
 
     /// How many conversations wait for the response to this marker on the port.
     pub(crate) fn count_waiting(&self, port: u16, id: u32) -> u32
-        ensures { result ≡ how_many (waits_for port id) self.now }
+        ensures { result ≡ count_conversations (awaits_response port id) self.now }
     {
-        self.slots.count(Test::WaitsFor(port, id))
+        self.slots.count(ConversationTest::AwaitsResponse(port, id))
     }
 
     /// How many conversations are On, Wanted or Flushing on the port.
     pub(crate) fn load(&self, port: u16) -> u32
-        ensures { result ≡ how_many (names_port port) self.now }
+        ensures { result ≡ count_conversations (names_port port) self.now }
     {
-        self.slots.count(Test::NamesPort(port))
+        self.slots.count(ConversationTest::NamesPort(port))
     }
 
     /// Applies a change to every conversation.
     pub(crate) fn change(&mut self, change: Change)
-        ensures { Changes self.old self.new (after_change change) }
+        ensures { ChangesAssignments self.old self.new (after_change change) }
     {
         match change {
             Change::Leave(port)

@@ -1,5 +1,5 @@
 ghost use Rattle.std.specs.Prelude.{◌≡◌, ◌≤◌, length};
-ghost use Rattle.distributor.specs.Calls.{PicksPlaces};
+ghost use Rattle.distributor.specs.Calls.{PicksIndexes};
 
 use crate::{Assignment, DistFault, Distributor, by_number};
 use lagtypes::{AggId, NoMemory};
@@ -36,7 +36,7 @@ fn tick<F: Fn(u16, usize) -> usize + Drop>(d: &mut Distributor<F>, count: u16)
 /// Makes the call of a row while these ports distribute, and returns the row with the actual result in the place of the
 /// expected one.
 fn play<F: Fn(u16, usize) -> usize + Drop>(d: &mut Distributor<F>, ports: &[u16], row: Row) -> Row
-    requires usable { PicksPlaces (F.pre d.old.algorithm) (F.post d.old.algorithm) }
+    requires usable { PicksIndexes (F.pre d.old.algorithm) (F.post d.old.algorithm) }
     requires few { length ports.now ≤ 64 }
     ensures algorithm { d.new.algorithm ≡ d.old.algorithm }
 {

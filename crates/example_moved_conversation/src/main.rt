@@ -5,7 +5,7 @@
 #![tactic(auto)]
 
 ghost use Rattle.std.specs.Prelude.{◌≡◌, ◌<◌, ◌↔◌, None, IfOk, IfSome, IsTrue};
-ghost use Rattle.distributor.specs.Calls.{PicksPlaces};
+ghost use Rattle.distributor.specs.Calls.{PicksIndexes};
 ghost use Rattle.example_moved_conversation.specs.Ends.{AreUp};
 ghost use Rattle.lagsystem.specs.First.{config_refusal};
 
@@ -141,7 +141,7 @@ fn hold<F: Fn(u16, usize) -> usize + Drop>(
     system: &mut System<F>,
     to: u16,
 ) -> Result<bool, SystemFault>
-    requires usable { PicksPlaces (F.pre system.old.algorithm) (F.post system.old.algorithm) }
+    requires usable { PicksIndexes (F.pre system.old.algorithm) (F.post system.old.algorithm) }
     ensures algorithm { system.new.algorithm ≡ system.old.algorithm }
 {
     system.move_conversation(AggId(1), CONVERSATION, to)?;
@@ -161,7 +161,7 @@ fn move_over<F: Fn(u16, usize) -> usize + Drop>(
     one: &mut System<F>,
     two: &mut System<F>,
 ) -> Result<Story, SystemFault>
-    requires usable { PicksPlaces (F.pre one.old.algorithm) (F.post one.old.algorithm) }
+    requires usable { PicksIndexes (F.pre one.old.algorithm) (F.post one.old.algorithm) }
 {
     let before = one.offer(AggId(1), &FRAME)?;
     let held = hold(one, if before == 1 { 2 } else { 1 })?;

@@ -6,7 +6,7 @@ use Rattle.std.specs.Prelude.{IfErr, IsErrAnd, Result, Ok, Err}
 use Rattle.std.specs.Io.KnownBytes.{Appends}
 use Rattle.lagengine.specs.Engines.{AnswersLine, DoesRequest, AnswersFault, EngineState}
 use Rattle.lagengine.specs.Inputs.{line_if_any, lines_of, newline_count, continue_line}
-use Rattle.lagengine.specs.Lines.{longest, request_in}
+use Rattle.lagengine.specs.Lines.{longest_line, request_in}
 use Rattle.lagengine.specs.AnswerValues.{AnswerValue}
 use Rattle.lagengine.specs.Sessions.{AnswersLines, AnswersSome, WritesAllButAnEnd, Feeds, Finishes, StopsAnswering, ReadsOctets, SessionState, WritesAnswer, FailsToAnswer, answer_line, answer_lines, requests}
 use Rattle.lagengine.specs.Sinks.{WritesAndFlushes, SinkState}
@@ -127,7 +127,7 @@ module _ (gives : ℕ → ℕ → ℕ → Type 0) where
     feeds_kept a b s x e state line = feeds_quiet a b s x e state
         (λ rest. ap requests (octet_joined a.line rest x e) ∙ ap (λ l. requests (continue_line l (lines_of rest))) (sym line))
 
-    pub feeds_long : (a : SessionState) (s : SinkState W) (x : ℕ) → (x == 10) ≡ false → longest < length a.line → Feeds gives contents a a s s (x ∷ [])
+    pub feeds_long : (a : SessionState) (s : SinkState W) (x : ℕ) → (x == 10) ≡ false → longest_line < length a.line → Feeds gives contents a a s s (x ∷ [])
     feeds_long a s x e long = feeds_quiet a a s x e refl (λ rest. long_joined a.line rest x e long)
 
     pub feeds_newline : (a b : SessionState) (s t : SinkState W) (x : ℕ) → (x == 10) ≡ true → b.line ≡ [] → WritesAnswer gives contents a.line a.state b.state s t → Feeds gives contents a b s t (x ∷ [])

@@ -6,7 +6,7 @@ use Rattle.lagsystem.specs.Drives.{Drives, call_of}
 use Rattle.lagsystem.specs.First.{IsFirst, fault_or_no_memory, refusal}
 use Rattle.lagsystem.specs.Hosts.{conversation_at}
 use Rattle.lagsystem.specs.Readers.{conversation_in}
-use Rattle.lagsystem.specs.Sound.{Answers}
+use Rattle.lagsystem.specs.Sound.{CallPromise}
 use Rattle.lagsystem.specs.State.{SystemState, SystemValue, port_numbers}
 use Rattle.lagsystem.specs.declared.drive.Call.{Call as Handed}
 use Rattle.lagsystem.specs.declared.drive.Reply.{Reply}
@@ -54,12 +54,12 @@ HasAlgorithm f None = ⊤
 HasAlgorithm f (Some w) = w.algorithm ≡ f
 
 -- the state has this configuration
-pub record HasConfig (plan : ConfigValue) (s : SystemState) : Type 0 where
-  pub system : s.system ≡ plan.system
-  pub max_delay : s.max_delay ≡ plan.max_delay
-  pub first_marker : s.first_marker ≡ plan.first_marker
-  pub keys : s.keys ≡ plan.keys
-  pub ports : s.ports ≡ plan.ports
+pub record HasConfig (config : ConfigValue) (s : SystemState) : Type 0 where
+  pub system : s.system ≡ config.system
+  pub max_delay : s.max_delay ≡ config.max_delay
+  pub first_marker : s.first_marker ≡ config.first_marker
+  pub keys : s.keys ≡ config.keys
+  pub ports : s.ports ≡ config.ports
 
 -- the answer is this fault, and nothing changes
 abbrev pub AnswersFault : RequestFault → EngineState → AnswerValue → EngineState → Type 0
@@ -67,19 +67,19 @@ AnswersFault fault old answer new = (answer ≡ said.Fault fault) × (new ≡ ol
 
 -- a new system in its first state, and no stored calls, if the configuration is accepted and memory is granted
 abbrev pub MakesSystem : ConfigValue → EngineState → Type 0
-MakesSystem plan new =
-    (s : SystemState) × (refusal plan.keys plan.ports ≡ None) × HasConfig plan s × IsFirst s × (new ≡ record { system = Some s; kept = None })
+MakesSystem config new =
+    (s : SystemState) × (refusal config.keys config.ports ≡ None) × HasConfig config s × IsFirst s × (new ≡ record { system = Some s; kept = None })
 
 -- the system is made; or the answer is why not, and nothing changes
 abbrev pub AnswersStart : ConfigValue → EngineState → AnswerValue → EngineState → Type 0
-AnswersStart plan old said.Done new = MakesSystem plan new
-AnswersStart plan old (said.Refused fault) new = (fault ≡ fault_or_no_memory (refusal plan.keys plan.ports)) × (new ≡ old)
-AnswersStart plan old answer new = ⊥
+AnswersStart config old said.Done new = MakesSystem config new
+AnswersStart config old (said.Refused fault) new = (fault ≡ fault_or_no_memory (refusal config.keys config.ports)) × (new ≡ old)
+AnswersStart config old answer new = ⊥
 
 -- the call is made; or it is stored, if calls are stored
 abbrev pub CallsOrKeeps : (ℕ → ℕ → ℕ → Type 0) → Call → SystemState → Option (List Call) → AnswerValue → EngineState → Type 0
 CallsOrKeeps gives call s None answer new =
-    (reply : Reply) × (t : SystemState) × Answers gives s call reply t × (answer ≡ said.Replied reply)
+    (reply : Reply) × (t : SystemState) × CallPromise gives s call reply t × (answer ≡ said.Replied reply)
     × (new ≡ record { system = Some t; kept = None })
 CallsOrKeeps gives call s (Some calls) answer new = (answer ≡ said.Kept) × (new ≡ record { system = Some s; kept = Some (calls ++ call ∷ []) })
 
@@ -98,7 +98,7 @@ DrivesKept gives s (Some calls) answer new =
 -- the answer of a reader
 abbrev pub reader_answer : Question → SystemState → AnswerValue
 reader_answer (question.Port q n) s = said.Port (port_answer q s n)
-reader_answer question.Ports s = said.Ports (port_numbers s.slots)
+reader_answer question.Ports s = said.Ports (port_numbers s.system_ports)
 reader_answer question.Aggregators s = said.Aggregators (length s.keys)
 reader_answer (question.Distributing agg) s = said.Distributing (agg_answer s agg.0)
 reader_answer (question.ConversationState agg conv) s = said.ConversationState (conversation_at s agg conv)
@@ -122,7 +122,7 @@ DoesTaskIfSystem gives asked (Some s) kept answer new = DoesTask gives asked s k
 
 -- a request is done; a line that is none is answered with its fault, and nothing changes
 abbrev pub DoesRequest : (ℕ → ℕ → ℕ → Type 0) → Result RequestValue RequestFault → EngineState → AnswerValue → EngineState → Type 0
-DoesRequest gives (Ok (Start plan)) old answer new = AnswersStart plan old answer new
+DoesRequest gives (Ok (Start config)) old answer new = AnswersStart config old answer new
 DoesRequest gives (Ok (Work asked)) old answer new = DoesTaskIfSystem gives asked old.system old.kept answer new
 DoesRequest gives (Err fault) old answer new = AnswersFault fault old answer new
 

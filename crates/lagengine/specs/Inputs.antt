@@ -6,10 +6,10 @@ abbrev pub line_if_any : List ℕ → List (List ℕ)
 line_if_any [] = []
 line_if_any (x ∷ xs) = (x ∷ xs) ∷ []
 
--- octets of a line before the lines that follow; without octets and without following lines there is no line
+-- the lines, with these octets put before the first; if there are no lines, these octets as the only line, if any
 abbrev pub continue_line : List ℕ → List (List ℕ) → List (List ℕ)
-continue_line line [] = line_if_any line
-continue_line line (l ∷ ls) = (line ++ l) ∷ ls
+continue_line octets [] = line_if_any octets
+continue_line octets (l ∷ ls) = (octets ++ l) ∷ ls
 
 -- the lines of a text, each up to its newline; the last may have none
 abbrev pub lines_of : List ℕ → List (List ℕ)

@@ -7,8 +7,8 @@ use Rattle.lagengine.specs.declared.fault.RequestFault.{RequestFault}
 use Rattle.lagengine.specs.declared.fault.RequestFault.TheVariants.{TooLong, NotText, Word}
 
 -- the length of the longest line, without its line end
-abbrev pub longest : ℕ
-longest = 65536
+abbrev pub longest_line : ℕ
+longest_line = 65536
 
 -- the request of the words of a line; Word if there is none
 abbrev pub request_of_words : List (List ℕ) → Result RequestValue RequestFault
@@ -21,4 +21,4 @@ request_of_text text = request_of_words (parts 32 text)
 
 -- the request of a line of octets, or the first fault
 abbrev pub request_in : List ℕ → Result RequestValue RequestFault
-request_in line = if nat_lt longest (length line) then Err TooLong else if is_utf8 line then request_of_text line else Err NotText
+request_in line = if nat_lt longest_line (length line) then Err TooLong else if is_utf8 line then request_of_text line else Err NotText

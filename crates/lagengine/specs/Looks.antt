@@ -6,10 +6,10 @@ use Rattle.portmachines.specs.Machines.{Machines}
 use Rattle.portmachines.specs.Mux.{same_mux_state}
 use Rattle.portmachines.specs.Transmit.{actor_state}
 use Rattle.distributor.specs.Chains.{names_port}
-use Rattle.distributor.specs.Conversations.{how_many}
-use Rattle.lagsystem.specs.Hosts.{due_of}
+use Rattle.distributor.specs.Conversations.{count_conversations}
+use Rattle.lagsystem.specs.Hosts.{would_transmit_at}
 use Rattle.lagsystem.specs.Readers.{aggregator_numbered, distributing, group_at}
-use Rattle.lagsystem.specs.State.{SystemState, port_numbers, place_of, machines_of}
+use Rattle.lagsystem.specs.State.{SystemState, port_numbers, port_index, machines_of}
 use Rattle.lagengine.specs.declared.looks.Look.{Look}
 use Rattle.lagengine.specs.declared.looks.PortFact.{PortFact}
 use Rattle.lagengine.specs.declared.looks.PortFact.TheVariants as fact
@@ -32,7 +32,7 @@ look_of p = record {
 
 -- how many conversations are On, Wanted or Flushing on the port with this number
 abbrev pub load_of : ℕ → SystemState → Option ℕ
-load_of n s = option_map (λ _. how_many (names_port n) s.table) (place_of n s.slots)
+load_of n s = option_map (λ _. count_conversations (names_port n) s.table) (port_index n s.system_ports)
 
 -- the answer to a question about the port with this number
 abbrev pub fact_of : PortQuestion → ℕ → SystemState → Option PortFact
@@ -40,7 +40,7 @@ fact_of of_port.Look n s = option_map (λ p. fact.Look (look_of p)) (machines_of
 fact_of of_port.Up n s = option_map (λ p. fact.Up p.enabled) (machines_of n s)
 fact_of of_port.State n s = option_map (λ p. fact.State (actor_state p)) (machines_of n s)
 fact_of of_port.ReceiveState n s = option_map (λ p. fact.ReceiveState p.receive) (machines_of n s)
-fact_of of_port.Due n s = option_map fact.Due (due_of n s)
+fact_of of_port.Due n s = option_map fact.Due (would_transmit_at n s)
 fact_of of_port.Load n s = option_map fact.Load (load_of n s)
 
 -- the answer to a question about the port with this number, with that number
@@ -58,11 +58,11 @@ agg_answer_value a = record { agg = a.agg; ports = a.ports.items }
 
 -- which ports distribute in aggregator g
 abbrev pub agg_answer : SystemState → ℕ → AggAnswerValue
-agg_answer s g = record { agg = g; ports = distributing (aggregator_numbered g) s.slots }
+agg_answer s g = record { agg = g; ports = distributing (aggregator_numbered g) s.system_ports }
 
 -- the answer to `look` for every port
 abbrev pub all_ports : SystemState → List PortAnswer
-all_ports s = map (port_answer of_port.Look s) (port_numbers s.slots)
+all_ports s = map (port_answer of_port.Look s) (port_numbers s.system_ports)
 
 -- which ports distribute in it, for number 0, which is no aggregator, and for each aggregator
 abbrev pub all_aggregators : SystemState → List AggAnswerValue

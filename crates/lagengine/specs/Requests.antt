@@ -9,7 +9,7 @@ use Rattle.lagsystem.specs.Calls.{Call, Receive, Tick, Set_link, Configure, Rest
 use Rattle.lagsystem.specs.Drives.{call_of}
 use Rattle.lagsystem.specs.declared.config.Config.{Config}
 use Rattle.lagsystem.specs.declared.config.PortConfig.{PortConfig}
-use Rattle.lagengine.specs.Words.{◌>>=◌, SevenFields, each, number_word, long_word, mac_word, link_word, kind_word, hex_word, keys_word, port_word}
+use Rattle.lagengine.specs.Words.{◌>>=◌, SevenFields, each, number_word, long_number_word, mac_word, link_word, aggregation_word, hex_word, keys_word, port_word}
 use Rattle.lagengine.specs.declared.fault.RequestError.{RequestError}
 use Rattle.lagengine.specs.declared.fault.RequestError.TheVariants.{Fault, NoMemory}
 use Rattle.lagengine.specs.declared.fault.RequestFault.{RequestFault}
@@ -68,9 +68,9 @@ request_value (request.System config) = Start (config_value config)
 request_value (request.Work task) = Work (task_value task)
 
 -- a task that was read, as a value of the logic; or its fault
-abbrev pub task_or_fault : Result Task RequestFault → Result TaskValue RequestFault
-task_or_fault (Ok r) = Ok (task_value r)
-task_or_fault (Err e) = Err e
+abbrev pub task_result_value : Result Task RequestFault → Result TaskValue RequestFault
+task_result_value (Ok r) = Ok (task_value r)
+task_result_value (Err e) = Err e
 
 -- the stated value or fault is returned, or memory was refused
 abbrev pub ReadsAs : {A B : Type 0} → (A → B) → Result B RequestFault → Result A RequestError → Type 0
@@ -78,7 +78,7 @@ ReadsAs see stated (Ok x) = stated ≡ Ok (see x)
 ReadsAs see stated (Err (Fault f)) = stated ≡ Err f
 ReadsAs see stated (Err NoMemory) = ⊤
 
--- words that are not read here
+-- a word of the caller, borrowed
 abbrev pub Word : Type 0
 Word = Bor (List ℕ)
 
@@ -111,7 +111,7 @@ abbrev pub seven_words_octets : Result (Word × Word × Word × Word × Word × 
 seven_words_octets (Ok p) = Ok (p.0.now, p.1.now, p.2.now, p.3.now, p.4.now, p.5.now, p.6.now)
 seven_words_octets (Err e) = Err e
 
--- exactly this many words after the first
+-- no word after the first; else Count
 abbrev pub no_words : List (List ℕ) → Result Unit RequestFault
 no_words [] = Ok tt
 no_words _ = Err fault.Count
@@ -136,7 +136,7 @@ abbrev pub four_words : List (List ℕ) → Result (List ℕ × List ℕ × List
 four_words (a ∷ b ∷ c ∷ d ∷ []) = Ok (a, b, c, d)
 four_words _ = Err fault.Count
 
--- a request with a number of words, which are read from left to right
+-- what reads one word: its value, or the fault
 abbrev pub WordReader : Type 0 → Type 0
 WordReader A = List ℕ → Result A RequestFault
 
@@ -173,7 +173,7 @@ configure_task port key priority aggregatable = Make (Configure port
 -- PRIORITY MAC MAX_DELAY FIRST_MARKER KEYS PORT ..
 abbrev pub config_in : List (List ℕ) → Result ConfigValue RequestFault
 config_in (priority ∷ mac ∷ delay ∷ marker ∷ keys ∷ ports) =
-    number_word priority >>= λ priority. mac_word mac >>= λ mac. number_word delay >>= λ delay. long_word marker >>= λ marker.
+    number_word priority >>= λ priority. mac_word mac >>= λ mac. number_word delay >>= λ delay. long_number_word marker >>= λ marker.
     keys_word keys >>= λ keys. each port_word ports >>= λ ports.
     Ok (record { system = record { priority = priority; mac = mac }; max_delay = delay; first_marker = marker; keys = keys; ports = ports })
 config_in _ = Err fault.Count
@@ -207,7 +207,7 @@ call_named name =
     else if bytes_eq name (codes "restart") then with_no_words (Make Restart)
     else if bytes_eq name (codes "link") then with_two_words number_word link_word (λ port up. Make (Set_link port up))
     else if bytes_eq name (codes "transmit") then with_one_word number_word (λ port. Make (Transmit port))
-    else if bytes_eq name (codes "configure") then with_four_words number_word number_word number_word kind_word configure_task
+    else if bytes_eq name (codes "configure") then with_four_words number_word number_word number_word aggregation_word configure_task
     else if bytes_eq name (codes "move") then with_three_words number_word number_word number_word
     (λ g k port. Make (Move_conversation (agg_id g) k port))
     else if bytes_eq name (codes "force") then with_two_words number_word number_word (λ g k. Make (Force (agg_id g) k))
@@ -226,4 +226,4 @@ task_named name =
 -- the requests, by their first word and the words after it
 abbrev pub request_named : List ℕ → List (List ℕ) → Result RequestValue RequestFault
 request_named name ws =
-    if bytes_eq name (codes "system") then (config_in ws >>= λ plan. Ok (Start plan)) else (task_named name ws >>= λ asked. Ok (Work asked))
+    if bytes_eq name (codes "system") then (config_in ws >>= λ config. Ok (Start config)) else (task_named name ws >>= λ asked. Ok (Work asked))

@@ -100,12 +100,12 @@ received_text (Released count) = codes "released " ++ decimal count
 received_text (Up agg) = codes "up " ++ decimal agg.0
 
 -- a frame that is to be sent: the subtype of its payload, and its octets
-abbrev pub sent_word : List ℕ → List ℕ
-sent_word octets = if slice_index octets 14 == 1 then codes "lacpdu " else codes "marker "
+abbrev pub subtype_word : List ℕ → List ℕ
+subtype_word octets = if slice_index octets 14 == 1 then codes "lacpdu " else codes "marker "
 
 -- `lacpdu` or `marker`, and the octets of the frame
 abbrev pub sent_text : List ℕ → List ℕ
-sent_text octets = sent_word octets ++ encode_lower octets
+sent_text octets = subtype_word octets ++ encode_lower octets
 
 -- `done` for a call, or its fault
 abbrev pub done_text : Result Unit SystemFault → List ℕ
@@ -144,14 +144,14 @@ flag_text true = codes "true"
 flag_text false = codes "false"
 
 -- aggregatable or individual
-abbrev pub kind_text : Bool → List ℕ
-kind_text true = codes "aggregatable"
-kind_text false = codes "individual"
+abbrev pub aggregation_text : Bool → List ℕ
+aggregation_text true = codes "aggregatable"
+aggregation_text false = codes "individual"
 
 -- SYSTEM key KEY port PORT KIND
 abbrev pub party_text : Party → List ℕ
 party_text p = system_text p.system ++ (codes " key " ++ (decimal p.key.0
-    ++ (codes " port " ++ (port_text p.port ++ 32 ∷ kind_text p.aggregatable))))
+    ++ (codes " port " ++ (port_text p.port ++ 32 ∷ aggregation_text p.aggregatable))))
 
 -- SYSTEM key KEY port PORT state HH WORDS
 abbrev pub partner_text : Info → List ℕ
@@ -245,7 +245,7 @@ conversation_text (Flushing port id preferred age) = codes "flushing "
 -- the state of a conversation, or `none` if there is no such conversation
 abbrev pub conversation_or_none : Option Assignment → List ℕ
 conversation_or_none None = codes "none"
-conversation_or_none (Some doing) = conversation_text doing
+conversation_or_none (Some assignment) = conversation_text assignment
 
 -- each port with a bar after it; then the aggregators, with a bar between them
 abbrev pub port_bar : PortAnswer → List ℕ
@@ -276,7 +276,7 @@ answer_text (said.Ports ports) = codes "ports:" ++ numbers_text ports
 answer_text (said.Aggregators count) = codes "aggregators: " ++ decimal count
 answer_text (said.Distributing t) = agg_answer_text t
 answer_text (said.Conversation conv) = number_text conv
-answer_text (said.ConversationState doing) = conversation_or_none doing
+answer_text (said.ConversationState assignment) = conversation_or_none assignment
 answer_text (said.NextMarker id) = number_text id
 answer_text (said.All ports aggs) = all_text ports aggs
 answer_text (said.Fault f) = codes "fault " ++ request_fault_text f

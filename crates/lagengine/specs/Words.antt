@@ -43,8 +43,8 @@ abbrev pub number_word : List ℕ → Result ℕ RequestFault
 number_word w = or_fault fault.Number (number_below 65536 w)
 
 -- a number from 0 to 4294967295
-abbrev pub long_word : List ℕ → Result ℕ RequestFault
-long_word w = or_fault fault.Number (number_below 4294967296 w)
+abbrev pub long_number_word : List ℕ → Result ℕ RequestFault
+long_number_word w = or_fault fault.Number (number_below 4294967296 w)
 
 -- twelve hexadecimal digits
 abbrev pub mac_word : List ℕ → Result (List ℕ) RequestFault
@@ -63,8 +63,8 @@ abbrev pub link_word : List ℕ → Result Bool RequestFault
 link_word = one_of (codes "up") (codes "down") fault.Link
 
 -- `aggregatable` as true, `individual` as false
-abbrev pub kind_word : List ℕ → Result Bool RequestFault
-kind_word = one_of (codes "aggregatable") (codes "individual") fault.Kind
+abbrev pub aggregation_word : List ℕ → Result Bool RequestFault
+aggregation_word = one_of (codes "aggregatable") (codes "individual") fault.Kind
 
 -- octets in hexadecimal digits, upper or lower case; the empty word has none
 abbrev pub hex_word : List ℕ → Result (List ℕ) RequestFault

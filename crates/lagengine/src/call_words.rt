@@ -1,13 +1,13 @@
 ghost use Rattle.std.specs.Prelude.{◌≡◌, map};
-ghost use Rattle.lagengine.specs.Requests.{call_named, configure_task, with_four_words, with_no_words, with_one_word, port_question, question_named, task_or_fault, with_three_words, with_two_words};
+ghost use Rattle.lagengine.specs.Requests.{call_named, configure_task, with_four_words, with_no_words, with_one_word, port_question, question_named, task_result_value, with_three_words, with_two_words};
 ghost use Rattle.lagengine.specs.Requests as asked;
 ghost use Rattle.lagsystem.specs.Calls as call;
-ghost use Rattle.lagengine.specs.Words.{kind_word, link_word, number_word};
+ghost use Rattle.lagengine.specs.Words.{aggregation_word, link_word, number_word};
 ghost use Rattle.lagengine.specs.declared.request.Question.TheVariants as question;
 
 use crate::fault::RequestFault;
 use crate::request::{PortQuestion, Question, Task, one_word, task_alone, two_words};
-use crate::words::{kind, link, number};
+use crate::words::{aggregation, link, number};
 use lagsystem::{AggId, Call, Key, PortChange};
 
 /// The words, if there are exactly three.
@@ -32,7 +32,7 @@ fn four_words<'a>(words: &[&'a str]) -> Result<(&'a str, &'a str, &'a str, &'a s
 
 /// Reads the words of `link`: a port, and `up` or `down`.
 fn set_link(words: &[&str]) -> Result<Task, RequestFault>
-    ensures { task_or_fault result ≡ with_two_words number_word link_word (λ port up. asked.Make (call.Set_link port up)) (map (λ w. w.now) words.now) }
+    ensures { task_result_value result ≡ with_two_words number_word link_word (λ port up. asked.Make (call.Set_link port up)) (map (λ w. w.now) words.now) }
 {
     let (port, up) = two_words(words)?;
     Ok(Task::Make(Call::SetLink(number(port)?, link(up)?)))
@@ -40,7 +40,7 @@ fn set_link(words: &[&str]) -> Result<Task, RequestFault>
 
 /// Reads the word of `transmit`: a port.
 fn transmit(words: &[&str]) -> Result<Task, RequestFault>
-    ensures { task_or_fault result ≡ with_one_word number_word (λ port. asked.Make (call.Transmit port)) (map (λ w. w.now) words.now) }
+    ensures { task_result_value result ≡ with_one_word number_word (λ port. asked.Make (call.Transmit port)) (map (λ w. w.now) words.now) }
 {
     let port = one_word(words)?;
     Ok(Task::Make(Call::Transmit(number(port)?)))
@@ -48,13 +48,13 @@ fn transmit(words: &[&str]) -> Result<Task, RequestFault>
 
 /// Reads the words of `configure`: a port, its key and priority, and `aggregatable` or `individual`.
 fn configure(words: &[&str]) -> Result<Task, RequestFault>
-    ensures { task_or_fault result ≡ with_four_words number_word number_word number_word kind_word configure_task (map (λ w. w.now) words.now) }
+    ensures { task_result_value result ≡ with_four_words number_word number_word number_word aggregation_word configure_task (map (λ w. w.now) words.now) }
 {
     let (port, key, priority, aggregatable) = four_words(words)?;
     let port = number(port)?;
     let key = Key(number(key)?);
     let priority = number(priority)?;
-    let aggregatable = kind(aggregatable)?;
+    let aggregatable = aggregation(aggregatable)?;
     let change = PortChange {
         key,
         priority,
@@ -65,7 +65,7 @@ fn configure(words: &[&str]) -> Result<Task, RequestFault>
 
 /// Reads the words of `move`: an aggregator, a conversation and a port.
 fn move_conversation(words: &[&str]) -> Result<Task, RequestFault>
-    ensures { task_or_fault result ≡ with_three_words number_word number_word number_word
+    ensures { task_result_value result ≡ with_three_words number_word number_word number_word
         (λ g k port. asked.Make (call.Move_conversation (asked.agg_id g) k port)) (map (λ w. w.now) words.now) }
 {
     let (agg, conv, port) = three_words(words)?;
@@ -77,7 +77,7 @@ fn move_conversation(words: &[&str]) -> Result<Task, RequestFault>
 
 /// Reads the words of `force`: an aggregator and a conversation.
 fn force(words: &[&str]) -> Result<Task, RequestFault>
-    ensures { task_or_fault result ≡ with_two_words number_word number_word (λ g k. asked.Make (call.Force (asked.agg_id g) k)) (map (λ w. w.now) words.now) }
+    ensures { task_result_value result ≡ with_two_words number_word number_word (λ g k. asked.Make (call.Force (asked.agg_id g) k)) (map (λ w. w.now) words.now) }
 {
     let (agg, conv) = two_words(words)?;
     let agg = AggId(number(agg)?);
@@ -86,7 +86,7 @@ fn force(words: &[&str]) -> Result<Task, RequestFault>
 
 /// Reads the words of a question about one port.
 fn port_question(asked: PortQuestion, words: &[&str]) -> Result<Task, RequestFault>
-    ensures { task_or_fault result ≡ port_question asked (map (λ w. w.now) words.now) }
+    ensures { task_result_value result ≡ port_question asked (map (λ w. w.now) words.now) }
 {
     let port = one_word(words)?;
     Ok(Task::Ask(Question::Port(asked, number(port)?)))
@@ -94,7 +94,7 @@ fn port_question(asked: PortQuestion, words: &[&str]) -> Result<Task, RequestFau
 
 /// Reads the word of `distributing`: an aggregator.
 fn distributing(words: &[&str]) -> Result<Task, RequestFault>
-    ensures { task_or_fault result ≡ with_one_word number_word (λ n. asked.Ask (question.Distributing (asked.agg_id n))) (map (λ w. w.now) words.now) }
+    ensures { task_result_value result ≡ with_one_word number_word (λ n. asked.Ask (question.Distributing (asked.agg_id n))) (map (λ w. w.now) words.now) }
 {
     let agg = one_word(words)?;
     Ok(Task::Ask(Question::Distributing(AggId(number(agg)?))))
@@ -102,7 +102,7 @@ fn distributing(words: &[&str]) -> Result<Task, RequestFault>
 
 /// Reads the words of `conversation-state`: an aggregator and a conversation.
 fn conversation_state(words: &[&str]) -> Result<Task, RequestFault>
-    ensures { task_or_fault result ≡ with_two_words number_word number_word (λ g k. asked.Ask (question.ConversationState (asked.agg_id g) k))
+    ensures { task_result_value result ≡ with_two_words number_word number_word (λ g k. asked.Ask (question.ConversationState (asked.agg_id g) k))
         (map (λ w. w.now) words.now) }
 {
     let (agg, conv) = two_words(words)?;
@@ -112,7 +112,7 @@ fn conversation_state(words: &[&str]) -> Result<Task, RequestFault>
 
 /// Reads a question, by its first word and the words after it.
 fn question_named(name: &str, words: &[&str]) -> Result<Task, RequestFault>
-    ensures { task_or_fault result ≡ question_named name.now (map (λ w. w.now) words.now) }
+    ensures { task_result_value result ≡ question_named name.now (map (λ w. w.now) words.now) }
 {
     match name {
         "look" => port_question(PortQuestion::Look, words),
@@ -134,7 +134,7 @@ fn question_named(name: &str, words: &[&str]) -> Result<Task, RequestFault>
 /// Reads a task, by its first word and the words after it: all but receive, offer and conversation, whose words take
 /// memory, and keep and drive.
 pub(crate) fn call_named(name: &str, words: &[&str]) -> Result<Task, RequestFault>
-    ensures { task_or_fault result ≡ call_named name.now (map (λ w. w.now) words.now) }
+    ensures { task_result_value result ≡ call_named name.now (map (λ w. w.now) words.now) }
 {
     match name {
         "tick" => task_alone(Task::Make(Call::Tick), words),

@@ -3,7 +3,7 @@ ghost use Rattle.lagengine.specs.Requests.{ReadsAs, config_in, config_value, sev
 ghost use Rattle.lagengine.specs.Words.{each, key_word, keys_word, port_fields, port_word, seven_fields};
 
 use crate::fault::{RequestError, RequestFault};
-use crate::words::{fields_of, flag, items_of, long, mac, number};
+use crate::words::{fields_of, flag, items_of, long_number, mac, number};
 use lagsystem::{Config, Key, PortConfig, SystemId};
 use std::alloc::Global;
 
@@ -113,7 +113,7 @@ pub(crate) fn system(alloc: Global, words: &[&str]) -> Result<Config, RequestErr
             let priority = number(*priority)?;
             let mac = mac(*address)?;
             let max_delay = number(*delay)?;
-            let first_marker = long(*marker)?;
+            let first_marker = long_number(*marker)?;
             let aggregators = keys(alloc, *aggregators)?;
             let ports = each_port(alloc, ports)?;
             Ok(Config {

@@ -1,7 +1,7 @@
 ghost use Rattle.std.specs.Prelude.{◌≡◌, IfOk, None, Ok, OnErr, Some};
-ghost use Rattle.distributor.specs.Calls.{PicksPlaces};
+ghost use Rattle.distributor.specs.Calls.{PicksIndexes};
 ghost use Rattle.lagsystem.specs.Drives.{call_of};
-ghost use Rattle.lagsystem.specs.Sound.{Answers};
+ghost use Rattle.lagsystem.specs.Sound.{CallPromise};
 ghost use Rattle.lagengine.specs.Engines.{DoesTask, DoesTaskIfSystem, AnswersLine, CallsOrKeeps, DoesRequest, DrivesKept, HasAlgorithm, AnswersStart, kept_so_far, engine_state, kept_of, system_state, reader_answer, engine_value};
 ghost use Rattle.lagengine.specs.Requests.{request_value, config_value, task_value};
 ghost use Rattle.lagengine.specs.AnswerValues.{answer_value};
@@ -43,8 +43,8 @@ impl<F> Model for Engine<F> {
 
 /// Makes a call.
 fn make_call<F: Fn(u16, usize) -> usize + Drop>(system: &mut System<F>, call: &Call) -> Reply
-    requires usable { PicksPlaces (F.pre system.old.algorithm) (F.post system.old.algorithm) }
-    ensures answers { Answers (F.post system.old.algorithm) system.old.state (call_of call.now) result system.new.state }
+    requires usable { PicksIndexes (F.pre system.old.algorithm) (F.post system.old.algorithm) }
+    ensures answers { CallPromise (F.post system.old.algorithm) system.old.state (call_of call.now) result system.new.state }
     ensures algorithm { system.new.algorithm ≡ system.old.algorithm }
 {
     match call {
@@ -99,7 +99,7 @@ fn call_or_keep<F: Fn(u16, usize) -> usize + Drop>(
     kept: &mut Option<Vec<Call>>,
     call: Call,
 ) -> Result<Answer, AllocError>
-    requires usable { PicksPlaces (F.pre system.old.algorithm) (F.post system.old.algorithm) }
+    requires usable { PicksIndexes (F.pre system.old.algorithm) (F.post system.old.algorithm) }
     ensures acts { IfOk result (λ answer. CallsOrKeeps (F.post system.old.algorithm) (call_of call) system.old.state (kept_of kept.old)
         (answer_value answer) (engine_state system.new kept.new)) }
     ensures err { OnErr result (engine_state system.new kept.new ≡ engine_state system.old kept.old) }
@@ -120,7 +120,7 @@ fn drive<F: Fn(u16, usize) -> usize + Drop>(
     system: &mut System<F>,
     kept: &mut Option<Vec<Call>>,
 ) -> Result<Answer, AllocError>
-    requires usable { PicksPlaces (F.pre system.old.algorithm) (F.post system.old.algorithm) }
+    requires usable { PicksIndexes (F.pre system.old.algorithm) (F.post system.old.algorithm) }
     ensures acts { IfOk result (λ answer. DrivesKept (F.post system.old.algorithm) system.old.state (kept_of kept.old) (answer_value answer)
         (engine_state system.new kept.new)) }
     ensures err { OnErr result (engine_state system.new kept.new ≡ engine_state system.old kept.old) }
@@ -150,7 +150,7 @@ fn do_task<F: Fn(u16, usize) -> usize + Drop>(
     kept: &mut Option<Vec<Call>>,
     task: Task,
 ) -> Result<Answer, AllocError>
-    requires usable { PicksPlaces (F.pre system.old.algorithm) (F.post system.old.algorithm) }
+    requires usable { PicksIndexes (F.pre system.old.algorithm) (F.post system.old.algorithm) }
     ensures acts { IfOk result (λ answer. DoesTask (F.post system.old.algorithm) (task_value task) system.old.state (kept_of kept.old)
         (answer_value answer) (engine_state system.new kept.new)) }
     ensures err { OnErr result (engine_state system.new kept.new ≡ engine_state system.old kept.old) }
@@ -171,7 +171,7 @@ fn do_task<F: Fn(u16, usize) -> usize + Drop>(
 impl<F: Fn(u16, usize) -> usize + Copy + Drop> Inner<F> {
     /// Makes a new system, which replaces the present one; if it is refused, the present one stays.
     fn make_system(&mut self, config: Config) -> Answer
-        requires usable { PicksPlaces (F.pre self.old.algorithm) (F.post self.old.algorithm) }
+        requires usable { PicksIndexes (F.pre self.old.algorithm) (F.post self.old.algorithm) }
         requires same { HasAlgorithm self.old.algorithm self.old.system }
         ensures starts { AnswersStart (config_value config) (engine_value self.old).state (answer_value result) (engine_value self.new).state }
         ensures algorithm { self.new.algorithm ≡ self.old.algorithm }
@@ -189,7 +189,7 @@ impl<F: Fn(u16, usize) -> usize + Copy + Drop> Inner<F> {
 
     /// Does a task with the system; `NoSystem` if there is none.
     fn do_task_if_system(&mut self, task: Task) -> Result<Answer, AllocError>
-        requires usable { PicksPlaces (F.pre self.old.algorithm) (F.post self.old.algorithm) }
+        requires usable { PicksIndexes (F.pre self.old.algorithm) (F.post self.old.algorithm) }
         requires same { HasAlgorithm self.old.algorithm self.old.system }
         ensures acts { IfOk result (λ answer. DoesTaskIfSystem (F.post self.old.algorithm) (task_value task) (system_state self.old.system)
             (kept_of self.old.kept) (answer_value answer) (engine_value self.new).state) }
@@ -205,7 +205,7 @@ impl<F: Fn(u16, usize) -> usize + Copy + Drop> Inner<F> {
 
     /// Makes a new system, or gives the task to the present one; `NoSystem` if there is none.
     fn do_request(&mut self, request: Request) -> Result<Answer, AllocError>
-        requires usable { PicksPlaces (F.pre self.old.algorithm) (F.post self.old.algorithm) }
+        requires usable { PicksIndexes (F.pre self.old.algorithm) (F.post self.old.algorithm) }
         requires same { HasAlgorithm self.old.algorithm self.old.system }
         ensures does { IfOk result (λ answer. DoesRequest (F.post self.old.algorithm) (Ok (request_value request)) (engine_value self.old).state
             (answer_value answer) (engine_value self.new).state) }
@@ -221,7 +221,7 @@ impl<F: Fn(u16, usize) -> usize + Copy + Drop> Inner<F> {
 
     /// Does the request of a line, and returns the answer.
     fn answer(&mut self, line: &[u8]) -> Answer
-        requires usable { PicksPlaces (F.pre self.old.algorithm) (F.post self.old.algorithm) }
+        requires usable { PicksIndexes (F.pre self.old.algorithm) (F.post self.old.algorithm) }
         requires same { HasAlgorithm self.old.algorithm self.old.system }
         ensures answers { AnswersLine (F.post self.old.algorithm) line.now (engine_value self.old).state (answer_value result)
             (engine_value self.new).state }
@@ -259,7 +259,7 @@ impl<F: Fn(u16, usize) -> usize + Copy + Drop> Engine<F> {
     /// Does the request of a line, and returns the answer. `line` has no line end. If the line is no request, or memory
     /// for it is refused, the answer is `Fault` with the first reason that holds, and nothing has changed (profile).
     pub fn answer(&mut self, line: &[u8]) -> Answer
-        requires usable { PicksPlaces (F.pre self.old.algorithm) (F.post self.old.algorithm) }
+        requires usable { PicksIndexes (F.pre self.old.algorithm) (F.post self.old.algorithm) }
         ensures answers { AnswersLine (F.post self.old.algorithm) line.now self.old.state (answer_value result) self.new.state }
         ensures algorithm { self.new.algorithm ≡ self.old.algorithm }
     {

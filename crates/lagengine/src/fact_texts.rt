@@ -1,7 +1,7 @@
 ghost use Rattle.std.specs.Prelude.{◌≡◌, Some, map};
 ghost use Rattle.std.specs.Fmt.{DisplaysOnOk};
 ghost use Rattle.lagengine.specs.Looks.{agg_answer_value};
-ghost use Rattle.lagengine.specs.Texts.{all_text, bar_agg_answer, choice_text, conversation_or_none, each_text, ends_text, fact_text, flag_text, machines_text, kind_text, look_text, mux_text, number_text, numbers_text, partner_text, party_text, port_bar, preferred_text, receive_text, agg_answer_text, agg_answers_text, spaced, port_answer_text};
+ghost use Rattle.lagengine.specs.Texts.{all_text, bar_agg_answer, choice_text, conversation_or_none, each_text, ends_text, fact_text, flag_text, machines_text, aggregation_text, look_text, mux_text, number_text, numbers_text, partner_text, party_text, port_bar, preferred_text, receive_text, agg_answer_text, agg_answers_text, spaced, port_answer_text};
 
 use crate::looks::{AggAnswer, Look, PortAnswer, PortFact};
 use lagsystem::{Assignment, Choice, Info, MuxState, Party, ReceiveState};
@@ -9,10 +9,10 @@ use std::fmt;
 
 /// `aggregatable` or `individual`.
 #[derive(Clone, Copy)]
-struct KindText(bool);
+struct AggregationText(bool);
 
-impl fmt::Display for KindText {
-    ghost output = { λ t. Some (kind_text t.0) };
+impl fmt::Display for AggregationText {
+    ghost output = { λ t. Some (aggregation_text t.0) };
 
     fn fmt<W: fmt::Write>(&self, f: &mut fmt::Formatter<W>) -> fmt::Result {
         if self.0 {
@@ -54,7 +54,7 @@ impl fmt::Display for PartyText<'_> {
             party.system,
             party.key,
             party.port,
-            KindText(party.aggregatable)
+            AggregationText(party.aggregatable)
         )
     }
 }

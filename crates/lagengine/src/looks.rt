@@ -123,14 +123,14 @@ pub(crate) fn all_ports<F: Fn(u16, usize) -> usize + Drop>(
     alloc: Global,
     system: &System<F>,
 ) -> Result<Vec<PortAnswer>, AllocError>
-    ensures { IfOk result (λ told. told.items ≡ all_ports system.now.state) }
+    ensures { IfOk result (λ answer. answer.items ≡ all_ports system.now.state) }
 {
     let ports = system.ports();
-    let mut told = Vec::with_capacity(alloc, ports.len())?;
+    let mut answer = Vec::with_capacity(alloc, ports.len())?;
     for port in ports.as_slice() {
-        told.push(port_answer(system, PortQuestion::Look, *port))?;
+        answer.push(port_answer(system, PortQuestion::Look, *port))?;
     }
-    Ok(told)
+    Ok(answer)
 }
 
 /// The ports that distribute in each aggregator; first those of number 0, which is no aggregator, so none.
@@ -139,16 +139,16 @@ pub(crate) fn all_aggregators<F: Fn(u16, usize) -> usize + Drop>(
     alloc: Global,
     system: &System<F>,
 ) -> Result<Vec<AggAnswer>, AllocError>
-    ensures { IfOk result (λ told. map agg_answer_value told.items ≡ all_aggregators system.now.state) }
+    ensures { IfOk result (λ answer. map agg_answer_value answer.items ≡ all_aggregators system.now.state) }
 {
     // There are at most 64, but the contract of `aggregators` states no bound.
     let Ok(count) = u16::try_from(system.aggregators()) else {
         return Err(AllocError);
     };
-    let mut told = Vec::with_capacity(alloc, 1 + usize::from(count))?;
-    told.push(agg_answer(system, 0))?;
+    let mut answer = Vec::with_capacity(alloc, 1 + usize::from(count))?;
+    answer.push(agg_answer(system, 0))?;
     for agg in 0..count {
-        told.push(agg_answer(system, agg + 1))?;
+        answer.push(agg_answer(system, agg + 1))?;
     }
-    Ok(told)
+    Ok(answer)
 }

@@ -6,7 +6,7 @@
 #![tactic(auto)]
 
 ghost use Rattle.std.specs.Prelude.{◌≡◌, ◌<◌};
-ghost use Rattle.distributor.specs.Calls.{place_by_number};
+ghost use Rattle.distributor.specs.Calls.{index_by_number};
 ghost use Rattle.lagengine.specs.Serves.{status_of};
 
 mod answer;
@@ -38,7 +38,7 @@ use stopped::Stopped;
 /// The distribution algorithm of the program: the conversation number modulo the count of ports, and 0 if there are
 /// none (profile).
 fn by_number(conversation: u16, count: usize) -> usize
-    ensures place { result ≡ place_by_number conversation count }
+    ensures place { result ≡ index_by_number conversation count }
     ensures among { 0 < count → result < count }
 {
     distributor::by_number(conversation, count)

@@ -1,5 +1,5 @@
 ghost use Rattle.std.specs.Prelude.{◌≡◌, map};
-ghost use Rattle.lagengine.specs.Lines.{longest, request_in, request_of_text};
+ghost use Rattle.lagengine.specs.Lines.{longest_line, request_in, request_of_text};
 ghost use Rattle.lagengine.specs.Requests.{ReadsAs, request_value, no_words, with_no_words, with_one_word, request_named, task_named, task_value, with_two_words};
 ghost use Rattle.lagengine.specs.Requests as asked;
 ghost use Rattle.lagsystem.specs.Calls as call;
@@ -13,7 +13,7 @@ use lagsystem::{AggId, Call, Config};
 use std::alloc::Global;
 
 /// The most octets of a line, without its line end (profile).
-pub const LONGEST: usize = 65_536;
+pub const LONGEST_LINE: usize = 65_536;
 
 /// A question about one port.
 #[derive(Clone, Copy, Debug, PartialEq, Eq)]
@@ -139,7 +139,7 @@ fn conversation(alloc: Global, words: &[&str]) -> Result<Task, RequestError>
 
 /// A task that has no words after its first.
 pub(crate) fn task_alone(task: Task, words: &[&str]) -> Result<Task, RequestFault>
-    ensures { asked.task_or_fault result ≡ with_no_words (task_value task) (map (λ w. w.now) words.now) }
+    ensures { asked.task_result_value result ≡ with_no_words (task_value task) (map (λ w. w.now) words.now) }
 {
     no_words(words)?;
     Ok(task)
@@ -184,7 +184,7 @@ fn request_of_text(alloc: Global, text: &str) -> Result<Request, RequestError>
 pub(crate) fn request_in(alloc: Global, line: &[u8]) -> Result<Request, RequestError>
     ensures { ReadsAs request_value (request_in line.now) result }
 {
-    if line.len() > LONGEST {
+    if line.len() > LONGEST_LINE {
         return Err(RequestError::Fault(RequestFault::TooLong));
     }
     match str::from_utf8(line) {

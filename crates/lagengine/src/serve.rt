@@ -1,5 +1,5 @@
 ghost use Rattle.std.specs.Prelude.{◌≡◌, false};
-ghost use Rattle.distributor.specs.Calls.{PicksPlaces};
+ghost use Rattle.distributor.specs.Calls.{PicksIndexes};
 ghost use Rattle.lagengine.specs.Serves.{Serves};
 
 use crate::session::Session;
@@ -24,7 +24,7 @@ pub(crate) fn serve<F: Fn(u16, usize) -> usize + Copy + Drop, R: Read, W: Write>
     source: &mut Source<R>,
     sink: &mut Sink<W>,
 ) -> Result<(), Stopped>
-    requires usable { PicksPlaces (F.pre algorithm) (F.post algorithm) }
+    requires usable { PicksIndexes (F.pre algorithm) (F.post algorithm) }
     requires source { source.old.failed ≡ false }
     requires sink { sink.old.failed ≡ false }
     ensures { Serves (F.post algorithm) R.remaining W.contents source.old source.new sink.old sink.new result }

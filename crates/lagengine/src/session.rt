@@ -1,5 +1,5 @@
 ghost use Rattle.std.specs.Prelude.{◌≡◌, ◌∷◌, List, ℕ, [], IfErr, OnOk, string_bytes};
-ghost use Rattle.distributor.specs.Calls.{PicksPlaces};
+ghost use Rattle.distributor.specs.Calls.{PicksIndexes};
 ghost use Rattle.lagengine.specs.Engines.{AnswersLine};
 ghost use Rattle.lagengine.specs.Inputs.{line_if_any, lines_of, continue_line};
 ghost use Rattle.lagengine.specs.AnswerValues.{AnswerValue, answer_value};
@@ -7,7 +7,7 @@ ghost use Rattle.lagengine.specs.Sessions.{Feeds, Finishes, StopsAnswering, Writ
 
 use crate::answer::Answer;
 use crate::engine::Engine;
-use crate::request::LONGEST;
+use crate::request::LONGEST_LINE;
 use crate::sink::Sink;
 use crate::stopped::Stopped;
 use std::alloc::{AllocError, Global};
@@ -23,7 +23,7 @@ pub struct Session<F> {
 }
 
 /// Makes the text of an answer, with a line end.
-fn form(text: &mut String, answer: &Answer) -> Result<(), AllocError>
+fn make_answer_line(text: &mut String, answer: &Answer) -> Result<(), AllocError>
     ensures { OnOk result (string_bytes text.new ≡ answer_line (answer_value answer.now)) }
 {
     text.clear();
@@ -45,7 +45,7 @@ impl<F: Fn(u16, usize) -> usize + Copy + Drop> Session<F> {
 
     /// Does the request of the line, makes the text of the answer, and begins the next line.
     fn answer_line(&mut self) -> Result<(), AllocError>
-        requires usable { PicksPlaces (F.pre self.old.engine.algorithm) (F.post self.old.engine.algorithm) }
+        requires usable { PicksIndexes (F.pre self.old.engine.algorithm) (F.post self.old.engine.algorithm) }
         ensures ok { OnOk result ((answer : AnswerValue) × AnswersLine
             (F.post self.old.engine.algorithm) self.old.line.items self.old.engine.state answer self.new.engine.state
             × (string_bytes self.new.text ≡ answer_line answer)) }
@@ -54,12 +54,12 @@ impl<F: Fn(u16, usize) -> usize + Copy + Drop> Session<F> {
     {
         let answer = self.engine.answer(&self.line);
         self.line.clear();
-        form(&mut self.text, &answer)
+        make_answer_line(&mut self.text, &answer)
     }
 
     /// Writes the answer to the line, and begins the next line.
     fn end_line<W: Write>(&mut self, sink: &mut Sink<W>) -> Result<(), Stopped>
-        requires usable { PicksPlaces (F.pre self.old.engine.algorithm) (F.post self.old.engine.algorithm) }
+        requires usable { PicksIndexes (F.pre self.old.engine.algorithm) (F.post self.old.engine.algorithm) }
         ensures ok { OnOk result (WritesAnswer (F.post self.old.engine.algorithm) W.contents self.old.line.items self.old.engine.state
             self.new.engine.state sink.old sink.new) }
         ensures err { IfErr result (FailsToAnswer (F.post self.old.engine.algorithm) W.contents self.old.line.items self.old.engine.state sink.old
@@ -74,7 +74,7 @@ impl<F: Fn(u16, usize) -> usize + Copy + Drop> Session<F> {
 
     /// Reads an octet. No more are stored of a line that is too long.
     fn read_octet<W: Write>(&mut self, octet: u8, sink: &mut Sink<W>) -> Result<(), Stopped>
-        requires usable { PicksPlaces (F.pre self.old.engine.algorithm) (F.post self.old.engine.algorithm) }
+        requires usable { PicksIndexes (F.pre self.old.engine.algorithm) (F.post self.old.engine.algorithm) }
         ensures ok { OnOk result (Feeds (F.post self.old.engine.algorithm) W.contents (session_of self.old)
             (session_of self.new) sink.old sink.new (octet ∷ [])) }
         ensures err { IfErr result (λ why. (rest : List ℕ) → StopsAnswering
@@ -86,7 +86,7 @@ impl<F: Fn(u16, usize) -> usize + Copy + Drop> Session<F> {
             self.end_line(sink)?;
             return Ok(());
         }
-        if self.line.len() > LONGEST {
+        if self.line.len() > LONGEST_LINE {
             return Ok(());
         }
         self.line.push(octet)?;
@@ -95,7 +95,7 @@ impl<F: Fn(u16, usize) -> usize + Copy + Drop> Session<F> {
 
     /// Reads octets, and answers each line that they end before reading on.
     pub fn feed<W: Write>(&mut self, piece: &[u8], sink: &mut Sink<W>) -> Result<(), Stopped>
-        requires usable { PicksPlaces (F.pre self.old.engine.algorithm) (F.post self.old.engine.algorithm) }
+        requires usable { PicksIndexes (F.pre self.old.engine.algorithm) (F.post self.old.engine.algorithm) }
         ensures ok { OnOk result (Feeds (F.post self.old.engine.algorithm) W.contents (session_of self.old)
             (session_of self.new) sink.old sink.new piece.now) }
         ensures err { IfErr result (StopsAnswering (F.post self.old.engine.algorithm) W.contents self.old.engine.state sink.old sink.new
@@ -110,7 +110,7 @@ impl<F: Fn(u16, usize) -> usize + Copy + Drop> Session<F> {
 
     /// Answers the last line, if it has octets but no newline.
     pub fn finish<W: Write>(&mut self, sink: &mut Sink<W>) -> Result<(), Stopped>
-        requires usable { PicksPlaces (F.pre self.old.engine.algorithm) (F.post self.old.engine.algorithm) }
+        requires usable { PicksIndexes (F.pre self.old.engine.algorithm) (F.post self.old.engine.algorithm) }
         ensures ok { OnOk result (Finishes (F.post self.old.engine.algorithm) W.contents self.old.engine.state sink.old sink.new
             (line_if_any self.old.line.items)) }
         ensures err { IfErr result (StopsAnswering (F.post self.old.engine.algorithm) W.contents self.old.engine.state sink.old sink.new

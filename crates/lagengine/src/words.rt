@@ -1,6 +1,6 @@
 ghost use Rattle.std.specs.Prelude.{◌≡◌, IfOk, map};
 ghost use Rattle.lagengine.specs.Requests.{ReadsAs};
-ghost use Rattle.lagengine.specs.Words.{flag_word, hex_word, kind_word, link_word, long_word, mac_word, number_below, number_word, parts};
+ghost use Rattle.lagengine.specs.Words.{flag_word, hex_word, aggregation_word, link_word, long_number_word, mac_word, number_below, number_word, parts};
 
 use crate::fault::{RequestError, RequestFault};
 use hex::{FromHex, FromHexError};
@@ -39,7 +39,7 @@ fn number_of(word: &str) -> Option<u16>
 }
 
 /// The value of a word of decimal digits, 0 to 4294967295.
-fn long_of(word: &str) -> Option<u32>
+fn long_number_of(word: &str) -> Option<u32>
     ensures { result ≡ number_below 4294967296 word.now }
 {
     if word.starts_with('+') {
@@ -56,10 +56,10 @@ pub(crate) fn number(word: &str) -> Result<u16, RequestFault>
 }
 
 /// Reads a number from 0 to 4294967295, in decimal digits.
-pub(crate) fn long(word: &str) -> Result<u32, RequestFault>
-    ensures { result ≡ long_word word.now }
+pub(crate) fn long_number(word: &str) -> Result<u32, RequestFault>
+    ensures { result ≡ long_number_word word.now }
 {
-    long_of(word).ok_or(RequestFault::Number)
+    long_number_of(word).ok_or(RequestFault::Number)
 }
 
 /// Reads a MAC address of twelve hexadecimal digits.
@@ -94,8 +94,8 @@ pub(crate) fn link(word: &str) -> Result<bool, RequestFault>
 }
 
 /// Reads whether a port is `aggregatable` or `individual`.
-pub(crate) fn kind(word: &str) -> Result<bool, RequestFault>
-    ensures { result ≡ kind_word word.now }
+pub(crate) fn aggregation(word: &str) -> Result<bool, RequestFault>
+    ensures { result ≡ aggregation_word word.now }
 {
     match word {
         "aggregatable" => Ok(true),

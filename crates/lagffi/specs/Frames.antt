@@ -7,11 +7,11 @@ use Rattle.lagsystem.specs.Faults.{fault_number}
 use Rattle.slowpdu.specs.Faults.{fault_number as wire_number}
 use Rattle.lagffi.specs.declared.values.LagReceived.{LagReceived}
 use Rattle.lagffi.specs.declared.values.LagTruth.{LagTruth}
-use Rattle.lagffi.specs.Numbers.{no_received, no_truth, truth}
+use Rattle.lagffi.specs.Numbers.{received_refused, truth_refused, truth}
 
 -- the octets of a frame that a system makes: 14 of header, 110 of payload
-abbrev pub frame_length : ℕ
-frame_length = 124
+abbrev pub control_frame_length : ℕ
+control_frame_length = 124
 
 -- what became of a frame, by its number, and the number that belongs to it
 abbrev pub received_as : ℕ → ℕ → LagReceived
@@ -26,20 +26,20 @@ received_of (Ok TookLacpdu) = received_as 3 0
 received_of (Ok (Respond octets)) = received_as 4 0
 received_of (Ok (Released count)) = received_as 5 count
 received_of (Ok (Up agg)) = received_as 6 agg.0
-received_of (Err fault) = no_received (fault_number fault)
+received_of (Err fault) = received_refused (fault_number fault)
 
 -- the buffer after a receive: the response, where there is one
-abbrev pub written_reply : List ℕ → Result Received SystemFault → List ℕ
-written_reply old (Ok (Respond octets)) = octets
-written_reply old answer = old
+abbrev pub buffer_after_receive : List ℕ → Result Received SystemFault → List ℕ
+buffer_after_receive old (Ok (Respond octets)) = octets
+buffer_after_receive old answer = old
 
 -- whether a frame is due
-abbrev pub due_of : Result (Option (List ℕ)) SystemFault → LagTruth
-due_of (Ok (Some octets)) = truth true
-due_of (Ok None) = truth false
-due_of (Err fault) = no_truth (fault_number fault)
+abbrev pub truth_of_transmit : Result (Option (List ℕ)) SystemFault → LagTruth
+truth_of_transmit (Ok (Some octets)) = truth true
+truth_of_transmit (Ok None) = truth false
+truth_of_transmit (Err fault) = truth_refused (fault_number fault)
 
 -- the buffer after a transmit: the frame, where one is due
-abbrev pub written : List ℕ → Result (Option (List ℕ)) SystemFault → List ℕ
-written old (Ok (Some octets)) = octets
-written old answer = old
+abbrev pub buffer_after_transmit : List ℕ → Result (Option (List ℕ)) SystemFault → List ℕ
+buffer_after_transmit old (Ok (Some octets)) = octets
+buffer_after_transmit old answer = old

@@ -2,8 +2,8 @@
 use Rattle.std.specs.Prelude.{ℕ, List, ◌++◌, drop, length}
 
 -- the places of a buffer for port numbers
-abbrev pub list_length : ℕ
-list_length = 64
+abbrev pub port_list_length : ℕ
+port_list_length = 64
 
 -- the buffer after numbers were put at its front
 abbrev pub put_first : List ℕ → List ℕ → List ℕ

@@ -10,7 +10,7 @@ use Rattle.lagsystem.specs.Faults.{fault_number}
 use Rattle.lagmodel.specs.View.{first_view}
 use Rattle.lagsystem.specs.First.{IsFirst, fault_or_no_memory, refusal}
 use Rattle.lagsystem.specs.ModelView.{model_setup, model_view}
-use Rattle.lagsystem.specs.Sound.{Agrees}
+use Rattle.lagsystem.specs.Sound.{PortsAgree}
 use Rattle.lagsystem.specs.State.{SystemState}
 use Rattle.lagffi.specs.declared.made.LagConfig.{LagConfig}
 use Rattle.lagffi.specs.declared.made.LagMade.{LagMade}
@@ -21,17 +21,17 @@ abbrev pub holds_system_already : ℕ
 holds_system_already = 14
 
 -- a key as the system takes it
-abbrev pub key_of : ℕ → Key
-key_of k = record { 0 = k }
+abbrev pub lag_key : ℕ → Key
+lag_key k = record { 0 = k }
 
 -- a port as the system takes it
-abbrev pub port_config_of : LagPort → PortConfig
-port_config_of p =
+abbrev pub lag_port_config : LagPort → PortConfig
+lag_port_config p =
     record {
       number = p.number;
       priority = p.priority;
       mac = p.mac;
-      key = key_of p.key;
+      key = lag_key p.key;
       aggregatable = p.aggregatable;
       active = p.active;
       short = p.short_timeout;
@@ -39,33 +39,33 @@ port_config_of p =
 
 -- the first reason to refuse these keys and ports
 abbrev pub refusal_of : List ℕ → List LagPort → Option BadConfig
-refusal_of keys ports = refusal (map key_of keys) (map port_config_of ports)
+refusal_of keys ports = refusal (map lag_key keys) (map lag_port_config ports)
 
 -- The first state of a system with this configuration, which is accepted: its ports agree, and it shows as the first view of the
 -- law does.
-pub record IsMade (config : LagConfig) (of_keys : List ℕ) (of_ports : List LagPort) (s : SystemState) : Type 0 where
+pub record IsMadeOfLagConfig (config : LagConfig) (of_keys : List ℕ) (of_ports : List LagPort) (s : SystemState) : Type 0 where
   pub first : IsFirst s
-  pub agrees : Agrees s
+  pub agrees : PortsAgree s
   pub shows : model_view s ≡ first_view (model_setup s)
   pub accepted : refusal_of of_keys of_ports ≡ None
   pub priority : s.system.priority ≡ config.priority
   pub mac : s.system.mac ≡ config.mac
   pub max_delay : s.max_delay ≡ config.max_delay
   pub first_marker : s.first_marker ≡ config.first_marker
-  pub keys : s.keys ≡ map key_of of_keys
-  pub ports : s.ports ≡ map port_config_of of_ports
+  pub keys : s.keys ≡ map lag_key of_keys
+  pub ports : s.ports ≡ map lag_port_config of_ports
 
 -- why none is made: the first reason to refuse the configuration; without a reason, memory was refused
 abbrev pub why_refused : List ℕ → List LagPort → SystemFault
 why_refused keys ports = fault_or_no_memory (refusal_of keys ports)
 
 -- a status alone, without a reason to refuse a configuration; with status 0, the system was made
-abbrev pub not_made : ℕ → LagMade
-not_made status = record { status = status; reason = 0; place = 0 }
+abbrev pub made_with_status : ℕ → LagMade
+made_with_status status = record { status = status; reason = 0; place = 0 }
 
 -- a refusal, with the reason to refuse a configuration
-abbrev pub no_made : SystemFault → LagMade
-no_made (Bad Ports) = record { status = 11; reason = 1; place = 0 }
-no_made (Bad Aggregators) = record { status = 11; reason = 2; place = 0 }
-no_made (Bad (PortNumber place)) = record { status = 11; reason = 3; place = place }
-no_made fault = not_made (fault_number fault)
+abbrev pub made_refused : SystemFault → LagMade
+made_refused (Bad Ports) = record { status = 11; reason = 1; place = 0 }
+made_refused (Bad Aggregators) = record { status = 11; reason = 2; place = 0 }
+made_refused (Bad (PortNumber place)) = record { status = 11; reason = 3; place = place }
+made_refused fault = made_with_status (fault_number fault)

@@ -26,40 +26,40 @@ abbrev pub truth : Bool → LagTruth
 truth is = record { status = 0; is = is }
 
 -- refused with this number
-abbrev pub no_truth : ℕ → LagTruth
-no_truth why = record { status = why; is = false }
+abbrev pub truth_refused : ℕ → LagTruth
+truth_refused why = record { status = why; is = false }
 
 -- the answer of a call, or the number of its refusal
 abbrev pub truth_of : Result Bool SystemFault → LagTruth
 truth_of (Ok is) = truth is
-truth_of (Err fault) = no_truth (fault_number fault)
+truth_of (Err fault) = truth_refused (fault_number fault)
 
 -- what a reader tells of a port, or that there is no such port
-abbrev pub truth_in : Option Bool → LagTruth
-truth_in (Some is) = truth is
-truth_in None = no_truth (fault_number NoPort)
+abbrev pub truth_or_no_port : Option Bool → LagTruth
+truth_or_no_port (Some is) = truth is
+truth_or_no_port None = truth_refused (fault_number NoPort)
 
 -- a number is told
 abbrev pub number : ℕ → LagNumber
 number n = record { status = 0; number = n }
 
 -- refused with this number
-abbrev pub no_number : ℕ → LagNumber
-no_number why = record { status = why; number = 0 }
+abbrev pub number_refused : ℕ → LagNumber
+number_refused why = record { status = why; number = 0 }
 
 -- the answer of a call, or the number of its refusal
 abbrev pub number_of : Result ℕ SystemFault → LagNumber
 number_of (Ok n) = number n
-number_of (Err fault) = no_number (fault_number fault)
+number_of (Err fault) = number_refused (fault_number fault)
 
 -- the number, if there is one, and else this refusal
-abbrev pub number_in : ℕ → Option ℕ → LagNumber
-number_in why (Some n) = number n
-number_in why None = no_number why
+abbrev pub number_or_refused : ℕ → Option ℕ → LagNumber
+number_or_refused why (Some n) = number n
+number_or_refused why None = number_refused why
 
 -- a receive that is refused with this number
-abbrev pub no_received : ℕ → LagReceived
-no_received why = record { status = why; what = 0; number = 0 }
+abbrev pub received_refused : ℕ → LagReceived
+received_refused why = record { status = why; what = 0; number = 0 }
 
 -- a change as the system takes it
 abbrev pub change_of : LagChange → PortChange

@@ -7,24 +7,25 @@ ghost use Rattle.lagsystem.specs.Readers.{aggregator_numbered, conversation_coun
 ghost use Rattle.lagsystem.specs.declared.received.Received.{Received};
 ghost use Rattle.lagsystem.specs.declared.drive.Reply.{Reply};
 ghost use Rattle.lagsystem.specs.declared.fault.SystemFault.{SystemFault};
-ghost use Rattle.lagsystem.specs.Sound.{Answers};
-ghost use Rattle.lagffi.specs.Asking.{CallsSystem, by_number_gives};
+ghost use Rattle.lagsystem.specs.Sound.{CallPromise};
+ghost use Rattle.lagffi.specs.Asking.{CallsHeldSystem, by_number_gives};
 ghost use Rattle.lagffi.specs.Holding.{held_state};
-ghost use Rattle.lagffi.specs.Frames.{frame_length, received_of, due_of, written, written_reply};
-ghost use Rattle.lagffi.specs.Numbers.{change_of, no_number, no_received, no_system, no_truth, number_of, wrong_buffer_length, status_of, truth_of};
+ghost use Rattle.lagffi.specs.Frames.{control_frame_length, received_of, truth_of_transmit, buffer_after_transmit, buffer_after_receive};
+ghost use Rattle.lagffi.specs.Numbers.{change_of, number_refused, received_refused, no_system, truth_refused, number_of, wrong_buffer_length, status_of, truth_of};
 
 use crate::handle::Lag;
 use crate::stored::by_number;
 use crate::values::{
-    BUFFER, FRAME, LagChange, LagNumber, LagReceived, LagTruth, NO_SYSTEM, OK, status,
+    CONTROL_FRAME_LENGTH, LagChange, LagNumber, LagReceived, LagTruth, NO_SYSTEM, OK,
+    WRONG_BUFFER_LENGTH, status,
 };
 use lagsystem::{AggId, Received, SystemFault};
 use std::alloc::Global;
 
 /// Writes the response that a frame had, if it had one.
 fn write_reply(answer: &Result<Received, SystemFault>, buffer: &mut [u8])
-    requires { length buffer.old ≡ frame_length }
-    ensures { buffer.new ≡ written_reply buffer.old answer.now }
+    requires { length buffer.old ≡ control_frame_length }
+    ensures { buffer.new ≡ buffer_after_receive buffer.old answer.now }
 {
     if let Ok(Received::Respond(octets)) = answer {
         buffer.copy_from_slice(octets);
@@ -33,8 +34,8 @@ fn write_reply(answer: &Result<Received, SystemFault>, buffer: &mut [u8])
 
 /// Writes the frame that is due, if one is.
 fn write_due(answer: &Result<Option<[u8; 124]>, SystemFault>, buffer: &mut [u8])
-    requires { length buffer.old ≡ frame_length }
-    ensures { buffer.new ≡ written buffer.old answer.now }
+    requires { length buffer.old ≡ control_frame_length }
+    ensures { buffer.new ≡ buffer_after_transmit buffer.old answer.now }
 {
     if let Ok(Some(octets)) = answer {
         buffer.copy_from_slice(octets);
@@ -50,14 +51,14 @@ pub extern "C" fn lagffi_receive(
     frame: &[u8],
     response: &mut [u8],
 ) -> LagReceived
-    ensures room { IsFalse (length response.old == frame_length) → (result ≡ no_received wrong_buffer_length) × (held_state lag.new.held.kept ≡ held_state lag.old.held.kept) × (response.new ≡ response.old) }
-    ensures answers { IsTrue (length response.old == frame_length) → CallsSystem (held_state lag.old.held.kept) (held_state lag.new.held.kept)
-        (λ old new. (answer : Result Received SystemFault) × Answers by_number_gives old (Call.Receive port frame.now) (Reply.Receive answer) new
-        × (result ≡ received_of answer) × (response.new ≡ written_reply response.old answer))
-        ((result ≡ no_received no_system) × (response.new ≡ response.old)) }
+    ensures room { IsFalse (length response.old == control_frame_length) → (result ≡ received_refused wrong_buffer_length) × (held_state lag.new.held.kept ≡ held_state lag.old.held.kept) × (response.new ≡ response.old) }
+    ensures answers { IsTrue (length response.old == control_frame_length) → CallsHeldSystem (held_state lag.old.held.kept) (held_state lag.new.held.kept)
+        (λ old new. (answer : Result Received SystemFault) × CallPromise by_number_gives old (Call.Receive port frame.now) (Reply.Receive answer) new
+        × (result ≡ received_of answer) × (response.new ≡ buffer_after_receive response.old answer))
+        ((result ≡ received_refused no_system) × (response.new ≡ response.old)) }
 {
-    if response.len() != FRAME {
-        return LagReceived::refused(BUFFER);
+    if response.len() != CONTROL_FRAME_LENGTH {
+        return LagReceived::refused(WRONG_BUFFER_LENGTH);
     }
     let Some((kept, block)) = lag.take(alloc) else {
         return LagReceived::refused(NO_SYSTEM);
@@ -72,8 +73,8 @@ pub extern "C" fn lagffi_receive(
 /// One tick, 100 ms.
 #[unsafe(no_mangle)]
 pub extern "C" fn lagffi_tick(alloc: Global, lag: &mut Lag) -> u32
-    ensures { CallsSystem (held_state lag.old.held.kept) (held_state lag.new.held.kept)
-        (λ old new. Answers by_number_gives old Call.Tick Reply.Tick new × (result ≡ 0)) (result ≡ no_system) }
+    ensures { CallsHeldSystem (held_state lag.old.held.kept) (held_state lag.new.held.kept)
+        (λ old new. CallPromise by_number_gives old Call.Tick Reply.Tick new × (result ≡ 0)) (result ≡ no_system) }
 {
     let Some((kept, block)) = lag.take(alloc) else {
         return NO_SYSTEM;
@@ -87,8 +88,8 @@ pub extern "C" fn lagffi_tick(alloc: Global, lag: &mut Lag) -> u32
 /// The link of a port is up or down now.
 #[unsafe(no_mangle)]
 pub extern "C" fn lagffi_set_link(alloc: Global, lag: &mut Lag, port: u16, up: bool) -> u32
-    ensures { CallsSystem (held_state lag.old.held.kept) (held_state lag.new.held.kept)
-        (λ old new. (answer : Result Unit SystemFault) × Answers by_number_gives old (Call.Set_link port up) (Reply.SetLink answer) new
+    ensures { CallsHeldSystem (held_state lag.old.held.kept) (held_state lag.new.held.kept)
+        (λ old new. (answer : Result Unit SystemFault) × CallPromise by_number_gives old (Call.Set_link port up) (Reply.SetLink answer) new
         × (result ≡ status_of answer)) (result ≡ no_system) }
 {
     let Some((kept, block)) = lag.take(alloc) else {
@@ -108,9 +109,9 @@ pub extern "C" fn lagffi_configure(
     port: u16,
     change: &LagChange,
 ) -> LagTruth
-    ensures { CallsSystem (held_state lag.old.held.kept) (held_state lag.new.held.kept)
-        (λ old new. (answer : Result Bool SystemFault) × Answers by_number_gives old (Call.Configure port (change_of change.now)) (Reply.Configure answer) new
-        × (result ≡ truth_of answer)) (result ≡ no_truth no_system) }
+    ensures { CallsHeldSystem (held_state lag.old.held.kept) (held_state lag.new.held.kept)
+        (λ old new. (answer : Result Bool SystemFault) × CallPromise by_number_gives old (Call.Configure port (change_of change.now)) (Reply.Configure answer) new
+        × (result ≡ truth_of answer)) (result ≡ truth_refused no_system) }
 {
     let Some((kept, block)) = lag.take(alloc) else {
         return LagTruth::refused(NO_SYSTEM);
@@ -124,8 +125,8 @@ pub extern "C" fn lagffi_configure(
 /// Starts the system again as it was made.
 #[unsafe(no_mangle)]
 pub extern "C" fn lagffi_restart(alloc: Global, lag: &mut Lag) -> u32
-    ensures { CallsSystem (held_state lag.old.held.kept) (held_state lag.new.held.kept)
-        (λ old new. Answers by_number_gives old Call.Restart Reply.Restart new × (model_view new ≡ first_view (model_setup old)) × (result ≡ 0))
+    ensures { CallsHeldSystem (held_state lag.old.held.kept) (held_state lag.new.held.kept)
+        (λ old new. CallPromise by_number_gives old Call.Restart Reply.Restart new × (model_view new ≡ first_view (model_setup old)) × (result ≡ 0))
         (result ≡ no_system) }
 {
     let Some((kept, block)) = lag.take(alloc) else {
@@ -145,14 +146,14 @@ pub extern "C" fn lagffi_transmit(
     port: u16,
     frame: &mut [u8],
 ) -> LagTruth
-    ensures room { IsFalse (length frame.old == frame_length) → (result ≡ no_truth wrong_buffer_length) × (held_state lag.new.held.kept ≡ held_state lag.old.held.kept) × (frame.new ≡ frame.old) }
-    ensures answers { IsTrue (length frame.old == frame_length) → CallsSystem (held_state lag.old.held.kept) (held_state lag.new.held.kept)
-        (λ old new. (answer : Result (Option (List ℕ)) SystemFault) × Answers by_number_gives old (Call.Transmit port) (Reply.Transmit answer) new
-        × (result ≡ due_of answer) × (frame.new ≡ written frame.old answer))
-        ((result ≡ no_truth no_system) × (frame.new ≡ frame.old)) }
+    ensures room { IsFalse (length frame.old == control_frame_length) → (result ≡ truth_refused wrong_buffer_length) × (held_state lag.new.held.kept ≡ held_state lag.old.held.kept) × (frame.new ≡ frame.old) }
+    ensures answers { IsTrue (length frame.old == control_frame_length) → CallsHeldSystem (held_state lag.old.held.kept) (held_state lag.new.held.kept)
+        (λ old new. (answer : Result (Option (List ℕ)) SystemFault) × CallPromise by_number_gives old (Call.Transmit port) (Reply.Transmit answer) new
+        × (result ≡ truth_of_transmit answer) × (frame.new ≡ buffer_after_transmit frame.old answer))
+        ((result ≡ truth_refused no_system) × (frame.new ≡ frame.old)) }
 {
-    if frame.len() != FRAME {
-        return LagTruth::refused(BUFFER);
+    if frame.len() != CONTROL_FRAME_LENGTH {
+        return LagTruth::refused(WRONG_BUFFER_LENGTH);
     }
     let Some((kept, block)) = lag.take(alloc) else {
         return LagTruth::refused(NO_SYSTEM);
@@ -167,10 +168,10 @@ pub extern "C" fn lagffi_transmit(
 /// The port to send a frame on, in an aggregator.
 #[unsafe(no_mangle)]
 pub extern "C" fn lagffi_offer(alloc: Global, lag: &mut Lag, agg: u16, frame: &[u8]) -> LagNumber
-    ensures { CallsSystem (held_state lag.old.held.kept) (held_state lag.new.held.kept)
-        (λ old new. (answer : Result ℕ SystemFault) × Answers by_number_gives old (Call.Offer (aggregator_numbered agg) frame.now) (Reply.Offer answer) new
+    ensures { CallsHeldSystem (held_state lag.old.held.kept) (held_state lag.new.held.kept)
+        (λ old new. (answer : Result ℕ SystemFault) × CallPromise by_number_gives old (Call.Offer (aggregator_numbered agg) frame.now) (Reply.Offer answer) new
         × IfOk answer (λ port. number_of_conversation old frame.now < conversation_count old)
-        × (result ≡ number_of answer)) (result ≡ no_number no_system) }
+        × (result ≡ number_of answer)) (result ≡ number_refused no_system) }
 {
     let Some((kept, block)) = lag.take(alloc) else {
         return LagNumber::refused(NO_SYSTEM);
@@ -190,8 +191,8 @@ pub extern "C" fn lagffi_move_conversation(
     conv: u16,
     port: u16,
 ) -> u32
-    ensures { CallsSystem (held_state lag.old.held.kept) (held_state lag.new.held.kept)
-        (λ old new. (answer : Result Unit SystemFault) × Answers by_number_gives old (Call.Move_conversation (aggregator_numbered agg) conv port) (Reply.MoveConversation answer) new
+    ensures { CallsHeldSystem (held_state lag.old.held.kept) (held_state lag.new.held.kept)
+        (λ old new. (answer : Result Unit SystemFault) × CallPromise by_number_gives old (Call.Move_conversation (aggregator_numbered agg) conv port) (Reply.MoveConversation answer) new
         × (result ≡ status_of answer)) (result ≡ no_system) }
 {
     let Some((kept, block)) = lag.take(alloc) else {
@@ -206,8 +207,8 @@ pub extern "C" fn lagffi_move_conversation(
 /// Frees a conversation of an aggregator at once.
 #[unsafe(no_mangle)]
 pub extern "C" fn lagffi_force(alloc: Global, lag: &mut Lag, agg: u16, conv: u16) -> u32
-    ensures { CallsSystem (held_state lag.old.held.kept) (held_state lag.new.held.kept)
-        (λ old new. (answer : Result Unit SystemFault) × Answers by_number_gives old (Call.Force (aggregator_numbered agg) conv) (Reply.Force answer) new
+    ensures { CallsHeldSystem (held_state lag.old.held.kept) (held_state lag.new.held.kept)
+        (λ old new. (answer : Result Unit SystemFault) × CallPromise by_number_gives old (Call.Force (aggregator_numbered agg) conv) (Reply.Force answer) new
         × (result ≡ status_of answer)) (result ≡ no_system) }
 {
     let Some((kept, block)) = lag.take(alloc) else {

@@ -2,7 +2,7 @@ ghost use Rattle.std.specs.Prelude.{◌≡◌, IfErr, IfOk, IsTrue, MatchOption,
 ghost use Rattle.lagsystem.specs.declared.fault.SystemFault.{SystemFault};
 ghost use Rattle.lagffi.specs.Holding.{held_state};
 ghost use Rattle.lagffi.specs.Numbers.{no_system};
-ghost use Rattle.lagffi.specs.Made.{IsMade, holds_system_already, key_of, no_made, not_made, port_config_of, refusal_of, why_refused};
+ghost use Rattle.lagffi.specs.Made.{IsMadeOfLagConfig, holds_system_already, lag_key, made_refused, made_with_status, lag_port_config, refusal_of, why_refused};
 
 use crate::handle::{Held, Lag};
 use crate::refusal::refusal;
@@ -12,7 +12,7 @@ use lagsystem::{BadConfig, Config, Key, NoMemory, PortConfig, System, SystemFaul
 use std::alloc::Global;
 
 /// The handle holds a system already.
-const LIVE: u32 = 14;
+const HOLDS_SYSTEM_ALREADY: u32 = 14;
 
 /// What a program in C gives of a configuration, beside its keys and ports.
 #[repr(C)]
@@ -51,7 +51,7 @@ pub struct LagPort {
 impl LagPort {
     /// The port as the system takes it.
     fn config(&self) -> PortConfig
-        ensures { result ≡ port_config_of self.now }
+        ensures { result ≡ lag_port_config self.now }
     {
         PortConfig {
             number: self.number,
@@ -79,8 +79,8 @@ pub struct LagMade {
 
 impl LagMade {
     /// A status alone, without a reason.
-    fn told(status: u32) -> LagMade
-        ensures { result ≡ not_made status }
+    fn with_status(status: u32) -> LagMade
+        ensures { result ≡ made_with_status status }
     {
         LagMade {
             status,
@@ -91,7 +91,7 @@ impl LagMade {
 
     /// Refused, with the reason if the configuration is refused.
     fn refused(fault: &SystemFault) -> LagMade
-        ensures { result ≡ no_made fault.now }
+        ensures { result ≡ made_refused fault.now }
     {
         let status = u32::from(fault.number());
         match fault {
@@ -105,14 +105,14 @@ impl LagMade {
                 reason: u32::from(reason.number()),
                 place: 0,
             },
-            _ => LagMade::told(status),
+            _ => LagMade::with_status(status),
         }
     }
 }
 
 /// The keys of the aggregators, as the system takes them.
 fn keys_of(alloc: Global, keys: &[u16]) -> Result<Vec<Key>, NoMemory>
-    ensures { IfOk result (λ found. found.items ≡ map key_of keys.now) }
+    ensures { IfOk result (λ found. found.items ≡ map lag_key keys.now) }
 {
     let mut found = Vec::with_capacity(alloc, keys.len())?;
     for key in keys {
@@ -123,7 +123,7 @@ fn keys_of(alloc: Global, keys: &[u16]) -> Result<Vec<Key>, NoMemory>
 
 /// The ports of the configuration, as the system takes them.
 fn ports_of(alloc: Global, ports: &[LagPort]) -> Result<Vec<PortConfig>, NoMemory>
-    ensures { IfOk result (λ found. found.items ≡ map port_config_of ports.now) }
+    ensures { IfOk result (λ found. found.items ≡ map lag_port_config ports.now) }
 {
     let mut found = Vec::with_capacity(alloc, ports.len())?;
     for port in ports {
@@ -140,7 +140,7 @@ fn system_of(
     ports: &[LagPort],
 ) -> Result<System<()>, SystemFault>
     requires accepted { refusal_of keys.now ports.now ≡ None }
-    ensures made { IfOk result (λ system. IsMade config.now keys.now ports.now system.state) }
+    ensures made { IfOk result (λ system. IsMadeOfLagConfig config.now keys.now ports.now system.state) }
     ensures refused { IfErr result (λ fault. fault ≡ SystemFault.NoMemory) }
 {
     let config = Config {
@@ -167,14 +167,14 @@ pub extern "C" fn lagffi_new(
     keys: &[u16],
     ports: &[LagPort],
 ) -> LagMade
-    ensures live { IsTrue (is_some (held_state lag.old.held.kept)) → (result ≡ not_made holds_system_already) × (held_state lag.new.held.kept ≡ held_state lag.old.held.kept) }
+    ensures live { IsTrue (is_some (held_state lag.old.held.kept)) → (result ≡ made_with_status holds_system_already) × (held_state lag.new.held.kept ≡ held_state lag.old.held.kept) }
     ensures made { held_state lag.old.held.kept ≡ None → MatchOption (held_state lag.new.held.kept)
-        (result ≡ no_made (why_refused keys.now ports.now))
-        (λ s. IsMade config.now keys.now ports.now s × (result ≡ not_made 0)) }
+        (result ≡ made_refused (why_refused keys.now ports.now))
+        (λ s. IsMadeOfLagConfig config.now keys.now ports.now s × (result ≡ made_with_status 0)) }
 {
     if let Some((system, block)) = lag.take(alloc) {
         lag.put(system, block);
-        return LagMade::told(LIVE);
+        return LagMade::with_status(HOLDS_SYSTEM_ALREADY);
     }
     if let Some(reason) = refusal(keys, ports) {
         return LagMade::refused(&SystemFault::BadConfig(reason));
@@ -185,7 +185,7 @@ pub extern "C" fn lagffi_new(
     match system_of(alloc, config, keys, ports) {
         Ok(system) => {
             lag.put(system, room);
-            LagMade::told(OK)
+            LagMade::with_status(OK)
         }
         Err(fault) => {
             room.free();
@@ -198,7 +198,7 @@ pub extern "C" fn lagffi_new(
 #[unsafe(no_mangle)]
 pub extern "C" fn lagffi_free(alloc: Global, lag: &mut Lag) -> u32
     ensures left { held_state lag.new.held.kept ≡ None }
-    ensures told { MatchOption (held_state lag.old.held.kept) (result ≡ no_system) (λ s. result ≡ 0) }
+    ensures status { MatchOption (held_state lag.old.held.kept) (result ≡ no_system) (λ s. result ≡ 0) }
 {
     match lag.take(alloc) {
         Some((_, block)) => {

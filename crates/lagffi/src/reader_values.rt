@@ -1,24 +1,24 @@
 ghost use Rattle.std.specs.Prelude.{◌≡◌, Option};
-ghost use Rattle.lagffi.specs.ReaderValues.{assigned, assignment_in, assignment_of, choice_answer, end_of, group_in, group_of, info_in, info_of, marker_of, mux_answer, no_assignment, no_end, no_group, no_info, no_marker, no_party, state_answer, party_in, party_of, receive_answer};
+ghost use Rattle.lagffi.specs.ReaderValues.{lag_assignment_on, assignment_or_refused, lag_assignment, choice_or_no_port, lag_end, group_or_no_port, lag_group, info_or_no_port, lag_info, lag_marker, mux_state_or_no_port, assignment_refused, no_end, group_refused, info_refused, marker_refused, party_refused, state_or_no_port, party_or_no_port, lag_party, receive_state_or_no_port};
 
-use crate::values::{LagNumber, NO_PORT, NOT_ASSIGNED, OK};
+use crate::values::{LagNumber, NO_PORT, NOT_ASSIGNED_REFUSED, OK};
 use bitflags::Flags;
 use lagsystem::{AggId, Assignment, Choice, Group, Info, MuxState, Party, ReceiveState, State};
 use lagtypes::End;
 
 /// The state octet of a port.
-pub(crate) fn state_answer(answer: Option<State>) -> LagNumber
-    ensures { result ≡ state_answer answer }
+pub(crate) fn state_or_no_port(answer: Option<State>) -> LagNumber
+    ensures { result ≡ state_or_no_port answer }
 {
     match answer {
-        Some(state) => LagNumber::told(u64::from(state.bits())),
+        Some(state) => LagNumber::answered(u64::from(state.bits())),
         None => LagNumber::refused(NO_PORT),
     }
 }
 
 /// The state of a receive machine.
-pub(crate) fn receive_answer(answer: Option<ReceiveState>) -> LagNumber
-    ensures { result ≡ receive_answer answer }
+pub(crate) fn receive_state_or_no_port(answer: Option<ReceiveState>) -> LagNumber
+    ensures { result ≡ receive_state_or_no_port answer }
 {
     let Some(state) = answer else {
         return LagNumber::refused(NO_PORT);
@@ -30,12 +30,12 @@ pub(crate) fn receive_answer(answer: Option<ReceiveState>) -> LagNumber
         ReceiveState::Defaulted => 3,
         ReceiveState::Current => 4,
     };
-    LagNumber::told(number)
+    LagNumber::answered(number)
 }
 
 /// The state of a mux machine.
-pub(crate) fn mux_answer(answer: Option<MuxState>) -> LagNumber
-    ensures { result ≡ mux_answer answer }
+pub(crate) fn mux_state_or_no_port(answer: Option<MuxState>) -> LagNumber
+    ensures { result ≡ mux_state_or_no_port answer }
 {
     let Some(state) = answer else {
         return LagNumber::refused(NO_PORT);
@@ -46,16 +46,16 @@ pub(crate) fn mux_answer(answer: Option<MuxState>) -> LagNumber
         MuxState::Attached => 2,
         MuxState::CollectingDistributing => 3,
     };
-    LagNumber::told(number)
+    LagNumber::answered(number)
 }
 
 /// The aggregator that a port has chosen, or 0.
-pub(crate) fn choice_answer(answer: Option<Choice>) -> LagNumber
-    ensures { result ≡ choice_answer answer }
+pub(crate) fn choice_or_no_port(answer: Option<Choice>) -> LagNumber
+    ensures { result ≡ choice_or_no_port answer }
 {
     match answer {
-        Some(Choice::Unselected) => LagNumber::told(0),
-        Some(Choice::Selected(AggId(agg))) => LagNumber::told(u64::from(agg)),
+        Some(Choice::Unselected) => LagNumber::answered(0),
+        Some(Choice::Selected(AggId(agg))) => LagNumber::answered(u64::from(agg)),
         None => LagNumber::refused(NO_PORT),
     }
 }
@@ -83,7 +83,7 @@ pub struct LagParty {
 impl LagParty {
     /// Refused with this number.
     pub(crate) fn refused(why: u32) -> LagParty
-        ensures { result ≡ no_party why }
+        ensures { result ≡ party_refused why }
     {
         LagParty {
             status: why,
@@ -98,7 +98,7 @@ impl LagParty {
 
     /// The own parameters of a port.
     fn this(party: &Party) -> LagParty
-        ensures { result ≡ party_of party.now }
+        ensures { result ≡ lag_party party.now }
     {
         LagParty {
             status: OK,
@@ -113,7 +113,7 @@ impl LagParty {
 
     /// What a reader tells.
     pub(crate) fn of(answer: Option<Party>) -> LagParty
-        ensures { result ≡ party_in answer }
+        ensures { result ≡ party_or_no_port answer }
     {
         match answer {
             Some(party) => LagParty::this(&party),
@@ -145,7 +145,7 @@ pub struct LagInfo {
 impl LagInfo {
     /// Refused with this number.
     pub(crate) fn refused(why: u32) -> LagInfo
-        ensures { result ≡ no_info why }
+        ensures { result ≡ info_refused why }
     {
         LagInfo {
             status: why,
@@ -160,7 +160,7 @@ impl LagInfo {
 
     /// The recorded partner of a port.
     fn this(info: &Info) -> LagInfo
-        ensures { result ≡ info_of info.now }
+        ensures { result ≡ lag_info info.now }
     {
         LagInfo {
             status: OK,
@@ -175,7 +175,7 @@ impl LagInfo {
 
     /// What a reader tells.
     pub(crate) fn of(answer: Option<Info>) -> LagInfo
-        ensures { result ≡ info_in answer }
+        ensures { result ≡ info_or_no_port answer }
     {
         match answer {
             Some(info) => LagInfo::this(&info),
@@ -205,7 +205,7 @@ pub struct LagEnd {
 impl LagEnd {
     /// This end.
     fn of(end: &End) -> LagEnd
-        ensures { result ≡ end_of end.now }
+        ensures { result ≡ lag_end end.now }
     {
         let (individual, port_priority, port) = match end.port {
             Some(port) => (true, port.priority, port.number),
@@ -251,7 +251,7 @@ pub struct LagGroup {
 impl LagGroup {
     /// Refused with this number.
     pub(crate) fn refused(why: u32) -> LagGroup
-        ensures { result ≡ no_group why }
+        ensures { result ≡ group_refused why }
     {
         LagGroup {
             status: why,
@@ -262,7 +262,7 @@ impl LagGroup {
 
     /// The group of a port.
     fn this(group: &Group) -> LagGroup
-        ensures { result ≡ group_of group.now }
+        ensures { result ≡ lag_group group.now }
     {
         LagGroup {
             status: OK,
@@ -273,7 +273,7 @@ impl LagGroup {
 
     /// What a reader tells.
     pub(crate) fn of(answer: Option<Group>) -> LagGroup
-        ensures { result ≡ group_in answer }
+        ensures { result ≡ group_or_no_port answer }
     {
         match answer {
             Some(group) => LagGroup::this(&group),
@@ -305,7 +305,7 @@ pub struct LagAssignment {
 impl LagAssignment {
     /// Refused with this number.
     pub(crate) fn refused(why: u32) -> LagAssignment
-        ensures { result ≡ no_assignment why }
+        ensures { result ≡ assignment_refused why }
     {
         LagAssignment {
             status: why,
@@ -320,7 +320,7 @@ impl LagAssignment {
 
     /// The state with this number, the port of the conversation or 0, and its preferred port, if it has one.
     fn on(what: u32, port: u16, preferred: Option<u16>) -> LagAssignment
-        ensures { result ≡ assigned what port preferred }
+        ensures { result ≡ lag_assignment_on what port preferred }
     {
         let (prefers, preferred) = match preferred {
             Some(port) => (true, port),
@@ -339,7 +339,7 @@ impl LagAssignment {
 
     /// The state of a conversation.
     fn this(assignment: &Assignment) -> LagAssignment
-        ensures { result ≡ assignment_of assignment.now }
+        ensures { result ≡ lag_assignment assignment.now }
     {
         match *assignment {
             Assignment::Free { preferred } => LagAssignment::on(0, 0, preferred),
@@ -351,21 +351,21 @@ impl LagAssignment {
                 preferred,
                 age,
             } => {
-                let mut told = LagAssignment::on(3, port, preferred);
-                told.id = id;
-                told.age = age;
-                told
+                let mut answered = LagAssignment::on(3, port, preferred);
+                answered.id = id;
+                answered.age = age;
+                answered
             }
         }
     }
 
     /// What a reader tells.
     pub(crate) fn of(answer: Option<Assignment>) -> LagAssignment
-        ensures { result ≡ assignment_in answer }
+        ensures { result ≡ assignment_or_refused answer }
     {
         match answer {
             Some(assignment) => LagAssignment::this(&assignment),
-            None => LagAssignment::refused(NOT_ASSIGNED),
+            None => LagAssignment::refused(NOT_ASSIGNED_REFUSED),
         }
     }
 }
@@ -385,7 +385,7 @@ pub struct LagMarker {
 impl LagMarker {
     /// Refused with this number.
     pub(crate) fn refused(why: u32) -> LagMarker
-        ensures { result ≡ no_marker why }
+        ensures { result ≡ marker_refused why }
     {
         LagMarker {
             status: why,
@@ -396,7 +396,7 @@ impl LagMarker {
 
     /// The identifier, if one is left.
     pub(crate) fn of(next: Option<u32>) -> LagMarker
-        ensures { result ≡ marker_of next }
+        ensures { result ≡ lag_marker next }
     {
         match next {
             Some(id) => LagMarker {

@@ -1,13 +1,13 @@
 ghost use Rattle.std.specs.Prelude.{◌≡◌, map};
 ghost use Rattle.lagsystem.specs.First.{configured_numbers, first_bad_port_number};
-ghost use Rattle.lagffi.specs.Made.{port_config_of, refusal_of};
+ghost use Rattle.lagffi.specs.Made.{lag_port_config, refusal_of};
 
 use crate::made::LagPort;
 use lagsystem::BadConfig;
 
 /// The place, counted from 1, of the first port whose number is not above the one before it, or is 0.
 fn first_bad_port_number(ports: &[LagPort]) -> Option<usize>
-    ensures { result ≡ first_bad_port_number 1 0 (configured_numbers (map port_config_of ports.now)) }
+    ensures { result ≡ first_bad_port_number 1 0 (configured_numbers (map lag_port_config ports.now)) }
 {
     let mut place = 0;
     let mut low = 0;

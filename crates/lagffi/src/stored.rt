@@ -1,5 +1,5 @@
 ghost use Rattle.std.specs.Prelude.{◌≡◌};
-ghost use Rattle.distributor.specs.Calls.{place_by_number};
+ghost use Rattle.distributor.specs.Calls.{index_by_number};
 
 use lagsystem::System;
 
@@ -11,7 +11,7 @@ pub struct StoredSystem {
 
 /// The distribution algorithm: the number of the conversation modulo the count of ports, and 0 if there are none.
 pub(crate) fn by_number(conversation: u16, count: usize) -> usize
-    ensures { result ≡ place_by_number conversation count }
+    ensures { result ≡ index_by_number conversation count }
 {
     distributor::by_number(conversation, count)
 }

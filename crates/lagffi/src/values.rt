@@ -1,7 +1,7 @@
 ghost use Rattle.std.specs.Prelude.{◌≡◌, length};
-ghost use Rattle.lagffi.specs.Lists.{list_length, put_first};
-ghost use Rattle.lagffi.specs.Frames.{due_of, received_of};
-ghost use Rattle.lagffi.specs.Numbers.{change_of, no_number, no_received, no_truth, number, number_in, number_of, status_of, truth, truth_in, truth_of};
+ghost use Rattle.lagffi.specs.Lists.{port_list_length, put_first};
+ghost use Rattle.lagffi.specs.Frames.{truth_of_transmit, received_of};
+ghost use Rattle.lagffi.specs.Numbers.{change_of, number_refused, received_refused, truth_refused, number, number_or_refused, number_of, status_of, truth, truth_or_no_port, truth_of};
 ghost use Rattle.lagsystem.specs.Faults.{fault_number};
 ghost use Rattle.lagsystem.specs.declared.fault.SystemFault.{SystemFault};
 
@@ -15,15 +15,15 @@ pub(crate) const NO_PORT: u32 = 1;
 /// The handle holds no system.
 pub(crate) const NO_SYSTEM: u32 = 13;
 /// A buffer has another length than the function asks.
-pub(crate) const BUFFER: u32 = 15;
+pub(crate) const WRONG_BUFFER_LENGTH: u32 = 15;
 /// An offered frame has not 14 to 1518 octets.
-pub(crate) const FRAME_LENGTH: u32 = 3;
+pub(crate) const FRAME_LENGTH_REFUSED: u32 = 3;
 /// The conversation is free, or there is no such conversation.
-pub(crate) const NOT_ASSIGNED: u32 = 9;
+pub(crate) const NOT_ASSIGNED_REFUSED: u32 = 9;
 /// The most ports and the most aggregators of a system.
-pub(crate) const MOST: usize = 64;
+pub(crate) const PORT_LIST_LENGTH: usize = 64;
 /// The octets of a frame that a system makes: 14 of header, 110 of payload.
-pub(crate) const FRAME: usize = 124;
+pub(crate) const CONTROL_FRAME_LENGTH: usize = 124;
 
 /// The number of an answer: 0, or that of its refusal.
 pub(crate) fn status<T>(answer: &Result<T, SystemFault>) -> u32
@@ -72,7 +72,7 @@ pub struct LagTruth {
 
 impl LagTruth {
     /// It is so, or not.
-    pub(crate) fn told(is: bool) -> LagTruth
+    pub(crate) fn answered(is: bool) -> LagTruth
         ensures { result ≡ truth is }
     {
         LagTruth { status: OK, is }
@@ -80,7 +80,7 @@ impl LagTruth {
 
     /// Refused with this number.
     pub(crate) fn refused(why: u32) -> LagTruth
-        ensures { result ≡ no_truth why }
+        ensures { result ≡ truth_refused why }
     {
         LagTruth {
             status: why,
@@ -93,28 +93,28 @@ impl LagTruth {
         ensures { result ≡ truth_of answer.now }
     {
         match answer {
-            Ok(is) => LagTruth::told(*is),
+            Ok(is) => LagTruth::answered(*is),
             Err(fault) => LagTruth::refused(u32::from(fault.number())),
         }
     }
 
     /// Whether a frame is due.
     pub(crate) fn of_due(answer: &Result<Option<[u8; 124]>, SystemFault>) -> LagTruth
-        ensures { result ≡ due_of answer.now }
+        ensures { result ≡ truth_of_transmit answer.now }
     {
         match answer {
-            Ok(Some(_)) => LagTruth::told(true),
-            Ok(None) => LagTruth::told(false),
+            Ok(Some(_)) => LagTruth::answered(true),
+            Ok(None) => LagTruth::answered(false),
             Err(fault) => LagTruth::refused(u32::from(fault.number())),
         }
     }
 
     /// What a reader tells of a port.
     pub(crate) fn of_port(answer: Option<bool>) -> LagTruth
-        ensures { result ≡ truth_in answer }
+        ensures { result ≡ truth_or_no_port answer }
     {
         match answer {
-            Some(is) => LagTruth::told(is),
+            Some(is) => LagTruth::answered(is),
             None => LagTruth::refused(NO_PORT),
         }
     }
@@ -132,7 +132,7 @@ pub struct LagNumber {
 
 impl LagNumber {
     /// This number.
-    pub(crate) fn told(answer: u64) -> LagNumber
+    pub(crate) fn answered(answer: u64) -> LagNumber
         ensures { result ≡ number answer }
     {
         LagNumber {
@@ -143,7 +143,7 @@ impl LagNumber {
 
     /// Refused with this number.
     pub(crate) fn refused(why: u32) -> LagNumber
-        ensures { result ≡ no_number why }
+        ensures { result ≡ number_refused why }
     {
         LagNumber {
             status: why,
@@ -156,7 +156,7 @@ impl LagNumber {
         ensures { result ≡ number_of answer.now }
     {
         match answer {
-            Ok(answer) => LagNumber::told(u64::from(*answer)),
+            Ok(answer) => LagNumber::answered(u64::from(*answer)),
             Err(fault) => LagNumber::refused(u32::from(fault.number())),
         }
     }
@@ -166,17 +166,17 @@ impl LagNumber {
         ensures { result ≡ number_of answer.now }
     {
         match answer {
-            Ok(answer) => LagNumber::told(u64::from(*answer)),
+            Ok(answer) => LagNumber::answered(u64::from(*answer)),
             Err(fault) => LagNumber::refused(u32::from(fault.number())),
         }
     }
 
     /// What a reader tells, or else this refusal.
     pub(crate) fn or(answer: Option<u16>, why: u32) -> LagNumber
-        ensures { result ≡ number_in why answer }
+        ensures { result ≡ number_or_refused why answer }
     {
         match answer {
-            Some(answer) => LagNumber::told(u64::from(answer)),
+            Some(answer) => LagNumber::answered(u64::from(answer)),
             None => LagNumber::refused(why),
         }
     }
@@ -197,7 +197,7 @@ pub struct LagReceived {
 impl LagReceived {
     /// Refused with this number.
     pub(crate) fn refused(why: u32) -> LagReceived
-        ensures { result ≡ no_received why }
+        ensures { result ≡ received_refused why }
     {
         LagReceived {
             status: why,
@@ -230,7 +230,7 @@ impl LagReceived {
 
 /// Writes numbers at the front of a buffer, and answers how many.
 pub(crate) fn put_first(numbers: &ArrayVec<u16, 64>, buffer: &mut [u16]) -> u64
-    requires { length buffer.old ≡ list_length }
+    requires { length buffer.old ≡ port_list_length }
     ensures count { result ≡ length numbers.now.items }
     ensures written { buffer.new ≡ put_first numbers.now.items buffer.old }
 {

@@ -12,7 +12,7 @@ use Rattle.clap.specs.Faults.{check_fault, defaults_fault, entered_fault, fault_
 use Rattle.clap.specs.Simple.{App, Shape, argument_words, built, built_leaf, entered, inherited, is_simple, label_of, marked_built, names_of, rows_at, subcommand_of, with_leaf_noted}
 use Rattle.clap.specs.Takes.{is_given}
 use Rattle.clap.specs.Walk.{Row, Rule, Text, answers_to, finished, nothing_held, rows_after, settled, walk, walk_from}
-use Rattle.lagline.specs.Lines.{IsAsked, IsCause, KeepsKind, check_subcommand, decode_subcommand, has_text, has_each_word, program, replay_subcommand, respond_subcommand, vectors_subcommand}
+use Rattle.lagline.specs.Lines.{IsHelpOrVersion, IsCause, KeepsKind, check_subcommand, decode_subcommand, has_text, has_each_argument, program, replay_subcommand, respond_subcommand, vectors_subcommand}
 use Rattle.lagline.specs.declared.line.LineFault.{LineFault}
 use Rattle.lagline.specs.declared.line.LineFault.TheVariants.{Help, Usage, NoMemory}
 use Rattle.clap.specs.Words.{app_of, is_simple_and_free, subcommand_rows_of, HasMatchesOf}
@@ -45,7 +45,7 @@ text_given s words id good e given =
     ap is_some (given_has_value id (rows_after s.rules [] words) (rows_filled s words good e) (not-false _ given)).1
 
 abbrev IsWholeLine : Shape → Type 0
-IsWholeLine s = (words : List Text) → level_fault s [] nothing_held words false [] ≡ [] → has_each_word (Some (rows_at s words)) ≡ true
+IsWholeLine s = (words : List Text) → level_fault s [] nothing_held words false [] ≡ [] → has_each_argument (Some (rows_at s words)) ≡ true
 
 decode_whole : IsWholeLine (line_of decode_subcommand)
 decode_whole words e =
@@ -95,12 +95,12 @@ lines_whole : AreWholeLines (built program).subs
 lines_whole = (decode_whole, (respond_whole, (check_whole, (replay_whole, (vectors_whole, tt)))))
 
 entered_whole : (found : Option Shape) (words : List Text) → IsWholeIfFound found → option_map_or (λ s. level_fault s [] nothing_held words false []) found [] ≡ []
-    → is_some (option_map (λ s. rows_at s words) found) ≡ true → has_each_word (option_map (λ s. rows_at s words) found) ≡ true
+    → is_some (option_map (λ s. rows_at s words) found) ≡ true → has_each_argument (option_map (λ s. rows_at s words) found) ≡ true
 entered_whole None words g e has = cc
 entered_whole (Some s) words g e has = g words e
 
 stopped_whole : (stop : Option (Text × List Text)) → entered_fault (built program) stop ≡ [] → is_some (entered (built program) stop) ≡ true
-    → has_each_word (entered (built program) stop) ≡ true
+    → has_each_argument (entered (built program) stop) ≡ true
 stopped_whole None e has = cc
 stopped_whole (Some p) e has = entered_whole _ p.1 (whole_found (λ s. answers_to p.0 (label_of s)) (built program).subs lines_whole) e has
 
@@ -109,7 +109,7 @@ met : (has other : Bool) → check_kinds (not has && false) (not has && true) ot
 met true other e = refl
 met false other e = cc
 
-pub whole_line : (words : List Text) → fault_of program words ≡ [] → has_each_word (subcommand_of program words) ≡ true
+pub whole_line : (words : List Text) → fault_of program words ≡ [] → has_each_argument (subcommand_of program words) ≡ true
 whole_line words e =
     let a = built program in
     let rest = argument_words program words in
@@ -133,16 +133,16 @@ faultless c words shape kinds = ap (λ (a : App). fault_of a words) (sym shape) 
 
 -- and finds such a subcommand
 pub whole_matches : (c : Command) (words : List Text) (m : ArgMatches) → app_of c ≡ program → HasMatchesOf (app_of c) words m
-    → (is_simple_and_free (app_of c) ≡ true → fault_of (app_of c) words ≡ []) → has_each_word (subcommand_rows_of m) ≡ true
+    → (is_simple_and_free (app_of c) ≡ true → fault_of (app_of c) words ≡ []) → has_each_argument (subcommand_rows_of m) ≡ true
 whole_matches c words m shape matches kinds =
     let found = (matches (ap is_simple shape)).1 ∙ ap (λ (a : App). subcommand_of a words) shape in
-    ap has_each_word found ∙ whole_line words (faultless c words shape kinds)
+    ap has_each_argument found ∙ whole_line words (faultless c words shape kinds)
 
 -- an error of one of the kinds is a cause of the fault that keeps it
 cause_of : (kinds : Kinds) (e : Error) (f : LineFault) → HasKind kinds e → KeepsKind e f → IsCause kinds f
-cause_of kinds e (Help error) h k = subst (λ (x : Error). IsAsked (kind_of x) × IsAmong (kind_of x) kinds) (sym k.0) (k.1, among h k.1)
+cause_of kinds e (Help error) h k = subst (λ (x : Error). IsHelpOrVersion (kind_of x) × IsAmong (kind_of x) kinds) (sym k.0) (k.1, among h k.1)
   where
-    among : HasKind kinds e → IsAsked (kind_of e) → IsAmong (kind_of e) kinds
+    among : HasKind kinds e → IsHelpOrVersion (kind_of e) → IsAmong (kind_of e) kinds
     among (inl o) (inl p) = let bad : OutOfMemory ≡ DisplayHelp = sym o ∙ p in cc
     among (inl o) (inr p) = let bad : OutOfMemory ≡ DisplayVersion = sym o ∙ p in cc
     among (inr a) p = a

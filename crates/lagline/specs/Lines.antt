@@ -12,24 +12,24 @@ use Rattle.lagline.specs.declared.line.Job.{Job}
 use Rattle.lagline.specs.declared.line.Job.TheVariants.{Decode, Respond, Check, Replay, Vectors}
 
 -- an argument that is required
-abbrev pub required_word : Text → Rule
-required_word id = record (new_rule id) { required = true }
+abbrev pub required_argument : Text → Rule
+required_argument id = record (new_rule id) { required = true }
 
 -- `decode HEX`
 abbrev pub decode_subcommand : App
-decode_subcommand = with_rule (new_app (codes "decode")) (required_word (codes "HEX"))
+decode_subcommand = with_rule (new_app (codes "decode")) (required_argument (codes "HEX"))
 
 -- `respond MAC HEX`
 abbrev pub respond_subcommand : App
-respond_subcommand = with_rule (with_rule (new_app (codes "respond")) (required_word (codes "MAC"))) (required_word (codes "HEX"))
+respond_subcommand = with_rule (with_rule (new_app (codes "respond")) (required_argument (codes "MAC"))) (required_argument (codes "HEX"))
 
 -- `check FILE`
 abbrev pub check_subcommand : App
-check_subcommand = with_rule (new_app (codes "check")) (required_word (codes "FILE"))
+check_subcommand = with_rule (new_app (codes "check")) (required_argument (codes "FILE"))
 
 -- `replay SCRIPT`
 abbrev pub replay_subcommand : App
-replay_subcommand = with_rule (new_app (codes "replay")) (required_word (codes "SCRIPT"))
+replay_subcommand = with_rule (new_app (codes "replay")) (required_argument (codes "SCRIPT"))
 
 -- `vectors`, without arguments
 abbrev pub vectors_subcommand : App
@@ -49,12 +49,12 @@ program =
     replay_subcommand.top) vectors_subcommand.top
 
 -- the name of the subcommand that a job is
-abbrev pub name_of : Job → Text
-name_of (Decode hex) = codes "decode"
-name_of (Respond mac hex) = codes "respond"
-name_of (Check file) = codes "check"
-name_of (Replay script) = codes "replay"
-name_of Vectors = codes "vectors"
+abbrev pub subcommand_name : Job → Text
+subcommand_name (Decode hex) = codes "decode"
+subcommand_name (Respond mac hex) = codes "respond"
+subcommand_name (Check file) = codes "check"
+subcommand_name (Replay script) = codes "replay"
+subcommand_name Vectors = codes "vectors"
 
 -- the job has the values of these rows
 abbrev pub HasValues : Job → List Row → Type 0
@@ -67,7 +67,7 @@ HasValues Vectors rows = ⊤
 -- the job is the subcommand that was found, with its values
 pub record IsJob (found : Option (Text × List Row)) (job : Job) : Type 0 where
   pub rows : List Row
-  pub named : found ≡ Some (name_of job, rows)
+  pub named : found ≡ Some (subcommand_name job, rows)
   pub values : HasValues job rows
 
 -- there is a value for the argument with this name
@@ -75,9 +75,9 @@ abbrev pub has_text : Text → List Row → Bool
 has_text id rows = is_some (first_of id rows)
 
 -- a subcommand of the program was found, with each argument that it takes
-abbrev pub has_each_word : Option (Text × List Row) → Bool
-has_each_word None = false
-has_each_word (Some found) =
+abbrev pub has_each_argument : Option (Text × List Row) → Bool
+has_each_argument None = false
+has_each_argument (Some found) =
     if bytes_eq found.0 (codes "decode") then has_text (codes "HEX") found.1
     else (if bytes_eq found.0 (codes "respond") then has_text (codes "MAC") found.1 && has_text (codes "HEX") found.1
     else (if bytes_eq found.0 (codes "check") then has_text (codes "FILE") found.1
@@ -85,18 +85,18 @@ has_each_word (Some found) =
     else bytes_eq found.0 (codes "vectors"))))
 
 -- the kind of error with which help or the version is shown
-abbrev pub IsAsked : ErrorKind → Type 0
-IsAsked k = (k ≡ DisplayHelp) ⊎ (k ≡ DisplayVersion)
+abbrev pub IsHelpOrVersion : ErrorKind → Type 0
+IsHelpOrVersion k = (k ≡ DisplayHelp) ⊎ (k ≡ DisplayVersion)
 
 -- the fault has this error, by its kind
 abbrev pub KeepsKind : Error → LineFault → Type 0
-KeepsKind e (Help error) = (error ≡ e) × IsAsked (kind_of e)
+KeepsKind e (Help error) = (error ≡ e) × IsHelpOrVersion (kind_of e)
 KeepsKind e (Usage error) = (error ≡ e) × (kind_of e ≢ DisplayHelp) × (kind_of e ≢ DisplayVersion) × (kind_of e ≢ OutOfMemory)
 KeepsKind e NoMemory = kind_of e ≡ OutOfMemory
 
 -- Help and the version are shown only if the words ask for them; a usage fault is another of the kinds of error that
 -- the words have; memory may run out on any line.
 abbrev pub IsCause : Kinds → LineFault → Type 0
-IsCause kinds (Help error) = IsAsked (kind_of error) × IsAmong (kind_of error) kinds
+IsCause kinds (Help error) = IsHelpOrVersion (kind_of error) × IsAmong (kind_of error) kinds
 IsCause kinds (Usage error) = (kind_of error ≢ DisplayHelp) × (kind_of error ≢ DisplayVersion) × IsAmong (kind_of error) kinds
 IsCause kinds NoMemory = ⊤

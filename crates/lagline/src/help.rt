@@ -19,7 +19,7 @@ Status 2: standard error says why: a wrong command line, a word that is not hexa
 pub const DECODE: &str = "Prints the LACPDU or Marker PDU in a payload";
 
 /// The argument HEX of `decode`.
-pub const PAYLOAD: &str =
+pub const DECODE_HEX: &str =
     "What follows EtherType 8809: 110 octets or more in hexadecimal, digits only (no blanks, no 0x)";
 
 /// An example of `decode`.
@@ -33,12 +33,12 @@ Example, the first LACPDU of an active port that knows no partner yet:
 pub const RESPOND: &str = "Prints the frame that answers a marker frame";
 
 /// The argument MAC of `respond`.
-pub const SOURCE: &str = "\
+pub const RESPOND_MAC: &str = "\
 Source address of the answer: twelve digits, no separators; a group address is no source, though it \
 is taken";
 
 /// The argument HEX of `respond`.
-pub const FRAME: &str = "The marker frame from its destination address on, digits only";
+pub const RESPOND_HEX: &str = "The marker frame from its destination address on, digits only";
 
 /// An example of `respond`.
 pub const RESPOND_EXAMPLE: &str = "\
@@ -51,7 +51,7 @@ Example, port 1 of the system 02-00-00-00-00-01 sends marker 1:
 pub const CHECK: &str = "Says of each line of a file what frame it is";
 
 /// The argument FILE of `check`.
-pub const FRAMES: &str = "\
+pub const CHECK_FILE: &str = "\
 A file, or - for standard input; a line is a frame from its destination address on, digits only";
 
 /// What `check` prints, and an example.
@@ -65,7 +65,7 @@ Example: lagtool check frames.txt";
 pub const REPLAY: &str = "Runs a script of two systems and their cables, and prints its report";
 
 /// The argument SCRIPT of `replay`.
-pub const SCRIPT: &str =
+pub const REPLAY_SCRIPT: &str =
     "A file in TOML, or - for standard input; docs/COMMAND.md has its keys and entries";
 
 /// What `replay` prints, and an example.

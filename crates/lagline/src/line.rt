@@ -2,7 +2,7 @@ ghost use Rattle.std.specs.Prelude.{◌≡◌, [], IfErr, IfOk, OnOk, map, true,
 ghost use Rattle.clap.specs.declared.builder.command.Command.TheViews.{out-Command as fields_of};
 ghost use Rattle.clap.specs.Words.{app_of, fault_of, new_app, subcommand_of, subcommand_rows_of, with_rule};
 ghost use Rattle.lagline.specs.declared.line.LineFault.TheVariants.{NoMemory};
-ghost use Rattle.lagline.specs.Lines.{IsCause, IsJob, KeepsKind, has_each_word, program, program_alone, required_word};
+ghost use Rattle.lagline.specs.Lines.{IsCause, IsJob, KeepsKind, has_each_argument, program, program_alone, required_argument};
 
 use crate::help;
 use clap::error::ErrorKind;
@@ -19,7 +19,7 @@ pub enum Job<'a> {
     Respond { mac: &'a str, hex: &'a str },
     /// `lagtool check FILE`: says for each line of a file what frame it is; `-` is standard input.
     Check { file: &'a str },
-    /// `lagtool replay SCRIPT`: runs a script of two systems; `-` is standard input.
+    /// `lagtool replay REPLAY_SCRIPT`: runs a script of two systems; `-` is standard input.
     Replay { script: &'a str },
     /// `lagtool vectors`: tests the program on known inputs.
     Vectors,
@@ -64,13 +64,13 @@ fn subcommand<'a>(alloc: Global, name: &'a str, about: &'a str, after: &'a str) 
 }
 
 /// The command with one more argument, which is required.
-fn with_word<'a>(
+fn with_argument<'a>(
     command: Command<'a>,
     alloc: Global,
     id: &'a str,
     help: &'a str,
 ) -> Result<Command<'a>, AllocError>
-    ensures app { IfOk result (λ c. app_of c ≡ with_rule (app_of command.entry) (required_word id.entry.now)) }
+    ensures app { IfOk result (λ c. app_of c ≡ with_rule (app_of command.entry) (required_argument id.entry.now)) }
     ensures local { IfOk result (λ c. (fields_of command.entry).has_globals ≡ false → (fields_of c).has_globals ≡ false) }
 {
     command.arg(Arg::new(alloc, id).required(true).help(help))
@@ -94,14 +94,14 @@ fn program<'a>(alloc: Global) -> Result<Command<'a>, AllocError>
     ensures { IfOk result (λ c. app_of c ≡ program) }
 {
     let decode = subcommand(alloc, "decode", help::DECODE, help::DECODE_EXAMPLE);
-    let decode = with_word(decode, alloc, "HEX", help::PAYLOAD)?;
+    let decode = with_argument(decode, alloc, "HEX", help::DECODE_HEX)?;
     let respond = subcommand(alloc, "respond", help::RESPOND, help::RESPOND_EXAMPLE);
-    let respond = with_word(respond, alloc, "MAC", help::SOURCE)?;
-    let respond = with_word(respond, alloc, "HEX", help::FRAME)?;
+    let respond = with_argument(respond, alloc, "MAC", help::RESPOND_MAC)?;
+    let respond = with_argument(respond, alloc, "HEX", help::RESPOND_HEX)?;
     let check = subcommand(alloc, "check", help::CHECK, help::CHECK_EXAMPLE);
-    let check = with_word(check, alloc, "FILE", help::FRAMES)?;
+    let check = with_argument(check, alloc, "FILE", help::CHECK_FILE)?;
     let replay = subcommand(alloc, "replay", help::REPLAY, help::REPLAY_EXAMPLE);
-    let replay = with_word(replay, alloc, "SCRIPT", help::SCRIPT)?;
+    let replay = with_argument(replay, alloc, "SCRIPT", help::REPLAY_SCRIPT)?;
     let vectors = subcommand(alloc, "vectors", help::VECTORS, help::VECTORS_LINES);
     program_alone(alloc)?
         .subcommand(decode)?
@@ -113,7 +113,7 @@ fn program<'a>(alloc: Global) -> Result<Command<'a>, AllocError>
 
 /// The job of a subcommand with the values of its arguments.
 fn job_in<'a>(matches: &ArgMatches<'a>) -> Job<'a>
-    requires { has_each_word (subcommand_rows_of matches.now) ≡ true }
+    requires { has_each_argument (subcommand_rows_of matches.now) ≡ true }
     ensures { IsJob (subcommand_rows_of matches.now) result }
 {
     let (name, values) = matches.subcommand().unwrap();

@@ -4,7 +4,7 @@ use Rattle.std.proofs.lemmas.Bool.{cases_lt}
 use Rattle.std.proofs.lemmas.List.{get_or_append_left, get_or_push}
 use Rattle.lagmodel.specs.View.{ModelCall, Receive}
 use Rattle.lagmodel.specs.Move.{Act, Sends, Sends_frame, Took, Move, act}
-use Rattle.lagmodel.specs.World.{Side, One, Two, Message, Control, Data, end_at, World, WorldSetup, first_world, sent_after, world_after, world_after_all, CallHappens, Event, with_line, handed_up, DeliversFirst, RepeatsFirst, LosesFirst, SensesCable, Happens, Run}
+use Rattle.lagmodel.specs.World.{Side, One, Two, Message, Control, Data, end_at, World, WorldSetup, first_world, sent_after, world_after, world_after_all, CallHappens, Event, with_messages, handed_up, DeliversFirst, RepeatsFirst, LosesFirst, SensesCable, Happens, Run}
 use Rattle.lagmodel.specs.Law.{CountsFromZero}
 use Rattle.lagmodel.proofs.Lanes.{two_cases}
 
@@ -39,23 +39,23 @@ counted_all x s stamp (m ∷ ms) w h = counted_all x s stamp ms (world_after x s
 counted_call : (x : WorldSetup) (s : Side) (call : ModelCall) (stamp : ℕ) (old mid new : World) → CountsFromZero mid → CallHappens x s call stamp old mid new → CountsFromZero new
 counted_call x s call stamp old mid new h z = subst CountsFromZero (sym z.2.2) (counted_all x s stamp z.0 mid h)
 
-counted_comes : (x : WorldSetup) (c : ℕ) (to : Side) (port : Option ℕ) (line : List Message) (old new : World) → CountsFromZero old → DeliversFirst x c to port line old new → CountsFromZero new
+counted_comes : (x : WorldSetup) (c : ℕ) (to : Side) (port : Option ℕ) (on_cable : List Message) (old new : World) → CountsFromZero old → DeliversFirst x c to port on_cable old new → CountsFromZero new
 counted_comes x c to port [] old new h z = subst CountsFromZero (sym z) h
 counted_comes x c to None (m ∷ ms) old new h z = absurd z
-counted_comes x c to (Some p) (Control pdu stamp ∷ ms) old new h z = counted_call x to (Receive p (Some pdu)) stamp old (with_line old c to ms) new h z
+counted_comes x c to (Some p) (Control pdu stamp ∷ ms) old new h z = counted_call x to (Receive p (Some pdu)) stamp old (with_messages old c to ms) new h z
 counted_comes x c to (Some p) (Data origin g k n ∷ ms) old new h z = go z.0 z.1
   where
-    go : (up : Bool) → CallHappens x to (Receive p None) 0 old (handed_up up (Data origin g k n) (with_line old c to ms)) new → CountsFromZero new
-    go true y = counted_call x to (Receive p None) 0 old (handed_up true (Data origin g k n) (with_line old c to ms)) new h y
-    go false y = counted_call x to (Receive p None) 0 old (with_line old c to ms) new h y
+    go : (up : Bool) → CallHappens x to (Receive p None) 0 old (handed_up up (Data origin g k n) (with_messages old c to ms)) new → CountsFromZero new
+    go true y = counted_call x to (Receive p None) 0 old (handed_up true (Data origin g k n) (with_messages old c to ms)) new h y
+    go false y = counted_call x to (Receive p None) 0 old (with_messages old c to ms) new h y
 
-counted_again : (x : WorldSetup) (c : ℕ) (to : Side) (port : Option ℕ) (line : List Message) (old new : World) → CountsFromZero old → RepeatsFirst x c to port line old new → CountsFromZero new
+counted_again : (x : WorldSetup) (c : ℕ) (to : Side) (port : Option ℕ) (on_cable : List Message) (old new : World) → CountsFromZero old → RepeatsFirst x c to port on_cable old new → CountsFromZero new
 counted_again x c to port [] old new h z = subst CountsFromZero (sym z) h
 counted_again x c to port (Data origin g k n ∷ ms) old new h z = subst CountsFromZero (sym z) h
 counted_again x c to None (Control pdu stamp ∷ ms) old new h z = absurd z
 counted_again x c to (Some p) (Control pdu stamp ∷ ms) old new h z = counted_call x to (Receive p (Some pdu)) stamp old old new h z
 
-counted_lost : (c : ℕ) (to : Side) (line : List Message) (old new : World) → CountsFromZero old → LosesFirst c to line old new → CountsFromZero new
+counted_lost : (c : ℕ) (to : Side) (on_cable : List Message) (old new : World) → CountsFromZero old → LosesFirst c to on_cable old new → CountsFromZero new
 counted_lost c to [] old new h z = subst CountsFromZero (sym z) h
 counted_lost c to (m ∷ ms) old new h z = subst CountsFromZero (sym z) h
 
@@ -66,9 +66,9 @@ counted_senses x s (Some p) up old new h z = counted_call x s (ModelCall.Set_lin
 counted_happens : (x : WorldSetup) (e : Event) (old new : World) → CountsFromZero old → Happens x e old new → CountsFromZero new
 counted_happens x (Event.Tick s n) old new h z = counted_call x s ModelCall.Tick 0 old old new h z
 counted_happens x (Event.Emit s p) old new h z = counted_call x s ModelCall.Transmit 0 old old new h z
-counted_happens x (Event.Deliver c to) old new h z = counted_comes x c to (end_at x.cables to c) (old.line to c) old new h z
-counted_happens x (Event.Lose c to) old new h z = counted_lost c to (old.line to c) old new h z
-counted_happens x (Event.Repeat c to) old new h z = counted_again x c to (end_at x.cables to c) (old.line to c) old new h z
+counted_happens x (Event.Deliver c to) old new h z = counted_comes x c to (end_at x.cables to c) (old.on_cable to c) old new h z
+counted_happens x (Event.Lose c to) old new h z = counted_lost c to (old.on_cable to c) old new h z
+counted_happens x (Event.Repeat c to) old new h z = counted_again x c to (end_at x.cables to c) (old.on_cable to c) old new h z
 counted_happens x (Event.Cut c) old new h z = subst CountsFromZero (sym z) h
 counted_happens x (Event.Join c) old new h z = subst CountsFromZero (sym z) h
 counted_happens x (Event.Sense c s) old new h z = counted_senses x s (end_at x.cables s c) (old.whole c) old new h z

@@ -5,7 +5,7 @@ use Rattle.std.proofs.Common.{◌≡◌, ℕ, zero, suc, Bool, true, false, cond
 use Rattle.std.specs.Prelude.{option_to_list, slice_get}
 use Rattle.std.proofs.lemmas.Option.{none-some}
 use Rattle.lagmodel.specs.View.{View, ModelCall}
-use Rattle.lagmodel.specs.Move.{Act, Move, view_after, act, AllAllowed, view_after_all, acts, FreeMoves}
+use Rattle.lagmodel.specs.Move.{Act, Move, view_after, act, AllAllowed, view_after_all, acts, LawfulMoves}
 use Rattle.lagmodel.specs.World.{Ends, port_on, end_at, Message, Event, Run, put_on_cable, is_port, at_cable, Side, One, Two, peer, at_side, World, WorldSetup, world_after, AllMoves, world_after_all, CountsChanges, CallHappens}
 use Rattle.lagmodel.specs.Bridge.{world_after_call}
 use Rattle.lagmodel.proofs.Base.{mapped_some, cond_true}
@@ -28,7 +28,7 @@ twice f Two x y Two = refl
 none_called : (x : WorldSetup) (s : Side) (stamp : ℕ) (kept : Bool) (w : World) → w ≡ world_after_call x s stamp kept None (w.view s) w
 none_called x s stamp kept w = λ i. record w {
   view = λ t. itself w.view s t i;
-  line = λ t. itself w.line (peer s) t i;
+  on_cable = λ t. itself w.on_cable (peer s) t i;
   sent = λ t. itself w.sent s t i;
   taken = λ t. itself w.taken s t i;
 }
@@ -41,7 +41,7 @@ self f Two x = refl
 only_view : (x : WorldSetup) (s : Side) (stamp : ℕ) (kept : Bool) (v : View) (w : World) → world_after_call x s stamp kept None v w ≡ record w { view = at_side w.view s v }
 only_view x s stamp kept v w = λ i. record w {
   view = at_side w.view s v;
-  line = λ t. sym (itself w.line (peer s) t) i;
+  on_cable = λ t. sym (itself w.on_cable (peer s) t) i;
   sent = λ t. sym (itself w.sent s t) i;
   taken = λ t. sym (itself w.taken s t) i;
 }
@@ -98,7 +98,7 @@ moves_of_world x s call stamp kept (m ∷ ms) w h =
     (h.0, moves_of_world x s call stamp kept ms (world_after x s stamp (m, kept) w) (subst (λ v. AllAllowed (x.setup s) call v ms) (sym (self w.view s (view_after (x.setup s) m (w.view s)))) h.1))
 
 pub calls_from : (x : WorldSetup) (s : Side) (call : ModelCall) (stamp : ℕ) (old mid new : World) (v : View) (o : Option Act) (kept : Bool) (count : Side → ℕ → ℕ)
-    → FreeMoves (x.setup s) call (mid.view s) (option_to_list o) v → CountsChanges old (world_after_call x s stamp kept o v mid) count → new ≡ record (world_after_call x s stamp kept o v mid) { count = count } → CallHappens x s call stamp old mid new
+    → LawfulMoves (x.setup s) call (mid.view s) (option_to_list o) v → CountsChanges old (world_after_call x s stamp kept o v mid) count → new ≡ record (world_after_call x s stamp kept o v mid) { count = count } → CallHappens x s call stamp old mid new
 calls_from x s call stamp old mid new v o kept count h c e =
     let same : world_after_all x s stamp (map (λ (m : Move). (m, kept)) h.0) mid ≡ world_after_call x s stamp kept o v mid =
     called_moves x s stamp kept h.0 mid o h.2 ∙ ap (λ (v : View). world_after_call x s stamp kept o v mid) (sym h.3) in (
@@ -143,13 +143,13 @@ put_nowhere ends whole kept p m lines none d = elim (put_cases ends whole kept p
 
 -- worlds that are alike at each place are the same
 pub same_world : (v w : World)
-    → ((s : Side) → v.view s ≡ w.view s) → ((c : ℕ) → v.whole c ≡ w.whole c) → ((s : Side) (c : ℕ) → v.line s c ≡ w.line s c) → ((s : Side) (p : ℕ) → v.count s p ≡ w.count s p)
+    → ((s : Side) → v.view s ≡ w.view s) → ((c : ℕ) → v.whole c ≡ w.whole c) → ((s : Side) (c : ℕ) → v.on_cable s c ≡ w.on_cable s c) → ((s : Side) (p : ℕ) → v.count s p ≡ w.count s p)
     → ((s : Side) (p : ℕ) → v.taken s p ≡ w.taken s p) → ((s : Side) (g k : ℕ) → v.sent s g k ≡ w.sent s g k) → ((s : Side) (g k : ℕ) → v.collected s g k ≡ w.collected s g k)
     → ((s : Side) (g k : ℕ) → v.forced s g k ≡ w.forced s g k) → v ≡ w
 same_world v w a b c d e f g h = λ i. record {
   view = λ s. a s i;
   whole = λ n. b n i;
-  line = λ s n. c s n i;
+  on_cable = λ s n. c s n i;
   count = λ s p. d s p i;
   taken = λ s p. e s p i;
   sent = λ s j k. f s j k i;

@@ -4,9 +4,9 @@ use Rattle.std.specs.Prelude.{option_map}
 use Rattle.std.proofs.lemmas.Bool.{eqb-false, true≢false, false≢true, cases_Bool}
 use Rattle.std.proofs.lemmas.Option.{none-some, same_Some}
 use Rattle.lagtypes.specs.declared.party.Party.{Party}
-use Rattle.lagmodel.specs.View.{PortFacts, Flows, View, SystemSetup, first_port, first_view, LacpMessage, Lacp, Marker, Response, ModelCall, at_port, is_restart, replies_frame}
-use Rattle.lagmodel.specs.Move.{Took, PortMove, Stop, Leave, Desynchronise, Reconfigure, Default, Take, Join, Distribute, Announce, Respond, FlowMove, Send, Mark, Become, flow_act, Move, Port, Flow, Restart, PortAllowed, port_after, port_act, Allowed, view_after, act, act_of_port}
-use Rattle.lagmodel.specs.World.{Side, Message, Control, Data, put_on_cable, at_cable, line_after, taken_after, TakenLacpdu, party_at}
+use Rattle.lagmodel.specs.View.{PortFacts, DistributorFacts, View, SystemSetup, first_port, first_view, LacpMessage, Lacp, Marker, Response, ModelCall, at_port, is_restart, replies_frame}
+use Rattle.lagmodel.specs.Move.{Took, PortMove, Stop, Leave, Desynchronise, Reconfigure, Default, Take, Join, Distribute, Announce, Respond, DistributorMove, Send, Mark, Become, distributor_act, Move, Port, Flow, Restart, PortAllowed, port_after, port_act, MoveAllowed, view_after, act, act_of_port}
+use Rattle.lagmodel.specs.World.{Side, Message, Control, Data, put_on_cable, at_cable, on_cable_after, taken_after, TakenLacpdu, party_at}
 use Rattle.lagmodel.proofs.Base.{cond_true, cond_false, value_of, mapped_some}
 use Rattle.lagmodel.proofs.Ports.{changed_port}
 use Rattle.lagmodel.proofs.Lines.{Every, every_push, every_weaker, put_cases}
@@ -67,14 +67,14 @@ heard_port u call ports p stamp taken Distribute a h x i = heard_changed ports t
 heard_port u call ports p stamp taken (Announce synchronised) a h x i = heard_changed ports taken taken p (port_after (Announce synchronised)) a h (i p a h) (λ q e. refl) i
 heard_port u call ports p stamp taken (Respond mac q n) a h x i = heard_changed ports taken taken p (port_after (Respond mac q n)) a h (i p a h) (λ q e. refl) i
 
-heard_flow : (ports : ℕ → Option PortFacts) (mac : List ℕ) (stamp : ℕ) (taken : ℕ → Option TakenLacpdu) (f : Flows) (m : FlowMove) → AllHeard ports taken → AllHeard ports (taken_after stamp (flow_act mac m f) taken)
+heard_flow : (ports : ℕ → Option PortFacts) (mac : List ℕ) (stamp : ℕ) (taken : ℕ → Option TakenLacpdu) (f : DistributorFacts) (m : DistributorMove) → AllHeard ports taken → AllHeard ports (taken_after stamp (distributor_act mac m f) taken)
 heard_flow ports mac stamp taken f (Send g k p) i = i
 heard_flow ports mac stamp taken f (Mark p) i = i
 heard_flow ports mac stamp taken f (Become g k m) i = i
 
 -- a move of this system
 pub heard_own : (u : SystemSetup) (call : ModelCall) (stamp : ℕ) (v : View) (m : Move) (taken : ℕ → Option TakenLacpdu)
-    → Allowed u call v m → is_restart call ≡ false → AllHeard v.port taken → AllHeard ((view_after u m v).port) (taken_after stamp (act u m v) taken)
+    → MoveAllowed u call v m → is_restart call ≡ false → AllHeard v.port taken → AllHeard ((view_after u m v).port) (taken_after stamp (act u m v) taken)
 heard_own u call stamp v (Port p m) taken x r i =
     let s = value_of (v.port p) (PortAllowed u call v.port p m) x in
     subst (λ o. AllHeard (at_port v.port p (port_after m)) (taken_after stamp (act_of_port p m o) taken)) (sym s.1)
@@ -101,7 +101,7 @@ stamps_put ends theirs party count out taken whole kept q m fresh i = record {
 stamps_port : (s : Side) (ends theirs : ℕ → Option ℕ) (party : ℕ → Option Party) (count : ℕ → ℕ) (out : ℕ → List Message) (taken : ℕ → Option TakenLacpdu) (whole : ℕ → Bool) (sent : ℕ → ℕ → List ℕ) (kept : Bool)
     (u : SystemSetup) (call : ModelCall) (v : View) (p : ℕ) (m : PortMove) (o : Option PortFacts) → v.port p ≡ o → IsSomeAnd o (PortAllowed u call v.port p m)
     → (replies_frame call ≡ true → (q : ℕ) → party_at v q ≡ party q)
-    → Stamps ends theirs party count out taken → Stamps ends theirs party count (line_after s ends whole count sent kept (act_of_port p m o) out) taken
+    → Stamps ends theirs party count out taken → Stamps ends theirs party count (on_cable_after s ends whole count sent kept (act_of_port p m o) out) taken
 stamps_port s ends theirs party count out taken whole sent kept u call v p m None h x r i = i
 stamps_port s ends theirs party count out taken whole sent kept u call v p (Announce synchronised) (Some a) h x r i =
     stamps_put ends theirs party count out taken whole kept p (Control (Lacp (record { actor = a.party; partner = a.partner; synchronised = synchronised })) (count p))
@@ -117,17 +117,17 @@ stamps_port s ends theirs party count out taken whole sent kept u call v p (Join
 stamps_port s ends theirs party count out taken whole sent kept u call v p Distribute (Some a) h x r i = i
 
 stamps_flow : (s : Side) (ends theirs : ℕ → Option ℕ) (party : ℕ → Option Party) (count : ℕ → ℕ) (out : ℕ → List Message) (taken : ℕ → Option TakenLacpdu) (whole : ℕ → Bool) (sent : ℕ → ℕ → List ℕ) (kept : Bool)
-    (mac : List ℕ) (f : Flows) (m : FlowMove)
-    → Stamps ends theirs party count out taken → Stamps ends theirs party count (line_after s ends whole count sent kept (flow_act mac m f) out) taken
+    (mac : List ℕ) (f : DistributorFacts) (m : DistributorMove)
+    → Stamps ends theirs party count out taken → Stamps ends theirs party count (on_cable_after s ends whole count sent kept (distributor_act mac m f) out) taken
 stamps_flow s ends theirs party count out taken whole sent kept mac f (Send g k p) i = stamps_put ends theirs party count out taken whole kept p (Data s g k (length (sent g k))) tt i
 stamps_flow s ends theirs party count out taken whole sent kept mac f (Mark p) i = stamps_put ends theirs party count out taken whole kept p (Control (Marker mac p f.next) 0) tt i
 stamps_flow s ends theirs party count out taken whole sent kept mac f (Become g k m) i = i
 
 -- a move of this system, which has had these parties since the event began, unless its call sends nothing
 pub stamps_own : (s : Side) (ends theirs : ℕ → Option ℕ) (party : ℕ → Option Party) (count : ℕ → ℕ) (out : ℕ → List Message) (taken : ℕ → Option TakenLacpdu) (whole : ℕ → Bool) (sent : ℕ → ℕ → List ℕ) (kept : Bool)
-    (u : SystemSetup) (call : ModelCall) (v : View) (m : Move) → Allowed u call v m
+    (u : SystemSetup) (call : ModelCall) (v : View) (m : Move) → MoveAllowed u call v m
     → (replies_frame call ≡ true → (q : ℕ) → party_at v q ≡ party q)
-    → Stamps ends theirs party count out taken → Stamps ends theirs party count (line_after s ends whole count sent kept (act u m v) out) taken
+    → Stamps ends theirs party count out taken → Stamps ends theirs party count (on_cable_after s ends whole count sent kept (act u m v) out) taken
 stamps_own s ends theirs party count out taken whole sent kept u call v (Port p m) x r i = stamps_port s ends theirs party count out taken whole sent kept u call v p m (v.port p) refl x r i
 stamps_own s ends theirs party count out taken whole sent kept u call v (Flow m) x r i = stamps_flow s ends theirs party count out taken whole sent kept u.system.mac v.flows m i
 stamps_own s ends theirs party count out taken whole sent kept u call v Restart x r i = i
@@ -150,7 +150,7 @@ stamps_taken ends theirs party count out taken p pdu stamp came i = record {
 
 -- a move of the peer
 pub stamps_peer : (ends theirs : ℕ → Option ℕ) (party : ℕ → Option Party) (count : ℕ → ℕ) (out : ℕ → List Message) (taken : ℕ → Option TakenLacpdu) (whole : ℕ → Bool) (theirs_forced : ℕ → ℕ → Bool) (u : SystemSetup) (call : ModelCall) (stamp : ℕ) (v : View) (m : Move)
-    → Allowed u call v m → Within call stamp theirs out whole theirs_forced
+    → MoveAllowed u call v m → Within call stamp theirs out whole theirs_forced
     → Stamps ends theirs party count out taken → Stamps ends theirs party count out (taken_after stamp (act u m v) taken)
 stamps_peer ends theirs party count out taken whole theirs_forced u call stamp v (Port p m) x w i = go m (v.port p) x
   where
@@ -168,7 +168,7 @@ stamps_peer ends theirs party count out taken whole theirs_forced u call stamp v
     go Distribute (Some a) x = i
 stamps_peer ends theirs party count out taken whole theirs_forced u call stamp v (Flow m) x w i = go m
   where
-    go : (m : FlowMove) → Stamps ends theirs party count out (taken_after stamp (flow_act u.system.mac m v.flows) taken)
+    go : (m : DistributorMove) → Stamps ends theirs party count out (taken_after stamp (distributor_act u.system.mac m v.flows) taken)
     go (Send g k p) = i
     go (Mark p) = i
     go (Become g k m) = i
@@ -187,7 +187,7 @@ party_kept u call ports p Distribute a x r = refl
 party_kept u call ports p (Announce synchronised) a x r = refl
 party_kept u call ports p (Respond mac q n) a x r = refl
 
-pub parties_kept : (u : SystemSetup) (call : ModelCall) (v : View) (m : Move) → Allowed u call v m → is_restart call ≡ false → replies_frame call ≡ true → (q : ℕ) → party_at (view_after u m v) q ≡ party_at v q
+pub parties_kept : (u : SystemSetup) (call : ModelCall) (v : View) (m : Move) → MoveAllowed u call v m → is_restart call ≡ false → replies_frame call ≡ true → (q : ℕ) → party_at (view_after u m v) q ≡ party_at v q
 parties_kept u call v (Port p m) x r f q =
     let s = value_of (v.port p) (PortAllowed u call v.port p m) x in
     elim (cases_Bool (eqb q p)) [

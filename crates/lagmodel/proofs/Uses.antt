@@ -1,12 +1,12 @@
--- What the code of one system cites, to show that it keeps to the free moves. Moves of the system: moves_joined,
+-- What the code of one system cites, to show that it keeps to the lawful moves. Moves of the system: moves_joined,
 -- moves_port, moves_flows, moves_at (of a port in a list). Moves of its conversations: flows_become (many at once),
 -- flows_weaker. Ports that are a list: find_at, ports_set, numbered_set.
 use Rattle.std.proofs.Common.{◌≡◌, ℕ, zero, suc, true, false, cond, eqb, Option, Some, None, List, [], ◌∷◌, ◌++◌, map, set, sym, refl, ap, ◌∙◌, subst, inl, inr, append_assoc, eqb-true, eq-eqb}
 use Rattle.std.specs.Prelude.{option_map, option_to_list, slice_get, IsSomeAnd}
 use Rattle.std.proofs.lemmas.Bool.{cases_Bool}
 use Rattle.std.proofs.lemmas.Option.{none-some, same_Some}
-use Rattle.lagmodel.specs.View.{PortFacts, Conversation, Flows, View, SystemSetup, ModelCall, at_port, at_conversation}
-use Rattle.lagmodel.specs.Move.{FlowAllowed, Act, PortMove, PortAllowed, port_after, port_act, ConversationMoveAllowed, conversation_after, FlowMove, flows_after, flow_act, AllFlowAllowed, flows_after_all, flow_acts, FlowMoves, Move, Port, Flow, Distributes, view_after, act, act_of_port, AllAllowed, view_after_all, acts, FreeMoves}
+use Rattle.lagmodel.specs.View.{PortFacts, Conversation, DistributorFacts, View, SystemSetup, ModelCall, at_port, at_conversation}
+use Rattle.lagmodel.specs.Move.{DistributorMoveAllowed, Act, PortMove, PortAllowed, port_after, port_act, ConversationMoveAllowed, conversation_after, DistributorMove, distributor_after, distributor_act, DistributorMovesAllowed, distributor_after_all, distributor_acts, DistributorMoves, Move, Port, Flow, Distributes, view_after, act, act_of_port, AllAllowed, view_after_all, acts, LawfulMoves}
 use Rattle.lagmodel.specs.Bridge.{BecomeByMoves, find_number, AreNumbered, ports_of}
 use Rattle.lagmodel.proofs.Base.{cond_true, cond_false}
 use Rattle.lagmodel.proofs.Lanes.{conversation_cases}
@@ -26,7 +26,7 @@ acts_joined u (m ∷ xs) ys v =
     ap (λ (l : List Act). option_to_list (act u m v) ++ l) (acts_joined u xs ys (view_after u m v))
     ∙ sym (append_assoc (option_to_list (act u m v)) (acts u xs (view_after u m v)) (acts u ys (view_after_all u xs (view_after u m v))))
 
-pub moves_joined : (u : SystemSetup) (call : ModelCall) (old mid new : View) (seen more : List Act) → FreeMoves u call old seen mid → FreeMoves u call mid more new → FreeMoves u call old (seen ++ more) new
+pub moves_joined : (u : SystemSetup) (call : ModelCall) (old mid new : View) (seen more : List Act) → LawfulMoves u call old seen mid → LawfulMoves u call mid more new → LawfulMoves u call old (seen ++ more) new
 moves_joined u call old mid new seen more a b = (
   a.0 ++ b.0,
   all_joined u call a.0 b.0 old a.1 (subst (λ v. AllAllowed u call v b.0) a.3 b.1),
@@ -38,7 +38,7 @@ moves_joined u call old mid new seen more a b = (
 
 -- one move of a port, by its view before it
 pub moves_port : (u : SystemSetup) (call : ModelCall) (v : View) (p : ℕ) (m : PortMove) (a : PortFacts) → v.port p ≡ Some a → PortAllowed u call v.port p m a
-    → FreeMoves u call v (option_to_list (port_act p m a)) (record v { port = at_port v.port p (port_after m) })
+    → LawfulMoves u call v (option_to_list (port_act p m a)) (record v { port = at_port v.port p (port_after m) })
 moves_port u call v p m a h x = (
   Port p m ∷ [],
   (there (v.port p) h, tt),
@@ -54,28 +54,28 @@ moves_port u call v p m a h x = (
     nothing_more (Some y) = refl
 
 -- moves of the conversations are moves of the system
-pub moves_flows : (u : SystemSetup) (call : ModelCall) (v : View) (seen : List Act) (f : Flows) → FlowMoves u.system.mac call (Distributes v.port) v.flows seen f → FreeMoves u call v seen (record v { flows = f })
+pub moves_flows : (u : SystemSetup) (call : ModelCall) (v : View) (seen : List Act) (f : DistributorFacts) → DistributorMoves u.system.mac call (Distributes v.port) v.flows seen f → LawfulMoves u call v seen (record v { flows = f })
 moves_flows u call v seen f x = (
-  map (λ (m : FlowMove). Flow m) x.0,
+  map (λ (m : DistributorMove). Flow m) x.0,
   allowed x.0 v x.1,
   same_acts x.0 v ∙ x.2,
-  ap (λ (f : Flows). record v { flows = f }) x.3 ∙ sym (same_view x.0 v),
+  ap (λ (f : DistributorFacts). record v { flows = f }) x.3 ∙ sym (same_view x.0 v),
 )
   where
-    allowed : (ms : List FlowMove) (v : View) → AllFlowAllowed u.system.mac call (Distributes v.port) v.flows ms → AllAllowed u call v (map (λ (m : FlowMove). Flow m) ms)
+    allowed : (ms : List DistributorMove) (v : View) → DistributorMovesAllowed u.system.mac call (Distributes v.port) v.flows ms → AllAllowed u call v (map (λ (m : DistributorMove). Flow m) ms)
     allowed [] v h = tt
-    allowed (m ∷ ms) v h = (h.0, allowed ms (record v { flows = flows_after m v.flows }) h.1)
+    allowed (m ∷ ms) v h = (h.0, allowed ms (record v { flows = distributor_after m v.flows }) h.1)
 
-    same_acts : (ms : List FlowMove) (v : View) → acts u (map (λ (m : FlowMove). Flow m) ms) v ≡ flow_acts u.system.mac ms v.flows
+    same_acts : (ms : List DistributorMove) (v : View) → acts u (map (λ (m : DistributorMove). Flow m) ms) v ≡ distributor_acts u.system.mac ms v.flows
     same_acts [] v = refl
-    same_acts (m ∷ ms) v = ap (λ (l : List Act). option_to_list (flow_act u.system.mac m v.flows) ++ l) (same_acts ms (record v { flows = flows_after m v.flows }))
+    same_acts (m ∷ ms) v = ap (λ (l : List Act). option_to_list (distributor_act u.system.mac m v.flows) ++ l) (same_acts ms (record v { flows = distributor_after m v.flows }))
 
-    same_view : (ms : List FlowMove) (v : View) → view_after_all u (map (λ (m : FlowMove). Flow m) ms) v ≡ record v { flows = flows_after_all ms v.flows }
+    same_view : (ms : List DistributorMove) (v : View) → view_after_all u (map (λ (m : DistributorMove). Flow m) ms) v ≡ record v { flows = distributor_after_all ms v.flows }
     same_view [] v = refl
-    same_view (m ∷ ms) v = same_view ms (record v { flows = flows_after m v.flows })
+    same_view (m ∷ ms) v = same_view ms (record v { flows = distributor_after m v.flows })
 
 -- many conversations changed at once
-pub flows_become : (mac : List ℕ) (call : ModelCall) (D : ℕ → ℕ → Type 0) (keys : List (ℕ × ℕ)) (f : Flows) (new : ℕ → ℕ → Conversation) → BecomeByMoves keys mac call f.state new → FlowMoves mac call D f [] (record f { state = new })
+pub flows_become : (mac : List ℕ) (call : ModelCall) (D : ℕ → ℕ → Type 0) (keys : List (ℕ × ℕ)) (f : DistributorFacts) (new : ℕ → ℕ → Conversation) → BecomeByMoves keys mac call f.state new → DistributorMoves mac call D f [] (record f { state = new })
 flows_become mac call D [] f new h = ([], tt, refl, λ i. record { state = λ g k. unchanged g k i; next = f.next })
   where
     unchanged : (g k : ℕ) → new g k ≡ f.state g k
@@ -86,7 +86,7 @@ flows_become mac call D (y ∷ keys) f new h = elim (h y.0 y.1) [
     | inr x ↦ elim x.0 [ inl here ↦ inl (subst (λ j. new g j ≡ f.state g j) (sym here.1) (subst (λ j. new j y.1 ≡ f.state j y.1) (sym here.0) e)) | inr there ↦ inr (there, x.1) ]
   ])
   | inr x ↦ (let m = x.1.0 in
-      let g : Flows = record f { state = at_conversation f.state y.0 y.1 (conversation_after m) } in
+      let g : DistributorFacts = record f { state = at_conversation f.state y.0 y.1 (conversation_after m) } in
       let rest = flows_become mac call D keys g new (λ j k. elim (conversation_cases f.state y.0 y.1 (conversation_after m) j k) [
         | inl z ↦ inl (subst (λ l. new j l ≡ conversation_after m) (sym z.1) (subst (λ l. new l y.1 ≡ conversation_after m) (sym z.0) x.1.2) ∙ sym z.2)
         | inr z ↦ elim (h j k) [
@@ -97,21 +97,21 @@ flows_become mac call D (y ∷ keys) f new h = elim (h y.0 y.1) [
           ]
         ]
       ]) in
-      (FlowMove.Become y.0 y.1 m ∷ rest.0, (x.1.1, rest.1), rest.2, rest.3))
+      (DistributorMove.Become y.0 y.1 m ∷ rest.0, (x.1.1, rest.1), rest.2, rest.3))
 ]
 
 -- more ports may distribute
-pub flows_weaker : (mac : List ℕ) (call : ModelCall) (D E : ℕ → ℕ → Type 0) (old new : Flows) (seen : List Act) → ((g p : ℕ) → D g p → E g p) → FlowMoves mac call D old seen new → FlowMoves mac call E old seen new
+pub flows_weaker : (mac : List ℕ) (call : ModelCall) (D E : ℕ → ℕ → Type 0) (old new : DistributorFacts) (seen : List Act) → ((g p : ℕ) → D g p → E g p) → DistributorMoves mac call D old seen new → DistributorMoves mac call E old seen new
 flows_weaker mac call D E old new seen h x = (x.0, all x.0 old x.1, x.2, x.3)
   where
-    one : (m : FlowMove) (f : Flows) → FlowAllowed mac call D f m → FlowAllowed mac call E f m
-    one (FlowMove.Send g k p) f y = (y.0, elim y.1 [ inl z ↦ inl (z.0, h g p z.1) | inr z ↦ inr z ])
-    one (FlowMove.Mark p) f y = y
-    one (FlowMove.Become g k m) f y = y
+    one : (m : DistributorMove) (f : DistributorFacts) → DistributorMoveAllowed mac call D f m → DistributorMoveAllowed mac call E f m
+    one (DistributorMove.Send g k p) f y = (y.0, elim y.1 [ inl z ↦ inl (z.0, h g p z.1) | inr z ↦ inr z ])
+    one (DistributorMove.Mark p) f y = y
+    one (DistributorMove.Become g k m) f y = y
 
-    all : (ms : List FlowMove) (f : Flows) → AllFlowAllowed mac call D f ms → AllFlowAllowed mac call E f ms
+    all : (ms : List DistributorMove) (f : DistributorFacts) → DistributorMovesAllowed mac call D f ms → DistributorMovesAllowed mac call E f ms
     all [] f y = tt
-    all (m ∷ ms) f y = (one m f y.0, all ms (flows_after m f) y.1)
+    all (m ∷ ms) f y = (one m f y.0, all ms (distributor_after m f) y.1)
 
 -- a port of a list is written
 find_set_other : {X : Type 0} (number : X → ℕ) (xs : List X) (i : ℕ) (x y : X) (q : ℕ) → slice_get xs i ≡ Some x → number y ≡ number x → eqb q (number x) ≡ false → find_number number (set xs i y) q ≡ find_number number xs q
@@ -156,9 +156,9 @@ ports_set number view xs i x y f a h e v q = elim (cases_Bool (eqb q (number x))
 ]
 
 -- one move of a port of a list
-pub moves_at : {X : Type 0} (number : X → ℕ) (view : X → PortFacts) (u : SystemSetup) (call : ModelCall) (f : Flows) (xs : List X) (i : ℕ) (x y : X) (m : PortMove)
+pub moves_at : {X : Type 0} (number : X → ℕ) (view : X → PortFacts) (u : SystemSetup) (call : ModelCall) (f : DistributorFacts) (xs : List X) (i : ℕ) (x y : X) (m : PortMove)
     → AreNumbered number xs → slice_get xs i ≡ Some x → number y ≡ number x → view y ≡ port_after m (view x) → PortAllowed u call (ports_of number view xs) (number x) m (view x)
-    → FreeMoves u call (record { port = ports_of number view xs; flows = f }) (option_to_list (port_act (number x) m (view x))) (record { port = ports_of number view (set xs i y); flows = f })
+    → LawfulMoves u call (record { port = ports_of number view xs; flows = f }) (option_to_list (port_act (number x) m (view x))) (record { port = ports_of number view (set xs i y); flows = f })
 moves_at number view u call f xs i x y m a h n v allowed =
     let z = moves_port u call (record { port = ports_of number view xs; flows = f }) (number x) m (view x) (ap (option_map view) (find_at number xs i x a h)) allowed in
     let same : record { port = ports_of number view (set xs i y); flows = f } ≡ record { port = at_port (ports_of number view xs) (number x) (port_after m); flows = f } =

@@ -6,7 +6,7 @@ use Rattle.lagtypes.specs.declared.identifiers.SystemId.{SystemId}
 use Rattle.lagtypes.specs.declared.party.Party.{Party}
 use Rattle.lagmodel.specs.View.{zero_party, PortFacts, SystemSetup, LacpMessage, Lacp, first_port, first_view, ModelCall, Receive, at_port, is_restart, replies_frame}
 use Rattle.lagmodel.specs.Move.{Move, Port, Flow, Announce, Take, Join, Distribute, Send, port_after}
-use Rattle.lagmodel.specs.World.{Side, One, Two, IsCabling, World, WorldSetup, IsWorldSetup, first_world, party_at, world_after, AllMoves, world_after_all, CallHappens, with_line, handed_up, Data, Event, Happens}
+use Rattle.lagmodel.specs.World.{Side, One, Two, IsCabling, World, WorldSetup, IsWorldSetup, first_world, party_at, world_after, AllMoves, world_after_all, CallHappens, with_messages, handed_up, Data, Event, Happens}
 use Rattle.lagmodel.specs.Law.{SomethingArrives}
 use Rattle.lagmodel.proofs.Base.{chosen, mapped_some}
 use Rattle.lagmodel.proofs.Ports.{changed_port}
@@ -82,25 +82,25 @@ abbrev w₁ : World
 w₁ = next Two 0 ms₁ (first_world x₀)
 
 abbrev w₂ : World
-w₂ = next One 0 ms₂ (with_line w₁ 1 One [])
+w₂ = next One 0 ms₂ (with_messages w₁ 1 One [])
 
 abbrev w₃ : World
 w₃ = next One 0 ms₃ w₂
 
 abbrev w₄ : World
-w₄ = next Two 0 ms₄ (with_line w₃ 1 Two [])
+w₄ = next Two 0 ms₄ (with_messages w₃ 1 Two [])
 
 abbrev w₅ : World
 w₅ = next Two 0 ms₃ w₄
 
 abbrev w₆ : World
-w₆ = next One 0 ms₆ (with_line w₅ 1 One [])
+w₆ = next One 0 ms₆ (with_messages w₅ 1 One [])
 
 abbrev w₇ : World
 w₇ = next One 0 ms₇ w₆
 
 abbrev w₈ : World
-w₈ = next Two 0 [] (handed_up true (Data One 1 48 0) (with_line w₇ 1 Two []))
+w₈ = next Two 0 [] (handed_up true (Data One 1 48 0) (with_messages w₇ 1 Two []))
 
 -- no port of these is in an aggregator
 abbrev Outside : (ℕ → Option PortFacts) → Type 0
@@ -125,7 +125,7 @@ e₁ : Happens x₀ (Event.Emit Two 1) (first_world x₀) w₁
 e₁ = made x₀ Two ModelCall.Transmit 0 ms₁ (first_world x₀) (first_world x₀) (λ t p. refl) refl refl refl ((refl, λ h. absurd (false≢true h)), tt)
 
 e₂ : Happens x₀ (Event.Deliver 1 One) w₁ w₂
-e₂ = made x₀ One (Receive 1 (Some (Lacp pdu₁))) 0 ms₂ w₁ (with_line w₁ 1 One []) (λ t p. refl) refl refl refl (
+e₂ = made x₀ One (Receive 1 (Some (Lacp pdu₁))) 0 ms₂ w₁ (with_messages w₁ 1 One []) (λ t p. refl) refl refl refl (
   (refl, inr refl, λ h. absurd (false≢true h)),
   (
     (refl, ne₁, refl, inl (outside_kept (first_view (setup_of 1)).port (first_port (party_of 1)) (port_after (Take pdu₁ false)) refl (λ h. none-some 1 h) (outside_first 1))),
@@ -137,7 +137,7 @@ e₃ : Happens x₀ (Event.Emit One 1) w₂ w₃
 e₃ = made x₀ One ModelCall.Transmit 0 ms₃ w₂ w₂ (λ t p. refl) refl refl refl ((refl, λ h. refl), tt)
 
 e₄ : Happens x₀ (Event.Deliver 1 Two) w₃ w₄
-e₄ = made x₀ Two (Receive 1 (Some (Lacp pdu₂))) 0 ms₄ w₃ (with_line w₃ 1 Two []) (λ t p. refl) refl refl refl (
+e₄ = made x₀ Two (Receive 1 (Some (Lacp pdu₂))) 0 ms₄ w₃ (with_messages w₃ 1 Two []) (λ t p. refl) refl refl refl (
   (refl, inr refl, λ h. (refl, inl refl)),
   (
     (
@@ -155,14 +155,14 @@ e₅ : Happens x₀ (Event.Emit Two 1) w₄ w₅
 e₅ = made x₀ Two ModelCall.Transmit 0 ms₃ w₄ w₄ (λ t p. refl) refl refl refl ((refl, λ h. refl), tt)
 
 e₆ : Happens x₀ (Event.Deliver 1 One) w₅ w₆
-e₆ = made x₀ One (Receive 1 (Some (Lacp pdu₃))) 0 ms₆ w₅ (with_line w₅ 1 One []) (λ t p. refl) refl refl refl
+e₆ = made x₀ One (Receive 1 (Some (Lacp pdu₃))) 0 ms₆ w₅ (with_messages w₅ 1 One []) (λ t p. refl) refl refl refl
     ((refl, inl refl, λ h. (refl, inl refl)), ((refl, refl), tt))
 
 e₇ : Happens x₀ (Event.Offer One 1 frame) w₆ w₇
 e₇ = made x₀ One ModelCall.Offer 0 ms₇ w₆ w₆ (λ t p. refl) refl refl refl ((refl, inl (refl, (refl, refl))), tt)
 
 e₈ : Happens x₀ (Event.Deliver 1 Two) w₇ w₈
-e₈ = (true, made x₀ Two (Receive 1 None) 0 [] w₇ (handed_up true (Data One 1 48 0) (with_line w₇ 1 Two [])) (λ t p. refl) refl refl refl tt)
+e₈ = (true, made x₀ Two (Receive 1 None) 0 [] w₇ (handed_up true (Data One 1 48 0) (with_messages w₇ 1 Two [])) (λ t p. refl) refl refl refl tt)
 
 fixed₀ : IsWorldSetup x₀
 fixed₀ = record {

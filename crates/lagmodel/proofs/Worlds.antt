@@ -3,8 +3,8 @@ use Rattle.std.proofs.Common.{◌≡◌, ℕ, Bool, true, false, Option, List, [
 use Rattle.std.proofs.lemmas.Bool.{true≢false}
 use Rattle.lagtypes.specs.declared.party.Party.{Party}
 use Rattle.lagmodel.specs.View.{View, SystemSetup, ModelCall, replies_frame, is_restart}
-use Rattle.lagmodel.specs.Move.{Move, Port, Flow, Restart, Allowed, view_after, act}
-use Rattle.lagmodel.specs.World.{Side, One, Two, peer, Message, end_at, TakenLacpdu, World, WorldSetup, party_at, line_after, sent_after, taken_after, world_after, AllMoves, world_after_all}
+use Rattle.lagmodel.specs.Move.{Move, Port, Flow, Restart, MoveAllowed, view_after, act}
+use Rattle.lagmodel.specs.World.{Side, One, Two, peer, Message, end_at, TakenLacpdu, World, WorldSetup, party_at, on_cable_after, sent_after, taken_after, world_after, AllMoves, world_after_all}
 use Rattle.lagmodel.specs.Law.{Members}
 use Rattle.lagmodel.proofs.Ports.{members_kept}
 use Rattle.lagmodel.proofs.Lanes.{Lanes}
@@ -21,7 +21,7 @@ pub record Half (u : SystemSetup) (me : Side) (ends theirs : ℕ → Option ℕ)
 
 -- of system s in a world
 abbrev pub HalfOf : WorldSetup → World → Side → Type 0
-HalfOf x w s = Half (x.setup s) s (end_at x.cables s) (end_at x.cables (peer s)) (w.view s) (party_at (w.view s)) (w.count s) (w.line (peer s)) (w.line s) w.whole (w.sent s) (w.collected s) (w.forced s) (w.taken s) (w.taken (peer s))
+HalfOf x w s = Half (x.setup s) s (end_at x.cables s) (end_at x.cables (peer s)) (w.view s) (party_at (w.view s)) (w.count s) (w.on_cable (peer s)) (w.on_cable s) w.whole (w.sent s) (w.collected s) (w.forced s) (w.taken s) (w.taken (peer s))
 
 -- of both systems
 abbrev pub Lawful : WorldSetup → World → Type 0
@@ -31,21 +31,21 @@ Lawful x w = (s : Side) → HalfOf x w s
 pub record Calling (x : WorldSetup) (s : Side) (call : ModelCall) (stamp : ℕ) (party : Side → ℕ → Option Party) (count : Side → ℕ → ℕ) (towards base : ℕ → List Message) (w : World) : Type 0 where
   pub within : Within call stamp (end_at x.cables s) towards w.whole (w.forced s)
   pub parties : replies_frame call ≡ true → (p : ℕ) → party_at (w.view s) p ≡ party s p
-  pub own : Half (x.setup s) s (end_at x.cables s) (end_at x.cables (peer s)) (w.view s) (party s) (w.count s) (w.line (peer s)) towards w.whole (w.sent s) (w.collected s) (w.forced s) (w.taken s) (w.taken (peer s))
-  pub other : Half (x.setup (peer s)) (peer s) (end_at x.cables (peer s)) (end_at x.cables s) (w.view (peer s)) (party (peer s)) (w.count (peer s)) towards (w.line (peer s)) w.whole (w.sent (peer s)) (w.collected (peer s)) (w.forced (peer s)) (w.taken (peer s)) (w.taken s)
+  pub own : Half (x.setup s) s (end_at x.cables s) (end_at x.cables (peer s)) (w.view s) (party s) (w.count s) (w.on_cable (peer s)) towards w.whole (w.sent s) (w.collected s) (w.forced s) (w.taken s) (w.taken (peer s))
+  pub other : Half (x.setup (peer s)) (peer s) (end_at x.cables (peer s)) (end_at x.cables s) (w.view (peer s)) (party (peer s)) (w.count (peer s)) towards (w.on_cable (peer s)) w.whole (w.sent (peer s)) (w.collected (peer s)) (w.forced (peer s)) (w.taken (peer s)) (w.taken s)
   pub counts : w.count ≡ count
-  pub rest : w.line s ≡ base
+  pub rest : w.on_cable s ≡ base
 
-pub members_own : (u : SystemSetup) (call : ModelCall) (v : View) (m : Move) → Allowed u call v m → is_restart call ≡ false → Members u v.port → Members u (view_after u m v).port
+pub members_own : (u : SystemSetup) (call : ModelCall) (v : View) (m : Move) → MoveAllowed u call v m → is_restart call ≡ false → Members u v.port → Members u (view_after u m v).port
 members_own u call v (Port p m) x r i = members_kept u call v.port p m x i
 members_own u call v (Flow m) x r i = i
 members_own u call v Restart x r i = absurd (true≢false (sym x ∙ r))
 
 own_moved : (u : SystemSetup) (me : Side) (ends theirs : ℕ → Option ℕ) (v : View) (party : ℕ → Option Party) (count : ℕ → ℕ) (out back : ℕ → List Message) (whole : ℕ → Bool)
     (sent collected : ℕ → ℕ → List ℕ) (forced : ℕ → ℕ → Bool) (taken their_taken : ℕ → Option TakenLacpdu) (call : ModelCall) (stamp : ℕ) (kept : Bool) (m : Move)
-    → Allowed u call v m → Within call stamp ends back whole forced → (replies_frame call ≡ true → (p : ℕ) → party_at v p ≡ party p)
+    → MoveAllowed u call v m → Within call stamp ends back whole forced → (replies_frame call ≡ true → (p : ℕ) → party_at v p ≡ party p)
     → Half u me ends theirs v party count out back whole sent collected forced taken their_taken
-    → Half u me ends theirs (view_after u m v) party count (line_after me ends whole count sent kept (act u m v) out) back whole (sent_after (act u m v) sent) collected forced (taken_after stamp (act u m v) taken) their_taken
+    → Half u me ends theirs (view_after u m v) party count (on_cable_after me ends whole count sent kept (act u m v) out) back whole (sent_after (act u m v) sent) collected forced (taken_after stamp (act u m v) taken) their_taken
 own_moved u me ends theirs v party count out back whole sent collected forced taken their_taken call stamp kept m x w r i = record {
   members = members_own u call v m x w.running i.members;
   lanes = lanes_own me ends whole collected forced back u call stamp count kept v m out sent x w i.lanes;
@@ -56,9 +56,9 @@ own_moved u me ends theirs v party count out back whole sent collected forced ta
 other_moved : (u : SystemSetup) (me : Side) (ends theirs : ℕ → Option ℕ) (v : View) (party : ℕ → Option Party) (count : ℕ → ℕ) (out back : ℕ → List Message) (whole : ℕ → Bool)
     (sent collected : ℕ → ℕ → List ℕ) (forced : ℕ → ℕ → Bool) (taken their_taken : ℕ → Option TakenLacpdu)
     (s : Side) (su : SystemSetup) (sv : View) (s_count : ℕ → ℕ) (s_sent : ℕ → ℕ → List ℕ) (s_forced : ℕ → ℕ → Bool) (call : ModelCall) (stamp : ℕ) (kept : Bool) (m : Move)
-    → Allowed su call sv m → Within call stamp theirs out whole s_forced
+    → MoveAllowed su call sv m → Within call stamp theirs out whole s_forced
     → Half u me ends theirs v party count out back whole sent collected forced taken their_taken
-    → Half u me ends theirs v party count out (line_after s theirs whole s_count s_sent kept (act su m sv) back) whole sent collected forced taken (taken_after stamp (act su m sv) their_taken)
+    → Half u me ends theirs v party count out (on_cable_after s theirs whole s_count s_sent kept (act su m sv) back) whole sent collected forced taken (taken_after stamp (act su m sv) their_taken)
 other_moved u me ends theirs v party count out back whole sent collected forced taken their_taken s su sv s_count s_sent s_forced call stamp kept m x w i = record {
   members = i.members;
   lanes = lanes_peer me ends whole sent collected forced s_forced v.flows out back s theirs su call stamp s_count s_sent kept sv m x w i.lanes;
@@ -68,7 +68,7 @@ other_moved u me ends theirs v party count out back whole sent collected forced 
 
 -- one move
 calling_moved : (x : WorldSetup) (s : Side) (call : ModelCall) (stamp : ℕ) (party : Side → ℕ → Option Party) (count : Side → ℕ → ℕ) (towards base : ℕ → List Message) (m : Move × Bool) (w : World)
-    → Allowed (x.setup s) call (w.view s) m.0 → Calling x s call stamp party count towards base w → Calling x s call stamp party count towards base (world_after x s stamp m w)
+    → MoveAllowed (x.setup s) call (w.view s) m.0 → Calling x s call stamp party count towards base w → Calling x s call stamp party count towards base (world_after x s stamp m w)
 calling_moved x One call stamp party count towards base m w a i = record {
   within = i.within;
   parties = λ r p. parties_kept (x.setup One) call (w.view One) m.0 a i.within.running r p ∙ i.parties r p;

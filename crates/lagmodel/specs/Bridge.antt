@@ -1,9 +1,9 @@
--- Definitions for proofs that code makes only free moves: states given as lists, and changes of many conversations at
+-- Definitions for proofs that code makes only lawful moves: states given as lists, and changes of many conversations at
 -- once.
 use Rattle.std.specs.Prelude.{◌≡◌, ℕ, Bool, cond, eqb, ◌⊎◌, Option, Some, None, option_map, List, [], ◌∷◌}
 use Rattle.lagmodel.specs.View.{PortFacts, Conversation, ModelCall, View}
 use Rattle.lagmodel.specs.Move.{Act, ConversationMove, ConversationMoveAllowed, conversation_after}
-use Rattle.lagmodel.specs.World.{Side, peer, at_side, end_at, line_after, sent_after, taken_after, World, WorldSetup}
+use Rattle.lagmodel.specs.World.{Side, peer, at_side, end_at, on_cable_after, sent_after, taken_after, World, WorldSetup}
 
 -- the pair of aggregator and conversation is in the list
 abbrev pub IsAmong : ℕ → ℕ → List (ℕ × ℕ) → Type 0
@@ -34,7 +34,7 @@ ports_of number view xs q = option_map view (find_number number xs q)
 abbrev pub world_after_call : WorldSetup → Side → ℕ → Bool → Option Act → View → World → World
 world_after_call x s stamp accepted o v w = record w {
   view = at_side w.view s v;
-  line = at_side w.line (peer s) (line_after s (end_at x.cables s) w.whole (w.count s) (w.sent s) accepted o (w.line (peer s)));
+  on_cable = at_side w.on_cable (peer s) (on_cable_after s (end_at x.cables s) w.whole (w.count s) (w.sent s) accepted o (w.on_cable (peer s)));
   sent = at_side w.sent s (sent_after o (w.sent s));
   taken = at_side w.taken s (taken_after stamp o (w.taken s));
 }

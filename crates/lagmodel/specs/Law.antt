@@ -2,7 +2,7 @@
 use Rattle.std.specs.Prelude.{◌≡◌, ℕ, ◌<◌, Bool, true, false, ◌&&◌, cond, eqb, ◌⊎◌, Option, Some, IsSome, is_some, List, [], ◌∷◌, ◌++◌, Contains, length, slice_index}
 use Rattle.lagtypes.specs.Group.{individual, SamePair, pair_of}
 use Rattle.lagmodel.specs.View.{PortFacts, Flushing, conversation_port, View, SystemSetup, ModelCall, LacpMessage, Lacp, Marker, Response}
-use Rattle.lagmodel.specs.Move.{Act, FreeMoves, pair_at}
+use Rattle.lagmodel.specs.Move.{Act, LawfulMoves, pair_at}
 use Rattle.lagmodel.specs.World.{Side, One, Two, peer, Message, Control, Data, end_at, party_at, TakenLacpdu, World, WorldSetup, IsWorldSetup, first_world, Event, Run}
 
 -- xs is ys with some elements left out
@@ -46,7 +46,7 @@ OnePartner v =
 
 -- Port p of system s, with the view a, distributes and does not have a defaulted partner, and port q of the peer did
 -- not change since it sent the LACPDU that port p received last.
-pub record TookPresent (w : World) (s : Side) (p q : ℕ) (a : PortFacts) : Type 0 where
+pub record LastLacpduIsUpToDate (w : World) (s : Side) (p q : ℕ) (a : PortFacts) : Type 0 where
   pub is : (w.view s).port p ≡ Some a
   pub distributes : a.distributes ≡ true
   pub defaulted : a.defaulted ≡ false
@@ -54,10 +54,10 @@ pub record TookPresent (w : World) (s : Side) (p q : ℕ) (a : PortFacts) : Type
 
 -- The two ends of a cable have the same group (6.3.6), the same unordered pair of ends, if both distribute, neither
 -- changed since it sent the LACPDU that its peer received last, and neither has a defaulted partner.
-abbrev pub Agree : WorldSetup → World → Type 0
-Agree x w =
+abbrev pub EndsAgree : WorldSetup → World → Type 0
+EndsAgree x w =
     (c p q : ℕ) (a b : PortFacts) → end_at x.cables One c ≡ Some p → end_at x.cables Two c ≡ Some q
-    → TookPresent w One p q a → TookPresent w Two q p b
+    → LastLacpduIsUpToDate w One p q a → LastLacpduIsUpToDate w Two q p b
     → SamePair (pair_at a) (pair_at b)
 
 -- What a conversation collected, if it was never forced, is a subsequence of what it sent: nothing is reordered, and
@@ -67,18 +67,18 @@ InOrder w = (s : Side) (g k : ℕ) → w.forced s g k ≡ false → IsSubsequenc
 
 -- If a port distributes and its partner is not defaulted, the LACPDU that it received last said IN_SYNC. If that
 -- LACPDU's Actor is aggregatable, its Actor and Partner are the two ends of the port's present group.
-abbrev pub TookSynchronised : World → Type 0
-TookSynchronised w =
+abbrev pub LastLacpduSaysInSync : World → Type 0
+LastLacpduSaysInSync w =
     (s : Side) (p : ℕ) (a : PortFacts) → (w.view s).port p ≡ Some a → a.distributes ≡ true → a.defaulted ≡ false
     → (m : TakenLacpdu) × (w.taken s p ≡ Some m) × (m.pdu.synchronised ≡ true)
     × (m.pdu.actor.aggregatable ≡ true → SamePair (pair_of m.pdu.actor m.pdu.partner) (pair_at a))
 
 -- If an LACPDU in flight, or one that was received last, has a stamp that equals its sender's change count, its Actor
 -- is the sender as it is now.
-abbrev pub NamesPresent : WorldSetup → World → Type 0
-NamesPresent x w =
+abbrev pub UpToDateLacpdusNameSender : WorldSetup → World → Type 0
+UpToDateLacpdusNameSender x w =
     (s : Side) (c p : ℕ) → end_at x.cables s c ≡ Some p
-    → ((pdu : LacpMessage) (stamp : ℕ) → Contains (w.line (peer s) c) (Control (Lacp pdu) stamp) → stamp ≡ w.count s p
+    → ((pdu : LacpMessage) (stamp : ℕ) → Contains (w.on_cable (peer s) c) (Control (Lacp pdu) stamp) → stamp ≡ w.count s p
     → party_at (w.view s) p ≡ Some pdu.actor)
     × ((q : ℕ) (m : TakenLacpdu) → end_at x.cables (peer s) c ≡ Some q → w.taken (peer s) q ≡ Some m → m.stamp ≡ w.count s p
     → party_at (w.view s) p ≡ Some m.pdu.actor)
@@ -88,9 +88,9 @@ NamesPresent x w =
 abbrev pub OnItsCable : WorldSetup → World → Type 0
 OnItsCable x w =
     (s : Side) (g k c : ℕ) → w.forced s g k ≡ false
-    → ((serials s g k (w.line (peer s) c) ≡ []) ⊎ ((p : ℕ) × (end_at x.cables s c ≡ Some p)
+    → ((serials s g k (w.on_cable (peer s) c) ≡ []) ⊎ ((p : ℕ) × (end_at x.cables s c ≡ Some p)
     × (conversation_port ((w.view s).flows.state g k) ≡ Some p)))
-    × (serials s g k (w.line s c) ≡ [])
+    × (serials s g k (w.on_cable s c) ≡ [])
 
 -- While a conversation that was never forced waits on a port for the response to a marker: none of its frames was sent
 -- after that marker on the port's cable; and while the response is in flight on that cable, none of its frames is in
@@ -98,38 +98,38 @@ OnItsCable x w =
 abbrev pub FlushedByMarker : WorldSetup → World → Type 0
 FlushedByMarker x w =
     (s : Side) (g k p n c : ℕ) → w.forced s g k ≡ false → (w.view s).flows.state g k ≡ Flushing p n → end_at x.cables s c ≡ Some p
-    → ((front back : List Message) (stamp : ℕ) → w.line (peer s) c ≡ front ++ Control (Marker (x.setup s).system.mac p n) stamp ∷ back
+    → ((front back : List Message) (stamp : ℕ) → w.on_cable (peer s) c ≡ front ++ Control (Marker (x.setup s).system.mac p n) stamp ∷ back
     → serials s g k back ≡ [])
-    × ((d stamp : ℕ) → Contains (w.line s c) (Control (Response (x.setup s).system.mac p n) stamp) → serials s g k (w.line (peer s) d) ≡ [])
+    × ((d stamp : ℕ) → Contains (w.on_cable s c) (Control (Response (x.setup s).system.mac p n) stamp) → serials s g k (w.on_cable (peer s) d) ≡ [])
 
 -- Every marker identifier in flight is below its requester's next one.
 abbrev pub BelowNext : World → Type 0
 BelowNext w =
     (s : Side) (c p n stamp : ℕ) (mac : List ℕ)
-    → (Contains (w.line (peer s) c) (Control (Marker mac p n) stamp) → n < (w.view s).flows.next)
-    × (Contains (w.line s c) (Control (Response mac p n) stamp) → n < (w.view s).flows.next)
+    → (Contains (w.on_cable (peer s) c) (Control (Marker mac p n) stamp) → n < (w.view s).flows.next)
+    × (Contains (w.on_cable s c) (Control (Response mac p n) stamp) → n < (w.view s).flows.next)
 
 -- What a conversation collected, followed by its frames in flight on any one cable, is a subsequence of what it sent,
 -- if it was never forced.
 abbrev pub CollectedThenInFlight : World → Type 0
 CollectedThenInFlight w =
     (s : Side) (g k c : ℕ) → w.forced s g k ≡ false
-    → IsSubsequence (w.collected s g k ++ serials s g k (w.line (peer s) c)) (w.sent s g k)
+    → IsSubsequence (w.collected s g k ++ serials s g k (w.on_cable (peer s) c)) (w.sent s g k)
 
 -- The serial numbers that a conversation sent are 0, 1, 2 and so on, so no two of its frames have the same one.
 abbrev pub CountsFromZero : World → Type 0
 CountsFromZero w = (s : Side) (g k i : ℕ) → i < length (w.sent s g k) → slice_index (w.sent s g k) i ≡ i
 
--- One system makes these calls one after another, each by free moves, with any visible acts.
-abbrev pub FreeRun : SystemSetup → List ModelCall → View → View → Type 0
-FreeRun u [] old new = new ≡ old
-FreeRun u (call ∷ calls) old new = (seen : List Act) × (mid : View) × FreeMoves u call old seen mid × FreeRun u calls mid new
+-- One system makes these calls one after another, each by lawful moves, with any visible acts.
+abbrev pub LawfulRun : SystemSetup → List ModelCall → View → View → Type 0
+LawfulRun u [] old new = new ≡ old
+LawfulRun u (call ∷ calls) old new = (seen : List Act) × (mid : View) × LawfulMoves u call old seen mid × LawfulRun u calls mid new
 
 -- The statement holds after each event of each schedule, from the start of any two systems on cables.
 abbrev pub IsInvariant : (WorldSetup → World → Type 0) → Type 0
 IsInvariant P = (x : WorldSetup) (events : List Event) (w : World) → IsWorldSetup x → Run x events (first_world x) w → P x w
 
--- There is a run in which both ends of cable 1 come to distribute and to have the same group, as in `Agree`, and a
+-- There is a run in which both ends of cable 1 come to distribute and to have the same group, as in `EndsAgree`, and a
 -- frame arrives of conversation 48, which was never forced.
 abbrev pub SomethingArrives : Type 0
 SomethingArrives =
@@ -138,8 +138,8 @@ SomethingArrives =
     × Run x events (first_world x) w
     × (end_at x.cables One 1 ≡ Some 1)
     × (end_at x.cables Two 1 ≡ Some 1)
-    × TookPresent w One 1 1 a
-    × TookPresent w Two 1 1 b
+    × LastLacpduIsUpToDate w One 1 1 a
+    × LastLacpduIsUpToDate w Two 1 1 b
     × (w.forced One 1 48 ≡ false)
     × (w.sent One 1 48 ≡ 0 ∷ [])
     × (w.collected One 1 48 ≡ 0 ∷ [])

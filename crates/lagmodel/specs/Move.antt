@@ -1,11 +1,11 @@
--- The free moves of a system in the model. One call of a system is a list of moves (profile). The model has no timers
+-- The lawful moves of a system in the model. One call of a system is a list of moves (profile). The model has no timers
 -- and no machine states: a port may stop, leave its aggregator or fall back to defaults at any moment. Restricted are
 -- only which LACPDU a port believes, when it joins an aggregator, when it starts to distribute, on which port a
 -- conversation sends, and when a conversation becomes free.
 use Rattle.std.specs.Prelude.{◌≡◌, ◌≢◌, ℕ, ◌+◌, ◌<◌, ◌^◌, Bool, true, false, ◌&&◌, cond, eqb, ◌⊎◌, Option, Some, None, option_to_list, IsSome, IsSomeAnd, List, [], ◌∷◌, ◌++◌}
 use Rattle.lagtypes.specs.declared.party.Party.{Party}
 use Rattle.lagtypes.specs.Group.{individual, Pair, SamePair, pair_of}
-use Rattle.lagmodel.specs.View.{zero_party, PortFacts, Conversation, Free, On, Wanted, Flushing, conversation_port, Flows, View, SystemSetup, first_view, LacpMessage, ControlMessage, Lacp, Marker, Response, ModelCall, Receive, Set_link, Force, replies_frame, is_restart, at_port, at_conversation}
+use Rattle.lagmodel.specs.View.{zero_party, PortFacts, Conversation, Free, On, Wanted, Flushing, conversation_port, DistributorFacts, View, SystemSetup, first_view, LacpMessage, ControlMessage, Lacp, Marker, Response, ModelCall, Receive, Set_link, Force, replies_frame, is_restart, at_port, at_conversation}
 
 -- a visible act of a move: a control PDU or a frame of a conversation that goes out on a port, or an LACPDU that a port
 -- received (profile)
@@ -113,20 +113,20 @@ conversation_after (Down p) = Free
 conversation_after Forced = Free
 
 -- the moves of the conversations
-pub data FlowMove : Type 0 where
-  Send : (aggregator conversation port : ℕ) → FlowMove  -- 6.2.4
-  Mark : (port : ℕ) → FlowMove  -- 6.2.5, 6.5.3.3
-  Become : (aggregator conversation : ℕ) (change : ConversationMove) → FlowMove  -- the state of one conversation changes, without a frame
+pub data DistributorMove : Type 0 where
+  Send : (aggregator conversation port : ℕ) → DistributorMove  -- 6.2.4
+  Mark : (port : ℕ) → DistributorMove  -- 6.2.5, 6.5.3.3
+  Become : (aggregator conversation : ℕ) (change : ConversationMove) → DistributorMove  -- the state of one conversation changes, without a frame
 
 -- the moves that the conversations of a system with this MAC address may make; the relation says which port may
 -- distribute in which aggregator
-abbrev pub FlowAllowed : List ℕ → ModelCall → (ℕ → ℕ → Type 0) → Flows → FlowMove → Type 0
+abbrev pub DistributorMoveAllowed : List ℕ → ModelCall → (ℕ → ℕ → Type 0) → DistributorFacts → DistributorMove → Type 0
 -- a free conversation sends on any port that distributes in its aggregator; another one only on the port that it is On
-FlowAllowed mac call Distributes f (Send g k p) =
+DistributorMoveAllowed mac call Distributes f (Send g k p) =
     (replies_frame call ≡ true) × (((f.state g k ≡ Free) × Distributes g p) ⊎ (f.state g k ≡ On p))
 -- a marker gets the next identifier; none follows 4294967295
-FlowAllowed mac call Distributes f (Mark p) = (replies_frame call ≡ true) × (f.next < 2 ^ 32)
-FlowAllowed mac call Distributes f (Become g k m) = ConversationMoveAllowed mac call g k m (f.state g k)
+DistributorMoveAllowed mac call Distributes f (Mark p) = (replies_frame call ≡ true) × (f.next < 2 ^ 32)
+DistributorMoveAllowed mac call Distributes f (Become g k m) = ConversationMoveAllowed mac call g k m (f.state g k)
 
 -- a conversation that is Wanted on p becomes Flushing with the marker n
 abbrev pub flushed : ℕ → ℕ → Conversation → Conversation
@@ -136,43 +136,43 @@ flushed p n (Wanted q) = cond (eqb q p) (Flushing q n) (Wanted q)
 flushed p n (Flushing q m) = Flushing q m
 
 -- the conversations after the move; a marker uses up one Requester_Transaction_ID
-abbrev pub flows_after : FlowMove → Flows → Flows
-flows_after (Send g k p) f = record f { state = at_conversation f.state g k (On p) }
-flows_after (Mark p) f = record { state = λ g k. flushed p f.next (f.state g k); next = f.next + 1 }
-flows_after (Become g k m) f = record f { state = at_conversation f.state g k (conversation_after m) }
+abbrev pub distributor_after : DistributorMove → DistributorFacts → DistributorFacts
+distributor_after (Send g k p) f = record f { state = at_conversation f.state g k (On p) }
+distributor_after (Mark p) f = record { state = λ g k. flushed p f.next (f.state g k); next = f.next + 1 }
+distributor_after (Become g k m) f = record f { state = at_conversation f.state g k (conversation_after m) }
 
 -- the visible act of a move: a frame of a conversation, or a Marker PDU, that goes out on a port
-abbrev pub flow_act : List ℕ → FlowMove → Flows → Option Act
-flow_act mac (Send g k p) f = Some (Sends_frame p g k)
-flow_act mac (Mark p) f = Some (Sends p (Marker mac p f.next))
-flow_act mac (Become g k m) f = None
+abbrev pub distributor_act : List ℕ → DistributorMove → DistributorFacts → Option Act
+distributor_act mac (Send g k p) f = Some (Sends_frame p g k)
+distributor_act mac (Mark p) f = Some (Sends p (Marker mac p f.next))
+distributor_act mac (Become g k m) f = None
 
 -- each move is allowed in the state that those before it left
-abbrev pub AllFlowAllowed : List ℕ → ModelCall → (ℕ → ℕ → Type 0) → Flows → List FlowMove → Type 0
-AllFlowAllowed mac call Distributes f [] = Unit {0}
-AllFlowAllowed mac call Distributes f (m ∷ ms) = FlowAllowed mac call Distributes f m
-    × AllFlowAllowed mac call Distributes (flows_after m f) ms
+abbrev pub DistributorMovesAllowed : List ℕ → ModelCall → (ℕ → ℕ → Type 0) → DistributorFacts → List DistributorMove → Type 0
+DistributorMovesAllowed mac call Distributes f [] = Unit {0}
+DistributorMovesAllowed mac call Distributes f (m ∷ ms) = DistributorMoveAllowed mac call Distributes f m
+    × DistributorMovesAllowed mac call Distributes (distributor_after m f) ms
 
 -- the conversations after a list of moves
-abbrev pub flows_after_all : List FlowMove → Flows → Flows
-flows_after_all [] f = f
-flows_after_all (m ∷ ms) f = flows_after_all ms (flows_after m f)
+abbrev pub distributor_after_all : List DistributorMove → DistributorFacts → DistributorFacts
+distributor_after_all [] f = f
+distributor_after_all (m ∷ ms) f = distributor_after_all ms (distributor_after m f)
 
 -- the visible acts of a list of moves
-abbrev pub flow_acts : List ℕ → List FlowMove → Flows → List Act
-flow_acts mac [] f = []
-flow_acts mac (m ∷ ms) f = option_to_list (flow_act mac m f) ++ flow_acts mac ms (flows_after m f)
+abbrev pub distributor_acts : List ℕ → List DistributorMove → DistributorFacts → List Act
+distributor_acts mac [] f = []
+distributor_acts mac (m ∷ ms) f = option_to_list (distributor_act mac m f) ++ distributor_acts mac ms (distributor_after m f)
 
 -- moves of the conversations one after another, with just these visible acts: what a distributor does in one call
-abbrev pub FlowMoves : List ℕ → ModelCall → (ℕ → ℕ → Type 0) → Flows → List Act → Flows → Type 0
-FlowMoves mac call Distributes old seen new =
-    (moves : List FlowMove) × AllFlowAllowed mac call Distributes old moves × (flow_acts mac moves old ≡ seen)
-    × (new ≡ flows_after_all moves old)
+abbrev pub DistributorMoves : List ℕ → ModelCall → (ℕ → ℕ → Type 0) → DistributorFacts → List Act → DistributorFacts → Type 0
+DistributorMoves mac call Distributes old seen new =
+    (moves : List DistributorMove) × DistributorMovesAllowed mac call Distributes old moves × (distributor_acts mac moves old ≡ seen)
+    × (new ≡ distributor_after_all moves old)
 
 -- a move of a system: of the port with this number, of the conversations, or a restart
 pub data Move : Type 0 where
   Port : (port : ℕ) (move : PortMove) → Move
-  Flow : (move : FlowMove) → Move
+  Flow : (move : DistributorMove) → Move
   Restart : Move
 
 -- port p distributes in aggregator g
@@ -180,15 +180,15 @@ abbrev pub Distributes : (ℕ → Option PortFacts) → ℕ → ℕ → Type 0
 Distributes ports g p = IsSomeAnd (ports p) (λ a. (a.aggregator ≡ Some g) × (a.distributes ≡ true))
 
 -- the law: in this view, a system with this configuration may make this move during this call
-abbrev pub Allowed : SystemSetup → ModelCall → View → Move → Type 0
-Allowed u call v (Port p m) = IsSomeAnd (v.port p) (PortAllowed u call v.port p m)
-Allowed u call v (Flow m) = FlowAllowed u.system.mac call (Distributes v.port) v.flows m
-Allowed u call v Restart = is_restart call ≡ true
+abbrev pub MoveAllowed : SystemSetup → ModelCall → View → Move → Type 0
+MoveAllowed u call v (Port p m) = IsSomeAnd (v.port p) (PortAllowed u call v.port p m)
+MoveAllowed u call v (Flow m) = DistributorMoveAllowed u.system.mac call (Distributes v.port) v.flows m
+MoveAllowed u call v Restart = is_restart call ≡ true
 
 -- the view of a system after a move
 abbrev pub view_after : SystemSetup → Move → View → View
 view_after u (Port p m) v = record v { port = at_port v.port p (port_after m) }
-view_after u (Flow m) v = record v { flows = flows_after m v.flows }
+view_after u (Flow m) v = record v { flows = distributor_after m v.flows }
 view_after u Restart v = first_view u
 
 -- the visible act of a move of port p; none if there is no such port
@@ -199,13 +199,13 @@ act_of_port p m (Some a) = port_act p m a
 -- the visible act of a move in this view, if it has one
 abbrev pub act : SystemSetup → Move → View → Option Act
 act u (Port p m) v = act_of_port p m (v.port p)
-act u (Flow m) v = flow_act u.system.mac m v.flows
+act u (Flow m) v = distributor_act u.system.mac m v.flows
 act u Restart v = None
 
 -- a list of moves is allowed, one after another
 abbrev pub AllAllowed : SystemSetup → ModelCall → View → List Move → Type 0
 AllAllowed u call v [] = Unit {0}
-AllAllowed u call v (m ∷ ms) = Allowed u call v m × AllAllowed u call (view_after u m v) ms
+AllAllowed u call v (m ∷ ms) = MoveAllowed u call v m × AllAllowed u call (view_after u m v) ms
 
 -- the view after a list of moves
 abbrev pub view_after_all : SystemSetup → List Move → View → View
@@ -217,7 +217,7 @@ abbrev pub acts : SystemSetup → List Move → View → List Act
 acts u [] v = []
 acts u (m ∷ ms) v = option_to_list (act u m v) ++ acts u ms (view_after u m v)
 
--- A call leads from the view old to the view new by free moves, with just these visible acts.
-abbrev pub FreeMoves : SystemSetup → ModelCall → View → List Act → View → Type 0
-FreeMoves u call old seen new = (moves : List Move) × AllAllowed u call old moves × (acts u moves old ≡ seen)
+-- A call leads from the view old to the view new by lawful moves, with just these visible acts.
+abbrev pub LawfulMoves : SystemSetup → ModelCall → View → List Act → View → Type 0
+LawfulMoves u call old seen new = (moves : List Move) × AllAllowed u call old moves × (acts u moves old ≡ seen)
     × (new ≡ view_after_all u moves old)

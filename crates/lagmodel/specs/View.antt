@@ -39,14 +39,14 @@ conversation_port (Flushing p n) = Some p
 
 -- The state of a Frame Distributor (6.2.4, 6.2.5): each conversation, by aggregator and number, and the identifier of
 -- the next marker, which is one above the last that was sent, or the configured first one.
-pub record Flows : Type 0 where
+pub record DistributorFacts : Type 0 where
   pub state : ℕ → ℕ → Conversation
   pub next : ℕ
 
 -- a system: its ports by number, if the configuration has them, and its conversations
 pub record View : Type 0 where
   pub port : ℕ → Option PortFacts
-  pub flows : Flows
+  pub flows : DistributorFacts
 
 -- The configuration of a system: its identifier (6.3.2), its own parameters at each of its ports (6.3.4), the key of
 -- each of its aggregators (6.3.5), and the identifier of its first marker (profile).

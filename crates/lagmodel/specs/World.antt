@@ -2,7 +2,7 @@
 use Rattle.std.specs.Prelude.{◌≡◌, ◌≢◌, ℕ, zero, suc, Bool, true, false, ◌&&◌, cond, eqb, ◌⊎◌, Option, Some, None, option_map, List, [], ◌∷◌, ◌++◌, length, slice_get}
 use Rattle.lagtypes.specs.declared.party.Party.{Party}
 use Rattle.lagmodel.specs.View.{PortFacts, PartyChange, View, SystemSetup, IsSystemSetup, first_view, LacpMessage, ControlMessage, Lacp, Marker, Response, ModelCall}
-use Rattle.lagmodel.specs.Move.{Act, Sends, Sends_frame, Took, Move, Allowed, view_after, act}
+use Rattle.lagmodel.specs.Move.{Act, Sends, Sends_frame, Took, Move, MoveAllowed, view_after, act}
 
 -- the two systems
 pub data Side : Type 0 where
@@ -59,7 +59,7 @@ pub record TakenLacpdu : Type 0 where
 pub record World : Type 0 where
   pub view : Side → View
   pub whole : ℕ → Bool  -- of a cable
-  pub line : Side → ℕ → List Message  -- what is on a cable towards a system, the next to come first
+  pub on_cable : Side → ℕ → List Message  -- what is on a cable towards a system, the next to come first
   pub count : Side → ℕ → ℕ  -- the change count of a port
   pub taken : Side → ℕ → Option TakenLacpdu  -- the LACPDU that a port took last
   pub sent : Side → ℕ → ℕ → List ℕ  -- the serials that a conversation of a system sent
@@ -82,7 +82,7 @@ abbrev pub first_world : WorldSetup → World
 first_world x = record {
   view = λ s. first_view (x.setup s);
   whole = λ c. true;
-  line = λ s c. [];
+  on_cable = λ s c. [];
   count = λ s p. 0;
   taken = λ s p. None;
   sent = λ s g k. [];
@@ -113,12 +113,12 @@ put_on_cable ends whole accepted p m lines c = cond (accepted && (whole c && is_
 -- The next three: the messages on the cables, the serial numbers sent and the LACPDUs received last, after a visible
 -- act of system s.
 -- `accepted`: whether the cable accepts what is sent. `stamp`: the stamp of what came in this call.
-abbrev pub line_after : Side → (ℕ → Option ℕ) → (ℕ → Bool) → (ℕ → ℕ) → (ℕ → ℕ → List ℕ) → Bool → Option Act → (ℕ → List Message) → ℕ
+abbrev pub on_cable_after : Side → (ℕ → Option ℕ) → (ℕ → Bool) → (ℕ → ℕ) → (ℕ → ℕ → List ℕ) → Bool → Option Act → (ℕ → List Message) → ℕ
     → List Message
-line_after s ends whole count sent accepted None lines = lines
-line_after s ends whole count sent accepted (Some (Sends p pdu)) lines = put_on_cable ends whole accepted p (Control pdu (stamp_of pdu (count p))) lines
-line_after s ends whole count sent accepted (Some (Sends_frame p g k)) lines = put_on_cable ends whole accepted p (Data s g k (length (sent g k))) lines
-line_after s ends whole count sent accepted (Some (Took p pdu)) lines = lines
+on_cable_after s ends whole count sent accepted None lines = lines
+on_cable_after s ends whole count sent accepted (Some (Sends p pdu)) lines = put_on_cable ends whole accepted p (Control pdu (stamp_of pdu (count p))) lines
+on_cable_after s ends whole count sent accepted (Some (Sends_frame p g k)) lines = put_on_cable ends whole accepted p (Data s g k (length (sent g k))) lines
+on_cable_after s ends whole count sent accepted (Some (Took p pdu)) lines = lines
 
 -- the serial numbers that each conversation sent: one more for a conversation that sends a frame
 abbrev pub sent_after : Option Act → (ℕ → ℕ → List ℕ) → ℕ → ℕ → List ℕ
@@ -138,8 +138,8 @@ taken_after stamp (Some (Took p pdu)) taken = λ q. cond (eqb q p) (Some (record
 abbrev pub world_after : WorldSetup → Side → ℕ → Move × Bool → World → World
 world_after x s stamp m w = record w {
   view = at_side w.view s (view_after (x.setup s) m.0 (w.view s));
-  line = at_side w.line (peer s) (line_after s (end_at x.cables s) w.whole (w.count s) (w.sent s) m.1 (act (x.setup s) m.0 (w.view s))
-      (w.line (peer s)));
+  on_cable = at_side w.on_cable (peer s) (on_cable_after s (end_at x.cables s) w.whole (w.count s) (w.sent s) m.1 (act (x.setup s) m.0 (w.view s))
+      (w.on_cable (peer s)));
   sent = at_side w.sent s (sent_after (act (x.setup s) m.0 (w.view s)) (w.sent s));
   taken = at_side w.taken s (taken_after stamp (act (x.setup s) m.0 (w.view s)) (w.taken s));
 }
@@ -147,7 +147,7 @@ world_after x s stamp m w = record w {
 -- moves of system s one after another are allowed; each says whether the cable accepts what it sends
 abbrev pub AllMoves : WorldSetup → Side → ModelCall → ℕ → List (Move × Bool) → World → Type 0
 AllMoves x s call stamp [] w = Unit {0}
-AllMoves x s call stamp (m ∷ ms) w = Allowed (x.setup s) call (w.view s) m.0 × AllMoves x s call stamp ms (world_after x s stamp m w)
+AllMoves x s call stamp (m ∷ ms) w = MoveAllowed (x.setup s) call (w.view s) m.0 × AllMoves x s call stamp ms (world_after x s stamp m w)
 
 -- the world after these moves
 abbrev pub world_after_all : WorldSetup → Side → ℕ → List (Move × Bool) → World → World
@@ -192,8 +192,8 @@ abbrev pub at_cable : {X : Type 0} → (ℕ → X) → ℕ → X → ℕ → X
 at_cable f c x d = cond (eqb d c) x (f d)
 
 -- the messages on cable c towards a system become ms
-abbrev pub with_line : World → ℕ → Side → List Message → World
-with_line w c to ms = record w { line = at_side w.line to (at_cable (w.line to) c ms) }
+abbrev pub with_messages : World → ℕ → Side → List Message → World
+with_messages w c to ms = record w { on_cable = at_side w.on_cable to (at_cable (w.on_cable to) c ms) }
 
 -- a frame is handed up, or dropped
 abbrev pub handed_up : Bool → Message → World → World
@@ -211,7 +211,7 @@ Receives x s p (Data origin g k serial) old mid new =
 abbrev pub DeliversFirst : WorldSetup → ℕ → Side → Option ℕ → List Message → World → World → Type 0
 DeliversFirst x c to port [] old new = new ≡ old
 DeliversFirst x c to None (m ∷ ms) old new = ⊥
-DeliversFirst x c to (Some p) (m ∷ ms) old new = Receives x to p m old (with_line old c to ms) new
+DeliversFirst x c to (Some p) (m ∷ ms) old new = Receives x to p m old (with_messages old c to ms) new
 
 -- the first message of a list is received at the cable's end, but stays on the cable; a frame is never repeated
 abbrev pub RepeatsFirst : WorldSetup → ℕ → Side → Option ℕ → List Message → World → World → Type 0
@@ -223,7 +223,7 @@ RepeatsFirst x c to (Some p) (Control pdu stamp ∷ ms) old new = Receives x to 
 -- the first message of a list is lost
 abbrev pub LosesFirst : ℕ → Side → List Message → World → World → Type 0
 LosesFirst c to [] old new = new ≡ old
-LosesFirst c to (m ∷ ms) old new = new ≡ with_line old c to ms
+LosesFirst c to (m ∷ ms) old new = new ≡ with_messages old c to ms
 
 -- system s learns whether its cable is whole
 abbrev pub SensesCable : WorldSetup → Side → Option ℕ → Bool → World → World → Type 0
@@ -235,17 +235,17 @@ abbrev pub Happens : WorldSetup → Event → World → World → Type 0
 -- several ticks are one list of moves
 Happens x (Tick s n) old new = CallHappens x s ModelCall.Tick 0 old old new
 Happens x (Emit s p) old new = CallHappens x s ModelCall.Transmit 0 old old new
-Happens x (Deliver c to) old new = DeliversFirst x c to (end_at x.cables to c) (old.line to c) old new
-Happens x (Lose c to) old new = LosesFirst c to (old.line to c) old new
-Happens x (Repeat c to) old new = RepeatsFirst x c to (end_at x.cables to c) (old.line to c) old new
+Happens x (Deliver c to) old new = DeliversFirst x c to (end_at x.cables to c) (old.on_cable to c) old new
+Happens x (Lose c to) old new = LosesFirst c to (old.on_cable to c) old new
+Happens x (Repeat c to) old new = RepeatsFirst x c to (end_at x.cables to c) (old.on_cable to c) old new
 -- a cut loses what is on the cable
 Happens x (Cut c) old new =
-    new ≡ record old { whole = at_cable old.whole c false; line = λ s. at_cable (old.line s) c [] }
+    new ≡ record old { whole = at_cable old.whole c false; on_cable = λ s. at_cable (old.on_cable s) c [] }
 Happens x (Join c) old new = new ≡ record old { whole = at_cable old.whole c true }
 Happens x (Sense c s) old new = SensesCable x s (end_at x.cables s c) (old.whole c) old new
 -- a restart of a system loses what is on its cables, which are all cables
 Happens x (Restart s) old new =
-    AfterCounting old (record old { view = at_side old.view s (first_view (x.setup s)); line = λ t c. [] }) new
+    AfterCounting old (record old { view = at_side old.view s (first_view (x.setup s)); on_cable = λ t c. [] }) new
 Happens x (Configure s p change) old new = CallHappens x s ModelCall.Configure 0 old old new
 Happens x (Offer s g frame) old new = CallHappens x s ModelCall.Offer 0 old old new
 Happens x (Move_conversation s g k p) old new = CallHappens x s ModelCall.Move_conversation 0 old old new

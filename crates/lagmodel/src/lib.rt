@@ -6,7 +6,7 @@
 #![tactic(auto)]
 
 ghost use Rattle.lagmodel.specs.World.{Side};
-ghost use Rattle.lagmodel.specs.Law.{IsInvariant, OnePartner, Agree, InOrder, TookSynchronised, NamesPresent, OnItsCable, FlushedByMarker, BelowNext, CollectedThenInFlight, CountsFromZero};
+ghost use Rattle.lagmodel.specs.Law.{IsInvariant, OnePartner, EndsAgree, InOrder, LastLacpduSaysInSync, UpToDateLacpdusNameSender, OnItsCable, FlushedByMarker, BelowNext, CollectedThenInFlight, CountsFromZero};
 
 /// The headline. After each event of every schedule: ports that distribute in one aggregator have one partner; the two
 /// ends of a cable have the same Link Aggregation Group, if both distribute, neither changed since it sent the LACPDU
@@ -15,10 +15,10 @@ ghost use Rattle.lagmodel.specs.Law.{IsInvariant, OnePartner, Agree, InOrder, To
 /// the proof rests.
 pub fn headline()
     ensures one_partner { IsInvariant (λ x w. (s : Side) → OnePartner (w.view s)) }
-    ensures agree { IsInvariant (λ x w. Agree x w) }
+    ensures agree { IsInvariant (λ x w. EndsAgree x w) }
     ensures in_order { IsInvariant (λ x w. InOrder w) }
-    ensures took_synchronised { IsInvariant (λ x w. TookSynchronised w) }
-    ensures names_present { IsInvariant (λ x w. NamesPresent x w) }
+    ensures took_synchronised { IsInvariant (λ x w. LastLacpduSaysInSync w) }
+    ensures names_present { IsInvariant (λ x w. UpToDateLacpdusNameSender x w) }
     ensures on_its_cable { IsInvariant (λ x w. OnItsCable x w) }
     ensures flushed_by_marker { IsInvariant (λ x w. FlushedByMarker x w) }
     ensures below_next { IsInvariant (λ x w. BelowNext w) }
@@ -28,16 +28,16 @@ pub fn headline()
 
 ghost use Rattle.std.specs.Prelude.{List};
 ghost use Rattle.lagmodel.specs.View.{View, SystemSetup, IsSystemSetup, ModelCall, first_view};
-ghost use Rattle.lagmodel.specs.Move.{Act, FreeMoves};
-ghost use Rattle.lagmodel.specs.Law.{FreeRun, Members};
+ghost use Rattle.lagmodel.specs.Move.{Act, LawfulMoves};
+ghost use Rattle.lagmodel.specs.Law.{LawfulRun, Members};
 
 /// One system by itself, whatever it receives: `Members` holds at the start and after each call, so after every list of
 /// calls; and if it holds, ports that distribute in one aggregator have one partner (6.4.14.1).
 pub fn one_system()
     ensures first { (u : SystemSetup) → IsSystemSetup u → Members u (first_view u).port }
-    ensures preserved { (u : SystemSetup) (call : ModelCall) (old new : View) (seen : List Act) → IsSystemSetup u → FreeMoves u call old seen new
+    ensures preserved { (u : SystemSetup) (call : ModelCall) (old new : View) (seen : List Act) → IsSystemSetup u → LawfulMoves u call old seen new
         → Members u old.port → Members u new.port }
-    ensures always { (u : SystemSetup) (calls : List ModelCall) (v : View) → IsSystemSetup u → FreeRun u calls (first_view u) v → Members u v.port
+    ensures always { (u : SystemSetup) (calls : List ModelCall) (v : View) → IsSystemSetup u → LawfulRun u calls (first_view u) v → Members u v.port
         × OnePartner v }
     ensures one_partner { (u : SystemSetup) (v : View) → Members u v.port → OnePartner v }
 {}

@@ -6,9 +6,9 @@ use Rattle.lagsystem.specs.declared.fault.BadConfig.TheVariants as bad
 use Rattle.lagscript.specs.Configs.{ConfigValue, refusal_of_all}
 use Rattle.lagscript.specs.Entries.{event_at, event_in, events_from, at_entry}
 use Rattle.lagscript.specs.Keys.{ends_in, flag_in, key_in, keys_among, limit_in, list_in, mac_in, integer_in, just_two, value_at}
-use Rattle.lagscript.specs.Readings.{◌>>=◌, in_place, or_fault, if_or_fault}
+use Rattle.lagscript.specs.Readings.{◌>>=◌, each_at_place, or_fault, if_or_fault}
 use Rattle.lagscript.specs.Scripts.{PlanValue, events_in, cables_in, script_fault_for, ends_of, entries_in, no_fault, plan_in, planned, systems_in, top_keys, two_systems}
-use Rattle.lagscript.specs.Tables.{aggregators_in, cable_keys, cable_of, limit_of, numbers_in, port_keys, port_config_of, ports_in, system_keys, system_of}
+use Rattle.lagscript.specs.Tables.{aggregators_in, cable_keys, cable_of, limit_of, system_values_in, port_keys, port_config_of, ports_in, system_keys, system_of}
 use Rattle.lagscript.specs.declared.config.BadWorld.{BadWorld}
 use Rattle.lagscript.specs.declared.config.BadWorld.TheVariants as refused
 use Rattle.lagscript.specs.declared.fault.EntryFault.{EntryFault}
@@ -17,7 +17,7 @@ use Rattle.lagscript.specs.declared.fault.ScriptFault.{ScriptFault}
 use Rattle.lagscript.specs.declared.fault.ScriptFault.TheVariants as fault
 use Rattle.lagscript.specs.declared.fault.SystemKey.TheVariants as system_key
 use Rattle.lagscript.specs.declared.tables.CablePlan.{CablePlan}
-use Rattle.lagscript.specs.declared.tables.Numbers.{Numbers}
+use Rattle.lagscript.specs.declared.tables.SystemValues.{SystemValues}
 
 abbrev Fine : {A : Type 0} → Result A ScriptFault → Type 0
 Fine r = r ≡ Err fault.NotToml → ⊥
@@ -42,10 +42,10 @@ unless_fine false w r h g e =
     let same : w ≡ fault.NotToml = cc in
     h same
 
-in_place_fine : {A X : Type 0} (f : ℕ → X → Result A ScriptFault) → ((place : ℕ) (x : X) → Fine (f place x)) → (place : ℕ) (xs : List X) → Fine (in_place f place xs)
+in_place_fine : {A X : Type 0} (f : ℕ → X → Result A ScriptFault) → ((place : ℕ) (x : X) → Fine (f place x)) → (place : ℕ) (xs : List X) → Fine (each_at_place f place xs)
 in_place_fine f h place [] e = cc
 in_place_fine f h place (x ∷ xs) e =
-    then_fine (f place x) (λ y. in_place f (place + 1) xs >>= λ ys. Ok (y ∷ ys)) (h place x) (λ y. then_fine (in_place f (place + 1) xs) (λ ys. Ok (y ∷ ys)) (in_place_fine f h (place + 1) xs) (λ ys d. cc)) e
+    then_fine (f place x) (λ y. each_at_place f (place + 1) xs >>= λ ys. Ok (y ∷ ys)) (h place x) (λ y. then_fine (each_at_place f (place + 1) xs) (λ ys. Ok (y ∷ ys)) (in_place_fine f h (place + 1) xs) (λ ys d. cc)) e
 
 -- three steps, one after another
 three_fine : {A B C D : Type 0} (r : Result A ScriptFault) (s : A → Result B ScriptFault) (t : A → B → Result C ScriptFault) (last : A → B → C → Result D ScriptFault) → Fine r → ((x : A) → Fine (s x)) → ((x : A) (y : B) → Fine (t x y))
@@ -88,7 +88,7 @@ port_fine system own place ms =
 
 -- ---- systems
 
-numbers_steps : (system : ℕ) (known : Bool) (priority : Option ℕ) (mac : Option (List ℕ)) (max_delay first_marker : Option ℕ) (make : ℕ → List ℕ → ℕ → ℕ → Numbers)
+numbers_steps : (system : ℕ) (known : Bool) (priority : Option ℕ) (mac : Option (List ℕ)) (max_delay first_marker : Option ℕ) (make : ℕ → List ℕ → ℕ → ℕ → SystemValues)
     → Fine (
     if_or_fault known (fault.SystemExtraKey system) (
     or_fault (fault.SystemValue system system_key.Priority) priority >>= λ priority.
@@ -105,7 +105,7 @@ numbers_steps system true (Some p) (Some m) None d make e = cc
 numbers_steps system true (Some p) (Some m) (Some x) None make e = cc
 numbers_steps system true (Some p) (Some m) (Some x) (Some y) make e = cc
 
-numbers_fine : (system : ℕ) (ms : Members) → Fine (numbers_in system ms)
+numbers_fine : (system : ℕ) (ms : Members) → Fine (system_values_in system ms)
 numbers_fine system ms =
     numbers_steps system (keys_among system_keys ms) (value_at (codes "priority") (integer_in 65536) (Some 32768) ms) (value_at (codes "mac") mac_in None ms) (value_at (codes "max_delay") (integer_in 65536) (Some 0) ms)
     (value_at (codes "first_marker") (integer_in 4294967296) (Some 1) ms) (λ priority mac max_delay first_marker. record { id = record { priority = priority; mac = mac }; max_delay = max_delay; first_marker = first_marker })
@@ -115,12 +115,12 @@ aggregators_fine system ms = or_fine (fault.SystemValue system system_key.Aggreg
 
 ports_fine : (system : ℕ) (own : List ℕ) (ms : Members) → Fine (ports_in system own ms)
 ports_fine system own ms =
-    then_fine (or_fault (fault.SystemValue system system_key.Port) (value_at (codes "port") (list_in as_table) None ms)) (in_place (port_config_of system own) 1)
+    then_fine (or_fault (fault.SystemValue system system_key.Port) (value_at (codes "port") (list_in as_table) None ms)) (each_at_place (port_config_of system own) 1)
     (or_fine (fault.SystemValue system system_key.Port) (value_at (codes "port") (list_in as_table) None ms) (λ e. cc)) (in_place_fine (port_config_of system own) (port_fine system own) 1)
 
 system_fine : (system : ℕ) (ms : Members) → Fine (system_of system ms)
 system_fine system ms =
-    three_fine {D = ConfigValue} (numbers_in system ms) (λ n. aggregators_in system ms) (λ n a. ports_in system n.id.mac ms)
+    three_fine {D = ConfigValue} (system_values_in system ms) (λ n. aggregators_in system ms) (λ n a. ports_in system n.id.mac ms)
     (λ n aggregators ports. Ok (record { system = n.id; max_delay = n.max_delay; first_marker = n.first_marker; aggregators = aggregators; ports = ports })) (numbers_fine system ms) (λ n. aggregators_fine system ms)
     (λ n a. ports_fine system n.id.mac ms) (λ n a p e. cc)
 
@@ -149,7 +149,7 @@ cable_fine place ms =
 
 cables_fine : (ms : Members) → Fine (cables_in ms)
 cables_fine ms =
-    then_fine (or_fault fault.Cables (value_at (codes "cable") (list_in as_table) (Some []) ms)) (in_place cable_of 1) (or_fine fault.Cables (value_at (codes "cable") (list_in as_table) (Some []) ms) (λ e. cc))
+    then_fine (or_fault fault.Cables (value_at (codes "cable") (list_in as_table) (Some []) ms)) (each_at_place cable_of 1) (or_fine fault.Cables (value_at (codes "cable") (list_in as_table) (Some []) ms) (λ e. cc))
     (in_place_fine cable_of cable_fine 1)
 
 entry_fine : {A : Type 0} (place : ℕ) (r : Result A EntryFault) → Fine (at_entry place r)

@@ -4,7 +4,7 @@ use Rattle.std.specs.List.{All}
 use Rattle.std.proofs.lemmas.List.Elements.{All-cons, All-map, All-nil}
 use Rattle.toml.specs.Data.{Data, Members, as_table, get_member}
 use Rattle.lagscript.specs.Keys.{ends_in, from_one, keys_among, limit_in, list_in, integer_in, value_at, value_or}
-use Rattle.lagscript.specs.Readings.{◌>>=◌, in_place, or_fault, if_or_fault}
+use Rattle.lagscript.specs.Readings.{◌>>=◌, each_at_place, or_fault, if_or_fault}
 use Rattle.lagscript.specs.Scripts.{cables_in, limits_of}
 use Rattle.lagscript.specs.Tables.{cable_keys, cable_of, limit_of}
 use Rattle.lagscript.specs.declared.fault.ScriptFault.{ScriptFault}
@@ -43,10 +43,10 @@ cable_has : (place : ℕ) (ms : Members) (c : CablePlan) → cable_of place ms �
 cable_has place ms c e =
     joined place c (keys_among cable_keys ms) (value_at (codes "ends") ends_in None ms) (limit_of place ms) (λ l. said (fault.CableLimit place) l (get_member (codes "limit") ms)) e
 
-each_has : (place : ℕ) (mss : List Members) (cables : List CablePlan) → in_place cable_of place mss ≡ Ok cables → All (λ c. IsLimit c.limit) cables
+each_has : (place : ℕ) (mss : List Members) (cables : List CablePlan) → each_at_place cable_of place mss ≡ Ok cables → All (λ c. IsLimit c.limit) cables
 each_has place [] [] e = All-nil (λ c. IsLimit c.limit)
 each_has place [] (c ∷ cs) e = absurd (let f = e in cc)
-each_has place (ms ∷ mss) cables e = read (cable_of place ms) (in_place cable_of (place + 1) mss) (cable_has place ms) (each_has (place + 1) mss) e
+each_has place (ms ∷ mss) cables e = read (cable_of place ms) (each_at_place cable_of (place + 1) mss) (cable_has place ms) (each_has (place + 1) mss) e
   where
     read : (r : Result CablePlan ScriptFault) (rest : Result (List CablePlan) ScriptFault) → ((c : CablePlan) → r ≡ Ok c → IsLimit c.limit) → ((cs : List CablePlan) → rest ≡ Ok cs → All (λ c. IsLimit c.limit) cs)
         → (r >>= λ y. rest >>= λ ys. Ok (y ∷ ys)) ≡ Ok cables → All (λ c. IsLimit c.limit) cables
@@ -60,6 +60,6 @@ each_has place (ms ∷ mss) cables e = read (cable_of place ms) (in_place cable_
 pub limits_are : (ms : Members) (cables : List CablePlan) → cables_in ms ≡ Ok cables → All (λ limit. limit ≢ Some 0) (limits_of cables)
 limits_are ms cables e = All-map (λ limit. limit ≢ Some 0) (λ c. c.limit) cables (among (value_at (codes "cable") (list_in as_table) (Some []) ms) e)
   where
-    among : (o : Option (List Members)) → (or_fault fault.Cables o >>= in_place cable_of 1) ≡ Ok cables → All (λ c. IsLimit c.limit) cables
+    among : (o : Option (List Members)) → (or_fault fault.Cables o >>= each_at_place cable_of 1) ≡ Ok cables → All (λ c. IsLimit c.limit) cables
     among None e = absurd (let f = e in cc)
     among (Some mss) e = each_has 1 mss cables e

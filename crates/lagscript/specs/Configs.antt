@@ -66,7 +66,7 @@ same_system a b = (a.priority == b.priority) && bytes_eq a.mac b.mac
 
 -- why the configuration of system 1 or 2 is refused, if it is
 abbrev pub system_refusal : ℕ → ConfigValue → Option BadWorld
-system_refusal side plan = option_map (System side) (refusal plan.aggregators plan.ports)
+system_refusal side config = option_map (System side) (refusal config.aggregators config.ports)
 
 -- the first reason to refuse two systems and their cables: of system 1, of system 2, equal identifiers, of the cables
 abbrev pub refusal_of_two : ConfigValue → ConfigValue → List (ℕ × ℕ) → Option BadWorld

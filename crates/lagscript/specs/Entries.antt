@@ -2,7 +2,7 @@
 use Rattle.std.specs.Prelude.{ℕ, ◌==◌, ◌&&◌, ◌||◌, Bool, true, false, List, [], ◌∷◌, codes, nat_le, if◌then◌else◌, Result, Ok, Err}
 use Rattle.std.specs.Str.{bytes_eq}
 use Rattle.lagscript.specs.EventValues.{EventValue, event_value, tick, emit, deliver, lose, repeat, cut, join, sense, restart, configure, offer, move_to, force}
-use Rattle.lagscript.specs.Readings.{◌>>=◌, in_place, or_fault, if_or_fault}
+use Rattle.lagscript.specs.Readings.{◌>>=◌, each_at_place, or_fault, if_or_fault}
 use Rattle.lagscript.specs.Words.{number_below, octets_of, words_of}
 use Rattle.lagscript.specs.declared.event.Event.{Event}
 use Rattle.lagscript.specs.declared.fault.EntryFault.{EntryFault}
@@ -27,8 +27,8 @@ abbrev pub ticks_word : List ℕ → Result ℕ EntryFault
 ticks_word w = number_word w >>= λ n. if_or_fault (nat_le 1 n) entry.Number (Ok n)
 
 -- `aggregatable` as true, `individual` as false
-abbrev pub kind_word : List ℕ → Result Bool EntryFault
-kind_word w =
+abbrev pub aggregation_word : List ℕ → Result Bool EntryFault
+aggregation_word w =
     if bytes_eq w (codes "aggregatable") then Ok true
     else if bytes_eq w (codes "individual") then Ok false
     else Err entry.Kind
@@ -99,8 +99,8 @@ configure_event s port key priority aggregatable = configure s port
     (record { key = record { 0 = key }; priority = priority; aggregatable = aggregatable })
 
 -- the event by its first word and the words after it; all events but `offer`, whose octets take memory
-abbrev pub plain_named : ℕ → List ℕ → List (List ℕ) → Result EventValue EntryFault
-plain_named cables name =
+abbrev pub frameless_event_named : ℕ → List ℕ → List (List ℕ) → Result EventValue EntryFault
+frameless_event_named cables name =
     if bytes_eq name (codes "tick") then with_two_words system_word ticks_word tick
     else if bytes_eq name (codes "emit") then with_two_words system_word number_word emit
     else if bytes_eq name (codes "deliver") then with_two_words (cable_word cables) system_word deliver
@@ -110,7 +110,7 @@ plain_named cables name =
     else if bytes_eq name (codes "join") then with_one_word (cable_word cables) join
     else if bytes_eq name (codes "sense") then with_two_words (cable_word cables) system_word sense
     else if bytes_eq name (codes "restart") then with_one_word system_word restart
-    else if bytes_eq name (codes "configure") then with_five_words system_word number_word number_word number_word kind_word configure_event
+    else if bytes_eq name (codes "configure") then with_five_words system_word number_word number_word number_word aggregation_word configure_event
     else if bytes_eq name (codes "move") then with_four_words system_word number_word number_word number_word move_to
     else if bytes_eq name (codes "force") then with_three_words system_word number_word number_word force
     else (λ _. Err entry.Word)
@@ -118,12 +118,12 @@ plain_named cables name =
 -- the event by its first word and the words after it
 abbrev pub event_named : ℕ → List ℕ → List (List ℕ) → Result EventValue EntryFault
 event_named cables name ws = if bytes_eq name (codes "offer") then with_three_words system_word number_word hex_word offer ws
-    else plain_named cables name ws
+    else frameless_event_named cables name ws
 
 -- an event that was read, as a value of the logic; or its fault
-abbrev pub event_or_fault : Result Event EntryFault → Result EventValue EntryFault
-event_or_fault (Ok e) = Ok (event_value e)
-event_or_fault (Err e) = Err e
+abbrev pub event_result_value : Result Event EntryFault → Result EventValue EntryFault
+event_result_value (Ok e) = Ok (event_value e)
+event_result_value (Err e) = Err e
 
 -- the event of all words of an entry; Word if there is none
 abbrev pub event_of_words : ℕ → List (List ℕ) → Result EventValue EntryFault
@@ -145,4 +145,4 @@ event_at cables place text = at_entry place (event_in cables text)
 
 -- the events in the texts of entries, the first of them at this place
 abbrev pub events_from : ℕ → ℕ → List (List ℕ) → Result (List EventValue) ScriptFault
-events_from cables = in_place (event_at cables)
+events_from cables = each_at_place (event_at cables)

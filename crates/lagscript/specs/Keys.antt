@@ -13,29 +13,29 @@ keys_among known (member k d ms) = list_any (λ name. bytes_eq name k) known && 
 
 -- the value, read by this function, or the default if it is left out
 abbrev pub value_or : {A : Type 0} → Option A → (Data → Option A) → Option Data → Option A
-value_or default says None = default
-value_or default says (Some d) = says d
+value_or default read None = default
+value_or default read (Some d) = read d
 
 -- The value of a key: its name, how its value is read, and its default if it is left out. Without a default, the key
 -- must be there.
 abbrev pub value_at : {A : Type 0} → List ℕ → (Data → Option A) → Option A → Members → Option A
-value_at name says default ms = value_or default says (get_member name ms)
+value_at name read default ms = value_or default read (get_member name ms)
 
--- a whole number below a limit
+-- a whole number from 0 up to, and without, this bound; None for any other
 abbrev pub natural_below : ℕ → ℤ → Option ℕ
-natural_below limit (pos n) = if nat_lt n limit then Some n else None
-natural_below limit (negsuc n) = None
+natural_below bound (pos n) = if nat_lt n bound then Some n else None
+natural_below bound (negsuc n) = None
 
--- the value of an integer that is not negative and below a limit; None for any other value
+-- the value of an integer that is not negative and below this bound; None for any other value
 abbrev pub integer_in : ℕ → Data → Option ℕ
-integer_in limit (integer z) = natural_below limit z
-integer_in limit _ = None
+integer_in bound (integer z) = natural_below bound z
+integer_in bound _ = None
 
 -- the number, unless it is 0
 abbrev pub from_one : ℕ → Option ℕ
 from_one n = if nat_le 1 n then Some n else None
 
--- a number of 1 to 65535
+-- the limit of a cable, an integer of 1 to 65535; None for any other value
 abbrev pub limit_in : Data → Option ℕ
 limit_in d = option_and_then from_one (integer_in 65536 d)
 
@@ -54,12 +54,12 @@ key_in d = option_map (λ n. record { 0 = n }) (integer_in 65536 d)
 
 -- every item is read by this function, if it can read each
 abbrev pub each_in : {A : Type 0} → (Data → Option A) → Items → Option (List A)
-each_in says no_items = Some []
-each_in says (item d ds) = option_and_then (λ x. option_map (λ xs. x ∷ xs) (each_in says ds)) (says d)
+each_in read no_items = Some []
+each_in read (item d ds) = option_and_then (λ x. option_map (λ xs. x ∷ xs) (each_in read ds)) (read d)
 
 -- an array of values that this function reads
 abbrev pub list_in : {A : Type 0} → (Data → Option A) → Data → Option (List A)
-list_in says d = option_and_then (each_in says) (as_array d)
+list_in read d = option_and_then (each_in read) (as_array d)
 
 -- the elements of a list of exactly two
 abbrev pub just_two : {A : Type 0} → Option (List A) → Option (A × A)

@@ -17,9 +17,9 @@ abbrev pub if_or_fault : {A E : Type 0} → Bool → E → Result A E → Result
 if_or_fault b e r = if b then r else Err e
 
 -- each element read by f with its place, the first at this place; or the first fault
-abbrev pub in_place : {A X E : Type 0} → (ℕ → X → Result A E) → ℕ → List X → Result (List A) E
-in_place f place [] = Ok []
-in_place f place (x ∷ rest) = f place x >>= λ y. in_place f (place + 1) rest >>= λ ys. Ok (y ∷ ys)
+abbrev pub each_at_place : {A X E : Type 0} → (ℕ → X → Result A E) → ℕ → List X → Result (List A) E
+each_at_place f place [] = Ok []
+each_at_place f place (x ∷ rest) = f place x >>= λ y. each_at_place f (place + 1) rest >>= λ ys. Ok (y ∷ ys)
 
 -- the result is the stated one, or memory ran out
 abbrev pub ReadsAs : {A B E : Type 0} → E → (A → B) → Result B E → Result A E → Type 0

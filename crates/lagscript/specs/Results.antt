@@ -12,7 +12,7 @@ use Rattle.lagscript.specs.declared.entries.EntryError.TheVariants.{Fault, NoMem
 use Rattle.lagscript.specs.declared.event.Event.{Event}
 use Rattle.lagscript.specs.declared.fault.EntryFault.{EntryFault}
 
--- a word that is only read
+-- a word of the caller, borrowed
 abbrev pub Word : Type 0
 Word = Bor (List ℕ)
 

@@ -8,7 +8,7 @@ use Rattle.lagscript.specs.EventValues.{EventValue, event_values}
 use Rattle.lagscript.specs.Configs.{ConfigValue, config_value, refusal_of_all}
 use Rattle.lagscript.specs.Entries.{events_from}
 use Rattle.lagscript.specs.Keys.{keys_among, list_in, just_two, value_at}
-use Rattle.lagscript.specs.Readings.{◌>>=◌, in_place, or_fault, if_or_fault}
+use Rattle.lagscript.specs.Readings.{◌>>=◌, each_at_place, or_fault, if_or_fault}
 use Rattle.lagscript.specs.Tables.{cable_of, system_of}
 use Rattle.lagscript.specs.declared.config.BadWorld.{BadWorld}
 use Rattle.lagscript.specs.declared.config.BadWorld.TheVariants as refused
@@ -60,7 +60,7 @@ systems_in ms = or_fault fault.Systems (value_at (codes "system") (list_in as_ta
 
 -- the cables of a script, none if the key is left out; or the first fault
 abbrev pub cables_in : Members → Result (List CablePlan) ScriptFault
-cables_in ms = or_fault fault.Cables (value_at (codes "cable") (list_in as_table) (Some []) ms) >>= in_place cable_of 1
+cables_in ms = or_fault fault.Cables (value_at (codes "cable") (list_in as_table) (Some []) ms) >>= each_at_place cable_of 1
 
 -- the texts, if they are at most 100,000
 abbrev pub up_to_most : List (List ℕ) → Option (List (List ℕ))

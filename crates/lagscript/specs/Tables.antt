@@ -5,13 +5,13 @@ use Rattle.lagtypes.specs.declared.identifiers.Key.{Key}
 use Rattle.lagsystem.specs.declared.config.PortConfig.{PortConfig}
 use Rattle.lagscript.specs.Configs.{ConfigValue}
 use Rattle.lagscript.specs.Keys.{ends_in, flag_in, key_in, keys_among, limit_in, list_in, mac_in, integer_in, value_at}
-use Rattle.lagscript.specs.Readings.{◌>>=◌, in_place, or_fault, if_or_fault}
+use Rattle.lagscript.specs.Readings.{◌>>=◌, each_at_place, or_fault, if_or_fault}
 use Rattle.lagscript.specs.declared.fault.PortKey.TheVariants as port_key
 use Rattle.lagscript.specs.declared.fault.ScriptFault.{ScriptFault}
 use Rattle.lagscript.specs.declared.fault.ScriptFault.TheVariants as fault
 use Rattle.lagscript.specs.declared.fault.SystemKey.TheVariants as system_key
 use Rattle.lagscript.specs.declared.tables.CablePlan.{CablePlan}
-use Rattle.lagscript.specs.declared.tables.Numbers.{Numbers}
+use Rattle.lagscript.specs.declared.tables.SystemValues.{SystemValues}
 
 -- ---- ports
 
@@ -49,8 +49,8 @@ abbrev pub system_keys : List (List ℕ)
 system_keys = codes "priority" ∷ codes "mac" ∷ codes "max_delay" ∷ codes "first_marker" ∷ codes "aggregators" ∷ codes "port" ∷ []
 
 -- the values of a system other than its lists
-abbrev pub numbers_in : ℕ → Members → Result Numbers ScriptFault
-numbers_in system ms =
+abbrev pub system_values_in : ℕ → Members → Result SystemValues ScriptFault
+system_values_in system ms =
     let wrong = fault.SystemValue system in
     if_or_fault (keys_among system_keys ms) (fault.SystemExtraKey system) (
     or_fault (wrong system_key.Priority) (value_at (codes "priority") (integer_in 65536) (Some 32768) ms) >>= λ priority.
@@ -68,12 +68,12 @@ aggregators_in system ms = or_fault (fault.SystemValue system system_key.Aggrega
 -- every element is a table, and each is read as the port at its place
 abbrev pub ports_in : ℕ → List ℕ → Members → Result (List PortConfig) ScriptFault
 ports_in system own ms = or_fault (fault.SystemValue system system_key.Port) (value_at (codes "port") (list_in as_table) None ms)
-    >>= in_place (port_config_of system own) 1
+    >>= each_at_place (port_config_of system own) 1
 
 -- the configuration of the system in a table, or the first fault
 abbrev pub system_of : ℕ → Members → Result ConfigValue ScriptFault
 system_of system ms =
-    numbers_in system ms >>= λ n.
+    system_values_in system ms >>= λ n.
     aggregators_in system ms >>= λ aggregators.
     ports_in system n.id.mac ms >>= λ ports.
     Ok (record { system = n.id; max_delay = n.max_delay; first_marker = n.first_marker; aggregators = aggregators; ports = ports })

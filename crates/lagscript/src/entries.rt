@@ -1,5 +1,5 @@
 ghost use Rattle.std.specs.Prelude.{◌≡◌, IfOk, map};
-ghost use Rattle.lagscript.specs.Entries.{event_in, event_named, cable_word, configure_event, with_five_words, five_words, with_four_words, four_words, hex_word, kind_word, number_word, with_one_word, one_word, plain_named, event_or_fault, system_word, with_three_words, three_words, ticks_word, with_two_words, two_words};
+ghost use Rattle.lagscript.specs.Entries.{event_in, event_named, cable_word, configure_event, with_five_words, five_words, with_four_words, four_words, hex_word, aggregation_word, number_word, with_one_word, one_word, frameless_event_named, event_result_value, system_word, with_three_words, three_words, ticks_word, with_two_words, two_words};
 ghost use Rattle.lagscript.specs.EventValues as act;
 ghost use Rattle.lagscript.specs.Results.{ReadsEntryAs, five_words_octets, four_words_octets, one_word_octets, three_words_octets, two_words_octets};
 ghost use Rattle.lagscript.specs.declared.entries.EntryError.TheVariants.{Fault, NoMemory as Spent};
@@ -82,8 +82,8 @@ fn ticks(word: &str) -> Result<u16, EntryFault>
 }
 
 /// Reads whether the link is aggregatable or individual.
-fn kind(word: &str) -> Result<bool, EntryFault>
-    ensures { result ≡ kind_word word.now }
+fn aggregation(word: &str) -> Result<bool, EntryFault>
+    ensures { result ≡ aggregation_word word.now }
 {
     match word {
         "aggregatable" => Ok(true),
@@ -124,7 +124,7 @@ fn three_words<'a>(words: &[&'a str]) -> Result<(&'a str, &'a str, &'a str), Ent
 
 /// Reads the words of `emit`: a system and a port.
 fn emit(words: &[&str]) -> Result<Event, EntryFault>
-    ensures { event_or_fault result ≡ with_two_words system_word number_word act.emit (map (λ w. w.now) words.now) }
+    ensures { event_result_value result ≡ with_two_words system_word number_word act.emit (map (λ w. w.now) words.now) }
 {
     let (s, port) = two_words(words)?;
     Ok(Event::Emit(system(s)?, number(port)?))
@@ -132,7 +132,7 @@ fn emit(words: &[&str]) -> Result<Event, EntryFault>
 
 /// Reads the words of `tick`: a system and a number of ticks.
 fn tick(words: &[&str]) -> Result<Event, EntryFault>
-    ensures { event_or_fault result ≡ with_two_words system_word ticks_word act.tick (map (λ w. w.now) words.now) }
+    ensures { event_result_value result ≡ with_two_words system_word ticks_word act.tick (map (λ w. w.now) words.now) }
 {
     let (s, n) = two_words(words)?;
     Ok(Event::Tick(system(s)?, ticks(n)?))
@@ -162,7 +162,7 @@ fn five_words<'a>(
 
 /// Reads the words of `deliver`: a cable and the system that receives.
 fn deliver(cables: usize, words: &[&str]) -> Result<Event, EntryFault>
-    ensures { event_or_fault result ≡ with_two_words (cable_word cables) system_word act.deliver (map (λ w. w.now) words.now) }
+    ensures { event_result_value result ≡ with_two_words (cable_word cables) system_word act.deliver (map (λ w. w.now) words.now) }
 {
     let (c, s) = two_words(words)?;
     Ok(Event::Deliver(cable(cables, c)?, system(s)?))
@@ -170,7 +170,7 @@ fn deliver(cables: usize, words: &[&str]) -> Result<Event, EntryFault>
 
 /// Reads the words of `lose`: a cable and the system towards which an item is lost.
 fn lose(cables: usize, words: &[&str]) -> Result<Event, EntryFault>
-    ensures { event_or_fault result ≡ with_two_words (cable_word cables) system_word act.lose (map (λ w. w.now) words.now) }
+    ensures { event_result_value result ≡ with_two_words (cable_word cables) system_word act.lose (map (λ w. w.now) words.now) }
 {
     let (c, s) = two_words(words)?;
     Ok(Event::Lose(cable(cables, c)?, system(s)?))
@@ -178,7 +178,7 @@ fn lose(cables: usize, words: &[&str]) -> Result<Event, EntryFault>
 
 /// Reads the words of `repeat`: a cable and the system that receives.
 fn repeat(cables: usize, words: &[&str]) -> Result<Event, EntryFault>
-    ensures { event_or_fault result ≡ with_two_words (cable_word cables) system_word act.repeat (map (λ w. w.now) words.now) }
+    ensures { event_result_value result ≡ with_two_words (cable_word cables) system_word act.repeat (map (λ w. w.now) words.now) }
 {
     let (c, s) = two_words(words)?;
     Ok(Event::Repeat(cable(cables, c)?, system(s)?))
@@ -186,7 +186,7 @@ fn repeat(cables: usize, words: &[&str]) -> Result<Event, EntryFault>
 
 /// Reads the words of `sense`: a cable and a system.
 fn sense(cables: usize, words: &[&str]) -> Result<Event, EntryFault>
-    ensures { event_or_fault result ≡ with_two_words (cable_word cables) system_word act.sense (map (λ w. w.now) words.now) }
+    ensures { event_result_value result ≡ with_two_words (cable_word cables) system_word act.sense (map (λ w. w.now) words.now) }
 {
     let (c, s) = two_words(words)?;
     Ok(Event::Sense(cable(cables, c)?, system(s)?))
@@ -194,7 +194,7 @@ fn sense(cables: usize, words: &[&str]) -> Result<Event, EntryFault>
 
 /// Reads the word of `cut`: a cable.
 fn cut(cables: usize, words: &[&str]) -> Result<Event, EntryFault>
-    ensures { event_or_fault result ≡ with_one_word (cable_word cables) act.cut (map (λ w. w.now) words.now) }
+    ensures { event_result_value result ≡ with_one_word (cable_word cables) act.cut (map (λ w. w.now) words.now) }
 {
     let c = one_word(words)?;
     Ok(Event::Cut(cable(cables, c)?))
@@ -202,7 +202,7 @@ fn cut(cables: usize, words: &[&str]) -> Result<Event, EntryFault>
 
 /// Reads the word of `join`: a cable.
 fn join(cables: usize, words: &[&str]) -> Result<Event, EntryFault>
-    ensures { event_or_fault result ≡ with_one_word (cable_word cables) act.join (map (λ w. w.now) words.now) }
+    ensures { event_result_value result ≡ with_one_word (cable_word cables) act.join (map (λ w. w.now) words.now) }
 {
     let c = one_word(words)?;
     Ok(Event::Join(cable(cables, c)?))
@@ -210,7 +210,7 @@ fn join(cables: usize, words: &[&str]) -> Result<Event, EntryFault>
 
 /// Reads the word of `restart`: a system.
 fn restart(words: &[&str]) -> Result<Event, EntryFault>
-    ensures { event_or_fault result ≡ with_one_word system_word act.restart (map (λ w. w.now) words.now) }
+    ensures { event_result_value result ≡ with_one_word system_word act.restart (map (λ w. w.now) words.now) }
 {
     let s = one_word(words)?;
     Ok(Event::Restart(system(s)?))
@@ -218,14 +218,14 @@ fn restart(words: &[&str]) -> Result<Event, EntryFault>
 
 /// Reads the words of `configure`: a system, a port, its key and priority, and `aggregatable` or `individual`.
 fn configure(words: &[&str]) -> Result<Event, EntryFault>
-    ensures { event_or_fault result ≡ with_five_words system_word number_word number_word number_word kind_word configure_event (map (λ w. w.now) words.now) }
+    ensures { event_result_value result ≡ with_five_words system_word number_word number_word number_word aggregation_word configure_event (map (λ w. w.now) words.now) }
 {
     let (s, port, key, priority, aggregatable) = five_words(words)?;
     let s = system(s)?;
     let port = number(port)?;
     let key = Key(number(key)?);
     let priority = number(priority)?;
-    let aggregatable = kind(aggregatable)?;
+    let aggregatable = aggregation(aggregatable)?;
     let change = PortChange {
         key,
         priority,
@@ -236,7 +236,7 @@ fn configure(words: &[&str]) -> Result<Event, EntryFault>
 
 /// Reads the words of `move`: a system, an aggregator, a conversation and a port.
 fn move_to(words: &[&str]) -> Result<Event, EntryFault>
-    ensures { event_or_fault result ≡ with_four_words system_word number_word number_word number_word act.move_to (map (λ w. w.now) words.now) }
+    ensures { event_result_value result ≡ with_four_words system_word number_word number_word number_word act.move_to (map (λ w. w.now) words.now) }
 {
     let (s, agg, conv, port) = four_words(words)?;
     let s = system(s)?;
@@ -246,15 +246,15 @@ fn move_to(words: &[&str]) -> Result<Event, EntryFault>
 
 /// Reads the words of `force`: a system, an aggregator and a conversation.
 fn force(words: &[&str]) -> Result<Event, EntryFault>
-    ensures { event_or_fault result ≡ with_three_words system_word number_word number_word act.force (map (λ w. w.now) words.now) }
+    ensures { event_result_value result ≡ with_three_words system_word number_word number_word act.force (map (λ w. w.now) words.now) }
 {
     let (s, agg, conv) = three_words(words)?;
     Ok(Event::Force(system(s)?, AggId(number(agg)?), number(conv)?))
 }
 
 /// Reads an event, by its first word and the words after it; all events but `offer`.
-fn plain_named(cables: usize, name: &str, words: &[&str]) -> Result<Event, EntryFault>
-    ensures { event_or_fault result ≡ plain_named cables name.now (map (λ w. w.now) words.now) }
+fn frameless_event_named(cables: usize, name: &str, words: &[&str]) -> Result<Event, EntryFault>
+    ensures { event_result_value result ≡ frameless_event_named cables name.now (map (λ w. w.now) words.now) }
 {
     match name {
         "tick" => tick(words),
@@ -299,7 +299,7 @@ fn event_named(
     if name == "offer" {
         return offer(alloc, words);
     }
-    match plain_named(cables, name, words) {
+    match frameless_event_named(cables, name, words) {
         Ok(event) => Ok(event),
         Err(fault) => Err(EntryError::Fault(fault)),
     }

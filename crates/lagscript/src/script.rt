@@ -4,7 +4,7 @@ ghost use Rattle.lagscript.specs.EventValues.{event_value, event_values};
 ghost use Rattle.lagscript.specs.Configs.{config_value, world_refusal};
 ghost use Rattle.lagscript.specs.Entries.{event_at, events_from};
 ghost use Rattle.lagscript.specs.Keys.{just_two};
-ghost use Rattle.lagscript.specs.Readings.{ReadsAs, in_place};
+ghost use Rattle.lagscript.specs.Readings.{ReadsAs, each_at_place};
 ghost use Rattle.lagscript.specs.Scripts.{ReadsScript, ReadsPlan, events_in, cables_in, script_fault_for, ends_of, limits_of, plan_in, plan_value, systems_in, two_systems};
 ghost use Rattle.lagscript.specs.Tables.{cable_of};
 ghost use Rattle.lagscript.specs.declared.fault.ScriptFault.TheVariants.{NoMemory};
@@ -23,7 +23,7 @@ use std::alloc::{AllocError, Global};
 use toml::Table;
 
 /// The most entries that a script may have in `events`.
-const MOST: usize = 100_000;
+const MOST_ENTRIES: usize = 100_000;
 
 /// The keys at the top of a script.
 const TOP_KEYS: [&str; 3] = ["system", "cable", "events"];
@@ -57,7 +57,7 @@ fn fault_of(config: &WorldConfig) -> Option<ScriptFault>
 
 /// Reads the cables from these tables, in order.
 fn each_cable(alloc: Global, tables: &[&Table]) -> Result<Vec<CablePlan>, ScriptFault>
-    ensures { ReadsAs NoMemory (λ v. v.items) (in_place cable_of 1 (map table_members tables.now)) result }
+    ensures { ReadsAs NoMemory (λ v. v.items) (each_at_place cable_of 1 (map table_members tables.now)) result }
 {
     let mut cables = Vec::with_capacity(alloc, tables.len())?;
     let mut place = 0;
@@ -113,7 +113,7 @@ fn events_of(alloc: Global, cables: usize, top: &Table) -> Result<Vec<Event>, Sc
 {
     match member(top, "events") {
         Some(value) => match texts_in(alloc, value)? {
-            Some(texts) if texts.len() <= MOST => each_event(alloc, cables, &texts),
+            Some(texts) if texts.len() <= MOST_ENTRIES => each_event(alloc, cables, &texts),
             _ => Err(ScriptFault::Events),
         },
         None => Ok(Vec::new(alloc)),

@@ -1,8 +1,8 @@
 ghost use Rattle.std.specs.Prelude.{◌≡◌, map};
 ghost use Rattle.toml.specs.View.{table_view};
 ghost use Rattle.lagscript.specs.Configs.{config_value};
-ghost use Rattle.lagscript.specs.Readings.{ReadsAs, in_place};
-ghost use Rattle.lagscript.specs.Tables.{aggregators_in, cable_of, limit_of, numbers_in, port_config_of, ports_in, system_of};
+ghost use Rattle.lagscript.specs.Readings.{ReadsAs, each_at_place};
+ghost use Rattle.lagscript.specs.Tables.{aggregators_in, cable_of, limit_of, system_values_in, port_config_of, ports_in, system_of};
 ghost use Rattle.lagscript.specs.declared.fault.ScriptFault.TheVariants.{NoMemory};
 ghost use Rattle.lagscript.specs.Results.{table_members};
 
@@ -80,7 +80,7 @@ fn each_port(
     own: [u8; 6],
     tables: &[&Table],
 ) -> Result<Vec<PortConfig>, ScriptFault>
-    ensures { ReadsAs NoMemory (λ v. v.items) (in_place (port_config_of system own) 1 (map table_members tables.now)) result }
+    ensures { ReadsAs NoMemory (λ v. v.items) (each_at_place (port_config_of system own) 1 (map table_members tables.now)) result }
 {
     let mut ports = Vec::with_capacity(alloc, tables.len())?;
     let mut place = 0;
@@ -127,15 +127,15 @@ fn aggregators_of(alloc: Global, system: u8, table: &Table) -> Result<Vec<Key>, 
 
 /// The values of a system other than its lists.
 #[derive(Clone, Copy, Debug, PartialEq, Eq)]
-struct Numbers {
+struct SystemValues {
     id: SystemId,
     max_delay: u16,
     first_marker: u32,
 }
 
 /// Reads the values of a system other than its lists.
-fn numbers_of(system: u8, table: &Table) -> Result<Numbers, ScriptFault>
-    ensures { result ≡ numbers_in system (table_view table.now) }
+fn system_values_of(system: u8, table: &Table) -> Result<SystemValues, ScriptFault>
+    ensures { result ≡ system_values_in system (table_view table.now) }
 {
     if !has_only(table, &SYSTEM_KEYS) {
         return Err(ScriptFault::SystemExtraKey(system));
@@ -147,7 +147,7 @@ fn numbers_of(system: u8, table: &Table) -> Result<Numbers, ScriptFault>
     let first_marker = long_number_at(table, "first_marker", Some(1)).ok_or(wrong(
         SystemKey::FirstMarker,
     ))?;
-    Ok(Numbers {
+    Ok(SystemValues {
         id: SystemId { priority, mac },
         max_delay,
         first_marker,
@@ -158,7 +158,7 @@ fn numbers_of(system: u8, table: &Table) -> Result<Numbers, ScriptFault>
 pub(crate) fn system_of(alloc: Global, system: u8, table: &Table) -> Result<Config, ScriptFault>
     ensures { ReadsAs NoMemory config_value (system_of system (table_view table.now)) result }
 {
-    let numbers = numbers_of(system, table)?;
+    let numbers = system_values_of(system, table)?;
     let aggregators = aggregators_of(alloc, system, table)?;
     let ports = ports_of(alloc, system, numbers.id.mac, table)?;
     Ok(Config {

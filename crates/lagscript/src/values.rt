@@ -57,7 +57,7 @@ pub(crate) fn long_number_in(value: &Value) -> Option<u32>
     }
 }
 
-/// The value as a number from 1 to 65535.
+/// The value as the limit of a cable, a number from 1 to 65535.
 pub(crate) fn limit_in(value: &Value) -> Option<u16>
     ensures { result ≡ limit_in (view value.now) }
 {

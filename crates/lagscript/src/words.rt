@@ -24,7 +24,7 @@ pub(crate) fn number_of(word: &str) -> Option<u16>
     word.parse().ok()
 }
 
-/// Whether the text has dashes where a MAC address has them.
+/// Whether the text has 17 octets, with dashes where a MAC address has them.
 fn is_dashed(text: &[u8]) -> bool
     ensures { result ≡ is_dashed text.now }
 {

@@ -1,4 +1,4 @@
--- Each call changes the conversations of a system by free moves of the model.
+-- Each call changes the conversations of a system by lawful moves of the model.
 use Rattle.std.proofs.Common.{◌≡◌, ◌∙◌, ℕ, zero, suc, Bool, true, false, cond, List, [], ◌∷◌, Option, Some, None, Result, Ok, Err, refl, sym, ap, subst, arith, inl, inr, eqb, eqb-true, eq-eqb}
 use Rattle.std.specs.Prelude.{◌&&◌, ◌||◌, if◌then◌else◌, option_map, slice_get, IsSomeAnd, MatchOption}
 use Rattle.std.proofs.lemmas.Bool.{and_parts, cases_Bool, false≢true}
@@ -16,27 +16,27 @@ use Rattle.distributor.specs.declared.assignment.Assignment.TheVariants.{Free, O
 use Rattle.distributor.specs.declared.fault.DistFault.{DistFault}
 use Rattle.distributor.specs.Calls.{Assigns, MaySend, PicksPort, distributes}
 use Rattle.distributor.specs.Conversations.{Table}
-use Rattle.distributor.specs.Moves.{Among, Nowhere, model_flows}
+use Rattle.distributor.specs.Moves.{OnlyListedDistribute, NoneDistributes, model_distributor}
 use Rattle.distributor.proofs.MoveLemmas.{Makes, each_moves}
 use Rattle.lagmodel.specs.View.{ModelCall as Told, PortFacts, SystemSetup}
-use Rattle.lagmodel.specs.Move.{Act, ConversationMove, Distributes, FlowMoves, FreeMoves}
+use Rattle.lagmodel.specs.Move.{Act, ConversationMove, Distributes, DistributorMoves, LawfulMoves}
 use Rattle.lagmodel.specs.Bridge.{find_number}
 use Rattle.lagmodel.proofs.Base.{cond_false, cond_true}
 use Rattle.lagmodel.proofs.Uses.{flows_weaker, moves_flows}
-use Rattle.lagsystem.specs.declared.slots.SystemPort.{SystemPort}
+use Rattle.lagsystem.specs.declared.system_ports.SystemPort.{SystemPort}
 use Rattle.lagsystem.specs.Readers.{aggregator_numbered, distributes_in, distributing}
 use Rattle.lagsystem.specs.Settling.{HoldsConversations, held_unless_on}
-use Rattle.lagsystem.specs.ModelView.{MuxesConsistent, selected_number, number, model_port_of, mux_consistent_of, model_view_at, model_view}
+use Rattle.lagsystem.specs.ModelView.{MuxesConsistent, selected_number, number_of_port, model_port_of, mux_consistent_of, model_view_at, model_view}
 use Rattle.lagsystem.specs.State.{SystemState, port_numbers}
 use Rattle.lagsystem.proofs.Stopped.{from_here, from_rest, none_on, on, on_more}
 use Rattle.lagsystem.proofs.Rising.{Rises}
 
 -- moves of the conversations, whatever the ports do
-pub table_moves : (u : SystemSetup) (call : Told) (slots : List SystemPort) (t new : Table) (seen : List Act) → FlowMoves u.system.mac call Nowhere (model_flows t) seen (model_flows new)
-    → FreeMoves u call (model_view_at (model_flows t) slots) seen (model_view_at (model_flows new) slots)
-table_moves u call slots t new seen h =
-    let v = model_view_at (model_flows t) slots in
-    moves_flows u call v seen (model_flows new) (flows_weaker u.system.mac call Nowhere (Distributes v.port) (model_flows t) (model_flows new) seen (λ g p x. absurd x) h)
+pub table_moves : (u : SystemSetup) (call : Told) (system_ports : List SystemPort) (t new : Table) (seen : List Act) → DistributorMoves u.system.mac call NoneDistributes (model_distributor t) seen (model_distributor new)
+    → LawfulMoves u call (model_view_at (model_distributor t) system_ports) seen (model_view_at (model_distributor new) system_ports)
+table_moves u call system_ports t new seen h =
+    let v = model_view_at (model_distributor t) system_ports in
+    moves_flows u call v seen (model_distributor new) (flows_weaker u.system.mac call NoneDistributes (Distributes v.port) (model_distributor t) (model_distributor new) seen (λ g p x. absurd x) h)
 
 -- step 6 of settling
 leaves_one : (mac : List ℕ) (call : Told) (ports : List ℕ) (g k : ℕ) (a : Assignment) → Makes mac call g k a (held_unless_on ports a)
@@ -49,11 +49,11 @@ leaves_one mac call ports g k (On p) = either (distributes ports p)
     either true = inl refl
     either false = inr (ConversationMove.Want p, refl, refl)
 
-pub leaving_moves : (u : SystemSetup) (call : Told) (old new : SystemState) → HoldsConversations old new → FreeMoves u call (model_view old) [] (model_view new)
+pub leaving_moves : (u : SystemSetup) (call : Told) (old new : SystemState) → HoldsConversations old new → LawfulMoves u call (model_view old) [] (model_view new)
 leaving_moves u call old new h =
-    let ports : ℕ → List ℕ = λ g. distributing (aggregator_numbered g) old.slots in
+    let ports : ℕ → List ℕ = λ g. distributing (aggregator_numbered g) old.system_ports in
     let moves = each_moves u.system.mac call old.table new.table (λ g k. held_unless_on (ports g)) (λ g k. refl) (λ g k a. leaves_one u.system.mac call (ports g) g k a) h.next h.states in
-    subst (λ l. FreeMoves u call (model_view old) [] (model_view_at (model_flows new.table) l)) (sym (ap (λ (s : SystemState). s.slots) h.frame)) (table_moves u call old.slots old.table new.table [] moves)
+    subst (λ l. LawfulMoves u call (model_view old) [] (model_view_at (model_distributor new.table) l)) (sym (ap (λ (s : SystemState). s.system_ports) h.frame)) (table_moves u call old.system_ports old.table new.table [] moves)
 
 -- at rest a port distributes exactly if its mux machine does
 pub rest_distributes : (m : MuxState) (x s : Bool) → mux_consistent_of m x s ≡ true → (s && (x && same_mux_state CollectingDistributing m)) ≡ same_mux_state CollectingDistributing m
@@ -93,24 +93,24 @@ unflipped m n h = elim (cases_Bool (eqb n m)) [ inl t ↦ absurd (false≢true (
 abbrev Sees : AggId → Option SystemPort → Type 0
 Sees agg o = IsSomeAnd (option_map model_port_of o) (λ (a : PortFacts). (a.aggregator ≡ Some agg.0) × (a.distributes ≡ true))
 
-pub seen_distributing : (agg : AggId) (p low : ℕ) (slots : List SystemPort) → Rises low (port_numbers slots) → MuxesConsistent slots → on agg slots p ≡ true → Sees agg (find_number number slots p)
+pub seen_distributing : (agg : AggId) (p low : ℕ) (system_ports : List SystemPort) → Rises low (port_numbers system_ports) → MuxesConsistent system_ports → on agg system_ports p ≡ true → Sees agg (find_number number_of_port system_ports p)
 seen_distributing agg p low [] r a h = absurd (false≢true h)
-seen_distributing agg p low (s ∷ slots) r a h = elim (cases_Bool (eqb s.number p)) [
-  | inl t ↦ (let none = none_on agg s.number slots p r.1 (let same = eqb-true s.number p t in omega (arith, same)) in
-      let here = from_here (distributes_in agg s) (eqb s.number p) (on agg slots p) t none (sym (on_more agg s slots p) ∙ h) in
-      subst (Sees agg) (sym (cond_true (eqb p s.number) (Some s) (find_number number slots p) (flipped s.number p t))) (seen_there agg s a.0 here))
-  | inr f ↦ (let rest = sym (from_rest (distributes_in agg s) (eqb s.number p) (on agg slots p) f) ∙ sym (on_more agg s slots p) ∙ h in
-      subst (Sees agg) (sym (cond_false (eqb p s.number) (Some s) (find_number number slots p) (unflipped s.number p f))) (seen_distributing agg p s.number slots r.1 a.1 rest))
+seen_distributing agg p low (s ∷ system_ports) r a h = elim (cases_Bool (eqb s.number p)) [
+  | inl t ↦ (let none = none_on agg s.number system_ports p r.1 (let same = eqb-true s.number p t in omega (arith, same)) in
+      let here = from_here (distributes_in agg s) (eqb s.number p) (on agg system_ports p) t none (sym (on_more agg s system_ports p) ∙ h) in
+      subst (Sees agg) (sym (cond_true (eqb p s.number) (Some s) (find_number number_of_port system_ports p) (flipped s.number p t))) (seen_there agg s a.0 here))
+  | inr f ↦ (let rest = sym (from_rest (distributes_in agg s) (eqb s.number p) (on agg system_ports p) f) ∙ sym (on_more agg s system_ports p) ∙ h in
+      subst (Sees agg) (sym (cond_false (eqb p s.number) (Some s) (find_number number_of_port system_ports p) (unflipped s.number p f))) (seen_distributing agg p s.number system_ports r.1 a.1 rest))
 ]
 
 -- moves of the conversations, if a port may carry one that distributes in its aggregator
-pub carrying_moves : (u : SystemSetup) (call : Told) (agg : AggId) (slots : List SystemPort) (t new : Table) (seen : List Act) → Rises 0 (port_numbers slots) → MuxesConsistent slots
-    → FlowMoves u.system.mac call (Among agg.0 (distributing agg slots)) (model_flows t) seen (model_flows new) → FreeMoves u call (model_view_at (model_flows t) slots) seen (model_view_at (model_flows new) slots)
-carrying_moves u call agg slots t new seen r a h =
-    let v = model_view_at (model_flows t) slots in
-    moves_flows u call v seen (model_flows new)
-    (flows_weaker u.system.mac call (Among agg.0 (distributing agg slots)) (Distributes v.port) (model_flows t) (model_flows new) seen
-    (λ g p x. subst (λ m. Distributes v.port m p) (sym x.0) (seen_distributing agg p 0 slots r a x.1)) h)
+pub carrying_moves : (u : SystemSetup) (call : Told) (agg : AggId) (system_ports : List SystemPort) (t new : Table) (seen : List Act) → Rises 0 (port_numbers system_ports) → MuxesConsistent system_ports
+    → DistributorMoves u.system.mac call (OnlyListedDistribute agg.0 (distributing agg system_ports)) (model_distributor t) seen (model_distributor new) → LawfulMoves u call (model_view_at (model_distributor t) system_ports) seen (model_view_at (model_distributor new) system_ports)
+carrying_moves u call agg system_ports t new seen r a h =
+    let v = model_view_at (model_distributor t) system_ports in
+    moves_flows u call v seen (model_distributor new)
+    (flows_weaker u.system.mac call (OnlyListedDistribute agg.0 (distributing agg system_ports)) (Distributes v.port) (model_distributor t) (model_distributor new) seen
+    (λ g p x. subst (λ m. Distributes v.port m p) (sym x.0) (seen_distributing agg p 0 system_ports r a x.1)) h)
 
 -- the port that the distributor answers may carry the frame
 among : (xs : List ℕ) (i q : ℕ) → slice_get xs i ≡ Some q → distributes xs q ≡ true

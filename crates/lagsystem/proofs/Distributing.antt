@@ -11,7 +11,7 @@ use Rattle.lagtypes.specs.declared.identifiers.AggId.{AggId}
 use Rattle.lagtypes.specs.declared.identifiers.Key.{Key}
 use Rattle.distributor.specs.Calls.{distributes}
 use Rattle.lagmodel.specs.View.{PortFacts}
-use Rattle.lagsystem.specs.declared.slots.SystemPort.{SystemPort}
+use Rattle.lagsystem.specs.declared.system_ports.SystemPort.{SystemPort}
 use Rattle.lagsystem.specs.Offers.{has_aggregator}
 use Rattle.lagsystem.specs.Readers.{distributes_in, distributing}
 use Rattle.lagsystem.specs.ModelView.{key_of, model_view}
@@ -40,16 +40,16 @@ kept_or_not : (b : Bool) (low : ℕ) (s : SystemPort) (rest : List SystemPort) �
 kept_or_not true low s rest l r = (l, r)
 kept_or_not false low s rest l r = lower low s.number (port_numbers rest) l r
 
-filtered : (p : SystemPort → Bool) (low : ℕ) (slots : List SystemPort) → Rises low (port_numbers slots) → Rises low (port_numbers (filter p slots))
+filtered : (p : SystemPort → Bool) (low : ℕ) (system_ports : List SystemPort) → Rises low (port_numbers system_ports) → Rises low (port_numbers (filter p system_ports))
 filtered p low [] r = tt
-filtered p low (s ∷ slots) r = kept_or_not (p s) low s (filter p slots) r.0 (filtered p s.number slots r.1)
+filtered p low (s ∷ system_ports) r = kept_or_not (p s) low s (filter p system_ports) r.0 (filtered p s.number system_ports r.1)
 
 -- the numbers of the ports
-pub numbers_rise : (s : SystemState) → HasPorts s → IsStrictlyIncreasing (port_numbers s.slots)
-numbers_rise s h = increasing 0 (port_numbers s.slots) (ports_rise s h)
+pub numbers_rise : (s : SystemState) → HasPorts s → IsStrictlyIncreasing (port_numbers s.system_ports)
+numbers_rise s h = increasing 0 (port_numbers s.system_ports) (ports_rise s h)
 
-pub distributing_rise : (agg : AggId) (s : SystemState) → HasPorts s → IsStrictlyIncreasing (distributing agg s.slots)
-distributing_rise agg s h = increasing 0 (distributing agg s.slots) (filtered (distributes_in agg) 0 s.slots (ports_rise s h))
+pub distributing_rise : (agg : AggId) (s : SystemState) → HasPorts s → IsStrictlyIncreasing (distributing agg s.system_ports)
+distributing_rise agg s h = increasing 0 (distributing agg s.system_ports) (filtered (distributes_in agg) 0 s.system_ports (ports_rise s h))
 
 -- an aggregator in which a port distributes is there
 first_of : (p : ℕ) (ps : List ℕ) → distributes (p ∷ ps) p ≡ true
@@ -67,11 +67,11 @@ has_key : (keys : List Key) (n : ℕ) (k : Key) → key_of keys n ≡ Some k →
 has_key keys zero k e = absurd (none-some k e)
 has_key keys (suc n) k e = within keys n k (nat_lt 0 (suc n) && nat_le (suc n) (length keys)) e refl
 
-none_there : (agg : AggId) (s : SystemState) (ports : List ℕ) → IsSound s → has_aggregator s agg ≡ false → distributing agg s.slots ≡ ports → ports ≡ []
+none_there : (agg : AggId) (s : SystemState) (ports : List ℕ) → IsSound s → has_aggregator s agg ≡ false → distributing agg s.system_ports ≡ ports → ports ≡ []
 none_there agg s [] h unknown e = refl
 none_there agg s (p ∷ ports) h unknown e =
-    let on : distributes (distributing agg s.slots) p ≡ true = subst (λ l. distributes l p ≡ true) (sym e) (first_of p ports) in
-    let a = there ((model_view s).port p) _ (seen_distributing agg p 0 s.slots (ports_rise s h.ports) h.rested.1 on) in
+    let on : distributes (distributing agg s.system_ports) p ≡ true = subst (λ l. distributes l p ≡ true) (sym e) (first_of p ports) in
+    let a = there ((model_view s).port p) _ (seen_distributing agg p 0 s.system_ports (ports_rise s h.ports) h.rested.1 on) in
     absurd (false≢true (sym unknown ∙ has_key s.keys agg.0 a.0.party.key (h.members.key p agg.0 a.0 a.1 a.2.0)))
 
 by_answer : (b : Bool) (P : Type 0) → (b ≡ false → P) → OnFalse b P
@@ -79,5 +79,5 @@ by_answer true P f = tt
 by_answer false P f = f refl
 
 -- no port distributes in an aggregator that is not there
-pub none_distribute : (agg : AggId) (s : SystemState) → IsSound s → OnFalse (has_aggregator s agg) (distributing agg s.slots ≡ [])
-none_distribute agg s h = by_answer (has_aggregator s agg) (distributing agg s.slots ≡ []) (λ unknown. none_there agg s (distributing agg s.slots) h unknown refl)
+pub none_distribute : (agg : AggId) (s : SystemState) → IsSound s → OnFalse (has_aggregator s agg) (distributing agg s.system_ports ≡ [])
+none_distribute agg s h = by_answer (has_aggregator s agg) (distributing agg s.system_ports ≡ []) (λ unknown. none_there agg s (distributing agg s.system_ports) h unknown refl)

@@ -5,13 +5,13 @@ use Rattle.lagsystem.specs.declared.drive.Call.{Call as Asked}
 use Rattle.lagsystem.specs.declared.drive.Reply.{Reply}
 use Rattle.lagsystem.specs.Calls.{Call, TableRun}
 use Rattle.lagsystem.specs.Drives.{Drives, call_of}
-use Rattle.lagsystem.specs.Sound.{Answers}
+use Rattle.lagsystem.specs.Sound.{CallPromise}
 use Rattle.lagsystem.specs.State.{SystemState}
 
 -- one more call
 pub drives_more : (gives : ℕ → ℕ → ℕ → Type 0) (old mid new : SystemState) (calls : List Call) (answers : List Reply) (call : Call) (answer : Reply) → Drives gives old calls answers mid
-    → Answers gives mid call answer new → Drives gives old (calls ++ call ∷ []) (answers ++ answer ∷ []) new
-drives_more gives old mid new [] [] call answer h made = (new, subst (λ s. Answers gives s call answer new) h made, refl)
+    → CallPromise gives mid call answer new → Drives gives old (calls ++ call ∷ []) (answers ++ answer ∷ []) new
+drives_more gives old mid new [] [] call answer h made = (new, subst (λ s. CallPromise gives s call answer new) h made, refl)
 drives_more gives old mid new [] (a ∷ answers) call answer h made = absurd h
 drives_more gives old mid new (c ∷ calls) [] call answer h made = absurd h
 drives_more gives old mid new (c ∷ calls) (a ∷ answers) call answer h made = (h.0, h.1, drives_more gives h.0 mid new calls answers call answer h.2 made)
@@ -25,7 +25,7 @@ driven_runs gives old new (c ∷ calls) (a ∷ answers) h = (h.0, h.1.step, driv
 
 -- one more call of a list
 pub drives_on : (gives : ℕ → ℕ → ℕ → Type 0) (old mid new : SystemState) (calls : List Asked) (answers : List Reply) (i : ℕ) (d : Asked) (answer : Reply) → i < length calls → Drives gives old (map call_of (take i calls)) answers mid
-    → Answers gives mid (call_of (get_or calls i d)) answer new → Drives gives old (map call_of (take (i + 1) calls)) (answers ++ answer ∷ []) new
+    → CallPromise gives mid (call_of (get_or calls i d)) answer new → Drives gives old (map call_of (take (i + 1) calls)) (answers ++ answer ∷ []) new
 drives_on gives old mid new calls answers i d answer l h made =
     let more : map call_of (take (i + 1) calls) ≡ map call_of (take i calls) ++ call_of (get_or calls i d) ∷ [] =
     ap (map call_of) (take_more calls i d l) ∙ map-append call_of (take i calls) (get_or calls i d ∷ []) in

@@ -8,7 +8,7 @@ use Rattle.lagtypes.specs.declared.party.Choice.TheVariants.{Unselected}
 use Rattle.lagtypes.specs.declared.state.StateBits.{StateBits}
 use Rattle.lagtypes.specs.States.{bits_of, with_synchronization, with_timeout}
 use Rattle.lagtypes.proofs.SameLemmas.{exact_party}
-use Rattle.lagtypes.proofs.StateLemmas.{read_back}
+use Rattle.lagtypes.proofs.StateLemmas.{encode_then_decode}
 use Rattle.slowpdu.specs.declared.pdu.Info.{Info}
 use Rattle.slowpdu.specs.declared.pdu.Lacpdu.{Lacpdu}
 use Rattle.slowpdu.specs.Parties.{party_of}
@@ -16,13 +16,13 @@ use Rattle.portmachines.specs.declared.mux.MuxState.TheVariants.{CollectingDistr
 use Rattle.portmachines.specs.Machines.{Machines}
 use Rattle.lagtypes.specs.Same.{same_party}
 use Rattle.portmachines.specs.Mux.{same_mux_state, is_synchronized, partner_synchronized}
-use Rattle.portmachines.specs.Receive.{receive_rows, taking_rows, default_partner, start_receive, is_maintained, says_synchronized}
+use Rattle.portmachines.specs.Receive.{receive_rows, lacpdu_rows, default_partner, start_receive, is_maintained, recorded_synchronization}
 use Rattle.portmachines.specs.Rows.{Fires, RunsToRest}
-use Rattle.portmachines.specs.Transmit.{count_down, pdu_of, sent}
+use Rattle.portmachines.specs.Transmit.{count_down, pdu_of, after_sending}
 use Rattle.lagmodel.specs.View.{zero_party, PortFacts, SystemSetup, ModelCall, Lacp, Receive, replies_frame, LacpMessage as Told_lacpdu}
 use Rattle.lagmodel.specs.Move.{Act, Sends as Shows, Took, PortMove}
 use Rattle.lagsystem.specs.declared.config.PortChange.{PortChange}
-use Rattle.lagsystem.specs.Calls.{ChangesLink, ChangesParty, changed_party}
+use Rattle.lagsystem.specs.Calls.{SetsPortEnabled, ChangesParty, changed_party}
 use Rattle.lagsystem.specs.ModelView.{selected_number, lacp_message}
 use Rattle.lagsystem.proofs.OfPort.{PortMoves, port_joined}
 use Rattle.lagsystem.proofs.Rows.{quiet, QuietMoves, EachMoves, settles_moves}
@@ -48,20 +48,20 @@ default_bits = record { activity = false; timeout = false; aggregation = false; 
 
 -- the administrative partner is all zero, and synchronized
 on_defaults : (party : Party) (d : Bool) (g : Option ℕ) → with_bits party default_partner d g (bits_of default_partner.state) ≡ stopped party zero_party true d g
-on_defaults party d g = ap (with_bits party default_partner d g) (read_back default_bits)
+on_defaults party d g = ap (with_bits party default_partner d g) (encode_then_decode default_bits)
 
 pub zero_named : zero_party ≡ party_of default_partner
-zero_named = sym (ap (named default_partner) (read_back default_bits))
+zero_named = sym (ap (named default_partner) (encode_then_decode default_bits))
 
 desynchronised : (party : Party) (info : Info) (d : Bool) (g : Option ℕ)
     → with_bits party info d g (bits_of (with_synchronization false info.state)) ≡ with_bits party info d g (record (bits_of info.state) { synchronization = false })
-desynchronised party info d g = ap (with_bits party info d g) (read_back (record (bits_of info.state) { synchronization = false }))
+desynchronised party info d g = ap (with_bits party info d g) (encode_then_decode (record (bits_of info.state) { synchronization = false }))
 
 expiring : (party : Party) (info : Info) (d : Bool) (g : Option ℕ)
     → with_bits party info d g (bits_of (with_timeout true (with_synchronization false info.state))) ≡ with_bits party info d g (record (bits_of info.state) { synchronization = false })
 expiring party info d g =
-    ap (with_bits party info d g) (read_back (record (bits_of (with_synchronization false info.state)) { timeout = true }))
-    ∙ ap (λ (b : StateBits). with_bits party info d g (record b { timeout = true })) (read_back (record (bits_of info.state) { synchronization = false }))
+    ap (with_bits party info d g) (encode_then_decode (record (bits_of (with_synchronization false info.state)) { timeout = true }))
+    ∙ ap (λ (b : StateBits). with_bits party info d g (record b { timeout = true })) (encode_then_decode (record (bits_of info.state) { synchronization = false }))
 
 pub receive_moves : (u : SystemSetup) (call : ModelCall) (n : ℕ) → EachMoves u call n receive_rows
 receive_moves u call n = (
@@ -84,7 +84,7 @@ receive_moves u call n = (
 pub tick_moves : (u : SystemSetup) (call : ModelCall) (n : ℕ) (p q : Machines) → RunsToRest receive_rows (count_down p) q → QuietMoves u call n p [] q
 tick_moves u call n p q h = settles_moves u call n receive_rows (receive_moves u call n) (count_down p) q h
 
-pub links_moves : (u : SystemSetup) (call : ModelCall) (n : ℕ) (up : Bool) (p q : Machines) → ChangesLink up p q → QuietMoves u call n p [] q
+pub links_moves : (u : SystemSetup) (call : ModelCall) (n : ℕ) (up : Bool) (p q : Machines) → SetsPortEnabled up p q → QuietMoves u call n p [] q
 links_moves u call n up p q h = settles_moves u call n receive_rows (receive_moves u call n) (record p { enabled = up }) q h
 
 -- update_Selected and recordPDU
@@ -106,7 +106,7 @@ either_way true y h = inl refl
 either_way false true h = absurd (false≢true h)
 either_way false false h = inr refl
 
-says_so : (v : Lacpdu) (p : Machines) → says_synchronized v p ≡ true → ((bits_of v.actor.state).synchronization ≡ true) × ((party_of v.partner ≡ p.party) ⊎ ((party_of v.actor).aggregatable ≡ false))
+says_so : (v : Lacpdu) (p : Machines) → recorded_synchronization v p ≡ true → ((bits_of v.actor.state).synchronization ≡ true) × ((party_of v.partner ≡ p.party) ⊎ ((party_of v.actor).aggregatable ≡ false))
 says_so v p h =
     let both = ends_true (bits_of v.actor.state).synchronization (is_maintained v p) (same_party (party_of v.partner) p.party || not (bits_of v.actor.state).aggregation) h in (
       both.0,
@@ -116,15 +116,15 @@ says_so v p h =
       ],
     )
 
-pub taking_moves : (u : SystemSetup) (n : ℕ) (v : Lacpdu) (p q : Machines) → Fires (taking_rows v) p q → QuietMoves u (Receive n (Some (Lacp (lacp_message v)))) n p (Took n (lacp_message v) ∷ []) q
+pub taking_moves : (u : SystemSetup) (n : ℕ) (v : Lacpdu) (p q : Machines) → Fires (lacpdu_rows v) p q → QuietMoves u (Receive n (Some (Lacp (lacp_message v)))) n p (Took n (lacp_message v) ∷ []) q
 taking_moves u n v p q h = elim h [
   | inl f ↦
       let call = Receive n (Some (Lacp (lacp_message v))) in
       let same = same_party (party_of v.actor) (party_of p.partner) in
-      let t = says_synchronized v p in
+      let t = recorded_synchronization v p in
       let taken = taking u call n p.party (party_of p.partner) (partner_synchronized p) p.defaulted p.choice same (lacp_message v) t refl
       (exact_party (party_of v.actor) (party_of p.partner)) (says_so v p) in
-      let recorded = ap (with_bits p.party v.actor false (selected_number (if same then p.choice else Unselected))) (read_back (record (bits_of v.actor.state) { synchronization = t })) in
+      let recorded = ap (with_bits p.party v.actor false (selected_number (if same then p.choice else Unselected))) (encode_then_decode (record (bits_of v.actor.state) { synchronization = t })) in
       subst (λ r. QuietMoves u call n p (Took n (lacp_message v) ∷ []) r) (sym f.1)
       (subst (λ w. PortMoves u call n (quiet p) (Took n (lacp_message v) ∷ []) w) (sym recorded) taken)
   | inr f ↦ absurd f
@@ -162,6 +162,6 @@ announced n p b =
     })) ∷ []
 
 pub sending : (u : SystemSetup) (call : ModelCall) (n max_delay : ℕ) (p : Machines) → replies_frame call ≡ true → (is_synchronized p.mux ≡ true → IsSome (selected_number p.choice))
-    → QuietMoves u call n p (Shows n (Lacp (lacp_message (pdu_of p max_delay))) ∷ []) (sent p)
+    → QuietMoves u call n p (Shows n (Lacp (lacp_message (pdu_of p max_delay))) ∷ []) (after_sending p)
 sending u call n max_delay p e k =
-    (PortMove.Announce (is_synchronized p.mux) ∷ [], (λ ports. (e, k), tt), sym (ap (announced n p) (read_back (own_bits p))), refl)
+    (PortMove.Announce (is_synchronized p.mux) ∷ [], (λ ports. (e, k), tt), sym (ap (announced n p) (encode_then_decode (own_bits p))), refl)

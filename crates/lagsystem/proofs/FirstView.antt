@@ -8,7 +8,7 @@ use Rattle.lagtypes.specs.declared.identifiers.SystemId.{SystemId}
 use Rattle.lagtypes.specs.declared.party.Party.{Party}
 use Rattle.lagtypes.specs.declared.party.Choice.TheVariants.{Unselected}
 use Rattle.lagtypes.specs.States.{bits_of, with_synchronization}
-use Rattle.lagtypes.proofs.StateLemmas.{read_back}
+use Rattle.lagtypes.proofs.StateLemmas.{encode_then_decode}
 use Rattle.portmachines.specs.declared.mux.MuxState.TheVariants.{Detached, Waiting, Attached, CollectingDistributing}
 use Rattle.portmachines.specs.declared.port.Setup.{Setup as Start}
 use Rattle.portmachines.specs.declared.receive.ReceiveState.TheVariants.{Initialize, PortDisabled, Expired, Current}
@@ -17,23 +17,23 @@ use Rattle.lagtypes.specs.Choices.{is_selected, is_unselected}
 use Rattle.portmachines.specs.Mux.{same_mux_state, mux_rows, partner_synchronized}
 use Rattle.portmachines.specs.Periodic.{periodic_rows, RunsPeriodic}
 use Rattle.portmachines.specs.Receive.{same_receive_state, receive_rows, start_receive}
-use Rattle.portmachines.specs.Rows.{AtRest, Fires, Reaches, Row, RunsToRest}
-use Rattle.portmachines.specs.Start.{Starts, blank}
-use Rattle.selection.specs.Choice.{choice}
+use Rattle.portmachines.specs.Rows.{AtRest, Fires, FiresTimes, Row, RunsToRest}
+use Rattle.portmachines.specs.Start.{Starts, before_start}
+use Rattle.selection.specs.Choice.{chosen_aggregator}
 use Rattle.selection.specs.Views.{is_eligible}
 use Rattle.lagmodel.specs.View.{PortFacts, first_port, first_view, IsSystemSetup}
 use Rattle.lagmodel.specs.Bridge.{find_number, ports_of}
-use Rattle.distributor.specs.Moves.{model_flows}
+use Rattle.distributor.specs.Moves.{model_distributor}
 use Rattle.distributor.proofs.MoveLemmas.{first_flows}
 use Rattle.lagmodel.proofs.Base.{mapped_some, chosen as whichever}
 use Rattle.std.proofs.Common.{eqb-true}
 use Rattle.std.proofs.lemmas.Option.{none-some, same_Some}
 use Rattle.lagsystem.specs.declared.config.PortConfig.{PortConfig}
-use Rattle.lagsystem.specs.declared.slots.SystemPort.{SystemPort}
-use Rattle.lagsystem.specs.First.{IsFirst, IsNew, configured_number, setup_of}
-use Rattle.lagsystem.specs.Settling.{PortsGo, PortGoes, choose_slot, chosen, given, ready_of, aggregator_for}
-use Rattle.lagsystem.specs.ModelView.{model_setup, number, configured_party, model_port, model_port_of, model_view}
-use Rattle.lagsystem.specs.State.{SystemState, with_slots, with_table}
+use Rattle.lagsystem.specs.declared.system_ports.SystemPort.{SystemPort}
+use Rattle.lagsystem.specs.First.{IsFirst, HasJustStarted, configured_number, setup_of}
+use Rattle.lagsystem.specs.Settling.{PortsChangeBy, PortChangesBy, after_choice_at, after_choices, with_choice, ready_of, aggregator_for}
+use Rattle.lagsystem.specs.ModelView.{model_setup, number_of_port, configured_party, model_port, model_port_of, model_view}
+use Rattle.lagsystem.specs.State.{SystemState, with_system_ports, with_table}
 use Rattle.lagsystem.specs.Views.{views, selection_view as seen_at}
 use Rattle.lagsystem.proofs.Effects.{named, zero_named}
 use Rattle.portmachines.proofs.Runs.{Reaches-keeps}
@@ -74,14 +74,14 @@ record Beginning (party : Party) (p : Machines) : Type 0 where
 disabled_looks : (p q : Machines) → q ≡ record p { receive = PortDisabled; partner = record p.partner { state = with_synchronization false p.partner.state } } → hushed q ≡ hushed p
 disabled_looks p q e =
     ap hushed e
-    ∙ ap (λ b. record (hushed p) { partner = named p.partner b }) (read_back (record (bits_of p.partner.state) { synchronization = false }))
+    ∙ ap (λ b. record (hushed p) { partner = named p.partner b }) (encode_then_decode (record (bits_of p.partner.state) { synchronization = false }))
 
 disabled_now : (party : Party) (p q : Machines) → q ≡ record p { receive = PortDisabled; partner = record p.partner { state = with_synchronization false p.partner.state } } → Beginning party p → Beginning party q
 disabled_now party p q e x = record {
   looks = disabled_looks p q e ∙ x.looks;
   down = ap (λ (y : Machines). y.enabled) e ∙ x.down;
   nobody = ap (λ (y : Machines). y.choice) e ∙ x.nobody;
-  where_ = inr (ap (λ (y : Machines). y.receive) e, ap partner_synchronized e ∙ ap (λ b. b.synchronization) (read_back (record (bits_of p.partner.state) { synchronization = false })));
+  where_ = inr (ap (λ (y : Machines). y.receive) e, ap partner_synchronized e ∙ ap (λ b. b.synchronization) (encode_then_decode (record (bits_of p.partner.state) { synchronization = false })));
 }
 
 begins_on : (party : Party) (p q : Machines) → Fires receive_rows p q → Beginning party p → Beginning party q
@@ -102,7 +102,7 @@ begins_on party p q h x = elim h [
   ]
 ]
 
-begins_all : (party : Party) (n : ℕ) (p q : Machines) → Reaches receive_rows n p q → Beginning party p → Beginning party q
+begins_all : (party : Party) (n : ℕ) (p q : Machines) → FiresTimes receive_rows n p q → Beginning party p → Beginning party q
 begins_all party zero p q run x = subst (Beginning party) (sym run) x
 begins_all party (suc n) p q run x = begins_on party run.0 q run.2 (begins_all party n p run.0 run.1 x)
 
@@ -113,11 +113,11 @@ record Idle (party : Party) (p : Machines) : Type 0 where
   pub detached : p.mux ≡ Detached
   pub nobody : p.choice ≡ Unselected
 
-starts_idle : (s : Start) (q : Machines) → Starts (blank s) q → Idle s.party q
+starts_idle : (s : Start) (q : Machines) → Starts (before_start s) q → Idle s.party q
 starts_idle s q h =
     let mid = h.0 in
-    let begun : Beginning s.party (start_receive (blank s)) = record { looks = ap (λ x. record (first_port s.party) { partner = x }) (sym zero_named); down = refl; nobody = refl; where_ = inl refl } in
-    let x = begins_all s.party h.1.0 (start_receive (blank s)) mid h.1.1 begun in
+    let begun : Beginning s.party (start_receive (before_start s)) = record { looks = ap (λ x. record (first_port s.party) { partner = x }) (sym zero_named); down = refl; nobody = refl; where_ = inl refl } in
+    let x = begins_all s.party h.1.0 (start_receive (before_start s)) mid h.1.1 begun in
     let sync : partner_synchronized mid ≡ false = elim x.where_ [
       | inl e ↦ absurd (clash (same_receive_state Initialize mid.receive && true) (ap (λ r. same_receive_state Initialize r && true) e) h.1.2.0)
       | inr e ↦ e.1
@@ -134,7 +134,7 @@ never : (rows : List Row) (p q : Machines) → AtRest rows p → Fires rows p q 
 never [] p q r h = absurd h
 never (row ∷ rows) p q r h = elim h [ inl f ↦ clash (row.enabled p) f.0 r.0 | inr f ↦ never rows p q r.1 f ]
 
-stays : (rows : List Row) (n : ℕ) (p q : Machines) → AtRest rows p → Reaches rows n p q → q ≡ p
+stays : (rows : List Row) (n : ℕ) (p q : Machines) → AtRest rows p → FiresTimes rows n p q → q ≡ p
 stays rows zero p q r run = run
 stays rows (suc n) p q r run = absurd (never rows run.0 q (subst (AtRest rows) (sym (stays rows n p run.0 r run.1)) r) run.2)
 
@@ -169,7 +169,7 @@ abbrev Idles : SystemId → PortConfig → SystemPort → Type 0
 Idles system c s = (s.number ≡ c.number) × Idle (configured_party system c) s.port
 
 idle_slots : (system : SystemId) (R : Machines → Machines → Type 0) → ((party : Party) (p q : Machines) → Idle party p → R p q → q ≡ p)
-    → (ports : List PortConfig) (olds news : List SystemPort) → AllZip (Idles system) ports olds → PortsGo R olds news → news ≡ olds
+    → (ports : List PortConfig) (olds news : List SystemPort) → AllZip (Idles system) ports olds → PortsChangeBy R olds news → news ≡ olds
 idle_slots system R k [] [] [] a h = refl
 idle_slots system R k [] [] (y ∷ ys) a h = absurd h
 idle_slots system R k [] (x ∷ xs) news a h = absurd a
@@ -185,16 +185,16 @@ idle_slots system R k (c ∷ cs) (x ∷ xs) (y ∷ ys) a h =
 not_eligible : (s : SystemPort) → s.port.enabled ≡ false → is_eligible (seen_at s) ≡ false
 not_eligible s e = ap (λ b. is_eligible (record (seen_at s) { enabled = b })) e
 
-choose_idle : (keys : List Key) (slots : List SystemPort) (i : ℕ) (o : Option SystemPort) → slice_get slots i ≡ o → AllByRecursion (λ s. s.port.enabled ≡ false) slots → choose_slot keys slots i o ≡ slots
-choose_idle keys slots i None e down = refl
-choose_idle keys slots i (Some s) e down =
-    let none : aggregator_for keys slots s ≡ None = ap (λ b. if b then choice keys (views slots) s.number else None) (not_eligible s (all-get (λ s. s.port.enabled ≡ false) slots i s e down)) in
-    ap (λ o. slice_set slots i (given s o)) none ∙ set_same slots i s e
+choose_idle : (keys : List Key) (system_ports : List SystemPort) (i : ℕ) (o : Option SystemPort) → slice_get system_ports i ≡ o → AllByRecursion (λ s. s.port.enabled ≡ false) system_ports → after_choice_at keys system_ports i o ≡ system_ports
+choose_idle keys system_ports i None e down = refl
+choose_idle keys system_ports i (Some s) e down =
+    let none : aggregator_for keys system_ports s ≡ None = ap (λ b. if b then chosen_aggregator keys (views system_ports) s.number else None) (not_eligible s (all-get (λ s. s.port.enabled ≡ false) system_ports i s e down)) in
+    ap (λ o. slice_set system_ports i (with_choice s o)) none ∙ set_same system_ports i s e
 
-chosen_idle : (keys : List Key) (n : ℕ) (slots : List SystemPort) → AllByRecursion (λ s. s.port.enabled ≡ false) slots → chosen keys n slots ≡ slots
-chosen_idle keys zero slots down = refl
-chosen_idle keys (suc n) slots down =
-    ap (λ (l : List SystemPort). choose_slot keys l n (slice_get l n)) (chosen_idle keys n slots down) ∙ choose_idle keys slots n (slice_get slots n) refl down
+chosen_idle : (keys : List Key) (n : ℕ) (system_ports : List SystemPort) → AllByRecursion (λ s. s.port.enabled ≡ false) system_ports → after_choices keys n system_ports ≡ system_ports
+chosen_idle keys zero system_ports down = refl
+chosen_idle keys (suc n) system_ports down =
+    ap (λ (l : List SystemPort). after_choice_at keys l n (slice_get l n)) (chosen_idle keys n system_ports down) ∙ choose_idle keys system_ports n (slice_get system_ports n) refl down
 
 periodic_shown : (p q : Machines) → RunsPeriodic p q → model_port q ≡ model_port p
 periodic_shown p q h = ap model_port h.2 ∙ Reaches-keeps model_port periodic_rows ((λ p. refl), ((λ p. refl), ((λ p. refl), ((λ p. refl), ((λ p. refl), ((λ p. refl), ((λ p. refl), tt))))))) h.1.0 p h.0 h.1.1
@@ -210,7 +210,7 @@ composed f g None = refl
 composed f g (Some x) = refl
 
 -- so the periodic rows alone change the ports
-pub first_periodic : (s : SystemState) (h : IsFirst s) → PortsGo RunsPeriodic h.0 s.slots
+pub first_periodic : (s : SystemState) (h : IsFirst s) → PortsChangeBy RunsPeriodic h.0 s.system_ports
 first_periodic s h =
     let start = h.0 in
     let run = h.2 in
@@ -219,32 +219,32 @@ first_periodic s h =
     let three = run.2.2.0 in
     let four = run.2.2.2.0 in
     let five = run.2.2.2.2.0 in
-    let idle : AllZip (Idles s.system) s.ports start = zip_weaker (IsNew s.system) (Idles s.system) (λ c x m. (m.0, starts_idle (setup_of s.system c) x.port m.2)) s.ports start h.1 in
+    let idle : AllZip (Idles s.system) s.ports start = zip_weaker (HasJustStarted s.system) (Idles s.system) (λ c x m. (m.0, starts_idle (setup_of s.system c) x.port m.2)) s.ports start h.1 in
     let down : AllByRecursion (λ x. x.port.enabled ≡ false) start = zip_all (Idles s.system) (λ x. x.port.enabled ≡ false) (λ c x m. m.1.down) s.ports start idle in
-    let s1 : one.slots ≡ start = idle_slots s.system (λ p q. RunsToRest (mux_rows false) p q) (λ party p q a m. idle_mux false party p q a m) s.ports start one.slots idle run.1.0 in
-    let s2 : two.slots ≡ start = ap (λ (x : SystemState). x.slots) run.2.1 ∙ ap (λ (l : List SystemPort). chosen one.keys (length l) l) s1 ∙ chosen_idle one.keys (length start) start down in
-    let s3 : three.slots ≡ start = ap (λ (x : SystemState). x.slots) run.2.2.1 ∙ s2 in
-    let ready : Machines → Machines → Type 0 = λ p q. RunsToRest (mux_rows (ready_of three.keys (views three.slots) p.choice)) p q in
-    let s4 : four.slots ≡ start =
-    idle_slots s.system ready (λ party p q a m. idle_mux (ready_of three.keys (views three.slots) p.choice) party p q a m) s.ports start four.slots idle (subst (λ l. PortsGo ready l four.slots) s3 run.2.2.2.1.0) in
-    subst (λ l. PortsGo RunsPeriodic start l) (sym (last_slots (with_slots s start) s run)) (subst (λ l. PortsGo RunsPeriodic l five.slots) s4 run.2.2.2.2.1.0)
+    let s1 : one.system_ports ≡ start = idle_slots s.system (λ p q. RunsToRest (mux_rows false) p q) (λ party p q a m. idle_mux false party p q a m) s.ports start one.system_ports idle run.1.0 in
+    let s2 : two.system_ports ≡ start = ap (λ (x : SystemState). x.system_ports) run.2.1 ∙ ap (λ (l : List SystemPort). after_choices one.keys (length l) l) s1 ∙ chosen_idle one.keys (length start) start down in
+    let s3 : three.system_ports ≡ start = ap (λ (x : SystemState). x.system_ports) run.2.2.1 ∙ s2 in
+    let ready : Machines → Machines → Type 0 = λ p q. RunsToRest (mux_rows (ready_of three.keys (views three.system_ports) p.choice)) p q in
+    let s4 : four.system_ports ≡ start =
+    idle_slots s.system ready (λ party p q a m. idle_mux (ready_of three.keys (views three.system_ports) p.choice) party p q a m) s.ports start four.system_ports idle (subst (λ l. PortsChangeBy ready l four.system_ports) s3 run.2.2.2.1.0) in
+    subst (λ l. PortsChangeBy RunsPeriodic start l) (sym (last_slots (with_system_ports s start) s run)) (subst (λ l. PortsChangeBy RunsPeriodic l five.system_ports) s4 run.2.2.2.2.1.0)
 
 pub first_shows : (s : SystemState) → IsFirst s → model_view s ≡ first_view (model_setup s)
 first_shows s h =
     let start = h.0 in
     let m5 = first_periodic s h in
-    let idle : AllZip (Idles s.system) s.ports start = zip_weaker (IsNew s.system) (Idles s.system) (λ c x m. (m.0, starts_idle (setup_of s.system c) x.port m.2)) s.ports start h.1 in
-    let same_ports : (q : ℕ) → ports_of number model_port_of s.slots q ≡ ports_of number model_port_of start q =
-    zip_ports number number model_port_of model_port_of start s.slots (zip_weaker (PortGoes RunsPeriodic) _ (λ x y m. (ap number m.0, periodic_shown x.port y.port m.1)) start s.slots m5) in
-    let first_ports : (q : ℕ) → ports_of number model_port_of start q ≡ ports_of configured_number (λ c. first_port (configured_party s.system c)) s.ports q =
-    zip_ports configured_number number (λ c. first_port (configured_party s.system c)) model_port_of s.ports start (zip_weaker (Idles s.system) _ (λ c x m. (m.0, m.1.looks)) s.ports start idle) in
+    let idle : AllZip (Idles s.system) s.ports start = zip_weaker (HasJustStarted s.system) (Idles s.system) (λ c x m. (m.0, starts_idle (setup_of s.system c) x.port m.2)) s.ports start h.1 in
+    let same_ports : (q : ℕ) → ports_of number_of_port model_port_of s.system_ports q ≡ ports_of number_of_port model_port_of start q =
+    zip_ports number_of_port number_of_port model_port_of model_port_of start s.system_ports (zip_weaker (PortChangesBy RunsPeriodic) _ (λ x y m. (ap number_of_port m.0, periodic_shown x.port y.port m.1)) start s.system_ports m5) in
+    let first_ports : (q : ℕ) → ports_of number_of_port model_port_of start q ≡ ports_of configured_number (λ c. first_port (configured_party s.system c)) s.ports q =
+    zip_ports configured_number number_of_port (λ c. first_port (configured_party s.system c)) model_port_of s.ports start (zip_weaker (Idles s.system) _ (λ c x m. (m.0, m.1.looks)) s.ports start idle) in
     λ i. record {
       port = λ q. (same_ports q ∙ first_ports q ∙ composed first_port (configured_party s.system) (find_number configured_number s.ports q)) i;
-      flows = (ap model_flows h.3 ∙ first_flows (model_setup s) (length s.keys)) i;
+      flows = (ap model_distributor h.3 ∙ first_flows (model_setup s) (length s.keys)) i;
     }
 
 -- a restart shows the first view
-pub restarted_shows : (old new : SystemState) → new ≡ with_table (with_slots old new.slots) new.table → IsFirst new → model_view new ≡ first_view (model_setup old)
+pub restarted_shows : (old new : SystemState) → new ≡ with_table (with_system_ports old new.system_ports) new.table → IsFirst new → model_view new ≡ first_view (model_setup old)
 restarted_shows old new e h = first_shows new h ∙ ap (λ (s : SystemState). first_view (model_setup s)) e
 
 -- a configuration is a setup

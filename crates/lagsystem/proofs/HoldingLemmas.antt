@@ -4,9 +4,9 @@ use Rattle.std.proofs.lemmas.Bool.{cases_eq, eq-eqb, ne_eqb}
 use Rattle.lagtypes.specs.declared.identifiers.AggId.{AggId}
 use Rattle.distributor.specs.declared.assignment.Assignment.{Assignment}
 use Rattle.distributor.specs.declared.assignment.Assignment.TheVariants.{Free, On, Wanted, Flushing}
-use Rattle.distributor.specs.Changes.{Changes, after_leave}
+use Rattle.distributor.specs.Changes.{ChangesAssignments, after_leave}
 use Rattle.distributor.specs.Conversations.{Table, assignment_of}
-use Rattle.lagsystem.specs.declared.slots.SystemPort.{SystemPort}
+use Rattle.lagsystem.specs.declared.system_ports.SystemPort.{SystemPort}
 use Rattle.lagsystem.specs.Holding.{after_holding, has_stopped, stopped}
 
 -- the port s left, if it is the one with the number p
@@ -23,9 +23,9 @@ or_later : (a b c : Bool) → (a || (b || c)) ≡ ((a || b) || c)
 or_later true b c = refl
 or_later false b c = refl
 
-stopped_suc : (before : List (Option AggId)) (slots : List SystemPort) (i : ℕ) (d : Option AggId) (e : SystemPort) (p : ℕ) → i < length before → length before ≡ length slots
-    → stopped (take (suc i) before) (take (suc i) slots) p ≡ (stopped (take i before) (take i slots) p || leaves (get_or before i d) (get_or slots i e) p)
-stopped_suc [] slots i d e p l same = absurd (omega arith)
+stopped_suc : (before : List (Option AggId)) (system_ports : List SystemPort) (i : ℕ) (d : Option AggId) (e : SystemPort) (p : ℕ) → i < length before → length before ≡ length system_ports
+    → stopped (take (suc i) before) (take (suc i) system_ports) p ≡ (stopped (take i before) (take i system_ports) p || leaves (get_or before i d) (get_or system_ports i e) p)
+stopped_suc [] system_ports i d e p l same = absurd (omega arith)
 stopped_suc (b ∷ bs) [] i d e p l same = absurd (omega (arith, same))
 stopped_suc (b ∷ bs) (s ∷ ss) zero d e p l same = or_swap (leaves b s p) false
 stopped_suc (b ∷ bs) (s ∷ ss) (suc i) d e p l same =
@@ -33,9 +33,9 @@ stopped_suc (b ∷ bs) (s ∷ ss) (suc i) d e p l same =
     ∙ or_later (leaves b s p) (stopped (take i bs) (take i ss) p) (leaves (get_or bs i d) (get_or ss i e) p)
 
 -- the ports of one more place
-pub stopped_more : (before : List (Option AggId)) (slots : List SystemPort) (i : ℕ) (d : Option AggId) (e : SystemPort) (p : ℕ) → i < length before → length before ≡ length slots
-    → stopped (take (i + 1) before) (take (i + 1) slots) p ≡ (stopped (take i before) (take i slots) p || leaves (get_or before i d) (get_or slots i e) p)
-stopped_more before slots i d e p l same = rw add-one (stopped_suc before slots i d e p l same)
+pub stopped_more : (before : List (Option AggId)) (system_ports : List SystemPort) (i : ℕ) (d : Option AggId) (e : SystemPort) (p : ℕ) → i < length before → length before ≡ length system_ports
+    → stopped (take (i + 1) before) (take (i + 1) system_ports) p ≡ (stopped (take i before) (take i system_ports) p || leaves (get_or before i d) (get_or system_ports i e) p)
+stopped_more before system_ports i d e p l same = rw add-one (stopped_suc before system_ports i d e p l same)
 
 leave_one : (b : Bool) (n p : ℕ) → after_leave n (if b then Wanted p None else On p) ≡ (if b || (n == p) then Wanted p None else On p)
 leave_one true n p = refl
@@ -68,17 +68,17 @@ or_none false true = refl
 or_none false false = refl
 
 -- the port at the place stopped, and is left
-pub left_more : (before : List (Option AggId)) (slots : List SystemPort) (i : ℕ) (d : Option AggId) (e : SystemPort) (old mid new : Table) → i < length before → length before ≡ length slots
-    → Changes old mid (after_holding (stopped (take i before) (take i slots)))
-    → has_stopped (get_or before i d) (get_or slots i e) ≡ true
-    → Changes mid new (after_leave (get_or slots i e).number)
-    → Changes old new (after_holding (stopped (take (i + 1) before) (take (i + 1) slots)))
-left_more before slots i d e old mid new l same h stops k =
-    let n = (get_or slots i e).number in
-    let f = stopped (take i before) (take i slots) in
-    let g = stopped (take (i + 1) before) (take (i + 1) slots) in
+pub left_more : (before : List (Option AggId)) (system_ports : List SystemPort) (i : ℕ) (d : Option AggId) (e : SystemPort) (old mid new : Table) → i < length before → length before ≡ length system_ports
+    → ChangesAssignments old mid (after_holding (stopped (take i before) (take i system_ports)))
+    → has_stopped (get_or before i d) (get_or system_ports i e) ≡ true
+    → ChangesAssignments mid new (after_leave (get_or system_ports i e).number)
+    → ChangesAssignments old new (after_holding (stopped (take (i + 1) before) (take (i + 1) system_ports)))
+left_more before system_ports i d e old mid new l same h stops k =
+    let n = (get_or system_ports i e).number in
+    let f = stopped (take i before) (take i system_ports) in
+    let g = stopped (take (i + 1) before) (take (i + 1) system_ports) in
     let more : (p : ℕ) → g p ≡ (f p || (n == p)) =
-    λ p. stopped_more before slots i d e p l same ∙ ap (λ b. f p || ((n == p) && b)) stops ∙ ap (λ b. f p || b) (and_true (n == p)) in
+    λ p. stopped_more before system_ports i d e p l same ∙ ap (λ b. f p || ((n == p) && b)) stops ∙ ap (λ b. f p || b) (and_true (n == p)) in
     record {
       aggs = k.aggs ∙ h.aggs;
       first = k.first ∙ h.first;
@@ -87,16 +87,16 @@ left_more before slots i d e old mid new l same h stops k =
     }
 
 -- the port at the place did not stop
-pub left_same : (before : List (Option AggId)) (slots : List SystemPort) (i : ℕ) (d : Option AggId) (e : SystemPort) (old new : Table) → i < length before → length before ≡ length slots
-    → Changes old new (after_holding (stopped (take i before) (take i slots)))
-    → has_stopped (get_or before i d) (get_or slots i e) ≡ false
-    → Changes old new (after_holding (stopped (take (i + 1) before) (take (i + 1) slots)))
-left_same before slots i d e old new l same h stays =
-    let n = (get_or slots i e).number in
-    let f = stopped (take i before) (take i slots) in
-    let g = stopped (take (i + 1) before) (take (i + 1) slots) in
+pub left_same : (before : List (Option AggId)) (system_ports : List SystemPort) (i : ℕ) (d : Option AggId) (e : SystemPort) (old new : Table) → i < length before → length before ≡ length system_ports
+    → ChangesAssignments old new (after_holding (stopped (take i before) (take i system_ports)))
+    → has_stopped (get_or before i d) (get_or system_ports i e) ≡ false
+    → ChangesAssignments old new (after_holding (stopped (take (i + 1) before) (take (i + 1) system_ports)))
+left_same before system_ports i d e old new l same h stays =
+    let n = (get_or system_ports i e).number in
+    let f = stopped (take i before) (take i system_ports) in
+    let g = stopped (take (i + 1) before) (take (i + 1) system_ports) in
     let equal : (p : ℕ) → g p ≡ f p =
-    λ p. stopped_more before slots i d e p l same ∙ ap (λ b. f p || ((n == p) && b)) stays ∙ or_none (f p) (n == p) in
+    λ p. stopped_more before system_ports i d e p l same ∙ ap (λ b. f p || ((n == p) && b)) stays ∙ or_none (f p) (n == p) in
     record {
       aggs = h.aggs;
       first = h.first;

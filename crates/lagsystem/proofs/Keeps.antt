@@ -12,7 +12,7 @@ use Rattle.portmachines.specs.Mux.{mux_rows}
 use Rattle.portmachines.specs.Periodic.{RunsPeriodic}
 use Rattle.portmachines.specs.Receive.{receive_rows}
 use Rattle.portmachines.specs.Rows.{RunsToRest}
-use Rattle.portmachines.specs.Transmit.{count_down, is_due, sent}
+use Rattle.portmachines.specs.Transmit.{count_down, is_due, after_sending}
 use Rattle.slowpdu.specs.declared.pdu.Marker.{Marker}
 use Rattle.distributor.specs.declared.assignment.Assignment.{Assignment}
 use Rattle.distributor.specs.declared.assignment.Assignment.TheVariants.{Free}
@@ -21,81 +21,81 @@ use Rattle.distributor.specs.Conversations.{Table, first_table, assignment_of}
 use Rattle.distributor.proofs.TableLemmas.{first_free}
 use Rattle.lagsystem.specs.Readers.{aggregator_numbered, distributing}
 use Rattle.lagsystem.specs.declared.received.FrameEffect.{FrameEffect}
-use Rattle.lagsystem.specs.declared.received.FrameEffect.TheVariants.{Taken, Response, Answered}
+use Rattle.lagsystem.specs.declared.received.FrameEffect.TheVariants.{ProcessLacpdu, Response, Answered}
 use Rattle.lagsystem.specs.declared.received.Received.{Received}
 use Rattle.lagsystem.specs.declared.config.PortConfig.{PortConfig}
 use Rattle.lagsystem.specs.declared.fault.BadConfig.{BadConfig}
-use Rattle.lagsystem.specs.declared.slots.SystemPort.{SystemPort}
-use Rattle.lagsystem.specs.State.{SystemState, with_slots, with_table, place_of}
-use Rattle.lagsystem.specs.Settling.{PortsGo, EachPort, HoldsConversations, Settling, SettlesPorts, chosen, choose_slot, given, held_unless_on, ready_of, aggregator_for}
+use Rattle.lagsystem.specs.declared.system_ports.SystemPort.{SystemPort}
+use Rattle.lagsystem.specs.State.{SystemState, with_system_ports, with_table, port_index}
+use Rattle.lagsystem.specs.Settling.{PortsChangeBy, OnlyPortsChangeBy, HoldsConversations, Settling, SettlesPorts, after_choices, after_choice_at, with_choice, held_unless_on, ready_of, aggregator_for}
 use Rattle.lagsystem.specs.Views.{views}
-use Rattle.lagsystem.specs.First.{IsConfigured, IsFirst, IsNew, configured_numbers, refusal, config_refusal, is_count}
+use Rattle.lagsystem.specs.First.{IsConfigured, IsFirst, HasJustStarted, configured_numbers, refusal, config_refusal, is_count}
 use Rattle.lagsystem.specs.declared.config.Config.{Config}
 use Rattle.lagsystem.specs.Sound.{HasPorts}
 use Rattle.lagsystem.specs.State.{port_numbers}
 use Rattle.lagsystem.specs.declared.drive.Reply.{Reply}
 use Rattle.lagsystem.specs.declared.drive.Reply.TheVariants as reply
 use Rattle.lagsystem.specs.declared.fault.SystemFault.{SystemFault}
-use Rattle.lagsystem.specs.Offers.{Becomes, Offers, force_answer, move_answer}
-use Rattle.lagsystem.specs.Sending.{SendsAt, SendsMarkerOf, SendsWhere}
-use Rattle.lagsystem.specs.Calls.{Call, Tick, Set_link, Receive, Configure, Restart, Transmit, Offer, Move_conversation, Force, AllTick, ChangesLink, ChangesParty, FreesIfDown, LinksPort, PortAtGoes, OnPort, Releases, Settled, TakesLacpdu, Performs, Step, is_for}
+use Rattle.lagsystem.specs.Offers.{GivesOrRefuses, Offers, system_force_result, system_move_result}
+use Rattle.lagsystem.specs.Sending.{TransmitsAt, SendsMarkerOf, TransmitsIf}
+use Rattle.lagsystem.specs.Calls.{Call, Tick, Set_link, Receive, Configure, Restart, Transmit, Offer, Move_conversation, Force, Ticks, SetsPortEnabled, ChangesParty, FreesIfDown, SetsLink, PortAtChangesBy, OnlyPortChangesBy, Releases, ThenSettles, ProcessesLacpdu, Performs, Step, is_own_response}
 use Rattle.lagsystem.proofs.Rising.{if_then}
 
 pub record Keeps (old new : SystemState) : Type 0 where
-  pub frame : new ≡ with_table (with_slots old new.slots) new.table
-  pub same : port_numbers new.slots ≡ port_numbers old.slots
+  pub frame : new ≡ with_table (with_system_ports old new.system_ports) new.table
+  pub same : port_numbers new.system_ports ≡ port_numbers old.system_ports
   pub aggs : new.table.aggs ≡ old.table.aggs
 
 pub keeps_joined : (a b c : SystemState) → Keeps a b → Keeps b c → Keeps a c
 keeps_joined a b c h k = record {
-  frame = k.frame ∙ ap (λ (s : SystemState). with_table (with_slots s c.slots) c.table) h.frame;
+  frame = k.frame ∙ ap (λ (s : SystemState). with_table (with_system_ports s c.system_ports) c.table) h.frame;
   same = k.same ∙ h.same;
   aggs = k.aggs ∙ h.aggs;
 }
 
 -- ports alone, or conversations alone
-pub keeps_slots : (old new : SystemState) → new ≡ with_slots old new.slots → port_numbers new.slots ≡ port_numbers old.slots → Keeps old new
+pub keeps_slots : (old new : SystemState) → new ≡ with_system_ports old new.system_ports → port_numbers new.system_ports ≡ port_numbers old.system_ports → Keeps old new
 keeps_slots old new e n = record {
-  frame = e ∙ (λ i. record old { slots = new.slots; table = sym (ap (λ (s : SystemState). s.table) e) i });
+  frame = e ∙ (λ i. record old { system_ports = new.system_ports; table = sym (ap (λ (s : SystemState). s.table) e) i });
   same = n;
   aggs = ap (λ (s : SystemState). s.table.aggs) e;
 }
 
 pub keeps_table : (old new : SystemState) → new ≡ with_table old new.table → new.table.aggs ≡ old.table.aggs → Keeps old new
 keeps_table old new e a = record {
-  frame = e ∙ (λ i. record old { slots = sym (ap (λ (s : SystemState). s.slots) e) i; table = new.table });
-  same = ap (λ (s : SystemState). port_numbers s.slots) e;
+  frame = e ∙ (λ i. record old { system_ports = sym (ap (λ (s : SystemState). s.system_ports) e) i; table = new.table });
+  same = ap (λ (s : SystemState). port_numbers s.system_ports) e;
   aggs = a;
 }
 
 pub keeps_stays : (old new : SystemState) → new ≡ old → Keeps old new
-keeps_stays old new e = keeps_slots old new (e ∙ ap (with_slots old) (sym (ap (λ (s : SystemState). s.slots) e))) (ap (λ (s : SystemState). port_numbers s.slots) e)
+keeps_stays old new e = keeps_slots old new (e ∙ ap (with_system_ports old) (sym (ap (λ (s : SystemState). s.system_ports) e))) (ap (λ (s : SystemState). port_numbers s.system_ports) e)
 
-pub zip_numbers : (R : Machines → Machines → Type 0) (xs ys : List SystemPort) → PortsGo R xs ys → port_numbers ys ≡ port_numbers xs
+pub zip_numbers : (R : Machines → Machines → Type 0) (xs ys : List SystemPort) → PortsChangeBy R xs ys → port_numbers ys ≡ port_numbers xs
 zip_numbers R [] [] h = refl
 zip_numbers R [] (y ∷ ys) h = absurd h
 zip_numbers R (x ∷ xs) [] h = absurd h
 zip_numbers R (x ∷ xs) (y ∷ ys) h = λ i. (h.0.0 i).number ∷ zip_numbers R xs ys h.1 i
 
-pub keeps_each : (R : Machines → Machines → Type 0) (old new : SystemState) → EachPort R old new → Keeps old new
-keeps_each R old new h = keeps_slots old new h.1 (zip_numbers R old.slots new.slots h.0)
+pub keeps_each : (R : Machines → Machines → Type 0) (old new : SystemState) → OnlyPortsChangeBy R old new → Keeps old new
+keeps_each R old new h = keeps_slots old new h.1 (zip_numbers R old.system_ports new.system_ports h.0)
 
-pub numbers_set : (slots : List SystemPort) (i : ℕ) (s t : SystemPort) → slice_get slots i ≡ Some s → t.number ≡ s.number → port_numbers (slice_set slots i t) ≡ port_numbers slots
+pub numbers_set : (system_ports : List SystemPort) (i : ℕ) (s t : SystemPort) → slice_get system_ports i ≡ Some s → t.number ≡ s.number → port_numbers (slice_set system_ports i t) ≡ port_numbers system_ports
 numbers_set [] i s t e n = refl
 numbers_set (x ∷ xs) zero s t e n = let same : x ≡ s = cc in let here : x.number ≡ s.number = ap (λ (y : SystemPort). y.number) same in cc
 numbers_set (x ∷ xs) (suc i) s t e n = ap (λ ns. x.number ∷ ns) (numbers_set xs i s t e n)
 
-pub given_number : (s : SystemPort) (o : Option AggId) → (given s o).number ≡ s.number
+pub given_number : (s : SystemPort) (o : Option AggId) → (with_choice s o).number ≡ s.number
 given_number s None = refl
 given_number s (Some agg) = refl
 
-choose_numbers : (keys : List Key) (slots : List SystemPort) (i : ℕ) (o : Option SystemPort) → slice_get slots i ≡ o → port_numbers (choose_slot keys slots i o) ≡ port_numbers slots
-choose_numbers keys slots i None e = refl
-choose_numbers keys slots i (Some s) e = let o = aggregator_for keys slots s in numbers_set slots i s (given s o) e (given_number s o)
+choose_numbers : (keys : List Key) (system_ports : List SystemPort) (i : ℕ) (o : Option SystemPort) → slice_get system_ports i ≡ o → port_numbers (after_choice_at keys system_ports i o) ≡ port_numbers system_ports
+choose_numbers keys system_ports i None e = refl
+choose_numbers keys system_ports i (Some s) e = let o = aggregator_for keys system_ports s in numbers_set system_ports i s (with_choice s o) e (given_number s o)
 
-pub chosen_numbers : (keys : List Key) (n : ℕ) (slots : List SystemPort) → port_numbers (chosen keys n slots) ≡ port_numbers slots
-chosen_numbers keys zero slots = refl
-chosen_numbers keys (suc n) slots = choose_numbers keys (chosen keys n slots) n (slice_get (chosen keys n slots) n) refl ∙ chosen_numbers keys n slots
+pub chosen_numbers : (keys : List Key) (n : ℕ) (system_ports : List SystemPort) → port_numbers (after_choices keys n system_ports) ≡ port_numbers system_ports
+chosen_numbers keys zero system_ports = refl
+chosen_numbers keys (suc n) system_ports = choose_numbers keys (after_choices keys n system_ports) n (slice_get (after_choices keys n system_ports) n) refl ∙ chosen_numbers keys n system_ports
 
 -- the steps that look at ports alone
 pub ports_keep : (old new : SystemState) → SettlesPorts old new → Keeps old new
@@ -106,12 +106,12 @@ ports_keep old new h =
     let four = h.2.2.2.0 in
     let five = h.2.2.2.2.0 in
     let chose : Keeps one two =
-    keeps_slots one two (h.2.1 ∙ ap (with_slots one) (sym (ap (λ (s : SystemState). s.slots) h.2.1)))
-    (ap (λ (s : SystemState). port_numbers s.slots) h.2.1 ∙ chosen_numbers one.keys (length one.slots) one.slots) in
+    keeps_slots one two (h.2.1 ∙ ap (with_system_ports one) (sym (ap (λ (s : SystemState). s.system_ports) h.2.1)))
+    (ap (λ (s : SystemState). port_numbers s.system_ports) h.2.1 ∙ chosen_numbers one.keys (length one.system_ports) one.system_ports) in
     keeps_joined old one new (keeps_each (RunsToRest (mux_rows false)) old one h.1)
     (keeps_joined one two new chose
     (keeps_joined two three new (keeps_stays two three h.2.2.1)
-    (keeps_joined three four new (keeps_each (λ p q. RunsToRest (mux_rows (ready_of three.keys (views three.slots) p.choice)) p q) three four h.2.2.2.1)
+    (keeps_joined three four new (keeps_each (λ p q. RunsToRest (mux_rows (ready_of three.keys (views three.system_ports) p.choice)) p q) three four h.2.2.2.1)
     (keeps_joined four five new (keeps_each RunsPeriodic four five h.2.2.2.2.1) (keeps_stays five new h.2.2.2.2.2)))))
 
 -- they leave the conversations
@@ -139,39 +139,39 @@ settling_keeps old new h =
     let p = settling_parts old new h in
     keeps_joined old p.0 new (ports_keep old p.0 p.1) (keeps_table p.0 new p.2.frame p.2.aggs)
 
-place_numbers : (R : Machines → Machines → Type 0) (o : Option ℕ) (old new : List SystemPort) → PortAtGoes R o old new → port_numbers new ≡ port_numbers old
+place_numbers : (R : Machines → Machines → Type 0) (o : Option ℕ) (old new : List SystemPort) → PortAtChangesBy R o old new → port_numbers new ≡ port_numbers old
 place_numbers R None old new h = absurd h
 place_numbers R (Some i) old new h = ap port_numbers h.4 ∙ numbers_set old i h.0 (record h.0 { port = h.1 }) h.2 refl
 
-pub keeps_place : (R : Machines → Machines → Type 0) (o : Option ℕ) (old new : SystemState) → OnPort o R old new → Keeps old new
-keeps_place R o old new h = keeps_slots old new h.1 (place_numbers R o old.slots new.slots h.0)
+pub keeps_place : (R : Machines → Machines → Type 0) (o : Option ℕ) (old new : SystemState) → OnlyPortChangesBy o R old new → Keeps old new
+keeps_place R o old new h = keeps_slots old new h.1 (place_numbers R o old.system_ports new.system_ports h.0)
 
-pub keeps_settled : (own : SystemState → SystemState → Type 0) (old new : SystemState) → ((mid : SystemState) → own old mid → Keeps old mid) → Settled own old new → Keeps old new
+pub keeps_settled : (own : SystemState → SystemState → Type 0) (old new : SystemState) → ((mid : SystemState) → own old mid → Keeps old mid) → ThenSettles own old new → Keeps old new
 keeps_settled own old new k h = keeps_joined old h.0 new (k h.0 h.1) (settling_keeps h.0 new h.2)
 
-pub keeps_tick : (old new : SystemState) → AllTick old new → Keeps old new
-keeps_tick old new h = record { frame = h.2; same = zip_numbers (λ p q. RunsToRest receive_rows (count_down p) q) old.slots new.slots h.0; aggs = h.1.aggs }
+pub keeps_tick : (old new : SystemState) → Ticks old new → Keeps old new
+keeps_tick old new h = record { frame = h.2; same = zip_numbers (λ p q. RunsToRest receive_rows (count_down p) q) old.system_ports new.system_ports h.0; aggs = h.1.aggs }
 
 frees_aggs : (up : Bool) (n : ℕ) (old new : Table) → FreesIfDown up n old new → new.aggs ≡ old.aggs
 frees_aggs true n old new h = ap (λ (t : Table). t.aggs) h
 frees_aggs false n old new h = h.aggs
 
-pub keeps_link : (n : ℕ) (up : Bool) (old new : SystemState) → LinksPort n up old new → Keeps old new
-keeps_link n up old new h = record { frame = h.2; same = place_numbers (ChangesLink up) (place_of n old.slots) old.slots new.slots h.0; aggs = frees_aggs up n old.table new.table h.1 }
+pub keeps_link : (n : ℕ) (up : Bool) (old new : SystemState) → SetsLink n up old new → Keeps old new
+keeps_link n up old new h = record { frame = h.2; same = place_numbers (SetsPortEnabled up) (port_index n old.system_ports) old.system_ports new.system_ports h.0; aggs = frees_aggs up n old.table new.table h.1 }
 
 keeps_marker : (o : Option ℕ) (port : ℕ) (mac : List ℕ) (old : SystemState) (answer : Option (List ℕ)) (new : SystemState) → SendsMarkerOf o port mac old answer new → Keeps old new
 keeps_marker None port mac old answer new h = keeps_stays old new h.1
 keeps_marker (Some id) port mac old answer new h = keeps_table old new h.5 h.4.aggs
 
-keeps_where : (up due : Bool) (i : ℕ) (slot : SystemPort) (old : SystemState) (answer : Option (List ℕ)) (new : SystemState) → slice_get old.slots i ≡ Some slot → SendsWhere up due i slot old answer new → Keeps old new
-keeps_where false due i slot old answer new e h = keeps_stays old new h.1
-keeps_where true true i slot old answer new e h =
-    let sends : SystemPort = record slot { port = sent slot.port } in
-    let slots : new.slots ≡ slice_set old.slots i sends = ap (λ (s : SystemState). s.slots) h.3 in
-    keeps_slots old new (h.3 ∙ ap (with_slots old) (sym slots)) (ap port_numbers slots ∙ numbers_set old.slots i slot sends e refl)
-keeps_where true false i slot old answer new e h = keeps_marker (marker_due old.table slot.number) slot.number slot.mac old answer new h
+keeps_where : (up due : Bool) (i : ℕ) (system_port : SystemPort) (old : SystemState) (answer : Option (List ℕ)) (new : SystemState) → slice_get old.system_ports i ≡ Some system_port → TransmitsIf up due i system_port old answer new → Keeps old new
+keeps_where false due i system_port old answer new e h = keeps_stays old new h.1
+keeps_where true true i system_port old answer new e h =
+    let sends : SystemPort = record system_port { port = after_sending system_port.port } in
+    let system_ports : new.system_ports ≡ slice_set old.system_ports i sends = ap (λ (s : SystemState). s.system_ports) h.3 in
+    keeps_slots old new (h.3 ∙ ap (with_system_ports old) (sym system_ports)) (ap port_numbers system_ports ∙ numbers_set old.system_ports i system_port sends e refl)
+keeps_where true false i system_port old answer new e h = keeps_marker (marker_due old.table system_port.number) system_port.number system_port.mac old answer new h
 
-pub keeps_sends : (o : Option ℕ) (old : SystemState) (answer : Option (List ℕ)) (new : SystemState) → SendsAt o old answer new → Keeps old new
+pub keeps_sends : (o : Option ℕ) (old : SystemState) (answer : Option (List ℕ)) (new : SystemState) → TransmitsAt o old answer new → Keeps old new
 keeps_sends None old answer new h = absurd h
 keeps_sends (Some i) old answer new h = keeps_where h.0.port.enabled (is_due h.0.port) i h.0 old answer new h.1 h.2
 
@@ -179,28 +179,28 @@ keeps_releases : (b : Bool) (port : ℕ) (m : Marker) (old : SystemState) (answe
 keeps_releases false port m old answer new h = keeps_stays old new h.1
 keeps_releases true port m old answer new h = keeps_table old new h.2 h.1.aggs
 
-pub keeps_does : (heard : FrameEffect) (port : ℕ) (o : Option ℕ) (old : SystemState) (answer : Received) (new : SystemState) → Performs heard port o old answer new → Keeps old new
-keeps_does (Taken v) port o old answer new h = keeps_settled (OnPort o (TakesLacpdu v)) old new (λ mid own. keeps_place (TakesLacpdu v) o old mid own) h.1
-keeps_does (Response m) port o old answer new h = keeps_releases (is_for old port m) port m old answer new h
+pub keeps_does : (effect : FrameEffect) (port : ℕ) (o : Option ℕ) (old : SystemState) (answer : Received) (new : SystemState) → Performs effect port o old answer new → Keeps old new
+keeps_does (ProcessLacpdu v) port o old answer new h = keeps_settled (OnlyPortChangesBy o (ProcessesLacpdu v)) old new (λ mid own. keeps_place (ProcessesLacpdu v) o old mid own) h.1
+keeps_does (Response m) port o old answer new h = keeps_releases (is_own_response old port m) port m old answer new h
 keeps_does (Answered a) port o old answer new h = keeps_stays old new h.1
 
 pub keeps_offers : (gives : ℕ → ℕ → ℕ → Type 0) (agg : AggId) (octets : List ℕ) (old : SystemState) (answer : Result ℕ SystemFault) (new : SystemState) → Offers gives agg octets old answer new → Keeps old new
 keeps_offers gives agg octets old (Ok port) new h = keeps_table old new h.2.1 h.2.0.aggs
 keeps_offers gives agg octets old (Err fault) new h = keeps_stays old new h.1
 
-pub keeps_becomes : (agg : AggId) (conv : ℕ) (what : Result Assignment SystemFault) (old : SystemState) (answer : Result Unit SystemFault) (new : SystemState) → Becomes agg conv what old answer new → Keeps old new
+pub keeps_becomes : (agg : AggId) (conv : ℕ) (what : Result Assignment SystemFault) (old : SystemState) (answer : Result Unit SystemFault) (new : SystemState) → GivesOrRefuses agg conv what old answer new → Keeps old new
 keeps_becomes agg conv (Ok state) old answer new h = keeps_table old new h.1.1 h.1.0.aggs
 keeps_becomes agg conv (Err fault) old answer new h = keeps_stays old new h.1
 
-new_numbers : (system : SystemId) (ports : List PortConfig) (slots : List SystemPort) → AllZip (IsNew system) ports slots → port_numbers slots ≡ configured_numbers ports
+new_numbers : (system : SystemId) (ports : List PortConfig) (system_ports : List SystemPort) → AllZip (HasJustStarted system) ports system_ports → port_numbers system_ports ≡ configured_numbers ports
 new_numbers system [] [] h = refl
 new_numbers system [] (s ∷ ss) h = absurd h
 new_numbers system (p ∷ ps) [] h = absurd h
 new_numbers system (p ∷ ps) (s ∷ ss) h = λ i. h.0.0 i ∷ new_numbers system ps ss h.1 i
 
 -- the first state has the ports of its configuration
-pub first_numbers : (s : SystemState) → IsFirst s → port_numbers s.slots ≡ configured_numbers s.ports
-first_numbers s h = (settling_keeps (with_slots s h.0) s h.2).same ∙ new_numbers s.system s.ports h.0 h.1
+pub first_numbers : (s : SystemState) → IsFirst s → port_numbers s.system_ports ≡ configured_numbers s.ports
+first_numbers s h = (settling_keeps (with_system_ports s h.0) s h.2).same ∙ new_numbers s.system s.ports h.0 h.1
 
 pub ports_kept : (old new : SystemState) → Keeps old new → HasPorts old → HasPorts new
 ports_kept old new k s = record {
@@ -213,21 +213,21 @@ ports_first s a h = record { accepted = a; same = first_numbers s h }
 
 -- every call but a restart keeps the configuration
 pub Step-keeps : (gives : ℕ → ℕ → ℕ → Type 0) (old : SystemState) (call : Call) (answer : Reply) (new : SystemState) → (call ≡ Restart → ⊥) → Step gives old call answer new → Keeps old new
-Step-keeps gives old Tick reply.Tick new n h = keeps_settled AllTick old new (λ mid own. keeps_tick old mid own) h
-Step-keeps gives old (Set_link p up) (reply.SetLink (Ok done)) new n h = keeps_settled (LinksPort p up) old new (λ mid own. keeps_link p up old mid own) h
+Step-keeps gives old Tick reply.Tick new n h = keeps_settled Ticks old new (λ mid own. keeps_tick old mid own) h
+Step-keeps gives old (Set_link p up) (reply.SetLink (Ok done)) new n h = keeps_settled (SetsLink p up) old new (λ mid own. keeps_link p up old mid own) h
 Step-keeps gives old (Set_link p up) (reply.SetLink (Err fault)) new n h = keeps_stays old new h.same
-Step-keeps gives old (Receive p octets) (reply.Receive (Ok answer)) new n h = keeps_does h.1 h.0.number (place_of p old.slots) old answer new h.4
+Step-keeps gives old (Receive p octets) (reply.Receive (Ok answer)) new n h = keeps_does h.1 h.0.number (port_index p old.system_ports) old answer new h.4
 Step-keeps gives old (Receive p octets) (reply.Receive (Err fault)) new n h = keeps_stays old new h.same
 Step-keeps gives old (Configure p change) (reply.Configure (Ok true)) new n h =
-    let o = place_of p old.slots in keeps_settled (OnPort o (ChangesParty change)) old new (λ mid own. keeps_place (ChangesParty change) o old mid own) h
+    let o = port_index p old.system_ports in keeps_settled (OnlyPortChangesBy o (ChangesParty change)) old new (λ mid own. keeps_place (ChangesParty change) o old mid own) h
 Step-keeps gives old (Configure p change) (reply.Configure (Ok false)) new n h = keeps_stays old new h.1
 Step-keeps gives old (Configure p change) (reply.Configure (Err fault)) new n h = keeps_stays old new h.same
 Step-keeps gives old Restart reply.Restart new n h = absurd (n refl)
-Step-keeps gives old (Transmit p) (reply.Transmit (Ok answer)) new n h = keeps_sends (place_of p old.slots) old answer new h
+Step-keeps gives old (Transmit p) (reply.Transmit (Ok answer)) new n h = keeps_sends (port_index p old.system_ports) old answer new h
 Step-keeps gives old (Transmit p) (reply.Transmit (Err fault)) new n h = keeps_stays old new h.same
 Step-keeps gives old (Offer agg octets) (reply.Offer answer) new n h = keeps_offers gives agg octets old answer new h
-Step-keeps gives old (Move_conversation agg conv port) (reply.MoveConversation answer) new n h = keeps_becomes agg conv (move_answer old agg conv port) old answer new h
-Step-keeps gives old (Force agg conv) (reply.Force answer) new n h = keeps_becomes agg conv (force_answer old agg conv) old answer new h
+Step-keeps gives old (Move_conversation agg conv port) (reply.MoveConversation answer) new n h = keeps_becomes agg conv (system_move_result old agg conv port) old answer new h
+Step-keeps gives old (Force agg conv) (reply.Force answer) new n h = keeps_becomes agg conv (system_force_result old agg conv) old answer new h
 Step-keeps gives old call answer new n h = absurd h
 
 -- the same for each call
@@ -246,11 +246,11 @@ restart_or_not (Offer agg octets) = inr (λ e. false≢true (ap is_restart e))
 restart_or_not (Move_conversation agg conv port) = inr (λ e. false≢true (ap is_restart e))
 restart_or_not (Force agg conv) = inr (λ e. false≢true (ap is_restart e))
 
-restarts : (gives : ℕ → ℕ → ℕ → Type 0) (old : SystemState) (answer : Reply) (new : SystemState) → Step gives old Restart answer new → (new ≡ with_table (with_slots old new.slots) new.table) × IsFirst new
+restarts : (gives : ℕ → ℕ → ℕ → Type 0) (old : SystemState) (answer : Reply) (new : SystemState) → Step gives old Restart answer new → (new ≡ with_table (with_system_ports old new.system_ports) new.table) × IsFirst new
 restarts gives old reply.Restart new h = h
 restarts gives old answer new h = absurd h
 
-pub Step-frame : (gives : ℕ → ℕ → ℕ → Type 0) (old : SystemState) (call : Call) (answer : Reply) (new : SystemState) → Step gives old call answer new → new ≡ with_table (with_slots old new.slots) new.table
+pub Step-frame : (gives : ℕ → ℕ → ℕ → Type 0) (old : SystemState) (call : Call) (answer : Reply) (new : SystemState) → Step gives old call answer new → new ≡ with_table (with_system_ports old new.system_ports) new.table
 Step-frame gives old call answer new h = elim (restart_or_not call) [
   | inl e ↦ (restarts gives old answer new (subst (λ c. Step gives old c answer new) e h)).0
   | inr n ↦ (Step-keeps gives old call answer new n h).frame
@@ -292,7 +292,7 @@ started config keys start = record {
   first_marker = config.first_marker;
   keys = keys;
   ports = config.ports.items;
-  slots = start;
+  system_ports = start;
   table = first_table (length keys) config.first_marker;
 }
 
@@ -304,24 +304,24 @@ first_leaves aggs first s e = record {
   first = refl;
   next = refl;
   states = λ g k. (let free : assignment_of s.table g k ≡ Free None = ap (λ (t : Table). assignment_of t g k) e ∙ first_free aggs first g k in
-      free ∙ sym (ap (held_unless_on (distributing (aggregator_numbered g) s.slots)) free));
+      free ∙ sym (ap (held_unless_on (distributing (aggregator_numbered g) s.system_ports)) free));
 }
 
 pub first_settles : (aggs first : ℕ) (old new : SystemState) → old.table ≡ first_table aggs first → SettlesPorts old new → Settling old new
 first_settles aggs first old new e h = settling_joined old new new h (first_leaves aggs first new (ports_table old new h ∙ e))
 
-pub first_made : (config : Config) (keys : List Key) (start : List SystemPort) (new : SystemState) → AllZip (IsNew config.system) config.ports.items start
+pub first_made : (config : Config) (keys : List Key) (start : List SystemPort) (new : SystemState) → AllZip (HasJustStarted config.system) config.ports.items start
     → SettlesPorts (started config keys start) new → IsFirst new
 first_made config keys start new h k =
     let old = started config keys start in
     let f = (ports_keep old new k).frame in
     let t : new.table ≡ old.table = ports_table old new k in
     let settles : Settling old new = first_settles (length keys) config.first_marker old new refl k in
-    let same : with_slots new start ≡ old = ap (λ (s : SystemState). with_slots s start) f ∙ ap (λ (t : Table). with_table old t) t in
+    let same : with_system_ports new start ≡ old = ap (λ (s : SystemState). with_system_ports s start) f ∙ ap (λ (t : Table). with_table old t) t in
     let keys_same : length new.keys ≡ length keys = ap (λ (s : SystemState). length s.keys) f in
     let marker : new.first_marker ≡ config.first_marker = ap (λ (s : SystemState). s.first_marker) f in (
       start,
-      subst (λ (s : SystemState). AllZip (IsNew s.system) s.ports start) (sym same) h,
+      subst (λ (s : SystemState). AllZip (HasJustStarted s.system) s.ports start) (sym same) h,
       subst (λ (s : SystemState). Settling s new) (sym same) settles,
       t ∙ (λ i. first_table (sym keys_same i) (sym marker i)),
     )
@@ -336,7 +336,7 @@ configured_made config keys start new e k =
       ports = ap (λ (s : SystemState). s.ports) f;
     }
 
-pub ports_made : (config : Config) (keys : List Key) (start : List SystemPort) (new : SystemState) → keys ≡ config.aggregators.items → config_refusal config ≡ None → AllZip (IsNew config.system) config.ports.items start
+pub ports_made : (config : Config) (keys : List Key) (start : List SystemPort) (new : SystemState) → keys ≡ config.aggregators.items → config_refusal config ≡ None → AllZip (HasJustStarted config.system) config.ports.items start
     → SettlesPorts (started config keys start) new → HasPorts new
 ports_made config keys start new e a h k =
     ports_kept (started config keys start) new (ports_keep (started config keys start) new k)
@@ -344,6 +344,6 @@ ports_made config keys start new e a h k =
 
 -- the same, from the table that the distributor begins with
 pub started_by : (config : Config) (keys : List Key) (start : List SystemPort) (t : Table) (new : SystemState) → t ≡ first_table (length keys) config.first_marker
-    → SettlesPorts (record { system = config.system; max_delay = config.max_delay; first_marker = t.first; keys = keys; ports = config.ports.items; slots = start; table = t }) new → SettlesPorts (started config keys start) new
+    → SettlesPorts (record { system = config.system; max_delay = config.max_delay; first_marker = t.first; keys = keys; ports = config.ports.items; system_ports = start; table = t }) new → SettlesPorts (started config keys start) new
 started_by config keys start t new e h =
-    subst (λ (t : Table). SettlesPorts (record { system = config.system; max_delay = config.max_delay; first_marker = t.first; keys = keys; ports = config.ports.items; slots = start; table = t }) new) e h
+    subst (λ (t : Table). SettlesPorts (record { system = config.system; max_delay = config.max_delay; first_marker = t.first; keys = keys; ports = config.ports.items; system_ports = start; table = t }) new) e h

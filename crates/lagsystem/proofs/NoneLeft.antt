@@ -9,9 +9,9 @@ use Rattle.lagtypes.specs.declared.party.Choice.TheVariants.{Unselected, Selecte
 use Rattle.lagtypes.specs.Choices.{is_unselected}
 use Rattle.selection.specs.declared.view.PortView.{PortView}
 use Rattle.selection.specs.Views.{is_eligible}
-use Rattle.selection.specs.Choice.{choice, choice_for, choice_of_view}
-use Rattle.lagsystem.specs.declared.slots.SystemPort.{SystemPort}
-use Rattle.lagsystem.specs.Settling.{choose_slot, chosen, given, aggregator_for}
+use Rattle.selection.specs.Choice.{chosen_aggregator, chosen_if_eligible, chosen_for_view}
+use Rattle.lagsystem.specs.declared.system_ports.SystemPort.{SystemPort}
+use Rattle.lagsystem.specs.Settling.{after_choice_at, after_choices, with_choice, aggregator_for}
 use Rattle.lagsystem.specs.State.{port_numbers}
 use Rattle.lagsystem.specs.Views.{selection_view, views}
 use Rattle.lagsystem.proofs.Keeps.{chosen_numbers, numbers_set}
@@ -21,34 +21,34 @@ use Rattle.lagsystem.proofs.SettlingLemmas.{set_same}
 
 -- places of a list
 
-get_other : (slots : List SystemPort) (n j : ℕ) (x : SystemPort) → j < n → slice_get (slice_set slots n x) j ≡ slice_get slots j
+get_other : (system_ports : List SystemPort) (n j : ℕ) (x : SystemPort) → j < n → slice_get (slice_set system_ports n x) j ≡ slice_get system_ports j
 get_other [] n j x l = refl
 get_other (s ∷ ss) zero j x l = absurd (omega (arith, l))
 get_other (s ∷ ss) (suc n) zero x l = refl
 get_other (s ∷ ss) (suc n) (suc j) x l = get_other ss n j x (omega (arith, l))
 
-get_here : (slots : List SystemPort) (n : ℕ) (x t : SystemPort) → slice_get (slice_set slots n x) n ≡ Some t → t ≡ x
+get_here : (system_ports : List SystemPort) (n : ℕ) (x t : SystemPort) → slice_get (slice_set system_ports n x) n ≡ Some t → t ≡ x
 get_here [] n x t e = absurd cc
 get_here (s ∷ ss) zero x t e = sym (same_Some x t e)
 get_here (s ∷ ss) (suc n) x t e = get_here ss n x t e
 
-get_within : (slots : List SystemPort) (j : ℕ) (t : SystemPort) → slice_get slots j ≡ Some t → j < length slots
+get_within : (system_ports : List SystemPort) (j : ℕ) (t : SystemPort) → slice_get system_ports j ≡ Some t → j < length system_ports
 get_within [] j t e = absurd cc
 get_within (s ∷ ss) zero t e = omega arith
 get_within (s ∷ ss) (suc j) t e = omega (arith, get_within ss j t e)
 
-length_set : (slots : List SystemPort) (i : ℕ) (x : SystemPort) → length (slice_set slots i x) ≡ length slots
+length_set : (system_ports : List SystemPort) (i : ℕ) (x : SystemPort) → length (slice_set system_ports i x) ≡ length system_ports
 length_set [] i x = refl
 length_set (s ∷ ss) zero x = refl
 length_set (s ∷ ss) (suc i) x = omega (arith, length_set ss i x)
 
-length_choose : (keys : List Key) (slots : List SystemPort) (i : ℕ) (o : Option SystemPort) → length (choose_slot keys slots i o) ≡ length slots
-length_choose keys slots i None = refl
-length_choose keys slots i (Some s) = length_set slots i (given s (aggregator_for keys slots s))
+length_choose : (keys : List Key) (system_ports : List SystemPort) (i : ℕ) (o : Option SystemPort) → length (after_choice_at keys system_ports i o) ≡ length system_ports
+length_choose keys system_ports i None = refl
+length_choose keys system_ports i (Some s) = length_set system_ports i (with_choice s (aggregator_for keys system_ports s))
 
-length_chosen : (keys : List Key) (n : ℕ) (slots : List SystemPort) → length (chosen keys n slots) ≡ length slots
-length_chosen keys zero slots = refl
-length_chosen keys (suc n) slots = length_choose keys (chosen keys n slots) n (slice_get (chosen keys n slots) n) ∙ length_chosen keys n slots
+length_chosen : (keys : List Key) (n : ℕ) (system_ports : List SystemPort) → length (after_choices keys n system_ports) ≡ length system_ports
+length_chosen keys zero system_ports = refl
+length_chosen keys (suc n) system_ports = length_choose keys (after_choices keys n system_ports) n (slice_get (after_choices keys n system_ports) n) ∙ length_chosen keys n system_ports
 
 below_or_at : (j n : ℕ) → j < suc n → (j < n) ⊎ (j ≡ n)
 below_or_at j zero l = inr (omega (arith, l))
@@ -66,21 +66,21 @@ not_when true x h = absurd cc
 not_when false x h = refl
 
 -- what the port at a place takes, by its own view
-pub takes_is : (keys : List Key) (slots : List SystemPort) (j : ℕ) (t : SystemPort) → Rises 0 (port_numbers slots) → slice_get slots j ≡ Some t
-    → aggregator_for keys slots t ≡ (if is_eligible (selection_view t) then (if is_eligible (selection_view t) then choice_for keys (views slots) (selection_view t) else None) else None)
-takes_is keys slots j t r e = ap (λ o. if is_eligible (selection_view t) then choice_of_view keys (views slots) o else None) (find_here 0 slots j t r e)
+pub takes_is : (keys : List Key) (system_ports : List SystemPort) (j : ℕ) (t : SystemPort) → Rises 0 (port_numbers system_ports) → slice_get system_ports j ≡ Some t
+    → aggregator_for keys system_ports t ≡ (if is_eligible (selection_view t) then (if is_eligible (selection_view t) then chosen_if_eligible keys (views system_ports) (selection_view t) else None) else None)
+takes_is keys system_ports j t r e = ap (λ o. if is_eligible (selection_view t) then chosen_for_view keys (views system_ports) o else None) (find_here 0 system_ports j t r e)
 
-none_then : (keys : List Key) (slots : List SystemPort) (i j : ℕ) (s t : SystemPort) (a : AggId) → Rises 0 (port_numbers slots) → slice_get slots i ≡ Some s → s.port.choice ≡ Unselected
-    → slice_get slots j ≡ Some t → j < i → aggregator_for keys slots t ≡ None → aggregator_for keys (slice_set slots i (given s (Some a))) t ≡ None
-none_then keys slots i j s t a r e u g l h =
-    let later : List SystemPort = slice_set slots i (given s (Some a)) in
-    let rise : Rises 0 (port_numbers later) = subst (λ ns. Rises 0 ns) (sym (numbers_set slots i s (given s (Some a)) e refl)) r in
+none_then : (keys : List Key) (system_ports : List SystemPort) (i j : ℕ) (s t : SystemPort) (a : AggId) → Rises 0 (port_numbers system_ports) → slice_get system_ports i ≡ Some s → s.port.choice ≡ Unselected
+    → slice_get system_ports j ≡ Some t → j < i → aggregator_for keys system_ports t ≡ None → aggregator_for keys (slice_set system_ports i (with_choice s (Some a))) t ≡ None
+none_then keys system_ports i j s t a r e u g l h =
+    let later : List SystemPort = slice_set system_ports i (with_choice s (Some a)) in
+    let rise : Rises 0 (port_numbers later) = subst (λ ns. Rises 0 ns) (sym (numbers_set system_ports i s (with_choice s (Some a)) e refl)) r in
     let b : Bool = is_eligible (selection_view t) in
-    let x : Option AggId = choice_for keys (views slots) (selection_view t) in
-    let y : Option AggId = choice_for keys (views later) (selection_view t) in
-    takes_is keys later j t rise (get_other slots i j (given s (Some a)) l ∙ g)
-    ∙ when_still b (if b then x else None) (if b then y else None) (sym (takes_is keys slots j t r g) ∙ h)
-    (λ k. when_still b x y k (none_after keys slots i s a (selection_view t) e u))
+    let x : Option AggId = chosen_if_eligible keys (views system_ports) (selection_view t) in
+    let y : Option AggId = chosen_if_eligible keys (views later) (selection_view t) in
+    takes_is keys later j t rise (get_other system_ports i j (with_choice s (Some a)) l ∙ g)
+    ∙ when_still b (if b then x else None) (if b then y else None) (sym (takes_is keys system_ports j t r g) ∙ h)
+    (λ k. when_still b x y k (none_after keys system_ports i s a (selection_view t) e u))
 
 eligible_then : (b : Bool) (x : Option AggId) (a : AggId) → (if b then x else None) ≡ Some a → b ≡ true
 eligible_then true x a e = refl
@@ -97,48 +97,48 @@ not_unselected false d = refl
 
 -- each of the first n finds none
 abbrev Found_none : List Key → ℕ → List SystemPort → Type 0
-Found_none keys n slots = (j : ℕ) (t : SystemPort) → j < n → slice_get slots j ≡ Some t → aggregator_for keys slots t ≡ None
+Found_none keys n system_ports = (j : ℕ) (t : SystemPort) → j < n → slice_get system_ports j ≡ Some t → aggregator_for keys system_ports t ≡ None
 
-one_taken : (keys : List Key) (slots : List SystemPort) (n : ℕ) (s : SystemPort) (o : Option AggId) → aggregator_for keys slots s ≡ o → slice_get slots n ≡ Some s → Rises 0 (port_numbers slots) → Found_none keys n slots
-    → Found_none keys (suc n) (slice_set slots n (given s o))
-one_taken keys slots n s None w e r k j t l g =
-    let same : slice_set slots n s ≡ slots = set_same slots n s e in
-    let there : slice_get slots j ≡ Some t = ap (λ (l : List SystemPort). slice_get l j) (sym same) ∙ g in
-    let none : aggregator_for keys slots t ≡ None = elim (below_or_at j n l) [
+one_taken : (keys : List Key) (system_ports : List SystemPort) (n : ℕ) (s : SystemPort) (o : Option AggId) → aggregator_for keys system_ports s ≡ o → slice_get system_ports n ≡ Some s → Rises 0 (port_numbers system_ports) → Found_none keys n system_ports
+    → Found_none keys (suc n) (slice_set system_ports n (with_choice s o))
+one_taken keys system_ports n s None w e r k j t l g =
+    let same : slice_set system_ports n s ≡ system_ports = set_same system_ports n s e in
+    let there : slice_get system_ports j ≡ Some t = ap (λ (l : List SystemPort). slice_get l j) (sym same) ∙ g in
+    let none : aggregator_for keys system_ports t ≡ None = elim (below_or_at j n l) [
       | inl h ↦ k j t h there
-      | inr h ↦ subst (λ (x : SystemPort). aggregator_for keys slots x ≡ None) (same_Some s t (sym e ∙ ap (slice_get slots) (sym h) ∙ there)) w
+      | inr h ↦ subst (λ (x : SystemPort). aggregator_for keys system_ports x ≡ None) (same_Some s t (sym e ∙ ap (slice_get system_ports) (sym h) ∙ there)) w
     ] in
     ap (λ (l : List SystemPort). aggregator_for keys l t) same ∙ none
-one_taken keys slots n s (Some a) w e r k j t l g =
+one_taken keys system_ports n s (Some a) w e r k j t l g =
     let v = selection_view s in
-    let can : is_eligible v ≡ true = eligible_then (is_eligible v) (choice keys (views slots) s.number) a w in
+    let can : is_eligible v ≡ true = eligible_then (is_eligible v) (chosen_aggregator keys (views system_ports) s.number) a w in
     let u : s.port.choice ≡ Unselected = unselected s.port.choice _ _ can in
-    let later : List SystemPort = slice_set slots n (given s (Some a)) in
+    let later : List SystemPort = slice_set system_ports n (with_choice s (Some a)) in
     elim (below_or_at j n l) [
-      | inl h ↦ let there : slice_get slots j ≡ Some t = sym (get_other slots n j (given s (Some a)) h) ∙ g in none_then keys slots n j s t a r e u there h (k j t h there)
-      | inr h ↦ let is : t ≡ given s (Some a) = get_here slots n (given s (Some a)) t (ap (slice_get later) (sym h) ∙ g) in
-          subst (λ (x : SystemPort). aggregator_for keys later x ≡ None) (sym is) (not_when (is_eligible (selection_view (given s (Some a)))) (choice keys (views later) s.number) (not_unselected _ _))
+      | inl h ↦ let there : slice_get system_ports j ≡ Some t = sym (get_other system_ports n j (with_choice s (Some a)) h) ∙ g in none_then keys system_ports n j s t a r e u there h (k j t h there)
+      | inr h ↦ let is : t ≡ with_choice s (Some a) = get_here system_ports n (with_choice s (Some a)) t (ap (slice_get later) (sym h) ∙ g) in
+          subst (λ (x : SystemPort). aggregator_for keys later x ≡ None) (sym is) (not_when (is_eligible (selection_view (with_choice s (Some a)))) (chosen_aggregator keys (views later) s.number) (not_unselected _ _))
     ]
 
-one_chosen : (keys : List Key) (slots : List SystemPort) (n : ℕ) (o : Option SystemPort) → slice_get slots n ≡ o → Rises 0 (port_numbers slots) → Found_none keys n slots → Found_none keys (suc n) (choose_slot keys slots n o)
-one_chosen keys slots n None e r k j t l g = elim (below_or_at j n l) [ inl h ↦ k j t h g | inr h ↦ absurd (nothing (sym e ∙ ap (slice_get slots) (sym h) ∙ g)) ]
+one_chosen : (keys : List Key) (system_ports : List SystemPort) (n : ℕ) (o : Option SystemPort) → slice_get system_ports n ≡ o → Rises 0 (port_numbers system_ports) → Found_none keys n system_ports → Found_none keys (suc n) (after_choice_at keys system_ports n o)
+one_chosen keys system_ports n None e r k j t l g = elim (below_or_at j n l) [ inl h ↦ k j t h g | inr h ↦ absurd (nothing (sym e ∙ ap (slice_get system_ports) (sym h) ∙ g)) ]
   where
     nothing : None ≡ Some t → ⊥
     nothing e = cc
-one_chosen keys slots n (Some s) e r k j t l g = one_taken keys slots n s (aggregator_for keys slots s) refl e r k j t l g
+one_chosen keys system_ports n (Some s) e r k j t l g = one_taken keys system_ports n s (aggregator_for keys system_ports s) refl e r k j t l g
 
-all_chosen : (keys : List Key) (n : ℕ) (slots : List SystemPort) → Rises 0 (port_numbers slots) → Found_none keys n (chosen keys n slots)
-all_chosen keys zero slots r j t l g = absurd (omega (arith, l))
-all_chosen keys (suc n) slots r j t l g =
-    one_chosen keys (chosen keys n slots) n (slice_get (chosen keys n slots) n) refl (subst (λ ns. Rises 0 ns) (sym (chosen_numbers keys n slots)) r) (all_chosen keys n slots r) j t l g
+all_chosen : (keys : List Key) (n : ℕ) (system_ports : List SystemPort) → Rises 0 (port_numbers system_ports) → Found_none keys n (after_choices keys n system_ports)
+all_chosen keys zero system_ports r j t l g = absurd (omega (arith, l))
+all_chosen keys (suc n) system_ports r j t l g =
+    one_chosen keys (after_choices keys n system_ports) n (slice_get (after_choices keys n system_ports) n) refl (subst (λ ns. Rises 0 ns) (sym (chosen_numbers keys n system_ports)) r) (all_chosen keys n system_ports r) j t l g
 
-pub each_place : (P : SystemPort → Type 0) (slots : List SystemPort) → ((j : ℕ) (t : SystemPort) → slice_get slots j ≡ Some t → P t) → AllByRecursion P slots
+pub each_place : (P : SystemPort → Type 0) (system_ports : List SystemPort) → ((j : ℕ) (t : SystemPort) → slice_get system_ports j ≡ Some t → P t) → AllByRecursion P system_ports
 each_place P [] k = tt
 each_place P (s ∷ ss) k = (k 0 s refl, each_place P ss (λ j t e. k (suc j) t e))
 
 -- a port that is seen so, beside these, takes no aggregator
 abbrev pub TakesNone : List Key → List PortView → PortView → Type 0
-TakesNone keys seen v = (if is_eligible v then choice_for keys seen v else None) ≡ None
+TakesNone keys seen v = (if is_eligible v then chosen_if_eligible keys seen v else None) ≡ None
 
 when_twice : (b : Bool) (x : Option AggId) → (if b then (if b then x else None) else None) ≡ None → (if b then x else None) ≡ None
 when_twice true x h = h
@@ -148,18 +148,18 @@ when_again : (b : Bool) (x : Option AggId) → (if b then x else None) ≡ None 
 when_again true x h = h
 when_again false x h = refl
 
-pub taken_none : (keys : List Key) (slots : List SystemPort) → Rises 0 (port_numbers slots) → AllByRecursion (λ t. TakesNone keys (views slots) (selection_view t)) slots
-    → (j : ℕ) (t : SystemPort) → slice_get slots j ≡ Some t → aggregator_for keys slots t ≡ None
-taken_none keys slots r all j t e =
-    takes_is keys slots j t r e
-    ∙ when_again (is_eligible (selection_view t)) (choice_for keys (views slots) (selection_view t)) (all-get (λ t. TakesNone keys (views slots) (selection_view t)) slots j t e all)
+pub taken_none : (keys : List Key) (system_ports : List SystemPort) → Rises 0 (port_numbers system_ports) → AllByRecursion (λ t. TakesNone keys (views system_ports) (selection_view t)) system_ports
+    → (j : ℕ) (t : SystemPort) → slice_get system_ports j ≡ Some t → aggregator_for keys system_ports t ≡ None
+taken_none keys system_ports r all j t e =
+    takes_is keys system_ports j t r e
+    ∙ when_again (is_eligible (selection_view t)) (chosen_if_eligible keys (views system_ports) (selection_view t)) (all-get (λ t. TakesNone keys (views system_ports) (selection_view t)) system_ports j t e all)
 
 -- each port, when all have chosen
-pub none_takes : (keys : List Key) (slots : List SystemPort) → Rises 0 (port_numbers slots)
-    → AllByRecursion (λ t. TakesNone keys (views (chosen keys (length slots) slots)) (selection_view t)) (chosen keys (length slots) slots)
-none_takes keys slots r =
-    let last : List SystemPort = chosen keys (length slots) slots in
-    let rise : Rises 0 (port_numbers last) = subst (λ ns. Rises 0 ns) (sym (chosen_numbers keys (length slots) slots)) r in
+pub none_takes : (keys : List Key) (system_ports : List SystemPort) → Rises 0 (port_numbers system_ports)
+    → AllByRecursion (λ t. TakesNone keys (views (after_choices keys (length system_ports) system_ports)) (selection_view t)) (after_choices keys (length system_ports) system_ports)
+none_takes keys system_ports r =
+    let last : List SystemPort = after_choices keys (length system_ports) system_ports in
+    let rise : Rises 0 (port_numbers last) = subst (λ ns. Rises 0 ns) (sym (chosen_numbers keys (length system_ports) system_ports)) r in
     each_place (λ t. TakesNone keys (views last) (selection_view t)) last
-    (λ j t e. when_twice (is_eligible (selection_view t)) (choice_for keys (views last) (selection_view t))
-    (sym (takes_is keys last j t rise e) ∙ all_chosen keys (length slots) slots r j t (subst (λ m. j < m) (length_chosen keys (length slots) slots) (get_within last j t e)) e))
+    (λ j t e. when_twice (is_eligible (selection_view t)) (chosen_if_eligible keys (views last) (selection_view t))
+    (sym (takes_is keys last j t rise e) ∙ all_chosen keys (length system_ports) system_ports r j t (subst (λ m. j < m) (length_chosen keys (length system_ports) system_ports) (get_within last j t e)) e))

@@ -8,9 +8,9 @@ use Rattle.lagtypes.specs.declared.party.Choice.TheVariants.{Unselected, Selecte
 use Rattle.lagtypes.specs.Group.{individual}
 use Rattle.selection.specs.declared.view.PortView.{PortView}
 use Rattle.selection.specs.Views.{has_chosen}
-use Rattle.selection.specs.Choice.{choice_for, ports_that_chose, has_group_of, has_member, is_empty, is_joinable, lowest, aggregator_in_row, or_else}
-use Rattle.lagsystem.specs.declared.slots.SystemPort.{SystemPort}
-use Rattle.lagsystem.specs.Settling.{given}
+use Rattle.selection.specs.Choice.{chosen_if_eligible, ports_that_chose, has_group_of, has_member, has_no_member, members_share_group, lowest, aggregator_of_entry, or_else}
+use Rattle.lagsystem.specs.declared.system_ports.SystemPort.{SystemPort}
+use Rattle.lagsystem.specs.Settling.{with_choice}
 use Rattle.lagsystem.specs.Views.{selection_view, views}
 
 none_or : (x y : Option AggId) → or_else x y ≡ None → (x ≡ None) × (y ≡ None)
@@ -18,7 +18,7 @@ none_or None None e = (refl, refl)
 none_or None (Some agg) e = absurd cc
 none_or (Some agg) y e = absurd cc
 
-none_mapped : (o : Option (ℕ × Key)) → option_map aggregator_in_row o ≡ None → o ≡ None
+none_mapped : (o : Option (ℕ × Key)) → option_map aggregator_of_entry o ≡ None → o ≡ None
 none_mapped None e = refl
 none_mapped (Some row) e = absurd cc
 
@@ -40,7 +40,7 @@ two_false false s t u h g f = refl
 
 -- the first aggregator with this key that passes the test
 abbrev passing : Key → (AggId → Bool) → List (ℕ × Key) → Option (ℕ × Key)
-passing key test rows = find (λ (row : ℕ × Key). (row.1.0 == key.0) && test (aggregator_in_row row)) rows
+passing key test rows = find (λ (row : ℕ × Key). (row.1.0 == key.0) && test (aggregator_of_entry row)) rows
 
 still_none : (key : Key) (empty join later_empty later_join : AggId → Bool)
     → ((agg : AggId) → empty agg ≡ false → later_empty agg ≡ false)
@@ -49,7 +49,7 @@ still_none : (key : Key) (empty join later_empty later_join : AggId → Bool)
     → (passing key later_empty rows ≡ None) × (passing key later_join rows ≡ None)
 still_none key empty join later_empty later_join f g [] e j = (refl, refl)
 still_none key empty join later_empty later_join f g (row ∷ rows) e j =
-    let agg : AggId = aggregator_in_row row in
+    let agg : AggId = aggregator_of_entry row in
     let same : Bool = row.1.0 == key.0 in
     let he = first_fails (same && empty agg) row (passing key empty rows) e in
     let hj = first_fails (same && join agg) row (passing key join rows) j in
@@ -60,15 +60,15 @@ still_none key empty join later_empty later_join f g (row ∷ rows) e j =
 
 -- if no aggregator becomes empty, and none that has members becomes joinable
 pub none_stays : (keys : List Key) (seen later : List PortView) (v : PortView)
-    → ((agg : AggId) → is_empty seen agg ≡ false → is_empty later agg ≡ false)
-    → ((agg : AggId) → is_empty seen agg ≡ false → is_joinable seen v agg ≡ false → is_joinable later v agg ≡ false)
-    → choice_for keys seen v ≡ None → choice_for keys later v ≡ None
+    → ((agg : AggId) → has_no_member seen agg ≡ false → has_no_member later agg ≡ false)
+    → ((agg : AggId) → has_no_member seen agg ≡ false → members_share_group seen v agg ≡ false → members_share_group later v agg ≡ false)
+    → chosen_if_eligible keys seen v ≡ None → chosen_if_eligible keys later v ≡ None
 none_stays keys seen later v f g e =
-    let both = none_or (lowest keys v.party.key (is_joinable seen v)) (lowest keys v.party.key (is_empty seen)) e in
+    let both = none_or (lowest keys v.party.key (members_share_group seen v)) (lowest keys v.party.key (has_no_member seen)) e in
     let rows : List (ℕ × Key) = enumerate_from 1 keys in
-    let h = still_none v.party.key (is_empty seen) (is_joinable seen v) (is_empty later) (is_joinable later v) f g rows
-    (none_mapped (passing v.party.key (is_empty seen) rows) both.1) (none_mapped (passing v.party.key (is_joinable seen v) rows) both.0) in
-    ap (λ o. or_else (option_map aggregator_in_row o) (lowest keys v.party.key (is_empty later))) h.1 ∙ ap (option_map aggregator_in_row) h.0
+    let h = still_none v.party.key (has_no_member seen) (members_share_group seen v) (has_no_member later) (members_share_group later v) f g rows
+    (none_mapped (passing v.party.key (has_no_member seen) rows) both.1) (none_mapped (passing v.party.key (members_share_group seen v) rows) both.0) in
+    ap (λ o. or_else (option_map aggregator_of_entry o) (lowest keys v.party.key (has_no_member later))) h.1 ∙ ap (option_map aggregator_of_entry) h.0
 
 -- one more member
 
@@ -92,13 +92,13 @@ or_still false c d h f = f h
 pub not_given : (agg : AggId) (s x : SystemPort) → x ≡ s → s.port.choice ≡ Unselected → has_chosen agg x.port.choice ≡ false
 not_given agg s x same u = ap (λ (y : SystemPort). has_chosen agg y.port.choice) same ∙ ap (has_chosen agg) u
 
-member_stays : (agg a : AggId) (slots : List SystemPort) (i : ℕ) (s : SystemPort) → slice_get slots i ≡ Some s → s.port.choice ≡ Unselected
-    → has_member (views slots) agg ≡ true → has_member (views (slice_set slots i (given s (Some a)))) agg ≡ true
+member_stays : (agg a : AggId) (system_ports : List SystemPort) (i : ℕ) (s : SystemPort) → slice_get system_ports i ≡ Some s → s.port.choice ≡ Unselected
+    → has_member (views system_ports) agg ≡ true → has_member (views (slice_set system_ports i (with_choice s (Some a)))) agg ≡ true
 member_stays agg a [] i s e u h = absurd cc
 member_stays agg a (x ∷ xs) zero s e u h =
     or_other (has_chosen agg x.port.choice) (has_member (views xs) agg) (has_chosen agg (Selected a)) (not_given agg s x (same_Some x s e) u) h
 member_stays agg a (x ∷ xs) (suc i) s e u h =
-    or_still (has_chosen agg x.port.choice) (has_member (views xs) agg) (has_member (views (slice_set xs i (given s (Some a)))) agg) h (member_stays agg a xs i s e u)
+    or_still (has_chosen agg x.port.choice) (has_member (views xs) agg) (has_member (views (slice_set xs i (with_choice s (Some a)))) agg) h (member_stays agg a xs i s e u)
 
 and_second : (b c : Bool) → c ≡ false → (b && c) ≡ false
 and_second true c h = h
@@ -117,14 +117,14 @@ all_still : (test : PortView → Bool) (b : Bool) (w : PortView) (rest more : Li
 all_still test true w rest more h f = both_false (test w) (list_all test rest) (list_all test more) h f
 all_still test false w rest more h f = f h
 
-others_stay : (agg a : AggId) (v : PortView) (slots : List SystemPort) (i : ℕ) (s : SystemPort) → slice_get slots i ≡ Some s → s.port.choice ≡ Unselected
-    → list_all (has_group_of v) (ports_that_chose agg (views slots)) ≡ false → list_all (has_group_of v) (ports_that_chose agg (views (slice_set slots i (given s (Some a))))) ≡ false
+others_stay : (agg a : AggId) (v : PortView) (system_ports : List SystemPort) (i : ℕ) (s : SystemPort) → slice_get system_ports i ≡ Some s → s.port.choice ≡ Unselected
+    → list_all (has_group_of v) (ports_that_chose agg (views system_ports)) ≡ false → list_all (has_group_of v) (ports_that_chose agg (views (slice_set system_ports i (with_choice s (Some a))))) ≡ false
 others_stay agg a v [] i s e u h = absurd cc
 others_stay agg a v (x ∷ xs) zero s e u h =
-    all_later (has_group_of v) (has_chosen agg (Selected a)) (selection_view (given s (Some a))) (ports_that_chose agg (views xs))
+    all_later (has_group_of v) (has_chosen agg (Selected a)) (selection_view (with_choice s (Some a))) (ports_that_chose agg (views xs))
     (all_skipped (has_group_of v) (has_chosen agg x.port.choice) (selection_view x) (ports_that_chose agg (views xs)) (not_given agg s x (same_Some x s e) u) h)
 others_stay agg a v (x ∷ xs) (suc i) s e u h =
-    all_still (has_group_of v) (has_chosen agg x.port.choice) (selection_view x) (ports_that_chose agg (views xs)) (ports_that_chose agg (views (slice_set xs i (given s (Some a))))) h
+    all_still (has_group_of v) (has_chosen agg x.port.choice) (selection_view x) (ports_that_chose agg (views xs)) (ports_that_chose agg (views (slice_set xs i (with_choice s (Some a))))) h
     (others_stay agg a v xs i s e u)
 
 join_stays : (n m a later all : Bool) → m ≡ true → later ≡ true → ((n && m) && a) ≡ false → (a ≡ false → all ≡ false) → ((n && later) && all) ≡ false
@@ -134,23 +134,23 @@ join_stays true false a later all p q h f = absurd cc
 join_stays false m a later all p q h f = refl
 
 -- a port that found none finds none after another port took an aggregator
-pub none_after : (keys : List Key) (slots : List SystemPort) (i : ℕ) (s : SystemPort) (a : AggId) (v : PortView) → slice_get slots i ≡ Some s → s.port.choice ≡ Unselected
-    → choice_for keys (views slots) v ≡ None → choice_for keys (views (slice_set slots i (given s (Some a)))) v ≡ None
-none_after keys slots i s a v e u h =
-    let later : List PortView = views (slice_set slots i (given s (Some a))) in
-    none_stays keys (views slots) later v
-    (λ agg k. not_true (has_member later agg) (member_stays agg a slots i s e u (not_false (has_member (views slots) agg) k)))
+pub none_after : (keys : List Key) (system_ports : List SystemPort) (i : ℕ) (s : SystemPort) (a : AggId) (v : PortView) → slice_get system_ports i ≡ Some s → s.port.choice ≡ Unselected
+    → chosen_if_eligible keys (views system_ports) v ≡ None → chosen_if_eligible keys (views (slice_set system_ports i (with_choice s (Some a)))) v ≡ None
+none_after keys system_ports i s a v e u h =
+    let later : List PortView = views (slice_set system_ports i (with_choice s (Some a))) in
+    none_stays keys (views system_ports) later v
+    (λ agg k. not_true (has_member later agg) (member_stays agg a system_ports i s e u (not_false (has_member (views system_ports) agg) k)))
     (λ agg k j.
-    let has = not_false (has_member (views slots) agg) k in
-    join_stays (not (individual v.party v.partner)) (has_member (views slots) agg) (list_all (has_group_of v) (ports_that_chose agg (views slots)))
-    (has_member later agg) (list_all (has_group_of v) (ports_that_chose agg later)) has (member_stays agg a slots i s e u has) j (others_stay agg a v slots i s e u))
+    let has = not_false (has_member (views system_ports) agg) k in
+    join_stays (not (individual v.party v.partner)) (has_member (views system_ports) agg) (list_all (has_group_of v) (ports_that_chose agg (views system_ports)))
+    (has_member later agg) (list_all (has_group_of v) (ports_that_chose agg later)) has (member_stays agg a system_ports i s e u has) j (others_stay agg a v system_ports i s e u))
     h
 
 -- the same members in the same groups
 pub none_alike : (keys : List Key) (seen later : List PortView) (v : PortView)
     → ((agg : AggId) → has_member later agg ≡ has_member seen agg)
     → ((agg : AggId) → list_all (has_group_of v) (ports_that_chose agg later) ≡ list_all (has_group_of v) (ports_that_chose agg seen))
-    → choice_for keys seen v ≡ None → choice_for keys later v ≡ None
+    → chosen_if_eligible keys seen v ≡ None → chosen_if_eligible keys later v ≡ None
 none_alike keys seen later v f g h =
     none_stays keys seen later v
     (λ agg k. ap not (f agg) ∙ k)

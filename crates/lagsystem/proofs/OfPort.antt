@@ -3,13 +3,13 @@ use Rattle.std.proofs.Common.{◌≡◌, ℕ, Bool, true, false, cond, eqb, Opti
 use Rattle.std.specs.Prelude.{option_map, option_to_list, slice_get, slice_set}
 use Rattle.std.specs.List.{AllZip}
 use Rattle.std.proofs.lemmas.Bool.{cases_Bool}
-use Rattle.lagmodel.specs.View.{PortFacts, Flows, View, SystemSetup, ModelCall, at_port}
-use Rattle.lagmodel.specs.Move.{Act, PortMove, PortAllowed, port_after, port_act, FreeMoves}
+use Rattle.lagmodel.specs.View.{PortFacts, DistributorFacts, View, SystemSetup, ModelCall, at_port}
+use Rattle.lagmodel.specs.Move.{Act, PortMove, PortAllowed, port_after, port_act, LawfulMoves}
 use Rattle.lagmodel.specs.Bridge.{AreNumbered}
 use Rattle.lagmodel.proofs.Uses.{moves_joined, moves_port, ports_set, find_at, numbered_set}
 use Rattle.lagmodel.proofs.Base.{cond_true, cond_false}
-use Rattle.lagsystem.specs.declared.slots.SystemPort.{SystemPort}
-use Rattle.lagsystem.specs.ModelView.{number, model_port_of, model_view_at}
+use Rattle.lagsystem.specs.declared.system_ports.SystemPort.{SystemPort}
+use Rattle.lagsystem.specs.ModelView.{number_of_port, model_port_of, model_view_at}
 
 abbrev pub AllPortAllowed : SystemSetup → ModelCall → ℕ → List PortMove → PortFacts → Type 0
 AllPortAllowed u call p [] a = Unit {0}
@@ -73,7 +73,7 @@ twice true (Some x) f c = refl
 twice false o f c = refl
 
 places : (u : SystemSetup) (call : ModelCall) (p : ℕ) (ms : List PortMove) (v : View) (a : PortFacts) → v.port p ≡ Some a → AllPortAllowed u call p ms a
-    → FreeMoves u call v (port_acts p ms a) (record v { port = at_port v.port p (λ z. after_moves ms a) })
+    → LawfulMoves u call v (port_acts p ms a) (record v { port = at_port v.port p (λ z. after_moves ms a) })
 places u call p [] v a h x = ([], tt, refl, λ i. record v { port = λ q. stays_there v.port p a h q i })
 places u call p (m ∷ ms) v a h x =
     let mid : View = record v { port = at_port v.port p (port_after m) } in
@@ -81,17 +81,17 @@ places u call p (m ∷ ms) v a h x =
     let end : View = record mid { port = at_port mid.port p (λ z. after_moves ms (port_after m a)) } in
     let same : end ≡ record v { port = at_port v.port p (λ z. after_moves ms (port_after m a)) } =
     λ i. record v { port = λ q. twice (eqb q p) (v.port q) (port_after m) (after_moves ms (port_after m a)) i } in
-    subst (λ w. FreeMoves u call v (port_acts p (m ∷ ms) a) w) same
+    subst (λ w. LawfulMoves u call v (port_acts p (m ∷ ms) a) w) same
     (moves_joined u call v mid end (option_to_list (port_act p m a)) (port_acts p ms (port_after m a)) (moves_port u call v p m a h (x.0 v.port)) rest)
 
 -- one port of a list moves
-pub slot_moves : (u : SystemSetup) (call : ModelCall) (f : Flows) (slots : List SystemPort) (i : ℕ) (x y : SystemPort) (seen : List Act) → AreNumbered number slots → slice_get slots i ≡ Some x → y.number ≡ x.number
-    → PortMoves u call x.number (model_port_of x) seen (model_port_of y) → FreeMoves u call (model_view_at f slots) seen (model_view_at f (slice_set slots i y))
-slot_moves u call f slots i x y seen n h e z =
-    let v : View = model_view_at f slots in
-    let there : v.port x.number ≡ Some (model_port_of x) = ap (option_map model_port_of) (find_at number slots i x n h) in
-    let same : model_view_at f (slice_set slots i y) ≡ record v { port = at_port v.port x.number (λ a. after_moves z.0 (model_port_of x)) } =
-    λ j. record { port = λ q. ports_set number model_port_of slots i x y (λ a. after_moves z.0 (model_port_of x)) n h e z.3 q j; flows = f } in
+pub slot_moves : (u : SystemSetup) (call : ModelCall) (f : DistributorFacts) (system_ports : List SystemPort) (i : ℕ) (x y : SystemPort) (seen : List Act) → AreNumbered number_of_port system_ports → slice_get system_ports i ≡ Some x → y.number ≡ x.number
+    → PortMoves u call x.number (model_port_of x) seen (model_port_of y) → LawfulMoves u call (model_view_at f system_ports) seen (model_view_at f (slice_set system_ports i y))
+slot_moves u call f system_ports i x y seen n h e z =
+    let v : View = model_view_at f system_ports in
+    let there : v.port x.number ≡ Some (model_port_of x) = ap (option_map model_port_of) (find_at number_of_port system_ports i x n h) in
+    let same : model_view_at f (slice_set system_ports i y) ≡ record v { port = at_port v.port x.number (λ a. after_moves z.0 (model_port_of x)) } =
+    λ j. record { port = λ q. ports_set number_of_port model_port_of system_ports i x y (λ a. after_moves z.0 (model_port_of x)) n h e z.3 q j; flows = f } in
     let all = places u call x.number z.0 v (model_port_of x) there z.1 in
     (all.0, all.1, all.2 ∙ z.2, same ∙ all.3)
 
@@ -107,21 +107,21 @@ get_here (z ∷ done) olds x = get_here done olds x
 abbrev pub SlotMoves : SystemSetup → ModelCall → SystemPort → SystemPort → Type 0
 SlotMoves u call x y = (y.number ≡ x.number) × PortMoves u call x.number (model_port_of x) [] (model_port_of y)
 
-from_here : (u : SystemSetup) (call : ModelCall) (f : Flows) (done olds news : List SystemPort) → AreNumbered number (done ++ olds) → AllZip (SlotMoves u call) olds news
-    → FreeMoves u call (model_view_at f (done ++ olds)) [] (model_view_at f (done ++ news))
+from_here : (u : SystemSetup) (call : ModelCall) (f : DistributorFacts) (done olds news : List SystemPort) → AreNumbered number_of_port (done ++ olds) → AllZip (SlotMoves u call) olds news
+    → LawfulMoves u call (model_view_at f (done ++ olds)) [] (model_view_at f (done ++ news))
 from_here u call f done [] [] n h = ([], tt, refl, refl)
 from_here u call f done [] (y ∷ ys) n h = absurd h
 from_here u call f done (x ∷ xs) [] n h = absurd h
 from_here u call f done (x ∷ xs) (y ∷ ys) n h =
-    let slots : List SystemPort = done ++ x ∷ xs in
+    let system_ports : List SystemPort = done ++ x ∷ xs in
     let here = get_here done xs x in
     let next : List SystemPort = (done ++ y ∷ []) ++ xs in
-    let same : slice_set slots (length done) y ≡ next = set_here done xs x y ∙ sym (append_assoc done (y ∷ []) xs) in
-    let one = subst (λ l. FreeMoves u call (model_view_at f slots) [] (model_view_at f l)) same (slot_moves u call f slots (length done) x y [] n here h.0.0 h.0.1) in
-    let numbered = subst (AreNumbered number) same (numbered_set number slots (length done) x y here h.0.0 n) in
+    let same : slice_set system_ports (length done) y ≡ next = set_here done xs x y ∙ sym (append_assoc done (y ∷ []) xs) in
+    let one = subst (λ l. LawfulMoves u call (model_view_at f system_ports) [] (model_view_at f l)) same (slot_moves u call f system_ports (length done) x y [] n here h.0.0 h.0.1) in
+    let numbered = subst (AreNumbered number_of_port) same (numbered_set number_of_port system_ports (length done) x y here h.0.0 n) in
     let rest = from_here u call f (done ++ y ∷ []) xs ys numbered h.1 in
-    subst (λ l. FreeMoves u call (model_view_at f slots) [] (model_view_at f l)) (append_assoc done (y ∷ []) ys)
-    (moves_joined u call (model_view_at f slots) (model_view_at f next) (model_view_at f ((done ++ y ∷ []) ++ ys)) [] [] one rest)
+    subst (λ l. LawfulMoves u call (model_view_at f system_ports) [] (model_view_at f l)) (append_assoc done (y ∷ []) ys)
+    (moves_joined u call (model_view_at f system_ports) (model_view_at f next) (model_view_at f ((done ++ y ∷ []) ++ ys)) [] [] one rest)
 
-pub all_slots_move : (u : SystemSetup) (call : ModelCall) (f : Flows) (olds news : List SystemPort) → AreNumbered number olds → AllZip (SlotMoves u call) olds news → FreeMoves u call (model_view_at f olds) [] (model_view_at f news)
+pub all_slots_move : (u : SystemSetup) (call : ModelCall) (f : DistributorFacts) (olds news : List SystemPort) → AreNumbered number_of_port olds → AllZip (SlotMoves u call) olds news → LawfulMoves u call (model_view_at f olds) [] (model_view_at f news)
 all_slots_move u call f olds news n h = from_here u call f [] olds news n h

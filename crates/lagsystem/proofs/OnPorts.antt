@@ -5,31 +5,31 @@ use Rattle.std.proofs.lemmas.Bool.{and_parts, eqb-true}
 use Rattle.std.proofs.lemmas.Option.{same_Some}
 use Rattle.lagtypes.specs.declared.identifiers.AggId.{AggId}
 use Rattle.slowpdu.specs.declared.pdu.Marker.{Marker}
-use Rattle.portmachines.specs.Transmit.{is_due, sent}
+use Rattle.portmachines.specs.Transmit.{is_due, after_sending}
 use Rattle.distributor.specs.declared.assignment.Assignment.{Assignment}
 use Rattle.distributor.specs.declared.assignment.Assignment.TheVariants.{Free, On, Wanted, Flushing}
 use Rattle.distributor.specs.Calls.{MaySend, distributes}
-use Rattle.distributor.specs.Changes.{Sets, after_mark, after_release, marker_due}
+use Rattle.distributor.specs.Changes.{SetsAssignment, after_mark, after_release, marker_due}
 use Rattle.distributor.specs.Conversations.{Table, next_identifier, assignment_of}
 use Rattle.distributor.specs.Moves.{model_conversation}
 use Rattle.distributor.proofs.MoveLemmas.{is_forced, is_moved}
 use Rattle.distributor.proofs.TableLemmas.{first_free}
 use Rattle.lagmodel.specs.View.{Conversation}
 use Rattle.lagsystem.specs.declared.received.FrameEffect.{FrameEffect}
-use Rattle.lagsystem.specs.declared.received.FrameEffect.TheVariants.{Taken, Response, Answered}
+use Rattle.lagsystem.specs.declared.received.FrameEffect.TheVariants.{ProcessLacpdu, Response, Answered}
 use Rattle.lagsystem.specs.declared.received.Received.{Received}
 use Rattle.lagsystem.specs.declared.drive.Reply.{Reply}
 use Rattle.lagsystem.specs.declared.drive.Reply.TheVariants as reply
 use Rattle.lagsystem.specs.declared.fault.SystemFault.{SystemFault}
-use Rattle.lagsystem.specs.declared.slots.SystemPort.{SystemPort}
-use Rattle.lagsystem.specs.Calls.{Call, Tick, Set_link, Receive, Configure, Restart, Transmit, Offer, Move_conversation, Force, AllTick, ChangesParty, Performs, LinksPort, OnPort, Releases, Settled, Step, TakesLacpdu, is_for}
+use Rattle.lagsystem.specs.declared.system_ports.SystemPort.{SystemPort}
+use Rattle.lagsystem.specs.Calls.{Call, Tick, Set_link, Receive, Configure, Restart, Transmit, Offer, Move_conversation, Force, Ticks, ChangesParty, Performs, SetsLink, OnlyPortChangesBy, Releases, ThenSettles, Step, ProcessesLacpdu, is_own_response}
 use Rattle.lagsystem.specs.First.{IsFirst}
-use Rattle.lagsystem.specs.Offers.{Becomes, Offers, force_answer, move_answer, state_for}
+use Rattle.lagsystem.specs.Offers.{GivesOrRefuses, Offers, system_force_result, system_move_result, assignment_of_frame}
 use Rattle.lagsystem.specs.Readers.{aggregator_numbered, number_of_conversation as conversation_number, distributes_in, distributing}
-use Rattle.lagsystem.specs.Sending.{SendsAt, SendsMarkerOf, SendsWhere}
+use Rattle.lagsystem.specs.Sending.{TransmitsAt, SendsMarkerOf, TransmitsIf}
 use Rattle.lagsystem.specs.Settling.{HoldsConversations, held_unless_on}
 use Rattle.lagsystem.specs.Sound.{OnlyOnDistributing}
-use Rattle.lagsystem.specs.State.{SystemState, place_of, with_table}
+use Rattle.lagsystem.specs.State.{SystemState, port_index, with_table}
 use Rattle.lagsystem.proofs.Conversing.{assigned_may}
 use Rattle.lagsystem.proofs.Keeps.{settling_parts}
 use Rattle.lagsystem.proofs.Steps.{forced_to, moved_to}
@@ -59,10 +59,10 @@ left_is ports (On q) p e = still (distributes ports q) refl e
 
 leaves_carried : (old new : SystemState) → HoldsConversations old new → OnlyOnDistributing new
 leaves_carried old new h g k p e =
-    subst (λ (s : SystemState). distributes (distributing (aggregator_numbered g) s.slots) p ≡ true) (sym h.frame)
-    (left_is (distributing (aggregator_numbered g) old.slots) (assignment_of old.table g k) p (sym (h.states g k) ∙ e))
+    subst (λ (s : SystemState). distributes (distributing (aggregator_numbered g) s.system_ports) p ≡ true) (sym h.frame)
+    (left_is (distributing (aggregator_numbered g) old.system_ports) (assignment_of old.table g k) p (sym (h.states g k) ∙ e))
 
-settled_carried : (own : SystemState → SystemState → Type 0) (old new : SystemState) → Settled own old new → OnlyOnDistributing new
+settled_carried : (own : SystemState → SystemState → Type 0) (old new : SystemState) → ThenSettles own old new → OnlyOnDistributing new
 settled_carried own old new h = let p = settling_parts h.0 new h.2 in leaves_carried p.0 new p.2
 
 same_carried : (old new : SystemState) → new ≡ old → OnlyOnDistributing old → OnlyOnDistributing new
@@ -70,11 +70,11 @@ same_carried old new e c = subst OnlyOnDistributing (sym e) c
 
 -- the ports stay, and a conversation is where it was or on a port that distributes in its aggregator
 abbrev Carried : SystemState → ℕ → Assignment → ℕ → Type 0
-Carried old g was p = (was ≡ On p) ⊎ (distributes (distributing (aggregator_numbered g) old.slots) p ≡ true)
+Carried old g was p = (was ≡ On p) ⊎ (distributes (distributing (aggregator_numbered g) old.system_ports) p ≡ true)
 
 table_carried : (old new : SystemState) → new ≡ with_table old new.table → OnlyOnDistributing old → ((g k p : ℕ) → assignment_of new.table g k ≡ On p → Carried old g (assignment_of old.table g k) p) → OnlyOnDistributing new
 table_carried old new f c h g k p e =
-    subst (λ (s : SystemState). distributes (distributing (aggregator_numbered g) s.slots) p ≡ true) (sym f)
+    subst (λ (s : SystemState). distributes (distributing (aggregator_numbered g) s.system_ports) p ≡ true) (sym f)
     (elim (h g k p e) [ inl w ↦ c g k p w | inr d ↦ d ])
 
 released : (port id p : ℕ) (a : Assignment) → after_release port id a ≡ On p → a ≡ On p
@@ -101,9 +101,9 @@ releases_carried : (b : Bool) (port : ℕ) (m : Marker) (old : SystemState) (ans
 releases_carried false port m old answer new h c = same_carried old new h.1 c
 releases_carried true port m old answer new h c = table_carried old new h.2 c (λ g k p e. inl (released port m.id p (assignment_of old.table g k) (sym (h.1.states g k) ∙ e)))
 
-does_carried : (heard : FrameEffect) (port : ℕ) (o : Option ℕ) (old : SystemState) (answer : Received) (new : SystemState) → Performs heard port o old answer new → OnlyOnDistributing old → OnlyOnDistributing new
-does_carried (Taken v) port o old answer new h c = settled_carried (OnPort o (TakesLacpdu v)) old new h.1
-does_carried (Response m) port o old answer new h c = releases_carried (is_for old port m) port m old answer new h c
+does_carried : (effect : FrameEffect) (port : ℕ) (o : Option ℕ) (old : SystemState) (answer : Received) (new : SystemState) → Performs effect port o old answer new → OnlyOnDistributing old → OnlyOnDistributing new
+does_carried (ProcessLacpdu v) port o old answer new h c = settled_carried (OnlyPortChangesBy o (ProcessesLacpdu v)) old new h.1
+does_carried (Response m) port o old answer new h c = releases_carried (is_own_response old port m) port m old answer new h c
 does_carried (Answered a) port o old answer new h c = same_carried old new h.1 c
 
 -- sending an LACPDU leaves what a port distributes in
@@ -118,34 +118,34 @@ through false x xs = refl
 more : (agg : AggId) (x : SystemPort) (xs : List SystemPort) → distributing agg (x ∷ xs) ≡ cond (distributes_in agg x) (x.number ∷ distributing agg xs) (distributing agg xs)
 more agg x xs = through (distributes_in agg x) x (filter (distributes_in agg) xs)
 
-sent_distributing : (agg : AggId) (slots : List SystemPort) (i : ℕ) (s : SystemPort) → slice_get slots i ≡ Some s → distributing agg (slice_set slots i (record s { port = sent s.port })) ≡ distributing agg slots
+sent_distributing : (agg : AggId) (system_ports : List SystemPort) (i : ℕ) (s : SystemPort) → slice_get system_ports i ≡ Some s → distributing agg (slice_set system_ports i (record s { port = after_sending s.port })) ≡ distributing agg system_ports
 sent_distributing agg [] i s e = refl
 sent_distributing agg (x ∷ xs) zero s e =
     let same : x ≡ s = same_Some x s e in
-    more agg (record s { port = sent s.port }) xs ∙ sym (ap (λ (y : SystemPort). cond (distributes_in agg y) (y.number ∷ distributing agg xs) (distributing agg xs)) same) ∙ sym (more agg x xs)
+    more agg (record s { port = after_sending s.port }) xs ∙ sym (ap (λ (y : SystemPort). cond (distributes_in agg y) (y.number ∷ distributing agg xs) (distributing agg xs)) same) ∙ sym (more agg x xs)
 sent_distributing agg (x ∷ xs) (suc i) s e =
-    let ys = slice_set xs i (record s { port = sent s.port }) in
+    let ys = slice_set xs i (record s { port = after_sending s.port }) in
     more agg x ys ∙ filtered (distributes_in agg x) x x (distributing agg ys) (distributing agg xs) refl (sent_distributing agg xs i s e) ∙ sym (more agg x xs)
 
 marker_carried : (o : Option ℕ) (port : ℕ) (mac : List ℕ) (old : SystemState) (answer : Option (List ℕ)) (new : SystemState) → SendsMarkerOf o port mac old answer new → OnlyOnDistributing old → OnlyOnDistributing new
 marker_carried None port mac old answer new h c = same_carried old new h.1 c
 marker_carried (Some id) port mac old answer new h c = table_carried old new h.5 c (λ g k p e. inl (marked port id p (assignment_of old.table g k) (sym (h.4.states g k) ∙ e)))
 
-where_carried : (up due : Bool) (i : ℕ) (slot : SystemPort) (old : SystemState) (answer : Option (List ℕ)) (new : SystemState) → slice_get old.slots i ≡ Some slot → SendsWhere up due i slot old answer new → OnlyOnDistributing old → OnlyOnDistributing new
-where_carried false due i slot old answer new g h c = same_carried old new h.1 c
-where_carried true true i slot old answer new e h c = λ g k p x.
+where_carried : (up due : Bool) (i : ℕ) (system_port : SystemPort) (old : SystemState) (answer : Option (List ℕ)) (new : SystemState) → slice_get old.system_ports i ≡ Some system_port → TransmitsIf up due i system_port old answer new → OnlyOnDistributing old → OnlyOnDistributing new
+where_carried false due i system_port old answer new g h c = same_carried old new h.1 c
+where_carried true true i system_port old answer new e h c = λ g k p x.
     let agg = aggregator_numbered g in
-    let slots : new.slots ≡ slice_set old.slots i (record slot { port = sent slot.port }) = ap (λ (s : SystemState). s.slots) h.3 in
-    let same : distributing agg new.slots ≡ distributing agg old.slots = ap (distributing agg) slots ∙ sent_distributing agg old.slots i slot e in
+    let system_ports : new.system_ports ≡ slice_set old.system_ports i (record system_port { port = after_sending system_port.port }) = ap (λ (s : SystemState). s.system_ports) h.3 in
+    let same : distributing agg new.system_ports ≡ distributing agg old.system_ports = ap (distributing agg) system_ports ∙ sent_distributing agg old.system_ports i system_port e in
     subst (λ l. distributes l p ≡ true) (sym same) (c g k p (sym (ap (λ (s : SystemState). assignment_of s.table g k) h.3) ∙ x))
-where_carried true false i slot old answer new e h c = marker_carried (marker_due old.table slot.number) slot.number slot.mac old answer new h c
+where_carried true false i system_port old answer new e h c = marker_carried (marker_due old.table system_port.number) system_port.number system_port.mac old answer new h c
 
-sends_carried : (o : Option ℕ) (old : SystemState) (answer : Option (List ℕ)) (new : SystemState) → SendsAt o old answer new → OnlyOnDistributing old → OnlyOnDistributing new
+sends_carried : (o : Option ℕ) (old : SystemState) (answer : Option (List ℕ)) (new : SystemState) → TransmitsAt o old answer new → OnlyOnDistributing old → OnlyOnDistributing new
 sends_carried None old answer new h c = absurd h
 sends_carried (Some i) old answer new h c = where_carried h.0.port.enabled (is_due h.0.port) i h.0 old answer new h.1 h.2 c
 
 -- one conversation takes a state
-sets_carried : (agg : AggId) (conv : ℕ) (s : Assignment) (old new : SystemState) → Sets old.table new.table agg.0 conv s → new ≡ with_table old new.table → OnlyOnDistributing old
+sets_carried : (agg : AggId) (conv : ℕ) (s : Assignment) (old new : SystemState) → SetsAssignment old.table new.table agg.0 conv s → new ≡ with_table old new.table → OnlyOnDistributing old
     → ((p : ℕ) → s ≡ On p → Carried old agg.0 (assignment_of old.table agg.0 conv) p) → OnlyOnDistributing new
 sets_carried agg conv s old new h f c here = table_carried old new f c (λ g k p e. either g k p (eqb agg.0 g && eqb conv k) refl (sym (h.states g k) ∙ e))
   where
@@ -155,8 +155,8 @@ sets_carried agg conv s old new h f c here = table_carried old new f c (λ g k p
         subst (λ n. Carried old n (assignment_of old.table n k) p) (eqb-true agg.0 g both.0) (subst (λ m. Carried old agg.0 (assignment_of old.table agg.0 m) p) (eqb-true conv k both.1) (here p x))
     either g k p false t x = inl x
 
-may_carry : (old : SystemState) (g p port : ℕ) (a : Assignment) → MaySend (distributing (aggregator_numbered g) old.slots) a port → On port ≡ On p → Carried old g a p
-may_carry old g p port (Free preferred) m e = inr (subst (λ q. distributes (distributing (aggregator_numbered g) old.slots) q ≡ true) (same_port port p e) m)
+may_carry : (old : SystemState) (g p port : ℕ) (a : Assignment) → MaySend (distributing (aggregator_numbered g) old.system_ports) a port → On port ≡ On p → Carried old g a p
+may_carry old g p port (Free preferred) m e = inr (subst (λ q. distributes (distributing (aggregator_numbered g) old.system_ports) q ≡ true) (same_port port p e) m)
 may_carry old g p port (On q) m e = inl (ap (λ r. On r) (sym m ∙ same_port port p e))
 may_carry old g p port (Wanted q preferred) m e = absurd m
 may_carry old g p port (Flushing q id preferred age) m e = absurd m
@@ -164,23 +164,23 @@ may_carry old g p port (Flushing q id preferred age) m e = absurd m
 offers_carried : (gives : ℕ → ℕ → ℕ → Type 0) (agg : AggId) (octets : List ℕ) (old : SystemState) (answer : Result ℕ SystemFault) (new : SystemState) → Offers gives agg octets old answer new → OnlyOnDistributing old → OnlyOnDistributing new
 offers_carried gives agg octets old (Ok port) new h c =
     let conv = conversation_number old octets in
-    let may = assigned_may gives conv (distributing agg old.slots) (state_for old agg octets) port h.1 in
-    sets_carried agg conv (On port) old new h.2.0 h.2.1 c (λ p e. may_carry old agg.0 p port (state_for old agg octets) may e)
+    let may = assigned_may gives conv (distributing agg old.system_ports) (assignment_of_frame old agg octets) port h.1 in
+    sets_carried agg conv (On port) old new h.2.0 h.2.1 c (λ p e. may_carry old agg.0 p port (assignment_of_frame old agg octets) may e)
 offers_carried gives agg octets old (Err fault) new h c = same_carried old new h.1 c
 
-moves_carried : (agg : AggId) (conv port : ℕ) (what : Result Assignment SystemFault) (old : SystemState) (answer : Result Unit SystemFault) (new : SystemState) → move_answer old agg conv port ≡ what
-    → Becomes agg conv what old answer new → OnlyOnDistributing old → OnlyOnDistributing new
+moves_carried : (agg : AggId) (conv port : ℕ) (what : Result Assignment SystemFault) (old : SystemState) (answer : Result Unit SystemFault) (new : SystemState) → system_move_result old agg conv port ≡ what
+    → GivesOrRefuses agg conv what old answer new → OnlyOnDistributing old → OnlyOnDistributing new
 moves_carried agg conv port (Ok s) old answer new e h c =
     let was = assignment_of old.table agg.0 conv in
-    let m = is_moved (next_identifier old.table) (distributing agg old.slots) port was s (moved_to agg conv port old s e) in
+    let m = is_moved (next_identifier old.table) (distributing agg old.system_ports) port was s (moved_to agg conv port old s e) in
     sets_carried agg conv s old new h.1.0 h.1.1 c (λ p x. absurd (wanted m.0 p (sym m.2 ∙ not_on p s x)))
   where
     wanted : (q p : ℕ) → Conversation.Wanted q ≡ Conversation.On p → ⊥
     wanted q p x = cc
 moves_carried agg conv port (Err fault) old answer new e h c = same_carried old new h.1 c
 
-forces_carried : (agg : AggId) (conv : ℕ) (what : Result Assignment SystemFault) (old : SystemState) (answer : Result Unit SystemFault) (new : SystemState) → force_answer old agg conv ≡ what
-    → Becomes agg conv what old answer new → OnlyOnDistributing old → OnlyOnDistributing new
+forces_carried : (agg : AggId) (conv : ℕ) (what : Result Assignment SystemFault) (old : SystemState) (answer : Result Unit SystemFault) (new : SystemState) → system_force_result old agg conv ≡ what
+    → GivesOrRefuses agg conv what old answer new → OnlyOnDistributing old → OnlyOnDistributing new
 forces_carried agg conv (Ok s) old answer new e h c =
     let free = is_forced (assignment_of old.table agg.0 conv) s (forced_to agg conv old s e) in
     sets_carried agg conv s old new h.1.0 h.1.1 c (λ p x. absurd (freed p (sym free ∙ not_on p s x)))
@@ -190,18 +190,18 @@ forces_carried agg conv (Ok s) old answer new e h c =
 forces_carried agg conv (Err fault) old answer new e h c = same_carried old new h.1 c
 
 pub Step-carried : (gives : ℕ → ℕ → ℕ → Type 0) (old : SystemState) (call : Call) (answer : Reply) (new : SystemState) → Step gives old call answer new → OnlyOnDistributing old → OnlyOnDistributing new
-Step-carried gives old Tick reply.Tick new h c = settled_carried AllTick old new h
-Step-carried gives old (Set_link n up) (reply.SetLink (Ok done)) new h c = settled_carried (LinksPort n up) old new h
+Step-carried gives old Tick reply.Tick new h c = settled_carried Ticks old new h
+Step-carried gives old (Set_link n up) (reply.SetLink (Ok done)) new h c = settled_carried (SetsLink n up) old new h
 Step-carried gives old (Set_link n up) (reply.SetLink (Err fault)) new h c = same_carried old new h.same c
-Step-carried gives old (Receive n octets) (reply.Receive (Ok answer)) new h c = does_carried h.1 h.0.number (place_of n old.slots) old answer new h.4 c
+Step-carried gives old (Receive n octets) (reply.Receive (Ok answer)) new h c = does_carried h.1 h.0.number (port_index n old.system_ports) old answer new h.4 c
 Step-carried gives old (Receive n octets) (reply.Receive (Err fault)) new h c = same_carried old new h.same c
-Step-carried gives old (Configure n change) (reply.Configure (Ok true)) new h c = settled_carried (OnPort (place_of n old.slots) (ChangesParty change)) old new h
+Step-carried gives old (Configure n change) (reply.Configure (Ok true)) new h c = settled_carried (OnlyPortChangesBy (port_index n old.system_ports) (ChangesParty change)) old new h
 Step-carried gives old (Configure n change) (reply.Configure (Ok false)) new h c = same_carried old new h.1 c
 Step-carried gives old (Configure n change) (reply.Configure (Err fault)) new h c = same_carried old new h.same c
 Step-carried gives old Restart reply.Restart new h c = first_carried new h.1
-Step-carried gives old (Transmit n) (reply.Transmit (Ok answer)) new h c = sends_carried (place_of n old.slots) old answer new h c
+Step-carried gives old (Transmit n) (reply.Transmit (Ok answer)) new h c = sends_carried (port_index n old.system_ports) old answer new h c
 Step-carried gives old (Transmit n) (reply.Transmit (Err fault)) new h c = same_carried old new h.same c
 Step-carried gives old (Offer agg octets) (reply.Offer answer) new h c = offers_carried gives agg octets old answer new h c
-Step-carried gives old (Move_conversation agg conv port) (reply.MoveConversation answer) new h c = moves_carried agg conv port (move_answer old agg conv port) old answer new refl h c
-Step-carried gives old (Force agg conv) (reply.Force answer) new h c = forces_carried agg conv (force_answer old agg conv) old answer new refl h c
+Step-carried gives old (Move_conversation agg conv port) (reply.MoveConversation answer) new h c = moves_carried agg conv port (system_move_result old agg conv port) old answer new refl h c
+Step-carried gives old (Force agg conv) (reply.Force answer) new h c = forces_carried agg conv (system_force_result old agg conv) old answer new refl h c
 Step-carried gives old call answer new h c = absurd h

@@ -9,20 +9,20 @@ use Rattle.std.proofs.lemmas.List.Sums.{position_or_len_is}
 use Rattle.std.proofs.lemmas.Option.{same_Some}
 use Rattle.lagtypes.specs.declared.identifiers.AggId.{AggId}
 use Rattle.portmachines.specs.Machines.{Machines}
-use Rattle.lagsystem.specs.declared.slots.SystemPort.{SystemPort}
-use Rattle.lagsystem.specs.Calls.{PortAtGoes}
+use Rattle.lagsystem.specs.declared.system_ports.SystemPort.{SystemPort}
+use Rattle.lagsystem.specs.Calls.{PortAtChangesBy}
 use Rattle.lagsystem.specs.Holding.{aggregators_in_use}
 use Rattle.lagsystem.specs.Readers.{collecting}
-use Rattle.lagsystem.specs.State.{place_of, port_numbers}
+use Rattle.lagsystem.specs.State.{port_index, port_numbers}
 
 small : (m k : ℕ) → m < k → nat_lt m k ≡ true
 small m k h = grind (arith, nat_tests)
 
 -- of ascending ports the one with the number at a place is the first with that number
-pub place_at : (n : ℕ) (slots : List SystemPort) (i : ℕ) (d : SystemPort) → IsStrictlyIncreasing (port_numbers slots) → i < length slots → (get_or slots i d).number ≡ n → place_of n slots ≡ Some i
-place_at n slots i d r l e =
-    ap (λ k. cond (nat_lt k (length slots)) (Some k) None) (position_or_len_is (λ s. s.number == n) slots i d (omega (arith, l)) earlier (λ h. same (get_or slots i d).number n e))
-    ∙ ap (λ b. cond b (Some i) None) (small i (length slots) l)
+pub place_at : (n : ℕ) (system_ports : List SystemPort) (i : ℕ) (d : SystemPort) → IsStrictlyIncreasing (port_numbers system_ports) → i < length system_ports → (get_or system_ports i d).number ≡ n → port_index n system_ports ≡ Some i
+place_at n system_ports i d r l e =
+    ap (λ k. cond (nat_lt k (length system_ports)) (Some k) None) (position_or_len_is (λ s. s.number == n) system_ports i d (omega (arith, l)) earlier (λ h. same (get_or system_ports i d).number n e))
+    ∙ ap (λ b. cond b (Some i) None) (small i (length system_ports) l)
   where
     unequal : (m k : ℕ) → m < k → (m == k) ≡ false
     unequal m k h = grind (arith, nat_tests)
@@ -30,30 +30,30 @@ place_at n slots i d r l e =
     same : (m k : ℕ) → m ≡ k → (m == k) ≡ true
     same m k h = grind (arith, nat_tests)
 
-    number_at : (k : ℕ) → k < length slots → get_or (port_numbers slots) k 0 ≡ (get_or slots k d).number
-    number_at k h = get_or-map (λ (s : SystemPort). s.number) slots k d 0 h
+    number_at : (k : ℕ) → k < length system_ports → get_or (port_numbers system_ports) k 0 ≡ (get_or system_ports k d).number
+    number_at k h = get_or-map (λ (s : SystemPort). s.number) system_ports k d 0 h
 
-    earlier : (k : ℕ) → k < i → ((get_or slots k d).number == n) ≡ false
+    earlier : (k : ℕ) → k < i → ((get_or system_ports k d).number == n) ≡ false
     earlier k h =
-        let below = AllPairs-from_increasing (port_numbers slots) r k i 0 h (omega (arith, l, length-map slots (λ (s : SystemPort). s.number))) in
-        unequal (get_or slots k d).number n (omega (arith, below, number_at k (omega (arith, h, l)), number_at i l, e))
+        let below = AllPairs-from_increasing (port_numbers system_ports) r k i 0 h (omega (arith, l, length-map system_ports (λ (s : SystemPort). s.number))) in
+        unequal (get_or system_ports k d).number n (omega (arith, below, number_at k (omega (arith, h, l)), number_at i l, e))
 
-in_use_set : (slots : List SystemPort) (i : ℕ) (s t : SystemPort) → slice_get slots i ≡ Some s → slice_set (aggregators_in_use (slice_set slots i t)) i (collecting s.port) ≡ aggregators_in_use slots
+in_use_set : (system_ports : List SystemPort) (i : ℕ) (s t : SystemPort) → slice_get system_ports i ≡ Some s → slice_set (aggregators_in_use (slice_set system_ports i t)) i (collecting s.port) ≡ aggregators_in_use system_ports
 in_use_set [] i s t e = refl
 in_use_set (x ∷ xs) zero s t e = ap (λ (y : SystemPort). collecting y.port ∷ aggregators_in_use xs) (sym (same_Some x s e))
 in_use_set (x ∷ xs) (suc i) s t e = ap (λ l. collecting x.port ∷ l) (in_use_set xs i s t e)
 
 -- the aggregators in use before the port at a place went on
-pub in_use_before : (R : Machines → Machines → Type 0) (i : ℕ) (olds news : List SystemPort) (s : SystemPort) → PortAtGoes R (Some i) olds news → slice_get olds i ≡ Some s → slice_set (aggregators_in_use news) i (collecting s.port) ≡ aggregators_in_use olds
+pub in_use_before : (R : Machines → Machines → Type 0) (i : ℕ) (olds news : List SystemPort) (s : SystemPort) → PortAtChangesBy R (Some i) olds news → slice_get olds i ≡ Some s → slice_set (aggregators_in_use news) i (collecting s.port) ≡ aggregators_in_use olds
 in_use_before R i olds news s h e =
     ap (λ l. slice_set (aggregators_in_use l) i (collecting s.port)) h.4 ∙ in_use_set olds i s (record h.0 { port = h.1 }) e
 
 -- the port at the place of a number goes on
-pub goes_by_number : (R : Machines → Machines → Type 0) (n i : ℕ) (slots olds news : List SystemPort) → olds ≡ slots → place_of n slots ≡ Some i → PortAtGoes R (Some i) olds news → PortAtGoes R (place_of n olds) olds news
-goes_by_number R n i slots olds news e p h = subst (λ o. PortAtGoes R o olds news) (sym (ap (place_of n) e ∙ p)) h
+pub goes_by_number : (R : Machines → Machines → Type 0) (n i : ℕ) (system_ports olds news : List SystemPort) → olds ≡ system_ports → port_index n system_ports ≡ Some i → PortAtChangesBy R (Some i) olds news → PortAtChangesBy R (port_index n olds) olds news
+goes_by_number R n i system_ports olds news e p h = subst (λ o. PortAtChangesBy R o olds news) (sym (ap (port_index n) e ∙ p)) h
 
 -- the aggregators in use before the call, from those after it and the one of the port that went on
-pub were_before : (R : Machines → Machines → Type 0) (i : ℕ) (slots olds ws news seen : List SystemPort) (slot : SystemPort) (was : Option AggId) (before : List (Option AggId)) → olds ≡ slots → news ≡ ws → seen ≡ news → slice_get slots i ≡ Some slot → PortAtGoes R (Some i) olds ws
-    → was ≡ collecting slot.port → before ≡ slice_set (aggregators_in_use seen) i was → before ≡ aggregators_in_use slots
-were_before R i slots olds ws news seen slot was before e w v at h is b =
-    b ∙ (λ j. slice_set (aggregators_in_use ((v ∙ w) j)) i (is j)) ∙ in_use_before R i slots ws slot (subst (λ l. PortAtGoes R (Some i) l ws) e h) at
+pub were_before : (R : Machines → Machines → Type 0) (i : ℕ) (system_ports olds ws news seen : List SystemPort) (system_port : SystemPort) (was : Option AggId) (before : List (Option AggId)) → olds ≡ system_ports → news ≡ ws → seen ≡ news → slice_get system_ports i ≡ Some system_port → PortAtChangesBy R (Some i) olds ws
+    → was ≡ collecting system_port.port → before ≡ slice_set (aggregators_in_use seen) i was → before ≡ aggregators_in_use system_ports
+were_before R i system_ports olds ws news seen system_port was before e w v at h is b =
+    b ∙ (λ j. slice_set (aggregators_in_use ((v ∙ w) j)) i (is j)) ∙ in_use_before R i system_ports ws system_port (subst (λ l. PortAtChangesBy R (Some i) l ws) e h) at

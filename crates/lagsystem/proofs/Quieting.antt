@@ -9,17 +9,17 @@ use Rattle.lagtypes.specs.Choices.{is_selected, is_unselected}
 use Rattle.portmachines.specs.Machines.{Machines}
 use Rattle.portmachines.specs.Mux.{same_mux_state, mux_rows}
 use Rattle.portmachines.specs.declared.mux.MuxState.TheVariants.{Waiting}
-use Rattle.portmachines.specs.Periodic.{RunsPeriodic, clear_ntt, is_periodic, periodic_rows}
+use Rattle.portmachines.specs.Periodic.{RunsPeriodic, clear_ntt, same_periodic_state, periodic_rows}
 use Rattle.portmachines.specs.declared.periodic.PeriodicState.TheVariants.{NoPeriodic}
-use Rattle.portmachines.specs.Rows.{AtRest, Fires, Reaches, Row, RunsToRest}
+use Rattle.portmachines.specs.Rows.{AtRest, Fires, FiresTimes, Row, RunsToRest}
 use Rattle.portmachines.proofs.Runs.{Reaches-keeps}
 use Rattle.selection.specs.declared.view.PortView.{PortView}
 use Rattle.selection.specs.Views.{is_eligible, has_chosen}
-use Rattle.selection.specs.Choice.{choice_for, ports_that_chose, has_group_of, has_member}
-use Rattle.lagsystem.specs.declared.slots.SystemPort.{SystemPort}
-use Rattle.lagsystem.specs.Quiet.{ArePaced, AreStill, IsPaced, IsStill}
-use Rattle.lagsystem.specs.Settling.{PortsGo, PortGoes, Settling, SettlesPorts, choose_slot, chosen, given, ready_of, aggregator_for}
-use Rattle.lagsystem.specs.State.{SystemState, port_numbers, with_slots}
+use Rattle.selection.specs.Choice.{chosen_if_eligible, ports_that_chose, has_group_of, has_member}
+use Rattle.lagsystem.specs.declared.system_ports.SystemPort.{SystemPort}
+use Rattle.lagsystem.specs.NothingToSettle.{PeriodicsAreSettled, MuxesAreSettled, PeriodicIsSettled, MuxIsSettled}
+use Rattle.lagsystem.specs.Settling.{PortsChangeBy, PortChangesBy, Settling, SettlesPorts, after_choice_at, after_choices, with_choice, ready_of, aggregator_for}
+use Rattle.lagsystem.specs.State.{SystemState, port_numbers, with_system_ports}
 use Rattle.lagsystem.specs.Views.{selection_view, views}
 use Rattle.lagsystem.proofs.Keeps.{chosen_numbers, settling_parts, zip_numbers}
 use Rattle.lagsystem.proofs.NoneLeft.{TakesNone, each_place, none_takes, not_when, taken_none, when_still}
@@ -39,7 +39,7 @@ none_fires : (rows : List Row) (p q : Machines) → AtRest rows p → Fires rows
 none_fires [] p q rest f = f
 none_fires (row ∷ rows) p q rest f = elim f [ inl h ↦ clash (row.enabled p) h.0 rest.0 | inr h ↦ none_fires rows p q rest.1 h ]
 
-stays : (rows : List Row) (n : ℕ) (p q : Machines) → AtRest rows p → Reaches rows n p q → q ≡ p
+stays : (rows : List Row) (n : ℕ) (p q : Machines) → AtRest rows p → FiresTimes rows n p q → q ≡ p
 stays rows zero p q rest run = run
 stays rows (suc n) p q rest run = absurd (none_fires rows p q rest (subst (λ (x : Machines). Fires rows x q) (stays rows n p run.0 rest run.1) run.2))
 
@@ -66,17 +66,17 @@ rest_unselected b p s h = (h.0, (h.1.0, (unselected_row (same_mux_state Waiting 
 abbrev RestsAlone : SystemPort → Type 0
 RestsAlone x = is_selected x.port.choice ≡ false → AtRest (mux_rows false) x.port
 
-given_rests : (s : SystemPort) (o : Option AggId) → RestsAlone s → RestsAlone (given s o)
+given_rests : (s : SystemPort) (o : Option AggId) → RestsAlone s → RestsAlone (with_choice s o)
 given_rests s None h = h
 given_rests s (Some agg) h = λ e. absurd cc
 
-choose_rests : (keys : List Key) (slots : List SystemPort) (i : ℕ) (o : Option SystemPort) → slice_get slots i ≡ o → AllByRecursion RestsAlone slots → AllByRecursion RestsAlone (choose_slot keys slots i o)
-choose_rests keys slots i None e a = a
-choose_rests keys slots i (Some s) e a = all-set RestsAlone slots i (given s (aggregator_for keys slots s)) a (given_rests s (aggregator_for keys slots s) (all-get RestsAlone slots i s e a))
+choose_rests : (keys : List Key) (system_ports : List SystemPort) (i : ℕ) (o : Option SystemPort) → slice_get system_ports i ≡ o → AllByRecursion RestsAlone system_ports → AllByRecursion RestsAlone (after_choice_at keys system_ports i o)
+choose_rests keys system_ports i None e a = a
+choose_rests keys system_ports i (Some s) e a = all-set RestsAlone system_ports i (with_choice s (aggregator_for keys system_ports s)) a (given_rests s (aggregator_for keys system_ports s) (all-get RestsAlone system_ports i s e a))
 
-chosen_rests : (keys : List Key) (n : ℕ) (slots : List SystemPort) → AllByRecursion RestsAlone slots → AllByRecursion RestsAlone (chosen keys n slots)
-chosen_rests keys zero slots a = a
-chosen_rests keys (suc n) slots a = choose_rests keys (chosen keys n slots) n (slice_get (chosen keys n slots) n) refl (chosen_rests keys n slots a)
+chosen_rests : (keys : List Key) (n : ℕ) (system_ports : List SystemPort) → AllByRecursion RestsAlone system_ports → AllByRecursion RestsAlone (after_choices keys n system_ports)
+chosen_rests keys zero system_ports a = a
+chosen_rests keys (suc n) system_ports a = choose_rests keys (after_choices keys n system_ports) n (slice_get (after_choices keys n system_ports) n) refl (chosen_rests keys n system_ports a)
 
 -- the mux step leaves members and groups
 
@@ -86,7 +86,7 @@ Steps keys seen p q = RunsToRest (mux_rows (ready_of keys seen p.choice)) p q
 mux_groups : (b : Bool) (v : PortView) (x y : SystemPort) → y ≡ record x { port = y.port } → RunsToRest (mux_rows b) x.port y.port → has_group_of v (selection_view y) ≡ has_group_of v (selection_view x)
 mux_groups b v x y e h = Reaches-keeps (λ (p : Machines). has_group_of v (selection_view (record x { port = p }))) (mux_rows b) ((λ p. refl), ((λ p. refl), ((λ p. refl), ((λ p. refl), ((λ p. refl), ((λ p. refl), tt)))))) h.0 x.port y.port h.1
 
-same_members : (keys : List Key) (seen : List PortView) (agg : AggId) (xs ys : List SystemPort) → PortsGo (Steps keys seen) xs ys → has_member (views ys) agg ≡ has_member (views xs) agg
+same_members : (keys : List Key) (seen : List PortView) (agg : AggId) (xs ys : List SystemPort) → PortsChangeBy (Steps keys seen) xs ys → has_member (views ys) agg ≡ has_member (views xs) agg
 same_members keys seen agg [] [] h = refl
 same_members keys seen agg [] (y ∷ ys) h = absurd h
 same_members keys seen agg (x ∷ xs) [] h = absurd h
@@ -98,7 +98,7 @@ next_all : (test : PortView → Bool) (b : Bool) (w v : PortView) (rest more : L
 next_all test true w v rest more e h = ap (λ x. x && list_all test more) e ∙ ap (λ x. test w && x) h
 next_all test false w v rest more e h = h
 
-same_groups : (keys : List Key) (seen : List PortView) (agg : AggId) (v : PortView) (xs ys : List SystemPort) → PortsGo (Steps keys seen) xs ys
+same_groups : (keys : List Key) (seen : List PortView) (agg : AggId) (v : PortView) (xs ys : List SystemPort) → PortsChangeBy (Steps keys seen) xs ys
     → list_all (has_group_of v) (ports_that_chose agg (views ys)) ≡ list_all (has_group_of v) (ports_that_chose agg (views xs))
 same_groups keys seen agg v [] [] h = refl
 same_groups keys seen agg v [] (y ∷ ys) h = absurd h
@@ -115,17 +115,17 @@ not_unselected b d Unselected h = absurd cc
 not_unselected true d (Selected agg) h = refl
 not_unselected false d (Selected agg) h = refl
 
-none_moved : (keys : List Key) (xs ys : List SystemPort) (x y : SystemPort) → PortsGo (Steps keys (views xs)) xs ys → PortGoes (Steps keys (views xs)) x y → RestsAlone x → TakesNone keys (views xs) (selection_view x)
+none_moved : (keys : List Key) (xs ys : List SystemPort) (x y : SystemPort) → PortsChangeBy (Steps keys (views xs)) xs ys → PortChangesBy (Steps keys (views xs)) x y → RestsAlone x → TakesNone keys (views xs) (selection_view x)
     → (s : Bool) → is_selected x.port.choice ≡ s → TakesNone keys (views ys) (selection_view y)
 none_moved keys xs ys x y all h a none true s =
     let same = mux_choice (ready_of keys (views xs) x.port.choice) x.port y.port h.1 in
-    not_when (is_eligible (selection_view y)) (choice_for keys (views ys) (selection_view y)) (not_unselected _ _ y.port.choice (ap is_selected same ∙ s))
+    not_when (is_eligible (selection_view y)) (chosen_if_eligible keys (views ys) (selection_view y)) (not_unselected _ _ y.port.choice (ap is_selected same ∙ s))
 none_moved keys xs ys x y all h a none false s =
     let b = ready_of keys (views xs) x.port.choice in
     let still : y.port ≡ x.port = stays (mux_rows b) h.1.0 x.port y.port (rest_unselected b x.port s (a s)) h.1.1 in
     let same : y ≡ x = h.0 ∙ (λ i. record x { port = still i }) in
     subst (λ (z : SystemPort). TakesNone keys (views ys) (selection_view z)) (sym same)
-    (when_still (is_eligible (selection_view x)) (choice_for keys (views xs) (selection_view x)) (choice_for keys (views ys) (selection_view x)) none
+    (when_still (is_eligible (selection_view x)) (chosen_if_eligible keys (views xs) (selection_view x)) (chosen_if_eligible keys (views ys) (selection_view x)) none
     (none_alike keys (views xs) (views ys) (selection_view x) (λ agg. same_members keys (views xs) agg xs ys all) (λ agg. same_groups keys (views xs) agg (selection_view x) xs ys all)))
 
 -- what holds of one list, port for port, of the other
@@ -141,22 +141,22 @@ all_both P Q (x ∷ xs) h k = ((h.0, k.0), all_both P Q xs h.1 k.1)
 
 -- after the mux step a port takes none and no row is enabled without Ready
 abbrev Moved : List Key → List SystemPort → SystemPort → Type 0
-Moved keys slots y = TakesNone keys (views slots) (selection_view y) × AtRest (mux_rows false) y.port
+Moved keys system_ports y = TakesNone keys (views system_ports) (selection_view y) × AtRest (mux_rows false) y.port
 
-moved : (keys : List Key) (xs ys : List SystemPort) → PortsGo (Steps keys (views xs)) xs ys → AllByRecursion (λ x. RestsAlone x × TakesNone keys (views xs) (selection_view x)) xs → AllByRecursion (Moved keys ys) ys
+moved : (keys : List Key) (xs ys : List SystemPort) → PortsChangeBy (Steps keys (views xs)) xs ys → AllByRecursion (λ x. RestsAlone x × TakesNone keys (views xs) (selection_view x)) xs → AllByRecursion (Moved keys ys) ys
 moved keys xs ys h a =
-    zip_gives (PortGoes (Steps keys (views xs))) (λ x. RestsAlone x × TakesNone keys (views xs) (selection_view x)) (Moved keys ys)
+    zip_gives (PortChangesBy (Steps keys (views xs))) (λ x. RestsAlone x × TakesNone keys (views xs) (selection_view x)) (Moved keys ys)
     (λ x y m k. (none_moved keys xs ys x y h m k.0 k.1 (is_selected x.port.choice) refl, rest_unready (ready_of keys (views xs) x.port.choice) y.port m.1.2)) xs ys h a
 
 -- the periodic step
 
-periodic_view : (y z : SystemPort) → PortGoes RunsPeriodic y z → selection_view z ≡ selection_view y
+periodic_view : (y z : SystemPort) → PortChangesBy RunsPeriodic y z → selection_view z ≡ selection_view y
 periodic_view y z h =
     ap selection_view h.0
     ∙ ap (λ (p : Machines). selection_view (record y { port = p })) h.1.2
     ∙ Reaches-keeps (λ (p : Machines). selection_view (record y { port = p })) periodic_rows ((λ p. refl), ((λ p. refl), ((λ p. refl), ((λ p. refl), ((λ p. refl), ((λ p. refl), ((λ p. refl), tt))))))) h.1.1.0 y.port h.1.0 h.1.1.1
 
-periodic_views : (ys zs : List SystemPort) → PortsGo RunsPeriodic ys zs → views zs ≡ views ys
+periodic_views : (ys zs : List SystemPort) → PortsChangeBy RunsPeriodic ys zs → views zs ≡ views ys
 periodic_views [] [] h = refl
 periodic_views [] (z ∷ zs) h = absurd h
 periodic_views (y ∷ ys) [] h = absurd h
@@ -178,17 +178,17 @@ and_twice : (b c : Bool) → (b && (b && c)) ≡ (b && c)
 and_twice true c = refl
 and_twice false c = refl
 
-periodic_paced : (y z : SystemPort) → PortGoes RunsPeriodic y z → IsPaced z
+periodic_paced : (y z : SystemPort) → PortChangesBy RunsPeriodic y z → PeriodicIsSettled z
 periodic_paced y z h =
     let mid : Machines = h.1.0 in
-    let twice : clear_ntt (clear_ntt mid) ≡ clear_ntt mid = λ i. record mid { ntt = and_twice (not (is_periodic NoPeriodic mid.periodic)) mid.ntt i } in
+    let twice : clear_ntt (clear_ntt mid) ≡ clear_ntt mid = λ i. record mid { ntt = and_twice (not (same_periodic_state NoPeriodic mid.periodic)) mid.ntt i } in
     record {
       rows = subst (λ (p : Machines). AtRest periodic_rows p) (sym h.1.2) h.1.1.2;
       cleared = h.1.2 ∙ sym twice ∙ ap clear_ntt (sym h.1.2);
     }
 
 -- after a settling
-pub settling_still : (old new : SystemState) → Rises 0 (port_numbers old.slots) → SettlesPorts old new → AreStill new.keys new.slots × ArePaced new.slots
+pub settling_still : (old new : SystemState) → Rises 0 (port_numbers old.system_ports) → SettlesPorts old new → MuxesAreSettled new.keys new.system_ports × PeriodicsAreSettled new.system_ports
 settling_still old new r h =
     let one = h.0 in
     let two = h.2.0 in
@@ -196,33 +196,33 @@ settling_still old new r h =
     let four = h.2.2.2.0 in
     let five = h.2.2.2.2.0 in
     let keys : List Key = one.keys in
-    let last : List SystemPort = chosen keys (length one.slots) one.slots in
-    let r1 : Rises 0 (port_numbers one.slots) = subst (λ ns. Rises 0 ns) (sym (zip_numbers (RunsToRest (mux_rows false)) old.slots one.slots h.1.0)) r in
-    let a1 : AllByRecursion RestsAlone one.slots = zip_all (PortGoes (RunsToRest (mux_rows false))) RestsAlone (λ x y m s. m.1.2) old.slots one.slots h.1.0 in
+    let last : List SystemPort = after_choices keys (length one.system_ports) one.system_ports in
+    let r1 : Rises 0 (port_numbers one.system_ports) = subst (λ ns. Rises 0 ns) (sym (zip_numbers (RunsToRest (mux_rows false)) old.system_ports one.system_ports h.1.0)) r in
+    let a1 : AllByRecursion RestsAlone one.system_ports = zip_all (PortChangesBy (RunsToRest (mux_rows false))) RestsAlone (λ x y m s. m.1.2) old.system_ports one.system_ports h.1.0 in
     let a2 : AllByRecursion (λ x. RestsAlone x × TakesNone keys (views last) (selection_view x)) last =
-    all_both RestsAlone (λ x. TakesNone keys (views last) (selection_view x)) last (chosen_rests keys (length one.slots) one.slots a1) (none_takes keys one.slots r1) in
-    let there : three ≡ with_slots one last = h.2.2.1 ∙ h.2.1 in
-    let m4 : PortsGo (Steps keys (views last)) last four.slots =
-    subst (λ (s : SystemState). PortsGo (Steps s.keys (views s.slots)) s.slots four.slots) there h.2.2.2.1.0 in
-    let a4 : AllByRecursion (Moved keys four.slots) four.slots = moved keys last four.slots m4 a2 in
-    let m5 : PortsGo RunsPeriodic four.slots five.slots = h.2.2.2.2.1.0 in
-    let seen : views five.slots ≡ views four.slots = periodic_views four.slots five.slots m5 in
-    let r5 : Rises 0 (port_numbers five.slots) =
-    subst (λ ns. Rises 0 ns) (sym (zip_numbers RunsPeriodic four.slots five.slots m5 ∙ zip_numbers (Steps keys (views last)) last four.slots m4 ∙ chosen_numbers keys (length one.slots) one.slots)) r1 in
-    let a5 : AllByRecursion (λ z. TakesNone keys (views five.slots) (selection_view z) × AtRest (mux_rows false) z.port) five.slots =
-    zip_gives (PortGoes RunsPeriodic) (Moved keys four.slots) (λ z. TakesNone keys (views five.slots) (selection_view z) × AtRest (mux_rows false) z.port)
-    (λ y z m k. (subst (λ l. TakesNone keys l (selection_view z)) (sym seen) (subst (λ v. TakesNone keys (views four.slots) v) (sym (periodic_view y z m)) k.0), periodic_rest y.port z.port m.1 k.1)) four.slots five.slots m5 a4 in
-    let still : AreStill keys five.slots = each_place (IsStill keys five.slots) five.slots
+    all_both RestsAlone (λ x. TakesNone keys (views last) (selection_view x)) last (chosen_rests keys (length one.system_ports) one.system_ports a1) (none_takes keys one.system_ports r1) in
+    let there : three ≡ with_system_ports one last = h.2.2.1 ∙ h.2.1 in
+    let m4 : PortsChangeBy (Steps keys (views last)) last four.system_ports =
+    subst (λ (s : SystemState). PortsChangeBy (Steps s.keys (views s.system_ports)) s.system_ports four.system_ports) there h.2.2.2.1.0 in
+    let a4 : AllByRecursion (Moved keys four.system_ports) four.system_ports = moved keys last four.system_ports m4 a2 in
+    let m5 : PortsChangeBy RunsPeriodic four.system_ports five.system_ports = h.2.2.2.2.1.0 in
+    let seen : views five.system_ports ≡ views four.system_ports = periodic_views four.system_ports five.system_ports m5 in
+    let r5 : Rises 0 (port_numbers five.system_ports) =
+    subst (λ ns. Rises 0 ns) (sym (zip_numbers RunsPeriodic four.system_ports five.system_ports m5 ∙ zip_numbers (Steps keys (views last)) last four.system_ports m4 ∙ chosen_numbers keys (length one.system_ports) one.system_ports)) r1 in
+    let a5 : AllByRecursion (λ z. TakesNone keys (views five.system_ports) (selection_view z) × AtRest (mux_rows false) z.port) five.system_ports =
+    zip_gives (PortChangesBy RunsPeriodic) (Moved keys four.system_ports) (λ z. TakesNone keys (views five.system_ports) (selection_view z) × AtRest (mux_rows false) z.port)
+    (λ y z m k. (subst (λ l. TakesNone keys l (selection_view z)) (sym seen) (subst (λ v. TakesNone keys (views four.system_ports) v) (sym (periodic_view y z m)) k.0), periodic_rest y.port z.port m.1 k.1)) four.system_ports five.system_ports m5 a4 in
+    let still : MuxesAreSettled keys five.system_ports = each_place (MuxIsSettled keys five.system_ports) five.system_ports
     (λ j z e.
-    let k = all-get (λ z. TakesNone keys (views five.slots) (selection_view z) × AtRest (mux_rows false) z.port) five.slots j z e a5 in
+    let k = all-get (λ z. TakesNone keys (views five.system_ports) (selection_view z) × AtRest (mux_rows false) z.port) five.system_ports j z e a5 in
     record {
       mux = k.1;
-      apart = taken_none keys five.slots r5 (both_first (λ z. TakesNone keys (views five.slots) (selection_view z)) (λ z. AtRest (mux_rows false) z.port) five.slots a5) j z e;
-      unready = ap (λ l. ready_of keys l z.port.choice) seen ∙ none_ready keys last four.slots m4 z.port.choice;
+      apart = taken_none keys five.system_ports r5 (both_first (λ z. TakesNone keys (views five.system_ports) (selection_view z)) (λ z. AtRest (mux_rows false) z.port) five.system_ports a5) j z e;
+      unready = ap (λ l. ready_of keys l z.port.choice) seen ∙ none_ready keys last four.system_ports m4 z.port.choice;
     }) in
-    let paced : ArePaced five.slots = zip_all (PortGoes RunsPeriodic) IsPaced periodic_paced four.slots five.slots m5 in
+    let paced : PeriodicsAreSettled five.system_ports = zip_all (PortChangesBy RunsPeriodic) PeriodicIsSettled periodic_paced four.system_ports five.system_ports m5 in
     let same : five.keys ≡ keys = ap (λ (s : SystemState). s.keys) h.2.2.2.2.1.1 ∙ ap (λ (s : SystemState). s.keys) h.2.2.2.1.1 ∙ ap (λ (s : SystemState). s.keys) there in
-    subst (λ (s : SystemState). AreStill s.keys s.slots × ArePaced s.slots) (sym h.2.2.2.2.2) (subst (λ (k : List Key). AreStill k five.slots) (sym same) still, paced)
+    subst (λ (s : SystemState). MuxesAreSettled s.keys s.system_ports × PeriodicsAreSettled s.system_ports) (sym h.2.2.2.2.2) (subst (λ (k : List Key). MuxesAreSettled k five.system_ports) (sym same) still, paced)
   where
     both_first : (P Q : SystemPort → Type 0) (xs : List SystemPort) → AllByRecursion (λ x. P x × Q x) xs → AllByRecursion P xs
     both_first P Q [] h = tt
@@ -230,37 +230,37 @@ settling_still old new r h =
 
 -- if nothing is to be done
 
-still_mux : (keys : List Key) (slots xs : List SystemPort) → AllByRecursion (IsStill keys slots) xs → PortsGo (RunsToRest (mux_rows false)) xs xs
-still_mux keys slots [] h = tt
-still_mux keys slots (x ∷ xs) h = ((refl, (0, refl, h.0.mux)), still_mux keys slots xs h.1)
+still_mux : (keys : List Key) (system_ports xs : List SystemPort) → AllByRecursion (MuxIsSettled keys system_ports) xs → PortsChangeBy (RunsToRest (mux_rows false)) xs xs
+still_mux keys system_ports [] h = tt
+still_mux keys system_ports (x ∷ xs) h = ((refl, (0, refl, h.0.mux)), still_mux keys system_ports xs h.1)
 
-still_ready : (keys : List Key) (slots xs : List SystemPort) → AllByRecursion (IsStill keys slots) xs → PortsGo (Steps keys (views slots)) xs xs
-still_ready keys slots [] h = tt
-still_ready keys slots (x ∷ xs) h =
-    ((refl, (0, refl, subst (λ b. AtRest (mux_rows b) x.port) (sym h.0.unready) h.0.mux)), still_ready keys slots xs h.1)
+still_ready : (keys : List Key) (system_ports xs : List SystemPort) → AllByRecursion (MuxIsSettled keys system_ports) xs → PortsChangeBy (Steps keys (views system_ports)) xs xs
+still_ready keys system_ports [] h = tt
+still_ready keys system_ports (x ∷ xs) h =
+    ((refl, (0, refl, subst (λ b. AtRest (mux_rows b) x.port) (sym h.0.unready) h.0.mux)), still_ready keys system_ports xs h.1)
 
-still_choose : (keys : List Key) (slots : List SystemPort) (i : ℕ) (o : Option SystemPort) → slice_get slots i ≡ o → AreStill keys slots → choose_slot keys slots i o ≡ slots
-still_choose keys slots i None e h = refl
-still_choose keys slots i (Some s) e h =
-    ap (λ o. slice_set slots i (given s o)) ((all-get (IsStill keys slots) slots i s e h).apart) ∙ set_same slots i s e
+still_choose : (keys : List Key) (system_ports : List SystemPort) (i : ℕ) (o : Option SystemPort) → slice_get system_ports i ≡ o → MuxesAreSettled keys system_ports → after_choice_at keys system_ports i o ≡ system_ports
+still_choose keys system_ports i None e h = refl
+still_choose keys system_ports i (Some s) e h =
+    ap (λ o. slice_set system_ports i (with_choice s o)) ((all-get (MuxIsSettled keys system_ports) system_ports i s e h).apart) ∙ set_same system_ports i s e
 
-still_chosen : (keys : List Key) (n : ℕ) (slots : List SystemPort) → AreStill keys slots → chosen keys n slots ≡ slots
-still_chosen keys zero slots h = refl
-still_chosen keys (suc n) slots h =
-    ap (λ l. choose_slot keys l n (slice_get l n)) (still_chosen keys n slots h) ∙ still_choose keys slots n (slice_get slots n) refl h
+still_chosen : (keys : List Key) (n : ℕ) (system_ports : List SystemPort) → MuxesAreSettled keys system_ports → after_choices keys n system_ports ≡ system_ports
+still_chosen keys zero system_ports h = refl
+still_chosen keys (suc n) system_ports h =
+    ap (λ l. after_choice_at keys l n (slice_get l n)) (still_chosen keys n system_ports h) ∙ still_choose keys system_ports n (slice_get system_ports n) refl h
 
 -- settling leaves all but the periodic machines
-pub still_settles : (s : SystemState) (news : List SystemPort) → AreStill s.keys s.slots → PortsGo RunsPeriodic s.slots news → SettlesPorts s (with_slots s news)
+pub still_settles : (s : SystemState) (news : List SystemPort) → MuxesAreSettled s.keys s.system_ports → PortsChangeBy RunsPeriodic s.system_ports news → SettlesPorts s (with_system_ports s news)
 still_settles s news h m =
-    settling_made s s.keys s.slots s.slots s.slots s.slots news refl refl (still_mux s.keys s.slots s.slots h) (sym (still_chosen s.keys (length s.slots) s.slots h))
-    (still_ready s.keys s.slots s.slots h) m
+    settling_made s s.keys s.system_ports s.system_ports s.system_ports s.system_ports news refl refl (still_mux s.keys s.system_ports s.system_ports h) (sym (still_chosen s.keys (length s.system_ports) s.system_ports h))
+    (still_ready s.keys s.system_ports s.system_ports h) m
 
-pub paced_runs : (xs : List SystemPort) → ArePaced xs → PortsGo RunsPeriodic xs xs
+pub paced_runs : (xs : List SystemPort) → PeriodicsAreSettled xs → PortsChangeBy RunsPeriodic xs xs
 paced_runs [] h = tt
 paced_runs (x ∷ xs) h = ((refl, (x.port, (0, refl, h.0.rows), h.0.cleared)), paced_runs xs h.1)
 
 -- a settling with its last step
-pub settling_quiet : (old new : SystemState) → Rises 0 (port_numbers old.slots) → Settling old new → AreStill new.keys new.slots × ArePaced new.slots
+pub settling_quiet : (old new : SystemState) → Rises 0 (port_numbers old.system_ports) → Settling old new → MuxesAreSettled new.keys new.system_ports × PeriodicsAreSettled new.system_ports
 settling_quiet old new r h =
     let p = settling_parts old new h in
-    subst (λ (s : SystemState). AreStill s.keys s.slots × ArePaced s.slots) (sym p.2.frame) (settling_still old p.0 r p.1)
+    subst (λ (s : SystemState). MuxesAreSettled s.keys s.system_ports × PeriodicsAreSettled s.system_ports) (sym p.2.frame) (settling_still old p.0 r p.1)

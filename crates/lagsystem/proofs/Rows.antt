@@ -7,7 +7,7 @@ use Rattle.lagtypes.specs.declared.party.Choice.{Choice}
 use Rattle.lagtypes.specs.declared.party.Choice.TheVariants.{Unselected, Selected}
 use Rattle.portmachines.specs.declared.mux.MuxState.TheVariants.{CollectingDistributing}
 use Rattle.portmachines.specs.Machines.{Machines}
-use Rattle.portmachines.specs.Rows.{Row, Fires, Reaches, RunsToRest}
+use Rattle.portmachines.specs.Rows.{Row, Fires, FiresTimes, RunsToRest}
 use Rattle.lagtypes.specs.Choices.{is_selected}
 use Rattle.portmachines.specs.Mux.{mux_rows, same_mux_state, partner_synchronized}
 use Rattle.portmachines.specs.Periodic.{periodic_rows, RunsPeriodic}
@@ -53,7 +53,7 @@ fires_moves u call n (row ∷ rows) k p q h = elim h [
   | inr f ↦ fires_moves u call n rows k.1 p q f
 ]
 
-pub reaches_moves : (u : SystemSetup) (call : ModelCall) (n : ℕ) (rows : List Row) → EachMoves u call n rows → (m : ℕ) (p q : Machines) → Reaches rows m p q → QuietMoves u call n p [] q
+pub reaches_moves : (u : SystemSetup) (call : ModelCall) (n : ℕ) (rows : List Row) → EachMoves u call n rows → (m : ℕ) (p q : Machines) → FiresTimes rows m p q → QuietMoves u call n p [] q
 reaches_moves u call n rows k zero p q run = port_stays u call n (quiet p) (quiet q) (ap quiet run)
 reaches_moves u call n rows k (suc m) p q run =
     port_joined u call n (quiet p) (quiet run.0) (quiet q) [] [] (reaches_moves u call n rows k m p run.0 run.1) (fires_moves u call n rows k run.0 q run.2)

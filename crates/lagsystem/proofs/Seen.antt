@@ -10,9 +10,9 @@ use Rattle.lagmodel.specs.View.{PortFacts}
 use Rattle.lagmodel.specs.World.{party_at}
 use Rattle.lagmodel.specs.Bridge.{find_number}
 use Rattle.lagmodel.proofs.Base.{cond_true, cond_false}
-use Rattle.lagsystem.specs.declared.slots.SystemPort.{SystemPort}
-use Rattle.lagsystem.specs.State.{SystemState, place_of, slot_at, machines_of}
-use Rattle.lagsystem.specs.ModelView.{number, model_port, model_view}
+use Rattle.lagsystem.specs.declared.system_ports.SystemPort.{SystemPort}
+use Rattle.lagsystem.specs.State.{SystemState, port_index, system_port_at, machines_of}
+use Rattle.lagsystem.specs.ModelView.{number_of_port, model_port, model_view}
 
 eqb_turned : (m n : ℕ) → eqb m n ≡ eqb n m
 eqb_turned m n = elim (cases_Bool (eqb m n)) [
@@ -23,23 +23,23 @@ eqb_turned m n = elim (cases_Bool (eqb m n)) [
   ]
 ]
 
-at_end : (i : ℕ) (xs : List SystemPort) (b : Bool) → nat_lt i (length xs) ≡ b → slot_at (cond b (Some i) None) xs ≡ slice_get xs i
+at_end : (i : ℕ) (xs : List SystemPort) (b : Bool) → nat_lt i (length xs) ≡ b → system_port_at (cond b (Some i) None) xs ≡ slice_get xs i
 at_end i xs true e = refl
 at_end i xs false e = sym (slice_get_past xs i (grind (arith, nat_tests)))
 
 -- one step of the search, by the rest of it
-there_next : (n : ℕ) (x : SystemPort) (xs : List SystemPort) (rest : ℕ) (b : Bool) → slice_get xs rest ≡ find_number number xs n → (x.number == n) ≡ b
-    → slice_get (x ∷ xs) (cond (not b) (1 + rest) 0) ≡ cond (eqb n x.number) (Some x) (find_number number xs n)
-there_next n x xs rest true ih e = sym (cond_true (eqb n x.number) (Some x) (find_number number xs n) (eqb_turned n x.number ∙ e))
+there_next : (n : ℕ) (x : SystemPort) (xs : List SystemPort) (rest : ℕ) (b : Bool) → slice_get xs rest ≡ find_number number_of_port xs n → (x.number == n) ≡ b
+    → slice_get (x ∷ xs) (cond (not b) (1 + rest) 0) ≡ cond (eqb n x.number) (Some x) (find_number number_of_port xs n)
+there_next n x xs rest true ih e = sym (cond_true (eqb n x.number) (Some x) (find_number number_of_port xs n) (eqb_turned n x.number ∙ e))
 there_next n x xs rest false ih e =
     let one : 1 + rest ≡ suc rest = omega arith in
-    ap (slice_get (x ∷ xs)) one ∙ ih ∙ sym (cond_false (eqb n x.number) (Some x) (find_number number xs n) (eqb_turned n x.number ∙ e))
+    ap (slice_get (x ∷ xs)) one ∙ ih ∙ sym (cond_false (eqb n x.number) (Some x) (find_number number_of_port xs n) (eqb_turned n x.number ∙ e))
 
-first_there : (n : ℕ) (xs : List SystemPort) → slice_get xs (position_or_len (λ s. s.number == n) xs) ≡ find_number number xs n
+first_there : (n : ℕ) (xs : List SystemPort) → slice_get xs (position_or_len (λ s. s.number == n) xs) ≡ find_number number_of_port xs n
 first_there n [] = refl
 first_there n (x ∷ xs) = there_next n x xs (position_or_len (λ s. s.number == n) xs) (x.number == n) (first_there n xs) refl
 
-first_place : (n : ℕ) (xs : List SystemPort) → slot_at (place_of n xs) xs ≡ find_number number xs n
+first_place : (n : ℕ) (xs : List SystemPort) → system_port_at (port_index n xs) xs ≡ find_number number_of_port xs n
 first_place n xs = at_end (position_or_len (λ s. s.number == n) xs) xs (nat_lt (position_or_len (λ s. s.number == n) xs) (length xs)) refl ∙ first_there n xs
 
 mapped_twice : (o : Option SystemPort) → option_map (λ (s : SystemPort). model_port s.port) o ≡ option_map model_port (option_map (λ (s : SystemPort). s.port) o)
@@ -49,8 +49,8 @@ mapped_twice (Some s) = refl
 -- the port that readers tell of is the port that the law sees
 pub port_seen : (s : SystemState) (p : ℕ) → (model_view s).port p ≡ option_map model_port (machines_of p s)
 port_seen s p =
-    ap (option_map (λ (s : SystemPort). model_port s.port)) (sym (first_place p s.slots))
-    ∙ mapped_twice (slot_at (place_of p s.slots) s.slots)
+    ap (option_map (λ (s : SystemPort). model_port s.port)) (sym (first_place p s.system_ports))
+    ∙ mapped_twice (system_port_at (port_index p s.system_ports) s.system_ports)
 
 party_shown : (o : Option Machines) → option_map (λ (a : PortFacts). a.party) (option_map model_port o) ≡ option_map (λ (x : Machines). x.party) o
 party_shown None = refl

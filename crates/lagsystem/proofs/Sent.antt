@@ -2,7 +2,7 @@
 use Rattle.std.proofs.Common.{◌≡◌, ◌∙◌, ℕ, ◌++◌, List, length, drop, arith, ap, subst, sym, length-append}
 use Rattle.slowpdu.specs.declared.pdu.Pdu.{Pdu}
 use Rattle.slowpdu.specs.declared.pdu.Pdu.TheVariants as pdu
-use Rattle.slowpdu.specs.Frames.{IsSlow, frame_octets, slow_type}
+use Rattle.slowpdu.specs.Frames.{IsSlowProtocolsFrame, frame_octets, slow_type}
 use Rattle.slowpdu.specs.Pdus.{WritesPdu}
 use Rattle.slowpdu.proofs.WritingLemmas.{framed_payload, framed_slow}
 use Rattle.lagsystem.specs.Calls.{IsControlFrame}
@@ -21,7 +21,7 @@ sent_length octets payload h = ap (λ (l : List ℕ). length l) h.4 ∙ frame_le
 pub sent_control : (octets : List ℕ) (payload : Pdu) → IsSent octets payload → IsControlFrame octets
 sent_control octets payload h =
     let long = sent_length octets payload h in
-    (omega (arith, long), subst (λ l. IsSlow l) (sym h.4) (framed_slow h.0 h.1 h.2.0))
+    (omega (arith, long), subst (λ l. IsSlowProtocolsFrame l) (sym h.4) (framed_slow h.0 h.1 h.2.0))
 
 -- behind its header stands its PDU
 pub sent_payload : (octets : List ℕ) (payload : Pdu) → IsSent octets payload → WritesPdu (drop 14 octets) payload

@@ -8,24 +8,24 @@ use Rattle.portmachines.specs.Rows.{RunsToRest}
 use Rattle.portmachines.specs.Transmit.{count_down}
 use Rattle.distributor.specs.declared.assignment.Assignment.{Assignment}
 use Rattle.distributor.specs.declared.assignment.Assignment.TheVariants.{Free, On, Wanted, Flushing}
-use Rattle.distributor.specs.Changes.{Changes, after_down, after_tick}
+use Rattle.distributor.specs.Changes.{ChangesAssignments, after_down, after_tick}
 use Rattle.distributor.specs.Conversations.{Table, assignment_of}
-use Rattle.lagsystem.specs.declared.slots.SystemPort.{SystemPort}
-use Rattle.lagsystem.specs.Calls.{AllTick, ChangesLink, FreesIfDown, LinksPort, PortAtGoes, OnPort}
+use Rattle.lagsystem.specs.declared.system_ports.SystemPort.{SystemPort}
+use Rattle.lagsystem.specs.Calls.{Ticks, SetsPortEnabled, FreesIfDown, SetsLink, PortAtChangesBy, OnlyPortChangesBy}
 use Rattle.lagsystem.specs.Holding.{WereInUse, aggregators_in_use}
-use Rattle.lagsystem.specs.Settling.{PortsGo}
+use Rattle.lagsystem.specs.Settling.{PortsChangeBy}
 use Rattle.lagsystem.specs.Sound.{IsSound}
-use Rattle.lagsystem.specs.State.{SystemState, place_of, with_slots, with_table}
+use Rattle.lagsystem.specs.State.{SystemState, port_index, with_system_ports, with_table}
 use Rattle.lagsystem.proofs.Keeps.{Keeps, keeps_link, keeps_place, keeps_tick}
 
 -- a state of these fields, with other ports and conversations
 abbrev pub moved_on : SystemState → List SystemPort → Table → SystemState
-moved_on s slots table = record s { first_marker = table.first; slots = slots; table = table }
+moved_on s system_ports table = record s { first_marker = table.first; system_ports = system_ports; table = table }
 
-pub is_moved_on : (s : SystemState) (slots : List SystemPort) (t : Table) → t.first ≡ s.first_marker → moved_on s slots t ≡ with_table (with_slots s slots) t
-is_moved_on s slots t h = λ i. record s { first_marker = h i; slots = slots; table = t }
+pub is_moved_on : (s : SystemState) (system_ports : List SystemPort) (t : Table) → t.first ≡ s.first_marker → moved_on s system_ports t ≡ with_table (with_system_ports s system_ports) t
+is_moved_on s system_ports t h = λ i. record s { first_marker = h i; system_ports = system_ports; table = t }
 
-were_carried : (old mid : SystemState) (were : List (Option AggId)) → IsSound old → Keeps old mid → were ≡ aggregators_in_use old.slots → ((g k p : ℕ) → assignment_of mid.table g k ≡ On p → assignment_of old.table g k ≡ On p) → WereInUse were mid
+were_carried : (old mid : SystemState) (were : List (Option AggId)) → IsSound old → Keeps old mid → were ≡ aggregators_in_use old.system_ports → ((g k p : ℕ) → assignment_of mid.table g k ≡ On p → assignment_of old.table g k ≡ On p) → WereInUse were mid
 were_carried old mid were s k e c = record { old = old; sound = s; before = e; same = k.same; carried = c }
 
 -- a tick brings no conversation onto a port
@@ -39,13 +39,13 @@ ticked_on (Flushing q n preferred age) p e = waits (ltb (age + 1) 30) e
     waits true x = absurd cc
     waits false x = absurd cc
 
-pub tick_made : (old : SystemState) (olds ws news : List SystemPort) (t : Table) → olds ≡ old.slots → news ≡ ws → old.first_marker ≡ old.table.first → PortsGo (λ p q. RunsToRest receive_rows (count_down p) q) olds ws → Changes old.table t after_tick
-    → AllTick old (moved_on old news t)
+pub tick_made : (old : SystemState) (olds ws news : List SystemPort) (t : Table) → olds ≡ old.system_ports → news ≡ ws → old.first_marker ≡ old.table.first → PortsChangeBy (λ p q. RunsToRest receive_rows (count_down p) q) olds ws → ChangesAssignments old.table t after_tick
+    → Ticks old (moved_on old news t)
 tick_made old olds ws news t e w f h c =
     let own : Machines → Machines → Type 0 = λ p q. RunsToRest receive_rows (count_down p) q in
-    (subst (λ l. PortsGo own l news) e (subst (λ l. PortsGo own olds l) (sym w) h), c, is_moved_on old news t (c.first ∙ sym f))
+    (subst (λ l. PortsChangeBy own l news) e (subst (λ l. PortsChangeBy own olds l) (sym w) h), c, is_moved_on old news t (c.first ∙ sym f))
 
-pub tick_carried : (old mid : SystemState) (were : List (Option AggId)) → IsSound old → AllTick old mid → were ≡ aggregators_in_use old.slots → WereInUse were mid
+pub tick_carried : (old mid : SystemState) (were : List (Option AggId)) → IsSound old → Ticks old mid → were ≡ aggregators_in_use old.system_ports → WereInUse were mid
 tick_carried old mid were s h e = were_carried old mid were s (keeps_tick old mid h) e (λ g k p x. ticked_on (assignment_of old.table g k) p (sym (h.1.states g k) ∙ x))
 
 -- nor does a link that goes down
@@ -75,17 +75,17 @@ frees_first : (up : Bool) (port : ℕ) (t new : Table) → FreesIfDown up port t
 frees_first true port t new h = ap (λ (x : Table). x.first) h
 frees_first false port t new h = h.first
 
-pub link_made : (n : ℕ) (up : Bool) (old : SystemState) (olds ws news : List SystemPort) (t : Table) → olds ≡ old.slots → news ≡ ws → old.first_marker ≡ old.table.first → PortAtGoes (ChangesLink up) (place_of n olds) olds ws → FreesIfDown up n old.table t
-    → LinksPort n up old (moved_on old news t)
+pub link_made : (n : ℕ) (up : Bool) (old : SystemState) (olds ws news : List SystemPort) (t : Table) → olds ≡ old.system_ports → news ≡ ws → old.first_marker ≡ old.table.first → PortAtChangesBy (SetsPortEnabled up) (port_index n olds) olds ws → FreesIfDown up n old.table t
+    → SetsLink n up old (moved_on old news t)
 link_made n up old olds ws news t e w f h c = (
-  subst (λ l. PortAtGoes (ChangesLink up) (place_of n l) l news) e (subst (λ l. PortAtGoes (ChangesLink up) (place_of n olds) olds l) (sym w) h),
+  subst (λ l. PortAtChangesBy (SetsPortEnabled up) (port_index n l) l news) e (subst (λ l. PortAtChangesBy (SetsPortEnabled up) (port_index n olds) olds l) (sym w) h),
   c,
   is_moved_on old news t (frees_first up n old.table t c ∙ sym f),
 )
 
-pub link_carried : (n : ℕ) (up : Bool) (old mid : SystemState) (were : List (Option AggId)) → IsSound old → LinksPort n up old mid → were ≡ aggregators_in_use old.slots → WereInUse were mid
+pub link_carried : (n : ℕ) (up : Bool) (old mid : SystemState) (were : List (Option AggId)) → IsSound old → SetsLink n up old mid → were ≡ aggregators_in_use old.system_ports → WereInUse were mid
 link_carried n up old mid were s h e = were_carried old mid were s (keeps_link n up old mid h) e (frees_on up n old.table mid.table h.1)
 
 -- one port goes on, and the conversations stay
-pub place_carried : (R : Machines → Machines → Type 0) (o : Option ℕ) (old mid : SystemState) (were : List (Option AggId)) → IsSound old → OnPort o R old mid → were ≡ aggregators_in_use old.slots → WereInUse were mid
+pub place_carried : (R : Machines → Machines → Type 0) (o : Option ℕ) (old mid : SystemState) (were : List (Option AggId)) → IsSound old → OnlyPortChangesBy o R old mid → were ≡ aggregators_in_use old.system_ports → WereInUse were mid
 place_carried R o old mid were s h e = were_carried old mid were s (keeps_place R o old mid h) e (λ g k p x. sym (ap (λ (y : SystemState). assignment_of y.table g k) h.1) ∙ x)

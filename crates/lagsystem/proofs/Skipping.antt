@@ -23,28 +23,28 @@ use Rattle.distributor.specs.Calls.{distributes}
 use Rattle.distributor.specs.Conversations.{assignment_of}
 use Rattle.selection.specs.declared.view.PortView.{PortView}
 use Rattle.selection.specs.Views.{is_eligible}
-use Rattle.selection.specs.Choice.{choice}
-use Rattle.lagsystem.specs.declared.slots.SystemPort.{SystemPort}
-use Rattle.lagsystem.specs.Calls.{PortAtGoes, OnPort, Settled, TakesLacpdu}
-use Rattle.lagsystem.specs.Quiet.{ArePaced, AreStill, IsSamePartner, IsStill, Knows, LooksAlike, TakesLacpduAt}
+use Rattle.selection.specs.Choice.{chosen_aggregator}
+use Rattle.lagsystem.specs.declared.system_ports.SystemPort.{SystemPort}
+use Rattle.lagsystem.specs.Calls.{PortAtChangesBy, OnlyPortChangesBy, ThenSettles, ProcessesLacpdu}
+use Rattle.lagsystem.specs.NothingToSettle.{PeriodicsAreSettled, MuxesAreSettled, IsSamePartner, MuxIsSettled, HasRecordedActor, LooksUnchanged, ProcessesLacpduAt}
 use Rattle.lagsystem.specs.Readers.{aggregator_numbered, distributes_in, distributing}
-use Rattle.lagsystem.specs.Settling.{PortsGo, HoldsConversations, PortGoes, Settling, held_unless_on, ready_of}
+use Rattle.lagsystem.specs.Settling.{PortsChangeBy, HoldsConversations, PortChangesBy, Settling, held_unless_on, ready_of}
 use Rattle.lagsystem.specs.Sound.{OnlyOnDistributing}
-use Rattle.lagsystem.specs.State.{SystemState, with_slots}
+use Rattle.lagsystem.specs.State.{SystemState, with_system_ports}
 use Rattle.lagsystem.specs.Views.{stage_of, selection_view, views}
 use Rattle.lagsystem.proofs.Keeps.{settling_joined}
 use Rattle.lagsystem.proofs.Quieting.{paced_runs, still_settles}
 use Rattle.lagsystem.proofs.Rising.{all-get, all-set}
 
 -- taking leaves the mux machine
-take_mux : (v : Lacpdu) (p q : Machines) → TakesLacpdu v p q → q.mux ≡ p.mux
+take_mux : (v : Lacpdu) (p q : Machines) → ProcessesLacpdu v p q → q.mux ≡ p.mux
 take_mux v p q h = elim h [
   | inl f ↦ elim f [ inl g ↦ ap (λ (m : Machines). m.mux) g.1 | inr g ↦ absurd g ]
   | inr r ↦ ap (λ (m : Machines). m.mux) r.1
 ]
 
 -- the views
-pub alike_views : (slots : List SystemPort) (i : ℕ) (s t : SystemPort) → slice_get slots i ≡ Some s → selection_view t ≡ selection_view s → views (slice_set slots i t) ≡ views slots
+pub alike_views : (system_ports : List SystemPort) (i : ℕ) (s t : SystemPort) → slice_get system_ports i ≡ Some s → selection_view t ≡ selection_view s → views (slice_set system_ports i t) ≡ views system_ports
 alike_views [] i s t e h = refl
 alike_views (x ∷ xs) zero s t e h = let same : s ≡ x = sym (same_Some x s e) in λ i. (h ∙ ap selection_view same) i ∷ views xs
 alike_views (x ∷ xs) (suc i) s t e h = ap (λ vs. selection_view x ∷ vs) (alike_views xs i s t e h)
@@ -61,35 +61,35 @@ alike_rest p q m c o h =
 
 -- what a port takes, by what is seen
 abbrev takes_seen : List Key → List PortView → PortView → Option AggId
-takes_seen keys seen v = if is_eligible v then choice keys seen v.number else None
+takes_seen keys seen v = if is_eligible v then chosen_aggregator keys seen v.number else None
 
-still_among : (keys : List Key) (slots news : List SystemPort) (s : SystemPort) → views news ≡ views slots → IsStill keys slots s → IsStill keys news s
-still_among keys slots news s e h = record {
+still_among : (keys : List Key) (system_ports news : List SystemPort) (s : SystemPort) → views news ≡ views system_ports → MuxIsSettled keys system_ports s → MuxIsSettled keys news s
+still_among keys system_ports news s e h = record {
   mux = h.mux;
   apart = ap (λ l. takes_seen keys l (selection_view s)) e ∙ h.apart;
   unready = ap (λ l. ready_of keys l s.port.choice) e ∙ h.unready;
 }
 
-pub all_among : (keys : List Key) (slots news xs : List SystemPort) → views news ≡ views slots → AllByRecursion (IsStill keys slots) xs → AllByRecursion (IsStill keys news) xs
-all_among keys slots news [] e h = tt
-all_among keys slots news (x ∷ xs) e h = (still_among keys slots news x e h.0, all_among keys slots news xs e h.1)
+pub all_among : (keys : List Key) (system_ports news xs : List SystemPort) → views news ≡ views system_ports → AllByRecursion (MuxIsSettled keys system_ports) xs → AllByRecursion (MuxIsSettled keys news) xs
+all_among keys system_ports news [] e h = tt
+all_among keys system_ports news (x ∷ xs) e h = (still_among keys system_ports news x e h.0, all_among keys system_ports news xs e h.1)
 
-pub alike_still : (keys : List Key) (slots : List SystemPort) (s t : SystemPort) → selection_view t ≡ selection_view s → AtRest (mux_rows false) t.port → IsStill keys slots s → IsStill keys slots t
-alike_still keys slots s t e r h = record {
+pub alike_still : (keys : List Key) (system_ports : List SystemPort) (s t : SystemPort) → selection_view t ≡ selection_view s → AtRest (mux_rows false) t.port → MuxIsSettled keys system_ports s → MuxIsSettled keys system_ports t
+alike_still keys system_ports s t e r h = record {
   mux = r;
-  apart = ap (takes_seen keys (views slots)) e ∙ h.apart;
-  unready = ap (λ (v : PortView). ready_of keys (views slots) v.choice) e ∙ h.unready;
+  apart = ap (takes_seen keys (views system_ports)) e ∙ h.apart;
+  unready = ap (λ (v : PortView). ready_of keys (views system_ports) v.choice) e ∙ h.unready;
 }
 
-taken_still : (keys : List Key) (v : Lacpdu) (slots : List SystemPort) (i : ℕ) (s t : SystemPort) → slice_get slots i ≡ Some s → PortGoes (TakesLacpdu v) s t → LooksAlike s t → AreStill keys slots → AreStill keys (slice_set slots i t)
-taken_still keys v slots i s t e m a h =
-    let here = all-get (IsStill keys slots) slots i s e h in
-    let seen = alike_views slots i s t e a.0 in
+taken_still : (keys : List Key) (v : Lacpdu) (system_ports : List SystemPort) (i : ℕ) (s t : SystemPort) → slice_get system_ports i ≡ Some s → PortChangesBy (ProcessesLacpdu v) s t → LooksUnchanged s t → MuxesAreSettled keys system_ports → MuxesAreSettled keys (slice_set system_ports i t)
+taken_still keys v system_ports i s t e m a h =
+    let here = all-get (MuxIsSettled keys system_ports) system_ports i s e h in
+    let seen = alike_views system_ports i s t e a.0 in
     let rest = alike_rest s.port t.port (take_mux v s.port t.port m.1) (ap (λ (x : PortView). x.choice) a.0) a.1 here.mux in
-    all_among keys slots (slice_set slots i t) (slice_set slots i t) seen (all-set (IsStill keys slots) slots i t h (alike_still keys slots s t a.0 rest here))
+    all_among keys system_ports (slice_set system_ports i t) (slice_set system_ports i t) seen (all-set (MuxIsSettled keys system_ports) system_ports i t h (alike_still keys system_ports s t a.0 rest here))
 
 -- all but the port at the place are paced
-set_runs : (slots : List SystemPort) (i : ℕ) (t u : SystemPort) → ArePaced slots → PortGoes RunsPeriodic t u → PortsGo RunsPeriodic (slice_set slots i t) (slice_set (slice_set slots i t) i u)
+set_runs : (system_ports : List SystemPort) (i : ℕ) (t u : SystemPort) → PeriodicsAreSettled system_ports → PortChangesBy RunsPeriodic t u → PortsChangeBy RunsPeriodic (slice_set system_ports i t) (slice_set (slice_set system_ports i t) i u)
 set_runs [] i t u h m = tt
 set_runs (x ∷ xs) zero t u h m = (m, paced_runs xs h.1)
 set_runs (x ∷ xs) (suc i) t u h m = ((refl, (x.port, (0, refl, h.0.rows), h.0.cleared)), set_runs xs i t u h.1 m)
@@ -102,7 +102,7 @@ through false x xs = refl
 more : (agg : AggId) (x : SystemPort) (xs : List SystemPort) → distributing agg (x ∷ xs) ≡ cond (distributes_in agg x) (x.number ∷ distributing agg xs) (distributing agg xs)
 more agg x xs = through (distributes_in agg x) x (filter (distributes_in agg) xs)
 
-alike_distributing : (agg : AggId) (slots : List SystemPort) (i : ℕ) (s t : SystemPort) → slice_get slots i ≡ Some s → t.number ≡ s.number → distributes_in agg t ≡ distributes_in agg s → distributing agg (slice_set slots i t) ≡ distributing agg slots
+alike_distributing : (agg : AggId) (system_ports : List SystemPort) (i : ℕ) (s t : SystemPort) → slice_get system_ports i ≡ Some s → t.number ≡ s.number → distributes_in agg t ≡ distributes_in agg s → distributing agg (slice_set system_ports i t) ≡ distributing agg system_ports
 alike_distributing agg [] i s t e n d = refl
 alike_distributing agg (x ∷ xs) zero s t e n d =
     let same : s ≡ x = sym (same_Some x s e) in
@@ -122,13 +122,13 @@ carried_on ports (On p) k = sym (ap (λ b. if b then On p else Wanted p None) (k
 carried_on ports (Wanted p preferred) k = refl
 carried_on ports (Flushing p id preferred age) k = refl
 
-stays_on : (old new : SystemState) → OnlyOnDistributing old → new.table ≡ old.table → ((g : ℕ) → distributing (aggregator_numbered g) new.slots ≡ distributing (aggregator_numbered g) old.slots) → HoldsConversations new new
+stays_on : (old new : SystemState) → OnlyOnDistributing old → new.table ≡ old.table → ((g : ℕ) → distributing (aggregator_numbered g) new.system_ports ≡ distributing (aggregator_numbered g) old.system_ports) → HoldsConversations new new
 stays_on old new c t d = record {
   frame = refl;
   aggs = refl;
   first = refl;
   next = refl;
-  states = λ g k. carried_on (distributing (aggregator_numbered g) new.slots) (assignment_of new.table g k)
+  states = λ g k. carried_on (distributing (aggregator_numbered g) new.system_ports) (assignment_of new.table g k)
       (λ p e. ap (λ l. distributes l p) (d g) ∙ c g k p (sym (ap (λ x. assignment_of x g k) t) ∙ e));
 }
 
@@ -139,48 +139,48 @@ paced_mux p q h = ap (λ (m : Machines). m.mux) h.2 ∙ Reaches-keeps (λ (m : M
 paced_choice : (p q : Machines) → RunsPeriodic p q → q.choice ≡ p.choice
 paced_choice p q h = ap (λ (m : Machines). m.choice) h.2 ∙ Reaches-keeps (λ (m : Machines). m.choice) periodic_rows ((λ p. refl), ((λ p. refl), ((λ p. refl), ((λ p. refl), ((λ p. refl), ((λ p. refl), ((λ p. refl), tt))))))) h.1.0 p h.0 h.1.1
 
-set_twice : (slots : List SystemPort) (i : ℕ) (t u : SystemPort) → slice_set (slice_set slots i t) i u ≡ slice_set slots i u
+set_twice : (system_ports : List SystemPort) (i : ℕ) (t u : SystemPort) → slice_set (slice_set system_ports i t) i u ≡ slice_set system_ports i u
 set_twice [] i t u = refl
 set_twice (x ∷ xs) zero t u = refl
 set_twice (x ∷ xs) (suc i) t u = ap (λ l. x ∷ l) (set_twice xs i t u)
 
-pub skipped : (v : Lacpdu) (old : SystemState) (i : ℕ) (s t u : SystemPort) → AreStill old.keys old.slots × ArePaced old.slots → OnlyOnDistributing old → slice_get old.slots i ≡ Some s
-    → PortGoes (TakesLacpdu v) s t → LooksAlike s t → PortGoes RunsPeriodic t u
-    → Settling (with_slots old (slice_set old.slots i t)) (with_slots old (slice_set (slice_set old.slots i t) i u))
+pub skipped : (v : Lacpdu) (old : SystemState) (i : ℕ) (s t u : SystemPort) → MuxesAreSettled old.keys old.system_ports × PeriodicsAreSettled old.system_ports → OnlyOnDistributing old → slice_get old.system_ports i ≡ Some s
+    → PortChangesBy (ProcessesLacpdu v) s t → LooksUnchanged s t → PortChangesBy RunsPeriodic t u
+    → Settling (with_system_ports old (slice_set old.system_ports i t)) (with_system_ports old (slice_set (slice_set old.system_ports i t) i u))
 skipped v old i s t u q c e m a r =
-    let mid : SystemState = with_slots old (slice_set old.slots i t) in
-    let news : List SystemPort = slice_set mid.slots i u in
-    let new : SystemState = with_slots old news in
+    let mid : SystemState = with_system_ports old (slice_set old.system_ports i t) in
+    let news : List SystemPort = slice_set mid.system_ports i u in
+    let new : SystemState = with_system_ports old news in
     let mux : u.port.mux ≡ s.port.mux = paced_mux t.port u.port r.1 ∙ take_mux v s.port t.port m.1 in
-    let choice : u.port.choice ≡ s.port.choice = paced_choice t.port u.port r.1 ∙ ap (λ (x : PortView). x.choice) a.0 in
+    let chosen_aggregator : u.port.choice ≡ s.port.choice = paced_choice t.port u.port r.1 ∙ ap (λ (x : PortView). x.choice) a.0 in
     let number : u.number ≡ s.number = ap (λ (x : SystemPort). x.number) r.0 ∙ ap (λ (x : SystemPort). x.number) m.0 in
-    let same : (agg : AggId) → distributing agg news ≡ distributing agg old.slots =
-    λ agg. ap (distributing agg) (set_twice old.slots i t u)
-    ∙ alike_distributing agg old.slots i s u e number (λ j. distributes_in agg (record s { port = record s.port { mux = mux j; choice = choice j } })) in
-    settling_joined mid new new (still_settles mid news (taken_still old.keys v old.slots i s t e m a q.0) (set_runs old.slots i t u q.1 r))
+    let same : (agg : AggId) → distributing agg news ≡ distributing agg old.system_ports =
+    λ agg. ap (distributing agg) (set_twice old.system_ports i t u)
+    ∙ alike_distributing agg old.system_ports i s u e number (λ j. distributes_in agg (record s { port = record s.port { mux = mux j; choice = chosen_aggregator j } })) in
+    settling_joined mid new new (still_settles mid news (taken_still old.keys v old.system_ports i s t e m a q.0) (set_runs old.system_ports i t u q.1 r))
     (stays_on old new c refl (λ g. same (aggregator_numbered g)))
 
-pub on_place_taken : (v : Lacpdu) (i : ℕ) (old : List SystemPort) (alike : Bool) (new : List SystemPort) → TakesLacpduAt v i old alike new → PortAtGoes (TakesLacpdu v) (Some i) old new
+pub on_place_taken : (v : Lacpdu) (i : ℕ) (old : List SystemPort) (alike : Bool) (new : List SystemPort) → ProcessesLacpduAt v i old alike new → PortAtChangesBy (ProcessesLacpdu v) (Some i) old new
 on_place_taken v i old alike new h = (h.0, h.1.port, h.2, h.3.1, h.4 ∙ ap (slice_set old i) h.3.0)
 
-get_set : (slots : List SystemPort) (i : ℕ) (s t u : SystemPort) → slice_get slots i ≡ Some s → slice_get (slice_set slots i t) i ≡ Some u → u ≡ t
+get_set : (system_ports : List SystemPort) (i : ℕ) (s t u : SystemPort) → slice_get system_ports i ≡ Some s → slice_get (slice_set system_ports i t) i ≡ Some u → u ≡ t
 get_set [] i s t u e h = absurd cc
 get_set (x ∷ xs) zero s t u e h = sym (same_Some t u h)
 get_set (x ∷ xs) (suc i) s t u e h = get_set xs i s t u e h
 
 -- the lists that the two parts of the call leave
-pub took_quietly : (v : Lacpdu) (old : SystemState) (i : ℕ) (one two : List SystemPort) → AreStill old.keys old.slots × ArePaced old.slots → OnlyOnDistributing old
-    → TakesLacpduAt v i old.slots true one → PortAtGoes RunsPeriodic (Some i) one two → Settled (OnPort (Some i) (TakesLacpdu v)) old (with_slots old two)
+pub took_quietly : (v : Lacpdu) (old : SystemState) (i : ℕ) (one two : List SystemPort) → MuxesAreSettled old.keys old.system_ports × PeriodicsAreSettled old.system_ports → OnlyOnDistributing old
+    → ProcessesLacpduAt v i old.system_ports true one → PortAtChangesBy RunsPeriodic (Some i) one two → ThenSettles (OnlyPortChangesBy (Some i) (ProcessesLacpdu v)) old (with_system_ports old two)
 took_quietly v old i one two q c h k =
     let s = h.0 in
     let t = h.1 in
-    let is : k.0 ≡ t = get_set old.slots i s t k.0 h.2 (ap (λ l. slice_get l i) (sym h.4) ∙ k.2) in
+    let is : k.0 ≡ t = get_set old.system_ports i s t k.0 h.2 (ap (λ l. slice_get l i) (sym h.4) ∙ k.2) in
     let u : SystemPort = record t { port = k.1 } in
     let runs : RunsPeriodic t.port k.1 = subst (λ (x : SystemPort). RunsPeriodic x.port k.1) is k.3 in
-    let last : two ≡ slice_set (slice_set old.slots i t) i u = k.4 ∙ (λ j. slice_set (h.4 j) i (record (is j) { port = k.1 })) in (
-      with_slots old (slice_set old.slots i t),
-      ((s, t.port, h.2, h.3.1, ap (slice_set old.slots i) h.3.0), refl),
-      subst (λ l. Settling (with_slots old (slice_set old.slots i t)) (with_slots old l)) (sym last) (skipped v old i s t u q c h.2 h.3 h.5 (refl, runs)),
+    let last : two ≡ slice_set (slice_set old.system_ports i t) i u = k.4 ∙ (λ j. slice_set (h.4 j) i (record (is j) { port = k.1 })) in (
+      with_system_ports old (slice_set old.system_ports i t),
+      ((s, t.port, h.2, h.3.1, ap (slice_set old.system_ports i) h.3.0), refl),
+      subst (λ l. Settling (with_system_ports old (slice_set old.system_ports i t)) (with_system_ports old l)) (sym last) (skipped v old i s t u q c h.2 h.3 h.5 (refl, runs)),
     )
 
 -- what a known LACPDU leaves
@@ -188,7 +188,7 @@ now_settled : (c d : Bool) → c ≡ true → true ≡ (c || d)
 now_settled true d h = refl
 now_settled false d h = absurd cc
 
-pub took_alike : (v : Lacpdu) (s : SystemPort) (q : Machines) → TakesLacpdu v s.port q → Knows v s → IsSamePartner s.port.partner q.partner → LooksAlike s (record s { port = q })
+pub took_alike : (v : Lacpdu) (s : SystemPort) (q : Machines) → ProcessesLacpdu v s.port q → HasRecordedActor v s → IsSamePartner s.port.partner q.partner → LooksUnchanged s (record s { port = q })
 took_alike v s q h k same = (seen, same.1)
   where
     p : Machines
@@ -198,7 +198,7 @@ took_alike v s q h k same = (seen, same.1)
     seen = elim h [
       | inl f ↦ elim f [
         | inl g ↦
-            let choice : q.choice ≡ p.choice = ap (λ (m : Machines). m.choice) g.1 ∙ ap (λ b. if b then p.choice else Unselected) k.1 in
+            let chosen_aggregator : q.choice ≡ p.choice = ap (λ (m : Machines). m.choice) g.1 ∙ ap (λ b. if b then p.choice else Unselected) k.1 in
             let settled : (same_receive_state Current q.receive || same_receive_state Defaulted q.receive) ≡ (same_receive_state Current p.receive || same_receive_state Defaulted p.receive) =
             ap (λ (m : Machines). same_receive_state Current m.receive || same_receive_state Defaulted m.receive) g.1 ∙ now_settled (same_receive_state Current p.receive) (same_receive_state Defaulted p.receive) k.0 in
             λ i. record {
@@ -208,7 +208,7 @@ took_alike v s q h k same = (seen, same.1)
               enabled = (g.1 i).enabled;
               settled = settled i;
               stage = stage_of (g.1 i).mux (g.1 i).wait_while;
-              choice = choice i;
+              choice = chosen_aggregator i;
             }
         | inr g ↦ absurd g
       ]

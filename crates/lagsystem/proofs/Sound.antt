@@ -6,14 +6,14 @@ use Rattle.lagmodel.specs.Law.{Members}
 use Rattle.lagmodel.specs.View.{View}
 use Rattle.lagmodel.proofs.Ports.{members_first, one_partner}
 use Rattle.lagmodel.proofs.Calls.{members_call}
-use Rattle.lagsystem.specs.declared.slots.SystemPort.{SystemPort}
+use Rattle.lagsystem.specs.declared.system_ports.SystemPort.{SystemPort}
 use Rattle.lagsystem.specs.declared.drive.Reply.{Reply}
 use Rattle.lagsystem.specs.Calls.{Call, Step}
 use Rattle.lagsystem.specs.First.{IsFirst}
-use Rattle.lagsystem.specs.ModelView.{MuxesConsistent, JoinedByFreeMoves, model_setup, model_view}
-use Rattle.lagsystem.specs.Sound.{Agrees, Answers, Distribute, HasPorts, IsSound}
+use Rattle.lagsystem.specs.ModelView.{MuxesConsistent, JoinedByLawfulMoves, model_setup, model_view}
+use Rattle.lagsystem.specs.Sound.{PortsAgree, CallPromise, Distribute, HasPorts, IsSound}
 use Rattle.lagsystem.specs.State.{SystemState}
-use Rattle.lagsystem.specs.Windows.{AreWindowed}
+use Rattle.lagsystem.specs.Windows.{KeepsTransmitLimit}
 use Rattle.lagsystem.proofs.FirstView.{configured_setup, first_shows}
 use Rattle.lagsystem.proofs.Keeps.{Step-aggregators, Step-frame, Step-ports}
 use Rattle.lagsystem.proofs.OnPorts.{Step-carried, first_carried}
@@ -35,7 +35,7 @@ first_sound s p h = record {
   quiet = first_quiet s p h;
 }
 
-pub joins : (gives : ℕ → ℕ → ℕ → Type 0) (old : SystemState) (call : Call) (answer : Reply) (new : SystemState) → Step gives old call answer new → IsSound old → JoinedByFreeMoves old call answer new
+pub joins : (gives : ℕ → ℕ → ℕ → Type 0) (old : SystemState) (call : Call) (answer : Reply) (new : SystemState) → Step gives old call answer new → IsSound old → JoinedByLawfulMoves old call answer new
 joins gives old call answer new h s = Step-joins gives old call answer new (ports_rise old s.ports) s.rested h
 
 pub Step-sound : (gives : ℕ → ℕ → ℕ → Type 0) (old : SystemState) (call : Call) (answer : Reply) (new : SystemState) → Step gives old call answer new → IsSound old → IsSound new
@@ -52,25 +52,25 @@ Step-sound gives old call answer new h s =
     }
 
 -- at rest a port distributes exactly if its mux machine does
-all_distribute : (slots : List SystemPort) → MuxesConsistent slots → Distribute slots
+all_distribute : (system_ports : List SystemPort) → MuxesConsistent system_ports → Distribute system_ports
 all_distribute [] h = tt
 all_distribute (x ∷ xs) h = (rest_distributes x.port.mux (selected x.port) (partner_synchronized x.port) h.0, all_distribute xs h.1)
 
-pub agrees : (s : SystemState) → IsSound s → Agrees s
+pub agrees : (s : SystemState) → IsSound s → PortsAgree s
 agrees s h = record {
   ports = h.ports;
   windowed = h.windowed;
   members = h.members;
   one_partner = one_partner (model_setup s) (model_view s) h.members;
-  distribute = all_distribute s.slots h.rested.1;
+  distribute = all_distribute s.system_ports h.rested.1;
 }
 
 -- a single call keeps the window
-pub one_windowed : (gives : ℕ → ℕ → ℕ → Type 0) (old : SystemState) (call : Call) (answer : Reply) (new : SystemState) → Step gives old call answer new → IsSound old → AreWindowed old (call ∷ []) (answer ∷ [])
+pub one_windowed : (gives : ℕ → ℕ → ℕ → Type 0) (old : SystemState) (call : Call) (answer : Reply) (new : SystemState) → Step gives old call answer new → IsSound old → KeepsTransmitLimit old (call ∷ []) (answer ∷ [])
 one_windowed gives old call answer new h s = window_law gives old new (call ∷ []) (answer ∷ []) s.windowed (new, h, refl)
 
 -- a step of a sound system is what every call promises
-pub answers : (gives : ℕ → ℕ → ℕ → Type 0) (old : SystemState) (call : Call) (reply : Reply) (new : SystemState) → Step gives old call reply new → IsSound old → Answers gives old call reply new
+pub answers : (gives : ℕ → ℕ → ℕ → Type 0) (old : SystemState) (call : Call) (reply : Reply) (new : SystemState) → Step gives old call reply new → IsSound old → CallPromise gives old call reply new
 answers gives old call reply new h s = record {
   step = h;
   moves = joins gives old call reply new h s;

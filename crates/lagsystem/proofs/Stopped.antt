@@ -12,9 +12,9 @@ use Rattle.selection.specs.Views.{has_chosen}
 use Rattle.distributor.specs.declared.assignment.Assignment.{Assignment}
 use Rattle.distributor.specs.declared.assignment.Assignment.TheVariants.{Free, On, Wanted, Flushing}
 use Rattle.distributor.specs.Calls.{distributes}
-use Rattle.distributor.specs.Changes.{Changes}
+use Rattle.distributor.specs.Changes.{ChangesAssignments}
 use Rattle.distributor.specs.Conversations.{assignment_of}
-use Rattle.lagsystem.specs.declared.slots.SystemPort.{SystemPort}
+use Rattle.lagsystem.specs.declared.system_ports.SystemPort.{SystemPort}
 use Rattle.lagsystem.specs.Holding.{WereInUse, after_holding, aggregators_in_use, has_stopped, stopped}
 use Rattle.lagsystem.specs.Readers.{selected_aggregator, aggregator_numbered, collecting, distributes_in, distributing}
 use Rattle.lagsystem.specs.Settling.{HoldsConversations, held_unless_on}
@@ -23,14 +23,14 @@ use Rattle.lagsystem.proofs.Rising.{Rises, ports_rise}
 
 -- whether the port distributes in the aggregator
 abbrev pub on : AggId → List SystemPort → ℕ → Bool
-on agg slots p = distributes (distributing agg slots) p
+on agg system_ports p = distributes (distributing agg system_ports) p
 
 one_more : (b : Bool) (s : SystemPort) (rest : List SystemPort) (p : ℕ) → distributes (map (λ (x : SystemPort). x.number) (cond b (s ∷ rest) rest)) p ≡ ((b && eqb s.number p) || distributes (map (λ (x : SystemPort). x.number) rest) p)
 one_more true s rest p = refl
 one_more false s rest p = refl
 
-pub on_more : (agg : AggId) (s : SystemPort) (slots : List SystemPort) (p : ℕ) → on agg (s ∷ slots) p ≡ ((distributes_in agg s && eqb s.number p) || on agg slots p)
-on_more agg s slots p = one_more (distributes_in agg s) s (filter (distributes_in agg) slots) p
+pub on_more : (agg : AggId) (s : SystemPort) (system_ports : List SystemPort) (p : ℕ) → on agg (s ∷ system_ports) p ≡ ((distributes_in agg s && eqb s.number p) || on agg system_ports p)
+on_more agg s system_ports p = one_more (distributes_in agg s) s (filter (distributes_in agg) system_ports) p
 
 other : (m p : ℕ) → m < p → eqb p m ≡ false
 other m p h = grind (arith, nat_tests)
@@ -44,19 +44,19 @@ and_no true b h = h
 and_no false b h = refl
 
 -- none has a number past those of the ports
-pub none_on : (agg : AggId) (low : ℕ) (slots : List SystemPort) (p : ℕ) → Rises low (port_numbers slots) → p < low + 1 → on agg slots p ≡ false
+pub none_on : (agg : AggId) (low : ℕ) (system_ports : List SystemPort) (p : ℕ) → Rises low (port_numbers system_ports) → p < low + 1 → on agg system_ports p ≡ false
 none_on agg low [] p r l = refl
-none_on agg low (s ∷ slots) p r l =
-    on_more agg s slots p
-    ∙ or_no (distributes_in agg s && eqb s.number p) (on agg slots p) (and_no (distributes_in agg s) (eqb s.number p) (other p s.number (omega (arith, l, r.0))))
-    (none_on agg s.number slots p r.1 (omega (arith, l, r.0)))
+none_on agg low (s ∷ system_ports) p r l =
+    on_more agg s system_ports p
+    ∙ or_no (distributes_in agg s && eqb s.number p) (on agg system_ports p) (and_no (distributes_in agg s) (eqb s.number p) (other p s.number (omega (arith, l, r.0))))
+    (none_on agg s.number system_ports p r.1 (omega (arith, l, r.0)))
 
-none_stopped : (low : ℕ) (before : List (Option AggId)) (slots : List SystemPort) (p : ℕ) → Rises low (port_numbers slots) → p < low + 1 → stopped before slots p ≡ false
-none_stopped low [] slots p r l = refl
+none_stopped : (low : ℕ) (before : List (Option AggId)) (system_ports : List SystemPort) (p : ℕ) → Rises low (port_numbers system_ports) → p < low + 1 → stopped before system_ports p ≡ false
+none_stopped low [] system_ports p r l = refl
 none_stopped low (was ∷ before) [] p r l = refl
-none_stopped low (was ∷ before) (s ∷ slots) p r l =
-    or_no ((s.number == p) && has_stopped was s) (stopped before slots p)
-    (ap (λ (b : Bool). b && has_stopped was s) (other p s.number (omega (arith, l, r.0)))) (none_stopped s.number before slots p r.1 (omega (arith, l, r.0)))
+none_stopped low (was ∷ before) (s ∷ system_ports) p r l =
+    or_no ((s.number == p) && has_stopped was s) (stopped before system_ports p)
+    (ap (λ (b : Bool). b && has_stopped was s) (other p s.number (omega (arith, l, r.0)))) (none_stopped s.number before system_ports p r.1 (omega (arith, l, r.0)))
 
 -- the port was carrying in the aggregator if it distributed in it
 given_agg : (agg : AggId) (c : Choice) (b : Bool) → (has_chosen agg c && b) ≡ true → (if b then selected_aggregator c else None) ≡ Some agg
@@ -131,27 +131,27 @@ left_by ports leaves (On p) h = turned (leaves p) (distributes ports p) (h p ref
     turned b false e = ap (λ (x : Bool). if x then Wanted p None else On p) e
 
 -- step 6 of settling
-pub leaves_made : (were : List (Option AggId)) (start mid new : SystemState) → WereInUse were start → port_numbers mid.slots ≡ port_numbers start.slots → mid.table ≡ start.table
-    → Changes mid.table new.table (after_holding (stopped were mid.slots)) → new ≡ with_table mid new.table → HoldsConversations mid new
+pub leaves_made : (were : List (Option AggId)) (start mid new : SystemState) → WereInUse were start → port_numbers mid.system_ports ≡ port_numbers start.system_ports → mid.table ≡ start.table
+    → ChangesAssignments mid.table new.table (after_holding (stopped were mid.system_ports)) → new ≡ with_table mid new.table → HoldsConversations mid new
 leaves_made were start mid new w n t h e = record {
   frame = e;
   aggs = h.aggs;
   first = h.first;
   next = h.next;
   states = λ g k. (let a = assignment_of mid.table g k in
-      h.states g k ∙ left_by (distributing (aggregator_numbered g) mid.slots) (stopped were mid.slots) a (λ p x.
+      h.states g k ∙ left_by (distributing (aggregator_numbered g) mid.system_ports) (stopped were mid.system_ports) a (λ p x.
       let before : assignment_of w.old.table g k ≡ On p = w.carried g k p (ap (λ t. assignment_of t g k) (sym t) ∙ x) in
-      ap (λ l. stopped l mid.slots p) w.before
-      ∙ stops_where (aggregator_numbered g) p 0 w.old.slots mid.slots (ports_rise w.old w.sound.ports) (n ∙ w.same) (w.sound.carried g k p before)));
+      ap (λ l. stopped l mid.system_ports p) w.before
+      ∙ stops_where (aggregator_numbered g) p 0 w.old.system_ports mid.system_ports (ports_rise w.old w.sound.ports) (n ∙ w.same) (w.sound.carried g k p before)));
 }
 
-carriers_many : (slots : List SystemPort) → length (aggregators_in_use slots) ≡ length (port_numbers slots)
+carriers_many : (system_ports : List SystemPort) → length (aggregators_in_use system_ports) ≡ length (port_numbers system_ports)
 carriers_many [] = refl
-carriers_many (s ∷ slots) = omega (arith, carriers_many slots)
+carriers_many (s ∷ system_ports) = omega (arith, carriers_many system_ports)
 
-numbers_many : (slots : List SystemPort) → length (port_numbers slots) ≡ length slots
+numbers_many : (system_ports : List SystemPort) → length (port_numbers system_ports) ≡ length system_ports
 numbers_many [] = refl
-numbers_many (s ∷ slots) = omega (arith, numbers_many slots)
+numbers_many (s ∷ system_ports) = omega (arith, numbers_many system_ports)
 
-pub were_many : (were : List (Option AggId)) (start mid : SystemState) → WereInUse were start → port_numbers mid.slots ≡ port_numbers start.slots → length were ≡ length mid.slots
-were_many were start mid w n = ap length w.before ∙ carriers_many w.old.slots ∙ ap length (sym (n ∙ w.same)) ∙ numbers_many mid.slots
+pub were_many : (were : List (Option AggId)) (start mid : SystemState) → WereInUse were start → port_numbers mid.system_ports ≡ port_numbers start.system_ports → length were ≡ length mid.system_ports
+were_many were start mid w n = ap length w.before ∙ carriers_many w.old.system_ports ∙ ap length (sym (n ∙ w.same)) ∙ numbers_many mid.system_ports

@@ -11,14 +11,14 @@ use Rattle.portmachines.specs.declared.mux.MuxState.{MuxState}
 use Rattle.portmachines.specs.declared.mux.MuxState.TheVariants.{Detached, Waiting, Attached, CollectingDistributing}
 use Rattle.portmachines.specs.Machines.{Machines}
 use Rattle.portmachines.specs.Mux.{same_mux_state, is_synchronized, mux_rows}
-use Rattle.portmachines.specs.Rows.{Fires, Reaches, Row, RunsToRest}
+use Rattle.portmachines.specs.Rows.{Fires, FiresTimes, Row, RunsToRest}
 use Rattle.portmachines.proofs.Runs.{Reaches-keeps}
 use Rattle.selection.specs.declared.view.PortView.{PortView}
 use Rattle.selection.specs.Views.{has_waited, has_chosen, is_detached_or_waiting}
-use Rattle.selection.specs.Choice.{ports_that_chose, is_known}
+use Rattle.selection.specs.Choice.{ports_that_chose, is_aggregator}
 use Rattle.selection.specs.Ready.{is_ready}
-use Rattle.lagsystem.specs.declared.slots.SystemPort.{SystemPort}
-use Rattle.lagsystem.specs.Settling.{PortsGo, ready_of}
+use Rattle.lagsystem.specs.declared.system_ports.SystemPort.{SystemPort}
+use Rattle.lagsystem.specs.Settling.{PortsChangeBy, ready_of}
 use Rattle.lagsystem.specs.Views.{stage_of, selection_view, views}
 
 -- what rows keep if they are enabled
@@ -30,7 +30,7 @@ fires_kept : (holds : Machines → Bool) (rows : List Row) → KeptBy holds rows
 fires_kept holds [] k p q h f = absurd f
 fires_kept holds (row ∷ rows) k p q h f = elim f [ inl x ↦ ap holds x.1 ∙ k.0 p h x.0 | inr x ↦ fires_kept holds rows k.1 p q h x ]
 
-reaches_kept : (holds : Machines → Bool) (rows : List Row) → KeptBy holds rows → (n : ℕ) (p q : Machines) → holds p ≡ true → Reaches rows n p q → holds q ≡ true
+reaches_kept : (holds : Machines → Bool) (rows : List Row) → KeptBy holds rows → (n : ℕ) (p q : Machines) → holds p ≡ true → FiresTimes rows n p q → holds q ≡ true
 reaches_kept holds rows k zero p q h run = ap holds run ∙ h
 reaches_kept holds rows k (suc n) p q h run = fires_kept holds rows k run.0 q (reaches_kept holds rows k n p run.0 h run.1) run.2
 
@@ -230,7 +230,7 @@ abbrev Steps : List Key → List PortView → Machines → Machines → Type 0
 Steps keys seen p q = RunsToRest (mux_rows (ready_of keys seen p.choice)) p q
 
 -- with Ready
-none_wait : (keys : List Key) (seen : List PortView) (agg : AggId) → is_ready keys seen agg ≡ true → (xs ys : List SystemPort) → PortsGo (Steps keys seen) xs ys → list_any W (ports_that_chose agg (views ys)) ≡ false
+none_wait : (keys : List Key) (seen : List PortView) (agg : AggId) → is_ready keys seen agg ≡ true → (xs ys : List SystemPort) → PortsChangeBy (Steps keys seen) xs ys → list_any W (ports_that_chose agg (views ys)) ≡ false
 none_wait keys seen agg r [] [] h = refl
 none_wait keys seen agg r [] (y ∷ ys) h = absurd h
 none_wait keys seen agg r (x ∷ xs) [] h = absurd h
@@ -247,7 +247,7 @@ none_wait keys seen agg r (x ∷ xs) (y ∷ ys) h =
 unready_step : (keys : List Key) (seen : List PortView) (agg : AggId) (x y : SystemPort) → is_ready keys seen agg ≡ false → Steps keys seen x.port y.port → has_chosen agg x.port.choice ≡ true → RunsToRest (mux_rows false) x.port y.port
 unready_step keys seen agg x y r h g = subst (λ b. RunsToRest (mux_rows b) x.port y.port) (ready_given keys seen agg x.port.choice g ∙ r) h
 
-any_stays : (keys : List Key) (seen : List PortView) (agg : AggId) → is_ready keys seen agg ≡ false → (xs ys : List SystemPort) → PortsGo (Steps keys seen) xs ys
+any_stays : (keys : List Key) (seen : List PortView) (agg : AggId) → is_ready keys seen agg ≡ false → (xs ys : List SystemPort) → PortsChangeBy (Steps keys seen) xs ys
     → list_any W (ports_that_chose agg (views xs)) ≡ false → list_any W (ports_that_chose agg (views ys)) ≡ false
 any_stays keys seen agg r [] [] h k = refl
 any_stays keys seen agg r [] (y ∷ ys) h k = absurd h
@@ -270,7 +270,7 @@ open_is : (x o : Bool) → (x && o) ≡ true → o ≡ true
 open_is true o h = h
 open_is false o h = absurd cc
 
-all_stay : (keys : List Key) (seen : List PortView) (agg : AggId) → is_ready keys seen agg ≡ false → (xs ys : List SystemPort) → PortsGo (Steps keys seen) xs ys
+all_stay : (keys : List Key) (seen : List PortView) (agg : AggId) → is_ready keys seen agg ≡ false → (xs ys : List SystemPort) → PortsChangeBy (Steps keys seen) xs ys
     → all_waited (ports_that_chose agg (views xs)) ≡ false → all_waited (ports_that_chose agg (views ys)) ≡ false
 all_stay keys seen agg r [] [] h k = k
 all_stay keys seen agg r [] (y ∷ ys) h k = absurd h
@@ -299,18 +299,18 @@ one_false : (a b c d : Bool) → (a && b) ≡ false → (a ≡ false → c ≡ f
 one_false true b c d h f g = and_second c d (g h)
 one_false false b c d h f g = first_false c d (f refl)
 
-unready_cases : (keys : List Key) (agg : AggId) (xs ys : List SystemPort) → PortsGo (Steps keys (views xs)) xs ys → (r : Bool) → is_ready keys (views xs) agg ≡ r → (k : Bool) → is_known keys agg ≡ k
+unready_cases : (keys : List Key) (agg : AggId) (xs ys : List SystemPort) → PortsChangeBy (Steps keys (views xs)) xs ys → (r : Bool) → is_ready keys (views xs) agg ≡ r → (k : Bool) → is_aggregator keys agg ≡ k
     → is_ready keys (views ys) agg ≡ false
 unready_cases keys agg xs ys h true e k i =
-    none_of (is_known keys agg) (ports_that_chose agg (views ys)) (first_false _ (all_waited (ports_that_chose agg (views ys))) (none_wait keys (views xs) agg e xs ys h))
+    none_of (is_aggregator keys agg) (ports_that_chose agg (views ys)) (first_false _ (all_waited (ports_that_chose agg (views ys))) (none_wait keys (views xs) agg e xs ys h))
 unready_cases keys agg xs ys h false e false i = ap (λ b. list_any W (if b then ports_that_chose agg (views ys) else []) && all_waited (if b then ports_that_chose agg (views ys) else [])) i
 unready_cases keys agg xs ys h false e true i =
     let g = ports_that_chose agg (views xs) in
     let was : (list_any W g && all_waited g) ≡ false = sym (ap (λ b. list_any W (if b then g else []) && all_waited (if b then g else [])) i) ∙ e in
-    none_of (is_known keys agg) (ports_that_chose agg (views ys))
+    none_of (is_aggregator keys agg) (ports_that_chose agg (views ys))
     (one_false (list_any W g) (all_waited g) (list_any W (ports_that_chose agg (views ys))) (all_waited (ports_that_chose agg (views ys))) was
     (any_stays keys (views xs) agg e xs ys h) (all_stay keys (views xs) agg e xs ys h))
 
-pub none_ready : (keys : List Key) (xs ys : List SystemPort) → PortsGo (Steps keys (views xs)) xs ys → (c : Choice) → ready_of keys (views ys) c ≡ false
+pub none_ready : (keys : List Key) (xs ys : List SystemPort) → PortsChangeBy (Steps keys (views xs)) xs ys → (c : Choice) → ready_of keys (views ys) c ≡ false
 none_ready keys xs ys h Unselected = refl
-none_ready keys xs ys h (Selected agg) = unready_cases keys agg xs ys h (is_ready keys (views xs) agg) refl (is_known keys agg) refl
+none_ready keys xs ys h (Selected agg) = unready_cases keys agg xs ys h (is_ready keys (views xs) agg) refl (is_aggregator keys agg) refl

@@ -24,29 +24,29 @@ use Rattle.portmachines.specs.Mux.{mux_rows}
 use Rattle.portmachines.specs.Periodic.{RunsPeriodic}
 use Rattle.portmachines.specs.Receive.{receive_rows}
 use Rattle.portmachines.specs.Rows.{RunsToRest}
-use Rattle.portmachines.specs.Start.{Starts, blank}
-use Rattle.portmachines.specs.Transmit.{aged, count_down, is_due, sent}
+use Rattle.portmachines.specs.Start.{Starts, before_start}
+use Rattle.portmachines.specs.Transmit.{aged, count_down, is_due, after_sending}
 use Rattle.portmachines.specs.Window as window
 use Rattle.portmachines.specs.Window.{KeepsWindow, sent_before}
 use Rattle.portmachines.proofs.Runs.{Reaches-keeps}
 use Rattle.portmachines.specs.declared.port.Setup.{Setup}
 use Rattle.portmachines.proofs.Windows.{ages_of, mux-same, periodic-ages, settles-same, starts-ages, taking-ages, window_law as port_window}
 use Rattle.lagsystem.specs.declared.received.FrameEffect.{FrameEffect}
-use Rattle.lagsystem.specs.declared.received.FrameEffect.TheVariants.{Taken, Response, Answered}
+use Rattle.lagsystem.specs.declared.received.FrameEffect.TheVariants.{ProcessLacpdu, Response, Answered}
 use Rattle.lagsystem.specs.declared.received.Received.{Received}
 use Rattle.lagsystem.specs.declared.config.PortChange.{PortChange}
 use Rattle.lagsystem.specs.declared.config.PortConfig.{PortConfig}
 use Rattle.lagsystem.specs.declared.drive.Reply.{Reply}
 use Rattle.lagsystem.specs.declared.drive.Reply.TheVariants as reply
-use Rattle.lagsystem.specs.declared.slots.SystemPort.{SystemPort}
-use Rattle.lagsystem.specs.State.{SystemState, with_slots, place_of, machines_of, slot_at}
-use Rattle.lagsystem.specs.Settling.{PortsGo, Settling, chosen, choose_slot, given, ready_of, aggregator_for}
+use Rattle.lagsystem.specs.declared.system_ports.SystemPort.{SystemPort}
+use Rattle.lagsystem.specs.State.{SystemState, with_system_ports, port_index, machines_of, system_port_at}
+use Rattle.lagsystem.specs.Settling.{PortsChangeBy, Settling, after_choices, after_choice_at, with_choice, ready_of, aggregator_for}
 use Rattle.lagsystem.specs.Views.{views}
-use Rattle.lagsystem.specs.First.{IsFirst, IsNew, setup_of}
-use Rattle.lagsystem.specs.Calls.{Call, Tick, Set_link, Receive, Configure, Restart, Transmit, Offer, Move_conversation, Force, ChangesLink, ChangesParty, changed_party, is_for, PortAtGoes, OnPort, Settled, TakesLacpdu, Performs, Step, TableRun}
-use Rattle.lagsystem.specs.Offers.{force_answer, move_answer}
-use Rattle.lagsystem.specs.Sending.{SendsAt, SendsMarkerOf, SendsWhere}
-use Rattle.lagsystem.specs.Windows.{EachAtMostThreeAges, AtMostThreeAges, AgesSince, StartsEmpty, StaysWindowed, WindowFromStart, SystemWindowLaw, sends_after, remembered_sends, tick_after, subtype}
+use Rattle.lagsystem.specs.First.{IsFirst, HasJustStarted, setup_of}
+use Rattle.lagsystem.specs.Calls.{Call, Tick, Set_link, Receive, Configure, Restart, Transmit, Offer, Move_conversation, Force, SetsPortEnabled, ChangesParty, changed_party, is_own_response, PortAtChangesBy, OnlyPortChangesBy, ThenSettles, ProcessesLacpdu, Performs, Step, TableRun}
+use Rattle.lagsystem.specs.Offers.{system_force_result, system_move_result}
+use Rattle.lagsystem.specs.Sending.{TransmitsAt, SendsMarkerOf, TransmitsIf}
+use Rattle.lagsystem.specs.Windows.{EachAtMostThreeAges, AtMostThreeAges, AgesSince, StartsWithoutAges, StaysWindowed, WindowFromStart, SystemWindowLaw, sends_after, remembered_sends, tick_after, subtype}
 use Rattle.lagsystem.proofs.Keeps.{given_number}
 use Rattle.lagsystem.proofs.Rest.{becomes_slots, last_slots, offers_slots, releases_slots, same_slots}
 
@@ -86,13 +86,13 @@ At P N None = N
 At P N (Some p) = P p
 
 abbrev In : (Machines → Type 0) → Type 0 → ℕ → List SystemPort → Type 0
-In P N n slots = At P N (port_in (find (is_numbered n) slots))
+In P N n system_ports = At P N (port_in (find (is_numbered n) system_ports))
 
 abbrev GoodAt : ℕ → List ℕ → Option Machines → Type 0
 GoodAt now before o = At (λ p. Good now p before) (KeepsWindow before) o
 
 abbrev GoodIn : ℕ → ℕ → List ℕ → List SystemPort → Type 0
-GoodIn n now before slots = In (λ p. Good now p before) (KeepsWindow before) n slots
+GoodIn n now before system_ports = In (λ p. Good now p before) (KeepsWindow before) n system_ports
 
 good_end : (now : ℕ) (before : List ℕ) (o : Option Machines) → GoodAt now before o → KeepsWindow before
 good_end now before None g = g
@@ -109,7 +109,7 @@ at_number : (P Q : Machines → Type 0) (N : Type 0) (n : ℕ) (x y : SystemPort
 at_number P Q N n x y o u e here rest g =
     subst (λ k. At Q N (port_in (cond (k == n) (Some y) u))) (sym e) (at_first P Q N (x.number == n) x y o u here rest g)
 
-in_each : (P Q : Machines → Type 0) (N : Type 0) (R : Machines → Machines → Type 0) (n : ℕ) → ((p q : Machines) → R p q → P p → Q q) → (xs ys : List SystemPort) → PortsGo R xs ys → In P N n xs → In Q N n ys
+in_each : (P Q : Machines → Type 0) (N : Type 0) (R : Machines → Machines → Type 0) (n : ℕ) → ((p q : Machines) → R p q → P p → Q q) → (xs ys : List SystemPort) → PortsChangeBy R xs ys → In P N n xs → In Q N n ys
 in_each P Q N R n move [] [] h g = g
 in_each P Q N R n move [] (y ∷ ys) h g = absurd h
 in_each P Q N R n move (x ∷ xs) [] h g = absurd h
@@ -132,40 +132,40 @@ record IsKept (P : Machines → Type 0) : Type 0 where
   mux : (ready : Bool) (p q : Machines) → RunsToRest (mux_rows ready) p q → P p → P q
   periodic : (p q : Machines) → RunsPeriodic p q → P p → P q
   select : (agg : AggId) (p : Machines) → P p → P (record p { choice = Selected agg })
-  link : (up : Bool) (p q : Machines) → ChangesLink up p q → P p → P q
-  take : (v : Lacpdu) (p q : Machines) → TakesLacpdu v p q → P p → P q
+  link : (up : Bool) (p q : Machines) → SetsPortEnabled up p q → P p → P q
+  take : (v : Lacpdu) (p q : Machines) → ProcessesLacpdu v p q → P p → P q
   party : (change : PortChange) (p q : Machines) → ChangesParty change p q → P p → P q
 
-in_given : (P : Machines → Type 0) → IsKept P → (s : SystemPort) (o : Option AggId) → P s.port → P (given s o).port
+in_given : (P : Machines → Type 0) → IsKept P → (s : SystemPort) (o : Option AggId) → P s.port → P (with_choice s o).port
 in_given P kept s None g = g
 in_given P kept s (Some agg) g = kept.select agg s.port g
 
-in_choose : (P : Machines → Type 0) (N : Type 0) (n : ℕ) → IsKept P → (keys : List Key) (slots : List SystemPort) (i : ℕ) (o : Option SystemPort) → slice_get slots i ≡ o → In P N n slots → In P N n (choose_slot keys slots i o)
-in_choose P N n kept keys slots i None e g = g
-in_choose P N n kept keys slots i (Some s) e g =
-    let o = aggregator_for keys slots s in in_set P N n slots i s (given s o) e (given_number s o) (in_given P kept s o) g
+in_choose : (P : Machines → Type 0) (N : Type 0) (n : ℕ) → IsKept P → (keys : List Key) (system_ports : List SystemPort) (i : ℕ) (o : Option SystemPort) → slice_get system_ports i ≡ o → In P N n system_ports → In P N n (after_choice_at keys system_ports i o)
+in_choose P N n kept keys system_ports i None e g = g
+in_choose P N n kept keys system_ports i (Some s) e g =
+    let o = aggregator_for keys system_ports s in in_set P N n system_ports i s (with_choice s o) e (given_number s o) (in_given P kept s o) g
 
-in_chosen : (P : Machines → Type 0) (N : Type 0) (n : ℕ) → IsKept P → (keys : List Key) (k : ℕ) (slots : List SystemPort) → In P N n slots → In P N n (chosen keys k slots)
-in_chosen P N n kept keys zero slots g = g
-in_chosen P N n kept keys (suc k) slots g =
-    let mid = chosen keys k slots in in_choose P N n kept keys mid k (slice_get mid k) refl (in_chosen P N n kept keys k slots g)
+in_chosen : (P : Machines → Type 0) (N : Type 0) (n : ℕ) → IsKept P → (keys : List Key) (k : ℕ) (system_ports : List SystemPort) → In P N n system_ports → In P N n (after_choices keys k system_ports)
+in_chosen P N n kept keys zero system_ports g = g
+in_chosen P N n kept keys (suc k) system_ports g =
+    let mid = after_choices keys k system_ports in in_choose P N n kept keys mid k (slice_get mid k) refl (in_chosen P N n kept keys k system_ports g)
 
-in_same : (P : Machines → Type 0) (N : Type 0) (n : ℕ) (old new : SystemState) → new.slots ≡ old.slots → In P N n old.slots → In P N n new.slots
+in_same : (P : Machines → Type 0) (N : Type 0) (n : ℕ) (old new : SystemState) → new.system_ports ≡ old.system_ports → In P N n old.system_ports → In P N n new.system_ports
 in_same P N n old new e g = subst (In P N n) (sym e) g
 
-in_settling : (P : Machines → Type 0) (N : Type 0) (n : ℕ) → IsKept P → (old new : SystemState) → Settling old new → In P N n old.slots → In P N n new.slots
+in_settling : (P : Machines → Type 0) (N : Type 0) (n : ℕ) → IsKept P → (old new : SystemState) → Settling old new → In P N n old.system_ports → In P N n new.system_ports
 in_settling P N n kept old new h g =
     let one = h.0 in
     let two = h.2.0 in
     let three = h.2.2.0 in
     let four = h.2.2.2.0 in
     let five = h.2.2.2.2.0 in
-    let ready = λ (p : Machines). ready_of three.keys (views three.slots) p.choice in
-    let g1 = in_each P P N (RunsToRest (mux_rows false)) n (kept.mux false) old.slots one.slots h.1.0 g in
-    let g2 = in_same P N n (with_slots one (chosen one.keys (length one.slots) one.slots)) two (same_slots (with_slots one (chosen one.keys (length one.slots) one.slots)) two h.2.1) (in_chosen P N n kept one.keys (length one.slots) one.slots g1) in
+    let ready = λ (p : Machines). ready_of three.keys (views three.system_ports) p.choice in
+    let g1 = in_each P P N (RunsToRest (mux_rows false)) n (kept.mux false) old.system_ports one.system_ports h.1.0 g in
+    let g2 = in_same P N n (with_system_ports one (after_choices one.keys (length one.system_ports) one.system_ports)) two (same_slots (with_system_ports one (after_choices one.keys (length one.system_ports) one.system_ports)) two h.2.1) (in_chosen P N n kept one.keys (length one.system_ports) one.system_ports g1) in
     let g3 = in_same P N n two three (same_slots two three h.2.2.1) g2 in
-    let g4 = in_each P P N (λ p q. RunsToRest (mux_rows (ready p)) p q) n (λ p q d. kept.mux (ready p) p q d) three.slots four.slots h.2.2.2.1.0 g3 in
-    let g5 = in_each P P N RunsPeriodic n kept.periodic four.slots five.slots h.2.2.2.2.1.0 g4 in
+    let g4 = in_each P P N (λ p q. RunsToRest (mux_rows (ready p)) p q) n (λ p q d. kept.mux (ready p) p q d) three.system_ports four.system_ports h.2.2.2.1.0 g3 in
+    let g5 = in_each P P N RunsPeriodic n kept.periodic four.system_ports five.system_ports h.2.2.2.2.1.0 g4 in
     in_same P N n five new (last_slots old new h) g5
 
 good_kept : (now : ℕ) (before : List ℕ) → IsKept (λ p. Good now p before)
@@ -180,20 +180,20 @@ good_kept now before = record {
 
 -- the calls' own effects
 
-in_place : (P : Machines → Type 0) (N : Type 0) (n : ℕ) (R : Machines → Machines → Type 0) → ((p q : Machines) → R p q → P p → P q) → (o : Option ℕ) (old new : List SystemPort) → PortAtGoes R o old new → In P N n old → In P N n new
+in_place : (P : Machines → Type 0) (N : Type 0) (n : ℕ) (R : Machines → Machines → Type 0) → ((p q : Machines) → R p q → P p → P q) → (o : Option ℕ) (old new : List SystemPort) → PortAtChangesBy R o old new → In P N n old → In P N n new
 in_place P N n R move None old new h g = absurd h
 in_place P N n R move (Some i) old new h g =
     subst (In P N n) (sym h.4) (in_set P N n old i h.0 (record h.0 { port = h.1 }) h.2 refl (move h.0.port h.1 h.3) g)
 
-in_on_port : (P : Machines → Type 0) (N : Type 0) (n : ℕ) → IsKept P → (R : Machines → Machines → Type 0) → ((p q : Machines) → R p q → P p → P q) → (o : Option ℕ) (old new : SystemState) → Settled (OnPort o R) old new
-    → In P N n old.slots → In P N n new.slots
-in_on_port P N n kept R move o old new h g = in_settling P N n kept h.0 new h.2 (in_place P N n R move o old.slots h.0.slots h.1.0 g)
+in_on_port : (P : Machines → Type 0) (N : Type 0) (n : ℕ) → IsKept P → (R : Machines → Machines → Type 0) → ((p q : Machines) → R p q → P p → P q) → (o : Option ℕ) (old new : SystemState) → ThenSettles (OnlyPortChangesBy o R) old new
+    → In P N n old.system_ports → In P N n new.system_ports
+in_on_port P N n kept R move o old new h g = in_settling P N n kept h.0 new h.2 (in_place P N n R move o old.system_ports h.0.system_ports h.1.0 g)
 
-in_does : (P : Machines → Type 0) (N : Type 0) (n : ℕ) → IsKept P → (heard : FrameEffect) (number : ℕ) (o : Option ℕ) (old : SystemState) (answer : Received) (new : SystemState) → Performs heard number o old answer new
-    → In P N n old.slots → In P N n new.slots
-in_does P N n kept (Taken v) number o old answer new h g = in_on_port P N n kept (TakesLacpdu v) (kept.take v) o old new h.1 g
-in_does P N n kept (Response m) number o old answer new h g = in_same P N n old new (releases_slots (is_for old number m) number m old answer new h) g
-in_does P N n kept (Answered heard) number o old answer new h g = in_same P N n old new (same_slots old new h.1) g
+in_does : (P : Machines → Type 0) (N : Type 0) (n : ℕ) → IsKept P → (effect : FrameEffect) (number : ℕ) (o : Option ℕ) (old : SystemState) (answer : Received) (new : SystemState) → Performs effect number o old answer new
+    → In P N n old.system_ports → In P N n new.system_ports
+in_does P N n kept (ProcessLacpdu v) number o old answer new h g = in_on_port P N n kept (ProcessesLacpdu v) (kept.take v) o old new h.1 g
+in_does P N n kept (Response m) number o old answer new h g = in_same P N n old new (releases_slots (is_own_response old number m) number m old answer new h) g
+in_does P N n kept (Answered effect) number o old answer new h g = in_same P N n old new (same_slots old new h.1) g
 
 -- neither a tick nor a send nor a restart
 abbrev IsOther : Call → Type 0
@@ -203,38 +203,38 @@ IsOther (Transmit m) = ⊥
 IsOther call = Unit {0}
 
 in_step : (P : Machines → Type 0) (N : Type 0) (n : ℕ) → IsKept P → (gives : ℕ → ℕ → ℕ → Type 0) (old : SystemState) (call : Call) (answer : Reply) (new : SystemState) → IsOther call → Step gives old call answer new
-    → In P N n old.slots → In P N n new.slots
+    → In P N n old.system_ports → In P N n new.system_ports
 in_step P N n kept gives old (Set_link m up) (reply.SetLink (Ok done)) new o h g =
-    in_settling P N n kept h.0 new h.2 (in_place P N n (ChangesLink up) (kept.link up) (place_of m old.slots) old.slots h.0.slots h.1.0 g)
+    in_settling P N n kept h.0 new h.2 (in_place P N n (SetsPortEnabled up) (kept.link up) (port_index m old.system_ports) old.system_ports h.0.system_ports h.1.0 g)
 in_step P N n kept gives old (Set_link m up) (reply.SetLink (Err fault)) new o h g = in_same P N n old new (same_slots old new h.same) g
-in_step P N n kept gives old (Receive m octets) (reply.Receive (Ok answer)) new o h g = in_does P N n kept h.1 h.0.number (place_of m old.slots) old answer new h.4 g
+in_step P N n kept gives old (Receive m octets) (reply.Receive (Ok answer)) new o h g = in_does P N n kept h.1 h.0.number (port_index m old.system_ports) old answer new h.4 g
 in_step P N n kept gives old (Receive m octets) (reply.Receive (Err fault)) new o h g = in_same P N n old new (same_slots old new h.same) g
-in_step P N n kept gives old (Configure m change) (reply.Configure (Ok true)) new o h g = in_on_port P N n kept (ChangesParty change) (kept.party change) (place_of m old.slots) old new h g
+in_step P N n kept gives old (Configure m change) (reply.Configure (Ok true)) new o h g = in_on_port P N n kept (ChangesParty change) (kept.party change) (port_index m old.system_ports) old new h g
 in_step P N n kept gives old (Configure m change) (reply.Configure (Ok false)) new o h g = in_same P N n old new (same_slots old new h.1) g
 in_step P N n kept gives old (Configure m change) (reply.Configure (Err fault)) new o h g = in_same P N n old new (same_slots old new h.same) g
 in_step P N n kept gives old (Offer agg octets) (reply.Offer answer) new o h g = in_same P N n old new (offers_slots gives agg octets old answer new h) g
 in_step P N n kept gives old (Move_conversation agg conv to) (reply.MoveConversation answer) new o h g =
-    in_same P N n old new (becomes_slots agg conv (move_answer old agg conv to) old answer new h) g
-in_step P N n kept gives old (Force agg conv) (reply.Force answer) new o h g = in_same P N n old new (becomes_slots agg conv (force_answer old agg conv) old answer new h) g
+    in_same P N n old new (becomes_slots agg conv (system_move_result old agg conv to) old answer new h) g
+in_step P N n kept gives old (Force agg conv) (reply.Force answer) new o h g = in_same P N n old new (becomes_slots agg conv (system_force_result old agg conv) old answer new h) g
 in_step P N n kept gives old Tick answer new o h g = absurd o
 in_step P N n kept gives old Restart answer new o h g = absurd o
 in_step P N n kept gives old (Transmit m) answer new o h g = absurd o
 in_step P N n kept gives old call answer new o h g = absurd h
 
-good_settling : (n now : ℕ) (before : List ℕ) (old new : SystemState) → Settling old new → GoodIn n now before old.slots → GoodIn n now before new.slots
+good_settling : (n now : ℕ) (before : List ℕ) (old new : SystemState) → Settling old new → GoodIn n now before old.system_ports → GoodIn n now before new.system_ports
 good_settling n now before old new h g = in_settling (λ p. Good now p before) (KeepsWindow before) n (good_kept now before) old new h g
 
-good_same : (n now : ℕ) (before : List ℕ) (old new : SystemState) → new.slots ≡ old.slots → GoodIn n now before old.slots → GoodIn n now before new.slots
+good_same : (n now : ℕ) (before : List ℕ) (old new : SystemState) → new.system_ports ≡ old.system_ports → GoodIn n now before old.system_ports → GoodIn n now before new.system_ports
 good_same n now before old new e g = in_same (λ p. Good now p before) (KeepsWindow before) n old new e g
 
 -- sending
 
 -- the place of a number is that of the first port with it
-at_place : (n : ℕ) (xs : List SystemPort) (b : Bool) (k : ℕ) → nat_lt k (length xs) ≡ b → slot_at (cond b (Some k) None) xs ≡ slice_get xs k
+at_place : (n : ℕ) (xs : List SystemPort) (b : Bool) (k : ℕ) → nat_lt k (length xs) ≡ b → system_port_at (cond b (Some k) None) xs ≡ slice_get xs k
 at_place n xs true k e = refl
 at_place n xs false k e = sym (slice_get_past xs k (grind (arith, nat_tests)))
 
-found : (n : ℕ) (xs : List SystemPort) → slot_at (place_of n xs) xs ≡ find (is_numbered n) xs
+found : (n : ℕ) (xs : List SystemPort) → system_port_at (port_index n xs) xs ≡ find (is_numbered n) xs
 found n xs = let k = position_or_len (is_numbered n) xs in at_place n xs (nat_lt k (length xs)) k refl ∙ sym (find_at (is_numbered n) xs)
 
 found_set : (p : SystemPort → Bool) (xs : List SystemPort) (i : ℕ) (s t : SystemPort) → slice_get xs i ≡ Some s → ((k : ℕ) → k < i → p (get_or xs k s) ≡ false) → p t ≡ true → find p (slice_set xs i t) ≡ Some t
@@ -250,13 +250,13 @@ found_other p (x ∷ xs) zero s t e h k =
     ap (λ b. cond b (Some t) (find p xs)) k ∙ sym (ap (λ b. cond b (Some x) (find p xs)) here)
 found_other p (x ∷ xs) (suc i) s t e h k = ap (λ o. cond (p x) (Some x) o) (found_other p xs i s t e h k)
 
-good_sent : (m n now : ℕ) (before : List ℕ) (b : Bool) (xs : List SystemPort) (i : ℕ) (s t : SystemPort) → (m == n) ≡ b → place_of m xs ≡ Some i → slice_get xs i ≡ Some s → t.number ≡ s.number
+good_sent : (m n now : ℕ) (before : List ℕ) (b : Bool) (xs : List SystemPort) (i : ℕ) (s t : SystemPort) → (m == n) ≡ b → port_index m xs ≡ Some i → slice_get xs i ≡ Some s → t.number ≡ s.number
     → (Good now s.port before → Good now t.port (before ++ now ∷ [])) → GoodIn n now before xs → GoodIn n now (if b then before ++ now ∷ [] else before) (slice_set xs i t)
 good_sent m n now before true xs i s t b read_field at k send g =
     let same : m ≡ n = eqb-true m n b in
     let first = position-Some (is_numbered m) xs i s read_field in
     let numbered : (s.number == m) ≡ true = ap (is_numbered m) (sym (get_or_from_slice_get xs i s s at)) ∙ first.1 in
-    let old : find (is_numbered m) xs ≡ Some s = sym (found m xs) ∙ ap (λ o. slot_at o xs) read_field ∙ at in
+    let old : find (is_numbered m) xs ≡ Some s = sym (found m xs) ∙ ap (λ o. system_port_at o xs) read_field ∙ at in
     let new : find (is_numbered m) (slice_set xs i t) ≡ Some t = found_set (is_numbered m) xs i s t at first.2 (ap (λ j. j == m) k ∙ numbered) in
     let g' : GoodIn m now before xs = subst (λ j. GoodIn j now before xs) (sym same) g in
     subst (λ j. GoodIn j now (before ++ now ∷ []) (slice_set xs i t)) same
@@ -267,10 +267,10 @@ good_sent m n now before false xs i s t b read_field at k send g =
     let other : (s.number == n) ≡ false = ap (λ j. j == n) numbered ∙ b in
     subst (λ o. GoodAt now before (port_in o)) (sym (found_other (is_numbered n) xs i s t at other (ap (λ j. j == n) k ∙ other))) g
 
-good_sends : (now : ℕ) (before : List ℕ) (p : Machines) → is_due p ≡ true → Good now p before → Good now (sent p) (before ++ now ∷ [])
+good_sends : (now : ℕ) (before : List ℕ) (p : Machines) → is_due p ≡ true → Good now p before → Good now (after_sending p) (before ++ now ∷ [])
 good_sends now before p due g =
-    subst (λ b. Good now (sent p) (if b then before ++ now ∷ [] else before)) due
-    (good_call now (port.Transmit 0) p (sent p) before (sym (ap (λ b. if b then sent p else p) due)) g)
+    subst (λ b. Good now (after_sending p) (if b then before ++ now ∷ [] else before)) due
+    (good_call now (port.Transmit 0) p (after_sending p) before (sym (ap (λ b. if b then after_sending p else p) due)) g)
 
 -- the octet behind the header of a control frame
 subtype_of : (mac payload : List ℕ) (k : ℕ) → IsAddress mac → HoldsNumber payload (read_field 0 1 k) → subtype (frame_octets mac payload) ≡ k
@@ -300,32 +300,32 @@ other_kind m n now before = with_false (m == n)
     with_false false = refl
 
 good_marker : (m n now : ℕ) (before : List ℕ) (o : Option ℕ) (number : ℕ) (mac : List ℕ) (old : SystemState) (answer : Option (List ℕ)) (new : SystemState) → SendsMarkerOf o number mac old answer new
-    → GoodIn n now before old.slots → GoodIn n now (after_transmit m n now before answer) new.slots
+    → GoodIn n now before old.system_ports → GoodIn n now (after_transmit m n now before answer) new.system_ports
 good_marker m n now before None number mac old answer new h g =
-    subst (λ a. GoodIn n now (after_transmit m n now before a) new.slots) (sym h.0) (good_same n now before old new (same_slots old new h.1) g)
+    subst (λ a. GoodIn n now (after_transmit m n now before a) new.system_ports) (sym h.0) (good_same n now before old new (same_slots old new h.1) g)
 good_marker m n now before (Some id) number mac old answer new h g =
-    let kind : subtype (frame_octets mac h.0) ≡ 2 = subtype_of mac h.0 2 h.1 h.2.table.stands.0 in
+    let kind : subtype (frame_octets mac h.0) ≡ 2 = subtype_of mac h.0 2 h.1 h.2.table.fields_hold.0 in
     let none : after_transmit m n now before (Some (frame_octets mac h.0)) ≡ before = ap (after_frame m n before now) kind ∙ other_kind m n now before in
-    subst (λ a. GoodIn n now (after_transmit m n now before a) new.slots) (sym h.3)
-    (subst (λ sends. GoodIn n now sends new.slots) (sym none) (good_same n now before old new (ap (λ (x : SystemState). x.slots) h.5) g))
+    subst (λ a. GoodIn n now (after_transmit m n now before a) new.system_ports) (sym h.3)
+    (subst (λ sends. GoodIn n now sends new.system_ports) (sym none) (good_same n now before old new (ap (λ (x : SystemState). x.system_ports) h.5) g))
 
-good_where : (m n now : ℕ) (before : List ℕ) (up due : Bool) (i : ℕ) (slot : SystemPort) (old : SystemState) (answer : Option (List ℕ)) (new : SystemState)
-    → is_due slot.port ≡ due → place_of m old.slots ≡ Some i → slice_get old.slots i ≡ Some slot → SendsWhere up due i slot old answer new
-    → GoodIn n now before old.slots → GoodIn n now (after_transmit m n now before answer) new.slots
-good_where m n now before false due i slot old answer new d at e h g =
-    subst (λ a. GoodIn n now (after_transmit m n now before a) new.slots) (sym h.0) (good_same n now before old new (same_slots old new h.1) g)
-good_where m n now before true false i slot old answer new d at e h g = good_marker m n now before (marker_due old.table slot.number) slot.number slot.mac old answer new h g
-good_where m n now before true true i slot old answer new d at e h g =
+good_where : (m n now : ℕ) (before : List ℕ) (up due : Bool) (i : ℕ) (system_port : SystemPort) (old : SystemState) (answer : Option (List ℕ)) (new : SystemState)
+    → is_due system_port.port ≡ due → port_index m old.system_ports ≡ Some i → slice_get old.system_ports i ≡ Some system_port → TransmitsIf up due i system_port old answer new
+    → GoodIn n now before old.system_ports → GoodIn n now (after_transmit m n now before answer) new.system_ports
+good_where m n now before false due i system_port old answer new d at e h g =
+    subst (λ a. GoodIn n now (after_transmit m n now before a) new.system_ports) (sym h.0) (good_same n now before old new (same_slots old new h.1) g)
+good_where m n now before true false i system_port old answer new d at e h g = good_marker m n now before (marker_due old.table system_port.number) system_port.number system_port.mac old answer new h g
+good_where m n now before true true i system_port old answer new d at e h g =
     let payload = h.1.0 in
-    let kind : subtype h.0 ≡ 1 = ap subtype h.1.3 ∙ subtype_of slot.mac payload 1 h.1.1 h.1.2.table.stands.0 in
+    let kind : subtype h.0 ≡ 1 = ap subtype h.1.3 ∙ subtype_of system_port.mac payload 1 h.1.1 h.1.2.table.fields_hold.0 in
     let one : after_transmit m n now before (Some h.0) ≡ (if m == n then before ++ now ∷ [] else before) = ap (after_frame m n before now) kind ∙ first_kind m n now before in
-    let set : new.slots ≡ slice_set old.slots i (record slot { port = sent slot.port }) = ap (λ (x : SystemState). x.slots) h.3 in
-    let sent_on = good_sent m n now before (m == n) old.slots i slot (record slot { port = sent slot.port }) refl at e refl (good_sends now before slot.port d) g in
-    subst (λ a. GoodIn n now (after_transmit m n now before a) new.slots) (sym h.2)
-    (subst (λ sends. GoodIn n now sends new.slots) (sym one) (subst (GoodIn n now (if m == n then before ++ now ∷ [] else before)) (sym set) sent_on))
+    let set : new.system_ports ≡ slice_set old.system_ports i (record system_port { port = after_sending system_port.port }) = ap (λ (x : SystemState). x.system_ports) h.3 in
+    let sent_on = good_sent m n now before (m == n) old.system_ports i system_port (record system_port { port = after_sending system_port.port }) refl at e refl (good_sends now before system_port.port d) g in
+    subst (λ a. GoodIn n now (after_transmit m n now before a) new.system_ports) (sym h.2)
+    (subst (λ sends. GoodIn n now sends new.system_ports) (sym one) (subst (GoodIn n now (if m == n then before ++ now ∷ [] else before)) (sym set) sent_on))
 
-good_transmit : (m n now : ℕ) (before : List ℕ) (o : Option ℕ) (old : SystemState) (answer : Option (List ℕ)) (new : SystemState) → place_of m old.slots ≡ o → SendsAt o old answer new
-    → GoodIn n now before old.slots → GoodIn n now (after_transmit m n now before answer) new.slots
+good_transmit : (m n now : ℕ) (before : List ℕ) (o : Option ℕ) (old : SystemState) (answer : Option (List ℕ)) (new : SystemState) → port_index m old.system_ports ≡ o → TransmitsAt o old answer new
+    → GoodIn n now before old.system_ports → GoodIn n now (after_transmit m n now before answer) new.system_ports
 good_transmit m n now before None old answer new at h g = absurd h
 good_transmit m n now before (Some i) old answer new at h g = good_where m n now before h.0.port.enabled (is_due h.0.port) i h.0 old answer new refl at h.1 h.2 g
 
@@ -348,10 +348,10 @@ IsEmpty p = p.ages ≡ []
 empty_kept : IsKept IsEmpty
 empty_kept = ages_kept (λ ages. ages ≡ [])
 
-empty_start : (s : Setup) (p : Machines) → Starts (blank s) p → IsEmpty p
-empty_start s p h = starts-ages (blank s) p h
+empty_start : (s : Setup) (p : Machines) → Starts (before_start s) p → IsEmpty p
+empty_start s p h = starts-ages (before_start s) p h
 
-empty_new : (n : ℕ) (system : SystemId) (ports : List PortConfig) (slots : List SystemPort) → AllZip (IsNew system) ports slots → In IsEmpty Unit n slots
+empty_new : (n : ℕ) (system : SystemId) (ports : List PortConfig) (system_ports : List SystemPort) → AllZip (HasJustStarted system) ports system_ports → In IsEmpty Unit n system_ports
 empty_new n system [] [] h = tt
 empty_new n system [] (s ∷ ss) h = absurd h
 empty_new n system (c ∷ cs) [] h = absurd h
@@ -363,8 +363,8 @@ empty_new n system (c ∷ cs) (s ∷ ss) h =
     at_unit None = tt
     at_unit (Some p) = tt
 
-empty_first : (n : ℕ) (s : SystemState) → IsFirst s → In IsEmpty Unit n s.slots
-empty_first n s h = in_settling IsEmpty Unit n empty_kept (with_slots s h.0) s h.2 (empty_new n s.system s.ports h.0 h.1)
+empty_first : (n : ℕ) (s : SystemState) → IsFirst s → In IsEmpty Unit n s.system_ports
+empty_first n s h = in_settling IsEmpty Unit n empty_kept (with_system_ports s h.0) s h.2 (empty_new n s.system s.ports h.0 h.1)
 
 since_empty : (o : Option Machines) → At IsEmpty Unit o → AgesSince 0 o
 since_empty None h = tt
@@ -382,20 +382,20 @@ none_kept : (o : Option Machines) → At IsEmpty Unit o → remembered_sends 0 o
 none_kept None h = refl
 none_kept (Some p) h = ap (sent_before 0) h
 
-good_first : (n : ℕ) (s : SystemState) → IsFirst s → GoodIn n 0 [] s.slots
+good_first : (n : ℕ) (s : SystemState) → IsFirst s → GoodIn n 0 [] s.system_ports
 good_first n s h =
-    let o = port_in (find (is_numbered n) s.slots) in
+    let o = port_in (find (is_numbered n) s.system_ports) in
     let e = empty_first n s h in subst (λ before. GoodAt 0 before o) (none_kept o e) (good_few 0 o (since_empty o e) (three_empty o e))
 
 -- runs
 
 good_step : (gives : ℕ → ℕ → ℕ → Type 0) (n now : ℕ) (before : List ℕ) (old : SystemState) (call : Call) (answer : Reply) (new : SystemState) → Step gives old call answer new
-    → GoodIn n now before old.slots → GoodIn n (tick_after call now) (sends_after n now call answer before) new.slots
+    → GoodIn n now before old.system_ports → GoodIn n (tick_after call now) (sends_after n now call answer before) new.system_ports
 good_step gives n now before old Tick reply.Tick new h g =
     good_settling n (now + 1) before h.0 new h.2
-    (in_each (λ p. Good now p before) (λ p. Good (now + 1) p before) (KeepsWindow before) (λ p q. RunsToRest receive_rows (count_down p) q) n (λ p q d. good_call now port.Tick p q before d) old.slots h.0.slots h.1.0 g)
+    (in_each (λ p. Good now p before) (λ p. Good (now + 1) p before) (KeepsWindow before) (λ p q. RunsToRest receive_rows (count_down p) q) n (λ p q d. good_call now port.Tick p q before d) old.system_ports h.0.system_ports h.1.0 g)
 good_step gives n now before old Restart reply.Restart new h g = good_first n new h.1
-good_step gives n now before old (Transmit m) (reply.Transmit (Ok answer)) new h g = good_transmit m n now before (place_of m old.slots) old answer new refl h g
+good_step gives n now before old (Transmit m) (reply.Transmit (Ok answer)) new h g = good_transmit m n now before (port_index m old.system_ports) old answer new refl h g
 good_step gives n now before old (Transmit m) (reply.Transmit (Err fault)) new h g = good_same n now before old new (same_slots old new h.same) g
 good_step gives n now before old (Set_link m up) answer new h g = in_step (λ p. Good now p before) (KeepsWindow before) n (good_kept now before) gives old (Set_link m up) answer new tt h g
 good_step gives n now before old (Receive m octets) answer new h g = in_step (λ p. Good now p before) (KeepsWindow before) n (good_kept now before) gives old (Receive m octets) answer new tt h g
@@ -407,26 +407,26 @@ good_step gives n now before old (Force agg conv) answer new h g = in_step (λ p
 good_step gives n now before old call answer new h g = absurd h
 
 good_run : (gives : ℕ → ℕ → ℕ → Type 0) (n now : ℕ) (before : List ℕ) (old new : SystemState) (calls : List Call) (replies : List Reply) → TableRun gives old calls replies new
-    → GoodIn n now before old.slots → StaysWindowed n now before calls replies
-good_run gives n now before old new [] [] h g = good_end now before (port_in (find (is_numbered n) old.slots)) g
+    → GoodIn n now before old.system_ports → StaysWindowed n now before calls replies
+good_run gives n now before old new [] [] h g = good_end now before (port_in (find (is_numbered n) old.system_ports)) g
 good_run gives n now before old new [] (r ∷ rs) h g = absurd h
 good_run gives n now before old new (c ∷ cs) [] h g = absurd h
 good_run gives n now before old new (c ∷ cs) (r ∷ rs) h g =
-    (good_end now before (port_in (find (is_numbered n) old.slots)) g, good_run gives n (tick_after c now) (sends_after n now c r before) h.0 new cs rs h.2 (good_step gives n now before old c r h.0 h.1 g))
+    (good_end now before (port_in (find (is_numbered n) old.system_ports)) g, good_run gives n (tick_after c now) (sends_after n now c r before) h.0 new cs rs h.2 (good_step gives n now before old c r h.0 h.1 g))
 
 pub window_law : (gives : ℕ → ℕ → ℕ → Type 0) → SystemWindowLaw gives
 window_law gives old new calls replies three run n now since =
     let o = machines_of n old in
     let g = good_few now o since (three n) in
-    good_run gives n now (remembered_sends now o) old new calls replies run (subst (λ x. GoodAt now (remembered_sends now o) (port_in x)) (found n old.slots) g)
+    good_run gives n now (remembered_sends now o) old new calls replies run (subst (λ x. GoodAt now (remembered_sends now o) (port_in x)) (found n old.system_ports) g)
 
 pub window_from_start : (gives : ℕ → ℕ → ℕ → Type 0) → WindowFromStart gives
 window_from_start gives n old new calls replies first run = good_run gives n 0 [] old new calls replies run (good_first n old first)
 
 empty_of : (n : ℕ) (s : SystemState) → IsFirst s → At IsEmpty Unit (machines_of n s)
-empty_of n s h = subst (λ x. At IsEmpty Unit (port_in x)) (sym (found n s.slots)) (empty_first n s h)
+empty_of n s h = subst (λ x. At IsEmpty Unit (port_in x)) (sym (found n s.system_ports)) (empty_first n s h)
 
-pub starts_empty : StartsEmpty
+pub starts_empty : StartsWithoutAges
 starts_empty n s h = let e = empty_of n s h in (since_empty (machines_of n s) e, none_kept (machines_of n s) e)
 
 -- each port keeps at most three ages
@@ -445,31 +445,31 @@ aged_few (a ∷ more) = omega (arith, aged_first (nat_lt (a + 1) 11) (a + 1) (le
 tick_few : (p q : Machines) → RunsToRest receive_rows (count_down p) q → IsFew p → IsFew q
 tick_few p q d h = subst (λ ages. length ages ≤ 3) (sym (settles-same (count_down p) q d)) (omega (arith, aged_few p.ages, h))
 
-sent_few : (p : Machines) → is_due p ≡ true → IsFew (sent p)
+sent_few : (p : Machines) → is_due p ≡ true → IsFew (after_sending p)
 sent_few p due =
     let below : nat_lt (length p.ages) 3 ≡ true = (and_parts p.ntt (nat_lt (length p.ages) 3) due).1 in
     let few : length p.ages < 3 = grind (arith, nat_tests) in
     omega (arith, few, length-append p.ages (0 ∷ []))
 
 abbrev FewIn : ℕ → List SystemPort → Type 0
-FewIn n slots = In IsFew Unit n slots
+FewIn n system_ports = In IsFew Unit n system_ports
 
-few_same : (n : ℕ) (old new : SystemState) → new.slots ≡ old.slots → FewIn n old.slots → FewIn n new.slots
+few_same : (n : ℕ) (old new : SystemState) → new.system_ports ≡ old.system_ports → FewIn n old.system_ports → FewIn n new.system_ports
 few_same n old new e g = in_same IsFew Unit n old new e g
 
-few_marker : (n : ℕ) (o : Option ℕ) (number : ℕ) (mac : List ℕ) (old : SystemState) (answer : Option (List ℕ)) (new : SystemState) → SendsMarkerOf o number mac old answer new → FewIn n old.slots → FewIn n new.slots
+few_marker : (n : ℕ) (o : Option ℕ) (number : ℕ) (mac : List ℕ) (old : SystemState) (answer : Option (List ℕ)) (new : SystemState) → SendsMarkerOf o number mac old answer new → FewIn n old.system_ports → FewIn n new.system_ports
 few_marker n None number mac old answer new h g = few_same n old new (same_slots old new h.1) g
-few_marker n (Some id) number mac old answer new h g = few_same n old new (ap (λ (x : SystemState). x.slots) h.5) g
+few_marker n (Some id) number mac old answer new h g = few_same n old new (ap (λ (x : SystemState). x.system_ports) h.5) g
 
-few_where : (n : ℕ) (up due : Bool) (i : ℕ) (slot : SystemPort) (old : SystemState) (answer : Option (List ℕ)) (new : SystemState) → is_due slot.port ≡ due → slice_get old.slots i ≡ Some slot → SendsWhere up due i slot old answer new
-    → FewIn n old.slots → FewIn n new.slots
-few_where n false due i slot old answer new d e h g = few_same n old new (same_slots old new h.1) g
-few_where n true false i slot old answer new d e h g = few_marker n (marker_due old.table slot.number) slot.number slot.mac old answer new h g
-few_where n true true i slot old answer new d e h g =
-    let set : new.slots ≡ slice_set old.slots i (record slot { port = sent slot.port }) = ap (λ (x : SystemState). x.slots) h.3 in
-    subst (FewIn n) (sym set) (in_set IsFew Unit n old.slots i slot (record slot { port = sent slot.port }) e refl (λ _. sent_few slot.port d) g)
+few_where : (n : ℕ) (up due : Bool) (i : ℕ) (system_port : SystemPort) (old : SystemState) (answer : Option (List ℕ)) (new : SystemState) → is_due system_port.port ≡ due → slice_get old.system_ports i ≡ Some system_port → TransmitsIf up due i system_port old answer new
+    → FewIn n old.system_ports → FewIn n new.system_ports
+few_where n false due i system_port old answer new d e h g = few_same n old new (same_slots old new h.1) g
+few_where n true false i system_port old answer new d e h g = few_marker n (marker_due old.table system_port.number) system_port.number system_port.mac old answer new h g
+few_where n true true i system_port old answer new d e h g =
+    let set : new.system_ports ≡ slice_set old.system_ports i (record system_port { port = after_sending system_port.port }) = ap (λ (x : SystemState). x.system_ports) h.3 in
+    subst (FewIn n) (sym set) (in_set IsFew Unit n old.system_ports i system_port (record system_port { port = after_sending system_port.port }) e refl (λ _. sent_few system_port.port d) g)
 
-few_transmit : (n : ℕ) (o : Option ℕ) (old : SystemState) (answer : Option (List ℕ)) (new : SystemState) → SendsAt o old answer new → FewIn n old.slots → FewIn n new.slots
+few_transmit : (n : ℕ) (o : Option ℕ) (old : SystemState) (answer : Option (List ℕ)) (new : SystemState) → TransmitsAt o old answer new → FewIn n old.system_ports → FewIn n new.system_ports
 few_transmit n None old answer new h g = absurd h
 few_transmit n (Some i) old answer new h g = few_where n h.0.port.enabled (is_due h.0.port) i h.0 old answer new refl h.1 h.2 g
 
@@ -480,10 +480,10 @@ at_few (Some p) h = subst (λ ages. length ages ≤ 3) (sym h) (omega arith)
 few_kept : IsKept IsFew
 few_kept = ages_kept (λ ages. length ages ≤ 3)
 
-few_step : (n : ℕ) (gives : ℕ → ℕ → ℕ → Type 0) (old : SystemState) (call : Call) (answer : Reply) (new : SystemState) → Step gives old call answer new → FewIn n old.slots → FewIn n new.slots
-few_step n gives old Tick reply.Tick new h g = in_settling IsFew Unit n few_kept h.0 new h.2 (in_each IsFew IsFew Unit (λ p q. RunsToRest receive_rows (count_down p) q) n tick_few old.slots h.0.slots h.1.0 g)
-few_step n gives old Restart reply.Restart new h g = at_few (port_in (find (is_numbered n) new.slots)) (empty_first n new h.1)
-few_step n gives old (Transmit m) (reply.Transmit (Ok answer)) new h g = few_transmit n (place_of m old.slots) old answer new h g
+few_step : (n : ℕ) (gives : ℕ → ℕ → ℕ → Type 0) (old : SystemState) (call : Call) (answer : Reply) (new : SystemState) → Step gives old call answer new → FewIn n old.system_ports → FewIn n new.system_ports
+few_step n gives old Tick reply.Tick new h g = in_settling IsFew Unit n few_kept h.0 new h.2 (in_each IsFew IsFew Unit (λ p q. RunsToRest receive_rows (count_down p) q) n tick_few old.system_ports h.0.system_ports h.1.0 g)
+few_step n gives old Restart reply.Restart new h g = at_few (port_in (find (is_numbered n) new.system_ports)) (empty_first n new h.1)
+few_step n gives old (Transmit m) (reply.Transmit (Ok answer)) new h g = few_transmit n (port_index m old.system_ports) old answer new h g
 few_step n gives old (Transmit m) (reply.Transmit (Err fault)) new h g = few_same n old new (same_slots old new h.same) g
 few_step n gives old (Set_link m up) answer new h g = in_step IsFew Unit n few_kept gives old (Set_link m up) answer new tt h g
 few_step n gives old (Receive m octets) answer new h g = in_step IsFew Unit n few_kept gives old (Receive m octets) answer new tt h g
@@ -506,5 +506,5 @@ first_three s h n = three_empty (machines_of n s) (empty_of n s h)
 
 pub Step-three : (gives : ℕ → ℕ → ℕ → Type 0) (old : SystemState) (call : Call) (answer : Reply) (new : SystemState) → Step gives old call answer new → EachAtMostThreeAges old → EachAtMostThreeAges new
 Step-three gives old call answer new h three n =
-    let before : FewIn n old.slots = subst (λ x. At IsFew Unit (port_in x)) (found n old.slots) (few_from (machines_of n old) (three n)) in
-    three_from (machines_of n new) (subst (λ x. At IsFew Unit (port_in x)) (sym (found n new.slots)) (few_step n gives old call answer new h before))
+    let before : FewIn n old.system_ports = subst (λ x. At IsFew Unit (port_in x)) (found n old.system_ports) (few_from (machines_of n old) (three n)) in
+    three_from (machines_of n new) (subst (λ x. At IsFew Unit (port_in x)) (sym (found n new.system_ports)) (few_step n gives old call answer new h before))

@@ -4,7 +4,7 @@ use Rattle.lagsystem.specs.declared.drive.Call.{Call as Asked}
 use Rattle.lagsystem.specs.declared.drive.Call.TheVariants as asked
 use Rattle.lagsystem.specs.declared.drive.Reply.{Reply}
 use Rattle.lagsystem.specs.Calls.{Call, Receive, Tick, Set_link, Configure, Restart, Transmit, Offer, Move_conversation, Force}
-use Rattle.lagsystem.specs.Sound.{Answers}
+use Rattle.lagsystem.specs.Sound.{CallPromise}
 use Rattle.lagsystem.specs.State.{SystemState}
 
 -- an argument of `drive` as a call
@@ -23,6 +23,6 @@ call_of (asked.Force agg conv) = Force agg conv
 abbrev pub Drives : (ℕ → ℕ → ℕ → Type 0) → SystemState → List Call → List Reply → SystemState → Type 0
 Drives gives old [] [] new = new ≡ old
 Drives gives old (call ∷ calls) (answer ∷ answers) new =
-    (mid : SystemState) × Answers gives old call answer mid × Drives gives mid calls answers new
+    (mid : SystemState) × CallPromise gives old call answer mid × Drives gives mid calls answers new
 Drives gives old [] (answer ∷ answers) new = ⊥
 Drives gives old (call ∷ calls) [] new = ⊥

@@ -4,17 +4,17 @@ use Rattle.std.specs.List.{AllZip}
 use Rattle.lagtypes.specs.declared.identifiers.Key.{Key}
 use Rattle.lagtypes.specs.declared.identifiers.SystemId.{SystemId}
 use Rattle.portmachines.specs.declared.port.Setup.{Setup}
-use Rattle.portmachines.specs.Start.{Starts, blank}
+use Rattle.portmachines.specs.Start.{Starts, before_start}
 use Rattle.lagsystem.specs.declared.config.Config.{Config}
 use Rattle.lagsystem.specs.declared.config.PortConfig.{PortConfig}
 use Rattle.lagsystem.specs.declared.fault.BadConfig.{BadConfig}
 use Rattle.lagsystem.specs.declared.fault.BadConfig.TheVariants.{Ports, Aggregators, PortNumber}
 use Rattle.lagsystem.specs.declared.fault.SystemFault.{SystemFault}
 use Rattle.lagsystem.specs.declared.fault.SystemFault.TheVariants.{NoMemory, BadConfig as Bad}
-use Rattle.lagsystem.specs.declared.slots.SystemPort.{SystemPort}
+use Rattle.lagsystem.specs.declared.system_ports.SystemPort.{SystemPort}
 use Rattle.distributor.specs.Conversations.{first_table}
 use Rattle.lagsystem.specs.Settling.{Settling}
-use Rattle.lagsystem.specs.State.{SystemState, with_slots}
+use Rattle.lagsystem.specs.State.{SystemState, with_system_ports}
 
 -- the start values of a port's machines, from its configuration
 abbrev pub setup_of : SystemId → PortConfig → Setup
@@ -31,13 +31,13 @@ setup_of system c =
     }
 
 -- a port that has just started, with its link down
-abbrev pub IsNew : SystemId → PortConfig → SystemPort → Type 0
-IsNew system c slot = (slot.number ≡ c.number) × (slot.mac ≡ c.mac) × Starts (blank (setup_of system c)) slot.port
+abbrev pub HasJustStarted : SystemId → PortConfig → SystemPort → Type 0
+HasJustStarted system c system_port = (system_port.number ≡ c.number) × (system_port.mac ≡ c.mac) × Starts (before_start (setup_of system c)) system_port.port
 
 -- every port has just started, and one settling followed; every conversation is free, and the next marker is the first
 abbrev pub IsFirst : SystemState → Type 0
 IsFirst s =
-    (start : List SystemPort) × AllZip (IsNew s.system) s.ports start × Settling (with_slots s start) s
+    (start : List SystemPort) × AllZip (HasJustStarted s.system) s.ports start × Settling (with_system_ports s start) s
     × (s.table ≡ first_table (length s.keys) s.first_marker)
 
 -- the state has this configuration

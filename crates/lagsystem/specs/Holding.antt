@@ -5,14 +5,14 @@ use Rattle.lagtypes.specs.declared.identifiers.AggId.{AggId}
 use Rattle.distributor.specs.declared.assignment.Assignment.{Assignment}
 use Rattle.distributor.specs.declared.assignment.Assignment.TheVariants.{On, Wanted}
 use Rattle.distributor.specs.Conversations.{assignment_of}
-use Rattle.lagsystem.specs.declared.slots.SystemPort.{SystemPort}
+use Rattle.lagsystem.specs.declared.system_ports.SystemPort.{SystemPort}
 use Rattle.lagsystem.specs.Readers.{collecting, distributes_in}
 use Rattle.lagsystem.specs.Sound.{IsSound}
 use Rattle.lagsystem.specs.State.{SystemState, port_numbers}
 
 -- for each port, in order: the aggregator in which it distributes, or None
 abbrev pub aggregators_in_use : List SystemPort → List (Option AggId)
-aggregators_in_use slots = map (λ s. collecting s.port) slots
+aggregators_in_use system_ports = map (λ s. collecting s.port) system_ports
 
 -- the port distributed in an aggregator, and no longer does
 abbrev pub has_stopped : Option AggId → SystemPort → Bool
@@ -21,9 +21,9 @@ has_stopped (Some agg) s = not (distributes_in agg s)
 
 -- the port with this number is one of those that stopped
 abbrev pub stopped : List (Option AggId) → List SystemPort → ℕ → Bool
-stopped [] slots p = false
+stopped [] system_ports p = false
 stopped (was ∷ before) [] p = false
-stopped (was ∷ before) (s ∷ slots) p = ((s.number == p) && has_stopped was s) || stopped before slots p
+stopped (was ∷ before) (s ∷ system_ports) p = ((s.number == p) && has_stopped was s) || stopped before system_ports p
 
 -- a conversation that is On one of these ports becomes Wanted on it
 abbrev pub after_holding : (ℕ → Bool) → Assignment → Assignment
@@ -35,6 +35,6 @@ after_holding leaves s = s
 pub record WereInUse (were : List (Option AggId)) (s : SystemState) : Type 0 where
   pub old : SystemState
   pub sound : IsSound old
-  pub before : were ≡ aggregators_in_use old.slots
-  pub same : port_numbers s.slots ≡ port_numbers old.slots
+  pub before : were ≡ aggregators_in_use old.system_ports
+  pub same : port_numbers s.system_ports ≡ port_numbers old.system_ports
   pub carried : (g k p : ℕ) → assignment_of s.table g k ≡ On p → assignment_of old.table g k ≡ On p

@@ -5,19 +5,19 @@ use Rattle.portmachines.specs.Transmit.{is_due}
 use Rattle.distributor.specs.declared.assignment.Assignment.{Assignment}
 use Rattle.distributor.specs.Changes.{marker_due}
 use Rattle.distributor.specs.Conversations.{assignment_of}
-use Rattle.lagsystem.specs.declared.slots.SystemPort.{SystemPort}
+use Rattle.lagsystem.specs.declared.system_ports.SystemPort.{SystemPort}
 use Rattle.lagsystem.specs.Offers.{has_aggregator}
 use Rattle.lagsystem.specs.Readers.{conversation_count}
-use Rattle.lagsystem.specs.State.{SystemState, place_of, slot_at}
+use Rattle.lagsystem.specs.State.{SystemState, port_index, system_port_at}
 
 -- the state of a conversation of an aggregator; None if there is none of this number
 abbrev pub conversation_at : SystemState → AggId → ℕ → Option Assignment
 conversation_at s agg conv = if has_aggregator s agg && nat_lt conv (conversation_count s) then Some (assignment_of s.table agg.0 conv) else None
 
 -- a frame is due on the port: its link is up, and an LACPDU is due or a marker is
-abbrev pub has_due : SystemState → SystemPort → Bool
-has_due s slot = slot.port.enabled && (is_due slot.port || is_some (marker_due s.table slot.number))
+abbrev pub would_transmit : SystemState → SystemPort → Bool
+would_transmit s system_port = system_port.port.enabled && (is_due system_port.port || is_some (marker_due s.table system_port.number))
 
 -- whether a frame is due on the port with this number; None if there is none
-abbrev pub due_of : ℕ → SystemState → Option Bool
-due_of n s = option_map (has_due s) (slot_at (place_of n s.slots) s.slots)
+abbrev pub would_transmit_at : ℕ → SystemState → Option Bool
+would_transmit_at n s = option_map (would_transmit s) (system_port_at (port_index n s.system_ports) s.system_ports)

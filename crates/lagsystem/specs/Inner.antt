@@ -10,7 +10,7 @@ inner_state c = record {
   first_marker = c.distributor.table.first;
   keys = c.aggregators;
   ports = c.ports.items;
-  slots = c.slots.items;
+  system_ports = c.system_ports.items;
   table = c.distributor.table;
 }
 

@@ -13,8 +13,8 @@ pub mod Holding
 pub mod Inner
 pub mod Windows
 pub mod Drives
-pub mod Quiet
-pub mod Again
+pub mod NothingToSettle
+pub mod SecondSettling
 pub mod Hosts
 pub mod Due
 pub mod Texts

@@ -24,13 +24,13 @@ use Rattle.portmachines.specs.declared.receive.ReceiveState.TheVariants.{Expired
 use Rattle.portmachines.specs.Machines.{Machines}
 use Rattle.portmachines.specs.Mux.{same_mux_state, is_synchronized, partner_synchronized, selected}
 use Rattle.portmachines.specs.Receive.{same_receive_state}
-use Rattle.lagmodel.specs.View.{PortFacts, View, Flows, SystemSetup, ControlMessage, LacpMessage, Lacp, ModelCall}
-use Rattle.lagmodel.specs.Move.{Act, Sends, Sends_frame, Took, FreeMoves}
+use Rattle.lagmodel.specs.View.{PortFacts, View, DistributorFacts, SystemSetup, ControlMessage, LacpMessage, Lacp, ModelCall}
+use Rattle.lagmodel.specs.Move.{Act, Sends, Sends_frame, Took, LawfulMoves}
 use Rattle.lagmodel.specs.Bridge.{ports_of, find_number}
 use Rattle.lagsystem.specs.declared.received.Received.TheVariants.{TookLacpdu, Respond}
 use Rattle.lagsystem.specs.declared.config.PortConfig.{PortConfig}
-use Rattle.lagsystem.specs.declared.slots.SystemPort.{SystemPort}
-use Rattle.distributor.specs.Moves.{model_flows}
+use Rattle.lagsystem.specs.declared.system_ports.SystemPort.{SystemPort}
+use Rattle.distributor.specs.Moves.{model_distributor}
 use Rattle.lagsystem.specs.State.{SystemState}
 use Rattle.lagsystem.specs.First.{setup_of, configured_number}
 use Rattle.lagsystem.specs.declared.drive.Reply.{Reply}
@@ -56,20 +56,20 @@ model_port p = record {
 }
 
 -- the number of a port of a system
-abbrev pub number : SystemPort → ℕ
-number s = s.number
+abbrev pub number_of_port : SystemPort → ℕ
+number_of_port s = s.number
 
 -- a port of a system, as the model has it
 abbrev pub model_port_of : SystemPort → PortFacts
 model_port_of s = model_port s.port
 
 -- the view of a system with these conversations and ports
-abbrev pub model_view_at : Flows → List SystemPort → View
-model_view_at f slots = record { port = ports_of number model_port_of slots; flows = f }
+abbrev pub model_view_at : DistributorFacts → List SystemPort → View
+model_view_at f system_ports = record { port = ports_of number_of_port model_port_of system_ports; flows = f }
 
 -- a system, as the model has it
 abbrev pub model_view : SystemState → View
-model_view s = model_view_at (model_flows s.table) s.slots
+model_view s = model_view_at (model_distributor s.table) s.system_ports
 
 -- the key of an aggregator; aggregators are numbered from 1
 abbrev pub key_of : List Key → ℕ → Option Key
@@ -138,12 +138,12 @@ EffectsSeenAs s (Transmit n) (reply.Transmit (Ok (Some frame))) acts = (payload 
 EffectsSeenAs s (Offer agg octets) (reply.Offer (Ok port)) acts = acts ≡ Sends_frame port agg.0 (number_of_conversation s octets) ∷ []
 EffectsSeenAs s call answer acts = acts ≡ []
 
--- the model allows this call: its free moves lead from the view before the call to the view after it, with just these
+-- the model allows this call: its lawful moves lead from the view before the call to the view after it, with just these
 -- visible acts
-abbrev pub JoinedByFreeMoves : SystemState → Call → Reply → SystemState → Type 0
-JoinedByFreeMoves old call reply new =
+abbrev pub JoinedByLawfulMoves : SystemState → Call → Reply → SystemState → Type 0
+JoinedByLawfulMoves old call reply new =
     (model_call : ModelCall) × (acts : List Act) × CallSeenAs call model_call × EffectsSeenAs old call reply acts
-    × FreeMoves (model_setup old) model_call (model_view old) acts (model_view new)
+    × LawfulMoves (model_setup old) model_call (model_view old) acts (model_view new)
 
 -- the receive states in which an LACPDU is processed
 abbrev pub can_receive_in : ReceiveState → Bool
@@ -164,12 +164,12 @@ mux_consistent p = mux_consistent_of p.mux (selected p) (partner_synchronized p)
 
 -- every port whose link is up is in a state in which it processes LACPDUs
 abbrev pub AllCanReceive : List SystemPort → Type 0
-AllCanReceive slots = AllByRecursion (λ x. can_receive x.port ≡ true) slots
+AllCanReceive system_ports = AllByRecursion (λ x. can_receive x.port ≡ true) system_ports
 
 -- the mux machine of every port fits its Selected and its partner
 abbrev pub MuxesConsistent : List SystemPort → Type 0
-MuxesConsistent slots = AllByRecursion (λ x. mux_consistent x.port ≡ true) slots
+MuxesConsistent system_ports = AllByRecursion (λ x. mux_consistent x.port ≡ true) system_ports
 
 -- these hold of each port after every call
 abbrev pub PortsConsistent : List SystemPort → Type 0
-PortsConsistent slots = AllCanReceive slots × MuxesConsistent slots
+PortsConsistent system_ports = AllCanReceive system_ports × MuxesConsistent system_ports

@@ -2,19 +2,19 @@
 use Rattle.std.specs.Prelude.{◌≡◌, ℕ, Bool, IsTrue, ◌&&◌, List, length, nat_le, nat_lt, if◌then◌else◌, is_some, Result, Ok, Err}
 use Rattle.std.specs.Bool.{IsFalse}
 use Rattle.lagtypes.specs.declared.identifiers.AggId.{AggId}
-use Rattle.slowpdu.specs.Frames.{IsSlow}
+use Rattle.slowpdu.specs.Frames.{IsSlowProtocolsFrame}
 use Rattle.distributor.specs.declared.assignment.Assignment.{Assignment}
 use Rattle.distributor.specs.declared.assignment.Assignment.TheVariants.{On}
 use Rattle.distributor.specs.declared.fault.DistFault.{DistFault}
 use Rattle.distributor.specs.declared.fault.DistFault.TheVariants as dist
 use Rattle.distributor.specs.Calls.{Assigns, force_result, move_result}
-use Rattle.distributor.specs.Changes.{Sets}
+use Rattle.distributor.specs.Changes.{SetsAssignment}
 use Rattle.distributor.specs.Conversations.{next_identifier, assignment_of}
 use Rattle.lagsystem.specs.declared.fault.SystemFault.{SystemFault}
 use Rattle.lagsystem.specs.declared.fault.SystemFault.TheVariants.{NoPort, NoAggregator, FrameLength, SlowFrame}
 use Rattle.lagsystem.specs.Faults.{system_fault}
 use Rattle.lagsystem.specs.Readers.{number_of_conversation, conversation_count, distributing}
-use Rattle.lagsystem.specs.State.{SystemState, with_table, place_of}
+use Rattle.lagsystem.specs.State.{SystemState, with_table, port_index}
 
 -- the longest frame that may be offered: a full frame with one VLAN tag, in octets
 unfoldable pub longest_frame : ℕ
@@ -29,30 +29,30 @@ abbrev pub is_frame_length : List ℕ → Bool
 is_frame_length octets = nat_le 14 (length octets) && nat_le (length octets) longest_frame
 
 -- the state of the conversation of a frame
-abbrev pub state_for : SystemState → AggId → List ℕ → Assignment
-state_for s agg octets = assignment_of s.table agg.0 (number_of_conversation s octets)
+abbrev pub assignment_of_frame : SystemState → AggId → List ℕ → Assignment
+assignment_of_frame s agg octets = assignment_of s.table agg.0 (number_of_conversation s octets)
 
 -- one conversation gets this state, and nothing else changes
-abbrev pub TakesState : AggId → ℕ → Assignment → SystemState → SystemState → Type 0
-TakesState agg conv state old new = Sets old.table new.table agg.0 conv state × (new ≡ with_table old new.table)
+abbrev pub GivesAssignment : AggId → ℕ → Assignment → SystemState → SystemState → Type 0
+GivesAssignment agg conv state old new = SetsAssignment old.table new.table agg.0 conv state × (new ≡ with_table old new.table)
 
 -- a frame that may be offered: 14 to 1518 octets, and not a slow protocols frame
-abbrev pub MayBeSent : List ℕ → Type 0
-MayBeSent octets = IsTrue (is_frame_length octets) × (IsSlow octets → ⊥)
+abbrev pub MayBeOffered : List ℕ → Type 0
+MayBeOffered octets = IsTrue (is_frame_length octets) × (IsSlowProtocolsFrame octets → ⊥)
 
 -- a frame that may not be offered, with the first fault that holds
 abbrev pub RefusesFrame : List ℕ → SystemFault → Type 0
 RefusesFrame octets FrameLength = IsFalse (is_frame_length octets)
-RefusesFrame octets SlowFrame = IsTrue (is_frame_length octets) × IsSlow octets
+RefusesFrame octets SlowFrame = IsTrue (is_frame_length octets) × IsSlowProtocolsFrame octets
 RefusesFrame octets fault = ⊥
 
 -- a frame that may be offered, for an aggregator that exists
-abbrev pub IsOffered : SystemState → AggId → List ℕ → Type 0
-IsOffered s agg octets = IsTrue (has_aggregator s agg) × MayBeSent octets
+abbrev pub MayBeOfferedTo : SystemState → AggId → List ℕ → Type 0
+MayBeOfferedTo s agg octets = IsTrue (has_aggregator s agg) × MayBeOffered octets
 
 -- what the distributor returns for the frame; it picks among the ports that distribute in the aggregator
 abbrev pub AssignsPort : (ℕ → ℕ → ℕ → Type 0) → SystemState → AggId → List ℕ → Result ℕ DistFault → Type 0
-AssignsPort gives s agg octets answer = Assigns gives (number_of_conversation s octets) (distributing agg s.slots) (state_for s agg octets) answer
+AssignsPort gives s agg octets answer = Assigns gives (number_of_conversation s octets) (distributing agg s.system_ports) (assignment_of_frame s agg octets) answer
 
 -- an offered frame is refused with the first fault that holds
 abbrev pub RefusesOffer : (ℕ → ℕ → ℕ → Type 0) → SystemState → AggId → List ℕ → SystemFault → Type 0
@@ -60,17 +60,17 @@ RefusesOffer gives s agg octets NoAggregator = IsFalse (has_aggregator s agg)
 RefusesOffer gives s agg octets FrameLength = IsTrue (has_aggregator s agg) × RefusesFrame octets FrameLength
 RefusesOffer gives s agg octets SlowFrame = IsTrue (has_aggregator s agg) × RefusesFrame octets SlowFrame
 RefusesOffer gives s agg octets fault =
-    (cause : DistFault) × IsOffered s agg octets × AssignsPort gives s agg octets (Err cause) × (fault ≡ system_fault cause)
+    (cause : DistFault) × MayBeOfferedTo s agg octets × AssignsPort gives s agg octets (Err cause) × (fault ≡ system_fault cause)
 
 -- a frame is to be sent on a port, and its conversation is now on that port; or it is refused, and nothing changes
 abbrev pub Offers : (ℕ → ℕ → ℕ → Type 0) → AggId → List ℕ → SystemState → Result ℕ SystemFault → SystemState → Type 0
 Offers gives agg octets old (Ok port) new =
-    IsOffered old agg octets × AssignsPort gives old agg octets (Ok port) × TakesState agg (number_of_conversation old octets) (On port) old new
+    MayBeOfferedTo old agg octets × AssignsPort gives old agg octets (Ok port) × GivesAssignment agg (number_of_conversation old octets) (On port) old new
 Offers gives agg octets old (Err fault) new = RefusesOffer gives old agg octets fault × (new ≡ old)
 
 -- the second argument if the conversation has a number from 0 to 255, else NotAssigned
-abbrev pub known : SystemState → ℕ → Result Assignment DistFault → Result Assignment DistFault
-known s conv answer = if nat_lt conv (conversation_count s) then answer else Err dist.NotAssigned
+abbrev pub or_not_assigned : SystemState → ℕ → Result Assignment DistFault → Result Assignment DistFault
+or_not_assigned s conv answer = if nat_lt conv (conversation_count s) then answer else Err dist.NotAssigned
 
 -- what the distributor returns, with its refusal as a fault of the system
 abbrev pub in_system : Result Assignment DistFault → Result Assignment SystemFault
@@ -78,19 +78,19 @@ in_system (Ok state) = Ok state
 in_system (Err fault) = Err (system_fault fault)
 
 -- the state of a conversation after it is moved to a port, or why the move is refused
-abbrev pub move_answer : SystemState → AggId → ℕ → ℕ → Result Assignment SystemFault
-move_answer s agg conv port =
+abbrev pub system_move_result : SystemState → AggId → ℕ → ℕ → Result Assignment SystemFault
+system_move_result s agg conv port =
     if has_aggregator s agg
-    then (if is_some (place_of port s.slots)
-    then in_system (known s conv (move_result (next_identifier s.table) (distributing agg s.slots) port (assignment_of s.table agg.0 conv)))
+    then (if is_some (port_index port s.system_ports)
+    then in_system (or_not_assigned s conv (move_result (next_identifier s.table) (distributing agg s.system_ports) port (assignment_of s.table agg.0 conv)))
     else Err NoPort)
     else Err NoAggregator
 
 -- the state of a conversation after it is freed by force, or why that is refused
-abbrev pub force_answer : SystemState → AggId → ℕ → Result Assignment SystemFault
-force_answer s agg conv = if has_aggregator s agg then in_system (known s conv (force_result (assignment_of s.table agg.0 conv))) else Err NoAggregator
+abbrev pub system_force_result : SystemState → AggId → ℕ → Result Assignment SystemFault
+system_force_result s agg conv = if has_aggregator s agg then in_system (or_not_assigned s conv (force_result (assignment_of s.table agg.0 conv))) else Err NoAggregator
 
 -- the conversation gets this state; or the call is refused, and nothing changes
-abbrev pub Becomes : AggId → ℕ → Result Assignment SystemFault → SystemState → Result Unit SystemFault → SystemState → Type 0
-Becomes agg conv (Ok state) old answer new = (answer ≡ Ok tt) × TakesState agg conv state old new
-Becomes agg conv (Err fault) old answer new = (answer ≡ Err fault) × (new ≡ old)
+abbrev pub GivesOrRefuses : AggId → ℕ → Result Assignment SystemFault → SystemState → Result Unit SystemFault → SystemState → Type 0
+GivesOrRefuses agg conv (Ok state) old answer new = (answer ≡ Ok tt) × GivesAssignment agg conv state old new
+GivesOrRefuses agg conv (Err fault) old answer new = (answer ≡ Err fault) × (new ≡ old)

@@ -10,7 +10,7 @@ use Rattle.portmachines.specs.Machines.{Machines}
 use Rattle.portmachines.specs.Mux.{same_mux_state}
 use Rattle.selection.specs.Views.{has_chosen}
 use Rattle.slowpdu.specs.Parties.{party_of}
-use Rattle.lagsystem.specs.declared.slots.SystemPort.{SystemPort}
+use Rattle.lagsystem.specs.declared.system_ports.SystemPort.{SystemPort}
 use Rattle.lagsystem.specs.State.{SystemState}
 
 -- the Link Aggregation Group of a port: from its own and its recorded partner's parameters
@@ -36,7 +36,7 @@ aggregator_numbered g = record { 0 = g }
 
 -- the numbers of the ports that distribute in the aggregator, ascending
 abbrev pub distributing : AggId → List SystemPort → List ℕ
-distributing agg slots = map (λ s. s.number) (filter (distributes_in agg) slots)
+distributing agg system_ports = map (λ s. s.number) (filter (distributes_in agg) system_ports)
 
 -- how many conversations each aggregator has; they are numbered from 0 (profile)
 abbrev pub conversation_count : SystemState → ℕ

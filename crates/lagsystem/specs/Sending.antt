@@ -7,10 +7,10 @@ use Rattle.slowpdu.specs.Lacpdus.{Writes}
 use Rattle.slowpdu.specs.Layout.{IsAddress}
 use Rattle.slowpdu.specs.Markers.{WritesMarker}
 use Rattle.portmachines.specs.Machines.{Machines}
-use Rattle.portmachines.specs.Transmit.{is_due, pdu_of, sent}
+use Rattle.portmachines.specs.Transmit.{is_due, pdu_of, after_sending}
 use Rattle.distributor.specs.Changes.{Marks, marker_due}
-use Rattle.lagsystem.specs.declared.slots.SystemPort.{SystemPort}
-use Rattle.lagsystem.specs.State.{SystemState, with_slots, with_table}
+use Rattle.lagsystem.specs.declared.system_ports.SystemPort.{SystemPort}
+use Rattle.lagsystem.specs.State.{SystemState, with_system_ports, with_table}
 
 -- the Marker PDU of the system with this identifier, for a port
 abbrev pub own_marker : SystemState → ℕ → ℕ → Marker
@@ -18,14 +18,14 @@ own_marker s port id = record { kind = Information; port = port; system = s.syst
 
 -- the octets are a control frame from the port's address with its LACPDU
 abbrev pub IsLacpduOf : ℕ → SystemPort → List ℕ → Type 0
-IsLacpduOf max_delay slot octets =
-    (payload : List ℕ) × IsAddress slot.mac × Writes payload (pdu_of slot.port max_delay) × (octets ≡ frame_octets slot.mac payload)
+IsLacpduOf max_delay system_port octets =
+    (payload : List ℕ) × IsAddress system_port.mac × Writes payload (pdu_of system_port.port max_delay) × (octets ≡ frame_octets system_port.mac payload)
 
 -- the LACPDU of the port at this index is sent, and nothing else changes
 abbrev pub SendsLacpdu : ℕ → SystemPort → SystemState → Option (List ℕ) → SystemState → Type 0
-SendsLacpdu i slot old answer new =
-    (octets : List ℕ) × IsLacpduOf old.max_delay slot octets × (answer ≡ Some octets)
-    × (new ≡ with_slots old (slice_set old.slots i (record slot { port = sent slot.port })))
+SendsLacpdu i system_port old answer new =
+    (octets : List ℕ) × IsLacpduOf old.max_delay system_port octets × (answer ≡ Some octets)
+    × (new ≡ with_system_ports old (slice_set old.system_ports i (record system_port { port = after_sending system_port.port })))
 
 -- a marker with this identifier is sent on the port, from this MAC address; without an identifier nothing is sent
 abbrev pub SendsMarkerOf : Option ℕ → ℕ → List ℕ → SystemState → Option (List ℕ) → SystemState → Type 0
@@ -39,27 +39,27 @@ abbrev pub SendsMarker : ℕ → List ℕ → SystemState → Option (List ℕ) 
 SendsMarker port mac old answer new = SendsMarkerOf (marker_due old.table port) port mac old answer new
 
 -- What transmit does on the port at index i. The first argument: its link is up; the second: an LACPDU is due.
-abbrev pub SendsWhere : Bool → Bool → ℕ → SystemPort → SystemState → Option (List ℕ) → SystemState → Type 0
-SendsWhere false due i slot old answer new = (answer ≡ None) × (new ≡ old)
-SendsWhere true true i slot old answer new = SendsLacpdu i slot old answer new
-SendsWhere true false i slot old answer new = SendsMarker slot.number slot.mac old answer new
+abbrev pub TransmitsIf : Bool → Bool → ℕ → SystemPort → SystemState → Option (List ℕ) → SystemState → Type 0
+TransmitsIf false due i system_port old answer new = (answer ≡ None) × (new ≡ old)
+TransmitsIf true true i system_port old answer new = SendsLacpdu i system_port old answer new
+TransmitsIf true false i system_port old answer new = SendsMarker system_port.number system_port.mac old answer new
 
 -- while the link is up: an LACPDU is sent if one is due, else a marker if one is due, else nothing
-abbrev pub SendsFrom : ℕ → SystemPort → SystemState → Option (List ℕ) → SystemState → Type 0
-SendsFrom i slot old answer new = SendsWhere slot.port.enabled (is_due slot.port) i slot old answer new
+abbrev pub PortTransmits : ℕ → SystemPort → SystemState → Option (List ℕ) → SystemState → Type 0
+PortTransmits i system_port old answer new = TransmitsIf system_port.port.enabled (is_due system_port.port) i system_port old answer new
 
 -- what transmit does on the port at this index
-abbrev pub SendsAt : Option ℕ → SystemState → Option (List ℕ) → SystemState → Type 0
-SendsAt None old answer new = ⊥
-SendsAt (Some i) old answer new = (slot : SystemPort) × (slice_get old.slots i ≡ Some slot) × SendsFrom i slot old answer new
+abbrev pub TransmitsAt : Option ℕ → SystemState → Option (List ℕ) → SystemState → Type 0
+TransmitsAt None old answer new = ⊥
+TransmitsAt (Some i) old answer new = (system_port : SystemPort) × (slice_get old.system_ports i ≡ Some system_port) × PortTransmits i system_port old answer new
 
 -- the port sends the LACPDU that is due, and its machines change so; or none is due, and they stay
-abbrev pub SendsIfDue : ℕ → SystemPort → Option (List ℕ) → Machines → Type 0
-SendsIfDue max_delay slot None port = (is_due slot.port ≡ false) × (port ≡ slot.port)
-SendsIfDue max_delay slot (Some octets) port = (is_due slot.port ≡ true) × IsLacpduOf max_delay slot octets × (port ≡ sent slot.port)
+abbrev pub SendsLacpduIfDue : ℕ → SystemPort → Option (List ℕ) → Machines → Type 0
+SendsLacpduIfDue max_delay system_port None port = (is_due system_port.port ≡ false) × (port ≡ system_port.port)
+SendsLacpduIfDue max_delay system_port (Some octets) port = (is_due system_port.port ≡ true) × IsLacpduOf max_delay system_port octets × (port ≡ after_sending system_port.port)
 
 -- in the list, the port at this index sends the LACPDU that is due, if one is, and the other ports stay
-abbrev pub PortSendsIfDue : ℕ → ℕ → Option (List ℕ) → List SystemPort → List SystemPort → Type 0
-PortSendsIfDue max_delay i answer olds news =
-    (slot : SystemPort) × (port : Machines) × (slice_get olds i ≡ Some slot) × SendsIfDue max_delay slot answer port
-    × (news ≡ slice_set olds i (record slot { port = port }))
+abbrev pub PortSendsLacpduIfDue : ℕ → ℕ → Option (List ℕ) → List SystemPort → List SystemPort → Type 0
+PortSendsLacpduIfDue max_delay i answer olds news =
+    (system_port : SystemPort) × (port : Machines) × (slice_get olds i ≡ Some system_port) × SendsLacpduIfDue max_delay system_port answer port
+    × (news ≡ slice_set olds i (record system_port { port = port }))

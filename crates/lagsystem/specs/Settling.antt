@@ -11,55 +11,55 @@ use Rattle.portmachines.specs.Mux.{mux_rows}
 use Rattle.portmachines.specs.Periodic.{RunsPeriodic}
 use Rattle.selection.specs.declared.view.PortView.{PortView}
 use Rattle.selection.specs.Views.{is_eligible}
-use Rattle.selection.specs.Choice.{choice}
+use Rattle.selection.specs.Choice.{chosen_aggregator}
 use Rattle.selection.specs.Ready.{is_ready}
-use Rattle.lagsystem.specs.declared.slots.SystemPort.{SystemPort}
+use Rattle.lagsystem.specs.declared.system_ports.SystemPort.{SystemPort}
 use Rattle.distributor.specs.declared.assignment.Assignment.{Assignment}
 use Rattle.distributor.specs.declared.assignment.Assignment.TheVariants.{On, Wanted}
 use Rattle.distributor.specs.Calls.{distributes}
 use Rattle.distributor.specs.Conversations.{assignment_of}
 use Rattle.lagsystem.specs.Readers.{aggregator_numbered, distributing}
 use Rattle.lagsystem.specs.Views.{selection_view, views}
-use Rattle.lagsystem.specs.State.{SystemState, with_slots, with_table}
+use Rattle.lagsystem.specs.State.{SystemState, with_system_ports, with_table}
 
 -- the port keeps its number and its MAC address, and its machines change by the relation
-abbrev pub PortGoes : (Machines → Machines → Type 0) → SystemPort → SystemPort → Type 0
-PortGoes R old new = (new ≡ record old { port = new.port }) × R old.port new.port
+abbrev pub PortChangesBy : (Machines → Machines → Type 0) → SystemPort → SystemPort → Type 0
+PortChangesBy R old new = (new ≡ record old { port = new.port }) × R old.port new.port
 
 -- in the list, the machines of every port change by the relation
-abbrev pub PortsGo : (Machines → Machines → Type 0) → List SystemPort → List SystemPort → Type 0
-PortsGo R old new = AllZip (PortGoes R) old new
+abbrev pub PortsChangeBy : (Machines → Machines → Type 0) → List SystemPort → List SystemPort → Type 0
+PortsChangeBy R old new = AllZip (PortChangesBy R) old new
 
 -- every port changes by the relation, and nothing else changes
-abbrev pub EachPort : (Machines → Machines → Type 0) → SystemState → SystemState → Type 0
-EachPort R old new = PortsGo R old.slots new.slots × (new ≡ with_slots old new.slots)
+abbrev pub OnlyPortsChangeBy : (Machines → Machines → Type 0) → SystemState → SystemState → Type 0
+OnlyPortsChangeBy R old new = PortsChangeBy R old.system_ports new.system_ports × (new ≡ with_system_ports old new.system_ports)
 
 -- 1. every mux machine runs with Ready false
 abbrev pub RunsMuxNotReady : SystemState → SystemState → Type 0
-RunsMuxNotReady old new = EachPort (RunsToRest (mux_rows false)) old new
+RunsMuxNotReady old new = OnlyPortsChangeBy (RunsToRest (mux_rows false)) old new
 
 -- the port, SELECTED with this aggregator if there is one
-abbrev pub given : SystemPort → Option AggId → SystemPort
-given slot None = slot
-given slot (Some agg) = record slot { port = record slot.port { choice = Selected agg } }
+abbrev pub with_choice : SystemPort → Option AggId → SystemPort
+with_choice system_port None = system_port
+with_choice system_port (Some agg) = record system_port { port = record system_port.port { choice = Selected agg } }
 
 -- the aggregator that a port chooses, if it is eligible
 abbrev pub aggregator_for : List Key → List SystemPort → SystemPort → Option AggId
-aggregator_for keys slots slot = if is_eligible (selection_view slot) then choice keys (views slots) slot.number else None
+aggregator_for keys system_ports system_port = if is_eligible (selection_view system_port) then chosen_aggregator keys (views system_ports) system_port.number else None
 
 -- the ports after the one at this index has chosen an aggregator, if it is eligible
-abbrev pub choose_slot : List Key → List SystemPort → ℕ → Option SystemPort → List SystemPort
-choose_slot keys slots place None = slots
-choose_slot keys slots place (Some slot) = slice_set slots place (given slot (aggregator_for keys slots slot))
+abbrev pub after_choice_at : List Key → List SystemPort → ℕ → Option SystemPort → List SystemPort
+after_choice_at keys system_ports index None = system_ports
+after_choice_at keys system_ports index (Some system_port) = slice_set system_ports index (with_choice system_port (aggregator_for keys system_ports system_port))
 
 -- the first n ports have chosen their aggregators, one after another; each sees the choices made before it
-abbrev pub chosen : List Key → ℕ → List SystemPort → List SystemPort
-chosen keys zero slots = slots
-chosen keys (suc n) slots = choose_slot keys (chosen keys n slots) n (slice_get (chosen keys n slots) n)
+abbrev pub after_choices : List Key → ℕ → List SystemPort → List SystemPort
+after_choices keys zero system_ports = system_ports
+after_choices keys (suc n) system_ports = after_choice_at keys (after_choices keys n system_ports) n (slice_get (after_choices keys n system_ports) n)
 
 -- 2. each eligible port, ascending, chooses its aggregator
 abbrev pub Chooses : SystemState → SystemState → Type 0
-Chooses old new = new ≡ with_slots old (chosen old.keys (length old.slots) old.slots)
+Chooses old new = new ≡ with_system_ports old (after_choices old.keys (length old.system_ports) old.system_ports)
 
 -- Ready of the aggregator that the port has chosen; false if it has chosen none
 abbrev pub ready_of : List Key → List PortView → Choice → Bool
@@ -68,16 +68,16 @@ ready_of keys seen (Selected agg) = is_ready keys seen agg
 
 -- 3. Ready is worked out for each aggregator in this state; step 4 uses these values; nothing changes in
 -- this step
-abbrev pub TakesReady : SystemState → SystemState → Type 0
-TakesReady old new = new ≡ old
+abbrev pub WorksOutReady : SystemState → SystemState → Type 0
+WorksOutReady old new = new ≡ old
 
 -- 4. every mux machine runs with Ready as step 3 worked it out
 abbrev pub RunsMux : SystemState → SystemState → Type 0
-RunsMux old new = EachPort (λ p q. RunsToRest (mux_rows (ready_of old.keys (views old.slots) p.choice)) p q) old new
+RunsMux old new = OnlyPortsChangeBy (λ p q. RunsToRest (mux_rows (ready_of old.keys (views old.system_ports) p.choice)) p q) old new
 
 -- 5. every periodic machine runs
 abbrev pub RunsAllPeriodic : SystemState → SystemState → Type 0
-RunsAllPeriodic old new = EachPort RunsPeriodic old new
+RunsAllPeriodic old new = OnlyPortsChangeBy RunsPeriodic old new
 
 -- a conversation that is On a port that is not in the list becomes Wanted on it
 abbrev pub held_unless_on : List ℕ → Assignment → Assignment
@@ -91,7 +91,7 @@ pub record HoldsConversations (old new : SystemState) : Type 0 where
   pub aggs : new.table.aggs ≡ old.table.aggs
   pub first : new.table.first ≡ old.table.first
   pub next : new.table.next ≡ old.table.next
-  pub states : (g k : ℕ) → assignment_of new.table g k ≡ held_unless_on (distributing (aggregator_numbered g) old.slots) (assignment_of old.table g k)
+  pub states : (g k : ℕ) → assignment_of new.table g k ≡ held_unless_on (distributing (aggregator_numbered g) old.system_ports) (assignment_of old.table g k)
 
 -- these steps follow one another, from the first state to the last
 abbrev pub Follows : List (SystemState → SystemState → Type 0) → SystemState → SystemState → Type 0
@@ -100,11 +100,11 @@ Follows (step ∷ steps) old new = (mid : SystemState) × step old mid × Follow
 
 -- steps 1 to 5, which read and change ports only
 abbrev pub SettlesPorts : SystemState → SystemState → Type 0
-SettlesPorts old new = Follows (RunsMuxNotReady ∷ Chooses ∷ TakesReady ∷ RunsMux ∷ RunsAllPeriodic ∷ []) old new
+SettlesPorts old new = Follows (RunsMuxNotReady ∷ Chooses ∷ WorksOutReady ∷ RunsMux ∷ RunsAllPeriodic ∷ []) old new
 
 -- the steps of a settling, in their order
 abbrev pub six_steps : List (SystemState → SystemState → Type 0)
-six_steps = RunsMuxNotReady ∷ Chooses ∷ TakesReady ∷ RunsMux ∷ RunsAllPeriodic ∷ HoldsConversations ∷ []
+six_steps = RunsMuxNotReady ∷ Chooses ∷ WorksOutReady ∷ RunsMux ∷ RunsAllPeriodic ∷ HoldsConversations ∷ []
 
 -- one settling: seven states, each of which follows from the one before it by one of the six steps
 abbrev pub Settling : SystemState → SystemState → Type 0

@@ -7,35 +7,35 @@ use Rattle.lagmodel.specs.Law.{Members, OnePartner}
 use Rattle.distributor.specs.declared.assignment.Assignment.TheVariants.{On}
 use Rattle.distributor.specs.Calls.{distributes}
 use Rattle.distributor.specs.Conversations.{assignment_of}
-use Rattle.lagsystem.specs.declared.slots.SystemPort.{SystemPort}
+use Rattle.lagsystem.specs.declared.system_ports.SystemPort.{SystemPort}
 use Rattle.lagsystem.specs.declared.config.Config.{Config}
 use Rattle.lagsystem.specs.declared.drive.Reply.{Reply}
 use Rattle.lagsystem.specs.Calls.{Call, Step}
 use Rattle.lagsystem.specs.First.{IsConfigured, IsFirst, configured_numbers, refusal}
-use Rattle.lagsystem.specs.ModelView.{PortsConsistent, JoinedByFreeMoves, model_setup, model_port, model_view}
-use Rattle.lagsystem.specs.Quiet.{ArePaced, AreStill}
+use Rattle.lagsystem.specs.ModelView.{PortsConsistent, JoinedByLawfulMoves, model_setup, model_port, model_view}
+use Rattle.lagsystem.specs.NothingToSettle.{PeriodicsAreSettled, MuxesAreSettled}
 use Rattle.lagsystem.specs.Readers.{aggregator_numbered, distributing}
 use Rattle.lagsystem.specs.State.{SystemState, port_numbers}
-use Rattle.lagsystem.specs.Windows.{AreWindowed, EachAtMostThreeAges}
+use Rattle.lagsystem.specs.Windows.{KeepsTransmitLimit, EachAtMostThreeAges}
 
 -- the configuration is one that is accepted, and the system has just its ports, in their order
 pub record HasPorts (s : SystemState) : Type 0 where
   pub accepted : refusal s.keys s.ports ≡ None
-  pub same : port_numbers s.slots ≡ configured_numbers s.ports
+  pub same : port_numbers s.system_ports ≡ configured_numbers s.ports
 
 -- a conversation is On a port only while the port distributes in its aggregator
 abbrev pub OnlyOnDistributing : SystemState → Type 0
-OnlyOnDistributing s = (g k p : ℕ) → assignment_of s.table g k ≡ On p → distributes (distributing (aggregator_numbered g) s.slots) p ≡ true
+OnlyOnDistributing s = (g k p : ℕ) → assignment_of s.table g k ≡ On p → distributes (distributing (aggregator_numbered g) s.system_ports) p ≡ true
 
 -- what holds of every system: the invariant of `System`
 pub record IsSound (s : SystemState) : Type 0 where
   pub ports : HasPorts s
   pub aggregators : s.table.aggs ≡ length s.keys
   pub carried : OnlyOnDistributing s
-  pub rested : PortsConsistent s.slots
+  pub rested : PortsConsistent s.system_ports
   pub windowed : EachAtMostThreeAges s
   pub members : Members (model_setup s) (model_view s).port
-  pub quiet : AreStill s.keys s.slots × ArePaced s.slots
+  pub quiet : MuxesAreSettled s.keys s.system_ports × PeriodicsAreSettled s.system_ports
 
 -- the state that `new` makes of a configuration
 pub record IsMade (config : Config) (s : SystemState) : Type 0 where
@@ -45,23 +45,23 @@ pub record IsMade (config : Config) (s : SystemState) : Type 0 where
 
 -- a port distributes in the model's view exactly if its mux machine does
 abbrev pub Distribute : List SystemPort → Type 0
-Distribute slots = AllByRecursion (λ x. (model_port x.port).distributes ≡ same_mux_state CollectingDistributing x.port.mux) slots
+Distribute system_ports = AllByRecursion (λ x. (model_port x.port).distributes ≡ same_mux_state CollectingDistributing x.port.mux) system_ports
 
 -- The members of an aggregator have its key and one group (LAG ID), which is not Individual if they are two or more;
 -- ports that distribute in one aggregator name one partner system and key (6.4.14.1). The ports are those of an
 -- accepted configuration, and each keeps at most three ages of its transmit window (6.4.16).
-pub record Agrees (s : SystemState) : Type 0 where
+pub record PortsAgree (s : SystemState) : Type 0 where
   pub ports : HasPorts s
   pub windowed : EachAtMostThreeAges s
   pub members : Members (model_setup s) (model_view s).port
   pub one_partner : OnePartner (model_view s)
-  pub distribute : Distribute s.slots
+  pub distribute : Distribute s.system_ports
 
 -- What every call promises. It is a `Step`; the model allows it, with the visible acts that its reply has; each port
--- keeps its transmit limit; the ports agree after it (`Agrees`); and the configuration stays.
-pub record Answers (gives : ℕ → ℕ → ℕ → Type 0) (old : SystemState) (call : Call) (reply : Reply) (new : SystemState) : Type 0 where
+-- keeps its transmit limit; the ports agree after it (`PortsAgree`); and the configuration stays.
+pub record CallPromise (gives : ℕ → ℕ → ℕ → Type 0) (old : SystemState) (call : Call) (reply : Reply) (new : SystemState) : Type 0 where
   pub step : Step gives old call reply new
-  pub moves : JoinedByFreeMoves old call reply new
-  pub window : AreWindowed old (call ∷ []) (reply ∷ [])
-  pub agrees : Agrees new
+  pub moves : JoinedByLawfulMoves old call reply new
+  pub window : KeepsTransmitLimit old (call ∷ []) (reply ∷ [])
+  pub agrees : PortsAgree new
   pub configured : model_setup new ≡ model_setup old

@@ -5,7 +5,7 @@ use Rattle.lagtypes.specs.declared.identifiers.SystemId.{SystemId}
 use Rattle.portmachines.specs.Machines.{Machines}
 use Rattle.distributor.specs.Conversations.{Table}
 use Rattle.lagsystem.specs.declared.config.PortConfig.{PortConfig}
-use Rattle.lagsystem.specs.declared.slots.SystemPort.{SystemPort}
+use Rattle.lagsystem.specs.declared.system_ports.SystemPort.{SystemPort}
 
 -- the configuration: system identifier, CollectorMaxDelay, first marker identifier, keys of the aggregators, and the
 -- ports as they were configured; then the ports as they are now, in the same order; and the conversations
@@ -15,7 +15,7 @@ pub record SystemState : Type 0 where
   pub first_marker : ℕ
   pub keys : List Key
   pub ports : List PortConfig
-  pub slots : List SystemPort
+  pub system_ports : List SystemPort
   pub table : Table
 
 -- what contracts see of a system: its state, and the algorithm that picks the ports of conversations
@@ -24,8 +24,8 @@ pub record SystemValue (F : Type 0) : Type 0 where
   pub algorithm : F
 
 -- the state, but with these ports
-abbrev pub with_slots : SystemState → List SystemPort → SystemState
-with_slots s slots = record s { slots = slots }
+abbrev pub with_system_ports : SystemState → List SystemPort → SystemState
+with_system_ports s system_ports = record s { system_ports = system_ports }
 
 -- the state, but with these conversations
 abbrev pub with_table : SystemState → Table → SystemState
@@ -33,17 +33,17 @@ with_table s table = record s { table = table }
 
 -- the numbers of the ports, in their order
 abbrev pub port_numbers : List SystemPort → List ℕ
-port_numbers slots = map (λ s. s.number) slots
+port_numbers system_ports = map (λ s. s.number) system_ports
 
 -- the index of the port with this number
-abbrev pub place_of : ℕ → List SystemPort → Option ℕ
-place_of n slots = position (λ s. s.number == n) slots
+abbrev pub port_index : ℕ → List SystemPort → Option ℕ
+port_index n system_ports = position (λ s. s.number == n) system_ports
 
 -- the port at this index, if there is one
-abbrev pub slot_at : Option ℕ → List SystemPort → Option SystemPort
-slot_at None slots = None
-slot_at (Some i) slots = slice_get slots i
+abbrev pub system_port_at : Option ℕ → List SystemPort → Option SystemPort
+system_port_at None system_ports = None
+system_port_at (Some i) system_ports = slice_get system_ports i
 
 -- the machines of the port with this number
 abbrev pub machines_of : ℕ → SystemState → Option Machines
-machines_of n s = option_map (λ x. x.port) (slot_at (place_of n s.slots) s.slots)
+machines_of n s = option_map (λ x. x.port) (system_port_at (port_index n s.system_ports) s.system_ports)

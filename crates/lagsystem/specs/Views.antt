@@ -8,7 +8,7 @@ use Rattle.portmachines.specs.Receive.{same_receive_state}
 use Rattle.selection.specs.declared.view.PortView.{PortView}
 use Rattle.selection.specs.declared.view.Stage.{Stage}
 use Rattle.selection.specs.declared.view.Stage.TheVariants as stage
-use Rattle.lagsystem.specs.declared.slots.SystemPort.{SystemPort}
+use Rattle.lagsystem.specs.declared.system_ports.SystemPort.{SystemPort}
 
 -- how far the mux machine has come, from its state and the ticks that wait_while has left
 abbrev pub stage_of : MuxState → ℕ → Stage
@@ -32,4 +32,4 @@ selection_view s =
 
 -- what the Selection Logic reads of all ports, in their order
 abbrev pub views : List SystemPort → List PortView
-views slots = map selection_view slots
+views system_ports = map selection_view system_ports

@@ -58,18 +58,18 @@ abbrev pub EachAtMostThreeAges : SystemState → Type 0
 EachAtMostThreeAges s = (n : ℕ) → AtMostThreeAges (machines_of n s)
 
 -- each port keeps its transmit limit over these calls with these replies, from this state on
-abbrev pub AreWindowed : SystemState → List Call → List Reply → Type 0
-AreWindowed old calls replies = (n now : ℕ) → AgesSince now (machines_of n old)
+abbrev pub KeepsTransmitLimit : SystemState → List Call → List Reply → Type 0
+KeepsTransmitLimit old calls replies = (n now : ℕ) → AgesSince now (machines_of n old)
     → StaysWindowed n now (remembered_sends now (machines_of n old)) calls replies
 
 -- every list of calls keeps the limit, whatever indices the algorithm returns
 abbrev pub SystemWindowLaw : (ℕ → ℕ → ℕ → Type 0) → Type 0
 SystemWindowLaw gives = (old new : SystemState) (calls : List Call) (replies : List Reply) → EachAtMostThreeAges old → TableRun gives old calls replies new
-    → AreWindowed old calls replies
+    → KeepsTransmitLimit old calls replies
 
 -- a state that has just started keeps no age
-abbrev pub StartsEmpty : Type 0
-StartsEmpty = (n : ℕ) (s : SystemState) → IsFirst s → AgesSince 0 (machines_of n s) × (remembered_sends 0 (machines_of n s) ≡ [])
+abbrev pub StartsWithoutAges : Type 0
+StartsWithoutAges = (n : ℕ) (s : SystemState) → IsFirst s → AgesSince 0 (machines_of n s) × (remembered_sends 0 (machines_of n s) ≡ [])
 
 -- every list of calls from a start keeps the limit
 abbrev pub WindowFromStart : (ℕ → ℕ → ℕ → Type 0) → Type 0

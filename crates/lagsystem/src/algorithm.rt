@@ -15,7 +15,7 @@ impl<F: Drop> Inner<F> {
             max_delay,
             aggregators,
             ports,
-            slots,
+            system_ports,
             distributor,
         } = self;
         Inner {
@@ -23,7 +23,7 @@ impl<F: Drop> Inner<F> {
             max_delay,
             aggregators,
             ports,
-            slots,
+            system_ports,
             distributor: distributor.with_algorithm(algorithm),
         }
     }

@@ -1,10 +1,10 @@
 ghost use Rattle.std.specs.Prelude.{◌≡◌, ◌<◌, IfErr, IfOk, None};
-ghost use Rattle.distributor.specs.Calls.{PicksPlaces};
+ghost use Rattle.distributor.specs.Calls.{PicksIndexes};
 ghost use Rattle.lagsystem.specs.Calls.{Call};
 ghost use Rattle.lagsystem.specs.First.{IsConfigured, IsFirst, fault_or_no_memory, config_refusal};
 ghost use Rattle.lagsystem.specs.Readers.{number_of_conversation, conversation_count};
 ghost use Rattle.lagsystem.specs.ModelView.{model_setup, model_view};
-ghost use Rattle.lagsystem.specs.Sound.{Agrees, Answers};
+ghost use Rattle.lagsystem.specs.Sound.{PortsAgree, CallPromise};
 ghost use Rattle.lagsystem.specs.declared.drive.Reply.{Reply};
 ghost use Rattle.lagmodel.specs.View.{first_view};
 
@@ -44,14 +44,14 @@ impl<F: Fn(u16, usize) -> usize + Drop> System<F> {
     /// there are not 1 to 64 aggregators, `BadConfig(PortNumber)` if the port numbers do not ascend from 1 or more,
     /// `NoMemory` if memory is refused (profile).
     pub fn new(alloc: Global, config: Config, algorithm: F) -> Result<System<F>, SystemFault>
-        requires usable { PicksPlaces (F.pre algorithm) (F.post algorithm) }
+        requires usable { PicksIndexes (F.pre algorithm) (F.post algorithm) }
         ensures first { IfOk result (λ s. IsFirst s.state) }
         ensures accepted { IfOk result (λ s. config_refusal config ≡ None) }
         ensures configured { IfOk result (λ s. IsConfigured config s.state) }
         ensures algorithm { IfOk result (λ s. s.algorithm ≡ algorithm) }
         ensures refused { IfErr result (λ fault. fault ≡ fault_or_no_memory (config_refusal config)) }
         ensures shows { IfOk result (λ s. model_view s.state ≡ first_view (model_setup s.state)) }
-        ensures agrees { IfOk result (λ s. Agrees s.state) }
+        ensures agrees { IfOk result (λ s. PortsAgree s.state) }
     {
         let inner = Inner::new(alloc, config, algorithm)?;
         Ok(System { inner })
@@ -64,7 +64,7 @@ impl<F: Fn(u16, usize) -> usize + Drop> System<F> {
     /// response that names this system and the port on which it came frees the conversations that wait for it. Nothing
     /// else changes the system. `NoPort` if there is no such port (6.2.3, 6.4.12, 6.5.4).
     pub fn receive(&mut self, port: u16, frame: &[u8]) -> Result<Received, SystemFault>
-        ensures answers { Answers (F.post self.old.algorithm) self.old.state (Call.Receive port frame.now)
+        ensures answers { CallPromise (F.post self.old.algorithm) self.old.state (Call.Receive port frame.now)
             (Reply.Receive result) self.new.state }
         ensures algorithm { self.new.algorithm ≡ self.old.algorithm }
     {
@@ -75,7 +75,7 @@ impl<F: Fn(u16, usize) -> usize + Drop> System<F> {
     /// changes its state. A conversation whose marker was sent 30 ticks ago is Wanted again. One settling follows
     /// (6.4.10; profile).
     pub fn tick(&mut self)
-        ensures answers { Answers (F.post self.old.algorithm) self.old.state Call.Tick Reply.Tick self.new.state }
+        ensures answers { CallPromise (F.post self.old.algorithm) self.old.state Call.Tick Reply.Tick self.new.state }
         ensures algorithm { self.new.algorithm ≡ self.old.algorithm }
     {
         self.inner.tick();
@@ -85,7 +85,7 @@ impl<F: Fn(u16, usize) -> usize + Drop> System<F> {
     /// every conversation of the port is free; one settling follows. `NoPort` if there is no such port (6.4.7, 6.4.12;
     /// profile).
     pub fn set_link(&mut self, port: u16, up: bool) -> Result<(), SystemFault>
-        ensures answers { Answers (F.post self.old.algorithm) self.old.state (Call.Set_link port up) (Reply.SetLink result) self.new.state }
+        ensures answers { CallPromise (F.post self.old.algorithm) self.old.state (Call.Set_link port up) (Reply.SetLink result) self.new.state }
         ensures algorithm { self.new.algorithm ≡ self.old.algorithm }
     {
         self.inner.set_link(port, up)
@@ -95,7 +95,7 @@ impl<F: Fn(u16, usize) -> usize + Drop> System<F> {
     /// settling follows. Returns false, and changes nothing, if the port has these values already. `NoPort` if there is
     /// no such port (profile).
     pub fn configure(&mut self, port: u16, change: PortChange) -> Result<bool, SystemFault>
-        ensures answers { Answers (F.post self.old.algorithm) self.old.state (Call.Configure port change)
+        ensures answers { CallPromise (F.post self.old.algorithm) self.old.state (Call.Configure port change)
             (Reply.Configure result) self.new.state }
         ensures algorithm { self.new.algorithm ≡ self.old.algorithm }
     {
@@ -105,7 +105,7 @@ impl<F: Fn(u16, usize) -> usize + Drop> System<F> {
     /// Goes back to the state that `new` made: all links down, every conversation free, the first marker identifier
     /// next. What `configure` changed is undone. Takes no memory (profile).
     pub fn restart(&mut self)
-        ensures answers { Answers (F.post self.old.algorithm) self.old.state Call.Restart Reply.Restart self.new.state }
+        ensures answers { CallPromise (F.post self.old.algorithm) self.old.state Call.Restart Reply.Restart self.new.state }
         ensures shows { model_view self.new.state ≡ first_view (model_setup self.old.state) }
         ensures algorithm { self.new.algorithm ≡ self.old.algorithm }
     {
@@ -117,7 +117,7 @@ impl<F: Fn(u16, usize) -> usize + Drop> System<F> {
     /// else a marker, if a conversation is Wanted on the port and an identifier is left. `NoPort` if there is no such
     /// port (6.4.16, 6.5.3.3; profile).
     pub fn transmit(&mut self, port: u16) -> Result<Option<[u8; 124]>, SystemFault>
-        ensures answers { Answers (F.post self.old.algorithm) self.old.state (Call.Transmit port) (Reply.Transmit result) self.new.state }
+        ensures answers { CallPromise (F.post self.old.algorithm) self.old.state (Call.Transmit port) (Reply.Transmit result) self.new.state }
         ensures algorithm { self.new.algorithm ≡ self.old.algorithm }
     {
         self.inner.transmit(port)
@@ -128,8 +128,8 @@ impl<F: Fn(u16, usize) -> usize + Drop> System<F> {
     /// while the conversation is Wanted or Flushing; `NoneDistributing` if it is free and no port distributes in the
     /// aggregator (6.2.4; profile).
     pub fn offer(&mut self, agg: AggId, frame: &[u8]) -> Result<u16, SystemFault>
-        requires usable { PicksPlaces (F.pre self.old.algorithm) (F.post self.old.algorithm) }
-        ensures answers { Answers (F.post self.old.algorithm) self.old.state (Call.Offer agg frame.now)
+        requires usable { PicksIndexes (F.pre self.old.algorithm) (F.post self.old.algorithm) }
+        ensures answers { CallPromise (F.post self.old.algorithm) self.old.state (Call.Offer agg frame.now)
             (Reply.Offer result) self.new.state }
         ensures within { IfOk result (λ port. number_of_conversation self.old.state frame.now < conversation_count self.old.state) }
         ensures algorithm { self.new.algorithm ≡ self.old.algorithm }
@@ -137,13 +137,13 @@ impl<F: Fn(u16, usize) -> usize + Drop> System<F> {
         self.inner.offer(agg, frame)
     }
 
-    /// Moves a conversation of an aggregator to another port. A marker is wanted on its present port, and its frames
-    /// are held until the response comes, or until `force`, `restart` or a link that goes down frees it. Refused in
+    /// Moves a conversation of an aggregator to another port. A marker is wanted on its present port, and its frames are
+    /// held until the response, `force`, or that port's link going down frees it; it then prefers the new port. Refused in
     /// this order: `NoAggregator`; `NoPort`; `NotAssigned` if the conversation is free or has no number from 0 to 255;
     /// `Held` while it is Wanted or Flushing; `NotDistributing` if the port does not distribute in the aggregator;
     /// `SamePort` if it is on that port; `MarkersSpent` if no marker identifier is left (6.2.5; profile).
     pub fn move_conversation(&mut self, agg: AggId, conv: u16, port: u16) -> Result<(), SystemFault>
-        ensures answers { Answers (F.post self.old.algorithm) self.old.state (Call.Move_conversation agg conv port)
+        ensures answers { CallPromise (F.post self.old.algorithm) self.old.state (Call.Move_conversation agg conv port)
             (Reply.MoveConversation result) self.new.state }
         ensures algorithm { self.new.algorithm ≡ self.old.algorithm }
     {
@@ -154,7 +154,7 @@ impl<F: Fn(u16, usize) -> usize + Drop> System<F> {
     /// still prefers the port that it was to move to. Refused in this order: `NoAggregator`; `NotAssigned` if the
     /// conversation is free or has no number from 0 to 255 (profile).
     pub fn force(&mut self, agg: AggId, conv: u16) -> Result<(), SystemFault>
-        ensures answers { Answers (F.post self.old.algorithm) self.old.state (Call.Force agg conv) (Reply.Force result) self.new.state }
+        ensures answers { CallPromise (F.post self.old.algorithm) self.old.state (Call.Force agg conv) (Reply.Force result) self.new.state }
         ensures algorithm { self.new.algorithm ≡ self.old.algorithm }
     {
         self.inner.force(agg, conv)

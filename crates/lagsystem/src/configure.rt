@@ -2,25 +2,29 @@ ghost use Rattle.std.specs.Prelude.{◌≡◌, ◌<◌, Some, true, length};
 ghost use Rattle.std.specs.Bool.{OnFalse, OnTrue};
 ghost use Rattle.lagtypes.specs.Same.{same_party};
 ghost use Rattle.portmachines.specs.Start.{Starts};
-ghost use Rattle.lagsystem.specs.Calls.{ChangesParty, IsAtPlace, PortAtGoes, changed_party};
+ghost use Rattle.lagsystem.specs.Calls.{ChangesParty, HoldsAtIndex, PortAtChangesBy, changed_party};
 
 use crate::config::PortChange;
-use crate::slots::SystemPort;
+use crate::system_ports::SystemPort;
 use lagtypes::{Party, PortId};
 use portmachines::Port;
 
 /// Gives the port at this index another key, priority or Aggregation bit, and returns whether a value differs.
-pub(crate) fn configure_at(slots: &mut [SystemPort], place: usize, change: PortChange) -> bool
-    requires { place < length slots.old }
-    ensures acted { OnTrue result (PortAtGoes (ChangesParty change) (Some place) slots.old slots.new) }
-    ensures stays { OnFalse result (IsAtPlace (λ p. same_party (changed_party change p.party) p.party ≡ true) (Some place) slots.old) }
-    ensures unchanged { OnFalse result (slots.new ≡ slots.old) }
+pub(crate) fn configure_at(
+    system_ports: &mut [SystemPort],
+    place: usize,
+    change: PortChange,
+) -> bool
+    requires { place < length system_ports.old }
+    ensures acted { OnTrue result (PortAtChangesBy (ChangesParty change) (Some place) system_ports.old system_ports.new) }
+    ensures stays { OnFalse result (HoldsAtIndex (λ p. same_party (changed_party change p.party) p.party ≡ true) (Some place) system_ports.old) }
+    ensures unchanged { OnFalse result (system_ports.new ≡ system_ports.old) }
 {
-    if is_same(&slots[place].port, change) {
+    if is_same(&system_ports[place].port, change) {
         return false;
     }
-    let slot = &mut slots[place];
-    reinit_slot(slot, change);
+    let system_port = &mut system_ports[place];
+    reinit_slot(system_port, change);
     true
 }
 
@@ -33,12 +37,12 @@ fn is_same(port: &Port, change: PortChange) -> bool
 }
 
 /// Gives a port the changed parameters and starts its machines again (BEGIN).
-fn reinit_slot(slot: &mut SystemPort, change: PortChange)
-    ensures kept { slot.new ≡ record slot.old { port = slot.new.port } }
-    ensures port { Starts (record slot.old.port { party = changed_party change slot.old.port.party }) slot.new.port }
+fn reinit_slot(system_port: &mut SystemPort, change: PortChange)
+    ensures kept { system_port.new ≡ record system_port.old { port = system_port.new.port } }
+    ensures port { Starts (record system_port.old.port { party = changed_party change system_port.old.port.party }) system_port.new.port }
 {
-    let party = slot.port.party();
-    slot.port.reinit(changed_party(change, &party));
+    let party = system_port.port.party();
+    system_port.port.reinit(changed_party(change, &party));
 }
 
 fn changed_party(change: PortChange, party: &Party) -> Party

@@ -1,7 +1,7 @@
 ghost use Rattle.std.specs.Prelude.{◌≡◌, ◌<◌, IfSome, MatchOption, Ok, Err};
-ghost use Rattle.distributor.specs.Conversations.{next_identifier, how_many};
+ghost use Rattle.distributor.specs.Conversations.{next_identifier, count_conversations};
 ghost use Rattle.lagsystem.specs.Hosts.{conversation_at};
-ghost use Rattle.lagsystem.specs.State.{place_of};
+ghost use Rattle.lagsystem.specs.State.{port_index};
 ghost use Rattle.lagsystem.specs.Readers.{conversation_in, conversation_count};
 ghost use Rattle.distributor.specs.Chains.{names_port};
 ghost use Rattle.lagsystem.specs.declared.fault.SystemFault.{SystemFault};
@@ -35,10 +35,10 @@ impl<F: Fn(u16, usize) -> usize + Drop> System<F> {
     /// How many conversations, of all aggregators together, are On, Wanted or Flushing on a port. `NoPort` if there is
     /// no such port (profile).
     pub fn load(&self, port: u16) -> Result<u32, SystemFault>
-        ensures { MatchOption (place_of port self.now.state.slots) (result ≡ Err SystemFault.NoPort)
-            (λ place. result ≡ Ok (how_many (names_port port) self.now.state.table)) }
+        ensures { MatchOption (port_index port self.now.state.system_ports) (result ≡ Err SystemFault.NoPort)
+            (λ place. result ≡ Ok (count_conversations (names_port port) self.now.state.table)) }
     {
-        self.inner.place_of(port)?;
+        self.inner.port_index(port)?;
         Ok(self.inner.distributor.load(port))
     }
 

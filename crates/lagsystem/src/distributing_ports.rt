@@ -1,7 +1,7 @@
 ghost use Rattle.std.specs.Prelude.{◌≡◌, ◌≤◌, length};
 ghost use Rattle.lagsystem.specs.Readers.{collecting, distributes_in, distributing};
 
-use crate::slots::SystemPort;
+use crate::system_ports::SystemPort;
 use arrayvec::ArrayVec;
 use lagtypes::{AggId, Choice};
 use portmachines::Port;
@@ -17,24 +17,24 @@ pub(crate) fn collecting(port: &Port) -> Option<AggId>
 }
 
 /// Whether a port distributes in this aggregator.
-pub(crate) fn distributes_in(slot: &SystemPort, agg: AggId) -> bool
-    ensures { result ≡ distributes_in agg slot.now }
+pub(crate) fn distributes_in(system_port: &SystemPort, agg: AggId) -> bool
+    ensures { result ≡ distributes_in agg system_port.now }
 {
-    match slot.port.choice() {
-        Choice::Selected(given) => given == agg && slot.port.distributes(),
+    match system_port.port.choice() {
+        Choice::Selected(given) => given == agg && system_port.port.distributes(),
         Choice::Unselected => false,
     }
 }
 
 /// The numbers of the ports that distribute in this aggregator.
-pub(crate) fn distributing(slots: &[SystemPort], agg: AggId) -> ArrayVec<u16, 64>
-    requires { length slots.now ≤ 64 }
-    ensures { result.items ≡ distributing agg slots.now }
+pub(crate) fn distributing(system_ports: &[SystemPort], agg: AggId) -> ArrayVec<u16, 64>
+    requires { length system_ports.now ≤ 64 }
+    ensures { result.items ≡ distributing agg system_ports.now }
 {
     let mut found = ArrayVec::new();
-    for slot in slots {
-        if distributes_in(slot, agg) {
-            found.push(slot.number);
+    for system_port in system_ports {
+        if distributes_in(system_port, agg) {
+            found.push(system_port.number);
         }
     }
     found

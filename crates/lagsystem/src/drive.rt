@@ -1,8 +1,8 @@
 ghost use Rattle.std.specs.Prelude.{◌≡◌, IfOk, OnErr, map};
-ghost use Rattle.distributor.specs.Calls.{PicksPlaces};
+ghost use Rattle.distributor.specs.Calls.{PicksIndexes};
 ghost use Rattle.lagsystem.specs.Drives.{Drives, call_of};
-ghost use Rattle.lagsystem.specs.Sound.{Answers};
-ghost use Rattle.lagsystem.specs.Windows.{AreWindowed, EachAtMostThreeAges};
+ghost use Rattle.lagsystem.specs.Sound.{CallPromise};
+ghost use Rattle.lagsystem.specs.Windows.{KeepsTransmitLimit, EachAtMostThreeAges};
 
 use crate::calls::System;
 use crate::config::PortChange;
@@ -61,10 +61,10 @@ impl<F: Fn(u16, usize) -> usize + Drop> System<F> {
     /// Makes these calls in order and returns their results, one for each. `NoMemory` if memory for the results is
     /// refused; then no call was made (profile).
     pub fn drive(&mut self, alloc: Global, calls: &[Call]) -> Result<Vec<Reply>, NoMemory>
-        requires usable { PicksPlaces (F.pre self.old.algorithm) (F.post self.old.algorithm) }
+        requires usable { PicksIndexes (F.pre self.old.algorithm) (F.post self.old.algorithm) }
         ensures driven { IfOk result (λ replies. Drives (F.post self.old.algorithm) self.old.state
             (map call_of calls.now) replies.items self.new.state) }
-        ensures window { IfOk result (λ replies. AreWindowed self.old.state (map call_of calls.now) replies.items) }
+        ensures window { IfOk result (λ replies. KeepsTransmitLimit self.old.state (map call_of calls.now) replies.items) }
         ensures refused { OnErr result (self.new ≡ self.old) }
         ensures algorithm { self.new.algorithm ≡ self.old.algorithm }
     {
@@ -87,8 +87,8 @@ impl<F: Fn(u16, usize) -> usize + Drop> System<F> {
 
     /// Makes one call.
     fn dispatch(&mut self, call: &Call) -> Reply
-        requires usable { PicksPlaces (F.pre self.old.algorithm) (F.post self.old.algorithm) }
-        ensures answers { Answers (F.post self.old.algorithm) self.old.state (call_of call.now) result self.new.state }
+        requires usable { PicksIndexes (F.pre self.old.algorithm) (F.post self.old.algorithm) }
+        ensures answers { CallPromise (F.post self.old.algorithm) self.old.state (call_of call.now) result self.new.state }
         ensures algorithm { self.new.algorithm ≡ self.old.algorithm }
     {
         match call {

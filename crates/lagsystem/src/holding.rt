@@ -1,48 +1,48 @@
 ghost use Rattle.std.specs.Prelude.{◌≡◌, ◌<◌, ◌≤◌, length, slice_set};
-ghost use Rattle.distributor.specs.Changes.{Changes};
+ghost use Rattle.distributor.specs.Changes.{ChangesAssignments};
 ghost use Rattle.lagsystem.specs.Calls.{FreesIfDown};
 ghost use Rattle.lagsystem.specs.Holding.{after_holding, aggregators_in_use, has_stopped, stopped};
 
 use crate::distributing_ports::{collecting, distributes_in};
-use crate::slots::SystemPort;
+use crate::system_ports::SystemPort;
 use arrayvec::ArrayVec;
 use distributor::Distributor;
 use lagtypes::AggId;
 
 /// For each port, in order: the aggregator in which it distributes, or None.
-pub(crate) fn aggregators_in_use(slots: &[SystemPort]) -> ArrayVec<Option<AggId>, 64>
-    requires { length slots.now ≤ 64 }
-    ensures { result.items ≡ aggregators_in_use slots.now }
+pub(crate) fn aggregators_in_use(system_ports: &[SystemPort]) -> ArrayVec<Option<AggId>, 64>
+    requires { length system_ports.now ≤ 64 }
+    ensures { result.items ≡ aggregators_in_use system_ports.now }
 {
     let mut found = ArrayVec::new();
-    for slot in slots {
-        found.push(collecting(&slot.port));
+    for system_port in system_ports {
+        found.push(collecting(&system_port.port));
     }
     found
 }
 
 /// The same for a time when the port at this index distributed in the aggregator `was`.
 pub(crate) fn aggregators_in_use_before(
-    slots: &[SystemPort],
+    system_ports: &[SystemPort],
     place: usize,
     was: Option<AggId>,
 ) -> ArrayVec<Option<AggId>, 64>
-    requires few { length slots.now ≤ 64 }
-    requires within { place < length slots.now }
-    ensures { result.items ≡ slice_set (aggregators_in_use slots.now) place was }
+    requires few { length system_ports.now ≤ 64 }
+    requires within { place < length system_ports.now }
+    ensures { result.items ≡ slice_set (aggregators_in_use system_ports.now) place was }
 {
-    let mut found = aggregators_in_use(slots);
+    let mut found = aggregators_in_use(system_ports);
     let all = found.as_mut_slice();
     all[place] = was;
     found
 }
 
 /// Whether a port distributed in this aggregator, and no longer does.
-fn has_stopped(was: Option<AggId>, slot: &SystemPort) -> bool
-    ensures { result ≡ has_stopped was slot.now }
+fn has_stopped(was: Option<AggId>, system_port: &SystemPort) -> bool
+    ensures { result ≡ has_stopped was system_port.now }
 {
     match was {
-        Some(agg) => !distributes_in(slot, agg),
+        Some(agg) => !distributes_in(system_port, agg),
         None => false,
     }
 }
@@ -51,17 +51,17 @@ fn has_stopped(was: Option<AggId>, slot: &SystemPort) -> bool
 /// has for each port the aggregator in which it distributed before the call.
 pub(crate) fn hold_conversations<F: Fn(u16, usize) -> usize + Drop>(
     distributor: &mut Distributor<F>,
-    slots: &[SystemPort],
+    system_ports: &[SystemPort],
     before: &[Option<AggId>],
 )
-    requires { length before.now ≡ length slots.now }
-    ensures changed { Changes distributor.old.table distributor.new.table (after_holding (stopped before.now slots.now)) }
+    requires { length before.now ≡ length system_ports.now }
+    ensures changed { ChangesAssignments distributor.old.table distributor.new.table (after_holding (stopped before.now system_ports.now)) }
     ensures algorithm { distributor.new.algorithm ≡ distributor.old.algorithm }
 {
     for place in 0..before.len() {
-        let slot = &slots[place];
-        if has_stopped(before[place], slot) {
-            distributor.leave(slot.number);
+        let system_port = &system_ports[place];
+        if has_stopped(before[place], system_port) {
+            distributor.leave(system_port.number);
         }
     }
 }

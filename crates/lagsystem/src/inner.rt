@@ -1,8 +1,8 @@
 ghost use Rattle.std.specs.Prelude.{◌≡◌, ◌<◌, ◌≤◌, IfErr, IfOk, None, Some, length, vec_len};
-ghost use Rattle.distributor.specs.Calls.{PicksPlaces};
-ghost use Rattle.lagsystem.specs.Calls.{Call, OnPort, ReceivesAt, Releases, Settled, Step, TakesLacpdu, is_for};
+ghost use Rattle.distributor.specs.Calls.{PicksIndexes};
+ghost use Rattle.lagsystem.specs.Calls.{Call, OnlyPortChangesBy, ReceivesAt, Releases, ThenSettles, Step, ProcessesLacpdu, is_own_response};
 ghost use Rattle.lagsystem.specs.First.{fault_or_no_memory, config_refusal};
-ghost use Rattle.lagsystem.specs.Hosts.{conversation_at, has_due};
+ghost use Rattle.lagsystem.specs.Hosts.{conversation_at, would_transmit};
 ghost use Rattle.lagsystem.specs.Inner.{inner_state};
 ghost use Rattle.lagsystem.specs.Holding.{WereInUse, aggregators_in_use};
 ghost use Rattle.lagsystem.specs.Offers.{has_aggregator};
@@ -10,7 +10,7 @@ ghost use Rattle.lagsystem.specs.Readers.{number_of_conversation, conversation_c
 ghost use Rattle.lagsystem.specs.Sending.{SendsMarker};
 ghost use Rattle.lagsystem.specs.Settling.{Settling, SettlesPorts};
 ghost use Rattle.lagsystem.specs.Sound.{IsMade, IsSound};
-ghost use Rattle.lagsystem.specs.State.{place_of};
+ghost use Rattle.lagsystem.specs.State.{port_index};
 ghost use Rattle.lagsystem.specs.declared.received.Received.{Received};
 ghost use Rattle.lagsystem.specs.declared.drive.Reply.{Reply};
 ghost use Rattle.lagsystem.specs.declared.fault.SystemFault.{SystemFault};
@@ -24,14 +24,14 @@ use crate::holding::{
 };
 use crate::offers::check_offer;
 use crate::parse::parse_frame;
+use crate::process_lacpdu::{process_lacpdu_at, run_periodic_at};
 use crate::received::{FrameEffect, Received};
 use crate::set_link::set_link_at;
-use crate::settling::settle;
-use crate::slots::{SystemPort, place_of};
+use crate::settling::settle_ports;
 use crate::start::{aggregator_count, new_system_ports, restart_each};
-use crate::take_lacpdu::{pace_at, take_at};
+use crate::system_ports::{SystemPort, port_index};
 use crate::tick::tick_each;
-use crate::transmit::{control_frame, is_lacpdu_due, transmit_at};
+use crate::transmit::{control_frame, is_lacpdu_due, transmit_lacpdu_at};
 use distributor::{Assignment, Distributor};
 use lagtypes::{AggId, SystemId};
 use selection::Aggregators;
@@ -48,7 +48,7 @@ pub(crate) struct Inner<F> {
     /// The ports as they were configured. `restart` goes back to them.
     pub(crate) ports: Vec<PortConfig>,
     /// The ports as they are now, in the same order.
-    pub(crate) slots: Vec<SystemPort>,
+    pub(crate) system_ports: Vec<SystemPort>,
     /// The conversations of all aggregators.
     pub(crate) distributor: Distributor<F>,
 }
@@ -56,7 +56,7 @@ pub(crate) struct Inner<F> {
 impl<F: Fn(u16, usize) -> usize + Drop> Inner<F> {
     /// Makes a system whose links are down, as `System::new` does.
     pub(crate) fn new(alloc: Global, config: Config, algorithm: F) -> Result<Inner<F>, SystemFault>
-        requires usable { PicksPlaces (F.pre algorithm) (F.post algorithm) }
+        requires usable { PicksIndexes (F.pre algorithm) (F.post algorithm) }
         ensures made { IfOk result (λ inner. IsMade config (inner_state inner)) }
         ensures algorithm { IfOk result (λ inner. inner.distributor.algorithm ≡ algorithm) }
         ensures refused { IfErr result (λ fault. fault ≡ fault_or_no_memory (config_refusal config)) }
@@ -73,7 +73,7 @@ impl<F: Fn(u16, usize) -> usize + Drop> Inner<F> {
             ports,
         } = config;
         let aggregators = Aggregators::new(alloc, &keys)?;
-        let slots = new_system_ports(alloc, system, &ports)?;
+        let system_ports = new_system_ports(alloc, system, &ports)?;
         let distributor = Distributor::new(
             alloc,
             aggregator_count(&keys),
@@ -85,7 +85,7 @@ impl<F: Fn(u16, usize) -> usize + Drop> Inner<F> {
             max_delay,
             aggregators,
             ports,
-            slots,
+            system_ports,
             distributor,
         };
         inner.settle_ports();
@@ -93,14 +93,14 @@ impl<F: Fn(u16, usize) -> usize + Drop> Inner<F> {
     }
 
     /// The index of the port with this number; `NoPort` if there is none.
-    pub(crate) fn place_of(&self, number: u16) -> Result<usize, SystemFault>
+    pub(crate) fn port_index(&self, number: u16) -> Result<usize, SystemFault>
         requires { IsSound (inner_state self.now) }
-        ensures place { IfOk result (λ place. place_of number self.now.slots.items ≡ Some place) }
-        ensures within { IfOk result (λ place. place < length self.now.slots.items) }
-        ensures none { IfErr result (λ fault. place_of number self.now.slots.items ≡ None) }
+        ensures place { IfOk result (λ place. port_index number self.now.system_ports.items ≡ Some place) }
+        ensures within { IfOk result (λ place. place < length self.now.system_ports.items) }
+        ensures none { IfErr result (λ fault. port_index number self.now.system_ports.items ≡ None) }
         ensures named { IfErr result (λ fault. fault ≡ SystemFault.NoPort) }
     {
-        match place_of(&self.slots, number) {
+        match port_index(&self.system_ports, number) {
             Some(place) => Ok(place),
             None => Err(SystemFault::NoPort),
         }
@@ -108,11 +108,11 @@ impl<F: Fn(u16, usize) -> usize + Drop> Inner<F> {
 
     /// Steps 1 to 5 of settling, which read and change ports only.
     fn settle_ports(&mut self)
-        requires { vec_len self.old.slots ≤ 64 }
+        requires { vec_len self.old.system_ports ≤ 64 }
         ensures settled { SettlesPorts (inner_state self.old) (inner_state self.new) }
         ensures distributor { self.new.distributor ≡ self.old.distributor }
     {
-        settle(&self.aggregators, &mut self.slots);
+        settle_ports(&self.aggregators, &mut self.system_ports);
     }
 
     /// One settling. `before` has for each port the aggregator in which it distributed before the call.
@@ -122,7 +122,7 @@ impl<F: Fn(u16, usize) -> usize + Drop> Inner<F> {
         ensures algorithm { self.new.distributor.algorithm ≡ self.old.distributor.algorithm }
     {
         self.settle_ports();
-        hold_conversations(&mut self.distributor, &self.slots, before);
+        hold_conversations(&mut self.distributor, &self.system_ports, before);
     }
 
     pub(crate) fn tick(&mut self)
@@ -130,8 +130,8 @@ impl<F: Fn(u16, usize) -> usize + Drop> Inner<F> {
         ensures step { Step (F.post self.old.distributor.algorithm) (inner_state self.old) Call.Tick Reply.Tick (inner_state self.new) }
         ensures algorithm { self.new.distributor.algorithm ≡ self.old.distributor.algorithm }
     {
-        let before = aggregators_in_use(&self.slots);
-        tick_each(&mut self.slots);
+        let before = aggregators_in_use(&self.system_ports);
+        tick_each(&mut self.system_ports);
         self.distributor.tick();
         self.settle(before.as_slice());
     }
@@ -142,9 +142,9 @@ impl<F: Fn(u16, usize) -> usize + Drop> Inner<F> {
             (inner_state self.new) }
         ensures algorithm { self.new.distributor.algorithm ≡ self.old.distributor.algorithm }
     {
-        let place = self.place_of(number)?;
-        let before = aggregators_in_use(&self.slots);
-        set_link_at(&mut self.slots, place, up);
+        let place = self.port_index(number)?;
+        let before = aggregators_in_use(&self.system_ports);
+        set_link_at(&mut self.system_ports, place, up);
         free_conversations_if_down(&mut self.distributor, number, up);
         self.settle(before.as_slice());
         Ok(())
@@ -156,21 +156,21 @@ impl<F: Fn(u16, usize) -> usize + Drop> Inner<F> {
             (Reply.Receive result) (inner_state self.new) }
         ensures algorithm { self.new.distributor.algorithm ≡ self.old.distributor.algorithm }
     {
-        let place = self.place_of(number)?;
+        let place = self.port_index(number)?;
         Ok(self.receive_at(place, octets))
     }
 
     /// Takes a frame that came on the port at this index, as `System::receive` does.
     fn receive_at(&mut self, place: usize, octets: &[u8]) -> Received
         requires sound { IsSound (inner_state self.old) }
-        requires within { place < length self.old.slots.items }
+        requires within { place < length self.old.system_ports.items }
         ensures received { ReceivesAt (Some place) octets.now (inner_state self.old) result (inner_state self.new) }
         ensures algorithm { self.new.distributor.algorithm ≡ self.old.distributor.algorithm }
     {
-        let number = self.slots[place].number;
-        match parse_frame(&self.slots[place], octets) {
-            FrameEffect::Taken(pdu) => {
-                self.take_lacpdu(place, &pdu);
+        let number = self.system_ports[place].number;
+        match parse_frame(&self.system_ports[place], octets) {
+            FrameEffect::ProcessLacpdu(pdu) => {
+                self.process_lacpdu(place, &pdu);
                 Received::TookLacpdu
             }
             FrameEffect::Response(marker) => Received::Released(self.release(number, &marker)),
@@ -180,24 +180,24 @@ impl<F: Fn(u16, usize) -> usize + Drop> Inner<F> {
 
     /// Processes an LACPDU on the port at this index, and settles. If the port looks the same to others afterwards,
     /// only the periodic machine of this port has anything to do, so nothing else is run.
-    fn take_lacpdu(&mut self, place: usize, pdu: &Lacpdu)
+    fn process_lacpdu(&mut self, place: usize, pdu: &Lacpdu)
         requires sound { IsSound (inner_state self.old) }
-        requires within { place < length self.old.slots.items }
-        ensures settled { Settled (OnPort (Some place) (TakesLacpdu pdu.now)) (inner_state self.old) (inner_state self.new) }
+        requires within { place < length self.old.system_ports.items }
+        ensures settled { ThenSettles (OnlyPortChangesBy (Some place) (ProcessesLacpdu pdu.now)) (inner_state self.old) (inner_state self.new) }
         ensures algorithm { self.new.distributor.algorithm ≡ self.old.distributor.algorithm }
     {
-        let was = collecting(&self.slots[place].port);
-        if take_at(&mut self.slots, place, pdu) {
-            pace_at(&mut self.slots, place);
+        let was = collecting(&self.system_ports[place].port);
+        if process_lacpdu_at(&mut self.system_ports, place, pdu) {
+            run_periodic_at(&mut self.system_ports, place);
         } else {
-            let before = aggregators_in_use_before(&self.slots, place, was);
+            let before = aggregators_in_use_before(&self.system_ports, place, was);
             self.settle(before.as_slice());
         }
     }
 
     /// Frees the conversations that wait for a Marker Response that came on a port, and returns how many.
     fn release(&mut self, number: u16, response: &Marker) -> u32
-        ensures released { Releases (is_for (inner_state self.old) number response.now) number response.now (inner_state self.old)
+        ensures released { Releases (is_own_response (inner_state self.old) number response.now) number response.now (inner_state self.old)
             (Received.Released result) (inner_state self.new) }
         ensures algorithm { self.new.distributor.algorithm ≡ self.old.distributor.algorithm }
     {
@@ -216,12 +216,12 @@ impl<F: Fn(u16, usize) -> usize + Drop> Inner<F> {
             (Reply.Configure result) (inner_state self.new) }
         ensures algorithm { self.new.distributor.algorithm ≡ self.old.distributor.algorithm }
     {
-        let place = self.place_of(number)?;
-        let was = collecting(&self.slots[place].port);
-        if !configure_at(&mut self.slots, place, change) {
+        let place = self.port_index(number)?;
+        let was = collecting(&self.system_ports[place].port);
+        if !configure_at(&mut self.system_ports, place, change) {
             return Ok(false);
         }
-        let before = aggregators_in_use_before(&self.slots, place, was);
+        let before = aggregators_in_use_before(&self.system_ports, place, was);
         self.settle(before.as_slice());
         Ok(true)
     }
@@ -231,7 +231,7 @@ impl<F: Fn(u16, usize) -> usize + Drop> Inner<F> {
         ensures step { Step (F.post self.old.distributor.algorithm) (inner_state self.old) Call.Restart Reply.Restart (inner_state self.new) }
         ensures algorithm { self.new.distributor.algorithm ≡ self.old.distributor.algorithm }
     {
-        restart_each(self.system, &self.ports, &mut self.slots);
+        restart_each(self.system, &self.ports, &mut self.system_ports);
         self.distributor.clear();
         self.settle_ports();
     }
@@ -242,14 +242,14 @@ impl<F: Fn(u16, usize) -> usize + Drop> Inner<F> {
             (inner_state self.new) }
         ensures algorithm { self.new.distributor.algorithm ≡ self.old.distributor.algorithm }
     {
-        let place = self.place_of(number)?;
-        if !self.slots[place].port.is_enabled() {
+        let place = self.port_index(number)?;
+        if !self.system_ports[place].port.is_enabled() {
             return Ok(None);
         }
-        if let Some(frame) = transmit_at(&mut self.slots, place, self.max_delay) {
+        if let Some(frame) = transmit_lacpdu_at(&mut self.system_ports, place, self.max_delay) {
             return Ok(Some(frame));
         }
-        let mac = self.slots[place].mac;
+        let mac = self.system_ports[place].mac;
         Ok(self.transmit_marker(number, mac))
     }
 
@@ -289,15 +289,16 @@ impl<F: Fn(u16, usize) -> usize + Drop> Inner<F> {
     }
 
     /// Whether an LACPDU or a marker is due on a port.
-    pub(crate) fn has_due(&self, slot: &SystemPort) -> bool
-        ensures { result ≡ has_due (inner_state self.now) slot.now }
+    pub(crate) fn would_transmit(&self, system_port: &SystemPort) -> bool
+        ensures { result ≡ would_transmit (inner_state self.now) system_port.now }
     {
-        slot.port.is_enabled()
-            && (is_lacpdu_due(&slot.port) || self.distributor.due_marker(slot.number).is_some())
+        system_port.port.is_enabled()
+            && (is_lacpdu_due(&system_port.port)
+                || self.distributor.due_marker(system_port.number).is_some())
     }
 
     pub(crate) fn offer(&mut self, agg: AggId, octets: &[u8]) -> Result<u16, SystemFault>
-        requires usable { PicksPlaces (F.pre self.old.distributor.algorithm) (F.post self.old.distributor.algorithm) }
+        requires usable { PicksIndexes (F.pre self.old.distributor.algorithm) (F.post self.old.distributor.algorithm) }
         requires sound { IsSound (inner_state self.old) }
         ensures step { Step (F.post self.old.distributor.algorithm) (inner_state self.old) (Call.Offer agg octets.now) (Reply.Offer result)
             (inner_state self.new) }
@@ -308,7 +309,7 @@ impl<F: Fn(u16, usize) -> usize + Drop> Inner<F> {
             return Err(SystemFault::NoAggregator);
         }
         check_offer(octets)?;
-        let ports = distributing(&self.slots, agg);
+        let ports = distributing(&self.system_ports, agg);
         let conv = self.number_of_conversation(octets);
         let port = self.distributor.assign(agg, conv, ports.as_slice())?;
         Ok(port)
@@ -328,8 +329,8 @@ impl<F: Fn(u16, usize) -> usize + Drop> Inner<F> {
         if !self.has_aggregator(agg) {
             return Err(SystemFault::NoAggregator);
         }
-        self.place_of(port)?;
-        let ports = distributing(&self.slots, agg);
+        self.port_index(port)?;
+        let ports = distributing(&self.system_ports, agg);
         self.distributor.move_to(agg, conv, port, ports.as_slice())?;
         Ok(())
     }

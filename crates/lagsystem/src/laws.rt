@@ -1,9 +1,9 @@
-ghost use Rattle.lagsystem.specs.Again.{SettlesOnce};
-ghost use Rattle.lagsystem.specs.Due.{AnswersDue};
+ghost use Rattle.lagsystem.specs.SecondSettling.{SecondSettlingIsNothing};
+ghost use Rattle.lagsystem.specs.Due.{TransmitsWhatIsDue};
 ghost use Rattle.std.specs.Prelude.{◌≡◌};
 ghost use Rattle.lagsystem.specs.First.{IsFirst};
-ghost use Rattle.lagsystem.specs.State.{SystemState, with_slots, with_table};
-ghost use Rattle.lagsystem.specs.Windows.{StartsEmpty, WindowFromStart, SystemWindowLaw};
+ghost use Rattle.lagsystem.specs.State.{SystemState, with_system_ports, with_table};
+ghost use Rattle.lagsystem.specs.Windows.{StartsWithoutAges, WindowFromStart, SystemWindowLaw};
 
 /// The transmit limit: any eleven consecutive ticks since the last start of a system hold at most three LACPDUs of each
 /// port (6.4.16). This holds before and after each call of every list of calls with their results.
@@ -13,21 +13,21 @@ ghost use Rattle.lagsystem.specs.Windows.{StartsEmpty, WindowFromStart, SystemWi
 /// what was sent before it (profile).
 pub fn window_holds<F: Fn(u16, usize) -> usize>()
     ensures window { (algorithm : F) → SystemWindowLaw (F.post algorithm) }
-    ensures empty { StartsEmpty }
+    ensures empty { StartsWithoutAges }
     ensures start { (algorithm : F) → WindowFromStart (F.post algorithm) }
 {}
 
 /// A configuration has exactly one first state, so a restart gives the state that `new` made (profile).
 pub fn first_state_is_one()
-    ensures { (s t : SystemState) → t ≡ with_table (with_slots s t.slots) t.table → IsFirst s → IsFirst t → t ≡ s }
+    ensures { (s t : SystemState) → t ≡ with_table (with_system_ports s t.system_ports) t.table → IsFirst s → IsFirst t → t ≡ s }
 {}
 
 /// A second settling right after a settling changes nothing (profile).
 pub fn settling_again_is_nothing()
-    ensures { SettlesOnce }
+    ensures { SecondSettlingIsNothing }
 {}
 
 /// `transmit` returns a frame on a port exactly if `is_due` is true there (profile).
 pub fn transmit_answers_what_is_due()
-    ensures { AnswersDue }
+    ensures { TransmitsWhatIsDue }
 {}

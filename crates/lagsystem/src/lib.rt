@@ -18,13 +18,13 @@ mod laws;
 mod offers;
 mod parse;
 mod port_readers;
+mod process_lacpdu;
 mod received;
 mod set_link;
 mod settling;
-mod slots;
 mod start;
+mod system_ports;
 mod system_readers;
-mod take_lacpdu;
 mod tick;
 mod transmit;
 

@@ -1,5 +1,5 @@
 ghost use Rattle.std.specs.Prelude.{◌≡◌, ◌≤◌, ◌<◌, length, IfErr, IfOk};
-ghost use Rattle.lagsystem.specs.Offers.{MayBeSent, RefusesFrame};
+ghost use Rattle.lagsystem.specs.Offers.{MayBeOffered, RefusesFrame};
 ghost use Rattle.lagsystem.specs.Inner.{inner_state};
 ghost use Rattle.lagsystem.specs.Readers.{number_of_conversation, conversation_count};
 
@@ -12,7 +12,7 @@ const LONGEST_FRAME: usize = 1518;
 
 /// Refuses octets that a client may not send: a wrong length, or a slow protocols frame.
 pub(crate) fn check_offer(octets: &[u8]) -> Result<(), SystemFault>
-    ensures ok { IfOk result (λ done. MayBeSent octets.now) }
+    ensures ok { IfOk result (λ done. MayBeOffered octets.now) }
     ensures err { IfErr result (λ fault. RefusesFrame octets.now fault) }
 {
     if octets.len() < 14 || octets.len() > LONGEST_FRAME {

@@ -1,61 +1,61 @@
 ghost use Rattle.std.specs.Prelude.{◌≡◌};
 ghost use Rattle.collector.specs.Collecting.{IsDataFrame};
 ghost use Rattle.slowpdu.specs.Markers.{response_to};
-ghost use Rattle.lagsystem.specs.Calls.{AnswersMarker, ParsesFrame, ParsesPayload, handed};
+ghost use Rattle.lagsystem.specs.Calls.{AnswersMarker, ParsesFrame, ParsesPayload, up_or_dropped};
 ghost use Rattle.lagsystem.specs.Readers.{collecting};
 
 use crate::distributing_ports::collecting;
 use crate::received::{FrameEffect, Received};
-use crate::slots::SystemPort;
+use crate::system_ports::SystemPort;
 use crate::transmit::control_frame;
 use collector::{Taken, answer, collect};
 use slowpdu::{Kind, Marker, Pdu, classify, decode};
 
 /// What a data frame on this port asks for: to be handed up, or dropped.
-fn hand_up(slot: &SystemPort, octets: &[u8]) -> Received
+fn collect_data_frame(system_port: &SystemPort, octets: &[u8]) -> Received
     requires { IsDataFrame octets.now }
-    ensures { result ≡ handed (collecting slot.now.port) }
+    ensures { result ≡ up_or_dropped (collecting system_port.now.port) }
 {
-    match collect(collecting(&slot.port), octets) {
+    match collect(collecting(&system_port.port), octets) {
         Taken::Up(agg) => Received::Up(agg),
         Taken::Dropped => Received::Dropped,
     }
 }
 
 /// What a Marker PDU or a Marker Response asks for on a port whose link is up.
-fn answer_marker(slot: &SystemPort, marker: &Marker) -> FrameEffect
-    ensures { AnswersMarker slot.now.mac marker.now (response_to marker.now) result }
+fn answer_marker(system_port: &SystemPort, marker: &Marker) -> FrameEffect
+    ensures { AnswersMarker system_port.now.mac marker.now (response_to marker.now) result }
 {
     match answer(true, marker) {
         Some(response) => {
             let payload = response.encode();
-            FrameEffect::Answered(Received::Respond(control_frame(slot.mac, &payload)))
+            FrameEffect::Answered(Received::Respond(control_frame(system_port.mac, &payload)))
         }
         None => FrameEffect::Response(*marker),
     }
 }
 
 /// What the payload of a control frame asks for on a port whose link is up.
-fn parse_payload(slot: &SystemPort, payload: &[u8]) -> FrameEffect
-    ensures { ParsesPayload slot.now payload.now result }
+fn parse_payload(system_port: &SystemPort, payload: &[u8]) -> FrameEffect
+    ensures { ParsesPayload system_port.now payload.now result }
 {
     match decode(payload) {
-        Ok(Pdu::Lacpdu(pdu)) => FrameEffect::Taken(pdu),
-        Ok(Pdu::Marker(marker)) => answer_marker(slot, &marker),
+        Ok(Pdu::Lacpdu(pdu)) => FrameEffect::ProcessLacpdu(pdu),
+        Ok(Pdu::Marker(marker)) => answer_marker(system_port, &marker),
         Err(fault) => FrameEffect::Answered(Received::Ignored(fault)),
     }
 }
 
 /// What a received frame asks for. Changes nothing.
-pub(crate) fn parse_frame(slot: &SystemPort, octets: &[u8]) -> FrameEffect
-    ensures { ParsesFrame slot.now octets.now result }
+pub(crate) fn parse_frame(system_port: &SystemPort, octets: &[u8]) -> FrameEffect
+    ensures { ParsesFrame system_port.now octets.now result }
 {
-    if !slot.port.is_enabled() {
+    if !system_port.port.is_enabled() {
         return FrameEffect::Answered(Received::Disabled);
     }
     match classify(octets) {
         Kind::TooShort => FrameEffect::Answered(Received::Dropped),
-        Kind::Data => FrameEffect::Answered(hand_up(slot, octets)),
-        Kind::Control(payload) => parse_payload(slot, payload),
+        Kind::Data => FrameEffect::Answered(collect_data_frame(system_port, octets)),
+        Kind::Control(payload) => parse_payload(system_port, payload),
     }
 }

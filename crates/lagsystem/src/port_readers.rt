@@ -1,15 +1,15 @@
 ghost use Rattle.std.specs.Prelude.{◌≡◌, None, Some, MatchOption, option_map};
 ghost use Rattle.portmachines.specs.Mux.{same_mux_state};
 ghost use Rattle.portmachines.specs.Transmit.{actor_state};
-ghost use Rattle.lagsystem.specs.Hosts.{due_of};
+ghost use Rattle.lagsystem.specs.Hosts.{would_transmit_at};
 ghost use Rattle.lagsystem.specs.Inner.{inner_state};
 ghost use Rattle.lagsystem.specs.Sound.{IsSound};
-ghost use Rattle.lagsystem.specs.State.{place_of, machines_of, slot_at};
+ghost use Rattle.lagsystem.specs.State.{port_index, machines_of, system_port_at};
 ghost use Rattle.lagsystem.specs.Readers.{group_at};
 
 use crate::calls::System;
 use crate::inner::Inner;
-use crate::slots::SystemPort;
+use crate::system_ports::SystemPort;
 use lagtypes::{Choice, Group, Party, State};
 use portmachines::{MuxState, ReceiveState};
 use slowpdu::Info;
@@ -18,11 +18,11 @@ impl<F: Fn(u16, usize) -> usize + Drop> Inner<F> {
     /// The port with this number.
     fn slot_of(&self, number: u16) -> Option<&SystemPort>
         requires { IsSound (inner_state self.now) }
-        ensures { MatchOption result (slot_at (place_of number self.now.slots.items) self.now.slots.items ≡ None)
-            (λ slot. slot_at (place_of number self.now.slots.items) self.now.slots.items ≡ Some slot.now) }
+        ensures { MatchOption result (system_port_at (port_index number self.now.system_ports.items) self.now.system_ports.items ≡ None)
+            (λ system_port. system_port_at (port_index number self.now.system_ports.items) self.now.system_ports.items ≡ Some system_port.now) }
     {
-        match self.place_of(number) {
-            Ok(place) => Some(&self.slots[place]),
+        match self.port_index(number) {
+            Ok(place) => Some(&self.system_ports[place]),
             Err(_) => None,
         }
     }
@@ -34,7 +34,7 @@ impl<F: Fn(u16, usize) -> usize + Drop> System<F> {
         ensures { result ≡ option_map (λ p. p.enabled) (machines_of port self.now.state) }
     {
         match self.inner.slot_of(port) {
-            Some(slot) => Some(slot.port.is_enabled()),
+            Some(system_port) => Some(system_port.port.is_enabled()),
             None => None,
         }
     }
@@ -45,7 +45,7 @@ impl<F: Fn(u16, usize) -> usize + Drop> System<F> {
         ensures { result ≡ option_map actor_state (machines_of port self.now.state) }
     {
         match self.inner.slot_of(port) {
-            Some(slot) => Some(slot.port.state()),
+            Some(system_port) => Some(system_port.port.state()),
             None => None,
         }
     }
@@ -55,7 +55,7 @@ impl<F: Fn(u16, usize) -> usize + Drop> System<F> {
         ensures { result ≡ option_map (λ p. p.receive) (machines_of port self.now.state) }
     {
         match self.inner.slot_of(port) {
-            Some(slot) => Some(slot.port.receive_state()),
+            Some(system_port) => Some(system_port.port.receive_state()),
             None => None,
         }
     }
@@ -64,10 +64,10 @@ impl<F: Fn(u16, usize) -> usize + Drop> System<F> {
     /// three LACPDUs were sent in the last eleven ticks, or a conversation is Wanted on the port and an identifier is
     /// left (6.4.16, 6.5.3.3; profile). None if there is no such port.
     pub fn is_due(&self, port: u16) -> Option<bool>
-        ensures { result ≡ due_of port self.now.state }
+        ensures { result ≡ would_transmit_at port self.now.state }
     {
         match self.inner.slot_of(port) {
-            Some(slot) => Some(self.inner.has_due(slot)),
+            Some(system_port) => Some(self.inner.would_transmit(system_port)),
             None => None,
         }
     }
@@ -77,7 +77,7 @@ impl<F: Fn(u16, usize) -> usize + Drop> System<F> {
         ensures { result ≡ option_map (λ p. p.party) (machines_of port self.now.state) }
     {
         match self.inner.slot_of(port) {
-            Some(slot) => Some(slot.port.party()),
+            Some(system_port) => Some(system_port.port.party()),
             None => None,
         }
     }
@@ -87,7 +87,7 @@ impl<F: Fn(u16, usize) -> usize + Drop> System<F> {
         ensures { result ≡ option_map (λ p. p.partner) (machines_of port self.now.state) }
     {
         match self.inner.slot_of(port) {
-            Some(slot) => Some(slot.port.partner()),
+            Some(system_port) => Some(system_port.port.partner()),
             None => None,
         }
     }
@@ -98,7 +98,10 @@ impl<F: Fn(u16, usize) -> usize + Drop> System<F> {
         ensures { result ≡ option_map group_at (machines_of port self.now.state) }
     {
         match self.inner.slot_of(port) {
-            Some(slot) => Some(Group::of(&slot.port.party(), &slot.port.partner().party())),
+            Some(system_port) => Some(Group::of(
+                &system_port.port.party(),
+                &system_port.port.partner().party(),
+            )),
             None => None,
         }
     }
@@ -109,7 +112,7 @@ impl<F: Fn(u16, usize) -> usize + Drop> System<F> {
         ensures { result ≡ option_map (λ p. p.defaulted) (machines_of port self.now.state) }
     {
         match self.inner.slot_of(port) {
-            Some(slot) => Some(slot.port.is_defaulted()),
+            Some(system_port) => Some(system_port.port.is_defaulted()),
             None => None,
         }
     }
@@ -120,7 +123,7 @@ impl<F: Fn(u16, usize) -> usize + Drop> System<F> {
         ensures { result ≡ option_map (λ p. same_mux_state MuxState.CollectingDistributing p.mux) (machines_of port self.now.state) }
     {
         match self.inner.slot_of(port) {
-            Some(slot) => Some(slot.port.distributes()),
+            Some(system_port) => Some(system_port.port.distributes()),
             None => None,
         }
     }
@@ -130,7 +133,7 @@ impl<F: Fn(u16, usize) -> usize + Drop> System<F> {
         ensures { result ≡ option_map (λ p. p.choice) (machines_of port self.now.state) }
     {
         match self.inner.slot_of(port) {
-            Some(slot) => Some(slot.port.choice()),
+            Some(system_port) => Some(system_port.port.choice()),
             None => None,
         }
     }
@@ -140,7 +143,7 @@ impl<F: Fn(u16, usize) -> usize + Drop> System<F> {
         ensures { result ≡ option_map (λ p. p.mux) (machines_of port self.now.state) }
     {
         match self.inner.slot_of(port) {
-            Some(slot) => Some(slot.port.mux_state()),
+            Some(system_port) => Some(system_port.port.mux_state()),
             None => None,
         }
     }

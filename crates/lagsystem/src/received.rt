@@ -25,7 +25,7 @@ pub enum Received {
 #[derive(Clone, Copy, Debug, PartialEq, Eq)]
 pub(crate) enum FrameEffect {
     /// Process this LACPDU.
-    Taken(Lacpdu),
+    ProcessLacpdu(Lacpdu),
     /// Release the conversations that wait for this Marker Response.
     Response(Marker),
     /// Do nothing but return this.

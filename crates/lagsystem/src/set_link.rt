@@ -1,13 +1,13 @@
 ghost use Rattle.std.specs.Prelude.{◌<◌, Some, length};
-ghost use Rattle.lagsystem.specs.Calls.{ChangesLink, PortAtGoes};
+ghost use Rattle.lagsystem.specs.Calls.{SetsPortEnabled, PortAtChangesBy};
 
-use crate::slots::SystemPort;
+use crate::system_ports::SystemPort;
 
 /// Sets whether the link of the port at this index is up.
-pub(crate) fn set_link_at(slots: &mut [SystemPort], place: usize, up: bool)
-    requires { place < length slots.old }
-    ensures { PortAtGoes (ChangesLink up) (Some place) slots.old slots.new }
+pub(crate) fn set_link_at(system_ports: &mut [SystemPort], place: usize, up: bool)
+    requires { place < length system_ports.old }
+    ensures { PortAtChangesBy (SetsPortEnabled up) (Some place) system_ports.old system_ports.new }
 {
-    let slot = &mut slots[place];
-    slot.port.set_link(up);
+    let system_port = &mut system_ports[place];
+    system_port.port.set_link(up);
 }

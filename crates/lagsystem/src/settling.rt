@@ -5,117 +5,125 @@ ghost use Rattle.portmachines.specs.Mux.{mux_rows};
 ghost use Rattle.portmachines.specs.Periodic.{RunsPeriodic};
 ghost use Rattle.selection.specs.Views.{has_waited, is_eligible};
 ghost use Rattle.lagsystem.specs.Views.{selection_view, views};
-ghost use Rattle.lagsystem.specs.Settling.{PortsGo, PortGoes, SettlesPorts, choose_slot, chosen, ready_of};
-ghost use Rattle.lagsystem.specs.State.{SystemState, with_slots};
+ghost use Rattle.lagsystem.specs.Settling.{PortsChangeBy, PortChangesBy, SettlesPorts, after_choice_at, after_choices, ready_of};
+ghost use Rattle.lagsystem.specs.State.{SystemState, with_system_ports};
 
-use crate::slots::{SystemPort, has_waited, is_eligible, views};
+use crate::system_ports::{SystemPort, has_waited, is_eligible, views};
 use lagtypes::Choice;
 use selection::{Aggregators, PortView};
 
 /// Runs the mux machine of a port, with this value of Ready.
-fn run_mux_rows(slot: &mut SystemPort, ready: bool)
-    ensures { PortGoes (RunsToRest (mux_rows ready)) slot.old slot.new }
+fn run_mux_rows(system_port: &mut SystemPort, ready: bool)
+    ensures { PortChangesBy (RunsToRest (mux_rows ready)) system_port.old system_port.new }
 {
-    let _fired = slot.port.mux(ready);
+    let _fired = system_port.port.mux(ready);
 }
 
 /// Step 1: each mux machine runs with Ready false, so that ports leave their aggregators before any port chooses.
-fn run_mux_not_ready(slots: &mut [SystemPort])
-    ensures { PortsGo (RunsToRest (mux_rows false)) slots.old slots.new }
+fn run_mux_not_ready(system_ports: &mut [SystemPort])
+    ensures { PortsChangeBy (RunsToRest (mux_rows false)) system_ports.old system_ports.new }
 {
-    for slot in slots.iter_mut() {
-        run_mux_rows(slot, false);
+    for system_port in system_ports.iter_mut() {
+        run_mux_rows(system_port, false);
     }
 }
 
 /// Whether some port may choose an aggregator.
-fn any_eligible(slots: &[SystemPort]) -> bool
-    ensures { result ≡ list_any (λ s. is_eligible (selection_view s)) slots.now }
+fn any_eligible(system_ports: &[SystemPort]) -> bool
+    ensures { result ≡ list_any (λ s. is_eligible (selection_view s)) system_ports.now }
 {
-    slots.iter().any(|slot| is_eligible(slot))
+    system_ports
+        .iter()
+        .any(|system_port| is_eligible(system_port))
 }
 
 /// Lets the port at this index choose an aggregator, if it is eligible. The list of the views of all ports is
 /// updated, so that the ports after it see the choice.
 fn choose_one(
     aggregators: &Aggregators,
-    slots: &mut [SystemPort],
+    system_ports: &mut [SystemPort],
     port_views: &mut [PortView],
     place: usize,
 )
-    requires port_views { port_views.old ≡ views slots.old }
-    requires within { place < length slots.old }
-    ensures chosen { slots.new ≡ choose_slot aggregators.now slots.old place (slice_get slots.old place) }
-    ensures port_views { port_views.new ≡ views slots.new }
+    requires port_views { port_views.old ≡ views system_ports.old }
+    requires within { place < length system_ports.old }
+    ensures chosen { system_ports.new ≡ after_choice_at aggregators.now system_ports.old place (slice_get system_ports.old place) }
+    ensures port_views { port_views.new ≡ views system_ports.new }
 {
-    if !is_eligible(&slots[place]) {
+    if !is_eligible(&system_ports[place]) {
         return;
     }
-    let slot = &mut slots[place];
-    if let Some(agg) = aggregators.choose(port_views, slot.number) {
+    let system_port = &mut system_ports[place];
+    if let Some(agg) = aggregators.choose(port_views, system_port.number) {
         let choice = Choice::Selected(agg);
-        slot.port.select(choice);
+        system_port.port.select(choice);
         port_views[place].choice = choice;
     }
 }
 
 /// Lets each port in turn choose an aggregator, if it is eligible.
-fn choose_each(aggregators: &Aggregators, slots: &mut [SystemPort], port_views: &mut [PortView])
-    requires { port_views.old ≡ views slots.old }
-    ensures { slots.new ≡ chosen aggregators.now (length slots.old) slots.old }
+fn choose_each(
+    aggregators: &Aggregators,
+    system_ports: &mut [SystemPort],
+    port_views: &mut [PortView],
+)
+    requires { port_views.old ≡ views system_ports.old }
+    ensures { system_ports.new ≡ after_choices aggregators.now (length system_ports.old) system_ports.old }
 {
-    for place in 0..slots.len() {
-        choose_one(aggregators, slots, port_views, place);
+    for place in 0..system_ports.len() {
+        choose_one(aggregators, system_ports, port_views, place);
     }
 }
 
 /// Step 2: each eligible port chooses its aggregator, in order; each sees the choices made before it.
-fn choose_all(aggregators: &Aggregators, slots: &mut [SystemPort])
-    requires { length slots.old ≤ 64 }
-    ensures { slots.new ≡ chosen aggregators.now (length slots.old) slots.old }
+fn choose_all(aggregators: &Aggregators, system_ports: &mut [SystemPort])
+    requires { length system_ports.old ≤ 64 }
+    ensures { system_ports.new ≡ after_choices aggregators.now (length system_ports.old) system_ports.old }
 {
-    if any_eligible(slots) {
-        let mut port_views = views(slots);
-        choose_each(aggregators, slots, port_views.as_mut_slice());
+    if any_eligible(system_ports) {
+        let mut port_views = views(system_ports);
+        choose_each(aggregators, system_ports, port_views.as_mut_slice());
     }
 }
 
 /// Whether some port is in WAITING and its wait_while has expired.
-fn any_waited(slots: &[SystemPort]) -> bool
-    ensures { result ≡ list_any (λ s. has_waited (selection_view s).stage) slots.now }
+fn any_waited(system_ports: &[SystemPort]) -> bool
+    ensures { result ≡ list_any (λ s. has_waited (selection_view s).stage) system_ports.now }
 {
-    slots.iter().any(|slot| has_waited(slot))
+    system_ports
+        .iter()
+        .any(|system_port| has_waited(system_port))
 }
 
 /// Steps 3 and 4: Ready is worked out for every aggregator; then each mux machine runs with it.
-fn run_mux(aggregators: &Aggregators, slots: &mut [SystemPort])
-    requires { length slots.old ≤ 64 }
-    ensures { PortsGo (λ p q. RunsToRest (mux_rows (ready_of aggregators.now (views slots.old) p.choice)) p q) slots.old slots.new }
+fn run_mux(aggregators: &Aggregators, system_ports: &mut [SystemPort])
+    requires { length system_ports.old ≤ 64 }
+    ensures { PortsChangeBy (λ p q. RunsToRest (mux_rows (ready_of aggregators.now (views system_ports.old) p.choice)) p q) system_ports.old system_ports.new }
 {
-    if any_waited(slots) {
-        let port_views = views(slots);
-        run_each_mux(aggregators, slots, port_views.as_slice());
+    if any_waited(system_ports) {
+        let port_views = views(system_ports);
+        run_each_mux(aggregators, system_ports, port_views.as_slice());
     } else {
         // An aggregator can only be Ready if a member has waited long enough.
-        run_mux_not_ready(slots);
+        run_mux_not_ready(system_ports);
     }
 }
 
 /// Runs each mux machine; Ready is worked out from the views before the first of them ran.
-fn run_each_mux(aggregators: &Aggregators, slots: &mut [SystemPort], port_views: &[PortView])
-    ensures { PortsGo (λ p q. RunsToRest (mux_rows (ready_of aggregators.now port_views.now p.choice)) p q) slots.old slots.new }
+fn run_each_mux(aggregators: &Aggregators, system_ports: &mut [SystemPort], port_views: &[PortView])
+    ensures { PortsChangeBy (λ p q. RunsToRest (mux_rows (ready_of aggregators.now port_views.now p.choice)) p q) system_ports.old system_ports.new }
 {
-    for slot in slots.iter_mut() {
-        run_one_mux(aggregators, slot, port_views);
+    for system_port in system_ports.iter_mut() {
+        run_one_mux(aggregators, system_port, port_views);
     }
 }
 
 /// Runs the mux machine of a port; Ready is worked out from these views.
-fn run_one_mux(aggregators: &Aggregators, slot: &mut SystemPort, port_views: &[PortView])
-    ensures { PortGoes (λ p q. RunsToRest (mux_rows (ready_of aggregators.now port_views.now p.choice)) p q) slot.old slot.new }
+fn run_one_mux(aggregators: &Aggregators, system_port: &mut SystemPort, port_views: &[PortView])
+    ensures { PortChangesBy (λ p q. RunsToRest (mux_rows (ready_of aggregators.now port_views.now p.choice)) p q) system_port.old system_port.new }
 {
-    let ready = ready_of(aggregators, port_views, slot.port.choice());
-    run_mux_rows(slot, ready);
+    let ready = ready_of(aggregators, port_views, system_port.port.choice());
+    run_mux_rows(system_port, ready);
 }
 
 /// Ready of the aggregator that the port has chosen; false if it has chosen none.
@@ -129,18 +137,18 @@ fn ready_of(aggregators: &Aggregators, port_views: &[PortView], choice: Choice) 
 }
 
 /// Runs the periodic machine of a port.
-fn run_one_periodic(slot: &mut SystemPort)
-    ensures { PortGoes RunsPeriodic slot.old slot.new }
+fn run_one_periodic(system_port: &mut SystemPort)
+    ensures { PortChangesBy RunsPeriodic system_port.old system_port.new }
 {
-    slot.port.periodic();
+    system_port.port.periodic();
 }
 
 /// Step 5: each periodic machine runs.
-fn run_each_periodic(slots: &mut [SystemPort])
-    ensures { PortsGo RunsPeriodic slots.old slots.new }
+fn run_each_periodic(system_ports: &mut [SystemPort])
+    ensures { PortsChangeBy RunsPeriodic system_ports.old system_ports.new }
 {
-    for slot in slots.iter_mut() {
-        run_one_periodic(slot);
+    for system_port in system_ports.iter_mut() {
+        run_one_periodic(system_port);
     }
 }
 
@@ -148,12 +156,12 @@ fn run_each_periodic(slots: &mut [SystemPort])
 /// cases. For each eligible port the views of all ports are searched for an aggregator; a port that finds none is tried
 /// again in each settling. And if some port is in WAITING with wait_while expired, the views are searched once for each
 /// SELECTED port. Step 6, the conversations, is in holding.rt.
-pub(crate) fn settle(aggregators: &Aggregators, slots: &mut [SystemPort])
-    requires { length slots.old ≤ 64 }
-    ensures { (base : SystemState) → base.keys ≡ aggregators.now → base.slots ≡ slots.old → SettlesPorts base (with_slots base slots.new) }
+pub(crate) fn settle_ports(aggregators: &Aggregators, system_ports: &mut [SystemPort])
+    requires { length system_ports.old ≤ 64 }
+    ensures { (base : SystemState) → base.keys ≡ aggregators.now → base.system_ports ≡ system_ports.old → SettlesPorts base (with_system_ports base system_ports.new) }
 {
-    run_mux_not_ready(slots);
-    choose_all(aggregators, slots);
-    run_mux(aggregators, slots);
-    run_each_periodic(slots);
+    run_mux_not_ready(system_ports);
+    choose_all(aggregators, system_ports);
+    run_mux(aggregators, system_ports);
+    run_each_periodic(system_ports);
 }

@@ -1,10 +1,10 @@
 ghost use Rattle.std.specs.Prelude.{◌≡◌, ◌≤◌, length, vec_len, IfOk};
 ghost use Rattle.std.specs.List.{AllZip};
-ghost use Rattle.lagsystem.specs.First.{IsNew, first_bad_port_number, configured_numbers, refusal, config_refusal};
+ghost use Rattle.lagsystem.specs.First.{HasJustStarted, first_bad_port_number, configured_numbers, refusal, config_refusal};
 
 use crate::config::{Config, PortConfig};
 use crate::fault::BadConfig;
-use crate::slots::SystemPort;
+use crate::system_ports::SystemPort;
 use lagtypes::{Key, NoMemory, SystemId};
 use std::alloc::Global;
 
@@ -14,26 +14,26 @@ pub(crate) fn new_system_ports(
     system: SystemId,
     ports: &[PortConfig],
 ) -> Result<Vec<SystemPort>, NoMemory>
-    ensures new { IfOk result (λ slots. AllZip (IsNew system) ports.now slots.items) }
-    ensures count { IfOk result (λ slots. vec_len slots ≡ length ports.now) }
+    ensures new { IfOk result (λ system_ports. AllZip (HasJustStarted system) ports.now system_ports.items) }
+    ensures count { IfOk result (λ system_ports. vec_len system_ports ≡ length ports.now) }
 {
-    let mut slots = Vec::with_capacity(alloc, ports.len())?;
+    let mut system_ports = Vec::with_capacity(alloc, ports.len())?;
     for port in ports {
-        slots.push(SystemPort::new(system, port))?;
+        system_ports.push(SystemPort::new(system, port))?;
     }
-    Ok(slots)
+    Ok(system_ports)
 }
 
 /// Starts every port again from its configuration, in the same `Vec`, so without taking memory. Values that `configure`
 /// set are lost.
-pub(crate) fn restart_each(system: SystemId, ports: &[PortConfig], slots: &mut [SystemPort])
-    requires { length slots.old ≡ length ports.now }
-    ensures { AllZip (IsNew system) ports.now slots.new }
+pub(crate) fn restart_each(system: SystemId, ports: &[PortConfig], system_ports: &mut [SystemPort])
+    requires { length system_ports.old ≡ length ports.now }
+    ensures { AllZip (HasJustStarted system) ports.now system_ports.new }
 {
     for place in 0..ports.len() {
         let config = ports[place];
-        let slot = &mut slots[place];
-        slot.restart(system, &config);
+        let system_port = &mut system_ports[place];
+        system_port.restart(system, &config);
     }
 }
 

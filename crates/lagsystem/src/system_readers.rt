@@ -7,18 +7,18 @@ ghost use Rattle.lagsystem.specs.Readers.{distributing};
 
 use crate::calls::System;
 use crate::distributing_ports::distributing;
-use crate::slots::SystemPort;
+use crate::system_ports::SystemPort;
 use arrayvec::ArrayVec;
 use lagtypes::AggId;
 
 /// The numbers of all ports.
-fn port_numbers(slots: &[SystemPort]) -> ArrayVec<u16, 64>
-    requires { length slots.now ≤ 64 }
-    ensures { result.items ≡ port_numbers slots.now }
+fn port_numbers(system_ports: &[SystemPort]) -> ArrayVec<u16, 64>
+    requires { length system_ports.now ≤ 64 }
+    ensures { result.items ≡ port_numbers system_ports.now }
 {
     let mut found = ArrayVec::new();
-    for slot in slots {
-        found.push(slot.number);
+    for system_port in system_ports {
+        found.push(system_port.number);
     }
     found
 }
@@ -26,10 +26,10 @@ fn port_numbers(slots: &[SystemPort]) -> ArrayVec<u16, 64>
 impl<F: Fn(u16, usize) -> usize + Drop> System<F> {
     /// The numbers of the ports, 1 to 64 of them, ascending (profile).
     pub fn ports(&self) -> ArrayVec<u16, 64>
-        ensures all { result.items ≡ port_numbers self.now.state.slots }
+        ensures all { result.items ≡ port_numbers self.now.state.system_ports }
         ensures ascending { IsStrictlyIncreasing result.items }
     {
-        port_numbers(&self.inner.slots)
+        port_numbers(&self.inner.system_ports)
     }
 
     /// How many aggregators there are, 1 to 64. They are numbered from 1 (6.4.6).
@@ -42,10 +42,10 @@ impl<F: Fn(u16, usize) -> usize + Drop> System<F> {
     /// The numbers of the ports that distribute in an aggregator (6.2.4), ascending, at most 64; empty if there is no
     /// such aggregator.
     pub fn distributing(&self, agg: AggId) -> ArrayVec<u16, 64>
-        ensures all { result.items ≡ distributing agg self.now.state.slots }
+        ensures all { result.items ≡ distributing agg self.now.state.system_ports }
         ensures ascending { IsStrictlyIncreasing result.items }
         ensures unknown { OnFalse (has_aggregator self.now.state agg) (result.items ≡ []) }
     {
-        distributing(&self.inner.slots, agg)
+        distributing(&self.inner.system_ports, agg)
     }
 }

@@ -1,21 +1,21 @@
 ghost use Rattle.portmachines.specs.Receive.{receive_rows};
 ghost use Rattle.portmachines.specs.Rows.{RunsToRest};
 ghost use Rattle.portmachines.specs.Transmit.{count_down};
-ghost use Rattle.lagsystem.specs.Settling.{PortsGo, PortGoes};
+ghost use Rattle.lagsystem.specs.Settling.{PortsChangeBy, PortChangesBy};
 
-use crate::slots::SystemPort;
+use crate::system_ports::SystemPort;
 
-fn tick_one(slot: &mut SystemPort)
-    ensures { PortGoes (λ p q. RunsToRest receive_rows (count_down p) q) slot.old slot.new }
+fn tick_one(system_port: &mut SystemPort)
+    ensures { PortChangesBy (λ p q. RunsToRest receive_rows (count_down p) q) system_port.old system_port.new }
 {
-    slot.port.tick();
+    system_port.port.tick();
 }
 
 /// One tick of every port.
-pub(crate) fn tick_each(slots: &mut [SystemPort])
-    ensures { PortsGo (λ p q. RunsToRest receive_rows (count_down p) q) slots.old slots.new }
+pub(crate) fn tick_each(system_ports: &mut [SystemPort])
+    ensures { PortsChangeBy (λ p q. RunsToRest receive_rows (count_down p) q) system_ports.old system_ports.new }
 {
-    for slot in slots.iter_mut() {
-        tick_one(slot);
+    for system_port in system_ports.iter_mut() {
+        tick_one(system_port);
     }
 }

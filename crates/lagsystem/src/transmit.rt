@@ -2,9 +2,9 @@ ghost use Rattle.std.specs.Prelude.{◌≡◌, ◌<◌, length};
 ghost use Rattle.slowpdu.specs.Frames.{frame_octets};
 ghost use Rattle.slowpdu.specs.Layout.{IsAddress};
 ghost use Rattle.portmachines.specs.Transmit.{is_due};
-ghost use Rattle.lagsystem.specs.Sending.{SendsIfDue, PortSendsIfDue};
+ghost use Rattle.lagsystem.specs.Sending.{SendsLacpduIfDue, PortSendsLacpduIfDue};
 
-use crate::slots::SystemPort;
+use crate::system_ports::SystemPort;
 use portmachines::Port;
 use slowpdu::frame;
 
@@ -27,26 +27,26 @@ pub(crate) fn is_lacpdu_due(port: &Port) -> bool
 }
 
 /// The LACPDU that is due on a port, as a control frame; None if none is due.
-fn transmit_slot(slot: &mut SystemPort, max_delay: u16) -> Option<[u8; 124]>
-    ensures kept { slot.new ≡ record slot.old { port = slot.new.port } }
-    ensures sends { SendsIfDue max_delay slot.old result slot.new.port }
+fn transmit_lacpdu(system_port: &mut SystemPort, max_delay: u16) -> Option<[u8; 124]>
+    ensures kept { system_port.new ≡ record system_port.old { port = system_port.new.port } }
+    ensures sends { SendsLacpduIfDue max_delay system_port.old result system_port.new.port }
 {
-    let mac = slot.mac;
-    match slot.port.transmit(max_delay) {
+    let mac = system_port.mac;
+    match system_port.port.transmit(max_delay) {
         Some(pdu) => Some(control_frame(mac, &pdu.encode())),
         None => None,
     }
 }
 
 /// The LACPDU that is due on the port at this index, as a control frame; None if none is due.
-pub(crate) fn transmit_at(
-    slots: &mut [SystemPort],
+pub(crate) fn transmit_lacpdu_at(
+    system_ports: &mut [SystemPort],
     place: usize,
     max_delay: u16,
 ) -> Option<[u8; 124]>
-    requires { place < length slots.old }
-    ensures { PortSendsIfDue max_delay place result slots.old slots.new }
+    requires { place < length system_ports.old }
+    ensures { PortSendsLacpduIfDue max_delay place result system_ports.old system_ports.new }
 {
-    let slot = &mut slots[place];
-    transmit_slot(slot, max_delay)
+    let system_port = &mut system_ports[place];
+    transmit_lacpdu(system_port, max_delay)
 }

@@ -10,10 +10,10 @@ use Rattle.std.proofs.lemmas.Option.{none-some, same_Some}
 use Rattle.toml.specs.Data.{Data, Members, as_str, get_member}
 use Rattle.lagmodel.specs.World.{One, Two}
 use Rattle.lagscript.specs.EventValues.{EventValue, event_value, event_values, tick, emit, deliver, lose, repeat, cut, join, sense, restart, configure, offer, move_to, force}
-use Rattle.lagscript.specs.Entries.{WordReader, event_at, event_in, event_of_words, events_from, at_entry, cable_word, configure_event, with_five_words, five_words, with_four_words, four_words, hex_word, kind_word, number_word, with_one_word, one_word, plain_named, system_word, with_three_words, three_words, ticks_word, with_two_words, two_words}
+use Rattle.lagscript.specs.Entries.{WordReader, event_at, event_in, event_of_words, events_from, at_entry, cable_word, configure_event, with_five_words, five_words, with_four_words, four_words, hex_word, aggregation_word, number_word, with_one_word, one_word, frameless_event_named, system_word, with_three_words, three_words, ticks_word, with_two_words, two_words}
 use Rattle.lagscript.specs.Configs.{ConfigValue, refusal_of_all}
 use Rattle.lagscript.specs.Keys.{keys_among, list_in, value_at, value_or}
-use Rattle.lagscript.specs.Readings.{◌>>=◌, in_place, or_fault, if_or_fault}
+use Rattle.lagscript.specs.Readings.{◌>>=◌, each_at_place, or_fault, if_or_fault}
 use Rattle.lagscript.specs.Scripts.{HasPlan, PlanValue, events_in, cables_in, script_fault_for, ends_of, entries_in, no_fault, plan_in, plan_value, planned, systems_in, top_keys, up_to_most}
 use Rattle.lagscript.specs.Words.{words_of}
 use Rattle.lagscript.specs.declared.plan.Plan.{Plan}
@@ -167,7 +167,7 @@ cable_alone : (cables : ℕ) (make : ℕ → EventValue) → ((c : ℕ) → act_
     → (ws : List (List ℕ)) (act : EventValue) → with_one_word (cable_word cables) make ws ≡ Ok act → Named cables act
 cable_alone cables make names ws act = one_ok (Named cables) (cable_word cables) make ws act (λ u c e. names c ∙ both (is_cable cables (Some c)) true (cable_ok cables u c e) refl)
 
-plain_ok : (cables : ℕ) (name : List ℕ) (ws : List (List ℕ)) (act : EventValue) → plain_named cables name ws ≡ Ok act → Named cables act
+plain_ok : (cables : ℕ) (name : List ℕ) (ws : List (List ℕ)) (act : EventValue) → frameless_event_named cables name ws ≡ Ok act → Named cables act
 plain_ok cables name ws act =
     either (bytes_eq name (codes "tick")) _ _ ws act (Named cables act) (two_ok (Named cables) system_word ticks_word tick ws act (λ u v s n e f. system_ok u s e))
     (either (bytes_eq name (codes "emit")) _ _ ws act (Named cables act) (two_ok (Named cables) system_word number_word emit ws act (λ u v s p e f. system_ok u s e))
@@ -179,7 +179,7 @@ plain_ok cables name ws act =
     (either (bytes_eq name (codes "sense")) _ _ ws act (Named cables act) (on_cable cables sense (λ c s. refl) ws act)
     (either (bytes_eq name (codes "restart")) _ _ ws act (Named cables act) (one_ok (Named cables) system_word restart ws act (λ u s e. system_ok u s e))
     (either (bytes_eq name (codes "configure")) _ _ ws act (Named cables act)
-    (five_ok (Named cables) system_word number_word number_word number_word kind_word configure_event ws act (λ u s p k i b e. system_ok u s e))
+    (five_ok (Named cables) system_word number_word number_word number_word aggregation_word configure_event ws act (λ u s p k i b e. system_ok u s e))
     (either (bytes_eq name (codes "move")) _ _ ws act (Named cables act)
     (four_ok (Named cables) system_word number_word number_word number_word move_to ws act (λ u s g k p e. system_ok u s e))
     (either (bytes_eq name (codes "force")) _ _ ws act (Named cables act)
@@ -187,7 +187,7 @@ plain_ok cables name ws act =
     (λ e. absurd (let h = e in cc)))))))))))))
 
 named_ok : (b : Bool) (cables : ℕ) (name : List ℕ) (ws : List (List ℕ)) (act : EventValue)
-    → (if b then with_three_words system_word number_word hex_word offer ws else plain_named cables name ws) ≡ Ok act → Named cables act
+    → (if b then with_three_words system_word number_word hex_word offer ws else frameless_event_named cables name ws) ≡ Ok act → Named cables act
 named_ok true cables name ws act = three_ok (Named cables) system_word number_word hex_word offer ws act (λ u s g o e. system_ok u s e)
 named_ok false cables name ws act = plain_ok cables name ws act
 
@@ -199,11 +199,11 @@ entry_ok : {A : Type 0} (place : ℕ) (r : Result A EntryFault) (x : A) → at_e
 entry_ok place (Ok y) x e = ap (good EntryFault) (same_ok y x e)
 entry_ok place (Err fault) x e = absurd (let h = e in cc)
 
-acts_ok : (cables place : ℕ) (texts : List (List ℕ)) (events : List EventValue) → in_place (event_at cables) place texts ≡ Ok events → list_all (act_names cables) events ≡ true
+acts_ok : (cables place : ℕ) (texts : List (List ℕ)) (events : List EventValue) → each_at_place (event_at cables) place texts ≡ Ok events → list_all (act_names cables) events ≡ true
 acts_ok cables place [] events e = subst (λ xs. list_all (act_names cables) xs ≡ true) (same_ok [] events e) refl
 acts_ok cables place (text ∷ texts) events e =
     let first = bind_ok (event_at cables place text) _ events e in
-    let rest = bind_ok (in_place (event_at cables) (place + 1) texts) _ events first.2 in
+    let rest = bind_ok (each_at_place (event_at cables) (place + 1) texts) _ events first.2 in
     subst (λ xs. list_all (act_names cables) xs ≡ true) (same_ok (first.0 ∷ rest.0) events rest.2)
     (both (act_names cables first.0) (list_all (act_names cables) rest.0)
     (words_ok cables (words_of text) first.0 (entry_ok place (event_in cables text) first.0 first.1))
@@ -255,11 +255,11 @@ plan_names text plan (ms, parsed, read) =
 
 -- ---- how many entries a script has
 
-in_place_long : {A X E : Type 0} (f : ℕ → X → Result A E) (place : ℕ) (xs : List X) (ys : List A) → in_place f place xs ≡ Ok ys → length ys ≡ length xs
+in_place_long : {A X E : Type 0} (f : ℕ → X → Result A E) (place : ℕ) (xs : List X) (ys : List A) → each_at_place f place xs ≡ Ok ys → length ys ≡ length xs
 in_place_long f place [] ys e = ap length (sym (same_ok [] ys e))
 in_place_long f place (x ∷ xs) ys e =
     let first = bind_ok (f place x) _ ys e in
-    let rest = bind_ok (in_place f (place + 1) xs) _ ys first.2 in
+    let rest = bind_ok (each_at_place f (place + 1) xs) _ ys first.2 in
     ap length (sym (same_ok (first.0 ∷ rest.0) ys rest.2)) ∙ ap suc (in_place_long f (place + 1) xs rest.0 rest.1)
 
 abbrev some : {A : Type 0} → A → Option A

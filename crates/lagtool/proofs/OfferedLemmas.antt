@@ -20,26 +20,26 @@ use Rattle.lagsystem.specs.Readers.{number_of_conversation}
 use Rattle.lagscript.specs.declared.event.Event.{Event}
 use Rattle.lagscript.specs.declared.event.Event.TheVariants as event
 use Rattle.lagworld.specs.declared.reply.Reply.{Reply}
-use Rattle.lagworld.specs.HalfCalls.{Asks, HalfTicks, forced_where}
-use Rattle.lagworld.specs.Events.{Algorithms, DoesEvent, Runs, side_of, collected, set_at, puts, transmitted, with_flow_of, with_last_lacpdu, stamped_in, Emitted, Arrives, Arrived, DeliversFrom, LosesFrom, RepeatsItem, RepeatsFrom, Offered, count_sent}
+use Rattle.lagworld.specs.HalfCalls.{HalfAnswers, HalfTicks, forced_if_accepted}
+use Rattle.lagworld.specs.Events.{Algorithms, DoesEvent, WorldRuns, side_of, with_stamp_collected, with_link_at, with_item_sent, transmitted_item, with_collected_in, with_last_lacpdu, stamped_in, AfterTransmit, WorldReceives, AfterReceive, DeliversFrom, LosesFrom, RepeatsItem, RepeatsFrom, AfterOffer, with_frame_counted}
 use Rattle.lagworld.specs.Making.{conversations_per_aggregator}
 use Rattle.lagworld.specs.Messages.{side_named, side_number}
-use Rattle.lagworld.specs.Readers.{serials_of_system}
+use Rattle.lagworld.specs.Readers.{flow_of_system}
 use Rattle.lagworld.specs.Sound.{IsStart}
-use Rattle.lagworld.specs.State.{Carried, HalfState, WorldState, LinkState, Serials, half, with_half, port_at, towards, with_towards, serials_at, sent_in, with_sent, with_collected, with_forced}
+use Rattle.lagworld.specs.State.{ItemValue, HalfState, WorldState, LinkState, FlowValue, half, with_half, port_at, towards, with_towards, flow_at, sent_in, with_sent, with_collected, with_forced}
 use Rattle.lagworld.proofs.Flows.{flow_other_row, read_same}
 use Rattle.lagworld.proofs.Whole.{on_line}
-use Rattle.lagtool.specs.Offered.{IsQuiet, IsSentWhereOffered, is_offered, offers_to}
+use Rattle.lagtool.specs.Offered.{HasSentNothing, IsSentWhereOffered, is_offered, offers_to}
 use Rattle.lagtool.specs.ReplayReport.{flow_line, aggregator_flows_text}
 use Rattle.lagtool.proofs.ReplayLemmas.{append_none, appended_both, empties, range_more}
 
 -- what a conversation of a system sent
 abbrev sent_of : Side → ℕ → ℕ → WorldState → List ℕ
-sent_of t g k j = sent_in (serials_at (half t j).flows g k)
+sent_of t g k j = sent_in (flow_at (half t j).flows g k)
 
 -- a system sent no more
 abbrev SameSent : HalfState → HalfState → Type 0
-SameSent old new = (g k : ℕ) → sent_in (serials_at new.flows g k) ≡ sent_in (serials_at old.flows g k)
+SameSent old new = (g k : ℕ) → sent_in (flow_at new.flows g k) ≡ sent_in (flow_at old.flows g k)
 
 -- neither system did
 abbrev NoneSent : WorldState → WorldState → Type 0
@@ -58,35 +58,35 @@ of_half Two h j x One = λ g k. refl
 of_half Two h j x Two = x
 
 same_flows : (old new : HalfState) → new.flows ≡ old.flows → SameSent old new
-same_flows old new e = λ g k. ap (λ xs. sent_in (serials_at xs g k)) e
+same_flows old new e = λ g k. ap (λ xs. sent_in (flow_at xs g k)) e
 
-asked : (gives : ℕ → ℕ → ℕ → Type 0) (call : Call) (a : Answer) (s : Side) (mid : HalfState) (j : WorldState) → Asks gives call a (half s j) mid → NoneSent j (with_half s mid j)
+asked : (gives : ℕ → ℕ → ℕ → Type 0) (call : Call) (a : Answer) (s : Side) (mid : HalfState) (j : WorldState) → HalfAnswers gives call a (half s j) mid → NoneSent j (with_half s mid j)
 asked gives call a s mid j x = of_half s mid j (same_flows (half s j) mid (ap (λ (h : HalfState). h.flows) x.same))
 
 ticked : (gives : ℕ → ℕ → ℕ → Type 0) (n : ℕ) (old new : HalfState) → HalfTicks gives n old new → new.flows ≡ old.flows
 ticked gives zero old new x = ap (λ (h : HalfState). h.flows) x
 ticked gives (suc n) old new x = ap (λ (h : HalfState). h.flows) x.2.same ∙ ticked gives n old x.0 x.1
 
-emitted : (s : Side) (p : ℕ) (a : Result (Option (List ℕ)) SystemFault) (j new : WorldState) (r : Reply) → Emitted s p a j r new → NoneSent j new
+emitted : (s : Side) (p : ℕ) (a : Result (Option (List ℕ)) SystemFault) (j new : WorldState) (r : Reply) → AfterTransmit s p a j r new → NoneSent j new
 emitted s p (Err fault) j new r x = same j new x.1
 emitted s p (Ok None) j new r x = same j new x.1
-emitted s p (Ok (Some frame)) j new r x = same (puts s p (transmitted s p frame (half s j)) j) new x.1
+emitted s p (Ok (Some frame)) j new r x = same (with_item_sent s p (transmitted_item s p frame (half s j)) j) new x.1
 
-collected_kept : (serial : ℕ) (o : Option Serials) → sent_in (option_map (with_collected serial) o) ≡ sent_in o
+collected_kept : (serial : ℕ) (o : Option FlowValue) → sent_in (option_map (with_collected serial) o) ≡ sent_in o
 collected_kept serial None = refl
 collected_kept serial (Some x) = refl
 
-forced_kept : (o : Option Serials) → sent_in (option_map with_forced o) ≡ sent_in o
+forced_kept : (o : Option FlowValue) → sent_in (option_map with_forced o) ≡ sent_in o
 forced_kept None = refl
 forced_kept (Some x) = refl
 
-collected_on : (st : Stamp) (j : WorldState) → NoneSent j (collected st j)
+collected_on : (st : Stamp) (j : WorldState) → NoneSent j (with_stamp_collected st j)
 collected_on (stamp.Control count) j = λ t g k. refl
 collected_on (stamp.Data system agg conv serial) j =
-    of_half (side_named system) (with_flow_of agg conv serial (half (side_named system) j)) j
+    of_half (side_named system) (with_collected_in agg conv serial (half (side_named system) j)) j
     (read_same sent_in (with_collected serial) agg conv (half (side_named system) j).flows (collected_kept serial))
 
-arrived : (s : Side) (p : ℕ) (item : Carried) (a : Result Received SystemFault) (j new : WorldState) (r : Reply) → Arrived s p item a j r new → NoneSent j new
+arrived : (s : Side) (p : ℕ) (item : ItemValue) (a : Result Received SystemFault) (j new : WorldState) (r : Reply) → AfterReceive s p item a j r new → NoneSent j new
 arrived s p item (Err fault) j new r x = same j new x.1
 arrived s p item (Ok received.Disabled) j new r x = same j new x.1
 arrived s p item (Ok received.Dropped) j new r x = same j new x.1
@@ -94,43 +94,43 @@ arrived s p item (Ok (received.Ignored fault)) j new r x = same j new x.1
 arrived s p item (Ok received.TookLacpdu) j new r x =
     let took = with_half s (with_last_lacpdu p (stamped_in item) (half s j)) j in
     followed j took new (of_half s (with_last_lacpdu p (stamped_in item) (half s j)) j (λ g k. refl)) (same took new x.1)
-arrived s p item (Ok (received.Respond frame)) j new r x = same (puts s p (record { octets = frame; stamp = stamp.Control 0 }) j) new x.1
+arrived s p item (Ok (received.Respond frame)) j new r x = same (with_item_sent s p (record { octets = frame; stamp = stamp.Control 0 }) j) new x.1
 arrived s p item (Ok (received.Released n)) j new r x = same j new x.1
-arrived s p item (Ok (received.Up agg)) j new r x = followed j (collected item.stamp j) new (collected_on item.stamp j) (same (collected item.stamp j) new x.1)
+arrived s p item (Ok (received.Up agg)) j new r x = followed j (with_stamp_collected item.stamp j) new (collected_on item.stamp j) (same (with_stamp_collected item.stamp j) new x.1)
 
-arrives : (gives : Algorithms) (s : Side) (p : ℕ) (item : Carried) (j new : WorldState) (r : Reply) → Arrives gives s p item j r new → NoneSent j new
+arrives : (gives : Algorithms) (s : Side) (p : ℕ) (item : ItemValue) (j new : WorldState) (r : Reply) → WorldReceives gives s p item j r new → NoneSent j new
 arrives gives s p item j new r x =
     followed j (with_half s x.1 j) new (asked (gives s) (Receive p item.octets) (answer.Receive x.0) s x.1 j x.2) (arrived s p item x.0 (with_half s x.1 j) new r x.3)
 
-delivers : (gives : Algorithms) (s : Side) (i : ℕ) (l : LinkState) (xs : List Carried) (j new : WorldState) (r : Reply) → DeliversFrom gives s i l xs j r new → NoneSent j new
+delivers : (gives : Algorithms) (s : Side) (i : ℕ) (l : LinkState) (xs : List ItemValue) (j new : WorldState) (r : Reply) → DeliversFrom gives s i l xs j r new → NoneSent j new
 delivers gives s i l [] j new r x = same j new x.1
-delivers gives s i l (item ∷ rest) j new r x = arrives gives s (port_at s l) item (set_at i (with_towards s rest l) j) new r x
+delivers gives s i l (item ∷ rest) j new r x = arrives gives s (port_at s l) item (with_link_at i (with_towards s rest l) j) new r x
 
-loses : (s : Side) (i : ℕ) (l : LinkState) (xs : List Carried) (j new : WorldState) (r : Reply) → LosesFrom s i l xs j r new → NoneSent j new
+loses : (s : Side) (i : ℕ) (l : LinkState) (xs : List ItemValue) (j new : WorldState) (r : Reply) → LosesFrom s i l xs j r new → NoneSent j new
 loses s i l [] j new r x = same j new x.1
-loses s i l (item ∷ rest) j new r x = same (set_at i (with_towards s rest l) j) new x.1
+loses s i l (item ∷ rest) j new r x = same (with_link_at i (with_towards s rest l) j) new x.1
 
 repeats_item : (gives : Algorithms) (s : Side) (p : ℕ) (octets : List ℕ) (st : Stamp) (j new : WorldState) (r : Reply) → RepeatsItem gives s p octets st j r new → NoneSent j new
 repeats_item gives s p octets (stamp.Control count) j new r x = arrives gives s p (record { octets = octets; stamp = stamp.Control count }) j new r x
 repeats_item gives s p octets (stamp.Data system agg conv serial) j new r x = same j new x.1
 
-repeats : (gives : Algorithms) (s : Side) (l : LinkState) (xs : List Carried) (j new : WorldState) (r : Reply) → RepeatsFrom gives s l xs j r new → NoneSent j new
+repeats : (gives : Algorithms) (s : Side) (l : LinkState) (xs : List ItemValue) (j new : WorldState) (r : Reply) → RepeatsFrom gives s l xs j r new → NoneSent j new
 repeats gives s l [] j new r x = same j new x.1
 repeats gives s l (item ∷ rest) j new r x = repeats_item gives s (port_at s l) item.octets item.stamp j new r x
 
-forced_where_sent : (a : Result Unit SystemFault) (agg : AggId) (conv : ℕ) (h : HalfState) → SameSent h (forced_where a agg conv h)
+forced_where_sent : (a : Result Unit SystemFault) (agg : AggId) (conv : ℕ) (h : HalfState) → SameSent h (forced_if_accepted a agg conv h)
 forced_where_sent (Ok done) agg conv h = read_same sent_in with_forced agg.0 conv h.flows forced_kept
 forced_where_sent (Err fault) agg conv h = λ g k. refl
 
 -- a frame is sent of one aggregator alone
 counted : (s : Side) (agg : AggId) (octets : List ℕ) (j : WorldState) (t : Side) (g k : ℕ) → (t ≡ s → g ≡ agg.0 → ⊥)
-    → sent_of t g k (with_half s (count_sent agg octets (half s j)) j) ≡ sent_of t g k j
+    → sent_of t g k (with_half s (with_frame_counted agg octets (half s j)) j) ≡ sent_of t g k j
 counted One agg octets j One g k free = ap sent_in (flow_other_row with_sent agg.0 (number_of_conversation j.one.state octets) g k j.one.flows (λ e. free refl e))
 counted One agg octets j Two g k free = refl
 counted Two agg octets j One g k free = refl
 counted Two agg octets j Two g k free = ap sent_in (flow_other_row with_sent agg.0 (number_of_conversation j.two.state octets) g k j.two.flows (λ e. free refl e))
 
-offered_on : (s : Side) (agg : AggId) (octets : List ℕ) (a : Result ℕ SystemFault) (j new : WorldState) (r : Reply) → Offered s agg octets a j r new
+offered_on : (s : Side) (agg : AggId) (octets : List ℕ) (a : Result ℕ SystemFault) (j new : WorldState) (r : Reply) → AfterOffer s agg octets a j r new
     → (t : Side) (g k : ℕ) → (t ≡ s → g ≡ agg.0 → ⊥) → sent_of t g k new ≡ sent_of t g k j
 offered_on s agg octets (Err fault) j new r x t g k free = ap (sent_of t g k) x.1
 offered_on s agg octets (Ok port) j new r x t g k free = ap (sent_of t g k) x.2 ∙ counted s agg octets j t g k free
@@ -222,14 +222,14 @@ does_keep gives (event.Force n agg conv) r old new x t g k free =
     let mid = with_half s (half s new) old in
     followed old mid new
     (of_half s (half s new) old
-    (λ h i. ap (λ (y : HalfState). sent_in (serials_at y.flows h i)) v.2.0.4 ∙ forced_where_sent v.2.0.0 agg conv v.2.0.1 h i ∙ ap (λ (y : HalfState). sent_in (serials_at y.flows h i)) v.2.0.2.same))
+    (λ h i. ap (λ (y : HalfState). sent_in (flow_at y.flows h i)) v.2.0.4 ∙ forced_where_sent v.2.0.0 agg conv v.2.0.1 h i ∙ ap (λ (y : HalfState). sent_in (flow_at y.flows h i)) v.2.0.2.same))
     (same mid new v.2.1) t g k
 
 neither : (a b : Bool) → (a || b) ≡ false → (a ≡ false) × (b ≡ false)
 neither true b h = absurd (true≢false h)
 neither false b h = (refl, h)
 
-runs_keep : (gives : Algorithms) (es : List Event) (rs : List Reply) (old new : WorldState) → Runs gives old es rs new
+runs_keep : (gives : Algorithms) (es : List Event) (rs : List Reply) (old new : WorldState) → WorldRuns gives old es rs new
     → (t : Side) (g k : ℕ) → is_offered (side_number t) g es ≡ false → sent_of t g k new ≡ sent_of t g k old
 runs_keep gives [] [] old new x t g k free = ap (sent_of t g k) x
 runs_keep gives [] (r ∷ rs) old new x t g k free = absurd x
@@ -239,32 +239,32 @@ runs_keep gives (e ∷ es) (r ∷ rs) old new (mid, step, rest) t g k free =
     runs_keep gives es rs mid new rest t g k parts.1 ∙ does_keep gives e r old (record mid { acted = old.acted }) step.0 t g k parts.0
 
 first_sent : (j : WorldState) (t : Side) (g k : ℕ) → IsStart j → sent_of t g k j ≡ []
-first_sent j t g k start = none_sent (serials_at (half t j).flows g k) refl
+first_sent j t g k start = none_sent (flow_at (half t j).flows g k) refl
   where
-    none_sent : (o : Option Serials) → serials_at (half t j).flows g k ≡ o → sent_in o ≡ []
+    none_sent : (o : Option FlowValue) → flow_at (half t j).flows g k ≡ o → sent_in o ≡ []
     none_sent None e = refl
     none_sent (Some x) e = (start.flows t g k x e).0
 
 -- after a run from the start only aggregators sent that frames were offered to
-pub sent_where_offered : (gives : Algorithms) (from to : WorldState) (es : List Event) (rs : List Reply) → IsStart from → Runs gives from es rs to → IsSentWhereOffered es to
+pub sent_where_offered : (gives : Algorithms) (from to : WorldState) (es : List Event) (rs : List Reply) → IsStart from → WorldRuns gives from es rs to → IsSentWhereOffered es to
 sent_where_offered gives from to es rs start ran s g free k = by_side (side_of s) refl
   where
-    by_side : (o : Option Side) → side_of s ≡ o → sent_in (serials_of_system (side_of s) g k to) ≡ []
-    by_side None e = ap (λ o. sent_in (serials_of_system o g k to)) e
+    by_side : (o : Option Side) → side_of s ≡ o → sent_in (flow_of_system (side_of s) g k to) ≡ []
+    by_side None e = ap (λ o. sent_in (flow_of_system o g k to)) e
     by_side (Some t) e =
-        ap (λ o. sent_in (serials_of_system o g k to)) e
+        ap (λ o. sent_in (flow_of_system o g k to)) e
         ∙ runs_keep gives es rs from to ran t g k (subst (λ n. is_offered n g es ≡ false) (number_named s t e) free)
         ∙ first_sent from t g k start
 
-no_line : (s agg conv : ℕ) (x : Option Serials) → sent_in x ≡ [] → flow_line s agg conv x ≡ []
+no_line : (s agg conv : ℕ) (x : Option FlowValue) → sent_in x ≡ [] → flow_line s agg conv x ≡ []
 no_line s agg conv x e = cond_true (length (sent_in x) == 0) [] _ (ap (λ xs. length xs == 0) e)
 
 -- an aggregator that sent nothing has no lines
-pub no_row : (j : WorldState) (s agg : ℕ) → IsQuiet j s agg → aggregator_flows_text j s agg ≡ []
-no_row j s agg quiet = empties (λ conv. flow_line s agg conv (serials_of_system (side_of s) agg conv j)) 0 conversations_per_aggregator (λ c le. no_line s agg c (serials_of_system (side_of s) agg c j) (quiet c))
+pub no_row : (j : WorldState) (s agg : ℕ) → HasSentNothing j s agg → aggregator_flows_text j s agg ≡ []
+no_row j s agg quiet = empties (λ conv. flow_line s agg conv (flow_of_system (side_of s) agg conv j)) 0 conversations_per_aggregator (λ c le. no_line s agg c (flow_of_system (side_of s) agg c j) (quiet c))
 
 -- and is left out
-pub row_skipped : (t u v : List ℕ) (j : WorldState) (s i : ℕ) → u ≡ t ++ flat_map (aggregator_flows_text j s) (range_with_len 1 i) → v ≡ u → IsQuiet j s (i + 1)
+pub row_skipped : (t u v : List ℕ) (j : WorldState) (s i : ℕ) → u ≡ t ++ flat_map (aggregator_flows_text j s) (range_with_len 1 i) → v ≡ u → HasSentNothing j s (i + 1)
     → v ≡ t ++ flat_map (aggregator_flows_text j s) (range_with_len 1 (i + 1))
 row_skipped t u v j s i before same quiet =
     appended_both t u v (flat_map (aggregator_flows_text j s) (range_with_len 1 i)) [] (flat_map (aggregator_flows_text j s) (range_with_len 1 (i + 1))) before

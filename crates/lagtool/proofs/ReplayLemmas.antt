@@ -4,7 +4,7 @@ use Rattle.std.specs.Fmt.{decimal}
 use Rattle.std.specs.Prelude.{option_map, slice_get}
 use Rattle.std.proofs.lemmas.Option.{none-some}
 use Rattle.lagworld.specs.Agreement.{agreement_at, agreement_of, end_facts}
-use Rattle.lagworld.specs.Events.{Algorithms, Runs}
+use Rattle.lagworld.specs.Events.{Algorithms, WorldRuns}
 use Rattle.lagworld.specs.State.{WorldState, LinkState}
 use Rattle.std.specs.Prelude.{flat_map}
 use Rattle.std.specs.List.{range_with_len}
@@ -86,7 +86,7 @@ no_more_cables j (suc i) (suc k) one le h =
     ap (option_map (λ (l : LinkState). agreement_of (end_facts j.one l.one) (end_facts j.two l.two))) (past j.links i k (none_agrees _ (slice_get j.links i) h) (omega arith))
 
 -- as many replies as events
-pub as_many : (gives : Algorithms) (old new : WorldState) (es : List Event) (rs : List Reply) → Runs gives old es rs new → length rs ≡ length es
+pub as_many : (gives : Algorithms) (old new : WorldState) (es : List Event) (rs : List Reply) → WorldRuns gives old es rs new → length rs ≡ length es
 as_many gives old new [] [] h = refl
 as_many gives old new [] (r ∷ rs) h = absurd h
 as_many gives old new (e ∷ es) [] h = absurd h

@@ -8,8 +8,8 @@ use Rattle.std.specs.Io.KnownBytes.{Appends, IsAtEnd}
 use Rattle.memchr.specs.Find.{Nowhere, Passes, is_byte}
 use Rattle.hex.specs.Hex.{decode_of}
 use Rattle.lagtool.specs.CheckEnds.{Checks, Completes, HasCause, Stops}
-use Rattle.lagtool.specs.CheckReport.{line_if_any, counted_from, counts_text, ended_lines_text, faults_of, lines_of, newline_count, numbered, continue_line, report, report_from, summary, verdicts_from}
-use Rattle.lagtool.specs.Scans.{ReadsOctets, ScanState, counts_after, said_after, unwritten}
+use Rattle.lagtool.specs.CheckReport.{line_if_any, summary_from, summary_text, ended_lines_text, fault_count, lines_of, newline_count, verdict_line, continue_line, check_report, check_report_from, summary, verdicts_from}
+use Rattle.lagtool.specs.Scans.{ReadsOctets, ScanState, summary_after, to_write_after, unwritten}
 use Rattle.lagtool.specs.Sinks.{AppendsPart, SinkState, WritesWhole}
 use Rattle.lagtool.specs.Sources.{Fails, Gives, SourceState}
 use Rattle.lagtool.specs.Verdicts.{hex_verdict, is_fault, line_verdict, verdict_text, without_return}
@@ -87,20 +87,20 @@ newlines_joined (b ∷ bs) rest h =
 
 -- what is still to come after n lines with k faults, and some octets of the next
 abbrev pub pending : ℕ → ℕ → List ℕ → List ℕ → List ℕ
-pending n k line rest = report_from n k (continue_line line (lines_of rest))
+pending n k line rest = check_report_from n k (continue_line line (lines_of rest))
 
 abbrev pub counts : ℕ → ℕ → List ℕ → List ℕ → Summary
-counts n k line rest = counted_from n k (continue_line line (lines_of rest))
+counts n k line rest = summary_from n k (continue_line line (lines_of rest))
 
 -- what is said of the lines that these octets end, after n lines and some octets of the next
 abbrev pub ended : ℕ → List ℕ → List ℕ → List ℕ
 ended n line rest = verdicts_from n (take (newline_count rest) (continue_line line (lines_of rest)))
 
-same_report : (n k : ℕ) (l m : List ℕ) (ls : List (List ℕ)) → line_verdict l ≡ line_verdict m → report_from n k (l ∷ ls) ≡ report_from n k (m ∷ ls)
-same_report n k l m ls e = ap (λ (v : Verdict). (decimal (n + 1) ++ 32 ∷ (verdict_text v ++ 10 ∷ [])) ++ report_from (n + 1) (k + cond (is_fault v) 1 0) ls) e
+same_report : (n k : ℕ) (l m : List ℕ) (ls : List (List ℕ)) → line_verdict l ≡ line_verdict m → check_report_from n k (l ∷ ls) ≡ check_report_from n k (m ∷ ls)
+same_report n k l m ls e = ap (λ (v : Verdict). (decimal (n + 1) ++ 32 ∷ (verdict_text v ++ 10 ∷ [])) ++ check_report_from (n + 1) (k + cond (is_fault v) 1 0) ls) e
 
-same_counts : (n k : ℕ) (l m : List ℕ) (ls : List (List ℕ)) → line_verdict l ≡ line_verdict m → counted_from n k (l ∷ ls) ≡ counted_from n k (m ∷ ls)
-same_counts n k l m ls e = ap (λ (v : Verdict). counted_from (n + 1) (k + cond (is_fault v) 1 0) ls) e
+same_counts : (n k : ℕ) (l m : List ℕ) (ls : List (List ℕ)) → line_verdict l ≡ line_verdict m → summary_from n k (l ∷ ls) ≡ summary_from n k (m ∷ ls)
+same_counts n k l m ls e = ap (λ (v : Verdict). summary_from (n + 1) (k + cond (is_fault v) 1 0) ls) e
 
 same_verdicts : (n c : ℕ) (l m : List ℕ) (ls : List (List ℕ)) → line_verdict l ≡ line_verdict m → verdicts_from n (take c (l ∷ ls)) ≡ verdicts_from n (take c (m ∷ ls))
 same_verdicts n zero l m ls e = refl
@@ -120,31 +120,31 @@ on_ok (Ok x) h = h refl
 on_ok (Err e) h = tt
 
 -- more octets of a line were kept
-pub keeps : (s t : ScanState) (xs : List ℕ) (n : ℕ) → t.said ≡ s.said → t.lines ≡ s.lines → t.faults ≡ s.faults → t.line ≡ s.line ++ take n xs
+pub keeps : (s t : ScanState) (xs : List ℕ) (n : ℕ) → t.to_write ≡ s.to_write → t.lines ≡ s.lines → t.faults ≡ s.faults → t.line ≡ s.line ++ take n xs
     → InOneLine xs → length s.line ≤ 65537 → n ≡ min (length xs) (65537 - length s.line) → ReadsOctets s t xs
 keeps s t xs n e f g h in_line short is = record {
-  report = λ rest. ap (λ zs. s.said ++ zs) (kept_line (report_from s.lines s.faults) (same_report s.lines s.faults) s.line xs rest n in_line short is)
+  report = λ rest. ap (λ zs. s.to_write ++ zs) (kept_line (check_report_from s.lines s.faults) (same_report s.lines s.faults) s.line xs rest n in_line short is)
       ∙ sym (same_unwritten _ _ _ _ _ _ _ _ rest e f g h);
-  said = λ rest. ap (λ c. s.said ++ verdicts_from s.lines (take c (continue_line s.line (lines_of (xs ++ rest))))) (newlines_joined xs rest in_line)
-      ∙ ap (λ zs. s.said ++ zs) (kept_line (λ ls. verdicts_from s.lines (take (newline_count rest) ls)) (same_verdicts s.lines (newline_count rest)) s.line xs rest n in_line short is)
+  to_write = λ rest. ap (λ c. s.to_write ++ verdicts_from s.lines (take c (continue_line s.line (lines_of (xs ++ rest))))) (newlines_joined xs rest in_line)
+      ∙ ap (λ zs. s.to_write ++ zs) (kept_line (λ ls. verdicts_from s.lines (take (newline_count rest) ls)) (same_verdicts s.lines (newline_count rest)) s.line xs rest n in_line short is)
       ∙ sym (same_said _ _ _ _ _ _ rest e f h);
-  counts = λ rest. kept_line (counted_from s.lines s.faults) (same_counts s.lines s.faults) s.line xs rest n in_line short is ∙ sym (same_counted _ _ _ _ _ _ rest f g h);
+  counts = λ rest. kept_line (summary_from s.lines s.faults) (same_counts s.lines s.faults) s.line xs rest n in_line short is ∙ sym (same_counted _ _ _ _ _ _ rest f g h);
 }
 
 -- a newline ended a line
-pub ends_line : (s t : ScanState) → t.said ≡ s.said ++ numbered (s.lines + 1) s.line → t.lines ≡ s.lines + 1
-    → t.faults ≡ s.faults + faults_of s.line → t.line ≡ [] → ReadsOctets s t (10 ∷ [])
+pub ends_line : (s t : ScanState) → t.to_write ≡ s.to_write ++ verdict_line (s.lines + 1) s.line → t.lines ≡ s.lines + 1
+    → t.faults ≡ s.faults + fault_count s.line → t.line ≡ [] → ReadsOctets s t (10 ∷ [])
 ends_line s t e f g h = record {
-  report = λ rest. ap (λ l. s.said ++ report_from s.lines s.faults (l ∷ lines_of rest)) (append-nil s.line)
-      ∙ sym (append_assoc s.said (numbered (s.lines + 1) s.line) (report_from (s.lines + 1) (s.faults + faults_of s.line) (lines_of rest)))
-      ∙ ap (λ ls. (s.said ++ numbered (s.lines + 1) s.line) ++ report_from (s.lines + 1) (s.faults + faults_of s.line) ls) (sym (prepend_none (lines_of rest)))
+  report = λ rest. ap (λ l. s.to_write ++ check_report_from s.lines s.faults (l ∷ lines_of rest)) (append-nil s.line)
+      ∙ sym (append_assoc s.to_write (verdict_line (s.lines + 1) s.line) (check_report_from (s.lines + 1) (s.faults + fault_count s.line) (lines_of rest)))
+      ∙ ap (λ ls. (s.to_write ++ verdict_line (s.lines + 1) s.line) ++ check_report_from (s.lines + 1) (s.faults + fault_count s.line) ls) (sym (prepend_none (lines_of rest)))
       ∙ sym (same_unwritten _ _ _ _ _ _ _ _ rest e f g h);
-  said = λ rest. ap (λ l. s.said ++ (numbered (s.lines + 1) l ++ verdicts_from (s.lines + 1) (take (newline_count rest) (lines_of rest)))) (append-nil s.line)
-      ∙ sym (append_assoc s.said (numbered (s.lines + 1) s.line) (verdicts_from (s.lines + 1) (take (newline_count rest) (lines_of rest))))
-      ∙ ap (λ ls. (s.said ++ numbered (s.lines + 1) s.line) ++ verdicts_from (s.lines + 1) (take (newline_count rest) ls)) (sym (prepend_none (lines_of rest)))
+  to_write = λ rest. ap (λ l. s.to_write ++ (verdict_line (s.lines + 1) l ++ verdicts_from (s.lines + 1) (take (newline_count rest) (lines_of rest)))) (append-nil s.line)
+      ∙ sym (append_assoc s.to_write (verdict_line (s.lines + 1) s.line) (verdicts_from (s.lines + 1) (take (newline_count rest) (lines_of rest))))
+      ∙ ap (λ ls. (s.to_write ++ verdict_line (s.lines + 1) s.line) ++ verdicts_from (s.lines + 1) (take (newline_count rest) ls)) (sym (prepend_none (lines_of rest)))
       ∙ sym (same_said _ _ _ _ _ _ rest e f h);
-  counts = λ rest. ap (λ l. counted_from s.lines s.faults (l ∷ lines_of rest)) (append-nil s.line)
-      ∙ ap (counted_from (s.lines + 1) (s.faults + faults_of s.line)) (sym (prepend_none (lines_of rest)))
+  counts = λ rest. ap (λ l. summary_from s.lines s.faults (l ∷ lines_of rest)) (append-nil s.line)
+      ∙ ap (summary_from (s.lines + 1) (s.faults + fault_count s.line)) (sym (prepend_none (lines_of rest)))
       ∙ sym (same_counted _ _ _ _ _ _ rest f g h);
 }
 
@@ -161,18 +161,18 @@ pub rest_length : (rest : List ℕ) (n : ℕ) → n < length rest → length (ta
 rest_length rest n lt = ap (λ xs. length xs + (n + 1)) (take_rest rest (n + 1)) ∙ ap (λ m. m + (n + 1)) (length-drop (n + 1) rest) ∙ omega arith
 
 pub reads_none : (s : ScanState) → ReadsOctets s s []
-reads_none s = record { report = λ rest. refl; said = λ rest. refl; counts = λ rest. refl }
+reads_none s = record { report = λ rest. refl; to_write = λ rest. refl; counts = λ rest. refl }
 
 pub reads_both : (a b c : ScanState) (xs ys : List ℕ) → ReadsOctets a b xs → ReadsOctets b c ys → ReadsOctets a c (xs ++ ys)
 reads_both a b c xs ys p q = record {
   report = λ rest. ap (unwritten a) (append_assoc xs ys rest) ∙ p.report (ys ++ rest) ∙ q.report rest;
-  said = λ rest. ap (said_after a) (append_assoc xs ys rest) ∙ p.said (ys ++ rest) ∙ q.said rest;
-  counts = λ rest. ap (counts_after a) (append_assoc xs ys rest) ∙ p.counts (ys ++ rest) ∙ q.counts rest;
+  to_write = λ rest. ap (to_write_after a) (append_assoc xs ys rest) ∙ p.to_write (ys ++ rest) ∙ q.to_write rest;
+  counts = λ rest. ap (summary_after a) (append_assoc xs ys rest) ∙ p.counts (ys ++ rest) ∙ q.counts rest;
 }
 
 -- what a write leaves
-pub all_said : (s t : ScanState) → t ≡ record s { said = [] } → (t.said ≡ []) × (t.lines ≡ s.lines)
-all_said s t e = (ap (λ v. v.said) e, ap (λ v. v.lines) e)
+pub all_said : (s t : ScanState) → t ≡ record s { to_write = [] } → (t.to_write ≡ []) × (t.lines ≡ s.lines)
+all_said s t e = (ap (λ v. v.to_write) e, ap (λ v. v.lines) e)
 
 pub reads_rest : {T E : Type 0} (r : Result T E) (a b c : ScanState) (all done rest : List ℕ) → all ≡ done ++ rest → ReadsOctets a b done → OnOk r (ReadsOctets b c rest) → OnOk r (ReadsOctets a c all)
 reads_rest (Ok x) a b c all done rest e p q = subst (ReadsOctets a c) (sym e) (reads_both a b c done rest p q)
@@ -180,12 +180,12 @@ reads_rest (Err x) a b c all done rest e p q = tt
 
 -- the stream ends behind some octets of a line, or behind none
 pub last_line : (n k : ℕ) (line : List ℕ) → 0 < length line
-    → (pending n k line [] ≡ numbered (n + 1) line ++ counts_text (record { checked = n + 1; faults = k + faults_of line })) × (counts n k line [] ≡ record { checked = n + 1; faults = k + faults_of line })
+    → (pending n k line [] ≡ verdict_line (n + 1) line ++ summary_text (record { checked = n + 1; faults = k + fault_count line })) × (counts n k line [] ≡ record { checked = n + 1; faults = k + fault_count line })
 last_line n k [] h = absurd (omega arith)
 last_line n k (x ∷ xs) h = (refl, refl)
 
 pub no_last_line : (n k : ℕ) (line : List ℕ) → length line ≡ 0
-    → (pending n k line [] ≡ counts_text (record { checked = n; faults = k })) × (counts n k line [] ≡ record { checked = n; faults = k })
+    → (pending n k line [] ≡ summary_text (record { checked = n; faults = k })) × (counts n k line [] ≡ record { checked = n; faults = k })
 no_last_line n k [] h = (refl, refl)
 no_last_line n k (x ∷ xs) h = absurd (omega arith)
 
@@ -196,19 +196,19 @@ module _ {R W : Type 0} (remaining : R → Option (List ℕ)) (contents : W → 
     pub read : Gives remaining from to octets
     pub out : List ℕ
     pub written : WritesWhole contents old new out
-    pub report_is : (rest : List ℕ) → report (octets ++ rest) ≡ out ++ unwritten s rest
-    pub said_is : (rest : List ℕ) → ended_lines_text (octets ++ rest) ≡ out ++ said_after s rest
-    pub counts_are : (rest : List ℕ) → summary (octets ++ rest) ≡ counts_after s rest
+    pub report_is : (rest : List ℕ) → check_report (octets ++ rest) ≡ out ++ unwritten s rest
+    pub said_is : (rest : List ℕ) → ended_lines_text (octets ++ rest) ≡ out ++ to_write_after s rest
+    pub counts_are : (rest : List ℕ) → summary (octets ++ rest) ≡ summary_after s rest
 
-  pub told_none : (r : SourceState R) (w : SinkState W) (s : ScanState) → s.said ≡ [] → s.lines ≡ 0 → s.faults ≡ 0 → s.line ≡ [] → Told r r w w s
+  pub told_none : (r : SourceState R) (w : SinkState W) (s : ScanState) → s.to_write ≡ [] → s.lines ≡ 0 → s.faults ≡ 0 → s.line ≡ [] → Told r r w w s
   told_none r w s e f g h = record {
     octets = [];
     read = record { read = consumes_none (remaining r.reader); failed = refl; left = omega arith };
     out = [];
     written = record { written = appends_none (contents w.writer); failed = refl };
-    report_is = λ rest. ap (report_from 0 0) (sym (prepend_none (lines_of rest))) ∙ sym (same_unwritten _ [] _ 0 _ 0 _ [] rest e f g h);
+    report_is = λ rest. ap (check_report_from 0 0) (sym (prepend_none (lines_of rest))) ∙ sym (same_unwritten _ [] _ 0 _ 0 _ [] rest e f g h);
     said_is = λ rest. ap (λ ls. verdicts_from 0 (take (newline_count rest) ls)) (sym (prepend_none (lines_of rest))) ∙ sym (same_said _ [] _ 0 _ [] rest e f h);
-    counts_are = λ rest. ap (counted_from 0 0) (sym (prepend_none (lines_of rest))) ∙ sym (same_counted _ 0 _ 0 _ [] rest f g h);
+    counts_are = λ rest. ap (summary_from 0 0) (sym (prepend_none (lines_of rest))) ∙ sym (same_counted _ 0 _ 0 _ [] rest f g h);
   }
 
   gives_both : (a b c : SourceState R) (xs ys : List ℕ) → Gives remaining a b xs → Gives remaining b c ys → Gives remaining a c (xs ++ ys)
@@ -225,22 +225,22 @@ module _ {R W : Type 0} (remaining : R → Option (List ℕ)) (contents : W → 
       read = gives_both from mid to p.octets ys p.read c;
       out = p.out;
       written = p.written;
-      report_is = λ rest. ap report (append_assoc p.octets ys rest) ∙ p.report_is (ys ++ rest) ∙ ap (λ zs. p.out ++ zs) (q.report rest);
-      said_is = λ rest. ap ended_lines_text (append_assoc p.octets ys rest) ∙ p.said_is (ys ++ rest) ∙ ap (λ zs. p.out ++ zs) (q.said rest);
+      report_is = λ rest. ap check_report (append_assoc p.octets ys rest) ∙ p.report_is (ys ++ rest) ∙ ap (λ zs. p.out ++ zs) (q.report rest);
+      said_is = λ rest. ap ended_lines_text (append_assoc p.octets ys rest) ∙ p.said_is (ys ++ rest) ∙ ap (λ zs. p.out ++ zs) (q.to_write rest);
       counts_are = λ rest. ap summary (append_assoc p.octets ys rest) ∙ p.counts_are (ys ++ rest) ∙ q.counts rest;
     }
 
-    pub told_writes : (t : ScanState) → Told from mid old half s → WritesWhole contents half new s.said → t ≡ record s { said = [] } → Told from mid old new t
+    pub told_writes : (t : ScanState) → Told from mid old half s → WritesWhole contents half new s.to_write → t ≡ record s { to_write = [] } → Told from mid old new t
     told_writes t p a e = record {
       octets = p.octets;
       read = p.read;
-      out = p.out ++ s.said;
+      out = p.out ++ s.to_write;
       written = takes_more contents _ _ _ _ _ p.written a;
-      report_is = λ rest. p.report_is rest ∙ sym (append_assoc p.out s.said (pending s.lines s.faults s.line rest))
-          ∙ ap (λ zs. (p.out ++ s.said) ++ zs) (sym (ap (λ v. unwritten v rest) e));
-      said_is = λ rest. p.said_is rest ∙ sym (append_assoc p.out s.said (ended s.lines s.line rest))
-          ∙ ap (λ zs. (p.out ++ s.said) ++ zs) (sym (ap (λ v. said_after v rest) e));
-      counts_are = λ rest. p.counts_are rest ∙ sym (ap (λ v. counts_after v rest) e);
+      report_is = λ rest. p.report_is rest ∙ sym (append_assoc p.out s.to_write (pending s.lines s.faults s.line rest))
+          ∙ ap (λ zs. (p.out ++ s.to_write) ++ zs) (sym (ap (λ v. unwritten v rest) e));
+      said_is = λ rest. p.said_is rest ∙ sym (append_assoc p.out s.to_write (ended s.lines s.line rest))
+          ∙ ap (λ zs. (p.out ++ s.to_write) ++ zs) (sym (ap (λ v. to_write_after v rest) e));
+      counts_are = λ rest. p.counts_are rest ∙ sym (ap (λ v. summary_after v rest) e);
     }
 
     -- an empty piece
@@ -248,13 +248,13 @@ module _ {R W : Type 0} (remaining : R → Option (List ℕ)) (contents : W → 
     told_still ys p c none = told_reads s ys p c (subst (ReadsOctets s s) (sym none) (reads_none s))
 
     -- if nothing is said but not written, all is written of the lines that were ended
-    all_written : (p : Told from mid old half s) → s.said ≡ [] → p.out ≡ ended_lines_text p.octets
+    all_written : (p : Told from mid old half s) → s.to_write ≡ [] → p.out ≡ ended_lines_text p.octets
     all_written p e = sym (ap ended_lines_text (sym (append-nil p.octets)) ∙ p.said_is [] ∙ ap (λ zs. p.out ++ (zs ++ [])) e ∙ append-nil p.out)
 
-    pub stops_reading : Told from mid old half s → s.said ≡ [] → Fails remaining mid to → Stops remaining contents from to old half Read
+    pub stops_reading : Told from mid old half s → s.to_write ≡ [] → Fails remaining mid to → Stops remaining contents from to old half Read
     stops_reading p e fails = record { octets = p.octets; before = mid; read = p.read; fails = fails; written = subst (WritesWhole contents old half) (all_written p e) p.written }
 
-    pub stops_short : (ys : List ℕ) → Told from mid old half s → s.said ≡ [] → Gives remaining mid to ys → length ys ≤ 4096 → Stops remaining contents from to old half NoMemory
+    pub stops_short : (ys : List ℕ) → Told from mid old half s → s.to_write ≡ [] → Gives remaining mid to ys → length ys ≤ 4096 → Stops remaining contents from to old half NoMemory
     stops_short ys p e c short = record {
       octets = p.octets;
       last = ys;
@@ -264,27 +264,27 @@ module _ {R W : Type 0} (remaining : R → Option (List ℕ)) (contents : W → 
     }
 
     -- a beginning of what was said is written
-    pub stops_writing : (ys said tail : List ℕ) → Told from mid old half s → s.said ≡ [] → Gives remaining mid to ys → length ys ≤ 4096 → unwritten s ys ≡ said ++ tail
-        → AppendsPart (contents half.writer) (contents new.writer) said → Stops remaining contents from to old new Write
-    stops_writing ys said tail p e c short is b =
+    pub stops_writing : (ys to_write tail : List ℕ) → Told from mid old half s → s.to_write ≡ [] → Gives remaining mid to ys → length ys ≤ 4096 → unwritten s ys ≡ to_write ++ tail
+        → AppendsPart (contents half.writer) (contents new.writer) to_write → Stops remaining contents from to old new Write
+    stops_writing ys to_write tail p e c short is b =
         let n = b.0 in
         let out = all_written p e in record {
           octets = p.octets;
           last = ys;
           read = gives_both from mid to p.octets ys p.read c;
           one_read = short;
-          more = take n said;
-          unsaid = drop n said ++ tail;
-          written = subst (λ o. Appends (contents old.writer) (contents new.writer) (o ++ take n said)) out (appends_both _ _ _ p.out (take n said) p.written.written b.1);
-          report_is = p.report_is ys ∙ ap (λ zs. p.out ++ zs) (is ∙ ap (λ zs. zs ++ tail) (sym (take-append-drop n said)) ∙ append_assoc (take n said) (drop n said) tail)
-              ∙ sym (append_assoc p.out (take n said) (drop n said ++ tail)) ∙ ap (λ o. (o ++ take n said) ++ (drop n said ++ tail)) out;
+          more = take n to_write;
+          unsaid = drop n to_write ++ tail;
+          written = subst (λ o. Appends (contents old.writer) (contents new.writer) (o ++ take n to_write)) out (appends_both _ _ _ p.out (take n to_write) p.written.written b.1);
+          report_is = p.report_is ys ∙ ap (λ zs. p.out ++ zs) (is ∙ ap (λ zs. zs ++ tail) (sym (take-append-drop n to_write)) ∙ append_assoc (take n to_write) (drop n to_write) tail)
+              ∙ sym (append_assoc p.out (take n to_write) (drop n to_write ++ tail)) ∙ ap (λ o. (o ++ take n to_write) ++ (drop n to_write ++ tail)) out;
         }
 
     -- all is written
-    pub ends : (said : List ℕ) (counts : Summary) → Told from mid old half s → said ≡ unwritten s [] → counts ≡ counts_after s [] → IsAtEnd (remaining mid.reader)
-        → WritesWhole contents half new said → Completes remaining contents from mid old new counts
-    ends said counts p e k end a =
-        let whole : report p.octets ≡ p.out ++ said = ap report (sym (append-nil p.octets)) ∙ p.report_is [] ∙ ap (λ zs. p.out ++ zs) (sym e) in
+    pub ends : (to_write : List ℕ) (counts : Summary) → Told from mid old half s → to_write ≡ unwritten s [] → counts ≡ summary_after s [] → IsAtEnd (remaining mid.reader)
+        → WritesWhole contents half new to_write → Completes remaining contents from mid old new counts
+    ends to_write counts p e k end a =
+        let whole : check_report p.octets ≡ p.out ++ to_write = ap check_report (sym (append-nil p.octets)) ∙ p.report_is [] ∙ ap (λ zs. p.out ++ zs) (sym e) in
         record {
           octets = p.octets;
           read = p.read.read;

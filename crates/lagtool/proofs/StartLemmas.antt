@@ -11,8 +11,8 @@ use Rattle.lagworld.specs.Events.{Algorithms}
 use Rattle.lagworld.specs.Making.{first_link, first_links}
 use Rattle.lagworld.specs.State.{WorldState, LinkState}
 use Rattle.lagworld.specs.declared.reply.Reply.{Reply}
-use Rattle.lagtool.specs.ReplayReport.{IsReplayed, IsReplayReport, Replays, agreements_text, entries_text, empty_link, empty_links, flows_text, report_text}
-use Rattle.lagtool.specs.ReplaySteps.{AreAggregatorCounts, report_with_counts}
+use Rattle.lagtool.specs.ReplayReport.{IsReportOfScript, IsReplayReport, Replays, agreements_text, entries_text, empty_link, empty_links, flows_text, replay_report}
+use Rattle.lagtool.specs.ReplaySteps.{AreAggregatorCounts, replay_report_with_counts}
 use Rattle.lagtool.specs.Sinks.{WritesPart, SinkState}
 use Rattle.lagtool.specs.declared.fault.ToolFault.{ToolFault}
 use Rattle.lagtool.specs.declared.fault.ToolFault.TheVariants.{Write}
@@ -38,7 +38,7 @@ empty_line a b limit e f g h = rw (e, f, g, h) refl
 
 -- the report by counts of aggregators is that of the systems
 pub reported_is : (first second : ℕ) (systems : List Config) (es : List Event) (rs : List Reply) (j : WorldState)
-    → AreAggregatorCounts first second systems → report_with_counts first second es rs j ≡ report_text systems es rs j
+    → AreAggregatorCounts first second systems → replay_report_with_counts first second es rs j ≡ replay_report systems es rs j
 reported_is first second [] es rs j h = absurd h
 reported_is first second (a ∷ []) es rs j h = absurd h
 reported_is first second (a ∷ b ∷ []) es rs j (e, f) =
@@ -47,7 +47,7 @@ reported_is first second (a ∷ b ∷ c ∷ rest) es rs j h = absurd h
 
 -- the report of the events of a plan is that of its text
 pub replayed_is : (gives : Algorithms) (text : List ℕ) (plan : Plan) (limits : List (Option ℕ)) (es : List Event) (report said : List ℕ)
-    → HasPlan text (plan_value plan) → limits ≡ plan.limits.items → es ≡ plan.events.items → said ≡ report → IsReplayReport gives plan.config limits es report → IsReplayed gives text said
+    → HasPlan text (plan_value plan) → limits ≡ plan.limits.items → es ≡ plan.events.items → said ≡ report → IsReplayReport gives plan.config limits es report → IsReportOfScript gives text said
 replayed_is gives text plan limits es report said has same_limits same_events says is = record {
   plan = plan;
   has = has;
@@ -56,6 +56,6 @@ replayed_is gives text plan limits es report said has same_limits same_events sa
 
 -- a report that could not be written whole
 pub write_failed : {W : Type 0} (contents : W → Option (List ℕ)) (gives : Algorithms) (text : List ℕ) (old new : SinkState W) (r : Result ⊤ ToolFault) (report : List ℕ)
-    → IsErrAnd r (λ e. e ≡ Write) → IsReplayed gives text report → WritesPart contents old new report → Replays contents gives text old new r
+    → IsErrAnd r (λ e. e ≡ Write) → IsReportOfScript gives text report → WritesPart contents old new report → Replays contents gives text old new r
 write_failed contents gives text old new (Ok x) report e is breaks = absurd e
 write_failed contents gives text old new (Err f) report e is breaks = subst (λ x. Replays contents gives text old new (Err x)) (sym e) (report, is, breaks)

@@ -1,7 +1,7 @@
 -- What `check` returns and has written (profile).
 use Rattle.std.specs.Prelude.{◌≡◌, ◌≤◌, ◌++◌, ℕ, Bool, true, false, List, length, Option, Result, Ok, Err}
 use Rattle.std.specs.Io.KnownBytes.{Appends, Consumes, IsAtEnd}
-use Rattle.lagtool.specs.CheckReport.{ended_lines_text, report, summary}
+use Rattle.lagtool.specs.CheckReport.{ended_lines_text, check_report, summary}
 use Rattle.lagtool.specs.Sinks.{SinkState, WritesWhole}
 use Rattle.lagtool.specs.Sources.{Fails, Gives, SourceState}
 use Rattle.lagtool.specs.declared.summary.Summary.{Summary}
@@ -45,7 +45,7 @@ module _ {R W : Type 0} (remaining : R → Option (List ℕ)) (contents : W → 
     pub more : List ℕ
     pub unsaid : List ℕ
     pub written : Appends (contents old.writer) (contents new.writer) (ended_lines_text octets ++ more)
-    pub report_is : report (octets ++ last) ≡ (ended_lines_text octets ++ more) ++ unsaid
+    pub report_is : check_report (octets ++ last) ≡ (ended_lines_text octets ++ more) ++ unsaid
 
   -- how `check` stopped with this fault: what it read and wrote until then
   abbrev pub Stops : SourceState R → SourceState R → SinkState W → SinkState W → ToolFault → Type 0
@@ -62,7 +62,7 @@ module _ {R W : Type 0} (remaining : R → Option (List ℕ)) (contents : W → 
     pub read : Consumes (remaining from.reader) (remaining to.reader) octets
     pub unfailed : to.failed ≡ from.failed
     pub end : IsAtEnd (remaining to.reader)
-    pub written : WritesWhole contents old new (report octets)
+    pub written : WritesWhole contents old new (check_report octets)
     pub counts_are : counts ≡ summary octets
 
   -- what `check` read and wrote, for its result: counts of lines and faults, or why it stopped

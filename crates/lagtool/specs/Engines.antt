@@ -3,7 +3,7 @@ use Rattle.std.specs.Prelude.{◌≡◌, ⊤, ℕ, Bool, List, Option, Result, O
 use Rattle.hex.specs.Hex.{decode_of}
 use Rattle.lagtool.specs.declared.fault.ToolFault.{ToolFault}
 use Rattle.lagtool.specs.declared.fault.ToolFault.TheVariants.{Read, Write, NoMemory, Script, NotHex, NotMac}
-use Rattle.lagtool.specs.Reports.{IsMac, IsReplied, IsShown}
+use Rattle.lagtool.specs.Reports.{IsMac, IsAnswerToHex, IsTextOfHex}
 use Rattle.lagtool.specs.Sinks.{WritesPart, SinkState, WritesWhole}
 
 -- why a text in hexadecimal gives no octets: it is not hexadecimal, or memory was refused
@@ -17,8 +17,8 @@ HasNoOctets hex NotMac = ⊥
 
 -- what `show` returns and has written: the whole text, a beginning of it, or nothing
 abbrev pub Shows : {W : Type 0} → (W → Option (List ℕ)) → List ℕ → SinkState W → SinkState W → Result Bool ToolFault → Type 0
-Shows contents hex old new (Ok accepted) = (text : List ℕ) × IsShown hex text accepted × WritesWhole contents old new text
-Shows contents hex old new (Err Write) = (text : List ℕ) × (accepted : Bool) × IsShown hex text accepted × WritesPart contents old new text
+Shows contents hex old new (Ok accepted) = (text : List ℕ) × IsTextOfHex hex text accepted × WritesWhole contents old new text
+Shows contents hex old new (Err Write) = (text : List ℕ) × (accepted : Bool) × IsTextOfHex hex text accepted × WritesPart contents old new text
 Shows contents hex old new (Err NoMemory) = new ≡ old
 Shows contents hex old new (Err NotHex) = IsErr (decode_of hex) × (new ≡ old)
 Shows contents hex old new (Err Read) = ⊥
@@ -31,8 +31,8 @@ SaysMac mac = (source : List ℕ) × IsMac mac source
 
 -- what `reply` returns and has written; the address is checked first
 abbrev pub Replies : {W : Type 0} → (W → Option (List ℕ)) → List ℕ → List ℕ → SinkState W → SinkState W → Result Bool ToolFault → Type 0
-Replies contents mac hex old new (Ok answered) = (text : List ℕ) × IsReplied mac hex text answered × WritesWhole contents old new text
-Replies contents mac hex old new (Err Write) = (text : List ℕ) × (answered : Bool) × IsReplied mac hex text answered
+Replies contents mac hex old new (Ok answered) = (text : List ℕ) × IsAnswerToHex mac hex text answered × WritesWhole contents old new text
+Replies contents mac hex old new (Err Write) = (text : List ℕ) × (answered : Bool) × IsAnswerToHex mac hex text answered
     × WritesPart contents old new text
 Replies contents mac hex old new (Err NoMemory) = SaysMac mac × (new ≡ old)
 Replies contents mac hex old new (Err NotHex) = SaysMac mac × IsErr (decode_of hex) × (new ≡ old)

@@ -11,11 +11,11 @@ use Rattle.lagscript.specs.declared.fault.ScriptFault.{ScriptFault}
 use Rattle.lagscript.specs.declared.fault.ScriptFault.TheVariants as script
 use Rattle.lagscript.specs.declared.plan.Plan.{Plan}
 use Rattle.lagworld.specs.Agreement.{agreement_at}
-use Rattle.lagworld.specs.Events.{Algorithms, Runs, side_of}
+use Rattle.lagworld.specs.Events.{Algorithms, WorldRuns, side_of}
 use Rattle.lagworld.specs.Making.{AreFirst, conversations_per_aggregator}
-use Rattle.lagworld.specs.Readers.{serials_of_system}
+use Rattle.lagworld.specs.Readers.{flow_of_system}
 use Rattle.lagworld.specs.Sound.{IsSound}
-use Rattle.lagworld.specs.State.{WorldState, LinkState, Serials, collected_in, forced_in, sent_in}
+use Rattle.lagworld.specs.State.{WorldState, LinkState, FlowValue, collected_in, forced_in, sent_in}
 use Rattle.lagworld.specs.declared.agreement.Agreement.{Agreement}
 use Rattle.lagworld.specs.declared.reply.Reply.{Reply}
 use Rattle.lagtool.specs.EntryTexts.{entry_text, agreement_text, reply_text}
@@ -45,7 +45,7 @@ cable_numbers = 65535
 abbrev pub agreements_text : WorldState → List ℕ
 agreements_text j = flat_map (λ c. agreement_line c (agreement_at j c)) (range_with_len 1 cable_numbers)
 
--- the serial numbers, with a space before each
+-- each serial number with a space before it; ` none` if there are none
 abbrev pub collected_text : List ℕ → List ℕ
 collected_text [] = codes " none"
 collected_text (n ∷ ns) = flat_map (λ serial. 32 ∷ decimal serial) (n ∷ ns)
@@ -55,7 +55,7 @@ abbrev pub forced_text : Bool → List ℕ
 forced_text forced = if forced then codes " forced" else []
 
 -- flow S/AGG/CONV sent N collected LIST, and whether it was forced; nothing if no frame was sent
-abbrev pub flow_line : ℕ → ℕ → ℕ → Option Serials → List ℕ
+abbrev pub flow_line : ℕ → ℕ → ℕ → Option FlowValue → List ℕ
 flow_line s agg conv x =
     if length (sent_in x) == 0 then []
     else codes "flow " ++ (decimal s ++ 47 ∷ (decimal agg ++ 47
@@ -64,7 +64,7 @@ flow_line s agg conv x =
 
 -- the lines of all conversations of one aggregator of system s
 abbrev pub aggregator_flows_text : WorldState → ℕ → ℕ → List ℕ
-aggregator_flows_text j s agg = flat_map (λ conv. flow_line s agg conv (serials_of_system (side_of s) agg conv j)) (range_with_len 0 conversations_per_aggregator)
+aggregator_flows_text j s agg = flat_map (λ conv. flow_line s agg conv (flow_of_system (side_of s) agg conv j)) (range_with_len 0 conversations_per_aggregator)
 
 -- the lines of all conversations of system s, which has this many aggregators
 abbrev pub flows_text : WorldState → ℕ → ℕ → List ℕ
@@ -76,8 +76,8 @@ both_flows_text j (a ∷ b ∷ []) = flows_text j 1 (length a.aggregators.items)
 both_flows_text j _ = []
 
 -- the report of these events with these replies, after which the world is this one
-abbrev pub report_text : List Config → List Event → List Reply → WorldState → List ℕ
-report_text systems events replies j = entries_text 1 events replies ++ (agreements_text j ++ both_flows_text j systems)
+abbrev pub replay_report : List Config → List Event → List Reply → WorldState → List ℕ
+replay_report systems events replies j = entries_text 1 events replies ++ (agreements_text j ++ both_flows_text j systems)
 
 -- a cable before any event: whole and empty, with this limit in each direction
 abbrev pub empty_link : ℕ × ℕ → Option ℕ → LinkState
@@ -91,24 +91,24 @@ empty_links _ _ = []
 
 -- These events were run, from the start of two systems and cables with these limits; the world at the end has the facts
 -- that the theorem proves.
-pub record IsPlayed (gives : Algorithms) (config : WorldConfig) (limits : List (Option ℕ)) (events : List Event) (replies : List Reply)
+pub record IsRunFromStart (gives : Algorithms) (config : WorldConfig) (limits : List (Option ℕ)) (events : List Event) (replies : List Reply)
     (to : WorldState) : Type 0 where
   pub from : WorldState
   pub systems : AreFirst config.systems from
   pub links : from.links ≡ empty_links config.cables.items limits
   pub acted : from.acted ≡ 0
-  pub runs : Runs gives from events replies to
+  pub runs : WorldRuns gives from events replies to
   pub sound : IsSound to
 
 -- the report of a run of these events
 pub record IsReplayReport (gives : Algorithms) (config : WorldConfig) (limits : List (Option ℕ)) (events : List Event) (report : List ℕ) : Type 0 where
   pub replies : List Reply
   pub to : WorldState
-  pub played : IsPlayed gives config limits events replies to
-  pub says : report ≡ report_text config.systems events replies to
+  pub played : IsRunFromStart gives config limits events replies to
+  pub says : report ≡ replay_report config.systems events replies to
 
 -- the report of the script in a text
-pub record IsReplayed (gives : Algorithms) (text report : List ℕ) : Type 0 where
+pub record IsReportOfScript (gives : Algorithms) (text report : List ℕ) : Type 0 where
   pub plan : Plan
   pub has : HasPlan text (plan_value plan)
   pub is_report : IsReplayReport gives plan.config plan.limits.items plan.events.items report
@@ -119,8 +119,8 @@ HasNoScript text fault = (fault ≡ script.NoMemory → ⊥) × IsRefused text f
 
 -- what `replay` returns and has written: the whole report, a beginning of it, or nothing
 abbrev pub Replays : {W : Type 0} → (W → Option (List ℕ)) → Algorithms → List ℕ → SinkState W → SinkState W → Result ⊤ ToolFault → Type 0
-Replays contents gives text old new (Ok done) = (report : List ℕ) × IsReplayed gives text report × WritesWhole contents old new report
-Replays contents gives text old new (Err Write) = (report : List ℕ) × IsReplayed gives text report × WritesPart contents old new report
+Replays contents gives text old new (Ok done) = (report : List ℕ) × IsReportOfScript gives text report × WritesWhole contents old new report
+Replays contents gives text old new (Err Write) = (report : List ℕ) × IsReportOfScript gives text report × WritesPart contents old new report
 Replays contents gives text old new (Err NoMemory) = new ≡ old
 Replays contents gives text old new (Err (Script fault)) = HasNoScript text fault × (new ≡ old)
 Replays contents gives text old new (Err Read) = ⊥

@@ -10,8 +10,8 @@ use Rattle.lagworld.specs.declared.reply.Reply.{Reply}
 use Rattle.lagtool.specs.ReplayReport.{agreements_text, entries_text, empty_link, flows_text}
 
 -- the report, if the systems have this many aggregators
-abbrev pub report_with_counts : ℕ → ℕ → List Event → List Reply → WorldState → List ℕ
-report_with_counts first second events replies j = entries_text 1 events replies
+abbrev pub replay_report_with_counts : ℕ → ℕ → List Event → List Reply → WorldState → List ℕ
+replay_report_with_counts first second events replies j = entries_text 1 events replies
     ++ (agreements_text j ++ (flows_text j 1 first ++ flows_text j 2 second))
 
 -- how many aggregators two systems have

@@ -9,7 +9,7 @@ use Rattle.slowpdu.specs.declared.frames.Kind.{Kind}
 use Rattle.slowpdu.specs.declared.frames.Kind.TheVariants.{Control, Data, TooShort}
 use Rattle.slowpdu.specs.Pdus.{IsDecoded}
 use Rattle.slowpdu.specs.Markers.{WritesMarker, response_to}
-use Rattle.slowpdu.specs.Frames.{IsKind, frame_octets}
+use Rattle.slowpdu.specs.Frames.{IsFrameOfKind, frame_octets}
 use Rattle.lagtool.specs.Texts.{pdu_text, wire_fault_text}
 
 -- the lines that `decode` prints for the PDU in a payload, or for why the payload is refused
@@ -23,51 +23,51 @@ payload_is_accepted (Ok v) = true
 payload_is_accepted (Err e) = false
 
 -- the text that `decode` prints for a payload, and whether it is accepted
-pub record IsPayloadReport (payload text : List ℕ) (accepted : Bool) : Type 0 where
+pub record IsTextOfPayload (payload text : List ℕ) (accepted : Bool) : Type 0 where
   pub decoded : Result Pdu WireFault
   pub is_decoded : IsDecoded payload decoded
   pub says : text ≡ decoded_text decoded
   pub verdict : accepted ≡ payload_is_accepted decoded
 
 -- the text that `decode` prints for a payload in hexadecimal, and whether it is accepted
-pub record IsShown (hex text : List ℕ) (accepted : Bool) : Type 0 where
+pub record IsTextOfHex (hex text : List ℕ) (accepted : Bool) : Type 0 where
   pub payload : List ℕ
   pub digits : decode_of hex ≡ Ok payload
-  pub report : IsPayloadReport payload text accepted
+  pub report : IsTextOfPayload payload text accepted
 
 -- the frame gets no response, and the text is the line that says why
-abbrev pub IsUnanswered : List ℕ → Bool → List ℕ → Type 0
-IsUnanswered text answered why = (text ≡ why) × (answered ≡ false)
+abbrev pub IsTextOfNoAnswer : List ℕ → Bool → List ℕ → Type 0
+IsTextOfNoAnswer text answered why = (text ≡ why) × (answered ≡ false)
 
 -- The text that `respond` prints for a marker: the frame of its response in lower-case hexadecimal; or the line that
 -- says that a Marker Response gets none.
-abbrev pub IsAnswer : List ℕ → List ℕ → Bool → Option Marker → Type 0
-IsAnswer mac text answered None = IsUnanswered text answered (codes "no answer marker-response\n")
-IsAnswer mac text answered (Some m) =
+abbrev pub IsAnswerToMarker : List ℕ → List ℕ → Bool → Option Marker → Type 0
+IsAnswerToMarker mac text answered None = IsTextOfNoAnswer text answered (codes "no answer marker-response\n")
+IsAnswerToMarker mac text answered (Some m) =
     (payload : List ℕ) × WritesMarker payload m × (text ≡ encode_lower (frame_octets mac payload) ++ 10 ∷ []) × (answered ≡ true)
 
 -- the text that `respond` prints for a decoded payload, and whether that gets a response
-abbrev pub AnswersPayload : List ℕ → List ℕ → Bool → Result Pdu WireFault → Type 0
-AnswersPayload mac text answered (Ok (pdu.Marker m)) = IsAnswer mac text answered (response_to m)
-AnswersPayload mac text answered (Ok (pdu.Lacpdu v)) = IsUnanswered text answered (codes "no answer lacpdu\n")
-AnswersPayload mac text answered (Err e) = IsUnanswered text answered (wire_fault_text e)
+abbrev pub IsAnswerToDecoded : List ℕ → List ℕ → Bool → Result Pdu WireFault → Type 0
+IsAnswerToDecoded mac text answered (Ok (pdu.Marker m)) = IsAnswerToMarker mac text answered (response_to m)
+IsAnswerToDecoded mac text answered (Ok (pdu.Lacpdu v)) = IsTextOfNoAnswer text answered (codes "no answer lacpdu\n")
+IsAnswerToDecoded mac text answered (Err e) = IsTextOfNoAnswer text answered (wire_fault_text e)
 
 -- the text that `respond` prints for the payload of a control frame, and whether that gets a response
-abbrev pub RepliesTo : List ℕ → List ℕ → List ℕ → Bool → Type 0
-RepliesTo mac payload text answered = (decoded : Result Pdu WireFault) × IsDecoded payload decoded
-    × AnswersPayload mac text answered decoded
+abbrev pub IsAnswerToPayload : List ℕ → List ℕ → List ℕ → Bool → Type 0
+IsAnswerToPayload mac payload text answered = (decoded : Result Pdu WireFault) × IsDecoded payload decoded
+    × IsAnswerToDecoded mac text answered decoded
 
 -- the text that `respond` prints for a frame of this kind, and whether that gets a response
-abbrev pub AnswersKind : List ℕ → List ℕ → Bool → Kind → Type 0
-AnswersKind mac text answered (Control payload) = RepliesTo mac payload.now text answered
-AnswersKind mac text answered Data = IsUnanswered text answered (codes "no answer data\n")
-AnswersKind mac text answered TooShort = IsUnanswered text answered (codes "no answer runt\n")
+abbrev pub IsAnswerToKind : List ℕ → List ℕ → Bool → Kind → Type 0
+IsAnswerToKind mac text answered (Control payload) = IsAnswerToPayload mac payload.now text answered
+IsAnswerToKind mac text answered Data = IsTextOfNoAnswer text answered (codes "no answer data\n")
+IsAnswerToKind mac text answered TooShort = IsTextOfNoAnswer text answered (codes "no answer runt\n")
 
 -- the text that `respond` prints for the octets of a frame, and whether the frame gets a response
-pub record IsReply (mac octets text : List ℕ) (answered : Bool) : Type 0 where
+pub record IsAnswerToFrame (mac octets text : List ℕ) (answered : Bool) : Type 0 where
   pub kind : Kind
-  pub is_kind : IsKind octets kind
-  pub answers : AnswersKind mac text answered kind
+  pub is_kind : IsFrameOfKind octets kind
+  pub answers : IsAnswerToKind mac text answered kind
 
 -- the text has twelve hexadecimal digits, and they are this MAC address
 pub record IsMac (text mac : List ℕ) : Type 0 where
@@ -76,9 +76,9 @@ pub record IsMac (text mac : List ℕ) : Type 0 where
 
 -- the text that `respond` prints for a MAC address and a frame, both in hexadecimal, and whether the frame gets a
 -- response
-pub record IsReplied (mac hex text : List ℕ) (answered : Bool) : Type 0 where
+pub record IsAnswerToHex (mac hex text : List ℕ) (answered : Bool) : Type 0 where
   pub source : List ℕ
   pub address : IsMac mac source
   pub octets : List ℕ
   pub digits : decode_of hex ≡ Ok octets
-  pub reply : IsReply source octets text answered
+  pub reply : IsAnswerToFrame source octets text answered

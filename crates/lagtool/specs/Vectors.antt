@@ -14,13 +14,13 @@ abbrev pub vector_line : ℕ → Bool → List ℕ
 vector_line n pass = 86 ∷ (decimal n ++ (if pass then codes " ok\n" else codes " failed\n"))
 
 -- a line for each vector; the first has this number
-abbrev pub lines_from : ℕ → List Bool → List ℕ
-lines_from n [] = []
-lines_from n (pass ∷ passed) = vector_line n pass ++ lines_from (n + 1) passed
+abbrev pub vector_lines_from : ℕ → List Bool → List ℕ
+vector_lines_from n [] = []
+vector_lines_from n (pass ∷ passed) = vector_line n pass ++ vector_lines_from (n + 1) passed
 
 -- all that `vectors` prints: a line for each vector, and then the counts
 abbrev pub vectors_text : List Bool → List ℕ
-vectors_text passed = lines_from 1 passed ++ (codes "vectors "
+vectors_text passed = vector_lines_from 1 passed ++ (codes "vectors "
     ++ (decimal (length passed) ++ (codes " failed " ++ (decimal (failures passed) ++ 10 ∷ []))))
 
 -- what `vectors` returns and has written, if these ten say whether each vector passes

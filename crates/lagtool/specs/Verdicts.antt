@@ -48,12 +48,12 @@ abbrev pub without_return : List ℕ → List ℕ
 without_return line = if slice_index_or line (length line - 1) 0 == 13 then take (length line - 1) line else line
 
 -- the length of the longest line, including a carriage return
-abbrev pub longest : ℕ
-longest = 65536
+abbrev pub longest_line : ℕ
+longest_line = 65536
 
 -- the verdict on a line
 abbrev pub line_verdict : List ℕ → Verdict
-line_verdict line = if nat_lt longest (length line) then TooLong else hex_verdict (decode_of (without_return line))
+line_verdict line = if nat_lt longest_line (length line) then TooLong else hex_verdict (decode_of (without_return line))
 
 -- all verdicts but the first four are faults
 abbrev pub is_fault : Verdict → Bool

@@ -1,8 +1,8 @@
 ghost use Rattle.std.specs.Prelude.{◌≡◌, ◌<◌, ◌+◌, ◌++◌, ◌||◌, ℕ, OnOk, IfOk, false, get_or, length, string_bytes};
 ghost use Rattle.lagworld.specs.Events.{side_of};
 ghost use Rattle.lagworld.specs.Making.{conversations_per_aggregator};
-ghost use Rattle.lagworld.specs.Readers.{serials_of_system};
-ghost use Rattle.lagtool.specs.Offered.{AreOffers, IsSentWhereOffered, offers_to};
+ghost use Rattle.lagworld.specs.Readers.{flow_of_system};
+ghost use Rattle.lagtool.specs.Offered.{AreOfferFlags, IsSentWhereOffered, offers_to};
 ghost use Rattle.lagtool.specs.ReplayReport.{collected_text, flow_line, flows_text, aggregator_flows_text};
 
 use cables::AnyCable;
@@ -39,7 +39,7 @@ fn push_flow<F: Fn(u16, usize) -> usize + Drop>(
     conv: u16,
 ) -> Result<(), AllocError>
     ensures { OnOk result (string_bytes text.new ≡ string_bytes text.old
-        ++ flow_line system agg conv (serials_of_system (side_of system) agg conv world.now.state)) }
+        ++ flow_line system agg conv (flow_of_system (side_of system) agg conv world.now.state)) }
 {
     let sent = world.sent(system, AggId(agg), conv).len();
     if sent == 0 {
@@ -54,7 +54,7 @@ fn push_flow<F: Fn(u16, usize) -> usize + Drop>(
 }
 
 /// Adds the flow lines of one aggregator: one for each of its conversations that has frames.
-fn push_row<F: Fn(u16, usize) -> usize + Drop>(
+fn push_aggregator_flows<F: Fn(u16, usize) -> usize + Drop>(
     text: &mut String,
     world: &World<AnyCable, F>,
     system: u8,
@@ -69,7 +69,7 @@ fn push_row<F: Fn(u16, usize) -> usize + Drop>(
 }
 
 /// Sets the flag of the aggregator that an event offers a frame to, if it is one of this system.
-fn note_offer(flags: &mut [bool], system: u8, event: &Event)
+fn set_offer_flag(flags: &mut [bool], system: u8, event: &Event)
     ensures length { length flags.new ≡ length flags.old }
     ensures flags { (agg : ℕ) → agg < length flags.old → get_or flags.new agg false ≡ (get_or flags.old agg false
         || offers_to system agg event.now) }
@@ -84,18 +84,18 @@ fn note_offer(flags: &mut [bool], system: u8, event: &Event)
 
 /// For each aggregator of a system, by its number: whether an event offers a frame to it. No aggregator has the number
 /// 0.
-fn offers_of(
+fn offer_flags(
     alloc: Global,
     events: &[Event],
     system: u8,
     aggs: u16,
 ) -> Result<Vec<bool>, AllocError>
     ensures length { IfOk result (λ flags. length flags.items ≡ aggs + 1) }
-    ensures flags { IfOk result (λ flags. AreOffers system events.now flags.items) }
+    ensures flags { IfOk result (λ flags. AreOfferFlags system events.now flags.items) }
 {
     let mut flags = vec![in alloc; false; usize::from(aggs) + 1]?;
     for event in events {
-        note_offer(&mut flags, system, event);
+        set_offer_flag(&mut flags, system, event);
     }
     Ok(flags)
 }
@@ -113,11 +113,11 @@ pub(crate) fn push_flows<F: Fn(u16, usize) -> usize + Drop>(
     requires { IsSentWhereOffered events.now world.now.state }
     ensures { OnOk result (string_bytes text.new ≡ string_bytes text.old ++ flows_text world.now.state system aggs) }
 {
-    let offers = offers_of(alloc, events, system, aggs)?;
+    let offers = offer_flags(alloc, events, system, aggs)?;
     for place in 0..aggs {
         let agg = place + 1;
         if offers[usize::from(agg)] {
-            push_row(text, world, system, agg)?;
+            push_aggregator_flows(text, world, system, agg)?;
         }
     }
     Ok(())

@@ -6,7 +6,7 @@ ghost use Rattle.lagscript.specs.declared.fault.ScriptFault.{ScriptFault};
 ghost use Rattle.lagtool.specs.ReplayReport.{HasNoScript};
 ghost use Rattle.lagworld.specs.Agreement.{agreement_at};
 ghost use Rattle.lagworld.specs.Events.{side_of};
-ghost use Rattle.lagworld.specs.Readers.{serials_of_system};
+ghost use Rattle.lagworld.specs.Readers.{flow_of_system};
 ghost use Rattle.lagworld.specs.Sound.{IsSound};
 ghost use Rattle.lagworld.specs.State.{WorldState, collected_in, forced_in, sent_in};
 ghost use Rattle.lagworld.specs.declared.agreement.Agreement.TheVariants.{Differ};
@@ -16,9 +16,9 @@ ghost use Rattle.lagworld.specs.declared.agreement.Agreement.TheVariants.{Differ
 /// last serial number that it sent (6.2.4).
 pub fn a_report_keeps_the_headline()
     ensures agreements { (j : WorldState) (cable : ℕ) → IsSound j → agreement_at j cable ≢ Some Differ }
-    ensures flows { (j : WorldState) (s agg conv : ℕ) → IsSound j → forced_in (serials_of_system (side_of s) agg conv j) ≡ false
-        → IsSubsequence (collected_in (serials_of_system (side_of s) agg conv j))
-        (range_with_len 0 (length (sent_in (serials_of_system (side_of s) agg conv j)))) }
+    ensures flows { (j : WorldState) (s agg conv : ℕ) → IsSound j → forced_in (flow_of_system (side_of s) agg conv j) ≡ false
+        → IsSubsequence (collected_in (flow_of_system (side_of s) agg conv j))
+        (range_with_len 0 (length (sent_in (flow_of_system (side_of s) agg conv j)))) }
 {}
 
 /// A text that is refused is no script (profile).

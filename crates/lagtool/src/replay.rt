@@ -1,5 +1,5 @@
 ghost use Rattle.std.specs.Prelude.{◌≡◌, ◌≢◌, ◌≤◌, ◌++◌, All, None, Some, OnOk, IfOk, IfErr, false, length, string_bytes};
-ghost use Rattle.distributor.specs.Calls.{PicksPlaces};
+ghost use Rattle.distributor.specs.Calls.{PicksIndexes};
 ghost use Rattle.lagscript.specs.Configs.{world_refusal};
 ghost use Rattle.lagsystem.specs.First.{config_refusal as refusal_of_one};
 ghost use Rattle.lagworld.specs.Events.{most_events};
@@ -7,7 +7,7 @@ ghost use Rattle.lagworld.specs.Sound.{both_algorithms};
 ghost use Rattle.lagtool.specs.Naming.{AllNameExisting};
 ghost use Rattle.lagtool.specs.Offered.{IsSentWhereOffered};
 ghost use Rattle.lagtool.specs.ReplayReport.{IsReplayReport, Replays, agreement_line, agreements_text, entries_text, entry_line};
-ghost use Rattle.lagtool.specs.ReplaySteps.{AreAggregatorCounts, report_with_counts};
+ghost use Rattle.lagtool.specs.ReplaySteps.{AreAggregatorCounts, replay_report_with_counts};
 ghost use Rattle.lagtool.specs.declared.fault.ToolFault.TheVariants.{NoMemory};
 
 use crate::directions::all_directions;
@@ -107,7 +107,7 @@ fn report_of<F: Fn(u16, usize) -> usize + Drop>(
 ) -> Result<String, AllocError>
     requires replies { length replies.now ≡ length events.now }
     requires offered { IsSentWhereOffered events.now world.now.state }
-    ensures { IfOk result (λ text. string_bytes text ≡ report_with_counts counts.0 counts.1 events.now replies.now world.now.state) }
+    ensures { IfOk result (λ text. string_bytes text ≡ replay_report_with_counts counts.0 counts.1 events.now replies.now world.now.state) }
 {
     let mut text = String::new(alloc);
     push_entries(&mut text, events, replies)?;
@@ -126,8 +126,8 @@ fn report_of_script<F: Fn(u16, usize) -> usize + Drop>(
     one: F,
     two: F,
 ) -> Result<String, ToolFault>
-    requires one { PicksPlaces (F.pre one) (F.post one) }
-    requires two { PicksPlaces (F.pre two) (F.post two) }
+    requires one { PicksIndexes (F.pre one) (F.post one) }
+    requires two { PicksIndexes (F.pre two) (F.post two) }
     requires accepted { world_refusal config ≡ None }
     requires limits { All (λ limit. limit ≢ Some 0) limits.now }
     requires one_each { length limits.now ≡ length config.cables.items }
@@ -162,8 +162,8 @@ pub fn replay<F: Fn(u16, usize) -> usize + Drop, W: Write>(
     two: F,
     sink: &mut Sink<W>,
 ) -> Result<(), ToolFault>
-    requires one { PicksPlaces (F.pre one) (F.post one) }
-    requires two { PicksPlaces (F.pre two) (F.post two) }
+    requires one { PicksIndexes (F.pre one) (F.post one) }
+    requires two { PicksIndexes (F.pre two) (F.post two) }
     requires sink { sink.old.failed ≡ false }
     ensures { Replays W.contents (both_algorithms (F.post one) (F.post two)) text.now sink.old sink.new result }
 {

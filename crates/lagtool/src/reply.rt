@@ -1,11 +1,11 @@
 ghost use Rattle.std.specs.Prelude.{◌≡◌, false, IfOk, IfErr, string_bytes};
 ghost use Rattle.lagtool.specs.Engines.{Replies, SaysMac};
-ghost use Rattle.lagtool.specs.Reports.{IsAnswer, IsMac, IsReply, RepliesTo};
+ghost use Rattle.lagtool.specs.Reports.{IsAnswerToMarker, IsMac, IsAnswerToFrame, IsAnswerToPayload};
 ghost use Rattle.lagtool.specs.declared.fault.ToolFault.TheVariants.{NotMac};
 ghost use Rattle.slowpdu.specs.Markers.{response_to};
 
 use crate::fault::ToolFault;
-use crate::report::Report;
+use crate::report::Outcome;
 use crate::show::octets_of;
 use crate::sink::Sink;
 use crate::texts::WireFaultText;
@@ -26,25 +26,25 @@ fn mac_of(text: &str) -> Result<[u8; 6], ToolFault>
 }
 
 /// What `respond` prints for a frame that gets no response: the line that says why.
-fn unanswered(text: String) -> Report
+fn unanswered(text: String) -> Outcome
     ensures { result ≡ record { text = text; accepted = false } }
 {
-    Report {
+    Outcome {
         text,
         accepted: false,
     }
 }
 
 /// What `respond` prints for a marker or a Marker Response, with this MAC address as the source of the response.
-fn answer(alloc: Global, mac: [u8; 6], marker: &Marker) -> Result<Report, AllocError>
-    ensures { IfOk result (λ r. IsAnswer mac (string_bytes r.text) r.accepted (response_to marker.now)) }
+fn answer_marker(alloc: Global, mac: [u8; 6], marker: &Marker) -> Result<Outcome, AllocError>
+    ensures { IfOk result (λ r. IsAnswerToMarker mac (string_bytes r.text) r.accepted (response_to marker.now)) }
 {
     match respond(marker) {
         Some(response) => {
             let octets = frame(mac, &response.encode());
             let digits = hex::encode(alloc, octets.as_slice())?;
             let text = format!(in alloc; "{digits}\n")?;
-            Ok(Report {
+            Ok(Outcome {
                 text,
                 accepted: true,
             })
@@ -54,19 +54,19 @@ fn answer(alloc: Global, mac: [u8; 6], marker: &Marker) -> Result<Report, AllocE
 }
 
 /// What `respond` prints for the payload of a control frame.
-fn answer_payload(alloc: Global, mac: [u8; 6], payload: &[u8]) -> Result<Report, AllocError>
-    ensures { IfOk result (λ r. RepliesTo mac payload.now (string_bytes r.text) r.accepted) }
+fn answer_payload(alloc: Global, mac: [u8; 6], payload: &[u8]) -> Result<Outcome, AllocError>
+    ensures { IfOk result (λ r. IsAnswerToPayload mac payload.now (string_bytes r.text) r.accepted) }
 {
     match decode(payload) {
-        Ok(Pdu::Marker(marker)) => answer(alloc, mac, &marker),
+        Ok(Pdu::Marker(marker)) => answer_marker(alloc, mac, &marker),
         Ok(Pdu::Lacpdu(_)) => Ok(unanswered(format!(in alloc; "no answer lacpdu\n")?)),
         Err(fault) => Ok(unanswered(format!(in alloc; "{}", WireFaultText(fault))?)),
     }
 }
 
 /// What `respond` prints for a frame.
-fn answer_frame(alloc: Global, mac: [u8; 6], octets: &[u8]) -> Result<Report, AllocError>
-    ensures { IfOk result (λ r. IsReply mac octets.now (string_bytes r.text) r.accepted) }
+fn answer_frame(alloc: Global, mac: [u8; 6], octets: &[u8]) -> Result<Outcome, AllocError>
+    ensures { IfOk result (λ r. IsAnswerToFrame mac octets.now (string_bytes r.text) r.accepted) }
 {
     match classify(octets) {
         Kind::TooShort => Ok(unanswered(format!(in alloc; "no answer runt\n")?)),

@@ -1,5 +1,5 @@
 ghost use Rattle.std.specs.Prelude.{Some};
-ghost use Rattle.lagtool.specs.EntryTexts.{agreement_text, accepted_text, refused_text, reply_text};
+ghost use Rattle.lagtool.specs.EntryTexts.{agreement_text, sent_or_lost_text, refused_text, reply_text};
 
 use crate::entry_text::OctetText;
 use bitflags::Flags;
@@ -9,10 +9,10 @@ use std::fmt;
 
 /// Whether a cable accepted what was sent.
 #[derive(Clone, Copy)]
-struct AcceptedText(bool);
+struct SentOrLostText(bool);
 
-impl fmt::Display for AcceptedText {
-    ghost output = { λ t. Some (accepted_text t.0) };
+impl fmt::Display for SentOrLostText {
+    ghost output = { λ t. Some (sent_or_lost_text t.0) };
 
     fn fmt<W: fmt::Write>(&self, f: &mut fmt::Formatter<W>) -> fmt::Result {
         if self.0 {
@@ -63,13 +63,13 @@ impl fmt::Display for ReplyText {
                     f,
                     "lacpdu {} {}",
                     OctetText(state.bits()),
-                    AcceptedText(accepted)
+                    SentOrLostText(accepted)
                 )
             }
-            Reply::Marker(id, accepted) => write!(f, "marker {id} {}", AcceptedText(accepted)),
+            Reply::Marker(id, accepted) => write!(f, "marker {id} {}", SentOrLostText(accepted)),
             Reply::Nothing => f.write_str("nothing"),
             Reply::Took => f.write_str("took"),
-            Reply::Responded(accepted) => write!(f, "responded {}", AcceptedText(accepted)),
+            Reply::Responded(accepted) => write!(f, "responded {}", SentOrLostText(accepted)),
             Reply::Released(count) => write!(f, "released {count}"),
             Reply::Up(agg) => write!(f, "up {agg}"),
             Reply::Dropped => f.write_str("dropped"),
@@ -86,7 +86,11 @@ impl fmt::Display for ReplyText {
             Reply::Configured(true) => f.write_str("configured"),
             Reply::Configured(false) => f.write_str("unchanged"),
             Reply::Port(port, serial, accepted) => {
-                write!(f, "port {port} serial {serial} {}", AcceptedText(accepted))
+                write!(
+                    f,
+                    "port {port} serial {serial} {}",
+                    SentOrLostText(accepted)
+                )
             }
             Reply::Moved => f.write_str("moved"),
             Reply::Forced => f.write_str("forced"),

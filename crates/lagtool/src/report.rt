@@ -1,6 +1,6 @@
 /// What `decode` or `respond` prints for a payload or a frame (profile).
 #[derive(Drop)]
-pub struct Report {
+pub struct Outcome {
     /// Its lines.
     pub text: String,
     /// Whether the payload was accepted, or the frame gets a response.

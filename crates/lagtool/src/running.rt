@@ -1,9 +1,9 @@
 ghost use Rattle.std.specs.Prelude.{◌≡◌, ◌≤◌, None, IfErr, IfOk, length, true};
 ghost use Rattle.cables.specs.AnyCable.{any_items, any_limit};
-ghost use Rattle.distributor.specs.Calls.{PicksPlaces};
+ghost use Rattle.distributor.specs.Calls.{PicksIndexes};
 ghost use Rattle.lagscript.specs.Configs.{world_refusal};
-ghost use Rattle.lagworld.specs.Events.{Runs, most_events};
-ghost use Rattle.lagworld.specs.Making.{IsMade, are_lines};
+ghost use Rattle.lagworld.specs.Events.{WorldRuns, most_events};
+ghost use Rattle.lagworld.specs.Making.{IsMade, are_empty_lines};
 ghost use Rattle.lagworld.specs.Sound.{IsSound, IsStart, both_algorithms};
 ghost use Rattle.lagworld.specs.declared.fault.WorldFault.TheVariants.{NoMemory};
 ghost use Rattle.lagtool.specs.Naming.{AllNameExisting};
@@ -21,10 +21,10 @@ pub(crate) fn make_world<F: Fn(u16, usize) -> usize + Drop>(
     two: F,
     lines: Vec<(AnyCable, AnyCable)>,
 ) -> Result<World<AnyCable, F>, WorldFault>
-    requires one { PicksPlaces (F.pre one) (F.post one) }
-    requires two { PicksPlaces (F.pre two) (F.post two) }
+    requires one { PicksIndexes (F.pre one) (F.post one) }
+    requires two { PicksIndexes (F.pre two) (F.post two) }
     requires accepted { world_refusal config ≡ None }
-    requires lines { are_lines any_items config.cables.items lines.items ≡ true }
+    requires lines { are_empty_lines any_items config.cables.items lines.items ≡ true }
     ensures made { IfOk result (λ world. IsMade any_items any_limit config lines.items world.state) }
     ensures start { IfOk result (λ world. IsStart world.state) }
     ensures algorithm_one { IfOk result (λ world. world.one ≡ one) }
@@ -40,12 +40,12 @@ pub(crate) fn run_events<F: Fn(u16, usize) -> usize + Drop>(
     world: &mut World<AnyCable, F>,
     events: &[Event],
 ) -> Result<Vec<Reply>, RunFault>
-    requires one { PicksPlaces (F.pre world.old.one) (F.post world.old.one) }
-    requires two { PicksPlaces (F.pre world.old.two) (F.post world.old.two) }
+    requires one { PicksIndexes (F.pre world.old.one) (F.post world.old.one) }
+    requires two { PicksIndexes (F.pre world.old.two) (F.post world.old.two) }
     requires acted { world.old.state.acted ≡ 0 }
     requires named { AllNameExisting (length world.old.state.links) events.now }
     requires few { length events.now ≤ most_events }
-    ensures ran { IfOk result (λ replies. Runs (both_algorithms (F.post world.old.one) (F.post world.old.two)) world.old.state events.now
+    ensures ran { IfOk result (λ replies. WorldRuns (both_algorithms (F.post world.old.one) (F.post world.old.two)) world.old.state events.now
         replies.items world.new.state) }
     ensures sound { IsSound world.new.state }
     ensures stopped { IfErr result (λ stop. stop.fault ≡ NoMemory) }

@@ -1,12 +1,12 @@
 ghost use Rattle.std.specs.Prelude.{◌≡◌, ◌+◌, ◌<◌, ◌≤◌, ◌^◌, ◌++◌, [], length, IfOk, OnOk, OnErr};
 ghost use Rattle.memchr.specs.Find.{Nowhere, Passes, is_byte};
-ghost use Rattle.lagtool.specs.CheckReport.{counts_text, faults_of, numbered};
-ghost use Rattle.lagtool.specs.Scans.{ReadsOctets, counts_after, unwritten};
+ghost use Rattle.lagtool.specs.CheckReport.{summary_text, fault_count, verdict_line};
+ghost use Rattle.lagtool.specs.Scans.{ReadsOctets, summary_after, unwritten};
 ghost use Rattle.lagtool.specs.Sinks.{WritesPart, WritesWhole};
 
 use crate::sink::{Sink, WriteFailed};
 use crate::summary::Summary;
-use crate::verdict::{LONGEST, line_verdict};
+use crate::verdict::{LONGEST_LINE, line_verdict};
 use memchr::memchr;
 use std::alloc::{AllocError, Global};
 use std::io::Write;
@@ -30,7 +30,7 @@ impl Model for Scan {
 
     ghost Value = { ScanState };
 
-    ghost view = { λ s. record { lines = s.lines; faults = s.faults; line = s.line.items; said = string_bytes s.report } };
+    ghost view = { λ s. record { lines = s.lines; faults = s.faults; line = s.line.items; to_write = string_bytes s.report } };
 
     ghost invariant = { λ s. (s.faults ≤ s.lines) × (vec_len s.line ≤ 65537) };
 }
@@ -38,7 +38,7 @@ impl Model for Scan {
 impl Scan {
     /// A scan before anything is read.
     pub fn new(alloc: Global) -> Scan
-        ensures { result ≡ record { lines = 0; faults = 0; line = []; said = [] } }
+        ensures { result ≡ record { lines = 0; faults = 0; line = []; to_write = [] } }
     {
         Scan {
             lines: 0,
@@ -51,9 +51,9 @@ impl Scan {
     /// Ends the line being read: adds its verdict to the report, and counts it. `AllocError` if memory is refused.
     fn end_line(&mut self, alloc: Global) -> Result<(), AllocError>
         requires { self.old.lines + 1 < 2 ^ 64 }
-        ensures said { OnOk result (self.new.said ≡ self.old.said ++ numbered (self.old.lines + 1) self.old.line) }
+        ensures to_write { OnOk result (self.new.to_write ≡ self.old.to_write ++ verdict_line (self.old.lines + 1) self.old.line) }
         ensures lines { OnOk result (self.new.lines ≡ self.old.lines + 1) }
-        ensures faults { OnOk result (self.new.faults ≡ self.old.faults + faults_of self.old.line) }
+        ensures faults { OnOk result (self.new.faults ≡ self.old.faults + fault_count self.old.line) }
         ensures line { OnOk result (self.new.line ≡ []) }
     {
         let verdict = line_verdict(alloc, &self.line)?;
@@ -74,7 +74,7 @@ impl Scan {
         ensures reads { OnOk result (ReadsOctets self.old self.new octets.now) }
         ensures lines { OnOk result (self.new.lines ≡ self.old.lines) }
     {
-        let room = LONGEST + 1 - self.line.len();
+        let room = LONGEST_LINE + 1 - self.line.len();
         let kept = octets.len().min(room);
         self.line.extend_from_slice(&octets[..kept])
     }
@@ -97,8 +97,8 @@ impl Scan {
 
     /// Adds the counts to the report. `AllocError` if memory is refused.
     fn end_report(&mut self) -> Result<Summary, AllocError>
-        ensures said { OnOk result (self.new.said ≡ self.old.said
-            ++ counts_text (record { checked = self.old.lines; faults = self.old.faults })) }
+        ensures to_write { OnOk result (self.new.to_write ≡ self.old.to_write
+            ++ summary_text (record { checked = self.old.lines; faults = self.old.faults })) }
         ensures counts { IfOk result (λ s. s ≡ record { checked = self.old.lines; faults = self.old.faults }) }
     {
         let (checked, faults) = (self.lines, self.faults);
@@ -109,8 +109,8 @@ impl Scan {
     /// Ends the stream: octets after the last newline are a line too. `AllocError` if memory is refused.
     pub fn finish(&mut self, alloc: Global) -> Result<Summary, AllocError>
         requires { self.old.lines + 1 < 2 ^ 64 }
-        ensures said { OnOk result (self.new.said ≡ unwritten self.old []) }
-        ensures counts { IfOk result (λ s. s ≡ counts_after self.old []) }
+        ensures to_write { OnOk result (self.new.to_write ≡ unwritten self.old []) }
+        ensures counts { IfOk result (λ s. s ≡ summary_after self.old []) }
     {
         if !self.line.is_empty() {
             self.end_line(alloc)?;
@@ -121,9 +121,9 @@ impl Scan {
     /// Writes the part of the report that is not written yet, in one call of the sink. `WriteFailed` if the sink
     /// failed.
     pub fn write<W: Write>(&mut self, sink: &mut Sink<W>) -> Result<(), WriteFailed>
-        ensures ok { OnOk result (WritesWhole W.contents sink.old sink.new (self.old.said)) }
-        ensures err { OnErr result (WritesPart W.contents sink.old sink.new (self.old.said)) }
-        ensures said { OnOk result (self.new ≡ record self.old { said = [] }) }
+        ensures ok { OnOk result (WritesWhole W.contents sink.old sink.new (self.old.to_write)) }
+        ensures err { OnErr result (WritesPart W.contents sink.old sink.new (self.old.to_write)) }
+        ensures to_write { OnOk result (self.new ≡ record self.old { to_write = [] }) }
     {
         sink.put(self.report.as_bytes())?;
         self.report.clear();

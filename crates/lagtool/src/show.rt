@@ -1,10 +1,10 @@
 ghost use Rattle.std.specs.Prelude.{◌≡◌, false, Ok, IfOk, IfErr, string_bytes};
 ghost use Rattle.hex.specs.Hex.{decode_of};
 ghost use Rattle.lagtool.specs.Engines.{HasNoOctets, Shows};
-ghost use Rattle.lagtool.specs.Reports.{IsPayloadReport};
+ghost use Rattle.lagtool.specs.Reports.{IsTextOfPayload};
 
 use crate::fault::ToolFault;
-use crate::report::Report;
+use crate::report::Outcome;
 use crate::sink::Sink;
 use crate::texts::{PduText, WireFaultText};
 use hex::FromHexError;
@@ -25,15 +25,15 @@ pub fn octets_of(alloc: Global, text: &str) -> Result<Vec<u8>, ToolFault>
 }
 
 /// What `decode` prints for a payload.
-fn report_on(alloc: Global, payload: &[u8]) -> Result<Report, AllocError>
-    ensures { IfOk result (λ r. IsPayloadReport payload.now (string_bytes r.text) r.accepted) }
+fn report_on(alloc: Global, payload: &[u8]) -> Result<Outcome, AllocError>
+    ensures { IfOk result (λ r. IsTextOfPayload payload.now (string_bytes r.text) r.accepted) }
 {
     match decode(payload) {
-        Ok(pdu) => Ok(Report {
+        Ok(pdu) => Ok(Outcome {
             text: format!(in alloc; "{}", PduText(&pdu))?,
             accepted: true,
         }),
-        Err(fault) => Ok(Report {
+        Err(fault) => Ok(Outcome {
             text: format!(in alloc; "{}", WireFaultText(fault))?,
             accepted: false,
         }),

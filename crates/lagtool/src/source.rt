@@ -6,7 +6,7 @@ use std::io::Read;
 use std::marker::Model;
 
 /// The most octets that a source gives in all.
-const MOST: u64 = u64::MAX - 1;
+const MOST_OCTETS: u64 = u64::MAX - 1;
 
 /// A reader that remembers whether it failed, and gives at most 2^64 - 2 octets (profile).
 #[derive(Drop)]
@@ -42,7 +42,7 @@ impl<R: Read> Source<R> {
         Source {
             inner,
             failed: false,
-            left: MOST,
+            left: MOST_OCTETS,
         }
     }
 

@@ -1,12 +1,12 @@
 ghost use Rattle.std.specs.Prelude.{◌≡◌, ◌++◌, false, IfOk, OnOk, length, string_bytes};
-ghost use Rattle.lagtool.specs.Vectors.{RunsVectors, failures, vector_line, lines_from, vectors_text};
+ghost use Rattle.lagtool.specs.Vectors.{RunsVectors, failures, vector_line, vector_lines_from, vectors_text};
 
 use crate::algorithm::by_number;
 use crate::fault::ToolFault;
+use crate::known_texts::Pieces;
 use crate::replay::replay;
 use crate::reply::reply;
-use crate::rows;
-use crate::rows::Pieces;
+use crate::known_texts;
 use crate::show::{octets_of, show};
 use crate::sink::Sink;
 use crate::summary::Summary;
@@ -62,7 +62,7 @@ fn replies(alloc: Global, frame: Pieces, answered: bool, text: &str) -> Result<b
 /// Whether `replay` prints this text for a script of two systems with one cable.
 fn replays(alloc: Global, events: &str, text: &str) -> Result<bool, AllocError> {
     let mut script = String::from_str(alloc, events)?;
-    script.push_str(rows::ONE_CABLE)?;
+    script.push_str(known_texts::ONE_CABLE)?;
     let mut sink = Sink::new(Vec::new(alloc));
     let ended = match replay(alloc, script.as_str(), by_number, by_number, &mut sink) {
         Ok(()) => Ok(true),
@@ -117,7 +117,7 @@ fn small_config(alloc: Global) -> Result<Config, AllocError> {
 
 /// Whether a system ignores a control frame with this payload, and its port stays as it was.
 fn ignores(alloc: Global, payload: Pieces, cause: WireFault) -> Result<bool, AllocError> {
-    let mut frame = octets_in(alloc, rows::HEADER)?;
+    let mut frame = octets_in(alloc, known_texts::HEADER)?;
     frame.extend_from_slice(octets_in(alloc, payload)?.as_slice())?;
     let Ok(mut system) = System::new(alloc, small_config(alloc)?, by_number) else {
         return Err(AllocError);
@@ -143,53 +143,73 @@ fn ignores(alloc: Global, payload: Pieces, cause: WireFault) -> Result<bool, All
 
 /// Three payloads: too short, with more octets at the end, and empty.
 fn lengths_are_found(alloc: Global) -> Result<bool, AllocError> {
-    let short = shows(alloc, rows::SHORT, false, "refused 1 short have 109\n")?;
-    let long = shows(alloc, rows::LACPDU_AND_MORE, true, rows::LACPDU_TEXT)?;
+    let short = shows(
+        alloc,
+        known_texts::SHORT,
+        false,
+        "refused 1 short have 109\n",
+    )?;
+    let long = shows(
+        alloc,
+        known_texts::LACPDU_AND_MORE,
+        true,
+        known_texts::LACPDU_TEXT,
+    )?;
     let empty = shows(alloc, &[], false, "refused 1 short have 0\n")?;
     Ok(short && long && empty)
 }
 
 /// A payload with another subtype is refused, and a system ignores it.
 fn another_subtype(alloc: Global) -> Result<bool, AllocError> {
-    let shown = shows(alloc, rows::SUBTYPE_3, false, "refused 2 subtype 3\n")?;
-    let ignored = ignores(alloc, rows::SUBTYPE_3, WireFault::OtherSubtype(3))?;
+    let shown = shows(
+        alloc,
+        known_texts::SUBTYPE_3,
+        false,
+        "refused 2 subtype 3\n",
+    )?;
+    let ignored = ignores(alloc, known_texts::SUBTYPE_3, WireFault::OtherSubtype(3))?;
     Ok(shown && ignored)
 }
 
 /// A marker gets a response.
 fn a_marker(alloc: Global) -> Result<bool, AllocError> {
-    let mut answer = joined(alloc, rows::RESPONSE_FRAME)?;
+    let mut answer = joined(alloc, known_texts::RESPONSE_FRAME)?;
     answer.push_str("\n")?;
-    replies(alloc, rows::MARKER_FRAME, true, answer.as_str())
+    replies(alloc, known_texts::MARKER_FRAME, true, answer.as_str())
 }
 
 /// A Marker Response and a data frame get no response.
 fn no_answers(alloc: Global) -> Result<bool, AllocError> {
     let response = replies(
         alloc,
-        rows::RESPONSE_FRAME,
+        known_texts::RESPONSE_FRAME,
         false,
         "no answer marker-response\n",
     )?;
-    let data = replies(alloc, rows::DATA_FRAME, false, "no answer data\n")?;
+    let data = replies(alloc, known_texts::DATA_FRAME, false, "no answer data\n")?;
     Ok(response && data)
 }
 
 /// An LACPDU is decoded, and encoded as it was.
 fn an_lacpdu(alloc: Global) -> Result<bool, AllocError> {
-    let shown = shows(alloc, rows::LACPDU, true, rows::LACPDU_TEXT)?;
-    Ok(shown && encodes(alloc, rows::LACPDU)?)
+    let shown = shows(alloc, known_texts::LACPDU, true, known_texts::LACPDU_TEXT)?;
+    Ok(shown && encodes(alloc, known_texts::LACPDU)?)
 }
 
 /// Which of the vectors pass, in order.
 fn passed(alloc: Global) -> Result<[bool; 10], AllocError> {
     Ok([
         an_lacpdu(alloc)?,
-        shows(alloc, rows::LACPDU_OF_VERSION_2, true, rows::LACPDU_TEXT)?,
+        shows(
+            alloc,
+            known_texts::LACPDU_OF_VERSION_2,
+            true,
+            known_texts::LACPDU_TEXT,
+        )?,
         lengths_are_found(alloc)?,
         shows(
             alloc,
-            rows::TWO_BAD_LENGTHS,
+            known_texts::TWO_BAD_LENGTHS,
             false,
             "refused 3 length at 23 found 19\n",
         )?,
@@ -198,12 +218,12 @@ fn passed(alloc: Global) -> Result<[bool; 10], AllocError> {
         no_answers(alloc)?,
         shows(
             alloc,
-            rows::MARKER_OF_TYPE_3,
+            known_texts::MARKER_OF_TYPE_3,
             false,
             "refused 4 marker-tlv 3\n",
         )?,
-        replays(alloc, rows::ALONE, rows::ALONE_TEXT)?,
-        replays(alloc, rows::UP, rows::UP_TEXT)?,
+        replays(alloc, known_texts::ALONE, known_texts::ALONE_TEXT)?,
+        replays(alloc, known_texts::UP, known_texts::UP_TEXT)?,
     ])
 }
 
@@ -215,7 +235,7 @@ pub(crate) fn failures(passed: &[bool]) -> usize
 }
 
 /// The line of a vector.
-fn push_line(text: &mut String, number: usize, pass: bool) -> Result<(), AllocError>
+fn push_vector_line(text: &mut String, number: usize, pass: bool) -> Result<(), AllocError>
     ensures { OnOk result (string_bytes text.new ≡ string_bytes text.old ++ vector_line number pass) }
 {
     if pass {
@@ -226,11 +246,11 @@ fn push_line(text: &mut String, number: usize, pass: bool) -> Result<(), AllocEr
 }
 
 /// Adds a line for each vector.
-fn push_lines(text: &mut String, passed: &[bool]) -> Result<(), AllocError>
-    ensures { OnOk result (string_bytes text.new ≡ string_bytes text.old ++ lines_from 1 passed.now) }
+fn push_vector_lines(text: &mut String, passed: &[bool]) -> Result<(), AllocError>
+    ensures { OnOk result (string_bytes text.new ≡ string_bytes text.old ++ vector_lines_from 1 passed.now) }
 {
     for (index, pass) in passed.iter().enumerate() {
-        push_line(text, index + 1, *pass)?;
+        push_vector_line(text, index + 1, *pass)?;
     }
     Ok(())
 }
@@ -245,7 +265,7 @@ pub(crate) fn vectors_text(
     ensures { IfOk result (λ text. string_bytes text ≡ vectors_text passed.now) }
 {
     let mut text = String::new(alloc);
-    push_lines(&mut text, passed)?;
+    push_vector_lines(&mut text, passed)?;
     let count = passed.len();
     write!(text, "vectors {count} failed {failed}\n")?;
     Ok(text)

@@ -1,5 +1,5 @@
 ghost use Rattle.std.specs.Prelude.{◌≡◌, ◌≤◌, Some, IfOk, length};
-ghost use Rattle.lagtool.specs.Verdicts.{frame_verdict, is_fault, kind_verdict, line_verdict, longest, payload_verdict, verdict_text, without_return};
+ghost use Rattle.lagtool.specs.Verdicts.{frame_verdict, is_fault, kind_verdict, line_verdict, longest_line, payload_verdict, verdict_text, without_return};
 
 use crate::texts::RefusalText;
 use hex::FromHexError;
@@ -8,7 +8,7 @@ use std::alloc::{AllocError, Global};
 use std::fmt;
 
 /// The most octets of a line, including a carriage return (profile).
-pub const LONGEST: usize = 65_536;
+pub const LONGEST_LINE: usize = 65_536;
 
 /// The verdict of `check` on a line (profile).
 #[derive(Clone, Copy, Debug, PartialEq, Eq)]
@@ -108,7 +108,7 @@ fn without_return(line: &[u8]) -> &[u8]
 pub fn line_verdict(alloc: Global, line: &[u8]) -> Result<Verdict, AllocError>
     ensures { IfOk result (λ v. v ≡ line_verdict line.now) }
 {
-    if line.len() > LONGEST {
+    if line.len() > LONGEST_LINE {
         return Ok(Verdict::TooLong);
     }
     match hex::decode(alloc, without_return(line)) {

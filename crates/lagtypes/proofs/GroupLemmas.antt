@@ -14,7 +14,7 @@ use Rattle.lagtypes.specs.declared.identifiers.PortId.{PortId}
 use Rattle.lagtypes.specs.declared.group.End.{End}
 use Rattle.lagtypes.specs.declared.group.Group.{Group}
 use Rattle.lagtypes.specs.Order.{system_cmp, port_cmp, end_cmp}
-use Rattle.lagtypes.specs.Group.{Pair, SamePair, sorted}
+use Rattle.lagtypes.specs.Group.{Pair, SamePair, lower_first}
 
 -- an order of two fields answers Equal only if both do
 then_first : (o p : Ordering) → ordering_then o p ≡ Equal → o ≡ Equal
@@ -70,7 +70,7 @@ swap_by Equal x y e = rw (e refl) refl
 swap_by Greater x y e = refl
 
 -- the order in which the ends are named does not count
-swapped : (x y : End) → sorted (record { one = x; other = y }) ≡ sorted (record { one = y; other = x })
+swapped : (x y : End) → lower_first (record { one = x; other = y }) ≡ lower_first (record { one = y; other = x })
 swapped x y = swap_by (end_cmp y x) x y (λ e. sym (exact_ends y x e)) ∙ ap (λ o. pick o y x) (sym (total_ends.antisymm x y))
 
 abbrev Either : Pair → Group → Type 0
@@ -87,11 +87,11 @@ pair_by p q g (inr a) (inl b) = inr (sym a.1 ∙ b.1, sym a.0 ∙ b.0)
 pair_by p q g (inr a) (inr b) = inl (sym a.1 ∙ b.1, sym a.0 ∙ b.0)
 
 -- equal groups are of equal pairs
-pub pairs_from_groups : (p q : Pair) → sorted p ≡ sorted q → SamePair p q
+pub pairs_from_groups : (p q : Pair) → lower_first p ≡ lower_first q → SamePair p q
 pairs_from_groups p q e =
-    pair_by p q (sorted q) (subst (λ g. Either p g) e (either (is_lt (end_cmp p.other p.one)) p)) (either (is_lt (end_cmp q.other q.one)) q)
+    pair_by p q (lower_first q) (subst (λ g. Either p g) e (either (is_lt (end_cmp p.other p.one)) p)) (either (is_lt (end_cmp q.other q.one)) q)
 
 -- equal pairs have equal groups
-pub groups_from_pairs : (p q : Pair) → SamePair p q → sorted p ≡ sorted q
-groups_from_pairs p q (inl e) = λ i. sorted (record { one = e.0 i; other = e.1 i })
-groups_from_pairs p q (inr e) = (λ i. sorted (record { one = e.0 i; other = e.1 i })) ∙ swapped q.other q.one
+pub groups_from_pairs : (p q : Pair) → SamePair p q → lower_first p ≡ lower_first q
+groups_from_pairs p q (inl e) = λ i. lower_first (record { one = e.0 i; other = e.1 i })
+groups_from_pairs p q (inr e) = (λ i. lower_first (record { one = e.0 i; other = e.1 i })) ∙ swapped q.other q.one

@@ -43,13 +43,13 @@ one_state p b h =
     (one_of p4 b.synchronization (one_of p3 b.aggregation (one_of p2 b.timeout (one_of p1 b.activity h)))))))
 
 -- what the bits add up to, one by one
-abbrev pub put : Bool → ℕ → ℕ → ℕ
-put on bit n = if on then bit_or n bit else n
+abbrev pub insert_if : Bool → ℕ → ℕ → ℕ
+insert_if on bit n = if on then bit_or n bit else n
 
 abbrev pub added : StateBits → ℕ
 added b =
-    put b.expired 128 (put b.defaulted 64 (put b.distributing 32 (put b.collecting 16
-    (put b.synchronization 8 (put b.aggregation 4 (put b.timeout 2 (put b.activity 1 0)))))))
+    insert_if b.expired 128 (insert_if b.defaulted 64 (insert_if b.distributing 32 (insert_if b.collecting 16
+    (insert_if b.synchronization 8 (insert_if b.aggregation 4 (insert_if b.timeout 2 (insert_if b.activity 1 0)))))))
 
 same : (m n : ℕ) → (m == n) ≡ true → m ≡ n
 same m n e = grind arith
@@ -94,8 +94,8 @@ all_alike_same a b e =
     }
 
 -- the bits of a state that is made of bits are these
-pub read_back : (b : StateBits) → bits_of (state_from_bits b) ≡ b
-read_back b = all_alike_same (bits_of (state_from_bits b)) b (one_state (λ b. all_alike (bits_of (state_from_bits b)) b) b refl)
+pub encode_then_decode : (b : StateBits) → bits_of (state_from_bits b) ≡ b
+encode_then_decode b = all_alike_same (bits_of (state_from_bits b)) b (one_state (λ b. all_alike (bits_of (state_from_bits b)) b) b refl)
 
 -- a test that all numbers below this one pass
 abbrev below : ℕ → (ℕ → Bool) → Bool

@@ -28,12 +28,12 @@ abbrev pub SamePair : Pair → Pair → Type 0
 SamePair p q = ((p.one ≡ q.one) × (p.other ≡ q.other)) ⊎ ((p.one ≡ q.other) × (p.other ≡ q.one))
 
 -- a group has the lower end of the pair first (profile)
-abbrev pub sorted : Pair → Group
-sorted p = if is_lt (end_cmp p.other p.one) then record { lower = p.other; upper = p.one } else record { lower = p.one; upper = p.other }
+abbrev pub lower_first : Pair → Group
+lower_first p = if is_lt (end_cmp p.other p.one) then record { lower = p.other; upper = p.one } else record { lower = p.one; upper = p.other }
 
 -- the group of the link between two ends
 abbrev pub group_of : Party → Party → Group
-group_of one other = sorted (pair_of one other)
+group_of one other = lower_first (pair_of one other)
 
 -- the lower end of a group
 abbrev pub lower : Group → End

@@ -5,20 +5,20 @@ use Rattle.lagtypes.specs.declared.state.State.{State}
 use Rattle.lagtypes.specs.declared.state.StateBits.{StateBits}
 
 -- the bit with this value is 1 in the state
-abbrev pub has : State → ℕ → Bool
-has s bit = bit_and s.0 bit == bit
+abbrev pub has_bit : State → ℕ → Bool
+has_bit s bit = bit_and s.0 bit == bit
 
 -- bits 0 to 7, the least significant first
 abbrev pub bits_of : State → StateBits
 bits_of s = record {
-  activity = has s 1;
-  timeout = has s 2;
-  aggregation = has s 4;
-  synchronization = has s 8;
-  collecting = has s 16;
-  distributing = has s 32;
-  defaulted = has s 64;
-  expired = has s 128;
+  activity = has_bit s 1;
+  timeout = has_bit s 2;
+  aggregation = has_bit s 4;
+  synchronization = has_bit s 8;
+  collecting = has_bit s 16;
+  distributing = has_bit s 32;
+  defaulted = has_bit s 64;
+  expired = has_bit s 128;
 }
 
 -- what a bit adds to the octet: its value if it is 1, else nothing

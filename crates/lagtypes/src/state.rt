@@ -74,21 +74,21 @@ impl From<StateBits> for State {
 
     fn from(bits: StateBits) -> State {
         let mut state = State(0);
-        state.put(State::ACTIVITY, bits.activity);
-        state.put(State::TIMEOUT, bits.timeout);
-        state.put(State::AGGREGATION, bits.aggregation);
-        state.put(State::SYNCHRONIZATION, bits.synchronization);
-        state.put(State::COLLECTING, bits.collecting);
-        state.put(State::DISTRIBUTING, bits.distributing);
-        state.put(State::DEFAULTED, bits.defaulted);
-        state.put(State::EXPIRED, bits.expired);
+        state.insert_if(State::ACTIVITY, bits.activity);
+        state.insert_if(State::TIMEOUT, bits.timeout);
+        state.insert_if(State::AGGREGATION, bits.aggregation);
+        state.insert_if(State::SYNCHRONIZATION, bits.synchronization);
+        state.insert_if(State::COLLECTING, bits.collecting);
+        state.insert_if(State::DISTRIBUTING, bits.distributing);
+        state.insert_if(State::DEFAULTED, bits.defaulted);
+        state.insert_if(State::EXPIRED, bits.expired);
         state
     }
 }
 
 impl State {
     /// Adds a bit if `on` is true.
-    fn put(&mut self, flag: State, on: bool)
+    fn insert_if(&mut self, flag: State, on: bool)
         ensures { self.new.0 ≡ (if on then bit_or self.old.0 flag.0 else self.old.0) }
     {
         if on {

@@ -12,7 +12,7 @@ use Rattle.lagworld.specs.declared.reply.Reply.{Reply}
 use Rattle.lagworld.specs.Asking.{WorldForces}
 use Rattle.lagworld.specs.State.{WorldState}
 use Rattle.lagworld.specs.Messages.{side_named}
-use Rattle.lagworld.specs.Events.{Algorithms, DoesEvent, Emits, OffersFrame, side_of, cause, first_event_cause, has_cable, has_system, most_events}
+use Rattle.lagworld.specs.Events.{Algorithms, DoesEvent, WorldEmits, WorldOffers, side_of, cause, first_event_cause, has_cable, has_system, most_events}
 use Rattle.lagworld.specs.WorldCalls.{WorldTicks}
 
 pub second : (a b c : Bool) → first_event_cause a b c ≡ None → (a ≡ true) × (b ≡ true)
@@ -44,14 +44,14 @@ if_ok (Err e) P Q f h = tt
 there : (j : WorldState) (n : ℕ) → first_event_cause (has_cable j None) (has_system (Some n)) (nat_le most_events j.acted) ≡ None → is_some (side_of n) ≡ true
 there j n h = (second (has_cable j None) (is_some (side_of n)) (nat_le most_events j.acted) h).1
 
-pub emit_does : (gives : Algorithms) (n p : ℕ) (e : Event) (r : Result Reply WorldFault) (old new : WorldState) → e ≡ event.Emit n p → cause old e ≡ None → IfOk r (λ x. Emits gives (side_named n) p old x new) → IfOk r (λ x. DoesEvent gives old e x new)
-emit_does gives n p e r old new is c = if_ok r (λ x. Emits gives (side_named n) p old x new) (λ x. DoesEvent gives old e x new)
-    (λ x h. subst (λ e. DoesEvent gives old e x new) (sym is) (at_side_of n (λ s. Emits gives s p old x new) (there old n (subst (λ e. cause old e ≡ None) is c)) h))
+pub emit_does : (gives : Algorithms) (n p : ℕ) (e : Event) (r : Result Reply WorldFault) (old new : WorldState) → e ≡ event.Emit n p → cause old e ≡ None → IfOk r (λ x. WorldEmits gives (side_named n) p old x new) → IfOk r (λ x. DoesEvent gives old e x new)
+emit_does gives n p e r old new is c = if_ok r (λ x. WorldEmits gives (side_named n) p old x new) (λ x. DoesEvent gives old e x new)
+    (λ x h. subst (λ e. DoesEvent gives old e x new) (sym is) (at_side_of n (λ s. WorldEmits gives s p old x new) (there old n (subst (λ e. cause old e ≡ None) is c)) h))
 
 pub offer_does : (gives : Algorithms) (n : ℕ) (agg : AggId) (octets : Vec ℕ) (e : Event) (r : Result Reply WorldFault) (old new : WorldState) → e ≡ event.Offer n agg octets → cause old e ≡ None
-    → IfOk r (λ x. OffersFrame gives (side_named n) agg octets.items old x new) → IfOk r (λ x. DoesEvent gives old e x new)
-offer_does gives n agg octets e r old new is c = if_ok r (λ x. OffersFrame gives (side_named n) agg octets.items old x new) (λ x. DoesEvent gives old e x new)
-    (λ x h. subst (λ e. DoesEvent gives old e x new) (sym is) (at_side_of n (λ s. OffersFrame gives s agg octets.items old x new) (there old n (subst (λ e. cause old e ≡ None) is c)) h))
+    → IfOk r (λ x. WorldOffers gives (side_named n) agg octets.items old x new) → IfOk r (λ x. DoesEvent gives old e x new)
+offer_does gives n agg octets e r old new is c = if_ok r (λ x. WorldOffers gives (side_named n) agg octets.items old x new) (λ x. DoesEvent gives old e x new)
+    (λ x h. subst (λ e. DoesEvent gives old e x new) (sym is) (at_side_of n (λ s. WorldOffers gives s agg octets.items old x new) (there old n (subst (λ e. cause old e ≡ None) is c)) h))
 
 pub force_does : (gives : Algorithms) (n : ℕ) (agg : AggId) (conv : ℕ) (e : Event) (r : Reply) (old new : WorldState) → e ≡ event.Force n agg conv → cause old e ≡ None → WorldForces gives (side_named n) agg conv old r new → DoesEvent gives old e r new
 force_does gives n agg conv e r old new is c x =

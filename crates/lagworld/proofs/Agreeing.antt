@@ -14,24 +14,24 @@ use Rattle.portmachines.specs.declared.mux.MuxState.TheVariants.{CollectingDistr
 use Rattle.portmachines.specs.Machines.{Machines}
 use Rattle.portmachines.specs.Mux.{same_mux_state}
 use Rattle.lagmodel.specs.World.{Side, One, Two, peer, TakenLacpdu, end_at, port_on}
-use Rattle.lagmodel.specs.Law.{TookPresent}
-use Rattle.lagsystem.specs.declared.slots.SystemPort.{SystemPort}
+use Rattle.lagmodel.specs.Law.{LastLacpduIsUpToDate}
+use Rattle.lagsystem.specs.declared.system_ports.SystemPort.{SystemPort}
 use Rattle.lagsystem.specs.Readers.{group_at}
 use Rattle.lagsystem.specs.ModelView.{model_port}
-use Rattle.lagsystem.specs.Sound.{Agrees}
-use Rattle.lagsystem.specs.State.{SystemState, machines_of, place_of, slot_at}
+use Rattle.lagsystem.specs.Sound.{PortsAgree}
+use Rattle.lagsystem.specs.State.{SystemState, machines_of, port_index, system_port_at}
 use Rattle.lagsystem.proofs.Rising.{all-get}
 use Rattle.lagsystem.proofs.Seen.{port_seen}
 use Rattle.lagworld.specs.declared.agreement.Agreement.TheVariants.{Differ}
 use Rattle.lagworld.specs.declared.histories.StampedLacpdu.{StampedLacpdu}
-use Rattle.lagworld.specs.State.{LinkState, WorldState, half, port_at, history_at, count_in, taken_in}
-use Rattle.lagworld.specs.Agreement.{agreement_at, agreement_of, end_facts, first_of_five, is_stamp, same_groups}
+use Rattle.lagworld.specs.State.{LinkState, WorldState, half, port_at, history_at, change_count_in, taken_in}
+use Rattle.lagworld.specs.Agreement.{agreement_at, agreement_of, end_facts, first_agreement, is_stamp, same_groups}
 use Rattle.lagworld.specs.Sound.{IsSound}
 use Rattle.lagworld.specs.ModelWorld.{link_ends, model_world, model_taken}
 use Rattle.lagworld.proofs.Running.{agree_of}
 
 -- the answer is the last one only if none of the others holds
-last_of_five : (a b c d : Bool) → first_of_five a b c d ≡ Differ → (a ≡ false) × (b ≡ false) × (c ≡ false) × (d ≡ false)
+last_of_five : (a b c d : Bool) → first_agreement a b c d ≡ Differ → (a ≡ false) × (b ≡ false) × (c ≡ false) × (d ≡ false)
 last_of_five true b c d h = absurd (let e = h in cc)
 last_of_five false true c d h = absurd (let e = h in cc)
 last_of_five false false true d h = absurd (let e = h in cc)
@@ -51,36 +51,36 @@ port_there : (o : Option Machines) → unwrap_or (option_map (λ (x : Machines).
 port_there None h = absurd (true≢false (sym h))
 port_there (Some x) h = (x, refl, h)
 
-slot_there : (s : SystemState) (o : Option ℕ) (x : Machines) → option_map (λ (y : SystemPort). y.port) (slot_at o s.slots) ≡ Some x → (P : Machines → Type 0) → ((i : ℕ) (y : SystemPort) → slice_get s.slots i ≡ Some y → P y.port) → P x
+slot_there : (s : SystemState) (o : Option ℕ) (x : Machines) → option_map (λ (y : SystemPort). y.port) (system_port_at o s.system_ports) ≡ Some x → (P : Machines → Type 0) → ((i : ℕ) (y : SystemPort) → slice_get s.system_ports i ≡ Some y → P y.port) → P x
 slot_there s None x e P w = absurd (none-some x e)
-slot_there s (Some i) x e P w = by_slot (slice_get s.slots i) refl e
+slot_there s (Some i) x e P w = by_slot (slice_get s.system_ports i) refl e
   where
-    by_slot : (o : Option SystemPort) → slice_get s.slots i ≡ o → option_map (λ (y : SystemPort). y.port) o ≡ Some x → P x
+    by_slot : (o : Option SystemPort) → slice_get s.system_ports i ≡ o → option_map (λ (y : SystemPort). y.port) o ≡ Some x → P x
     by_slot None h e = absurd (none-some x e)
     by_slot (Some y) h e = subst P (same_Some y.port x e) (w i y h)
 
 -- it distributes for the law too
-distributes_seen : (s : SystemState) (p : ℕ) (x : Machines) → Agrees s → machines_of p s ≡ Some x → same_mux_state CollectingDistributing x.mux ≡ true → (model_port x).distributes ≡ true
+distributes_seen : (s : SystemState) (p : ℕ) (x : Machines) → PortsAgree s → machines_of p s ≡ Some x → same_mux_state CollectingDistributing x.mux ≡ true → (model_port x).distributes ≡ true
 distributes_seen s p x a e m =
-    slot_there s (place_of p s.slots) x e (λ x. (model_port x).distributes ≡ same_mux_state CollectingDistributing x.mux) (λ i y h. all-get (λ y. (model_port y.port).distributes ≡ same_mux_state CollectingDistributing y.port.mux) s.slots i y h a.distribute) ∙ m
+    slot_there s (port_index p s.system_ports) x e (λ x. (model_port x).distributes ≡ same_mux_state CollectingDistributing x.mux) (λ i y h. all-get (λ y. (model_port y.port).distributes ≡ same_mux_state CollectingDistributing y.port.mux) s.system_ports i y h a.distribute) ∙ m
 
 -- the peer's LACPDU that it took last has the peer's count
 stamp_there : (n : ℕ) (o : Option StampedLacpdu) → is_stamp n o ≡ true → (m : TakenLacpdu) × (option_map model_taken o ≡ Some m) × (m.stamp ≡ n)
 stamp_there n None h = absurd (true≢false (sym h))
-stamp_there n (Some heard) h = (model_taken heard, refl, eqb-true heard.stamp n h)
+stamp_there n (Some lacpdu) h = (model_taken lacpdu, refl, eqb-true lacpdu.stamp n h)
 
 not_defaulted : (o : Option Machines) (x : Machines) → o ≡ Some x → unwrap_or (option_map (λ (x : Machines). x.defaulted) o) false ≡ false → x.defaulted ≡ false
 not_defaulted None x e h = absurd (none-some x e)
 not_defaulted (Some y) x e h = subst (λ (x : Machines). x.defaulted ≡ false) (same_Some y x e) h
 
 -- an end hears its present peer
-hears : (s : Side) (p q : ℕ) (x : Machines) (j : WorldState) → Agrees (half s j).state → machines_of p (half s j).state ≡ Some x → same_mux_state CollectingDistributing x.mux ≡ true → x.defaulted ≡ false
-    → is_stamp (count_in (history_at (half (peer s) j).histories q)) (taken_in (history_at (half s j).histories p)) ≡ true → TookPresent (model_world j) s p q (model_port x)
+hears : (s : Side) (p q : ℕ) (x : Machines) (j : WorldState) → PortsAgree (half s j).state → machines_of p (half s j).state ≡ Some x → same_mux_state CollectingDistributing x.mux ≡ true → x.defaulted ≡ false
+    → is_stamp (change_count_in (history_at (half (peer s) j).histories q)) (taken_in (history_at (half s j).histories p)) ≡ true → LastLacpduIsUpToDate (model_world j) s p q (model_port x)
 hears s p q x j a e m d t = record {
   is = port_seen (half s j).state p ∙ ap (option_map model_port) e;
   distributes = distributes_seen (half s j).state p x a e m;
   defaulted = d;
-  taken = stamp_there (count_in (history_at (half (peer s) j).histories q)) (taken_in (history_at (half s j).histories p)) t;
+  taken = stamp_there (change_count_in (history_at (half (peer s) j).histories q)) (taken_in (history_at (half s j).histories p)) t;
 }
 
 same_there : (o u : Option Machines) (x y : Machines) → o ≡ Some x → u ≡ Some y → same_groups (option_map group_at o) (option_map group_at u) ≡ same_group (group_at x) (group_at y)

@@ -17,21 +17,21 @@ use Rattle.lagsystem.specs.declared.received.Received.TheVariants as received
 use Rattle.lagsystem.specs.declared.drive.Reply.TheVariants as answer
 use Rattle.lagsystem.specs.declared.fault.SystemFault.{SystemFault}
 use Rattle.lagsystem.specs.Calls.{Receive}
-use Rattle.lagsystem.specs.ModelView.{JoinedByFreeMoves}
-use Rattle.lagsystem.specs.Sound.{Answers}
+use Rattle.lagsystem.specs.ModelView.{JoinedByLawfulMoves}
+use Rattle.lagsystem.specs.Sound.{CallPromise}
 use Rattle.lagsystem.specs.State.{SystemState}
 use Rattle.lagworld.specs.declared.delivering.Head.{Head}
 use Rattle.lagworld.specs.declared.link.Link.{Link as Cabled}
 use Rattle.lagworld.specs.declared.histories.StampedLacpdu.{StampedLacpdu}
 use Rattle.lagworld.specs.declared.histories.PortHistory.{PortHistory}
 use Rattle.lagworld.specs.declared.reply.Reply.{Reply}
-use Rattle.lagworld.specs.State.{Carried, HalfState, LinkState, WorldState, Serials, half, with_half, with_links, port_at, towards, with_towards, link_of_port}
+use Rattle.lagworld.specs.State.{ItemValue, HalfState, LinkState, WorldState, FlowValue, half, with_half, with_links, port_at, towards, with_towards, link_index}
 use Rattle.lagworld.specs.HalfCalls.{set_taken, with_state}
-use Rattle.lagworld.specs.Events.{Algorithms, InHalf, Arrives, Arrived, DeliversFrom, RepeatsFrom, RepeatsItem, stamped_in, set_last_lacpdu}
-use Rattle.lagworld.specs.Messages.{carried, stamp_count, payload_in}
+use Rattle.lagworld.specs.Events.{Algorithms, InHalf, WorldReceives, AfterReceive, DeliversFrom, RepeatsFrom, RepeatsItem, stamped_in, set_last_lacpdu}
+use Rattle.lagworld.specs.Messages.{item_value, stamp_count, payload_in}
 use Rattle.lagworld.specs.Inner.{link_state, link_states}
 use Rattle.lagworld.specs.Places.{IsReserved, IsReservedAt, is_reserved}
-use Rattle.lagworld.specs.Arriving.{CarriesLacpdu, ReceivesItem, Concludes, WorldDelivers, ReceivesFirst, ReceivesFirstIn, IsToKeep, WorldRepeats, first_head, head_in, is_data, last_lacpdu_kept, history_place, logged, without_first}
+use Rattle.lagworld.specs.Arriving.{CarriesLacpdu, HalfReceives, Concludes, WorldDelivers, HalfReceivesFirst, WorldReceivesFirst, IsToRecord, WorldRepeats, first_head, head_in, is_data, last_lacpdu_recorded, history_index, with_lacpdu_recorded, without_first}
 use Rattle.lagworld.proofs.LineLemmas.{on_place}
 use Rattle.lagworld.proofs.Arrives.{lacpdu_read}
 
@@ -42,7 +42,7 @@ abbrev make_head : ℕ → Stamp → Head
 make_head p st = record { port = p; stamp = st }
 
 -- an LACPDU was taken, so the frame carries one
-took_lacpdu : (p : ℕ) (octets : List ℕ) (old new : SystemState) → JoinedByFreeMoves old (Receive p octets) (answer.Receive (Ok received.TookLacpdu)) new → (v : Lacpdu) × CarriesLacpdu octets v
+took_lacpdu : (p : ℕ) (octets : List ℕ) (old new : SystemState) → JoinedByLawfulMoves old (Receive p octets) (answer.Receive (Ok received.TookLacpdu)) new → (v : Lacpdu) × CarriesLacpdu octets v
 took_lacpdu p octets old new h = (h.3.0, h.3.1)
 
 -- what is to be kept of it
@@ -55,29 +55,29 @@ heard_is octets b st found v n h same only e =
 pub none_heard : (octets b : List ℕ) (v : Lacpdu) → CarriesLacpdu octets v → b ≡ octets → ((v : Lacpdu) → CarriesLacpdu b v → None ≡ Some v) → ⊥
 none_heard octets b v h same only = none-some v (only v (subst (λ b. CarriesLacpdu b v) (sym same) h))
 
-heard_next : (p : ℕ) (heard : StampedLacpdu) (d history : PortHistory) (histories : List PortHistory) (rest : ℕ) (b : Bool) → set_last_lacpdu p heard histories ≡ set histories rest (set_taken heard (get_or histories rest d))
-    → cond b (set_taken heard history ∷ histories) (history ∷ set_last_lacpdu p heard histories) ≡ set (history ∷ histories) (cond (not b) (1 + rest) 0) (set_taken heard (get_or (history ∷ histories) (cond (not b) (1 + rest) 0) d))
-heard_next p heard d history histories rest true ih = refl
-heard_next p heard d history histories rest false ih =
+heard_next : (p : ℕ) (lacpdu : StampedLacpdu) (d history : PortHistory) (histories : List PortHistory) (rest : ℕ) (b : Bool) → set_last_lacpdu p lacpdu histories ≡ set histories rest (set_taken lacpdu (get_or histories rest d))
+    → cond b (set_taken lacpdu history ∷ histories) (history ∷ set_last_lacpdu p lacpdu histories) ≡ set (history ∷ histories) (cond (not b) (1 + rest) 0) (set_taken lacpdu (get_or (history ∷ histories) (cond (not b) (1 + rest) 0) d))
+heard_next p lacpdu d history histories rest true ih = refl
+heard_next p lacpdu d history histories rest false ih =
     let one : 1 + rest ≡ suc rest = omega arith in
-    ap (λ l. history ∷ l) ih ∙ ap (λ n. set (history ∷ histories) n (set_taken heard (get_or (history ∷ histories) n d))) (sym one)
+    ap (λ l. history ∷ l) ih ∙ ap (λ n. set (history ∷ histories) n (set_taken lacpdu (get_or (history ∷ histories) n d))) (sym one)
 
 -- the history of the first port with the number
-pub heard_at : (p : ℕ) (heard : StampedLacpdu) (d : PortHistory) (histories : List PortHistory)
-    → set_last_lacpdu p heard histories ≡ set histories (position_or_len (λ history. history.number == p) histories) (set_taken heard (get_or histories (position_or_len (λ history. history.number == p) histories) d))
-heard_at p heard d [] = refl
-heard_at p heard d (history ∷ histories) = heard_next p heard d history histories (position_or_len (λ history. history.number == p) histories) (history.number == p) (heard_at p heard d histories)
+pub heard_at : (p : ℕ) (lacpdu : StampedLacpdu) (d : PortHistory) (histories : List PortHistory)
+    → set_last_lacpdu p lacpdu histories ≡ set histories (position_or_len (λ history. history.number == p) histories) (set_taken lacpdu (get_or histories (position_or_len (λ history. history.number == p) histories) d))
+heard_at p lacpdu d [] = refl
+heard_at p lacpdu d (history ∷ histories) = heard_next p lacpdu d history histories (position_or_len (λ history. history.number == p) histories) (history.number == p) (heard_at p lacpdu d histories)
 
-pub heard_found : (p : ℕ) (heard : StampedLacpdu) (histories : List PortHistory) (i : ℕ) (history : PortHistory) → Some i ≡ history_place p histories → history ≡ get_or histories i history
-    → set histories i (set_taken heard history) ≡ set_last_lacpdu p heard histories
-heard_found p heard histories i history found read =
+pub heard_found : (p : ℕ) (lacpdu : StampedLacpdu) (histories : List PortHistory) (i : ℕ) (history : PortHistory) → Some i ≡ history_index p histories → history ≡ get_or histories i history
+    → set histories i (set_taken lacpdu history) ≡ set_last_lacpdu p lacpdu histories
+heard_found p lacpdu histories i history found read =
     let at = (cond_some (nat_lt (position_or_len (λ history. history.number == p) histories) (length histories)) (position_or_len (λ history. history.number == p) histories) i (sym found)).1 in
-    ap (λ l. set histories i (set_taken heard l)) read ∙ sym (heard_at p heard history histories ∙ ap (λ n. set histories n (set_taken heard (get_or histories n history))) at)
+    ap (λ l. set histories i (set_taken lacpdu l)) read ∙ sym (heard_at p lacpdu history histories ∙ ap (λ n. set histories n (set_taken lacpdu (get_or histories n history))) at)
 
-pub heard_nowhere : (p : ℕ) (heard : StampedLacpdu) (histories : List PortHistory) → None ≡ history_place p histories → histories ≡ set_last_lacpdu p heard histories
-heard_nowhere p heard [] none = refl
-heard_nowhere p heard (history ∷ histories) none =
-    sym (heard_at p heard history (history ∷ histories)
+pub heard_nowhere : (p : ℕ) (lacpdu : StampedLacpdu) (histories : List PortHistory) → None ≡ history_index p histories → histories ≡ set_last_lacpdu p lacpdu histories
+heard_nowhere p lacpdu [] none = refl
+heard_nowhere p lacpdu (history ∷ histories) none =
+    sym (heard_at p lacpdu history (history ∷ histories)
     ∙ set_past (history ∷ histories) (position_or_len (λ l. l.number == p) (history ∷ histories)) _
     (past (position_or_len (λ l. l.number == p) (history ∷ histories)) (length (history ∷ histories)) (nat_lt (position_or_len (λ l. l.number == p) (history ∷ histories)) (length (history ∷ histories))) refl none))
   where
@@ -85,48 +85,48 @@ heard_nowhere p heard (history ∷ histories) none =
     past n m true e h = absurd (none-some n h)
     past n m false e h = grind (arith, nat_tests)
 
-abbrev make_half : SystemState → List PortHistory → List (List Serials) → HalfState
+abbrev make_half : SystemState → List PortHistory → List (List FlowValue) → HalfState
 make_half state histories flows = record { state = state; histories = histories; flows = flows }
 
 -- what was kept of an item that a system answered
-logged_is : (p : ℕ) (item : Carried) (a : Result Received SystemFault) (heard : Option StampedLacpdu) (old : HalfState) (state : SystemState) (histories : List PortHistory)
-    → JoinedByFreeMoves old.state (Receive p item.octets) (answer.Receive a) state → IsToKeep a item heard → histories ≡ last_lacpdu_kept p heard old.histories
-    → make_half state histories old.flows ≡ logged a p item (with_state state old)
-logged_is p item (Err fault) heard old state histories j h e = ap (λ l. make_half state l old.flows) (e ∙ ap (λ o. last_lacpdu_kept p o old.histories) h)
-logged_is p item (Ok received.Disabled) heard old state histories j h e = ap (λ l. make_half state l old.flows) (e ∙ ap (λ o. last_lacpdu_kept p o old.histories) h)
-logged_is p item (Ok received.Dropped) heard old state histories j h e = ap (λ l. make_half state l old.flows) (e ∙ ap (λ o. last_lacpdu_kept p o old.histories) h)
-logged_is p item (Ok (received.Ignored fault)) heard old state histories j h e = ap (λ l. make_half state l old.flows) (e ∙ ap (λ o. last_lacpdu_kept p o old.histories) h)
-logged_is p item (Ok received.TookLacpdu) heard old state histories j h e =
+logged_is : (p : ℕ) (item : ItemValue) (a : Result Received SystemFault) (lacpdu : Option StampedLacpdu) (old : HalfState) (state : SystemState) (histories : List PortHistory)
+    → JoinedByLawfulMoves old.state (Receive p item.octets) (answer.Receive a) state → IsToRecord a item lacpdu → histories ≡ last_lacpdu_recorded p lacpdu old.histories
+    → make_half state histories old.flows ≡ with_lacpdu_recorded a p item (with_state state old)
+logged_is p item (Err fault) lacpdu old state histories j h e = ap (λ l. make_half state l old.flows) (e ∙ ap (λ o. last_lacpdu_recorded p o old.histories) h)
+logged_is p item (Ok received.Disabled) lacpdu old state histories j h e = ap (λ l. make_half state l old.flows) (e ∙ ap (λ o. last_lacpdu_recorded p o old.histories) h)
+logged_is p item (Ok received.Dropped) lacpdu old state histories j h e = ap (λ l. make_half state l old.flows) (e ∙ ap (λ o. last_lacpdu_recorded p o old.histories) h)
+logged_is p item (Ok (received.Ignored fault)) lacpdu old state histories j h e = ap (λ l. make_half state l old.flows) (e ∙ ap (λ o. last_lacpdu_recorded p o old.histories) h)
+logged_is p item (Ok received.TookLacpdu) lacpdu old state histories j h e =
     let taken = took_lacpdu p item.octets old.state state j in
-    ap (λ l. make_half state l old.flows) (e ∙ ap (λ o. last_lacpdu_kept p o old.histories) (h taken.0 taken.1))
-logged_is p item (Ok (received.Respond frame)) heard old state histories j h e = ap (λ l. make_half state l old.flows) (e ∙ ap (λ o. last_lacpdu_kept p o old.histories) h)
-logged_is p item (Ok (received.Released n)) heard old state histories j h e = ap (λ l. make_half state l old.flows) (e ∙ ap (λ o. last_lacpdu_kept p o old.histories) h)
-logged_is p item (Ok (received.Up agg)) heard old state histories j h e = ap (λ l. make_half state l old.flows) (e ∙ ap (λ o. last_lacpdu_kept p o old.histories) h)
+    ap (λ l. make_half state l old.flows) (e ∙ ap (λ o. last_lacpdu_recorded p o old.histories) (h taken.0 taken.1))
+logged_is p item (Ok (received.Respond frame)) lacpdu old state histories j h e = ap (λ l. make_half state l old.flows) (e ∙ ap (λ o. last_lacpdu_recorded p o old.histories) h)
+logged_is p item (Ok (received.Released n)) lacpdu old state histories j h e = ap (λ l. make_half state l old.flows) (e ∙ ap (λ o. last_lacpdu_recorded p o old.histories) h)
+logged_is p item (Ok (received.Up agg)) lacpdu old state histories j h e = ap (λ l. make_half state l old.flows) (e ∙ ap (λ o. last_lacpdu_recorded p o old.histories) h)
 
-pub comes_from : (gives : ℕ → ℕ → ℕ → Type 0) (p : ℕ) (item : Carried) (a : Result Received SystemFault) (b : List ℕ) (heard : Option StampedLacpdu) (old : HalfState) (state : SystemState) (histories : List PortHistory)
-    → b ≡ item.octets → Answers gives old.state (Receive p b) (answer.Receive a) state
-    → IsToKeep a item heard → histories ≡ last_lacpdu_kept p heard old.histories → ReceivesItem gives p item a old (make_half state histories old.flows)
-comes_from gives p item a b heard old state histories same answers h e =
-    let answered = subst (λ b. Answers gives old.state (Receive p b) (answer.Receive a) state) same answers in (
+pub comes_from : (gives : ℕ → ℕ → ℕ → Type 0) (p : ℕ) (item : ItemValue) (a : Result Received SystemFault) (b : List ℕ) (lacpdu : Option StampedLacpdu) (old : HalfState) (state : SystemState) (histories : List PortHistory)
+    → b ≡ item.octets → CallPromise gives old.state (Receive p b) (answer.Receive a) state
+    → IsToRecord a item lacpdu → histories ≡ last_lacpdu_recorded p lacpdu old.histories → HalfReceives gives p item a old (make_half state histories old.flows)
+comes_from gives p item a b lacpdu old state histories same answers h e =
+    let answered = subst (λ b. CallPromise gives old.state (Receive p b) (answer.Receive a) state) same answers in (
       record { answers = answered; same = refl },
-      logged_is p item a heard old state histories answered.moves h e,
+      logged_is p item a lacpdu old state histories answered.moves h e,
     )
 
 -- the first item on a cable
-pub told_first : (p : ℕ) (xs : List Item) (x : Item) → Some x ≡ slice_get xs 0 → Some (make_head p x.stamp) ≡ first_head p (map carried xs)
+pub told_first : (p : ℕ) (xs : List Item) (x : Item) → Some x ≡ slice_get xs 0 → Some (make_head p x.stamp) ≡ first_head p (map item_value xs)
 told_first p [] x h = absurd (none-some x (sym h))
 told_first p (y ∷ ys) x h = ap (λ (z : Item). Some (make_head p z.stamp)) (same_Some x y h)
 
-pub told_none : (p : ℕ) (xs : List Item) → None ≡ slice_get xs 0 → None ≡ first_head p (map carried xs)
+pub told_none : (p : ℕ) (xs : List Item) → None ≡ slice_get xs 0 → None ≡ first_head p (map item_value xs)
 told_none p [] h = refl
 told_none p (y ∷ ys) h = absurd (none-some y h)
 
 pub first_comes : (gives : ℕ → ℕ → ℕ → Type 0) (p : ℕ) (xs : List Item) (x : Item) (a : Result Received SystemFault) (old new : HalfState) → Some x ≡ slice_get xs 0
-    → ReceivesItem gives p (carried x) a old new → ReceivesFirst gives p (map carried xs) (Some a) old new
+    → HalfReceives gives p (item_value x) a old new → HalfReceivesFirst gives p (map item_value xs) (Some a) old new
 first_comes gives p [] x a old new h k = absurd (none-some x (sym h))
-first_comes gives p (y ∷ ys) x a old new h k = subst (λ (z : Item). ReceivesItem gives p (carried z) a old new) (same_Some x y h) k
+first_comes gives p (y ∷ ys) x a old new h k = subst (λ (z : Item). HalfReceives gives p (item_value z) a old new) (same_Some x y h) k
 
-pub none_comes : (gives : ℕ → ℕ → ℕ → Type 0) (p : ℕ) (xs : List Item) (old : HalfState) → None ≡ slice_get xs 0 → ReceivesFirst gives p (map carried xs) None old old
+pub none_comes : (gives : ℕ → ℕ → ℕ → Type 0) (p : ℕ) (xs : List Item) (old : HalfState) → None ≡ slice_get xs 0 → HalfReceivesFirst gives p (map item_value xs) None old old
 none_comes gives p [] old h = (refl, refl)
 none_comes gives p (y ∷ ys) old h = absurd (none-some y h)
 
@@ -162,18 +162,18 @@ pub still_reserved : {C : Type 0} (items : C → List Item) (limit : C → Optio
 still_reserved {C = C} items limit reserved s p ls i x new lt read e kept h =
     let there : slice_get ls i ≡ Some x = slice_get_read ls (length ls) i x refl lt read in
     let seen : slice_get (link_states items limit ls) i ≡ Some (link_state items limit x) = slice_get-map (link_state items limit) ls i ∙ ap (option_map (link_state items limit)) there in
-    let place : link_of_port s p (link_states items limit (set ls i new)) ≡ link_of_port s p (link_states items limit ls) =
-    ap (link_of_port s p) (map-set (link_state items limit) ls i new)
+    let place : link_index s p (link_states items limit (set ls i new)) ≡ link_index s p (link_states items limit ls) =
+    ap (link_index s p) (map-set (link_state items limit) ls i new)
     ∙ same_position (λ (l : LinkState). port_at s l == p) (link_states items limit ls) i (link_state items limit x) (link_state items limit new) seen (ap (λ (l : LinkState). port_at s l == p) e) in
-    subst (λ o. IsReservedAt reserved s o (set ls i new)) (sym place) (at_place (link_of_port s p (link_states items limit ls)) there h)
+    subst (λ o. IsReservedAt reserved s o (set ls i new)) (sym place) (at_place (link_index s p (link_states items limit ls)) there h)
   where
     at_place : (o : Option ℕ) → slice_get ls i ≡ Some x → IsReservedAt reserved s o ls → IsReservedAt reserved s o (set ls i new)
     at_place None there h = tt
     at_place (Some k) there h = holds_after (λ l. IsTrue (is_reserved reserved s l)) ls i k x new there (λ t. subst (λ b. IsTrue b) (sym kept) t) h
 
 -- an answer to what came, and what it leads to outside of the system
-concluded : (s : Side) (p : ℕ) (item : Carried) (a : Result Received SystemFault) (mid : HalfState) (old : WorldState) (r : Reply) (new : WorldState)
-    → Concludes s p item.stamp a (with_half s (logged a p item mid) old) r new → Arrived s p item a (with_half s mid old) r new
+concluded : (s : Side) (p : ℕ) (item : ItemValue) (a : Result Received SystemFault) (mid : HalfState) (old : WorldState) (r : Reply) (new : WorldState)
+    → Concludes s p item.stamp a (with_half s (with_lacpdu_recorded a p item mid) old) r new → AfterReceive s p item a (with_half s mid old) r new
 concluded s p item (Err fault) mid old r new h = h
 concluded s p item (Ok received.Disabled) mid old r new h = h
 concluded s p item (Ok received.Dropped) mid old r new h = h
@@ -185,8 +185,8 @@ concluded s p item (Ok (received.Released n)) mid old r new h = h
 concluded s p item (Ok (received.Up agg)) mid old r new h = h
 
 -- the first item came, was answered, and what the answer leads to was done
-pub arrived : (gives : Algorithms) (s : Side) (p : ℕ) (item : Carried) (a : Result Received SystemFault) (links : List LinkState) (old mid : WorldState) (r : Reply) (new : WorldState)
-    → InHalf s (ReceivesItem (gives s) p item a) old mid → Concludes s p item.stamp a (with_links mid links) r new → Arrives gives s p item (with_links old links) r new
+pub arrived : (gives : Algorithms) (s : Side) (p : ℕ) (item : ItemValue) (a : Result Received SystemFault) (links : List LinkState) (old mid : WorldState) (r : Reply) (new : WorldState)
+    → InHalf s (HalfReceives (gives s) p item a) old mid → Concludes s p item.stamp a (with_links mid links) r new → WorldReceives gives s p item (with_links old links) r new
 arrived gives s p item a links old mid r new h k = (
   a,
   with_state (half s mid).state (half s old),
@@ -196,8 +196,8 @@ arrived gives s p item a links old mid r new h k = (
       (subst (λ (j : WorldState). Concludes s p item.stamp a (with_links j links) r new) h.1 k)),
 )
 
-pub delivered : (gives : Algorithms) (s : Side) (i : ℕ) (l : LinkState) (xs : List Carried) (head : Head) (a : Result Received SystemFault) (old mid : WorldState) (r : Reply) (new : WorldState)
-    → first_head (port_at s l) xs ≡ Some head → ReceivesFirstIn gives s (port_at s l) xs (Some a) old mid
+pub delivered : (gives : Algorithms) (s : Side) (i : ℕ) (l : LinkState) (xs : List ItemValue) (head : Head) (a : Result Received SystemFault) (old mid : WorldState) (r : Reply) (new : WorldState)
+    → first_head (port_at s l) xs ≡ Some head → WorldReceivesFirst gives s (port_at s l) xs (Some a) old mid
     → Concludes s head.port head.stamp a (with_links mid (slice_set old.links i (with_towards s (drop 1 xs) l))) r new
     → DeliversFrom gives s i l xs old r new
 delivered gives s i l [] head a old mid r new e h k = absurd (none-some head e)
@@ -210,32 +210,32 @@ both P Q None h k = absurd h
 both P Q (Some x) h k = (h, k)
 
 -- the first item was looked at, came, was taken off, and what its answer leads to was done
-pub deliver_does : (gives : Algorithms) (s : Side) (c i : ℕ) (head : Head) (a : Result Received SystemFault) (first : LinkState → Type 0) (links : List LinkState) (old ready heard : WorldState) (r : Reply) (new : WorldState)
-    → c ≡ i + 1 → ready ≡ old → heard.links ≡ ready.links
+pub deliver_does : (gives : Algorithms) (s : Side) (c i : ℕ) (head : Head) (a : Result Received SystemFault) (first : LinkState → Type 0) (links : List LinkState) (old ready lacpdu : WorldState) (r : Reply) (new : WorldState)
+    → c ≡ i + 1 → ready ≡ old → lacpdu.links ≡ ready.links
     → IsSomeAnd (slice_get old.links i) (λ l. Some head ≡ head_in s l)
-    → IsSomeAnd (slice_get ready.links i) (λ l. ReceivesFirstIn gives s (port_at s l) (towards s l) (Some a) ready heard)
-    → IsSomeAnd (slice_get heard.links i) (λ l. first l × (links ≡ slice_set heard.links i (without_first s l)))
-    → Concludes s head.port head.stamp a (with_links heard links) r new
+    → IsSomeAnd (slice_get ready.links i) (λ l. WorldReceivesFirst gives s (port_at s l) (towards s l) (Some a) ready lacpdu)
+    → IsSomeAnd (slice_get lacpdu.links i) (λ l. first l × (links ≡ slice_set lacpdu.links i (without_first s l)))
+    → Concludes s head.port head.stamp a (with_links lacpdu links) r new
     → WorldDelivers gives s c old r new
-deliver_does gives s c i head a first links old ready heard r new e same kept told comes taken ends =
-    let comes_old : IsSomeAnd (slice_get old.links i) (λ l. ReceivesFirstIn gives s (port_at s l) (towards s l) (Some a) old heard) =
-    subst (λ (j : WorldState). IsSomeAnd (slice_get j.links i) (λ l. ReceivesFirstIn gives s (port_at s l) (towards s l) (Some a) j heard)) same comes in
-    let kept_old : heard.links ≡ old.links = kept ∙ ap (λ (j : WorldState). j.links) same in
+deliver_does gives s c i head a first links old ready lacpdu r new e same kept told comes taken ends =
+    let comes_old : IsSomeAnd (slice_get old.links i) (λ l. WorldReceivesFirst gives s (port_at s l) (towards s l) (Some a) old lacpdu) =
+    subst (λ (j : WorldState). IsSomeAnd (slice_get j.links i) (λ l. WorldReceivesFirst gives s (port_at s l) (towards s l) (Some a) j lacpdu)) same comes in
+    let kept_old : lacpdu.links ≡ old.links = kept ∙ ap (λ (j : WorldState). j.links) same in
     let taken_old : IsSomeAnd (slice_get old.links i) (λ l. first l × (links ≡ slice_set old.links i (without_first s l))) =
     subst (λ ls. IsSomeAnd (slice_get ls i) (λ l. first l × (links ≡ slice_set ls i (without_first s l)))) kept_old taken in
     on_place c i _ (λ i l. DeliversFrom gives s i l (towards s l) old r new) old.links e
-    (λ l x. delivered gives s i l (towards s l) head a old heard r new (sym x.0) x.1.0
-    (subst (λ ls. Concludes s head.port head.stamp a (with_links heard ls) r new) x.1.1.1 ends))
+    (λ l x. delivered gives s i l (towards s l) head a old lacpdu r new (sym x.0) x.1.0
+    (subst (λ ls. Concludes s head.port head.stamp a (with_links lacpdu ls) r new) x.1.1.1 ends))
     (both (λ l. Some head ≡ head_in s l) _ (slice_get old.links i) told
-    (both (λ l. ReceivesFirstIn gives s (port_at s l) (towards s l) (Some a) old heard) (λ l. first l × (links ≡ slice_set old.links i (without_first s l))) (slice_get old.links i) comes_old taken_old))
+    (both (λ l. WorldReceivesFirst gives s (port_at s l) (towards s l) (Some a) old lacpdu) (λ l. first l × (links ≡ slice_set old.links i (without_first s l))) (slice_get old.links i) comes_old taken_old))
 
 repeats_item : (gives : Algorithms) (s : Side) (p : ℕ) (octets : List ℕ) (st : Stamp) (old : WorldState) (r : Reply) (new : WorldState) → is_data st ≡ false
-    → Arrives gives s p (record { octets = octets; stamp = st }) old r new → RepeatsItem gives s p octets st old r new
+    → WorldReceives gives s p (record { octets = octets; stamp = st }) old r new → RepeatsItem gives s p octets st old r new
 repeats_item gives s p octets (stamp.Control count) old r new e h = h
 repeats_item gives s p octets (stamp.Data system agg conv serial) old r new e h = absurd (true≢false e)
 
-repeated : (gives : Algorithms) (s : Side) (l : LinkState) (xs : List Carried) (head : Head) (a : Result Received SystemFault) (old mid : WorldState) (r : Reply) (new : WorldState)
-    → first_head (port_at s l) xs ≡ Some head → is_data head.stamp ≡ false → ReceivesFirstIn gives s (port_at s l) xs (Some a) old mid
+repeated : (gives : Algorithms) (s : Side) (l : LinkState) (xs : List ItemValue) (head : Head) (a : Result Received SystemFault) (old mid : WorldState) (r : Reply) (new : WorldState)
+    → first_head (port_at s l) xs ≡ Some head → is_data head.stamp ≡ false → WorldReceivesFirst gives s (port_at s l) xs (Some a) old mid
     → Concludes s head.port head.stamp a mid r new
     → RepeatsFrom gives s l xs old r new
 repeated gives s l [] head a old mid r new e control h k = absurd (none-some head e)
@@ -247,15 +247,15 @@ repeated gives s l (item ∷ rest) head a old mid r new e control h k =
     (subst (λ (x : Head). Concludes s x.port x.stamp a mid r new) (sym is) k)))
 
 -- the first item is a control frame: it was looked at, came, and what its answer leads to was done
-pub repeat_does : (gives : Algorithms) (s : Side) (c i : ℕ) (head : Head) (a : Result Received SystemFault) (old ready heard : WorldState) (r : Reply) (new : WorldState)
+pub repeat_does : (gives : Algorithms) (s : Side) (c i : ℕ) (head : Head) (a : Result Received SystemFault) (old ready lacpdu : WorldState) (r : Reply) (new : WorldState)
     → c ≡ i + 1 → ready ≡ old → is_data head.stamp ≡ false
     → IsSomeAnd (slice_get old.links i) (λ l. Some head ≡ head_in s l)
-    → IsSomeAnd (slice_get ready.links i) (λ l. ReceivesFirstIn gives s (port_at s l) (towards s l) (Some a) ready heard)
-    → Concludes s head.port head.stamp a heard r new
+    → IsSomeAnd (slice_get ready.links i) (λ l. WorldReceivesFirst gives s (port_at s l) (towards s l) (Some a) ready lacpdu)
+    → Concludes s head.port head.stamp a lacpdu r new
     → WorldRepeats gives s c old r new
-repeat_does gives s c i head a old ready heard r new e same control told comes ends =
-    let comes_old : IsSomeAnd (slice_get old.links i) (λ l. ReceivesFirstIn gives s (port_at s l) (towards s l) (Some a) old heard) =
-    subst (λ (j : WorldState). IsSomeAnd (slice_get j.links i) (λ l. ReceivesFirstIn gives s (port_at s l) (towards s l) (Some a) j heard)) same comes in
+repeat_does gives s c i head a old ready lacpdu r new e same control told comes ends =
+    let comes_old : IsSomeAnd (slice_get old.links i) (λ l. WorldReceivesFirst gives s (port_at s l) (towards s l) (Some a) old lacpdu) =
+    subst (λ (j : WorldState). IsSomeAnd (slice_get j.links i) (λ l. WorldReceivesFirst gives s (port_at s l) (towards s l) (Some a) j lacpdu)) same comes in
     on_place c i _ (λ i l. RepeatsFrom gives s l (towards s l) old r new) old.links e
-    (λ l x. repeated gives s l (towards s l) head a old heard r new (sym x.0) control x.1 ends)
-    (both (λ l. Some head ≡ head_in s l) (λ l. ReceivesFirstIn gives s (port_at s l) (towards s l) (Some a) old heard) (slice_get old.links i) told comes_old)
+    (λ l x. repeated gives s l (towards s l) head a old lacpdu r new (sym x.0) control x.1 ends)
+    (both (λ l. Some head ≡ head_in s l) (λ l. WorldReceivesFirst gives s (port_at s l) (towards s l) (Some a) old lacpdu) (slice_get old.links i) told comes_old)

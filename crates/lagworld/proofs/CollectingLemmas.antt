@@ -4,9 +4,9 @@ use Rattle.std.specs.Prelude.{OnOk, slice_get, vec_capacity, vec_len}
 use Rattle.std.specs.Global.{Vec}
 use Rattle.std.proofs.lemmas.Option.{slice_get_read}
 use Rattle.lagworld.specs.declared.histories.Flow.{Flow}
-use Rattle.lagworld.specs.State.{Serials, with_collected}
+use Rattle.lagworld.specs.State.{FlowValue, with_collected}
 use Rattle.lagworld.specs.Arriving.{CanCollect, CanCollectAt, CanCollectIn}
-use Rattle.lagworld.specs.Inner.{serials_of}
+use Rattle.lagworld.specs.Inner.{flow_value}
 use Rattle.lagworld.proofs.Cables.{mapped_set, set_here}
 
 -- what is written is seen as what was there
@@ -17,13 +17,13 @@ same_seen f xs i x new lt read e = mapped_set f xs i new x (slice_get_read xs (l
 abbrev pub put_collected : Flow → Vec ℕ → Flow
 put_collected x v = record { sent = x.sent; collected = v; forced = x.forced }
 
-abbrev make_serials : List ℕ → List ℕ → Bool → Serials
+abbrev make_serials : List ℕ → List ℕ → Bool → FlowValue
 make_serials sent collected forced = record { sent = sent; collected = collected; forced = forced }
 
-pub same_serials : (x : Flow) (v : Vec ℕ) → v.items ≡ x.collected.items → serials_of (put_collected x v) ≡ serials_of x
+pub same_serials : (x : Flow) (v : Vec ℕ) → v.items ≡ x.collected.items → flow_value (put_collected x v) ≡ flow_value x
 same_serials x v e = ap (λ l. make_serials x.sent.items l x.forced) e
 
-pub more_serials : (x : Flow) (v : Vec ℕ) (serial : ℕ) → v.items ≡ x.collected.items ++ serial ∷ [] → serials_of (put_collected x v) ≡ with_collected serial (serials_of x)
+pub more_serials : (x : Flow) (v : Vec ℕ) (serial : ℕ) → v.items ≡ x.collected.items ++ serial ∷ [] → flow_value (put_collected x v) ≡ with_collected serial (flow_value x)
 more_serials x v serial e = ap (λ l. make_serials x.sent.items l x.forced) e
 
 -- what holds of what is written, if that was done

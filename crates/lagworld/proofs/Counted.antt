@@ -7,7 +7,7 @@ use Rattle.lagtypes.specs.declared.party.Party.{Party}
 use Rattle.lagtypes.specs.Same.{same_party}
 use Rattle.lagtypes.proofs.SameLemmas.{exact_party, party_itself}
 use Rattle.lagmodel.specs.View.{View, first_view, ModelCall as ModelEvent}
-use Rattle.lagmodel.specs.Move.{FreeMoves}
+use Rattle.lagmodel.specs.Move.{LawfulMoves}
 use Rattle.lagmodel.specs.World.{Side, One, Two, at_side, World, CallHappens, CountsChanges, party_at, Event, Happens}
 use Rattle.lagmodel.proofs.Base.{cond_true, cond_false, none-is_some}
 use Rattle.lagmodel.proofs.Runs.{same_world}
@@ -17,14 +17,14 @@ use Rattle.lagsystem.specs.declared.drive.Reply.{Reply as Answer}
 use Rattle.lagsystem.specs.declared.drive.Reply.TheVariants as answer
 use Rattle.lagsystem.specs.declared.fault.SystemFault.{SystemFault}
 use Rattle.lagsystem.specs.Calls.{Call, Configure, Restart}
-use Rattle.lagsystem.specs.ModelView.{model_setup, model_port, model_view, JoinedByFreeMoves}
+use Rattle.lagsystem.specs.ModelView.{model_setup, model_port, model_view, JoinedByLawfulMoves}
 use Rattle.lagsystem.specs.State.{SystemState, machines_of}
 use Rattle.lagsystem.proofs.FirstView.{first_shows}
 use Rattle.lagsystem.proofs.Seen.{party_seen, port_seen}
 use Rattle.lagworld.specs.declared.reply.Reply.{Reply}
 use Rattle.lagworld.specs.declared.histories.PortHistory.{PortHistory}
-use Rattle.lagworld.specs.State.{HalfState, LinkState, WorldState, half, with_half, with_links, emptied, nth, history_at, count_in, taken_in, serials_at, sent_in, collected_in, forced_in}
-use Rattle.lagworld.specs.HalfCalls.{Asks, HalfConfigures, HalfRestarts, with_changes_counted, change_counted, party_of_port, is_party}
+use Rattle.lagworld.specs.State.{HalfState, LinkState, WorldState, half, with_half, with_links, emptied, element_numbered, history_at, change_count_in, taken_in, flow_at, sent_in, collected_in, forced_in}
+use Rattle.lagworld.specs.HalfCalls.{HalfAnswers, HalfConfigures, HalfRestarts, with_changes_counted, change_counted, party_of_port, is_party}
 use Rattle.lagworld.specs.Events.{InHalf, model_change}
 use Rattle.lagworld.specs.Sound.{IsHalfSound}
 use Rattle.lagworld.specs.ModelWorld.{world_setup, model_world, is_whole, messages, model_taken}
@@ -65,30 +65,30 @@ changed_or_not a o (Some b) n e = elim (cases_Bool (same_party b a)) [
 
 -- the same of a port of a system: old and new are what the law sees
 port_counted : (old new : HalfState) → IsHalfSound old → new.histories ≡ old.histories → ((p : ℕ) → party_of_port old.state p ≡ None → party_of_port new.state p ≡ None) → (p : ℕ)
-    → ((party_at (model_view new.state) p ≡ party_at (model_view old.state) p) × (count_in (history_at (with_changes_counted new).histories p) ≡ count_in (history_at old.histories p)))
-    ⊎ ((party_at (model_view new.state) p ≢ party_at (model_view old.state) p) × (count_in (history_at (with_changes_counted new).histories p) ≡ suc (count_in (history_at old.histories p))))
+    → ((party_at (model_view new.state) p ≡ party_at (model_view old.state) p) × (change_count_in (history_at (with_changes_counted new).histories p) ≡ change_count_in (history_at old.histories p)))
+    ⊎ ((party_at (model_view new.state) p ≢ party_at (model_view old.state) p) × (change_count_in (history_at (with_changes_counted new).histories p) ≡ suc (change_count_in (history_at old.histories p))))
 port_counted old new k e none p = by_log (history_at old.histories p) refl
   where
-    there : count_in (history_at (with_changes_counted new).histories p) ≡ count_in (option_map (change_counted new.state) (history_at old.histories p))
-    there = ap count_in (log_mapped new.state new.histories p) ∙ ap (λ l. count_in (option_map (change_counted new.state) (history_at l p))) e
+    there : change_count_in (history_at (with_changes_counted new).histories p) ≡ change_count_in (option_map (change_counted new.state) (history_at old.histories p))
+    there = ap change_count_in (log_mapped new.state new.histories p) ∙ ap (λ l. change_count_in (option_map (change_counted new.state) (history_at l p))) e
 
     no_party : (o : Option Party) → party_of_port old.state p ≡ o → history_at old.histories p ≡ None → party_of_port old.state p ≡ None
     no_party None h l = h
     no_party (Some a) h l = absurd (none-is_some (history_at old.histories p) l (k.logged p (subst IsSome (sym h) refl)))
 
     by_log : (o : Option PortHistory) → history_at old.histories p ≡ o
-        → ((party_at (model_view new.state) p ≡ party_at (model_view old.state) p) × (count_in (history_at (with_changes_counted new).histories p) ≡ count_in (history_at old.histories p)))
-        ⊎ ((party_at (model_view new.state) p ≢ party_at (model_view old.state) p) × (count_in (history_at (with_changes_counted new).histories p) ≡ suc (count_in (history_at old.histories p))))
+        → ((party_at (model_view new.state) p ≡ party_at (model_view old.state) p) × (change_count_in (history_at (with_changes_counted new).histories p) ≡ change_count_in (history_at old.histories p)))
+        ⊎ ((party_at (model_view new.state) p ≢ party_at (model_view old.state) p) × (change_count_in (history_at (with_changes_counted new).histories p) ≡ suc (change_count_in (history_at old.histories p))))
     by_log None h =
         let before = no_party (party_of_port old.state p) refl h in
-        inl (party_seen new.state p ∙ none p before ∙ sym before ∙ sym (party_seen old.state p), there ∙ ap (λ o. count_in (option_map (change_counted new.state) o)) h ∙ sym (ap count_in h))
+        inl (party_seen new.state p ∙ none p before ∙ sym before ∙ sym (party_seen old.state p), there ∙ ap (λ o. change_count_in (option_map (change_counted new.state) o)) h ∙ sym (ap change_count_in h))
     by_log (Some history) h =
         let name = find_name old.state old.histories p history h in
-        let count : count_in (history_at (with_changes_counted new).histories p) ≡ (if is_party history.party (party_of_port new.state p) then history.count else history.count + 1) =
-        there ∙ ap (λ o. count_in (option_map (change_counted new.state) o)) h ∙ ap (λ q. if is_party history.party (party_of_port new.state q) then history.count else history.count + 1) name in
+        let count : change_count_in (history_at (with_changes_counted new).histories p) ≡ (if is_party history.party (party_of_port new.state p) then history.count else history.count + 1) =
+        there ∙ ap (λ o. change_count_in (option_map (change_counted new.state) o)) h ∙ ap (λ q. if is_party history.party (party_of_port new.state q) then history.count else history.count + 1) name in
         elim (changed_or_not history.party (party_of_port old.state p) (party_of_port new.state p) history.count (k.parties p history h)) [
-          | inl x ↦ inl (party_seen new.state p ∙ x.0 ∙ sym (party_seen old.state p), count ∙ x.1 ∙ sym (ap count_in h))
-          | inr x ↦ inr ((λ y. x.0 (sym (party_seen new.state p) ∙ y ∙ party_seen old.state p)), count ∙ x.1 ∙ sym (ap (λ o. suc (count_in o)) h))
+          | inl x ↦ inl (party_seen new.state p ∙ x.0 ∙ sym (party_seen old.state p), count ∙ x.1 ∙ sym (ap change_count_in h))
+          | inr x ↦ inr ((λ y. x.0 (sym (party_seen new.state p) ∙ y ∙ party_seen old.state p)), count ∙ x.1 ∙ sym (ap (λ o. suc (change_count_in o)) h))
         ]
 
 -- the ports of a system are those of its configuration
@@ -99,11 +99,11 @@ port_there s p = ap is_some (port_seen s p) ∙ both (machines_of p s)
     both None = refl
     both (Some p) = refl
 
-pub same_ports : (gives : ℕ → ℕ → ℕ → Type 0) (call : Call) (a : Answer) (old new : HalfState) → IsHalfSound old → Asks gives call a old new → (p : ℕ) → is_some (party_of_port new.state p) ≡ is_some (party_of_port old.state p)
+pub same_ports : (gives : ℕ → ℕ → ℕ → Type 0) (call : Call) (a : Answer) (old new : HalfState) → IsHalfSound old → HalfAnswers gives call a old new → (p : ℕ) → is_some (party_of_port new.state p) ≡ is_some (party_of_port old.state p)
 same_ports gives call a old new k x p =
     sym (port_there new.state p) ∙ x.answers.agrees.members.configured p ∙ ap (λ u. is_some (u.party p)) (configured_kept gives call a old new x) ∙ sym (k.agrees.members.configured p) ∙ port_there old.state p
 
-pub no_port : (gives : ℕ → ℕ → ℕ → Type 0) (call : Call) (a : Answer) (old new : HalfState) → IsHalfSound old → Asks gives call a old new → (p : ℕ) → party_of_port old.state p ≡ None → party_of_port new.state p ≡ None
+pub no_port : (gives : ℕ → ℕ → ℕ → Type 0) (call : Call) (a : Answer) (old new : HalfState) → IsHalfSound old → HalfAnswers gives call a old new → (p : ℕ) → party_of_port old.state p ≡ None → party_of_port new.state p ≡ None
 no_port gives call a old new k x p e = gone (party_of_port new.state p) refl
   where
     gone : (o : Option Party) → party_of_port new.state p ≡ o → party_of_port new.state p ≡ None
@@ -117,8 +117,8 @@ counts_of One mid ls j k e none Two p = inl (refl, refl)
 counts_of Two mid ls j k e none One p = inl (refl, refl)
 counts_of Two mid ls j k e none Two p = port_counted j.two mid k e none p
 
-told_configure : (p : ℕ) (change : PortChange) (a : Result Bool SystemFault) (old new : SystemState) → JoinedByFreeMoves old (Configure p change) (answer.Configure a) new → FreeMoves (model_setup old) ModelEvent.Configure (model_view old) [] (model_view new)
-told_configure p change a old new h = subst (λ l. FreeMoves (model_setup old) ModelEvent.Configure (model_view old) l (model_view new)) h.3 (subst (λ c. FreeMoves (model_setup old) c (model_view old) h.1 (model_view new)) h.2 h.4)
+told_configure : (p : ℕ) (change : PortChange) (a : Result Bool SystemFault) (old new : SystemState) → JoinedByLawfulMoves old (Configure p change) (answer.Configure a) new → LawfulMoves (model_setup old) ModelEvent.Configure (model_view old) [] (model_view new)
+told_configure p change a old new h = subst (λ l. LawfulMoves (model_setup old) ModelEvent.Configure (model_view old) l (model_view new)) h.3 (subst (λ c. LawfulMoves (model_setup old) c (model_view old) h.1 (model_view new)) h.2 h.4)
 
 -- A port is configured, and the count of each port whose party differs then is one more.
 pub configure_happens : (gives : ℕ → ℕ → ℕ → Type 0) (s : Side) (p : ℕ) (change : PortChange) (r : Reply) (old new : WorldState) → IsHalfSound (half s old) → InHalf s (λ h k. HalfConfigures gives p change h r k) old new
@@ -146,16 +146,16 @@ same_whole [] i = refl
 same_whole (l ∷ links) zero = refl
 same_whole (l ∷ links) (suc i) = same_whole links i
 
-nothing_left : (links : List LinkState) (t : Side) (c : ℕ) → messages t (nth (map emptied links) c) ≡ []
+nothing_left : (links : List LinkState) (t : Side) (c : ℕ) → messages t (element_numbered (map emptied links) c) ≡ []
 nothing_left links t zero = refl
 nothing_left links t (suc i) = no_line links t i
 
-whole_left : (links : List LinkState) (c : ℕ) → is_whole (nth (map emptied links) c) ≡ is_whole (nth links c)
+whole_left : (links : List LinkState) (c : ℕ) → is_whole (element_numbered (map emptied links) c) ≡ is_whole (element_numbered links c)
 whole_left links zero = refl
 whole_left links (suc i) = same_whole links i
 
 restarted : (s : Side) (h : HalfState) (v : View) (old : WorldState) → model_view h.state ≡ v → h.flows ≡ (half s old).flows → ((p : ℕ) → taken_in (history_at h.histories p) ≡ taken_in (history_at (half s old).histories p))
-    → model_world (after_call s h (map emptied old.links) old) ≡ record (model_world old) { view = at_side (model_world old).view s v; line = λ t c. []; count = (model_world (after_call s h (map emptied old.links) old)).count }
+    → model_world (after_call s h (map emptied old.links) old) ≡ record (model_world old) { view = at_side (model_world old).view s v; on_cable = λ t c. []; count = (model_world (after_call s h (map emptied old.links) old)).count }
 restarted One h v old e flows taken = same_world _ _ view (whole_left old.links) (nothing_left old.links) (λ t p. refl) took sent collected forced
   where
     w : World
@@ -170,15 +170,15 @@ restarted One h v old e flows taken = same_world _ _ view (whole_left old.links)
     took Two p = refl
 
     sent : (t : Side) (g k : ℕ) → w.sent t g k ≡ (model_world old).sent t g k
-    sent One g k = ap (λ f. sent_in (serials_at f g k)) flows
+    sent One g k = ap (λ f. sent_in (flow_at f g k)) flows
     sent Two g k = refl
 
     collected : (t : Side) (g k : ℕ) → w.collected t g k ≡ (model_world old).collected t g k
-    collected One g k = ap (λ f. collected_in (serials_at f g k)) flows
+    collected One g k = ap (λ f. collected_in (flow_at f g k)) flows
     collected Two g k = refl
 
     forced : (t : Side) (g k : ℕ) → w.forced t g k ≡ (model_world old).forced t g k
-    forced One g k = ap (λ f. forced_in (serials_at f g k)) flows
+    forced One g k = ap (λ f. forced_in (flow_at f g k)) flows
     forced Two g k = refl
 restarted Two h v old e flows taken = same_world _ _ view (whole_left old.links) (nothing_left old.links) (λ t p. refl) took sent collected forced
   where
@@ -195,15 +195,15 @@ restarted Two h v old e flows taken = same_world _ _ view (whole_left old.links)
 
     sent : (t : Side) (g k : ℕ) → w.sent t g k ≡ (model_world old).sent t g k
     sent One g k = refl
-    sent Two g k = ap (λ f. sent_in (serials_at f g k)) flows
+    sent Two g k = ap (λ f. sent_in (flow_at f g k)) flows
 
     collected : (t : Side) (g k : ℕ) → w.collected t g k ≡ (model_world old).collected t g k
     collected One g k = refl
-    collected Two g k = ap (λ f. collected_in (serials_at f g k)) flows
+    collected Two g k = ap (λ f. collected_in (flow_at f g k)) flows
 
     forced : (t : Side) (g k : ℕ) → w.forced t g k ≡ (model_world old).forced t g k
     forced One g k = refl
-    forced Two g k = ap (λ f. forced_in (serials_at f g k)) flows
+    forced Two g k = ap (λ f. forced_in (flow_at f g k)) flows
 
 pub restart_happens : (gives : ℕ → ℕ → ℕ → Type 0) (s : Side) (old new : WorldState) → IsHalfSound (half s old) → InHalf s (HalfRestarts gives) (with_links old (map emptied old.links)) new
     → Happens (world_setup old) (Event.Restart s) (model_world old) (model_world new)

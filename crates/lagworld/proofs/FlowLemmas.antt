@@ -5,12 +5,12 @@ use Rattle.std.specs.Global.{Vec}
 use Rattle.std.proofs.lemmas.List.{map-set}
 use Rattle.std.proofs.lemmas.Option.{slice_get-map, slice_get_read, slice_get_past}
 use Rattle.lagworld.specs.declared.histories.Flow.{Flow}
-use Rattle.lagworld.specs.Inner.{serials_of}
-use Rattle.lagworld.specs.Places.{HasRoom, HasRoomAt, HasRoomIn, all_serials}
-use Rattle.lagworld.specs.State.{Serials, at_flow, set_flows, set_serials, sent_in, serials_at, serials_in, nth}
+use Rattle.lagworld.specs.Inner.{flow_value}
+use Rattle.lagworld.specs.Places.{HasRoom, HasRoomAt, HasRoomIn, flow_values}
+use Rattle.lagworld.specs.State.{FlowValue, change_flow, change_flow_of, change_flow_in, sent_in, flow_at, flow_in_aggregator, element_numbered}
 
-abbrev pub row_of : Vec Flow → List Serials
-row_of xs = map serials_of xs.items
+abbrev pub aggregator_flow_values : Vec Flow → List FlowValue
+aggregator_flow_values xs = map flow_value xs.items
 
 there : {X Y : Type 0} (f : X → Y) (xs : List X) (i : ℕ) (x : X) → i < length xs → x ≡ get_or xs i x → slice_get (map f xs) i ≡ Some (f x)
 there f xs i x lt read = slice_get-map f xs i ∙ ap (option_map f) (slice_get_read xs (length xs) i x refl lt read)
@@ -19,52 +19,52 @@ past : {X Y : Type 0} (f : X → Y) (xs : List X) (i : ℕ) → length xs ≤ i 
 past f xs i le = slice_get-map f xs i ∙ ap (option_map f) (slice_get_past xs i le)
 
 -- one conversation of an aggregator
-pub flow_set : (f : Serials → Serials) (xs : List Flow) (k : ℕ) (x new : Flow) → k < length xs → x ≡ get_or xs k x → serials_of new ≡ f (serials_of x)
-    → map serials_of (set xs k new) ≡ set_serials f (slice_get (map serials_of xs) k) k (map serials_of xs)
+pub flow_set : (f : FlowValue → FlowValue) (xs : List Flow) (k : ℕ) (x new : Flow) → k < length xs → x ≡ get_or xs k x → flow_value new ≡ f (flow_value x)
+    → map flow_value (set xs k new) ≡ change_flow_in f (slice_get (map flow_value xs) k) k (map flow_value xs)
 flow_set f xs k x new lt read e =
-    map-set serials_of xs k new ∙ ap (set (map serials_of xs) k) e ∙ sym (ap (λ o. set_serials f o k (map serials_of xs)) (there serials_of xs k x lt read))
+    map-set flow_value xs k new ∙ ap (set (map flow_value xs) k) e ∙ sym (ap (λ o. change_flow_in f o k (map flow_value xs)) (there flow_value xs k x lt read))
 
-pub no_flow_set : (f : Serials → Serials) (xs : List Flow) (k : ℕ) → length xs ≤ k → map serials_of xs ≡ set_serials f (slice_get (map serials_of xs) k) k (map serials_of xs)
-no_flow_set f xs k le = sym (ap (λ o. set_serials f o k (map serials_of xs)) (past serials_of xs k le))
+pub no_flow_set : (f : FlowValue → FlowValue) (xs : List Flow) (k : ℕ) → length xs ≤ k → map flow_value xs ≡ change_flow_in f (slice_get (map flow_value xs) k) k (map flow_value xs)
+no_flow_set f xs k le = sym (ap (λ o. change_flow_in f o k (map flow_value xs)) (past flow_value xs k le))
 
-pub flow_read : (xs : List Flow) (k : ℕ) (x : Flow) → k < length xs → x ≡ get_or xs k x → length x.sent.items ≡ length (sent_in (slice_get (map serials_of xs) k))
-flow_read xs k x lt read = sym (ap (λ o. length (sent_in o)) (there serials_of xs k x lt read))
+pub flow_read : (xs : List Flow) (k : ℕ) (x : Flow) → k < length xs → x ≡ get_or xs k x → length x.sent.items ≡ length (sent_in (slice_get (map flow_value xs) k))
+flow_read xs k x lt read = sym (ap (λ o. length (sent_in o)) (there flow_value xs k x lt read))
 
-pub no_flow_read : (xs : List Flow) (k : ℕ) → length xs ≤ k → 0 ≡ length (sent_in (slice_get (map serials_of xs) k))
-no_flow_read xs k le = sym (ap (λ o. length (sent_in o)) (past serials_of xs k le))
+pub no_flow_read : (xs : List Flow) (k : ℕ) → length xs ≤ k → 0 ≡ length (sent_in (slice_get (map flow_value xs) k))
+no_flow_read xs k le = sym (ap (λ o. length (sent_in o)) (past flow_value xs k le))
 
 one_more : (i : ℕ) → i + 1 ≡ suc i
 one_more i = omega arith
 
 -- one conversation of one aggregator
-pub row_set : (f : Serials → Serials) (rows : List (Vec Flow)) (g i k : ℕ) (row new : Vec Flow) → g ≡ i + 1 → i < length rows → row ≡ get_or rows i row
-    → row_of new ≡ set_serials f (slice_get (row_of row) k) k (row_of row) → all_serials (set rows i new) ≡ at_flow f g k (all_serials rows)
+pub row_set : (f : FlowValue → FlowValue) (rows : List (Vec Flow)) (g i k : ℕ) (row new : Vec Flow) → g ≡ i + 1 → i < length rows → row ≡ get_or rows i row
+    → aggregator_flow_values new ≡ change_flow_in f (slice_get (aggregator_flow_values row) k) k (aggregator_flow_values row) → flow_values (set rows i new) ≡ change_flow f g k (flow_values rows)
 row_set f rows g i k row new is lt read e =
-    map-set row_of rows i new ∙ ap (set (all_serials rows) i) e
-    ∙ sym (ap (λ g. at_flow f g k (all_serials rows)) (is ∙ one_more i) ∙ ap (λ o. set_flows f o i k (all_serials rows)) (there row_of rows i row lt read))
+    map-set aggregator_flow_values rows i new ∙ ap (set (flow_values rows) i) e
+    ∙ sym (ap (λ g. change_flow f g k (flow_values rows)) (is ∙ one_more i) ∙ ap (λ o. change_flow_of f o i k (flow_values rows)) (there aggregator_flow_values rows i row lt read))
 
-no_row : (rows : List (Vec Flow)) (g : ℕ) → ((g ≡ 0) ⊎ (length rows < g)) → nth rows g ≡ None
+no_row : (rows : List (Vec Flow)) (g : ℕ) → ((g ≡ 0) ⊎ (length rows < g)) → element_numbered rows g ≡ None
 no_row rows zero h = refl
 no_row rows (suc i) (inl e) = absurd (omega (arith, e))
 no_row rows (suc i) (inr lt) = slice_get_past rows i (omega (arith, lt))
 
-no_row_seen : (rows : List (Vec Flow)) (g : ℕ) → ((g ≡ 0) ⊎ (length rows < g)) → nth (all_serials rows) g ≡ None
+no_row_seen : (rows : List (Vec Flow)) (g : ℕ) → ((g ≡ 0) ⊎ (length rows < g)) → element_numbered (flow_values rows) g ≡ None
 no_row_seen rows zero h = refl
 no_row_seen rows (suc i) (inl e) = absurd (omega (arith, e))
-no_row_seen rows (suc i) (inr lt) = past row_of rows i (omega (arith, lt))
+no_row_seen rows (suc i) (inr lt) = past aggregator_flow_values rows i (omega (arith, lt))
 
-at_none : (f : Serials → Serials) (g k : ℕ) (flows : List (List Serials)) → nth flows g ≡ None → flows ≡ at_flow f g k flows
+at_none : (f : FlowValue → FlowValue) (g k : ℕ) (flows : List (List FlowValue)) → element_numbered flows g ≡ None → flows ≡ change_flow f g k flows
 at_none f zero k flows e = refl
-at_none f (suc i) k flows e = sym (ap (λ o. set_flows f o i k flows) e)
+at_none f (suc i) k flows e = sym (ap (λ o. change_flow_of f o i k flows) e)
 
-pub no_row_set : (f : Serials → Serials) (rows : List (Vec Flow)) (g k : ℕ) → ((g ≡ 0) ⊎ (length rows < g)) → all_serials rows ≡ at_flow f g k (all_serials rows)
-no_row_set f rows g k h = at_none f g k (all_serials rows) (no_row_seen rows g h)
+pub no_row_set : (f : FlowValue → FlowValue) (rows : List (Vec Flow)) (g k : ℕ) → ((g ≡ 0) ⊎ (length rows < g)) → flow_values rows ≡ change_flow f g k (flow_values rows)
+no_row_set f rows g k h = at_none f g k (flow_values rows) (no_row_seen rows g h)
 
-pub row_read : (rows : List (Vec Flow)) (g i k : ℕ) (row : Vec Flow) → g ≡ i + 1 → i < length rows → row ≡ get_or rows i row → slice_get (row_of row) k ≡ serials_at (all_serials rows) g k
-row_read rows g i k row is lt read = sym (ap (λ g. serials_at (all_serials rows) g k) (is ∙ one_more i) ∙ ap (λ o. serials_in o k) (there row_of rows i row lt read))
+pub row_read : (rows : List (Vec Flow)) (g i k : ℕ) (row : Vec Flow) → g ≡ i + 1 → i < length rows → row ≡ get_or rows i row → slice_get (aggregator_flow_values row) k ≡ flow_at (flow_values rows) g k
+row_read rows g i k row is lt read = sym (ap (λ g. flow_at (flow_values rows) g k) (is ∙ one_more i) ∙ ap (λ o. flow_in_aggregator o k) (there aggregator_flow_values rows i row lt read))
 
-pub no_row_read : (rows : List (Vec Flow)) (g k : ℕ) → ((g ≡ 0) ⊎ (length rows < g)) → serials_at (all_serials rows) g k ≡ None
-no_row_read rows g k h = ap (λ o. serials_in o k) (no_row_seen rows g h)
+pub no_row_read : (rows : List (Vec Flow)) (g k : ℕ) → ((g ≡ 0) ⊎ (length rows < g)) → flow_at (flow_values rows) g k ≡ None
+no_row_read rows g k h = ap (λ o. flow_in_aggregator o k) (no_row_seen rows g h)
 
 -- there is room for one more serial
 pub room_there : (rows : List (Vec Flow)) (g i k : ℕ) (row : Vec Flow) → g ≡ i + 1 → i < length rows → row ≡ get_or rows i row → HasRoom g k rows → HasRoomIn k row.items

@@ -4,43 +4,43 @@ use Rattle.std.specs.Prelude.{option_map}
 use Rattle.lagtypes.specs.declared.identifiers.AggId.{AggId}
 use Rattle.distributor.specs.declared.assignment.Assignment.{Assignment}
 use Rattle.lagmodel.specs.View.{ModelCall as ModelEvent}
-use Rattle.lagmodel.specs.Move.{FreeMoves}
+use Rattle.lagmodel.specs.Move.{LawfulMoves}
 use Rattle.lagmodel.specs.World.{Side, One, Two, at_side, at_two, World, CallHappens, Event, Happens}
 use Rattle.lagmodel.proofs.Runs.{same_world}
 use Rattle.lagsystem.specs.declared.drive.Reply.TheVariants as answer
 use Rattle.lagsystem.specs.declared.fault.SystemFault.{SystemFault}
 use Rattle.lagsystem.specs.Calls.{Force}
-use Rattle.lagsystem.specs.Offers.{Becomes, force_answer}
-use Rattle.lagsystem.specs.ModelView.{model_setup, model_view, JoinedByFreeMoves}
+use Rattle.lagsystem.specs.Offers.{GivesOrRefuses, system_force_result}
+use Rattle.lagsystem.specs.ModelView.{model_setup, model_view, JoinedByLawfulMoves}
 use Rattle.lagsystem.specs.State.{SystemState}
 use Rattle.lagworld.specs.declared.reply.Reply.{Reply}
-use Rattle.lagworld.specs.State.{HalfState, WorldState, Serials, half, with_half, history_at, count_in, taken_in, serials_at, sent_in, collected_in, forced_in, at_flow, with_forced}
-use Rattle.lagworld.specs.HalfCalls.{Asks, HalfForces, forced_where, with_state}
+use Rattle.lagworld.specs.State.{HalfState, WorldState, FlowValue, half, with_half, history_at, change_count_in, taken_in, flow_at, sent_in, collected_in, forced_in, change_flow, with_forced}
+use Rattle.lagworld.specs.HalfCalls.{HalfAnswers, HalfForces, forced_if_accepted, with_state}
 use Rattle.lagworld.specs.Events.{InHalf}
 use Rattle.lagworld.specs.ModelWorld.{world_setup, model_world}
 use Rattle.lagworld.proofs.Flows.{read_changed, read_same}
 use Rattle.lagworld.proofs.OneSystem.{after_call, one_call, quietly, counts_kept}
 
-told_force : (agg : AggId) (conv : ℕ) (a : Result Unit SystemFault) (old new : SystemState) → JoinedByFreeMoves old (Force agg conv) (answer.Force a) new → FreeMoves (model_setup old) (ModelEvent.Force agg.0 conv) (model_view old) [] (model_view new)
-told_force agg conv a old new h = subst (λ l. FreeMoves (model_setup old) (ModelEvent.Force agg.0 conv) (model_view old) l (model_view new)) h.3 (subst (λ c. FreeMoves (model_setup old) c (model_view old) h.1 (model_view new)) h.2 h.4)
+told_force : (agg : AggId) (conv : ℕ) (a : Result Unit SystemFault) (old new : SystemState) → JoinedByLawfulMoves old (Force agg conv) (answer.Force a) new → LawfulMoves (model_setup old) (ModelEvent.Force agg.0 conv) (model_view old) [] (model_view new)
+told_force agg conv a old new h = subst (λ l. LawfulMoves (model_setup old) (ModelEvent.Force agg.0 conv) (model_view old) l (model_view new)) h.3 (subst (λ c. LawfulMoves (model_setup old) c (model_view old) h.1 (model_view new)) h.2 h.4)
 
 -- the conversation counts as forced, and nothing else is otherwise
 abbrev force_flow : ℕ → ℕ → HalfState → HalfState
-force_flow g k h = record h { flows = at_flow with_forced g k h.flows }
+force_flow g k h = record h { flows = change_flow with_forced g k h.flows }
 
-forced_there : (o : Option Serials) → IsSome o → forced_in (option_map with_forced o) ≡ true
+forced_there : (o : Option FlowValue) → IsSome o → forced_in (option_map with_forced o) ≡ true
 forced_there None h = absurd (let e = h in cc)
 forced_there (Some x) h = refl
 
-sent_kept : (o : Option Serials) → sent_in (option_map with_forced o) ≡ sent_in o
+sent_kept : (o : Option FlowValue) → sent_in (option_map with_forced o) ≡ sent_in o
 sent_kept None = refl
 sent_kept (Some x) = refl
 
-collected_kept : (o : Option Serials) → collected_in (option_map with_forced o) ≡ collected_in o
+collected_kept : (o : Option FlowValue) → collected_in (option_map with_forced o) ≡ collected_in o
 collected_kept None = refl
 collected_kept (Some x) = refl
 
-forced_world : (s : Side) (g k : ℕ) (j : WorldState) → IsSome (serials_at (half s j).flows g k)
+forced_world : (s : Side) (g k : ℕ) (j : WorldState) → IsSome (flow_at (half s j).flows g k)
     → model_world (with_half s (force_flow g k (half s j)) j) ≡ record (model_world j) { forced = at_side (model_world j).forced s (at_two ((model_world j).forced s) g k true) }
 forced_world One g k j there = same_world _ _ view (λ c. refl) (λ s c. refl) count taken sent collected forced
   where
@@ -68,7 +68,7 @@ forced_world One g k j there = same_world _ _ view (λ c. refl) (λ s c. refl) c
     collected Two h i = refl
 
     forced : (t : Side) (h i : ℕ) → w.forced t h i ≡ at_side (model_world j).forced One (at_two ((model_world j).forced One) g k true) t h i
-    forced One h i = read_changed forced_in with_forced g k j.one.flows true (forced_there (serials_at j.one.flows g k) there) h i
+    forced One h i = read_changed forced_in with_forced g k j.one.flows true (forced_there (flow_at j.one.flows g k) there) h i
     forced Two h i = refl
 forced_world Two g k j there = same_world _ _ view (λ c. refl) (λ s c. refl) count taken sent collected forced
   where
@@ -97,7 +97,7 @@ forced_world Two g k j there = same_world _ _ view (λ c. refl) (λ s c. refl) c
 
     forced : (t : Side) (h i : ℕ) → w.forced t h i ≡ at_side (model_world j).forced Two (at_two ((model_world j).forced Two) g k true) t h i
     forced One h i = refl
-    forced Two h i = read_changed forced_in with_forced g k j.two.flows true (forced_there (serials_at j.two.flows g k) there) h i
+    forced Two h i = read_changed forced_in with_forced g k j.two.flows true (forced_there (flow_at j.two.flows g k) there) h i
 
 fixed_force : (s : Side) (g k : ℕ) (j : WorldState) (t : Side) → (world_setup (with_half s (force_flow g k (half s j)) j)).setup t ≡ (world_setup j).setup t
 fixed_force One g k j One = refl
@@ -114,7 +114,7 @@ twice One h i j = refl
 twice Two h i j = refl
 
 -- a refusal changes nothing
-refused_same : (agg : AggId) (conv : ℕ) (what : Result Assignment SystemFault) (fault : SystemFault) (old new : SystemState) → Becomes agg conv what old (Err fault) new → new ≡ old
+refused_same : (agg : AggId) (conv : ℕ) (what : Result Assignment SystemFault) (fault : SystemFault) (old new : SystemState) → GivesOrRefuses agg conv what old (Err fault) new → new ≡ old
 refused_same agg conv (Ok state) fault old new h = absurd (let e = h.0 in cc)
 refused_same agg conv (Err other) fault old new h = h.1
 
@@ -122,10 +122,10 @@ with_itself : (s : Side) (j : WorldState) → with_half s (half s j) j ≡ j
 with_itself One j = refl
 with_itself Two j = refl
 
-forced_by : (gives : ℕ → ℕ → ℕ → Type 0) (s : Side) (agg : AggId) (conv : ℕ) (a : Result Unit SystemFault) (mid : HalfState) (old : WorldState) → ((done : Unit) → a ≡ Ok done → IsSome (serials_at (half s old).flows agg.0 conv))
-    → Asks gives (Force agg conv) (answer.Force a) (half s old) mid → Happens (world_setup old) (Event.Force s agg.0 conv) (model_world old) (model_world (with_half s (forced_where a agg conv mid) old))
+forced_by : (gives : ℕ → ℕ → ℕ → Type 0) (s : Side) (agg : AggId) (conv : ℕ) (a : Result Unit SystemFault) (mid : HalfState) (old : WorldState) → ((done : Unit) → a ≡ Ok done → IsSome (flow_at (half s old).flows agg.0 conv))
+    → HalfAnswers gives (Force agg conv) (answer.Force a) (half s old) mid → Happens (world_setup old) (Event.Force s agg.0 conv) (model_world old) (model_world (with_half s (forced_if_accepted a agg conv mid) old))
 forced_by gives s agg conv (Err fault) mid old there x =
-    let state = refused_same agg conv (force_answer (half s old).state agg conv) fault (half s old).state mid.state x.answers.step in
+    let state = refused_same agg conv (system_force_result (half s old).state agg conv) fault (half s old).state mid.state x.answers.step in
     let same : mid ≡ half s old = x.same ∙ ap (λ (st : SystemState). with_state st (half s old)) state in
     inl (ap (λ h. model_world (with_half s h old)) same ∙ ap model_world (with_itself s old))
 forced_by gives s agg conv (Ok done) mid old there x =
@@ -135,15 +135,15 @@ forced_by gives s agg conv (Ok done) mid old there x =
     let h = force_flow g conv mid in
     let told : ModelEvent = ModelEvent.Force g conv in
     let moves = told_force agg conv (Ok done) (half s old).state mid.state x.answers.moves in
-    let here : FreeMoves ((world_setup j).setup s) told ((model_world j).view s) [] (model_view h.state) =
-    subst (λ u. FreeMoves u told ((model_world j).view s) [] (model_view h.state)) (sym (fixed_force s g conv old s))
-    (subst (λ (f : HalfState). FreeMoves (model_setup (half s old).state) told (model_view f.state) [] (model_view h.state)) (sym (half_force s g conv old)) moves) in
-    let flows : h.flows ≡ (half s j).flows = ap (λ (f : HalfState). at_flow with_forced g conv f.flows) x.same ∙ sym (ap (λ (f : HalfState). f.flows) (half_force s g conv old)) in
+    let here : LawfulMoves ((world_setup j).setup s) told ((model_world j).view s) [] (model_view h.state) =
+    subst (λ u. LawfulMoves u told ((model_world j).view s) [] (model_view h.state)) (sym (fixed_force s g conv old s))
+    (subst (λ (f : HalfState). LawfulMoves (model_setup (half s old).state) told (model_view f.state) [] (model_view h.state)) (sym (half_force s g conv old)) moves) in
+    let flows : h.flows ≡ (half s j).flows = ap (λ (f : HalfState). change_flow with_forced g conv f.flows) x.same ∙ sym (ap (λ (f : HalfState). f.flows) (half_force s g conv old)) in
     let histories : h.histories ≡ (half s j).histories = ap (λ (f : HalfState). f.histories) x.same ∙ sym (ap (λ (f : HalfState). f.histories) (half_force s g conv old)) in
     let call = one_call (world_setup j) s told 0 true None h j.links j (model_world j)
     (quietly (world_setup j) s h j flows (λ p. ap (λ l. taken_in (history_at l p)) histories))
     here
-    (counts_kept s h j.links j told [] (λ e. cc) refl here (λ p. ap (λ l. count_in (history_at l p)) histories)) in
+    (counts_kept s h j.links j told [] (λ e. cc) refl here (λ p. ap (λ l. change_count_in (history_at l p)) histories)) in
     let fixed : world_setup j ≡ world_setup old = λ i. record { setup = λ t. fixed_force s g conv old t i; cables = (world_setup old).cables } in
     let world = forced_world s g conv old found in
     inr (subst (λ k. CallHappens (world_setup old) s told 0 (model_world old) (record (model_world old) { forced = at_side (model_world old).forced s (at_two ((model_world old).forced s) g conv true) }) (model_world k)) (twice s h (force_flow g conv (half s old)) old)
@@ -152,7 +152,7 @@ forced_by gives s agg conv (Ok done) mid old there x =
 
 -- A conversation of which serials are kept is forced, or that is refused.
 pub force_happens : (gives : ℕ → ℕ → ℕ → Type 0) (s : Side) (agg : AggId) (conv : ℕ) (r : Reply) (old new : WorldState) → (x : InHalf s (λ h k. HalfForces gives agg conv h r k) old new)
-    → ((done : Unit) → x.0.0 ≡ Ok done → IsSome (serials_at (half s old).flows agg.0 conv)) → Happens (world_setup old) (Event.Force s agg.0 conv) (model_world old) (model_world new)
+    → ((done : Unit) → x.0.0 ≡ Ok done → IsSome (flow_at (half s old).flows agg.0 conv)) → Happens (world_setup old) (Event.Force s agg.0 conv) (model_world old) (model_world new)
 force_happens gives s agg conv r old new x there =
-    let same : new ≡ with_half s (forced_where x.0.0 agg conv x.0.1) old = x.1 ∙ ap (λ h. with_half s h old) x.0.4 in
+    let same : new ≡ with_half s (forced_if_accepted x.0.0 agg conv x.0.1) old = x.1 ∙ ap (λ h. with_half s h old) x.0.4 in
     subst (λ j. Happens (world_setup old) (Event.Force s agg.0 conv) (model_world old) (model_world j)) (sym same) (forced_by gives s agg conv x.0.0 x.0.1 old there x.0.2)

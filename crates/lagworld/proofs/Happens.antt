@@ -3,20 +3,20 @@ use Rattle.std.proofs.Common.{◌≡◌, ℕ, suc, true, false, Some, None, List
 use Rattle.std.specs.Prelude.{slice_get, slice_set}
 use Rattle.lagtypes.specs.declared.identifiers.AggId.{AggId}
 use Rattle.lagmodel.specs.View.{ModelCall as ModelEvent, is_restart}
-use Rattle.lagmodel.specs.Move.{FreeMoves}
-use Rattle.lagmodel.specs.World.{Side, One, Two, peer, CallHappens, Event, Happens, with_line, at_cable, at_side, SensesCable as Told_senses}
+use Rattle.lagmodel.specs.Move.{LawfulMoves}
+use Rattle.lagmodel.specs.World.{Side, One, Two, peer, CallHappens, Event, Happens, with_messages, at_cable, at_side, SensesCable as Told_senses}
 use Rattle.lagmodel.proofs.Runs.{same_world}
 use Rattle.lagsystem.specs.declared.drive.Reply.{Reply as Answer}
 use Rattle.lagsystem.specs.declared.drive.Reply.TheVariants as answer
 use Rattle.lagsystem.specs.declared.fault.SystemFault.{SystemFault}
 use Rattle.lagsystem.specs.Calls.{Call, Set_link, Move_conversation}
-use Rattle.lagsystem.specs.ModelView.{model_setup, model_view, JoinedByFreeMoves}
+use Rattle.lagsystem.specs.ModelView.{model_setup, model_view, JoinedByLawfulMoves}
 use Rattle.lagsystem.specs.State.{SystemState}
 use Rattle.lagworld.specs.declared.reply.Reply.{Reply}
-use Rattle.lagworld.specs.State.{Carried, HalfState, LinkState, WorldState, half, with_half, port_at, with_towards, nth, cut, joined, history_at, count_in, taken_in}
+use Rattle.lagworld.specs.State.{ItemValue, HalfState, LinkState, WorldState, half, with_half, port_at, with_towards, element_numbered, cut, joined, history_at, change_count_in, taken_in}
 use Rattle.lagworld.specs.Messages.{item_message}
-use Rattle.lagworld.specs.HalfCalls.{Asks, HalfTicks, HalfSenses, HalfMoves}
-use Rattle.lagworld.specs.Events.{InHalf, set_at}
+use Rattle.lagworld.specs.HalfCalls.{HalfAnswers, HalfTicks, HalfSenses, HalfMoves}
+use Rattle.lagworld.specs.Events.{InHalf, with_link_at}
 use Rattle.lagworld.specs.ModelWorld.{world_setup, model_world, is_whole, messages}
 use Rattle.lagworld.proofs.Cables.{nth_set, nth_same, end_is}
 use Rattle.lagworld.proofs.OneSystem.{one_call, quietly, counts_kept, ticks_moves, told_link}
@@ -30,18 +30,18 @@ tick_happens gives s n old new x =
     (one_call (world_setup old) s ModelEvent.Tick 0 true None h old.links old (model_world old)
     (quietly (world_setup old) s h old (ap (λ (h : HalfState). h.flows) m.2) (λ p. ap (λ (h : HalfState). taken_in (history_at h.histories p)) m.2))
     m.0
-    (counts_kept s h old.links old ModelEvent.Tick [] (λ e. cc) refl m.0 (λ p. ap (λ (h : HalfState). count_in (history_at h.histories p)) m.2)))
+    (counts_kept s h old.links old ModelEvent.Tick [] (λ e. cc) refl m.0 (λ p. ap (λ (h : HalfState). change_count_in (history_at h.histories p)) m.2)))
 
 -- a call that others see nothing of, and that changes no party
-pub quiet_asked : (gives : ℕ → ℕ → ℕ → Type 0) (s : Side) (call : Call) (a : Answer) (told : ModelEvent) (h : HalfState) (old : WorldState) → Asks gives call a (half s old) h
+pub quiet_asked : (gives : ℕ → ℕ → ℕ → Type 0) (s : Side) (call : Call) (a : Answer) (told : ModelEvent) (h : HalfState) (old : WorldState) → HalfAnswers gives call a (half s old) h
     → (told ≡ ModelEvent.Configure → ⊥) → is_restart told ≡ false
-    → FreeMoves (model_setup (half s old).state) told (model_view (half s old).state) [] (model_view h.state)
+    → LawfulMoves (model_setup (half s old).state) told (model_view (half s old).state) [] (model_view h.state)
     → CallHappens (world_setup old) s told 0 (model_world old) (model_world old) (model_world (with_half s h old))
 quiet_asked gives s call a told h old x n r m =
     one_call (world_setup old) s told 0 true None h old.links old (model_world old)
     (quietly (world_setup old) s h old (ap (λ (h : HalfState). h.flows) x.same) (λ p. ap (λ (h : HalfState). taken_in (history_at h.histories p)) x.same))
     m
-    (counts_kept s h old.links old told [] n r m (λ p. ap (λ (h : HalfState). count_in (history_at h.histories p)) x.same))
+    (counts_kept s h old.links old told [] n r m (λ p. ap (λ (h : HalfState). change_count_in (history_at h.histories p)) x.same))
 
 pub sense_happens : (gives : ℕ → ℕ → ℕ → Type 0) (s : Side) (i : ℕ) (l : LinkState) (r : Reply) (old new : WorldState) → slice_get old.links i ≡ Some l
     → InHalf s (λ h k. HalfSenses gives (port_at s l) l.whole h r k) old new → Happens (world_setup old) (Event.Sense (suc i) s) (model_world old) (model_world new)
@@ -53,8 +53,8 @@ sense_happens gives s i l r old new there x =
     (subst (λ o. Told_senses (world_setup old) s (Some (port_at s l)) (is_whole o) (model_world old) (model_world new)) (sym there)
     (subst (λ j. CallHappens (world_setup old) s (ModelEvent.Set_link (port_at s l) l.whole) 0 (model_world old) (model_world old) (model_world j)) (sym x.1) c))
 
-told_move : (agg : AggId) (conv p : ℕ) (a : Result Unit SystemFault) (old new : SystemState) → JoinedByFreeMoves old (Move_conversation agg conv p) (answer.MoveConversation a) new → FreeMoves (model_setup old) ModelEvent.Move_conversation (model_view old) [] (model_view new)
-told_move agg conv p a old new h = subst (λ l. FreeMoves (model_setup old) ModelEvent.Move_conversation (model_view old) l (model_view new)) h.3 (subst (λ c. FreeMoves (model_setup old) c (model_view old) h.1 (model_view new)) h.2 h.4)
+told_move : (agg : AggId) (conv p : ℕ) (a : Result Unit SystemFault) (old new : SystemState) → JoinedByLawfulMoves old (Move_conversation agg conv p) (answer.MoveConversation a) new → LawfulMoves (model_setup old) ModelEvent.Move_conversation (model_view old) [] (model_view new)
+told_move agg conv p a old new h = subst (λ l. LawfulMoves (model_setup old) ModelEvent.Move_conversation (model_view old) l (model_view new)) h.3 (subst (λ c. LawfulMoves (model_setup old) c (model_view old) h.1 (model_view new)) h.2 h.4)
 
 pub move_happens : (gives : ℕ → ℕ → ℕ → Type 0) (s : Side) (agg : AggId) (conv p : ℕ) (r : Reply) (old new : WorldState) → InHalf s (λ h k. HalfMoves gives agg conv p h r k) old new
     → Happens (world_setup old) (Event.Move_conversation s agg.0 conv p) (model_world old) (model_world new)
@@ -71,26 +71,26 @@ lines_of_peer One Two = inr refl
 lines_of_peer Two One = inr refl
 lines_of_peer Two Two = inl refl
 
-pub cut_happens : (i : ℕ) (l : LinkState) (old : WorldState) → slice_get old.links i ≡ Some l → Happens (world_setup old) (Event.Cut (suc i)) (model_world old) (model_world (set_at i (cut l) old))
-cut_happens i l old there = same_world _ _ (λ s. refl) (nth_set is_whole old.links i (cut l) l there) line (λ s p. refl) (λ s p. refl) (λ s g k. refl) (λ s g k. refl) (λ s g k. refl)
+pub cut_happens : (i : ℕ) (l : LinkState) (old : WorldState) → slice_get old.links i ≡ Some l → Happens (world_setup old) (Event.Cut (suc i)) (model_world old) (model_world (with_link_at i (cut l) old))
+cut_happens i l old there = same_world _ _ (λ s. refl) (nth_set is_whole old.links i (cut l) l there) on_cable (λ s p. refl) (λ s p. refl) (λ s g k. refl) (λ s g k. refl) (λ s g k. refl)
   where
-    line : (s : Side) (c : ℕ) → messages s (nth (slice_set old.links i (cut l)) c) ≡ at_cable (λ c. messages s (nth old.links c)) (suc i) [] c
-    line One c = nth_set (messages One) old.links i (cut l) l there c
-    line Two c = nth_set (messages Two) old.links i (cut l) l there c
+    on_cable : (s : Side) (c : ℕ) → messages s (element_numbered (slice_set old.links i (cut l)) c) ≡ at_cable (λ c. messages s (element_numbered old.links c)) (suc i) [] c
+    on_cable One c = nth_set (messages One) old.links i (cut l) l there c
+    on_cable Two c = nth_set (messages Two) old.links i (cut l) l there c
 
-pub join_happens : (i : ℕ) (l : LinkState) (old : WorldState) → slice_get old.links i ≡ Some l → Happens (world_setup old) (Event.Join (suc i)) (model_world old) (model_world (set_at i (joined l) old))
+pub join_happens : (i : ℕ) (l : LinkState) (old : WorldState) → slice_get old.links i ≡ Some l → Happens (world_setup old) (Event.Join (suc i)) (model_world old) (model_world (with_link_at i (joined l) old))
 join_happens i l old there = same_world _ _ (λ s. refl) (nth_set is_whole old.links i (joined l) l there) (λ s c. nth_same (messages s) old.links i (joined l) l there refl c) (λ s p. refl) (λ s p. refl) (λ s g k. refl) (λ s g k. refl) (λ s g k. refl)
 
 -- the first item of a list is taken off
-pub popped_world : (s : Side) (i : ℕ) (l : LinkState) (rest : List Carried) (old : WorldState) → slice_get old.links i ≡ Some l
-    → model_world (set_at i (with_towards s rest l) old) ≡ with_line (model_world old) (suc i) s (map item_message rest)
-popped_world One i l rest old there = same_world _ _ (λ s. refl) (λ c. nth_same is_whole old.links i (with_towards One rest l) l there refl c) line (λ s p. refl) (λ s p. refl) (λ s g k. refl) (λ s g k. refl) (λ s g k. refl)
+pub popped_world : (s : Side) (i : ℕ) (l : LinkState) (rest : List ItemValue) (old : WorldState) → slice_get old.links i ≡ Some l
+    → model_world (with_link_at i (with_towards s rest l) old) ≡ with_messages (model_world old) (suc i) s (map item_message rest)
+popped_world One i l rest old there = same_world _ _ (λ s. refl) (λ c. nth_same is_whole old.links i (with_towards One rest l) l there refl c) on_cable (λ s p. refl) (λ s p. refl) (λ s g k. refl) (λ s g k. refl) (λ s g k. refl)
   where
-    line : (t : Side) (c : ℕ) → messages t (nth (slice_set old.links i (with_towards One rest l)) c) ≡ at_side (model_world old).line One (at_cable ((model_world old).line One) (suc i) (map item_message rest)) t c
-    line One c = nth_set (messages One) old.links i (with_towards One rest l) l there c
-    line Two c = nth_same (messages Two) old.links i (with_towards One rest l) l there refl c
-popped_world Two i l rest old there = same_world _ _ (λ s. refl) (λ c. nth_same is_whole old.links i (with_towards Two rest l) l there refl c) line (λ s p. refl) (λ s p. refl) (λ s g k. refl) (λ s g k. refl) (λ s g k. refl)
+    on_cable : (t : Side) (c : ℕ) → messages t (element_numbered (slice_set old.links i (with_towards One rest l)) c) ≡ at_side (model_world old).on_cable One (at_cable ((model_world old).on_cable One) (suc i) (map item_message rest)) t c
+    on_cable One c = nth_set (messages One) old.links i (with_towards One rest l) l there c
+    on_cable Two c = nth_same (messages Two) old.links i (with_towards One rest l) l there refl c
+popped_world Two i l rest old there = same_world _ _ (λ s. refl) (λ c. nth_same is_whole old.links i (with_towards Two rest l) l there refl c) on_cable (λ s p. refl) (λ s p. refl) (λ s g k. refl) (λ s g k. refl) (λ s g k. refl)
   where
-    line : (t : Side) (c : ℕ) → messages t (nth (slice_set old.links i (with_towards Two rest l)) c) ≡ at_side (model_world old).line Two (at_cable ((model_world old).line Two) (suc i) (map item_message rest)) t c
-    line One c = nth_same (messages One) old.links i (with_towards Two rest l) l there refl c
-    line Two c = nth_set (messages Two) old.links i (with_towards Two rest l) l there c
+    on_cable : (t : Side) (c : ℕ) → messages t (element_numbered (slice_set old.links i (with_towards Two rest l)) c) ≡ at_side (model_world old).on_cable Two (at_cable ((model_world old).on_cable Two) (suc i) (map item_message rest)) t c
+    on_cable One c = nth_same (messages One) old.links i (with_towards Two rest l) l there refl c
+    on_cable Two c = nth_set (messages Two) old.links i (with_towards Two rest l) l there c

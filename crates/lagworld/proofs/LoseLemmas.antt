@@ -6,7 +6,7 @@ use Rattle.lagmodel.specs.World.{Side, One, Two}
 use Rattle.lagworld.specs.declared.reply.Reply.{Reply}
 use Rattle.lagworld.specs.Asking.{lost_reply, without_first}
 use Rattle.lagworld.specs.Events.{LosesFrom}
-use Rattle.lagworld.specs.State.{Carried, LinkState, WorldState, towards, with_towards, with_links}
+use Rattle.lagworld.specs.State.{ItemValue, LinkState, WorldState, towards, with_towards, with_links}
 
 pub first_some : {X Y : Type 0} (f : X → Y) (xs : List X) → is_some (slice_get xs 0) ≡ is_some (slice_get (map f xs) 0)
 first_some f [] = refl
@@ -25,7 +25,7 @@ set_same [] i x h = refl
 set_same (y ∷ xs) zero x h = ap (λ z. z ∷ xs) (sym (same_Some y x h))
 set_same (y ∷ xs) (suc i) x h = ap (λ zs. y ∷ zs) (set_same xs i x h)
 
-lost_from : (s : Side) (i : ℕ) (l : LinkState) (items : List Carried) (old : WorldState) (links : List LinkState) → slice_get old.links i ≡ Some l → towards s l ≡ items → links ≡ set old.links i (with_towards s (drop 1 items) l)
+lost_from : (s : Side) (i : ℕ) (l : LinkState) (items : List ItemValue) (old : WorldState) (links : List LinkState) → slice_get old.links i ≡ Some l → towards s l ≡ items → links ≡ set old.links i (with_towards s (drop 1 items) l)
     → LosesFrom s i l items old (lost_reply (is_some (slice_get items 0))) (with_links old links)
 lost_from s i l [] old links here is n = (refl, ap (with_links old) (n ∙ ap (set old.links i) (nothing_towards s l is) ∙ set_same old.links i l here))
 lost_from s i l (item ∷ rest) old links here is n = (refl, ap (with_links old) n)

@@ -15,7 +15,7 @@ use Rattle.lagsystem.specs.declared.config.Config.{Config}
 use Rattle.lagsystem.specs.declared.config.PortConfig.{PortConfig}
 use Rattle.lagsystem.specs.First.{configured_number, refusal, config_refusal as refusal_of_one}
 use Rattle.lagsystem.specs.ModelView.{model_setup, configured_party, model_view}
-use Rattle.lagsystem.specs.Sound.{Agrees}
+use Rattle.lagsystem.specs.Sound.{PortsAgree}
 use Rattle.lagsystem.specs.State.{SystemState}
 use Rattle.lagsystem.specs.Readers.{conversation_count as conversations_of}
 use Rattle.lagsystem.proofs.FirstView.{first_shows}
@@ -24,10 +24,10 @@ use Rattle.lagscript.specs.declared.config.BadWorld.TheVariants.{SameSystem, Cab
 use Rattle.lagscript.specs.declared.config.WorldConfig.{WorldConfig}
 use Rattle.lagscript.specs.Configs.{ConfigValue, bad_end, can_join, first_below, has_bad_end, has_port, or_first, config_value, world_refusal, refusal_of_all, refusal_of_two, same_system, shares_end, system_refusal}
 use Rattle.lagworld.specs.declared.histories.PortHistory.{PortHistory}
-use Rattle.lagworld.specs.State.{HalfState, WorldState, LinkState, Serials, half, port_at, towards, history_at, serials_at, serials_in}
-use Rattle.lagworld.specs.Messages.{carried}
+use Rattle.lagworld.specs.State.{HalfState, WorldState, LinkState, FlowValue, half, port_at, towards, history_at, flow_at, flow_in_aggregator}
+use Rattle.lagworld.specs.Messages.{item_value}
 use Rattle.lagworld.specs.HalfCalls.{party_of_port}
-use Rattle.lagworld.specs.Making.{IsFirstHalf, are_lines, conversations_per_aggregator, first_flows, first_link, first_links, first_history, first_histories, first_row, is_empty_line, nothing_sent}
+use Rattle.lagworld.specs.Making.{IsFirstHalf, are_empty_lines, conversations_per_aggregator, first_flows, first_link, first_links, first_history, first_histories, first_aggregator_flows, has_empty_directions, empty_flow}
 use Rattle.lagworld.specs.Sound.{AreBelow, IsHalfSound, IsStart}
 use Rattle.lagworld.specs.ModelWorld.{link_ends}
 
@@ -67,24 +67,24 @@ item_there zero i x l = absurd (omega arith)
 item_there (suc n) zero x l = refl
 item_there (suc n) (suc i) x l = item_there n i x (omega arith)
 
-flow_empty : (n g k : ℕ) (x : Serials) → serials_at (first_flows n) g k ≡ Some x → x ≡ nothing_sent
+flow_empty : (n g k : ℕ) (x : FlowValue) → flow_at (first_flows n) g k ≡ Some x → x ≡ empty_flow
 flow_empty n zero k x e = absurd (none-some x e)
 flow_empty n (suc g) k x e = by_row (slice_get (first_flows n) g) refl e
   where
-    by_row : (o : Option (List Serials)) → slice_get (first_flows n) g ≡ o → serials_at (first_flows n) (suc g) k ≡ Some x → x ≡ nothing_sent
-    by_row None h e = absurd (none-some x (sym (ap (λ o. serials_in o k) h) ∙ e))
-    by_row (Some row) h e = same_item conversations_per_aggregator k nothing_sent x (sym (ap (λ r. slice_get r k) (same_item n g first_row row h)) ∙ sym (ap (λ o. serials_in o k) h) ∙ e)
+    by_row : (o : Option (List FlowValue)) → slice_get (first_flows n) g ≡ o → flow_at (first_flows n) (suc g) k ≡ Some x → x ≡ empty_flow
+    by_row None h e = absurd (none-some x (sym (ap (λ o. flow_in_aggregator o k) h) ∙ e))
+    by_row (Some row) h e = same_item conversations_per_aggregator k empty_flow x (sym (ap (λ r. slice_get r k) (same_item n g first_aggregator_flows row h)) ∙ sym (ap (λ o. flow_in_aggregator o k) h) ∙ e)
 
 enough : (s : SystemState) → conversations_of s ≤ conversations_per_aggregator
 unfolding conversations_per_aggregator
 enough s = omega arith
 
-flow_there : (s : SystemState) (n g k : ℕ) → 0 < g → g ≤ n → k < conversations_of s → IsSome (serials_at (first_flows n) g k)
+flow_there : (s : SystemState) (n g k : ℕ) → 0 < g → g ≤ n → k < conversations_of s → IsSome (flow_at (first_flows n) g k)
 flow_there s n zero k low high small = absurd (omega arith)
 flow_there s n (suc g) k low high small =
-    let row : slice_get (first_flows n) g ≡ Some first_row = item_there n g first_row (omega arith) in
-    let x : slice_get first_row k ≡ Some nothing_sent = item_there conversations_per_aggregator k nothing_sent (omega (arith, enough s)) in
-    subst IsSome (sym (ap (λ o. serials_in o k) row ∙ x)) refl
+    let row : slice_get (first_flows n) g ≡ Some first_aggregator_flows = item_there n g first_aggregator_flows (omega arith) in
+    let x : slice_get first_aggregator_flows k ≡ Some empty_flow = item_there conversations_per_aggregator k empty_flow (omega (arith, enough s)) in
+    subst IsSome (sym (ap (λ o. flow_in_aggregator o k) row ∙ x)) refl
 
 -- what holds of a system that is made
 logs_named : (config : Config) (h : HalfState) → IsFirstHalf config h → h.histories ≡ first_histories h.state.system h.state.ports
@@ -93,12 +93,12 @@ logs_named config h f = f.histories ∙ (λ i. first_histories (sym f.configured
 flows_named : (config : Config) (h : HalfState) → IsFirstHalf config h → h.flows ≡ first_flows (length h.state.keys)
 flows_named config h f = f.flows ∙ ap (λ keys. first_flows (length keys)) (sym f.configured.keys)
 
-half_kept : (config : Config) (h : HalfState) → IsFirstHalf config h → Agrees h.state → IsHalfSound h
+half_kept : (config : Config) (h : HalfState) → IsFirstHalf config h → PortsAgree h.state → IsHalfSound h
 half_kept config h f a = record {
   agrees = a;
   parties = λ p l e. first_party h.state p shows ∙ log_party h.state.system (find_number configured_number h.state.ports p) l (sym (history p) ∙ e);
   logged = λ p x. subst IsSome (sym (history p)) (log_some (configured_party h.state.system) h.state.system (find_number configured_number h.state.ports p) (subst IsSome (first_party h.state p shows) x));
-  flows = λ g k low high small. subst (λ f. IsSome (serials_at f g k)) (sym (flows_named config h f)) (flow_there h.state (length h.state.keys) g k low high small);
+  flows = λ g k low high small. subst (λ f. IsSome (flow_at f g k)) (sym (flows_named config h f)) (flow_there h.state (length h.state.keys) g k low high small);
 }
   where
     shows : model_view h.state ≡ first_view (model_setup h.state)
@@ -135,22 +135,22 @@ port_found (c ∷ cs) p h = elim (cases_Bool (eqb p c.number)) [
 
 -- the cables that are made
 module _ {C : Type 0} (items : C → List Item) (limit : C → Option ℕ) where
-  emptied_line : (xs : List Item) → (length xs == 0) ≡ true → map carried xs ≡ []
+  emptied_line : (xs : List Item) → (length xs == 0) ≡ true → map item_value xs ≡ []
   emptied_line [] h = refl
   emptied_line (x ∷ xs) h = let none : length (x ∷ xs) ≡ 0 = eqb-true (length (x ∷ xs)) 0 h in absurd (omega (arith, none))
 
-  pub line_empty : (cables : List (ℕ × ℕ)) (lines : List (C × C)) (i : ℕ) (l : LinkState) → list_all (is_empty_line items) lines ≡ true → slice_get (first_links items limit cables lines) i ≡ Some l → (s : Side) → (towards s l ≡ []) × (l.whole ≡ true)
+  pub line_empty : (cables : List (ℕ × ℕ)) (lines : List (C × C)) (i : ℕ) (l : LinkState) → list_all (has_empty_directions items) lines ≡ true → slice_get (first_links items limit cables lines) i ≡ Some l → (s : Side) → (towards s l ≡ []) × (l.whole ≡ true)
   line_empty [] lines i l h e s = absurd (none-some l e)
   line_empty (c ∷ cs) [] i l h e s = absurd (none-some l e)
   line_empty (c ∷ cs) (x ∷ xs) zero l h e s =
-      let here = and_parts (is_empty_line items x) (list_all (is_empty_line items) xs) h in
+      let here = and_parts (has_empty_directions items x) (list_all (has_empty_directions items) xs) h in
       let both = and_parts (length (items x.0) == 0) (length (items x.1) == 0) here.0 in
       subst (λ (l : LinkState). (towards s l ≡ []) × (l.whole ≡ true)) (same_Some (first_link items limit c x) l e) (on_side s both)
     where
       on_side : (s : Side) → ((length (items x.0) == 0) ≡ true) × ((length (items x.1) == 0) ≡ true) → (towards s (first_link items limit c x) ≡ []) × ((first_link items limit c x).whole ≡ true)
       on_side One b = (emptied_line (items x.0) b.0, refl)
       on_side Two b = (emptied_line (items x.1) b.1, refl)
-  line_empty (c ∷ cs) (x ∷ xs) (suc i) l h e s = line_empty cs xs i l (and_parts (is_empty_line items x) (list_all (is_empty_line items) xs) h).1 e s
+  line_empty (c ∷ cs) (x ∷ xs) (suc i) l h e s = line_empty cs xs i l (and_parts (has_empty_directions items x) (list_all (has_empty_directions items) xs) h).1 e s
 
   -- each joins the ports that the configuration names
   ends_made : (cables : List (ℕ × ℕ)) (lines : List (C × C)) (i : ℕ) (l : LinkState) → slice_get (first_links items limit cables lines) i ≡ Some l → slice_get cables i ≡ Some (l.one, l.two)
@@ -304,8 +304,8 @@ module _ {C : Type 0} (items : C → List Item) (limit : C → Option ℕ) where
       logged None e = absurd (let h = e in cc)
       logged (Some c) e = refl
 
-  pub is_start : (a b : Config) (cables : List (ℕ × ℕ)) (lines : List (C × C)) (j : WorldState) → IsFirstHalf a j.one → IsFirstHalf b j.two → Agrees j.one.state → Agrees j.two.state
-      → refusal_of_two (config_value a) (config_value b) cables ≡ None → list_all (is_empty_line items) lines ≡ true → j.links ≡ first_links items limit cables lines → j.acted ≡ 0 → IsStart j
+  pub is_start : (a b : Config) (cables : List (ℕ × ℕ)) (lines : List (C × C)) (j : WorldState) → IsFirstHalf a j.one → IsFirstHalf b j.two → PortsAgree j.one.state → PortsAgree j.two.state
+      → refusal_of_two (config_value a) (config_value b) cables ≡ None → list_all (has_empty_directions items) lines ≡ true → j.links ≡ first_links items limit cables lines → j.acted ≡ 0 → IsStart j
   is_start a b cables lines j f g agrees_one agrees_two accepted empty made acted = record {
     kept = kept;
     shows = shows;
@@ -341,12 +341,12 @@ module _ {C : Type 0} (items : C → List Item) (limit : C → Option ℕ) where
       histories One p history e = log_first a.system (find_number configured_number a.ports.items p) history (sym (ap (λ l. history_at l p) f.histories ∙ log_found a.system a.ports.items p) ∙ e)
       histories Two p history e = log_first b.system (find_number configured_number b.ports.items p) history (sym (ap (λ l. history_at l p) g.histories ∙ log_found b.system b.ports.items p) ∙ e)
 
-      nothing : (x : Serials) → x ≡ nothing_sent → (x.sent ≡ []) × (x.collected ≡ []) × (x.forced ≡ false)
-      nothing x e = (ap (λ (x : Serials). x.sent) e, ap (λ (x : Serials). x.collected) e, ap (λ (x : Serials). x.forced) e)
+      nothing : (x : FlowValue) → x ≡ empty_flow → (x.sent ≡ []) × (x.collected ≡ []) × (x.forced ≡ false)
+      nothing x e = (ap (λ (x : FlowValue). x.sent) e, ap (λ (x : FlowValue). x.collected) e, ap (λ (x : FlowValue). x.forced) e)
 
-      flows : (s : Side) (n k : ℕ) (x : Serials) → serials_at (half s j).flows n k ≡ Some x → (x.sent ≡ []) × (x.collected ≡ []) × (x.forced ≡ false)
-      flows One n k x e = nothing x (flow_empty (length a.aggregators.items) n k x (sym (ap (λ l. serials_at l n k) f.flows) ∙ e))
-      flows Two n k x e = nothing x (flow_empty (length b.aggregators.items) n k x (sym (ap (λ l. serials_at l n k) g.flows) ∙ e))
+      flows : (s : Side) (n k : ℕ) (x : FlowValue) → flow_at (half s j).flows n k ≡ Some x → (x.sent ≡ []) × (x.collected ≡ []) × (x.forced ≡ false)
+      flows One n k x e = nothing x (flow_empty (length a.aggregators.items) n k x (sym (ap (λ l. flow_at l n k) f.flows) ∙ e))
+      flows Two n k x e = nothing x (flow_empty (length b.aggregators.items) n k x (sym (ap (λ l. flow_at l n k) g.flows) ∙ e))
 
 -- what was tested of two lists in other places holds of them
 pub same_test : {X Y : Type 0} (f : X → Y → Bool) (x there : X) (y here : Y) (r : Bool) → there ≡ x → here ≡ y → r ≡ f there here → r ≡ true → f x y ≡ true
@@ -361,8 +361,8 @@ module _ {C : Type 0} (items : C → List Item) (limit : C → Option ℕ) where
   two_accepted : (config : WorldConfig) (a b : Config) → config.systems ≡ a ∷ b ∷ [] → world_refusal config ≡ None → refusal_of_two (config_value a) (config_value b) config.cables.items ≡ None
   two_accepted config a b e h = sym (ap (λ systems. refusal_of_all (map config_value systems) config.cables.items) e) ∙ h
 
-  pub made_start : (config : WorldConfig) (a b : Config) (lines : List (C × C)) (j : WorldState) → config.systems ≡ a ∷ b ∷ [] → world_refusal config ≡ None → are_lines items config.cables.items lines ≡ true
-      → IsFirstHalf a j.one → IsFirstHalf b j.two → Agrees j.one.state → Agrees j.two.state → j.links ≡ first_links items limit config.cables.items lines → j.acted ≡ 0 → IsStart j
+  pub made_start : (config : WorldConfig) (a b : Config) (lines : List (C × C)) (j : WorldState) → config.systems ≡ a ∷ b ∷ [] → world_refusal config ≡ None → are_empty_lines items config.cables.items lines ≡ true
+      → IsFirstHalf a j.one → IsFirstHalf b j.two → PortsAgree j.one.state → PortsAgree j.two.state → j.links ≡ first_links items limit config.cables.items lines → j.acted ≡ 0 → IsStart j
   made_start config a b lines j e h fit f g agrees_one agrees_two made acted =
       is_start items limit a b config.cables.items lines j f g agrees_one agrees_two (two_accepted config a b e h)
-      (and_parts (length lines == length config.cables.items) (list_all (is_empty_line items) lines) fit).1 made acted
+      (and_parts (length lines == length config.cables.items) (list_all (has_empty_directions items) lines) fit).1 made acted

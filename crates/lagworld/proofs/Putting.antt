@@ -6,7 +6,7 @@ use Rattle.std.proofs.lemmas.List.{length-map, map-set, set-get_or}
 use Rattle.std.proofs.lemmas.Bool.{cases_Bool, true≢false}
 use Rattle.std.proofs.lemmas.Option.{slice_get-map, slice_get_read}
 use Rattle.lagmodel.specs.World.{Side}
-use Rattle.lagworld.specs.State.{Carried, LinkState, accepts, sent_on, link_of_port, link_at, change_link, accepts_at, put, is_accepted}
+use Rattle.lagworld.specs.State.{ItemValue, LinkState, accepts, sent_on, link_index, link_at, change_link, accepts_at, put_on_port, is_accepted}
 
 first_seen : {X Y : Type 0} (f : X → Y) (q : Y → Bool) (xs : List X) → position_or_len q (map f xs) ≡ position_or_len (λ x. q (f x)) xs
 first_seen f q [] = refl
@@ -19,16 +19,16 @@ place_seen f q xs =
     ∙ ap (λ m. cond (nat_lt (position_or_len (λ x. q (f x)) xs) m) (Some (position_or_len (λ x. q (f x)) xs)) None) (length-map xs f)
 
 -- the port has no cable
-pub put_nowhere : (s : Side) (p : ℕ) (item : Carried) (links : List LinkState) → link_of_port s p links ≡ None → (put s p item links ≡ links) × (is_accepted s p links ≡ false)
+pub put_nowhere : (s : Side) (p : ℕ) (item : ItemValue) (links : List LinkState) → link_index s p links ≡ None → (put_on_port s p item links ≡ links) × (is_accepted s p links ≡ false)
 put_nowhere s p item links e = (ap (λ o. change_link o (sent_on s item) (link_at o links) links) e, ap (λ o. accepts_at s (link_at o links)) e)
 
 -- its cable was sent the item
-pub put_there : (s : Side) (p : ℕ) (item : Carried) (links new : List LinkState) (kept : Bool) (i : ℕ) → link_of_port s p links ≡ Some i
-    → IsSomeAnd (slice_get links i) (λ l. (new ≡ set links i (sent_on s item l)) × (kept ≡ accepts s l)) → (new ≡ put s p item links) × (kept ≡ is_accepted s p links)
+pub put_there : (s : Side) (p : ℕ) (item : ItemValue) (links new : List LinkState) (kept : Bool) (i : ℕ) → link_index s p links ≡ Some i
+    → IsSomeAnd (slice_get links i) (λ l. (new ≡ set links i (sent_on s item l)) × (kept ≡ accepts s l)) → (new ≡ put_on_port s p item links) × (kept ≡ is_accepted s p links)
 put_there s p item links new kept i e h = at_it (slice_get links i) refl h
   where
     at_it : (o : Option LinkState) → slice_get links i ≡ o → IsSomeAnd o (λ l. (new ≡ set links i (sent_on s item l)) × (kept ≡ accepts s l))
-        → (new ≡ put s p item links) × (kept ≡ is_accepted s p links)
+        → (new ≡ put_on_port s p item links) × (kept ≡ is_accepted s p links)
     at_it None is h = absurd h
     at_it (Some l) is h = (
       h.0 ∙ sym (ap (λ o. change_link o (sent_on s item) (link_at o links) links) e ∙ ap (λ o. change_link (Some i) (sent_on s item) o links) is),

@@ -14,14 +14,14 @@ use Rattle.distributor.specs.declared.fault.DistFault.TheVariants as dist
 use Rattle.distributor.specs.Calls.{force_result}
 use Rattle.distributor.specs.Conversations.{assignment_of}
 use Rattle.lagsystem.specs.Readers.{conversation_count}
-use Rattle.lagsystem.specs.Offers.{Becomes, force_answer, has_aggregator, in_system, known}
+use Rattle.lagsystem.specs.Offers.{GivesOrRefuses, system_force_result, has_aggregator, in_system, or_not_assigned}
 use Rattle.lagsystem.specs.State.{SystemState}
 use Rattle.lagscript.specs.declared.event.Event.{Event}
 use Rattle.lagscript.specs.declared.event.Event.TheVariants as event
 use Rattle.lagworld.specs.declared.reply.Reply.{Reply}
-use Rattle.lagworld.specs.State.{LinkState, HalfState, WorldState, half, towards, serials_at}
+use Rattle.lagworld.specs.State.{LinkState, HalfState, WorldState, half, towards, flow_at}
 use Rattle.lagworld.specs.Messages.{side_named}
-use Rattle.lagworld.specs.Events.{Algorithms, DoesEvent, Steps, side_of, model_event, model_change, OnLink}
+use Rattle.lagworld.specs.Events.{Algorithms, DoesEvent, WorldSteps, side_of, model_event, model_change, OnLink}
 use Rattle.lagworld.specs.Sound.{IsSound, IsHalfSound}
 use Rattle.lagworld.specs.ModelWorld.{world_setup, model_world}
 use Rattle.lagworld.proofs.Happens.{tick_happens, sense_happens, move_happens, cut_happens, join_happens}
@@ -52,14 +52,14 @@ if_some : (b : Bool) (x : Result Assignment SystemFault) (f : SystemFault) (y : 
 if_some true x f y h = (refl, h)
 if_some false x f y h = absurd (let e = h in cc)
 
-known_below : (s : SystemState) (conv : ℕ) (o : Result Assignment DistFault) (y : Assignment) → in_system (known s conv o) ≡ Ok y → nat_lt conv (conversation_count s) ≡ true
+known_below : (s : SystemState) (conv : ℕ) (o : Result Assignment DistFault) (y : Assignment) → in_system (or_not_assigned s conv o) ≡ Ok y → nat_lt conv (conversation_count s) ≡ true
 known_below s conv o y h = below (nat_lt conv (conversation_count s)) h
   where
     below : (b : Bool) → in_system (if b then o else Err dist.NotAssigned) ≡ Ok y → b ≡ true
     below true h = refl
     below false h = absurd (let e = h in cc)
 
-forced_known : (agg : AggId) (conv : ℕ) (what : Result Assignment SystemFault) (done : Unit) (old new : SystemState) → Becomes agg conv what old (Ok done) new → (y : Assignment) × (what ≡ Ok y)
+forced_known : (agg : AggId) (conv : ℕ) (what : Result Assignment SystemFault) (done : Unit) (old new : SystemState) → GivesOrRefuses agg conv what old (Ok done) new → (y : Assignment) × (what ≡ Ok y)
 forced_known agg conv (Ok y) done old new h = (y, refl)
 forced_known agg conv (Err fault) done old new h = absurd (let e = h.0 in cc)
 
@@ -67,10 +67,10 @@ parts : (x y : Bool) → (x && y) ≡ true → (x ≡ true) × (y ≡ true)
 parts true y h = (refl, h)
 parts false y h = absurd (true≢false (sym h))
 
-forced_there : (h : HalfState) (agg : AggId) (conv : ℕ) (done : Unit) (new : SystemState) → IsHalfSound h → Becomes agg conv (force_answer h.state agg conv) h.state (Ok done) new → IsSome (serials_at h.flows agg.0 conv)
+forced_there : (h : HalfState) (agg : AggId) (conv : ℕ) (done : Unit) (new : SystemState) → IsHalfSound h → GivesOrRefuses agg conv (system_force_result h.state agg conv) h.state (Ok done) new → IsSome (flow_at h.flows agg.0 conv)
 forced_there h agg conv done new k x =
-    let y = forced_known agg conv (force_answer h.state agg conv) done h.state new x in
-    let both = if_some (has_aggregator h.state agg) (in_system (known h.state conv (force_result (assignment_of h.state.table agg.0 conv)))) NoAggregator y.0 y.1 in
+    let y = forced_known agg conv (system_force_result h.state agg conv) done h.state new x in
+    let both = if_some (has_aggregator h.state agg) (in_system (or_not_assigned h.state conv (force_result (assignment_of h.state.table agg.0 conv)))) NoAggregator y.0 y.1 in
     let two = parts (nat_lt 0 agg.0) (nat_le agg.0 (length h.state.keys)) both.0 in
     let small = known_below h.state conv (force_result (assignment_of h.state.table agg.0 conv)) y.0 both.1 in
     k.flows agg.0 conv (let e = two.0 in grind (arith, nat_tests)) (let e = two.1 in grind (arith, nat_tests)) (grind (arith, nat_tests))
@@ -131,8 +131,8 @@ does_happen gives (event.Move n agg conv p) r old new i x =
 does_happen gives (event.Force n agg conv) r old new i x =
     let v = value_of (side_of n) _ x in
     at_named (λ s. Happens (world_setup old) (ModelEvent.Force s agg.0 conv) (model_world old) (model_world new)) n v.0 v.1
-    (force_happens (gives v.0) v.0 agg conv r old new v.2 (λ done e. forced_there (half v.0 old) agg conv done v.2.0.1.state (i.kept v.0) (subst (λ a. Becomes agg conv (force_answer (half v.0 old).state agg conv) (half v.0 old).state a v.2.0.1.state) e v.2.0.2.answers.step)))
+    (force_happens (gives v.0) v.0 agg conv r old new v.2 (λ done e. forced_there (half v.0 old) agg conv done v.2.0.1.state (i.kept v.0) (subst (λ a. GivesOrRefuses agg conv (system_force_result (half v.0 old).state agg conv) (half v.0 old).state a v.2.0.1.state) e v.2.0.2.answers.step)))
 
 -- what is counted is no part of a world of the law
-pub steps_happen : (gives : Algorithms) (e : Event) (r : Reply) (old new : WorldState) → IsSound old → Steps gives old e r new → Happens (world_setup old) (model_event e) (model_world old) (model_world new)
+pub steps_happen : (gives : Algorithms) (e : Event) (r : Reply) (old new : WorldState) → IsSound old → WorldSteps gives old e r new → Happens (world_setup old) (model_event e) (model_world old) (model_world new)
 steps_happen gives e r old new i x = does_happen gives e r old (record new { acted = old.acted }) i x.0

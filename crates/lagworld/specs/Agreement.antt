@@ -11,7 +11,7 @@ use Rattle.lagworld.specs.declared.agreement.Agreement.{Agreement}
 use Rattle.lagworld.specs.declared.agreement.Agreement.TheVariants.{NotBoth, Defaults, Changed, Same, Differ}
 use Rattle.lagworld.specs.declared.agreement.EndFacts.{EndFacts}
 use Rattle.lagworld.specs.declared.histories.StampedLacpdu.{StampedLacpdu}
-use Rattle.lagworld.specs.State.{HalfState, LinkState, WorldState, nth, history_at, count_in, taken_in}
+use Rattle.lagworld.specs.State.{HalfState, LinkState, WorldState, element_numbered, history_at, change_count_in, taken_in}
 
 -- The values of an end of a cable that are compared: whether it distributes, whether its partner is defaulted, its
 -- change count, the LACPDU that it received last, and its group. A port that does not exist does not distribute.
@@ -19,7 +19,7 @@ abbrev pub end_facts : HalfState → ℕ → EndFacts
 end_facts h p = record {
   distributes = unwrap_or (option_map (λ x. same_mux_state CollectingDistributing x.mux) (machines_of p h.state)) false;
   defaulted = unwrap_or (option_map (λ x. x.defaulted) (machines_of p h.state)) false;
-  count = count_in (history_at h.histories p);
+  count = change_count_in (history_at h.histories p);
   taken = taken_in (history_at h.histories p);
   group = option_map group_at (machines_of p h.state);
 }
@@ -27,7 +27,7 @@ end_facts h p = record {
 -- the change count of an end is the stamp of the LACPDU that its peer received last
 abbrev pub is_stamp : ℕ → Option StampedLacpdu → Bool
 is_stamp count None = false
-is_stamp count (Some heard) = heard.stamp == count
+is_stamp count (Some lacpdu) = lacpdu.stamp == count
 
 -- there are two groups, and they are one Link Aggregation Group (6.3.6)
 abbrev pub same_groups : Option Group → Option Group → Bool
@@ -35,16 +35,16 @@ same_groups (Some a) (Some b) = same_group a b
 same_groups _ _ = false
 
 -- the first variant that holds, in this order
-abbrev pub first_of_five : Bool → Bool → Bool → Bool → Agreement
-first_of_five not_both defaults changed same =
+abbrev pub first_agreement : Bool → Bool → Bool → Bool → Agreement
+first_agreement not_both defaults changed same =
     if not_both then NotBoth else (if defaults then Defaults else (if changed then Changed else (if same then Same else Differ)))
 
 -- how two ends of a cable with these values stand to each other
 abbrev pub agreement_of : EndFacts → EndFacts → Agreement
 agreement_of a b =
-    first_of_five (not (a.distributes && b.distributes)) (a.defaulted
+    first_agreement (not (a.distributes && b.distributes)) (a.defaulted
     || b.defaulted) (not (is_stamp a.count b.taken && is_stamp b.count a.taken)) (same_groups a.group b.group)
 
 -- how the ends of the cable with this number stand to each other, if it exists
 abbrev pub agreement_at : WorldState → ℕ → Option Agreement
-agreement_at j c = option_map (λ (l : LinkState). agreement_of (end_facts j.one l.one) (end_facts j.two l.two)) (nth j.links c)
+agreement_at j c = option_map (λ (l : LinkState). agreement_of (end_facts j.one l.one) (end_facts j.two l.two)) (element_numbered j.links c)

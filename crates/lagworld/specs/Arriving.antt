@@ -19,53 +19,53 @@ use Rattle.lagworld.specs.declared.histories.StampedLacpdu.{StampedLacpdu}
 use Rattle.lagworld.specs.declared.histories.PortHistory.{PortHistory}
 use Rattle.lagworld.specs.declared.reply.Reply.{Reply}
 use Rattle.lagworld.specs.declared.reply.Reply.TheVariants as reply
-use Rattle.lagworld.specs.State.{Carried, HalfState, LinkState, WorldState, Serials, pick, nth, port_at, towards, with_towards, is_accepted}
-use Rattle.lagworld.specs.HalfCalls.{Asks, with_state}
-use Rattle.lagworld.specs.Events.{Algorithms, InHalf, OnLink, DeliversFrom, RepeatsFrom, stamped_in, set_last_lacpdu, with_last_lacpdu, puts, collected}
-use Rattle.lagworld.specs.Inner.{serials_of}
+use Rattle.lagworld.specs.State.{ItemValue, HalfState, LinkState, WorldState, FlowValue, by_side, element_numbered, port_at, towards, with_towards, is_accepted}
+use Rattle.lagworld.specs.HalfCalls.{HalfAnswers, with_state}
+use Rattle.lagworld.specs.Events.{Algorithms, InHalf, OnLink, DeliversFrom, RepeatsFrom, stamped_in, set_last_lacpdu, with_last_lacpdu, with_item_sent, with_stamp_collected}
+use Rattle.lagworld.specs.Inner.{flow_value}
 use Rattle.lagworld.specs.Messages.{side_named}
 use Rattle.lagworld.specs.Places.{IsReserved}
 
 -- if the item was an LACPDU and was received, it is recorded with its stamp; else nothing is
-abbrev pub logged : Result Received SystemFault → ℕ → Carried → HalfState → HalfState
-logged (Ok received.TookLacpdu) p item h = with_last_lacpdu p (stamped_in item) h
-logged _ p item h = h
+abbrev pub with_lacpdu_recorded : Result Received SystemFault → ℕ → ItemValue → HalfState → HalfState
+with_lacpdu_recorded (Ok received.TookLacpdu) p item h = with_last_lacpdu p (stamped_in item) h
+with_lacpdu_recorded _ p item h = h
 
 -- this item arrives on port p of one of the two systems, which answers a; an LACPDU that it took is recorded
-abbrev pub ReceivesItem : (ℕ → ℕ → ℕ → Type 0) → ℕ → Carried → Result Received SystemFault → HalfState → HalfState → Type 0
-ReceivesItem gives p item a old new =
-    Asks gives (Receive p item.octets) (answer.Receive a) old (with_state new.state old)
-    × (new ≡ logged a p item (with_state new.state old))
+abbrev pub HalfReceives : (ℕ → ℕ → ℕ → Type 0) → ℕ → ItemValue → Result Received SystemFault → HalfState → HalfState → Type 0
+HalfReceives gives p item a old new =
+    HalfAnswers gives (Receive p item.octets) (answer.Receive a) old (with_state new.state old)
+    × (new ≡ with_lacpdu_recorded a p item (with_state new.state old))
 
 -- the frame contains this LACPDU
 abbrev pub CarriesLacpdu : List ℕ → Lacpdu → Type 0
 CarriesLacpdu octets v = IsFrame octets (Carries (pdu.Lacpdu v))
 
 -- what is to be recorded for an item with this answer
-abbrev pub IsToKeep : Result Received SystemFault → Carried → Option StampedLacpdu → Type 0
-IsToKeep (Ok received.TookLacpdu) item heard = (v : Lacpdu) → CarriesLacpdu item.octets v → heard ≡ Some (stamped_in item)
-IsToKeep _ item heard = heard ≡ None
+abbrev pub IsToRecord : Result Received SystemFault → ItemValue → Option StampedLacpdu → Type 0
+IsToRecord (Ok received.TookLacpdu) item lacpdu = (v : Lacpdu) → CarriesLacpdu item.octets v → lacpdu ≡ Some (stamped_in item)
+IsToRecord _ item lacpdu = lacpdu ≡ None
 
 -- the index of the history of a port
-abbrev pub history_place : ℕ → List PortHistory → Option ℕ
-history_place p histories = position (λ history. history.number == p) histories
+abbrev pub history_index : ℕ → List PortHistory → Option ℕ
+history_index p histories = position (λ history. history.number == p) histories
 
 -- the histories, with this LACPDU as the one that port p took last; unchanged if there is none
-abbrev pub last_lacpdu_kept : ℕ → Option StampedLacpdu → List PortHistory → List PortHistory
-last_lacpdu_kept p None histories = histories
-last_lacpdu_kept p (Some heard) histories = set_last_lacpdu p heard histories
+abbrev pub last_lacpdu_recorded : ℕ → Option StampedLacpdu → List PortHistory → List PortHistory
+last_lacpdu_recorded p None histories = histories
+last_lacpdu_recorded p (Some lacpdu) histories = set_last_lacpdu p lacpdu histories
 
 -- The first item of the list arrives on port p of one of the two systems, which answers a; without an item, a is None
 -- and nothing changes.
-abbrev pub ReceivesFirst : (ℕ → ℕ → ℕ → Type 0) → ℕ → List Carried → Option (Result Received SystemFault) → HalfState → HalfState → Type 0
-ReceivesFirst gives p [] a old new = (a ≡ None) × (new ≡ old)
-ReceivesFirst gives p (item ∷ rest) a old new = IsSomeAnd a (λ a. ReceivesItem gives p item a old new)
+abbrev pub HalfReceivesFirst : (ℕ → ℕ → ℕ → Type 0) → ℕ → List ItemValue → Option (Result Received SystemFault) → HalfState → HalfState → Type 0
+HalfReceivesFirst gives p [] a old new = (a ≡ None) × (new ≡ old)
+HalfReceivesFirst gives p (item ∷ rest) a old new = IsSomeAnd a (λ a. HalfReceives gives p item a old new)
 
 -- The first item of the list arrives on port p of system s, which answers a; without an item, a is None and nothing
 -- changes.
-abbrev pub ReceivesFirstIn : Algorithms → Side → ℕ → List Carried → Option (Result Received SystemFault) → WorldState → WorldState → Type 0
-ReceivesFirstIn gives s p [] a old new = (a ≡ None) × (new ≡ old)
-ReceivesFirstIn gives s p (item ∷ rest) a old new = IsSomeAnd a (λ a. InHalf s (ReceivesItem (gives s) p item a) old new)
+abbrev pub WorldReceivesFirst : Algorithms → Side → ℕ → List ItemValue → Option (Result Received SystemFault) → WorldState → WorldState → Type 0
+WorldReceivesFirst gives s p [] a old new = (a ≡ None) × (new ≡ old)
+WorldReceivesFirst gives s p (item ∷ rest) a old new = IsSomeAnd a (λ a. InHalf s (HalfReceives (gives s) p item a) old new)
 
 -- What the answer asks for outside of the system: a response goes onto the cable of the port that the marker came on,
 -- and a data frame counts as collected.
@@ -76,12 +76,12 @@ Concludes s p st (Ok received.Dropped) old r new = (r ≡ reply.Dropped) × (new
 Concludes s p st (Ok (received.Ignored fault)) old r new = (r ≡ reply.Ignored) × (new ≡ old)
 Concludes s p st (Ok received.TookLacpdu) old r new = (r ≡ reply.Took) × (new ≡ old)
 Concludes s p st (Ok (received.Respond frame)) old r new =
-    (r ≡ reply.Responded (is_accepted s p old.links)) × (new ≡ puts s p (record { octets = frame; stamp = stamp.Control 0 }) old)
+    (r ≡ reply.Responded (is_accepted s p old.links)) × (new ≡ with_item_sent s p (record { octets = frame; stamp = stamp.Control 0 }) old)
 Concludes s p st (Ok (received.Released n)) old r new = (r ≡ reply.Released n) × (new ≡ old)
-Concludes s p st (Ok (received.Up agg)) old r new = (r ≡ reply.Up agg) × (new ≡ collected st old)
+Concludes s p st (Ok (received.Up agg)) old r new = (r ≡ reply.Up agg) × (new ≡ with_stamp_collected st old)
 
 -- the port p that the first item of the list will arrive on, and its stamp; None without an item
-abbrev pub first_head : ℕ → List Carried → Option Head
+abbrev pub first_head : ℕ → List ItemValue → Option Head
 first_head p [] = None
 first_head p (item ∷ rest) = Some (record { port = p; stamp = item.stamp })
 
@@ -99,8 +99,8 @@ is_data (stamp.Control count) = false
 is_data (stamp.Data system agg conv serial) = true
 
 -- the conversations of an aggregator, as contracts see them
-abbrev pub row_of : Vec Flow → List Serials
-row_of row = map serials_of row.items
+abbrev pub aggregator_flow_values : Vec Flow → List FlowValue
+aggregator_flow_values conversations = map flow_value conversations.items
 
 -- a place is reserved in the conversation's list of collected serial numbers, if it exists
 abbrev pub CanCollect : Option Flow → Type 0
@@ -110,22 +110,22 @@ CanCollect (Some flow) = vec_len flow.collected < vec_capacity flow.collected
 -- a place is reserved in the list of collected serial numbers of conversation k of an aggregator, if both exist
 abbrev pub CanCollectIn : ℕ → Option (Vec Flow) → Type 0
 CanCollectIn k None = Unit {0}
-CanCollectIn k (Some row) = CanCollect (slice_get row.items k)
+CanCollectIn k (Some conversations) = CanCollect (slice_get conversations.items k)
 
 -- A place is reserved in the list of collected serial numbers of this conversation of the aggregator with this
 -- number, if both exist.
 abbrev pub CanCollectAt : ℕ → ℕ → List (Vec Flow) → Type 0
-CanCollectAt agg conv flows = CanCollectIn conv (nth flows agg)
+CanCollectAt agg conv flows = CanCollectIn conv (element_numbered flows agg)
 
 -- A place is reserved in the list of collected serial numbers of the conversation that a stamp names, among the
 -- conversations of systems 1 and 2; nothing is asked for a control frame.
 abbrev pub CanCollectFor : Stamp → List (Vec Flow) → List (Vec Flow) → Type 0
 CanCollectFor (stamp.Control count) one two = Unit {0}
-CanCollectFor (stamp.Data system agg conv serial) one two = CanCollectAt agg conv (pick (side_named system) one two)
+CanCollectFor (stamp.Data system agg conv serial) one two = CanCollectAt agg conv (by_side (side_named system) one two)
 
 -- The places that an item may need that arrives on a port of a system: one on the cable of that port, and one for a
 -- serial number.
-pub record IsReady {C F : Type 0} (items : C → List Item) (limit : C → Option ℕ) (reserved : C
+pub record HasPlacesForItem {C F : Type 0} (items : C → List Item) (limit : C → Option ℕ) (reserved : C
     → Bool) (s : Side) (head : Head) (inner : Inner C F) : Type 0 where
   pub place : IsReserved items limit reserved s head.port inner.links.items
   pub serial : CanCollectFor head.stamp inner.one.flows.items inner.two.flows.items

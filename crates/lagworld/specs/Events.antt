@@ -23,9 +23,9 @@ use Rattle.lagworld.specs.declared.fault.WorldFault.{WorldFault}
 use Rattle.lagworld.specs.declared.fault.WorldFault.TheVariants.{NoCable, NoSystem, Spent, NoMemory}
 use Rattle.lagworld.specs.declared.histories.StampedLacpdu.{StampedLacpdu}
 use Rattle.lagworld.specs.declared.histories.PortHistory.{PortHistory}
-use Rattle.lagworld.specs.State.{Carried, HalfState, LinkState, WorldState, half, with_half, with_links, port_at, towards, with_towards, emptied, cut, joined, nth, put, is_accepted, history_at, count_in, at_flow, with_sent, with_collected, serials_at, sent_in}
+use Rattle.lagworld.specs.State.{ItemValue, HalfState, LinkState, WorldState, half, with_half, with_links, port_at, towards, with_towards, emptied, cut, joined, element_numbered, put_on_port, is_accepted, history_at, change_count_in, change_flow, with_sent, with_collected, flow_at, sent_in}
 use Rattle.lagworld.specs.Messages.{payload_in, side_number, side_named, stamp_count}
-use Rattle.lagworld.specs.HalfCalls.{Asks, HalfTicks, HalfSenses, HalfConfigures, HalfRestarts, HalfMoves, HalfForces, set_taken}
+use Rattle.lagworld.specs.HalfCalls.{HalfAnswers, HalfTicks, HalfSenses, HalfConfigures, HalfRestarts, HalfMoves, HalfForces, set_taken}
 
 -- the system with this number, 1 or 2
 abbrev pub side_of : ℕ → Option Side
@@ -45,12 +45,12 @@ OnLink zero P links = ⊥
 OnLink (suc i) P links = IsSomeAnd (slice_get links i) (P i)
 
 -- the world, with this link in the place of the one at index i
-abbrev pub set_at : ℕ → LinkState → WorldState → WorldState
-set_at i l j = with_links j (slice_set j.links i l)
+abbrev pub with_link_at : ℕ → LinkState → WorldState → WorldState
+with_link_at i l j = with_links j (slice_set j.links i l)
 
 -- the world, after port p of system s sent this item
-abbrev pub puts : Side → ℕ → Carried → WorldState → WorldState
-puts s p item j = with_links j (put s p item j.links)
+abbrev pub with_item_sent : Side → ℕ → ItemValue → WorldState → WorldState
+with_item_sent s p item j = with_links j (put_on_port s p item j.links)
 
 -- the stamp of a PDU that is sent: for an LACPDU its sender's change count, else 0
 abbrev pub stamp_for : Pdu → ℕ → Stamp
@@ -63,145 +63,145 @@ sent_reply (pdu.Lacpdu v) accepted = reply.Lacpdu v.actor.state accepted
 sent_reply (pdu.Marker m) accepted = reply.Marker m.id accepted
 
 -- the frame that port p sends, with its stamp: for an LACPDU the port's change count, else 0
-abbrev pub transmitted : Side → ℕ → List ℕ → HalfState → Carried
-transmitted s p frame h = record { octets = frame; stamp = stamp_for (pdu_in (payload_in frame)) (count_in (history_at h.histories p)) }
+abbrev pub transmitted_item : Side → ℕ → List ℕ → HalfState → ItemValue
+transmitted_item s p frame h = record { octets = frame; stamp = stamp_for (pdu_in (payload_in frame)) (change_count_in (history_at h.histories p)) }
 
 -- What the world does with the answer to Transmit of port p of system s: it sends the frame, and gives the reply of
 -- Emit.
-abbrev pub Emitted : Side → ℕ → Result (Option (List ℕ)) SystemFault → WorldState → Reply → WorldState → Type 0
-Emitted s p (Err fault) old r new = (r ≡ reply.Refused fault) × (new ≡ old)
-Emitted s p (Ok None) old r new = (r ≡ reply.Nothing) × (new ≡ old)
-Emitted s p (Ok (Some frame)) old r new =
-    (r ≡ sent_reply (pdu_in (payload_in frame)) (is_accepted s p old.links)) × (new ≡ puts s p (transmitted s p frame (half s old)) old)
+abbrev pub AfterTransmit : Side → ℕ → Result (Option (List ℕ)) SystemFault → WorldState → Reply → WorldState → Type 0
+AfterTransmit s p (Err fault) old r new = (r ≡ reply.Refused fault) × (new ≡ old)
+AfterTransmit s p (Ok None) old r new = (r ≡ reply.Nothing) × (new ≡ old)
+AfterTransmit s p (Ok (Some frame)) old r new =
+    (r ≡ sent_reply (pdu_in (payload_in frame)) (is_accepted s p old.links)) × (new ≡ with_item_sent s p (transmitted_item s p frame (half s old)) old)
 
 -- an Emit event does this: system s is asked for the frame that is due on port p, which is then sent
-abbrev pub Emits : Algorithms → Side → ℕ → WorldState → Reply → WorldState → Type 0
-Emits gives s p old r new =
-    (a : Result (Option (List ℕ)) SystemFault) × (mid : HalfState) × Asks (gives s) (Transmit p) (answer.Transmit a) (half s old) mid
-    × Emitted s p a (with_half s mid old) r new
+abbrev pub WorldEmits : Algorithms → Side → ℕ → WorldState → Reply → WorldState → Type 0
+WorldEmits gives s p old r new =
+    (a : Result (Option (List ℕ)) SystemFault) × (mid : HalfState) × HalfAnswers (gives s) (Transmit p) (answer.Transmit a) (half s old) mid
+    × AfterTransmit s p a (with_half s mid old) r new
 
 -- the LACPDU in an item, with its stamp
-abbrev pub stamped_in : Carried → StampedLacpdu
+abbrev pub stamped_in : ItemValue → StampedLacpdu
 stamped_in item = record { pdu = lacpdu_in (payload_in item.octets); stamp = stamp_count item.stamp }
 
 -- the histories, with this LACPDU recorded as the one that port p took last
 abbrev pub set_last_lacpdu : ℕ → StampedLacpdu → List PortHistory → List PortHistory
-set_last_lacpdu p heard [] = []
-set_last_lacpdu p heard (history ∷ histories) = if history.number == p then set_taken heard history ∷ histories else history ∷ set_last_lacpdu p heard histories
+set_last_lacpdu p lacpdu [] = []
+set_last_lacpdu p lacpdu (history ∷ histories) = if history.number == p then set_taken lacpdu history ∷ histories else history ∷ set_last_lacpdu p lacpdu histories
 
 -- the half, with this LACPDU as the one that port p took last
 abbrev pub with_last_lacpdu : ℕ → StampedLacpdu → HalfState → HalfState
-with_last_lacpdu p heard h = record h { histories = set_last_lacpdu p heard h.histories }
+with_last_lacpdu p lacpdu h = record h { histories = set_last_lacpdu p lacpdu h.histories }
 
 -- the half, with this serial added to what was collected of a conversation
-abbrev pub with_flow_of : ℕ → ℕ → ℕ → HalfState → HalfState
-with_flow_of agg conv serial h = record h { flows = at_flow (with_collected serial) agg conv h.flows }
+abbrev pub with_collected_in : ℕ → ℕ → ℕ → HalfState → HalfState
+with_collected_in agg conv serial h = record h { flows = change_flow (with_collected serial) agg conv h.flows }
 
 -- a data frame counts as collected, for the system that sent it
-abbrev pub collected : Stamp → WorldState → WorldState
-collected (stamp.Control count) j = j
-collected (stamp.Data system agg conv serial) j =
-    with_half (side_named system) (with_flow_of agg conv serial (half (side_named system) j)) j
+abbrev pub with_stamp_collected : Stamp → WorldState → WorldState
+with_stamp_collected (stamp.Control count) j = j
+with_stamp_collected (stamp.Data system agg conv serial) j =
+    with_half (side_named system) (with_collected_in agg conv serial (half (side_named system) j)) j
 
 -- What the world does with the answer to an item that came on port p of system s: it records an LACPDU, sends a
 -- response, or counts a data frame as collected.
-abbrev pub Arrived : Side → ℕ → Carried → Result Received SystemFault → WorldState → Reply → WorldState → Type 0
-Arrived s p item (Err fault) old r new = (r ≡ reply.Refused fault) × (new ≡ old)
-Arrived s p item (Ok received.Disabled) old r new = (r ≡ reply.Disabled) × (new ≡ old)
-Arrived s p item (Ok received.Dropped) old r new = (r ≡ reply.Dropped) × (new ≡ old)
-Arrived s p item (Ok (received.Ignored fault)) old r new = (r ≡ reply.Ignored) × (new ≡ old)
-Arrived s p item (Ok received.TookLacpdu) old r new = (r ≡ reply.Took) × (new ≡ with_half s (with_last_lacpdu p (stamped_in item) (half s old)) old)
-Arrived s p item (Ok (received.Respond frame)) old r new =
-    (r ≡ reply.Responded (is_accepted s p old.links)) × (new ≡ puts s p (record { octets = frame; stamp = stamp.Control 0 }) old)
-Arrived s p item (Ok (received.Released n)) old r new = (r ≡ reply.Released n) × (new ≡ old)
-Arrived s p item (Ok (received.Up agg)) old r new = (r ≡ reply.Up agg) × (new ≡ collected item.stamp old)
+abbrev pub AfterReceive : Side → ℕ → ItemValue → Result Received SystemFault → WorldState → Reply → WorldState → Type 0
+AfterReceive s p item (Err fault) old r new = (r ≡ reply.Refused fault) × (new ≡ old)
+AfterReceive s p item (Ok received.Disabled) old r new = (r ≡ reply.Disabled) × (new ≡ old)
+AfterReceive s p item (Ok received.Dropped) old r new = (r ≡ reply.Dropped) × (new ≡ old)
+AfterReceive s p item (Ok (received.Ignored fault)) old r new = (r ≡ reply.Ignored) × (new ≡ old)
+AfterReceive s p item (Ok received.TookLacpdu) old r new = (r ≡ reply.Took) × (new ≡ with_half s (with_last_lacpdu p (stamped_in item) (half s old)) old)
+AfterReceive s p item (Ok (received.Respond frame)) old r new =
+    (r ≡ reply.Responded (is_accepted s p old.links)) × (new ≡ with_item_sent s p (record { octets = frame; stamp = stamp.Control 0 }) old)
+AfterReceive s p item (Ok (received.Released n)) old r new = (r ≡ reply.Released n) × (new ≡ old)
+AfterReceive s p item (Ok (received.Up agg)) old r new = (r ≡ reply.Up agg) × (new ≡ with_stamp_collected item.stamp old)
 
 -- an item arrives on port p of system s
-abbrev pub Arrives : Algorithms → Side → ℕ → Carried → WorldState → Reply → WorldState → Type 0
-Arrives gives s p item old r new =
-    (a : Result Received SystemFault) × (mid : HalfState) × Asks (gives s) (Receive p item.octets) (answer.Receive a) (half s old) mid
-    × Arrived s p item a (with_half s mid old) r new
+abbrev pub WorldReceives : Algorithms → Side → ℕ → ItemValue → WorldState → Reply → WorldState → Type 0
+WorldReceives gives s p item old r new =
+    (a : Result Received SystemFault) × (mid : HalfState) × HalfAnswers (gives s) (Receive p item.octets) (answer.Receive a) (half s old) mid
+    × AfterReceive s p item a (with_half s mid old) r new
 
 -- the first item towards s is taken off and arrives at the end of cable i
-abbrev pub DeliversFrom : Algorithms → Side → ℕ → LinkState → List Carried → WorldState → Reply → WorldState → Type 0
+abbrev pub DeliversFrom : Algorithms → Side → ℕ → LinkState → List ItemValue → WorldState → Reply → WorldState → Type 0
 DeliversFrom gives s i l [] old r new = (r ≡ reply.Empty) × (new ≡ old)
-DeliversFrom gives s i l (item ∷ rest) old r new = Arrives gives s (port_at s l) item (set_at i (with_towards s rest l) old) r new
+DeliversFrom gives s i l (item ∷ rest) old r new = WorldReceives gives s (port_at s l) item (with_link_at i (with_towards s rest l) old) r new
 
 -- the first item towards s is taken off cable i and is lost; the reply is Empty if there is none
-abbrev pub LosesFrom : Side → ℕ → LinkState → List Carried → WorldState → Reply → WorldState → Type 0
+abbrev pub LosesFrom : Side → ℕ → LinkState → List ItemValue → WorldState → Reply → WorldState → Type 0
 LosesFrom s i l [] old r new = (r ≡ reply.Empty) × (new ≡ old)
-LosesFrom s i l (item ∷ rest) old r new = (r ≡ reply.Lost) × (new ≡ set_at i (with_towards s rest l) old)
+LosesFrom s i l (item ∷ rest) old r new = (r ≡ reply.Lost) × (new ≡ with_link_at i (with_towards s rest l) old)
 
 -- the first item arrives but stays, unless it is a data frame
 abbrev pub RepeatsItem : Algorithms → Side → ℕ → List ℕ → Stamp → WorldState → Reply → WorldState → Type 0
 RepeatsItem gives s p octets (stamp.Control count) old r new =
-    Arrives gives s p (record { octets = octets; stamp = stamp.Control count }) old r new
+    WorldReceives gives s p (record { octets = octets; stamp = stamp.Control count }) old r new
 RepeatsItem gives s p octets (stamp.Data system agg conv serial) old r new = (r ≡ reply.NotControl) × (new ≡ old)
 
 -- the first item towards s on a cable arrives but stays, unless it is a data frame; Empty if there is none
-abbrev pub RepeatsFrom : Algorithms → Side → LinkState → List Carried → WorldState → Reply → WorldState → Type 0
+abbrev pub RepeatsFrom : Algorithms → Side → LinkState → List ItemValue → WorldState → Reply → WorldState → Type 0
 RepeatsFrom gives s l [] old r new = (r ≡ reply.Empty) × (new ≡ old)
 RepeatsFrom gives s l (item ∷ rest) old r new = RepeatsItem gives s (port_at s l) item.octets item.stamp old r new
 
 -- the frame as an item, with the stamp of the next frame of its conversation
-abbrev pub offered : Side → ℕ → AggId → List ℕ → HalfState → Carried
-offered s port agg octets h = record {
+abbrev pub offered_item : Side → ℕ → AggId → List ℕ → HalfState → ItemValue
+offered_item s port agg octets h = record {
   octets = octets;
   stamp = stamp.Data (side_number s) agg.0 (number_of_conversation h.state octets)
-      (length (sent_in (serials_at h.flows agg.0 (number_of_conversation h.state octets))));
+      (length (sent_in (flow_at h.flows agg.0 (number_of_conversation h.state octets))));
 }
 
 -- the half, after the conversation of this frame sent one more frame in the aggregator
-abbrev pub count_sent : AggId → List ℕ → HalfState → HalfState
-count_sent agg octets h = record h { flows = at_flow with_sent agg.0 (number_of_conversation h.state octets) h.flows }
+abbrev pub with_frame_counted : AggId → List ℕ → HalfState → HalfState
+with_frame_counted agg octets h = record h { flows = change_flow with_sent agg.0 (number_of_conversation h.state octets) h.flows }
 
 -- What the world does with the answer to an offered frame: it sends the frame on that port, as the next of its
 -- conversation; or it gives the refusal as the reply.
-abbrev pub Offered : Side → AggId → List ℕ → Result ℕ SystemFault → WorldState → Reply → WorldState → Type 0
-Offered s agg octets (Err fault) old r new = (r ≡ reply.Refused fault) × (new ≡ old)
-Offered s agg octets (Ok port) old r new =
-    IsSome (serials_at (half s old).flows agg.0 (number_of_conversation (half s old).state octets))
-    × (r ≡ reply.Port port (length (sent_in (serials_at (half s old).flows agg.0 (number_of_conversation (half s old).state octets))))
+abbrev pub AfterOffer : Side → AggId → List ℕ → Result ℕ SystemFault → WorldState → Reply → WorldState → Type 0
+AfterOffer s agg octets (Err fault) old r new = (r ≡ reply.Refused fault) × (new ≡ old)
+AfterOffer s agg octets (Ok port) old r new =
+    IsSome (flow_at (half s old).flows agg.0 (number_of_conversation (half s old).state octets))
+    × (r ≡ reply.Port port (length (sent_in (flow_at (half s old).flows agg.0 (number_of_conversation (half s old).state octets))))
     (is_accepted s port old.links))
-    × (new ≡ puts s port (offered s port agg octets (half s old)) (with_half s (count_sent agg octets (half s old)) old))
+    × (new ≡ with_item_sent s port (offered_item s port agg octets (half s old)) (with_half s (with_frame_counted agg octets (half s old)) old))
 
 -- an Offer event does this: system s is offered the frame, which is then sent on the port that it answers
-abbrev pub OffersFrame : Algorithms → Side → AggId → List ℕ → WorldState → Reply → WorldState → Type 0
-OffersFrame gives s agg octets old r new =
-    (a : Result ℕ SystemFault) × (mid : HalfState) × Asks (gives s) (Offer agg octets) (answer.Offer a) (half s old) mid
-    × Offered s agg octets a (with_half s mid old) r new
+abbrev pub WorldOffers : Algorithms → Side → AggId → List ℕ → WorldState → Reply → WorldState → Type 0
+WorldOffers gives s agg octets old r new =
+    (a : Result ℕ SystemFault) × (mid : HalfState) × HalfAnswers (gives s) (Offer agg octets) (answer.Offer a) (half s old) mid
+    × AfterOffer s agg octets a (with_half s mid old) r new
 
 -- what the event does, if its system and cable exist
 abbrev pub DoesEvent : Algorithms → WorldState → Event → Reply → WorldState → Type 0
 DoesEvent gives old (event.Tick n count) r new = IsSomeAnd (side_of n) (λ s. InHalf s (HalfTicks (gives s) count) old new × (r ≡ reply.Ticked))
-DoesEvent gives old (event.Emit n p) r new = IsSomeAnd (side_of n) (λ s. Emits gives s p old r new)
+DoesEvent gives old (event.Emit n p) r new = IsSomeAnd (side_of n) (λ s. WorldEmits gives s p old r new)
 DoesEvent gives old (event.Deliver c n) r new =
     IsSomeAnd (side_of n) (λ s. OnLink c (λ i l. DeliversFrom gives s i l (towards s l) old r new) old.links)
 DoesEvent gives old (event.Lose c n) r new = IsSomeAnd (side_of n) (λ s. OnLink c (λ i l. LosesFrom s i l (towards s l) old r new) old.links)
 DoesEvent gives old (event.Repeat c n) r new =
     IsSomeAnd (side_of n) (λ s. OnLink c (λ i l. RepeatsFrom gives s l (towards s l) old r new) old.links)
-DoesEvent gives old (event.Cut c) r new = OnLink c (λ i l. (r ≡ reply.Cut) × (new ≡ set_at i (cut l) old)) old.links
-DoesEvent gives old (event.Join c) r new = OnLink c (λ i l. (r ≡ reply.Joined) × (new ≡ set_at i (joined l) old)) old.links
+DoesEvent gives old (event.Cut c) r new = OnLink c (λ i l. (r ≡ reply.Cut) × (new ≡ with_link_at i (cut l) old)) old.links
+DoesEvent gives old (event.Join c) r new = OnLink c (λ i l. (r ≡ reply.Joined) × (new ≡ with_link_at i (joined l) old)) old.links
 DoesEvent gives old (event.Sense c n) r new =
     IsSomeAnd (side_of n) (λ s. OnLink c (λ i l. InHalf s (λ h k. HalfSenses (gives s) (port_at s l) l.whole h r k) old new) old.links)
 DoesEvent gives old (event.Restart n) r new =
     IsSomeAnd (side_of n) (λ s. (r ≡ reply.Restarted) × InHalf s (HalfRestarts (gives s)) (with_links old (map emptied old.links)) new)
 DoesEvent gives old (event.Configure n p change) r new = IsSomeAnd (side_of n)
     (λ s. InHalf s (λ h k. HalfConfigures (gives s) p change h r k) old new)
-DoesEvent gives old (event.Offer n agg octets) r new = IsSomeAnd (side_of n) (λ s. OffersFrame gives s agg octets.items old r new)
+DoesEvent gives old (event.Offer n agg octets) r new = IsSomeAnd (side_of n) (λ s. WorldOffers gives s agg octets.items old r new)
 DoesEvent gives old (event.Move n agg conv p) r new = IsSomeAnd (side_of n) (λ s. InHalf s (λ h k. HalfMoves (gives s) agg conv p h r k) old new)
 DoesEvent gives old (event.Force n agg conv) r new = IsSomeAnd (side_of n) (λ s. InHalf s (λ h k. HalfForces (gives s) agg conv h r k) old new)
 
 -- From old, the world may give this reply to the event and change to new.
-abbrev pub Steps : Algorithms → WorldState → Event → Reply → WorldState → Type 0
-Steps gives old e r new = DoesEvent gives old e r (record new { acted = old.acted }) × (new.acted ≡ old.acted + 1)
+abbrev pub WorldSteps : Algorithms → WorldState → Event → Reply → WorldState → Type 0
+WorldSteps gives old e r new = DoesEvent gives old e r (record new { acted = old.acted }) × (new.acted ≡ old.acted + 1)
 
 -- these events may have these replies, one after another
-abbrev pub Runs : Algorithms → WorldState → List Event → List Reply → WorldState → Type 0
-Runs gives old [] [] new = new ≡ old
-Runs gives old (e ∷ es) (r ∷ rs) new = (mid : WorldState) × Steps gives old e r mid × Runs gives mid es rs new
-Runs gives old [] (r ∷ rs) new = ⊥
-Runs gives old (e ∷ es) [] new = ⊥
+abbrev pub WorldRuns : Algorithms → WorldState → List Event → List Reply → WorldState → Type 0
+WorldRuns gives old [] [] new = new ≡ old
+WorldRuns gives old (e ∷ es) (r ∷ rs) new = (mid : WorldState) × WorldSteps gives old e r mid × WorldRuns gives mid es rs new
+WorldRuns gives old [] (r ∷ rs) new = ⊥
+WorldRuns gives old (e ∷ es) [] new = ⊥
 
 -- the most events that may act in a world
 abbrev pub most_events : ℕ
@@ -236,7 +236,7 @@ system_named (event.Force n agg conv) = Some n
 -- the cable with this number exists; true if there is no number
 abbrev pub has_cable : WorldState → Option ℕ → Bool
 has_cable j None = true
-has_cable j (Some c) = is_some (nth j.links c)
+has_cable j (Some c) = is_some (element_numbered j.links c)
 
 -- the number is that of a system, 1 or 2; true if there is no number
 abbrev pub has_system : Option ℕ → Bool
@@ -269,9 +269,9 @@ may_take_memory (event.Move n agg conv p) = false
 may_take_memory (event.Force n agg conv) = false
 
 -- the reason to refuse an event; without one, memory was refused
-abbrev pub fault_for : Option WorldFault → WorldFault
-fault_for None = NoMemory
-fault_for (Some fault) = fault
+abbrev pub cause_or_no_memory : Option WorldFault → WorldFault
+cause_or_no_memory None = NoMemory
+cause_or_no_memory (Some fault) = fault
 
 -- the change of a port, as the model has it
 abbrev pub model_change : PortChange → ModelChange

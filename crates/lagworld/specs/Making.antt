@@ -13,8 +13,8 @@ use Rattle.lagscript.specs.Configs.{or_first, world_refusal}
 use Rattle.lagworld.specs.declared.fault.WorldFault.{WorldFault}
 use Rattle.lagworld.specs.declared.fault.WorldFault.TheVariants.{NoMemory, BadConfig}
 use Rattle.lagworld.specs.declared.histories.PortHistory.{PortHistory}
-use Rattle.lagworld.specs.State.{HalfState, WorldState, LinkState, Serials}
-use Rattle.lagworld.specs.Messages.{carried}
+use Rattle.lagworld.specs.State.{HalfState, WorldState, LinkState, FlowValue}
+use Rattle.lagworld.specs.Messages.{item_value}
 
 -- the history of a port before any event
 abbrev pub first_history : SystemId → PortConfig → PortHistory
@@ -29,16 +29,16 @@ unfoldable pub conversations_per_aggregator : ℕ
 conversations_per_aggregator = 256
 
 -- the record of a conversation before any event
-abbrev pub nothing_sent : Serials
-nothing_sent = record { sent = []; collected = []; forced = false }
+abbrev pub empty_flow : FlowValue
+empty_flow = record { sent = []; collected = []; forced = false }
 
 -- the records of an aggregator's conversations before any event
-abbrev pub first_row : List Serials
-first_row = replicate conversations_per_aggregator nothing_sent
+abbrev pub first_aggregator_flows : List FlowValue
+first_aggregator_flows = replicate conversations_per_aggregator empty_flow
 
 -- the records of the conversations of this many aggregators before any event
-abbrev pub first_flows : ℕ → List (List Serials)
-first_flows aggs = replicate aggs first_row
+abbrev pub first_flows : ℕ → List (List FlowValue)
+first_flows aggs = replicate aggs first_aggregator_flows
 
 -- a system in its first state, with this configuration
 pub record IsFirstHalf (config : Config) (h : HalfState) : Type 0 where
@@ -55,21 +55,21 @@ AreFirst _ j = ⊥
 module _ {C : Type 0} (items : C → List Item) (limit : C → Option ℕ) where
   -- a cable at the start: whole, with what is on its lines
   abbrev pub first_link : ℕ × ℕ → C × C → LinkState
-  first_link ends line = record {
+  first_link ends directions = record {
     one = ends.0;
     two = ends.1;
     whole = true;
-    to_one = map carried (items line.0);
-    to_two = map carried (items line.1);
-    limit_one = limit line.0;
-    limit_two = limit line.1;
+    to_one = map item_value (items directions.0);
+    to_two = map item_value (items directions.1);
+    limit_one = limit directions.0;
+    limit_two = limit directions.1;
   }
 
   -- the cables at the start, each with the two ports that it joins and its two directions
   abbrev pub first_links : List (ℕ × ℕ) → List (C × C) → List LinkState
   first_links [] lines = []
   first_links (ends ∷ rest) [] = []
-  first_links (ends ∷ rest) (line ∷ lines) = first_link ends line ∷ first_links rest lines
+  first_links (ends ∷ rest) (directions ∷ lines) = first_link ends directions ∷ first_links rest lines
 
   -- what is made of a configuration and lines
   pub record IsMade (config : WorldConfig) (given : List (C × C)) (j : WorldState) : Type 0 where
@@ -79,16 +79,16 @@ module _ {C : Type 0} (items : C → List Item) (limit : C → Option ℕ) where
 
 module _ {C : Type 0} (items : C → List Item) where
   -- both directions of a cable are empty
-  abbrev pub is_empty_line : C × C → Bool
-  is_empty_line line = (length (items line.0) == 0) && (length (items line.1) == 0)
+  abbrev pub has_empty_directions : C × C → Bool
+  has_empty_directions directions = (length (items directions.0) == 0) && (length (items directions.1) == 0)
 
   -- there are as many lines as cables, and all are empty
-  abbrev pub are_lines : List (ℕ × ℕ) → List (C × C) → Bool
-  are_lines cables lines = (length lines == length cables) && list_all is_empty_line lines
+  abbrev pub are_empty_lines : List (ℕ × ℕ) → List (C × C) → Bool
+  are_empty_lines cables lines = (length lines == length cables) && list_all has_empty_directions lines
 
   -- the first reason to refuse a configuration and lines
   abbrev pub refusal_with : WorldConfig → List (C × C) → Option BadWorld
-  refusal_with config lines = or_first (world_refusal config) (if are_lines config.cables.items lines then None else Some Lines)
+  refusal_with config lines = or_first (world_refusal config) (if are_empty_lines config.cables.items lines then None else Some Lines)
 
 -- memory was refused, or this is the first reason to refuse
 abbrev pub RefusesToMake : Option BadWorld → WorldFault → Type 0

@@ -3,7 +3,7 @@ use Rattle.std.specs.Prelude.{Bool, true, List, [], map, Option, Some, None, opt
 use Rattle.lagmodel.specs.World.{Side, Message, Ends, TakenLacpdu, World, WorldSetup}
 use Rattle.lagsystem.specs.ModelView.{model_setup, lacp_message as model_lacpdu, model_view}
 use Rattle.lagworld.specs.declared.histories.StampedLacpdu.{StampedLacpdu}
-use Rattle.lagworld.specs.State.{WorldState, LinkState, half, towards, nth, history_at, count_in, taken_in, serials_at, sent_in, collected_in, forced_in}
+use Rattle.lagworld.specs.State.{WorldState, LinkState, half, towards, element_numbered, history_at, change_count_in, taken_in, flow_at, sent_in, collected_in, forced_in}
 use Rattle.lagworld.specs.Messages.{item_message}
 
 -- the two ports that a cable joins
@@ -26,17 +26,17 @@ messages s (Some l) = map item_message (towards s l)
 
 -- the LACPDU that a port took last, with its stamp, as the theorem has it
 abbrev pub model_taken : StampedLacpdu → TakenLacpdu
-model_taken heard = record { pdu = model_lacpdu heard.pdu; stamp = heard.stamp }
+model_taken lacpdu = record { pdu = model_lacpdu lacpdu.pdu; stamp = lacpdu.stamp }
 
 -- the world, as the theorem sees it
 abbrev pub model_world : WorldState → World
 model_world j = record {
   view = λ s. model_view (half s j).state;
-  whole = λ c. is_whole (nth j.links c);
-  line = λ s c. messages s (nth j.links c);
-  count = λ s p. count_in (history_at (half s j).histories p);
+  whole = λ c. is_whole (element_numbered j.links c);
+  on_cable = λ s c. messages s (element_numbered j.links c);
+  count = λ s p. change_count_in (history_at (half s j).histories p);
   taken = λ s p. option_map model_taken (taken_in (history_at (half s j).histories p));
-  sent = λ s g k. sent_in (serials_at (half s j).flows g k);
-  collected = λ s g k. collected_in (serials_at (half s j).flows g k);
-  forced = λ s g k. forced_in (serials_at (half s j).flows g k);
+  sent = λ s g k. sent_in (flow_at (half s j).flows g k);
+  collected = λ s g k. collected_in (flow_at (half s j).flows g k);
+  forced = λ s g k. forced_in (flow_at (half s j).flows g k);
 }

@@ -2,14 +2,14 @@
 use Rattle.std.specs.Prelude.{ℕ, Option, Some, None}
 use Rattle.lagmodel.specs.World.{Side}
 use Rattle.lagsystem.specs.State.{SystemValue as System}
-use Rattle.lagworld.specs.State.{WorldState, Serials, WorldValue, half, pick, serials_at}
+use Rattle.lagworld.specs.State.{WorldState, FlowValue, WorldValue, half, by_side, flow_at}
 
 -- the record of a conversation of an aggregator of a system, if it exists
-abbrev pub serials_of_system : Option Side → ℕ → ℕ → WorldState → Option Serials
-serials_of_system None g k j = None
-serials_of_system (Some s) g k j = serials_at (half s j).flows g k
+abbrev pub flow_of_system : Option Side → ℕ → ℕ → WorldState → Option FlowValue
+flow_of_system None g k j = None
+flow_of_system (Some s) g k j = flow_at (half s j).flows g k
 
 -- the system of the world with this number, if there is one
 abbrev pub system_at : {F : Type 0} → Option Side → WorldValue F → Option (System F)
 system_at None w = None
-system_at (Some s) w = Some (record { state = (half s w.state).state; algorithm = pick s w.one w.two })
+system_at (Some s) w = Some (record { state = (half s w.state).state; algorithm = by_side s w.one w.two })

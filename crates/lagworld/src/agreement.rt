@@ -1,8 +1,8 @@
 ghost use Rattle.std.specs.Prelude.{◌≡◌};
-ghost use Rattle.lagworld.specs.Agreement.{agreement_at, agreement_of, end_facts, first_of_five, is_stamp, same_groups};
+ghost use Rattle.lagworld.specs.Agreement.{agreement_at, agreement_of, end_facts, first_agreement, is_stamp, same_groups};
 ghost use Rattle.lagworld.specs.WorldCalls.{world_state};
 ghost use Rattle.lagworld.specs.Inner.{half_state};
-ghost use Rattle.lagworld.specs.State.{count_in, taken_in};
+ghost use Rattle.lagworld.specs.State.{change_count_in, taken_in};
 
 use crate::half::Half;
 use crate::histories::{PortHistory, StampedLacpdu, history_of};
@@ -39,8 +39,8 @@ pub(crate) struct EndFacts {
 }
 
 /// The change count in a history; 0 if there is none.
-fn count_in(history: Option<PortHistory>) -> u64
-    ensures { result ≡ count_in history }
+fn change_count_in(history: Option<PortHistory>) -> u64
+    ensures { result ≡ change_count_in history }
 {
     match history {
         Some(history) => history.count,
@@ -63,7 +63,7 @@ fn is_stamp(count: u64, taken: Option<StampedLacpdu>) -> bool
     ensures { result ≡ is_stamp count taken }
 {
     match taken {
-        Some(heard) => heard.stamp == count,
+        Some(lacpdu) => lacpdu.stamp == count,
         None => false,
     }
 }
@@ -79,8 +79,8 @@ fn same_groups(one: Option<Group>, two: Option<Group>) -> bool
 }
 
 /// The first variant whose condition holds; `Differ` if none does.
-fn first_of_five(not_both: bool, defaults: bool, changed: bool, same: bool) -> Agreement
-    ensures { result ≡ first_of_five not_both defaults changed same }
+fn first_agreement(not_both: bool, defaults: bool, changed: bool, same: bool) -> Agreement
+    ensures { result ≡ first_agreement not_both defaults changed same }
 {
     if not_both {
         return Agreement::NotBoth;
@@ -104,8 +104,8 @@ fn agreement_of(one: &EndFacts, two: &EndFacts) -> Agreement
 {
     let both = one.distributes && two.distributes;
     let defaults = one.defaulted || two.defaulted;
-    let heard = is_stamp(one.count, two.taken) && is_stamp(two.count, one.taken);
-    first_of_five(!both, defaults, !heard, same_groups(one.group, two.group))
+    let lacpdu = is_stamp(one.count, two.taken) && is_stamp(two.count, one.taken);
+    first_agreement(!both, defaults, !lacpdu, same_groups(one.group, two.group))
 }
 
 impl<F: Fn(u16, usize) -> usize + Drop> Half<F> {
@@ -117,7 +117,7 @@ impl<F: Fn(u16, usize) -> usize + Drop> Half<F> {
         EndFacts {
             distributes: self.system.distributes(port).unwrap_or(false),
             defaulted: self.system.defaulted(port).unwrap_or(false),
-            count: count_in(history),
+            count: change_count_in(history),
             taken: taken_in(history),
             group: self.system.group(port),
         }
@@ -132,7 +132,7 @@ impl<C: Cable, F: Fn(u16, usize) -> usize + Drop> Inner<C, F> {
         if !self.has_cable(Some(cable)) {
             return None;
         }
-        let status = link_status(&self.links, self.place_of(cable));
+        let status = link_status(&self.links, self.link_index_of(cable));
         let one = self.one.end_facts(status.one);
         let two = self.two.end_facts(status.two);
         Some(agreement_of(&one, &two))

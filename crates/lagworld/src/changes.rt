@@ -23,9 +23,9 @@ fn count_changes<F: Fn(u16, usize) -> usize + Drop>(
     requires { AreBelow most_events histories.old.items }
     ensures { histories.new.items ≡ map (change_counted system.now.state) histories.old.items }
 {
-    for place in 0..histories.len() {
-        let history = &mut histories[place];
-        history.note_party(system.party(history.number));
+    for index in 0..histories.len() {
+        let history = &mut histories[index];
+        history.record_party(system.party(history.number));
     }
 }
 

@@ -2,11 +2,11 @@ ghost use Rattle.std.specs.Prelude.{◌≡◌, ◌+◌, ◌≤◌, ◌<◌, ℕ,
 ghost use Rattle.slowpdu.specs.declared.pdu.Lacpdu.{Lacpdu};
 ghost use Rattle.slowpdu.specs.Lacpdus.{Reads};
 ghost use Rattle.lagworld.specs.declared.fault.WorldFault.TheVariants.{NoMemory as OutOfMemory};
-ghost use Rattle.lagworld.specs.Arriving.{ReceivesItem, Concludes, WorldDelivers, ReceivesFirst, ReceivesFirstIn, CarriesLacpdu, CanCollectFor, IsToKeep, IsReady, WorldRepeats, first_head, head_in, is_data, last_lacpdu_kept, history_place, without_first};
-ghost use Rattle.lagworld.specs.Events.{collected, has_cable, stamped_in, puts, set_last_lacpdu};
+ghost use Rattle.lagworld.specs.Arriving.{HalfReceives, Concludes, WorldDelivers, HalfReceivesFirst, WorldReceivesFirst, CarriesLacpdu, CanCollectFor, IsToRecord, HasPlacesForItem, WorldRepeats, first_head, head_in, is_data, last_lacpdu_recorded, history_index, without_first};
+ghost use Rattle.lagworld.specs.Events.{with_stamp_collected, has_cable, stamped_in, with_item_sent, set_last_lacpdu};
 ghost use Rattle.lagworld.specs.WorldCalls.{world_state};
 ghost use Rattle.lagworld.specs.Inner.{half_state, link_state, link_states};
-ghost use Rattle.lagworld.specs.Messages.{carried, stamp_count, side_named};
+ghost use Rattle.lagworld.specs.Messages.{item_value, stamp_count, side_named};
 ghost use Rattle.lagworld.specs.Places.{IsReserved, is_reserved};
 ghost use Rattle.lagworld.specs.Sides.{model_side};
 ghost use Rattle.lagworld.specs.Sound.{both_algorithms};
@@ -14,14 +14,14 @@ ghost use Rattle.lagworld.specs.State.{is_accepted, port_at, towards};
 
 use crate::causes::{Side, side_named};
 use crate::collecting::{collect, reserve_collected};
-use crate::emitting::{FRAME_LEN, filled};
+use crate::emitting::{CONTROL_FRAME_LENGTH, filled};
 use crate::fault::WorldFault;
 use crate::half::Half;
 use crate::histories::{PortHistory, StampedLacpdu};
 use crate::inner::Inner;
 use crate::link::Link;
 use crate::reply::Reply;
-use crate::sending::{put, reserve_on};
+use crate::sending::{put_on_port, reserve_on};
 use cables::{Cable, Item, Stamp};
 use lagsystem::{Received, SystemFault};
 use slowpdu::{Kind, Lacpdu, Pdu, classify, decode};
@@ -45,7 +45,7 @@ fn is_data(stamp: Stamp) -> bool
     }
 }
 
-/// The count in the stamp of a control frame, which is 0 unless that is an LACPDU; 0 for data.
+/// For an LACPDU, the change count in its stamp: how often its sender's parameters had changed. 0 for any other frame.
 fn stamp_count(stamp: Stamp) -> u64
     ensures { result ≡ stamp_count stamp }
 {
@@ -79,7 +79,7 @@ fn carried_lacpdu(octets: &[u8]) -> Option<Lacpdu>
 
 /// The LACPDU in an item, if there is one, with its stamp.
 fn stamped_in(item: &Item) -> Option<StampedLacpdu>
-    ensures { (v : Lacpdu) → CarriesLacpdu item.now.bytes.items v → result ≡ Some (stamped_in (carried item.now)) }
+    ensures { (v : Lacpdu) → CarriesLacpdu item.now.bytes.items v → result ≡ Some (stamped_in (item_value item.now)) }
 {
     match carried_lacpdu(&item.bytes) {
         Some(pdu) => {
@@ -91,8 +91,8 @@ fn stamped_in(item: &Item) -> Option<StampedLacpdu>
 }
 
 /// The LACPDU to record for the port that received this item, if the system's answer is that it was received.
-fn lacpdu_to_keep(answer: Result<Received, SystemFault>, item: &Item) -> Option<StampedLacpdu>
-    ensures { IsToKeep answer (carried item.now) result }
+fn lacpdu_to_record(answer: Result<Received, SystemFault>, item: &Item) -> Option<StampedLacpdu>
+    ensures { IsToRecord answer (item_value item.now) result }
 {
     match answer {
         Ok(Received::TookLacpdu) => stamped_in(item),
@@ -107,29 +107,29 @@ fn lacpdu_to_keep(answer: Result<Received, SystemFault>, item: &Item) -> Option<
 }
 
 /// The index of the history of a port.
-fn history_place(histories: &[PortHistory], port: u16) -> Option<usize>
-    ensures place { result ≡ history_place port histories.now }
-    ensures within { IfSome result (λ place. place < length histories.now) }
+fn history_index(histories: &[PortHistory], port: u16) -> Option<usize>
+    ensures index { result ≡ history_index port histories.now }
+    ensures within { IfSome result (λ index. index < length histories.now) }
 {
     histories.iter().position(|history| history.number == port)
 }
 
 /// Records that a port received this LACPDU.
-fn set_last_lacpdu(histories: &mut Vec<PortHistory>, port: u16, heard: StampedLacpdu)
-    ensures { histories.new.items ≡ set_last_lacpdu port heard histories.old.items }
+fn set_last_lacpdu(histories: &mut Vec<PortHistory>, port: u16, lacpdu: StampedLacpdu)
+    ensures { histories.new.items ≡ set_last_lacpdu port lacpdu histories.old.items }
 {
-    match history_place(histories, port) {
-        Some(place) => histories[place].taken = Some(heard),
+    match history_index(histories, port) {
+        Some(index) => histories[index].taken = Some(lacpdu),
         None => {}
     }
 }
 
 /// Records that a port received this LACPDU, if there is one.
-fn keep_last_lacpdu(histories: &mut Vec<PortHistory>, port: u16, heard: Option<StampedLacpdu>)
-    ensures { histories.new.items ≡ last_lacpdu_kept port heard histories.old.items }
+fn record_last_lacpdu(histories: &mut Vec<PortHistory>, port: u16, lacpdu: Option<StampedLacpdu>)
+    ensures { histories.new.items ≡ last_lacpdu_recorded port lacpdu histories.old.items }
 {
-    match heard {
-        Some(heard) => set_last_lacpdu(histories, port, heard),
+    match lacpdu {
+        Some(lacpdu) => set_last_lacpdu(histories, port, lacpdu),
         None => {}
     }
 }
@@ -137,13 +137,13 @@ fn keep_last_lacpdu(histories: &mut Vec<PortHistory>, port: u16, heard: Option<S
 impl<F: Fn(u16, usize) -> usize + Drop> Half<F> {
     /// An item arrives on a port of this system.
     fn receive(&mut self, port: u16, item: &Item) -> Result<Received, SystemFault>
-        ensures comes { ReceivesItem (F.post self.old.system.algorithm) port (carried item.now) result (half_state self.old) (half_state self.new) }
+        ensures comes { HalfReceives (F.post self.old.system.algorithm) port (item_value item.now) result (half_state self.old) (half_state self.new) }
         ensures algorithm { self.new.system.algorithm ≡ self.old.system.algorithm }
         ensures flows { self.new.flows ≡ self.old.flows }
     {
         let answer = self.system.receive(port, &item.bytes);
-        let heard = lacpdu_to_keep(answer, item);
-        keep_last_lacpdu(&mut self.histories, port, heard);
+        let lacpdu = lacpdu_to_record(answer, item);
+        record_last_lacpdu(&mut self.histories, port, lacpdu);
         answer
     }
 
@@ -153,7 +153,7 @@ impl<F: Fn(u16, usize) -> usize + Drop> Half<F> {
         cable: &C,
         port: u16,
     ) -> Option<Result<Received, SystemFault>>
-        ensures comes { ReceivesFirst (F.post self.old.system.algorithm) port (map carried (C.items cable.now)) result (half_state self.old)
+        ensures comes { HalfReceivesFirst (F.post self.old.system.algorithm) port (map item_value (C.items cable.now)) result (half_state self.old)
             (half_state self.new) }
         ensures algorithm { self.new.system.algorithm ≡ self.old.system.algorithm }
         ensures flows { self.new.flows ≡ self.old.flows }
@@ -167,7 +167,7 @@ impl<F: Fn(u16, usize) -> usize + Drop> Half<F> {
 
 /// What is read of the first item on a cable that will arrive on this port.
 fn first_head<C: Cable>(cable: &C, port: u16) -> Option<Head>
-    ensures { result ≡ first_head port (map carried (C.items cable.now)) }
+    ensures { result ≡ first_head port (map item_value (C.items cable.now)) }
 {
     match cable.front() {
         Some(item) => Some(Head {
@@ -190,8 +190,8 @@ impl<C: Cable> Link<C> {
     }
 
     /// Takes the first item on this cable towards a system off.
-    fn take(&mut self, side: Side) -> Option<Item>
-        ensures first { option_map carried result ≡ slice_get (towards (model_side side) (link_state C.items C.limit self.old)) 0 }
+    fn pop_first(&mut self, side: Side) -> Option<Item>
+        ensures first { option_map item_value result ≡ slice_get (towards (model_side side) (link_state C.items C.limit self.old)) 0 }
         ensures rest { link_state C.items C.limit self.new ≡ without_first (model_side side) (link_state C.items C.limit self.old) }
         ensures reserved { is_reserved C.reserved (model_side side) self.new ≡ is_reserved C.reserved (model_side side) self.old }
     {
@@ -203,31 +203,31 @@ impl<C: Cable> Link<C> {
 }
 
 /// What is read of the first item towards a system, on the cable at an index.
-fn head_of<C: Cable>(links: &Vec<Link<C>>, side: Side, place: usize) -> Option<Head>
-    requires { place < length links.now.items }
-    ensures { IsSomeAnd (slice_get (link_states C.items C.limit links.now.items) place) (λ l. result ≡ head_in (model_side side) l) }
+fn head_of<C: Cable>(links: &Vec<Link<C>>, side: Side, index: usize) -> Option<Head>
+    requires { index < length links.now.items }
+    ensures { IsSomeAnd (slice_get (link_states C.items C.limit links.now.items) index) (λ l. result ≡ head_in (model_side side) l) }
 {
-    let line = &links[place];
-    line.head(side)
+    let link = &links[index];
+    link.head(side)
 }
 
 /// Takes the first item towards a system off the cable at an index. A place that is reserved for what this system sends
 /// stays reserved.
-pub(crate) fn take_first<C: Cable>(
+pub(crate) fn pop_first_at<C: Cable>(
     links: &mut Vec<Link<C>>,
     side: Side,
-    place: usize,
+    index: usize,
 ) -> Option<Item>
-    requires { place < length links.old.items }
-    ensures taken { IsSomeAnd (slice_get (link_states C.items C.limit links.old.items) place)
-        (λ l. (option_map carried result ≡ slice_get (towards (model_side side) l) 0)
-        × (link_states C.items C.limit links.new.items ≡ slice_set (link_states C.items C.limit links.old.items) place
+    requires { index < length links.old.items }
+    ensures taken { IsSomeAnd (slice_get (link_states C.items C.limit links.old.items) index)
+        (λ l. (option_map item_value result ≡ slice_get (towards (model_side side) l) 0)
+        × (link_states C.items C.limit links.new.items ≡ slice_set (link_states C.items C.limit links.old.items) index
         (without_first (model_side side) l))) }
     ensures reserved { (p : ℕ) → IsReserved C.items C.limit C.reserved (model_side side) p links.old.items
         → IsReserved C.items C.limit C.reserved (model_side side) p links.new.items }
 {
-    let line = &mut links[place];
-    line.take(side)
+    let link = &mut links[index];
+    link.pop_first(side)
 }
 
 impl<C: Cable, F: Fn(u16, usize) -> usize + Drop> Inner<C, F> {
@@ -256,27 +256,27 @@ impl<C: Cable, F: Fn(u16, usize) -> usize + Drop> Inner<C, F> {
 
     /// Reserves all memory that an arriving item may need: the octets of a response, a place for the response on the
     /// cable of the port, and a place for a serial number. Returns the memory for the octets.
-    fn make_room(&mut self, side: Side, head: Head) -> Result<Vec<u8>, WorldFault>
+    fn reserve_for_item(&mut self, side: Side, head: Head) -> Result<Vec<u8>, WorldFault>
         ensures refused { IfErr result (λ fault. fault ≡ OutOfMemory) }
         ensures same { world_state C.items C.limit self.new ≡ world_state C.items C.limit self.old }
-        ensures ready { OnOk result (IsReady C.items C.limit C.reserved (model_side side) head self.new) }
+        ensures ready { OnOk result (HasPlacesForItem C.items C.limit C.reserved (model_side side) head self.new) }
         ensures empty { IfOk result (λ bytes. bytes.items ≡ []) }
         ensures room { IfOk result (λ bytes. vec_len bytes + 124 ≤ vec_capacity bytes) }
         ensures acted { self.new.acted ≡ self.old.acted }
         ensures algorithm_one { self.new.one.system.algorithm ≡ self.old.one.system.algorithm }
         ensures algorithm_two { self.new.two.system.algorithm ≡ self.old.two.system.algorithm }
     {
-        let bytes = Vec::with_capacity(self.alloc, FRAME_LEN)?;
+        let bytes = Vec::with_capacity(self.alloc, CONTROL_FRAME_LENGTH)?;
         reserve_on(&mut self.links, side, head.port)?;
         self.reserve_collected(head.stamp)?;
         Ok(bytes)
     }
 
     /// The first item towards a system on the cable at an index arrives, if there is one.
-    fn receive_first(&mut self, side: Side, place: usize) -> Option<Result<Received, SystemFault>>
-        requires { place < length self.old.links.items }
-        ensures heard { IsSomeAnd (slice_get (link_states C.items C.limit self.old.links.items) place)
-            (λ l. ReceivesFirstIn (both_algorithms (F.post self.old.one.system.algorithm) (F.post self.old.two.system.algorithm)) (model_side side)
+    fn receive_first(&mut self, side: Side, index: usize) -> Option<Result<Received, SystemFault>>
+        requires { index < length self.old.links.items }
+        ensures received { IsSomeAnd (slice_get (link_states C.items C.limit self.old.links.items) index)
+            (λ l. WorldReceivesFirst (both_algorithms (F.post self.old.one.system.algorithm) (F.post self.old.two.system.algorithm)) (model_side side)
             (port_at (model_side side) l) (towards (model_side side) l) result (world_state C.items C.limit self.old)
             (world_state C.items C.limit self.new)) }
         ensures links { self.new.links ≡ self.old.links }
@@ -286,10 +286,10 @@ impl<C: Cable, F: Fn(u16, usize) -> usize + Drop> Inner<C, F> {
         ensures algorithm_one { self.new.one.system.algorithm ≡ self.old.one.system.algorithm }
         ensures algorithm_two { self.new.two.system.algorithm ≡ self.old.two.system.algorithm }
     {
-        let line = &self.links[place];
+        let link = &self.links[index];
         match side {
-            Side::One => self.one.receive_first(&line.to_one, line.one),
-            Side::Two => self.two.receive_first(&line.to_two, line.two),
+            Side::One => self.one.receive_first(&link.to_one, link.one),
+            Side::Two => self.two.receive_first(&link.to_two, link.two),
         }
     }
 
@@ -299,7 +299,7 @@ impl<C: Cable, F: Fn(u16, usize) -> usize + Drop> Inner<C, F> {
         requires empty { bytes.items ≡ [] }
         requires room { vec_len bytes + 124 ≤ vec_capacity bytes }
         ensures accepted { result ≡ is_accepted (model_side side) port (link_states C.items C.limit self.old.links.items) }
-        ensures put { world_state C.items C.limit self.new ≡ puts (model_side side) port (record { octets = frame; stamp = Stamp.Control 0 })
+        ensures put { world_state C.items C.limit self.new ≡ with_item_sent (model_side side) port (record { octets = frame; stamp = Stamp.Control 0 })
             (world_state C.items C.limit self.old) }
         ensures acted { self.new.acted ≡ self.old.acted }
         ensures algorithm_one { self.new.one.system.algorithm ≡ self.old.one.system.algorithm }
@@ -309,13 +309,13 @@ impl<C: Cable, F: Fn(u16, usize) -> usize + Drop> Inner<C, F> {
             bytes: filled(bytes, &frame),
             stamp: Stamp::Control(0),
         };
-        put(&mut self.links, side, port, item)
+        put_on_port(&mut self.links, side, port, item)
     }
 
     /// Records that a data frame was handed up: its serial number counts as collected, for the system that sent it.
     fn collect(&mut self, stamp: Stamp)
         requires { CanCollectFor stamp self.old.one.flows.items self.old.two.flows.items }
-        ensures collected { world_state C.items C.limit self.new ≡ collected stamp (world_state C.items C.limit self.old) }
+        ensures collected { world_state C.items C.limit self.new ≡ with_stamp_collected stamp (world_state C.items C.limit self.old) }
         ensures acted { self.new.acted ≡ self.old.acted }
         ensures algorithm_one { self.new.one.system.algorithm ≡ self.old.one.system.algorithm }
         ensures algorithm_two { self.new.two.system.algorithm ≡ self.old.two.system.algorithm }
@@ -342,7 +342,7 @@ impl<C: Cable, F: Fn(u16, usize) -> usize + Drop> Inner<C, F> {
         answer: Result<Received, SystemFault>,
         bytes: Vec<u8>,
     ) -> Reply
-        requires ready { IsReady C.items C.limit C.reserved (model_side side) head self.old }
+        requires ready { HasPlacesForItem C.items C.limit C.reserved (model_side side) head self.old }
         requires empty { bytes.items ≡ [] }
         requires room { vec_len bytes + 124 ≤ vec_capacity bytes }
         ensures concludes { Concludes (model_side side) head.port head.stamp answer (world_state C.items C.limit self.old) result
@@ -381,15 +381,15 @@ impl<C: Cable, F: Fn(u16, usize) -> usize + Drop> Inner<C, F> {
         ensures algorithm_two { self.new.two.system.algorithm ≡ self.old.two.system.algorithm }
     {
         let side = side_named(system);
-        let place = self.place_of(cable);
-        let Some(head) = head_of(&self.links, side, place) else {
+        let index = self.link_index_of(cable);
+        let Some(head) = head_of(&self.links, side, index) else {
             return Ok(Reply::Empty);
         };
-        let bytes = self.make_room(side, head)?;
-        let Some(answer) = self.receive_first(side, place) else {
+        let bytes = self.reserve_for_item(side, head)?;
+        let Some(answer) = self.receive_first(side, index) else {
             return Ok(Reply::Empty);
         };
-        take_first(&mut self.links, side, place);
+        pop_first_at(&mut self.links, side, index);
         Ok(self.conclude(side, head, answer, bytes))
     }
 
@@ -406,15 +406,15 @@ impl<C: Cable, F: Fn(u16, usize) -> usize + Drop> Inner<C, F> {
         ensures algorithm_two { self.new.two.system.algorithm ≡ self.old.two.system.algorithm }
     {
         let side = side_named(system);
-        let place = self.place_of(cable);
-        let Some(head) = head_of(&self.links, side, place) else {
+        let index = self.link_index_of(cable);
+        let Some(head) = head_of(&self.links, side, index) else {
             return Ok(Reply::Empty);
         };
         if is_data(head.stamp) {
             return Ok(Reply::NotControl);
         }
-        let bytes = self.make_room(side, head)?;
-        let Some(answer) = self.receive_first(side, place) else {
+        let bytes = self.reserve_for_item(side, head)?;
+        let Some(answer) = self.receive_first(side, index) else {
             return Ok(Reply::Empty);
         };
         Ok(self.conclude(side, head, answer, bytes))

@@ -4,15 +4,15 @@ ghost use Rattle.slowpdu.specs.Pdus.{ReadsPdu};
 ghost use Rattle.slowpdu.specs.Readings.{pdu_in};
 ghost use Rattle.lagsystem.specs.ModelView.{IsSent};
 ghost use Rattle.lagworld.specs.declared.fault.WorldFault.TheVariants.{NoMemory as OutOfMemory};
-ghost use Rattle.lagworld.specs.Asking.{HalfTransmits, WorldTransmits};
-ghost use Rattle.lagworld.specs.Events.{Emits, Emitted, sent_reply, stamp_for};
+ghost use Rattle.lagworld.specs.Asking.{HalfAsksTransmit, WorldAsksTransmit};
+ghost use Rattle.lagworld.specs.Events.{WorldEmits, AfterTransmit, sent_reply, stamp_for};
 ghost use Rattle.lagworld.specs.WorldCalls.{world_state};
 ghost use Rattle.lagworld.specs.Inner.{half_state};
 ghost use Rattle.lagworld.specs.Messages.{payload_in, side_named};
 ghost use Rattle.lagworld.specs.Places.{IsReserved};
 ghost use Rattle.lagworld.specs.Sides.{model_side};
 ghost use Rattle.lagworld.specs.Sound.{both_algorithms};
-ghost use Rattle.lagworld.specs.State.{count_in, half, history_at};
+ghost use Rattle.lagworld.specs.State.{change_count_in, half, history_at};
 
 use crate::causes::{Side, side_named};
 use crate::fault::WorldFault;
@@ -20,13 +20,13 @@ use crate::half::Half;
 use crate::histories::{PortHistory, history_of};
 use crate::inner::Inner;
 use crate::reply::Reply;
-use crate::sending::{put, reserve_on};
+use crate::sending::{put_on_port, reserve_on};
 use cables::{Cable, Item, Stamp};
 use lagsystem::SystemFault;
 use slowpdu::{Pdu, decode};
 
 /// The length of a control frame in octets.
-pub(crate) const FRAME_LEN: usize = 124;
+pub(crate) const CONTROL_FRAME_LENGTH: usize = 124;
 
 /// The octets of a control frame before its payload.
 const HEADER_LEN: usize = 14;
@@ -65,7 +65,7 @@ fn sent_reply(pdu: Pdu, accepted: bool) -> Reply
 
 /// The change count of a port; 0 if there is no such port.
 fn change_count(histories: &[PortHistory], port: u16) -> u64
-    ensures { result ≡ count_in (history_at histories.now port) }
+    ensures { result ≡ change_count_in (history_at histories.now port) }
 {
     match history_of(histories, port) {
         Some(history) => history.count,
@@ -89,7 +89,7 @@ pub(crate) fn filled(octets: Vec<u8>, frame: &[u8]) -> Vec<u8>
 impl<F: Fn(u16, usize) -> usize + Drop> Half<F> {
     /// Returns the frame that is due on a port of this system.
     fn transmit(&mut self, port: u16) -> Result<Option<[u8; 124]>, SystemFault>
-        ensures transmits { HalfTransmits (F.post self.old.system.algorithm) port result (half_state self.old) (half_state self.new) }
+        ensures transmits { HalfAsksTransmit (F.post self.old.system.algorithm) port result (half_state self.old) (half_state self.new) }
         ensures algorithm { self.new.system.algorithm ≡ self.old.system.algorithm }
     {
         self.system.transmit(port)
@@ -99,7 +99,7 @@ impl<F: Fn(u16, usize) -> usize + Drop> Half<F> {
 impl<C: Cable, F: Fn(u16, usize) -> usize + Drop> Inner<C, F> {
     /// Returns the frame that is due on a port of a system.
     fn transmit(&mut self, side: Side, port: u16) -> Result<Option<[u8; 124]>, SystemFault>
-        ensures transmits { WorldTransmits (both_algorithms (F.post self.old.one.system.algorithm) (F.post self.old.two.system.algorithm))
+        ensures transmits { WorldAsksTransmit (both_algorithms (F.post self.old.one.system.algorithm) (F.post self.old.two.system.algorithm))
             (model_side side) port result (world_state C.items C.limit self.old) (world_state C.items C.limit self.new) }
         ensures links { self.new.links ≡ self.old.links }
         ensures acted { self.new.acted ≡ self.old.acted }
@@ -114,7 +114,7 @@ impl<C: Cable, F: Fn(u16, usize) -> usize + Drop> Inner<C, F> {
 
     /// The change count of a port of a system.
     fn change_count(&self, side: Side, port: u16) -> u64
-        ensures { result ≡ count_in (history_at (half (model_side side) (world_state C.items C.limit self.now)).histories port) }
+        ensures { result ≡ change_count_in (history_at (half (model_side side) (world_state C.items C.limit self.now)).histories port) }
     {
         match side {
             Side::One => change_count(&self.one.histories, port),
@@ -128,7 +128,7 @@ impl<C: Cable, F: Fn(u16, usize) -> usize + Drop> Inner<C, F> {
         requires place { IsReserved C.items C.limit C.reserved (model_side side) port self.old.links.items }
         requires empty { octets.items ≡ [] }
         requires room { vec_len octets + 124 ≤ vec_capacity octets }
-        ensures emitted { Emitted (model_side side) port (Ok (Some frame.now)) (world_state C.items C.limit self.old) result
+        ensures emitted { AfterTransmit (model_side side) port (Ok (Some frame.now)) (world_state C.items C.limit self.old) result
             (world_state C.items C.limit self.new) }
         ensures acted { self.new.acted ≡ self.old.acted }
         ensures algorithm_one { self.new.one.system.algorithm ≡ self.old.one.system.algorithm }
@@ -140,7 +140,7 @@ impl<C: Cable, F: Fn(u16, usize) -> usize + Drop> Inner<C, F> {
             bytes: filled(octets, frame),
             stamp: stamp_for(pdu, count),
         };
-        let accepted = put(&mut self.links, side, port, item);
+        let accepted = put_on_port(&mut self.links, side, port, item);
         sent_reply(pdu, accepted)
     }
 
@@ -149,7 +149,7 @@ impl<C: Cable, F: Fn(u16, usize) -> usize + Drop> Inner<C, F> {
         requires place { IsReserved C.items C.limit C.reserved (model_side side) port self.old.links.items }
         requires empty { octets.items ≡ [] }
         requires room { vec_len octets + 124 ≤ vec_capacity octets }
-        ensures emits { Emits (both_algorithms (F.post self.old.one.system.algorithm) (F.post self.old.two.system.algorithm)) (model_side side) port
+        ensures emits { WorldEmits (both_algorithms (F.post self.old.one.system.algorithm) (F.post self.old.two.system.algorithm)) (model_side side) port
             (world_state C.items C.limit self.old) result (world_state C.items C.limit self.new) }
         ensures acted { self.new.acted ≡ self.old.acted }
         ensures algorithm_one { self.new.one.system.algorithm ≡ self.old.one.system.algorithm }
@@ -164,7 +164,7 @@ impl<C: Cable, F: Fn(u16, usize) -> usize + Drop> Inner<C, F> {
 
     /// Sends what is due on a port of a system.
     pub(crate) fn emit(&mut self, system: u8, port: u16) -> Result<Reply, WorldFault>
-        ensures emits { IfOk result (λ reply. Emits (both_algorithms (F.post self.old.one.system.algorithm) (F.post self.old.two.system.algorithm))
+        ensures emits { IfOk result (λ reply. WorldEmits (both_algorithms (F.post self.old.one.system.algorithm) (F.post self.old.two.system.algorithm))
             (side_named system) port (world_state C.items C.limit self.old) reply (world_state C.items C.limit self.new)) }
         ensures refused { IfErr result (λ fault. fault ≡ OutOfMemory) }
         ensures unchanged { IfErr result (λ fault. world_state C.items C.limit self.new ≡ world_state C.items C.limit self.old) }
@@ -173,7 +173,7 @@ impl<C: Cable, F: Fn(u16, usize) -> usize + Drop> Inner<C, F> {
         ensures algorithm_two { self.new.two.system.algorithm ≡ self.old.two.system.algorithm }
     {
         let side = side_named(system);
-        let octets = Vec::with_capacity(self.alloc, FRAME_LEN)?;
+        let octets = Vec::with_capacity(self.alloc, CONTROL_FRAME_LENGTH)?;
         reserve_on(&mut self.links, side, port)?;
         Ok(self.emit_due(side, port, octets))
     }

@@ -1,5 +1,5 @@
 ghost use Rattle.std.specs.Prelude.{◌≡◌, ◌≤◌};
-ghost use Rattle.lagworld.specs.HalfCalls.{party_noted};
+ghost use Rattle.lagworld.specs.HalfCalls.{with_party_recorded};
 ghost use Rattle.lagworld.specs.Events.{most_events};
 ghost use Rattle.lagworld.specs.State.{history_at};
 
@@ -28,9 +28,9 @@ pub(crate) struct PortHistory {
 
 impl PortHistory {
     /// Records the port's own parameters after an event; the change count is one more if they differ.
-    pub(crate) fn note_party(&mut self, party: Option<Party>)
+    pub(crate) fn record_party(&mut self, party: Option<Party>)
         requires { self.old.count ≤ most_events }
-        ensures { self.new ≡ party_noted party self.old }
+        ensures { self.new ≡ with_party_recorded party self.old }
     {
         let same = match party {
             Some(party) => party.matches(&self.party),

@@ -2,8 +2,8 @@ ghost use Rattle.std.specs.Prelude.{◌≡◌, ◌<◌, ◌+◌, IfErr, IfOk, No
 ghost use Rattle.lagworld.specs.declared.reply.Reply.{Reply};
 ghost use Rattle.lagworld.specs.Inner.{link_states};
 ghost use Rattle.lagworld.specs.State.{cut, joined};
-ghost use Rattle.distributor.specs.Calls.{PicksPlaces};
-ghost use Rattle.lagworld.specs.Events.{DoesEvent, OnLink, Steps, set_at, cause, fault_for, has_cable, may_take_memory};
+ghost use Rattle.distributor.specs.Calls.{PicksIndexes};
+ghost use Rattle.lagworld.specs.Events.{DoesEvent, OnLink, WorldSteps, with_link_at, cause, cause_or_no_memory, has_cable, may_take_memory};
 ghost use Rattle.lagworld.specs.declared.fault.WorldFault.TheVariants.{NoMemory as OutOfMemory};
 ghost use Rattle.lagworld.specs.WorldCalls.{WorldMoves, WorldSenses, WorldTicks, world_state};
 ghost use Rattle.lagworld.specs.Messages.{side_named};
@@ -55,13 +55,13 @@ impl<C: Cable, F: Fn(u16, usize) -> usize + Drop> Inner<C, F> {
 
     /// Plays an event, or refuses it.
     pub(crate) fn step(&mut self, event: &Event) -> Result<Reply, WorldFault>
-        requires one { PicksPlaces (F.pre self.old.one.system.algorithm) (F.post self.old.one.system.algorithm) }
-        requires two { PicksPlaces (F.pre self.old.two.system.algorithm) (F.post self.old.two.system.algorithm) }
+        requires one { PicksIndexes (F.pre self.old.one.system.algorithm) (F.post self.old.one.system.algorithm) }
+        requires two { PicksIndexes (F.pre self.old.two.system.algorithm) (F.post self.old.two.system.algorithm) }
         requires sound { IsSound (world_state C.items C.limit self.old) }
         ensures accepted { IfOk result (λ reply. cause (world_state C.items C.limit self.old) event.now ≡ None) }
-        ensures steps { IfOk result (λ reply. Steps (both_algorithms (F.post self.old.one.system.algorithm) (F.post self.old.two.system.algorithm))
+        ensures steps { IfOk result (λ reply. WorldSteps (both_algorithms (F.post self.old.one.system.algorithm) (F.post self.old.two.system.algorithm))
             (world_state C.items C.limit self.old) event.now reply (world_state C.items C.limit self.new)) }
-        ensures refused { IfErr result (λ fault. fault ≡ fault_for (cause (world_state C.items C.limit self.old) event.now)) }
+        ensures refused { IfErr result (λ fault. fault ≡ cause_or_no_memory (cause (world_state C.items C.limit self.old) event.now)) }
         ensures memory { IfErr result (λ fault. cause (world_state C.items C.limit self.old) event.now ≡ None
             → may_take_memory event.now ≡ true) }
         ensures unchanged { IfErr result (λ fault. world_state C.items C.limit self.new ≡ world_state C.items C.limit self.old) }
@@ -79,8 +79,8 @@ impl<C: Cable, F: Fn(u16, usize) -> usize + Drop> Inner<C, F> {
 
     /// Plays an event whose system and cable exist.
     fn play(&mut self, event: &Event) -> Result<Reply, WorldFault>
-        requires one { PicksPlaces (F.pre self.old.one.system.algorithm) (F.post self.old.one.system.algorithm) }
-        requires two { PicksPlaces (F.pre self.old.two.system.algorithm) (F.post self.old.two.system.algorithm) }
+        requires one { PicksIndexes (F.pre self.old.one.system.algorithm) (F.post self.old.one.system.algorithm) }
+        requires two { PicksIndexes (F.pre self.old.two.system.algorithm) (F.post self.old.two.system.algorithm) }
         requires sound { IsSound (world_state C.items C.limit self.old) }
         requires accepted { cause (world_state C.items C.limit self.old) event.now ≡ None }
         ensures does { IfOk result (λ reply. DoesEvent (both_algorithms (F.post self.old.one.system.algorithm) (F.post self.old.two.system.algorithm))
@@ -143,13 +143,13 @@ impl<C: Cable, F: Fn(u16, usize) -> usize + Drop> Inner<C, F> {
     }
 
     /// The index of a cable that exists.
-    pub(crate) fn place_of(&self, cable: u16) -> usize
+    pub(crate) fn link_index_of(&self, cable: u16) -> usize
         requires { has_cable (world_state C.items C.limit self.now) (Some cable) ≡ true }
         ensures at { cable ≡ result + 1 }
         ensures within { result < length self.now.links.items }
     {
         match usize::from(cable).checked_sub(1) {
-            Some(place) => place,
+            Some(index) => index,
             None => 0,
         }
     }
@@ -158,14 +158,14 @@ impl<C: Cable, F: Fn(u16, usize) -> usize + Drop> Inner<C, F> {
     fn cut(&mut self, cable: u16) -> Reply
         requires there { has_cable (world_state C.items C.limit self.old) (Some cable) ≡ true }
         ensures cut { OnLink cable (λ i l. (result ≡ Reply.Cut)
-            × (world_state C.items C.limit self.new ≡ set_at i (cut l) (world_state C.items C.limit self.old)))
+            × (world_state C.items C.limit self.new ≡ with_link_at i (cut l) (world_state C.items C.limit self.old)))
             (link_states C.items C.limit self.old.links.items) }
         ensures acted { self.new.acted ≡ self.old.acted }
         ensures algorithm_one { self.new.one.system.algorithm ≡ self.old.one.system.algorithm }
         ensures algorithm_two { self.new.two.system.algorithm ≡ self.old.two.system.algorithm }
     {
-        let place = self.place_of(cable);
-        cut_at(&mut self.links, place);
+        let index = self.link_index_of(cable);
+        cut_at(&mut self.links, index);
         Reply::Cut
     }
 
@@ -173,14 +173,14 @@ impl<C: Cable, F: Fn(u16, usize) -> usize + Drop> Inner<C, F> {
     fn join(&mut self, cable: u16) -> Reply
         requires there { has_cable (world_state C.items C.limit self.old) (Some cable) ≡ true }
         ensures joined { OnLink cable (λ i l. (result ≡ Reply.Joined)
-            × (world_state C.items C.limit self.new ≡ set_at i (joined l) (world_state C.items C.limit self.old)))
+            × (world_state C.items C.limit self.new ≡ with_link_at i (joined l) (world_state C.items C.limit self.old)))
             (link_states C.items C.limit self.old.links.items) }
         ensures acted { self.new.acted ≡ self.old.acted }
         ensures algorithm_one { self.new.one.system.algorithm ≡ self.old.one.system.algorithm }
         ensures algorithm_two { self.new.two.system.algorithm ≡ self.old.two.system.algorithm }
     {
-        let place = self.place_of(cable);
-        join_at(&mut self.links, place);
+        let index = self.link_index_of(cable);
+        join_at(&mut self.links, index);
         Reply::Joined
     }
 
@@ -193,8 +193,8 @@ impl<C: Cable, F: Fn(u16, usize) -> usize + Drop> Inner<C, F> {
         ensures algorithm_one { self.new.one.system.algorithm ≡ self.old.one.system.algorithm }
         ensures algorithm_two { self.new.two.system.algorithm ≡ self.old.two.system.algorithm }
     {
-        let place = self.place_of(cable);
-        let status = link_status(&self.links, place);
+        let index = self.link_index_of(cable);
+        let status = link_status(&self.links, index);
         match side_named(system) {
             Side::One => self.one.sense(status.one, status.whole),
             Side::Two => self.two.sense(status.two, status.whole),

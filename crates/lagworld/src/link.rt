@@ -45,24 +45,24 @@ impl<C: Cable> Link<C> {
 }
 
 /// Cuts the cable at an index.
-pub(crate) fn cut_at<C: Cable>(links: &mut Vec<Link<C>>, place: usize)
-    requires { place < length links.old.items }
-    ensures { IsSomeAnd (slice_get (link_states C.items C.limit links.old.items) place)
-        (λ l. link_states C.items C.limit links.new.items ≡ slice_set (link_states C.items C.limit links.old.items) place (cut l)) }
+pub(crate) fn cut_at<C: Cable>(links: &mut Vec<Link<C>>, index: usize)
+    requires { index < length links.old.items }
+    ensures { IsSomeAnd (slice_get (link_states C.items C.limit links.old.items) index)
+        (λ l. link_states C.items C.limit links.new.items ≡ slice_set (link_states C.items C.limit links.old.items) index (cut l)) }
 {
-    let line = &mut links[place];
-    line.cut();
+    let link = &mut links[index];
+    link.cut();
 }
 
 /// Makes the cable at an index whole again. What was on it when it was cut stays lost, and its ports learn it only by
 /// Sense.
-pub(crate) fn join_at<C: Cable>(links: &mut Vec<Link<C>>, place: usize)
-    requires { place < length links.old.items }
-    ensures { IsSomeAnd (slice_get (link_states C.items C.limit links.old.items) place)
-        (λ l. link_states C.items C.limit links.new.items ≡ slice_set (link_states C.items C.limit links.old.items) place (joined l)) }
+pub(crate) fn join_at<C: Cable>(links: &mut Vec<Link<C>>, index: usize)
+    requires { index < length links.old.items }
+    ensures { IsSomeAnd (slice_get (link_states C.items C.limit links.old.items) index)
+        (λ l. link_states C.items C.limit links.new.items ≡ slice_set (link_states C.items C.limit links.old.items) index (joined l)) }
 {
-    let line = &mut links[place];
-    line.join();
+    let link = &mut links[index];
+    link.join();
 }
 
 /// What a system learns about a cable: the ports that it joins, and whether it is whole.
@@ -74,16 +74,16 @@ pub(crate) struct LinkStatus {
 }
 
 /// What a system learns about the cable at an index.
-pub(crate) fn link_status<C: Cable>(links: &Vec<Link<C>>, place: usize) -> LinkStatus
-    requires { place < length links.now.items }
-    ensures { IsSomeAnd (slice_get (link_states C.items C.limit links.now.items) place) (λ l. (result.one ≡ l.one) × (result.two ≡ l.two)
+pub(crate) fn link_status<C: Cable>(links: &Vec<Link<C>>, index: usize) -> LinkStatus
+    requires { index < length links.now.items }
+    ensures { IsSomeAnd (slice_get (link_states C.items C.limit links.now.items) index) (λ l. (result.one ≡ l.one) × (result.two ≡ l.two)
         × (result.whole ≡ l.whole)) }
 {
-    let line = &links[place];
+    let link = &links[index];
     LinkStatus {
-        one: line.one,
-        two: line.two,
-        whole: line.whole,
+        one: link.one,
+        two: link.two,
+        whole: link.whole,
     }
 }
 
@@ -91,8 +91,8 @@ pub(crate) fn link_status<C: Cable>(links: &Vec<Link<C>>, place: usize) -> LinkS
 pub(crate) fn empty_all<C: Cable>(links: &mut Vec<Link<C>>)
     ensures { link_states C.items C.limit links.new.items ≡ map emptied (link_states C.items C.limit links.old.items) }
 {
-    for place in 0..links.len() {
-        let line = &mut links[place];
-        line.empty();
+    for index in 0..links.len() {
+        let link = &mut links[index];
+        link.empty();
     }
 }

@@ -3,7 +3,7 @@ ghost use Rattle.lagworld.specs.Asking.{WorldLoses, lost_reply, without_first};
 ghost use Rattle.lagworld.specs.Events.{has_cable};
 ghost use Rattle.lagworld.specs.WorldCalls.{world_state};
 ghost use Rattle.lagworld.specs.Inner.{link_state, link_states};
-ghost use Rattle.lagworld.specs.Messages.{carried, side_named};
+ghost use Rattle.lagworld.specs.Messages.{item_value, side_named};
 ghost use Rattle.lagworld.specs.Sides.{model_side};
 ghost use Rattle.lagworld.specs.State.{towards};
 
@@ -15,8 +15,8 @@ use cables::Cable;
 
 /// Takes the first item off; returns whether there was one.
 fn lose_first<C: Cable>(cable: &mut C) -> bool
-    ensures lost { result ≡ is_some (slice_get (map carried (C.items cable.old)) 0) }
-    ensures rest { map carried (C.items cable.new) ≡ drop 1 (map carried (C.items cable.old)) }
+    ensures lost { result ≡ is_some (slice_get (map item_value (C.items cable.old)) 0) }
+    ensures rest { map item_value (C.items cable.new) ≡ drop 1 (map item_value (C.items cable.old)) }
     ensures limit { C.limit cable.new ≡ C.limit cable.old }
 {
     cable.pop().is_some()
@@ -36,14 +36,14 @@ impl<C: Cable> Link<C> {
 }
 
 /// Loses the first item towards a system on the cable at an index; returns whether there was one.
-fn lose_at<C: Cable>(links: &mut Vec<Link<C>>, place: usize, side: Side) -> bool
-    requires { place < length links.old.items }
-    ensures { IsSomeAnd (slice_get (link_states C.items C.limit links.old.items) place)
-        (λ l. (link_states C.items C.limit links.new.items ≡ slice_set (link_states C.items C.limit links.old.items) place
+fn lose_at<C: Cable>(links: &mut Vec<Link<C>>, index: usize, side: Side) -> bool
+    requires { index < length links.old.items }
+    ensures { IsSomeAnd (slice_get (link_states C.items C.limit links.old.items) index)
+        (λ l. (link_states C.items C.limit links.new.items ≡ slice_set (link_states C.items C.limit links.old.items) index
         (without_first (model_side side) l)) × (result ≡ is_some (slice_get (towards (model_side side) l) 0))) }
 {
-    let line = &mut links[place];
-    line.lose(side)
+    let link = &mut links[index];
+    link.lose(side)
 }
 
 /// The reply to `Lose`: whether there was an item to lose.
@@ -63,7 +63,7 @@ impl<C: Cable, F: Fn(u16, usize) -> usize + Drop> Inner<C, F> {
         ensures algorithm_two { self.new.two.system.algorithm ≡ self.old.two.system.algorithm }
     {
         let side = side_named(system);
-        let place = self.place_of(cable);
-        lost_reply(lose_at(&mut self.links, place, side))
+        let index = self.link_index_of(cable);
+        lost_reply(lose_at(&mut self.links, index, side))
     }
 }

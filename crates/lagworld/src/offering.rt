@@ -1,25 +1,25 @@
 ghost use Rattle.std.specs.Prelude.{◌≡◌, ◌<◌, ◌≤◌, IfErr, IfOk, IsSome, Ok, OnOk, length};
-ghost use Rattle.distributor.specs.Calls.{PicksPlaces};
+ghost use Rattle.distributor.specs.Calls.{PicksIndexes};
 ghost use Rattle.lagsystem.specs.Readers.{number_of_conversation, conversation_count};
 ghost use Rattle.lagworld.specs.declared.fault.WorldFault.TheVariants.{NoMemory as OutOfMemory};
-ghost use Rattle.lagworld.specs.Asking.{HalfAssigns, WorldAssigns, WorldForces, HalfFrees, count_sent_in};
+ghost use Rattle.lagworld.specs.Asking.{HalfAsksOffer, WorldAsksOffer, WorldForces, HalfAsksForce, with_sent_in};
 ghost use Rattle.lagworld.specs.HalfCalls.{HalfForces};
-ghost use Rattle.lagworld.specs.Events.{Offered, OffersFrame};
+ghost use Rattle.lagworld.specs.Events.{AfterOffer, WorldOffers};
 ghost use Rattle.lagworld.specs.WorldCalls.{world_state};
 ghost use Rattle.lagworld.specs.Inner.{half_state};
 ghost use Rattle.lagworld.specs.Messages.{side_named, side_number};
 ghost use Rattle.lagworld.specs.Places.{AreReserved, HasRoom};
 ghost use Rattle.lagworld.specs.Sides.{model_side};
 ghost use Rattle.lagworld.specs.Sound.{IsSound, both_algorithms};
-ghost use Rattle.lagworld.specs.State.{half, pick, sent_in, serials_at, with_half};
+ghost use Rattle.lagworld.specs.State.{half, by_side, sent_in, flow_at, with_half};
 
 use crate::causes::{Side, side_named};
 use crate::fault::WorldFault;
 use crate::half::Half;
 use crate::inner::Inner;
 use crate::reply::Reply;
-use crate::sending::{put, reserve_all};
-use crate::serials::{count_forced, count_sent, reserve_serial};
+use crate::sending::{put_on_port, reserve_all};
+use crate::serials::{record_force, record_frame_sent, reserve_serial};
 use cables::{Cable, Item, Stamp};
 use lagsystem::SystemFault;
 use lagtypes::AggId;
@@ -48,9 +48,9 @@ impl<F: Fn(u16, usize) -> usize + Drop> Half<F> {
     }
 
     /// Offers a frame to an aggregator of this system; returns the port to send it on.
-    fn assign(&mut self, agg: AggId, frame: &[u8]) -> Result<u16, SystemFault>
-        requires { PicksPlaces (F.pre self.old.system.algorithm) (F.post self.old.system.algorithm) }
-        ensures assigns { HalfAssigns (F.post self.old.system.algorithm) agg frame.now result (half_state self.old) (half_state self.new) }
+    fn ask_offer(&mut self, agg: AggId, frame: &[u8]) -> Result<u16, SystemFault>
+        requires { PicksIndexes (F.pre self.old.system.algorithm) (F.post self.old.system.algorithm) }
+        ensures assigns { HalfAsksOffer (F.post self.old.system.algorithm) agg frame.now result (half_state self.old) (half_state self.new) }
         ensures flows { self.new.flows ≡ self.old.flows }
         ensures algorithm { self.new.system.algorithm ≡ self.old.system.algorithm }
     {
@@ -58,8 +58,8 @@ impl<F: Fn(u16, usize) -> usize + Drop> Half<F> {
     }
 
     /// Asks this system to free a conversation of an aggregator at once.
-    fn free(&mut self, agg: AggId, conv: u16) -> Result<(), SystemFault>
-        ensures frees { HalfFrees (F.post self.old.system.algorithm) agg conv result (half_state self.old) (half_state self.new) }
+    fn ask_force(&mut self, agg: AggId, conv: u16) -> Result<(), SystemFault>
+        ensures frees { HalfAsksForce (F.post self.old.system.algorithm) agg conv result (half_state self.old) (half_state self.new) }
         ensures algorithm { self.new.system.algorithm ≡ self.old.system.algorithm }
     {
         self.system.force(agg, conv)
@@ -70,9 +70,9 @@ impl<F: Fn(u16, usize) -> usize + Drop> Half<F> {
         ensures forces { HalfForces (F.post self.old.system.algorithm) agg conv (half_state self.old) result (half_state self.new) }
         ensures algorithm { self.new.system.algorithm ≡ self.old.system.algorithm }
     {
-        match self.free(agg, conv) {
+        match self.ask_force(agg, conv) {
             Ok(()) => {
-                count_forced(&mut self.flows, agg, conv);
+                record_force(&mut self.flows, agg, conv);
                 Reply::Forced
             }
             Err(fault) => Reply::Refused(fault),
@@ -108,10 +108,10 @@ impl<C: Cable, F: Fn(u16, usize) -> usize + Drop> Inner<C, F> {
     }
 
     /// The port of a system to send a frame on.
-    fn assign(&mut self, side: Side, agg: AggId, frame: &[u8]) -> Result<u16, SystemFault>
-        requires one { PicksPlaces (F.pre self.old.one.system.algorithm) (F.post self.old.one.system.algorithm) }
-        requires two { PicksPlaces (F.pre self.old.two.system.algorithm) (F.post self.old.two.system.algorithm) }
-        ensures assigns { WorldAssigns (both_algorithms (F.post self.old.one.system.algorithm) (F.post self.old.two.system.algorithm))
+    fn ask_offer(&mut self, side: Side, agg: AggId, frame: &[u8]) -> Result<u16, SystemFault>
+        requires one { PicksIndexes (F.pre self.old.one.system.algorithm) (F.post self.old.one.system.algorithm) }
+        requires two { PicksIndexes (F.pre self.old.two.system.algorithm) (F.post self.old.two.system.algorithm) }
+        ensures assigns { WorldAsksOffer (both_algorithms (F.post self.old.one.system.algorithm) (F.post self.old.two.system.algorithm))
             (model_side side) agg frame.now result (world_state C.items C.limit self.old) (world_state C.items C.limit self.new) }
         ensures links { self.new.links ≡ self.old.links }
         ensures flows_one { self.new.one.flows ≡ self.old.one.flows }
@@ -121,15 +121,15 @@ impl<C: Cable, F: Fn(u16, usize) -> usize + Drop> Inner<C, F> {
         ensures algorithm_two { self.new.two.system.algorithm ≡ self.old.two.system.algorithm }
     {
         match side {
-            Side::One => self.one.assign(agg, frame),
-            Side::Two => self.two.assign(agg, frame),
+            Side::One => self.one.ask_offer(agg, frame),
+            Side::Two => self.two.ask_offer(agg, frame),
         }
     }
 
     /// Reserves a place for the next serial number of a conversation of a system, if the conversation exists.
     fn reserve_serial(&mut self, side: Side, agg: AggId, conv: u16) -> Result<(), AllocError>
         ensures same { world_state C.items C.limit self.new ≡ world_state C.items C.limit self.old }
-        ensures ok { OnOk result (HasRoom agg.0 conv (pick (model_side side) self.new.one.flows.items self.new.two.flows.items)) }
+        ensures ok { OnOk result (HasRoom agg.0 conv (by_side (model_side side) self.new.one.flows.items self.new.two.flows.items)) }
         ensures links { self.new.links ≡ self.old.links }
         ensures acted { self.new.acted ≡ self.old.acted }
         ensures algorithm_one { self.new.one.system.algorithm ≡ self.old.one.system.algorithm }
@@ -142,19 +142,19 @@ impl<C: Cable, F: Fn(u16, usize) -> usize + Drop> Inner<C, F> {
     }
 
     /// Records that a conversation of a system sends one more frame; returns the serial number of that frame.
-    fn count_sent(&mut self, side: Side, agg: AggId, conv: u16) -> u64
-        requires { HasRoom agg.0 conv (pick (model_side side) self.old.one.flows.items self.old.two.flows.items) }
-        ensures serial { result ≡ length (sent_in (serials_at (half (model_side side) (world_state C.items C.limit self.old)).flows agg.0 conv)) }
+    fn record_frame_sent(&mut self, side: Side, agg: AggId, conv: u16) -> u64
+        requires { HasRoom agg.0 conv (by_side (model_side side) self.old.one.flows.items self.old.two.flows.items) }
+        ensures serial { result ≡ length (sent_in (flow_at (half (model_side side) (world_state C.items C.limit self.old)).flows agg.0 conv)) }
         ensures sent { world_state C.items C.limit self.new ≡ with_half (model_side side)
-            (count_sent_in agg.0 conv (half (model_side side) (world_state C.items C.limit self.old))) (world_state C.items C.limit self.old) }
+            (with_sent_in agg.0 conv (half (model_side side) (world_state C.items C.limit self.old))) (world_state C.items C.limit self.old) }
         ensures links { self.new.links ≡ self.old.links }
         ensures acted { self.new.acted ≡ self.old.acted }
         ensures algorithm_one { self.new.one.system.algorithm ≡ self.old.one.system.algorithm }
         ensures algorithm_two { self.new.two.system.algorithm ≡ self.old.two.system.algorithm }
     {
         match side {
-            Side::One => count_sent(&mut self.one.flows, agg, conv),
-            Side::Two => count_sent(&mut self.two.flows, agg, conv),
+            Side::One => record_frame_sent(&mut self.one.flows, agg, conv),
+            Side::Two => record_frame_sent(&mut self.two.flows, agg, conv),
         }
     }
 
@@ -168,16 +168,16 @@ impl<C: Cable, F: Fn(u16, usize) -> usize + Drop> Inner<C, F> {
         octets: Vec<u8>,
     ) -> Reply
         requires conversation { conv ≡ number_of_conversation (half (model_side side) (world_state C.items C.limit self.old)).state octets.items }
-        requires there { IsSome (serials_at (half (model_side side) (world_state C.items C.limit self.old)).flows agg.0 conv) }
+        requires there { IsSome (flow_at (half (model_side side) (world_state C.items C.limit self.old)).flows agg.0 conv) }
         requires place { AreReserved C.reserved (model_side side) self.old.links.items }
-        requires room { HasRoom agg.0 conv (pick (model_side side) self.old.one.flows.items self.old.two.flows.items) }
-        ensures offered { Offered (model_side side) agg octets.items (Ok port) (world_state C.items C.limit self.old) result
+        requires room { HasRoom agg.0 conv (by_side (model_side side) self.old.one.flows.items self.old.two.flows.items) }
+        ensures offered { AfterOffer (model_side side) agg octets.items (Ok port) (world_state C.items C.limit self.old) result
             (world_state C.items C.limit self.new) }
         ensures acted { self.new.acted ≡ self.old.acted }
         ensures algorithm_one { self.new.one.system.algorithm ≡ self.old.one.system.algorithm }
         ensures algorithm_two { self.new.two.system.algorithm ≡ self.old.two.system.algorithm }
     {
-        let serial = self.count_sent(side, agg, conv);
+        let serial = self.record_frame_sent(side, agg, conv);
         let stamp = Stamp::Data {
             system: side_number(side),
             agg: agg.0,
@@ -188,27 +188,27 @@ impl<C: Cable, F: Fn(u16, usize) -> usize + Drop> Inner<C, F> {
             bytes: octets,
             stamp,
         };
-        let accepted = put(&mut self.links, side, port, item);
+        let accepted = put_on_port(&mut self.links, side, port, item);
         Reply::Port(port, serial, accepted)
     }
 
     /// Offers a frame to a system. The places that this needs are reserved.
     fn offer_reserved(&mut self, side: Side, agg: AggId, conv: u16, octets: Vec<u8>) -> Reply
-        requires one { PicksPlaces (F.pre self.old.one.system.algorithm) (F.post self.old.one.system.algorithm) }
-        requires two { PicksPlaces (F.pre self.old.two.system.algorithm) (F.post self.old.two.system.algorithm) }
+        requires one { PicksIndexes (F.pre self.old.one.system.algorithm) (F.post self.old.one.system.algorithm) }
+        requires two { PicksIndexes (F.pre self.old.two.system.algorithm) (F.post self.old.two.system.algorithm) }
         requires sound { IsSound (world_state C.items C.limit self.old) }
         requires conversation { 14 ≤ length octets.items → conv
             ≡ number_of_conversation (half (model_side side) (world_state C.items C.limit self.old)).state octets.items }
         requires below { conv < conversation_count (half (model_side side) (world_state C.items C.limit self.old)).state }
         requires place { AreReserved C.reserved (model_side side) self.old.links.items }
-        requires room { HasRoom agg.0 conv (pick (model_side side) self.old.one.flows.items self.old.two.flows.items) }
-        ensures offers { OffersFrame (both_algorithms (F.post self.old.one.system.algorithm) (F.post self.old.two.system.algorithm))
+        requires room { HasRoom agg.0 conv (by_side (model_side side) self.old.one.flows.items self.old.two.flows.items) }
+        ensures offers { WorldOffers (both_algorithms (F.post self.old.one.system.algorithm) (F.post self.old.two.system.algorithm))
             (model_side side) agg octets.items (world_state C.items C.limit self.old) result (world_state C.items C.limit self.new) }
         ensures acted { self.new.acted ≡ self.old.acted }
         ensures algorithm_one { self.new.one.system.algorithm ≡ self.old.one.system.algorithm }
         ensures algorithm_two { self.new.two.system.algorithm ≡ self.old.two.system.algorithm }
     {
-        match self.assign(side, agg, octets.as_slice()) {
+        match self.ask_offer(side, agg, octets.as_slice()) {
             Err(fault) => Reply::Refused(fault),
             Ok(port) => self.send_offered(side, port, agg, conv, octets),
         }
@@ -221,10 +221,10 @@ impl<C: Cable, F: Fn(u16, usize) -> usize + Drop> Inner<C, F> {
         agg: AggId,
         frame: &Vec<u8>,
     ) -> Result<Reply, WorldFault>
-        requires one { PicksPlaces (F.pre self.old.one.system.algorithm) (F.post self.old.one.system.algorithm) }
-        requires two { PicksPlaces (F.pre self.old.two.system.algorithm) (F.post self.old.two.system.algorithm) }
+        requires one { PicksIndexes (F.pre self.old.one.system.algorithm) (F.post self.old.one.system.algorithm) }
+        requires two { PicksIndexes (F.pre self.old.two.system.algorithm) (F.post self.old.two.system.algorithm) }
         requires sound { IsSound (world_state C.items C.limit self.old) }
-        ensures offers { IfOk result (λ reply. OffersFrame (both_algorithms (F.post self.old.one.system.algorithm)
+        ensures offers { IfOk result (λ reply. WorldOffers (both_algorithms (F.post self.old.one.system.algorithm)
             (F.post self.old.two.system.algorithm)) (side_named system) agg frame.now.items (world_state C.items C.limit self.old) reply
             (world_state C.items C.limit self.new)) }
         ensures refused { IfErr result (λ fault. fault ≡ OutOfMemory) }

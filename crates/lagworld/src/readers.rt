@@ -3,9 +3,9 @@ ghost use Rattle.lagworld.specs.declared.agreement.Agreement.TheVariants.{Differ
 ghost use Rattle.lagworld.specs.Agreement.{agreement_at};
 ghost use Rattle.lagworld.specs.Events.{side_of};
 ghost use Rattle.lagworld.specs.WorldCalls.{world_state};
-ghost use Rattle.lagworld.specs.Inner.{serials_of};
-ghost use Rattle.lagworld.specs.Readers.{serials_of_system, system_at};
-ghost use Rattle.lagworld.specs.State.{collected_in, forced_in, sent_in, serials_at};
+ghost use Rattle.lagworld.specs.Inner.{flow_value};
+ghost use Rattle.lagworld.specs.Readers.{flow_of_system, system_at};
+ghost use Rattle.lagworld.specs.State.{collected_in, forced_in, sent_in, flow_at};
 
 use crate::agreement::Agreement;
 use crate::histories::Flow;
@@ -17,29 +17,29 @@ use lagtypes::AggId;
 
 /// The record of a conversation of an aggregator.
 fn flow_at(flows: &[Vec<Flow>], agg: AggId, conv: u16) -> Option<&Flow>
-    ensures { MatchOption result (serials_at (map (λ xs. map serials_of xs.items) flows.now) agg.0 conv ≡ None)
-        (λ flow. serials_at (map (λ xs. map serials_of xs.items) flows.now) agg.0 conv ≡ Some (serials_of flow.now)) }
+    ensures { MatchOption result (flow_at (map (λ xs. map flow_value xs.items) flows.now) agg.0 conv ≡ None)
+        (λ flow. flow_at (map (λ xs. map flow_value xs.items) flows.now) agg.0 conv ≡ Some (flow_value flow.now)) }
 {
-    let place = match usize::from(agg.0).checked_sub(1) {
-        Some(place) => place,
+    let index = match usize::from(agg.0).checked_sub(1) {
+        Some(index) => index,
         None => return None,
     };
-    if place >= flows.len() {
+    if index >= flows.len() {
         return None;
     }
-    let row = &flows[place];
+    let conversations = &flows[index];
     let conv = usize::from(conv);
-    if conv >= row.len() {
+    if conv >= conversations.len() {
         return None;
     }
-    Some(&row[conv])
+    Some(&conversations[conv])
 }
 
 impl<C: Cable, F: Fn(u16, usize) -> usize + Drop> Inner<C, F> {
     /// The record of a conversation of an aggregator of a system.
     fn flow(&self, system: u8, agg: AggId, conv: u16) -> Option<&Flow>
-        ensures { MatchOption result (serials_of_system (side_of system) agg.0 conv (world_state C.items C.limit self.now) ≡ None)
-            (λ flow. serials_of_system (side_of system) agg.0 conv (world_state C.items C.limit self.now) ≡ Some (serials_of flow.now)) }
+        ensures { MatchOption result (flow_of_system (side_of system) agg.0 conv (world_state C.items C.limit self.now) ≡ None)
+            (λ flow. flow_of_system (side_of system) agg.0 conv (world_state C.items C.limit self.now) ≡ Some (flow_value flow.now)) }
     {
         if system == 1 {
             return flow_at(&self.one.flows, agg, conv);
@@ -64,7 +64,7 @@ impl<C: Cable, F: Fn(u16, usize) -> usize + Drop> World<C, F> {
     /// The serial numbers of the frames that a conversation of a system sent, lost ones too: 0, 1, 2 and so on. Empty
     /// if there is no such system, aggregator or conversation (profile).
     pub fn sent(&self, system: u8, agg: AggId, conv: u16) -> &[u64]
-        ensures { result.now ≡ sent_in (serials_of_system (side_of system) agg.0 conv self.now.state) }
+        ensures { result.now ≡ sent_in (flow_of_system (side_of system) agg.0 conv self.now.state) }
     {
         match self.inner.flow(system, agg, conv) {
             Some(flow) => &flow.sent,
@@ -75,7 +75,7 @@ impl<C: Cable, F: Fn(u16, usize) -> usize + Drop> World<C, F> {
     /// The serial numbers of this conversation's frames that the other system handed up, in that order. Empty if there
     /// is no such system, aggregator or conversation (profile).
     pub fn collected(&self, system: u8, agg: AggId, conv: u16) -> &[u64]
-        ensures { result.now ≡ collected_in (serials_of_system (side_of system) agg.0 conv self.now.state) }
+        ensures { result.now ≡ collected_in (flow_of_system (side_of system) agg.0 conv self.now.state) }
     {
         match self.inner.flow(system, agg, conv) {
             Some(flow) => &flow.collected,
@@ -86,7 +86,7 @@ impl<C: Cable, F: Fn(u16, usize) -> usize + Drop> World<C, F> {
     /// Whether a `Force` event for the conversation was ever accepted. False if there is no such system, aggregator or
     /// conversation (profile).
     pub fn forced(&self, system: u8, agg: AggId, conv: u16) -> bool
-        ensures { result ≡ forced_in (serials_of_system (side_of system) agg.0 conv self.now.state) }
+        ensures { result ≡ forced_in (flow_of_system (side_of system) agg.0 conv self.now.state) }
     {
         match self.inner.flow(system, agg, conv) {
             Some(flow) => flow.forced,

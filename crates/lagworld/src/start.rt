@@ -1,10 +1,10 @@
 ghost use Rattle.std.specs.Prelude.{◌≡◌, [], ◌∷◌, None, IfErr, IfOk, IfSome, length, map};
-ghost use Rattle.distributor.specs.Calls.{PicksPlaces};
+ghost use Rattle.distributor.specs.Calls.{PicksIndexes};
 ghost use Rattle.lagsystem.specs.First.{config_refusal as refusal_of_one};
-ghost use Rattle.lagsystem.specs.Sound.{Agrees};
+ghost use Rattle.lagsystem.specs.Sound.{PortsAgree};
 ghost use Rattle.lagworld.specs.WorldCalls.{world_state};
-ghost use Rattle.lagworld.specs.Inner.{half_state, link_states, serials_of};
-ghost use Rattle.lagworld.specs.Making.{IsFirstHalf, IsMade, RefusesToMake, are_lines, conversations_per_aggregator, first_flows, first_links, first_history, first_histories, first_row, is_empty_line, nothing_sent, refusal_with};
+ghost use Rattle.lagworld.specs.Inner.{half_state, link_states, flow_value};
+ghost use Rattle.lagworld.specs.Making.{IsFirstHalf, IsMade, RefusesToMake, are_empty_lines, conversations_per_aggregator, first_flows, first_links, first_history, first_histories, first_aggregator_flows, has_empty_directions, empty_flow, refusal_with};
 ghost use Rattle.lagworld.specs.Sound.{IsStart};
 ghost use Rattle.lagworld.specs.declared.fault.WorldFault.TheVariants.{NoMemory as OutOfMemory};
 
@@ -64,7 +64,7 @@ fn first_histories(
 
 /// The record of a conversation before any event.
 fn first_flow(alloc: Global) -> Flow
-    ensures { serials_of result ≡ nothing_sent }
+    ensures { flow_value result ≡ empty_flow }
 {
     Flow {
         sent: Vec::new(alloc),
@@ -74,28 +74,28 @@ fn first_flow(alloc: Global) -> Flow
 }
 
 /// The records of an aggregator's conversations before any event.
-fn first_row(alloc: Global) -> Result<Vec<Flow>, AllocError>
-    ensures { IfOk result (λ row. map serials_of row.items ≡ first_row) }
+fn first_aggregator_flows(alloc: Global) -> Result<Vec<Flow>, AllocError>
+    ensures { IfOk result (λ conversations. map flow_value conversations.items ≡ first_aggregator_flows) }
 {
     let count = conversations_per_aggregator();
-    let mut row = Vec::with_capacity(alloc, count)?;
+    let mut conversations = Vec::with_capacity(alloc, count)?;
     let mut made = 0;
     while made < count {
-        row.push_reserved(first_flow(alloc));
+        conversations.push_reserved(first_flow(alloc));
         made += 1;
     }
-    Ok(row)
+    Ok(conversations)
 }
 
 /// The records of this many aggregators before any event.
 fn first_flows(alloc: Global, count: usize) -> Result<Vec<Vec<Flow>>, AllocError>
-    ensures { IfOk result (λ rows. map (λ xs. map serials_of xs.items) rows.items ≡ first_flows count) }
+    ensures { IfOk result (λ rows. map (λ xs. map flow_value xs.items) rows.items ≡ first_flows count) }
 {
     let mut rows = Vec::with_capacity(alloc, count)?;
     let mut made = 0;
     while made < count {
-        let row = first_row(alloc)?;
-        rows.push_reserved(row);
+        let conversations = first_aggregator_flows(alloc)?;
+        rows.push_reserved(conversations);
         made += 1;
     }
     Ok(rows)
@@ -104,10 +104,10 @@ fn first_flows(alloc: Global, count: usize) -> Result<Vec<Vec<Flow>>, AllocError
 impl<F: Fn(u16, usize) -> usize + Drop> Half<F> {
     /// A system in its first state, with its histories and records. The configuration is one that is accepted.
     fn new(alloc: Global, config: Config, algorithm: F) -> Result<Half<F>, WorldFault>
-        requires usable { PicksPlaces (F.pre algorithm) (F.post algorithm) }
+        requires usable { PicksIndexes (F.pre algorithm) (F.post algorithm) }
         requires accepted { refusal_of_one config ≡ None }
         ensures first { IfOk result (λ end. IsFirstHalf config (half_state end)) }
-        ensures agrees { IfOk result (λ end. Agrees end.system.state) }
+        ensures agrees { IfOk result (λ end. PortsAgree end.system.state) }
         ensures algorithm { IfOk result (λ end. end.system.algorithm ≡ algorithm) }
         ensures refused { IfErr result (λ fault. fault ≡ OutOfMemory) }
     {
@@ -125,21 +125,21 @@ impl<F: Fn(u16, usize) -> usize + Drop> Half<F> {
 }
 
 /// Whether both directions of a cable are empty.
-fn is_empty_line<C: Cable>(line: &(C, C)) -> bool
-    ensures { result ≡ is_empty_line C.items line.now }
+fn has_empty_directions<C: Cable>(directions: &(C, C)) -> bool
+    ensures { result ≡ has_empty_directions C.items directions.now }
 {
-    line.0.len() == 0 && line.1.len() == 0
+    directions.0.len() == 0 && directions.1.len() == 0
 }
 
 /// Whether there are as many lines as cables, and all are empty.
-fn are_lines<C: Cable>(cables: &[(u16, u16)], lines: &[(C, C)]) -> bool
-    ensures { result ≡ are_lines C.items cables.now lines.now }
+fn are_empty_lines<C: Cable>(cables: &[(u16, u16)], lines: &[(C, C)]) -> bool
+    ensures { result ≡ are_empty_lines C.items cables.now lines.now }
 {
     if lines.len() != cables.len() {
         return false;
     }
-    for line in lines {
-        if !is_empty_line(line) {
+    for directions in lines {
+        if !has_empty_directions(directions) {
             return false;
         }
     }
@@ -156,9 +156,9 @@ fn first_links<C: Cable>(
     ensures { IfOk result (λ made. link_states C.items C.limit made.items ≡ first_links C.items C.limit cables.now lines.items) }
 {
     let mut made = Vec::with_capacity(alloc, cables.len())?;
-    for line in lines {
+    for directions in lines {
         let ends = cables[made.len()];
-        let (to_one, to_two) = line;
+        let (to_one, to_two) = directions;
         made.push_reserved(Link {
             one: ends.0,
             two: ends.1,
@@ -189,8 +189,8 @@ impl<C: Cable, F: Fn(u16, usize) -> usize + Drop> Inner<C, F> {
         two: F,
         lines: Vec<(C, C)>,
     ) -> Result<Inner<C, F>, WorldFault>
-        requires one { PicksPlaces (F.pre one) (F.post one) }
-        requires two { PicksPlaces (F.pre two) (F.post two) }
+        requires one { PicksIndexes (F.pre one) (F.post one) }
+        requires two { PicksIndexes (F.pre two) (F.post two) }
         ensures accepted { IfOk result (λ inner. refusal_with C.items config lines.items ≡ None) }
         ensures made { IfOk result (λ inner. IsMade C.items C.limit config lines.items (world_state C.items C.limit inner)) }
         ensures start { IfOk result (λ inner. IsStart (world_state C.items C.limit inner)) }
@@ -201,7 +201,7 @@ impl<C: Cable, F: Fn(u16, usize) -> usize + Drop> Inner<C, F> {
         if let Some(reason) = config.refusal() {
             return Err(WorldFault::BadConfig(reason));
         }
-        if !are_lines(&config.cables, &lines) {
+        if !are_empty_lines(&config.cables, &lines) {
             return Err(WorldFault::BadConfig(BadWorld::Lines));
         }
         let links = first_links(alloc, &config.cables, lines)?;

@@ -1,10 +1,10 @@
 ghost use Rattle.std.specs.Prelude.{◌≡◌, IfErr, IfOk, OnErr, None, true};
-ghost use Rattle.distributor.specs.Calls.{PicksPlaces};
+ghost use Rattle.distributor.specs.Calls.{PicksIndexes};
 ghost use Rattle.lagmodel.specs.World.{Side, Happens};
-ghost use Rattle.lagmodel.specs.Law.{OnePartner, Agree, InOrder};
-ghost use Rattle.lagworld.specs.Events.{Runs, Steps, cause, fault_for, may_take_memory, model_event};
+ghost use Rattle.lagmodel.specs.Law.{OnePartner, EndsAgree, InOrder};
+ghost use Rattle.lagworld.specs.Events.{WorldRuns, WorldSteps, cause, cause_or_no_memory, may_take_memory, model_event};
 ghost use Rattle.lagworld.specs.Making.{IsMade, RefusesToMake, refusal_with};
-ghost use Rattle.lagworld.specs.Sound.{HeadlineFacts, IsSound, IsStart, RunStops, WorldRun, both_algorithms};
+ghost use Rattle.lagworld.specs.Sound.{HeadlineFacts, IsSound, IsStart, RunStops, RunsInModel, both_algorithms};
 ghost use Rattle.lagworld.specs.ModelWorld.{world_setup, model_world};
 
 use crate::fault::{RunFault, WorldFault};
@@ -48,8 +48,8 @@ impl<C: Cable, F: Fn(u16, usize) -> usize + Drop> World<C, F> {
         two: F,
         lines: Vec<(C, C)>,
     ) -> Result<World<C, F>, WorldFault>
-        requires one { PicksPlaces (F.pre one) (F.post one) }
-        requires two { PicksPlaces (F.pre two) (F.post two) }
+        requires one { PicksIndexes (F.pre one) (F.post one) }
+        requires two { PicksIndexes (F.pre two) (F.post two) }
         ensures accepted { IfOk result (λ world. refusal_with C.items config lines.items ≡ None) }
         ensures made { IfOk result (λ world. IsMade C.items C.limit config lines.items world.state) }
         ensures start { IfOk result (λ world. IsStart world.state) }
@@ -66,14 +66,14 @@ impl<C: Cable, F: Fn(u16, usize) -> usize + Drop> World<C, F> {
     /// Deliver, Repeat and Offer may take memory. What a system refuses is not a fault but the reply `Refused`
     /// (profile).
     pub fn step(&mut self, event: &Event) -> Result<Reply, WorldFault>
-        requires one { PicksPlaces (F.pre self.old.one) (F.post self.old.one) }
-        requires two { PicksPlaces (F.pre self.old.two) (F.post self.old.two) }
+        requires one { PicksIndexes (F.pre self.old.one) (F.post self.old.one) }
+        requires two { PicksIndexes (F.pre self.old.two) (F.post self.old.two) }
         ensures accepted { IfOk result (λ reply. cause self.old.state event.now ≡ None) }
-        ensures steps { IfOk result (λ reply. Steps (both_algorithms (F.post self.old.one) (F.post self.old.two)) self.old.state event.now reply
+        ensures steps { IfOk result (λ reply. WorldSteps (both_algorithms (F.post self.old.one) (F.post self.old.two)) self.old.state event.now reply
             self.new.state) }
         ensures happens { IfOk result (λ reply. Happens (world_setup self.old.state) (model_event event.now) (model_world self.old.state)
             (model_world self.new.state)) }
-        ensures refused { IfErr result (λ fault. fault ≡ fault_for (cause self.old.state event.now)) }
+        ensures refused { IfErr result (λ fault. fault ≡ cause_or_no_memory (cause self.old.state event.now)) }
         ensures memory { IfErr result (λ fault. cause self.old.state event.now ≡ None → may_take_memory event.now ≡ true) }
         ensures unchanged { IfErr result (λ fault. self.new.state ≡ self.old.state) }
         ensures fixed { world_setup self.new.state ≡ world_setup self.old.state }
@@ -100,15 +100,15 @@ impl<C: Cable, F: Fn(u16, usize) -> usize + Drop> World<C, F> {
     ///   the LACPDU that its peer received last, and neither has a defaulted partner (`agree`);
     /// - what a conversation collected, if it was never forced, is a subsequence of what it sent (`in_order`).
     pub fn run(&mut self, events: &[Event]) -> Result<Vec<Reply>, RunFault>
-        requires one { PicksPlaces (F.pre self.old.one) (F.post self.old.one) }
-        requires two { PicksPlaces (F.pre self.old.two) (F.post self.old.two) }
-        ensures ran { IfOk result (λ replies. Runs (both_algorithms (F.post self.old.one) (F.post self.old.two)) self.old.state events.now
+        requires one { PicksIndexes (F.pre self.old.one) (F.post self.old.one) }
+        requires two { PicksIndexes (F.pre self.old.two) (F.post self.old.two) }
+        ensures ran { IfOk result (λ replies. WorldRuns (both_algorithms (F.post self.old.one) (F.post self.old.two)) self.old.state events.now
             replies.items self.new.state) }
-        ensures happened { IfOk result (λ replies. WorldRun self.old.state events.now self.new.state) }
+        ensures happened { IfOk result (λ replies. RunsInModel self.old.state events.now self.new.state) }
         ensures stopped { IfErr result (λ stop. RunStops (both_algorithms (F.post self.old.one) (F.post self.old.two)) self.old.state events.now stop
             self.new.state) }
         ensures one_partner { (s : Side) → OnePartner ((model_world self.new.state).view s) }
-        ensures agree { Agree (world_setup self.new.state) (model_world self.new.state) }
+        ensures agree { EndsAgree (world_setup self.new.state) (model_world self.new.state) }
         ensures in_order { InOrder (model_world self.new.state) }
         ensures carries { HeadlineFacts self.new.state }
         ensures sound { IsSound self.new.state }

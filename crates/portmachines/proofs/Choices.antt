@@ -9,8 +9,8 @@ use Rattle.portmachines.specs.declared.mux.MuxState.TheVariants.{Detached, Waiti
 use Rattle.portmachines.specs.declared.receive.ReceiveState.{ReceiveState}
 use Rattle.portmachines.specs.declared.receive.ReceiveState.TheVariants.{Initialize, PortDisabled, Expired, Defaulted, Current}
 use Rattle.portmachines.specs.Machines.{Machines}
-use Rattle.portmachines.specs.Rows.{Row, Fires, AtRest, Reaches, RunsToRest, in_order}
-use Rattle.portmachines.specs.Receive.{receive_rows, taking_rows, start_receive, current_while_expired, partner_not_synchronized}
+use Rattle.portmachines.specs.Rows.{Row, Fires, AtRest, FiresTimes, RunsToRest, in_order}
+use Rattle.portmachines.specs.Receive.{receive_rows, lacpdu_rows, start_receive, current_while_expired, partner_not_synchronized}
 use Rattle.portmachines.specs.Periodic.{periodic_table, periodic_rows, clear_ntt}
 use Rattle.portmachines.specs.Mux.{mux_rows, start_mux, partner_synchronized}
 use Rattle.portmachines.specs.Transmit.{count_down}
@@ -31,7 +31,7 @@ goes-more : (rows : List Row) (n : ℕ) (p q r : Machines) → Goes rows n p q �
 goes-more rows zero p q r run fired = (r, subst (λ (x : Machines). Fires rows x r) run fired, refl)
 goes-more rows (suc n) p q r run fired = (run.0, run.1, goes-more rows n run.0 q r run.2 fired)
 
-goes : (rows : List Row) (n : ℕ) (p q : Machines) → Reaches rows n p q → Goes rows n p q
+goes : (rows : List Row) (n : ℕ) (p q : Machines) → FiresTimes rows n p q → Goes rows n p q
 goes rows zero p q run = run
 goes rows (suc n) p q run = goes-more rows n p run.0 q (goes rows n p run.0 run.1) run.2
 
@@ -221,7 +221,7 @@ rest-linked p Expired enabled rest = and_left (current_while_expired p) (not ena
 rest-linked p Defaulted enabled rest = tt
 rest-linked p Current enabled rest = and_left (current_while_expired p) (not enabled) rest.1.1.1.1.0
 
-taking-one : (pdu : Lacpdu) (p q r : Machines) → Fires (taking_rows pdu) p q → Fires (taking_rows pdu) p r → q ≡ r
+taking-one : (pdu : Lacpdu) (p q r : Machines) → Fires (lacpdu_rows pdu) p q → Fires (lacpdu_rows pdu) p r → q ≡ r
 taking-one pdu p q r f g = elim f [ inl x ↦ elim g [ inl y ↦ x.1 ∙ sym y.1 | inr y ↦ absurd y ] | inr x ↦ absurd x ]
 
 -- each call has one effect
@@ -233,8 +233,8 @@ one_effect (Set_link enabled) old one other rest h k =
     settles_one IsSafe receive_rows receive-way (record old { enabled = enabled }) one other (rest-linked old old.receive enabled rest) h k
 one_effect (Take pdu) old one other rest h k =
     elim h [
-      | inl f ↦ elim k [ inl g ↦ taking-one pdu old one other f g | inr s ↦ absurd (none_fires (taking_rows pdu) old one s.0 f) ]
-      | inr s ↦ elim k [ inl g ↦ absurd (none_fires (taking_rows pdu) old other s.0 g) | inr t ↦ s.1 ∙ sym t.1 ]
+      | inl f ↦ elim k [ inl g ↦ taking-one pdu old one other f g | inr s ↦ absurd (none_fires (lacpdu_rows pdu) old one s.0 f) ]
+      | inr s ↦ elim k [ inl g ↦ absurd (none_fires (lacpdu_rows pdu) old other s.0 g) | inr t ↦ s.1 ∙ sym t.1 ]
     ]
 one_effect (Mux ready) old one other rest h k = settles_one Always (mux_rows ready) (mux-way ready) old one other tt h k
 one_effect Periodic old one other rest h k =

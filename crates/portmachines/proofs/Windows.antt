@@ -5,10 +5,10 @@ use Rattle.std.proofs.lemmas.Bool.Decides.{nat_tests}
 use Rattle.slowpdu.specs.declared.pdu.Lacpdu.{Lacpdu}
 use Rattle.portmachines.specs.Machines.{Machines}
 use Rattle.portmachines.specs.Rows.{FiresIfEnabled, RunsToRest}
-use Rattle.portmachines.specs.Receive.{receive_rows, taking_rows, start_receive}
+use Rattle.portmachines.specs.Receive.{receive_rows, lacpdu_rows, start_receive}
 use Rattle.portmachines.specs.Periodic.{RunsPeriodic, periodic_rows}
 use Rattle.portmachines.specs.Mux.{mux_rows}
-use Rattle.portmachines.specs.Transmit.{count_down, aged, is_due, sent}
+use Rattle.portmachines.specs.Transmit.{count_down, aged, is_due, after_sending}
 use Rattle.portmachines.specs.Start.{Starts}
 use Rattle.portmachines.proofs.Runs.{EachKeeps, Fires-keeps, Reaches-keeps}
 use Rattle.portmachines.specs.Calls.{PortCall, Tick, Transmit, Set_link, Take, Mux, Periodic, Select, Reinit}
@@ -31,7 +31,7 @@ mux-same ready = (λ p. refl, (λ p. refl, (λ p. refl, (λ p. refl, (λ p. refl
 periodic-same : EachKeeps ages_of periodic_rows
 periodic-same = (λ p. refl, (λ p. refl, (λ p. refl, (λ p. refl, (λ p. refl, (λ p. refl, (λ p. refl, tt)))))))
 
-taking-same : (pdu : Lacpdu) → EachKeeps ages_of (taking_rows pdu)
+taking-same : (pdu : Lacpdu) → EachKeeps ages_of (lacpdu_rows pdu)
 taking-same pdu = (λ p. refl, tt)
 
 -- counts
@@ -162,9 +162,9 @@ Inv-send now ages ticks few i = record {
 Inv-same : (now : ℕ) (p q : Machines) (ticks : List ℕ) → q.ages ≡ p.ages → Inv now p.ages ticks → Inv now q.ages ticks
 Inv-same now p q ticks e i = subst (λ ages. Inv now ages ticks) (sym e) i
 
-pub taking-ages : (pdu : Lacpdu) (p q : Machines) → FiresIfEnabled (taking_rows pdu) p q → q.ages ≡ p.ages
+pub taking-ages : (pdu : Lacpdu) (p q : Machines) → FiresIfEnabled (lacpdu_rows pdu) p q → q.ages ≡ p.ages
 taking-ages pdu p q h =
-    elim h [ inl fired ↦ Fires-keeps ages_of (taking_rows pdu) (taking-same pdu) p q fired | inr rest ↦ ap (λ (x : Machines). x.ages) rest.1 ]
+    elim h [ inl fired ↦ Fires-keeps ages_of (lacpdu_rows pdu) (taking-same pdu) p q fired | inr rest ↦ ap (λ (x : Machines). x.ages) rest.1 ]
 
 pub periodic-ages : (p q : Machines) → RunsPeriodic p q → q.ages ≡ p.ages
 periodic-ages p q h =
@@ -180,7 +180,7 @@ append-nil (x ∷ xs) = ap (λ ys. x ∷ ys) (append-nil xs)
 abbrev Continues : ℕ → List PortCall → Machines → Type 0
 Continues now calls mid = (before rest : List ℕ) → Inv now mid.ages before → SendsAtTicks now calls mid rest → KeepsWindow (before ++ rest)
 
-transmit-window : (now : ℕ) (calls : List PortCall) (old mid : Machines) (before ticks rest : List ℕ) (due : Bool) → is_due old ≡ due → Continues now calls mid → Inv now old.ages before → mid ≡ (if due then sent old else old) → SendsAtTicks now calls mid rest → ticks ≡ (if due then now ∷ rest else rest) → KeepsWindow (before ++ ticks)
+transmit-window : (now : ℕ) (calls : List PortCall) (old mid : Machines) (before ticks rest : List ℕ) (due : Bool) → is_due old ≡ due → Continues now calls mid → Inv now old.ages before → mid ≡ (if due then after_sending old else old) → SendsAtTicks now calls mid rest → ticks ≡ (if due then now ∷ rest else rest) → KeepsWindow (before ++ ticks)
 transmit-window now calls old mid before ticks rest true due go i e run t =
     let few = lt_from (length old.ages) 3 (and_right old.ntt _ due) in
     let next : Inv now mid.ages (before ++ now ∷ []) = subst (λ (p : Machines). Inv now p.ages (before ++ now ∷ [])) (sym e) (Inv-send now old.ages before few i) in

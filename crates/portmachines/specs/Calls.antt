@@ -5,10 +5,10 @@ use Rattle.lagtypes.specs.declared.party.Choice.{Choice}
 use Rattle.slowpdu.specs.declared.pdu.Lacpdu.{Lacpdu}
 use Rattle.portmachines.specs.Machines.{Machines}
 use Rattle.portmachines.specs.Rows.{AtRest, RunsToRest, FiresIfEnabled}
-use Rattle.portmachines.specs.Receive.{receive_rows, taking_rows}
+use Rattle.portmachines.specs.Receive.{receive_rows, lacpdu_rows}
 use Rattle.portmachines.specs.Periodic.{RunsPeriodic}
 use Rattle.portmachines.specs.Mux.{mux_rows}
-use Rattle.portmachines.specs.Transmit.{count_down, is_due, sent}
+use Rattle.portmachines.specs.Transmit.{count_down, is_due, after_sending}
 use Rattle.portmachines.specs.Start.{Starts}
 
 -- a call of a port
@@ -25,9 +25,9 @@ pub data PortCall : Type 0 where
 -- the relation that the contract of a call states between the port before and after it
 abbrev pub CallEffect : PortCall → Machines → Machines → Type 0
 CallEffect Tick old new = RunsToRest receive_rows (count_down old) new
-CallEffect (Transmit max_delay) old new = new ≡ (if is_due old then sent old else old)
+CallEffect (Transmit max_delay) old new = new ≡ (if is_due old then after_sending old else old)
 CallEffect (Set_link enabled) old new = RunsToRest receive_rows (record old { enabled = enabled }) new
-CallEffect (Take pdu) old new = FiresIfEnabled (taking_rows pdu) old new
+CallEffect (Take pdu) old new = FiresIfEnabled (lacpdu_rows pdu) old new
 CallEffect (Mux ready) old new = RunsToRest (mux_rows ready) old new
 CallEffect Periodic old new = RunsPeriodic old new
 CallEffect (Select choice) old new = new ≡ record old { choice = choice }

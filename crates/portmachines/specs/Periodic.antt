@@ -8,12 +8,12 @@ use Rattle.portmachines.specs.Rows.{Row, RunsToRest, in_order}
 use Rattle.portmachines.specs.Mux.{set_ntt}
 
 -- whether the two states are the same
-abbrev pub is_periodic : PeriodicState → PeriodicState → Bool
-is_periodic NoPeriodic NoPeriodic = true
-is_periodic Fast Fast = true
-is_periodic Slow Slow = true
-is_periodic PeriodicTx PeriodicTx = true
-is_periodic _ _ = false
+abbrev pub same_periodic_state : PeriodicState → PeriodicState → Bool
+same_periodic_state NoPeriodic NoPeriodic = true
+same_periodic_state Fast Fast = true
+same_periodic_state Slow Slow = true
+same_periodic_state PeriodicTx PeriodicTx = true
+same_periodic_state _ _ = false
 
 -- the link is down, or both ends are passive
 abbrev pub is_silent : Machines → Bool
@@ -43,19 +43,19 @@ periodic_row from guard to effect =
 abbrev pub periodic_table : List Row
 periodic_table =
     -- any but NO_PERIODIC; link down, or both ends passive; to NO_PERIODIC
-    periodic_row (λ s. not (is_periodic NoPeriodic s)) is_silent NoPeriodic (λ p. p)
+    periodic_row (λ s. not (same_periodic_state NoPeriodic s)) is_silent NoPeriodic (λ p. p)
     -- NO_PERIODIC; link up and one end active; to FAST; periodic_timer starts with 10 ticks
-    ∷ periodic_row (is_periodic NoPeriodic) (λ p. not (is_silent p)) Fast (start_periodic 10)
+    ∷ periodic_row (same_periodic_state NoPeriodic) (λ p. not (is_silent p)) Fast (start_periodic 10)
     -- FAST; periodic_timer expired; to PERIODIC_TX; NTT true
-    ∷ periodic_row (is_periodic Fast) timer_expired PeriodicTx set_ntt
+    ∷ periodic_row (same_periodic_state Fast) timer_expired PeriodicTx set_ntt
     -- FAST; partner has Long Timeout; to SLOW; periodic_timer starts with 300 ticks
-    ∷ periodic_row (is_periodic Fast) (λ p. not (partner_short p)) Slow (start_periodic 300)
+    ∷ periodic_row (same_periodic_state Fast) (λ p. not (partner_short p)) Slow (start_periodic 300)
     -- SLOW; periodic_timer expired, or partner has Short Timeout; to PERIODIC_TX; NTT true
-    ∷ periodic_row (is_periodic Slow) (λ p. timer_expired p || partner_short p) PeriodicTx set_ntt
+    ∷ periodic_row (same_periodic_state Slow) (λ p. timer_expired p || partner_short p) PeriodicTx set_ntt
     -- PERIODIC_TX; partner has Short Timeout; to FAST; periodic_timer starts with 10 ticks
-    ∷ periodic_row (is_periodic PeriodicTx) partner_short Fast (start_periodic 10)
+    ∷ periodic_row (same_periodic_state PeriodicTx) partner_short Fast (start_periodic 10)
     -- PERIODIC_TX; partner has Long Timeout; to SLOW; periodic_timer starts with 300 ticks
-    ∷ periodic_row (is_periodic PeriodicTx) (λ p. not (partner_short p)) Slow (start_periodic 300)
+    ∷ periodic_row (same_periodic_state PeriodicTx) (λ p. not (partner_short p)) Slow (start_periodic 300)
     ∷ []
 
 -- the rows are tried in this order (profile)
@@ -64,7 +64,7 @@ periodic_rows = in_order (λ p. false) periodic_table
 
 -- in NO_PERIODIC, NTT becomes false (profile)
 abbrev pub clear_ntt : Machines → Machines
-clear_ntt p = record p { ntt = not (is_periodic NoPeriodic p.periodic) && p.ntt }
+clear_ntt p = record p { ntt = not (same_periodic_state NoPeriodic p.periodic) && p.ntt }
 
 -- the machine runs until no row is enabled; then, in NO_PERIODIC, NTT becomes false
 abbrev pub RunsPeriodic : Machines → Machines → Type 0

@@ -122,8 +122,8 @@ abbrev pub is_maintained : Lacpdu → Machines → Bool
 is_maintained pdu p = (bits_of pdu.actor.state).activity || (p.active && (bits_of pdu.partner.state).activity)
 
 -- the value of the partner's Synchronization that recordPDU records
-abbrev pub says_synchronized : Lacpdu → Machines → Bool
-says_synchronized pdu p =
+abbrev pub recorded_synchronization : Lacpdu → Machines → Bool
+recorded_synchronization pdu p =
     (bits_of pdu.actor.state).synchronization
     && is_maintained pdu p
     && (same_party (party_of pdu.partner) p.party || not (bits_of pdu.actor.state).aggregation)
@@ -132,7 +132,7 @@ says_synchronized pdu p =
 abbrev pub record_pdu : Lacpdu → Machines → Machines
 record_pdu pdu p =
     record p {
-      partner = record pdu.actor { state = with_synchronization (says_synchronized pdu p) pdu.actor.state };
+      partner = record pdu.actor { state = with_synchronization (recorded_synchronization pdu p) pdu.actor.state };
       defaulted = false;
     }
 
@@ -141,8 +141,8 @@ abbrev pub start_current_while : Machines → Machines
 start_current_while p = record p { current_while = if p.short then 30 else 900; expired = false }
 
 -- the row for an LACPDU; one is processed only while the link is up
-abbrev pub taking_rows : Lacpdu → List Row
-taking_rows pdu =
+abbrev pub lacpdu_rows : Lacpdu → List Row
+lacpdu_rows pdu =
     -- EXPIRED, DEFAULTED, CURRENT; an LACPDU came; to CURRENT; update_Selected; update_NTT; recordPDU; current_while
     -- starts; Expired false
     receive_row (λ s. same_receive_state Expired s || same_receive_state Defaulted s || same_receive_state Current s) (λ p. p.enabled) Current

@@ -20,13 +20,13 @@ AtRest [] p = Unit {0}
 AtRest (row ∷ rows) p = IsFalse (row.enabled p) × AtRest rows p
 
 -- n rows fire, one after another
-abbrev pub Reaches : List Row → ℕ → Machines → Machines → Type 0
-Reaches rows zero old new = new ≡ old
-Reaches rows (suc n) old new = (mid : Machines) × Reaches rows n old mid × Fires rows mid new
+abbrev pub FiresTimes : List Row → ℕ → Machines → Machines → Type 0
+FiresTimes rows zero old new = new ≡ old
+FiresTimes rows (suc n) old new = (mid : Machines) × FiresTimes rows n old mid × Fires rows mid new
 
 -- rows fire until none is enabled
 abbrev pub RunsToRest : List Row → Machines → Machines → Type 0
-RunsToRest rows old new = (n : ℕ) × Reaches rows n old new × AtRest rows new
+RunsToRest rows old new = (n : ℕ) × FiresTimes rows n old new × AtRest rows new
 
 -- an enabled row fires; or none is enabled and nothing changes
 abbrev pub FiresIfEnabled : List Row → Machines → Machines → Type 0

@@ -15,8 +15,8 @@ abbrev pub Starts : Machines → Machines → Type 0
 Starts old new = (mid : Machines) × RunsToRest receive_rows (start_receive old) mid × (new ≡ start_mux mid)
 
 -- a port before its machines start: the link is down, and every timer is 0
-abbrev pub blank : Setup → Machines
-blank s =
+abbrev pub before_start : Setup → Machines
+before_start s =
     record {
       party = s.party;
       active = s.active;

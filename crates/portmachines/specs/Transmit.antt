@@ -27,8 +27,8 @@ abbrev pub is_due : Machines → Bool
 is_due p = p.ntt && nat_lt (length p.ages) 3
 
 -- sending an LACPDU adds the age 0 and makes NTT false
-abbrev pub sent : Machines → Machines
-sent p = record p { ntt = false; ages = p.ages ++ 0 ∷ [] }
+abbrev pub after_sending : Machines → Machines
+after_sending p = record p { ntt = false; ages = p.ages ++ 0 ∷ [] }
 
 -- Actor_State: the state octet of the port's own side
 abbrev pub actor_state : Machines → State

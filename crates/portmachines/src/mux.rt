@@ -1,6 +1,6 @@
 ghost use Rattle.std.specs.Prelude.{◌≡◌, ◌≤◌, ◌+◌};
 ghost use Rattle.std.specs.Bool.{OnTrue, OnFalse};
-ghost use Rattle.portmachines.specs.Rows.{Fires, AtRest, Reaches};
+ghost use Rattle.portmachines.specs.Rows.{Fires, AtRest, FiresTimes};
 ghost use Rattle.portmachines.specs.Mux.{mux_rows, start_mux, is_synchronized};
 ghost use Rattle.portmachines.specs.RowsToFire.{mux_rows_to_fire};
 
@@ -72,7 +72,7 @@ impl Machines {
 
     /// Fires mux rows until none is enabled, and returns how many fired, at most 3.
     pub(crate) fn fire_mux_rows(&mut self, ready: bool) -> u8
-        ensures fired { Reaches (mux_rows ready) result self.old self.new }
+        ensures fired { FiresTimes (mux_rows ready) result self.old self.new }
         ensures rest { AtRest (mux_rows ready) self.new }
         ensures few { result ≤ 3 }
     {

@@ -1,6 +1,6 @@
 ghost use Rattle.std.specs.Prelude.{◌≡◌, ◌+◌};
 ghost use Rattle.std.specs.Bool.{OnTrue, OnFalse};
-ghost use Rattle.portmachines.specs.Rows.{Fires, AtRest, Reaches};
+ghost use Rattle.portmachines.specs.Rows.{Fires, AtRest, FiresTimes};
 ghost use Rattle.portmachines.specs.Periodic.{periodic_rows, RunsPeriodic};
 ghost use Rattle.portmachines.specs.RowsToFire.{periodic_rows_to_fire};
 
@@ -58,7 +58,7 @@ impl Machines {
 
     /// Fires periodic rows until none is enabled, and returns how many fired.
     fn fire_periodic_rows(&mut self) -> u8
-        ensures fired { Reaches periodic_rows result self.old self.new }
+        ensures fired { FiresTimes periodic_rows result self.old self.new }
         ensures rest { AtRest periodic_rows self.new }
     {
         let mut fired = 0;

@@ -1,10 +1,10 @@
 ghost use Rattle.std.specs.Prelude.{◌≡◌, ◌≤◌, ◌==◌, if◌then◌else◌, Some, None};
-ghost use Rattle.portmachines.specs.Rows.{AtRest, Reaches, RunsToRest, FiresIfEnabled};
-ghost use Rattle.portmachines.specs.Receive.{receive_rows, taking_rows};
+ghost use Rattle.portmachines.specs.Rows.{AtRest, FiresTimes, RunsToRest, FiresIfEnabled};
+ghost use Rattle.portmachines.specs.Receive.{receive_rows, lacpdu_rows};
 ghost use Rattle.portmachines.specs.Periodic.{RunsPeriodic};
 ghost use Rattle.portmachines.specs.Mux.{mux_rows, same_mux_state};
-ghost use Rattle.portmachines.specs.Transmit.{actor_state, count_down, is_due, pdu_of, sent};
-ghost use Rattle.portmachines.specs.Start.{Starts, blank};
+ghost use Rattle.portmachines.specs.Transmit.{actor_state, count_down, is_due, pdu_of, after_sending};
+ghost use Rattle.portmachines.specs.Start.{Starts, before_start};
 ghost use Rattle.portmachines.specs.Calls.{OneEffect};
 
 use crate::machines::Machines;
@@ -50,7 +50,7 @@ impl Port {
     /// A port whose link is down and whose machines have started (BEGIN). NTT is true, as DETACHED sets it (6.4.12,
     /// 6.4.15).
     pub fn new(setup: Setup) -> Port
-        ensures { Starts (blank setup) result }
+        ensures { Starts (before_start setup) result }
     {
         let mut machines = Machines {
             party: setup.party,
@@ -85,9 +85,9 @@ impl Port {
 
     /// Processes an LACPDU that came on the port; while the link is down this has no effect (6.4.12).
     pub fn take(&mut self, pdu: &Lacpdu)
-        ensures { FiresIfEnabled (taking_rows pdu.now) self.old self.new }
+        ensures { FiresIfEnabled (lacpdu_rows pdu.now) self.old self.new }
     {
-        self.machines.take_lacpdu(pdu);
+        self.machines.process_lacpdu(pdu);
     }
 
     /// One tick, 100 ms: each timer counts down, each LACPDU sent becomes one tick older, and the receive machine
@@ -102,7 +102,7 @@ impl Port {
     /// Runs the mux machine until none of its rows is enabled, and returns how many fired, at most 3 (6.4.15). `ready`
     /// is the Ready of the aggregator that the port was given (6.4.8).
     pub fn mux(&mut self, ready: bool) -> u8
-        ensures fired { Reaches (mux_rows ready) result self.old self.new }
+        ensures fired { FiresTimes (mux_rows ready) result self.old self.new }
         ensures rest { AtRest (mux_rows ready) self.new }
         ensures few { result ≤ 3 }
     {
@@ -137,7 +137,7 @@ impl Port {
     /// else None. `max_delay` is its CollectorMaxDelay, in tens of microseconds (6.4.16).
     pub fn transmit(&mut self, max_delay: u16) -> Option<Lacpdu>
         ensures pdu { result ≡ (if is_due self.old then Some (pdu_of self.old max_delay) else None) }
-        ensures state { self.new ≡ (if is_due self.old then sent self.old else self.old) }
+        ensures state { self.new ≡ (if is_due self.old then after_sending self.old else self.old) }
     {
         self.machines.transmit_due(max_delay)
     }

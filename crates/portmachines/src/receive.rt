@@ -1,9 +1,9 @@
 ghost use Rattle.std.specs.Prelude.{◌≡◌, ◌+◌, if◌then◌else◌, true};
 ghost use Rattle.std.specs.Bool.{OnTrue, OnFalse};
-ghost use Rattle.portmachines.specs.Rows.{Fires, FiresIfEnabled, AtRest, Reaches, RunsToRest};
+ghost use Rattle.portmachines.specs.Rows.{Fires, FiresIfEnabled, AtRest, FiresTimes, RunsToRest};
 ghost use Rattle.portmachines.specs.Receive.{
   receive_rows,
-  taking_rows,
+  lacpdu_rows,
   partner_not_synchronized,
   enter_expired,
   enter_defaulted,
@@ -64,7 +64,7 @@ impl Machines {
 
     /// Fires receive rows until none is enabled, and returns how many fired.
     fn fire_receive_rows(&mut self) -> u8
-        ensures fired { Reaches receive_rows result self.old self.new }
+        ensures fired { FiresTimes receive_rows result self.old self.new }
         ensures rest { AtRest receive_rows self.new }
     {
         let mut fired = 0;
@@ -142,8 +142,8 @@ impl Machines {
     }
 
     /// Processes an LACPDU, if the link is up.
-    pub(crate) fn take_lacpdu(&mut self, pdu: &Lacpdu)
-        ensures { FiresIfEnabled (taking_rows pdu.now) self.old self.new }
+    pub(crate) fn process_lacpdu(&mut self, pdu: &Lacpdu)
+        ensures { FiresIfEnabled (lacpdu_rows pdu.now) self.old self.new }
     {
         if !self.enabled {
             return;
@@ -165,11 +165,11 @@ impl Machines {
     fn update_ntt(&mut self, pdu_partner: &Info)
         ensures { self.new ≡ record self.old { ntt = if partner_is_up_to_date pdu_partner.now self.old then self.old.ntt else true } }
     {
-        let known = pdu_partner.party().matches(&self.party)
+        let up_to_date = pdu_partner.party().matches(&self.party)
             && pdu_partner.state.is_active() == self.active
             && pdu_partner.state.is_short() == self.short
             && pdu_partner.state.is_synchronized() == self.mux.is_synchronized();
-        if !known {
+        if !up_to_date {
             self.ntt = true;
         }
     }

@@ -1,5 +1,5 @@
 ghost use Rattle.std.specs.Prelude.{◌≡◌, if◌then◌else◌, Some, None};
-ghost use Rattle.portmachines.specs.Transmit.{aged, is_due, pdu_of, sent};
+ghost use Rattle.portmachines.specs.Transmit.{aged, is_due, pdu_of, after_sending};
 ghost use Rattle.portmachines.specs.Window.{WindowLaw};
 
 use crate::machines::Machines;
@@ -11,7 +11,7 @@ impl Machines {
     /// ticks (6.4.16).
     pub(crate) fn transmit_due(&mut self, max_delay: u16) -> Option<Lacpdu>
         ensures pdu { result ≡ (if is_due self.old then Some (pdu_of self.old max_delay) else None) }
-        ensures state { self.new ≡ (if is_due self.old then sent self.old else self.old) }
+        ensures state { self.new ≡ (if is_due self.old then after_sending self.old else self.old) }
     {
         if !self.ntt || self.ages.is_full() {
             return None;

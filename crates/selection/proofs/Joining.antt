@@ -15,8 +15,8 @@ use Rattle.selection.specs.declared.view.PortView.{PortView}
 use Rattle.lagtypes.specs.Same.{same_system}
 use Rattle.lagtypes.specs.Choices.{is_unselected}
 use Rattle.selection.specs.Views.{is_detached, is_eligible, has_chosen}
-use Rattle.selection.specs.Choice.{choice_for, choice_of_view, ports_that_chose, has_group_of, has_member, is_empty, is_joinable, lowest_from, aggregator_in_row, or_else}
-use Rattle.selection.specs.Joining.{IsEmpty, IsShared, Joins, ends}
+use Rattle.selection.specs.Choice.{chosen_if_eligible, chosen_for_view, ports_that_chose, has_group_of, has_member, has_no_member, members_share_group, lowest_from, aggregator_of_entry, or_else}
+use Rattle.selection.specs.Joining.{HasNoMember, MembersShareGroup, MayJoin, ends}
 
 -- tests
 
@@ -76,11 +76,11 @@ record Found (first : ℕ) (keys : List Key) (key : Key) (test : AggId → Bool)
   passes : test agg ≡ true
 
 here : (first : ℕ) (k key : Key) (keys : List Key) (test : AggId → Bool) (agg : AggId) (rest : Option (ℕ × Key))
-    → (option_map aggregator_in_row rest ≡ Some agg → Found (first + 1) keys key test agg)
-    → (b t : Bool) → (k.0 == key.0) ≡ b → test (aggregator_in_row (first, k)) ≡ t
-    → option_map aggregator_in_row (cond (b && t) (Some (first, k)) rest) ≡ Some agg → Found first (k ∷ keys) key test agg
+    → (option_map aggregator_of_entry rest ≡ Some agg → Found (first + 1) keys key test agg)
+    → (b t : Bool) → (k.0 == key.0) ≡ b → test (aggregator_of_entry (first, k)) ≡ t
+    → option_map aggregator_of_entry (cond (b && t) (Some (first, k)) rest) ≡ Some agg → Found first (k ∷ keys) key test agg
 here first k key keys test agg rest later true true same passed e =
-    let is : aggregator_in_row (first, k) ≡ agg = cc in
+    let is : aggregator_of_entry (first, k) ≡ agg = cc in
     record { place = 0; counted = omega (arith, ap (λ (a : AggId). a.0) is); has_key = ap Some (exact_key k key same); passes = subst (λ a. test a ≡ true) is passed }
 here first k key keys test agg rest later true false same passed e =
     let found = later e in record { place = suc found.place; counted = omega (arith, found.counted); has_key = found.has_key; passes = found.passes }
@@ -90,8 +90,8 @@ here first k key keys test agg rest later false t same passed e =
 lowest-found : (first : ℕ) (keys : List Key) (key : Key) (test : AggId → Bool) (agg : AggId) → lowest_from first keys key test ≡ Some agg → Found first keys key test agg
 lowest-found first [] key test agg e = absurd cc
 lowest-found first (k ∷ ks) key test agg e =
-    here first k key ks test agg (find (λ row. (row.1.0 == key.0) && test (aggregator_in_row row)) (enumerate_from (first + 1) ks))
-    (lowest-found (first + 1) ks key test agg) (k.0 == key.0) (test (aggregator_in_row (first, k))) refl refl e
+    here first k key ks test agg (find (λ row. (row.1.0 == key.0) && test (aggregator_of_entry row)) (enumerate_from (first + 1) ks))
+    (lowest-found (first + 1) ks key test agg) (k.0 == key.0) (test (aggregator_of_entry (first, k))) refl refl e
 
 -- eligible
 
@@ -112,7 +112,7 @@ eligible-outside v h =
 -- the choice
 
 joins-by : (keys : List Key) (views : List PortView) (v : PortView) (agg : AggId) (test : AggId → Bool) → is_eligible v ≡ true → Found 1 keys v.party.key test agg
-    → (test agg ≡ true → IsEmpty views agg ⊎ IsShared views agg v) → Joins keys views agg v
+    → (test agg ≡ true → HasNoMember views agg ⊎ MembersShareGroup views agg v) → MayJoin keys views agg v
 joins-by keys views v agg test ok found members =
     let place : agg.0 - 1 ≡ found.place = omega (arith, found.counted) in
     record {
@@ -123,7 +123,7 @@ joins-by keys views v agg test ok found members =
       members = members found.passes;
     }
 
-shared-members : (views : List PortView) (v : PortView) (agg : AggId) → is_joinable views v agg ≡ true → IsShared views agg v
+shared-members : (views : List PortView) (v : PortView) (agg : AggId) → members_share_group views v agg ≡ true → MembersShareGroup views agg v
 shared-members views v agg h =
     let some = (and_parts (not (individual v.party v.partner) && has_member views agg) (list_all (has_group_of v) (ports_that_chose agg views)) h).0 in
     record {
@@ -131,13 +131,13 @@ shared-members views v agg h =
       one_group = all-from_each _ views (members_share agg v views ((and_parts (not (individual v.party v.partner) && has_member views agg) (list_all (has_group_of v) (ports_that_chose agg views)) h).1));
     }
 
-chosen : (keys : List Key) (views : List PortView) (v : PortView) (agg : AggId) → is_eligible v ≡ true → (o : Option AggId) → lowest_from 1 keys v.party.key (is_joinable views v) ≡ o
-    → or_else o (lowest_from 1 keys v.party.key (is_empty views)) ≡ Some agg → Joins keys views agg v
+chosen : (keys : List Key) (views : List PortView) (v : PortView) (agg : AggId) → is_eligible v ≡ true → (o : Option AggId) → lowest_from 1 keys v.party.key (members_share_group views v) ≡ o
+    → or_else o (lowest_from 1 keys v.party.key (has_no_member views)) ≡ Some agg → MayJoin keys views agg v
 chosen keys views v agg ok None none e =
-    joins-by keys views v agg (is_empty views) ok (lowest-found 1 keys v.party.key (is_empty views) agg e)
+    joins-by keys views v agg (has_no_member views) ok (lowest-found 1 keys v.party.key (has_no_member views) agg e)
     (λ t. inl (all-from_each _ views (none_is_member agg views (not-true (has_member views agg) t))))
 chosen keys views v agg ok (Some a) is e =
-    joins-by keys views v agg (is_joinable views v) ok (lowest-found 1 keys v.party.key (is_joinable views v) agg (is ∙ e))
+    joins-by keys views v agg (members_share_group views v) ok (lowest-found 1 keys v.party.key (members_share_group views v) agg (is ∙ e))
     (λ t. inr (shared-members views v agg t))
 
 pub if-some : (b : Bool) (o : Option AggId) (agg : AggId) → (if b then o else None) ≡ Some agg → (b ≡ true) × (o ≡ Some agg)
@@ -145,14 +145,14 @@ if-some true o agg e = (refl, e)
 if-some false o agg e = absurd cc
 
 -- the port joins what it takes
-pub choice-joins : (keys : List Key) (views : List PortView) (v : PortView) (agg : AggId) → choice_of_view keys views (Some v) ≡ Some agg → Joins keys views agg v
+pub choice-joins : (keys : List Key) (views : List PortView) (v : PortView) (agg : AggId) → chosen_for_view keys views (Some v) ≡ Some agg → MayJoin keys views agg v
 choice-joins keys views v agg e =
-    let both = if-some (is_eligible v) (choice_for keys views v) agg e in
-    chosen keys views v agg both.0 (lowest_from 1 keys v.party.key (is_joinable views v)) refl both.1
+    let both = if-some (is_eligible v) (chosen_if_eligible keys views v) agg e in
+    chosen keys views v agg both.0 (lowest_from 1 keys v.party.key (members_share_group views v)) refl both.1
 
 -- the same of what a call answers for the port that it has seen
 pub answer-joins : (keys : List Key) (views : List PortView) (seen : Option PortView) (v : PortView) (answer : Option AggId)
-    → seen ≡ Some v → is_eligible v ≡ true → answer ≡ choice_for keys views v → IfSome answer (λ agg. IsSomeAnd seen (Joins keys views agg))
+    → seen ≡ Some v → is_eligible v ≡ true → answer ≡ chosen_if_eligible keys views v → IfSome answer (λ agg. IsSomeAnd seen (MayJoin keys views agg))
 answer-joins keys views seen v None is ok e = tt
 answer-joins keys views seen v (Some agg) is ok e =
-    subst (λ o. IsSomeAnd o (Joins keys views agg)) (sym is) (chosen keys views v agg ok (lowest_from 1 keys v.party.key (is_joinable views v)) refl (sym e))
+    subst (λ o. IsSomeAnd o (MayJoin keys views agg)) (sym is) (chosen keys views v agg ok (lowest_from 1 keys v.party.key (members_share_group views v)) refl (sym e))

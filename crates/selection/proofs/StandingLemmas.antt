@@ -42,9 +42,9 @@ stands-same : (shared some other_some all other_all : Bool) → some ≡ other_s
 stands-same shared some other_some all other_all e h = rw (e, h) refl
 
 -- one more port, which is a member or not
-stands-more : (shared some all is_in same : Bool) → (some ≡ false → all ≡ true)
-    → stands shared (some || is_in) (all && cond is_in same true) ≡ (if is_in then with_member (shared && same) (stands shared some all) else stands shared some all)
-stands-more shared false false is_in same h = let e : false ≡ true = h refl in absurd cc
+stands-more : (shared some all has_chosen same : Bool) → (some ≡ false → all ≡ true)
+    → stands shared (some || has_chosen) (all && cond has_chosen same true) ≡ (if has_chosen then with_member (shared && same) (stands shared some all) else stands shared some all)
+stands-more shared false false has_chosen same h = let e : false ≡ true = h refl in absurd cc
 stands-more shared false true false same h = refl
 stands-more true false true true same h = refl
 stands-more false false true true same h = refl

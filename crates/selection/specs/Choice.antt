@@ -14,8 +14,8 @@ unfoldable pub first_65535 : List Key → List Key
 first_65535 keys = take 65535 keys
 
 -- there is such an aggregator; they are numbered from 1
-abbrev pub is_known : List Key → AggId → Bool
-is_known keys agg = nat_le 1 agg.0 && nat_le agg.0 (length keys)
+abbrev pub is_aggregator : List Key → AggId → Bool
+is_aggregator keys agg = nat_le 1 agg.0 && nat_le agg.0 (length keys)
 
 -- the ports that have chosen this aggregator
 abbrev pub ports_that_chose : AggId → List PortView → List PortView
@@ -30,23 +30,23 @@ abbrev pub has_group_of : PortView → PortView → Bool
 has_group_of v w = same_group (group_of w.party w.partner) (group_of v.party v.partner)
 
 -- the aggregator has a member, and all its members have the port's group, which is not Individual
-abbrev pub is_joinable : List PortView → PortView → AggId → Bool
-is_joinable views v agg =
+abbrev pub members_share_group : List PortView → PortView → AggId → Bool
+members_share_group views v agg =
     (not (individual v.party v.partner) && has_member views agg) && list_all (has_group_of v) (ports_that_chose agg views)
 
 -- no port has chosen this aggregator
-abbrev pub is_empty : List PortView → AggId → Bool
-is_empty views agg = not (has_member views agg)
+abbrev pub has_no_member : List PortView → AggId → Bool
+has_no_member views agg = not (has_member views agg)
 
 -- the aggregator of an entry, which has its number and its key
-abbrev pub aggregator_in_row : ℕ × Key → AggId
-aggregator_in_row row = record { 0 = row.0 }
+abbrev pub aggregator_of_entry : ℕ × Key → AggId
+aggregator_of_entry row = record { 0 = row.0 }
 
 -- the lowest aggregator with this key that passes the test; the first key of the list is that of the aggregator with
 -- the first argument as its number
 abbrev pub lowest_from : ℕ → List Key → Key → (AggId → Bool) → Option AggId
 lowest_from first keys key test =
-    option_map aggregator_in_row (find (λ row. (row.1.0 == key.0) && test (aggregator_in_row row)) (enumerate_from first keys))
+    option_map aggregator_of_entry (find (λ row. (row.1.0 == key.0) && test (aggregator_of_entry row)) (enumerate_from first keys))
 
 -- the lowest aggregator of the system with this key that passes the test
 abbrev pub lowest : List Key → Key → (AggId → Bool) → Option AggId
@@ -58,15 +58,15 @@ or_else None other = other
 or_else (Some agg) other = Some agg
 
 -- the lowest aggregator with the port's key that it can join, else the lowest with that key and no member
-abbrev pub choice_for : List Key → List PortView → PortView → Option AggId
-choice_for keys views v =
-    or_else (lowest keys v.party.key (is_joinable views v)) (lowest keys v.party.key (is_empty views))
+abbrev pub chosen_if_eligible : List Key → List PortView → PortView → Option AggId
+chosen_if_eligible keys views v =
+    or_else (lowest keys v.party.key (members_share_group views v)) (lowest keys v.party.key (has_no_member views))
 
 -- the aggregator that the port of this view chooses; None without a view, or if the port is not eligible
-abbrev pub choice_of_view : List Key → List PortView → Option PortView → Option AggId
-choice_of_view keys views None = None
-choice_of_view keys views (Some v) = if is_eligible v then choice_for keys views v else None
+abbrev pub chosen_for_view : List Key → List PortView → Option PortView → Option AggId
+chosen_for_view keys views None = None
+chosen_for_view keys views (Some v) = if is_eligible v then chosen_if_eligible keys views v else None
 
 -- the aggregator that the port with this number chooses
-abbrev pub choice : List Key → List PortView → ℕ → Option AggId
-choice keys views port = choice_of_view keys views (find_view views port)
+abbrev pub chosen_aggregator : List Key → List PortView → ℕ → Option AggId
+chosen_aggregator keys views port = chosen_for_view keys views (find_view views port)

@@ -11,19 +11,19 @@ abbrev pub ends : PortView → Pair
 ends v = pair_of v.party v.partner
 
 -- no port has chosen this aggregator
-abbrev pub IsEmpty : List PortView → AggId → Type 0
-IsEmpty views agg = All (λ w. w.choice ≢ Selected agg) views
+abbrev pub HasNoMember : List PortView → AggId → Type 0
+HasNoMember views agg = All (λ w. w.choice ≢ Selected agg) views
 
 -- all members have the port's group, which is not Individual
-pub record IsShared (views : List PortView) (agg : AggId) (v : PortView) : Type 0 where
+pub record MembersShareGroup (views : List PortView) (agg : AggId) (v : PortView) : Type 0 where
   pub aggregatable : individual v.party v.partner ≡ false
   pub one_group : All (λ w. w.choice ≡ Selected agg → SamePair (ends w) (ends v)) views
 
 -- The port is in no aggregator, its partner is not its own system, the aggregator has its key, and it has either no
 -- member or only members with the port's group, which is not Individual.
-pub record Joins (keys : List Key) (views : List PortView) (agg : AggId) (v : PortView) : Type 0 where
+pub record MayJoin (keys : List Key) (views : List PortView) (agg : AggId) (v : PortView) : Type 0 where
   pub outside : v.choice ≡ Unselected
   pub apart : v.partner.system ≢ v.party.system
   pub numbered : 0 < agg.0
   pub key : slice_get keys (agg.0 - 1) ≡ Some v.party.key
-  pub members : IsEmpty views agg ⊎ IsShared views agg v
+  pub members : HasNoMember views agg ⊎ MembersShareGroup views agg v

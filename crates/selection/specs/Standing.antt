@@ -9,11 +9,11 @@ use Rattle.selection.specs.declared.standings.Standing.{Standing}
 use Rattle.selection.specs.declared.standings.Standing.TheVariants.{Empty, Joinable, Taken}
 use Rattle.selection.specs.declared.view.PortView.{PortView}
 use Rattle.selection.specs.Views.{has_chosen}
-use Rattle.selection.specs.Choice.{has_group_of, is_empty, is_joinable}
+use Rattle.selection.specs.Choice.{has_group_of, has_no_member, members_share_group}
 
 -- it has no member, or the port can join its members, or neither
 abbrev pub standing : List PortView → PortView → AggId → Standing
-standing views v agg = if is_empty views agg then Empty else (if is_joinable views v agg then Joinable else Taken)
+standing views v agg = if has_no_member views agg then Empty else (if members_share_group views v agg then Joinable else Taken)
 
 -- the member has the port's group, which is not Individual
 abbrev pub goes_with : PortView → PortView → Bool

@@ -2,7 +2,7 @@ ghost use Rattle.std.specs.Prelude.{◌≡◌, ◌≤◌, IfOk, IfSome, IsSomeAn
 ghost use Rattle.std.specs.List.{list_all, list_any};
 ghost use Rattle.std.specs.List.Sorted.{IsStrictlyIncreasing};
 ghost use Rattle.selection.specs.Views.{has_waited, is_detached_or_waiting};
-ghost use Rattle.selection.specs.Choice.{choice_for, ports_that_chose, first_65535};
+ghost use Rattle.selection.specs.Choice.{chosen_if_eligible, ports_that_chose, first_65535};
 
 use crate::standings::{Standing, Standings};
 use crate::view::{PortView, find_view};
@@ -29,9 +29,9 @@ impl Model for Aggregators {
 }
 
 impl Aggregators {
-    ghost use Rattle.selection.specs.Joining.{Joins};
+    ghost use Rattle.selection.specs.Joining.{MayJoin};
     ghost use Rattle.selection.specs.Views.{AreViews, numbers, find_view};
-    ghost use Rattle.selection.specs.Choice.{choice, is_known};
+    ghost use Rattle.selection.specs.Choice.{chosen_aggregator, is_aggregator};
     ghost use Rattle.selection.specs.Ready.{is_ready, members};
 
     /// Makes aggregators 1, 2 and so on with these keys. Keys after the first 65535 are left out. `NoMemory` if memory
@@ -49,11 +49,15 @@ impl Aggregators {
     /// that key and no member; else None (profile). None also if there is no view of the port, or if it is not
     /// eligible.
     pub fn choose(&self, views: &[PortView], port: u16) -> Option<AggId>
-        ensures exact { result ≡ choice self.now views.now port }
-        ensures joins { IfSome result (λ agg. IsSomeAnd (find_view views.now port) (Joins self.now views.now agg)) }
+        ensures exact { result ≡ chosen_aggregator self.now views.now port }
+        ensures joins { IfSome result (λ agg. IsSomeAnd (find_view views.now port) (MayJoin self.now views.now agg)) }
     {
         match find_view(views, port) {
-            Some(view) if view.is_eligible() => choose_for(self.keys.as_slice(), views, &view),
+            Some(view) if view.is_eligible() => choose_if_eligible(
+                self.keys.as_slice(),
+                views,
+                &view,
+            ),
             _ => None,
         }
     }
@@ -63,7 +67,9 @@ impl Aggregators {
     pub fn ready(&self, views: &[PortView], agg: AggId) -> bool
         ensures { result ≡ is_ready self.now views.now agg }
     {
-        self.has(agg) && any_waiting(views, agg) && all_have_waited(views, agg)
+        self.is_aggregator(agg)
+            && any_detached_or_waiting(views, agg)
+            && all_have_waited(views, agg)
     }
 
     /// The numbers of the SELECTED ports that were given this aggregator, ascending. Empty if there is no such
@@ -74,9 +80,9 @@ impl Aggregators {
         ensures ascending { IsStrictlyIncreasing result.items }
     {
         let mut found = ArrayVec::new();
-        if self.has(agg) {
+        if self.is_aggregator(agg) {
             for view in views {
-                if view.is_in(agg) {
+                if view.has_chosen(agg) {
                     found.push(view.number);
                 }
             }
@@ -92,8 +98,8 @@ impl Aggregators {
     }
 
     /// Whether there is such an aggregator.
-    fn has(&self, agg: AggId) -> bool
-        ensures { result ≡ is_known self.now agg }
+    fn is_aggregator(&self, agg: AggId) -> bool
+        ensures { result ≡ is_aggregator self.now agg }
     {
         1 <= agg.0 && agg.0 as usize <= self.keys.len()
     }
@@ -113,12 +119,12 @@ fn first_65535(keys: &[Key]) -> &[Key]
 }
 
 /// Whether some member of the aggregator is in DETACHED or WAITING.
-fn any_waiting(views: &[PortView], agg: AggId) -> bool
+fn any_detached_or_waiting(views: &[PortView], agg: AggId) -> bool
     ensures { result ≡ list_any (λ v. is_detached_or_waiting v.stage) (ports_that_chose agg views.now) }
 {
     views
         .iter()
-        .filter(|view| view.is_in(agg))
+        .filter(|view| view.has_chosen(agg))
         .any(|view| view.is_detached_or_waiting())
 }
 
@@ -128,15 +134,15 @@ fn all_have_waited(views: &[PortView], agg: AggId) -> bool
 {
     views
         .iter()
-        .filter(|view| view.is_in(agg))
+        .filter(|view| view.has_chosen(agg))
         .filter(|view| view.is_detached_or_waiting())
         .all(|view| view.has_waited())
 }
 
 /// The lowest aggregator that an eligible port can join, else the lowest one with no member.
-fn choose_for(keys: &[Key], views: &[PortView], port: &PortView) -> Option<AggId>
+fn choose_if_eligible(keys: &[Key], views: &[PortView], port: &PortView) -> Option<AggId>
     requires { length keys.now ≤ 65535 }
-    ensures { result ≡ choice_for keys.now views.now port.now }
+    ensures { result ≡ chosen_if_eligible keys.now views.now port.now }
 {
     let mut standings = Standings::after(0, views, port);
     let mut empty = None;

@@ -56,7 +56,7 @@ impl Stage {
 
 impl PortView {
     /// Whether the port is SELECTED and was given this aggregator.
-    pub(crate) fn is_in(&self, agg: AggId) -> bool
+    pub(crate) fn has_chosen(&self, agg: AggId) -> bool
         ensures { result ≡ has_chosen agg self.now.choice }
     {
         match self.choice {

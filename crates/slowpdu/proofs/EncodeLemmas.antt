@@ -8,7 +8,7 @@ use Rattle.slowpdu.specs.Layout.{Field, read_field, ignored_field, HoldsNumber, 
 use Rattle.slowpdu.specs.Lacpdus.{Writes, info_fields, lacpdu_table}
 use Rattle.slowpdu.specs.declared.pdu.MarkerKind.{MarkerKind}
 use Rattle.slowpdu.specs.declared.pdu.Marker.{Marker}
-use Rattle.slowpdu.specs.Markers.{WritesMarker, kind_number, marker_table}
+use Rattle.slowpdu.specs.Markers.{WritesMarker, tlv_type, marker_table}
 use Rattle.slowpdu.proofs.LayoutLemmas.{all-append}
 use Rattle.slowpdu.proofs.MarkerLemmas.{make_marker}
 use Rattle.slowpdu.specs.Writing.{InfoFits, replaced, info_octets}
@@ -46,7 +46,7 @@ written_cells p k q n s p' k' q' n' s' t a b c d e f a' b' c' d' e' f' = λ fits
       table = record {
         whole = refl;
         octets = octets;
-        stands = (refl, (refl, (refl, (refl, all-append (HoldsNumber (encoded v)) (info_fields 4 v.actor) partner_on actor second))));
+        fields_hold = (refl, (refl, (refl, (refl, all-append (HoldsNumber (encoded v)) (info_fields 4 v.actor) partner_on actor second))));
         others = others_zero (lacpdu_table v) (encoded v) refl;
       };
     }
@@ -89,7 +89,7 @@ all_put v p1 p2 p3 p4 p5 p6 e1 e2 e3 e4 e5 e6 =
 -- the octets that `encode` puts for a marker, in its order
 abbrev pub encoded_marker : Marker → List ℕ
 encoded_marker m =
-    replaced (replaced (replaced (replaced (replicate 110 0) 0 (2 ∷ 1 ∷ kind_number m.kind ∷ 16 ∷ [])) 4 (big_bytes 2 m.port)) 6 m.system) 12 (big_bytes 4 m.id)
+    replaced (replaced (replaced (replaced (replicate 110 0) 0 (2 ∷ 1 ∷ tlv_type m.kind ∷ 16 ∷ [])) 4 (big_bytes 2 m.port)) 6 m.system) 12 (big_bytes 4 m.id)
 
 marker_cells : (k : MarkerKind) (p id a b c d e f : ℕ)
     → let m : Marker = make_marker k p (a ∷ b ∷ c ∷ d ∷ e ∷ f ∷ []) id in
@@ -100,7 +100,7 @@ marker_cells k p id a b c d e f = λ port transaction address octets.
       table = record {
         whole = refl;
         octets = octets;
-        stands = (refl, (refl, (omega arith, (refl, (two_bytes p port, (refl, (omega arith, (refl, (refl, (refl, tt))))))))));
+        fields_hold = (refl, (refl, (omega arith, (refl, (two_bytes p port, (refl, (omega arith, (refl, (refl, (refl, tt))))))))));
         others = others_zero (marker_table m) (encoded_marker m) refl;
       };
     }
@@ -118,7 +118,7 @@ marker_written m b e port id address octets =
     subst (λ (t : List ℕ). AreOctets t → WritesMarker t m) (sym e) (marker_claim m address port id address) octets
 
 -- the writes of `encode` for a marker, one after the other
-pub all_put_marker : (m : Marker) (n : ℕ) (p1 p2 p3 p4 : List ℕ) → n ≡ kind_number m.kind → p1 ≡ replaced (replicate 110 0) 0 (2 ∷ 1 ∷ n ∷ 16 ∷ [])
+pub all_put_marker : (m : Marker) (n : ℕ) (p1 p2 p3 p4 : List ℕ) → n ≡ tlv_type m.kind → p1 ≡ replaced (replicate 110 0) 0 (2 ∷ 1 ∷ n ∷ 16 ∷ [])
     → p2 ≡ replaced p1 4 (big_bytes 2 m.port) → p3 ≡ replaced p2 6 m.system → p4 ≡ replaced p3 12 (big_bytes 4 m.id) → p4 ≡ encoded_marker m
 all_put_marker m n p1 p2 p3 p4 en e1 e2 e3 e4 =
     e4 ∙ ap (λ (b : List ℕ). replaced b 12 (big_bytes 4 m.id)) (

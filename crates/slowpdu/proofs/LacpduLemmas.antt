@@ -48,7 +48,7 @@ read_numbers v = numbers (read_fields (lacpdu_table v))
 -- a payload has one reading
 pub one_reading : (b : List ℕ) (v w : Lacpdu) → Reads b v → Reads b w → w ≡ v
 one_reading b v w hv hw =
-    let e : read_numbers w ≡ read_numbers v = one_table b (read_fields (lacpdu_table w)) (read_fields (lacpdu_table v)) refl hw.table.stands hv.table.stands in
+    let e : read_numbers w ≡ read_numbers v = one_table b (read_fields (lacpdu_table w)) (read_fields (lacpdu_table v)) refl hw.table.fields_hold hv.table.fields_hold in
     same_lacpdu w v
     (same_info w.actor v.actor (ap (number_at 2) e) (one_address w.actor.system.mac v.actor.system.mac hw.addresses.0 hv.addresses.0 (ap (number_at 3) e))
     (ap (number_at 4) e) (ap (number_at 5) e) (ap (number_at 6) e) (ap (number_at 7) e))
@@ -78,13 +78,13 @@ all_read b v long subtype actor_length partner_length collector_length actor_mac
     let second : List Field = read_field 23 1 20 ∷ (info_fields 24 v.partner ++ after) in
     let second_stands : AllByRecursion (HoldsNumber b) second =
     (octet_stands b 23 ∙ partner_length, all-append (HoldsNumber b) (info_fields 24 v.partner) after partner after_stands) in
-    let stands : AllByRecursion (HoldsNumber b) (read_field 0 1 1 ∷ read_field 3 1 20 ∷ (info_fields 4 v.actor ++ second)) =
+    let fields_hold : AllByRecursion (HoldsNumber b) (read_field 0 1 1 ∷ read_field 3 1 20 ∷ (info_fields 4 v.actor ++ second)) =
     (octet_stands b 0 ∙ subtype, (octet_stands b 3 ∙ actor_length, all-append (HoldsNumber b) (info_fields 4 v.actor) second actor second_stands)) in
-    record { addresses = (actor_mac, partner_mac); table = record { long_enough = long; stands = stands } }
+    record { addresses = (actor_mac, partner_mac); table = record { long_enough = long; fields_hold = fields_hold } }
 
 -- an LACPDU is not refused
 pub no_lacpdu_fault : (b : List ℕ) (v : Lacpdu) → Reads b v → fault_of b ≡ None
 no_lacpdu_fault b v h =
-    let s : AllByRecursion (HoldsNumber b) (read_fields (lacpdu_table v)) = h.table.stands in
+    let s : AllByRecursion (HoldsNumber b) (read_fields (lacpdu_table v)) = h.table.fields_hold in
     no_fault_1 b h.table.long_enough (sym (octet_stands b 0) ∙ s.0) (sym (octet_stands b 3) ∙ s.1.0)
     (sym (octet_stands b 23) ∙ s.1.1.1.1.1.1.1.1.0) (sym (octet_stands b 43) ∙ s.1.1.1.1.1.1.1.1.1.1.1.1.1.1.1.0)

@@ -45,12 +45,12 @@ pub table-append : (b rest : List ℕ) (places : List Field) → payload_len ≤
     → ReadsTable b places → ReadsTable (b ++ rest) places
 table-append b rest places long fit h = record {
   long_enough = omega (arith, length-append b rest);
-  stands = all_stand-append b rest (read_fields places) long fit h.stands;
+  fields_hold = all_stand-append b rest (read_fields places) long fit h.fields_hold;
 }
 
 pub table_of_append : (b rest : List ℕ) (places : List Field) → payload_len ≤ length b → list_all fits (read_fields places) ≡ true
     → ReadsTable (b ++ rest) places → ReadsTable b places
-table_of_append b rest places long fit h = record { long_enough = long; stands = all_stood b rest (read_fields places) long fit h.stands }
+table_of_append b rest places long fit h = record { long_enough = long; fields_hold = all_stood b rest (read_fields places) long fit h.fields_hold }
 
 choose_all : {X : Type 0} (P : X → Type 0) (t : Bool) (x : X) (xs : List X) → P x → AllByRecursion P xs → AllByRecursion P (cond t (x ∷ xs) xs)
 choose_all P true x xs h rest = (h, rest)
@@ -64,7 +64,7 @@ all-filter P test (x ∷ xs) h = choose_all P (test x) x (filter test xs) h.0 (a
 pub written_table : (b : List ℕ) (places : List Field) → WritesTable b places → ReadsTable b places
 written_table b places h = record {
   long_enough = omega (arith, h.whole);
-  stands = all-filter (HoldsNumber b) (λ p. p.is_looked_at) places h.stands;
+  fields_hold = all-filter (HoldsNumber b) (λ p. p.is_read) places h.fields_hold;
 }
 
 -- a quotient and a remainder are those of one number alone
@@ -191,6 +191,6 @@ one_payload b c places fit hb hc =
     ext_get_or 0 b c (hb.whole ∙ sym hc.whole) (λ i small.
     let within : i < payload_len = omega (arith, hb.whole) in
     elim (cases_Bool (is_covered places i)) [
-      | inl covered ↦ covered_same b c places i hb.whole hc.whole hb.octets hc.octets fit hb.stands hc.stands covered
+      | inl covered ↦ covered_same b c places i hb.whole hc.whole hb.octets hc.octets fit hb.fields_hold hc.fields_hold covered
       | inr uncovered ↦ hb.others i within uncovered ∙ sym (hc.others i within uncovered)
     ])

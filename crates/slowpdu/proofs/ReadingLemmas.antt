@@ -12,7 +12,7 @@ use Rattle.slowpdu.specs.declared.pdu.Pdu.{Pdu}
 use Rattle.slowpdu.specs.declared.pdu.Pdu.TheVariants as pdu
 use Rattle.slowpdu.specs.Layout.{AreOctets, IsAddress, HoldsNumber, payload_len, read_field}
 use Rattle.slowpdu.specs.Lacpdus.{Reads, info_fields}
-use Rattle.slowpdu.specs.Markers.{ReadsMarker, kind_number}
+use Rattle.slowpdu.specs.Markers.{ReadsMarker, tlv_type}
 use Rattle.slowpdu.specs.Pdus.{ReadsPdu}
 use Rattle.slowpdu.specs.Faults.{fault_of}
 use Rattle.slowpdu.proofs.FaultLemmas.{IsLacpdu, IsMarker, accepted}
@@ -50,7 +50,7 @@ an_lacpdu b octets long h =
           (info_stands b 4) (info_stands b 24) refl,
     )
 
-a_marker : (b : List ℕ) → AreOctets b → payload_len ≤ length b → IsMarker b → (k : MarkerKind) → slice_index b 2 ≡ kind_number k → (m : Marker) × ReadsMarker b m
+a_marker : (b : List ℕ) → AreOctets b → payload_len ≤ length b → IsMarker b → (k : MarkerKind) → slice_index b 2 ≡ tlv_type k → (m : Marker) × ReadsMarker b m
 a_marker b octets long h k kind =
     let m = make_marker k (number_in 2 b 4) (address_in b 6) (number_in 4 b 12) in
     (m, marker_read b m long h.subtype h.size kind refl (is_address b 6 octets (omega arith)) (sym (number_of_taken 6 (drop 6 b))) refl)

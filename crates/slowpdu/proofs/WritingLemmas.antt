@@ -4,7 +4,7 @@ use Rattle.std.specs.Prelude.{◌&&◌, ◌||◌, ◌==◌}
 use Rattle.std.proofs.lemmas.Bool.{and_parts}
 use Rattle.std.proofs.lemmas.List.{take_at, drop_at, drop-drop, drop_all, length-append, length-take}
 use Rattle.slowpdu.specs.Layout.{Field, is_covered, payload_len}
-use Rattle.slowpdu.specs.Frames.{IsSlow, frame_octets}
+use Rattle.slowpdu.specs.Frames.{IsSlowProtocolsFrame, frame_octets}
 use Rattle.slowpdu.specs.Writing.{replaced}
 
 -- what is put right behind other octets is put with them
@@ -67,10 +67,10 @@ six (a ∷ b ∷ c ∷ d ∷ e ∷ f ∷ []) h = (a, b, c, d, e, f, refl)
 six (a ∷ b ∷ c ∷ d ∷ e ∷ f ∷ g ∷ rest) h = absurd (omega arith)
 
 -- a control frame, octet by octet
-pub framed_slow : (source payload : List ℕ) → length source ≡ 6 → IsSlow (frame_octets source payload)
+pub framed_slow : (source payload : List ℕ) → length source ≡ 6 → IsSlowProtocolsFrame (frame_octets source payload)
 framed_slow source payload h =
     let x = six source h in
-    subst (λ (t : List ℕ). IsSlow (frame_octets t payload)) (sym x.6) (refl, refl)
+    subst (λ (t : List ℕ). IsSlowProtocolsFrame (frame_octets t payload)) (sym x.6) (refl, refl)
 
 pub framed_payload : (source payload : List ℕ) → length source ≡ 6 → drop 14 (frame_octets source payload) ≡ payload
 framed_payload source payload h =

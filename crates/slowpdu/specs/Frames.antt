@@ -16,8 +16,8 @@ abbrev pub frame_octets : List ℕ → List ℕ → List ℕ
 frame_octets source payload = slow_group ++ (source ++ (slow_type ++ payload))
 
 -- the EtherType is that of the slow protocols
-abbrev pub IsSlow : List ℕ → Type 0
-IsSlow octets = (slice_index octets 12 ≡ 0x88) × (slice_index octets 13 ≡ 0x09)
+abbrev pub IsSlowProtocolsFrame : List ℕ → Type 0
+IsSlowProtocolsFrame octets = (slice_index octets 12 ≡ 0x88) × (slice_index octets 13 ≡ 0x09)
 
 -- a control frame with this payload
 abbrev pub IsControl : List ℕ → Kind → Type 0
@@ -26,7 +26,7 @@ IsControl payload Data = ⊥
 IsControl payload TooShort = ⊥
 
 -- the octets are a frame of this kind
-abbrev pub IsKind : List ℕ → Kind → Type 0
-IsKind octets (Control rest) = (14 ≤ length octets) × IsSlow octets × (rest.now ≡ drop 14 octets)
-IsKind octets Data = (14 ≤ length octets) × (IsSlow octets → ⊥)
-IsKind octets TooShort = length octets < 14
+abbrev pub IsFrameOfKind : List ℕ → Kind → Type 0
+IsFrameOfKind octets (Control rest) = (14 ≤ length octets) × IsSlowProtocolsFrame octets × (rest.now ≡ drop 14 octets)
+IsFrameOfKind octets Data = (14 ≤ length octets) × (IsSlowProtocolsFrame octets → ⊥)
+IsFrameOfKind octets TooShort = length octets < 14

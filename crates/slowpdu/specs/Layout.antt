@@ -8,19 +8,19 @@ pub record Field : Type 0 where
   pub offset : ℕ
   pub width : ℕ
   pub number : ℕ
-  pub is_looked_at : Bool
+  pub is_read : Bool
 
 -- a field that a receiver reads
 abbrev pub read_field : ℕ → ℕ → ℕ → Field
-read_field offset width number = record { offset = offset; width = width; number = number; is_looked_at = true }
+read_field offset width number = record { offset = offset; width = width; number = number; is_read = true }
 
 -- a field that a receiver ignores
 abbrev pub ignored_field : ℕ → ℕ → ℕ → Field
-ignored_field offset width number = record { offset = offset; width = width; number = number; is_looked_at = false }
+ignored_field offset width number = record { offset = offset; width = width; number = number; is_read = false }
 
 -- the fields that a receiver reads
 abbrev pub read_fields : List Field → List Field
-read_fields places = filter (λ p. p.is_looked_at) places
+read_fields fields = filter (λ p. p.is_read) fields
 
 -- the octets of the field have its number
 abbrev pub HoldsNumber : List ℕ → Field → Type 0
@@ -32,7 +32,7 @@ is_within i p = nat_le p.offset i && nat_lt i (p.offset + p.width)
 
 -- whether the octet at offset i belongs to one of the fields
 abbrev pub is_covered : List Field → ℕ → Bool
-is_covered places i = list_any (is_within i) places
+is_covered fields i = list_any (is_within i) fields
 
 -- the length of a payload in octets
 abbrev pub payload_len : ℕ
@@ -47,13 +47,13 @@ abbrev pub IsAddress : List ℕ → Type 0
 IsAddress mac = (length mac ≡ 6) × AreOctets mac
 
 -- The list is long enough, and each field that a receiver reads has its number there; nothing else matters.
-pub record ReadsTable (b : List ℕ) (places : List Field) : Type 0 where
+pub record ReadsTable (b : List ℕ) (fields : List Field) : Type 0 where
   pub long_enough : payload_len ≤ length b
-  pub stands : AllByRecursion (HoldsNumber b) (read_fields places)
+  pub fields_hold : AllByRecursion (HoldsNumber b) (read_fields fields)
 
 -- The list is a whole payload: each field has its number there, and every other octet is 0.
-pub record WritesTable (b : List ℕ) (places : List Field) : Type 0 where
+pub record WritesTable (b : List ℕ) (fields : List Field) : Type 0 where
   pub whole : length b ≡ payload_len
   pub octets : AreOctets b
-  pub stands : AllByRecursion (HoldsNumber b) places
-  pub others : (i : ℕ) → i < payload_len → is_covered places i ≡ false → slice_index b i ≡ 0
+  pub fields_hold : AllByRecursion (HoldsNumber b) fields
+  pub others : (i : ℕ) → i < payload_len → is_covered fields i ≡ false → slice_index b i ≡ 0

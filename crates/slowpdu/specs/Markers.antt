@@ -7,16 +7,16 @@ use Rattle.slowpdu.specs.declared.pdu.Marker.{Marker}
 use Rattle.slowpdu.specs.Layout.{Field, read_field, ignored_field, IsAddress, ReadsTable, WritesTable}
 
 -- the TLV type of each kind
-abbrev pub kind_number : MarkerKind → ℕ
-kind_number Information = 1
-kind_number Response = 2
+abbrev pub tlv_type : MarkerKind → ℕ
+tlv_type Information = 1
+tlv_type Response = 2
 
 -- The table of a Marker PDU, in order: subtype and version; type and length of the TLV; Requester_Port,
 -- Requester_System, Requester_Transaction_ID and the pad; type and length of the Terminator.
 abbrev pub marker_table : Marker → List Field
 marker_table m =
     read_field 0 1 2 ∷ ignored_field 1 1 1
-    ∷ read_field 2 1 (kind_number m.kind) ∷ read_field 3 1 16
+    ∷ read_field 2 1 (tlv_type m.kind) ∷ read_field 3 1 16
     ∷ read_field 4 2 m.port ∷ read_field 6 6 (big_number 6 m.system) ∷ read_field 12 4 m.id ∷ ignored_field 16 2 0
     ∷ ignored_field 18 1 0 ∷ ignored_field 19 1 0 ∷ []
 

@@ -1,9 +1,9 @@
 ghost use Rattle.std.specs.Prelude.{◌≡◌, ◌<◌, ◌≤◌, length, drop};
 ghost use Rattle.slowpdu.specs.declared.frames.Kind.TheVariants.{Data, TooShort};
-ghost use Rattle.slowpdu.specs.Frames.{frame_octets, IsControl, IsKind, IsSlow};
+ghost use Rattle.slowpdu.specs.Frames.{frame_octets, IsControl, IsFrameOfKind, IsSlowProtocolsFrame};
 
-use crate::numbers::{FRAME_LEN, HEADER_LEN, SLOW_TYPE};
-use crate::writing::put;
+use crate::constants::{FRAME_LEN, HEADER_LEN, SLOW_TYPE};
+use crate::encoding::put_octets;
 
 /// The kinds of received frames (profile).
 #[derive(Clone, Copy, Debug, PartialEq, Eq)]
@@ -23,19 +23,19 @@ pub fn frame(src: [u8; 6], payload: &[u8; 110]) -> [u8; 124]
     ensures { result ≡ frame_octets src payload.now }
 {
     let mut octets = [0; FRAME_LEN];
-    put(&mut octets, 0, &[0x01, 0x80, 0xc2, 0x00, 0x00, 0x02]);
-    put(&mut octets, 6, &src);
-    put(&mut octets, 12, &SLOW_TYPE);
-    put(&mut octets, HEADER_LEN, payload);
+    put_octets(&mut octets, 0, &[0x01, 0x80, 0xc2, 0x00, 0x00, 0x02]);
+    put_octets(&mut octets, 6, &src);
+    put_octets(&mut octets, 12, &SLOW_TYPE);
+    put_octets(&mut octets, HEADER_LEN, payload);
     octets
 }
 
 /// The kind of a received frame. Its length has no upper bound, and its addresses are not read (profile).
 pub fn classify(octets: &[u8]) -> Kind<'_>
-    ensures kind { IsKind octets.now result }
+    ensures kind { IsFrameOfKind octets.now result }
     ensures too_short { length octets.now < 14 → result ≡ TooShort }
-    ensures control { 14 ≤ length octets.now → IsSlow octets.now → IsControl (drop 14 octets.now) result }
-    ensures data { 14 ≤ length octets.now → (IsSlow octets.now → ⊥) → result ≡ Data }
+    ensures control { 14 ≤ length octets.now → IsSlowProtocolsFrame octets.now → IsControl (drop 14 octets.now) result }
+    ensures data { 14 ≤ length octets.now → (IsSlowProtocolsFrame octets.now → ⊥) → result ≡ Data }
 {
     if octets.len() < HEADER_LEN {
         Kind::TooShort

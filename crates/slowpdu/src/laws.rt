@@ -8,11 +8,11 @@ ghost use Rattle.slowpdu.specs.Markers.{ReadsMarker};
 ghost use Rattle.slowpdu.specs.Pdus.{ReadsPdu, WritesPdu};
 ghost use Rattle.slowpdu.specs.Readings.{pdu_in};
 ghost use Rattle.slowpdu.specs.Faults.{fault_of};
-ghost use Rattle.slowpdu.specs.Frames.{IsSlow, frame_octets};
+ghost use Rattle.slowpdu.specs.Frames.{IsSlowProtocolsFrame, frame_octets};
 
+use crate::decoding::decode;
 use crate::fault::WireFault;
 use crate::pdu::Pdu;
-use crate::reading::decode;
 
 /// The octets that `encode` makes of a PDU read as that PDU and as no other, whatever follows them (6.4.2.3, 6.5.3.3;
 /// profile).
@@ -44,12 +44,12 @@ pub fn what_follows_is_ignored()
 
 /// A frame that `frame` makes is classified as a control frame with just the payload it was made of (6.4.2.2, 6.5.3.2).
 pub fn what_is_framed_is_control()
-    ensures slow { (source payload : List ℕ) → length source ≡ 6 → IsSlow (frame_octets source payload) }
+    ensures slow { (source payload : List ℕ) → length source ≡ 6 → IsSlowProtocolsFrame (frame_octets source payload) }
     ensures payload { (source payload : List ℕ) → length source ≡ 6 → drop 14 (frame_octets source payload) ≡ payload }
 {}
 
 /// Encodes a PDU and decodes the payload again: the result is the PDU (6.4.2.3, 6.5.3.3).
-pub fn read_back(pdu: &Pdu) -> Result<Pdu, WireFault>
+pub fn encode_then_decode(pdu: &Pdu) -> Result<Pdu, WireFault>
     ensures { result ≡ Ok pdu.now }
 {
     match pdu {

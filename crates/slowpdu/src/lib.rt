@@ -5,23 +5,23 @@
 //! In comments, "profile" is docs/PROFILE.md.
 #![tactic(auto)]
 
+mod constants;
+mod decoding;
+mod encoding;
 mod fault;
 mod frames;
 mod laws;
 mod marker;
-mod numbers;
 mod pdu;
-mod reading;
 #[cfg(test)]
 mod tests;
-mod writing;
 
+pub use decoding::decode;
 pub use fault::WireFault;
 pub use frames::{Kind, classify, frame};
 pub use laws::{
-    one_payload_is_written, one_reading_or_one_fault, read_back, what_follows_is_ignored,
+    encode_then_decode, one_payload_is_written, one_reading_or_one_fault, what_follows_is_ignored,
     what_is_framed_is_control, what_is_written_is_read,
 };
 pub use marker::respond;
 pub use pdu::{Info, Lacpdu, Marker, MarkerKind, Pdu};
-pub use reading::decode;

@@ -1,13 +1,13 @@
 ghost use Rattle.std.specs.Prelude.{◌≡◌, ◌≤◌, ◌+◌, length, slice_index};
 ghost use Rattle.slowpdu.specs.Layout.{HoldsNumber, payload_len, read_field};
-ghost use Rattle.slowpdu.specs.Markers.{WritesMarker, kind_number, response_to};
+ghost use Rattle.slowpdu.specs.Markers.{WritesMarker, tlv_type, response_to};
 ghost use Rattle.slowpdu.specs.Pdus.{IsDecoded};
 
+use crate::constants::{INFORMATION_TYPE, MARKER_LENGTH, MARKER_SUBTYPE, RESPONSE_TYPE, VERSION};
+use crate::decoding::{expect_length, mac_at, u16_at};
+use crate::encoding::{ZEROS, put_mac, put_octets, put_u16, put_u32};
 use crate::fault::WireFault;
-use crate::numbers::{INFORMATION_TYPE, MARKER_LENGTH, MARKER_SUBTYPE, RESPONSE_TYPE, VERSION};
 use crate::pdu::{Marker, MarkerKind, Pdu};
-use crate::reading::{expect_length, mac_at, u16_at};
-use crate::writing::{ZEROS, put, put_mac, put_u16, put_u32};
 use byteorder::{BigEndian, ByteOrder};
 
 /// The number in four octets, the most significant first, from this offset on.
@@ -19,7 +19,7 @@ fn u32_at(payload: &[u8], offset: usize) -> u32
 }
 
 /// Reads the payload of a Marker PDU.
-pub(crate) fn marker_in(payload: &[u8]) -> Result<Pdu, WireFault>
+pub(crate) fn decode_marker(payload: &[u8]) -> Result<Pdu, WireFault>
     requires long_enough { payload_len ≤ length payload.now }
     requires subtype { slice_index payload.now 0 ≡ 2 }
     ensures { IsDecoded payload.now result }
@@ -40,8 +40,8 @@ pub(crate) fn marker_in(payload: &[u8]) -> Result<Pdu, WireFault>
 
 impl MarkerKind {
     /// The TLV type.
-    fn number(self) -> u8
-        ensures { result ≡ kind_number self }
+    fn tlv_type(self) -> u8
+        ensures { result ≡ tlv_type self }
     {
         match self {
             MarkerKind::Information => INFORMATION_TYPE,
@@ -57,9 +57,9 @@ impl Marker {
     {
         let port = self.port;
         let id = self.id;
-        let head = [MARKER_SUBTYPE, VERSION, self.kind.number(), MARKER_LENGTH];
+        let head = [MARKER_SUBTYPE, VERSION, self.kind.tlv_type(), MARKER_LENGTH];
         let mut payload = ZEROS;
-        put(&mut payload, 0, &head);
+        put_octets(&mut payload, 0, &head);
         put_u16(&mut payload, 4, port);
         put_mac(&mut payload, 6, self.system);
         put_u32(&mut payload, 12, id);

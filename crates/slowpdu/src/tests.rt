@@ -1,7 +1,7 @@
-use crate::writing::put;
+use crate::encoding::put_octets;
 use crate::{
-    Info, Kind, Lacpdu, Marker, MarkerKind, Pdu, WireFault, classify, decode, frame, read_back,
-    respond,
+    Info, Kind, Lacpdu, Marker, MarkerKind, Pdu, WireFault, classify, decode, encode_then_decode,
+    frame, respond,
 };
 use bitflags::Flags;
 use lagtypes::{Key, Party, PortId, State, SystemId};
@@ -11,10 +11,10 @@ use std::alloc::AllocError;
 /// has the state 02.
 fn lacpdu_payload() -> [u8; 110] {
     let mut payload = [0; 110];
-    put(&mut payload, 0, &[1, 1, 1, 20, 0x80, 0, 2, 0, 0, 0, 0, 1]);
-    put(&mut payload, 12, &[0, 1, 0, 0x80, 0, 1, 0xc7]);
-    put(&mut payload, 22, &[2, 20]);
-    put(&mut payload, 38, &[2, 0, 0, 0, 3, 16]);
+    put_octets(&mut payload, 0, &[1, 1, 1, 20, 0x80, 0, 2, 0, 0, 0, 0, 1]);
+    put_octets(&mut payload, 12, &[0, 1, 0, 0x80, 0, 1, 0xc7]);
+    put_octets(&mut payload, 22, &[2, 20]);
+    put_octets(&mut payload, 38, &[2, 0, 0, 0, 3, 16]);
     payload
 }
 
@@ -46,7 +46,7 @@ fn lacpdu() -> Lacpdu {
 /// The payload of a marker of port 1 of that system, with the highest identifier.
 fn marker_payload() -> [u8; 110] {
     let mut payload = [0; 110];
-    put(
+    put_octets(
         &mut payload,
         0,
         &[2, 1, 1, 16, 0, 1, 2, 0, 0, 0, 0, 1, 255, 255, 255, 255],
@@ -68,25 +68,25 @@ fn marker() -> Marker {
 /// the end.
 fn version_2() -> [u8; 150] {
     let mut payload = [0xff; 150];
-    put(&mut payload, 0, &lacpdu_payload());
-    put(&mut payload, 1, &[2, 9]);
-    put(&mut payload, 19, &[255, 255, 255, 9]);
-    put(&mut payload, 39, &[255, 255, 255, 9]);
-    put(&mut payload, 46, &[255; 64]);
+    put_octets(&mut payload, 0, &lacpdu_payload());
+    put_octets(&mut payload, 1, &[2, 9]);
+    put_octets(&mut payload, 19, &[255, 255, 255, 9]);
+    put_octets(&mut payload, 39, &[255, 255, 255, 9]);
+    put_octets(&mut payload, 46, &[255; 64]);
     payload
 }
 
 /// The payload of that marker, with other pad octets.
 fn padded_marker() -> [u8; 110] {
     let mut payload = marker_payload();
-    put(&mut payload, 16, &[0xbe, 0xef]);
+    put_octets(&mut payload, 16, &[0xbe, 0xef]);
     payload
 }
 
 /// The same marker of version 2, with ones in the pad, the Terminator and every reserved octet.
 fn marker_of_version_2() -> [u8; 110] {
     let mut payload = [0xff; 110];
-    put(
+    put_octets(
         &mut payload,
         0,
         &[2, 2, 1, 16, 0, 1, 2, 0, 0, 0, 0, 1, 255, 255, 255, 255],
@@ -181,7 +181,7 @@ fn payloads_of_fewer_octets_are_short(rt: HostRuntime) {
 #[test]
 fn a_short_payload_is_short_whatever_stands_there(rt: HostRuntime) {
     let mut bad_length = lacpdu_payload();
-    put(&mut bad_length, 3, &[19]);
+    put_octets(&mut bad_length, 3, &[19]);
     for payload in [[3; 110], bad_length] {
         let answer = decode(first(&payload, 109));
         assert_eq!(rt;
@@ -221,7 +221,7 @@ fn pdus_are_written_as_they_are_read(rt: HostRuntime) {
     assert_eq!(rt; lacpdu().encode(), lacpdu_payload(), "encode of the LACPDU");
     assert_eq!(rt; marker().encode(), marker_payload(), "encode of the marker");
     for pdu in [Pdu::Lacpdu(lacpdu()), Pdu::Marker(marker())] {
-        assert_eq!(rt; read_back(&pdu), Ok(pdu), "read_back");
+        assert_eq!(rt; encode_then_decode(&pdu), Ok(pdu), "read_back");
     }
 }
 
@@ -326,7 +326,7 @@ fn each_field(first: u8) -> Info {
 #[test]
 fn each_field_has_its_place(rt: HostRuntime) {
     let mut payload = [0; 110];
-    put(&mut payload, 0, &EACH_FIELD);
+    put_octets(&mut payload, 0, &EACH_FIELD);
     let said = Lacpdu {
         actor: each_field(0x10),
         partner: each_field(0x20),
@@ -344,7 +344,7 @@ const EACH_FIELD_OF_A_MARKER: [u8; 16] = [
 #[test]
 fn each_field_of_a_marker_has_its_place(rt: HostRuntime) {
     let mut payload = [0; 110];
-    put(&mut payload, 0, &EACH_FIELD_OF_A_MARKER);
+    put_octets(&mut payload, 0, &EACH_FIELD_OF_A_MARKER);
     let said = Marker {
         kind: MarkerKind::Response,
         port: 0x4041,

@@ -177,9 +177,12 @@ pub(crate) fn replayed(alloc: Global, pieces: &[&str]) -> Result<String, ToolFau
 
 #[test]
 fn one_cable(rt: HostRuntime) -> Result<(), Fail> {
-    for (events, text) in [(rows::ALONE, rows::ALONE_TEXT), (rows::UP, rows::UP_TEXT)] {
+    for (events, text) in [
+        (known_texts::ALONE, known_texts::ALONE_TEXT),
+        (known_texts::UP, known_texts::UP_TEXT),
+    ] {
         for limit in ["", "limit = 8\n"] {
-            let written = replayed(rt.alloc(), &[events, rows::ONE_CABLE, limit])?;
+            let written = replayed(rt.alloc(), &[events, known_texts::ONE_CABLE, limit])?;
             assert_eq!(rt; written.as_str(), text, "{events}{limit}");
         }
     }
@@ -421,7 +424,7 @@ cable 1 agreement not-both
 
 #[test]
 fn other_entries(rt: HostRuntime) -> Result<(), Fail> {
-    let written = replayed(rt.alloc(), &[OTHERS, rows::ONE_CABLE])?;
+    let written = replayed(rt.alloc(), &[OTHERS, known_texts::ONE_CABLE])?;
     assert_eq!(rt; written.as_str(), OTHERS_TEXT);
     Ok(())
 }
@@ -437,7 +440,7 @@ fn a_thousand_entries(rt: HostRuntime) -> Result<(), Fail> {
     }
     events.push_str("]\n")?;
     text.push_str("cable 1 agreement not-both\n")?;
-    let written = replayed(alloc, &[events.as_str(), rows::ONE_CABLE])?;
+    let written = replayed(alloc, &[events.as_str(), known_texts::ONE_CABLE])?;
     assert_eq!(rt; written.as_str(), text.as_str());
     Ok(())
 }
@@ -451,7 +454,7 @@ fn texts_that_are_no_script(rt: HostRuntime) -> Result<(), Fail> {
         ("events = [", ScriptFault::NotToml, "script: not toml"),
         ("other = 1\n", ScriptFault::ExtraKey, "script: extra key"),
     ] {
-        let written = replayed(alloc, &[events, rows::ONE_CABLE]);
+        let written = replayed(alloc, &[events, known_texts::ONE_CABLE]);
         let wanted = ToolFault::Script(fault);
         assert_eq!(rt; written, Err(wanted), "{events}");
         assert_eq!(rt; wanted.number(), 4);
@@ -469,13 +472,13 @@ fn limits_that_are_no_limit(rt: HostRuntime) -> Result<(), Fail> {
     let alloc = rt.alloc();
     for limit in ["limit = 0\n", "limit = 65536\n", "limit = \"8\"\n"] {
         let fault = ToolFault::Script(ScriptFault::CableLimit(1));
-        let written = replayed(alloc, &[rows::ONE_CABLE, limit]);
+        let written = replayed(alloc, &[known_texts::ONE_CABLE, limit]);
         assert_eq!(rt; written, Err(fault), "{limit}");
         let said = format!(in alloc; "{}", FaultText { fault, file: "a" })?;
         assert_eq!(rt; said.as_str(), "script: cable 1: limit", "{limit}");
     }
     for limit in ["limit = 1\n", "limit = 65535\n"] {
-        let written = replayed(alloc, &[rows::ONE_CABLE, limit])?;
+        let written = replayed(alloc, &[known_texts::ONE_CABLE, limit])?;
         assert_eq!(rt; written.as_str(), "cable 1 agreement not-both\n", "{limit}");
     }
     Ok(())
@@ -490,7 +493,13 @@ fn a_report_into_a_sink_that_fails(rt: HostRuntime) {
         let expected = if fits { Ok(()) } else { Err(ToolFault::Write) };
         for errs in [false, true] {
             let mut sink = sink_of(alloc, room, errs);
-            let answer = replay(alloc, rows::ONE_CABLE, by_number, by_number, &mut sink);
+            let answer = replay(
+                alloc,
+                known_texts::ONE_CABLE,
+                by_number,
+                by_number,
+                &mut sink,
+            );
             assert_eq!(rt; answer, expected, "room for {room} octets");
             let taken = sink.into_inner().taken;
             assert_eq!(rt; taken.as_slice(), &text[..room], "room for {room} octets");

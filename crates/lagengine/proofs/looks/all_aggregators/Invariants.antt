@@ -4,4 +4,4 @@ use Rattle.lagengine.specs.Looks.{agg_answer, agg_answer_value}
 use Rattle.lagengine.proofs.looks.all_aggregators.Given as goal
 
 abbrev pub invariant-loop-agg : goal.invariant-loop-agg
-invariant-loop-agg g l = map agg_answer_value l.told.items ≡ map (agg_answer l.system.state) (range_with_len 0 (l.agg + 1))
+invariant-loop-agg g l = map agg_answer_value l.answer.items ≡ map (agg_answer l.system.state) (range_with_len 0 (l.agg + 1))

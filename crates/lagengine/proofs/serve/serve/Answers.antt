@@ -1,6 +1,6 @@
 use Rattle.std.proofs.Common.{ℕ, ◌∙◌, ◌≡◌, ◌≤◌, [], ap, arith, length, subst, sym, take}
 use Rattle.std.proofs.lemmas.List.{length-take-le}
-use Rattle.distributor.specs.Calls.{PicksPlaces}
+use Rattle.distributor.specs.Calls.{PicksIndexes}
 use Rattle.lagengine.specs.Inputs.{line_if_any, lines_of, continue_line}
 use Rattle.lagengine.specs.Sessions.{Feeds, Finishes, StopsAnswering, session_of}
 use Rattle.lagengine.specs.declared.stopped.Stopped.TheVariants.{Read}
@@ -9,11 +9,11 @@ use Rattle.lagengine.proofs.serve.serve.Goals as goal
 
 pub feed-requires : goal.feed-requires
 feed-requires g c =
-    record { usable = subst (λ f. PicksPlaces (λ conv count. g.F.Fn.pre f (conv, (count, tt))) (λ conv count place. g.F.Fn.post f (conv, (count, tt)) place)) (sym c.loop-session.invariant.algorithm) c.requires.usable }
+    record { usable = subst (λ f. PicksIndexes (λ conv count. g.F.Fn.pre f (conv, (count, tt))) (λ conv count place. g.F.Fn.post f (conv, (count, tt)) place)) (sym c.loop-session.invariant.algorithm) c.requires.usable }
 
 pub finish-requires : goal.finish-requires
 finish-requires g c =
-    record { usable = subst (λ f. PicksPlaces (λ conv count. g.F.Fn.pre f (conv, (count, tt))) (λ conv count place. g.F.Fn.post f (conv, (count, tt)) place)) (sym c.loop-session.invariant.algorithm) c.requires.usable }
+    record { usable = subst (λ f. PicksIndexes (λ conv count. g.F.Fn.pre f (conv, (count, tt))) (λ conv count place. g.F.Fn.post f (conv, (count, tt)) place)) (sym c.loop-session.invariant.algorithm) c.requires.usable }
 
 pub loop-session-init : goal.loop-session-init
 loop-session-init g c =

@@ -1,6 +1,6 @@
 use mathlib.Core.Path.{subst}
 use Rattle.lagsystem.specs.Calls.{Call}
-use Rattle.lagsystem.specs.Sound.{Answers}
+use Rattle.lagsystem.specs.Sound.{CallPromise}
 use Rattle.lagsystem.specs.declared.drive.Reply.{Reply}
 use Rattle.lagffi.specs.Asking.{by_number_gives}
 use Rattle.lagffi.proofs.AskingLemmas.{called}
@@ -8,5 +8,5 @@ use Rattle.lagffi.proofs.calls.lagffi_configure.Goals as goal
 
 pub returns : goal.returns
 returns c =
-    let asked = subst (λ change. Answers by_number_gives c.with_algorithm-system.result.state (Call.Configure c.args.port change) (Reply.Configure c.configure-answer.result) c.configure-answer.new.self.state) c.change.ensures c.configure-answer.ensures.answers in
+    let asked = subst (λ change. CallPromise by_number_gives c.with_algorithm-system.result.state (Call.Configure c.args.port change) (Reply.Configure c.configure-answer.result) c.configure-answer.new.self.state) c.change.ensures c.configure-answer.ensures.answers in
     called _ _ c.in-Some.ensures.taken c.with_algorithm-system.ensures.state c.with_algorithm.ensures.state c.put.ensures (c.configure-answer.result, asked, c.of.ensures)

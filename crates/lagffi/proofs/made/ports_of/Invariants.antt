@@ -1,10 +1,10 @@
 use Rattle.std.proofs.Common.{◌≡◌, ◌≤◌, length, map, take, vec_capacity, vec_len}
-use Rattle.lagffi.specs.Made.{port_config_of}
+use Rattle.lagffi.specs.Made.{lag_port_config}
 use Rattle.lagffi.proofs.made.ports_of.Given as goal
 
 abbrev pub invariant-loop-port : goal.invariant-loop-port
 invariant-loop-port l = record {
-  same : l.found.items ≡ map port_config_of (take l.port-index l.ports);
+  same : l.found.items ≡ map lag_port_config (take l.port-index l.ports);
   count : vec_len l.found ≡ l.port-index;
   room : length l.ports ≤ vec_capacity l.found;
 }

@@ -1,12 +1,12 @@
 use mathlib.Core.Path.{◌∙◌, ap, subst, sym}
 use Rattle.lagtypes.specs.declared.identifiers.SystemId.{SystemId}
-use Rattle.lagffi.specs.Made.{IsMade}
+use Rattle.lagffi.specs.Made.{IsMadeOfLagConfig}
 use Rattle.lagffi.proofs.made.system_of.Goals as goal
 
 pub returns-clause-made : goal.returns-clause-made
 returns-clause-made c =
     let configured = c.in_ok-system.ensures.configured in
-    subst (IsMade c.args.config.now c.args.keys.now c.args.ports.now) (sym c.with_algorithm.ensures.state) (record {
+    subst (IsMadeOfLagConfig c.args.config.now c.args.keys.now c.args.ports.now) (sym c.with_algorithm.ensures.state) (record {
       first = c.in_ok-system.ensures.first;
       agrees = c.in_ok-system.ensures.agrees;
       shows = c.in_ok-system.ensures.shows;

@@ -1,13 +1,13 @@
 use mathlib.Core.Path.{◌∙◌, ap, subst}
 use Rattle.std.specs.Prelude.{IfSome, ◌<◌}
 use Rattle.lagsystem.specs.Readers.{conversation_count}
-use Rattle.lagffi.specs.Numbers.{number_in}
+use Rattle.lagffi.specs.Numbers.{number_or_refused}
 use Rattle.lagffi.proofs.AskingLemmas.{asked}
 use Rattle.lagffi.proofs.readers.lagffi_conversation.Goals as goal
 
 pub returns : goal.returns
 returns c =
     asked _ _ c.in-Some.ensures.taken c.with_algorithm-system.ensures.state c.with_algorithm.ensures.state c.put.ensures (
-      c.or-answer.ensures ∙ ap (number_in 3) c.conversation.ensures.is,
+      c.or-answer.ensures ∙ ap (number_or_refused 3) c.conversation.ensures.is,
       subst (λ o. IfSome o (λ conv. conv < conversation_count c.with_algorithm-system.result.state)) c.conversation.ensures.is c.conversation.ensures.within,
     )

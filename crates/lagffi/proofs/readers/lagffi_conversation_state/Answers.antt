@@ -1,7 +1,7 @@
 use mathlib.Core.Path.{◌∙◌, ap}
-use Rattle.lagffi.specs.ReaderValues.{assignment_in}
+use Rattle.lagffi.specs.ReaderValues.{assignment_or_refused}
 use Rattle.lagffi.proofs.AskingLemmas.{asked}
 use Rattle.lagffi.proofs.readers.lagffi_conversation_state.Goals as goal
 
 pub returns : goal.returns
-returns c = asked _ _ c.in-Some.ensures.taken c.with_algorithm-system.ensures.state c.with_algorithm.ensures.state c.put.ensures (c.of-answer.ensures ∙ ap assignment_in c.conversation_state.ensures)
+returns c = asked _ _ c.in-Some.ensures.taken c.with_algorithm-system.ensures.state c.with_algorithm.ensures.state c.put.ensures (c.of-answer.ensures ∙ ap assignment_or_refused c.conversation_state.ensures)

@@ -12,8 +12,8 @@ use Rattle.lagffi.proofs.readers.lagffi_distributing.Goals as goal
 pub returns-clause-answers : goal.returns-clause-answers
 returns-clause-answers c fits =
     asked _ _ c.in-Some.ensures.taken c.with_algorithm-system.ensures.state c.with_algorithm.ensures.state c.put.ensures (
-      c.told.ensures ∙ ap number (c.put_first.ensures.count ∙ ap length c.distributing-told.ensures.all),
-      c.put_first.ensures.written ∙ ap (λ ns. put_first ns c.args.buffer.now) c.distributing-told.ensures.all,
-      subst (λ ns. IsStrictlyIncreasing ns) c.distributing-told.ensures.all c.distributing-told.ensures.ascending,
-      subst (λ (ns : List ℕ). OnFalse (has_aggregator c.with_algorithm-system.result.state (aggregator_numbered c.args.agg)) (ns ≡ [])) c.distributing-told.ensures.all c.distributing-told.ensures.unknown,
+      c.answered.ensures ∙ ap number (c.put_first.ensures.count ∙ ap length c.distributing-answered.ensures.all),
+      c.put_first.ensures.written ∙ ap (λ ns. put_first ns c.args.buffer.now) c.distributing-answered.ensures.all,
+      subst (λ ns. IsStrictlyIncreasing ns) c.distributing-answered.ensures.all c.distributing-answered.ensures.ascending,
+      subst (λ (ns : List ℕ). OnFalse (has_aggregator c.with_algorithm-system.result.state (aggregator_numbered c.args.agg)) (ns ≡ [])) c.distributing-answered.ensures.all c.distributing-answered.ensures.unknown,
     )

@@ -1,7 +1,7 @@
 use mathlib.Core.Path.{◌∙◌, ap}
-use Rattle.lagffi.specs.ReaderValues.{marker_of}
+use Rattle.lagffi.specs.ReaderValues.{lag_marker}
 use Rattle.lagffi.proofs.AskingLemmas.{asked}
 use Rattle.lagffi.proofs.readers.lagffi_next_marker.Goals as goal
 
 pub returns : goal.returns
-returns c = asked _ _ c.in-Some.ensures.taken c.with_algorithm-system.ensures.state c.with_algorithm.ensures.state c.put.ensures (c.of-answer.ensures ∙ ap marker_of c.next_marker.ensures)
+returns c = asked _ _ c.in-Some.ensures.taken c.with_algorithm-system.ensures.state c.with_algorithm.ensures.state c.put.ensures (c.of-answer.ensures ∙ ap lag_marker c.next_marker.ensures)

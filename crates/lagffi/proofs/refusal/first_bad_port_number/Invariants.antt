@@ -1,10 +1,10 @@
 use Rattle.std.proofs.Common.{◌≡◌, ◌+◌, drop, map}
 use Rattle.lagsystem.specs.First.{first_bad_port_number, configured_numbers}
-use Rattle.lagffi.specs.Made.{port_config_of}
+use Rattle.lagffi.specs.Made.{lag_port_config}
 use Rattle.lagffi.proofs.refusal.first_bad_port_number.Given as goal
 
 abbrev pub invariant-loop-port : goal.invariant-loop-port
 invariant-loop-port l = record {
   count : l.place ≡ l.port-index;
-  rest : first_bad_port_number (l.place + 1) l.low (configured_numbers (map port_config_of (drop l.port-index l.ports))) ≡ first_bad_port_number 1 0 (configured_numbers (map port_config_of l.ports));
+  rest : first_bad_port_number (l.place + 1) l.low (configured_numbers (map lag_port_config (drop l.port-index l.ports))) ≡ first_bad_port_number 1 0 (configured_numbers (map lag_port_config l.ports));
 }

@@ -1,5 +1,5 @@
 use Rattle.std.proofs.Common.{◌≡◌, ◌+◌, drop, map}
-use Rattle.lagscript.specs.Readings.{in_place}
+use Rattle.lagscript.specs.Readings.{each_at_place}
 use Rattle.lagscript.specs.Results.{table_members}
 use Rattle.lagscript.specs.Tables.{cable_of}
 use Rattle.lagscript.proofs.Walks.{after}
@@ -8,5 +8,5 @@ use Rattle.lagscript.proofs.script.each_cable.Given as goal
 abbrev pub invariant-loop-table : goal.invariant-loop-table
 invariant-loop-table l = record {
   count : l.place ≡ l.table-index;
-  rest : after l.cables.items (in_place (cable_of) (l.place + 1) (map table_members (drop l.table-index l.tables))) ≡ in_place (cable_of) 1 (map table_members l.tables);
+  rest : after l.cables.items (each_at_place (cable_of) (l.place + 1) (map table_members (drop l.table-index l.tables))) ≡ each_at_place (cable_of) 1 (map table_members l.tables);
 }

@@ -1,5 +1,5 @@
 use Rattle.std.proofs.Common.{◌≡◌, ◌+◌, drop, map}
-use Rattle.lagscript.specs.Readings.{in_place}
+use Rattle.lagscript.specs.Readings.{each_at_place}
 use Rattle.lagscript.specs.EventValues.{event_values}
 use Rattle.lagscript.specs.Entries.{event_at}
 use Rattle.lagscript.specs.Results.{word_octets}
@@ -9,5 +9,5 @@ use Rattle.lagscript.proofs.script.each_event.Given as goal
 abbrev pub invariant-loop-text : goal.invariant-loop-text
 invariant-loop-text l = record {
   count : l.place ≡ l.text-index;
-  rest : after (event_values l.events.items) (in_place (event_at l.cables) (l.place + 1) (map word_octets (drop l.text-index l.texts))) ≡ in_place (event_at l.cables) 1 (map word_octets l.texts);
+  rest : after (event_values l.events.items) (each_at_place (event_at l.cables) (l.place + 1) (map word_octets (drop l.text-index l.texts))) ≡ each_at_place (event_at l.cables) 1 (map word_octets l.texts);
 }

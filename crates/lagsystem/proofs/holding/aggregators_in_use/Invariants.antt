@@ -2,5 +2,5 @@ use Rattle.std.proofs.Common.{◌≡◌, take}
 use Rattle.lagsystem.specs.Holding.{aggregators_in_use}
 use Rattle.lagsystem.proofs.holding.aggregators_in_use.Given as goal
 
-abbrev pub invariant-loop-slot : goal.invariant-loop-slot
-invariant-loop-slot l = l.found.items ≡ aggregators_in_use (take l.slot-index l.slots)
+abbrev pub invariant-loop-system_port : goal.invariant-loop-system_port
+invariant-loop-system_port l = l.found.items ≡ aggregators_in_use (take l.system_port-index l.system_ports)

@@ -28,12 +28,12 @@ leaves_once old new h = record {
   first = refl;
   next = refl;
   states = λ g k.
-      let ports = distributing (aggregator_numbered g) old.slots in
-      let same : distributing (aggregator_numbered g) new.slots ≡ ports = ap (λ (s : SystemState). distributing (aggregator_numbered g) s.slots) h.frame in
+      let ports = distributing (aggregator_numbered g) old.system_ports in
+      let same : distributing (aggregator_numbered g) new.system_ports ≡ ports = ap (λ (s : SystemState). distributing (aggregator_numbered g) s.system_ports) h.frame in
       h.states g k ∙ sym (left_once ports (assignment_of old.table g k)) ∙ ap (held_unless_on ports) (sym (h.states g k)) ∙ ap (λ l. held_unless_on l (assignment_of new.table g k)) (sym same);
 }
 
 pub returns : goal.returns
 returns c old new ports h =
     let k = settling_quiet old new (ports_rise old ports) h in
-    settling_joined new new new (still_settles new new.slots k.0 (paced_runs new.slots k.1)) (leaves_once (settling_parts old new h).0 new (settling_parts old new h).2)
+    settling_joined new new new (still_settles new new.system_ports k.0 (paced_runs new.system_ports k.1)) (leaves_once (settling_parts old new h).0 new (settling_parts old new h).2)

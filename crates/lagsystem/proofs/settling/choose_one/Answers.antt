@@ -1,7 +1,7 @@
 use Rattle.std.proofs.Common.{◌∙◌, ap, sym, get_or, Some, None, slice_set, List}
 use Rattle.std.proofs.lemmas.Option.{slice_get-get_or}
 use Rattle.portmachines.specs.Machines.{Machines}
-use Rattle.selection.specs.Choice.{choice}
+use Rattle.selection.specs.Choice.{chosen_aggregator}
 use Rattle.selection.specs.declared.view.PortView.{PortView}
 use Rattle.lagsystem.specs.Views.{views}
 use Rattle.lagsystem.proofs.Choosing.{seen_taken}
@@ -10,39 +10,39 @@ use Rattle.lagsystem.proofs.settling.choose_one.Goals as goal
 
 pub returns-then-not-is_eligible-clause-chosen : goal.returns-then-not-is_eligible-clause-chosen
 returns-then-not-is_eligible-clause-chosen c =
-    let slots = c.args.slots.now in
+    let system_ports = c.args.system_ports.now in
     let i = c.args.place in
-    let d = c.index-slots-place.result in
-    none_taken c.args.aggregators.now slots i (get_or slots i d) (slice_get-get_or slots i d c.requires.within)
+    let d = c.index-system_ports-place.result in
+    none_taken c.args.aggregators.now system_ports i (get_or system_ports i d) (slice_get-get_or system_ports i d c.requires.within)
     (sym c.is_eligible.ensures ∙ c.if-not-is_eligible.true)
 
 pub returns-in-Some-clause-chosen : goal.returns-in-Some-clause-chosen
 returns-in-Some-clause-chosen c =
-    let slots = c.args.slots.now in
+    let system_ports = c.args.system_ports.now in
     let i = c.args.place in
-    let d = c.index-slots-place.result in
-    let t = get_or slots i c.index-slots-place-2.result in
-    ap (λ (p : Machines). slice_set slots i (record t { port = p })) c.select.ensures
-    ∙ one_taken c.args.aggregators.now slots i (get_or slots i d) t (Some c.in-Some.agg)
-    (slice_get-get_or slots i d c.requires.within) (slice_get-get_or slots i c.index-slots-place-2.result c.requires.within)
+    let d = c.index-system_ports-place.result in
+    let t = get_or system_ports i c.index-system_ports-place-2.result in
+    ap (λ (p : Machines). slice_set system_ports i (record t { port = p })) c.select.ensures
+    ∙ one_taken c.args.aggregators.now system_ports i (get_or system_ports i d) t (Some c.in-Some.agg)
+    (slice_get-get_or system_ports i d c.requires.within) (slice_get-get_or system_ports i c.index-system_ports-place-2.result c.requires.within)
     (sym c.is_eligible.ensures ∙ c.if-not-is_eligible.false)
-    (sym c.in-Some.is ∙ c.choose.ensures.exact ∙ ap (λ (l : List PortView). choice c.args.aggregators.now l t.number) c.requires.port_views)
+    (sym c.in-Some.is ∙ c.choose.ensures.exact ∙ ap (λ (l : List PortView). chosen_aggregator c.args.aggregators.now l t.number) c.requires.port_views)
 
 pub returns-in-Some-clause-port_views : goal.returns-in-Some-clause-port_views
 returns-in-Some-clause-port_views c =
-    let slots = c.args.slots.now in
+    let system_ports = c.args.system_ports.now in
     let i = c.args.place in
-    let t = get_or slots i c.index-slots-place-2.result in
-    seen_taken c.args.port_views.now slots i _ c.index-slots-place-2.result c.in-Some.agg c.requires.port_views c.requires.within
-    ∙ ap (λ (p : Machines). views (slice_set slots i (record t { port = p }))) (sym c.select.ensures)
+    let t = get_or system_ports i c.index-system_ports-place-2.result in
+    seen_taken c.args.port_views.now system_ports i _ c.index-system_ports-place-2.result c.in-Some.agg c.requires.port_views c.requires.within
+    ∙ ap (λ (p : Machines). views (slice_set system_ports i (record t { port = p }))) (sym c.select.ensures)
 
 pub returns-in_default-clause-chosen : goal.returns-in_default-clause-chosen
 returns-in_default-clause-chosen c =
-    let slots = c.args.slots.now in
+    let system_ports = c.args.system_ports.now in
     let i = c.args.place in
-    let d = c.index-slots-place.result in
-    let t = get_or slots i c.index-slots-place-2.result in
-    one_taken c.args.aggregators.now slots i (get_or slots i d) t None
-    (slice_get-get_or slots i d c.requires.within) (slice_get-get_or slots i c.index-slots-place-2.result c.requires.within)
+    let d = c.index-system_ports-place.result in
+    let t = get_or system_ports i c.index-system_ports-place-2.result in
+    one_taken c.args.aggregators.now system_ports i (get_or system_ports i d) t None
+    (slice_get-get_or system_ports i d c.requires.within) (slice_get-get_or system_ports i c.index-system_ports-place-2.result c.requires.within)
     (sym c.is_eligible.ensures ∙ c.if-not-is_eligible.false)
-    (sym c.in_default.is ∙ c.choose.ensures.exact ∙ ap (λ (l : List PortView). choice c.args.aggregators.now l t.number) c.requires.port_views)
+    (sym c.in_default.is ∙ c.choose.ensures.exact ∙ ap (λ (l : List PortView). chosen_aggregator c.args.aggregators.now l t.number) c.requires.port_views)

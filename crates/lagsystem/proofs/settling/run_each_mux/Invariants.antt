@@ -1,9 +1,9 @@
 use Rattle.portmachines.specs.Rows.{RunsToRest}
 use Rattle.portmachines.specs.Mux.{mux_rows}
 use Rattle.lagsystem.specs.Settling.{ready_of}
-use Rattle.lagsystem.specs.Settling.{PortGoes}
+use Rattle.lagsystem.specs.Settling.{PortChangesBy}
 use Rattle.lagsystem.proofs.Lists.{SoFar}
 use Rattle.lagsystem.proofs.settling.run_each_mux.Given as goal
 
-abbrev pub invariant-loop-slot : goal.invariant-loop-slot
-invariant-loop-slot l = SoFar (PortGoes (λ p q. RunsToRest (mux_rows (ready_of l.aggregators l.port_views p.choice)) p q)) l.slot-index l.initial.slots l.slots
+abbrev pub invariant-loop-system_port : goal.invariant-loop-system_port
+invariant-loop-system_port l = SoFar (PortChangesBy (λ p q. RunsToRest (mux_rows (ready_of l.aggregators l.port_views p.choice)) p q)) l.system_port-index l.initial.system_ports l.system_ports

@@ -1,14 +1,14 @@
 use Rattle.std.proofs.Common.{arith}
 use Rattle.portmachines.specs.Periodic.{RunsPeriodic}
-use Rattle.lagsystem.specs.Settling.{PortGoes}
+use Rattle.lagsystem.specs.Settling.{PortChangesBy}
 use Rattle.lagsystem.proofs.Lists.{SoFar-more, SoFar-all}
 use Rattle.lagsystem.proofs.settling.run_each_periodic.Goals as goal
 
-pub loop-slot-preserved : goal.loop-slot-preserved
-loop-slot-preserved c =
-    SoFar-more (PortGoes (RunsPeriodic)) c.loop-slot.slot-index c.args.slots.now c.loop-slot.slots c.slot-item.result c.run_one_periodic.new.slot
-    (omega arith) c.loop-slot.invariant c.run_one_periodic.ensures
+pub loop-system_port-preserved : goal.loop-system_port-preserved
+loop-system_port-preserved c =
+    SoFar-more (PortChangesBy (RunsPeriodic)) c.loop-system_port.system_port-index c.args.system_ports.now c.loop-system_port.system_ports c.system_port-item.result c.run_one_periodic.new.system_port
+    (omega arith) c.loop-system_port.invariant c.run_one_periodic.ensures
 
 pub returns : goal.returns
 returns c =
-    SoFar-all (PortGoes (RunsPeriodic)) c.loop-slot.slot-index c.args.slots.now c.loop-slot.slots (omega arith) c.loop-slot.invariant
+    SoFar-all (PortChangesBy (RunsPeriodic)) c.loop-system_port.system_port-index c.args.system_ports.now c.loop-system_port.system_ports (omega arith) c.loop-system_port.invariant

@@ -1,7 +1,7 @@
 use Rattle.std.proofs.Common.{arith, take, length, get_or, ◌<◌, [], false}
 use Rattle.lagsystem.specs.declared.config.PortConfig.{PortConfig}
 use Rattle.std.proofs.lemmas.List.{take_more}
-use Rattle.lagsystem.specs.First.{IsNew}
+use Rattle.lagsystem.specs.First.{HasJustStarted}
 use Rattle.lagsystem.proofs.Lists.{each-push}
 use Rattle.lagsystem.proofs.start.new_system_ports.Goals as goal
 
@@ -13,6 +13,6 @@ loop-port-preserved c = record {
       let d : PortConfig = record { number = 0; priority = 0; mac = []; key = record { 0 = 0 }; aggregatable = false; active = false; short = false } in
       let within : i < length ports = omega arith in
       rw (take_more ports i d within, c.in_ok-push.ensures.items)
-      (each-push (IsNew c.args.system) (take i ports) c.loop-port.slots.items (get_or ports i d) c.new.result c.loop-port.invariant.new c.new.ensures);
+      (each-push (HasJustStarted c.args.system) (take i ports) c.loop-port.system_ports.items (get_or ports i d) c.new.result c.loop-port.invariant.new c.new.ensures);
   count = omega (arith, c.in_ok-push.ensures.len);
 }

@@ -2,5 +2,5 @@ use Rattle.std.proofs.Common.{◌≡◌, take}
 use Rattle.lagsystem.specs.State.{port_numbers}
 use Rattle.lagsystem.proofs.system_readers.port_numbers.Given as goal
 
-abbrev pub invariant-loop-slot : goal.invariant-loop-slot
-invariant-loop-slot l = l.found.items ≡ port_numbers (take l.slot-index l.slots)
+abbrev pub invariant-loop-system_port : goal.invariant-loop-system_port
+invariant-loop-system_port l = l.found.items ≡ port_numbers (take l.system_port-index l.system_ports)

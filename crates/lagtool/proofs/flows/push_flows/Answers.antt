@@ -4,7 +4,7 @@ use Rattle.lagtool.specs.ReplayReport.{aggregator_flows_text}
 use Rattle.lagtool.proofs.OfferedLemmas.{row_skipped, unset}
 use Rattle.lagtool.proofs.ReplayLemmas.{appended_both, range_more}
 use Rattle.lagtool.proofs.flows.push_flows.Goals as goal
-use Rattle.lagtool.proofs.flows.push_flows.Goals.{then-index+in_ok-push_row, else-index}
+use Rattle.lagtool.proofs.flows.push_flows.Goals.{then-index+in_ok-push_aggregator_flows, else-index}
 
 pub loop-place-preserved : goal.loop-place-preserved
 loop-place-preserved g c =
@@ -13,7 +13,7 @@ loop-place-preserved g c =
     let j = c.args.world.now.state in
     let offers = c.in_ok-offers.offers.items in
     elim c.if-index.branch [
-      | then-index+in_ok-push_row w ↦ ap string_bytes w.text-is ∙ appended_both _ _ _ _ _ _ c.loop-place.invariant w.in_ok-push_row.ensures (range_more (aggregator_flows_text j s) 1 i (i + 1) (i + 1) (omega arith) refl)
+      | then-index+in_ok-push_aggregator_flows w ↦ ap string_bytes w.text-is ∙ appended_both _ _ _ _ _ _ c.loop-place.invariant w.in_ok-push_aggregator_flows.ensures (range_more (aggregator_flows_text j s) 1 i (i + 1) (i + 1) (omega arith) refl)
       | else-index w ↦ (
           let inside : i + 1 < length offers = omega (arith, c.in_ok-offers.ensures.length, c.loop-place-test.true) in
           let off = unset offers c.from.result (i + 1) c.index.result.now (omega (arith, c.from.ensures)) inside c.index.ensures w.if-index.false in

@@ -1,12 +1,12 @@
 use Rattle.std.proofs.Common.{◌≡◌, List, length, map, ap, sym, ◌∙◌, subst}
 use Rattle.std.proofs.lemmas.List.{length-map}
-use Rattle.distributor.specs.Calls.{PicksPlaces}
-use Rattle.lagworld.specs.Events.{Algorithms, Runs}
+use Rattle.distributor.specs.Calls.{PicksIndexes}
+use Rattle.lagworld.specs.Events.{Algorithms, WorldRuns}
 use Rattle.lagworld.specs.Sound.{both_algorithms}
 use Rattle.lagworld.specs.declared.reply.Reply.{Reply}
 use Rattle.lagtool.specs.Naming.{AllNameExisting}
 use Rattle.lagtool.specs.ReplayReport.{empty_link}
-use Rattle.lagtool.specs.ReplaySteps.{report_with_counts}
+use Rattle.lagtool.specs.ReplaySteps.{replay_report_with_counts}
 use Rattle.lagtool.proofs.OfferedLemmas.{sent_where_offered}
 use Rattle.lagtool.proofs.PlayingLemmas.{cables_counted, first_bare, lines_there}
 use Rattle.lagtool.proofs.ReplayLemmas.{as_many}
@@ -21,11 +21,11 @@ make_world-requires-clause-lines g c =
 
 pub run_events-requires-clause-one : goal.run_events-requires-clause-one
 run_events-requires-clause-one g c =
-    subst (λ f. PicksPlaces (λ conv count. g.F.Fn.pre f (conv, (count, tt))) (λ conv count place. g.F.Fn.post f (conv, (count, tt)) place)) (sym c.in-Ok-make_world.ensures.algorithm_one) c.requires.one
+    subst (λ f. PicksIndexes (λ conv count. g.F.Fn.pre f (conv, (count, tt))) (λ conv count place. g.F.Fn.post f (conv, (count, tt)) place)) (sym c.in-Ok-make_world.ensures.algorithm_one) c.requires.one
 
 pub run_events-requires-clause-two : goal.run_events-requires-clause-two
 run_events-requires-clause-two g c =
-    subst (λ f. PicksPlaces (λ conv count. g.F.Fn.pre f (conv, (count, tt))) (λ conv count place. g.F.Fn.post f (conv, (count, tt)) place)) (sym c.in-Ok-make_world.ensures.algorithm_two) c.requires.two
+    subst (λ f. PicksIndexes (λ conv count. g.F.Fn.pre f (conv, (count, tt))) (λ conv count place. g.F.Fn.post f (conv, (count, tt)) place)) (sym c.in-Ok-make_world.ensures.algorithm_two) c.requires.two
 
 pub run_events-requires-clause-acted : goal.run_events-requires-clause-acted
 run_events-requires-clause-acted g c = c.in-Ok-make_world.ensures.made.acted
@@ -52,8 +52,8 @@ returns-clause-ok g c =
     let es = c.args.events.now in
     let rs = c.in-Ok-run_events.replies.items in
     let counts = c.aggregator_counts-counts.result in
-    let runs_one = subst (λ f. Runs (both_algorithms (λ conv count place. g.F.Fn.post f (conv, (count, tt)) place) (λ conv count place. g.F.Fn.post c.in-Ok-make_world.world.two (conv, (count, tt)) place)) old es rs new) c.in-Ok-make_world.ensures.algorithm_one c.in-Ok-run_events.ensures.ran in
-    let runs_both = subst (λ f. Runs (both_algorithms (λ conv count place. g.F.Fn.post c.args.one (conv, (count, tt)) place) (λ conv count place. g.F.Fn.post f (conv, (count, tt)) place)) old es rs new) c.in-Ok-make_world.ensures.algorithm_two runs_one in
+    let runs_one = subst (λ f. WorldRuns (both_algorithms (λ conv count place. g.F.Fn.post f (conv, (count, tt)) place) (λ conv count place. g.F.Fn.post c.in-Ok-make_world.world.two (conv, (count, tt)) place)) old es rs new) c.in-Ok-make_world.ensures.algorithm_one c.in-Ok-run_events.ensures.ran in
+    let runs_both = subst (λ f. WorldRuns (both_algorithms (λ conv count place. g.F.Fn.post c.args.one (conv, (count, tt)) place) (λ conv count place. g.F.Fn.post f (conv, (count, tt)) place)) old es rs new) c.in-Ok-make_world.ensures.algorithm_two runs_one in
     record {
       replies = rs;
       to = new;
@@ -65,5 +65,5 @@ returns-clause-ok g c =
         runs = runs_both;
         sound = c.in-Ok-run_events.ensures.sound;
       };
-      says = c.in_ok-report_of.ensures ∙ ap (λ (xs : List Reply). report_with_counts counts.0 counts.1 es xs new) c.deref.ensures.value ∙ reported_is counts.0 counts.1 c.args.config.systems es rs new c.aggregator_counts-counts.ensures;
+      says = c.in_ok-report_of.ensures ∙ ap (λ (xs : List Reply). replay_report_with_counts counts.0 counts.1 es xs new) c.deref.ensures.value ∙ reported_is counts.0 counts.1 c.args.config.systems es rs new c.aggregator_counts-counts.ensures;
     }

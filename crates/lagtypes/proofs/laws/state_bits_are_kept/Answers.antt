@@ -1,8 +1,8 @@
-use Rattle.lagtypes.proofs.StateLemmas.{read_back, write_back}
+use Rattle.lagtypes.proofs.StateLemmas.{encode_then_decode, write_back}
 use Rattle.lagtypes.proofs.laws.state_bits_are_kept.Goals as goal
 
 pub returns-clause-read : goal.returns-clause-read
-returns-clause-read c = read_back
+returns-clause-read c = encode_then_decode
 
 pub returns-clause-written : goal.returns-clause-written
 returns-clause-written c = write_back

@@ -4,12 +4,12 @@ use Rattle.lagworld.specs.Places.{IsReservedAt}
 use Rattle.lagworld.specs.Sides.{model_side}
 use Rattle.lagworld.proofs.sending.reserve_all.Given as goal
 
-abbrev pub invariant-loop-place : goal.invariant-loop-place
-invariant-loop-place g l = record {
+abbrev pub invariant-loop-index : goal.invariant-loop-index
+invariant-loop-index g l = record {
   same : link_states g.C.Cable.items g.C.Cable.limit l.links.items ≡ link_states g.C.Cable.items g.C.Cable.limit l.fn.links.items;
   len : length l.links.items ≡ length l.fn.links.items;
-  reserved : (i : ℕ) → i < l.place → IsReservedAt g.C.Cable.reserved (model_side l.side) (Some i) l.links.items;
+  reserved : (i : ℕ) → i < l.index → IsReservedAt g.C.Cable.reserved (model_side l.side) (Some i) l.links.items;
 }
 
-abbrev pub decreases-loop-place : goal.decreases-loop-place
-decreases-loop-place g l = length l.fn.links.items - l.place
+abbrev pub decreases-loop-index : goal.decreases-loop-index
+decreases-loop-index g l = length l.fn.links.items - l.index

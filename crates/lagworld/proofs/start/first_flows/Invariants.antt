@@ -1,12 +1,12 @@
 use Rattle.std.proofs.Common.{◌≡◌, ◌≤◌, ◌-◌, map, replicate, vec_capacity, vec_len}
-use Rattle.lagworld.specs.Inner.{serials_of}
-use Rattle.lagworld.specs.Making.{first_row}
+use Rattle.lagworld.specs.Inner.{flow_value}
+use Rattle.lagworld.specs.Making.{first_aggregator_flows}
 use Rattle.lagworld.proofs.start.first_flows.Given as goal
 
 abbrev pub invariant-loop-made : goal.invariant-loop-made
 invariant-loop-made l = record {
   within : l.made ≤ l.count;
-  same : map (λ xs. map serials_of xs.items) l.rows.items ≡ replicate l.made first_row;
+  same : map (λ xs. map flow_value xs.items) l.rows.items ≡ replicate l.made first_aggregator_flows;
   count : vec_len l.rows ≡ l.made;
   room : l.count ≤ vec_capacity l.rows;
 }

@@ -5,13 +5,13 @@ use Rattle.distributor.specs.declared.assignment.Assignment.{Assignment}
 use Rattle.distributor.specs.declared.assignment.Assignment.TheVariants.{Free}
 use Rattle.distributor.specs.declared.change.Change.{Change}
 use Rattle.distributor.specs.Changes.{after_change}
-use Rattle.distributor.specs.Chains.{assignment_port, state_at, IsLinked}
+use Rattle.distributor.specs.Chains.{assignment_port, slot_state, IsChained}
 use Rattle.distributor.proofs.FlagLemmas.{change_flagged}
 use Rattle.distributor.proofs.WalkLemmas.{Walking, steps, walk_begins, walk_ends, walk_below, walk_after, walk_before, step_stays, step_leaves, stays_smaller, leaves_smaller, port_kept, walk_all, walk_found}
 use Rattle.distributor.proofs.slots.Slots.change_chain.Goals as goal
 
 -- the first place of a chain, as it is read
-begin : (count : ℕ) (states : List Assignment) (next prev : List ℕ) (h : IsLinked count states next prev) (chain at : ℕ) (f : Assignment → Assignment) → chain < 64
+begin : (count : ℕ) (states : List Assignment) (next prev : List ℕ) (h : IsChained count states next prev) (chain at : ℕ) (f : Assignment → Assignment) → chain < 64
     → at ≡ get_or next (count + chain) at → Walking chain f count states states next prev at false
 begin count states next prev h chain at f lt read =
     let e : at ≡ get_or next (count + chain) 0 = get_or_read next (count + chain) at (omega (arith, h.next_len, lt)) read 0 in
@@ -22,15 +22,15 @@ module _ (chain : ℕ) (change : Change) (count : ℕ) (olds states : List Assig
   below : at < count
   below = walk_below chain (after_change change) count olds states next prev at found w n
 
-  read_state : (s : Assignment) → s ≡ get_or states at s → s ≡ state_at states at
-  read_state s r = get_or_read states at s (omega (arith, below, w.linked.states_len)) r (Free None)
+  read_state : (s : Assignment) → s ≡ get_or states at s → s ≡ slot_state states at
+  read_state s r = get_or_read states at s (omega (arith, below, w.chained.states_len)) r (Free None)
 
   read_next : (place : ℕ) → place ≡ get_or next at place → place ≡ get_or next at 0
-  read_next place r = get_or_read next at place (omega (arith, below, w.linked.next_len)) r 0
+  read_next place r = get_or_read next at place (omega (arith, below, w.chained.next_len)) r 0
 
 pub loop-at-init : goal.loop-at-init
 loop-at-init c = record {
-  walking = begin _ _ _ _ c.requires.linked c.args.chain _ _ c.requires.below c.index-at.ensures;
+  walking = begin _ _ _ _ c.requires.chained c.args.chain _ _ c.requires.below c.index-at.ensures;
   count = refl;
   flags = refl;
   end = refl;
@@ -41,61 +41,61 @@ index-at-requires-in-loop-at c =
     let i = c.loop-at.invariant in
     let w = i.walking in
     let n : c.loop-at.at ≡ c.args.self.now.count + c.args.chain → ⊥ = λ e. c.loop-at-test.true (e ∙ sym i.end) in
-    omega (arith, below c.args.chain c.args.change _ _ _ _ _ _ _ w n, w.linked.next_len, c.loop-at.self.next.ok.0)
+    omega (arith, below c.args.chain c.args.change _ _ _ _ _ _ _ w n, w.chained.next_len, c.loop-at.self.next.ok.0)
 
 pub index-requires : goal.index-requires
 index-requires c =
     let i = c.loop-at.invariant in
     let w = i.walking in
     let n : c.loop-at.at ≡ c.args.self.now.count + c.args.chain → ⊥ = λ e. c.loop-at-test.true (e ∙ sym i.end) in
-    omega (arith, below c.args.chain c.args.change _ _ _ _ _ _ _ w n, w.linked.states_len, c.loop-at.self.states.ok.0)
+    omega (arith, below c.args.chain c.args.change _ _ _ _ _ _ _ w n, w.chained.states_len, c.loop-at.self.states.ok.0)
 
-pub unlink-requires-clause-slot : goal.unlink-requires-clause-slot
-unlink-requires-clause-slot c =
+pub take_from_ring-requires-clause-slot : goal.take_from_ring-requires-clause-slot
+take_from_ring-requires-clause-slot c =
     let i = c.loop-at.invariant in
     let w = i.walking in
     let n : c.loop-at.at ≡ c.args.self.now.count + c.args.chain → ⊥ = λ e. c.loop-at-test.true (e ∙ sym i.end) in
-    omega (arith, below c.args.chain c.args.change _ _ _ _ _ _ _ w n, w.linked.next_len)
+    omega (arith, below c.args.chain c.args.change _ _ _ _ _ _ _ w n, w.chained.next_len)
 
-pub unlink-requires-clause-after : goal.unlink-requires-clause-after
-unlink-requires-clause-after c =
+pub take_from_ring-requires-clause-after : goal.take_from_ring-requires-clause-after
+take_from_ring-requires-clause-after c =
     let i = c.loop-at.invariant in
     let w = i.walking in
     let n : c.loop-at.at ≡ c.args.self.now.count + c.args.chain → ⊥ = λ e. c.loop-at-test.true (e ∙ sym i.end) in
-    omega (arith, walk_after c.args.chain (after_change c.args.change) _ _ _ _ _ _ _ w n, w.linked.prev_len)
+    omega (arith, walk_after c.args.chain (after_change c.args.change) _ _ _ _ _ _ _ w n, w.chained.prev_len)
 
-pub unlink-requires-clause-before : goal.unlink-requires-clause-before
-unlink-requires-clause-before c =
+pub take_from_ring-requires-clause-before : goal.take_from_ring-requires-clause-before
+take_from_ring-requires-clause-before c =
     let i = c.loop-at.invariant in
     let w = i.walking in
     let n : c.loop-at.at ≡ c.args.self.now.count + c.args.chain → ⊥ = λ e. c.loop-at-test.true (e ∙ sym i.end) in
-    omega (arith, walk_before c.args.chain (after_change c.args.change) _ _ _ _ _ _ _ w n, w.linked.next_len)
+    omega (arith, walk_before c.args.chain (after_change c.args.change) _ _ _ _ _ _ _ w n, w.chained.next_len)
 
 pub index_mut-requires : goal.index_mut-requires
 index_mut-requires c =
     let i = c.loop-at.invariant in
     let w = i.walking in
     let n : c.loop-at.at ≡ c.args.self.now.count + c.args.chain → ⊥ = λ e. c.loop-at-test.true (e ∙ sym i.end) in
-    omega (arith, below c.args.chain c.args.change _ _ _ _ _ _ _ w n, w.linked.states_len, c.loop-at.self.states.ok.0)
+    omega (arith, below c.args.chain c.args.change _ _ _ _ _ _ _ w n, w.chained.states_len, c.loop-at.self.states.ok.0)
 
 pub index_mut-requires-in-Some : goal.index_mut-requires-in-Some
 index_mut-requires-in-Some c =
     let i = c.loop-at.invariant in
     let w = i.walking in
     let n : c.loop-at.at ≡ c.args.self.now.count + c.args.chain → ⊥ = λ e. c.loop-at-test.true (e ∙ sym i.end) in
-    omega (arith, below c.args.chain c.args.change _ _ _ _ _ _ _ w n, w.linked.states_len, c.loop-at.self.states.ok.0)
+    omega (arith, below c.args.chain c.args.change _ _ _ _ _ _ _ w n, w.chained.states_len, c.loop-at.self.states.ok.0)
 
 pub loop-at-preserved-in-None : goal.loop-at-preserved-in-None
 loop-at-preserved-in-None c =
     let i = c.loop-at.invariant in
     let w = i.walking in
     let n : c.loop-at.at ≡ c.args.self.now.count + c.args.chain → ⊥ = λ e. c.loop-at-test.true (e ∙ sym i.end) in
-    let is : c.apply-state.result ≡ after_change c.args.change (state_at c.loop-at.self.states.items c.loop-at.at) =
+    let is : c.apply-state.result ≡ after_change c.args.change (slot_state c.loop-at.self.states.items c.loop-at.at) =
     c.apply-state.ensures ∙ ap (after_change c.args.change) (read_state c.args.chain c.args.change _ _ _ _ _ _ _ w n _ c.index.ensures) in
     let goes = read_next c.args.chain c.args.change _ _ _ _ _ _ _ w n _ c.index-at-in-loop-at.ensures in
     let free : assignment_port c.apply-state.result ≡ None = sym c.port.ensures ∙ c.in-None.is in
     record {
-      walking = step_leaves c.args.chain (after_change c.args.change) _ _ _ _ _ _ _ w n _ is _ goes _ _ c.unlink.ensures.next c.unlink.ensures.prev (c.loop-at.flushing || c.is_flushing-flushing.result) (λ e. or_left c.loop-at.flushing c.is_flushing-flushing.result e) (λ e. or_right c.loop-at.flushing c.is_flushing-flushing.result (c.is_flushing-flushing.ensures ∙ e)) free;
+      walking = step_leaves c.args.chain (after_change c.args.change) _ _ _ _ _ _ _ w n _ is _ goes _ _ c.take_from_ring.ensures.next c.take_from_ring.ensures.prev (c.loop-at.flushing || c.is_flushing-flushing.result) (λ e. or_left c.loop-at.flushing c.is_flushing-flushing.result e) (λ e. or_right c.loop-at.flushing c.is_flushing-flushing.result (c.is_flushing-flushing.ensures ∙ e)) free;
       count = i.count;
       flags = i.flags;
       end = i.end;
@@ -106,13 +106,13 @@ loop-at-smaller-in-None c =
     let i = c.loop-at.invariant in
     let w = i.walking in
     let n : c.loop-at.at ≡ c.args.self.now.count + c.args.chain → ⊥ = λ e. c.loop-at-test.true (e ∙ sym i.end) in
-    let is : c.apply-state.result ≡ after_change c.args.change (state_at c.loop-at.self.states.items c.loop-at.at) =
+    let is : c.apply-state.result ≡ after_change c.args.change (slot_state c.loop-at.self.states.items c.loop-at.at) =
     c.apply-state.ensures ∙ ap (after_change c.args.change) (read_state c.args.chain c.args.change _ _ _ _ _ _ _ w n _ c.index.ensures) in
     let goes = read_next c.args.chain c.args.change _ _ _ _ _ _ _ w n _ c.index-at-in-loop-at.ensures in
     let free : assignment_port c.apply-state.result ≡ None = sym c.port.ensures ∙ c.in-None.is in
-    let small = leaves_smaller c.args.chain (after_change c.args.change) _ _ _ _ _ _ _ w n _ is _ goes _ _ c.unlink.ensures.next c.unlink.ensures.prev free in
-    subst (λ e. steps c.unlink.new.next.items e c.loop-at.self.count c.index-at-in-loop-at.result.now < steps c.loop-at.self.next.items e c.loop-at.self.count c.loop-at.at) (sym i.end)
-    (subst (λ m. steps c.unlink.new.next.items (c.args.self.now.count + c.args.chain) m c.index-at-in-loop-at.result.now < steps c.loop-at.self.next.items (c.args.self.now.count + c.args.chain) m c.loop-at.at) (sym i.count) small)
+    let small = leaves_smaller c.args.chain (after_change c.args.change) _ _ _ _ _ _ _ w n _ is _ goes _ _ c.take_from_ring.ensures.next c.take_from_ring.ensures.prev free in
+    subst (λ e. steps c.take_from_ring.new.next.items e c.loop-at.self.count c.index-at-in-loop-at.result.now < steps c.loop-at.self.next.items e c.loop-at.self.count c.loop-at.at) (sym i.end)
+    (subst (λ m. steps c.take_from_ring.new.next.items (c.args.self.now.count + c.args.chain) m c.index-at-in-loop-at.result.now < steps c.loop-at.self.next.items (c.args.self.now.count + c.args.chain) m c.loop-at.at) (sym i.count) small)
 
 pub loop-at-preserved : goal.loop-at-preserved
 loop-at-preserved c =
@@ -120,9 +120,9 @@ loop-at-preserved c =
     let w = i.walking in
     let n : c.loop-at.at ≡ c.args.self.now.count + c.args.chain → ⊥ = λ e. c.loop-at-test.true (e ∙ sym i.end) in
     let same = read_state c.args.chain c.args.change _ _ _ _ _ _ _ w n _ c.index.ensures in
-    let is : c.apply-state.result ≡ after_change c.args.change (state_at c.loop-at.self.states.items c.loop-at.at) = c.apply-state.ensures ∙ ap (after_change c.args.change) same in
+    let is : c.apply-state.result ≡ after_change c.args.change (slot_state c.loop-at.self.states.items c.loop-at.at) = c.apply-state.ensures ∙ ap (after_change c.args.change) same in
     let goes = read_next c.args.chain c.args.change _ _ _ _ _ _ _ w n _ c.index-at-in-loop-at.ensures in
-    let stays : assignment_port c.apply-state.result ≡ assignment_port (state_at c.loop-at.self.states.items c.loop-at.at) =
+    let stays : assignment_port c.apply-state.result ≡ assignment_port (slot_state c.loop-at.self.states.items c.loop-at.at) =
     ap assignment_port is ∙ port_kept c.args.change _ c.in-Some.field-0 (sym (ap assignment_port is) ∙ sym c.port.ensures ∙ c.in-Some.is) in
     record {
       walking = step_stays c.args.chain (after_change c.args.change) _ _ _ _ _ _ _ w n _ is _ goes (c.loop-at.flushing || c.is_flushing-flushing.result) (λ e. or_left c.loop-at.flushing c.is_flushing-flushing.result e) (λ e. or_right c.loop-at.flushing c.is_flushing-flushing.result (c.is_flushing-flushing.ensures ∙ e)) stays;
@@ -137,9 +137,9 @@ loop-at-smaller c =
     let w = i.walking in
     let n : c.loop-at.at ≡ c.args.self.now.count + c.args.chain → ⊥ = λ e. c.loop-at-test.true (e ∙ sym i.end) in
     let same = read_state c.args.chain c.args.change _ _ _ _ _ _ _ w n _ c.index.ensures in
-    let is : c.apply-state.result ≡ after_change c.args.change (state_at c.loop-at.self.states.items c.loop-at.at) = c.apply-state.ensures ∙ ap (after_change c.args.change) same in
+    let is : c.apply-state.result ≡ after_change c.args.change (slot_state c.loop-at.self.states.items c.loop-at.at) = c.apply-state.ensures ∙ ap (after_change c.args.change) same in
     let goes = read_next c.args.chain c.args.change _ _ _ _ _ _ _ w n _ c.index-at-in-loop-at.ensures in
-    let stays : assignment_port c.apply-state.result ≡ assignment_port (state_at c.loop-at.self.states.items c.loop-at.at) =
+    let stays : assignment_port c.apply-state.result ≡ assignment_port (slot_state c.loop-at.self.states.items c.loop-at.at) =
     ap assignment_port is ∙ port_kept c.args.change _ c.in-Some.field-0 (sym (ap assignment_port is) ∙ sym c.port.ensures ∙ c.in-Some.is) in
     let small = stays_smaller c.args.chain (after_change c.args.change) _ _ _ _ _ _ _ w n _ is _ goes stays in
     subst (λ e. steps c.loop-at.self.next.items e c.loop-at.self.count c.index-at-in-loop-at.result.now < steps c.loop-at.self.next.items e c.loop-at.self.count c.loop-at.at) (sym i.end)

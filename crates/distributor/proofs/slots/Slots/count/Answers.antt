@@ -4,8 +4,8 @@ use mir.Val.{bool_byte}
 use Rattle.std.proofs.lemmas.Nat.{mod_below}
 use Rattle.distributor.specs.declared.assignment.Assignment.{Assignment}
 use Rattle.distributor.specs.declared.assignment.Assignment.TheVariants.{Free}
-use Rattle.distributor.specs.declared.slots.Test.{Test}
-use Rattle.distributor.specs.Chains.{chain_of, state_at, tested_port, passes}
+use Rattle.distributor.specs.declared.slots.ConversationTest.{ConversationTest}
+use Rattle.distributor.specs.Chains.{chain_of, slot_state, tested_port, passes}
 use Rattle.distributor.proofs.WalkLemmas.{Counting, steps, bit, counting_begins, counting_ends, counting_few, counting_on, counting_smaller, passes_stands, walk_below}
 use Rattle.distributor.proofs.slots.Slots.count.Goals as goal
 
@@ -19,7 +19,7 @@ bit_few false = omega arith
 
 pub loop-at-init : goal.loop-at-init
 loop-at-init c =
-    let h = c.requires.linked in
+    let h = c.requires.chained in
     let d = chain_of (tested_port c.args.test) in
     let lt : d < 64 = mod_below (tested_port c.args.test) 64 (omega arith) in
     let first : c.index-at.result.now ≡ get_or c.args.self.now.next.items (c.args.self.now.count + d) 0 =
@@ -31,41 +31,41 @@ loop-at-init c =
     }
 
 -- what is read at a place of the walk
-module _ (test : Test) (count : ℕ) (states : List Assignment) (next prev : List ℕ) (at m : ℕ) (h : Counting (chain_of (tested_port test)) (passes test) count states next prev at m) (n : at ≡ count + chain_of (tested_port test) → ⊥) where
+module _ (test : ConversationTest) (count : ℕ) (states : List Assignment) (next prev : List ℕ) (at m : ℕ) (h : Counting (chain_of (tested_port test)) (passes test) count states next prev at m) (n : at ≡ count + chain_of (tested_port test) → ⊥) where
   below : at < count
   below = walk_below (chain_of (tested_port test)) (λ s. s) count states states next prev at true h.walk n
 
-  read_state : (s : Assignment) → s ≡ get_or states at s → s ≡ state_at states at
-  read_state s r = get_or_read states at s (omega (arith, below, h.walk.linked.states_len)) r (Free None)
+  read_state : (s : Assignment) → s ≡ get_or states at s → s ≡ slot_state states at
+  read_state s r = get_or_read states at s (omega (arith, below, h.walk.chained.states_len)) r (Free None)
 
   read_next : (place : ℕ) → place ≡ get_or next at place → place ≡ get_or next at 0
-  read_next place r = get_or_read next at place (omega (arith, below, h.walk.linked.next_len)) r 0
+  read_next place r = get_or_read next at place (omega (arith, below, h.walk.chained.next_len)) r 0
 
 pub index-requires : goal.index-requires
 index-requires c =
     let i = c.loop-at.invariant in
     let n : c.loop-at.at ≡ c.args.self.now.count + chain_of (tested_port c.args.test) → ⊥ = λ e. c.loop-at-test.true (e ∙ sym i.end) in
-    omega (arith, below c.args.test _ _ _ _ _ _ i.counting n, i.counting.walk.linked.states_len, c.args.self.now.states.ok.0)
+    omega (arith, below c.args.test _ _ _ _ _ _ i.counting n, i.counting.walk.chained.states_len, c.args.self.now.states.ok.0)
 
 pub index-at-requires-in-loop-at : goal.index-at-requires-in-loop-at
 index-at-requires-in-loop-at c =
     let i = c.loop-at.invariant in
     let n : c.loop-at.at ≡ c.args.self.now.count + chain_of (tested_port c.args.test) → ⊥ = λ e. c.loop-at-test.true (e ∙ sym i.end) in
-    omega (arith, below c.args.test _ _ _ _ _ _ i.counting n, i.counting.walk.linked.next_len, c.args.self.now.next.ok.0)
+    omega (arith, below c.args.test _ _ _ _ _ _ i.counting n, i.counting.walk.chained.next_len, c.args.self.now.next.ok.0)
 
 pub overflow_add-count : goal.overflow_add-count
 overflow_add-count c =
     let i = c.loop-at.invariant in
-    omega (arith, counting_few _ _ _ _ _ _ _ _ i.counting, i.counting.walk.linked.few, c.from-count.ensures ∙ bool_bit c.passes-passes.result, bit_few c.passes-passes.result)
+    omega (arith, counting_few _ _ _ _ _ _ _ _ i.counting, i.counting.walk.chained.few, c.from-count.ensures ∙ bool_bit c.passes-passes.result, bit_few c.passes-passes.result)
 
 pub loop-at-preserved : goal.loop-at-preserved
 loop-at-preserved c =
     let i = c.loop-at.invariant in
     let n : c.loop-at.at ≡ c.args.self.now.count + chain_of (tested_port c.args.test) → ⊥ = λ e. c.loop-at-test.true (e ∙ sym i.end) in
-    let more : c.from-count.result ≡ bit (passes c.args.test (state_at c.args.self.now.states.items c.loop-at.at)) =
+    let more : c.from-count.result ≡ bit (passes c.args.test (slot_state c.args.self.now.states.items c.loop-at.at)) =
     c.from-count.ensures ∙ bool_bit c.passes-passes.result ∙ ap bit (c.passes-passes.ensures ∙ ap (passes c.args.test) (read_state c.args.test _ _ _ _ _ _ i.counting n _ c.index.ensures)) in
     record {
-      counting = counting_on (chain_of (tested_port c.args.test)) (passes c.args.test) _ _ _ _ _ _ i.counting n (passes c.args.test (state_at c.args.self.now.states.items c.loop-at.at)) _ _ refl (omega (arith, more))
+      counting = counting_on (chain_of (tested_port c.args.test)) (passes c.args.test) _ _ _ _ _ _ i.counting n (passes c.args.test (slot_state c.args.self.now.states.items c.loop-at.at)) _ _ refl (omega (arith, more))
           (read_next c.args.test _ _ _ _ _ _ i.counting n _ c.index-at-in-loop-at.ensures);
       end = i.end;
     }

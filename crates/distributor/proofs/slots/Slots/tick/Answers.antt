@@ -6,7 +6,7 @@ use Rattle.distributor.proofs.slots.Slots.tick.Goals.{then-index, else-index}
 
 pub loop-chain-init : goal.loop-chain-init
 loop-chain-init c = record {
-  linked = c.requires.linked;
+  chained = c.requires.chained;
   flagged = c.requires.flagged;
   ticking = tick_begins c.args.self.now.states.items;
   count = refl;
@@ -20,7 +20,7 @@ loop-chain-preserved c =
     elim c.if-index.branch [
       | then-index w ↦
           rw w.self-is record {
-            linked = w.change_chain.ensures.linked;
+            chained = w.change_chain.ensures.chained;
             flagged = w.change_chain.ensures.flagged;
             ticking = tick_walked c.loop-chain.chain c.args.self.now.states.items c.loop-chain.self.states.items _ i.ticking w.change_chain.ensures.states;
             count = w.change_chain.ensures.count ∙ i.count;
@@ -31,7 +31,7 @@ loop-chain-preserved c =
           let none : get_or c.loop-chain.self.flushing.items c.loop-chain.chain false ≡ false =
           sym (get_or_read c.loop-chain.self.flushing.items c.loop-chain.chain c.index.result.now inside c.index.ensures false) ∙ w.if-index.false in
           rw w.self-is record {
-            linked = i.linked;
+            chained = i.chained;
             flagged = i.flagged;
             ticking = tick_passed c.loop-chain.chain c.args.self.now.states.items c.loop-chain.self.states.items c.loop-chain.self.flushing.items i.ticking i.flagged none;
             count = i.count;

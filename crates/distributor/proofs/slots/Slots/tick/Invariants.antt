@@ -1,11 +1,11 @@
 use Rattle.std.proofs.Common.{◌≡◌, ◌≤◌}
-use Rattle.distributor.specs.Slots.{AreFlagged, AreLinked}
+use Rattle.distributor.specs.Slots.{AreFlagged, AreChained}
 use Rattle.distributor.proofs.TickLemmas.{Ticking}
 use Rattle.distributor.proofs.slots.Slots.tick.Given as goal
 
 abbrev pub invariant-loop-chain : goal.invariant-loop-chain
 invariant-loop-chain l = record {
-  linked : AreLinked l.self;
+  chained : AreChained l.self;
   flagged : AreFlagged l.self;
   ticking : Ticking l.chain l.fn.self.states.items l.self.states.items;
   count : l.self.count ≡ l.fn.self.count;

@@ -1,12 +1,12 @@
 use Rattle.std.proofs.Common.{subst, sym}
-use Rattle.distributor.specs.Calls.{PicksPlaces}
+use Rattle.distributor.specs.Calls.{PicksIndexes}
 use Rattle.lagengine.specs.Engines.{AnswersLine, EngineValue, engine_value}
 use Rattle.lagengine.specs.AnswerValues.{answer_value}
 use Rattle.lagengine.proofs.engine.Engine.answer.Goals as goal
 
 pub answer-requires-clause-usable : goal.answer-requires-clause-usable
 answer-requires-clause-usable g c =
-    subst (λ (w : EngineValue g.row.F.Denot). PicksPlaces (λ conv count. g.F.Fn.pre w.algorithm (conv, (count, tt))) (λ conv count place. g.F.Fn.post w.algorithm (conv, (count, tt)) place)) (sym c.self.view_is) c.requires.usable
+    subst (λ (w : EngineValue g.row.F.Denot). PicksIndexes (λ conv count. g.F.Fn.pre w.algorithm (conv, (count, tt))) (λ conv count place. g.F.Fn.post w.algorithm (conv, (count, tt)) place)) (sym c.self.view_is) c.requires.usable
 
 pub returns-clause-answers : goal.returns-clause-answers
 returns-clause-answers g c =

@@ -1,5 +1,5 @@
 use Rattle.std.proofs.Common.{◌≡◌, Some, rules, subst, sym}
-use Rattle.distributor.specs.Calls.{PicksPlaces}
+use Rattle.distributor.specs.Calls.{PicksIndexes}
 use Rattle.lagengine.specs.Engines.{kept_of}
 use Rattle.lagengine.specs.Requests.{task_value}
 use Rattle.lagengine.proofs.EngineLemmas.{acts_where, algorithm_of}
@@ -9,7 +9,7 @@ pub do_task-requires : goal.do_task-requires
 do_task-requires g c =
     let there : c.args.self.now.system ≡ Some c.in-Some.system = search rules in
     let same = algorithm_of c.args.self.now.algorithm c.args.self.now.system c.in-Some.system there c.requires.same in
-    record { usable = subst (λ f. PicksPlaces (λ conv count. g.F.Fn.pre f (conv, (count, tt))) (λ conv count place. g.F.Fn.post f (conv, (count, tt)) place)) (sym same) c.requires.usable }
+    record { usable = subst (λ f. PicksIndexes (λ conv count. g.F.Fn.pre f (conv, (count, tt))) (λ conv count place. g.F.Fn.post f (conv, (count, tt)) place)) (sym same) c.requires.usable }
 
 pub returns-in-Some-clause-acts : goal.returns-in-Some-clause-acts
 returns-in-Some-clause-acts g c =

@@ -11,4 +11,4 @@ returns-clause-ok g c =
     let state = c.args.self.now.engine.state in
     let new = c.answer-answer.new.self.state in
     let answered = subst (λ line. AnswersLine gives line state said new) c.deref.ensures.value c.answer-answer.ensures.answers in
-    on_ok_weaker c.form.result (λ text. (said, answered, text)) c.form.ensures
+    on_ok_weaker c.make_answer_line.result (λ text. (said, answered, text)) c.make_answer_line.ensures

@@ -1,6 +1,6 @@
 use Rattle.std.proofs.Common.{ℕ, ◌+◌, ◌∙◌, ◌≡◌, ◌∷◌, ◌++◌, [], ap, drop, get_or, subst, sym, take, take-append-drop}
 use Rattle.std.proofs.lemmas.List.{drop_more, take_more}
-use Rattle.distributor.specs.Calls.{PicksPlaces}
+use Rattle.distributor.specs.Calls.{PicksIndexes}
 use Rattle.lagengine.specs.Inputs.{lines_of, continue_line}
 use Rattle.lagengine.specs.Sessions.{Feeds, StopsAnswering, session_of}
 use Rattle.lagengine.proofs.SessionLemmas.{feeds_both, halts_after, on_stop}
@@ -8,7 +8,7 @@ use Rattle.lagengine.proofs.session.Session.feed.Goals as goal
 
 pub read_octet-requires : goal.read_octet-requires
 read_octet-requires g c =
-    record { usable = subst (λ f. PicksPlaces (λ conv count. g.F.Fn.pre f (conv, (count, tt))) (λ conv count place. g.F.Fn.post f (conv, (count, tt)) place)) (sym c.loop-octet.invariant.algorithm) c.requires.usable }
+    record { usable = subst (λ f. PicksIndexes (λ conv count. g.F.Fn.pre f (conv, (count, tt))) (λ conv count place. g.F.Fn.post f (conv, (count, tt)) place)) (sym c.loop-octet.invariant.algorithm) c.requires.usable }
 
 pub loop-octet-preserved : goal.loop-octet-preserved
 loop-octet-preserved g c =

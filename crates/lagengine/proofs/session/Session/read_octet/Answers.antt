@@ -1,6 +1,6 @@
 use Rattle.std.proofs.Common.{ℕ, List, ◌<◌, ◌∷◌, [], arith, length, refl}
 use Rattle.lagengine.specs.Inputs.{lines_of, continue_line}
-use Rattle.lagengine.specs.Lines.{longest}
+use Rattle.lagengine.specs.Lines.{longest_line}
 use Rattle.lagengine.specs.Sessions.{StopsAnswering, SessionState, session_of}
 use Rattle.lagengine.specs.declared.stopped.Stopped.TheVariants.{NoMemory}
 use Rattle.lagengine.proofs.InputLemmas.{is_newline, newline_joined, not_newline}
@@ -25,10 +25,10 @@ returns-then-octet-eq10-clause-ok g c =
     feeds_newline gives g.W.Write.contents (session_of c.args.self.now) (session_of c.end_line.new.self) c.args.sink.now c.end_line.new.sink c.args.octet
     (is_newline c.args.octet c.if-octet-eq10.true) c.end_line.ensures.line c.in_ok-end_line.ensures.ok
 
-pub returns-then-len-gt-LONGEST-clause-ok : goal.returns-then-len-gt-LONGEST-clause-ok
-returns-then-len-gt-LONGEST-clause-ok g c =
+pub returns-then-len-gt-LONGEST_LINE-clause-ok : goal.returns-then-len-gt-LONGEST_LINE-clause-ok
+returns-then-len-gt-LONGEST_LINE-clause-ok g c =
     let gives = λ (conv count place : ℕ). g.F.Fn.post c.args.self.now.engine.algorithm (conv, (count, tt)) place in
-    let long : longest < length c.args.self.now.line.items = omega (arith, c.if-len-gt-LONGEST.true, c.len.ensures, c.args.self.now.line.ok.0) in
+    let long : longest_line < length c.args.self.now.line.items = omega (arith, c.if-len-gt-LONGEST_LINE.true, c.len.ensures, c.args.self.now.line.ok.0) in
     feeds_long gives g.W.Write.contents (session_of c.args.self.now) c.args.sink.now c.args.octet (not_newline c.args.octet c.if-octet-eq10.false) long
 
 pub returns-in_err-push-clause-err : goal.returns-in_err-push-clause-err

@@ -2,7 +2,7 @@ use Rattle.std.proofs.Common.{subst}
 use Rattle.lagsystem.specs.declared.drive.Reply.{Reply}
 use Rattle.lagsystem.specs.Calls.{Call}
 use Rattle.lagsystem.specs.Inner.{inner_state}
-use Rattle.lagsystem.specs.Sound.{Answers}
+use Rattle.lagsystem.specs.Sound.{CallPromise}
 use Rattle.lagsystem.specs.State.{SystemValue}
 use Rattle.lagsystem.proofs.Sound.{Step-sound, answers}
 use Rattle.lagsystem.proofs.calls.System.configure.Goals as goal
@@ -14,6 +14,6 @@ invariant_of-self g c =
 
 pub returns-clause-answers : goal.returns-clause-answers
 returns-clause-answers g c =
-    subst (λ (w : SystemValue g.row.F.Denot). Answers (λ conv count place. g.F.Fn.post w.algorithm (conv, (count, tt)) place) w.state (Call.Configure c.args.port c.args.change) (Reply.Configure c.configure.result) (inner_state c.configure.new.self)) c.self.view_is
+    subst (λ (w : SystemValue g.row.F.Denot). CallPromise (λ conv count place. g.F.Fn.post w.algorithm (conv, (count, tt)) place) w.state (Call.Configure c.args.port c.args.change) (Reply.Configure c.configure.result) (inner_state c.configure.new.self)) c.self.view_is
     (answers (λ conv count place. g.F.Fn.post c.self.inside.inner.distributor.algorithm (conv, (count, tt)) place) (inner_state c.self.inside.inner) (Call.Configure c.args.port c.args.change) (Reply.Configure c.configure.result) (inner_state c.configure.new.self)
     c.configure.ensures.step c.self.invariant)

@@ -1,14 +1,14 @@
 use Rattle.std.proofs.Common.{◌∙◌, ℕ, arith, map, subst, sym}
-use Rattle.distributor.specs.Calls.{PicksPlaces}
+use Rattle.distributor.specs.Calls.{PicksIndexes}
 use Rattle.lagsystem.specs.Drives.{call_of}
-use Rattle.lagsystem.specs.Sound.{Answers}
+use Rattle.lagsystem.specs.Sound.{CallPromise}
 use Rattle.lagsystem.proofs.DriveLemmas.{drives_all, drives_on, driven_runs}
 use Rattle.lagsystem.proofs.Windows.{window_law}
 use Rattle.lagsystem.proofs.calls.System.drive.Goals as goal
 
 pub dispatch-reply-requires : goal.dispatch-reply-requires
 dispatch-reply-requires g c =
-    record { usable = subst (λ f. PicksPlaces (λ conv count. g.F.Fn.pre f (conv, (count, tt))) (λ conv count place. g.F.Fn.post f (conv, (count, tt)) place)) (sym c.loop-call.invariant.algorithm) c.requires.usable }
+    record { usable = subst (λ f. PicksIndexes (λ conv count. g.F.Fn.pre f (conv, (count, tt))) (λ conv count place. g.F.Fn.post f (conv, (count, tt)) place)) (sym c.loop-call.invariant.algorithm) c.requires.usable }
 
 pub loop-call-preserved : goal.loop-call-preserved
 loop-call-preserved g c =
@@ -18,11 +18,11 @@ loop-call-preserved g c =
     let mid = c.loop-call.self.state in
     let new = c.dispatch-reply.new.self.state in
     let same = c.call-item.is in
-    let made = subst (λ f. Answers (λ conv count place. g.F.Fn.post f (conv, (count, tt)) place) mid (call_of c.call-item.result) answer new) c.loop-call.invariant.algorithm c.dispatch-reply.ensures.answers in record {
+    let made = subst (λ f. CallPromise (λ conv count place. g.F.Fn.post f (conv, (count, tt)) place) mid (call_of c.call-item.result) answer new) c.loop-call.invariant.algorithm c.dispatch-reply.ensures.answers in record {
       driven =
           rw c.push_reserved.ensures.items
           (drives_on (λ conv count place. g.F.Fn.post c.args.self.now.algorithm (conv, (count, tt)) place) c.args.self.now.state mid new calls c.loop-call.replies.items i c.call-item.result answer c.loop-call-test.true c.loop-call.invariant.driven
-          (subst (λ x. Answers (λ conv count place. g.F.Fn.post c.args.self.now.algorithm (conv, (count, tt)) place) mid (call_of x) answer new) same made));
+          (subst (λ x. CallPromise (λ conv count place. g.F.Fn.post c.args.self.now.algorithm (conv, (count, tt)) place) mid (call_of x) answer new) same made));
       algorithm = c.dispatch-reply.ensures.algorithm ∙ c.loop-call.invariant.algorithm;
       count = omega (arith, c.push_reserved.ensures.len, c.loop-call.invariant.count);
       room = omega (arith, c.push_reserved.ensures.capacity, c.loop-call.invariant.room);

@@ -1,9 +1,9 @@
 use Rattle.std.proofs.Common.{subst, sym}
-use Rattle.distributor.specs.Calls.{PicksPlaces}
+use Rattle.distributor.specs.Calls.{PicksIndexes}
 use Rattle.lagsystem.specs.declared.drive.Reply.{Reply}
 use Rattle.lagsystem.specs.Calls.{Call}
 use Rattle.lagsystem.specs.Inner.{inner_state}
-use Rattle.lagsystem.specs.Sound.{Answers}
+use Rattle.lagsystem.specs.Sound.{CallPromise}
 use Rattle.lagsystem.specs.State.{SystemValue}
 use Rattle.lagsystem.proofs.Sound.{Step-sound, answers}
 use Rattle.lagsystem.proofs.calls.System.offer.Goals as goal
@@ -15,10 +15,10 @@ invariant_of-self g c =
 
 pub returns-clause-answers : goal.returns-clause-answers
 returns-clause-answers g c =
-    subst (λ (w : SystemValue g.row.F.Denot). Answers (λ conv count place. g.F.Fn.post w.algorithm (conv, (count, tt)) place) w.state (Call.Offer c.args.agg c.args.frame.now) (Reply.Offer c.offer.result) (inner_state c.offer.new.self)) c.self.view_is
+    subst (λ (w : SystemValue g.row.F.Denot). CallPromise (λ conv count place. g.F.Fn.post w.algorithm (conv, (count, tt)) place) w.state (Call.Offer c.args.agg c.args.frame.now) (Reply.Offer c.offer.result) (inner_state c.offer.new.self)) c.self.view_is
     (answers (λ conv count place. g.F.Fn.post c.self.inside.inner.distributor.algorithm (conv, (count, tt)) place) (inner_state c.self.inside.inner) (Call.Offer c.args.agg c.args.frame.now) (Reply.Offer c.offer.result) (inner_state c.offer.new.self)
     c.offer.ensures.step c.self.invariant)
 
 pub offer-requires-clause-usable : goal.offer-requires-clause-usable
 offer-requires-clause-usable g c =
-    subst (λ (w : SystemValue g.row.F.Denot). PicksPlaces (λ conv count. g.F.Fn.pre w.algorithm (conv, (count, tt))) (λ conv count place. g.F.Fn.post w.algorithm (conv, (count, tt)) place)) (sym c.self.view_is) c.requires.usable
+    subst (λ (w : SystemValue g.row.F.Denot). PicksIndexes (λ conv count. g.F.Fn.pre w.algorithm (conv, (count, tt))) (λ conv count place. g.F.Fn.post w.algorithm (conv, (count, tt)) place)) (sym c.self.view_is) c.requires.usable

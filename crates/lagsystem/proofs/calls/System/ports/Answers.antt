@@ -1,6 +1,6 @@
 use Rattle.std.proofs.Common.{◌∙◌, ◌≡◌, List, ap, subst, sym, ℕ}
 use Rattle.std.specs.List.Sorted.{IsStrictlyIncreasing}
-use Rattle.lagsystem.specs.declared.slots.SystemPort.{SystemPort}
+use Rattle.lagsystem.specs.declared.system_ports.SystemPort.{SystemPort}
 use Rattle.lagsystem.specs.Inner.{inner_state}
 use Rattle.lagsystem.specs.State.{port_numbers}
 use Rattle.lagsystem.proofs.Distributing.{numbers_rise}
@@ -9,5 +9,5 @@ use Rattle.lagsystem.proofs.calls.System.ports.Goals as goal
 pub returns-clause-ascending : goal.returns-clause-ascending
 returns-clause-ascending g c =
     let s = inner_state c.self.inside.inner in
-    let same : c.port_numbers.result.items ≡ port_numbers s.slots = c.port_numbers.ensures ∙ ap (λ (l : List SystemPort). port_numbers l) c.deref.ensures.value in
+    let same : c.port_numbers.result.items ≡ port_numbers s.system_ports = c.port_numbers.ensures ∙ ap (λ (l : List SystemPort). port_numbers l) c.deref.ensures.value in
     subst (λ (l : List ℕ). IsStrictlyIncreasing l) (sym same) (numbers_rise s c.self.invariant.ports)

@@ -3,10 +3,10 @@ use Rattle.std.specs.Vec.{with_items}
 use Rattle.std.proofs.lemmas.Bool.{OnTrue_at}
 use Rattle.std.proofs.lemmas.List.{with_items_is}
 use Rattle.std.proofs.lemmas.Option.{slice_get-get_or}
-use Rattle.lagsystem.specs.declared.slots.SystemPort.{SystemPort}
-use Rattle.lagsystem.specs.Calls.{ChangesParty, PortAtGoes}
+use Rattle.lagsystem.specs.declared.system_ports.SystemPort.{SystemPort}
+use Rattle.lagsystem.specs.Calls.{ChangesParty, PortAtChangesBy}
 use Rattle.lagsystem.specs.Inner.{inner_state}
-use Rattle.lagsystem.specs.State.{place_of, with_slots}
+use Rattle.lagsystem.specs.State.{port_index, with_system_ports}
 use Rattle.lagsystem.proofs.PlaceLemmas.{goes_by_number, were_before}
 use Rattle.lagsystem.proofs.Settled.{place_carried}
 use Rattle.lagsystem.proofs.StateLemmas.{on_port_made}
@@ -15,32 +15,32 @@ use Rattle.lagsystem.proofs.inner.Inner.configure.Goals as goal
 pub settle-requires : goal.settle-requires
 settle-requires g c =
     let s = inner_state c.args.self.now in
-    let v = c.args.self.now.slots in
+    let v = c.args.self.now.system_ports in
     let i = c.in_ok-place.place in
     let change = c.args.change in
-    let slot = c.index.result.now in
+    let system_port = c.index.result.now in
     let olds = c.deref_mut.result.now in
-    let ws = c.configure_at.new.slots in
+    let ws = c.configure_at.new.system_ports in
     let news = (with_items v ws).items in
-    let there : slice_get v.items i ≡ Some slot = subst (λ (x : SystemPort). slice_get v.items i ≡ Some x) (sym c.index.ensures) (slice_get-get_or v.items i slot c.in_ok-place.ensures.within) in
-    let acted : PortAtGoes (ChangesParty change) (Some i) olds ws = OnTrue_at {P = PortAtGoes (ChangesParty change) (Some i) olds ws} c.if-not-configure_at.false c.configure_at.ensures.acted in
-    let numbered = goes_by_number (ChangesParty change) c.args.number i s.slots olds ws c.deref_mut.ensures.value c.in_ok-place.ensures.place acted in
-    let own = on_port_made (ChangesParty change) (place_of c.args.number) s olds ws news c.deref_mut.ensures.value (with_items_is v ws (omega arith)) numbered in
-    place_carried (ChangesParty change) (place_of c.args.number s.slots) s (with_slots s news) c.as_slice.result.now c.requires own
-    (c.as_slice.ensures.value ∙ were_before (ChangesParty change) i s.slots olds ws news c.deref.result.now slot c.collecting-was.result c.aggregators_in_use_before-before.result.items c.deref_mut.ensures.value (with_items_is v ws (omega arith)) c.deref.ensures.value there acted c.collecting-was.ensures c.aggregators_in_use_before-before.ensures)
+    let there : slice_get v.items i ≡ Some system_port = subst (λ (x : SystemPort). slice_get v.items i ≡ Some x) (sym c.index.ensures) (slice_get-get_or v.items i system_port c.in_ok-place.ensures.within) in
+    let acted : PortAtChangesBy (ChangesParty change) (Some i) olds ws = OnTrue_at {P = PortAtChangesBy (ChangesParty change) (Some i) olds ws} c.if-not-configure_at.false c.configure_at.ensures.acted in
+    let numbered = goes_by_number (ChangesParty change) c.args.number i s.system_ports olds ws c.deref_mut.ensures.value c.in_ok-place.ensures.place acted in
+    let own = on_port_made (ChangesParty change) (port_index c.args.number) s olds ws news c.deref_mut.ensures.value (with_items_is v ws (omega arith)) numbered in
+    place_carried (ChangesParty change) (port_index c.args.number s.system_ports) s (with_system_ports s news) c.as_slice.result.now c.requires own
+    (c.as_slice.ensures.value ∙ were_before (ChangesParty change) i s.system_ports olds ws news c.deref.result.now system_port c.collecting-was.result c.aggregators_in_use_before-before.result.items c.deref_mut.ensures.value (with_items_is v ws (omega arith)) c.deref.ensures.value there acted c.collecting-was.ensures c.aggregators_in_use_before-before.ensures)
 
 pub returns-clause-step : goal.returns-clause-step
 returns-clause-step g c =
     let s = inner_state c.args.self.now in
-    let v = c.args.self.now.slots in
+    let v = c.args.self.now.system_ports in
     let i = c.in_ok-place.place in
     let change = c.args.change in
     let olds = c.deref_mut.result.now in
-    let ws = c.configure_at.new.slots in
+    let ws = c.configure_at.new.system_ports in
     let news = (with_items v ws).items in
-    let acted : PortAtGoes (ChangesParty change) (Some i) olds ws = OnTrue_at {P = PortAtGoes (ChangesParty change) (Some i) olds ws} c.if-not-configure_at.false c.configure_at.ensures.acted in
-    let numbered = goes_by_number (ChangesParty change) c.args.number i s.slots olds ws c.deref_mut.ensures.value c.in_ok-place.ensures.place acted in (
-      with_slots s news,
-      on_port_made (ChangesParty change) (place_of c.args.number) s olds ws news c.deref_mut.ensures.value (with_items_is v ws (omega arith)) numbered,
+    let acted : PortAtChangesBy (ChangesParty change) (Some i) olds ws = OnTrue_at {P = PortAtChangesBy (ChangesParty change) (Some i) olds ws} c.if-not-configure_at.false c.configure_at.ensures.acted in
+    let numbered = goes_by_number (ChangesParty change) c.args.number i s.system_ports olds ws c.deref_mut.ensures.value c.in_ok-place.ensures.place acted in (
+      with_system_ports s news,
+      on_port_made (ChangesParty change) (port_index c.args.number) s olds ws news c.deref_mut.ensures.value (with_items_is v ws (omega arith)) numbered,
       c.settle.ensures.settled,
     )

@@ -3,7 +3,7 @@ use Rattle.std.specs.List.{AllZip}
 use Rattle.lagtypes.specs.declared.identifiers.Key.{Key}
 use Rattle.distributor.specs.Conversations.{first_table}
 use Rattle.lagsystem.specs.declared.config.PortConfig.{PortConfig}
-use Rattle.lagsystem.specs.First.{IsNew, config_refusal}
+use Rattle.lagsystem.specs.First.{HasJustStarted, config_refusal}
 use Rattle.lagsystem.specs.Inner.{inner_state}
 use Rattle.lagsystem.proofs.Keeps.{accepted_keys_few, configured_made, first_made, ports_made, started_by}
 use Rattle.lagsystem.proofs.Sound.{first_sound}
@@ -25,15 +25,15 @@ returns-clause-made g c =
     let keys : aggs ≡ config.aggregators.items =
     let within = subst (λ (l : List Key). length l ≤ 65535) (sym c.deref.ensures.value) (omega (arith, few)) in
     c.in_ok-aggregators.ensures.all within ∙ c.deref.ensures.value in
-    let slots = c.in_ok-slots.slots.items in
-    let new : AllZip (IsNew config.system) config.ports.items slots = subst (λ (l : List PortConfig). AllZip (IsNew config.system) l slots) c.deref-2.ensures.value c.in_ok-slots.ensures.new in
+    let system_ports = c.in_ok-system_ports.system_ports.items in
+    let new : AllZip (HasJustStarted config.system) config.ports.items system_ports = subst (λ (l : List PortConfig). AllZip (HasJustStarted config.system) l system_ports) c.deref-2.ensures.value c.in_ok-system_ports.ensures.new in
     let t = c.in_ok-distributor.distributor.table in
     let count = c.aggregator_count.ensures ∙ ap (λ (l : List Key). length l) c.deref-3.ensures.value ∙ ap (λ (l : List Key). length l) (sym keys) in
     let table : t ≡ first_table (length aggs) config.first_marker = c.in_ok-distributor.ensures.table ∙ ap (λ n. first_table n config.first_marker) count in
     let last = inner_state c.settle_ports.new.self in
-    let settles = started_by config aggs slots t last table c.settle_ports.ensures.settled in
-    let first = first_made config aggs slots last new settles in record {
+    let settles = started_by config aggs system_ports t last table c.settle_ports.ensures.settled in
+    let first = first_made config aggs system_ports last new settles in record {
       first = first;
-      configured = configured_made config aggs slots last keys settles;
-      sound = first_sound last (ports_made config aggs slots last keys accepted new settles) first;
+      configured = configured_made config aggs system_ports last keys settles;
+      sound = first_sound last (ports_made config aggs system_ports last keys accepted new settles) first;
     }

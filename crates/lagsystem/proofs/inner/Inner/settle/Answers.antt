@@ -1,6 +1,6 @@
 use Rattle.std.proofs.Common.{◌∙◌, List, ap, length, subst, sym}
-use Rattle.distributor.specs.Changes.{Changes}
-use Rattle.lagsystem.specs.declared.slots.SystemPort.{SystemPort}
+use Rattle.distributor.specs.Changes.{ChangesAssignments}
+use Rattle.lagsystem.specs.declared.system_ports.SystemPort.{SystemPort}
 use Rattle.lagsystem.specs.Inner.{inner_state}
 use Rattle.lagsystem.specs.Holding.{after_holding, stopped}
 use Rattle.lagsystem.proofs.Stopped.{leaves_made, were_many}
@@ -21,6 +21,6 @@ returns-clause-settled g c =
     let mid = inner_state c.settle_ports.new.self in
     let t = c.hold_conversations.new.distributor.table in
     let new = record mid { first_marker = t.first; table = t } in
-    let changes = subst (λ (l : List SystemPort). Changes mid.table t (after_holding (stopped c.args.before.now l))) c.deref.ensures.value c.hold_conversations.ensures.changed in
+    let changes = subst (λ (l : List SystemPort). ChangesAssignments mid.table t (after_holding (stopped c.args.before.now l))) c.deref.ensures.value c.hold_conversations.ensures.changed in
     settling_joined start mid new c.settle_ports.ensures.settled
     (leaves_made c.args.before.now start mid new c.requires (ports_keep start mid c.settle_ports.ensures.settled).same (ports_table start mid c.settle_ports.ensures.settled) changes (table_taken mid t changes.first))

@@ -9,8 +9,8 @@ use Rattle.lagsystem.proofs.inner.Inner.tick.Goals as goal
 pub settle-requires : goal.settle-requires
 settle-requires g c =
     let s = inner_state c.args.self.now in
-    let v = c.args.self.now.slots in
-    let ws = c.tick_each.new.slots in
+    let v = c.args.self.now.system_ports in
+    let ws = c.tick_each.new.system_ports in
     let news = (with_items v ws).items in
     let t = c.tick.new.self.table in
     let own = tick_made s c.deref_mut.result.now ws news t c.deref_mut.ensures.value (with_items_is v ws (omega arith)) refl c.tick_each.ensures c.tick.ensures.changed in
@@ -19,8 +19,8 @@ settle-requires g c =
 pub returns-clause-step : goal.returns-clause-step
 returns-clause-step g c =
     let s = inner_state c.args.self.now in
-    let v = c.args.self.now.slots in
-    let ws = c.tick_each.new.slots in
+    let v = c.args.self.now.system_ports in
+    let ws = c.tick_each.new.system_ports in
     let news = (with_items v ws).items in
     let t = c.tick.new.self.table in (
       moved_on s news t,

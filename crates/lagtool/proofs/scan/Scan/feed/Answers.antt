@@ -11,7 +11,7 @@ loop-n-preserved c =
     let e = c.in_ok-end_line.ensures in (
       done ++ (take n rest ++ 10 ∷ []),
       line_done c.args.piece.now done rest n split found.0.high found.1,
-      reads_both _ _ _ done (take n rest ++ 10 ∷ []) reads (reads_both _ _ _ (take n rest) (10 ∷ []) c.in_ok-keep.ensures.reads (ends_line _ _ e.said e.lines e.faults e.line)),
+      reads_both _ _ _ done (take n rest ++ 10 ∷ []) reads (reads_both _ _ _ (take n rest) (10 ∷ []) c.in_ok-keep.ensures.reads (ends_line _ _ e.to_write e.lines e.faults e.line)),
       omega (arith, few, e.lines, c.in_ok-keep.ensures.lines, rest_length rest n found.0.high),
     )
 

@@ -1,17 +1,17 @@
 use Rattle.std.proofs.Common.{List, ap}
 use Rattle.lagworld.specs.Inner.{half_state}
-use Rattle.lagworld.specs.State.{HalfState, Serials}
+use Rattle.lagworld.specs.State.{HalfState, FlowValue}
 use Rattle.lagworld.proofs.OfferLemmas.{freed, not_freed}
 use Rattle.lagworld.proofs.half.Half.force.Goals as goal
 
-abbrev flows_in : HalfState → List (List Serials) → HalfState
+abbrev flows_in : HalfState → List (List FlowValue) → HalfState
 flows_in h flows = record h { flows = flows }
 
 pub returns-in-Ok-clause-forces : goal.returns-in-Ok-clause-forces
 returns-in-Ok-clause-forces g c =
-    freed (λ conv count place. g.F.Fn.post c.args.self.now.system.algorithm (conv, (count, tt)) place) c.args.agg c.args.conv c.free.result _ (half_state c.args.self.now) (half_state c.free.new.self) _ c.in-Ok.is c.free.ensures.frees
-    (ap (flows_in (half_state c.free.new.self)) c.count_forced.ensures)
+    freed (λ conv count place. g.F.Fn.post c.args.self.now.system.algorithm (conv, (count, tt)) place) c.args.agg c.args.conv c.ask_force.result _ (half_state c.args.self.now) (half_state c.ask_force.new.self) _ c.in-Ok.is c.ask_force.ensures.frees
+    (ap (flows_in (half_state c.ask_force.new.self)) c.record_force.ensures)
 
 pub returns-in-Err-clause-forces : goal.returns-in-Err-clause-forces
 returns-in-Err-clause-forces g c =
-    not_freed (λ conv count place. g.F.Fn.post c.args.self.now.system.algorithm (conv, (count, tt)) place) c.args.agg c.args.conv c.free.result c.in-Err.fault (half_state c.args.self.now) (half_state c.free.new.self) c.in-Err.is c.free.ensures.frees
+    not_freed (λ conv count place. g.F.Fn.post c.args.self.now.system.algorithm (conv, (count, tt)) place) c.args.agg c.args.conv c.ask_force.result c.in-Err.fault (half_state c.args.self.now) (half_state c.ask_force.new.self) c.in-Err.is c.ask_force.ensures.frees

@@ -1,7 +1,7 @@
 use Rattle.std.proofs.Common.{◌∙◌, subst, refl, arith}
 use Rattle.lagsystem.specs.declared.drive.Reply.TheVariants as answer
 use Rattle.lagsystem.specs.Calls.{Tick}
-use Rattle.lagsystem.specs.Sound.{Answers}
+use Rattle.lagsystem.specs.Sound.{CallPromise}
 use Rattle.lagworld.specs.Inner.{half_state}
 use Rattle.lagworld.proofs.Soundness.{one_tick}
 use Rattle.lagworld.proofs.half.Half.tick.Goals as goal
@@ -11,7 +11,7 @@ loop-done-preserved g c = record {
   within = omega arith;
   ticks = one_tick (λ conv count place. g.F.Fn.post c.args.self.now.system.algorithm (conv, (count, tt)) place) c.loop-done.done (half_state c.args.self.now) (half_state c.loop-done.self) _ c.loop-done.invariant.ticks
       (record {
-        answers = subst (λ f. Answers (λ conv count place. g.F.Fn.post f (conv, (count, tt)) place) c.loop-done.self.system.state Tick answer.Tick c.tick.new.self.state) c.loop-done.invariant.algorithm c.tick.ensures.answers;
+        answers = subst (λ f. CallPromise (λ conv count place. g.F.Fn.post f (conv, (count, tt)) place) c.loop-done.self.system.state Tick answer.Tick c.tick.new.self.state) c.loop-done.invariant.algorithm c.tick.ensures.answers;
         same = refl;
       });
   algorithm = c.tick.ensures.algorithm ∙ c.loop-done.invariant.algorithm;

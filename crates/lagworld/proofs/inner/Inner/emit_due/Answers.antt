@@ -1,6 +1,6 @@
 use Rattle.std.proofs.Common.{refl, subst, Ok, Err, Some, None}
 use Rattle.lagworld.specs.declared.reply.Reply.TheVariants as reply
-use Rattle.lagworld.specs.Asking.{WorldTransmits}
+use Rattle.lagworld.specs.Asking.{WorldAsksTransmit}
 use Rattle.lagworld.specs.WorldCalls.{world_state}
 use Rattle.lagworld.specs.Sides.{model_side}
 use Rattle.lagworld.specs.Sound.{both_algorithms}
@@ -13,7 +13,7 @@ returns-in-Err-clause-emits g c =
     let old = world_state g.C.Cable.items g.C.Cable.limit c.args.self.now in
     let mid = world_state g.C.Cable.items g.C.Cable.limit c.transmit.new.self in
     emits_of gives (model_side c.args.side) c.args.port (Err c.in-Err.fault) old mid mid (reply.Refused c.in-Err.fault)
-    (subst (λ a. WorldTransmits gives (model_side c.args.side) c.args.port a old mid) c.in-Err.is c.transmit.ensures.transmits) (refl, refl)
+    (subst (λ a. WorldAsksTransmit gives (model_side c.args.side) c.args.port a old mid) c.in-Err.is c.transmit.ensures.transmits) (refl, refl)
 
 pub returns-in-Ok-None-clause-emits : goal.returns-in-Ok-None-clause-emits
 returns-in-Ok-None-clause-emits g c =
@@ -21,7 +21,7 @@ returns-in-Ok-None-clause-emits g c =
     let old = world_state g.C.Cable.items g.C.Cable.limit c.args.self.now in
     let mid = world_state g.C.Cable.items g.C.Cable.limit c.transmit.new.self in
     emits_of gives (model_side c.args.side) c.args.port (Ok None) old mid mid reply.Nothing
-    (subst (λ o. WorldTransmits gives (model_side c.args.side) c.args.port (Ok o) old mid) c.in-Ok-None.field-0-is (subst (λ a. WorldTransmits gives (model_side c.args.side) c.args.port a old mid) c.in-Ok-None.is c.transmit.ensures.transmits)) (refl, refl)
+    (subst (λ o. WorldAsksTransmit gives (model_side c.args.side) c.args.port (Ok o) old mid) c.in-Ok-None.field-0-is (subst (λ a. WorldAsksTransmit gives (model_side c.args.side) c.args.port a old mid) c.in-Ok-None.is c.transmit.ensures.transmits)) (refl, refl)
 
 pub returns-in-Ok-Some-clause-emits : goal.returns-in-Ok-Some-clause-emits
 returns-in-Ok-Some-clause-emits g c =
@@ -29,7 +29,7 @@ returns-in-Ok-Some-clause-emits g c =
     let old = world_state g.C.Cable.items g.C.Cable.limit c.args.self.now in
     let mid = world_state g.C.Cable.items g.C.Cable.limit c.transmit.new.self in
     emits_of gives (model_side c.args.side) c.args.port (Ok (Some c.in-Ok-Some.frame)) old mid (world_state g.C.Cable.items g.C.Cable.limit c.send.new.self) c.send.result
-    (subst (λ o. WorldTransmits gives (model_side c.args.side) c.args.port (Ok o) old mid) c.in-Ok-Some.field-0-is (subst (λ a. WorldTransmits gives (model_side c.args.side) c.args.port a old mid) c.in-Ok-Some.is c.transmit.ensures.transmits)) c.send.ensures.emitted
+    (subst (λ o. WorldAsksTransmit gives (model_side c.args.side) c.args.port (Ok o) old mid) c.in-Ok-Some.field-0-is (subst (λ a. WorldAsksTransmit gives (model_side c.args.side) c.args.port a old mid) c.in-Ok-Some.is c.transmit.ensures.transmits)) c.send.ensures.emitted
 
 pub send-requires-clause-sent : goal.send-requires-clause-sent
 send-requires-clause-sent g c =
@@ -37,4 +37,4 @@ send-requires-clause-sent g c =
     let old = world_state g.C.Cable.items g.C.Cable.limit c.args.self.now in
     let mid = world_state g.C.Cable.items g.C.Cable.limit c.transmit.new.self in
     frame_of gives (model_side c.args.side) c.args.port c.in-Ok-Some.frame old mid
-    (subst (λ o. WorldTransmits gives (model_side c.args.side) c.args.port (Ok o) old mid) c.in-Ok-Some.field-0-is (subst (λ a. WorldTransmits gives (model_side c.args.side) c.args.port a old mid) c.in-Ok-Some.is c.transmit.ensures.transmits))
+    (subst (λ o. WorldAsksTransmit gives (model_side c.args.side) c.args.port (Ok o) old mid) c.in-Ok-Some.field-0-is (subst (λ a. WorldAsksTransmit gives (model_side c.args.side) c.args.port a old mid) c.in-Ok-Some.is c.transmit.ensures.transmits))

@@ -1,5 +1,5 @@
 use Rattle.std.proofs.Common.{ap, sym, refl, ◌∙◌}
-use Rattle.lagworld.specs.Making.{are_lines, first_links}
+use Rattle.lagworld.specs.Making.{are_empty_lines, first_links}
 use Rattle.lagworld.proofs.Making.{made_start, same_test, second_accepted}
 use Rattle.lagworld.proofs.inner.Inner.new.Goals as goal
 
@@ -14,6 +14,6 @@ returns-clause-start g c =
     let config = c.args.config in
     let lines = c.args.lines.items in
     made_start items limit config c.in-Some-both.systems.0 c.in-Some-both.systems.1 lines _ c.in-Some-both.ensures (sym c.refusal.ensures ∙ c.in_default.is)
-    (same_test (are_lines items) config.cables.items c.deref.result.now lines c.deref-2.result.now c.are_lines.result c.deref.ensures.value c.deref-2.ensures.value c.are_lines.ensures c.if-not-are_lines.false)
+    (same_test (are_empty_lines items) config.cables.items c.deref.result.now lines c.deref-2.result.now c.are_empty_lines.result c.deref.ensures.value c.deref-2.ensures.value c.are_empty_lines.ensures c.if-not-are_empty_lines.false)
     c.in_ok-one.ensures.first c.in_ok-two.ensures.first c.in_ok-one.ensures.agrees c.in_ok-two.ensures.agrees
     (c.in_ok-links.ensures ∙ ap (λ cables. first_links items limit cables lines) c.deref-3.ensures.value) refl

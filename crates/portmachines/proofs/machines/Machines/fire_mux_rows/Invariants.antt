@@ -1,12 +1,12 @@
 use Rattle.std.proofs.Common.{◌+◌, ◌≤◌}
-use Rattle.portmachines.specs.Rows.{Reaches}
+use Rattle.portmachines.specs.Rows.{FiresTimes}
 use Rattle.portmachines.specs.Mux.{mux_rows}
 use Rattle.portmachines.specs.RowsToFire.{mux_rows_to_fire}
 use Rattle.portmachines.proofs.machines.Machines.fire_mux_rows.Given as goal
 
 abbrev pub invariant-loop-fired : goal.invariant-loop-fired
 invariant-loop-fired l = record {
-  reached : Reaches (mux_rows l.ready) l.fired l.fn.self l.self;
+  reached : FiresTimes (mux_rows l.ready) l.fired l.fn.self l.self;
   few : l.fired + mux_rows_to_fire l.ready l.self ≤ 3;
 }
 

@@ -1,12 +1,12 @@
 use Rattle.std.proofs.Common.{◌+◌, ◌≤◌}
-use Rattle.portmachines.specs.Rows.{Reaches}
+use Rattle.portmachines.specs.Rows.{FiresTimes}
 use Rattle.portmachines.specs.Periodic.{periodic_rows}
 use Rattle.portmachines.specs.RowsToFire.{periodic_rows_to_fire}
 use Rattle.portmachines.proofs.machines.Machines.fire_periodic_rows.Given as goal
 
 abbrev pub invariant-loop-fired : goal.invariant-loop-fired
 invariant-loop-fired l = record {
-  reached : Reaches periodic_rows l.fired l.initial.self l.self;
+  reached : FiresTimes periodic_rows l.fired l.initial.self l.self;
   few : l.fired + periodic_rows_to_fire l.self ≤ 2;
 }
 

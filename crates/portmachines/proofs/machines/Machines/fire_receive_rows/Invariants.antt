@@ -1,12 +1,12 @@
 use Rattle.std.proofs.Common.{◌+◌, ◌≤◌}
-use Rattle.portmachines.specs.Rows.{Reaches}
+use Rattle.portmachines.specs.Rows.{FiresTimes}
 use Rattle.portmachines.specs.Receive.{receive_rows}
 use Rattle.portmachines.specs.RowsToFire.{receive_rows_to_fire}
 use Rattle.portmachines.proofs.machines.Machines.fire_receive_rows.Given as goal
 
 abbrev pub invariant-loop-fired : goal.invariant-loop-fired
 invariant-loop-fired l = record {
-  reached : Reaches receive_rows l.fired l.initial.self l.self;
+  reached : FiresTimes receive_rows l.fired l.initial.self l.self;
   few : l.fired + receive_rows_to_fire l.self ≤ 2;
 }
 

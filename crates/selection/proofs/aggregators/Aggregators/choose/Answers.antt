@@ -1,9 +1,9 @@
 use Rattle.std.proofs.Common.{◌≡◌, rules, sym, ◌∙◌}
-use Rattle.selection.specs.Choice.{choice_for}
+use Rattle.selection.specs.Choice.{chosen_if_eligible}
 use Rattle.selection.proofs.Joining.{answer-joins}
 use Rattle.selection.proofs.aggregators.Aggregators.choose.Goals as goal
 
 pub returns-in-Some-clause-joins : goal.returns-in-Some-clause-joins
 returns-in-Some-clause-joins c =
-    let e : c.choose_for.result ≡ choice_for c.args.self.now c.args.views.now c.in-Some.view = search rules in
-    answer-joins _ _ _ c.in-Some.view c.choose_for.result (sym c.find_view.ensures ∙ c.in-Some.is) (sym c.is_eligible.ensures ∙ c.if-is_eligible.true) e
+    let e : c.choose_if_eligible.result ≡ chosen_if_eligible c.args.self.now c.args.views.now c.in-Some.view = search rules in
+    answer-joins _ _ _ c.in-Some.view c.choose_if_eligible.result (sym c.find_view.ensures ∙ c.in-Some.is) (sym c.is_eligible.ensures ∙ c.if-is_eligible.true) e

@@ -1,8 +1,0 @@
--- A second settling changes nothing.
-use Rattle.lagsystem.specs.Settling.{Settling}
-use Rattle.lagsystem.specs.Sound.{HasPorts}
-use Rattle.lagsystem.specs.State.{SystemState}
-
--- a settling right after a settling leaves the system as it is
-abbrev pub SettlesOnce : Type 0
-SettlesOnce = (old new : SystemState) → HasPorts old → Settling old new → Settling new new

@@ -1,0 +1,60 @@
+ghost use Rattle.std.specs.Prelude.{◌<◌, Some, length};
+ghost use Rattle.std.specs.Bool.{OnTrue};
+ghost use Rattle.lagsystem.specs.Calls.{PortAtChangesBy, ProcessesLacpdu};
+ghost use Rattle.portmachines.specs.Periodic.{RunsPeriodic};
+ghost use Rattle.lagsystem.specs.NothingToSettle.{IsSamePartner, HasRecordedActor, LooksUnchanged, ProcessesLacpduAt};
+ghost use Rattle.lagsystem.specs.Settling.{PortChangesBy};
+
+use crate::system_ports::SystemPort;
+use portmachines::ReceiveState;
+use slowpdu::{Info, Lacpdu};
+
+/// Whether a port is in CURRENT, and the actor of the LACPDU is the partner that it has recorded.
+fn has_recorded_actor(system_port: &SystemPort, pdu: &Lacpdu) -> bool
+    ensures { OnTrue result (HasRecordedActor pdu.now system_port.now) }
+{
+    match system_port.port.receive_state() {
+        ReceiveState::Current => pdu
+            .actor
+            .party()
+            .matches(&system_port.port.partner().party()),
+        _ => false,
+    }
+}
+
+fn is_same_partner(now: &Info, was: &Info) -> bool
+    ensures { OnTrue result (IsSamePartner was.now now.now) }
+{
+    now.party().matches(&was.party()) && now.state == was.state
+}
+
+/// Processes an LACPDU, and returns whether the port looks the same to the other ports and its partner's state is
+/// unchanged.
+fn process_lacpdu_on(system_port: &mut SystemPort, pdu: &Lacpdu) -> bool
+    ensures taken { PortChangesBy (ProcessesLacpdu pdu.now) system_port.old system_port.new }
+    ensures same { OnTrue result (LooksUnchanged system_port.old system_port.new) }
+{
+    let was = system_port.port.partner();
+    let known = has_recorded_actor(system_port, pdu);
+    system_port.port.take(pdu);
+    let now = system_port.port.partner();
+    known && is_same_partner(&now, &was)
+}
+
+/// Processes an LACPDU on the port at this index, and returns whether the port looks the same to the other ports.
+pub(crate) fn process_lacpdu_at(system_ports: &mut [SystemPort], place: usize, pdu: &Lacpdu) -> bool
+    requires { place < length system_ports.old }
+    ensures { ProcessesLacpduAt pdu.now place system_ports.old result system_ports.new }
+{
+    let system_port = &mut system_ports[place];
+    process_lacpdu_on(system_port, pdu)
+}
+
+/// Runs the periodic machine of the port at this index until none of its rows is enabled. No timer counts down.
+pub(crate) fn run_periodic_at(system_ports: &mut [SystemPort], place: usize)
+    requires { place < length system_ports.old }
+    ensures { PortAtChangesBy RunsPeriodic (Some place) system_ports.old system_ports.new }
+{
+    let system_port = &mut system_ports[place];
+    system_port.port.periodic();
+}

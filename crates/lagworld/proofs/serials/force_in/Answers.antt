@@ -1,7 +1,0 @@
-use Rattle.std.proofs.Common.{arith}
-use Rattle.lagworld.specs.State.{with_forced}
-use Rattle.lagworld.proofs.FlowLemmas.{flow_set}
-use Rattle.lagworld.proofs.serials.force_in.Goals as goal
-
-pub returns : goal.returns
-returns c = flow_set with_forced c.args.conversations.now.items c.args.conv c.index_mut-flow.result.now c.force.new.self (omega arith) c.index_mut-flow.ensures.value c.force.ensures
