@@ -1,5 +1,6 @@
 //! What is true of every cable.
-ghost use Rattle.std.specs.Prelude.{◌≡◌, ℕ, List, [], ◌∷◌, ◌++◌, Bool, false, Option, length, drop, slice_get, option_copied, IfErr, IsErr, IsTrue, OnErr, OnOk};
+ghost use Rattle.std.specs.Prelude.{◌≡◌, ℕ, List, [], ◌∷◌, ◌++◌, Bool, false, Option, length, drop, slice_get, option_copied, IfErr};
+ghost use Rattle.std.specs.Prelude.{IsErr, IsTrue, OnErr, OnOk};
 
 use crate::item::Item;
 use std::alloc::AllocError;

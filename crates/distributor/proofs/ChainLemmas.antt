@@ -1,5 +1,6 @@
 -- Rings of slots: one taken out, one put in, and what stays as it is.
-use Rattle.std.proofs.Common.{ℕ, ◌+◌, ◌<◌, ◌≤◌, ◌≡◌, ◌++◌, Bool, true, false, cond, eqb, List, [], ◌∷◌, length, None, Some, get_or, set, refl, sym, ap, ◌∙◌, arith, subst, ⊎_elim, inl, inr}
+use Rattle.std.proofs.Common.{ℕ, ◌+◌, ◌<◌, ◌≤◌, ◌≡◌, ◌++◌, Bool, true, false, cond, eqb, List, [], ◌∷◌, length, None, Some, get_or, set}
+use Rattle.std.proofs.Common.{refl, sym, ap, ◌∙◌, arith, subst, ⊎_elim, inl, inr}
 use Rattle.std.proofs.lemmas.Bool.{cases_Bool, cases_eq, eqb-true, eq-eqb, ne_eqb, cond-true, cond-false, false≢true}
 use Rattle.std.proofs.lemmas.List.{length-set, get_or-set_same, get_or-set_other, get_or_past, append-nil}
 use Rattle.distributor.specs.declared.assignment.Assignment.{Assignment}
@@ -44,11 +45,13 @@ pub path_first : (next prev : List ℕ) (a : ℕ) (xs : List ℕ) (b : ℕ) → 
 path_first next prev a [] b h = h.0
 path_first next prev a (x ∷ xs) b h = h.0.0
 
-pub path_split : (next prev : List ℕ) (a : ℕ) (ys : List ℕ) (i : ℕ) (zs : List ℕ) (b : ℕ) → Path next prev a (ys ++ i ∷ zs) b → Path next prev a ys i × Path next prev i zs b
+pub path_split : (next prev : List ℕ) (a : ℕ) (ys : List ℕ) (i : ℕ) (zs : List ℕ) (b : ℕ) → Path next prev a (ys ++ i ∷ zs) b
+    → Path next prev a ys i × Path next prev i zs b
 path_split next prev a [] i zs b h = (h.0, h.1)
 path_split next prev a (y ∷ ys) i zs b h = let k = path_split next prev y ys i zs b h.1 in ((h.0, k.0), k.1)
 
-pub path_join : (next prev : List ℕ) (a : ℕ) (ys : List ℕ) (i : ℕ) (zs : List ℕ) (b : ℕ) → Path next prev a ys i → Path next prev i zs b → Path next prev a (ys ++ i ∷ zs) b
+pub path_join : (next prev : List ℕ) (a : ℕ) (ys : List ℕ) (i : ℕ) (zs : List ℕ) (b : ℕ) → Path next prev a ys i → Path next prev i zs b
+    → Path next prev a (ys ++ i ∷ zs) b
 path_join next prev a [] i zs b h k = (h, k)
 path_join next prev a (y ∷ ys) i zs b h k = (h.0, path_join next prev y ys i zs b h.1 k)
 
@@ -79,14 +82,24 @@ bypass : (next prev : List ℕ) (e : ℕ) (ys : List ℕ) (i : ℕ) (zs : List �
     → Path (set next (last_of e ys) (first_of zs e)) (set prev (first_of zs e) (last_of e ys)) e (ys ++ zs) e
 bypass next prev e ys i [] h t few u v =
     subst (λ l. Path (set next (last_of e ys) e) (set prev e (last_of e ys)) e l e) (sym (append-nil ys))
-    (retarget next prev e ys i e h u v (λ k. omega (arith, few k, occurs_append k ys (i ∷ []))) (omega (arith, few e, one_same e, occurs_append e ys (i ∷ []))))
+    (retarget next prev e ys i e h u v (λ k. omega (arith, few k, occurs_append k ys (i ∷ [])))
+    (omega (arith, few e, one_same e, occurs_append e ys (i ∷ []))))
 bypass next prev e ys i (z ∷ zs) h t few u v =
     let p = last_of e ys in
-    let joined = retarget next prev e ys i z h u v (λ k. omega (arith, few k, occurs_append k ys (i ∷ z ∷ zs))) (omega (arith, few z, one_same z, occurs_append z ys (i ∷ z ∷ zs))) in
+    let joined = retarget next prev e ys i z h u v (λ k. omega (arith, few k, occurs_append k ys (i ∷ z ∷ zs)))
+    (omega (arith, few z, one_same z, occurs_append z ys (i ∷ z ∷ zs))) in
     let n : (k : ℕ) → 0 < occurs k (z ∷ zs) → get_or (set next p z) k 0 ≡ get_or next k 0 =
-    λ k l. get_or-set_other next p k z 0 (λ (m : k ≡ p). omega (arith, l, few p, last_occurs e ys, occurs_append p ys (i ∷ z ∷ zs), ap (λ j. occurs j (z ∷ zs)) m)) in
+    λ k l. get_or-set_other next p k z 0 (λ (m : k ≡ p). omega (
+      arith,
+      l,
+      few p,
+      last_occurs e ys,
+      occurs_append p ys (i ∷ z ∷ zs),
+      ap (λ j. occurs j (z ∷ zs)) m,
+    )) in
     let b : (k : ℕ) → 0 < occurs k (e ∷ zs) → get_or (set prev z p) k 0 ≡ get_or prev k 0 =
-    λ k l. get_or-set_other prev z k p 0 (λ (m : k ≡ z). omega (arith, l, few z, one_same z, occurs_append z ys (i ∷ z ∷ zs), ap (λ j. occurs j (e ∷ zs)) m)) in
+    λ k l. get_or-set_other prev z k p 0
+    (λ (m : k ≡ z). omega (arith, l, few z, one_same z, occurs_append z ys (i ∷ z ∷ zs), ap (λ j. occurs j (e ∷ zs)) m)) in
     path_join _ _ e ys z zs e joined (path_kept next prev _ _ z zs e n b t.1)
 
 -- a slot is taken out of its ring
@@ -98,15 +111,23 @@ path_out next prev e ys i zs h few u v =
     let before : get_or prev i 0 ≡ last_of e ys = path_last next prev e ys i s.0 in
     let after : get_or next i 0 ≡ first_of zs e = path_first next prev i zs e s.1 in
     subst (λ p. Path (set next p (get_or next i 0)) (set prev (get_or next i 0) p) e (ys ++ zs) e) (sym before)
-    (subst (λ q. Path (set next (last_of e ys) q) (set prev q (last_of e ys)) e (ys ++ zs) e) (sym after) (bypass next prev e ys i zs s.0 s.1 few (omega (arith, u, before)) (omega (arith, v, after))))
+    (subst (λ q. Path (set next (last_of e ys) q) (set prev q (last_of e ys)) e (ys ++ zs) e) (sym after)
+    (bypass next prev e ys i zs s.0 s.1 few (omega (arith, u, before)) (omega (arith, v, after))))
 
 insert : (next prev : List ℕ) (e i : ℕ) (xs : List ℕ) → Path next prev e xs e → ((k : ℕ) → occurs k (e ∷ xs) ≤ 1) → occurs i (e ∷ xs) ≡ 0
     → i < length next → e < length next → i < length prev → first_of xs e < length prev
     → Path (set (set next i (first_of xs e)) e i) (set (set prev i e) (first_of xs e) i) e (i ∷ xs) e
 insert next prev e i [] h few none u v w z =
     let apart : i ≡ e → ⊥ = λ m. omega (arith, none, one_same e, ap (λ k. one k e) m) in (
-      (get_or-set_same (set next i e) e i 0 (omega (arith, v, length-set next i e)), get_or-set_other (set prev i e) e i i 0 apart ∙ get_or-set_same prev i e 0 w),
-      (get_or-set_other (set next i e) e i i 0 apart ∙ get_or-set_same next i e 0 u, get_or-set_same (set prev i e) e i 0 (omega (arith, z, length-set prev i e))),
+      (
+        get_or-set_same (set next i e) e i 0 (omega (arith, v, length-set next i e)),
+        get_or-set_other (set prev i e) e i i 0 apart
+            ∙ get_or-set_same prev i e 0 w,
+      ),
+      (
+        get_or-set_other (set next i e) e i i 0 apart ∙ get_or-set_same next i e 0 u,
+        get_or-set_same (set prev i e) e i 0 (omega (arith, z, length-set prev i e)),
+      ),
     )
 insert next prev e i (x ∷ xs) h few none u v w z =
     let apart : i ≡ e → ⊥ = λ m. omega (arith, none, one_same e, ap (λ k. one k e) m) in
@@ -117,20 +138,29 @@ insert next prev e i (x ∷ xs) h few none u v w z =
     let b : (k : ℕ) → 0 < occurs k (e ∷ xs) → get_or (set (set prev i e) x i) k 0 ≡ get_or prev k 0 =
     λ k l. get_or-set_other (set prev i e) x k i 0 (λ (m : k ≡ x). omega (arith, l, few x, one_same x, ap (λ j. occurs j (e ∷ xs)) m))
     ∙ get_or-set_other prev i k e 0 (λ (m : k ≡ i). omega (arith, l, none, ap (λ j. occurs j (e ∷ xs)) m)) in (
-      (get_or-set_same (set next i x) e i 0 (omega (arith, v, length-set next i x)), get_or-set_other (set prev i e) x i i 0 other ∙ get_or-set_same prev i e 0 w),
       (
-        (get_or-set_other (set next i x) e i i 0 apart ∙ get_or-set_same next i x 0 u, get_or-set_same (set prev i e) x i 0 (omega (arith, z, length-set prev i e))),
+        get_or-set_same (set next i x) e i 0 (omega (arith, v, length-set next i x)),
+        get_or-set_other (set prev i e) x i i 0 other
+            ∙ get_or-set_same prev i e 0 w,
+      ),
+      (
+        (
+          get_or-set_other (set next i x) e i i 0 apart ∙ get_or-set_same next i x 0 u,
+          get_or-set_same (set prev i e) x i 0 (omega (arith, z, length-set prev i e)),
+        ),
         path_kept next prev _ _ x xs e n b h.1,
       ),
     )
 
 -- a slot is put right after the end of a ring
-pub path_in : (next prev : List ℕ) (e i : ℕ) (xs : List ℕ) → Path next prev e xs e → ((k : ℕ) → occurs k (e ∷ xs) ≤ 1) → occurs i (e ∷ xs) ≡ 0
+pub path_in : (next prev : List ℕ) (e i : ℕ) (xs : List ℕ) → Path next prev e xs e
+    → ((k : ℕ) → occurs k (e ∷ xs) ≤ 1) → occurs i (e ∷ xs) ≡ 0
     → i < length next → e < length next → i < length prev → get_or next e 0 < length prev
     → Path (set (set next i (get_or next e 0)) e i) (set (set prev i e) (get_or next e 0) i) e (i ∷ xs) e
 path_in next prev e i xs h few none u v w z =
     let after : get_or next e 0 ≡ first_of xs e = path_first next prev e xs e h in
-    subst (λ f. Path (set (set next i f) e i) (set (set prev i e) f i) e (i ∷ xs) e) (sym after) (insert next prev e i xs h few none u v w (omega (arith, z, after)))
+    subst (λ f. Path (set (set next i f) e i) (set (set prev i e) f i) e (i ∷ xs) e) (sym after)
+    (insert next prev e i xs h few none u v w (omega (arith, z, after)))
 
 -- ---- all 64 rings
 
@@ -184,7 +214,9 @@ module _ (count : ℕ) (states : List Assignment) (next prev : List ℕ) (h : Is
 
   pub member_below : (c k : ℕ) → 0 < occurs k (h.chains c) → k < count
   member_below c k l =
-      let past : count ≤ k → ⊥ = λ m. false≢true (ap (is_in_chain c) (sym (get_or_past states k (Free None) (omega (arith, m, h.states_len)))) ∙ member_stands c k l) in
+      let past : count ≤ k
+      → ⊥ = λ m. false≢true (ap (is_in_chain c) (sym (get_or_past states k (Free None) (omega (arith, m, h.states_len))))
+      ∙ member_stands c k l) in
       omega (arith, past)
 
   end_apart : (c k : ℕ) → k ≡ count + c → occurs k (h.chains c) ≡ 0
@@ -207,7 +239,8 @@ module _ (count : ℕ) (states : List Assignment) (next prev : List ℕ) (h : Is
       (cases_eq k (count + d)))
       (λ (n : k ≡ count + c → ⊥). (let low = member_below c k (omega (arith, l, one_other k (count + c) n)) in
       let g : k ≡ count + d → ⊥ = λ f. omega (arith, f, low) in
-      stands_once c d (slot_state states k) (member_stands c k (omega (arith, l, one_other k (count + c) n))) (member_stands d k (omega (arith, m, one_other k (count + d) g)))))
+      stands_once c d (slot_state states k) (member_stands c k (omega (arith, l, one_other k (count + c) n)))
+      (member_stands d k (omega (arith, m, one_other k (count + d) g)))))
       (cases_eq k (count + c))
 
   off : (c d x k : ℕ) → eqb c d ≡ false → 0 < occurs x ((count + c) ∷ h.chains c) → 0 < occurs k ((count + d) ∷ h.chains d) → k ≡ x → ⊥
@@ -229,14 +262,16 @@ module _ (count : ℕ) (states : List Assignment) (next prev : List ℕ) (h : Is
 
     pub before_on : 0 < occurs (get_or prev i 0) ((count + c) ∷ h.chains c)
     before_on =
-        let e : get_or prev i 0 ≡ last_of (count + c) ys = path_last next prev (count + c) ys i (path_split next prev (count + c) ys i zs (count + c) ring).0 in
+        let e : get_or prev i 0 ≡ last_of (count + c) ys = path_last next prev (count + c) ys i
+        (path_split next prev (count + c) ys i zs (count + c) ring).0 in
         subst (λ l. 0 < occurs (get_or prev i 0) ((count + c) ∷ l)) (sym split)
         (subst (λ x. 0 < occurs x ((count + c) ∷ (ys ++ i ∷ zs))) (sym e)
         (omega (arith, last_occurs (count + c) ys, occurs_append (last_of (count + c) ys) ys (i ∷ zs))))
 
     pub after_on : 0 < occurs (get_or next i 0) ((count + c) ∷ h.chains c)
     after_on =
-        let e : get_or next i 0 ≡ first_of zs (count + c) = path_first next prev i zs (count + c) (path_split next prev (count + c) ys i zs (count + c) ring).1 in
+        let e : get_or next i 0 ≡ first_of zs (count + c) = path_first next prev i zs (count + c)
+        (path_split next prev (count + c) ys i zs (count + c) ring).1 in
         subst (λ l. 0 < occurs (get_or next i 0) ((count + c) ∷ l)) (sym split)
         (subst (λ x. 0 < occurs x ((count + c) ∷ (ys ++ i ∷ zs))) (sym e)
         (omega (arith, first_occurs zs (count + c), occurs_append (first_of zs (count + c)) ys (i ∷ zs))))
@@ -244,12 +279,14 @@ module _ (count : ℕ) (states : List Assignment) (next prev : List ℕ) (h : Is
     member : 0 < occurs i (h.chains c)
     member = subst (λ l. 0 < occurs i l) (sym split) (omega (arith, one_same i, occurs_append i ys (i ∷ zs)))
 
-    pub out_joined : (d : ℕ) → d < 64 → Path (set next (get_or prev i 0) (get_or next i 0)) (set prev (get_or next i 0) (get_or prev i 0)) (count + d) (put_chain h.chains c (ys ++ zs) d) (count + d)
+    pub out_joined : (d : ℕ) → d < 64 → Path (set next (get_or prev i 0) (get_or next i 0)) (set prev (get_or next i 0) (get_or prev i 0))
+        (count + d) (put_chain h.chains c (ys ++ zs) d) (count + d)
     out_joined d l = elim (cases_Bool (eqb c d)) [
       | inl e ↦ (let m : c ≡ d = eqb-true c d e in
           subst (λ xs. Path N P (count + d) xs (count + d)) (sym (cond-true (eqb c d) (ys ++ zs) (h.chains d) e))
           (subst (λ x. Path N P (count + x) (ys ++ zs) (count + x)) m
-          (path_out next prev (count + c) ys i zs ring few (omega (arith, on_below c p lt before_on, h.next_len)) (omega (arith, on_below c q lt after_on, h.prev_len)))))
+          (path_out next prev (count + c) ys i zs ring few (omega (arith, on_below c p lt before_on, h.next_len))
+          (omega (arith, on_below c q lt after_on, h.prev_len)))))
       | inr f ↦ (subst (λ xs. Path N P (count + d) xs (count + d)) (sym (cond-false (eqb c d) (ys ++ zs) (h.chains d) f))
           (path_kept next prev N P (count + d) (h.chains d) (count + d)
           (λ k m. get_or-set_other next p k q 0 (off c d p k f before_on m))
@@ -269,26 +306,43 @@ module _ (count : ℕ) (states : List Assignment) (next prev : List ℕ) (h : Is
         P : List ℕ
         P = set prev q p
 
-    pub out_homes : (s : Assignment) → ((d : ℕ) → is_in_chain d s ≡ false) → (d k : ℕ) → occurs k (put_chain h.chains c (ys ++ zs) d) ≡ cond (is_in_chain d (slot_state (set states i s) k)) 1 0
+    pub out_homes : (s : Assignment) → ((d : ℕ) → is_in_chain d s ≡ false) → (d k : ℕ)
+        → occurs k (put_chain h.chains c (ys ++ zs) d) ≡ cond (is_in_chain d (slot_state (set states i s) k)) 1 0
     out_homes s free d k = ⊎_elim
-        (λ (e : k ≡ i). subst (λ x. occurs x (put_chain h.chains c (ys ++ zs) d) ≡ counted (is_in_chain d (slot_state (set states i s) x))) (sym e)
-        (gone ∙ sym (ap (λ t. counted (is_in_chain d t)) (get_or-set_same states i s (Free None) (omega (arith, member_below c i member, h.states_len))) ∙ ap counted (free d))))
+        (λ (e : k ≡ i). subst (λ x. occurs x (put_chain h.chains c (ys ++ zs) d) ≡ counted (is_in_chain d (slot_state (set states i s) x)))
+        (sym e)
+        (gone ∙ sym (ap (λ t. counted (is_in_chain d t))
+        (get_or-set_same states i s (Free None) (omega (arith, member_below c i member, h.states_len))) ∙ ap counted (free d))))
         (λ (n : k ≡ i → ⊥). same n ∙ h.homes d k ∙ sym (ap (λ t. counted (is_in_chain d t)) (get_or-set_other states i k s (Free None) n)))
         (cases_eq k i)
       where
         gone : occurs i (put_chain h.chains c (ys ++ zs) d) ≡ 0
         gone = elim (cases_Bool (eqb c d)) [
-          | inl e ↦ (let none : occurs i (ys ++ zs) ≡ 0 = omega (arith, few i, one_same i, occurs_append i ys (i ∷ zs), occurs_append i ys zs) in
+          | inl e ↦ (let none : occurs i (ys ++ zs) ≡ 0 = omega (
+            arith,
+            few i,
+            one_same i,
+            occurs_append i ys (i ∷ zs),
+            occurs_append i ys zs,
+          ) in
               ap (occurs i) (cond-true (eqb c d) (ys ++ zs) (h.chains d) e) ∙ none)
-          | inr f ↦ (let no : 0 < occurs i (h.chains d) → ⊥ = λ l. false≢true (sym f ∙ eq-eqb c d (stands_once c d (slot_state states i) (member_stands c i member) (member_stands d i l))) in
+          | inr f ↦ (let no : 0 < occurs i (h.chains d)
+              → ⊥ = λ l. false≢true (sym f
+              ∙ eq-eqb c d (stands_once c d (slot_state states i) (member_stands c i member) (member_stands d i l))) in
               let none : occurs i (h.chains d) ≡ 0 = omega (arith, no) in
               ap (occurs i) (cond-false (eqb c d) (ys ++ zs) (h.chains d) f) ∙ none)
         ]
 
         same : (k ≡ i → ⊥) → occurs k (put_chain h.chains c (ys ++ zs) d) ≡ occurs k (h.chains d)
         same n = elim (cases_Bool (eqb c d)) [
-          | inl e ↦ (let less : occurs k (ys ++ zs) ≡ occurs k (ys ++ i ∷ zs) = omega (arith, one_other k i n, occurs_append k ys (i ∷ zs), occurs_append k ys zs) in
-              ap (occurs k) (cond-true (eqb c d) (ys ++ zs) (h.chains d) e) ∙ less ∙ ap (occurs k) (sym split) ∙ ap (λ x. occurs k (h.chains x)) (eqb-true c d e))
+          | inl e ↦ (let less : occurs k (ys ++ zs) ≡ occurs k (ys ++ i ∷ zs) = omega (
+            arith,
+            one_other k i n,
+            occurs_append k ys (i ∷ zs),
+            occurs_append k ys zs,
+          ) in
+              ap (occurs k) (cond-true (eqb c d) (ys ++ zs) (h.chains d) e) ∙ less ∙ ap (occurs k) (sym split)
+              ∙ ap (λ x. occurs k (h.chains x)) (eqb-true c d e))
           | inr f ↦ ap (occurs k) (cond-false (eqb c d) (ys ++ zs) (h.chains d) f)
         ]
 
@@ -306,7 +360,8 @@ module _ (count : ℕ) (states : List Assignment) (next prev : List ℕ) (h : Is
     }
 
   -- a free slot is put in front of a chain, by a state that stands there
-  module _ (c i : ℕ) (s : Assignment) (lt : c < 64) (inside : i < count) (free : (d : ℕ) → is_in_chain d (slot_state states i) ≡ false) (stands : (d : ℕ) → is_in_chain d s ≡ eqb c d) where
+  module _ (c i : ℕ) (s : Assignment) (lt : c < 64) (inside : i < count) (free : (d : ℕ) → is_in_chain d (slot_state states i) ≡ false)
+      (stands : (d : ℕ) → is_in_chain d s ≡ eqb c d) where
     nowhere : (d : ℕ) → occurs i ((count + d) ∷ h.chains d) ≡ 0
     nowhere d =
         let apart : i ≡ count + d → ⊥ = λ e. omega (arith, e, inside) in
@@ -314,7 +369,8 @@ module _ (count : ℕ) (states : List Assignment) (next prev : List ℕ) (h : Is
 
     pub first_on : 0 < occurs (get_or next (count + c) 0) ((count + c) ∷ h.chains c)
     first_on =
-        let e : get_or next (count + c) 0 ≡ first_of (h.chains c) (count + c) = path_first next prev (count + c) (h.chains c) (count + c) (h.joined c lt) in
+        let e : get_or next (count + c) 0 ≡ first_of (h.chains c) (count + c) = path_first next prev (count + c) (h.chains c)
+        (count + c) (h.joined c lt) in
         subst (λ x. 0 < occurs x ((count + c) ∷ h.chains c)) (sym e) (first_occurs (h.chains c) (count + c))
 
     end_on : 0 < occurs (count + c) ((count + c) ∷ h.chains c)
@@ -323,16 +379,21 @@ module _ (count : ℕ) (states : List Assignment) (next prev : List ℕ) (h : Is
     missed : (d k : ℕ) → 0 < occurs k ((count + d) ∷ h.chains d) → k ≡ i → ⊥
     missed d k l e = omega (arith, l, nowhere d, ap (λ x. occurs x ((count + d) ∷ h.chains d)) e)
 
-    pub in_joined : (d : ℕ) → d < 64 → Path (set (set next i (get_or next (count + c) 0)) (count + c) i) (set (set prev i (count + c)) (get_or next (count + c) 0) i) (count + d) (put_chain h.chains c (i ∷ h.chains c) d) (count + d)
+    pub in_joined : (d : ℕ) → d < 64
+        → Path (set (set next i (get_or next (count + c) 0)) (count + c) i) (set (set prev i (count + c)) (get_or next (count + c) 0) i)
+        (count + d) (put_chain h.chains c (i ∷ h.chains c) d) (count + d)
     in_joined d l = elim (cases_Bool (eqb c d)) [
       | inl e ↦ (let m : c ≡ d = eqb-true c d e in
           subst (λ xs. Path N P (count + d) xs (count + d)) (sym (cond-true (eqb c d) (i ∷ h.chains c) (h.chains d) e))
           (subst (λ x. Path N P (count + x) (i ∷ h.chains c) (count + x)) m
-          (path_in next prev (count + c) i (h.chains c) (h.joined c lt) (few_on c) (nowhere c) (omega (arith, inside, h.next_len)) (omega (arith, lt, h.next_len)) (omega (arith, inside, h.prev_len)) (omega (arith, on_below c f lt first_on, h.prev_len)))))
+          (path_in next prev (count + c) i (h.chains c) (h.joined c lt) (few_on c) (nowhere c) (omega (arith, inside, h.next_len))
+          (omega (arith, lt, h.next_len)) (omega (arith, inside, h.prev_len)) (omega (arith, on_below c f lt first_on, h.prev_len)))))
       | inr g ↦ (subst (λ xs. Path N P (count + d) xs (count + d)) (sym (cond-false (eqb c d) (i ∷ h.chains c) (h.chains d) g))
           (path_kept next prev N P (count + d) (h.chains d) (count + d)
-          (λ k m. get_or-set_other (set next i f) (count + c) k i 0 (off c d (count + c) k g end_on m) ∙ get_or-set_other next i k f 0 (missed d k m))
-          (λ k m. get_or-set_other (set prev i (count + c)) f k i 0 (off c d f k g first_on m) ∙ get_or-set_other prev i k (count + c) 0 (missed d k m))
+          (λ k m. get_or-set_other (set next i f) (count + c) k i 0 (off c d (count + c) k g end_on m)
+          ∙ get_or-set_other next i k f 0 (missed d k m))
+          (λ k m. get_or-set_other (set prev i (count + c)) f k i 0 (off c d f k g first_on m)
+          ∙ get_or-set_other prev i k (count + c) 0 (missed d k m))
           (h.joined d l)))
     ]
       where
@@ -347,8 +408,10 @@ module _ (count : ℕ) (states : List Assignment) (next prev : List ℕ) (h : Is
 
     pub in_homes : (d k : ℕ) → occurs k (put_chain h.chains c (i ∷ h.chains c) d) ≡ cond (is_in_chain d (slot_state (set states i s) k)) 1 0
     in_homes d k = ⊎_elim
-        (λ (e : k ≡ i). subst (λ x. occurs x (put_chain h.chains c (i ∷ h.chains c) d) ≡ counted (is_in_chain d (slot_state (set states i s) x))) (sym e)
-        (here ∙ sym (ap (λ t. counted (is_in_chain d t)) (get_or-set_same states i s (Free None) (omega (arith, inside, h.states_len))) ∙ ap counted (stands d))))
+        (λ (e : k ≡ i). subst (λ x. occurs x (put_chain h.chains c (i ∷ h.chains c) d) ≡ counted
+        (is_in_chain d (slot_state (set states i s) x))) (sym e)
+        (here ∙ sym (ap (λ t. counted (is_in_chain d t)) (get_or-set_same states i s (Free None) (omega (arith, inside, h.states_len)))
+        ∙ ap counted (stands d))))
         (λ (n : k ≡ i → ⊥). same n ∙ h.homes d k ∙ sym (ap (λ t. counted (is_in_chain d t)) (get_or-set_other states i k s (Free None) n)))
         (cases_eq k i)
       where
@@ -367,11 +430,13 @@ module _ (count : ℕ) (states : List Assignment) (next prev : List ℕ) (h : Is
           | inr f ↦ ap (occurs k) (cond-false (eqb c d) (i ∷ h.chains c) (h.chains d) f)
         ]
 
-    abbrev pub put_in : IsChained count (set states i s) (set (set next i (get_or next (count + c) 0)) (count + c) i) (set (set prev i (count + c)) (get_or next (count + c) 0) i)
+    abbrev pub put_in : IsChained count (set states i s) (set (set next i (get_or next (count + c) 0)) (count + c) i)
+        (set (set prev i (count + c)) (get_or next (count + c) 0) i)
     put_in = record {
       few = h.few;
       states_len = length-set states i s ∙ h.states_len;
-      next_len = length-set (set next i (get_or next (count + c) 0)) (count + c) i ∙ length-set next i (get_or next (count + c) 0) ∙ h.next_len;
+      next_len = length-set (set next i (get_or next (count + c) 0)) (count + c) i
+          ∙ length-set next i (get_or next (count + c) 0) ∙ h.next_len;
       prev_len = length-set (set prev i (count + c)) (get_or next (count + c) 0) i ∙ length-set prev i (count + c) ∙ h.prev_len;
       chains = put_chain h.chains c (i ∷ h.chains c);
       joined = in_joined;
@@ -379,7 +444,8 @@ module _ (count : ℕ) (states : List Assignment) (next prev : List ℕ) (h : Is
     }
 
   -- a slot takes another state that stands where the old one did
-  abbrev pub stayed : (i : ℕ) (s : Assignment) → i < count → ((d : ℕ) → is_in_chain d s ≡ is_in_chain d (slot_state states i)) → IsChained count (set states i s) next prev
+  abbrev pub stayed : (i : ℕ) (s : Assignment) → i < count → ((d : ℕ) → is_in_chain d s ≡ is_in_chain d (slot_state states i))
+      → IsChained count (set states i s) next prev
   stayed i s inside alike = record {
     few = h.few;
     states_len = length-set states i s ∙ h.states_len;
@@ -388,8 +454,10 @@ module _ (count : ℕ) (states : List Assignment) (next prev : List ℕ) (h : Is
     chains = h.chains;
     joined = h.joined;
     homes = λ d k. (h.homes d k ∙ ⊎_elim
-        (λ (e : k ≡ i). subst (λ x. counted (is_in_chain d (slot_state states x)) ≡ counted (is_in_chain d (slot_state (set states i s) x))) (sym e)
-        (ap counted (sym (alike d)) ∙ sym (ap (λ t. counted (is_in_chain d t)) (get_or-set_same states i s (Free None) (omega (arith, inside, h.states_len))))))
+        (λ (e : k ≡ i). subst (λ x. counted (is_in_chain d (slot_state states x)) ≡ counted (is_in_chain d (slot_state (set states i s) x)))
+        (sym e)
+        (ap counted (sym (alike d))
+        ∙ sym (ap (λ t. counted (is_in_chain d t)) (get_or-set_same states i s (Free None) (omega (arith, inside, h.states_len))))))
         (λ (n : k ≡ i → ⊥). sym (ap (λ t. counted (is_in_chain d t)) (get_or-set_other states i k s (Free None) n)))
         (cases_eq k i));
   }

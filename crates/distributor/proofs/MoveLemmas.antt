@@ -1,18 +1,23 @@
 -- Each call changes the conversations only by moves that the model allows.
-use Rattle.std.proofs.Common.{◌≡◌, ℕ, zero, suc, ◌+◌, ◌-◌, ◌*◌, ◌/◌, ◌%◌, ◌<◌, ◌^◌, length, arith, ⊎_elim, Bool, true, false, cond, ◌&&◌, eqb, Option, Some, None, Ok, Err, List, [], ◌∷◌, sym, refl, ap, ◌∙◌, subst, ◌⊎◌, inl, inr}
+use Rattle.std.proofs.Common.{◌≡◌, ℕ, zero, suc, ◌+◌, ◌-◌, ◌*◌, ◌/◌, ◌%◌, ◌<◌, ◌^◌, length, arith, ⊎_elim, Bool, true, false, cond, ◌&&◌}
+use Rattle.std.proofs.Common.{eqb, Option, Some, None, Ok, Err, List, [], ◌∷◌, sym, refl, ap, ◌∙◌, subst, ◌⊎◌, inl, inr}
 use Rattle.std.specs.Prelude.{ltb, is_none}
-use Rattle.std.proofs.lemmas.Bool.{cases_Bool, and_parts, eqb-true, eq-eqb, cond-true, cond-false, false≢true, cases_eq, ltb-true, ltb-false}
+use Rattle.std.proofs.lemmas.Bool.{cases_Bool, and_parts, eqb-true, eq-eqb, cond-true, cond-false, false≢true, cases_eq, ltb-true}
+use Rattle.std.proofs.lemmas.Bool.{ltb-false}
 use Rattle.std.proofs.lemmas.Nat.{mod-mul-add, div-mul-add}
 use Rattle.std.proofs.lemmas.List.{get_or_past}
 use Rattle.distributor.specs.declared.assignment.Assignment.{Assignment}
 use Rattle.distributor.specs.declared.assignment.Assignment.TheVariants as state
 use Rattle.distributor.specs.declared.fault.DistFault.{DistFault}
-use Rattle.lagmodel.specs.View.{Conversation, ModelCall, ControlMessage, SystemSetup, at_conversation, first_view, replies_frame, conversation_port}
-use Rattle.lagmodel.specs.Move.{Act, ConversationMove, ConversationMoveAllowed, conversation_after, DistributorMove, DistributorMoves, flushed}
+use Rattle.lagmodel.specs.View.{Conversation, ModelCall, ControlMessage, SystemSetup, at_conversation, first_view, replies_frame}
+use Rattle.lagmodel.specs.View.{conversation_port}
+use Rattle.lagmodel.specs.Move.{Act, ConversationMove, ConversationMoveAllowed, conversation_after, DistributorMove, DistributorMoves}
+use Rattle.lagmodel.specs.Move.{flushed}
 use Rattle.lagmodel.specs.Bridge.{IsAmong, BecomeByMoves}
 use Rattle.lagmodel.proofs.Uses.{flows_become}
 use Rattle.distributor.specs.Conversations.{Table, first_table, assignment_of, slot_index}
-use Rattle.distributor.specs.Changes.{SetsAssignment, ChangesAssignments, Marks, after_leave, after_mark, after_release, after_down, after_tick}
+use Rattle.distributor.specs.Changes.{SetsAssignment, ChangesAssignments, Marks, after_leave, after_mark, after_release, after_down}
+use Rattle.distributor.specs.Changes.{after_tick}
 use Rattle.distributor.specs.Calls.{MaySend, move_result, force_result, distributes}
 use Rattle.distributor.proofs.TableLemmas.{first_free}
 use Rattle.distributor.specs.Moves.{model_conversation, model_distributor, OnlyListedDistribute, NoneDistributes}
@@ -27,33 +32,41 @@ eqb_flip m n = elim (cases_Bool (eqb m n)) [
 ]
 
 -- One conversation takes a state.
-chosen_state : (x y : Bool) (s r : Assignment) → model_conversation (cond (x && y) s r) ≡ cond x (cond y (model_conversation s) (model_conversation r)) (model_conversation r)
+chosen_state : (x y : Bool) (s r : Assignment)
+    → model_conversation (cond (x && y) s r) ≡ cond x (cond y (model_conversation s) (model_conversation r)) (model_conversation r)
 chosen_state true true s r = refl
 chosen_state true false s r = refl
 chosen_state false y s r = refl
 
-seen_at : (t u : Table) (agg conv : ℕ) (s : Assignment) → SetsAssignment t u agg conv s → (g k : ℕ) → model_conversation (assignment_of u g k) ≡ at_conversation (model_distributor t).state agg conv (model_conversation s) g k
+seen_at : (t u : Table) (agg conv : ℕ) (s : Assignment) → SetsAssignment t u agg conv s → (g k : ℕ)
+    → model_conversation (assignment_of u g k) ≡ at_conversation (model_distributor t).state agg conv (model_conversation s) g k
 seen_at t u agg conv s h g k =
     ap model_conversation (h.states g k)
     ∙ chosen_state (eqb agg g) (eqb conv k) s (assignment_of t g k)
-    ∙ ap (λ (x : Bool). cond x (cond (eqb conv k) (model_conversation s) (model_conversation (assignment_of t g k))) (model_conversation (assignment_of t g k))) (eqb_flip agg g)
-    ∙ ap (λ (y : Bool). cond (eqb g agg) (cond y (model_conversation s) (model_conversation (assignment_of t g k))) (model_conversation (assignment_of t g k))) (eqb_flip conv k)
+    ∙ ap (λ (x : Bool). cond x (cond (eqb conv k) (model_conversation s) (model_conversation (assignment_of t g k)))
+    (model_conversation (assignment_of t g k))) (eqb_flip agg g)
+    ∙ ap (λ (y : Bool). cond (eqb g agg) (cond y (model_conversation s) (model_conversation (assignment_of t g k)))
+    (model_conversation (assignment_of t g k))) (eqb_flip conv k)
 
-seen_after : (t u : Table) (agg conv : ℕ) (s : Assignment) (d : Conversation) → SetsAssignment t u agg conv s → model_conversation s ≡ d → model_distributor u ≡ record (model_distributor t) { state = at_conversation (model_distributor t).state agg conv d }
+seen_after : (t u : Table) (agg conv : ℕ) (s : Assignment) (d : Conversation) → SetsAssignment t u agg conv s → model_conversation s ≡ d
+    → model_distributor u ≡ record (model_distributor t) { state = at_conversation (model_distributor t).state agg conv d }
 seen_after t u agg conv s d h e = λ i. record {
   state = λ g k. (seen_at t u agg conv s h g k ∙ ap (λ (c : Conversation). at_conversation (model_distributor t).state agg conv c g k) e) i;
   next = h.next i;
 }
 
 -- a frame is sent
-may_send : (agg conv port : ℕ) (ports : List ℕ) (s : Assignment) → MaySend ports s port → ((model_conversation s ≡ Conversation.Free) × OnlyListedDistribute agg ports agg port) ⊎ (model_conversation s ≡ Conversation.On port)
+may_send : (agg conv port : ℕ) (ports : List ℕ) (s : Assignment) → MaySend ports s port
+    → ((model_conversation s ≡ Conversation.Free) × OnlyListedDistribute agg ports agg port) ⊎ (model_conversation s ≡ Conversation.On port)
 may_send agg conv port ports (state.Free preferred) h = inl (refl, (refl, h))
 may_send agg conv port ports (state.On p) h = inr (ap (λ q. Conversation.On q) (sym h))
 may_send agg conv port ports (state.Wanted p preferred) h = absurd h
 may_send agg conv port ports (state.Flushing p n preferred age) h = absurd h
 
-pub send_moves : (mac : List ℕ) (call : ModelCall) (t u : Table) (agg conv port : ℕ) (ports : List ℕ) → replies_frame call ≡ true → MaySend ports (assignment_of t agg conv) port → SetsAssignment t u agg conv (state.On port)
-    → DistributorMoves mac call (OnlyListedDistribute agg ports) (model_distributor t) (Act.Sends_frame port agg conv ∷ []) (model_distributor u)
+pub send_moves : (mac : List ℕ) (call : ModelCall) (t u : Table) (agg conv port : ℕ) (ports : List ℕ) → replies_frame call ≡ true
+    → MaySend ports (assignment_of t agg conv) port → SetsAssignment t u agg conv (state.On port)
+    → DistributorMoves mac call (OnlyListedDistribute agg ports) (model_distributor t) (Act.Sends_frame port agg conv
+    ∷ []) (model_distributor u)
 send_moves mac call t u agg conv port ports r m h = (
   DistributorMove.Send agg conv port ∷ [],
   ((r, may_send agg conv port ports (assignment_of t agg conv) m), tt),
@@ -62,24 +75,36 @@ send_moves mac call t u agg conv port ports r m h = (
 )
 
 -- a conversation changes while nothing is sent
-one_moves : (mac : List ℕ) (call : ModelCall) (t u : Table) (agg conv : ℕ) (s : Assignment) (m : ConversationMove) → ConversationMoveAllowed mac call agg conv m (model_conversation (assignment_of t agg conv)) → model_conversation s ≡ conversation_after m → SetsAssignment t u agg conv s
+one_moves : (mac : List ℕ) (call : ModelCall) (t u : Table) (agg conv : ℕ) (s : Assignment) (m : ConversationMove)
+    → ConversationMoveAllowed mac call agg conv m (model_conversation (assignment_of t agg conv))
+    → model_conversation s ≡ conversation_after m → SetsAssignment t u agg conv s
     → DistributorMoves mac call NoneDistributes (model_distributor t) [] (model_distributor u)
-one_moves mac call t u agg conv s m a e h = (DistributorMove.Become agg conv m ∷ [], (a, tt), refl, seen_after t u agg conv s (conversation_after m) h e)
+one_moves mac call t u agg conv s m a e h = (
+  DistributorMove.Become agg conv m
+      ∷ [],
+  (a, tt),
+  refl,
+  seen_after t u agg conv s (conversation_after m) h e,
+)
 
 -- what a move makes of a conversation
-pub is_moved : (next : Option ℕ) (ports : List ℕ) (to : ℕ) (old new : Assignment) → move_result next ports to old ≡ Ok new → (p : ℕ) × (model_conversation old ≡ Conversation.On p) × (model_conversation new ≡ Conversation.Wanted p)
+pub is_moved : (next : Option ℕ) (ports : List ℕ) (to : ℕ) (old new : Assignment) → move_result next ports to old ≡ Ok new → (p : ℕ)
+    × (model_conversation old ≡ Conversation.On p) × (model_conversation new ≡ Conversation.Wanted p)
 is_moved next ports to (state.Free preferred) new h = absurd cc
 is_moved next ports to (state.Wanted p preferred) new h = absurd cc
 is_moved next ports to (state.Flushing p n preferred age) new h = absurd cc
 is_moved next ports to (state.On p) new h = (p, refl, checked (distributes ports to) (eqb p to) (is_none next) h)
   where
-    checked : (x y z : Bool) → cond x (cond y (Err DistFault.SamePort) (cond z (Err DistFault.MarkersSpent) (Ok (state.Wanted p (Some to))))) (Err DistFault.NotDistributing) ≡ Ok new → model_conversation new ≡ Conversation.Wanted p
+    checked : (x y z : Bool)
+        → cond x (cond y (Err DistFault.SamePort) (cond z (Err DistFault.MarkersSpent) (Ok (state.Wanted p (Some to)))))
+        (Err DistFault.NotDistributing) ≡ Ok new → model_conversation new ≡ Conversation.Wanted p
     checked false y z e = absurd cc
     checked true true z e = absurd cc
     checked true false true e = absurd cc
     checked true false false e = let same : state.Wanted p (Some to) ≡ new = cc in ap model_conversation (sym same)
 
-pub move_moves : (mac : List ℕ) (call : ModelCall) (t u : Table) (agg conv to : ℕ) (next : Option ℕ) (ports : List ℕ) (s : Assignment) → move_result next ports to (assignment_of t agg conv) ≡ Ok s → SetsAssignment t u agg conv s
+pub move_moves : (mac : List ℕ) (call : ModelCall) (t u : Table) (agg conv to : ℕ) (next : Option ℕ) (ports : List ℕ) (s : Assignment)
+    → move_result next ports to (assignment_of t agg conv) ≡ Ok s → SetsAssignment t u agg conv s
     → DistributorMoves mac call NoneDistributes (model_distributor t) [] (model_distributor u)
 move_moves mac call t u agg conv to next ports s e h =
     let m = is_moved next ports to (assignment_of t agg conv) s e in
@@ -92,8 +117,11 @@ is_forced (state.On p) new h = let same : state.Free None ≡ new = cc in ap mod
 is_forced (state.Wanted p preferred) new h = let same : state.Free preferred ≡ new = cc in ap model_conversation (sym same)
 is_forced (state.Flushing p n preferred age) new h = let same : state.Free preferred ≡ new = cc in ap model_conversation (sym same)
 
-pub force_moves : (mac : List ℕ) (t u : Table) (agg conv : ℕ) (s : Assignment) → force_result (assignment_of t agg conv) ≡ Ok s → SetsAssignment t u agg conv s → DistributorMoves mac (ModelCall.Force agg conv) NoneDistributes (model_distributor t) [] (model_distributor u)
-force_moves mac t u agg conv s e h = one_moves mac (ModelCall.Force agg conv) t u agg conv s ConversationMove.Forced refl (is_forced (assignment_of t agg conv) s e) h
+pub force_moves : (mac : List ℕ) (t u : Table) (agg conv : ℕ) (s : Assignment) → force_result (assignment_of t agg conv) ≡ Ok s
+    → SetsAssignment t u agg conv s
+    → DistributorMoves mac (ModelCall.Force agg conv) NoneDistributes (model_distributor t) [] (model_distributor u)
+force_moves mac t u agg conv s e h = one_moves mac (ModelCall.Force agg conv) t u agg conv s ConversationMove.Forced refl
+    (is_forced (assignment_of t agg conv) s e) h
 
 -- Every conversation changes alike.
 keys_of : ℕ → List (ℕ × ℕ)
@@ -104,7 +132,10 @@ among_keys : (g k n : ℕ) → 0 < g → k < 256 → (g - 1) * 256 + k < n → I
 unfolding keys_of
 among_keys g k zero p l lt = absurd (omega arith)
 among_keys g k (suc n) p l lt = ⊎_elim
-    (λ (e : (g - 1) * 256 + k ≡ n). inl (omega (arith, e, div-mul-add (g - 1) 256 k l, ap (λ x. x / 256) e), sym (mod-mul-add (g - 1) 256 k l) ∙ ap (λ x. x % 256) e))
+    (λ (e : (g - 1) * 256 + k ≡ n). inl (
+      omega (arith, e, div-mul-add (g - 1) 256 k l, ap (λ x. x / 256) e),
+      sym (mod-mul-add (g - 1) 256 k l) ∙ ap (λ x. x % 256) e,
+    ))
     (λ (m : (g - 1) * 256 + k ≡ n → ⊥). inr (among_keys g k n p l (omega (arith, m))))
     (cases_eq ((g - 1) * 256 + k) n)
 
@@ -112,8 +143,10 @@ in_states : (t : Table) (g k : ℕ) → (assignment_of t g k ≡ state.Free None
 in_states t g k = elim (cases_Bool (ltb 0 g && ltb k 256)) [
   | inl e ↦ (let p = and_parts (ltb 0 g) (ltb k 256) e in
       elim (cases_Bool (ltb (slot_index g k) (length t.states))) [
-        | inl x ↦ inr (among_keys g k (length t.states) (ltb-true 0 g p.0) (ltb-true k 256 p.1) (ltb-true (slot_index g k) (length t.states) x))
-        | inr y ↦ inl (cond-true (ltb 0 g && ltb k 256) _ _ e ∙ get_or_past t.states (slot_index g k) (state.Free None) (ltb-false (slot_index g k) (length t.states) y))
+        | inl x ↦ inr (among_keys g k (length t.states) (ltb-true 0 g p.0) (ltb-true k 256 p.1)
+            (ltb-true (slot_index g k) (length t.states) x))
+        | inr y ↦ inl (cond-true (ltb 0 g && ltb k 256) _ _ e
+            ∙ get_or_past t.states (slot_index g k) (state.Free None) (ltb-false (slot_index g k) (length t.states) y))
       ])
   | inr f ↦ inl (cond-false (ltb 0 g && ltb k 256) _ _ f)
 ]
@@ -121,14 +154,19 @@ in_states t g k = elim (cases_Bool (ltb 0 g && ltb k 256)) [
 -- what one conversation makes of itself
 abbrev pub Makes : List ℕ → ModelCall → ℕ → ℕ → Assignment → Assignment → Type 0
 Makes mac call g k old new =
-    (model_conversation new ≡ model_conversation old) ⊎ ((m : ConversationMove) × ConversationMoveAllowed mac call g k m (model_conversation old) × (model_conversation new ≡ conversation_after m))
+    (model_conversation new ≡ model_conversation old)
+    ⊎ ((m : ConversationMove) × ConversationMoveAllowed mac call g k m (model_conversation old)
+    × (model_conversation new ≡ conversation_after m))
 
 -- each conversation makes what it makes of itself, by its aggregator and number
-pub each_moves : (mac : List ℕ) (call : ModelCall) (t u : Table) (change : ℕ → ℕ → Assignment → Assignment) → ((g k : ℕ) → change g k (state.Free None) ≡ state.Free None) → ((g k : ℕ) (s : Assignment) → Makes mac call g k s (change g k s))
-    → u.next ≡ t.next → ((g k : ℕ) → assignment_of u g k ≡ change g k (assignment_of t g k)) → DistributorMoves mac call NoneDistributes (model_distributor t) [] (model_distributor u)
+pub each_moves : (mac : List ℕ) (call : ModelCall) (t u : Table) (change : ℕ → ℕ → Assignment → Assignment)
+    → ((g k : ℕ) → change g k (state.Free None) ≡ state.Free None) → ((g k : ℕ) (s : Assignment) → Makes mac call g k s (change g k s))
+    → u.next ≡ t.next → ((g k : ℕ) → assignment_of u g k ≡ change g k (assignment_of t g k))
+    → DistributorMoves mac call NoneDistributes (model_distributor t) [] (model_distributor u)
 each_moves mac call t u change free makes next states =
     let z = flows_become mac call NoneDistributes (keys_of (length t.states)) (model_distributor t) (model_distributor u).state each in
-    let same : model_distributor u ≡ record (model_distributor t) { state = (model_distributor u).state } = λ i. record { state = (model_distributor u).state; next = next i } in
+    let same : model_distributor u ≡ record (model_distributor t) { state = (model_distributor u).state } =
+    λ i. record { state = (model_distributor u).state; next = next i } in
     (z.0, z.1, z.2, same ∙ z.3)
   where
     each : BecomeByMoves (keys_of (length t.states)) mac call (model_distributor t).state (model_distributor u).state
@@ -141,26 +179,37 @@ each_moves mac call t u change free makes next states =
     ]
 
 -- all in the same way
-all_moves : (mac : List ℕ) (call : ModelCall) (t u : Table) (change : Assignment → Assignment) → change (state.Free None) ≡ state.Free None → ((g k : ℕ) (s : Assignment) → Makes mac call g k s (change s)) → ChangesAssignments t u change
+all_moves : (mac : List ℕ) (call : ModelCall) (t u : Table) (change : Assignment → Assignment) → change (state.Free None) ≡ state.Free None
+    → ((g k : ℕ) (s : Assignment) → Makes mac call g k s (change s)) → ChangesAssignments t u change
     → DistributorMoves mac call NoneDistributes (model_distributor t) [] (model_distributor u)
 all_moves mac call t u change free makes h = each_moves mac call t u (λ g k. change) (λ g k. free) makes h.next h.states
 
 makes_leave : (mac : List ℕ) (call : ModelCall) (port g k : ℕ) (s : Assignment) → Makes mac call g k s (after_leave port s)
 makes_leave mac call port g k (state.Free preferred) = inl refl
 makes_leave mac call port g k (state.On p) = elim (cases_Bool (eqb p port)) [
-  | inl t ↦ inr (ConversationMove.Want port, ap (λ q. Conversation.On q) (eqb-true p port t), ap model_conversation (cond-true (eqb p port) (state.Wanted port None) (state.On p) t))
+  | inl t ↦ inr (
+    ConversationMove.Want port,
+    ap (λ q. Conversation.On q) (eqb-true p port t),
+    ap model_conversation (cond-true (eqb p port) (state.Wanted port None) (state.On p) t),
+  )
   | inr f ↦ inl (ap model_conversation (cond-false (eqb p port) (state.Wanted port None) (state.On p) f))
 ]
 makes_leave mac call port g k (state.Wanted p preferred) = inl refl
 makes_leave mac call port g k (state.Flushing p n preferred age) = inl refl
 
-pub leave_moves : (mac : List ℕ) (call : ModelCall) (t u : Table) (port : ℕ) → ChangesAssignments t u (after_leave port) → DistributorMoves mac call NoneDistributes (model_distributor t) [] (model_distributor u)
+pub leave_moves : (mac : List ℕ) (call : ModelCall) (t u : Table) (port : ℕ) → ChangesAssignments t u (after_leave port)
+    → DistributorMoves mac call NoneDistributes (model_distributor t) [] (model_distributor u)
 leave_moves mac call t u port h = all_moves mac call t u (after_leave port) refl (makes_leave mac call port) h
 
 -- a conversation that has to do with the port is free if its port goes down
-freed : (mac : List ℕ) (port g k p : ℕ) (preferred : Option ℕ) (s : Assignment) → conversation_port (model_conversation s) ≡ Some p → Makes mac (ModelCall.Set_link port false) g k s (cond (eqb p port) (state.Free preferred) s)
+freed : (mac : List ℕ) (port g k p : ℕ) (preferred : Option ℕ) (s : Assignment) → conversation_port (model_conversation s) ≡ Some p
+    → Makes mac (ModelCall.Set_link port false) g k s (cond (eqb p port) (state.Free preferred) s)
 freed mac port g k p preferred s h = elim (cases_Bool (eqb p port)) [
-  | inl t ↦ inr (ConversationMove.Down port, (refl, h ∙ ap (λ q. Some q) (eqb-true p port t)), ap model_conversation (cond-true (eqb p port) (state.Free preferred) s t))
+  | inl t ↦ inr (
+    ConversationMove.Down port,
+    (refl, h ∙ ap (λ q. Some q) (eqb-true p port t)),
+    ap model_conversation (cond-true (eqb p port) (state.Free preferred) s t),
+  )
   | inr f ↦ inl (ap model_conversation (cond-false (eqb p port) (state.Free preferred) s f))
 ]
 
@@ -170,10 +219,12 @@ makes_down mac port g k (state.On p) = freed mac port g k p None (state.On p) re
 makes_down mac port g k (state.Wanted p preferred) = freed mac port g k p preferred (state.Wanted p preferred) refl
 makes_down mac port g k (state.Flushing p n preferred age) = freed mac port g k p preferred (state.Flushing p n preferred age) refl
 
-pub down_moves : (mac : List ℕ) (t u : Table) (port : ℕ) → ChangesAssignments t u (after_down port) → DistributorMoves mac (ModelCall.Set_link port false) NoneDistributes (model_distributor t) [] (model_distributor u)
+pub down_moves : (mac : List ℕ) (t u : Table) (port : ℕ) → ChangesAssignments t u (after_down port)
+    → DistributorMoves mac (ModelCall.Set_link port false) NoneDistributes (model_distributor t) [] (model_distributor u)
 down_moves mac t u port h = all_moves mac (ModelCall.Set_link port false) t u (after_down port) refl (makes_down mac port) h
 
-makes_release : (mac : List ℕ) (port id g k : ℕ) (s : Assignment) → Makes mac (ModelCall.Receive port (Some (ControlMessage.Response mac port id))) g k s (after_release port id s)
+makes_release : (mac : List ℕ) (port id g k : ℕ) (s : Assignment)
+    → Makes mac (ModelCall.Receive port (Some (ControlMessage.Response mac port id))) g k s (after_release port id s)
 makes_release mac port id g k (state.Free preferred) = inl refl
 makes_release mac port id g k (state.On p) = inl refl
 makes_release mac port id g k (state.Wanted p preferred) = inl refl
@@ -186,8 +237,11 @@ makes_release mac port id g k (state.Flushing p n preferred age) = elim (cases_B
   | inr f ↦ inl (ap model_conversation (cond-false (eqb p port && eqb n id) (state.Free preferred) (state.Flushing p n preferred age) f))
 ]
 
-pub release_moves : (mac : List ℕ) (t u : Table) (port id : ℕ) → ChangesAssignments t u (after_release port id) → DistributorMoves mac (ModelCall.Receive port (Some (ControlMessage.Response mac port id))) NoneDistributes (model_distributor t) [] (model_distributor u)
-release_moves mac t u port id h = all_moves mac (ModelCall.Receive port (Some (ControlMessage.Response mac port id))) t u (after_release port id) refl (makes_release mac port id) h
+pub release_moves : (mac : List ℕ) (t u : Table) (port id : ℕ) → ChangesAssignments t u (after_release port id)
+    → DistributorMoves mac (ModelCall.Receive port (Some (ControlMessage.Response mac port id))) NoneDistributes (model_distributor t)
+    [] (model_distributor u)
+release_moves mac t u port id h = all_moves mac (ModelCall.Receive port (Some (ControlMessage.Response mac port id))) t u
+    (after_release port id) refl (makes_release mac port id) h
 
 makes_tick : (mac : List ℕ) (call : ModelCall) (g k : ℕ) (s : Assignment) → Makes mac call g k s (after_tick s)
 makes_tick mac call g k (state.Free preferred) = inl refl
@@ -195,10 +249,15 @@ makes_tick mac call g k (state.On p) = inl refl
 makes_tick mac call g k (state.Wanted p preferred) = inl refl
 makes_tick mac call g k (state.Flushing p n preferred age) = elim (cases_Bool (ltb (age + 1) 30)) [
   | inl t ↦ inl (ap model_conversation (cond-true (ltb (age + 1) 30) (state.Flushing p n preferred (age + 1)) (state.Wanted p preferred) t))
-  | inr f ↦ inr (ConversationMove.Retry p n, refl, ap model_conversation (cond-false (ltb (age + 1) 30) (state.Flushing p n preferred (age + 1)) (state.Wanted p preferred) f))
+  | inr f ↦ inr (
+    ConversationMove.Retry p n,
+    refl,
+    ap model_conversation (cond-false (ltb (age + 1) 30) (state.Flushing p n preferred (age + 1)) (state.Wanted p preferred) f),
+  )
 ]
 
-pub tick_moves : (mac : List ℕ) (call : ModelCall) (t u : Table) → ChangesAssignments t u after_tick → DistributorMoves mac call NoneDistributes (model_distributor t) [] (model_distributor u)
+pub tick_moves : (mac : List ℕ) (call : ModelCall) (t u : Table) → ChangesAssignments t u after_tick
+    → DistributorMoves mac call NoneDistributes (model_distributor t) [] (model_distributor u)
 tick_moves mac call t u h = all_moves mac call t u after_tick refl (makes_tick mac call) h
 
 -- A marker is sent.
@@ -215,18 +274,25 @@ is_flushed port id n (state.Wanted p preferred) e = elim (cases_Bool (eqb p port
 is_flushed port id n (state.Flushing p m preferred age) e = refl
 
 pub mark_moves : (mac : List ℕ) (call : ModelCall) (t u : Table) (port id : ℕ) → replies_frame call ≡ true → id < 2 ^ 32 → Marks t u port id
-    → DistributorMoves mac call NoneDistributes (model_distributor t) (Act.Sends port (ControlMessage.Marker mac port id) ∷ []) (model_distributor u)
+    → DistributorMoves mac call NoneDistributes (model_distributor t) (Act.Sends port (ControlMessage.Marker mac port id)
+    ∷ []) (model_distributor u)
 mark_moves mac call t u port id r lt h = (
   DistributorMove.Mark port ∷ [],
   ((r, subst (λ n. n < 2 ^ 32) h.sent lt), tt),
   ap (λ n. Act.Sends port (ControlMessage.Marker mac port n) ∷ []) (sym h.sent),
-  λ i. record { state = λ g k. (ap model_conversation (h.states g k) ∙ is_flushed port id t.next (assignment_of t g k) h.sent) i; next = h.next i },
+  λ i. record {
+    state = λ g k. (ap model_conversation (h.states g k) ∙ is_flushed port id t.next (assignment_of t g k) h.sent) i;
+    next =
+        h.next i;
+  },
 )
 
 -- nothing changes
-pub same_moves : (mac : List ℕ) (call : ModelCall) (t u : Table) → u ≡ t → DistributorMoves mac call NoneDistributes (model_distributor t) [] (model_distributor u)
+pub same_moves : (mac : List ℕ) (call : ModelCall) (t u : Table) → u ≡ t
+    → DistributorMoves mac call NoneDistributes (model_distributor t) [] (model_distributor u)
 same_moves mac call t u e = ([], tt, refl, ap model_distributor e)
 
 -- at the start every conversation is free for the law too
 pub first_flows : (u : SystemSetup) (aggs : ℕ) → model_distributor (first_table aggs u.first_marker) ≡ (first_view u).flows
-first_flows u aggs = λ i. record { state = λ agg conv. model_conversation (first_free aggs u.first_marker agg conv i); next = u.first_marker }
+first_flows u aggs =
+    λ i. record { state = λ agg conv. model_conversation (first_free aggs u.first_marker agg conv i); next = u.first_marker }

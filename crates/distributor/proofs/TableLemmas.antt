@@ -1,5 +1,6 @@
 -- The states of the conversations, by their indices in the list.
-use Rattle.std.proofs.Common.{ℕ, ◌+◌, ◌*◌, ◌<◌, ◌≤◌, ◌≡◌, zero, suc, Bool, cond, ◌&&◌, List, length, None, get_or, map, replicate, sym, ap, ◌∙◌, arith, inl, inr}
+use Rattle.std.proofs.Common.{ℕ, ◌+◌, ◌*◌, ◌<◌, ◌≤◌, ◌≡◌, zero, suc, Bool, cond, ◌&&◌, List, length, None, get_or, map, replicate, sym}
+use Rattle.std.proofs.Common.{ap, ◌∙◌, arith, inl, inr}
 use Rattle.std.specs.Prelude.{ltb}
 use Rattle.std.proofs.lemmas.Bool.{cases_Bool, and_from, cond-true, cond-false, lt-ltb, ltb-true, ltb-false}
 use Rattle.std.proofs.lemmas.List.{get_or-map, get_or_past, get_or-replicate, length-map, length-replicate}
@@ -13,11 +14,13 @@ use Rattle.distributor.proofs.WalkLemmas.{same_sum, bit}
 abbrev pub stated : List Assignment → ℕ → ℕ → Assignment
 stated states agg conv = cond (ltb 0 agg && ltb conv 256) (get_or states (slot_index agg conv) (Free None)) (Free None)
 
-pub stated_in : (states : List Assignment) (agg conv : ℕ) → 0 < agg → conv < 256 → stated states agg conv ≡ slot_state states (slot_index agg conv)
+pub stated_in : (states : List Assignment) (agg conv : ℕ) → 0 < agg → conv < 256
+    → stated states agg conv ≡ slot_state states (slot_index agg conv)
 stated_in states agg conv p l = cond-true (ltb 0 agg && ltb conv 256) _ _ (and_from _ _ (lt-ltb 0 agg p) (lt-ltb conv 256 l))
 
 -- the state at a place, if every state is changed alike
-pub map_at : (f : Assignment → Assignment) → f (Free None) ≡ Free None → (states : List Assignment) (k : ℕ) → get_or (map f states) k (Free None) ≡ f (get_or states k (Free None))
+pub map_at : (f : Assignment → Assignment) → f (Free None) ≡ Free None → (states : List Assignment) (k : ℕ)
+    → get_or (map f states) k (Free None) ≡ f (get_or states k (Free None))
 map_at f keeps states k = elim (cases_Bool (ltb k (length states))) [
   | inl e ↦ get_or-map f states k (Free None) (Free None) (ltb-true k (length states) e)
   | inr g ↦ (let past : length states ≤ k = ltb-false k (length states) g in
@@ -30,7 +33,8 @@ pub first_free : (aggs first agg conv : ℕ) → assignment_of (first_table aggs
 first_free aggs first agg conv = elim (cases_Bool (ltb 0 agg && ltb conv 256)) [
   | inl e ↦ cond-true (ltb 0 agg && ltb conv 256) _ _ e ∙ elim (cases_Bool (ltb (slot_index agg conv) (aggs * 256))) [
     | inl x ↦ get_or-replicate (aggs * 256) (slot_index agg conv) (Free None) (Free None) (ltb-true (slot_index agg conv) (aggs * 256) x)
-    | inr y ↦ (let past : length (replicate (aggs * 256) (Free None)) ≤ slot_index agg conv = omega (arith, ltb-false (slot_index agg conv) (aggs * 256) y, length-replicate (aggs * 256) (Free None)) in
+    | inr y ↦ (let past : length (replicate (aggs * 256) (Free None)) ≤ slot_index agg conv =
+        omega (arith, ltb-false (slot_index agg conv) (aggs * 256) y, length-replicate (aggs * 256) (Free None)) in
         get_or_past (replicate (aggs * 256) (Free None)) (slot_index agg conv) (Free None) past)
   ]
   | inr f ↦ cond-false (ltb 0 agg && ltb conv 256) _ _ f
@@ -59,7 +63,8 @@ sum_rows g w (suc rows) =
     suc_times m n = grind arith
 
 -- the count over aggregators and numbers is that over the places
-pub counted_places : (passes : Assignment → Bool) (t : Table) → sum_below (λ k. bit (passes (slot_state t.states k))) (t.aggs * 256) ≡ count_conversations passes t
+pub counted_places : (passes : Assignment → Bool) (t : Table)
+    → sum_below (λ k. bit (passes (slot_state t.states k))) (t.aggs * 256) ≡ count_conversations passes t
 counted_places passes t =
     sym (sum_rows (λ k. bit (passes (slot_state t.states k))) 256 t.aggs)
     ∙ same_sum _ _ t.aggs (λ a l. same_sum _ _ 256 (λ c m. ap (λ s. bit (passes s)) (at a c m)))

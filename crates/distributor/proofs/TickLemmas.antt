@@ -1,7 +1,9 @@
 -- A tick, which is applied to one chain after the other.
-use Rattle.std.proofs.Common.{ℕ, ◌+◌, ◌<◌, ◌≤◌, ◌≡◌, ◌&&◌, Bool, true, false, cond, eqb, List, length, None, get_or, map, refl, ap, sym, ◌∙◌, arith, inl, inr}
+use Rattle.std.proofs.Common.{ℕ, ◌+◌, ◌<◌, ◌≤◌, ◌≡◌, ◌&&◌, Bool, true, false, cond, eqb, List, length, None, get_or, map, refl, ap, sym}
+use Rattle.std.proofs.Common.{◌∙◌, arith, inl, inr}
 use Rattle.std.specs.Prelude.{ltb}
-use Rattle.std.proofs.lemmas.Bool.{cases_Bool, cond-true, cond-false, eq-eqb, eqb-true, false≢true, le-ltb, lt-ltb, ltb-false, ltb-true, ne_eqb}
+use Rattle.std.proofs.lemmas.Bool.{cases_Bool, cond-true, cond-false, eq-eqb, eqb-true, false≢true, le-ltb, lt-ltb, ltb-false, ltb-true}
+use Rattle.std.proofs.lemmas.Bool.{ne_eqb}
 use Rattle.std.proofs.lemmas.List.{ext_get_or, get_or-map, length-map}
 use Rattle.std.proofs.lemmas.Nat.{mod_below}
 use Rattle.distributor.specs.declared.assignment.Assignment.{Assignment}
@@ -16,7 +18,8 @@ abbrev pub ticked : ℕ → Assignment → Assignment
 ticked chain (Free preferred) = Free preferred
 ticked chain (On port) = On port
 ticked chain (Wanted port preferred) = Wanted port preferred
-ticked chain (Flushing port id preferred age) = cond (ltb (chain_of port) chain) (after_tick (Flushing port id preferred age)) (Flushing port id preferred age)
+ticked chain (Flushing port id preferred age) = cond (ltb (chain_of port) chain) (after_tick (Flushing port id preferred age))
+    (Flushing port id preferred age)
 
 -- the tick has passed for the chains below this one
 pub record Ticking (chain : ℕ) (olds states : List Assignment) : Type 0 where
@@ -33,7 +36,8 @@ ticked_last : (s : Assignment) → ticked 64 s ≡ after_tick s
 ticked_last (Free preferred) = refl
 ticked_last (On port) = refl
 ticked_last (Wanted port preferred) = refl
-ticked_last (Flushing port id preferred age) = cond-true (ltb (chain_of port) 64) _ _ (lt-ltb (chain_of port) 64 (mod_below port 64 (omega arith)))
+ticked_last (Flushing port id preferred age) = cond-true (ltb (chain_of port) 64) _ _
+    (lt-ltb (chain_of port) 64 (mod_below port 64 (omega arith)))
 
 -- below the next chain is below this one or in it
 next_below : (n c : ℕ) → ltb n c ≡ false → eqb n c ≡ ltb n (c + 1)
@@ -53,12 +57,19 @@ ticked_more c (Wanted port preferred) = cond_same (eqb (chain_of port) c) (Wante
 ticked_more c (Flushing port id preferred age) = elim (cases_Bool (ltb (chain_of port) c)) [
   | inl e ↦ (let below : chain_of port < c = ltb-true (chain_of port) c e in
       let apart : chain_of port ≡ c → ⊥ = λ m. omega (arith, m, below) in
-      let out : is_in_chain c (after_tick (Flushing port id preferred age)) ≡ false = stands_alike c (after_tick (Flushing port id preferred age)) (Flushing port id preferred age) (assignment_port (Flushing port id preferred age)) (tick_port (Flushing port id preferred age)) refl ∙ ne_eqb (chain_of port) c apart in
+      let out : is_in_chain c (after_tick (Flushing port id preferred age)) ≡ false =
+      stands_alike c (after_tick (Flushing port id preferred age)) (Flushing port id preferred age)
+      (assignment_port (Flushing port id preferred age)) (tick_port (Flushing port id preferred age)) refl
+      ∙ ne_eqb (chain_of port) c apart in
       let more : chain_of port < c + 1 = omega (arith, below) in
-      ap (changed_in_chain c after_tick) (cond-true (ltb (chain_of port) c) (after_tick (Flushing port id preferred age)) (Flushing port id preferred age) e)
-      ∙ cond-false (is_in_chain c (after_tick (Flushing port id preferred age))) (after_tick (after_tick (Flushing port id preferred age))) (after_tick (Flushing port id preferred age)) out
-      ∙ sym (cond-true (ltb (chain_of port) (c + 1)) (after_tick (Flushing port id preferred age)) (Flushing port id preferred age) (lt-ltb (chain_of port) (c + 1) more)))
-  | inr g ↦ ap (changed_in_chain c after_tick) (cond-false (ltb (chain_of port) c) (after_tick (Flushing port id preferred age)) (Flushing port id preferred age) g)
+      ap (changed_in_chain c after_tick) (cond-true (ltb (chain_of port) c) (after_tick (Flushing port id preferred age))
+      (Flushing port id preferred age) e)
+      ∙ cond-false (is_in_chain c (after_tick (Flushing port id preferred age))) (after_tick (after_tick (Flushing port id preferred age)))
+      (after_tick (Flushing port id preferred age)) out
+      ∙ sym (cond-true (ltb (chain_of port) (c + 1)) (after_tick (Flushing port id preferred age)) (Flushing port id preferred age)
+      (lt-ltb (chain_of port) (c + 1) more)))
+  | inr g ↦ ap (changed_in_chain c after_tick) (cond-false (ltb (chain_of port) c) (after_tick (Flushing port id preferred age))
+      (Flushing port id preferred age) g)
       ∙ ap (λ b. cond b (after_tick (Flushing port id preferred age)) (Flushing port id preferred age)) (next_below (chain_of port) c g)
 ]
 
@@ -70,8 +81,10 @@ ticked_still c (Wanted port preferred) n = refl
 ticked_still c (Flushing port id preferred age) n = elim (cases_Bool (ltb (chain_of port) c)) [
   | inl e ↦ (let more : chain_of port < c + 1 = omega (arith, ltb-true (chain_of port) c e) in
       cond-true (ltb (chain_of port) c) (after_tick (Flushing port id preferred age)) (Flushing port id preferred age) e
-      ∙ sym (cond-true (ltb (chain_of port) (c + 1)) (after_tick (Flushing port id preferred age)) (Flushing port id preferred age) (lt-ltb (chain_of port) (c + 1) more)))
-  | inr g ↦ (let same = cond-false (ltb (chain_of port) c) (after_tick (Flushing port id preferred age)) (Flushing port id preferred age) g in
+      ∙ sym (cond-true (ltb (chain_of port) (c + 1)) (after_tick (Flushing port id preferred age)) (Flushing port id preferred age)
+      (lt-ltb (chain_of port) (c + 1) more)))
+  | inr g ↦ (let same = cond-false (ltb (chain_of port) c) (after_tick (Flushing port id preferred age))
+      (Flushing port id preferred age) g in
       same ∙ sym (cond-false (ltb (chain_of port) (c + 1)) (after_tick (Flushing port id preferred age)) (Flushing port id preferred age)
       (sym (next_below (chain_of port) c g) ∙ sym (and_one (eqb (chain_of port) c)) ∙ sym (ap (is_flushing_in_chain c) same) ∙ n)))
 ]
@@ -83,13 +96,16 @@ ticked_still c (Flushing port id preferred age) n = elim (cases_Bool (ltb (chain
 pub tick_begins : (olds : List Assignment) → Ticking 0 olds olds
 tick_begins olds = record { long = refl; each = λ k. ticked_first (slot_state olds k) }
 
-pub tick_walked : (c : ℕ) (olds states news : List Assignment) → Ticking c olds states → news ≡ map (changed_in_chain c after_tick) states → Ticking (c + 1) olds news
+pub tick_walked : (c : ℕ) (olds states news : List Assignment) → Ticking c olds states → news ≡ map (changed_in_chain c after_tick) states
+    → Ticking (c + 1) olds news
 tick_walked c olds states news h is = record {
   long = ap length is ∙ length-map states (changed_in_chain c after_tick) ∙ h.long;
-  each = λ k. ap (λ l. slot_state l k) is ∙ map_at (changed_in_chain c after_tick) refl states k ∙ ap (changed_in_chain c after_tick) (h.each k) ∙ ticked_more c (slot_state olds k);
+  each = λ k. ap (λ l. slot_state l k) is ∙ map_at (changed_in_chain c after_tick) refl states k
+      ∙ ap (changed_in_chain c after_tick) (h.each k) ∙ ticked_more c (slot_state olds k);
 }
 
-pub tick_passed : (c : ℕ) (olds states : List Assignment) (flags : List Bool) → Ticking c olds states → IsFlagged states flags → get_or flags c false ≡ false → Ticking (c + 1) olds states
+pub tick_passed : (c : ℕ) (olds states : List Assignment) (flags : List Bool) → Ticking c olds states → IsFlagged states flags
+    → get_or flags c false ≡ false → Ticking (c + 1) olds states
 tick_passed c olds states flags h f none = record {
   long = h.long;
   each = λ k. h.each k ∙ ticked_still c (slot_state olds k) (sym (ap (is_flushing_in_chain c) (h.each k)) ∙ still k);

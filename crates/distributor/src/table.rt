@@ -1,6 +1,8 @@
 ghost use Rattle.std.specs.Prelude.{false, ◌≡◌, ◌≤◌, ◌<◌, ◌+◌, ◌*◌, ◌-◌, ◌↔◌, nat_lt, IfOk, IfSome, IfNone, IsTrue};
-ghost use Rattle.distributor.specs.Conversations.{first_table, assignment_of, slot_index, count_conversations, next_identifier, IsConversation};
-ghost use Rattle.distributor.specs.Changes.{SetsAssignment, ChangesAssignments, Marks, after_change, wants_marker, awaits_response, marker_due};
+ghost use Rattle.distributor.specs.Conversations.{first_table, assignment_of, slot_index, count_conversations, next_identifier};
+ghost use Rattle.distributor.specs.Conversations.{IsConversation};
+ghost use Rattle.distributor.specs.Changes.{SetsAssignment, ChangesAssignments, Marks, after_change, wants_marker, awaits_response};
+ghost use Rattle.distributor.specs.Changes.{marker_due};
 ghost use Rattle.distributor.specs.Chains.{names_port, is_flushing};
 
 use crate::assignment::Assignment;

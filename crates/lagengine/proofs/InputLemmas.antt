@@ -1,5 +1,6 @@
 -- The lines of octets that arrive in several reads, and what the lines ask for.
-use Rattle.std.proofs.Common.{ℕ, zero, suc, ◌+◌, ◌<◌, ◌≡◌, ◌++◌, ◌==◌, true, false, cond, Bool, List, [], ◌∷◌, length, map, take, refl, sym, ap, ◌∙◌, append_assoc, arith}
+use Rattle.std.proofs.Common.{ℕ, zero, suc, ◌+◌, ◌<◌, ◌≡◌, ◌++◌, ◌==◌, true, false, cond, Bool, List, [], ◌∷◌, length, map, take, refl}
+use Rattle.std.proofs.Common.{sym, ap, ◌∙◌, append_assoc, arith}
 use Rattle.std.proofs.lemmas.List.{append-nil, length-append, map-append, take-map, take_at}
 use Rattle.std.proofs.lemmas.Bool.{eqb-true, lt-ltb}
 use Rattle.std.specs.Prelude.{Result, Err}
@@ -31,12 +32,15 @@ pub is_newline : (x : ℕ) → x ≡ 10 → (x == 10) ≡ true
 is_newline x e = ap (λ n. n == 10) e
 
 -- an octet that is no newline
-pub octet_joined : (line rest : List ℕ) (x : ℕ) → (x == 10) ≡ false → continue_line line (lines_of (x ∷ rest)) ≡ continue_line (line ++ x ∷ []) (lines_of rest)
+pub octet_joined : (line rest : List ℕ) (x : ℕ) → (x == 10) ≡ false
+    → continue_line line (lines_of (x ∷ rest)) ≡ continue_line (line ++ x ∷ []) (lines_of rest)
 octet_joined line rest x e =
-    ap (λ t. continue_line line (cond t ([] ∷ lines_of rest) (continue_line (x ∷ []) (lines_of rest)))) e ∙ prepend_both line (x ∷ []) (lines_of rest)
+    ap (λ t. continue_line line (cond t ([] ∷ lines_of rest) (continue_line (x ∷ []) (lines_of rest)))) e
+    ∙ prepend_both line (x ∷ []) (lines_of rest)
 
 -- a newline
-pub newline_joined : (line rest : List ℕ) (x : ℕ) → (x == 10) ≡ true → continue_line line (lines_of (x ∷ rest)) ≡ line ∷ continue_line [] (lines_of rest)
+pub newline_joined : (line rest : List ℕ) (x : ℕ) → (x == 10) ≡ true → continue_line line (lines_of (x ∷ rest)) ≡ line
+    ∷ continue_line [] (lines_of rest)
 newline_joined line rest x e =
     ap (λ t. continue_line line (cond t ([] ∷ lines_of rest) (continue_line (x ∷ []) (lines_of rest)))) e
     ∙ ap (λ l. l ∷ lines_of rest) (append-nil line) ∙ ap (λ ls. line ∷ ls) (sym (prepend_none (lines_of rest)))
@@ -69,16 +73,19 @@ unfolding requests
 requests_both a b = map-append request_in a b
 
 -- the first lines, if all lines ask for what these and later ones do
-pub first_lines : (all lines later : List (List ℕ)) (n : ℕ) → requests all ≡ requests (lines ++ later) → length lines ≡ n → requests lines ≡ requests (take n all)
+pub first_lines : (all lines later : List (List ℕ)) (n : ℕ) → requests all ≡ requests (lines ++ later) → length lines ≡ n
+    → requests lines ≡ requests (take n all)
 unfolding requests
 first_lines all lines later n e long =
-    sym (ap (map request_in) (take_at lines later n long)) ∙ sym (take-map request_in n (lines ++ later)) ∙ sym (ap (take n) e) ∙ take-map request_in n all
+    sym (ap (map request_in) (take_at lines later n long)) ∙ sym (take-map request_in n (lines ++ later)) ∙ sym (ap (take n) e)
+    ∙ take-map request_in n all
 
 long_line : (line : List ℕ) → longest_line < length line → request_in line ≡ Err TooLong
 long_line line h = rw (lt-ltb longest_line (length line) h) refl
 
 -- two first lines that are too long, whatever more of them comes
-same_long : (l m : List ℕ) (ls : List (List ℕ)) → longest_line < length l → longest_line < length m → requests (continue_line l ls) ≡ requests (continue_line m ls)
+same_long : (l m : List ℕ) (ls : List (List ℕ)) → longest_line < length l → longest_line < length m
+    → requests (continue_line l ls) ≡ requests (continue_line m ls)
 unfolding requests
 same_long [] m ls h j = absurd (omega arith)
 same_long (x ∷ l) [] ls h j = absurd (omega arith)
@@ -89,7 +96,8 @@ same_long (x ∷ l) (y ∷ m) (k ∷ ls) h j =
     ap (λ r. r ∷ map request_in ls) (long_line ((x ∷ l) ++ k) one ∙ sym (long_line ((y ∷ m) ++ k) other))
 
 -- an octet of a line that is too long already
-pub long_joined : (line rest : List ℕ) (x : ℕ) → (x == 10) ≡ false → longest_line < length line → requests (continue_line line (lines_of (x ∷ rest))) ≡ requests (continue_line line (lines_of rest))
+pub long_joined : (line rest : List ℕ) (x : ℕ) → (x == 10) ≡ false → longest_line < length line
+    → requests (continue_line line (lines_of (x ∷ rest))) ≡ requests (continue_line line (lines_of rest))
 long_joined line rest x e h =
     let more : longest_line < length (line ++ x ∷ []) = simp length-append (omega arith) in
     ap requests (octet_joined line rest x e) ∙ same_long (line ++ x ∷ []) line (lines_of rest) more h

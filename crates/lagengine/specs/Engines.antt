@@ -68,7 +68,8 @@ AnswersFault fault old answer new = (answer ≡ said.Fault fault) × (new ≡ ol
 -- a new system in its first state, and no stored calls, if the configuration is accepted and memory is granted
 abbrev pub MakesSystem : ConfigValue → EngineState → Type 0
 MakesSystem config new =
-    (s : SystemState) × (refusal config.keys config.ports ≡ None) × HasConfig config s × IsFirst s × (new ≡ record { system = Some s; kept = None })
+    (s : SystemState) × (refusal config.keys config.ports ≡ None) × HasConfig config s × IsFirst s
+    × (new ≡ record { system = Some s; kept = None })
 
 -- the system is made; or the answer is why not, and nothing changes
 abbrev pub AnswersStart : ConfigValue → EngineState → AnswerValue → EngineState → Type 0
@@ -81,7 +82,8 @@ abbrev pub CallsOrKeeps : (ℕ → ℕ → ℕ → Type 0) → Call → SystemSt
 CallsOrKeeps gives call s None answer new =
     (reply : Reply) × (t : SystemState) × CallPromise gives s call reply t × (answer ≡ said.Replied reply)
     × (new ≡ record { system = Some t; kept = None })
-CallsOrKeeps gives call s (Some calls) answer new = (answer ≡ said.Kept) × (new ≡ record { system = Some s; kept = Some (calls ++ call ∷ []) })
+CallsOrKeeps gives call s (Some calls) answer new = (answer ≡ said.Kept)
+    × (new ≡ record { system = Some s; kept = Some (calls ++ call ∷ []) })
 
 -- the calls stored until now; none if calls were not stored
 abbrev pub kept_so_far : Option (List Call) → List Call
@@ -116,7 +118,8 @@ DoesTask gives (Conversation octets) s kept answer new = (answer ≡ said.Conver
 DoesTask gives (Ask q) s kept answer new = (answer ≡ reader_answer q s) × (new ≡ record { system = Some s; kept = kept })
 
 -- without a system, the answer is NoSystem
-abbrev pub DoesTaskIfSystem : (ℕ → ℕ → ℕ → Type 0) → TaskValue → Option SystemState → Option (List Call) → AnswerValue → EngineState → Type 0
+abbrev pub DoesTaskIfSystem : (ℕ → ℕ → ℕ → Type 0) → TaskValue → Option SystemState → Option (List Call)
+    → AnswerValue → EngineState → Type 0
 DoesTaskIfSystem gives asked None kept answer new = AnswersFault NoSystem (record { system = None; kept = kept }) answer new
 DoesTaskIfSystem gives asked (Some s) kept answer new = DoesTask gives asked s kept answer new
 

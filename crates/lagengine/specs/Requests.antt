@@ -9,7 +9,8 @@ use Rattle.lagsystem.specs.Calls.{Call, Receive, Tick, Set_link, Configure, Rest
 use Rattle.lagsystem.specs.Drives.{call_of}
 use Rattle.lagsystem.specs.declared.config.Config.{Config}
 use Rattle.lagsystem.specs.declared.config.PortConfig.{PortConfig}
-use Rattle.lagengine.specs.Words.{◌>>=◌, SevenFields, each, number_word, long_number_word, mac_word, link_word, aggregation_word, hex_word, keys_word, port_word}
+use Rattle.lagengine.specs.Words.{◌>>=◌, SevenFields, each, number_word, long_number_word, mac_word, link_word, aggregation_word}
+use Rattle.lagengine.specs.Words.{hex_word, keys_word, port_word}
 use Rattle.lagengine.specs.declared.fault.RequestError.{RequestError}
 use Rattle.lagengine.specs.declared.fault.RequestError.TheVariants.{Fault, NoMemory}
 use Rattle.lagengine.specs.declared.fault.RequestFault.{RequestFault}
@@ -149,15 +150,18 @@ abbrev pub with_one_word : {A : Type 0} → WordReader A → (A → TaskValue) �
 with_one_word f make ws = one_word ws >>= λ a. f a >>= λ x. Ok (make x)
 
 -- the task made of exactly two words after the first, or the first fault
-abbrev pub with_two_words : {A B : Type 0} → WordReader A → WordReader B → (A → B → TaskValue) → List (List ℕ) → Result TaskValue RequestFault
+abbrev pub with_two_words : {A B : Type 0} → WordReader A → WordReader B → (A → B → TaskValue) → List (List ℕ)
+    → Result TaskValue RequestFault
 with_two_words f g make ws = two_words ws >>= λ p. f p.0 >>= λ x. g p.1 >>= λ y. Ok (make x y)
 
 -- the task made of exactly three words after the first, or the first fault
-abbrev pub with_three_words : {A B C : Type 0} → WordReader A → WordReader B → WordReader C → (A → B → C → TaskValue) → List (List ℕ) → Result TaskValue RequestFault
+abbrev pub with_three_words : {A B C : Type 0} → WordReader A → WordReader B → WordReader C → (A → B → C → TaskValue) → List (List ℕ)
+    → Result TaskValue RequestFault
 with_three_words f g h make ws = three_words ws >>= λ p. f p.0 >>= λ x. g p.1 >>= λ y. h p.2 >>= λ z. Ok (make x y z)
 
 -- the task made of exactly four words after the first, or the first fault
-abbrev pub with_four_words : {A B C D : Type 0} → WordReader A → WordReader B → WordReader C → WordReader D → (A → B → C → D → TaskValue) → List (List ℕ)
+abbrev pub with_four_words : {A B C D : Type 0} → WordReader A → WordReader B → WordReader C → WordReader D
+    → (A → B → C → D → TaskValue) → List (List ℕ)
     → Result TaskValue RequestFault
 with_four_words f g h i make ws = four_words ws >>= λ p. f p.0 >>= λ x. g p.1 >>= λ y. h p.2 >>= λ z. i p.3 >>= λ w. Ok (make x y z w)
 
@@ -226,4 +230,5 @@ task_named name =
 -- the requests, by their first word and the words after it
 abbrev pub request_named : List ℕ → List (List ℕ) → Result RequestValue RequestFault
 request_named name ws =
-    if bytes_eq name (codes "system") then (config_in ws >>= λ config. Ok (Start config)) else (task_named name ws >>= λ asked. Ok (Work asked))
+    if bytes_eq name (codes "system") then (config_in ws >>= λ config. Ok (Start config)) else
+    (task_named name ws >>= λ asked. Ok (Work asked))

@@ -61,7 +61,8 @@ module _ {R W : Type 0} (gives : ℕ → ℕ → ℕ → Type 0) (remaining : R 
     pub answer : AnswerValue
     pub last : EngineState
     pub some : newline_count octets ≤ length answers
-    pub answered : AnswersLines gives (take (length answers + 1) (lines_of (octets ++ part))) first_engine_state (answers ++ answer ∷ []) last
+    pub answered : AnswersLines gives (take (length answers + 1) (lines_of (octets ++ part))) first_engine_state
+        (answers ++ answer ∷ []) last
     pub written : (n : ℕ) × Appends (contents old.writer) (contents new.writer) (answer_lines answers ++ take n (answer_line answer))
 
   -- how `serve` stopped for this reason: what it read and answered until then

@@ -117,4 +117,5 @@ module _ (gives : ℕ → ℕ → ℕ → Type 0) where
     abbrev pub StopsAnswering : EngineState → SinkState W → SinkState W → List (List ℕ) → Stopped → Type 0
     StopsAnswering old before after lines Read = ⊥
     StopsAnswering old before after lines Write = AnswersSome (WritesAllButAnEnd before after) old lines
-    StopsAnswering old before after lines NoMemory = AnswersSome (λ answers. WritesAndFlushes contents before after (answer_lines answers)) old lines
+    StopsAnswering old before after lines NoMemory =
+        AnswersSome (λ answers. WritesAndFlushes contents before after (answer_lines answers)) old lines

@@ -1,5 +1,6 @@
 ghost use Rattle.std.specs.Prelude.{◌≡◌, map};
-ghost use Rattle.lagengine.specs.Requests.{call_named, configure_task, with_four_words, with_no_words, with_one_word, port_question, question_named, task_result_value, with_three_words, with_two_words};
+ghost use Rattle.lagengine.specs.Requests.{call_named, configure_task, with_four_words, with_no_words, with_one_word, port_question};
+ghost use Rattle.lagengine.specs.Requests.{question_named, task_result_value, with_three_words, with_two_words};
 ghost use Rattle.lagengine.specs.Requests as asked;
 ghost use Rattle.lagsystem.specs.Calls as call;
 ghost use Rattle.lagengine.specs.Words.{aggregation_word, link_word, number_word};
@@ -32,7 +33,8 @@ fn four_words<'a>(words: &[&'a str]) -> Result<(&'a str, &'a str, &'a str, &'a s
 
 /// Reads the words of `link`: a port, and `up` or `down`.
 fn set_link(words: &[&str]) -> Result<Task, RequestFault>
-    ensures { task_result_value result ≡ with_two_words number_word link_word (λ port up. asked.Make (call.Set_link port up)) (map (λ w. w.now) words.now) }
+    ensures { task_result_value result ≡ with_two_words number_word link_word (λ port up. asked.Make (call.Set_link port up))
+        (map (λ w. w.now) words.now) }
 {
     let (port, up) = two_words(words)?;
     Ok(Task::Make(Call::SetLink(number(port)?, link(up)?)))
@@ -48,7 +50,8 @@ fn transmit(words: &[&str]) -> Result<Task, RequestFault>
 
 /// Reads the words of `configure`: a port, its key and priority, and `aggregatable` or `individual`.
 fn configure(words: &[&str]) -> Result<Task, RequestFault>
-    ensures { task_result_value result ≡ with_four_words number_word number_word number_word aggregation_word configure_task (map (λ w. w.now) words.now) }
+    ensures { task_result_value result ≡ with_four_words number_word number_word number_word aggregation_word configure_task
+        (map (λ w. w.now) words.now) }
 {
     let (port, key, priority, aggregatable) = four_words(words)?;
     let port = number(port)?;
@@ -77,7 +80,8 @@ fn move_conversation(words: &[&str]) -> Result<Task, RequestFault>
 
 /// Reads the words of `force`: an aggregator and a conversation.
 fn force(words: &[&str]) -> Result<Task, RequestFault>
-    ensures { task_result_value result ≡ with_two_words number_word number_word (λ g k. asked.Make (call.Force (asked.agg_id g) k)) (map (λ w. w.now) words.now) }
+    ensures { task_result_value result ≡ with_two_words number_word number_word (λ g k. asked.Make (call.Force (asked.agg_id g) k))
+        (map (λ w. w.now) words.now) }
 {
     let (agg, conv) = two_words(words)?;
     let agg = AggId(number(agg)?);
@@ -94,7 +98,8 @@ fn port_question(asked: PortQuestion, words: &[&str]) -> Result<Task, RequestFau
 
 /// Reads the word of `distributing`: an aggregator.
 fn distributing(words: &[&str]) -> Result<Task, RequestFault>
-    ensures { task_result_value result ≡ with_one_word number_word (λ n. asked.Ask (question.Distributing (asked.agg_id n))) (map (λ w. w.now) words.now) }
+    ensures { task_result_value result ≡ with_one_word number_word (λ n. asked.Ask (question.Distributing (asked.agg_id n)))
+        (map (λ w. w.now) words.now) }
 {
     let agg = one_word(words)?;
     Ok(Task::Ask(Question::Distributing(AggId(number(agg)?))))
@@ -102,7 +107,8 @@ fn distributing(words: &[&str]) -> Result<Task, RequestFault>
 
 /// Reads the words of `conversation-state`: an aggregator and a conversation.
 fn conversation_state(words: &[&str]) -> Result<Task, RequestFault>
-    ensures { task_result_value result ≡ with_two_words number_word number_word (λ g k. asked.Ask (question.ConversationState (asked.agg_id g) k))
+    ensures { task_result_value result ≡ with_two_words number_word number_word
+        (λ g k. asked.Ask (question.ConversationState (asked.agg_id g) k))
         (map (λ w. w.now) words.now) }
 {
     let (agg, conv) = two_words(words)?;

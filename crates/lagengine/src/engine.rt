@@ -2,7 +2,8 @@ ghost use Rattle.std.specs.Prelude.{◌≡◌, IfOk, None, Ok, OnErr, Some};
 ghost use Rattle.distributor.specs.Calls.{PicksIndexes};
 ghost use Rattle.lagsystem.specs.Drives.{call_of};
 ghost use Rattle.lagsystem.specs.Sound.{CallPromise};
-ghost use Rattle.lagengine.specs.Engines.{DoesTask, DoesTaskIfSystem, AnswersLine, CallsOrKeeps, DoesRequest, DrivesKept, HasAlgorithm, AnswersStart, kept_so_far, engine_state, kept_of, system_state, reader_answer, engine_value};
+ghost use Rattle.lagengine.specs.Engines.{DoesTask, DoesTaskIfSystem, AnswersLine, CallsOrKeeps, DoesRequest, DrivesKept, HasAlgorithm};
+ghost use Rattle.lagengine.specs.Engines.{AnswersStart, kept_so_far, engine_state, kept_of, system_state, reader_answer, engine_value};
 ghost use Rattle.lagengine.specs.Requests.{request_value, config_value, task_value};
 ghost use Rattle.lagengine.specs.AnswerValues.{answer_value};
 
@@ -173,7 +174,8 @@ impl<F: Fn(u16, usize) -> usize + Copy + Drop> Inner<F> {
     fn make_system(&mut self, config: Config) -> Answer
         requires usable { PicksIndexes (F.pre self.old.algorithm) (F.post self.old.algorithm) }
         requires same { HasAlgorithm self.old.algorithm self.old.system }
-        ensures starts { AnswersStart (config_value config) (engine_value self.old).state (answer_value result) (engine_value self.new).state }
+        ensures starts { AnswersStart (config_value config) (engine_value self.old).state (answer_value result)
+            (engine_value self.new).state }
         ensures algorithm { self.new.algorithm ≡ self.old.algorithm }
         ensures same { HasAlgorithm self.new.algorithm self.new.system }
     {
@@ -207,7 +209,8 @@ impl<F: Fn(u16, usize) -> usize + Copy + Drop> Inner<F> {
     fn do_request(&mut self, request: Request) -> Result<Answer, AllocError>
         requires usable { PicksIndexes (F.pre self.old.algorithm) (F.post self.old.algorithm) }
         requires same { HasAlgorithm self.old.algorithm self.old.system }
-        ensures does { IfOk result (λ answer. DoesRequest (F.post self.old.algorithm) (Ok (request_value request)) (engine_value self.old).state
+        ensures does { IfOk result (λ answer. DoesRequest (F.post self.old.algorithm) (Ok (request_value request))
+            (engine_value self.old).state
             (answer_value answer) (engine_value self.new).state) }
         ensures err { OnErr result ((engine_value self.new).state ≡ (engine_value self.old).state) }
         ensures algorithm { self.new.algorithm ≡ self.old.algorithm }

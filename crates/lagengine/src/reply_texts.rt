@@ -1,7 +1,8 @@
 ghost use Rattle.std.specs.Prelude.{◌≡◌, Some};
 ghost use Rattle.std.specs.Fmt.{DisplaysOnOk};
 ghost use Rattle.hex.specs.Hex.{encode_lower};
-ghost use Rattle.lagengine.specs.Texts.{done_text, fault_name, ignored_text, reason_name, received_text, refused_text, replies_text, reply_text, sent_text, subtype_word};
+ghost use Rattle.lagengine.specs.Texts.{done_text, fault_name, ignored_text, reason_name, received_text, refused_text, replies_text};
+ghost use Rattle.lagengine.specs.Texts.{reply_text, sent_text, subtype_word};
 
 use lagsystem::{BadConfig, Received, Reply, SystemFault, WireFault};
 use std::fmt;

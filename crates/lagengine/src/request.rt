@@ -1,6 +1,7 @@
 ghost use Rattle.std.specs.Prelude.{◌≡◌, map};
 ghost use Rattle.lagengine.specs.Lines.{longest_line, request_in, request_of_text};
-ghost use Rattle.lagengine.specs.Requests.{ReadsAs, request_value, no_words, with_no_words, with_one_word, request_named, task_named, task_value, with_two_words};
+ghost use Rattle.lagengine.specs.Requests.{ReadsAs, request_value, no_words, with_no_words, with_one_word, request_named, task_named};
+ghost use Rattle.lagengine.specs.Requests.{task_value, with_two_words};
 ghost use Rattle.lagengine.specs.Requests as asked;
 ghost use Rattle.lagsystem.specs.Calls as call;
 ghost use Rattle.lagengine.specs.Words.{hex_word, number_word};
@@ -108,7 +109,8 @@ pub(crate) fn two_words<'a>(words: &[&'a str]) -> Result<(&'a str, &'a str), Req
 
 /// Reads the words of `receive`: a port and the octets of a frame.
 fn receive(alloc: Global, words: &[&str]) -> Result<Task, RequestError>
-    ensures { ReadsAs task_value (with_two_words number_word hex_word (λ port octets. asked.Make (call.Receive port octets)) (map (λ w. w.now) words.now))
+    ensures { ReadsAs task_value (with_two_words number_word hex_word (λ port octets. asked.Make (call.Receive port octets))
+        (map (λ w. w.now) words.now))
         result }
 {
     let (port, frame) = two_words(words)?;

@@ -3,7 +3,8 @@ ghost use Rattle.distributor.specs.Calls.{PicksIndexes};
 ghost use Rattle.lagengine.specs.Engines.{AnswersLine};
 ghost use Rattle.lagengine.specs.Inputs.{line_if_any, lines_of, continue_line};
 ghost use Rattle.lagengine.specs.AnswerValues.{AnswerValue, answer_value};
-ghost use Rattle.lagengine.specs.Sessions.{Feeds, Finishes, StopsAnswering, WritesAnswer, FailsToAnswer, answer_line, first_session, session_of};
+ghost use Rattle.lagengine.specs.Sessions.{Feeds, Finishes, StopsAnswering, WritesAnswer, FailsToAnswer, answer_line, first_session};
+ghost use Rattle.lagengine.specs.Sessions.{session_of};
 
 use crate::answer::Answer;
 use crate::engine::Engine;
@@ -62,7 +63,8 @@ impl<F: Fn(u16, usize) -> usize + Copy + Drop> Session<F> {
         requires usable { PicksIndexes (F.pre self.old.engine.algorithm) (F.post self.old.engine.algorithm) }
         ensures ok { OnOk result (WritesAnswer (F.post self.old.engine.algorithm) W.contents self.old.line.items self.old.engine.state
             self.new.engine.state sink.old sink.new) }
-        ensures err { IfErr result (FailsToAnswer (F.post self.old.engine.algorithm) W.contents self.old.line.items self.old.engine.state sink.old
+        ensures err { IfErr result
+            (FailsToAnswer (F.post self.old.engine.algorithm) W.contents self.old.line.items self.old.engine.state sink.old
             sink.new) }
         ensures line { self.new.line.items ≡ [] }
         ensures algorithm { self.new.engine.algorithm ≡ self.old.engine.algorithm }

@@ -1,6 +1,7 @@
 ghost use Rattle.std.specs.Prelude.{◌≡◌, IfOk, map};
 ghost use Rattle.lagengine.specs.Requests.{ReadsAs};
-ghost use Rattle.lagengine.specs.Words.{flag_word, hex_word, aggregation_word, link_word, long_number_word, mac_word, number_below, number_word, parts};
+ghost use Rattle.lagengine.specs.Words.{flag_word, hex_word, aggregation_word, link_word, long_number_word, mac_word, number_below};
+ghost use Rattle.lagengine.specs.Words.{number_word, parts};
 
 use crate::fault::{RequestError, RequestFault};
 use hex::{FromHex, FromHexError};

@@ -12,7 +12,12 @@ use Rattle.lagffi.specs.contracts.handle.parts.Parts as Parts
 use Rattle.lagffi.specs.contracts.handle.held.Held as Held
 
 abbrev pub E : Bx
-E = record { row = StoredSystem.the_row; laws = kept.the_row_laws; al = record { row = Heap.the_row; laws = heap.the_row_laws; g = ghosts; d = dict; drops = impl [] tnil dnil } }
+E = record {
+  row = StoredSystem.the_row;
+  laws = kept.the_row_laws;
+  al =
+      record { row = Heap.the_row; laws = heap.the_row_laws; g = ghosts; d = dict; drops = impl [] tnil dnil };
+}
 
 abbrev pub FromParts : Slot 0
 FromParts = plain (λ _. Parts.the_row StoredSystem.the_row Heap.the_row ghosts)

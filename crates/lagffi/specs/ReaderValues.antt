@@ -70,7 +70,16 @@ no_mac = 0 ∷ 0 ∷ 0 ∷ 0 ∷ 0 ∷ 0 ∷ []
 
 -- the own parameters of a port, refused with this number
 abbrev pub party_refused : ℕ → LagParty
-party_refused why = record { status = why; system_priority = 0; system_mac = no_mac; key = 0; port_priority = 0; port = 0; aggregatable = false }
+party_refused why = record {
+  status = why;
+  system_priority = 0;
+  system_mac = no_mac;
+  key = 0;
+  port_priority = 0;
+  port =
+      0;
+  aggregatable = false;
+}
 
 -- the own parameters of a port
 abbrev pub lag_party : Party → LagParty
@@ -115,9 +124,25 @@ info_or_no_port None = info_refused 1
 -- an end names its port only where the link is individual
 abbrev pub lag_end_with_port : End → Option PortId → LagEnd
 lag_end_with_port e (Some port) =
-    record { system_priority = e.system.priority; system_mac = e.system.mac; key = e.key.0; individual = true; port_priority = port.priority; port = port.number }
+    record {
+      system_priority = e.system.priority;
+      system_mac = e.system.mac;
+      key = e.key.0;
+      individual = true;
+      port_priority =
+          port.priority;
+      port = port.number;
+    }
 lag_end_with_port e None =
-    record { system_priority = e.system.priority; system_mac = e.system.mac; key = e.key.0; individual = false; port_priority = 0; port = 0 }
+    record {
+      system_priority = e.system.priority;
+      system_mac = e.system.mac;
+      key = e.key.0;
+      individual =
+          false;
+      port_priority = 0;
+      port = 0;
+    }
 
 -- an end of a group
 abbrev pub lag_end : End → LagEnd
@@ -146,7 +171,16 @@ assignment_refused why = record { status = why; what = 0; port = 0; prefers = fa
 
 -- the state with this number, the port of the conversation or 0, and its preferred port, if it has one
 abbrev pub lag_assignment_on : ℕ → ℕ → Option ℕ → LagAssignment
-lag_assignment_on what port (Some preferred) = record { status = 0; what = what; port = port; prefers = true; preferred = preferred; id = 0; age = 0 }
+lag_assignment_on what port (Some preferred) = record {
+  status = 0;
+  what = what;
+  port = port;
+  prefers = true;
+  preferred =
+      preferred;
+  id = 0;
+  age = 0;
+}
 lag_assignment_on what port None = record { status = 0; what = what; port = port; prefers = false; preferred = 0; id = 0; age = 0 }
 
 -- the state of a conversation: 0 Free, 1 On, 2 Wanted, 3 Flushing

@@ -11,7 +11,8 @@ ghost use Rattle.lagsystem.specs.Sound.{CallPromise};
 ghost use Rattle.lagffi.specs.Asking.{CallsHeldSystem, by_number_gives};
 ghost use Rattle.lagffi.specs.Holding.{held_state};
 ghost use Rattle.lagffi.specs.Frames.{control_frame_length, received_of, truth_of_transmit, buffer_after_transmit, buffer_after_receive};
-ghost use Rattle.lagffi.specs.Numbers.{change_of, number_refused, received_refused, no_system, truth_refused, number_of, wrong_buffer_length, status_of, truth_of};
+ghost use Rattle.lagffi.specs.Numbers.{change_of, number_refused, received_refused, no_system, truth_refused, number_of};
+ghost use Rattle.lagffi.specs.Numbers.{wrong_buffer_length, status_of, truth_of};
 
 use crate::handle::Lag;
 use crate::stored::by_number;
@@ -51,9 +52,12 @@ pub extern "C" fn lagffi_receive(
     frame: &[u8],
     response: &mut [u8],
 ) -> LagReceived
-    ensures room { IsFalse (length response.old == control_frame_length) → (result ≡ received_refused wrong_buffer_length) × (held_state lag.new.held.kept ≡ held_state lag.old.held.kept) × (response.new ≡ response.old) }
-    ensures answers { IsTrue (length response.old == control_frame_length) → CallsHeldSystem (held_state lag.old.held.kept) (held_state lag.new.held.kept)
-        (λ old new. (answer : Result Received SystemFault) × CallPromise by_number_gives old (Call.Receive port frame.now) (Reply.Receive answer) new
+    ensures room { IsFalse (length response.old == control_frame_length) → (result ≡ received_refused wrong_buffer_length)
+        × (held_state lag.new.held.kept ≡ held_state lag.old.held.kept) × (response.new ≡ response.old) }
+    ensures answers { IsTrue (length response.old == control_frame_length)
+        → CallsHeldSystem (held_state lag.old.held.kept) (held_state lag.new.held.kept)
+        (λ old new. (answer : Result Received SystemFault)
+        × CallPromise by_number_gives old (Call.Receive port frame.now) (Reply.Receive answer) new
         × (result ≡ received_of answer) × (response.new ≡ buffer_after_receive response.old answer))
         ((result ≡ received_refused no_system) × (response.new ≡ response.old)) }
 {
@@ -110,7 +114,8 @@ pub extern "C" fn lagffi_configure(
     change: &LagChange,
 ) -> LagTruth
     ensures { CallsHeldSystem (held_state lag.old.held.kept) (held_state lag.new.held.kept)
-        (λ old new. (answer : Result Bool SystemFault) × CallPromise by_number_gives old (Call.Configure port (change_of change.now)) (Reply.Configure answer) new
+        (λ old new. (answer : Result Bool SystemFault) × CallPromise by_number_gives old (Call.Configure port (change_of change.now))
+        (Reply.Configure answer) new
         × (result ≡ truth_of answer)) (result ≡ truth_refused no_system) }
 {
     let Some((kept, block)) = lag.take(alloc) else {
@@ -126,7 +131,8 @@ pub extern "C" fn lagffi_configure(
 #[unsafe(no_mangle)]
 pub extern "C" fn lagffi_restart(alloc: Global, lag: &mut Lag) -> u32
     ensures { CallsHeldSystem (held_state lag.old.held.kept) (held_state lag.new.held.kept)
-        (λ old new. CallPromise by_number_gives old Call.Restart Reply.Restart new × (model_view new ≡ first_view (model_setup old)) × (result ≡ 0))
+        (λ old new. CallPromise by_number_gives old Call.Restart Reply.Restart new
+        × (model_view new ≡ first_view (model_setup old)) × (result ≡ 0))
         (result ≡ no_system) }
 {
     let Some((kept, block)) = lag.take(alloc) else {
@@ -146,9 +152,12 @@ pub extern "C" fn lagffi_transmit(
     port: u16,
     frame: &mut [u8],
 ) -> LagTruth
-    ensures room { IsFalse (length frame.old == control_frame_length) → (result ≡ truth_refused wrong_buffer_length) × (held_state lag.new.held.kept ≡ held_state lag.old.held.kept) × (frame.new ≡ frame.old) }
-    ensures answers { IsTrue (length frame.old == control_frame_length) → CallsHeldSystem (held_state lag.old.held.kept) (held_state lag.new.held.kept)
-        (λ old new. (answer : Result (Option (List ℕ)) SystemFault) × CallPromise by_number_gives old (Call.Transmit port) (Reply.Transmit answer) new
+    ensures room { IsFalse (length frame.old == control_frame_length) → (result ≡ truth_refused wrong_buffer_length)
+        × (held_state lag.new.held.kept ≡ held_state lag.old.held.kept) × (frame.new ≡ frame.old) }
+    ensures answers { IsTrue (length frame.old == control_frame_length)
+        → CallsHeldSystem (held_state lag.old.held.kept) (held_state lag.new.held.kept)
+        (λ old new. (answer : Result (Option (List ℕ)) SystemFault)
+        × CallPromise by_number_gives old (Call.Transmit port) (Reply.Transmit answer) new
         × (result ≡ truth_of_transmit answer) × (frame.new ≡ buffer_after_transmit frame.old answer))
         ((result ≡ truth_refused no_system) × (frame.new ≡ frame.old)) }
 {
@@ -169,7 +178,8 @@ pub extern "C" fn lagffi_transmit(
 #[unsafe(no_mangle)]
 pub extern "C" fn lagffi_offer(alloc: Global, lag: &mut Lag, agg: u16, frame: &[u8]) -> LagNumber
     ensures { CallsHeldSystem (held_state lag.old.held.kept) (held_state lag.new.held.kept)
-        (λ old new. (answer : Result ℕ SystemFault) × CallPromise by_number_gives old (Call.Offer (aggregator_numbered agg) frame.now) (Reply.Offer answer) new
+        (λ old new. (answer : Result ℕ SystemFault) × CallPromise by_number_gives old (Call.Offer (aggregator_numbered agg) frame.now)
+        (Reply.Offer answer) new
         × IfOk answer (λ port. number_of_conversation old frame.now < conversation_count old)
         × (result ≡ number_of answer)) (result ≡ number_refused no_system) }
 {
@@ -192,7 +202,9 @@ pub extern "C" fn lagffi_move_conversation(
     port: u16,
 ) -> u32
     ensures { CallsHeldSystem (held_state lag.old.held.kept) (held_state lag.new.held.kept)
-        (λ old new. (answer : Result Unit SystemFault) × CallPromise by_number_gives old (Call.Move_conversation (aggregator_numbered agg) conv port) (Reply.MoveConversation answer) new
+        (λ old new. (answer : Result Unit SystemFault)
+        × CallPromise by_number_gives old (Call.Move_conversation (aggregator_numbered agg) conv port)
+        (Reply.MoveConversation answer) new
         × (result ≡ status_of answer)) (result ≡ no_system) }
 {
     let Some((kept, block)) = lag.take(alloc) else {
@@ -208,7 +220,8 @@ pub extern "C" fn lagffi_move_conversation(
 #[unsafe(no_mangle)]
 pub extern "C" fn lagffi_force(alloc: Global, lag: &mut Lag, agg: u16, conv: u16) -> u32
     ensures { CallsHeldSystem (held_state lag.old.held.kept) (held_state lag.new.held.kept)
-        (λ old new. (answer : Result Unit SystemFault) × CallPromise by_number_gives old (Call.Force (aggregator_numbered agg) conv) (Reply.Force answer) new
+        (λ old new. (answer : Result Unit SystemFault) × CallPromise by_number_gives old (Call.Force (aggregator_numbered agg) conv)
+        (Reply.Force answer) new
         × (result ≡ status_of answer)) (result ≡ no_system) }
 {
     let Some((kept, block)) = lag.take(alloc) else {

@@ -22,7 +22,8 @@ pub struct Lag {
 impl Lag {
     /// Takes the system out, beside its block.
     pub(crate) fn take(&mut self, alloc: Global) -> Option<(System<()>, Held)>
-        ensures taken { MatchOption result (held_state self.old.held.kept ≡ None) (λ taken. held_state self.old.held.kept ≡ Some taken.0.state) }
+        ensures taken { MatchOption result (held_state self.old.held.kept ≡ None)
+            (λ taken. held_state self.old.held.kept ≡ Some taken.0.state) }
         ensures block { IfSome result (λ taken. IsTrue (is_some taken.1.kept)) }
         ensures left { self.new.held.kept ≡ None }
     {

@@ -2,7 +2,8 @@ ghost use Rattle.std.specs.Prelude.{◌≡◌, IfErr, IfOk, IsTrue, MatchOption,
 ghost use Rattle.lagsystem.specs.declared.fault.SystemFault.{SystemFault};
 ghost use Rattle.lagffi.specs.Holding.{held_state};
 ghost use Rattle.lagffi.specs.Numbers.{no_system};
-ghost use Rattle.lagffi.specs.Made.{IsMadeOfLagConfig, holds_system_already, lag_key, made_refused, made_with_status, lag_port_config, refusal_of, why_refused};
+ghost use Rattle.lagffi.specs.Made.{IsMadeOfLagConfig, holds_system_already, lag_key, made_refused, made_with_status, lag_port_config};
+ghost use Rattle.lagffi.specs.Made.{refusal_of, why_refused};
 
 use crate::handle::{Held, Lag};
 use crate::refusal::refusal;
@@ -167,7 +168,8 @@ pub extern "C" fn lagffi_new(
     keys: &[u16],
     ports: &[LagPort],
 ) -> LagMade
-    ensures live { IsTrue (is_some (held_state lag.old.held.kept)) → (result ≡ made_with_status holds_system_already) × (held_state lag.new.held.kept ≡ held_state lag.old.held.kept) }
+    ensures live { IsTrue (is_some (held_state lag.old.held.kept)) → (result ≡ made_with_status holds_system_already)
+        × (held_state lag.new.held.kept ≡ held_state lag.old.held.kept) }
     ensures made { held_state lag.old.held.kept ≡ None → MatchOption (held_state lag.new.held.kept)
         (result ≡ made_refused (why_refused keys.now ports.now))
         (λ s. IsMadeOfLagConfig config.now keys.now ports.now s × (result ≡ made_with_status 0)) }

@@ -1,5 +1,8 @@
 ghost use Rattle.std.specs.Prelude.{◌≡◌, Option};
-ghost use Rattle.lagffi.specs.ReaderValues.{lag_assignment_on, assignment_or_refused, lag_assignment, choice_or_no_port, lag_end, group_or_no_port, lag_group, info_or_no_port, lag_info, lag_marker, mux_state_or_no_port, assignment_refused, no_end, group_refused, info_refused, marker_refused, party_refused, state_or_no_port, party_or_no_port, lag_party, receive_state_or_no_port};
+ghost use Rattle.lagffi.specs.ReaderValues.{lag_assignment_on, assignment_or_refused, lag_assignment, choice_or_no_port, lag_end};
+ghost use Rattle.lagffi.specs.ReaderValues.{group_or_no_port, lag_group, info_or_no_port, lag_info, lag_marker, mux_state_or_no_port};
+ghost use Rattle.lagffi.specs.ReaderValues.{assignment_refused, no_end, group_refused, info_refused, marker_refused, party_refused};
+ghost use Rattle.lagffi.specs.ReaderValues.{state_or_no_port, party_or_no_port, lag_party, receive_state_or_no_port};
 
 use crate::values::{LagNumber, NO_PORT, NOT_ASSIGNED_REFUSED, OK};
 use bitflags::Flags;

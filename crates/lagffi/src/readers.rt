@@ -13,8 +13,11 @@ ghost use Rattle.lagsystem.specs.State.{port_numbers, port_index, machines_of};
 ghost use Rattle.lagffi.specs.Asking.{ReadsHeldSystem};
 ghost use Rattle.lagffi.specs.Holding.{held_state};
 ghost use Rattle.lagffi.specs.Lists.{port_list_length, put_first};
-ghost use Rattle.lagffi.specs.Numbers.{number_refused, no_system, truth_refused, number, number_or_refused, wrong_buffer_length, truth_or_no_port};
-ghost use Rattle.lagffi.specs.ReaderValues.{assignment_or_refused, choice_or_no_port, group_or_no_port, info_or_no_port, lag_marker, mux_state_or_no_port, assignment_refused, group_refused, info_refused, marker_refused, party_refused, state_or_no_port, party_or_no_port, receive_state_or_no_port};
+ghost use Rattle.lagffi.specs.Numbers.{number_refused, no_system, truth_refused, number, number_or_refused, wrong_buffer_length};
+ghost use Rattle.lagffi.specs.Numbers.{truth_or_no_port};
+ghost use Rattle.lagffi.specs.ReaderValues.{assignment_or_refused, choice_or_no_port, group_or_no_port, info_or_no_port, lag_marker};
+ghost use Rattle.lagffi.specs.ReaderValues.{mux_state_or_no_port, assignment_refused, group_refused, info_refused, marker_refused};
+ghost use Rattle.lagffi.specs.ReaderValues.{party_refused, state_or_no_port, party_or_no_port, receive_state_or_no_port};
 
 use crate::handle::Lag;
 use crate::reader_values::{
@@ -78,7 +81,8 @@ pub extern "C" fn lagffi_defaulted(alloc: Global, lag: &mut Lag, port: u16) -> L
 #[unsafe(no_mangle)]
 pub extern "C" fn lagffi_distributes(alloc: Global, lag: &mut Lag, port: u16) -> LagTruth
     ensures { ReadsHeldSystem (held_state lag.old.held.kept) (held_state lag.new.held.kept)
-        (λ s. result ≡ truth_or_no_port (option_map (λ p. same_mux_state MuxState.CollectingDistributing p.mux) (machines_of port s))) (result ≡ truth_refused no_system) }
+        (λ s. result ≡ truth_or_no_port (option_map (λ p. same_mux_state MuxState.CollectingDistributing p.mux) (machines_of port s)))
+        (result ≡ truth_refused no_system) }
 {
     let Some((kept, block)) = lag.take(alloc) else {
         return LagTruth::refused(NO_SYSTEM);
@@ -198,7 +202,8 @@ pub extern "C" fn lagffi_group(alloc: Global, lag: &mut Lag, port: u16) -> LagGr
 #[unsafe(no_mangle)]
 pub extern "C" fn lagffi_load(alloc: Global, lag: &mut Lag, port: u16) -> LagNumber
     ensures { ReadsHeldSystem (held_state lag.old.held.kept) (held_state lag.new.held.kept)
-        (λ s. MatchOption (port_index port s.system_ports) (result ≡ number_refused 1) (λ place. result ≡ number (count_conversations (names_port port) s.table))) (result ≡ number_refused no_system) }
+        (λ s. MatchOption (port_index port s.system_ports) (result ≡ number_refused 1)
+        (λ place. result ≡ number (count_conversations (names_port port) s.table))) (result ≡ number_refused no_system) }
 {
     let Some((kept, block)) = lag.take(alloc) else {
         return LagNumber::refused(NO_SYSTEM);
@@ -228,7 +233,8 @@ pub extern "C" fn lagffi_aggregators(alloc: Global, lag: &mut Lag) -> LagNumber
 #[unsafe(no_mangle)]
 pub extern "C" fn lagffi_conversation(alloc: Global, lag: &mut Lag, frame: &[u8]) -> LagNumber
     ensures { ReadsHeldSystem (held_state lag.old.held.kept) (held_state lag.new.held.kept)
-        (λ s. (result ≡ number_or_refused 3 (conversation_in s frame.now)) × IfSome (conversation_in s frame.now) (λ conv. conv < conversation_count s))
+        (λ s. (result ≡ number_or_refused 3 (conversation_in s frame.now))
+        × IfSome (conversation_in s frame.now) (λ conv. conv < conversation_count s))
         (result ≡ number_refused no_system) }
 {
     let Some((kept, block)) = lag.take(alloc) else {
@@ -278,8 +284,10 @@ pub extern "C" fn lagffi_next_marker(alloc: Global, lag: &mut Lag) -> LagMarker
 /// How many ports there are. The buffer has 64 places; their numbers are written at its front, and nothing else.
 #[unsafe(no_mangle)]
 pub extern "C" fn lagffi_ports(alloc: Global, lag: &mut Lag, buffer: &mut [u16]) -> LagNumber
-    ensures room { IsFalse (length buffer.old == port_list_length) → (result ≡ number_refused wrong_buffer_length) × (held_state lag.new.held.kept ≡ held_state lag.old.held.kept) × (buffer.new ≡ buffer.old) }
-    ensures answers { IsTrue (length buffer.old == port_list_length) → ReadsHeldSystem (held_state lag.old.held.kept) (held_state lag.new.held.kept)
+    ensures room { IsFalse (length buffer.old == port_list_length) → (result ≡ number_refused wrong_buffer_length)
+        × (held_state lag.new.held.kept ≡ held_state lag.old.held.kept) × (buffer.new ≡ buffer.old) }
+    ensures answers { IsTrue (length buffer.old == port_list_length)
+        → ReadsHeldSystem (held_state lag.old.held.kept) (held_state lag.new.held.kept)
         (λ s. (result ≡ number (length (port_numbers s.system_ports))) × (buffer.new ≡ put_first (port_numbers s.system_ports) buffer.old)
         × IsStrictlyIncreasing (port_numbers s.system_ports))
         ((result ≡ number_refused no_system) × (buffer.new ≡ buffer.old)) }
@@ -304,9 +312,12 @@ pub extern "C" fn lagffi_distributing(
     agg: u16,
     buffer: &mut [u16],
 ) -> LagNumber
-    ensures room { IsFalse (length buffer.old == port_list_length) → (result ≡ number_refused wrong_buffer_length) × (held_state lag.new.held.kept ≡ held_state lag.old.held.kept) × (buffer.new ≡ buffer.old) }
-    ensures answers { IsTrue (length buffer.old == port_list_length) → ReadsHeldSystem (held_state lag.old.held.kept) (held_state lag.new.held.kept)
-        (λ s. (result ≡ number (length (distributing (aggregator_numbered agg) s.system_ports))) × (buffer.new ≡ put_first (distributing (aggregator_numbered agg) s.system_ports) buffer.old)
+    ensures room { IsFalse (length buffer.old == port_list_length) → (result ≡ number_refused wrong_buffer_length)
+        × (held_state lag.new.held.kept ≡ held_state lag.old.held.kept) × (buffer.new ≡ buffer.old) }
+    ensures answers { IsTrue (length buffer.old == port_list_length)
+        → ReadsHeldSystem (held_state lag.old.held.kept) (held_state lag.new.held.kept)
+        (λ s. (result ≡ number (length (distributing (aggregator_numbered agg) s.system_ports)))
+        × (buffer.new ≡ put_first (distributing (aggregator_numbered agg) s.system_ports) buffer.old)
         × IsStrictlyIncreasing (distributing (aggregator_numbered agg) s.system_ports)
         × OnFalse (has_aggregator s (aggregator_numbered agg)) (distributing (aggregator_numbered agg) s.system_ports ≡ []))
         ((result ≡ number_refused no_system) × (buffer.new ≡ buffer.old)) }

@@ -1,5 +1,6 @@
 -- If `clap` states no fault for the words of a command line, they name a subcommand with each argument that it takes.
-use Rattle.std.proofs.Common.{◌≡◌, ◌∙◌, ◌&&◌, Bool, true, false, cond, not, ap, ap₂, refl, subst, sym, inl, inr, codes, List, [], ◌∷◌, Option, Some, None, is_some, find, option_map}
+use Rattle.std.proofs.Common.{◌≡◌, ◌∙◌, ◌&&◌, Bool, true, false, cond, not, ap, ap₂, refl, subst, sym, inl, inr, codes, List, [], ◌∷◌}
+use Rattle.std.proofs.Common.{Option, Some, None, is_some, find, option_map}
 use Rattle.std.proofs.lemmas.Bool.{not-false, or_parts}
 use Rattle.std.specs.Prelude.{◌≢◌, ⊤}
 use Rattle.std.specs.List.{list_any}
@@ -9,10 +10,12 @@ use Rattle.clap.specs.Values.{kind_of}
 use Rattle.clap.specs.declared.error.Error.{Error}
 use Rattle.clap.specs.declared.error.kind.ErrorKind.TheVariants.{DisplayHelp, DisplayVersion, OutOfMemory}
 use Rattle.clap.specs.Faults.{check_fault, defaults_fault, entered_fault, fault_of, level_fault, settle_fault, walk_fault}
-use Rattle.clap.specs.Simple.{App, Shape, argument_words, built, built_leaf, entered, inherited, is_simple, label_of, marked_built, names_of, rows_at, subcommand_of, with_leaf_noted}
+use Rattle.clap.specs.Simple.{App, Shape, argument_words, built, built_leaf, entered, inherited, is_simple, label_of, marked_built}
+use Rattle.clap.specs.Simple.{names_of, rows_at, subcommand_of, with_leaf_noted}
 use Rattle.clap.specs.Takes.{is_given}
 use Rattle.clap.specs.Walk.{Row, Rule, Text, answers_to, finished, nothing_held, rows_after, settled, walk, walk_from}
-use Rattle.lagline.specs.Lines.{IsHelpOrVersion, IsCause, KeepsKind, check_subcommand, decode_subcommand, has_text, has_each_argument, program, replay_subcommand, respond_subcommand, vectors_subcommand}
+use Rattle.lagline.specs.Lines.{IsHelpOrVersion, IsCause, KeepsKind, check_subcommand, decode_subcommand, has_text, has_each_argument}
+use Rattle.lagline.specs.Lines.{program, replay_subcommand, respond_subcommand, vectors_subcommand}
 use Rattle.lagline.specs.declared.line.LineFault.{LineFault}
 use Rattle.lagline.specs.declared.line.LineFault.TheVariants.{Help, Usage, NoMemory}
 use Rattle.clap.specs.Words.{app_of, is_simple_and_free, subcommand_rows_of, HasMatchesOf}
@@ -94,7 +97,8 @@ whole_found p (s ∷ ss) g = go (p s) (whole_found p ss g.1)
 lines_whole : AreWholeLines (built program).subs
 lines_whole = (decode_whole, (respond_whole, (check_whole, (replay_whole, (vectors_whole, tt)))))
 
-entered_whole : (found : Option Shape) (words : List Text) → IsWholeIfFound found → option_map_or (λ s. level_fault s [] nothing_held words false []) found [] ≡ []
+entered_whole : (found : Option Shape) (words : List Text) → IsWholeIfFound found
+    → option_map_or (λ s. level_fault s [] nothing_held words false []) found [] ≡ []
     → is_some (option_map (λ s. rows_at s words) found) ≡ true → has_each_argument (option_map (λ s. rows_at s words) found) ≡ true
 entered_whole None words g e has = cc
 entered_whole (Some s) words g e has = g words e
@@ -124,11 +128,13 @@ whole_line words e =
     let second = neither below (or_else settles (or_else defaults checks)) first.1 in
     let third = neither settles (or_else defaults checks) second.1 in
     let fourth = neither defaults checks third.1 in
-    let wants = not (a.top.subcommand_negates_reqs && has) && list_any (λ (r : Rule). r.required && not (is_given r.id (finished a.top.rules w.held))) a.top.rules in
+    let wants = not (a.top.subcommand_negates_reqs && has)
+    && list_any (λ (r : Rule). r.required && not (is_given r.id (finished a.top.rules w.held))) a.top.rules in
     stopped_whole w.stopped second.0 (met has wants fourth.1)
 
 -- a parse that succeeds states no fault for the program's words
-pub faultless : (c : Command) (words : List Text) → app_of c ≡ program → (is_simple_and_free (app_of c) ≡ true → fault_of (app_of c) words ≡ []) → fault_of program words ≡ []
+pub faultless : (c : Command) (words : List Text) → app_of c ≡ program
+    → (is_simple_and_free (app_of c) ≡ true → fault_of (app_of c) words ≡ []) → fault_of program words ≡ []
 faultless c words shape kinds = ap (λ (a : App). fault_of a words) (sym shape) ∙ kinds (ap is_simple_and_free shape)
 
 -- and finds such a subcommand
@@ -140,14 +146,16 @@ whole_matches c words m shape matches kinds =
 
 -- an error of one of the kinds is a cause of the fault that keeps it
 cause_of : (kinds : Kinds) (e : Error) (f : LineFault) → HasKind kinds e → KeepsKind e f → IsCause kinds f
-cause_of kinds e (Help error) h k = subst (λ (x : Error). IsHelpOrVersion (kind_of x) × IsAmong (kind_of x) kinds) (sym k.0) (k.1, among h k.1)
+cause_of kinds e (Help error) h k = subst (λ (x : Error). IsHelpOrVersion (kind_of x) × IsAmong (kind_of x) kinds)
+    (sym k.0) (k.1, among h k.1)
   where
     among : HasKind kinds e → IsHelpOrVersion (kind_of e) → IsAmong (kind_of e) kinds
     among (inl o) (inl p) = let bad : OutOfMemory ≡ DisplayHelp = sym o ∙ p in cc
     among (inl o) (inr p) = let bad : OutOfMemory ≡ DisplayVersion = sym o ∙ p in cc
     among (inr a) p = a
 cause_of kinds e (Usage error) h k =
-    subst (λ (x : Error). (kind_of x ≢ DisplayHelp) × (kind_of x ≢ DisplayVersion) × IsAmong (kind_of x) kinds) (sym k.0) (k.1, k.2, among h)
+    subst (λ (x : Error). (kind_of x ≢ DisplayHelp) × (kind_of x ≢ DisplayVersion) × IsAmong (kind_of x) kinds)
+    (sym k.0) (k.1, k.2, among h)
   where
     among : HasKind kinds e → IsAmong (kind_of e) kinds
     among (inl o) = absurd (k.3 o)
@@ -155,6 +163,8 @@ cause_of kinds e (Usage error) h k =
 cause_of kinds e NoMemory h k = tt
 
 -- and so if a parse fails by the program's words
-pub line_cause : (c : Command) (words : List Text) (e : Error) (f : LineFault) → app_of c ≡ program → (is_simple_and_free (app_of c) ≡ true → HasKind (fault_of (app_of c) words) e)
+pub line_cause : (c : Command) (words : List Text) (e : Error) (f : LineFault) → app_of c ≡ program
+    → (is_simple_and_free (app_of c) ≡ true → HasKind (fault_of (app_of c) words) e)
     → KeepsKind e f → IsCause (fault_of program words) f
-line_cause c words e f shape kinds k = cause_of _ e f (subst (λ (a : App). HasKind (fault_of a words) e) shape (kinds (ap is_simple_and_free shape))) k
+line_cause c words e f shape kinds k =
+    cause_of _ e f (subst (λ (a : App). HasKind (fault_of a words) e) shape (kinds (ap is_simple_and_free shape))) k

@@ -44,7 +44,8 @@ program_alone =
 -- the program with its subcommands
 abbrev pub program : App
 program =
-    with_subcommand (with_subcommand (with_subcommand (with_subcommand (with_subcommand program_alone decode_subcommand.top) respond_subcommand.top)
+    with_subcommand (with_subcommand (with_subcommand (with_subcommand (with_subcommand program_alone decode_subcommand.top)
+    respond_subcommand.top)
     check_subcommand.top)
     replay_subcommand.top) vectors_subcommand.top
 

@@ -4,8 +4,11 @@ use Rattle.std.proofs.Common.{ℕ, Bool, true, false, Option, Some, None, List, 
 use Rattle.std.specs.Prelude.{IsSomeAnd}
 use Rattle.std.proofs.lemmas.Bool.{true≢false}
 use Rattle.std.proofs.lemmas.Option.{none-some}
-use Rattle.lagmodel.specs.View.{PortFacts, Conversation, DistributorFacts, View, SystemSetup, ModelCall, ControlMessage, Lacp, Marker, Response, Receive}
-use Rattle.lagmodel.specs.Move.{Act, PortMove, PortAllowed, ConversationMove, ConversationMoveAllowed, DistributorMove, DistributorMoveAllowed, Move, Port, Flow, Restart, MoveAllowed, view_after, AllAllowed, Distributes, LawfulMoves}
+use Rattle.lagmodel.specs.View.{PortFacts, Conversation, DistributorFacts, View, SystemSetup, ModelCall, ControlMessage, Lacp, Marker}
+use Rattle.lagmodel.specs.View.{Response, Receive}
+use Rattle.lagmodel.specs.Move.{Act, PortMove, PortAllowed, ConversationMove, ConversationMoveAllowed, DistributorMove}
+use Rattle.lagmodel.specs.Move.{DistributorMoveAllowed, Move, Port, Flow, Restart, MoveAllowed, view_after, AllAllowed, Distributes}
+use Rattle.lagmodel.specs.Move.{LawfulMoves}
 
 abbrev is_receive : ModelCall → Bool
 is_receive (Receive p pdu) = true
@@ -15,7 +18,8 @@ abbrev brought : ModelCall → Option ControlMessage
 brought (Receive p pdu) = pdu
 brought _ = None
 
-port_allowed : (u : SystemSetup) (n : ℕ) (came : Option ControlMessage) (ports : ℕ → Option PortFacts) (p : ℕ) (m : PortMove) (a : PortFacts)
+port_allowed : (u : SystemSetup) (n : ℕ) (came : Option ControlMessage) (ports : ℕ → Option PortFacts) (p : ℕ)
+    (m : PortMove) (a : PortFacts)
     → PortAllowed u (Receive n None) ports p m a → PortAllowed u (Receive n came) ports p m a
 port_allowed u n came ports p PortMove.Stop a h = tt
 port_allowed u n came ports p PortMove.Leave a h = tt
@@ -42,19 +46,23 @@ flow_allowed mac n came D f (DistributorMove.Send g k p) h = h
 flow_allowed mac n came D f (DistributorMove.Mark p) h = h
 flow_allowed mac n came D f (DistributorMove.Become g k m) h = change_allowed mac n came g k m (f.state g k) h
 
-there : (u : SystemSetup) (n : ℕ) (came : Option ControlMessage) (ports : ℕ → Option PortFacts) (p : ℕ) (m : PortMove) (o : Option PortFacts)
+there : (u : SystemSetup) (n : ℕ) (came : Option ControlMessage) (ports : ℕ → Option PortFacts) (p : ℕ)
+    (m : PortMove) (o : Option PortFacts)
     → IsSomeAnd o (PortAllowed u (Receive n None) ports p m) → IsSomeAnd o (PortAllowed u (Receive n came) ports p m)
 there u n came ports p m None h = h
 there u n came ports p m (Some a) h = port_allowed u n came ports p m a h
 
-allowed : (u : SystemSetup) (n : ℕ) (came : Option ControlMessage) (v : View) (m : Move) → MoveAllowed u (Receive n None) v m → MoveAllowed u (Receive n came) v m
+allowed : (u : SystemSetup) (n : ℕ) (came : Option ControlMessage) (v : View) (m : Move) → MoveAllowed u (Receive n None) v m
+    → MoveAllowed u (Receive n came) v m
 allowed u n came v (Port p m) h = there u n came v.port p m (v.port p) h
 allowed u n came v (Flow m) h = flow_allowed u.system.mac n came (Distributes v.port) v.flows m h
 allowed u n came v Restart h = h
 
-all_allowed : (u : SystemSetup) (n : ℕ) (came : Option ControlMessage) (ms : List Move) (v : View) → AllAllowed u (Receive n None) v ms → AllAllowed u (Receive n came) v ms
+all_allowed : (u : SystemSetup) (n : ℕ) (came : Option ControlMessage) (ms : List Move) (v : View) → AllAllowed u (Receive n None) v ms
+    → AllAllowed u (Receive n came) v ms
 all_allowed u n came [] v h = tt
 all_allowed u n came (m ∷ ms) v h = (allowed u n came v m h.0, all_allowed u n came ms (view_after u m v) h.1)
 
-pub moves_bring : (u : SystemSetup) (n : ℕ) (came : Option ControlMessage) (old new : View) (seen : List Act) → LawfulMoves u (Receive n None) old seen new → LawfulMoves u (Receive n came) old seen new
+pub moves_bring : (u : SystemSetup) (n : ℕ) (came : Option ControlMessage) (old new : View) (seen : List Act)
+    → LawfulMoves u (Receive n None) old seen new → LawfulMoves u (Receive n came) old seen new
 moves_bring u n came old new seen h = (h.0, all_allowed u n came h.0 old h.1, h.2, h.3)

@@ -6,30 +6,37 @@ use Rattle.std.specs.Prelude.{option_map}
 use Rattle.std.proofs.lemmas.Bool.{cases_Bool, true≢false}
 use Rattle.lagtypes.specs.declared.party.Party.{Party}
 use Rattle.lagmodel.specs.View.{is_restart, PortFacts, View, SystemSetup, IsSystemSetup, first_view, ModelCall}
-use Rattle.lagmodel.specs.Move.{MoveAllowed, Act, PortMove, PortAllowed, port_after, Move, Port, Flow, Restart, view_after, AllAllowed, view_after_all, LawfulMoves}
+use Rattle.lagmodel.specs.Move.{MoveAllowed, Act, PortMove, PortAllowed, port_after, Move, Port, Flow, Restart, view_after, AllAllowed}
+use Rattle.lagmodel.specs.Move.{view_after_all, LawfulMoves}
 use Rattle.lagmodel.specs.World.{party_at}
 use Rattle.lagmodel.specs.Law.{LawfulRun, Members}
 use Rattle.lagmodel.proofs.Base.{value_of, cond_true, cond_false}
 use Rattle.lagmodel.proofs.Ports.{members_kept, members_first}
 
-pub members_moves : (u : SystemSetup) (call : ModelCall) (moves : List Move) (v : View) → IsSystemSetup u → AllAllowed u call v moves → Members u v.port → Members u (view_after_all u moves v).port
+pub members_moves : (u : SystemSetup) (call : ModelCall) (moves : List Move) (v : View) → IsSystemSetup u → AllAllowed u call v moves
+    → Members u v.port → Members u (view_after_all u moves v).port
 members_moves u call [] v s h i = i
-members_moves u call (Port p m ∷ ms) v s h i = members_moves u call ms (view_after u (Port p m) v) s h.1 (members_kept u call v.port p m h.0 i)
+members_moves u call (Port p m ∷ ms) v s h i = members_moves u call ms (view_after u (Port p m) v) s h.1
+    (members_kept u call v.port p m h.0 i)
 members_moves u call (Flow m ∷ ms) v s h i = members_moves u call ms (view_after u (Flow m) v) s h.1 i
 members_moves u call (Restart ∷ ms) v s h i = members_moves u call ms (first_view u) s h.1 (members_first u s)
 
-pub members_call : (u : SystemSetup) (call : ModelCall) (old new : View) (seen : List Act) → IsSystemSetup u → LawfulMoves u call old seen new → Members u old.port → Members u new.port
+pub members_call : (u : SystemSetup) (call : ModelCall) (old new : View) (seen : List Act) → IsSystemSetup u
+    → LawfulMoves u call old seen new → Members u old.port → Members u new.port
 members_call u call old new seen s h i = subst (λ (v : View). Members u v.port) (sym h.3) (members_moves u call h.0 old s h.1 i)
 
-pub members_driven : (u : SystemSetup) (calls : List ModelCall) (old new : View) → IsSystemSetup u → LawfulRun u calls old new → Members u old.port → Members u new.port
+pub members_driven : (u : SystemSetup) (calls : List ModelCall) (old new : View) → IsSystemSetup u → LawfulRun u calls old new
+    → Members u old.port → Members u new.port
 members_driven u [] old new s h i = subst (λ (v : View). Members u v.port) (sym h) i
 members_driven u (call ∷ calls) old new s h i = members_driven u calls h.1 new s h.3 (members_call u call old h.1 h.0 s h.2 i)
 
 -- only a configure and a restart change a party
-pub parties_same : (u : SystemSetup) (call : ModelCall) (old new : View) (seen : List Act) → (call ≡ ModelCall.Configure → ⊥) → is_restart call ≡ false → LawfulMoves u call old seen new → (q : ℕ) → party_at new q ≡ party_at old q
+pub parties_same : (u : SystemSetup) (call : ModelCall) (old new : View) (seen : List Act) → (call ≡ ModelCall.Configure → ⊥)
+    → is_restart call ≡ false → LawfulMoves u call old seen new → (q : ℕ) → party_at new q ≡ party_at old q
 parties_same u call old new seen n r x q = ap (λ (v : View). party_at v q) x.3 ∙ all x.0 old x.1
   where
-    one : (m : PortMove) (a : PortFacts) (ports : ℕ → Option PortFacts) (p : ℕ) → PortAllowed u call ports p m a → (port_after m a).party ≡ a.party
+    one : (m : PortMove) (a : PortFacts) (ports : ℕ → Option PortFacts) (p : ℕ) → PortAllowed u call ports p m a
+        → (port_after m a).party ≡ a.party
     one PortMove.Stop a ports p y = refl
     one PortMove.Leave a ports p y = refl
     one PortMove.Desynchronise a ports p y = refl
@@ -46,7 +53,8 @@ parties_same u call old new seen n r x q = ap (λ (v : View). party_at v q) x.3 
         let s = value_of (v.port p) (PortAllowed u call v.port p m) y in
         elim (cases_Bool (eqb q p)) [
           | inl e ↦ (let there : v.port q ≡ Some s.0 = subst (λ r. v.port r ≡ Some s.0) (sym (eqb-true q p e)) s.1 in
-              ap (option_map (λ (a : PortFacts). a.party)) (cond_true (eqb q p) (option_map (port_after m) (v.port q)) (v.port q) e ∙ ap (option_map (port_after m)) there)
+              ap (option_map (λ (a : PortFacts). a.party)) (cond_true (eqb q p) (option_map (port_after m) (v.port q)) (v.port q) e
+              ∙ ap (option_map (port_after m)) there)
               ∙ ap (λ (y : Party). Some y) (one m s.0 v.port p s.2)
               ∙ sym (ap (option_map (λ (a : PortFacts). a.party)) there))
           | inr e ↦ ap (option_map (λ (a : PortFacts). a.party)) (cond_false (eqb q p) (option_map (port_after m) (v.port q)) (v.port q) e)

@@ -1,10 +1,13 @@
 -- The serial numbers of each conversation are 0, 1, 2 and so on.
-use Rattle.std.proofs.Common.{◌≡◌, ℕ, ◌<◌, Bool, true, false, Option, Some, None, List, [], ◌∷◌, ◌++◌, length, get_or, sym, ◌∙◌, subst, inl, inr, arith, length-append}
+use Rattle.std.proofs.Common.{◌≡◌, ℕ, ◌<◌, Bool, true, false, Option, Some, None, List, [], ◌∷◌, ◌++◌, length, get_or, sym, ◌∙◌, subst}
+use Rattle.std.proofs.Common.{inl, inr, arith, length-append}
 use Rattle.std.proofs.lemmas.Bool.{cases_lt}
 use Rattle.std.proofs.lemmas.List.{get_or_append_left, get_or_push}
 use Rattle.lagmodel.specs.View.{ModelCall, Receive}
 use Rattle.lagmodel.specs.Move.{Act, Sends, Sends_frame, Took, Move, act}
-use Rattle.lagmodel.specs.World.{Side, One, Two, Message, Control, Data, end_at, World, WorldSetup, first_world, sent_after, world_after, world_after_all, CallHappens, Event, with_messages, handed_up, DeliversFirst, RepeatsFirst, LosesFirst, SensesCable, Happens, Run}
+use Rattle.lagmodel.specs.World.{Side, One, Two, Message, Control, Data, end_at, World, WorldSetup, first_world, sent_after, world_after}
+use Rattle.lagmodel.specs.World.{world_after_all, CallHappens, Event, with_messages, handed_up, DeliversFirst, RepeatsFirst, LosesFirst}
+use Rattle.lagmodel.specs.World.{SensesCable, Happens, Run}
 use Rattle.lagmodel.specs.Law.{CountsFromZero}
 use Rattle.lagmodel.proofs.Lanes.{two_cases}
 
@@ -14,7 +17,8 @@ IsCount xs = (i : ℕ) → i < length xs → get_or xs i 0 ≡ i
 one_more : (xs : List ℕ) → IsCount xs → IsCount (xs ++ length xs ∷ [])
 one_more xs h i lt = elim (cases_lt i (length xs)) [
   | inl below ↦ get_or_append_left xs (length xs ∷ []) 0 i below ∙ h i below
-  | inr above ↦ (let same : i ≡ length xs = omega (arith, length-append xs (length xs ∷ [])) in get_or_push xs (length xs) 0 i (sym same) ∙ sym same)
+  | inr above ↦ (let same : i ≡ length xs = omega (arith, length-append xs (length xs ∷ [])) in get_or_push xs (length xs) 0 i (sym same)
+      ∙ sym same)
 ]
 
 counted_act : (o : Option Act) (sent : ℕ → ℕ → List ℕ) → ((g k : ℕ) → IsCount (sent g k)) → (g k : ℕ) → IsCount (sent_after o sent g k)
@@ -26,40 +30,49 @@ counted_act (Some (Sends_frame p j l)) sent h g k = elim (two_cases sent j l (se
   | inr x ↦ subst IsCount (sym x.1) (h g k)
 ]
 
-counted_move : (x : WorldSetup) (s : Side) (stamp : ℕ) (m : Move × Bool) (w : World) → CountsFromZero w → CountsFromZero (world_after x s stamp m w)
+counted_move : (x : WorldSetup) (s : Side) (stamp : ℕ) (m : Move × Bool) (w : World) → CountsFromZero w
+    → CountsFromZero (world_after x s stamp m w)
 counted_move x One stamp m w h One g k = counted_act (act (x.setup One) m.0 (w.view One)) (w.sent One) (h One) g k
 counted_move x One stamp m w h Two g k = h Two g k
 counted_move x Two stamp m w h One g k = h One g k
 counted_move x Two stamp m w h Two g k = counted_act (act (x.setup Two) m.0 (w.view Two)) (w.sent Two) (h Two) g k
 
-counted_all : (x : WorldSetup) (s : Side) (stamp : ℕ) (ms : List (Move × Bool)) (w : World) → CountsFromZero w → CountsFromZero (world_after_all x s stamp ms w)
+counted_all : (x : WorldSetup) (s : Side) (stamp : ℕ) (ms : List (Move × Bool)) (w : World) → CountsFromZero w
+    → CountsFromZero (world_after_all x s stamp ms w)
 counted_all x s stamp [] w h = h
 counted_all x s stamp (m ∷ ms) w h = counted_all x s stamp ms (world_after x s stamp m w) (counted_move x s stamp m w h)
 
-counted_call : (x : WorldSetup) (s : Side) (call : ModelCall) (stamp : ℕ) (old mid new : World) → CountsFromZero mid → CallHappens x s call stamp old mid new → CountsFromZero new
+counted_call : (x : WorldSetup) (s : Side) (call : ModelCall) (stamp : ℕ) (old mid new : World) → CountsFromZero mid
+    → CallHappens x s call stamp old mid new → CountsFromZero new
 counted_call x s call stamp old mid new h z = subst CountsFromZero (sym z.2.2) (counted_all x s stamp z.0 mid h)
 
-counted_comes : (x : WorldSetup) (c : ℕ) (to : Side) (port : Option ℕ) (on_cable : List Message) (old new : World) → CountsFromZero old → DeliversFirst x c to port on_cable old new → CountsFromZero new
+counted_comes : (x : WorldSetup) (c : ℕ) (to : Side) (port : Option ℕ) (on_cable : List Message) (old new : World) → CountsFromZero old
+    → DeliversFirst x c to port on_cable old new → CountsFromZero new
 counted_comes x c to port [] old new h z = subst CountsFromZero (sym z) h
 counted_comes x c to None (m ∷ ms) old new h z = absurd z
-counted_comes x c to (Some p) (Control pdu stamp ∷ ms) old new h z = counted_call x to (Receive p (Some pdu)) stamp old (with_messages old c to ms) new h z
+counted_comes x c to (Some p) (Control pdu stamp ∷ ms) old new h z = counted_call x to (Receive p (Some pdu)) stamp old
+    (with_messages old c to ms) new h z
 counted_comes x c to (Some p) (Data origin g k n ∷ ms) old new h z = go z.0 z.1
   where
-    go : (up : Bool) → CallHappens x to (Receive p None) 0 old (handed_up up (Data origin g k n) (with_messages old c to ms)) new → CountsFromZero new
+    go : (up : Bool) → CallHappens x to (Receive p None) 0 old (handed_up up (Data origin g k n) (with_messages old c to ms)) new
+        → CountsFromZero new
     go true y = counted_call x to (Receive p None) 0 old (handed_up true (Data origin g k n) (with_messages old c to ms)) new h y
     go false y = counted_call x to (Receive p None) 0 old (with_messages old c to ms) new h y
 
-counted_again : (x : WorldSetup) (c : ℕ) (to : Side) (port : Option ℕ) (on_cable : List Message) (old new : World) → CountsFromZero old → RepeatsFirst x c to port on_cable old new → CountsFromZero new
+counted_again : (x : WorldSetup) (c : ℕ) (to : Side) (port : Option ℕ) (on_cable : List Message) (old new : World) → CountsFromZero old
+    → RepeatsFirst x c to port on_cable old new → CountsFromZero new
 counted_again x c to port [] old new h z = subst CountsFromZero (sym z) h
 counted_again x c to port (Data origin g k n ∷ ms) old new h z = subst CountsFromZero (sym z) h
 counted_again x c to None (Control pdu stamp ∷ ms) old new h z = absurd z
 counted_again x c to (Some p) (Control pdu stamp ∷ ms) old new h z = counted_call x to (Receive p (Some pdu)) stamp old old new h z
 
-counted_lost : (c : ℕ) (to : Side) (on_cable : List Message) (old new : World) → CountsFromZero old → LosesFirst c to on_cable old new → CountsFromZero new
+counted_lost : (c : ℕ) (to : Side) (on_cable : List Message) (old new : World) → CountsFromZero old
+    → LosesFirst c to on_cable old new → CountsFromZero new
 counted_lost c to [] old new h z = subst CountsFromZero (sym z) h
 counted_lost c to (m ∷ ms) old new h z = subst CountsFromZero (sym z) h
 
-counted_senses : (x : WorldSetup) (s : Side) (port : Option ℕ) (up : Bool) (old new : World) → CountsFromZero old → SensesCable x s port up old new → CountsFromZero new
+counted_senses : (x : WorldSetup) (s : Side) (port : Option ℕ) (up : Bool) (old new : World) → CountsFromZero old
+    → SensesCable x s port up old new → CountsFromZero new
 counted_senses x s None up old new h z = absurd z
 counted_senses x s (Some p) up old new h z = counted_call x s (ModelCall.Set_link p up) 0 old old new h z
 

@@ -1,55 +1,70 @@
 -- Every event preserves the facts of two systems, and so does every run.
-use Rattle.std.proofs.Common.{◌≡◌, ◌≢◌, ℕ, suc, Bool, true, false, Option, Some, None, List, [], ◌∷◌, ◌++◌, sym, refl, ap, ◌∙◌, subst, ◌⊎◌, inl, inr}
+use Rattle.std.proofs.Common.{◌≡◌, ◌≢◌, ℕ, suc, Bool, true, false, Option, Some, None, List, [], ◌∷◌, ◌++◌, sym, refl, ap, ◌∙◌, subst}
+use Rattle.std.proofs.Common.{◌⊎◌, inl, inr}
 use Rattle.std.proofs.lemmas.Bool.{true≢false, false≢true}
 use Rattle.lagtypes.specs.declared.party.Party.{Party}
-use Rattle.lagmodel.specs.View.{View, SystemSetup, IsSystemSetup, first_view, ControlMessage, ModelCall, Receive, Set_link, Tick, Configure, Transmit, Offer, Move_conversation, Force, Restart, is_restart}
+use Rattle.lagmodel.specs.View.{View, SystemSetup, IsSystemSetup, first_view, ControlMessage, ModelCall, Receive, Set_link, Tick}
+use Rattle.lagmodel.specs.View.{Configure, Transmit, Offer, Move_conversation, Force, Restart, is_restart}
 use Rattle.lagmodel.specs.Move.{Move}
-use Rattle.lagmodel.specs.World.{Side, One, Two, peer, at_side, at_two, at_cable, Message, Control, Data, end_at, TakenLacpdu, World, WorldSetup, IsWorldSetup, first_world, party_at, AllMoves, world_after_all, CountsChanges, CallHappens, Event, with_messages, handed_up, DeliversFirst, RepeatsFirst, LosesFirst, SensesCable, Happens, Run}
+use Rattle.lagmodel.specs.World.{Side, One, Two, peer, at_side, at_two, at_cable, Message, Control, Data, end_at, TakenLacpdu, World}
+use Rattle.lagmodel.specs.World.{WorldSetup, IsWorldSetup, first_world, party_at, AllMoves, world_after_all, CountsChanges, CallHappens}
+use Rattle.lagmodel.specs.World.{Event, with_messages, handed_up, DeliversFirst, RepeatsFirst, LosesFirst, SensesCable, Happens, Run}
 use Rattle.lagmodel.proofs.Lines.{IsFrom, Every}
 use Rattle.lagmodel.proofs.Ports.{members_first}
 use Rattle.lagmodel.proofs.Lanes.{Lanes, two_cases}
-use Rattle.lagmodel.proofs.LaneMoves.{Within, lanes_out_taken, lanes_back_taken, lanes_handed, lanes_forced, lanes_cut, lanes_joined, lanes_emptied, lanes_restarted, lanes_first}
+use Rattle.lagmodel.proofs.LaneMoves.{Within, lanes_out_taken, lanes_back_taken, lanes_handed, lanes_forced, lanes_cut, lanes_joined}
+use Rattle.lagmodel.proofs.LaneMoves.{lanes_emptied, lanes_restarted, lanes_first}
 use Rattle.lagmodel.proofs.Stamps.{heard_first, stamps_out_taken, stamps_cut, stamps_emptied, stamps_counted, stamps_first, Stamps}
 use Rattle.lagmodel.proofs.Worlds.{Half, Lawful, Calling, calling_all}
 
 -- what is left on the cables: all, or all but the first message of one
 abbrev pub Popped : (ℕ → List Message) → (ℕ → List Message) → Type 0
-Popped towards base = (towards ≡ base) ⊎ ((c : ℕ) × (m : Message) × (ms : List Message) × (towards c ≡ m ∷ ms) × (base ≡ at_cable towards c ms))
+Popped towards base = (towards ≡ base) ⊎ ((c : ℕ) × (m : Message) × (ms : List Message) × (towards c ≡ m ∷ ms)
+    × (base ≡ at_cable towards c ms))
 
-half_back : (u : SystemSetup) (me : Side) (ends theirs : ℕ → Option ℕ) (v : View) (party : ℕ → Option Party) (count : ℕ → ℕ) (out back base : ℕ → List Message) (whole : ℕ → Bool)
+half_back : (u : SystemSetup) (me : Side) (ends theirs : ℕ → Option ℕ) (v : View) (party : ℕ → Option Party) (count : ℕ
+    → ℕ) (out back base : ℕ → List Message) (whole : ℕ → Bool)
     (sent collected : ℕ → ℕ → List ℕ) (forced : ℕ → ℕ → Bool) (taken their_taken : ℕ → Option TakenLacpdu) → Popped back base
-    → Half u me ends theirs v party count out back whole sent collected forced taken their_taken → Half u me ends theirs v party count out base whole sent collected forced taken their_taken
+    → Half u me ends theirs v party count out back whole sent collected forced taken their_taken
+    → Half u me ends theirs v party count out base whole sent collected forced taken their_taken
 half_back u me ends theirs v party count out back base whole sent collected forced taken their_taken p i = record {
   members = i.members;
   stamps = i.stamps;
   heard = i.heard;
   lanes = elim p [
     | inl e ↦ subst (λ l. Lanes me ends v.flows out l whole sent collected forced) e i.lanes
-    | inr x ↦ subst (λ l. Lanes me ends v.flows out l whole sent collected forced) (sym x.4) (lanes_back_taken me ends whole sent collected forced v.flows out back x.0 x.1 x.2 x.3 i.lanes)
+    | inr x ↦ subst (λ l. Lanes me ends v.flows out l whole sent collected forced) (sym x.4)
+        (lanes_back_taken me ends whole sent collected forced v.flows out back x.0 x.1 x.2 x.3 i.lanes)
   ];
 }
 
-half_out : (u : SystemSetup) (me : Side) (ends theirs : ℕ → Option ℕ) (v : View) (party : ℕ → Option Party) (count : ℕ → ℕ) (out back base : ℕ → List Message) (whole : ℕ → Bool)
+half_out : (u : SystemSetup) (me : Side) (ends theirs : ℕ → Option ℕ) (v : View) (party : ℕ → Option Party) (count : ℕ
+    → ℕ) (out back base : ℕ → List Message) (whole : ℕ → Bool)
     (sent collected : ℕ → ℕ → List ℕ) (forced : ℕ → ℕ → Bool) (taken their_taken : ℕ → Option TakenLacpdu) → Popped out base
-    → Half u me ends theirs v party count out back whole sent collected forced taken their_taken → Half u me ends theirs v party count base back whole sent collected forced taken their_taken
+    → Half u me ends theirs v party count out back whole sent collected forced taken their_taken
+    → Half u me ends theirs v party count base back whole sent collected forced taken their_taken
 half_out u me ends theirs v party count out back base whole sent collected forced taken their_taken p i = record {
   members = i.members;
   heard = i.heard;
   stamps = elim p [
     | inl e ↦ subst (λ l. Stamps ends theirs party count l their_taken) e i.stamps
-    | inr x ↦ subst (λ l. Stamps ends theirs party count l their_taken) (sym x.4) (stamps_out_taken ends theirs party count out their_taken x.0 x.1 x.2 x.3 i.stamps)
+    | inr x ↦ subst (λ l. Stamps ends theirs party count l their_taken) (sym x.4)
+        (stamps_out_taken ends theirs party count out their_taken x.0 x.1 x.2 x.3 i.stamps)
   ];
   lanes = elim p [
     | inl e ↦ subst (λ l. Lanes me ends v.flows l back whole sent collected forced) e i.lanes
-    | inr x ↦ subst (λ l. Lanes me ends v.flows l back whole sent collected forced) (sym x.4) (lanes_out_taken me ends whole sent collected forced v.flows out back x.0 x.1 x.2 x.3 i.lanes)
+    | inr x ↦ subst (λ l. Lanes me ends v.flows l back whole sent collected forced) (sym x.4)
+        (lanes_out_taken me ends whole sent collected forced v.flows out back x.0 x.1 x.2 x.3 i.lanes)
   ];
 }
 
 -- the change counts at the end of an event
-half_counted : (u : SystemSetup) (me : Side) (ends theirs : ℕ → Option ℕ) (v : View) (was : ℕ → Option Party) (old new : ℕ → ℕ) (out back : ℕ → List Message) (whole : ℕ → Bool)
+half_counted : (u : SystemSetup) (me : Side) (ends theirs : ℕ → Option ℕ) (v : View) (was : ℕ → Option Party) (old new : ℕ
+    → ℕ) (out back : ℕ → List Message) (whole : ℕ → Bool)
     (sent collected : ℕ → ℕ → List ℕ) (forced : ℕ → ℕ → Bool) (taken their_taken : ℕ → Option TakenLacpdu)
     → ((p : ℕ) → ((party_at v p ≡ was p) × (new p ≡ old p)) ⊎ ((party_at v p ≢ was p) × (new p ≡ suc (old p))))
-    → Half u me ends theirs v was old out back whole sent collected forced taken their_taken → Half u me ends theirs v (party_at v) new out back whole sent collected forced taken their_taken
+    → Half u me ends theirs v was old out back whole sent collected forced taken their_taken
+    → Half u me ends theirs v (party_at v) new out back whole sent collected forced taken their_taken
 half_counted u me ends theirs v was old new out back whole sent collected forced taken their_taken h i = record {
   members = i.members;
   lanes = i.lanes;
@@ -58,41 +73,56 @@ half_counted u me ends theirs v was old new out back whole sent collected forced
 }
 
 -- the end of a call
-ended : (x : WorldSetup) (s : Side) (call : ModelCall) (stamp : ℕ) (party : Side → ℕ → Option Party) (old new : Side → ℕ → ℕ) (towards base : ℕ → List Message) (w : World)
-    → Popped towards base → ((t : Side) (p : ℕ) → ((party_at (w.view t) p ≡ party t p) × (new t p ≡ old t p)) ⊎ ((party_at (w.view t) p ≢ party t p) × (new t p ≡ suc (old t p))))
+ended : (x : WorldSetup) (s : Side) (call : ModelCall) (stamp : ℕ) (party : Side → ℕ → Option Party) (old new : Side → ℕ
+    → ℕ) (towards base : ℕ → List Message) (w : World)
+    → Popped towards base → ((t : Side) (p : ℕ) → ((party_at (w.view t) p ≡ party t p) × (new t p ≡ old t p))
+    ⊎ ((party_at (w.view t) p ≢ party t p) × (new t p ≡ suc (old t p))))
     → Calling x s call stamp party old towards base w → Lawful x (record w { count = new })
 ended x One call stamp party old new towards base w p h i One =
     half_counted _ One _ _ (w.view One) (party One) (w.count One) (new One) _ _ _ _ _ _ _ _
-    (subst (λ (n : Side → ℕ → ℕ). (p : ℕ) → ((party_at (w.view One) p ≡ party One p) × (new One p ≡ n One p)) ⊎ ((party_at (w.view One) p ≢ party One p) × (new One p ≡ suc (n One p)))) (sym i.counts) (h One))
-    (subst (λ l. Half (x.setup One) One (end_at x.cables One) (end_at x.cables Two) (w.view One) (party One) (w.count One) (w.on_cable Two) l w.whole (w.sent One) (w.collected One) (w.forced One) (w.taken One) (w.taken Two)) (sym i.rest)
+    (subst (λ (n : Side → ℕ → ℕ). (p : ℕ) → ((party_at (w.view One) p ≡ party One p) × (new One p ≡ n One p))
+    ⊎ ((party_at (w.view One) p ≢ party One p) × (new One p ≡ suc (n One p)))) (sym i.counts) (h One))
+    (subst (λ l. Half (x.setup One) One (end_at x.cables One) (end_at x.cables Two) (w.view One) (party One) (w.count One)
+    (w.on_cable Two) l w.whole (w.sent One) (w.collected One) (w.forced One) (w.taken One) (w.taken Two)) (sym i.rest)
     (half_back _ One _ _ _ _ _ _ towards base _ _ _ _ _ _ p i.own))
 ended x One call stamp party old new towards base w p h i Two =
     half_counted _ Two _ _ (w.view Two) (party Two) (w.count Two) (new Two) _ _ _ _ _ _ _ _
-    (subst (λ (n : Side → ℕ → ℕ). (p : ℕ) → ((party_at (w.view Two) p ≡ party Two p) × (new Two p ≡ n Two p)) ⊎ ((party_at (w.view Two) p ≢ party Two p) × (new Two p ≡ suc (n Two p)))) (sym i.counts) (h Two))
-    (subst (λ l. Half (x.setup Two) Two (end_at x.cables Two) (end_at x.cables One) (w.view Two) (party Two) (w.count Two) l (w.on_cable Two) w.whole (w.sent Two) (w.collected Two) (w.forced Two) (w.taken Two) (w.taken One)) (sym i.rest)
+    (subst (λ (n : Side → ℕ → ℕ). (p : ℕ) → ((party_at (w.view Two) p ≡ party Two p) × (new Two p ≡ n Two p))
+    ⊎ ((party_at (w.view Two) p ≢ party Two p) × (new Two p ≡ suc (n Two p)))) (sym i.counts) (h Two))
+    (subst (λ l. Half (x.setup Two) Two (end_at x.cables Two) (end_at x.cables One) (w.view Two) (party Two) (w.count Two) l
+    (w.on_cable Two) w.whole (w.sent Two) (w.collected Two) (w.forced Two) (w.taken Two) (w.taken One)) (sym i.rest)
     (half_out _ Two _ _ _ _ _ towards _ base _ _ _ _ _ _ p i.other))
 ended x Two call stamp party old new towards base w p h i Two =
     half_counted _ Two _ _ (w.view Two) (party Two) (w.count Two) (new Two) _ _ _ _ _ _ _ _
-    (subst (λ (n : Side → ℕ → ℕ). (p : ℕ) → ((party_at (w.view Two) p ≡ party Two p) × (new Two p ≡ n Two p)) ⊎ ((party_at (w.view Two) p ≢ party Two p) × (new Two p ≡ suc (n Two p)))) (sym i.counts) (h Two))
-    (subst (λ l. Half (x.setup Two) Two (end_at x.cables Two) (end_at x.cables One) (w.view Two) (party Two) (w.count Two) (w.on_cable One) l w.whole (w.sent Two) (w.collected Two) (w.forced Two) (w.taken Two) (w.taken One)) (sym i.rest)
+    (subst (λ (n : Side → ℕ → ℕ). (p : ℕ) → ((party_at (w.view Two) p ≡ party Two p) × (new Two p ≡ n Two p))
+    ⊎ ((party_at (w.view Two) p ≢ party Two p) × (new Two p ≡ suc (n Two p)))) (sym i.counts) (h Two))
+    (subst (λ l. Half (x.setup Two) Two (end_at x.cables Two) (end_at x.cables One) (w.view Two) (party Two) (w.count Two)
+    (w.on_cable One) l w.whole (w.sent Two) (w.collected Two) (w.forced Two) (w.taken Two) (w.taken One)) (sym i.rest)
     (half_back _ Two _ _ _ _ _ _ towards base _ _ _ _ _ _ p i.own))
 ended x Two call stamp party old new towards base w p h i One =
     half_counted _ One _ _ (w.view One) (party One) (w.count One) (new One) _ _ _ _ _ _ _ _
-    (subst (λ (n : Side → ℕ → ℕ). (p : ℕ) → ((party_at (w.view One) p ≡ party One p) × (new One p ≡ n One p)) ⊎ ((party_at (w.view One) p ≢ party One p) × (new One p ≡ suc (n One p)))) (sym i.counts) (h One))
-    (subst (λ l. Half (x.setup One) One (end_at x.cables One) (end_at x.cables Two) (w.view One) (party One) (w.count One) l (w.on_cable One) w.whole (w.sent One) (w.collected One) (w.forced One) (w.taken One) (w.taken Two)) (sym i.rest)
+    (subst (λ (n : Side → ℕ → ℕ). (p : ℕ) → ((party_at (w.view One) p ≡ party One p) × (new One p ≡ n One p))
+    ⊎ ((party_at (w.view One) p ≢ party One p) × (new One p ≡ suc (n One p)))) (sym i.counts) (h One))
+    (subst (λ l. Half (x.setup One) One (end_at x.cables One) (end_at x.cables Two) (w.view One) (party One) (w.count One) l
+    (w.on_cable One) w.whole (w.sent One) (w.collected One) (w.forced One) (w.taken One) (w.taken Two)) (sym i.rest)
     (half_out _ One _ _ _ _ _ towards _ base _ _ _ _ _ _ p i.other))
 
 -- a whole call
-call_kept : (x : WorldSetup) (s : Side) (call : ModelCall) (stamp : ℕ) (party : Side → ℕ → Option Party) (old : Side → ℕ → ℕ) (towards base : ℕ → List Message) (mid new : World)
+call_kept : (x : WorldSetup) (s : Side) (call : ModelCall) (stamp : ℕ) (party : Side → ℕ → Option Party) (old : Side → ℕ
+    → ℕ) (towards base : ℕ → List Message) (mid new : World)
     → Popped towards base → Calling x s call stamp party old towards base mid
     → (moves : List (Move × Bool)) → AllMoves x s call stamp moves mid
-    → (count : Side → ℕ → ℕ) → ((t : Side) (p : ℕ) → ((party_at ((world_after_all x s stamp moves mid).view t) p ≡ party t p) × (count t p ≡ old t p)) ⊎ ((party_at ((world_after_all x s stamp moves mid).view t) p ≢ party t p) × (count t p ≡ suc (old t p))))
+    → (count : Side → ℕ → ℕ)
+    → ((t : Side) (p : ℕ) → ((party_at ((world_after_all x s stamp moves mid).view t) p ≡ party t p) × (count t p ≡ old t p))
+    ⊎ ((party_at ((world_after_all x s stamp moves mid).view t) p ≢ party t p) × (count t p ≡ suc (old t p))))
     → new ≡ record (world_after_all x s stamp moves mid) { count = count } → Lawful x new
 call_kept x s call stamp party old towards base mid new p i moves a count h e =
-    subst (Lawful x) (sym e) (ended x s call stamp party old count towards base (world_after_all x s stamp moves mid) p h (calling_all x s call stamp party old towards base moves mid a i))
+    subst (Lawful x) (sym e) (ended x s call stamp party old count towards base (world_after_all x s stamp moves mid) p h
+    (calling_all x s call stamp party old towards base moves mid a i))
 
 -- the start of a call, at which nothing was taken away
-started : (x : WorldSetup) (s : Side) (call : ModelCall) (stamp : ℕ) (w : World) → Lawful x w → Within call stamp (end_at x.cables s) (w.on_cable s) w.whole (w.forced s)
+started : (x : WorldSetup) (s : Side) (call : ModelCall) (stamp : ℕ) (w : World) → Lawful x w
+    → Within call stamp (end_at x.cables s) (w.on_cable s) w.whole (w.forced s)
     → Calling x s call stamp (λ t. party_at (w.view t)) w.count (w.on_cable s) (w.on_cable s) w
 started x One call stamp w i h = record { within = h; parties = λ r p. refl; own = i One; other = i Two; counts = refl; rest = refl }
 started x Two call stamp w i h = record { within = h; parties = λ r p. refl; own = i Two; other = i One; counts = refl; rest = refl }
@@ -124,7 +154,8 @@ quiet-running Move_conversation h = refl
 quiet_not : (call other : ModelCall) → quiet call ≡ true → quiet other ≡ false → call ≡ other → ⊥
 quiet_not call other h n e = true≢false (sym h ∙ ap quiet e ∙ n)
 
-within_quiet : (call : ModelCall) (stamp : ℕ) (ends : ℕ → Option ℕ) (back : ℕ → List Message) (whole : ℕ → Bool) (forced : ℕ → ℕ → Bool) → quiet call ≡ true → Within call stamp ends back whole forced
+within_quiet : (call : ModelCall) (stamp : ℕ) (ends : ℕ → Option ℕ) (back : ℕ → List Message) (whole : ℕ → Bool) (forced : ℕ → ℕ → Bool)
+    → quiet call ≡ true → Within call stamp ends back whole forced
 within_quiet call stamp ends back whole forced h = record {
   running = quiet-running call h;
   came = λ p pdu e. absurd (quiet_not call (Receive p (Some pdu)) h refl e);
@@ -150,8 +181,10 @@ link_force p g k a e = cc
 force_parts : (g k h j : ℕ) → Force g k ≡ Force h j → (g ≡ h) × (k ≡ j)
 force_parts g k h j e = (cc, cc)
 
-within_receive : (p : ℕ) (pdu : ControlMessage) (stamp : ℕ) (ends : ℕ → Option ℕ) (back : ℕ → List Message) (whole : ℕ → Bool) (forced : ℕ → ℕ → Bool) (c : ℕ) (ms : List Message)
-    → ((c d p : ℕ) → ends c ≡ Some p → ends d ≡ Some p → c ≡ d) → ends c ≡ Some p → back c ≡ Control pdu stamp ∷ ms → Within (Receive p (Some pdu)) stamp ends back whole forced
+within_receive : (p : ℕ) (pdu : ControlMessage) (stamp : ℕ) (ends : ℕ → Option ℕ) (back : ℕ → List Message) (whole : ℕ → Bool) (forced : ℕ
+    → ℕ → Bool) (c : ℕ) (ms : List Message)
+    → ((c d p : ℕ) → ends c ≡ Some p → ends d ≡ Some p → c ≡ d) → ends c ≡ Some p → back c ≡ Control pdu stamp ∷ ms
+    → Within (Receive p (Some pdu)) stamp ends back whole forced
 within_receive p pdu stamp ends back whole forced c ms one there first = record {
   running = refl;
   came = λ q other e d h.
@@ -163,18 +196,25 @@ within_receive p pdu stamp ends back whole forced c ms one there first = record 
 }
 
 -- the first message of a list is taken away
-lawful_popped : (x : WorldSetup) (w : World) (c : ℕ) (to : Side) (m : Message) (ms : List Message) → w.on_cable to c ≡ m ∷ ms → Lawful x w → Lawful x (with_messages w c to ms)
-lawful_popped x w c One m ms e i One = half_back _ One _ _ _ _ _ _ (w.on_cable One) (at_cable (w.on_cable One) c ms) _ _ _ _ _ _ (inr (c, m, ms, e, refl)) (i One)
-lawful_popped x w c One m ms e i Two = half_out _ Two _ _ _ _ _ (w.on_cable One) _ (at_cable (w.on_cable One) c ms) _ _ _ _ _ _ (inr (c, m, ms, e, refl)) (i Two)
-lawful_popped x w c Two m ms e i Two = half_back _ Two _ _ _ _ _ _ (w.on_cable Two) (at_cable (w.on_cable Two) c ms) _ _ _ _ _ _ (inr (c, m, ms, e, refl)) (i Two)
-lawful_popped x w c Two m ms e i One = half_out _ One _ _ _ _ _ (w.on_cable Two) _ (at_cable (w.on_cable Two) c ms) _ _ _ _ _ _ (inr (c, m, ms, e, refl)) (i One)
+lawful_popped : (x : WorldSetup) (w : World) (c : ℕ) (to : Side) (m : Message) (ms : List Message) → w.on_cable to c ≡ m ∷ ms → Lawful x w
+    → Lawful x (with_messages w c to ms)
+lawful_popped x w c One m ms e i One = half_back _ One _ _ _ _ _ _ (w.on_cable One) (at_cable (w.on_cable One) c ms) _ _ _ _ _ _
+    (inr (c, m, ms, e, refl)) (i One)
+lawful_popped x w c One m ms e i Two = half_out _ Two _ _ _ _ _ (w.on_cable One) _ (at_cable (w.on_cable One) c ms) _ _ _ _ _ _
+    (inr (c, m, ms, e, refl)) (i Two)
+lawful_popped x w c Two m ms e i Two = half_back _ Two _ _ _ _ _ _ (w.on_cable Two) (at_cable (w.on_cable Two) c ms) _ _ _ _ _ _
+    (inr (c, m, ms, e, refl)) (i Two)
+lawful_popped x w c Two m ms e i One = half_out _ One _ _ _ _ _ (w.on_cable Two) _ (at_cable (w.on_cable Two) c ms) _ _ _ _ _ _
+    (inr (c, m, ms, e, refl)) (i One)
 
 -- and handed up
-half_handed : (u : SystemSetup) (me : Side) (ends theirs : ℕ → Option ℕ) (v : View) (party : ℕ → Option Party) (count : ℕ → ℕ) (out back : ℕ → List Message) (whole : ℕ → Bool)
+half_handed : (u : SystemSetup) (me : Side) (ends theirs : ℕ → Option ℕ) (v : View) (party : ℕ → Option Party) (count : ℕ → ℕ) (out back : ℕ
+    → List Message) (whole : ℕ → Bool)
     (sent collected : ℕ → ℕ → List ℕ) (forced : ℕ → ℕ → Bool) (taken their_taken : ℕ → Option TakenLacpdu) (c g k n : ℕ) (ms : List Message)
     → ((c d p : ℕ) → ends c ≡ Some p → ends d ≡ Some p → c ≡ d) → out c ≡ Data me g k n ∷ ms
     → Half u me ends theirs v party count out back whole sent collected forced taken their_taken
-    → Half u me ends theirs v party count (at_cable out c ms) back whole sent (at_two collected g k (collected g k ++ n ∷ [])) forced taken their_taken
+    → Half u me ends theirs v party count (at_cable out c ms) back whole sent (at_two collected g k (collected g k ++ n ∷ []))
+    forced taken their_taken
 half_handed u me ends theirs v party count out back whole sent collected forced taken their_taken c g k n ms one e i = record {
   members = i.members;
   heard = i.heard;
@@ -182,68 +222,108 @@ half_handed u me ends theirs v party count out back whole sent collected forced 
   lanes = lanes_handed me ends whole sent collected forced v.flows out back c g k n ms one e i.lanes;
 }
 
-lawful_handed : (x : WorldSetup) (w : World) (c : ℕ) (to : Side) (g k n : ℕ) (ms : List Message) → IsWorldSetup x → w.on_cable to c ≡ Data (peer to) g k n ∷ ms → Lawful x w
+lawful_handed : (x : WorldSetup) (w : World) (c : ℕ) (to : Side) (g k n : ℕ) (ms : List Message) → IsWorldSetup x
+    → w.on_cable to c ≡ Data (peer to) g k n ∷ ms → Lawful x w
     → Lawful x (handed_up true (Data (peer to) g k n) (with_messages w c to ms))
-lawful_handed x w c One g k n ms f e i One = half_back _ One _ _ _ _ _ _ (w.on_cable One) (at_cable (w.on_cable One) c ms) _ _ _ _ _ _ (inr (c, Data Two g k n, ms, e, refl)) (i One)
-lawful_handed x w c One g k n ms f e i Two = half_handed _ Two _ _ _ _ _ (w.on_cable One) _ _ _ (w.collected Two) _ _ _ c g k n ms (f.cables Two) e (i Two)
-lawful_handed x w c Two g k n ms f e i Two = half_back _ Two _ _ _ _ _ _ (w.on_cable Two) (at_cable (w.on_cable Two) c ms) _ _ _ _ _ _ (inr (c, Data One g k n, ms, e, refl)) (i Two)
-lawful_handed x w c Two g k n ms f e i One = half_handed _ One _ _ _ _ _ (w.on_cable Two) _ _ _ (w.collected One) _ _ _ c g k n ms (f.cables One) e (i One)
+lawful_handed x w c One g k n ms f e i One = half_back _ One _ _ _ _ _ _ (w.on_cable One) (at_cable (w.on_cable One) c ms) _ _ _ _ _ _
+    (inr (c, Data Two g k n, ms, e, refl)) (i One)
+lawful_handed x w c One g k n ms f e i Two = half_handed _ Two _ _ _ _ _ (w.on_cable One) _ _ _ (w.collected Two) _ _ _ c g k n ms
+    (f.cables Two) e (i Two)
+lawful_handed x w c Two g k n ms f e i Two = half_back _ Two _ _ _ _ _ _ (w.on_cable Two) (at_cable (w.on_cable Two) c ms) _ _ _ _ _ _
+    (inr (c, Data One g k n, ms, e, refl)) (i Two)
+lawful_handed x w c Two g k n ms f e i One = half_handed _ One _ _ _ _ _ (w.on_cable Two) _ _ _ (w.collected One) _ _ _ c g k n ms
+    (f.cables One) e (i One)
 
-lawful_up : (x : WorldSetup) (w : World) (c : ℕ) (to origin : Side) (g k n : ℕ) (ms : List Message) → IsWorldSetup x → origin ≡ peer to → w.on_cable to c ≡ Data origin g k n ∷ ms → Lawful x w
+lawful_up : (x : WorldSetup) (w : World) (c : ℕ) (to origin : Side) (g k n : ℕ) (ms : List Message) → IsWorldSetup x → origin ≡ peer to
+    → w.on_cable to c ≡ Data origin g k n ∷ ms → Lawful x w
     → Lawful x (handed_up true (Data origin g k n) (with_messages w c to ms))
 lawful_up x w c to origin g k n ms f o e i =
-    subst (λ origin. w.on_cable to c ≡ Data origin g k n ∷ ms → Lawful x (handed_up true (Data origin g k n) (with_messages w c to ms))) (sym o)
+    subst (λ origin. w.on_cable to c ≡ Data origin g k n ∷ ms → Lawful x (handed_up true (Data origin g k n) (with_messages w c to ms)))
+    (sym o)
     (λ e. lawful_handed x w c to g k n ms f e i) e
 
 -- frames come from the peer
-from_peer : (x : WorldSetup) (w : World) (c : ℕ) (to origin : Side) (g k n : ℕ) (ms : List Message) → w.on_cable to c ≡ Data origin g k n ∷ ms → Lawful x w → origin ≡ peer to
+from_peer : (x : WorldSetup) (w : World) (c : ℕ) (to origin : Side) (g k n : ℕ) (ms : List Message) → w.on_cable to c ≡ Data origin g k n
+    ∷ ms → Lawful x w → origin ≡ peer to
 from_peer x w c One origin g k n ms e i = (subst (Every (IsFrom Two)) e ((i Two).lanes.origin c)).0
 from_peer x w c Two origin g k n ms e i = (subst (Every (IsFrom One)) e ((i One).lanes.origin c)).0
 
 -- a control PDU comes, and is taken from its list first
-started_popped : (x : WorldSetup) (w : World) (c : ℕ) (to : Side) (p : ℕ) (pdu : ControlMessage) (stamp : ℕ) (ms : List Message) → IsWorldSetup x → end_at x.cables to c ≡ Some p → w.on_cable to c ≡ Control pdu stamp ∷ ms → Lawful x w
-    → Calling x to (Receive p (Some pdu)) stamp (λ t. party_at (w.view t)) w.count (w.on_cable to) (at_cable (w.on_cable to) c ms) (with_messages w c to ms)
-started_popped x w c One p pdu stamp ms f h e i = record { within = within_receive p pdu stamp _ _ _ _ c ms (f.cables One) h e; parties = λ r p. refl; own = i One; other = i Two; counts = refl; rest = refl }
-started_popped x w c Two p pdu stamp ms f h e i = record { within = within_receive p pdu stamp _ _ _ _ c ms (f.cables Two) h e; parties = λ r p. refl; own = i Two; other = i One; counts = refl; rest = refl }
+started_popped : (x : WorldSetup) (w : World) (c : ℕ) (to : Side) (p : ℕ) (pdu : ControlMessage) (stamp : ℕ) (ms : List Message)
+    → IsWorldSetup x → end_at x.cables to c ≡ Some p → w.on_cable to c ≡ Control pdu stamp ∷ ms → Lawful x w
+    → Calling x to (Receive p (Some pdu)) stamp (λ t. party_at (w.view t)) w.count (w.on_cable to) (at_cable (w.on_cable to) c ms)
+    (with_messages w c to ms)
+started_popped x w c One p pdu stamp ms f h e i = record {
+  within = within_receive p pdu stamp _ _ _ _ c ms (f.cables One) h e;
+  parties =
+      λ r p. refl;
+  own = i One;
+  other = i Two;
+  counts = refl;
+  rest = refl;
+}
+started_popped x w c Two p pdu stamp ms f h e i = record {
+  within = within_receive p pdu stamp _ _ _ _ c ms (f.cables Two) h e;
+  parties =
+      λ r p. refl;
+  own = i Two;
+  other = i One;
+  counts = refl;
+  rest = refl;
+}
 
-pub comes_kept : (x : WorldSetup) (c : ℕ) (to : Side) (port : Option ℕ) (on_cable : List Message) (old new : World) → IsWorldSetup x → Lawful x old → end_at x.cables to c ≡ port → old.on_cable to c ≡ on_cable → DeliversFirst x c to port on_cable old new → Lawful x new
+pub comes_kept : (x : WorldSetup) (c : ℕ) (to : Side) (port : Option ℕ) (on_cable : List Message) (old new : World) → IsWorldSetup x
+    → Lawful x old → end_at x.cables to c ≡ port → old.on_cable to c ≡ on_cable → DeliversFirst x c to port on_cable old new → Lawful x new
 comes_kept x c to port [] old new f i h e z = subst (Lawful x) (sym z) i
 comes_kept x c to None (m ∷ ms) old new f i h e z = absurd z
 comes_kept x c to (Some p) (Control pdu stamp ∷ ms) old new f i h e z =
-    call_kept x to (Receive p (Some pdu)) stamp (λ t. party_at (old.view t)) old.count (old.on_cable to) (at_cable (old.on_cable to) c ms) (with_messages old c to ms) new
+    call_kept x to (Receive p (Some pdu)) stamp (λ t. party_at (old.view t)) old.count (old.on_cable to) (at_cable (old.on_cable to) c ms)
+    (with_messages old c to ms) new
     (inr (c, Control pdu stamp, ms, e, refl)) (started_popped x old c to p pdu stamp ms f h e i) z.0 z.1 z.2.0 z.2.1 z.2.2
 comes_kept x c to (Some p) (Data origin g k n ∷ ms) old new f i h e z = go z.0 z.1
   where
-    go : (up : Bool) → CallHappens x to (Receive p None) 0 old (handed_up up (Data origin g k n) (with_messages old c to ms)) new → Lawful x new
+    go : (up : Bool) → CallHappens x to (Receive p None) 0 old (handed_up up (Data origin g k n) (with_messages old c to ms)) new
+        → Lawful x new
     go true y =
-        call_kept x to (Receive p None) 0 (λ t. party_at (old.view t)) old.count _ _ (handed_up true (Data origin g k n) (with_messages old c to ms)) new
-        (inl refl) (started x to (Receive p None) 0 (handed_up true (Data origin g k n) (with_messages old c to ms)) (lawful_up x old c to origin g k n ms f (from_peer x old c to origin g k n ms e i) e i) (within_quiet _ 0 _ _ _ _ refl)) y.0 y.1 y.2.0 y.2.1 y.2.2
+        call_kept x to (Receive p None) 0 (λ t. party_at (old.view t)) old.count _ _
+        (handed_up true (Data origin g k n) (with_messages old c to ms)) new
+        (inl refl) (started x to (Receive p None) 0 (handed_up true (Data origin g k n) (with_messages old c to ms))
+        (lawful_up x old c to origin g k n ms f (from_peer x old c to origin g k n ms e i) e i) (within_quiet _ 0 _ _ _ _ refl))
+        y.0 y.1 y.2.0 y.2.1 y.2.2
     go false y =
         call_kept x to (Receive p None) 0 (λ t. party_at (old.view t)) old.count _ _ (with_messages old c to ms) new
-        (inl refl) (started x to (Receive p None) 0 (with_messages old c to ms) (lawful_popped x old c to (Data origin g k n) ms e i) (within_quiet _ 0 _ _ _ _ refl)) y.0 y.1 y.2.0 y.2.1 y.2.2
+        (inl refl) (started x to (Receive p None) 0 (with_messages old c to ms) (lawful_popped x old c to (Data origin g k n) ms e i)
+        (within_quiet _ 0 _ _ _ _ refl)) y.0 y.1 y.2.0 y.2.1 y.2.2
 
-pub comes_again_kept : (x : WorldSetup) (c : ℕ) (to : Side) (port : Option ℕ) (on_cable : List Message) (old new : World) → IsWorldSetup x → Lawful x old → end_at x.cables to c ≡ port → old.on_cable to c ≡ on_cable → RepeatsFirst x c to port on_cable old new → Lawful x new
+pub comes_again_kept : (x : WorldSetup) (c : ℕ) (to : Side) (port : Option ℕ) (on_cable : List Message) (old new : World) → IsWorldSetup x
+    → Lawful x old → end_at x.cables to c ≡ port → old.on_cable to c ≡ on_cable → RepeatsFirst x c to port on_cable old new → Lawful x new
 comes_again_kept x c to port [] old new f i h e z = subst (Lawful x) (sym z) i
 comes_again_kept x c to port (Data origin g k n ∷ ms) old new f i h e z = subst (Lawful x) (sym z) i
 comes_again_kept x c to None (Control pdu stamp ∷ ms) old new f i h e z = absurd z
 comes_again_kept x c to (Some p) (Control pdu stamp ∷ ms) old new f i h e z =
     call_kept x to (Receive p (Some pdu)) stamp (λ t. party_at (old.view t)) old.count (old.on_cable to) (old.on_cable to) old new
-    (inl refl) (started x to (Receive p (Some pdu)) stamp old i (within_receive p pdu stamp _ _ _ _ c ms (f.cables to) h e)) z.0 z.1 z.2.0 z.2.1 z.2.2
+    (inl refl) (started x to (Receive p (Some pdu)) stamp old i (within_receive p pdu stamp _ _ _ _ c ms (f.cables to) h e))
+    z.0 z.1 z.2.0 z.2.1 z.2.2
 
-lost_kept : (x : WorldSetup) (c : ℕ) (to : Side) (on_cable : List Message) (old new : World) → Lawful x old → old.on_cable to c ≡ on_cable → LosesFirst c to on_cable old new → Lawful x new
+lost_kept : (x : WorldSetup) (c : ℕ) (to : Side) (on_cable : List Message) (old new : World) → Lawful x old → old.on_cable to c ≡ on_cable
+    → LosesFirst c to on_cable old new → Lawful x new
 lost_kept x c to [] old new i e z = subst (Lawful x) (sym z) i
 lost_kept x c to (m ∷ ms) old new i e z = subst (Lawful x) (sym z) (lawful_popped x old c to m ms e i)
 
 -- a call that needs nothing known
-quiet_kept : (x : WorldSetup) (s : Side) (call : ModelCall) (old new : World) → quiet call ≡ true → Lawful x old → CallHappens x s call 0 old old new → Lawful x new
+quiet_kept : (x : WorldSetup) (s : Side) (call : ModelCall) (old new : World) → quiet call ≡ true → Lawful x old
+    → CallHappens x s call 0 old old new → Lawful x new
 quiet_kept x s call old new q i z =
-    call_kept x s call 0 (λ t. party_at (old.view t)) old.count (old.on_cable s) (old.on_cable s) old new (inl refl) (started x s call 0 old i (within_quiet call 0 _ _ _ _ q)) z.0 z.1 z.2.0 z.2.1 z.2.2
+    call_kept x s call 0 (λ t. party_at (old.view t)) old.count (old.on_cable s) (old.on_cable s) old new (inl refl)
+    (started x s call 0 old i (within_quiet call 0 _ _ _ _ q)) z.0 z.1 z.2.0 z.2.1 z.2.2
 
 -- an end senses its cable
-senses_kept : (x : WorldSetup) (c : ℕ) (s : Side) (port : Option ℕ) (up : Bool) (old new : World) → IsWorldSetup x → Lawful x old → end_at x.cables s c ≡ port → old.whole c ≡ up → SensesCable x s port up old new → Lawful x new
+senses_kept : (x : WorldSetup) (c : ℕ) (s : Side) (port : Option ℕ) (up : Bool) (old new : World) → IsWorldSetup x → Lawful x old
+    → end_at x.cables s c ≡ port → old.whole c ≡ up → SensesCable x s port up old new → Lawful x new
 senses_kept x c s None up old new f i h e z = absurd z
 senses_kept x c s (Some p) up old new f i h e z =
-    call_kept x s (Set_link p up) 0 (λ t. party_at (old.view t)) old.count (old.on_cable s) (old.on_cable s) old new (inl refl) (started x s (Set_link p up) 0 old i within) z.0 z.1 z.2.0 z.2.1 z.2.2
+    call_kept x s (Set_link p up) 0 (λ t. party_at (old.view t)) old.count (old.on_cable s) (old.on_cable s) old new (inl refl)
+    (started x s (Set_link p up) 0 old i within) z.0 z.1 z.2.0 z.2.1 z.2.2
   where
     within : Within (Set_link p up) 0 (end_at x.cables s) (old.on_cable s) old.whole (old.forced s)
     within = record {
@@ -257,17 +337,31 @@ senses_kept x c s (Some p) up old new f i h e z =
     }
 
 -- a conversation is forced
-lawful_forced : (x : WorldSetup) (s : Side) (g k : ℕ) (w : World) → Lawful x w → Lawful x (record w { forced = at_side w.forced s (at_two (w.forced s) g k true) })
-lawful_forced x One g k w i One = let h = i One in record { members = h.members; stamps = h.stamps; heard = h.heard; lanes = lanes_forced One _ _ _ _ _ _ _ _ g k h.lanes }
+lawful_forced : (x : WorldSetup) (s : Side) (g k : ℕ) (w : World) → Lawful x w
+    → Lawful x (record w { forced = at_side w.forced s (at_two (w.forced s) g k true) })
+lawful_forced x One g k w i One = let h = i One in record {
+  members = h.members;
+  stamps = h.stamps;
+  heard = h.heard;
+  lanes =
+      lanes_forced One _ _ _ _ _ _ _ _ g k h.lanes;
+}
 lawful_forced x One g k w i Two = i Two
-lawful_forced x Two g k w i Two = let h = i Two in record { members = h.members; stamps = h.stamps; heard = h.heard; lanes = lanes_forced Two _ _ _ _ _ _ _ _ g k h.lanes }
+lawful_forced x Two g k w i Two = let h = i Two in record {
+  members = h.members;
+  stamps = h.stamps;
+  heard = h.heard;
+  lanes =
+      lanes_forced Two _ _ _ _ _ _ _ _ g k h.lanes;
+}
 lawful_forced x Two g k w i One = i One
 
 counts_as_forced : (s : Side) (forced : Side → ℕ → ℕ → Bool) (g k : ℕ) → (at_side forced s (at_two (forced s) g k true)) s g k ≡ true
 counts_as_forced One forced g k = elim (two_cases (forced One) g k true g k) [ inl y ↦ y.2 | inr y ↦ absurd (y.0 (refl, refl)) ]
 counts_as_forced Two forced g k = elim (two_cases (forced Two) g k true g k) [ inl y ↦ y.2 | inr y ↦ absurd (y.0 (refl, refl)) ]
 
-within_force : (s : Side) (forced : Side → ℕ → ℕ → Bool) (g k : ℕ) (ends : ℕ → Option ℕ) (back : ℕ → List Message) (whole : ℕ → Bool) → Within (Force g k) 0 ends back whole ((at_side forced s (at_two (forced s) g k true)) s)
+within_force : (s : Side) (forced : Side → ℕ → ℕ → Bool) (g k : ℕ) (ends : ℕ → Option ℕ) (back : ℕ → List Message) (whole : ℕ → Bool)
+    → Within (Force g k) 0 ends back whole ((at_side forced s (at_two (forced s) g k true)) s)
 within_force s forced g k ends back whole = record {
   running = refl;
   came = λ q pdu y. absurd (receive_force q g k (Some pdu) (sym y));
@@ -280,11 +374,14 @@ within_force s forced g k ends back whole = record {
 force_kept : (x : WorldSetup) (s : Side) (g k : ℕ) (old new : World) → Lawful x old → Happens x (Event.Force s g k) old new → Lawful x new
 force_kept x s g k old new i z = elim z [
   | inl e ↦ subst (Lawful x) (sym e) i
-  | inr y ↦ call_kept x s (Force g k) 0 (λ t. party_at (old.view t)) old.count (old.on_cable s) (old.on_cable s) (record old { forced = at_side old.forced s (at_two (old.forced s) g k true) }) new
-      (inl refl) (started x s (Force g k) 0 (record old { forced = at_side old.forced s (at_two (old.forced s) g k true) }) (lawful_forced x s g k old i) (within_force s old.forced g k _ _ _)) y.0 y.1 y.2.0 y.2.1 y.2.2
+  | inr y ↦ call_kept x s (Force g k) 0 (λ t. party_at (old.view t)) old.count (old.on_cable s) (old.on_cable s)
+      (record old { forced = at_side old.forced s (at_two (old.forced s) g k true) }) new
+      (inl refl) (started x s (Force g k) 0 (record old { forced = at_side old.forced s (at_two (old.forced s) g k true) })
+      (lawful_forced x s g k old i) (within_force s old.forced g k _ _ _)) y.0 y.1 y.2.0 y.2.1 y.2.2
 ]
 
-lawful_cut : (x : WorldSetup) (w : World) (c : ℕ) → Lawful x w → Lawful x (record w { whole = at_cable w.whole c false; on_cable = λ s. at_cable (w.on_cable s) c [] })
+lawful_cut : (x : WorldSetup) (w : World) (c : ℕ) → Lawful x w
+    → Lawful x (record w { whole = at_cable w.whole c false; on_cable = λ s. at_cable (w.on_cable s) c [] })
 lawful_cut x w c i s = let h = i s in record {
   members = h.members;
   heard = h.heard;
@@ -301,9 +398,11 @@ lawful_joined x w c i s = let h = i s in record {
 }
 
 -- a restart, and the change counts after it
-restarted_half : (u : SystemSetup) (me : Side) (ends theirs : ℕ → Option ℕ) (v : View) (party : ℕ → Option Party) (count : ℕ → ℕ) (out back : ℕ → List Message) (whole : ℕ → Bool)
+restarted_half : (u : SystemSetup) (me : Side) (ends theirs : ℕ → Option ℕ) (v : View) (party : ℕ → Option Party) (count : ℕ
+    → ℕ) (out back : ℕ → List Message) (whole : ℕ → Bool)
     (sent collected : ℕ → ℕ → List ℕ) (forced : ℕ → ℕ → Bool) (taken their_taken : ℕ → Option TakenLacpdu) → IsSystemSetup u
-    → Half u me ends theirs v party count out back whole sent collected forced taken their_taken → Half u me ends theirs (first_view u) party count (λ c. []) (λ c. []) whole sent collected forced taken their_taken
+    → Half u me ends theirs v party count out back whole sent collected forced taken their_taken
+    → Half u me ends theirs (first_view u) party count (λ c. []) (λ c. []) whole sent collected forced taken their_taken
 restarted_half u me ends theirs v party count out back whole sent collected forced taken their_taken f i = record {
   members = members_first u f;
   lanes = lanes_restarted me ends v.flows out back whole sent collected forced u.first_marker i.lanes;
@@ -311,9 +410,11 @@ restarted_half u me ends theirs v party count out back whole sent collected forc
   heard = heard_first u taken;
 }
 
-emptied_half : (u : SystemSetup) (me : Side) (ends theirs : ℕ → Option ℕ) (v : View) (party : ℕ → Option Party) (count : ℕ → ℕ) (out back : ℕ → List Message) (whole : ℕ → Bool)
+emptied_half : (u : SystemSetup) (me : Side) (ends theirs : ℕ → Option ℕ) (v : View) (party : ℕ → Option Party) (count : ℕ
+    → ℕ) (out back : ℕ → List Message) (whole : ℕ → Bool)
     (sent collected : ℕ → ℕ → List ℕ) (forced : ℕ → ℕ → Bool) (taken their_taken : ℕ → Option TakenLacpdu)
-    → Half u me ends theirs v party count out back whole sent collected forced taken their_taken → Half u me ends theirs v party count (λ c. []) (λ c. []) whole sent collected forced taken their_taken
+    → Half u me ends theirs v party count out back whole sent collected forced taken their_taken
+    → Half u me ends theirs v party count (λ c. []) (λ c. []) whole sent collected forced taken their_taken
 emptied_half u me ends theirs v party count out back whole sent collected forced taken their_taken i = record {
   members = i.members;
   heard = i.heard;
@@ -321,12 +422,17 @@ emptied_half u me ends theirs v party count out back whole sent collected forced
   stamps = stamps_emptied ends theirs party count out their_taken i.stamps;
 }
 
-lawful_restarted : (x : WorldSetup) (s : Side) (w : World) (count : Side → ℕ → ℕ) → IsWorldSetup x → CountsChanges w (record w { view = at_side w.view s (first_view (x.setup s)); on_cable = λ t c. [] }) count → Lawful x w
+lawful_restarted : (x : WorldSetup) (s : Side) (w : World) (count : Side → ℕ → ℕ) → IsWorldSetup x
+    → CountsChanges w (record w { view = at_side w.view s (first_view (x.setup s)); on_cable = λ t c. [] }) count → Lawful x w
     → Lawful x (record w { view = at_side w.view s (first_view (x.setup s)); on_cable = λ t c. []; count = count })
-lawful_restarted x One w count f h i One = half_counted _ One _ _ (first_view (x.setup One)) (party_at (w.view One)) (w.count One) (count One) _ _ _ _ _ _ _ _ (h One) (restarted_half _ One _ _ (w.view One) _ _ _ _ _ _ _ _ _ _ (f.setup One) (i One))
-lawful_restarted x One w count f h i Two = half_counted _ Two _ _ (w.view Two) (party_at (w.view Two)) (w.count Two) (count Two) _ _ _ _ _ _ _ _ (h Two) (emptied_half _ Two _ _ (w.view Two) _ _ _ _ _ _ _ _ _ _ (i Two))
-lawful_restarted x Two w count f h i Two = half_counted _ Two _ _ (first_view (x.setup Two)) (party_at (w.view Two)) (w.count Two) (count Two) _ _ _ _ _ _ _ _ (h Two) (restarted_half _ Two _ _ (w.view Two) _ _ _ _ _ _ _ _ _ _ (f.setup Two) (i Two))
-lawful_restarted x Two w count f h i One = half_counted _ One _ _ (w.view One) (party_at (w.view One)) (w.count One) (count One) _ _ _ _ _ _ _ _ (h One) (emptied_half _ One _ _ (w.view One) _ _ _ _ _ _ _ _ _ _ (i One))
+lawful_restarted x One w count f h i One = half_counted _ One _ _ (first_view (x.setup One)) (party_at (w.view One)) (w.count One)
+    (count One) _ _ _ _ _ _ _ _ (h One) (restarted_half _ One _ _ (w.view One) _ _ _ _ _ _ _ _ _ _ (f.setup One) (i One))
+lawful_restarted x One w count f h i Two = half_counted _ Two _ _ (w.view Two) (party_at (w.view Two)) (w.count Two) (count Two) _ _ _ _ _ _
+    _ _ (h Two) (emptied_half _ Two _ _ (w.view Two) _ _ _ _ _ _ _ _ _ _ (i Two))
+lawful_restarted x Two w count f h i Two = half_counted _ Two _ _ (first_view (x.setup Two)) (party_at (w.view Two)) (w.count Two)
+    (count Two) _ _ _ _ _ _ _ _ (h Two) (restarted_half _ Two _ _ (w.view Two) _ _ _ _ _ _ _ _ _ _ (f.setup Two) (i Two))
+lawful_restarted x Two w count f h i One = half_counted _ One _ _ (w.view One) (party_at (w.view One)) (w.count One) (count One) _ _ _ _ _ _
+    _ _ (h One) (emptied_half _ One _ _ (w.view One) _ _ _ _ _ _ _ _ _ _ (i One))
 
 -- every event
 pub happens_kept : (x : WorldSetup) (e : Event) (old new : World) → IsWorldSetup x → Lawful x old → Happens x e old new → Lawful x new
@@ -334,7 +440,8 @@ happens_kept x (Event.Tick s n) old new f i z = quiet_kept x s Tick old new refl
 happens_kept x (Event.Emit s p) old new f i z = quiet_kept x s Transmit old new refl i z
 happens_kept x (Event.Deliver c to) old new f i z = comes_kept x c to (end_at x.cables to c) (old.on_cable to c) old new f i refl refl z
 happens_kept x (Event.Lose c to) old new f i z = lost_kept x c to (old.on_cable to c) old new i refl z
-happens_kept x (Event.Repeat c to) old new f i z = comes_again_kept x c to (end_at x.cables to c) (old.on_cable to c) old new f i refl refl z
+happens_kept x (Event.Repeat c to) old new f i z = comes_again_kept x c to (end_at x.cables to c)
+    (old.on_cable to c) old new f i refl refl z
 happens_kept x (Event.Cut c) old new f i z = subst (Lawful x) (sym z) (lawful_cut x old c i)
 happens_kept x (Event.Join c) old new f i z = subst (Lawful x) (sym z) (lawful_joined x old c i)
 happens_kept x (Event.Sense c s) old new f i z = senses_kept x c s (end_at x.cables s c) (old.whole c) old new f i refl refl z

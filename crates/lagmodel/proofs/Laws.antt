@@ -6,11 +6,14 @@ use Rattle.std.proofs.lemmas.Option.{same_Some}
 use Rattle.lagtypes.specs.declared.party.Party.{Party}
 use Rattle.lagtypes.specs.Group.{individual, SamePair, pair_of, end_of}
 use Rattle.lagmodel.specs.View.{PortFacts, conversation_port, View, Lacp, Marker, Response}
-use Rattle.lagmodel.specs.World.{Side, One, Two, peer, Message, Control, Data, end_at, party_at, TakenLacpdu, World, WorldSetup, IsWorldSetup}
-use Rattle.lagmodel.specs.Law.{serials, OnePartner, EndsAgree, InOrder, LastLacpduSaysInSync, UpToDateLacpdusNameSender, OnItsCable, FlushedByMarker, BelowNext, CollectedThenInFlight}
+use Rattle.lagmodel.specs.World.{Side, One, Two, peer, Message, Control, Data, end_at, party_at, TakenLacpdu, World, WorldSetup}
+use Rattle.lagmodel.specs.World.{IsWorldSetup}
+use Rattle.lagmodel.specs.Law.{serials, OnePartner, EndsAgree, InOrder, LastLacpduSaysInSync, UpToDateLacpdusNameSender, OnItsCable}
+use Rattle.lagmodel.specs.Law.{FlushedByMarker, BelowNext, CollectedThenInFlight}
 use Rattle.lagmodel.proofs.Base.{same_value, cond_false}
 use Rattle.lagmodel.proofs.Ports.{one_partner}
-use Rattle.lagmodel.proofs.Lines.{IsFrom, Every, every_contains, MarkerBelow, ResponseBelow, answers, NoneBehind, behind_split, is_of, is_of-true}
+use Rattle.lagmodel.proofs.Lines.{IsFrom, Every, every_contains, MarkerBelow, ResponseBelow, answers, NoneBehind, behind_split, is_of}
+use Rattle.lagmodel.proofs.Lines.{is_of-true}
 use Rattle.lagmodel.proofs.Orderly.{handed_front}
 use Rattle.lagmodel.proofs.Stamps.{Fresh, FreshPdu}
 use Rattle.lagmodel.proofs.Worlds.{Lawful}
@@ -30,7 +33,8 @@ group_swapped a b = inr (ap (λ i. end_of i a) (individual_sym a b), ap (λ i. e
 
 -- the group of parties that name each other
 crossed : (a b c d : Party) → a ≡ d → b ≡ c → SamePair (pair_of a b) (pair_of c d)
-crossed a b c d e h = subst (λ d. SamePair (pair_of a b) (pair_of c d)) e (subst (λ c. SamePair (pair_of a b) (pair_of c a)) h (group_swapped a b))
+crossed a b c d e h = subst (λ d. SamePair (pair_of a b) (pair_of c d)) e
+    (subst (λ c. SamePair (pair_of a b) (pair_of c a)) h (group_swapped a b))
 
 party_there : (v : View) (p : ℕ) (a : PortFacts) (y : Party) → v.port p ≡ Some a → party_at v p ≡ Some y → a.party ≡ y
 party_there v p a y h e = same_Some a.party y (sym (ap (option_map (λ (a : PortFacts). a.party)) h) ∙ e)
@@ -45,7 +49,8 @@ named : (x : WorldSetup) (w : World) → Lawful x w → (s : Side) (c p q : ℕ)
     → FreshPdu (w.count (peer s) q) (party_at (w.view (peer s)) q) m.pdu m.stamp → a.partner ≡ b.party
 named x w i s c p q a b m ep eq ha hb d t e f =
     let r = (i s).heard p a ha d in
-    r.2 ∙ ap (λ (m : TakenLacpdu). m.pdu.actor) (same_value (w.taken s p) r.0 m r.1 t) ∙ sym (party_there (w.view (peer s)) q b m.pdu.actor hb (f.1 e))
+    r.2 ∙ ap (λ (m : TakenLacpdu). m.pdu.actor) (same_value (w.taken s p) r.0 m r.1 t)
+    ∙ sym (party_there (w.view (peer s)) q b m.pdu.actor hb (f.1 e))
 
 pub agree_holds : (x : WorldSetup) (w : World) → Lawful x w → EndsAgree x w
 agree_holds x w i c p q a b ep eq h k =
@@ -73,7 +78,8 @@ took_synchronised_holds x w i s p a h d f =
 
 pub names_present_holds : (x : WorldSetup) (w : World) → Lawful x w → UpToDateLacpdusNameSender x w
 names_present_holds x w i s c p e = (
-  (λ pdu stamp h f. let y = every_contains (Fresh (w.count s p) (party_at (w.view s) p)) (w.on_cable (peer s) c) (Control (Lacp pdu) stamp) ((i s).stamps.flight c p e) h in y.1 f),
+  (λ pdu stamp h f. let y = every_contains (Fresh (w.count s p) (party_at (w.view s) p)) (w.on_cable (peer s) c) (Control (Lacp pdu) stamp)
+      ((i s).stamps.flight c p e) h in y.1 f),
   (λ q m eq t f. ((i s).stamps.last c p q m e eq t).1 f),
 )
 
@@ -90,26 +96,32 @@ none_from s t g k (Data origin j l serial ∷ ms) n h = elim (cases_Bool (is_of 
 ]
 
 pub on_its_cable_holds : (x : WorldSetup) (w : World) → Lawful x w → OnItsCable x w
-on_its_cable_holds x w i One g k c u = (((i One).lanes.orderly g k c u).place, none_from One Two g k (w.on_cable One c) (side_not_peer One) ((i Two).lanes.origin c))
-on_its_cable_holds x w i Two g k c u = (((i Two).lanes.orderly g k c u).place, none_from Two One g k (w.on_cable Two c) (side_not_peer Two) ((i One).lanes.origin c))
+on_its_cable_holds x w i One g k c u =
+    (((i One).lanes.orderly g k c u).place, none_from One Two g k (w.on_cable One c) (side_not_peer One) ((i Two).lanes.origin c))
+on_its_cable_holds x w i Two g k c u =
+    (((i Two).lanes.orderly g k c u).place, none_from Two One g k (w.on_cable Two c) (side_not_peer Two) ((i One).lanes.origin c))
 
 pub flushed_by_marker_holds : (x : WorldSetup) (w : World) → IsWorldSetup x → Lawful x w → FlushedByMarker x w
 flushed_by_marker_holds x w f i s g k p n c u st e =
     let o = (i s).lanes.orderly g k c u in (
       (λ front back stamp h.
-          behind_split s g k n front (Control (Marker (x.setup s).system.mac p n) stamp) back (eq-eqb n n refl) (subst (NoneBehind s g k n) h (o.behind p n st e))),
+          behind_split s g k n front (Control (Marker (x.setup s).system.mac p n) stamp) back (eq-eqb n n refl)
+          (subst (NoneBehind s g k n) h (o.behind p n st e))),
       (λ d stamp h. elim (((i s).lanes.orderly g k d u).place) [
         | inl y ↦ y
         | inr y ↦ (let same : c ≡ d = f.cables s c d p e (y.1 ∙ sym y.2 ∙ ap conversation_port st) in
-            let here = every_contains (λ m. answers n m ≡ true → serials s g k (w.on_cable (peer s) c) ≡ []) (w.on_cable s c) (Control (Response (x.setup s).system.mac p n) stamp) (o.answered p n st e) h in
+            let here = every_contains (λ m. answers n m ≡ true → serials s g k (w.on_cable (peer s) c) ≡ []) (w.on_cable s c)
+            (Control (Response (x.setup s).system.mac p n) stamp) (o.answered p n st e) h in
             subst (λ d. serials s g k (w.on_cable (peer s) d) ≡ []) same (here (eq-eqb n n refl)))
       ]),
     )
 
 pub below_next_holds : (x : WorldSetup) (w : World) → Lawful x w → BelowNext w
 below_next_holds x w i s c p n stamp mac = (
-  (λ h. every_contains (MarkerBelow (w.view s).flows.next) (w.on_cable (peer s) c) (Control (Marker mac p n) stamp) ((i s).lanes.markers c) h),
-  (λ h. every_contains (ResponseBelow (w.view s).flows.next) (w.on_cable s c) (Control (Response mac p n) stamp) ((i s).lanes.responses c) h),
+  (λ h. every_contains (MarkerBelow (w.view s).flows.next) (w.on_cable (peer s) c) (Control (Marker mac p n) stamp)
+      ((i s).lanes.markers c) h),
+  (λ h. every_contains (ResponseBelow (w.view s).flows.next) (w.on_cable s c) (Control (Response mac p n) stamp)
+      ((i s).lanes.responses c) h),
 )
 
 pub collected_then_in_flight_holds : (x : WorldSetup) (w : World) → Lawful x w → CollectedThenInFlight w

@@ -1,5 +1,6 @@
 -- The ports of one system: the members of an aggregator have its key and one group.
-use Rattle.std.proofs.Common.{◌≡◌, ℕ, Bool, true, false, cond, eqb, Option, Some, None, IsSome, IsSomeAnd, sym, refl, ap, ◌∙◌, subst, ◌⊎◌, inl, inr, eqb-true}
+use Rattle.std.proofs.Common.{◌≡◌, ℕ, Bool, true, false, cond, eqb, Option, Some, None, IsSome, IsSomeAnd, sym, refl, ap, ◌∙◌, subst}
+use Rattle.std.proofs.Common.{◌⊎◌, inl, inr, eqb-true}
 use Rattle.std.specs.Prelude.{option_map, is_some}
 use Rattle.std.proofs.lemmas.Bool.{eqb-false, cases_eq, false≢true, and_parts}
 use Rattle.std.proofs.lemmas.Option.{none-some, same_Some}
@@ -8,7 +9,8 @@ use Rattle.lagtypes.specs.declared.party.Party.{Party}
 use Rattle.lagtypes.specs.Group.{individual, Pair, SamePair, pair_of}
 use Rattle.lagtypes.specs.declared.group.End.{End}
 use Rattle.lagmodel.specs.View.{PortFacts, SystemSetup, IsSystemSetup, first_port, first_view, ModelCall, at_port, View}
-use Rattle.lagmodel.specs.Move.{PortMove, Stop, Leave, Desynchronise, Reconfigure, Default, Take, Join, Distribute, Announce, Respond, pair_at, PortAllowed, port_after}
+use Rattle.lagmodel.specs.Move.{PortMove, Stop, Leave, Desynchronise, Reconfigure, Default, Take, Join, Distribute, Announce, Respond}
+use Rattle.lagmodel.specs.Move.{pair_at, PortAllowed, port_after}
 use Rattle.lagmodel.specs.Law.{OnePartner, Members}
 use Rattle.lagmodel.proofs.Base.{no_value, none-is_some, same_value, value_of, mapped_some, chosen}
 
@@ -16,8 +18,10 @@ pub group_sym : (g h : Pair) → SamePair g h → SamePair h g
 group_sym g h e = elim e [ inl x ↦ inl (sym x.0, sym x.1) | inr x ↦ inr (sym x.1, sym x.0) ]
 
 -- an end that names no port is that of a group that is not individual
-individual_from_end : (i j : Bool) (a b : Party) → ◌≡◌ {A = Option PortId} (cond i (Some a.port) None) (cond j (Some b.port) None) → i ≡ false → j ≡ false
-individual_from_end i true a b e h = absurd (none-some b.port (subst (λ i. ◌≡◌ {A = Option PortId} (cond i (Some a.port) None) (Some b.port)) h e))
+individual_from_end : (i j : Bool) (a b : Party) → ◌≡◌ {A = Option PortId} (cond i (Some a.port) None) (cond j (Some b.port) None)
+    → i ≡ false → j ≡ false
+individual_from_end i true a b e h =
+    absurd (none-some b.port (subst (λ i. ◌≡◌ {A = Option PortId} (cond i (Some a.port) None) (Some b.port)) h e))
 individual_from_end i false a b e h = refl
 
 pub individual_along : (a b c d : Party) → SamePair (pair_of a b) (pair_of c d) → individual a b ≡ false → individual c d ≡ false
@@ -27,7 +31,8 @@ individual_along a b c d e h = elim e [
 ]
 
 -- a port after a change of port p is the changed one, or was there before
-pub changed_port : (ports : ℕ → Option PortFacts) (p q : ℕ) (f : PortFacts → PortFacts) (a b : PortFacts) → ports p ≡ Some a → at_port ports p f q ≡ Some b
+pub changed_port : (ports : ℕ → Option PortFacts) (p q : ℕ) (f : PortFacts → PortFacts) (a b : PortFacts) → ports p ≡ Some a
+    → at_port ports p f q ≡ Some b
     → ((q ≡ p) × (f a ≡ b)) ⊎ ((q ≡ p → ⊥) × (ports q ≡ Some b))
 changed_port ports p q f a b h e = elim (chosen (eqb q p) (option_map f (ports q)) (ports q) (Some b) e) [
   | inl x ↦ (let same : q ≡ p = eqb-true q p x.0 in
@@ -51,10 +56,12 @@ pub record Owes (u : SystemSetup) (ports : ℕ → Option PortFacts) (p : ℕ) (
   pub number : b.party.port.number ≡ a.party.port.number
   pub own : b.party.system ≡ a.party.system
   pub key : (g : ℕ) → b.aggregator ≡ Some g → u.key g ≡ Some b.party.key
-  pub group : (g q : ℕ) (c : PortFacts) → (q ≡ p → ⊥) → ports q ≡ Some c → b.aggregator ≡ Some g → c.aggregator ≡ Some g → SamePair (pair_at b) (pair_at c) × (individual b.party b.partner ≡ false)
+  pub group : (g q : ℕ) (c : PortFacts) → (q ≡ p → ⊥) → ports q ≡ Some c → b.aggregator ≡ Some g → c.aggregator ≡ Some g
+      → SamePair (pair_at b) (pair_at c) × (individual b.party b.partner ≡ false)
   pub member : b.distributes ≡ true → IsSome b.aggregator × (b.synchronised ≡ true)
 
-pub changed : (u : SystemSetup) (ports : ℕ → Option PortFacts) (p : ℕ) (f : PortFacts → PortFacts) (a : PortFacts) → ports p ≡ Some a → Members u ports → Owes u ports p a (f a) → Members u (at_port ports p f)
+pub changed : (u : SystemSetup) (ports : ℕ → Option PortFacts) (p : ℕ) (f : PortFacts → PortFacts) (a : PortFacts) → ports p ≡ Some a
+    → Members u ports → Owes u ports p a (f a) → Members u (at_port ports p f)
 changed u ports p f a h i o = record {
   configured = λ q. same_ports ports p f q ∙ i.configured q;
   number = λ q b e. elim (changed_port ports p q f a b h e) [
@@ -72,10 +79,12 @@ changed u ports p f a h i o = record {
   group = λ g q r b c ne eb ec mb mc. elim (changed_port ports p q f a b h eb) [
     | inl x ↦ elim (changed_port ports p r f a c h ec) [
       | inl y ↦ absurd (ne (x.0 ∙ sym y.0))
-      | inr y ↦ subst (λ (b : PortFacts). b.aggregator ≡ Some g → SamePair (pair_at b) (pair_at c) × (individual b.party b.partner ≡ false)) x.1 (λ m. o.group g r c y.0 y.1 m mc) mb
+      | inr y ↦ subst (λ (b : PortFacts). b.aggregator ≡ Some g → SamePair (pair_at b) (pair_at c) × (individual b.party b.partner ≡ false))
+          x.1 (λ m. o.group g r c y.0 y.1 m mc) mb
     ]
     | inr x ↦ elim (changed_port ports p r f a c h ec) [
-      | inl y ↦ subst (λ (c : PortFacts). c.aggregator ≡ Some g → SamePair (pair_at b) (pair_at c) × (individual b.party b.partner ≡ false)) y.1
+      | inl y ↦ subst (λ (c : PortFacts). c.aggregator ≡ Some g → SamePair (pair_at b) (pair_at c)
+          × (individual b.party b.partner ≡ false)) y.1
           (λ m. let s = o.group g q b x.0 x.1 m mb in
           (group_sym (pair_at (f a)) (pair_at b) s.0, individual_along (f a).party (f a).partner b.party b.partner s.0 s.1)) mc
       | inr y ↦ i.group g q r b c ne x.1 y.1 mb mc
@@ -103,7 +112,8 @@ steady u ports p a b h i e1 e2 e3 m = record {
 }
 
 -- a port outside every aggregator that does not distribute
-outside : (u : SystemSetup) (ports : ℕ → Option PortFacts) (p : ℕ) (a b : PortFacts) → b.party.port.number ≡ a.party.port.number → b.party.system ≡ a.party.system → b.aggregator ≡ None → (b.distributes ≡ true → ⊥) → Owes u ports p a b
+outside : (u : SystemSetup) (ports : ℕ → Option PortFacts) (p : ℕ) (a b : PortFacts) → b.party.port.number ≡ a.party.port.number
+    → b.party.system ≡ a.party.system → b.aggregator ≡ None → (b.distributes ≡ true → ⊥) → Owes u ports p a b
 outside u ports p a b l e n d = record {
   number = l;
   own = e;
@@ -112,10 +122,12 @@ outside u ports p a b l e n d = record {
   member = λ x. absurd (d x);
 }
 
-idle : (u : SystemSetup) (ports : ℕ → Option PortFacts) (p : ℕ) (a : PortFacts) → ports p ≡ Some a → Members u ports → a.aggregator ≡ None → a.distributes ≡ true → ⊥
+idle : (u : SystemSetup) (ports : ℕ → Option PortFacts) (p : ℕ) (a : PortFacts) → ports p ≡ Some a → Members u ports → a.aggregator ≡ None
+    → a.distributes ≡ true → ⊥
 idle u ports p a h i n d = none-is_some a.aggregator n ((i.member p a h d).0)
 
-owed : (u : SystemSetup) (call : ModelCall) (ports : ℕ → Option PortFacts) (p : ℕ) (m : PortMove) (a : PortFacts) → ports p ≡ Some a → Members u ports → PortAllowed u call ports p m a → Owes u ports p a (port_after m a)
+owed : (u : SystemSetup) (call : ModelCall) (ports : ℕ → Option PortFacts) (p : ℕ) (m : PortMove) (a : PortFacts) → ports p ≡ Some a
+    → Members u ports → PortAllowed u call ports p m a → Owes u ports p a (port_after m a)
 owed u call ports p Stop a h i x = steady u ports p a _ h i refl refl refl (λ d. absurd (false≢true d))
 owed u call ports p Leave a h i x = outside u ports p a _ refl refl refl (λ d. false≢true d)
 owed u call ports p Desynchronise a h i x = steady u ports p a _ h i refl refl refl (λ d. absurd (false≢true d))
@@ -143,7 +155,8 @@ owed u call ports p (Announce synchronised) a h i x = steady u ports p a _ h i r
 owed u call ports p (Respond mac port identifier) a h i x = steady u ports p a _ h i refl refl refl (i.member p a h)
 
 -- a move of a port keeps the facts
-pub members_kept : (u : SystemSetup) (call : ModelCall) (ports : ℕ → Option PortFacts) (p : ℕ) (m : PortMove) → IsSomeAnd (ports p) (PortAllowed u call ports p m) → Members u ports → Members u (at_port ports p (port_after m))
+pub members_kept : (u : SystemSetup) (call : ModelCall) (ports : ℕ → Option PortFacts) (p : ℕ) (m : PortMove)
+    → IsSomeAnd (ports p) (PortAllowed u call ports p m) → Members u ports → Members u (at_port ports p (port_after m))
 members_kept u call ports p m x i =
     let v = value_of (ports p) (PortAllowed u call ports p m) x in
     changed u ports p (port_after m) v.0 v.1 i (owed u call ports p m v.0 v.1 i v.2)
@@ -152,10 +165,12 @@ members_kept u call ports p m x i =
 pub members_first : (u : SystemSetup) → IsSystemSetup u → Members u ((first_view u).port)
 members_first u i = record {
   configured = λ p. there (u.party p);
-  number = λ p a h. let m = mapped_some first_port (u.party p) a h in ap (λ (a : PortFacts). a.party.port.number) (sym m.2) ∙ i.number p m.0 m.1;
+  number = λ p a h. let m = mapped_some first_port (u.party p) a h in ap (λ (a : PortFacts). a.party.port.number) (sym m.2)
+      ∙ i.number p m.0 m.1;
   own = λ p a h. let m = mapped_some first_port (u.party p) a h in ap (λ (a : PortFacts). a.party.system) (sym m.2) ∙ i.system p m.0 m.1;
   key = λ p g a h e. let m = mapped_some first_port (u.party p) a h in absurd (none-some g (ap (λ (a : PortFacts). a.aggregator) m.2 ∙ e));
-  group = λ g p q a b ne h hb e eb. let m = mapped_some first_port (u.party p) a h in absurd (none-some g (ap (λ (a : PortFacts). a.aggregator) m.2 ∙ e));
+  group = λ g p q a b ne h hb e eb. let m = mapped_some first_port (u.party p) a h in absurd
+      (none-some g (ap (λ (a : PortFacts). a.aggregator) m.2 ∙ e));
   member = λ p a h d. let m = mapped_some first_port (u.party p) a h in absurd (false≢true (ap (λ (a : PortFacts). a.distributes) m.2 ∙ d));
 }
   where
@@ -173,6 +188,10 @@ one_partner u v i g p q a b h hb e eb d db = elim (cases_eq p q) [
       let key : a.party.key ≡ b.party.key = same_Some a.party.key b.party.key (sym (i.key p g a h e) ∙ i.key q g b hb eb) in
       elim s.0 [
         | inl y ↦ (ap (λ (z : End). z.system) y.1, ap (λ (z : End). z.key) y.1)
-        | inr y ↦ (ap (λ (z : End). z.system) y.1 ∙ sym system ∙ ap (λ (z : End). z.system) y.0, ap (λ (z : End). z.key) y.1 ∙ sym key ∙ ap (λ (z : End). z.key) y.0)
+        | inr y ↦ (
+          ap (λ (z : End). z.system) y.1 ∙ sym system ∙ ap (λ (z : End). z.system) y.0,
+          ap (λ (z : End). z.key) y.1 ∙ sym key
+              ∙ ap (λ (z : End). z.key) y.0,
+        )
       ])
 ]

@@ -1,12 +1,14 @@
 -- Runs of worlds, for a crate of two systems. A call of one of them as an event: calls_from, no_call. Cables:
 -- end_there, put_on, put_nowhere. One side: itself, self. Worlds: same_world, same_view, runs_joined. What holds after
 -- a run: `lawful` of Events, and the lemma of each fact in Laws.
-use Rattle.std.proofs.Common.{◌≡◌, ℕ, zero, suc, Bool, true, false, cond, ◌&&◌, Option, Some, None, List, [], ◌∷◌, ◌++◌, map, sym, refl, ap, ◌∙◌, subst, ◌⊎◌, inl, inr, eq-eqb}
+use Rattle.std.proofs.Common.{◌≡◌, ℕ, zero, suc, Bool, true, false, cond, ◌&&◌, Option, Some, None, List, [], ◌∷◌, ◌++◌, map, sym, refl}
+use Rattle.std.proofs.Common.{ap, ◌∙◌, subst, ◌⊎◌, inl, inr, eq-eqb}
 use Rattle.std.specs.Prelude.{option_to_list, slice_get}
 use Rattle.std.proofs.lemmas.Option.{none-some}
 use Rattle.lagmodel.specs.View.{View, ModelCall}
 use Rattle.lagmodel.specs.Move.{Act, Move, view_after, act, AllAllowed, view_after_all, acts, LawfulMoves}
-use Rattle.lagmodel.specs.World.{Ends, port_on, end_at, Message, Event, Run, put_on_cable, is_port, at_cable, Side, One, Two, peer, at_side, World, WorldSetup, world_after, AllMoves, world_after_all, CountsChanges, CallHappens}
+use Rattle.lagmodel.specs.World.{Ends, port_on, end_at, Message, Event, Run, put_on_cable, is_port, at_cable, Side, One, Two, peer}
+use Rattle.lagmodel.specs.World.{at_side, World, WorldSetup, world_after, AllMoves, world_after_all, CountsChanges, CallHappens}
 use Rattle.lagmodel.specs.Bridge.{world_after_call}
 use Rattle.lagmodel.proofs.Base.{mapped_some, cond_true}
 use Rattle.lagmodel.proofs.Lines.{put_cases}
@@ -38,7 +40,8 @@ self f One x = refl
 self f Two x = refl
 
 -- a call that is seen to do nothing changes the view alone
-only_view : (x : WorldSetup) (s : Side) (stamp : ℕ) (kept : Bool) (v : View) (w : World) → world_after_call x s stamp kept None v w ≡ record w { view = at_side w.view s v }
+only_view : (x : WorldSetup) (s : Side) (stamp : ℕ) (kept : Bool) (v : View) (w : World)
+    → world_after_call x s stamp kept None v w ≡ record w { view = at_side w.view s v }
 only_view x s stamp kept v w = λ i. record w {
   view = at_side w.view s v;
   on_cable = λ t. sym (itself w.on_cable (peer s) t) i;
@@ -46,12 +49,14 @@ only_view x s stamp kept v w = λ i. record w {
   taken = λ t. sym (itself w.taken s t) i;
 }
 
-before : (x : WorldSetup) (s : Side) (stamp : ℕ) (kept : Bool) (o : Option Act) (a b : View) (w : World) → world_after_call x s stamp kept o b (world_after_call x s stamp kept None a w) ≡ world_after_call x s stamp kept o b w
+before : (x : WorldSetup) (s : Side) (stamp : ℕ) (kept : Bool) (o : Option Act) (a b : View) (w : World)
+    → world_after_call x s stamp kept o b (world_after_call x s stamp kept None a w) ≡ world_after_call x s stamp kept o b w
 before x s stamp kept o a b w =
     ap (world_after_call x s stamp kept o b) (only_view x s stamp kept a w)
     ∙ (λ i. record (world_after_call x s stamp kept o b w) { view = λ t. twice w.view s a b t i })
 
-behind : (x : WorldSetup) (s : Side) (stamp : ℕ) (kept : Bool) (o : Option Act) (a b : View) (w : World) → world_after_call x s stamp kept None b (world_after_call x s stamp kept o a w) ≡ world_after_call x s stamp kept o b w
+behind : (x : WorldSetup) (s : Side) (stamp : ℕ) (kept : Bool) (o : Option Act) (a b : View) (w : World)
+    → world_after_call x s stamp kept None b (world_after_call x s stamp kept o a w) ≡ world_after_call x s stamp kept o b w
 behind x s stamp kept o a b w =
     only_view x s stamp kept b (world_after_call x s stamp kept o a w)
     ∙ (λ i. record (world_after_call x s stamp kept o b w) { view = λ t. twice w.view s a b t i })
@@ -62,11 +67,14 @@ nothing_seen y ys h = cc
 one_seen : (y z : Act) (ys : List Act) → y ∷ ys ≡ z ∷ [] → (y ≡ z) × (ys ≡ [])
 one_seen y z ys h = (cc, cc)
 
-called_step : (x : WorldSetup) (s : Side) (stamp : ℕ) (kept : Bool) (m : Move) (ms : List Move) (w : World) (o a : Option Act) → act (x.setup s) m (w.view s) ≡ a
+called_step : (x : WorldSetup) (s : Side) (stamp : ℕ) (kept : Bool) (m : Move) (ms : List Move) (w : World) (o a : Option Act)
+    → act (x.setup s) m (w.view s) ≡ a
     → ((o : Option Act) → acts (x.setup s) ms ((world_after x s stamp (m, kept) w).view s) ≡ option_to_list o
-    → world_after_all x s stamp (map (λ (m : Move). (m, kept)) ms) (world_after x s stamp (m, kept) w) ≡ world_after_call x s stamp kept o (view_after_all (x.setup s) ms ((world_after x s stamp (m, kept) w).view s)) (world_after x s stamp (m, kept) w))
+    → world_after_all x s stamp (map (λ (m : Move). (m, kept)) ms) (world_after x s stamp (m, kept) w) ≡ world_after_call x s stamp kept o
+    (view_after_all (x.setup s) ms ((world_after x s stamp (m, kept) w).view s)) (world_after x s stamp (m, kept) w))
     → option_to_list a ++ acts (x.setup s) ms (view_after (x.setup s) m (w.view s)) ≡ option_to_list o
-    → world_after_all x s stamp (map (λ (m : Move). (m, kept)) ms) (world_after x s stamp (m, kept) w) ≡ world_after_call x s stamp kept o (view_after_all (x.setup s) ms (view_after (x.setup s) m (w.view s))) w
+    → world_after_all x s stamp (map (λ (m : Move). (m, kept)) ms) (world_after x s stamp (m, kept) w) ≡ world_after_call x s stamp kept o
+    (view_after_all (x.setup s) ms (view_after (x.setup s) m (w.view s))) w
 called_step x s stamp kept m ms w o None h ih e =
     let v : View = view_after (x.setup s) m (w.view s) in
     let there = self w.view s v in
@@ -74,31 +82,42 @@ called_step x s stamp kept m ms w o None h ih e =
     ∙ ap (λ (y : View). world_after_call x s stamp kept o (view_after_all (x.setup s) ms y) (world_after x s stamp (m, kept) w)) there
     ∙ ap (λ (a : Option Act). world_after_call x s stamp kept o (view_after_all (x.setup s) ms v) (world_after_call x s stamp kept a v w)) h
     ∙ before x s stamp kept o v (view_after_all (x.setup s) ms v) w
-called_step x s stamp kept m ms w None (Some y) h ih e = absurd (nothing_seen y (acts (x.setup s) ms (view_after (x.setup s) m (w.view s))) e)
+called_step x s stamp kept m ms w None (Some y) h ih e =
+    absurd (nothing_seen y (acts (x.setup s) ms (view_after (x.setup s) m (w.view s))) e)
 called_step x s stamp kept m ms w (Some z) (Some y) h ih e =
     let v : View = view_after (x.setup s) m (w.view s) in
     let there = self w.view s v in
     let parts = one_seen y z (acts (x.setup s) ms v) e in
     ih None (ap (acts (x.setup s) ms) there ∙ parts.1)
     ∙ ap (λ (y : View). world_after_call x s stamp kept None (view_after_all (x.setup s) ms y) (world_after x s stamp (m, kept) w)) there
-    ∙ ap (λ (a : Option Act). world_after_call x s stamp kept None (view_after_all (x.setup s) ms v) (world_after_call x s stamp kept a v w)) h
+    ∙ ap (λ (a : Option Act). world_after_call x s stamp kept None (view_after_all (x.setup s) ms v)
+    (world_after_call x s stamp kept a v w)) h
     ∙ behind x s stamp kept (Some y) v (view_after_all (x.setup s) ms v) w
     ∙ ap (λ (y : Act). world_after_call x s stamp kept (Some y) (view_after_all (x.setup s) ms v) w) parts.0
 
-called_moves : (x : WorldSetup) (s : Side) (stamp : ℕ) (kept : Bool) (ms : List Move) (w : World) (o : Option Act) → acts (x.setup s) ms (w.view s) ≡ option_to_list o
-    → world_after_all x s stamp (map (λ (m : Move). (m, kept)) ms) w ≡ world_after_call x s stamp kept o (view_after_all (x.setup s) ms (w.view s)) w
+called_moves : (x : WorldSetup) (s : Side) (stamp : ℕ) (kept : Bool) (ms : List Move) (w : World) (o : Option Act)
+    → acts (x.setup s) ms (w.view s) ≡ option_to_list o
+    → world_after_all x s stamp (map (λ (m : Move). (m, kept)) ms) w ≡ world_after_call x s stamp kept o
+    (view_after_all (x.setup s) ms (w.view s)) w
 called_moves x s stamp kept [] w None e = none_called x s stamp kept w
 called_moves x s stamp kept [] w (Some y) e = absurd (nothing_seen y [] (sym e))
 called_moves x s stamp kept (m ∷ ms) w o e =
-    called_step x s stamp kept m ms w o (act (x.setup s) m (w.view s)) refl (λ o. called_moves x s stamp kept ms (world_after x s stamp (m, kept) w) o) e
+    called_step x s stamp kept m ms w o (act (x.setup s) m (w.view s)) refl
+    (λ o. called_moves x s stamp kept ms (world_after x s stamp (m, kept) w) o) e
 
-moves_of_world : (x : WorldSetup) (s : Side) (call : ModelCall) (stamp : ℕ) (kept : Bool) (ms : List Move) (w : World) → AllAllowed (x.setup s) call (w.view s) ms → AllMoves x s call stamp (map (λ (m : Move). (m, kept)) ms) w
+moves_of_world : (x : WorldSetup) (s : Side) (call : ModelCall) (stamp : ℕ) (kept : Bool) (ms : List Move) (w : World)
+    → AllAllowed (x.setup s) call (w.view s) ms → AllMoves x s call stamp (map (λ (m : Move). (m, kept)) ms) w
 moves_of_world x s call stamp kept [] w h = tt
-moves_of_world x s call stamp kept (m ∷ ms) w h =
-    (h.0, moves_of_world x s call stamp kept ms (world_after x s stamp (m, kept) w) (subst (λ v. AllAllowed (x.setup s) call v ms) (sym (self w.view s (view_after (x.setup s) m (w.view s)))) h.1))
+moves_of_world x s call stamp kept (m ∷ ms) w h = (
+  h.0,
+  moves_of_world x s call stamp kept ms (world_after x s stamp (m, kept) w)
+      (subst (λ v. AllAllowed (x.setup s) call v ms) (sym (self w.view s (view_after (x.setup s) m (w.view s)))) h.1),
+)
 
-pub calls_from : (x : WorldSetup) (s : Side) (call : ModelCall) (stamp : ℕ) (old mid new : World) (v : View) (o : Option Act) (kept : Bool) (count : Side → ℕ → ℕ)
-    → LawfulMoves (x.setup s) call (mid.view s) (option_to_list o) v → CountsChanges old (world_after_call x s stamp kept o v mid) count → new ≡ record (world_after_call x s stamp kept o v mid) { count = count } → CallHappens x s call stamp old mid new
+pub calls_from : (x : WorldSetup) (s : Side) (call : ModelCall) (stamp : ℕ) (old mid new : World) (v : View) (o : Option Act)
+    (kept : Bool) (count : Side → ℕ → ℕ)
+    → LawfulMoves (x.setup s) call (mid.view s) (option_to_list o) v → CountsChanges old (world_after_call x s stamp kept o v mid) count
+    → new ≡ record (world_after_call x s stamp kept o v mid) { count = count } → CallHappens x s call stamp old mid new
 calls_from x s call stamp old mid new v o kept count h c e =
     let same : world_after_all x s stamp (map (λ (m : Move). (m, kept)) h.0) mid ≡ world_after_call x s stamp kept o v mid =
     called_moves x s stamp kept h.0 mid o h.2 ∙ ap (λ (v : View). world_after_call x s stamp kept o v mid) (sym h.3) in (
@@ -112,7 +131,8 @@ pub no_call : (x : WorldSetup) (s : Side) (call : ModelCall) (stamp : ℕ) (w : 
 no_call x s call stamp w = ([], tt, (w.count, (λ t p. inl (refl, refl)), refl))
 
 -- an end of a cable is that of a place of the list
-pub end_there : (cables : List Ends) (s : Side) (c p : ℕ) → end_at cables s c ≡ Some p → (i : ℕ) × (e : Ends) × (c ≡ suc i) × (slice_get cables i ≡ Some e) × (port_on s e ≡ p)
+pub end_there : (cables : List Ends) (s : Side) (c p : ℕ) → end_at cables s c ≡ Some p → (i : ℕ) × (e : Ends) × (c ≡ suc i)
+    × (slice_get cables i ≡ Some e) × (port_on s e ≡ p)
 end_there cables s zero p h = absurd (none-some p h)
 end_there cables s (suc i) p h = let m = mapped_some (port_on s) (slice_get cables i) p h in (i, m.0, refl, m.1, m.2)
 
@@ -121,7 +141,8 @@ pub put_on : (ends : ℕ → Option ℕ) (whole : ℕ → Bool) (kept : Bool) (p
     → ((c d p : ℕ) → ends c ≡ Some p → ends d ≡ Some p → c ≡ d) → ends c ≡ Some p
     → (d : ℕ) → put_on_cable ends whole kept p m lines d ≡ at_cable lines c (cond (kept && whole c) (lines c ++ m ∷ []) (lines c)) d
 put_on ends whole kept p m lines c one there d = elim (cable_cases lines c (cond (kept && whole c) (lines c ++ m ∷ []) (lines c)) d) [
-  | inl x ↦ subst (λ d. put_on_cable ends whole kept p m lines d ≡ cond (kept && whole c) (lines c ++ m ∷ []) (lines c)) (sym x.0) (here kept (whole c)) ∙ sym x.1
+  | inl x ↦ subst (λ d. put_on_cable ends whole kept p m lines d ≡ cond (kept && whole c) (lines c ++ m ∷ []) (lines c)) (sym x.0)
+      (here kept (whole c)) ∙ sym x.1
   | inr x ↦ elsewhere (put_cases ends whole kept p m lines d) x.0 ∙ sym x.1
 ]
   where
@@ -134,17 +155,21 @@ put_on ends whole kept p m lines c one there d = elim (cable_cases lines c (cond
     here false true = refl
     here false false = refl
 
-    elsewhere : ((put_on_cable ends whole kept p m lines d ≡ lines d ++ m ∷ []) × (whole d ≡ true) × (ends d ≡ Some p)) ⊎ (put_on_cable ends whole kept p m lines d ≡ lines d) → (d ≡ c → ⊥) → put_on_cable ends whole kept p m lines d ≡ lines d
+    elsewhere : ((put_on_cable ends whole kept p m lines d ≡ lines d ++ m ∷ []) × (whole d ≡ true) × (ends d ≡ Some p))
+        ⊎ (put_on_cable ends whole kept p m lines d ≡ lines d) → (d ≡ c → ⊥) → put_on_cable ends whole kept p m lines d ≡ lines d
     elsewhere h n = elim h [ inl x ↦ absurd (n (one d c p x.2 there)) | inr x ↦ x ]
 
 -- of a port without a cable
-pub put_nowhere : (ends : ℕ → Option ℕ) (whole : ℕ → Bool) (kept : Bool) (p : ℕ) (m : Message) (lines : ℕ → List Message) → ((c : ℕ) → ends c ≡ Some p → ⊥) → (d : ℕ) → put_on_cable ends whole kept p m lines d ≡ lines d
+pub put_nowhere : (ends : ℕ → Option ℕ) (whole : ℕ → Bool) (kept : Bool) (p : ℕ) (m : Message) (lines : ℕ → List Message)
+    → ((c : ℕ) → ends c ≡ Some p → ⊥) → (d : ℕ) → put_on_cable ends whole kept p m lines d ≡ lines d
 put_nowhere ends whole kept p m lines none d = elim (put_cases ends whole kept p m lines d) [ inl x ↦ absurd (none d x.2) | inr x ↦ x ]
 
 -- worlds that are alike at each place are the same
 pub same_world : (v w : World)
-    → ((s : Side) → v.view s ≡ w.view s) → ((c : ℕ) → v.whole c ≡ w.whole c) → ((s : Side) (c : ℕ) → v.on_cable s c ≡ w.on_cable s c) → ((s : Side) (p : ℕ) → v.count s p ≡ w.count s p)
-    → ((s : Side) (p : ℕ) → v.taken s p ≡ w.taken s p) → ((s : Side) (g k : ℕ) → v.sent s g k ≡ w.sent s g k) → ((s : Side) (g k : ℕ) → v.collected s g k ≡ w.collected s g k)
+    → ((s : Side) → v.view s ≡ w.view s) → ((c : ℕ) → v.whole c ≡ w.whole c) → ((s : Side) (c : ℕ) → v.on_cable s c ≡ w.on_cable s c)
+    → ((s : Side) (p : ℕ) → v.count s p ≡ w.count s p)
+    → ((s : Side) (p : ℕ) → v.taken s p ≡ w.taken s p) → ((s : Side) (g k : ℕ) → v.sent s g k ≡ w.sent s g k)
+    → ((s : Side) (g k : ℕ) → v.collected s g k ≡ w.collected s g k)
     → ((s : Side) (g k : ℕ) → v.forced s g k ≡ w.forced s g k) → v ≡ w
 same_world v w a b c d e f g h = λ i. record {
   view = λ s. a s i;
@@ -158,10 +183,12 @@ same_world v w a b c d e f g h = λ i. record {
 }
 
 -- views that are alike at each place are the same
-pub same_view : (v w : View) → ((p : ℕ) → v.port p ≡ w.port p) → ((g k : ℕ) → v.flows.state g k ≡ w.flows.state g k) → v.flows.next ≡ w.flows.next → v ≡ w
+pub same_view : (v w : View) → ((p : ℕ) → v.port p ≡ w.port p) → ((g k : ℕ) → v.flows.state g k ≡ w.flows.state g k)
+    → v.flows.next ≡ w.flows.next → v ≡ w
 same_view v w a b c = λ i. record { port = λ p. a p i; flows = record { state = λ g k. b g k i; next = c i } }
 
 -- runs one after another
-pub runs_joined : (x : WorldSetup) (es fs : List Event) (old mid new : World) → Run x es old mid → Run x fs mid new → Run x (es ++ fs) old new
+pub runs_joined : (x : WorldSetup) (es fs : List Event) (old mid new : World) → Run x es old mid → Run x fs mid new
+    → Run x (es ++ fs) old new
 runs_joined x [] fs old mid new h i = subst (λ w. Run x fs w new) h i
 runs_joined x (e ∷ es) fs old mid new h i = (h.0, h.1, runs_joined x es fs h.0 mid new h.2 i)

@@ -1,11 +1,15 @@
 -- The Actor of an LACPDU is its sender, and the partner that a port recorded is the sender of an LACPDU.
-use Rattle.std.proofs.Common.{◌≡◌, ◌≢◌, ℕ, suc, ◌≤◌, Bool, true, false, eqb, Option, Some, None, IsSomeAnd, List, [], ◌∷◌, length, sym, refl, ap, ◌∙◌, subst, ◌⊎◌, inl, inr, arith, eqb-true}
+use Rattle.std.proofs.Common.{◌≡◌, ◌≢◌, ℕ, suc, ◌≤◌, Bool, true, false, eqb, Option, Some, None, IsSomeAnd, List, [], ◌∷◌, length, sym}
+use Rattle.std.proofs.Common.{refl, ap, ◌∙◌, subst, ◌⊎◌, inl, inr, arith, eqb-true}
 use Rattle.std.specs.Prelude.{option_map}
 use Rattle.std.proofs.lemmas.Bool.{eqb-false, true≢false, false≢true, cases_Bool}
 use Rattle.std.proofs.lemmas.Option.{none-some, same_Some}
 use Rattle.lagtypes.specs.declared.party.Party.{Party}
-use Rattle.lagmodel.specs.View.{PortFacts, DistributorFacts, View, SystemSetup, first_port, first_view, LacpMessage, Lacp, Marker, Response, ModelCall, at_port, is_restart, replies_frame}
-use Rattle.lagmodel.specs.Move.{Took, PortMove, Stop, Leave, Desynchronise, Reconfigure, Default, Take, Join, Distribute, Announce, Respond, DistributorMove, Send, Mark, Become, distributor_act, Move, Port, Flow, Restart, PortAllowed, port_after, port_act, MoveAllowed, view_after, act, act_of_port}
+use Rattle.lagmodel.specs.View.{PortFacts, DistributorFacts, View, SystemSetup, first_port, first_view, LacpMessage, Lacp, Marker}
+use Rattle.lagmodel.specs.View.{Response, ModelCall, at_port, is_restart, replies_frame}
+use Rattle.lagmodel.specs.Move.{Took, PortMove, Stop, Leave, Desynchronise, Reconfigure, Default, Take, Join, Distribute, Announce}
+use Rattle.lagmodel.specs.Move.{Respond, DistributorMove, Send, Mark, Become, distributor_act, Move, Port, Flow, Restart, PortAllowed}
+use Rattle.lagmodel.specs.Move.{port_after, port_act, MoveAllowed, view_after, act, act_of_port}
 use Rattle.lagmodel.specs.World.{Side, Message, Control, Data, put_on_cable, at_cable, on_cable_after, taken_after, TakenLacpdu, party_at}
 use Rattle.lagmodel.proofs.Base.{cond_true, cond_false, value_of, mapped_some}
 use Rattle.lagmodel.proofs.Ports.{changed_port}
@@ -23,9 +27,11 @@ Fresh count party (Control (Response mac p n) stamp) = Unit {0}
 Fresh count party (Data origin g k serial) = Unit {0}
 
 -- of all LACPDUs of one system. taken: what the other system's ports took last
-pub record Stamps (ends theirs : ℕ → Option ℕ) (party : ℕ → Option Party) (count : ℕ → ℕ) (out : ℕ → List Message) (taken : ℕ → Option TakenLacpdu) : Type 0 where
+pub record Stamps (ends theirs : ℕ → Option ℕ) (party : ℕ → Option Party) (count : ℕ → ℕ) (out : ℕ → List Message) (taken : ℕ
+    → Option TakenLacpdu) : Type 0 where
   pub flight : (c p : ℕ) → ends c ≡ Some p → Every (Fresh (count p) (party p)) (out c)
-  pub last : (c p q : ℕ) (m : TakenLacpdu) → ends c ≡ Some p → theirs c ≡ Some q → taken q ≡ Some m → FreshPdu (count p) (party p) m.pdu m.stamp
+  pub last : (c p q : ℕ) (m : TakenLacpdu) → ends c ≡ Some p → theirs c ≡ Some q → taken q ≡ Some m
+      → FreshPdu (count p) (party p) m.pdu m.stamp
 
 -- A port that is not on defaults took an LACPDU from the partner that it records. It records it as synchronized only
 -- if that LACPDU said so, and named the port's party or has an individual actor.
@@ -38,21 +44,27 @@ Heard a o =
 abbrev pub AllHeard : (ℕ → Option PortFacts) → (ℕ → Option TakenLacpdu) → Type 0
 AllHeard ports taken = (p : ℕ) (a : PortFacts) → ports p ≡ Some a → Heard a (taken p)
 
-heard_changed : (ports : ℕ → Option PortFacts) (taken taken' : ℕ → Option TakenLacpdu) (p : ℕ) (f : PortFacts → PortFacts) (a : PortFacts) → ports p ≡ Some a
+heard_changed : (ports : ℕ → Option PortFacts) (taken taken' : ℕ → Option TakenLacpdu) (p : ℕ) (f : PortFacts → PortFacts) (a : PortFacts)
+    → ports p ≡ Some a
     → Heard (f a) (taken' p) → ((q : ℕ) → (q ≡ p → ⊥) → taken' q ≡ taken q) → AllHeard ports taken → AllHeard (at_port ports p f) taken'
 heard_changed ports taken taken' p f a h new same i q b e = elim (changed_port ports p q f a b h e) [
   | inl x ↦ subst (λ (b : PortFacts). Heard b (taken' q)) x.1 (subst (λ r. Heard (f a) (taken' r)) (sym x.0) new)
   | inr x ↦ subst (λ o. Heard b o) (sym (same q x.0)) (i q b x.1)
 ]
 
-heard_port : (u : SystemSetup) (call : ModelCall) (ports : ℕ → Option PortFacts) (p : ℕ) (stamp : ℕ) (taken : ℕ → Option TakenLacpdu) (m : PortMove) (a : PortFacts) → ports p ≡ Some a
-    → PortAllowed u call ports p m a → AllHeard ports taken → AllHeard (at_port ports p (port_after m)) (taken_after stamp (port_act p m a) taken)
+heard_port : (u : SystemSetup) (call : ModelCall) (ports : ℕ → Option PortFacts) (p : ℕ) (stamp : ℕ) (taken : ℕ → Option TakenLacpdu)
+    (m : PortMove) (a : PortFacts) → ports p ≡ Some a
+    → PortAllowed u call ports p m a → AllHeard ports taken
+    → AllHeard (at_port ports p (port_after m)) (taken_after stamp (port_act p m a) taken)
 heard_port u call ports p stamp taken Stop a h x i = heard_changed ports taken taken p (port_after Stop) a h (i p a h) (λ q e. refl) i
 heard_port u call ports p stamp taken Leave a h x i = heard_changed ports taken taken p (port_after Leave) a h (i p a h) (λ q e. refl) i
 heard_port u call ports p stamp taken Desynchronise a h x i =
-    heard_changed ports taken taken p (port_after Desynchronise) a h (λ d. let r = i p a h d in (r.0, r.1, r.2, λ e. absurd (false≢true e))) (λ q e. refl) i
-heard_port u call ports p stamp taken (Reconfigure party) a h x i = heard_changed ports taken taken p (port_after (Reconfigure party)) a h (λ d. absurd (true≢false d)) (λ q e. refl) i
-heard_port u call ports p stamp taken Default a h x i = heard_changed ports taken taken p (port_after Default) a h (λ d. absurd (true≢false d)) (λ q e. refl) i
+    heard_changed ports taken taken p (port_after Desynchronise) a h (λ d. let r = i p a h d in (r.0, r.1, r.2, λ e. absurd (false≢true e)))
+    (λ q e. refl) i
+heard_port u call ports p stamp taken (Reconfigure party) a h x i = heard_changed ports taken taken p (port_after (Reconfigure party)) a h
+    (λ d. absurd (true≢false d)) (λ q e. refl) i
+heard_port u call ports p stamp taken Default a h x i = heard_changed ports taken taken p (port_after Default) a h
+    (λ d. absurd (true≢false d)) (λ q e. refl) i
 heard_port u call ports p stamp taken (Take pdu synchronised) a h x i =
     heard_changed ports taken (taken_after stamp (Some (Took p pdu)) taken) p (port_after (Take pdu synchronised)) a h
     (λ d. (record { pdu = pdu; stamp = stamp }, self, refl, x.2)) (λ q ne. other q ne) i
@@ -62,19 +74,25 @@ heard_port u call ports p stamp taken (Take pdu synchronised) a h x i =
 
     other : (q : ℕ) → (q ≡ p → ⊥) → taken_after stamp (Some (Took p pdu)) taken q ≡ taken q
     other q ne = elim (cases_Bool (eqb q p)) [ inl e ↦ absurd (ne (eqb-true q p e)) | inr e ↦ cond_false (eqb q p) _ _ e ]
-heard_port u call ports p stamp taken (Join g) a h x i = heard_changed ports taken taken p (port_after (Join g)) a h (i p a h) (λ q e. refl) i
-heard_port u call ports p stamp taken Distribute a h x i = heard_changed ports taken taken p (port_after Distribute) a h (i p a h) (λ q e. refl) i
-heard_port u call ports p stamp taken (Announce synchronised) a h x i = heard_changed ports taken taken p (port_after (Announce synchronised)) a h (i p a h) (λ q e. refl) i
-heard_port u call ports p stamp taken (Respond mac q n) a h x i = heard_changed ports taken taken p (port_after (Respond mac q n)) a h (i p a h) (λ q e. refl) i
+heard_port u call ports p stamp taken (Join g) a h x i = heard_changed ports taken taken p (port_after (Join g)) a h
+    (i p a h) (λ q e. refl) i
+heard_port u call ports p stamp taken Distribute a h x i = heard_changed ports taken taken p (port_after Distribute) a h
+    (i p a h) (λ q e. refl) i
+heard_port u call ports p stamp taken (Announce synchronised) a h x i = heard_changed ports taken taken p
+    (port_after (Announce synchronised)) a h (i p a h) (λ q e. refl) i
+heard_port u call ports p stamp taken (Respond mac q n) a h x i = heard_changed ports taken taken p (port_after (Respond mac q n)) a h
+    (i p a h) (λ q e. refl) i
 
-heard_flow : (ports : ℕ → Option PortFacts) (mac : List ℕ) (stamp : ℕ) (taken : ℕ → Option TakenLacpdu) (f : DistributorFacts) (m : DistributorMove) → AllHeard ports taken → AllHeard ports (taken_after stamp (distributor_act mac m f) taken)
+heard_flow : (ports : ℕ → Option PortFacts) (mac : List ℕ) (stamp : ℕ) (taken : ℕ → Option TakenLacpdu) (f : DistributorFacts)
+    (m : DistributorMove) → AllHeard ports taken → AllHeard ports (taken_after stamp (distributor_act mac m f) taken)
 heard_flow ports mac stamp taken f (Send g k p) i = i
 heard_flow ports mac stamp taken f (Mark p) i = i
 heard_flow ports mac stamp taken f (Become g k m) i = i
 
 -- a move of this system
 pub heard_own : (u : SystemSetup) (call : ModelCall) (stamp : ℕ) (v : View) (m : Move) (taken : ℕ → Option TakenLacpdu)
-    → MoveAllowed u call v m → is_restart call ≡ false → AllHeard v.port taken → AllHeard ((view_after u m v).port) (taken_after stamp (act u m v) taken)
+    → MoveAllowed u call v m → is_restart call ≡ false → AllHeard v.port taken
+    → AllHeard ((view_after u m v).port) (taken_after stamp (act u m v) taken)
 heard_own u call stamp v (Port p m) taken x r i =
     let s = value_of (v.port p) (PortAllowed u call v.port p m) x in
     subst (λ o. AllHeard (at_port v.port p (port_after m)) (taken_after stamp (act_of_port p m o) taken)) (sym s.1)
@@ -83,11 +101,14 @@ heard_own u call stamp v (Flow m) taken x r i = heard_flow v.port u.system.mac s
 heard_own u call stamp v Restart taken x r i = absurd (true≢false (sym x ∙ r))
 
 pub heard_first : (u : SystemSetup) (taken : ℕ → Option TakenLacpdu) → AllHeard ((first_view u).port) taken
-heard_first u taken p a h = let m = mapped_some first_port (u.party p) a h in λ d. absurd (true≢false (ap (λ (a : PortFacts). a.defaulted) m.2 ∙ d))
+heard_first u taken p a h = let m = mapped_some first_port (u.party p) a h in λ d. absurd
+    (true≢false (ap (λ (a : PortFacts). a.defaulted) m.2 ∙ d))
 
 -- a message goes out that names its sender
-pub stamps_put : (ends theirs : ℕ → Option ℕ) (party : ℕ → Option Party) (count : ℕ → ℕ) (out : ℕ → List Message) (taken : ℕ → Option TakenLacpdu) (whole : ℕ → Bool) (kept : Bool) (q : ℕ) (m : Message)
-    → Fresh (count q) (party q) m → Stamps ends theirs party count out taken → Stamps ends theirs party count (put_on_cable ends whole kept q m out) taken
+pub stamps_put : (ends theirs : ℕ → Option ℕ) (party : ℕ → Option Party) (count : ℕ → ℕ) (out : ℕ → List Message) (taken : ℕ
+    → Option TakenLacpdu) (whole : ℕ → Bool) (kept : Bool) (q : ℕ) (m : Message)
+    → Fresh (count q) (party q) m → Stamps ends theirs party count out taken
+    → Stamps ends theirs party count (put_on_cable ends whole kept q m out) taken
 stamps_put ends theirs party count out taken whole kept q m fresh i = record {
   flight = λ c p e. elim (put_cases ends whole kept q m out c) [
     | inl x ↦ subst (Every (Fresh (count p) (party p))) (sym x.0)
@@ -98,15 +119,20 @@ stamps_put ends theirs party count out taken whole kept q m fresh i = record {
   last = i.last;
 }
 
-stamps_port : (s : Side) (ends theirs : ℕ → Option ℕ) (party : ℕ → Option Party) (count : ℕ → ℕ) (out : ℕ → List Message) (taken : ℕ → Option TakenLacpdu) (whole : ℕ → Bool) (sent : ℕ → ℕ → List ℕ) (kept : Bool)
-    (u : SystemSetup) (call : ModelCall) (v : View) (p : ℕ) (m : PortMove) (o : Option PortFacts) → v.port p ≡ o → IsSomeAnd o (PortAllowed u call v.port p m)
+stamps_port : (s : Side) (ends theirs : ℕ → Option ℕ) (party : ℕ → Option Party) (count : ℕ → ℕ) (out : ℕ → List Message) (taken : ℕ
+    → Option TakenLacpdu) (whole : ℕ → Bool) (sent : ℕ → ℕ → List ℕ) (kept : Bool)
+    (u : SystemSetup) (call : ModelCall) (v : View) (p : ℕ) (m : PortMove) (o : Option PortFacts) → v.port p ≡ o
+    → IsSomeAnd o (PortAllowed u call v.port p m)
     → (replies_frame call ≡ true → (q : ℕ) → party_at v q ≡ party q)
-    → Stamps ends theirs party count out taken → Stamps ends theirs party count (on_cable_after s ends whole count sent kept (act_of_port p m o) out) taken
+    → Stamps ends theirs party count out taken
+    → Stamps ends theirs party count (on_cable_after s ends whole count sent kept (act_of_port p m o) out) taken
 stamps_port s ends theirs party count out taken whole sent kept u call v p m None h x r i = i
 stamps_port s ends theirs party count out taken whole sent kept u call v p (Announce synchronised) (Some a) h x r i =
-    stamps_put ends theirs party count out taken whole kept p (Control (Lacp (record { actor = a.party; partner = a.partner; synchronised = synchronised })) (count p))
+    stamps_put ends theirs party count out taken whole kept p
+    (Control (Lacp (record { actor = a.party; partner = a.partner; synchronised = synchronised })) (count p))
     (omega arith, λ e. sym (r x.0 p) ∙ ap (option_map (λ (a : PortFacts). a.party)) h) i
-stamps_port s ends theirs party count out taken whole sent kept u call v p (Respond mac q n) (Some a) h x r i = stamps_put ends theirs party count out taken whole kept p (Control (Response mac q n) 0) tt i
+stamps_port s ends theirs party count out taken whole sent kept u call v p (Respond mac q n) (Some a) h x r i =
+    stamps_put ends theirs party count out taken whole kept p (Control (Response mac q n) 0) tt i
 stamps_port s ends theirs party count out taken whole sent kept u call v p Stop (Some a) h x r i = i
 stamps_port s ends theirs party count out taken whole sent kept u call v p Leave (Some a) h x r i = i
 stamps_port s ends theirs party count out taken whole sent kept u call v p Desynchronise (Some a) h x r i = i
@@ -116,31 +142,41 @@ stamps_port s ends theirs party count out taken whole sent kept u call v p (Take
 stamps_port s ends theirs party count out taken whole sent kept u call v p (Join g) (Some a) h x r i = i
 stamps_port s ends theirs party count out taken whole sent kept u call v p Distribute (Some a) h x r i = i
 
-stamps_flow : (s : Side) (ends theirs : ℕ → Option ℕ) (party : ℕ → Option Party) (count : ℕ → ℕ) (out : ℕ → List Message) (taken : ℕ → Option TakenLacpdu) (whole : ℕ → Bool) (sent : ℕ → ℕ → List ℕ) (kept : Bool)
+stamps_flow : (s : Side) (ends theirs : ℕ → Option ℕ) (party : ℕ → Option Party) (count : ℕ → ℕ) (out : ℕ → List Message) (taken : ℕ
+    → Option TakenLacpdu) (whole : ℕ → Bool) (sent : ℕ → ℕ → List ℕ) (kept : Bool)
     (mac : List ℕ) (f : DistributorFacts) (m : DistributorMove)
-    → Stamps ends theirs party count out taken → Stamps ends theirs party count (on_cable_after s ends whole count sent kept (distributor_act mac m f) out) taken
-stamps_flow s ends theirs party count out taken whole sent kept mac f (Send g k p) i = stamps_put ends theirs party count out taken whole kept p (Data s g k (length (sent g k))) tt i
-stamps_flow s ends theirs party count out taken whole sent kept mac f (Mark p) i = stamps_put ends theirs party count out taken whole kept p (Control (Marker mac p f.next) 0) tt i
+    → Stamps ends theirs party count out taken
+    → Stamps ends theirs party count (on_cable_after s ends whole count sent kept (distributor_act mac m f) out) taken
+stamps_flow s ends theirs party count out taken whole sent kept mac f (Send g k p) i = stamps_put ends theirs party count out taken whole
+    kept p (Data s g k (length (sent g k))) tt i
+stamps_flow s ends theirs party count out taken whole sent kept mac f (Mark p) i = stamps_put ends theirs party count out taken whole kept p
+    (Control (Marker mac p f.next) 0) tt i
 stamps_flow s ends theirs party count out taken whole sent kept mac f (Become g k m) i = i
 
 -- a move of this system, which has had these parties since the event began, unless its call sends nothing
-pub stamps_own : (s : Side) (ends theirs : ℕ → Option ℕ) (party : ℕ → Option Party) (count : ℕ → ℕ) (out : ℕ → List Message) (taken : ℕ → Option TakenLacpdu) (whole : ℕ → Bool) (sent : ℕ → ℕ → List ℕ) (kept : Bool)
+pub stamps_own : (s : Side) (ends theirs : ℕ → Option ℕ) (party : ℕ → Option Party) (count : ℕ → ℕ) (out : ℕ → List Message) (taken : ℕ
+    → Option TakenLacpdu) (whole : ℕ → Bool) (sent : ℕ → ℕ → List ℕ) (kept : Bool)
     (u : SystemSetup) (call : ModelCall) (v : View) (m : Move) → MoveAllowed u call v m
     → (replies_frame call ≡ true → (q : ℕ) → party_at v q ≡ party q)
-    → Stamps ends theirs party count out taken → Stamps ends theirs party count (on_cable_after s ends whole count sent kept (act u m v) out) taken
-stamps_own s ends theirs party count out taken whole sent kept u call v (Port p m) x r i = stamps_port s ends theirs party count out taken whole sent kept u call v p m (v.port p) refl x r i
-stamps_own s ends theirs party count out taken whole sent kept u call v (Flow m) x r i = stamps_flow s ends theirs party count out taken whole sent kept u.system.mac v.flows m i
+    → Stamps ends theirs party count out taken
+    → Stamps ends theirs party count (on_cable_after s ends whole count sent kept (act u m v) out) taken
+stamps_own s ends theirs party count out taken whole sent kept u call v (Port p m) x r i = stamps_port s ends theirs party count out taken
+    whole sent kept u call v p m (v.port p) refl x r i
+stamps_own s ends theirs party count out taken whole sent kept u call v (Flow m) x r i = stamps_flow s ends theirs party count out taken
+    whole sent kept u.system.mac v.flows m i
 stamps_own s ends theirs party count out taken whole sent kept u call v Restart x r i = i
 
 -- a port of the peer takes an LACPDU that stands first on its cable
-stamps_taken : (ends theirs : ℕ → Option ℕ) (party : ℕ → Option Party) (count : ℕ → ℕ) (out : ℕ → List Message) (taken : ℕ → Option TakenLacpdu) (p : ℕ) (pdu : LacpMessage) (stamp : ℕ)
+stamps_taken : (ends theirs : ℕ → Option ℕ) (party : ℕ → Option Party) (count : ℕ → ℕ) (out : ℕ → List Message) (taken : ℕ
+    → Option TakenLacpdu) (p : ℕ) (pdu : LacpMessage) (stamp : ℕ)
     → ((c : ℕ) → theirs c ≡ Some p → (ms : List Message) × (out c ≡ Control (Lacp pdu) stamp ∷ ms))
     → Stamps ends theirs party count out taken → Stamps ends theirs party count out (taken_after stamp (Some (Took p pdu)) taken)
 stamps_taken ends theirs party count out taken p pdu stamp came i = record {
   flight = i.flight;
   last = λ c r q m e f h. elim (cases_Bool (eqb q p)) [
     | inl a ↦ (let same : q ≡ p = eqb-true q p a in
-        let this : record { pdu = pdu; stamp = stamp } ≡ m = same_Some (record { pdu = pdu; stamp = stamp }) m (sym (cond_true (eqb q p) _ (taken q) a) ∙ h) in
+        let this : record { pdu = pdu; stamp = stamp } ≡ m = same_Some (record { pdu = pdu; stamp = stamp }) m
+        (sym (cond_true (eqb q p) _ (taken q) a) ∙ h) in
         let first = came c (f ∙ ap (λ (n : ℕ). Some n) same) in
         let fresh = subst (Every (Fresh (count r) (party r))) first.1 (i.flight c r e) in
         subst (λ (m : TakenLacpdu). FreshPdu (count r) (party r) m.pdu m.stamp) this fresh.0)
@@ -149,12 +185,15 @@ stamps_taken ends theirs party count out taken p pdu stamp came i = record {
 }
 
 -- a move of the peer
-pub stamps_peer : (ends theirs : ℕ → Option ℕ) (party : ℕ → Option Party) (count : ℕ → ℕ) (out : ℕ → List Message) (taken : ℕ → Option TakenLacpdu) (whole : ℕ → Bool) (theirs_forced : ℕ → ℕ → Bool) (u : SystemSetup) (call : ModelCall) (stamp : ℕ) (v : View) (m : Move)
+pub stamps_peer : (ends theirs : ℕ → Option ℕ) (party : ℕ → Option Party) (count : ℕ → ℕ) (out : ℕ → List Message) (taken : ℕ
+    → Option TakenLacpdu) (whole : ℕ → Bool) (theirs_forced : ℕ → ℕ → Bool) (u : SystemSetup) (call : ModelCall)
+    (stamp : ℕ) (v : View) (m : Move)
     → MoveAllowed u call v m → Within call stamp theirs out whole theirs_forced
     → Stamps ends theirs party count out taken → Stamps ends theirs party count out (taken_after stamp (act u m v) taken)
 stamps_peer ends theirs party count out taken whole theirs_forced u call stamp v (Port p m) x w i = go m (v.port p) x
   where
-    go : (m : PortMove) (o : Option PortFacts) → IsSomeAnd o (PortAllowed u call v.port p m) → Stamps ends theirs party count out (taken_after stamp (act_of_port p m o) taken)
+    go : (m : PortMove) (o : Option PortFacts) → IsSomeAnd o (PortAllowed u call v.port p m)
+        → Stamps ends theirs party count out (taken_after stamp (act_of_port p m o) taken)
     go m None x = i
     go (Take pdu synchronised) (Some a) x = stamps_taken ends theirs party count out taken p pdu stamp (w.came p (Lacp pdu) x.0) i
     go (Announce synchronised) (Some a) x = i
@@ -175,7 +214,8 @@ stamps_peer ends theirs party count out taken whole theirs_forced u call stamp v
 stamps_peer ends theirs party count out taken whole theirs_forced u call stamp v Restart x w i = i
 
 -- only a configure changes a party
-party_kept : (u : SystemSetup) (call : ModelCall) (ports : ℕ → Option PortFacts) (p : ℕ) (m : PortMove) (a : PortFacts) → PortAllowed u call ports p m a → replies_frame call ≡ true → (port_after m a).party ≡ a.party
+party_kept : (u : SystemSetup) (call : ModelCall) (ports : ℕ → Option PortFacts) (p : ℕ) (m : PortMove) (a : PortFacts)
+    → PortAllowed u call ports p m a → replies_frame call ≡ true → (port_after m a).party ≡ a.party
 party_kept u call ports p Stop a x r = refl
 party_kept u call ports p Leave a x r = refl
 party_kept u call ports p Desynchronise a x r = refl
@@ -187,13 +227,15 @@ party_kept u call ports p Distribute a x r = refl
 party_kept u call ports p (Announce synchronised) a x r = refl
 party_kept u call ports p (Respond mac q n) a x r = refl
 
-pub parties_kept : (u : SystemSetup) (call : ModelCall) (v : View) (m : Move) → MoveAllowed u call v m → is_restart call ≡ false → replies_frame call ≡ true → (q : ℕ) → party_at (view_after u m v) q ≡ party_at v q
+pub parties_kept : (u : SystemSetup) (call : ModelCall) (v : View) (m : Move) → MoveAllowed u call v m → is_restart call ≡ false
+    → replies_frame call ≡ true → (q : ℕ) → party_at (view_after u m v) q ≡ party_at v q
 parties_kept u call v (Port p m) x r f q =
     let s = value_of (v.port p) (PortAllowed u call v.port p m) x in
     elim (cases_Bool (eqb q p)) [
       | inl e ↦ (let same : q ≡ p = eqb-true q p e in
           let there : v.port q ≡ Some s.0 = subst (λ r. v.port r ≡ Some s.0) (sym same) s.1 in
-          ap (option_map (λ (a : PortFacts). a.party)) (cond_true (eqb q p) (option_map (port_after m) (v.port q)) (v.port q) e ∙ ap (option_map (port_after m)) there)
+          ap (option_map (λ (a : PortFacts). a.party)) (cond_true (eqb q p) (option_map (port_after m) (v.port q)) (v.port q) e
+          ∙ ap (option_map (port_after m)) there)
           ∙ ap (λ (y : Party). Some y) (party_kept u call v.port p m s.0 s.2 f)
           ∙ sym (ap (option_map (λ (a : PortFacts). a.party)) there))
       | inr e ↦ ap (option_map (λ (a : PortFacts). a.party)) (cond_false (eqb q p) (option_map (port_after m) (v.port q)) (v.port q) e)
@@ -202,17 +244,20 @@ parties_kept u call v (Flow m) x r f q = refl
 parties_kept u call v Restart x r f q = absurd (true≢false (sym x ∙ r))
 
 -- the first message that the system sent is taken away
-pub stamps_out_taken : (ends theirs : ℕ → Option ℕ) (party : ℕ → Option Party) (count : ℕ → ℕ) (out : ℕ → List Message) (taken : ℕ → Option TakenLacpdu) (c : ℕ) (m : Message) (ms : List Message)
+pub stamps_out_taken : (ends theirs : ℕ → Option ℕ) (party : ℕ → Option Party) (count : ℕ → ℕ) (out : ℕ → List Message) (taken : ℕ
+    → Option TakenLacpdu) (c : ℕ) (m : Message) (ms : List Message)
     → out c ≡ m ∷ ms → Stamps ends theirs party count out taken → Stamps ends theirs party count (at_cable out c ms) taken
 stamps_out_taken ends theirs party count out taken c m ms e i = record {
   flight = λ d p h. elim (cable_cases out c ms d) [
-    | inl x ↦ subst (Every (Fresh (count p) (party p))) (sym x.1) ((subst (Every (Fresh (count p) (party p))) e (i.flight c p (subst (λ d. ends d ≡ Some p) x.0 h))).1)
+    | inl x ↦ subst (Every (Fresh (count p) (party p))) (sym x.1)
+        ((subst (Every (Fresh (count p) (party p))) e (i.flight c p (subst (λ d. ends d ≡ Some p) x.0 h))).1)
     | inr x ↦ subst (Every (Fresh (count p) (party p))) (sym x.1) (i.flight d p h)
   ];
   last = i.last;
 }
 
-pub stamps_cut : (ends theirs : ℕ → Option ℕ) (party : ℕ → Option Party) (count : ℕ → ℕ) (out : ℕ → List Message) (taken : ℕ → Option TakenLacpdu) (c : ℕ)
+pub stamps_cut : (ends theirs : ℕ → Option ℕ) (party : ℕ → Option Party) (count : ℕ → ℕ) (out : ℕ → List Message) (taken : ℕ
+    → Option TakenLacpdu) (c : ℕ)
     → Stamps ends theirs party count out taken → Stamps ends theirs party count (at_cable out c []) taken
 stamps_cut ends theirs party count out taken c i = record {
   flight = λ d p h. elim (cable_cases out c [] d) [
@@ -222,28 +267,33 @@ stamps_cut ends theirs party count out taken c i = record {
   last = i.last;
 }
 
-pub stamps_emptied : (ends theirs : ℕ → Option ℕ) (party : ℕ → Option Party) (count : ℕ → ℕ) (out : ℕ → List Message) (taken : ℕ → Option TakenLacpdu)
+pub stamps_emptied : (ends theirs : ℕ → Option ℕ) (party : ℕ → Option Party) (count : ℕ → ℕ) (out : ℕ → List Message)
+    (taken : ℕ → Option TakenLacpdu)
     → Stamps ends theirs party count out taken → Stamps ends theirs party count (λ c. []) taken
 stamps_emptied ends theirs party count out taken i = record { flight = λ d p h. tt; last = i.last }
 
 -- the end of an event, at which the counts rise if the parties differ
-fresh_counted : (old new : ℕ) (was is : Option Party) → ((is ≡ was) × (new ≡ old)) ⊎ ((is ≢ was) × (new ≡ suc old)) → (pdu : LacpMessage) (stamp : ℕ) → FreshPdu old was pdu stamp → FreshPdu new is pdu stamp
+fresh_counted : (old new : ℕ) (was is : Option Party) → ((is ≡ was) × (new ≡ old)) ⊎ ((is ≢ was) × (new ≡ suc old))
+    → (pdu : LacpMessage) (stamp : ℕ) → FreshPdu old was pdu stamp → FreshPdu new is pdu stamp
 fresh_counted old new was is h pdu stamp f = elim h [
   | inl x ↦ (let e = x.1 in let le = f.0 in omega arith, λ e. x.0 ∙ f.1 (e ∙ x.1))
   | inr x ↦ (let e = x.1 in let le = f.0 in omega arith, λ e. let e' = x.1 in let le = f.0 in absurd (omega arith))
 ]
 
-every_counted : (old new : ℕ) (was is : Option Party) → ((is ≡ was) × (new ≡ old)) ⊎ ((is ≢ was) × (new ≡ suc old)) → (m : Message) → Fresh old was m → Fresh new is m
+every_counted : (old new : ℕ) (was is : Option Party) → ((is ≡ was) × (new ≡ old)) ⊎ ((is ≢ was) × (new ≡ suc old)) → (m : Message)
+    → Fresh old was m → Fresh new is m
 every_counted old new was is h (Control (Lacp pdu) stamp) f = fresh_counted old new was is h pdu stamp f
 every_counted old new was is h (Control (Marker mac p n) stamp) f = tt
 every_counted old new was is h (Control (Response mac p n) stamp) f = tt
 every_counted old new was is h (Data origin g k serial) f = tt
 
-pub stamps_counted : (ends theirs : ℕ → Option ℕ) (was is : ℕ → Option Party) (old new : ℕ → ℕ) (out : ℕ → List Message) (taken : ℕ → Option TakenLacpdu)
+pub stamps_counted : (ends theirs : ℕ → Option ℕ) (was is : ℕ → Option Party) (old new : ℕ → ℕ) (out : ℕ → List Message)
+    (taken : ℕ → Option TakenLacpdu)
     → ((p : ℕ) → ((is p ≡ was p) × (new p ≡ old p)) ⊎ ((is p ≢ was p) × (new p ≡ suc (old p))))
     → Stamps ends theirs was old out taken → Stamps ends theirs is new out taken
 stamps_counted ends theirs was is old new out taken h i = record {
-  flight = λ c p e. every_weaker (Fresh (old p) (was p)) (Fresh (new p) (is p)) (every_counted (old p) (new p) (was p) (is p) (h p)) (out c) (i.flight c p e);
+  flight = λ c p e. every_weaker (Fresh (old p) (was p)) (Fresh (new p) (is p)) (every_counted (old p) (new p) (was p) (is p) (h p))
+      (out c) (i.flight c p e);
   last = λ c p q m e f t. fresh_counted (old p) (new p) (was p) (is p) (h p) m.pdu m.stamp (i.last c p q m e f t);
 }
 

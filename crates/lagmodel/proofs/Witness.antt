@@ -1,33 +1,47 @@
 -- A run in which two systems agree and a frame arrives: the headline is not empty.
-use Rattle.std.proofs.Common.{◌≡◌, ℕ, zero, suc, Bool, true, false, cond, eqb, Option, Some, None, List, [], ◌∷◌, sym, refl, ap, ◌∙◌, ◌≢◌, inl, inr, arith, eqb-true}
+use Rattle.std.proofs.Common.{◌≡◌, ℕ, zero, suc, Bool, true, false, cond, eqb, Option, Some, None, List, [], ◌∷◌, sym, refl, ap, ◌∙◌}
+use Rattle.std.proofs.Common.{◌≢◌, inl, inr, arith, eqb-true}
 use Rattle.std.proofs.lemmas.Option.{none-some, same_Some}
 use Rattle.std.proofs.lemmas.Bool.{false≢true}
 use Rattle.lagtypes.specs.declared.identifiers.SystemId.{SystemId}
 use Rattle.lagtypes.specs.declared.party.Party.{Party}
-use Rattle.lagmodel.specs.View.{zero_party, PortFacts, SystemSetup, LacpMessage, Lacp, first_port, first_view, ModelCall, Receive, at_port, is_restart, replies_frame}
+use Rattle.lagmodel.specs.View.{zero_party, PortFacts, SystemSetup, LacpMessage, Lacp, first_port, first_view, ModelCall, Receive}
+use Rattle.lagmodel.specs.View.{at_port, is_restart, replies_frame}
 use Rattle.lagmodel.specs.Move.{Move, Port, Flow, Announce, Take, Join, Distribute, Send, port_after}
-use Rattle.lagmodel.specs.World.{Side, One, Two, IsCabling, World, WorldSetup, IsWorldSetup, first_world, party_at, world_after, AllMoves, world_after_all, CallHappens, with_messages, handed_up, Data, Event, Happens}
+use Rattle.lagmodel.specs.World.{Side, One, Two, IsCabling, World, WorldSetup, IsWorldSetup, first_world, party_at, world_after}
+use Rattle.lagmodel.specs.World.{AllMoves, world_after_all, CallHappens, with_messages, handed_up, Data, Event, Happens}
 use Rattle.lagmodel.specs.Law.{SomethingArrives}
 use Rattle.lagmodel.proofs.Base.{chosen, mapped_some}
 use Rattle.lagmodel.proofs.Ports.{changed_port}
 use Rattle.lagmodel.proofs.Stamps.{parties_kept}
 
 -- a call whose reply may hold a frame leaves the parties, and so the change counts
-pub same_parties : (x : WorldSetup) (s : Side) (call : ModelCall) (stamp : ℕ) (ms : List (Move × Bool)) (w : World) → is_restart call ≡ false → replies_frame call ≡ true → AllMoves x s call stamp ms w
+pub same_parties : (x : WorldSetup) (s : Side) (call : ModelCall) (stamp : ℕ) (ms : List (Move × Bool)) (w : World)
+    → is_restart call ≡ false → replies_frame call ≡ true → AllMoves x s call stamp ms w
     → (t : Side) (p : ℕ) → party_at ((world_after_all x s stamp ms w).view t) p ≡ party_at (w.view t) p
 same_parties x s call stamp [] w r f a t p = refl
-same_parties x One call stamp (m ∷ ms) w r f a One p = same_parties x One call stamp ms (world_after x One stamp m w) r f a.1 One p ∙ parties_kept (x.setup One) call (w.view One) m.0 a.0 r f p
+same_parties x One call stamp (m ∷ ms) w r f a One p = same_parties x One call stamp ms (world_after x One stamp m w) r f a.1 One p
+    ∙ parties_kept (x.setup One) call (w.view One) m.0 a.0 r f p
 same_parties x One call stamp (m ∷ ms) w r f a Two p = same_parties x One call stamp ms (world_after x One stamp m w) r f a.1 Two p
 same_parties x Two call stamp (m ∷ ms) w r f a One p = same_parties x Two call stamp ms (world_after x Two stamp m w) r f a.1 One p
-same_parties x Two call stamp (m ∷ ms) w r f a Two p = same_parties x Two call stamp ms (world_after x Two stamp m w) r f a.1 Two p ∙ parties_kept (x.setup Two) call (w.view Two) m.0 a.0 r f p
+same_parties x Two call stamp (m ∷ ms) w r f a Two p = same_parties x Two call stamp ms (world_after x Two stamp m w) r f a.1 Two p
+    ∙ parties_kept (x.setup Two) call (w.view Two) m.0 a.0 r f p
 
-made : (x : WorldSetup) (s : Side) (call : ModelCall) (stamp : ℕ) (ms : List (Move × Bool)) (old mid : World) → ((t : Side) (p : ℕ) → party_at (mid.view t) p ≡ party_at (old.view t) p) → mid.count ≡ old.count → is_restart call ≡ false → replies_frame call ≡ true → AllMoves x s call stamp ms mid
+made : (x : WorldSetup) (s : Side) (call : ModelCall) (stamp : ℕ) (ms : List (Move × Bool)) (old mid : World)
+    → ((t : Side) (p : ℕ) → party_at (mid.view t) p ≡ party_at (old.view t) p) → mid.count ≡ old.count → is_restart call ≡ false
+    → replies_frame call ≡ true → AllMoves x s call stamp ms mid
     → CallHappens x s call stamp old mid (record (world_after_all x s stamp ms mid) { count = mid.count })
 made x s call stamp ms old mid h c r f a =
     (ms, a, (mid.count, (λ t p. inl (same_parties x s call stamp ms mid r f a t p ∙ h t p, ap (λ (n : Side → ℕ → ℕ). n t p) c)), refl))
 
 abbrev party_of : ℕ → Party
-party_of n = record { system = record { priority = n; mac = [] }; key = record { 0 = 1 }; port = record { priority = 128; number = 1 }; aggregatable = true }
+party_of n = record {
+  system = record { priority = n; mac = [] };
+  key = record { 0 = 1 };
+  port =
+      record { priority = 128; number = 1 };
+  aggregatable = true;
+}
 
 abbrev setup_of : ℕ → SystemSetup
 setup_of n = record {
@@ -107,9 +121,11 @@ abbrev Outside : (ℕ → Option PortFacts) → Type 0
 Outside ports = (q : ℕ) (b : PortFacts) → ports q ≡ Some b → b.aggregator ≢ Some 1
 
 outside_first : (n : ℕ) → Outside (first_view (setup_of n)).port
-outside_first n q b h e = let m = mapped_some first_port (cond (eqb q 1) (Some (party_of n)) None) b h in none-some 1 (ap (λ (a : PortFacts). a.aggregator) m.2 ∙ e)
+outside_first n q b h e = let m = mapped_some first_port (cond (eqb q 1) (Some (party_of n)) None) b h in none-some 1
+    (ap (λ (a : PortFacts). a.aggregator) m.2 ∙ e)
 
-outside_kept : (ports : ℕ → Option PortFacts) (a : PortFacts) (f : PortFacts → PortFacts) → ports 1 ≡ Some a → ((f a).aggregator ≡ Some 1 → ⊥) → Outside ports → Outside (at_port ports 1 f)
+outside_kept : (ports : ℕ → Option PortFacts) (a : PortFacts) (f : PortFacts → PortFacts) → ports 1 ≡ Some a
+    → ((f a).aggregator ≡ Some 1 → ⊥) → Outside ports → Outside (at_port ports 1 f)
 outside_kept ports a f h n i q b hb e = elim (changed_port ports 1 q f a b h hb) [
   | inl x ↦ n (ap (λ (b : PortFacts). b.aggregator) x.1 ∙ e)
   | inr x ↦ i q b x.1 e
@@ -122,13 +138,20 @@ ne₂ : (party_of 1).system ≢ (party_of 2).system
 ne₂ e = ne₁ (sym e)
 
 e₁ : Happens x₀ (Event.Emit Two 1) (first_world x₀) w₁
-e₁ = made x₀ Two ModelCall.Transmit 0 ms₁ (first_world x₀) (first_world x₀) (λ t p. refl) refl refl refl ((refl, λ h. absurd (false≢true h)), tt)
+e₁ = made x₀ Two ModelCall.Transmit 0 ms₁ (first_world x₀) (first_world x₀) (λ t p. refl) refl refl refl
+    ((refl, λ h. absurd (false≢true h)), tt)
 
 e₂ : Happens x₀ (Event.Deliver 1 One) w₁ w₂
 e₂ = made x₀ One (Receive 1 (Some (Lacp pdu₁))) 0 ms₂ w₁ (with_messages w₁ 1 One []) (λ t p. refl) refl refl refl (
   (refl, inr refl, λ h. absurd (false≢true h)),
   (
-    (refl, ne₁, refl, inl (outside_kept (first_view (setup_of 1)).port (first_port (party_of 1)) (port_after (Take pdu₁ false)) refl (λ h. none-some 1 h) (outside_first 1))),
+    (
+      refl,
+      ne₁,
+      refl,
+      inl (outside_kept (first_view (setup_of 1)).port (first_port (party_of 1)) (port_after (Take pdu₁ false)) refl
+          (λ h. none-some 1 h) (outside_first 1)),
+    ),
     tt,
   ),
 )
@@ -144,8 +167,10 @@ e₄ = made x₀ Two (Receive 1 (Some (Lacp pdu₂))) 0 ms₄ w₃ (with_message
       refl,
       ne₂,
       refl,
-      inl (outside_kept (at_port (first_view (setup_of 2)).port 1 (port_after (Announce false))) (first_port (party_of 2)) (port_after (Take pdu₂ true)) refl (λ h. none-some 1 h)
-          (outside_kept (first_view (setup_of 2)).port (first_port (party_of 2)) (port_after (Announce false)) refl (λ h. none-some 1 h) (outside_first 2))),
+      inl (outside_kept (at_port (first_view (setup_of 2)).port 1 (port_after (Announce false))) (first_port (party_of 2))
+          (port_after (Take pdu₂ true)) refl (λ h. none-some 1 h)
+          (outside_kept (first_view (setup_of 2)).port (first_port (party_of 2)) (port_after (Announce false)) refl
+          (λ h. none-some 1 h) (outside_first 2))),
     ),
     ((refl, refl), tt),
   ),
@@ -162,7 +187,11 @@ e₇ : Happens x₀ (Event.Offer One 1 frame) w₆ w₇
 e₇ = made x₀ One ModelCall.Offer 0 ms₇ w₆ w₆ (λ t p. refl) refl refl refl ((refl, inl (refl, (refl, refl))), tt)
 
 e₈ : Happens x₀ (Event.Deliver 1 Two) w₇ w₈
-e₈ = (true, made x₀ Two (Receive 1 None) 0 [] w₇ (handed_up true (Data One 1 48 0) (with_messages w₇ 1 Two [])) (λ t p. refl) refl refl refl tt)
+e₈ = (
+  true,
+  made x₀ Two (Receive 1 None) 0 [] w₇ (handed_up true (Data One 1 48 0) (with_messages w₇ 1 Two []))
+      (λ t p. refl) refl refl refl tt,
+)
 
 fixed₀ : IsWorldSetup x₀
 fixed₀ = record {
@@ -173,7 +202,8 @@ fixed₀ = record {
   cables = cabling;
 }
   where
-    party_system : (s : Side) (p : ℕ) (a : Party) → (setup_of (priority_of s)).party p ≡ Some a → a.system ≡ (setup_of (priority_of s)).system
+    party_system : (s : Side) (p : ℕ) (a : Party) → (setup_of (priority_of s)).party p ≡ Some a
+        → a.system ≡ (setup_of (priority_of s)).system
     party_system s p a h = elim (chosen (eqb p 1) (Some (party_of (priority_of s))) None (Some a) h) [
       | inl y ↦ ap (λ (a : Party). a.system) (sym (same_Some (party_of (priority_of s)) a y.1))
       | inr y ↦ absurd (none-some a y.1)
@@ -196,10 +226,25 @@ fixed₀ = record {
 pub something_arrives : SomethingArrives
 something_arrives = (
   x₀,
-  Event.Emit Two 1 ∷ Event.Deliver 1 One ∷ Event.Emit One 1 ∷ Event.Deliver 1 Two ∷ Event.Emit Two 1 ∷ Event.Deliver 1 One ∷ Event.Offer One 1 frame ∷ Event.Deliver 1 Two ∷ [],
+  Event.Emit Two 1 ∷ Event.Deliver 1 One ∷ Event.Emit One 1 ∷ Event.Deliver 1 Two ∷ Event.Emit Two 1 ∷ Event.Deliver 1 One
+      ∷ Event.Offer One 1 frame ∷ Event.Deliver 1 Two ∷ [],
   w₈,
-  record (first_port (party_of 1)) { partner = party_of 2; synchronised = true; defaulted = false; aggregator = Some 1; distributes = true },
-  record (first_port (party_of 2)) { partner = party_of 1; synchronised = true; defaulted = false; aggregator = Some 1; distributes = true },
+  record (first_port (party_of 1)) {
+    partner = party_of 2;
+    synchronised = true;
+    defaulted = false;
+    aggregator =
+        Some 1;
+    distributes = true;
+  },
+  record (first_port (party_of 2)) {
+    partner = party_of 1;
+    synchronised = true;
+    defaulted = false;
+    aggregator =
+        Some 1;
+    distributes = true;
+  },
   fixed₀,
   (w₁, e₁, (w₂, e₂, (w₃, e₃, (w₄, e₄, (w₅, e₅, (w₆, e₆, (w₇, e₇, (w₈, e₈, refl)))))))),
   refl,

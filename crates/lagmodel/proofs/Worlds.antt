@@ -4,7 +4,8 @@ use Rattle.std.proofs.lemmas.Bool.{true≢false}
 use Rattle.lagtypes.specs.declared.party.Party.{Party}
 use Rattle.lagmodel.specs.View.{View, SystemSetup, ModelCall, replies_frame, is_restart}
 use Rattle.lagmodel.specs.Move.{Move, Port, Flow, Restart, MoveAllowed, view_after, act}
-use Rattle.lagmodel.specs.World.{Side, One, Two, peer, Message, end_at, TakenLacpdu, World, WorldSetup, party_at, on_cable_after, sent_after, taken_after, world_after, AllMoves, world_after_all}
+use Rattle.lagmodel.specs.World.{Side, One, Two, peer, Message, end_at, TakenLacpdu, World, WorldSetup, party_at, on_cable_after}
+use Rattle.lagmodel.specs.World.{sent_after, taken_after, world_after, AllMoves, world_after_all}
 use Rattle.lagmodel.specs.Law.{Members}
 use Rattle.lagmodel.proofs.Ports.{members_kept}
 use Rattle.lagmodel.proofs.Lanes.{Lanes}
@@ -12,7 +13,8 @@ use Rattle.lagmodel.proofs.LaneMoves.{Within, lanes_own, lanes_peer}
 use Rattle.lagmodel.proofs.Stamps.{Stamps, AllHeard, heard_own, stamps_own, stamps_peer, parties_kept}
 
 -- what holds of one system and of what it sent: out on each cable, with back to it
-pub record Half (u : SystemSetup) (me : Side) (ends theirs : ℕ → Option ℕ) (v : View) (party : ℕ → Option Party) (count : ℕ → ℕ) (out back : ℕ → List Message) (whole : ℕ → Bool)
+pub record Half (u : SystemSetup) (me : Side) (ends theirs : ℕ → Option ℕ) (v : View) (party : ℕ → Option Party) (count : ℕ
+    → ℕ) (out back : ℕ → List Message) (whole : ℕ → Bool)
     (sent collected : ℕ → ℕ → List ℕ) (forced : ℕ → ℕ → Bool) (taken their_taken : ℕ → Option TakenLacpdu) : Type 0 where
   pub members : Members u v.port
   pub lanes : Lanes me ends v.flows out back whole sent collected forced
@@ -21,31 +23,40 @@ pub record Half (u : SystemSetup) (me : Side) (ends theirs : ℕ → Option ℕ)
 
 -- of system s in a world
 abbrev pub HalfOf : WorldSetup → World → Side → Type 0
-HalfOf x w s = Half (x.setup s) s (end_at x.cables s) (end_at x.cables (peer s)) (w.view s) (party_at (w.view s)) (w.count s) (w.on_cable (peer s)) (w.on_cable s) w.whole (w.sent s) (w.collected s) (w.forced s) (w.taken s) (w.taken (peer s))
+HalfOf x w s = Half (x.setup s) s (end_at x.cables s) (end_at x.cables (peer s)) (w.view s) (party_at (w.view s)) (w.count s)
+    (w.on_cable (peer s)) (w.on_cable s) w.whole (w.sent s) (w.collected s) (w.forced s) (w.taken s) (w.taken (peer s))
 
 -- of both systems
 abbrev pub Lawful : WorldSetup → World → Type 0
 Lawful x w = (s : Side) → HalfOf x w s
 
 -- While system s runs a call. party: the parties as the event began. towards: what was on the cables to it then
-pub record Calling (x : WorldSetup) (s : Side) (call : ModelCall) (stamp : ℕ) (party : Side → ℕ → Option Party) (count : Side → ℕ → ℕ) (towards base : ℕ → List Message) (w : World) : Type 0 where
+pub record Calling (x : WorldSetup) (s : Side) (call : ModelCall) (stamp : ℕ) (party : Side → ℕ → Option Party) (count : Side → ℕ
+    → ℕ) (towards base : ℕ → List Message) (w : World) : Type 0 where
   pub within : Within call stamp (end_at x.cables s) towards w.whole (w.forced s)
   pub parties : replies_frame call ≡ true → (p : ℕ) → party_at (w.view s) p ≡ party s p
-  pub own : Half (x.setup s) s (end_at x.cables s) (end_at x.cables (peer s)) (w.view s) (party s) (w.count s) (w.on_cable (peer s)) towards w.whole (w.sent s) (w.collected s) (w.forced s) (w.taken s) (w.taken (peer s))
-  pub other : Half (x.setup (peer s)) (peer s) (end_at x.cables (peer s)) (end_at x.cables s) (w.view (peer s)) (party (peer s)) (w.count (peer s)) towards (w.on_cable (peer s)) w.whole (w.sent (peer s)) (w.collected (peer s)) (w.forced (peer s)) (w.taken (peer s)) (w.taken s)
+  pub own : Half (x.setup s) s (end_at x.cables s) (end_at x.cables (peer s)) (w.view s) (party s) (w.count s) (w.on_cable (peer s)) towards
+      w.whole (w.sent s) (w.collected s) (w.forced s) (w.taken s) (w.taken (peer s))
+  pub other : Half (x.setup (peer s)) (peer s) (end_at x.cables (peer s)) (end_at x.cables s) (w.view (peer s)) (party (peer s))
+      (w.count (peer s)) towards (w.on_cable (peer s)) w.whole (w.sent (peer s)) (w.collected (peer s)) (w.forced (peer s))
+      (w.taken (peer s)) (w.taken s)
   pub counts : w.count ≡ count
   pub rest : w.on_cable s ≡ base
 
-pub members_own : (u : SystemSetup) (call : ModelCall) (v : View) (m : Move) → MoveAllowed u call v m → is_restart call ≡ false → Members u v.port → Members u (view_after u m v).port
+pub members_own : (u : SystemSetup) (call : ModelCall) (v : View) (m : Move) → MoveAllowed u call v m → is_restart call ≡ false
+    → Members u v.port → Members u (view_after u m v).port
 members_own u call v (Port p m) x r i = members_kept u call v.port p m x i
 members_own u call v (Flow m) x r i = i
 members_own u call v Restart x r i = absurd (true≢false (sym x ∙ r))
 
-own_moved : (u : SystemSetup) (me : Side) (ends theirs : ℕ → Option ℕ) (v : View) (party : ℕ → Option Party) (count : ℕ → ℕ) (out back : ℕ → List Message) (whole : ℕ → Bool)
-    (sent collected : ℕ → ℕ → List ℕ) (forced : ℕ → ℕ → Bool) (taken their_taken : ℕ → Option TakenLacpdu) (call : ModelCall) (stamp : ℕ) (kept : Bool) (m : Move)
+own_moved : (u : SystemSetup) (me : Side) (ends theirs : ℕ → Option ℕ) (v : View) (party : ℕ → Option Party) (count : ℕ → ℕ) (out back : ℕ
+    → List Message) (whole : ℕ → Bool)
+    (sent collected : ℕ → ℕ → List ℕ) (forced : ℕ → ℕ → Bool) (taken their_taken : ℕ → Option TakenLacpdu) (call : ModelCall) (stamp : ℕ)
+    (kept : Bool) (m : Move)
     → MoveAllowed u call v m → Within call stamp ends back whole forced → (replies_frame call ≡ true → (p : ℕ) → party_at v p ≡ party p)
     → Half u me ends theirs v party count out back whole sent collected forced taken their_taken
-    → Half u me ends theirs (view_after u m v) party count (on_cable_after me ends whole count sent kept (act u m v) out) back whole (sent_after (act u m v) sent) collected forced (taken_after stamp (act u m v) taken) their_taken
+    → Half u me ends theirs (view_after u m v) party count (on_cable_after me ends whole count sent kept (act u m v) out) back whole
+    (sent_after (act u m v) sent) collected forced (taken_after stamp (act u m v) taken) their_taken
 own_moved u me ends theirs v party count out back whole sent collected forced taken their_taken call stamp kept m x w r i = record {
   members = members_own u call v m x w.running i.members;
   lanes = lanes_own me ends whole collected forced back u call stamp count kept v m out sent x w i.lanes;
@@ -53,27 +64,35 @@ own_moved u me ends theirs v party count out back whole sent collected forced ta
   heard = heard_own u call stamp v m taken x w.running i.heard;
 }
 
-other_moved : (u : SystemSetup) (me : Side) (ends theirs : ℕ → Option ℕ) (v : View) (party : ℕ → Option Party) (count : ℕ → ℕ) (out back : ℕ → List Message) (whole : ℕ → Bool)
+other_moved : (u : SystemSetup) (me : Side) (ends theirs : ℕ → Option ℕ) (v : View) (party : ℕ → Option Party) (count : ℕ → ℕ) (out back : ℕ
+    → List Message) (whole : ℕ → Bool)
     (sent collected : ℕ → ℕ → List ℕ) (forced : ℕ → ℕ → Bool) (taken their_taken : ℕ → Option TakenLacpdu)
-    (s : Side) (su : SystemSetup) (sv : View) (s_count : ℕ → ℕ) (s_sent : ℕ → ℕ → List ℕ) (s_forced : ℕ → ℕ → Bool) (call : ModelCall) (stamp : ℕ) (kept : Bool) (m : Move)
+    (s : Side) (su : SystemSetup) (sv : View) (s_count : ℕ → ℕ) (s_sent : ℕ → ℕ → List ℕ) (s_forced : ℕ → ℕ → Bool) (call : ModelCall)
+    (stamp : ℕ) (kept : Bool) (m : Move)
     → MoveAllowed su call sv m → Within call stamp theirs out whole s_forced
     → Half u me ends theirs v party count out back whole sent collected forced taken their_taken
-    → Half u me ends theirs v party count out (on_cable_after s theirs whole s_count s_sent kept (act su m sv) back) whole sent collected forced taken (taken_after stamp (act su m sv) their_taken)
-other_moved u me ends theirs v party count out back whole sent collected forced taken their_taken s su sv s_count s_sent s_forced call stamp kept m x w i = record {
-  members = i.members;
-  lanes = lanes_peer me ends whole sent collected forced s_forced v.flows out back s theirs su call stamp s_count s_sent kept sv m x w i.lanes;
-  stamps = stamps_peer ends theirs party count out their_taken whole s_forced su call stamp sv m x w i.stamps;
-  heard = i.heard;
-}
+    → Half u me ends theirs v party count out (on_cable_after s theirs whole s_count s_sent kept (act su m sv) back) whole sent collected
+    forced taken (taken_after stamp (act su m sv) their_taken)
+other_moved u me ends theirs v party count out back whole sent collected forced taken their_taken s su sv s_count s_sent s_forced call
+    stamp kept m x w i = record {
+      members = i.members;
+      lanes = lanes_peer me ends whole sent collected forced s_forced v.flows out back s theirs su call stamp s_count
+          s_sent kept sv m x w i.lanes;
+      stamps = stamps_peer ends theirs party count out their_taken whole s_forced su call stamp sv m x w i.stamps;
+      heard = i.heard;
+    }
 
 -- one move
-calling_moved : (x : WorldSetup) (s : Side) (call : ModelCall) (stamp : ℕ) (party : Side → ℕ → Option Party) (count : Side → ℕ → ℕ) (towards base : ℕ → List Message) (m : Move × Bool) (w : World)
-    → MoveAllowed (x.setup s) call (w.view s) m.0 → Calling x s call stamp party count towards base w → Calling x s call stamp party count towards base (world_after x s stamp m w)
+calling_moved : (x : WorldSetup) (s : Side) (call : ModelCall) (stamp : ℕ) (party : Side → ℕ → Option Party) (count : Side → ℕ
+    → ℕ) (towards base : ℕ → List Message) (m : Move × Bool) (w : World)
+    → MoveAllowed (x.setup s) call (w.view s) m.0 → Calling x s call stamp party count towards base w
+    → Calling x s call stamp party count towards base (world_after x s stamp m w)
 calling_moved x One call stamp party count towards base m w a i = record {
   within = i.within;
   parties = λ r p. parties_kept (x.setup One) call (w.view One) m.0 a i.within.running r p ∙ i.parties r p;
   own = own_moved _ One _ _ (w.view One) _ _ _ _ _ _ _ _ _ _ call stamp m.1 m.0 a i.within i.parties i.own;
-  other = other_moved _ Two _ _ (w.view Two) _ _ _ _ _ _ _ _ _ _ One (x.setup One) (w.view One) (w.count One) (w.sent One) (w.forced One) call stamp m.1 m.0 a i.within i.other;
+  other = other_moved _ Two _ _ (w.view Two) _ _ _ _ _ _ _ _ _ _ One (x.setup One) (w.view One) (w.count One) (w.sent One)
+      (w.forced One) call stamp m.1 m.0 a i.within i.other;
   counts = i.counts;
   rest = i.rest;
 }
@@ -81,13 +100,17 @@ calling_moved x Two call stamp party count towards base m w a i = record {
   within = i.within;
   parties = λ r p. parties_kept (x.setup Two) call (w.view Two) m.0 a i.within.running r p ∙ i.parties r p;
   own = own_moved _ Two _ _ (w.view Two) _ _ _ _ _ _ _ _ _ _ call stamp m.1 m.0 a i.within i.parties i.own;
-  other = other_moved _ One _ _ (w.view One) _ _ _ _ _ _ _ _ _ _ Two (x.setup Two) (w.view Two) (w.count Two) (w.sent Two) (w.forced Two) call stamp m.1 m.0 a i.within i.other;
+  other = other_moved _ One _ _ (w.view One) _ _ _ _ _ _ _ _ _ _ Two (x.setup Two) (w.view Two) (w.count Two) (w.sent Two)
+      (w.forced Two) call stamp m.1 m.0 a i.within i.other;
   counts = i.counts;
   rest = i.rest;
 }
 
 -- all moves of a call
-pub calling_all : (x : WorldSetup) (s : Side) (call : ModelCall) (stamp : ℕ) (party : Side → ℕ → Option Party) (count : Side → ℕ → ℕ) (towards base : ℕ → List Message) (ms : List (Move × Bool)) (w : World)
-    → AllMoves x s call stamp ms w → Calling x s call stamp party count towards base w → Calling x s call stamp party count towards base (world_after_all x s stamp ms w)
+pub calling_all : (x : WorldSetup) (s : Side) (call : ModelCall) (stamp : ℕ) (party : Side → ℕ → Option Party) (count : Side → ℕ
+    → ℕ) (towards base : ℕ → List Message) (ms : List (Move × Bool)) (w : World)
+    → AllMoves x s call stamp ms w → Calling x s call stamp party count towards base w
+    → Calling x s call stamp party count towards base (world_after_all x s stamp ms w)
 calling_all x s call stamp party count towards base [] w a i = i
-calling_all x s call stamp party count towards base (m ∷ ms) w a i = calling_all x s call stamp party count towards base ms (world_after x s stamp m w) a.1 (calling_moved x s call stamp party count towards base m w a.0 i)
+calling_all x s call stamp party count towards base (m ∷ ms) w a i = calling_all x s call stamp party count towards base ms
+    (world_after x s stamp m w) a.1 (calling_moved x s call stamp party count towards base m w a.0 i)

@@ -13,7 +13,9 @@ IsAmong g k (x ∷ xs) = ((g ≡ x.0) × (k ≡ x.1)) ⊎ IsAmong g k xs
 -- Each conversation is unchanged, or it is in the list and made one change that it may make.
 abbrev pub BecomeByMoves : List (ℕ × ℕ) → List ℕ → ModelCall → (ℕ → ℕ → Conversation) → (ℕ → ℕ → Conversation) → Type 0
 BecomeByMoves keys mac call old new =
-    (g k : ℕ) → (new g k ≡ old g k) ⊎ (IsAmong g k keys × ((m : ConversationMove) × ConversationMoveAllowed mac call g k m (old g k) × (new g k ≡ conversation_after m)))
+    (g k : ℕ) → (new g k ≡ old g k)
+    ⊎ (IsAmong g k keys × ((m : ConversationMove) × ConversationMoveAllowed mac call g k m (old g k)
+    × (new g k ≡ conversation_after m)))
 
 -- the item with this number
 abbrev pub find_number : {X : Type 0} → (X → ℕ) → List X → ℕ → Option X
@@ -34,7 +36,8 @@ ports_of number view xs q = option_map view (find_number number xs q)
 abbrev pub world_after_call : WorldSetup → Side → ℕ → Bool → Option Act → View → World → World
 world_after_call x s stamp accepted o v w = record w {
   view = at_side w.view s v;
-  on_cable = at_side w.on_cable (peer s) (on_cable_after s (end_at x.cables s) w.whole (w.count s) (w.sent s) accepted o (w.on_cable (peer s)));
+  on_cable = at_side w.on_cable (peer s)
+      (on_cable_after s (end_at x.cables s) w.whole (w.count s) (w.sent s) accepted o (w.on_cable (peer s)));
   sent = at_side w.sent s (sent_after o (w.sent s));
   taken = at_side w.taken s (taken_after stamp o (w.taken s));
 }

@@ -1,9 +1,11 @@
 -- What holds after each event of two systems, in every schedule.
-use Rattle.std.specs.Prelude.{◌≡◌, ℕ, ◌<◌, Bool, true, false, ◌&&◌, cond, eqb, ◌⊎◌, Option, Some, IsSome, is_some, List, [], ◌∷◌, ◌++◌, Contains, length, slice_index}
+use Rattle.std.specs.Prelude.{◌≡◌, ℕ, ◌<◌, Bool, true, false, ◌&&◌, cond, eqb, ◌⊎◌, Option, Some, IsSome, is_some, List, [], ◌∷◌, ◌++◌}
+use Rattle.std.specs.Prelude.{Contains, length, slice_index}
 use Rattle.lagtypes.specs.Group.{individual, SamePair, pair_of}
 use Rattle.lagmodel.specs.View.{PortFacts, Flushing, conversation_port, View, SystemSetup, ModelCall, LacpMessage, Lacp, Marker, Response}
 use Rattle.lagmodel.specs.Move.{Act, LawfulMoves, pair_at}
-use Rattle.lagmodel.specs.World.{Side, One, Two, peer, Message, Control, Data, end_at, party_at, TakenLacpdu, World, WorldSetup, IsWorldSetup, first_world, Event, Run}
+use Rattle.lagmodel.specs.World.{Side, One, Two, peer, Message, Control, Data, end_at, party_at, TakenLacpdu, World, WorldSetup}
+use Rattle.lagmodel.specs.World.{IsWorldSetup, first_world, Event, Run}
 
 -- xs is ys with some elements left out
 abbrev pub IsSubsequence : List ℕ → List ℕ → Type 0
@@ -100,7 +102,8 @@ FlushedByMarker x w =
     (s : Side) (g k p n c : ℕ) → w.forced s g k ≡ false → (w.view s).flows.state g k ≡ Flushing p n → end_at x.cables s c ≡ Some p
     → ((front back : List Message) (stamp : ℕ) → w.on_cable (peer s) c ≡ front ++ Control (Marker (x.setup s).system.mac p n) stamp ∷ back
     → serials s g k back ≡ [])
-    × ((d stamp : ℕ) → Contains (w.on_cable s c) (Control (Response (x.setup s).system.mac p n) stamp) → serials s g k (w.on_cable (peer s) d) ≡ [])
+    × ((d stamp : ℕ) → Contains (w.on_cable s c) (Control (Response (x.setup s).system.mac p n) stamp)
+    → serials s g k (w.on_cable (peer s) d) ≡ [])
 
 -- Every marker identifier in flight is below its requester's next one.
 abbrev pub BelowNext : World → Type 0

@@ -2,10 +2,13 @@
 -- and no machine states: a port may stop, leave its aggregator or fall back to defaults at any moment. Restricted are
 -- only which LACPDU a port believes, when it joins an aggregator, when it starts to distribute, on which port a
 -- conversation sends, and when a conversation becomes free.
-use Rattle.std.specs.Prelude.{◌≡◌, ◌≢◌, ℕ, ◌+◌, ◌<◌, ◌^◌, Bool, true, false, ◌&&◌, cond, eqb, ◌⊎◌, Option, Some, None, option_to_list, IsSome, IsSomeAnd, List, [], ◌∷◌, ◌++◌}
+use Rattle.std.specs.Prelude.{◌≡◌, ◌≢◌, ℕ, ◌+◌, ◌<◌, ◌^◌, Bool, true, false, ◌&&◌, cond, eqb, ◌⊎◌, Option, Some, None, option_to_list}
+use Rattle.std.specs.Prelude.{IsSome, IsSomeAnd, List, [], ◌∷◌, ◌++◌}
 use Rattle.lagtypes.specs.declared.party.Party.{Party}
 use Rattle.lagtypes.specs.Group.{individual, Pair, SamePair, pair_of}
-use Rattle.lagmodel.specs.View.{zero_party, PortFacts, Conversation, Free, On, Wanted, Flushing, conversation_port, DistributorFacts, View, SystemSetup, first_view, LacpMessage, ControlMessage, Lacp, Marker, Response, ModelCall, Receive, Set_link, Force, replies_frame, is_restart, at_port, at_conversation}
+use Rattle.lagmodel.specs.View.{zero_party, PortFacts, Conversation, Free, On, Wanted, Flushing, conversation_port, DistributorFacts}
+use Rattle.lagmodel.specs.View.{View, SystemSetup, first_view, LacpMessage, ControlMessage, Lacp, Marker, Response, ModelCall, Receive}
+use Rattle.lagmodel.specs.View.{Set_link, Force, replies_frame, is_restart, at_port, at_conversation}
 
 -- a visible act of a move: a control PDU or a frame of a conversation that goes out on a port, or an LACPDU that a port
 -- received (profile)
@@ -56,7 +59,8 @@ PortAllowed u call ports p (Join g) a =
     × (a.partner.system ≢ a.party.system)
     × (u.key g ≡ Some a.party.key)
     × (((q : ℕ) (b : PortFacts) → ports q ≡ Some b → b.aggregator ≢ Some g)
-    ⊎ (((q : ℕ) (b : PortFacts) → ports q ≡ Some b → b.aggregator ≡ Some g → SamePair (pair_at b) (pair_at a)) × (individual a.party a.partner ≡ false)))
+    ⊎ (((q : ℕ) (b : PortFacts) → ports q ≡ Some b → b.aggregator ≡ Some g → SamePair (pair_at b) (pair_at a))
+    × (individual a.party a.partner ≡ false)))
 -- a member whose partner is recorded as synchronized starts to distribute
 PortAllowed u call ports p Distribute a = IsSome a.aggregator × (a.synchronised ≡ true)
 -- it sends an LACPDU with its own and its partner's parameters as they are now; this says IN_SYNC only if the port is a

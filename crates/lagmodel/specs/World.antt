@@ -1,7 +1,9 @@
 -- Two systems joined by cables, and what can happen to them (profile; links are point-to-point: LACP_Enabled of 6.4.8).
-use Rattle.std.specs.Prelude.{◌≡◌, ◌≢◌, ℕ, zero, suc, Bool, true, false, ◌&&◌, cond, eqb, ◌⊎◌, Option, Some, None, option_map, List, [], ◌∷◌, ◌++◌, length, slice_get}
+use Rattle.std.specs.Prelude.{◌≡◌, ◌≢◌, ℕ, zero, suc, Bool, true, false, ◌&&◌, cond, eqb, ◌⊎◌, Option, Some, None, option_map, List, []}
+use Rattle.std.specs.Prelude.{◌∷◌, ◌++◌, length, slice_get}
 use Rattle.lagtypes.specs.declared.party.Party.{Party}
-use Rattle.lagmodel.specs.View.{PortFacts, PartyChange, View, SystemSetup, IsSystemSetup, first_view, LacpMessage, ControlMessage, Lacp, Marker, Response, ModelCall}
+use Rattle.lagmodel.specs.View.{PortFacts, PartyChange, View, SystemSetup, IsSystemSetup, first_view, LacpMessage, ControlMessage, Lacp}
+use Rattle.lagmodel.specs.View.{Marker, Response, ModelCall}
 use Rattle.lagmodel.specs.Move.{Act, Sends, Sends_frame, Took, Move, MoveAllowed, view_after, act}
 
 -- the two systems
@@ -116,8 +118,10 @@ put_on_cable ends whole accepted p m lines c = cond (accepted && (whole c && is_
 abbrev pub on_cable_after : Side → (ℕ → Option ℕ) → (ℕ → Bool) → (ℕ → ℕ) → (ℕ → ℕ → List ℕ) → Bool → Option Act → (ℕ → List Message) → ℕ
     → List Message
 on_cable_after s ends whole count sent accepted None lines = lines
-on_cable_after s ends whole count sent accepted (Some (Sends p pdu)) lines = put_on_cable ends whole accepted p (Control pdu (stamp_of pdu (count p))) lines
-on_cable_after s ends whole count sent accepted (Some (Sends_frame p g k)) lines = put_on_cable ends whole accepted p (Data s g k (length (sent g k))) lines
+on_cable_after s ends whole count sent accepted (Some (Sends p pdu)) lines = put_on_cable ends whole accepted p
+    (Control pdu (stamp_of pdu (count p))) lines
+on_cable_after s ends whole count sent accepted (Some (Sends_frame p g k)) lines = put_on_cable ends whole accepted p
+    (Data s g k (length (sent g k))) lines
 on_cable_after s ends whole count sent accepted (Some (Took p pdu)) lines = lines
 
 -- the serial numbers that each conversation sent: one more for a conversation that sends a frame
@@ -138,7 +142,8 @@ taken_after stamp (Some (Took p pdu)) taken = λ q. cond (eqb q p) (Some (record
 abbrev pub world_after : WorldSetup → Side → ℕ → Move × Bool → World → World
 world_after x s stamp m w = record w {
   view = at_side w.view s (view_after (x.setup s) m.0 (w.view s));
-  on_cable = at_side w.on_cable (peer s) (on_cable_after s (end_at x.cables s) w.whole (w.count s) (w.sent s) m.1 (act (x.setup s) m.0 (w.view s))
+  on_cable = at_side w.on_cable (peer s) (on_cable_after s (end_at x.cables s) w.whole (w.count s) (w.sent s) m.1
+      (act (x.setup s) m.0 (w.view s))
       (w.on_cable (peer s)));
   sent = at_side w.sent s (sent_after (act (x.setup s) m.0 (w.view s)) (w.sent s));
   taken = at_side w.taken s (taken_after stamp (act (x.setup s) m.0 (w.view s)) (w.taken s));
@@ -199,7 +204,8 @@ with_messages w c to ms = record w { on_cable = at_side w.on_cable to (at_cable 
 abbrev pub handed_up : Bool → Message → World → World
 handed_up up (Control pdu stamp) w = w
 handed_up up (Data origin g k serial) w =
-    cond up (record w { collected = at_side w.collected origin (at_two (w.collected origin) g k (w.collected origin g k ++ serial ∷ [])) }) w
+    cond up (record w { collected = at_side w.collected origin (at_two (w.collected origin) g k (w.collected origin g k ++ serial ∷ [])) })
+    w
 
 -- the message m is received on port p of system s
 abbrev pub Receives : WorldSetup → Side → ℕ → Message → World → World → World → Type 0

@@ -6,7 +6,8 @@
 #![tactic(auto)]
 
 ghost use Rattle.lagmodel.specs.World.{Side};
-ghost use Rattle.lagmodel.specs.Law.{IsInvariant, OnePartner, EndsAgree, InOrder, LastLacpduSaysInSync, UpToDateLacpdusNameSender, OnItsCable, FlushedByMarker, BelowNext, CollectedThenInFlight, CountsFromZero};
+ghost use Rattle.lagmodel.specs.Law.{IsInvariant, OnePartner, EndsAgree, InOrder, LastLacpduSaysInSync, UpToDateLacpdusNameSender};
+ghost use Rattle.lagmodel.specs.Law.{OnItsCable, FlushedByMarker, BelowNext, CollectedThenInFlight, CountsFromZero};
 
 /// The headline. After each event of every schedule: ports that distribute in one aggregator have one partner; the two
 /// ends of a cable have the same Link Aggregation Group, if both distribute, neither changed since it sent the LACPDU
@@ -35,9 +36,11 @@ ghost use Rattle.lagmodel.specs.Law.{LawfulRun, Members};
 /// calls; and if it holds, ports that distribute in one aggregator have one partner (6.4.14.1).
 pub fn one_system()
     ensures first { (u : SystemSetup) → IsSystemSetup u → Members u (first_view u).port }
-    ensures preserved { (u : SystemSetup) (call : ModelCall) (old new : View) (seen : List Act) → IsSystemSetup u → LawfulMoves u call old seen new
+    ensures preserved { (u : SystemSetup) (call : ModelCall) (old new : View) (seen : List Act) → IsSystemSetup u
+        → LawfulMoves u call old seen new
         → Members u old.port → Members u new.port }
-    ensures always { (u : SystemSetup) (calls : List ModelCall) (v : View) → IsSystemSetup u → LawfulRun u calls (first_view u) v → Members u v.port
+    ensures always { (u : SystemSetup) (calls : List ModelCall) (v : View) → IsSystemSetup u
+        → LawfulRun u calls (first_view u) v → Members u v.port
         × OnePartner v }
     ensures one_partner { (u : SystemSetup) (v : View) → Members u v.port → OnePartner v }
 {}

@@ -1,5 +1,6 @@
 -- Tables and arrays of a document, from the maps and vectors that hold them.
-use Rattle.std.proofs.Common.{ℕ, ◌≡◌, ◌&&◌, List, [], ◌∷◌, length, Option, None, Some, refl, ap, ap₂, ◌||◌, Bor, string_bytes, String, map, option_map, option_and_then, bytes_eq}
+use Rattle.std.proofs.Common.{ℕ, ◌≡◌, ◌&&◌, List, [], ◌∷◌, length, Option, None, Some, refl, ap, ap₂, ◌||◌, Bor, string_bytes, String}
+use Rattle.std.proofs.Common.{map, option_map, option_and_then, bytes_eq}
 use Rattle.std.specs.List.{list_all, list_any}
 use Rattle.std.specs.declared.alloc.Global.{Global}
 use Rattle.toml.specs.declared.value.Value.{Value}
@@ -7,13 +8,15 @@ use Rattle.toml.specs.View.{view, members_view, items_view}
 use Rattle.lagscript.specs.Keys.{each_in, keys_among, integer_in, just_two}
 
 -- a test of what the references point to
-any_of : (k : List ℕ) (known : List (Bor (List ℕ))) → list_any (λ name. bytes_eq name.now k) known ≡ list_any (λ name. bytes_eq name k) (map (λ n. n.now) known)
+any_of : (k : List ℕ) (known : List (Bor (List ℕ))) → list_any (λ name. bytes_eq name.now k) known ≡ list_any (λ name. bytes_eq name k)
+    (map (λ n. n.now) known)
 any_of k [] = refl
 any_of k (n ∷ ns) = ap (λ b. bytes_eq n.now k || b) (any_of k ns)
 
 -- the keys of a map are those of its members
 pub among : (known : List (Bor (List ℕ))) (es : List (String Global × Value))
-    → list_all (λ k. list_any (λ name. bytes_eq name.now (string_bytes k)) known) (map (λ e. e.0) es) ≡ keys_among (map (λ n. n.now) known) (members_view es)
+    → list_all (λ k. list_any (λ name. bytes_eq name.now (string_bytes k)) known) (map (λ e. e.0) es) ≡ keys_among
+    (map (λ n. n.now) known) (members_view es)
 among known [] = refl
 among known (e ∷ es) = ap₂ (λ a b. a && b) (any_of (string_bytes e.0) known) (among known es)
 

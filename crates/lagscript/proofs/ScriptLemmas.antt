@@ -1,5 +1,6 @@
 -- A configuration without a fault is accepted; and a plan made from its parts.
-use Rattle.std.proofs.Common.{ℕ, ◌≡◌, inl, inr, Bool, true, false, List, [], ◌∷◌, length, Option, None, Some, Result, Ok, Err, option_and_then, option_map, cond, refl, ap, subst, sym}
+use Rattle.std.proofs.Common.{ℕ, ◌≡◌, inl, inr, Bool, true, false, List, [], ◌∷◌, length, Option, None, Some, Result, Ok, Err}
+use Rattle.std.proofs.Common.{option_and_then, option_map, cond, refl, ap, subst, sym}
 use Rattle.toml.specs.Data.{Members}
 use Rattle.toml.specs.Parse.{parse_document}
 use Rattle.lagsystem.specs.First.{refusal}
@@ -8,7 +9,8 @@ use Rattle.lagsystem.specs.declared.fault.BadConfig.TheVariants as bad
 use Rattle.lagscript.specs.EventValues.{EventValue}
 use Rattle.lagscript.specs.Configs.{ConfigValue, bad_end, or_first, refusal_of_all, same_system}
 use Rattle.lagscript.specs.Readings.{◌>>=◌, ReadsAs, if_or_fault}
-use Rattle.lagscript.specs.Scripts.{HasPlan, HasScript, IsRefused, ReadsPlan, PlanValue, script_fault_for, ends_of, no_fault, plan_in, plan_value, planned}
+use Rattle.lagscript.specs.Scripts.{HasPlan, HasScript, IsRefused, ReadsPlan, PlanValue, script_fault_for, ends_of, no_fault, plan_in}
+use Rattle.lagscript.specs.Scripts.{plan_value, planned}
 use Rattle.lagscript.specs.declared.config.BadWorld.{BadWorld}
 use Rattle.lagscript.specs.declared.config.BadWorld.TheVariants.{System, SameSystem, CableEnd}
 use Rattle.lagscript.specs.declared.fault.ScriptFault.{ScriptFault}
@@ -20,9 +22,11 @@ use Rattle.lagscript.proofs.DocumentFaults.{plan_fine}
 -- the reasons of two systems and their cables, in their order
 abbrev first_reason : Option BadConfig → Option BadConfig → Bool → Option ℕ → Option BadWorld
 first_reason one two same place =
-    or_first (option_map (System 1) one) (or_first (option_map (System 2) two) (or_first (cond same (Some SameSystem) None) (option_map CableEnd place)))
+    or_first (option_map (System 1) one)
+    (or_first (option_map (System 2) two) (or_first (cond same (Some SameSystem) None) (option_map CableEnd place)))
 
-no_reason : (one two : Option BadConfig) (same : Bool) (place : Option ℕ) → option_and_then script_fault_for (first_reason one two same place) ≡ None → first_reason one two same place ≡ None
+no_reason : (one two : Option BadConfig) (same : Bool) (place : Option ℕ)
+    → option_and_then script_fault_for (first_reason one two same place) ≡ None → first_reason one two same place ≡ None
 no_reason (Some bad.Ports) two same place h = cc
 no_reason (Some bad.Aggregators) two same place h = cc
 no_reason (Some (bad.PortNumber n)) two same place h = cc
@@ -34,14 +38,17 @@ no_reason None None false (Some n) h = cc
 no_reason None None false None h = refl
 
 -- without a fault there is no reason to refuse it
-pub not_refused : (systems : List ConfigValue) (cables : List (ℕ × ℕ)) → option_and_then script_fault_for (refusal_of_all systems cables) ≡ None → refusal_of_all systems cables ≡ None
+pub not_refused : (systems : List ConfigValue) (cables : List (ℕ × ℕ))
+    → option_and_then script_fault_for (refusal_of_all systems cables) ≡ None → refusal_of_all systems cables ≡ None
 not_refused [] cables h = refl
 not_refused (a ∷ []) cables h = refl
-not_refused (a ∷ b ∷ []) cables h = no_reason (refusal a.aggregators a.ports) (refusal b.aggregators b.ports) (same_system a.system b.system) (bad_end a.ports b.ports cables) h
+not_refused (a ∷ b ∷ []) cables h = no_reason (refusal a.aggregators a.ports) (refusal b.aggregators b.ports)
+    (same_system a.system b.system) (bad_end a.ports b.ports cables) h
 not_refused (a ∷ b ∷ c ∷ rest) cables h = refl
 
 -- the steps of a plan
-abbrev pub plan_steps : Bool → Result (List ConfigValue) ScriptFault → Result (List CablePlan) ScriptFault → (ℕ → Result (List EventValue) ScriptFault) → Result PlanValue ScriptFault
+abbrev pub plan_steps : Bool → Result (List ConfigValue) ScriptFault → Result (List CablePlan) ScriptFault
+    → (ℕ → Result (List EventValue) ScriptFault) → Result PlanValue ScriptFault
 plan_steps known systems_read cables_read acts_read =
     if_or_fault known fault.ExtraKey (
     systems_read >>= λ systems.
@@ -50,8 +57,11 @@ plan_steps known systems_read cables_read acts_read =
     no_fault (option_and_then script_fault_for (refusal_of_all systems (ends_of cables))) (planned systems cables events)
     )
 
-pub steps_all : (known : Bool) (rs : Result (List ConfigValue) ScriptFault) (rc : Result (List CablePlan) ScriptFault) (ra : ℕ → Result (List EventValue) ScriptFault) (systems : List ConfigValue) (cables : List CablePlan) (events : List EventValue) (o : Option ScriptFault)
-    → known ≡ true → rs ≡ Ok systems → rc ≡ Ok cables → ra (length cables) ≡ Ok events → option_and_then script_fault_for (refusal_of_all systems (ends_of cables)) ≡ o
+pub steps_all : (known : Bool) (rs : Result (List ConfigValue) ScriptFault) (rc : Result (List CablePlan) ScriptFault) (ra : ℕ
+    → Result (List EventValue) ScriptFault) (systems : List ConfigValue) (cables : List CablePlan) (events : List EventValue)
+    (o : Option ScriptFault)
+    → known ≡ true → rs ≡ Ok systems → rc ≡ Ok cables → ra (length cables) ≡ Ok events
+    → option_and_then script_fault_for (refusal_of_all systems (ends_of cables)) ≡ o
     → plan_steps known rs rc ra ≡ no_fault o (planned systems cables events)
 steps_all known rs rc ra systems cables events o k s c a f = rw (k, s, c, a, f) refl
 
@@ -78,7 +88,8 @@ reads_fault text ms p (fault.CableEnd a) s = (ms, p, s)
 reads_fault text ms p fault.NoMemory s = tt
 
 -- what is answered of a document is read of its text
-pub reads_plan : (text : List ℕ) (ms : Members) (result : Result Plan ScriptFault) → parse_document text ≡ Some ms → ReadsAs fault.NoMemory plan_value (plan_in ms) result → ReadsPlan text result
+pub reads_plan : (text : List ℕ) (ms : Members) (result : Result Plan ScriptFault) → parse_document text ≡ Some ms
+    → ReadsAs fault.NoMemory plan_value (plan_in ms) result → ReadsPlan text result
 reads_plan text ms (Ok plan) p a = (ms, p, a)
 reads_plan text ms (Err e) p (inl spent) = subst (IsRefused text) (sym spent) tt
 reads_plan text ms (Err e) p (inr s) = reads_fault text ms p e s

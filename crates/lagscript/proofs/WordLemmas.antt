@@ -1,5 +1,6 @@
 -- The value that `parse` reads from a word without a plus sign is the word's number.
-use Rattle.std.proofs.Common.{ℕ, ◌≡◌, ◌≢◌, ◌<◌, ◌&&◌, Bool, true, false, cond, List, length, get_or, nat_lt, Some, None, Result, Ok, Err, refl}
+use Rattle.std.proofs.Common.{ℕ, ◌≡◌, ◌≢◌, ◌<◌, ◌&&◌, Bool, true, false, cond, List, length, get_or, nat_lt, Some, None, Result, Ok, Err}
+use Rattle.std.proofs.Common.{refl}
 use Rattle.std.specs.Result.{OkIff, result_ok}
 use Rattle.std.specs.Str.{all_ascii_digits}
 use Rattle.std.specs.Str.Parse.{ParsesUnsigned, digits_value}
@@ -22,5 +23,6 @@ found (Err e) digits n k v h = go (nat_lt 0 n) digits (nat_lt v k) (λ d some fi
     go true false c miss = refl
     go false b c miss = refl
 
-pub number_parsed : {E : Type 0} (w : List ℕ) (r : Result ℕ E) → ParsesUnsigned 16 10 w r → get_or w 0 0 ≢ 43 → result_ok r ≡ number_below 65536 w
+pub number_parsed : {E : Type 0} (w : List ℕ) (r : Result ℕ E) → ParsesUnsigned 16 10 w r → get_or w 0 0 ≢ 43
+    → result_ok r ≡ number_below 65536 w
 number_parsed w r h plain = found r (all_ascii_digits w) (length w) 65536 (digits_value 10 w) (parse_plain numerals 16 w r h plain)

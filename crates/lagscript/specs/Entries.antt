@@ -1,7 +1,8 @@
 -- The entries of a script's list of events (profile).
 use Rattle.std.specs.Prelude.{ℕ, ◌==◌, ◌&&◌, ◌||◌, Bool, true, false, List, [], ◌∷◌, codes, nat_le, if◌then◌else◌, Result, Ok, Err}
 use Rattle.std.specs.Str.{bytes_eq}
-use Rattle.lagscript.specs.EventValues.{EventValue, event_value, tick, emit, deliver, lose, repeat, cut, join, sense, restart, configure, offer, move_to, force}
+use Rattle.lagscript.specs.EventValues.{EventValue, event_value, tick, emit, deliver, lose, repeat, cut, join, sense, restart, configure}
+use Rattle.lagscript.specs.EventValues.{offer, move_to, force}
 use Rattle.lagscript.specs.Readings.{◌>>=◌, each_at_place, or_fault, if_or_fault}
 use Rattle.lagscript.specs.Words.{number_below, octets_of, words_of}
 use Rattle.lagscript.specs.declared.event.Event.{Event}
@@ -72,23 +73,27 @@ with_one_word f make ws = one_word ws >>= λ a. f a >>= λ x. Ok (make x)
 
 -- The event made of exactly two words, each read by its function; Count if there are more or fewer, else the first
 -- fault.
-abbrev pub with_two_words : {A B : Type 0} → WordReader A → WordReader B → (A → B → EventValue) → List (List ℕ) → Result EventValue EntryFault
+abbrev pub with_two_words : {A B : Type 0} → WordReader A → WordReader B → (A → B → EventValue) → List (List ℕ)
+    → Result EventValue EntryFault
 with_two_words f g make ws = two_words ws >>= λ p. f p.0 >>= λ x. g p.1 >>= λ y. Ok (make x y)
 
 -- The event made of exactly three words, each read by its function; Count if there are more or fewer, else the first
 -- fault.
-abbrev pub with_three_words : {A B C : Type 0} → WordReader A → WordReader B → WordReader C → (A → B → C → EventValue) → List (List ℕ) → Result EventValue EntryFault
+abbrev pub with_three_words : {A B C : Type 0} → WordReader A → WordReader B → WordReader C → (A → B → C → EventValue) → List (List ℕ)
+    → Result EventValue EntryFault
 with_three_words f g h make ws = three_words ws >>= λ p. f p.0 >>= λ x. g p.1 >>= λ y. h p.2 >>= λ z. Ok (make x y z)
 
 -- The event made of exactly four words, each read by its function; Count if there are more or fewer, else the first
 -- fault.
-abbrev pub with_four_words : {A B C D : Type 0} → WordReader A → WordReader B → WordReader C → WordReader D → (A → B → C → D → EventValue) → List (List ℕ)
+abbrev pub with_four_words : {A B C D : Type 0} → WordReader A → WordReader B → WordReader C → WordReader D
+    → (A → B → C → D → EventValue) → List (List ℕ)
     → Result EventValue EntryFault
 with_four_words f g h i make ws = four_words ws >>= λ p. f p.0 >>= λ x. g p.1 >>= λ y. h p.2 >>= λ z. i p.3 >>= λ w. Ok (make x y z w)
 
 -- The event made of exactly five words, each read by its function; Count if there are more or fewer, else the first
 -- fault.
-abbrev pub with_five_words : {A B C D E : Type 0} → WordReader A → WordReader B → WordReader C → WordReader D → WordReader E → (A → B → C → D → E → EventValue) → List (List ℕ)
+abbrev pub with_five_words : {A B C D E : Type 0} → WordReader A → WordReader B → WordReader C → WordReader D → WordReader E
+    → (A → B → C → D → E → EventValue) → List (List ℕ)
     → Result EventValue EntryFault
 with_five_words f g h i j make ws = five_words ws >>= λ p. f p.0 >>= λ x. g p.1 >>= λ y. h p.2 >>= λ z. i p.3 >>= λ w. j p.4
     >>= λ v. Ok (make x y z w v)
@@ -110,7 +115,8 @@ frameless_event_named cables name =
     else if bytes_eq name (codes "join") then with_one_word (cable_word cables) join
     else if bytes_eq name (codes "sense") then with_two_words (cable_word cables) system_word sense
     else if bytes_eq name (codes "restart") then with_one_word system_word restart
-    else if bytes_eq name (codes "configure") then with_five_words system_word number_word number_word number_word aggregation_word configure_event
+    else if bytes_eq name (codes "configure") then with_five_words system_word number_word number_word number_word
+    aggregation_word configure_event
     else if bytes_eq name (codes "move") then with_four_words system_word number_word number_word number_word move_to
     else if bytes_eq name (codes "force") then with_three_words system_word number_word number_word force
     else (λ _. Err entry.Word)

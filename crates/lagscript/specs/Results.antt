@@ -45,7 +45,8 @@ four_words_octets (Ok p) = Ok (p.0.now, p.1.now, p.2.now, p.3.now)
 four_words_octets (Err e) = Err e
 
 -- the octets of five words, or the fault
-abbrev pub five_words_octets : Result (Word × Word × Word × Word × Word) EntryFault → Result (List ℕ × List ℕ × List ℕ × List ℕ × List ℕ) EntryFault
+abbrev pub five_words_octets : Result (Word × Word × Word × Word × Word) EntryFault
+    → Result (List ℕ × List ℕ × List ℕ × List ℕ × List ℕ) EntryFault
 five_words_octets (Ok p) = Ok (p.0.now, p.1.now, p.2.now, p.3.now, p.4.now)
 five_words_octets (Err e) = Err e
 

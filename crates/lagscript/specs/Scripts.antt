@@ -1,5 +1,6 @@
 -- The script in a text, and its plan (profile).
-use Rattle.std.specs.Prelude.{◌≡◌, ⊤, ℕ, List, [], ◌∷◌, codes, length, map, nat_le, if◌then◌else◌, Option, Some, None, option_and_then, Result, Ok, Err, Vec}
+use Rattle.std.specs.Prelude.{◌≡◌, ⊤, ℕ, List, [], ◌∷◌, codes, length, map, nat_le, if◌then◌else◌, Option, Some, None, option_and_then}
+use Rattle.std.specs.Prelude.{Result, Ok, Err, Vec}
 use Rattle.std.specs.declared.alloc.Global.{Global}
 use Rattle.toml.specs.Data.{Data, Members, as_table, as_str}
 use Rattle.toml.specs.Parse.{parse_document}

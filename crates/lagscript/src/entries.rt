@@ -1,7 +1,11 @@
 ghost use Rattle.std.specs.Prelude.{◌≡◌, IfOk, map};
-ghost use Rattle.lagscript.specs.Entries.{event_in, event_named, cable_word, configure_event, with_five_words, five_words, with_four_words, four_words, hex_word, aggregation_word, number_word, with_one_word, one_word, frameless_event_named, event_result_value, system_word, with_three_words, three_words, ticks_word, with_two_words, two_words};
+ghost use Rattle.lagscript.specs.Entries.{event_in, event_named, cable_word, configure_event, with_five_words, five_words};
+ghost use Rattle.lagscript.specs.Entries.{with_four_words, four_words, hex_word, aggregation_word, number_word, with_one_word, one_word};
+ghost use Rattle.lagscript.specs.Entries.{frameless_event_named, event_result_value, system_word, with_three_words, three_words};
+ghost use Rattle.lagscript.specs.Entries.{ticks_word, with_two_words, two_words};
 ghost use Rattle.lagscript.specs.EventValues as act;
-ghost use Rattle.lagscript.specs.Results.{ReadsEntryAs, five_words_octets, four_words_octets, one_word_octets, three_words_octets, two_words_octets};
+ghost use Rattle.lagscript.specs.Results.{ReadsEntryAs, five_words_octets, four_words_octets, one_word_octets, three_words_octets};
+ghost use Rattle.lagscript.specs.Results.{two_words_octets};
 ghost use Rattle.lagscript.specs.declared.entries.EntryError.TheVariants.{Fault, NoMemory as Spent};
 
 use crate::event::Event;
@@ -218,7 +222,8 @@ fn restart(words: &[&str]) -> Result<Event, EntryFault>
 
 /// Reads the words of `configure`: a system, a port, its key and priority, and `aggregatable` or `individual`.
 fn configure(words: &[&str]) -> Result<Event, EntryFault>
-    ensures { event_result_value result ≡ with_five_words system_word number_word number_word number_word aggregation_word configure_event (map (λ w. w.now) words.now) }
+    ensures { event_result_value result ≡ with_five_words system_word number_word number_word number_word aggregation_word configure_event
+        (map (λ w. w.now) words.now) }
 {
     let (s, port, key, priority, aggregatable) = five_words(words)?;
     let s = system(s)?;
@@ -236,7 +241,8 @@ fn configure(words: &[&str]) -> Result<Event, EntryFault>
 
 /// Reads the words of `move`: a system, an aggregator, a conversation and a port.
 fn move_to(words: &[&str]) -> Result<Event, EntryFault>
-    ensures { event_result_value result ≡ with_four_words system_word number_word number_word number_word act.move_to (map (λ w. w.now) words.now) }
+    ensures { event_result_value result ≡ with_four_words system_word number_word number_word number_word act.move_to
+        (map (λ w. w.now) words.now) }
 {
     let (s, agg, conv, port) = four_words(words)?;
     let s = system(s)?;

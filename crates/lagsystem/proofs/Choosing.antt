@@ -1,5 +1,6 @@
 -- Ports choose one after another, and the list of views stays equal to their views.
-use Rattle.std.proofs.Common.{◌≡◌, ◌∙◌, ℕ, zero, suc, ◌<◌, Bool, false, List, [], ◌∷◌, length, Option, Some, None, get_or, slice_get, slice_set, refl, subst, ap, arith}
+use Rattle.std.proofs.Common.{◌≡◌, ◌∙◌, ℕ, zero, suc, ◌<◌, Bool, false, List, [], ◌∷◌, length, Option, Some, None, get_or, slice_get}
+use Rattle.std.proofs.Common.{slice_set, refl, subst, ap, arith}
 use Rattle.std.specs.List.{list_any}
 use Rattle.std.proofs.lemmas.Option.{same_Some}
 use Rattle.lagtypes.specs.declared.identifiers.AggId.{AggId}
@@ -16,26 +17,36 @@ abbrev one_eligible : List SystemPort → Bool
 one_eligible system_ports = list_any (λ s. is_eligible (selection_view s)) system_ports
 
 seen_given : (system_ports : List SystemPort) (i : ℕ) (d : PortView) (t : SystemPort) (agg : AggId) → i < length system_ports
-    → slice_set (views system_ports) i (record (get_or (views system_ports) i d) { choice = Selected agg }) ≡ views (slice_set system_ports i (with_choice (get_or system_ports i t) (Some agg)))
+    → slice_set (views system_ports) i (record (get_or (views system_ports) i d) { choice = Selected agg }) ≡ views
+    (slice_set system_ports i (with_choice (get_or system_ports i t) (Some agg)))
 seen_given [] i d t agg l = absurd (omega arith)
 seen_given (x ∷ xs) zero d t agg l = refl
 seen_given (x ∷ xs) (suc i) d t agg l = ap (λ vs. selection_view x ∷ vs) (seen_given xs i d t agg (omega arith))
 
 -- if the port at a place took an aggregator, its view takes it too
-pub seen_taken : (seen : List PortView) (system_ports : List SystemPort) (i : ℕ) (d : PortView) (t : SystemPort) (agg : AggId) → seen ≡ views system_ports → i < length system_ports
-    → slice_set seen i (record (get_or seen i d) { choice = Selected agg }) ≡ views (slice_set system_ports i (with_choice (get_or system_ports i t) (Some agg)))
-seen_taken seen system_ports i d t agg e l = ap (λ vs. slice_set vs i (record (get_or vs i d) { choice = Selected agg })) e ∙ seen_given system_ports i d t agg l
+pub seen_taken : (seen : List PortView) (system_ports : List SystemPort) (i : ℕ) (d : PortView) (t : SystemPort) (agg : AggId)
+    → seen ≡ views system_ports → i < length system_ports
+    → slice_set seen i (record (get_or seen i d) { choice = Selected agg }) ≡ views
+    (slice_set system_ports i (with_choice (get_or system_ports i t) (Some agg)))
+seen_taken seen system_ports i d t agg e l = ap (λ vs. slice_set vs i (record (get_or vs i d) { choice = Selected agg })) e
+    ∙ seen_given system_ports i d t agg l
 
-not_here : (system_ports : List SystemPort) (i : ℕ) (s : SystemPort) → one_eligible system_ports ≡ false → slice_get system_ports i ≡ Some s → is_eligible (selection_view s) ≡ false
+not_here : (system_ports : List SystemPort) (i : ℕ) (s : SystemPort) → one_eligible system_ports ≡ false → slice_get system_ports i ≡ Some s
+    → is_eligible (selection_view s) ≡ false
 not_here [] i s h e = cc
-not_here (x ∷ xs) zero s h e = let same : x ≡ s = same_Some x s e in subst (λ y. is_eligible (selection_view y) ≡ false) same (or_false (is_eligible (selection_view x)) (one_eligible xs) h).0
+not_here (x ∷ xs) zero s h e = let same : x ≡ s = same_Some x s e in subst (λ y. is_eligible (selection_view y) ≡ false) same
+    (or_false (is_eligible (selection_view x)) (one_eligible xs) h).0
 not_here (x ∷ xs) (suc i) s h e = not_here xs i s (or_false (is_eligible (selection_view x)) (one_eligible xs) h).1 e
 
-stays_at : (keys : List Key) (system_ports : List SystemPort) (i : ℕ) (o : Option SystemPort) → one_eligible system_ports ≡ false → slice_get system_ports i ≡ o → system_ports ≡ after_choice_at keys system_ports i o
+stays_at : (keys : List Key) (system_ports : List SystemPort) (i : ℕ) (o : Option SystemPort) → one_eligible system_ports ≡ false
+    → slice_get system_ports i ≡ o → system_ports ≡ after_choice_at keys system_ports i o
 stays_at keys system_ports i None h e = refl
-stays_at keys system_ports i (Some s) h e = none_taken keys system_ports i s e (not_here system_ports i s h e) ∙ ap (after_choice_at keys system_ports i) e
+stays_at keys system_ports i (Some s) h e = none_taken keys system_ports i s e (not_here system_ports i s h e)
+    ∙ ap (after_choice_at keys system_ports i) e
 
 -- if no port is eligible, none takes an aggregator
-pub none_chosen : (keys : List Key) (n : ℕ) (system_ports : List SystemPort) → one_eligible system_ports ≡ false → system_ports ≡ after_choices keys n system_ports
+pub none_chosen : (keys : List Key) (n : ℕ) (system_ports : List SystemPort) → one_eligible system_ports ≡ false
+    → system_ports ≡ after_choices keys n system_ports
 none_chosen keys zero system_ports h = refl
-none_chosen keys (suc n) system_ports h = subst (λ l. system_ports ≡ after_choice_at keys l n (slice_get l n)) (none_chosen keys n system_ports h) (stays_at keys system_ports n (slice_get system_ports n) h refl)
+none_chosen keys (suc n) system_ports h = subst (λ l. system_ports ≡ after_choice_at keys l n (slice_get l n))
+    (none_chosen keys n system_ports h) (stays_at keys system_ports n (slice_get system_ports n) h refl)

@@ -1,5 +1,6 @@
 -- Each call changes the conversations of a system by lawful moves of the model.
-use Rattle.std.proofs.Common.{◌≡◌, ◌∙◌, ℕ, zero, suc, Bool, true, false, cond, List, [], ◌∷◌, Option, Some, None, Result, Ok, Err, refl, sym, ap, subst, arith, inl, inr, eqb, eqb-true, eq-eqb}
+use Rattle.std.proofs.Common.{◌≡◌, ◌∙◌, ℕ, zero, suc, Bool, true, false, cond, List, [], ◌∷◌, Option, Some, None, Result, Ok, Err, refl}
+use Rattle.std.proofs.Common.{sym, ap, subst, arith, inl, inr, eqb, eqb-true, eq-eqb}
 use Rattle.std.specs.Prelude.{◌&&◌, ◌||◌, if◌then◌else◌, option_map, slice_get, IsSomeAnd, MatchOption}
 use Rattle.std.proofs.lemmas.Bool.{and_parts, cases_Bool, false≢true}
 use Rattle.std.proofs.lemmas.Bool.Decides.{Decides-eqb}
@@ -26,17 +27,20 @@ use Rattle.lagmodel.proofs.Uses.{flows_weaker, moves_flows}
 use Rattle.lagsystem.specs.declared.system_ports.SystemPort.{SystemPort}
 use Rattle.lagsystem.specs.Readers.{aggregator_numbered, distributes_in, distributing}
 use Rattle.lagsystem.specs.Settling.{HoldsConversations, held_unless_on}
-use Rattle.lagsystem.specs.ModelView.{MuxesConsistent, selected_number, number_of_port, model_port_of, mux_consistent_of, model_view_at, model_view}
+use Rattle.lagsystem.specs.ModelView.{MuxesConsistent, selected_number, number_of_port, model_port_of, mux_consistent_of, model_view_at}
+use Rattle.lagsystem.specs.ModelView.{model_view}
 use Rattle.lagsystem.specs.State.{SystemState, port_numbers}
 use Rattle.lagsystem.proofs.Stopped.{from_here, from_rest, none_on, on, on_more}
 use Rattle.lagsystem.proofs.Rising.{Rises}
 
 -- moves of the conversations, whatever the ports do
-pub table_moves : (u : SystemSetup) (call : Told) (system_ports : List SystemPort) (t new : Table) (seen : List Act) → DistributorMoves u.system.mac call NoneDistributes (model_distributor t) seen (model_distributor new)
+pub table_moves : (u : SystemSetup) (call : Told) (system_ports : List SystemPort) (t new : Table) (seen : List Act)
+    → DistributorMoves u.system.mac call NoneDistributes (model_distributor t) seen (model_distributor new)
     → LawfulMoves u call (model_view_at (model_distributor t) system_ports) seen (model_view_at (model_distributor new) system_ports)
 table_moves u call system_ports t new seen h =
     let v = model_view_at (model_distributor t) system_ports in
-    moves_flows u call v seen (model_distributor new) (flows_weaker u.system.mac call NoneDistributes (Distributes v.port) (model_distributor t) (model_distributor new) seen (λ g p x. absurd x) h)
+    moves_flows u call v seen (model_distributor new) (flows_weaker u.system.mac call NoneDistributes (Distributes v.port)
+    (model_distributor t) (model_distributor new) seen (λ g p x. absurd x) h)
 
 -- step 6 of settling
 leaves_one : (mac : List ℕ) (call : Told) (ports : List ℕ) (g k : ℕ) (a : Assignment) → Makes mac call g k a (held_unless_on ports a)
@@ -49,14 +53,18 @@ leaves_one mac call ports g k (On p) = either (distributes ports p)
     either true = inl refl
     either false = inr (ConversationMove.Want p, refl, refl)
 
-pub leaving_moves : (u : SystemSetup) (call : Told) (old new : SystemState) → HoldsConversations old new → LawfulMoves u call (model_view old) [] (model_view new)
+pub leaving_moves : (u : SystemSetup) (call : Told) (old new : SystemState) → HoldsConversations old new
+    → LawfulMoves u call (model_view old) [] (model_view new)
 leaving_moves u call old new h =
     let ports : ℕ → List ℕ = λ g. distributing (aggregator_numbered g) old.system_ports in
-    let moves = each_moves u.system.mac call old.table new.table (λ g k. held_unless_on (ports g)) (λ g k. refl) (λ g k a. leaves_one u.system.mac call (ports g) g k a) h.next h.states in
-    subst (λ l. LawfulMoves u call (model_view old) [] (model_view_at (model_distributor new.table) l)) (sym (ap (λ (s : SystemState). s.system_ports) h.frame)) (table_moves u call old.system_ports old.table new.table [] moves)
+    let moves = each_moves u.system.mac call old.table new.table (λ g k. held_unless_on (ports g)) (λ g k. refl)
+    (λ g k a. leaves_one u.system.mac call (ports g) g k a) h.next h.states in
+    subst (λ l. LawfulMoves u call (model_view old) [] (model_view_at (model_distributor new.table) l))
+    (sym (ap (λ (s : SystemState). s.system_ports) h.frame)) (table_moves u call old.system_ports old.table new.table [] moves)
 
 -- at rest a port distributes exactly if its mux machine does
-pub rest_distributes : (m : MuxState) (x s : Bool) → mux_consistent_of m x s ≡ true → (s && (x && same_mux_state CollectingDistributing m)) ≡ same_mux_state CollectingDistributing m
+pub rest_distributes : (m : MuxState) (x s : Bool) → mux_consistent_of m x s ≡ true
+    → (s && (x && same_mux_state CollectingDistributing m)) ≡ same_mux_state CollectingDistributing m
 rest_distributes Detached true true h = refl
 rest_distributes Detached true false h = refl
 rest_distributes Detached false true h = refl
@@ -77,11 +85,13 @@ given_number : (agg : AggId) (c : Choice) → has_chosen agg c ≡ true → sele
 given_number agg Unselected h = absurd (false≢true h)
 given_number agg (Selected a) h = ap (λ n. Some n) ((Decides-eqb a.0 agg.0).0 h)
 
-seen_there : (agg : AggId) (s : SystemPort) → (mux_consistent_of s.port.mux (selected s.port) (partner_synchronized s.port) ≡ true) → distributes_in agg s ≡ true
+seen_there : (agg : AggId) (s : SystemPort) → (mux_consistent_of s.port.mux (selected s.port) (partner_synchronized s.port) ≡ true)
+    → distributes_in agg s ≡ true
     → ((model_port_of s).aggregator ≡ Some agg.0) × ((model_port_of s).distributes ≡ true)
 seen_there agg s h d = (
   given_number agg s.port.choice ((and_parts (has_chosen agg s.port.choice) (same_mux_state CollectingDistributing s.port.mux) d).0),
-  rest_distributes s.port.mux (selected s.port) (partner_synchronized s.port) h ∙ (and_parts (has_chosen agg s.port.choice) (same_mux_state CollectingDistributing s.port.mux) d).1,
+  rest_distributes s.port.mux (selected s.port) (partner_synchronized s.port) h
+      ∙ (and_parts (has_chosen agg s.port.choice) (same_mux_state CollectingDistributing s.port.mux) d).1,
 )
 
 flipped : (m n : ℕ) → eqb m n ≡ true → eqb n m ≡ true
@@ -93,23 +103,32 @@ unflipped m n h = elim (cases_Bool (eqb n m)) [ inl t ↦ absurd (false≢true (
 abbrev Sees : AggId → Option SystemPort → Type 0
 Sees agg o = IsSomeAnd (option_map model_port_of o) (λ (a : PortFacts). (a.aggregator ≡ Some agg.0) × (a.distributes ≡ true))
 
-pub seen_distributing : (agg : AggId) (p low : ℕ) (system_ports : List SystemPort) → Rises low (port_numbers system_ports) → MuxesConsistent system_ports → on agg system_ports p ≡ true → Sees agg (find_number number_of_port system_ports p)
+pub seen_distributing : (agg : AggId) (p low : ℕ) (system_ports : List SystemPort) → Rises low (port_numbers system_ports)
+    → MuxesConsistent system_ports → on agg system_ports p ≡ true → Sees agg (find_number number_of_port system_ports p)
 seen_distributing agg p low [] r a h = absurd (false≢true h)
 seen_distributing agg p low (s ∷ system_ports) r a h = elim (cases_Bool (eqb s.number p)) [
   | inl t ↦ (let none = none_on agg s.number system_ports p r.1 (let same = eqb-true s.number p t in omega (arith, same)) in
-      let here = from_here (distributes_in agg s) (eqb s.number p) (on agg system_ports p) t none (sym (on_more agg s system_ports p) ∙ h) in
-      subst (Sees agg) (sym (cond_true (eqb p s.number) (Some s) (find_number number_of_port system_ports p) (flipped s.number p t))) (seen_there agg s a.0 here))
-  | inr f ↦ (let rest = sym (from_rest (distributes_in agg s) (eqb s.number p) (on agg system_ports p) f) ∙ sym (on_more agg s system_ports p) ∙ h in
-      subst (Sees agg) (sym (cond_false (eqb p s.number) (Some s) (find_number number_of_port system_ports p) (unflipped s.number p f))) (seen_distributing agg p s.number system_ports r.1 a.1 rest))
+      let here = from_here (distributes_in agg s) (eqb s.number p) (on agg system_ports p) t none
+      (sym (on_more agg s system_ports p) ∙ h) in
+      subst (Sees agg) (sym (cond_true (eqb p s.number) (Some s) (find_number number_of_port system_ports p) (flipped s.number p t)))
+      (seen_there agg s a.0 here))
+  | inr f ↦ (let rest = sym (from_rest (distributes_in agg s) (eqb s.number p) (on agg system_ports p) f)
+      ∙ sym (on_more agg s system_ports p) ∙ h in
+      subst (Sees agg) (sym (cond_false (eqb p s.number) (Some s) (find_number number_of_port system_ports p) (unflipped s.number p f)))
+      (seen_distributing agg p s.number system_ports r.1 a.1 rest))
 ]
 
 -- moves of the conversations, if a port may carry one that distributes in its aggregator
-pub carrying_moves : (u : SystemSetup) (call : Told) (agg : AggId) (system_ports : List SystemPort) (t new : Table) (seen : List Act) → Rises 0 (port_numbers system_ports) → MuxesConsistent system_ports
-    → DistributorMoves u.system.mac call (OnlyListedDistribute agg.0 (distributing agg system_ports)) (model_distributor t) seen (model_distributor new) → LawfulMoves u call (model_view_at (model_distributor t) system_ports) seen (model_view_at (model_distributor new) system_ports)
+pub carrying_moves : (u : SystemSetup) (call : Told) (agg : AggId) (system_ports : List SystemPort) (t new : Table) (seen : List Act)
+    → Rises 0 (port_numbers system_ports) → MuxesConsistent system_ports
+    → DistributorMoves u.system.mac call (OnlyListedDistribute agg.0 (distributing agg system_ports)) (model_distributor t) seen
+    (model_distributor new) → LawfulMoves u call (model_view_at (model_distributor t) system_ports) seen
+    (model_view_at (model_distributor new) system_ports)
 carrying_moves u call agg system_ports t new seen r a h =
     let v = model_view_at (model_distributor t) system_ports in
     moves_flows u call v seen (model_distributor new)
-    (flows_weaker u.system.mac call (OnlyListedDistribute agg.0 (distributing agg system_ports)) (Distributes v.port) (model_distributor t) (model_distributor new) seen
+    (flows_weaker u.system.mac call (OnlyListedDistribute agg.0 (distributing agg system_ports)) (Distributes v.port) (model_distributor t)
+    (model_distributor new) seen
     (λ g p x. subst (λ m. Distributes v.port m p) (sym x.0) (seen_distributing agg p 0 system_ports r a x.1)) h)
 
 -- the port that the distributor answers may carry the frame
@@ -135,15 +154,19 @@ same_Ok p q e = cc
 no_Ok : (p : ℕ) (fault : DistFault) → port_answer p ≡ Err fault → ⊥
 no_Ok p fault e = cc
 
-picked_may : (gives : ℕ → ℕ → ℕ → Type 0) (conv : ℕ) (ports : List ℕ) (port : ℕ) → PicksPort gives conv ports (Ok port) → distributes ports port ≡ true
+picked_may : (gives : ℕ → ℕ → ℕ → Type 0) (conv : ℕ) (ports : List ℕ) (port : ℕ) → PicksPort gives conv ports (Ok port)
+    → distributes ports port ≡ true
 picked_may gives conv [] port h = absurd (no_Ok port DistFault.NoneDistributing h)
-picked_may gives conv (p ∷ ports) port h = subst (λ q. distributes (p ∷ ports) q ≡ true) (sym (same_Ok port h.1 h.4)) (among (p ∷ ports) h.0 h.1 h.3)
+picked_may gives conv (p ∷ ports) port h = subst (λ q. distributes (p ∷ ports) q ≡ true) (sym (same_Ok port h.1 h.4))
+    (among (p ∷ ports) h.0 h.1 h.3)
 
-pub assigned_may : (gives : ℕ → ℕ → ℕ → Type 0) (conv : ℕ) (ports : List ℕ) (s : Assignment) (port : ℕ) → Assigns gives conv ports s (Ok port) → MaySend ports s port
+pub assigned_may : (gives : ℕ → ℕ → ℕ → Type 0) (conv : ℕ) (ports : List ℕ) (s : Assignment) (port : ℕ)
+    → Assigns gives conv ports s (Ok port) → MaySend ports s port
 assigned_may gives conv ports (Free None) port h = picked_may gives conv ports port h
 assigned_may gives conv ports (Free (Some p)) port h = preferred (distributes ports p) refl h
   where
-    preferred : (b : Bool) → distributes ports p ≡ b → MatchOption (cond b (Some p) None) (PicksPort gives conv ports (Ok port)) (λ q. port_answer port ≡ Ok q) → distributes ports port ≡ true
+    preferred : (b : Bool) → distributes ports p ≡ b → MatchOption (cond b (Some p) None) (PicksPort gives conv ports (Ok port))
+        (λ q. port_answer port ≡ Ok q) → distributes ports port ≡ true
     preferred true e a = subst (λ q. distributes ports q ≡ true) (sym (same_Ok port p a)) e
     preferred false e a = picked_may gives conv ports port a
 assigned_may gives conv ports (On p) port h = same_Ok port p h

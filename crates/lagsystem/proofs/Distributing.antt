@@ -1,5 +1,6 @@
 -- The ports that distribute in an aggregator, and the numbers of ports, in ascending order.
-use Rattle.std.proofs.Common.{◌≡◌, ◌∙◌, ℕ, zero, suc, ◌+◌, ◌<◌, Bool, true, false, cond, Option, Some, None, List, [], ◌∷◌, arith, ap, refl, subst, sym, eq-eqb}
+use Rattle.std.proofs.Common.{◌≡◌, ◌∙◌, ℕ, zero, suc, ◌+◌, ◌<◌, Bool, true, false, cond, Option, Some, None, List, [], ◌∷◌, arith, ap}
+use Rattle.std.proofs.Common.{refl, subst, sym, eq-eqb}
 use Rattle.std.specs.Prelude.{◌&&◌, ◌||◌, filter, length, nat_le, nat_lt, slice_get, slice_index}
 use Rattle.std.specs.Bool.{OnFalse}
 use Rattle.std.specs.List.Sorted.{IsStrictlyIncreasing}
@@ -36,11 +37,13 @@ lower : (low mid : ℕ) (ns : List ℕ) → low < mid → Rises mid ns → Rises
 lower low mid [] l r = tt
 lower low mid (n ∷ ns) l r = (omega (arith, l, r.0), r.1)
 
-kept_or_not : (b : Bool) (low : ℕ) (s : SystemPort) (rest : List SystemPort) → low < s.number → Rises s.number (port_numbers rest) → Rises low (port_numbers (cond b (s ∷ rest) rest))
+kept_or_not : (b : Bool) (low : ℕ) (s : SystemPort) (rest : List SystemPort) → low < s.number → Rises s.number (port_numbers rest)
+    → Rises low (port_numbers (cond b (s ∷ rest) rest))
 kept_or_not true low s rest l r = (l, r)
 kept_or_not false low s rest l r = lower low s.number (port_numbers rest) l r
 
-filtered : (p : SystemPort → Bool) (low : ℕ) (system_ports : List SystemPort) → Rises low (port_numbers system_ports) → Rises low (port_numbers (filter p system_ports))
+filtered : (p : SystemPort → Bool) (low : ℕ) (system_ports : List SystemPort) → Rises low (port_numbers system_ports)
+    → Rises low (port_numbers (filter p system_ports))
 filtered p low [] r = tt
 filtered p low (s ∷ system_ports) r = kept_or_not (p s) low s (filter p system_ports) r.0 (filtered p s.number system_ports r.1)
 
@@ -59,7 +62,8 @@ there : (o : Option PortFacts) (P : PortFacts → Type 0) → IsSomeAnd o P → 
 there None P h = absurd h
 there (Some a) P h = (a, refl, h)
 
-within : (keys : List Key) (n : ℕ) (k : Key) (b : Bool) → slice_get keys n ≡ Some k → (nat_lt 0 (suc n) && nat_le (suc n) (length keys)) ≡ b → b ≡ true
+within : (keys : List Key) (n : ℕ) (k : Key) (b : Bool) → slice_get keys n ≡ Some k
+    → (nat_lt 0 (suc n) && nat_le (suc n) (length keys)) ≡ b → b ≡ true
 within keys n k true e h = refl
 within keys n k false e h = absurd (none-some k (sym (slice_get_past keys n (grind (arith, nat_tests))) ∙ e))
 
@@ -67,7 +71,8 @@ has_key : (keys : List Key) (n : ℕ) (k : Key) → key_of keys n ≡ Some k →
 has_key keys zero k e = absurd (none-some k e)
 has_key keys (suc n) k e = within keys n k (nat_lt 0 (suc n) && nat_le (suc n) (length keys)) e refl
 
-none_there : (agg : AggId) (s : SystemState) (ports : List ℕ) → IsSound s → has_aggregator s agg ≡ false → distributing agg s.system_ports ≡ ports → ports ≡ []
+none_there : (agg : AggId) (s : SystemState) (ports : List ℕ) → IsSound s → has_aggregator s agg ≡ false
+    → distributing agg s.system_ports ≡ ports → ports ≡ []
 none_there agg s [] h unknown e = refl
 none_there agg s (p ∷ ports) h unknown e =
     let on : distributes (distributing agg s.system_ports) p ≡ true = subst (λ l. distributes l p ≡ true) (sym e) (first_of p ports) in
@@ -80,4 +85,5 @@ by_answer false P f = f refl
 
 -- no port distributes in an aggregator that is not there
 pub none_distribute : (agg : AggId) (s : SystemState) → IsSound s → OnFalse (has_aggregator s agg) (distributing agg s.system_ports ≡ [])
-none_distribute agg s h = by_answer (has_aggregator s agg) (distributing agg s.system_ports ≡ []) (λ unknown. none_there agg s (distributing agg s.system_ports) h unknown refl)
+none_distribute agg s h = by_answer (has_aggregator s agg) (distributing agg s.system_ports ≡ [])
+    (λ unknown. none_there agg s (distributing agg s.system_ports) h unknown refl)

@@ -1,5 +1,6 @@
 -- How the own effect of a call changes the model's view of a port.
-use Rattle.std.proofs.Common.{◌≡◌, ℕ, Bool, true, false, ◌&&◌, ◌||◌, not, Option, Some, None, List, [], ◌∷◌, sym, refl, ap, ◌∙◌, subst, ◌⊎◌, inl, inr, IsSome}
+use Rattle.std.proofs.Common.{◌≡◌, ℕ, Bool, true, false, ◌&&◌, ◌||◌, not, Option, Some, None, List, [], ◌∷◌, sym, refl, ap, ◌∙◌, subst}
+use Rattle.std.proofs.Common.{◌⊎◌, inl, inr, IsSome}
 use Rattle.std.specs.Prelude.{if◌then◌else◌}
 use Rattle.std.proofs.lemmas.Bool.{false≢true}
 use Rattle.lagtypes.specs.declared.party.Party.{Party}
@@ -29,7 +30,15 @@ use Rattle.lagsystem.proofs.Rows.{quiet, QuietMoves, EachMoves, settles_moves}
 
 -- a stopped port, by the bits of its partner's state
 abbrev stopped : Party → Party → Bool → Bool → Option ℕ → PortFacts
-stopped party partner s d g = record { party = party; partner = partner; synchronised = s; defaulted = d; aggregator = g; distributes = false }
+stopped party partner s d g = record {
+  party = party;
+  partner = partner;
+  synchronised = s;
+  defaulted = d;
+  aggregator =
+      g;
+  distributes = false;
+}
 
 abbrev pub named : Info → StateBits → Party
 named info bits = record { system = info.system; key = info.key; port = info.port; aggregatable = bits.aggregation }
@@ -38,30 +47,52 @@ abbrev with_bits : Party → Info → Bool → Option ℕ → StateBits → Port
 with_bits party info d g bits = stopped party (named info bits) bits.synchronization d g
 
 -- update_Default_Selected and recordDefault
-defaulting : (u : SystemSetup) (call : ModelCall) (n : ℕ) (party partner : Party) (s d : Bool) (c : Choice) (b : Bool) → (b ≡ true → zero_party ≡ partner)
-    → PortMoves u call n (stopped party partner s d (selected_number c)) [] (stopped party zero_party true true (selected_number (if b then c else Unselected)))
+defaulting : (u : SystemSetup) (call : ModelCall) (n : ℕ) (party partner : Party) (s d : Bool) (c : Choice) (b : Bool)
+    → (b ≡ true → zero_party ≡ partner)
+    → PortMoves u call n (stopped party partner s d (selected_number c)) []
+    (stopped party zero_party true true (selected_number (if b then c else Unselected)))
 defaulting u call n party partner s d c true h = (PortMove.Default ∷ [], (λ ports. inr (sym (h refl)), tt), refl, refl)
-defaulting u call n party partner s d c false h = (PortMove.Leave ∷ PortMove.Default ∷ [], (λ ports. tt, (λ ports. inl refl, tt)), refl, refl)
+defaulting u call n party partner s d c false h = (
+  PortMove.Leave ∷ PortMove.Default
+      ∷ [],
+  (λ ports. tt, (λ ports. inl refl, tt)),
+  refl,
+  refl,
+)
 
 abbrev default_bits : StateBits
-default_bits = record { activity = false; timeout = false; aggregation = false; synchronization = true; collecting = false; distributing = false; defaulted = false; expired = false }
+default_bits = record {
+  activity = false;
+  timeout = false;
+  aggregation = false;
+  synchronization = true;
+  collecting = false;
+  distributing =
+      false;
+  defaulted = false;
+  expired = false;
+}
 
 -- the administrative partner is all zero, and synchronized
-on_defaults : (party : Party) (d : Bool) (g : Option ℕ) → with_bits party default_partner d g (bits_of default_partner.state) ≡ stopped party zero_party true d g
+on_defaults : (party : Party) (d : Bool) (g : Option ℕ)
+    → with_bits party default_partner d g (bits_of default_partner.state) ≡ stopped party zero_party true d g
 on_defaults party d g = ap (with_bits party default_partner d g) (encode_then_decode default_bits)
 
 pub zero_named : zero_party ≡ party_of default_partner
 zero_named = sym (ap (named default_partner) (encode_then_decode default_bits))
 
 desynchronised : (party : Party) (info : Info) (d : Bool) (g : Option ℕ)
-    → with_bits party info d g (bits_of (with_synchronization false info.state)) ≡ with_bits party info d g (record (bits_of info.state) { synchronization = false })
+    → with_bits party info d g (bits_of (with_synchronization false info.state)) ≡ with_bits party info d g
+    (record (bits_of info.state) { synchronization = false })
 desynchronised party info d g = ap (with_bits party info d g) (encode_then_decode (record (bits_of info.state) { synchronization = false }))
 
 expiring : (party : Party) (info : Info) (d : Bool) (g : Option ℕ)
-    → with_bits party info d g (bits_of (with_timeout true (with_synchronization false info.state))) ≡ with_bits party info d g (record (bits_of info.state) { synchronization = false })
+    → with_bits party info d g (bits_of (with_timeout true (with_synchronization false info.state))) ≡ with_bits party info d g
+    (record (bits_of info.state) { synchronization = false })
 expiring party info d g =
     ap (with_bits party info d g) (encode_then_decode (record (bits_of (with_synchronization false info.state)) { timeout = true }))
-    ∙ ap (λ (b : StateBits). with_bits party info d g (record b { timeout = true })) (encode_then_decode (record (bits_of info.state) { synchronization = false }))
+    ∙ ap (λ (b : StateBits). with_bits party info d g (record b { timeout = true }))
+    (encode_then_decode (record (bits_of info.state) { synchronization = false }))
 
 pub receive_moves : (u : SystemSetup) (call : ModelCall) (n : ℕ) → EachMoves u call n receive_rows
 receive_moves u call n = (
@@ -73,26 +104,41 @@ receive_moves u call n = (
       (
         λ p h.
             let same = same_party (party_of default_partner) (party_of p.partner) in
-            subst (λ v. PortMoves u call n (quiet p) [] v) (sym (on_defaults p.party true (selected_number (if same then p.choice else Unselected))))
-            (defaulting u call n p.party (party_of p.partner) (partner_synchronized p) p.defaulted p.choice same (λ t. zero_named ∙ exact_party (party_of default_partner) (party_of p.partner) t)),
-        (λ p h. (PortMove.Desynchronise ∷ [], (λ ports. tt, tt), refl, expiring p.party p.partner p.defaulted (selected_number p.choice)), tt),
+            subst (λ v. PortMoves u call n (quiet p) [] v)
+            (sym (on_defaults p.party true (selected_number (if same then p.choice else Unselected))))
+            (defaulting u call n p.party (party_of p.partner) (partner_synchronized p) p.defaulted p.choice same (λ t. zero_named
+            ∙ exact_party (party_of default_partner) (party_of p.partner) t)),
+        (
+          λ p h. (PortMove.Desynchronise ∷ [], (λ ports. tt, tt), refl, expiring p.party p.partner p.defaulted (selected_number p.choice)),
+          tt,
+        ),
       ),
     ),
   ),
 )
 
-pub tick_moves : (u : SystemSetup) (call : ModelCall) (n : ℕ) (p q : Machines) → RunsToRest receive_rows (count_down p) q → QuietMoves u call n p [] q
+pub tick_moves : (u : SystemSetup) (call : ModelCall) (n : ℕ) (p q : Machines) → RunsToRest receive_rows (count_down p) q
+    → QuietMoves u call n p [] q
 tick_moves u call n p q h = settles_moves u call n receive_rows (receive_moves u call n) (count_down p) q h
 
-pub links_moves : (u : SystemSetup) (call : ModelCall) (n : ℕ) (up : Bool) (p q : Machines) → SetsPortEnabled up p q → QuietMoves u call n p [] q
+pub links_moves : (u : SystemSetup) (call : ModelCall) (n : ℕ) (up : Bool) (p q : Machines) → SetsPortEnabled up p q
+    → QuietMoves u call n p [] q
 links_moves u call n up p q h = settles_moves u call n receive_rows (receive_moves u call n) (record p { enabled = up }) q h
 
 -- update_Selected and recordPDU
-taking : (u : SystemSetup) (call : ModelCall) (n : ℕ) (party partner : Party) (s d : Bool) (c : Choice) (b : Bool) (v : Told_lacpdu) (t : Bool)
+taking : (u : SystemSetup) (call : ModelCall) (n : ℕ) (party partner : Party) (s d : Bool) (c : Choice) (b : Bool)
+    (v : Told_lacpdu) (t : Bool)
     → call ≡ Receive n (Some (Lacp v)) → (b ≡ true → v.actor ≡ partner)
     → (t ≡ true → (v.synchronised ≡ true) × ((v.partner ≡ party) ⊎ (v.actor.aggregatable ≡ false)))
-    → PortMoves u call n (stopped party partner s d (selected_number c)) (Took n v ∷ []) (stopped party v.actor t false (selected_number (if b then c else Unselected)))
-taking u call n party partner s d c true v t e h k = (PortMove.Take v t ∷ PortMove.Stop ∷ [], (λ ports. (e, inl (h refl), k), (λ ports. tt, tt)), refl, refl)
+    → PortMoves u call n (stopped party partner s d (selected_number c)) (Took n v
+    ∷ []) (stopped party v.actor t false (selected_number (if b then c else Unselected)))
+taking u call n party partner s d c true v t e h k = (
+  PortMove.Take v t ∷ PortMove.Stop
+      ∷ [],
+  (λ ports. (e, inl (h refl), k), (λ ports. tt, tt)),
+  refl,
+  refl,
+)
 taking u call n party partner s d c false v t e h k =
     (PortMove.Leave ∷ PortMove.Take v t ∷ PortMove.Stop ∷ [], (λ ports. tt, (λ ports. (e, inr refl, k), (λ ports. tt, tt))), refl, refl)
 
@@ -106,9 +152,11 @@ either_way true y h = inl refl
 either_way false true h = absurd (false≢true h)
 either_way false false h = inr refl
 
-says_so : (v : Lacpdu) (p : Machines) → recorded_synchronization v p ≡ true → ((bits_of v.actor.state).synchronization ≡ true) × ((party_of v.partner ≡ p.party) ⊎ ((party_of v.actor).aggregatable ≡ false))
+says_so : (v : Lacpdu) (p : Machines) → recorded_synchronization v p ≡ true → ((bits_of v.actor.state).synchronization ≡ true)
+    × ((party_of v.partner ≡ p.party) ⊎ ((party_of v.actor).aggregatable ≡ false))
 says_so v p h =
-    let both = ends_true (bits_of v.actor.state).synchronization (is_maintained v p) (same_party (party_of v.partner) p.party || not (bits_of v.actor.state).aggregation) h in (
+    let both = ends_true (bits_of v.actor.state).synchronization (is_maintained v p) (same_party (party_of v.partner) p.party
+    || not (bits_of v.actor.state).aggregation) h in (
       both.0,
       elim (either_way (same_party (party_of v.partner) p.party) (bits_of v.actor.state).aggregation both.1) [
         | inl same ↦ inl (exact_party (party_of v.partner) p.party same)
@@ -116,7 +164,8 @@ says_so v p h =
       ],
     )
 
-pub taking_moves : (u : SystemSetup) (n : ℕ) (v : Lacpdu) (p q : Machines) → Fires (lacpdu_rows v) p q → QuietMoves u (Receive n (Some (Lacp (lacp_message v)))) n p (Took n (lacp_message v) ∷ []) q
+pub taking_moves : (u : SystemSetup) (n : ℕ) (v : Lacpdu) (p q : Machines) → Fires (lacpdu_rows v) p q
+    → QuietMoves u (Receive n (Some (Lacp (lacp_message v)))) n p (Took n (lacp_message v) ∷ []) q
 taking_moves u n v p q h = elim h [
   | inl f ↦
       let call = Receive n (Some (Lacp (lacp_message v))) in
@@ -124,19 +173,26 @@ taking_moves u n v p q h = elim h [
       let t = recorded_synchronization v p in
       let taken = taking u call n p.party (party_of p.partner) (partner_synchronized p) p.defaulted p.choice same (lacp_message v) t refl
       (exact_party (party_of v.actor) (party_of p.partner)) (says_so v p) in
-      let recorded = ap (with_bits p.party v.actor false (selected_number (if same then p.choice else Unselected))) (encode_then_decode (record (bits_of v.actor.state) { synchronization = t })) in
+      let recorded = ap (with_bits p.party v.actor false (selected_number (if same then p.choice else Unselected)))
+      (encode_then_decode (record (bits_of v.actor.state) { synchronization = t })) in
       subst (λ r. QuietMoves u call n p (Took n (lacp_message v) ∷ []) r) (sym f.1)
       (subst (λ w. PortMoves u call n (quiet p) (Took n (lacp_message v) ∷ []) w) (sym recorded) taken)
   | inr f ↦ absurd f
 ]
 
 -- a configure: the port leaves, takes another party, and starts again
-pub configures_moves : (u : SystemSetup) (n : ℕ) (c : PortChange) (p q : Machines) → ChangesParty c p q → QuietMoves u ModelCall.Configure n p [] q
+pub configures_moves : (u : SystemSetup) (n : ℕ) (c : PortChange) (p q : Machines) → ChangesParty c p q
+    → QuietMoves u ModelCall.Configure n p [] q
 configures_moves u n c p q h =
     let again : Machines = start_receive (record p { party = changed_party c p.party }) in
-    let begin : QuietMoves u ModelCall.Configure n p [] again =
-    (PortMove.Leave ∷ PortMove.Reconfigure (changed_party c p.party) ∷ [], (λ ports. tt, (λ ports. (refl, refl, refl, refl), tt)), refl, on_defaults (changed_party c p.party) true None) in
-    let rest : QuietMoves u ModelCall.Configure n again [] h.1.0 = settles_moves u ModelCall.Configure n receive_rows (receive_moves u ModelCall.Configure n) again h.1.0 h.1.1 in
+    let begin : QuietMoves u ModelCall.Configure n p [] again = (
+      PortMove.Leave ∷ PortMove.Reconfigure (changed_party c p.party) ∷ [],
+      (λ ports. tt, (λ ports. (refl, refl, refl, refl), tt)),
+      refl,
+      on_defaults (changed_party c p.party) true None,
+    ) in
+    let rest : QuietMoves u ModelCall.Configure n again [] h.1.0 = settles_moves u ModelCall.Configure n receive_rows
+    (receive_moves u ModelCall.Configure n) again h.1.0 h.1.1 in
     subst (λ r. QuietMoves u ModelCall.Configure n p [] r) (sym h.1.2)
     (port_joined u ModelCall.Configure n (quiet p) (quiet again) (quiet h.1.0) [] [] begin rest)
 
@@ -161,7 +217,13 @@ announced n p b =
       synchronised = b.synchronization;
     })) ∷ []
 
-pub sending : (u : SystemSetup) (call : ModelCall) (n max_delay : ℕ) (p : Machines) → replies_frame call ≡ true → (is_synchronized p.mux ≡ true → IsSome (selected_number p.choice))
+pub sending : (u : SystemSetup) (call : ModelCall) (n max_delay : ℕ) (p : Machines) → replies_frame call ≡ true
+    → (is_synchronized p.mux ≡ true → IsSome (selected_number p.choice))
     → QuietMoves u call n p (Shows n (Lacp (lacp_message (pdu_of p max_delay))) ∷ []) (after_sending p)
-sending u call n max_delay p e k =
-    (PortMove.Announce (is_synchronized p.mux) ∷ [], (λ ports. (e, k), tt), sym (ap (announced n p) (encode_then_decode (own_bits p))), refl)
+sending u call n max_delay p e k = (
+  PortMove.Announce (is_synchronized p.mux)
+      ∷ [],
+  (λ ports. (e, k), tt),
+  sym (ap (announced n p) (encode_then_decode (own_bits p))),
+  refl,
+)

@@ -1,5 +1,6 @@
 -- The first state of a system has the model's first view.
-use Rattle.std.proofs.Common.{◌≡◌, ℕ, zero, suc, Bool, true, false, cond, eqb, Option, Some, None, List, [], ◌∷◌, length, refl, sym, ◌∙◌, subst, ap, ◌⊎◌, inl, inr}
+use Rattle.std.proofs.Common.{◌≡◌, ℕ, zero, suc, Bool, true, false, cond, eqb, Option, Some, None, List, [], ◌∷◌, length, refl, sym, ◌∙◌}
+use Rattle.std.proofs.Common.{subst, ap, ◌⊎◌, inl, inr}
 use Rattle.std.specs.Prelude.{◌&&◌, not, if◌then◌else◌, option_map, slice_get, slice_set}
 use Rattle.std.specs.List.{AllZip, AllByRecursion}
 use Rattle.std.proofs.lemmas.Bool.{and_parts, true≢false}
@@ -46,11 +47,13 @@ clash true h k = cc
 clash false h k = cc
 
 -- lists that are alike in numbers and views show the same ports
-pushed : {X : Type 0} (v : X → PortFacts) (b : Bool) (x : X) (o : Option X) → option_map v (cond b (Some x) o) ≡ cond b (Some (v x)) (option_map v o)
+pushed : {X : Type 0} (v : X → PortFacts) (b : Bool) (x : X) (o : Option X)
+    → option_map v (cond b (Some x) o) ≡ cond b (Some (v x)) (option_map v o)
 pushed v true x o = refl
 pushed v false x o = refl
 
-zip_ports : {X Y : Type 0} (n : X → ℕ) (m : Y → ℕ) (v : X → PortFacts) (w : Y → PortFacts) (xs : List X) (ys : List Y) → AllZip (λ x y. (m y ≡ n x) × (w y ≡ v x)) xs ys
+zip_ports : {X Y : Type 0} (n : X → ℕ) (m : Y → ℕ) (v : X → PortFacts) (w : Y → PortFacts) (xs : List X) (ys : List Y)
+    → AllZip (λ x y. (m y ≡ n x) × (w y ≡ v x)) xs ys
     → (q : ℕ) → ports_of m w ys q ≡ ports_of n v xs q
 zip_ports n m v w [] [] h q = refl
 zip_ports n m v w [] (y ∷ ys) h q = absurd h
@@ -71,17 +74,26 @@ record Beginning (party : Party) (p : Machines) : Type 0 where
   pub nobody : p.choice ≡ Unselected
   pub where_ : (p.receive ≡ Initialize) ⊎ ((p.receive ≡ PortDisabled) × (partner_synchronized p ≡ false))
 
-disabled_looks : (p q : Machines) → q ≡ record p { receive = PortDisabled; partner = record p.partner { state = with_synchronization false p.partner.state } } → hushed q ≡ hushed p
+disabled_looks : (p q : Machines)
+    → q ≡ record p { receive = PortDisabled; partner = record p.partner { state = with_synchronization false p.partner.state } }
+    → hushed q ≡ hushed p
 disabled_looks p q e =
     ap hushed e
-    ∙ ap (λ b. record (hushed p) { partner = named p.partner b }) (encode_then_decode (record (bits_of p.partner.state) { synchronization = false }))
+    ∙ ap (λ b. record (hushed p) { partner = named p.partner b })
+    (encode_then_decode (record (bits_of p.partner.state) { synchronization = false }))
 
-disabled_now : (party : Party) (p q : Machines) → q ≡ record p { receive = PortDisabled; partner = record p.partner { state = with_synchronization false p.partner.state } } → Beginning party p → Beginning party q
+disabled_now : (party : Party) (p q : Machines)
+    → q ≡ record p { receive = PortDisabled; partner = record p.partner { state = with_synchronization false p.partner.state } }
+    → Beginning party p → Beginning party q
 disabled_now party p q e x = record {
   looks = disabled_looks p q e ∙ x.looks;
   down = ap (λ (y : Machines). y.enabled) e ∙ x.down;
   nobody = ap (λ (y : Machines). y.choice) e ∙ x.nobody;
-  where_ = inr (ap (λ (y : Machines). y.receive) e, ap partner_synchronized e ∙ ap (λ b. b.synchronization) (encode_then_decode (record (bits_of p.partner.state) { synchronization = false })));
+  where_ = inr (
+    ap (λ (y : Machines). y.receive) e,
+    ap partner_synchronized e
+        ∙ ap (λ b. b.synchronization) (encode_then_decode (record (bits_of p.partner.state) { synchronization = false })),
+  );
 }
 
 begins_on : (party : Party) (p q : Machines) → Fires receive_rows p q → Beginning party p → Beginning party q
@@ -92,9 +104,11 @@ begins_on party p q h x = elim h [
     | inr h ↦ elim h [
       | inl f ↦ absurd (clash p.enabled ((and_parts (same_receive_state PortDisabled p.receive) p.enabled f.0).1) x.down)
       | inr h ↦ elim h [
-        | inl f ↦ absurd (clash (same_receive_state Expired p.receive) ((and_parts (same_receive_state Expired p.receive) _ f.0).0) (elim x.where_ [ inl e ↦ ap (same_receive_state Expired) e | inr e ↦ ap (same_receive_state Expired) e.0 ]))
+        | inl f ↦ absurd (clash (same_receive_state Expired p.receive) ((and_parts (same_receive_state Expired p.receive) _ f.0).0)
+            (elim x.where_ [ inl e ↦ ap (same_receive_state Expired) e | inr e ↦ ap (same_receive_state Expired) e.0 ]))
         | inr h ↦ elim h [
-          | inl f ↦ absurd (clash (same_receive_state Current p.receive) ((and_parts (same_receive_state Current p.receive) _ f.0).0) (elim x.where_ [ inl e ↦ ap (same_receive_state Current) e | inr e ↦ ap (same_receive_state Current) e.0 ]))
+          | inl f ↦ absurd (clash (same_receive_state Current p.receive) ((and_parts (same_receive_state Current p.receive) _ f.0).0)
+              (elim x.where_ [ inl e ↦ ap (same_receive_state Current) e | inr e ↦ ap (same_receive_state Current) e.0 ]))
           | inr h ↦ absurd h
         ]
       ]
@@ -116,10 +130,18 @@ record Idle (party : Party) (p : Machines) : Type 0 where
 starts_idle : (s : Start) (q : Machines) → Starts (before_start s) q → Idle s.party q
 starts_idle s q h =
     let mid = h.0 in
-    let begun : Beginning s.party (start_receive (before_start s)) = record { looks = ap (λ x. record (first_port s.party) { partner = x }) (sym zero_named); down = refl; nobody = refl; where_ = inl refl } in
+    let begun : Beginning s.party (start_receive (before_start s)) =
+    record {
+      looks = ap (λ x. record (first_port s.party) { partner = x }) (sym zero_named);
+      down = refl;
+      nobody =
+          refl;
+      where_ = inl refl;
+    } in
     let x = begins_all s.party h.1.0 (start_receive (before_start s)) mid h.1.1 begun in
     let sync : partner_synchronized mid ≡ false = elim x.where_ [
-      | inl e ↦ absurd (clash (same_receive_state Initialize mid.receive && true) (ap (λ r. same_receive_state Initialize r && true) e) h.1.2.0)
+      | inl e ↦ absurd
+          (clash (same_receive_state Initialize mid.receive && true) (ap (λ r. same_receive_state Initialize r && true) e) h.1.2.0)
       | inr e ↦ e.1
     ] in
     subst (Idle s.party) (sym h.2) (record {
@@ -185,21 +207,31 @@ idle_slots system R k (c ∷ cs) (x ∷ xs) (y ∷ ys) a h =
 not_eligible : (s : SystemPort) → s.port.enabled ≡ false → is_eligible (seen_at s) ≡ false
 not_eligible s e = ap (λ b. is_eligible (record (seen_at s) { enabled = b })) e
 
-choose_idle : (keys : List Key) (system_ports : List SystemPort) (i : ℕ) (o : Option SystemPort) → slice_get system_ports i ≡ o → AllByRecursion (λ s. s.port.enabled ≡ false) system_ports → after_choice_at keys system_ports i o ≡ system_ports
+choose_idle : (keys : List Key) (system_ports : List SystemPort) (i : ℕ) (o : Option SystemPort) → slice_get system_ports i ≡ o
+    → AllByRecursion (λ s. s.port.enabled ≡ false) system_ports → after_choice_at keys system_ports i o ≡ system_ports
 choose_idle keys system_ports i None e down = refl
 choose_idle keys system_ports i (Some s) e down =
-    let none : aggregator_for keys system_ports s ≡ None = ap (λ b. if b then chosen_aggregator keys (views system_ports) s.number else None) (not_eligible s (all-get (λ s. s.port.enabled ≡ false) system_ports i s e down)) in
+    let none : aggregator_for keys system_ports s ≡ None =
+    ap (λ b. if b then chosen_aggregator keys (views system_ports) s.number else None)
+    (not_eligible s (all-get (λ s. s.port.enabled ≡ false) system_ports i s e down)) in
     ap (λ o. slice_set system_ports i (with_choice s o)) none ∙ set_same system_ports i s e
 
-chosen_idle : (keys : List Key) (n : ℕ) (system_ports : List SystemPort) → AllByRecursion (λ s. s.port.enabled ≡ false) system_ports → after_choices keys n system_ports ≡ system_ports
+chosen_idle : (keys : List Key) (n : ℕ) (system_ports : List SystemPort) → AllByRecursion (λ s. s.port.enabled ≡ false) system_ports
+    → after_choices keys n system_ports ≡ system_ports
 chosen_idle keys zero system_ports down = refl
 chosen_idle keys (suc n) system_ports down =
-    ap (λ (l : List SystemPort). after_choice_at keys l n (slice_get l n)) (chosen_idle keys n system_ports down) ∙ choose_idle keys system_ports n (slice_get system_ports n) refl down
+    ap (λ (l : List SystemPort). after_choice_at keys l n (slice_get l n)) (chosen_idle keys n system_ports down)
+    ∙ choose_idle keys system_ports n (slice_get system_ports n) refl down
 
 periodic_shown : (p q : Machines) → RunsPeriodic p q → model_port q ≡ model_port p
-periodic_shown p q h = ap model_port h.2 ∙ Reaches-keeps model_port periodic_rows ((λ p. refl), ((λ p. refl), ((λ p. refl), ((λ p. refl), ((λ p. refl), ((λ p. refl), ((λ p. refl), tt))))))) h.1.0 p h.0 h.1.1
+periodic_shown p q h = ap model_port h.2
+    ∙ Reaches-keeps model_port periodic_rows (
+      (λ p. refl),
+      ((λ p. refl), ((λ p. refl), ((λ p. refl), ((λ p. refl), ((λ p. refl), ((λ p. refl), tt)))))),
+    ) h.1.0 p h.0 h.1.1
 
-zip_weaker : {X Y : Type 0} (R S : X → Y → Type 0) → ((x : X) (y : Y) → R x y → S x y) → (xs : List X) (ys : List Y) → AllZip R xs ys → AllZip S xs ys
+zip_weaker : {X Y : Type 0} (R S : X → Y → Type 0) → ((x : X) (y : Y) → R x y → S x y) → (xs : List X) (ys : List Y)
+    → AllZip R xs ys → AllZip S xs ys
 zip_weaker R S w [] [] h = tt
 zip_weaker R S w [] (y ∷ ys) h = absurd h
 zip_weaker R S w (x ∷ xs) [] h = absurd h
@@ -219,32 +251,45 @@ first_periodic s h =
     let three = run.2.2.0 in
     let four = run.2.2.2.0 in
     let five = run.2.2.2.2.0 in
-    let idle : AllZip (Idles s.system) s.ports start = zip_weaker (HasJustStarted s.system) (Idles s.system) (λ c x m. (m.0, starts_idle (setup_of s.system c) x.port m.2)) s.ports start h.1 in
-    let down : AllByRecursion (λ x. x.port.enabled ≡ false) start = zip_all (Idles s.system) (λ x. x.port.enabled ≡ false) (λ c x m. m.1.down) s.ports start idle in
-    let s1 : one.system_ports ≡ start = idle_slots s.system (λ p q. RunsToRest (mux_rows false) p q) (λ party p q a m. idle_mux false party p q a m) s.ports start one.system_ports idle run.1.0 in
-    let s2 : two.system_ports ≡ start = ap (λ (x : SystemState). x.system_ports) run.2.1 ∙ ap (λ (l : List SystemPort). after_choices one.keys (length l) l) s1 ∙ chosen_idle one.keys (length start) start down in
+    let idle : AllZip (Idles s.system) s.ports start = zip_weaker (HasJustStarted s.system) (Idles s.system)
+    (λ c x m. (m.0, starts_idle (setup_of s.system c) x.port m.2)) s.ports start h.1 in
+    let down : AllByRecursion (λ x. x.port.enabled ≡ false) start = zip_all (Idles s.system) (λ x. x.port.enabled ≡ false)
+    (λ c x m. m.1.down) s.ports start idle in
+    let s1 : one.system_ports ≡ start = idle_slots s.system (λ p q. RunsToRest (mux_rows false) p q)
+    (λ party p q a m. idle_mux false party p q a m) s.ports start one.system_ports idle run.1.0 in
+    let s2 : two.system_ports ≡ start = ap (λ (x : SystemState). x.system_ports) run.2.1
+    ∙ ap (λ (l : List SystemPort). after_choices one.keys (length l) l) s1 ∙ chosen_idle one.keys (length start) start down in
     let s3 : three.system_ports ≡ start = ap (λ (x : SystemState). x.system_ports) run.2.2.1 ∙ s2 in
     let ready : Machines → Machines → Type 0 = λ p q. RunsToRest (mux_rows (ready_of three.keys (views three.system_ports) p.choice)) p q in
     let s4 : four.system_ports ≡ start =
-    idle_slots s.system ready (λ party p q a m. idle_mux (ready_of three.keys (views three.system_ports) p.choice) party p q a m) s.ports start four.system_ports idle (subst (λ l. PortsChangeBy ready l four.system_ports) s3 run.2.2.2.1.0) in
-    subst (λ l. PortsChangeBy RunsPeriodic start l) (sym (last_slots (with_system_ports s start) s run)) (subst (λ l. PortsChangeBy RunsPeriodic l five.system_ports) s4 run.2.2.2.2.1.0)
+    idle_slots s.system ready (λ party p q a m. idle_mux (ready_of three.keys (views three.system_ports) p.choice) party p q a m) s.ports
+    start four.system_ports idle (subst (λ l. PortsChangeBy ready l four.system_ports) s3 run.2.2.2.1.0) in
+    subst (λ l. PortsChangeBy RunsPeriodic start l) (sym (last_slots (with_system_ports s start) s run))
+    (subst (λ l. PortsChangeBy RunsPeriodic l five.system_ports) s4 run.2.2.2.2.1.0)
 
 pub first_shows : (s : SystemState) → IsFirst s → model_view s ≡ first_view (model_setup s)
 first_shows s h =
     let start = h.0 in
     let m5 = first_periodic s h in
-    let idle : AllZip (Idles s.system) s.ports start = zip_weaker (HasJustStarted s.system) (Idles s.system) (λ c x m. (m.0, starts_idle (setup_of s.system c) x.port m.2)) s.ports start h.1 in
+    let idle : AllZip (Idles s.system) s.ports start = zip_weaker (HasJustStarted s.system) (Idles s.system)
+    (λ c x m. (m.0, starts_idle (setup_of s.system c) x.port m.2)) s.ports start h.1 in
     let same_ports : (q : ℕ) → ports_of number_of_port model_port_of s.system_ports q ≡ ports_of number_of_port model_port_of start q =
-    zip_ports number_of_port number_of_port model_port_of model_port_of start s.system_ports (zip_weaker (PortChangesBy RunsPeriodic) _ (λ x y m. (ap number_of_port m.0, periodic_shown x.port y.port m.1)) start s.system_ports m5) in
-    let first_ports : (q : ℕ) → ports_of number_of_port model_port_of start q ≡ ports_of configured_number (λ c. first_port (configured_party s.system c)) s.ports q =
-    zip_ports configured_number number_of_port (λ c. first_port (configured_party s.system c)) model_port_of s.ports start (zip_weaker (Idles s.system) _ (λ c x m. (m.0, m.1.looks)) s.ports start idle) in
+    zip_ports number_of_port number_of_port model_port_of model_port_of start s.system_ports
+    (zip_weaker (PortChangesBy RunsPeriodic) _ (λ x y m. (ap number_of_port m.0, periodic_shown x.port y.port m.1))
+    start s.system_ports m5) in
+    let first_ports : (q : ℕ) → ports_of number_of_port model_port_of start q ≡ ports_of configured_number
+    (λ c. first_port (configured_party s.system c)) s.ports q =
+    zip_ports configured_number number_of_port (λ c. first_port (configured_party s.system c)) model_port_of s.ports start
+    (zip_weaker (Idles s.system) _ (λ c x m. (m.0, m.1.looks)) s.ports start idle) in
     λ i. record {
-      port = λ q. (same_ports q ∙ first_ports q ∙ composed first_port (configured_party s.system) (find_number configured_number s.ports q)) i;
+      port = λ q. (same_ports q ∙ first_ports q ∙ composed first_port (configured_party s.system) (find_number configured_number s.ports q))
+          i;
       flows = (ap model_distributor h.3 ∙ first_flows (model_setup s) (length s.keys)) i;
     }
 
 -- a restart shows the first view
-pub restarted_shows : (old new : SystemState) → new ≡ with_table (with_system_ports old new.system_ports) new.table → IsFirst new → model_view new ≡ first_view (model_setup old)
+pub restarted_shows : (old new : SystemState) → new ≡ with_table (with_system_ports old new.system_ports) new.table → IsFirst new
+    → model_view new ≡ first_view (model_setup old)
 restarted_shows old new e h = first_shows new h ∙ ap (λ (s : SystemState). first_view (model_setup s)) e
 
 -- a configuration is a setup
@@ -257,6 +302,8 @@ number_found (x ∷ xs) q c e = elim (whichever (eqb q x.number) (Some x) (find_
 
 pub configured_setup : (s : SystemState) → IsSystemSetup (model_setup s)
 configured_setup s = record {
-  system = λ p a e. (let x = mapped_some (configured_party s.system) (find_number configured_number s.ports p) a e in ap (λ (y : Party). y.system) (sym x.2));
-  number = λ p a e. (let x = mapped_some (configured_party s.system) (find_number configured_number s.ports p) a e in ap (λ (y : Party). y.port.number) (sym x.2) ∙ number_found s.ports p x.0 x.1);
+  system = λ p a e. (let x = mapped_some (configured_party s.system) (find_number configured_number s.ports p) a e in ap
+      (λ (y : Party). y.system) (sym x.2));
+  number = λ p a e. (let x = mapped_some (configured_party s.system) (find_number configured_number s.ports p) a e in ap
+      (λ (y : Party). y.port.number) (sym x.2) ∙ number_found s.ports p x.0 x.1);
 }

@@ -1,5 +1,6 @@
 -- Conversations leave stopped ports, one port after another.
-use Rattle.std.proofs.Common.{◌≡◌, ℕ, zero, suc, ◌+◌, ◌<◌, Bool, true, false, ◌==◌, ◌||◌, ◌&&◌, if◌then◌else◌, List, [], ◌∷◌, length, take, get_or, Option, None, refl, sym, ◌∙◌, ap, arith, add-one, inl, inr}
+use Rattle.std.proofs.Common.{◌≡◌, ℕ, zero, suc, ◌+◌, ◌<◌, Bool, true, false, ◌==◌, ◌||◌, ◌&&◌, if◌then◌else◌, List, [], ◌∷◌, length}
+use Rattle.std.proofs.Common.{take, get_or, Option, None, refl, sym, ◌∙◌, ap, arith, add-one, inl, inr}
 use Rattle.std.proofs.lemmas.Bool.{cases_eq, eq-eqb, ne_eqb}
 use Rattle.lagtypes.specs.declared.identifiers.AggId.{AggId}
 use Rattle.distributor.specs.declared.assignment.Assignment.{Assignment}
@@ -23,8 +24,10 @@ or_later : (a b c : Bool) → (a || (b || c)) ≡ ((a || b) || c)
 or_later true b c = refl
 or_later false b c = refl
 
-stopped_suc : (before : List (Option AggId)) (system_ports : List SystemPort) (i : ℕ) (d : Option AggId) (e : SystemPort) (p : ℕ) → i < length before → length before ≡ length system_ports
-    → stopped (take (suc i) before) (take (suc i) system_ports) p ≡ (stopped (take i before) (take i system_ports) p || leaves (get_or before i d) (get_or system_ports i e) p)
+stopped_suc : (before : List (Option AggId)) (system_ports : List SystemPort) (i : ℕ) (d : Option AggId) (e : SystemPort) (p : ℕ)
+    → i < length before → length before ≡ length system_ports
+    → stopped (take (suc i) before) (take (suc i) system_ports) p ≡ (stopped (take i before) (take i system_ports) p
+    || leaves (get_or before i d) (get_or system_ports i e) p)
 stopped_suc [] system_ports i d e p l same = absurd (omega arith)
 stopped_suc (b ∷ bs) [] i d e p l same = absurd (omega (arith, same))
 stopped_suc (b ∷ bs) (s ∷ ss) zero d e p l same = or_swap (leaves b s p) false
@@ -33,8 +36,10 @@ stopped_suc (b ∷ bs) (s ∷ ss) (suc i) d e p l same =
     ∙ or_later (leaves b s p) (stopped (take i bs) (take i ss) p) (leaves (get_or bs i d) (get_or ss i e) p)
 
 -- the ports of one more place
-pub stopped_more : (before : List (Option AggId)) (system_ports : List SystemPort) (i : ℕ) (d : Option AggId) (e : SystemPort) (p : ℕ) → i < length before → length before ≡ length system_ports
-    → stopped (take (i + 1) before) (take (i + 1) system_ports) p ≡ (stopped (take i before) (take i system_ports) p || leaves (get_or before i d) (get_or system_ports i e) p)
+pub stopped_more : (before : List (Option AggId)) (system_ports : List SystemPort) (i : ℕ) (d : Option AggId) (e : SystemPort) (p : ℕ)
+    → i < length before → length before ≡ length system_ports
+    → stopped (take (i + 1) before) (take (i + 1) system_ports) p ≡ (stopped (take i before) (take i system_ports) p
+    || leaves (get_or before i d) (get_or system_ports i e) p)
 stopped_more before system_ports i d e p l same = rw add-one (stopped_suc before system_ports i d e p l same)
 
 leave_one : (b : Bool) (n p : ℕ) → after_leave n (if b then Wanted p None else On p) ≡ (if b || (n == p) then Wanted p None else On p)
@@ -45,7 +50,8 @@ leave_one false n p = elim (cases_eq n p) [
 ]
 
 -- one more port is left
-leave_more : (f g : ℕ → Bool) (n : ℕ) → ((p : ℕ) → g p ≡ (f p || (n == p))) → (s : Assignment) → after_leave n (after_holding f s) ≡ after_holding g s
+leave_more : (f g : ℕ → Bool) (n : ℕ) → ((p : ℕ) → g p ≡ (f p || (n == p))) → (s : Assignment)
+    → after_leave n (after_holding f s) ≡ after_holding g s
 leave_more f g n e (Free preferred) = refl
 leave_more f g n e (On p) = leave_one (f p) n p ∙ ap (λ b. if b then Wanted p None else On p) (sym (e p))
 leave_more f g n e (Wanted p preferred) = refl
@@ -68,7 +74,8 @@ or_none false true = refl
 or_none false false = refl
 
 -- the port at the place stopped, and is left
-pub left_more : (before : List (Option AggId)) (system_ports : List SystemPort) (i : ℕ) (d : Option AggId) (e : SystemPort) (old mid new : Table) → i < length before → length before ≡ length system_ports
+pub left_more : (before : List (Option AggId)) (system_ports : List SystemPort) (i : ℕ) (d : Option AggId) (e : SystemPort)
+    (old mid new : Table) → i < length before → length before ≡ length system_ports
     → ChangesAssignments old mid (after_holding (stopped (take i before) (take i system_ports)))
     → has_stopped (get_or before i d) (get_or system_ports i e) ≡ true
     → ChangesAssignments mid new (after_leave (get_or system_ports i e).number)
@@ -78,7 +85,8 @@ left_more before system_ports i d e old mid new l same h stops k =
     let f = stopped (take i before) (take i system_ports) in
     let g = stopped (take (i + 1) before) (take (i + 1) system_ports) in
     let more : (p : ℕ) → g p ≡ (f p || (n == p)) =
-    λ p. stopped_more before system_ports i d e p l same ∙ ap (λ b. f p || ((n == p) && b)) stops ∙ ap (λ b. f p || b) (and_true (n == p)) in
+    λ p. stopped_more before system_ports i d e p l same ∙ ap (λ b. f p || ((n == p) && b)) stops
+    ∙ ap (λ b. f p || b) (and_true (n == p)) in
     record {
       aggs = k.aggs ∙ h.aggs;
       first = k.first ∙ h.first;
@@ -87,7 +95,8 @@ left_more before system_ports i d e old mid new l same h stops k =
     }
 
 -- the port at the place did not stop
-pub left_same : (before : List (Option AggId)) (system_ports : List SystemPort) (i : ℕ) (d : Option AggId) (e : SystemPort) (old new : Table) → i < length before → length before ≡ length system_ports
+pub left_same : (before : List (Option AggId)) (system_ports : List SystemPort) (i : ℕ) (d : Option AggId) (e : SystemPort)
+    (old new : Table) → i < length before → length before ≡ length system_ports
     → ChangesAssignments old new (after_holding (stopped (take i before) (take i system_ports)))
     → has_stopped (get_or before i d) (get_or system_ports i e) ≡ false
     → ChangesAssignments old new (after_holding (stopped (take (i + 1) before) (take (i + 1) system_ports)))

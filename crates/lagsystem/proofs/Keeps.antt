@@ -1,5 +1,6 @@
 -- Every call preserves the configuration of a system, and the numbers of its ports.
-use Rattle.std.proofs.Common.{◌≡◌, ◌∙◌, ℕ, zero, suc, ◌≤◌, Bool, true, false, List, [], ◌∷◌, Option, Some, None, Result, Ok, Err, ◌⊎◌, inl, inr, length, ap, sym, refl, subst, arith}
+use Rattle.std.proofs.Common.{◌≡◌, ◌∙◌, ℕ, zero, suc, ◌≤◌, Bool, true, false, List, [], ◌∷◌, Option, Some, None, Result, Ok, Err, ◌⊎◌}
+use Rattle.std.proofs.Common.{inl, inr, length, ap, sym, refl, subst, arith}
 use Rattle.std.specs.Prelude.{if◌then◌else◌, nat_le, slice_get, slice_set}
 use Rattle.std.specs.List.{AllZip}
 use Rattle.std.proofs.lemmas.Bool.{and_parts, false≢true}
@@ -27,7 +28,8 @@ use Rattle.lagsystem.specs.declared.config.PortConfig.{PortConfig}
 use Rattle.lagsystem.specs.declared.fault.BadConfig.{BadConfig}
 use Rattle.lagsystem.specs.declared.system_ports.SystemPort.{SystemPort}
 use Rattle.lagsystem.specs.State.{SystemState, with_system_ports, with_table, port_index}
-use Rattle.lagsystem.specs.Settling.{PortsChangeBy, OnlyPortsChangeBy, HoldsConversations, Settling, SettlesPorts, after_choices, after_choice_at, with_choice, held_unless_on, ready_of, aggregator_for}
+use Rattle.lagsystem.specs.Settling.{PortsChangeBy, OnlyPortsChangeBy, HoldsConversations, Settling, SettlesPorts, after_choices}
+use Rattle.lagsystem.specs.Settling.{after_choice_at, with_choice, held_unless_on, ready_of, aggregator_for}
 use Rattle.lagsystem.specs.Views.{views}
 use Rattle.lagsystem.specs.First.{IsConfigured, IsFirst, HasJustStarted, configured_numbers, refusal, config_refusal, is_count}
 use Rattle.lagsystem.specs.declared.config.Config.{Config}
@@ -38,7 +40,9 @@ use Rattle.lagsystem.specs.declared.drive.Reply.TheVariants as reply
 use Rattle.lagsystem.specs.declared.fault.SystemFault.{SystemFault}
 use Rattle.lagsystem.specs.Offers.{GivesOrRefuses, Offers, system_force_result, system_move_result}
 use Rattle.lagsystem.specs.Sending.{TransmitsAt, SendsMarkerOf, TransmitsIf}
-use Rattle.lagsystem.specs.Calls.{Call, Tick, Set_link, Receive, Configure, Restart, Transmit, Offer, Move_conversation, Force, Ticks, SetsPortEnabled, ChangesParty, FreesIfDown, SetsLink, PortAtChangesBy, OnlyPortChangesBy, Releases, ThenSettles, ProcessesLacpdu, Performs, Step, is_own_response}
+use Rattle.lagsystem.specs.Calls.{Call, Tick, Set_link, Receive, Configure, Restart, Transmit, Offer, Move_conversation, Force, Ticks}
+use Rattle.lagsystem.specs.Calls.{SetsPortEnabled, ChangesParty, FreesIfDown, SetsLink, PortAtChangesBy, OnlyPortChangesBy, Releases}
+use Rattle.lagsystem.specs.Calls.{ThenSettles, ProcessesLacpdu, Performs, Step, is_own_response}
 use Rattle.lagsystem.proofs.Rising.{if_then}
 
 pub record Keeps (old new : SystemState) : Type 0 where
@@ -54,7 +58,8 @@ keeps_joined a b c h k = record {
 }
 
 -- ports alone, or conversations alone
-pub keeps_slots : (old new : SystemState) → new ≡ with_system_ports old new.system_ports → port_numbers new.system_ports ≡ port_numbers old.system_ports → Keeps old new
+pub keeps_slots : (old new : SystemState) → new ≡ with_system_ports old new.system_ports
+    → port_numbers new.system_ports ≡ port_numbers old.system_ports → Keeps old new
 keeps_slots old new e n = record {
   frame = e ∙ (λ i. record old { system_ports = new.system_ports; table = sym (ap (λ (s : SystemState). s.table) e) i });
   same = n;
@@ -69,7 +74,8 @@ keeps_table old new e a = record {
 }
 
 pub keeps_stays : (old new : SystemState) → new ≡ old → Keeps old new
-keeps_stays old new e = keeps_slots old new (e ∙ ap (with_system_ports old) (sym (ap (λ (s : SystemState). s.system_ports) e))) (ap (λ (s : SystemState). port_numbers s.system_ports) e)
+keeps_stays old new e = keeps_slots old new (e ∙ ap (with_system_ports old) (sym (ap (λ (s : SystemState). s.system_ports) e)))
+    (ap (λ (s : SystemState). port_numbers s.system_ports) e)
 
 pub zip_numbers : (R : Machines → Machines → Type 0) (xs ys : List SystemPort) → PortsChangeBy R xs ys → port_numbers ys ≡ port_numbers xs
 zip_numbers R [] [] h = refl
@@ -80,7 +86,8 @@ zip_numbers R (x ∷ xs) (y ∷ ys) h = λ i. (h.0.0 i).number ∷ zip_numbers R
 pub keeps_each : (R : Machines → Machines → Type 0) (old new : SystemState) → OnlyPortsChangeBy R old new → Keeps old new
 keeps_each R old new h = keeps_slots old new h.1 (zip_numbers R old.system_ports new.system_ports h.0)
 
-pub numbers_set : (system_ports : List SystemPort) (i : ℕ) (s t : SystemPort) → slice_get system_ports i ≡ Some s → t.number ≡ s.number → port_numbers (slice_set system_ports i t) ≡ port_numbers system_ports
+pub numbers_set : (system_ports : List SystemPort) (i : ℕ) (s t : SystemPort) → slice_get system_ports i ≡ Some s → t.number ≡ s.number
+    → port_numbers (slice_set system_ports i t) ≡ port_numbers system_ports
 numbers_set [] i s t e n = refl
 numbers_set (x ∷ xs) zero s t e n = let same : x ≡ s = cc in let here : x.number ≡ s.number = ap (λ (y : SystemPort). y.number) same in cc
 numbers_set (x ∷ xs) (suc i) s t e n = ap (λ ns. x.number ∷ ns) (numbers_set xs i s t e n)
@@ -89,13 +96,17 @@ pub given_number : (s : SystemPort) (o : Option AggId) → (with_choice s o).num
 given_number s None = refl
 given_number s (Some agg) = refl
 
-choose_numbers : (keys : List Key) (system_ports : List SystemPort) (i : ℕ) (o : Option SystemPort) → slice_get system_ports i ≡ o → port_numbers (after_choice_at keys system_ports i o) ≡ port_numbers system_ports
+choose_numbers : (keys : List Key) (system_ports : List SystemPort) (i : ℕ) (o : Option SystemPort) → slice_get system_ports i ≡ o
+    → port_numbers (after_choice_at keys system_ports i o) ≡ port_numbers system_ports
 choose_numbers keys system_ports i None e = refl
-choose_numbers keys system_ports i (Some s) e = let o = aggregator_for keys system_ports s in numbers_set system_ports i s (with_choice s o) e (given_number s o)
+choose_numbers keys system_ports i (Some s) e = let o = aggregator_for keys system_ports s in numbers_set system_ports i s
+    (with_choice s o) e (given_number s o)
 
-pub chosen_numbers : (keys : List Key) (n : ℕ) (system_ports : List SystemPort) → port_numbers (after_choices keys n system_ports) ≡ port_numbers system_ports
+pub chosen_numbers : (keys : List Key) (n : ℕ) (system_ports : List SystemPort)
+    → port_numbers (after_choices keys n system_ports) ≡ port_numbers system_ports
 chosen_numbers keys zero system_ports = refl
-chosen_numbers keys (suc n) system_ports = choose_numbers keys (after_choices keys n system_ports) n (slice_get (after_choices keys n system_ports) n) refl ∙ chosen_numbers keys n system_ports
+chosen_numbers keys (suc n) system_ports = choose_numbers keys (after_choices keys n system_ports) n
+    (slice_get (after_choices keys n system_ports) n) refl ∙ chosen_numbers keys n system_ports
 
 -- the steps that look at ports alone
 pub ports_keep : (old new : SystemState) → SettlesPorts old new → Keeps old new
@@ -111,7 +122,8 @@ ports_keep old new h =
     keeps_joined old one new (keeps_each (RunsToRest (mux_rows false)) old one h.1)
     (keeps_joined one two new chose
     (keeps_joined two three new (keeps_stays two three h.2.2.1)
-    (keeps_joined three four new (keeps_each (λ p q. RunsToRest (mux_rows (ready_of three.keys (views three.system_ports) p.choice)) p q) three four h.2.2.2.1)
+    (keeps_joined three four new
+    (keeps_each (λ p q. RunsToRest (mux_rows (ready_of three.keys (views three.system_ports) p.choice)) p q) three four h.2.2.2.1)
     (keeps_joined four five new (keeps_each RunsPeriodic four five h.2.2.2.2.1) (keeps_stays five new h.2.2.2.2.2)))))
 
 -- they leave the conversations
@@ -131,68 +143,98 @@ settling_parts old new h =
 
 pub settling_joined : (old mid new : SystemState) → SettlesPorts old mid → HoldsConversations mid new → Settling old new
 settling_joined old mid new h l =
-    let five = h.2.2.2.2.0 in
-    (h.0, h.1, (h.2.0, h.2.1, (h.2.2.0, h.2.2.1, (h.2.2.2.0, h.2.2.2.1, (five, h.2.2.2.2.1, (new, subst (λ s. HoldsConversations s new) h.2.2.2.2.2 l, refl))))))
+    let five = h.2.2.2.2.0 in (
+      h.0,
+      h.1,
+      (
+        h.2.0,
+        h.2.1,
+        (h.2.2.0, h.2.2.1, (h.2.2.2.0, h.2.2.2.1, (five, h.2.2.2.2.1, (new, subst (λ s. HoldsConversations s new) h.2.2.2.2.2 l, refl)))),
+      ),
+    )
 
 pub settling_keeps : (old new : SystemState) → Settling old new → Keeps old new
 settling_keeps old new h =
     let p = settling_parts old new h in
     keeps_joined old p.0 new (ports_keep old p.0 p.1) (keeps_table p.0 new p.2.frame p.2.aggs)
 
-place_numbers : (R : Machines → Machines → Type 0) (o : Option ℕ) (old new : List SystemPort) → PortAtChangesBy R o old new → port_numbers new ≡ port_numbers old
+place_numbers : (R : Machines → Machines → Type 0) (o : Option ℕ) (old new : List SystemPort) → PortAtChangesBy R o old new
+    → port_numbers new ≡ port_numbers old
 place_numbers R None old new h = absurd h
 place_numbers R (Some i) old new h = ap port_numbers h.4 ∙ numbers_set old i h.0 (record h.0 { port = h.1 }) h.2 refl
 
 pub keeps_place : (R : Machines → Machines → Type 0) (o : Option ℕ) (old new : SystemState) → OnlyPortChangesBy o R old new → Keeps old new
 keeps_place R o old new h = keeps_slots old new h.1 (place_numbers R o old.system_ports new.system_ports h.0)
 
-pub keeps_settled : (own : SystemState → SystemState → Type 0) (old new : SystemState) → ((mid : SystemState) → own old mid → Keeps old mid) → ThenSettles own old new → Keeps old new
+pub keeps_settled : (own : SystemState → SystemState → Type 0) (old new : SystemState) → ((mid : SystemState) → own old mid → Keeps old mid)
+    → ThenSettles own old new → Keeps old new
 keeps_settled own old new k h = keeps_joined old h.0 new (k h.0 h.1) (settling_keeps h.0 new h.2)
 
 pub keeps_tick : (old new : SystemState) → Ticks old new → Keeps old new
-keeps_tick old new h = record { frame = h.2; same = zip_numbers (λ p q. RunsToRest receive_rows (count_down p) q) old.system_ports new.system_ports h.0; aggs = h.1.aggs }
+keeps_tick old new h = record {
+  frame = h.2;
+  same = zip_numbers (λ p q. RunsToRest receive_rows (count_down p) q) old.system_ports
+      new.system_ports h.0;
+  aggs = h.1.aggs;
+}
 
 frees_aggs : (up : Bool) (n : ℕ) (old new : Table) → FreesIfDown up n old new → new.aggs ≡ old.aggs
 frees_aggs true n old new h = ap (λ (t : Table). t.aggs) h
 frees_aggs false n old new h = h.aggs
 
 pub keeps_link : (n : ℕ) (up : Bool) (old new : SystemState) → SetsLink n up old new → Keeps old new
-keeps_link n up old new h = record { frame = h.2; same = place_numbers (SetsPortEnabled up) (port_index n old.system_ports) old.system_ports new.system_ports h.0; aggs = frees_aggs up n old.table new.table h.1 }
+keeps_link n up old new h = record {
+  frame = h.2;
+  same = place_numbers (SetsPortEnabled up) (port_index n old.system_ports) old.system_ports
+      new.system_ports h.0;
+  aggs = frees_aggs up n old.table new.table h.1;
+}
 
-keeps_marker : (o : Option ℕ) (port : ℕ) (mac : List ℕ) (old : SystemState) (answer : Option (List ℕ)) (new : SystemState) → SendsMarkerOf o port mac old answer new → Keeps old new
+keeps_marker : (o : Option ℕ) (port : ℕ) (mac : List ℕ) (old : SystemState) (answer : Option (List ℕ)) (new : SystemState)
+    → SendsMarkerOf o port mac old answer new → Keeps old new
 keeps_marker None port mac old answer new h = keeps_stays old new h.1
 keeps_marker (Some id) port mac old answer new h = keeps_table old new h.5 h.4.aggs
 
-keeps_where : (up due : Bool) (i : ℕ) (system_port : SystemPort) (old : SystemState) (answer : Option (List ℕ)) (new : SystemState) → slice_get old.system_ports i ≡ Some system_port → TransmitsIf up due i system_port old answer new → Keeps old new
+keeps_where : (up due : Bool) (i : ℕ) (system_port : SystemPort) (old : SystemState) (answer : Option (List ℕ)) (new : SystemState)
+    → slice_get old.system_ports i ≡ Some system_port → TransmitsIf up due i system_port old answer new → Keeps old new
 keeps_where false due i system_port old answer new e h = keeps_stays old new h.1
 keeps_where true true i system_port old answer new e h =
     let sends : SystemPort = record system_port { port = after_sending system_port.port } in
     let system_ports : new.system_ports ≡ slice_set old.system_ports i sends = ap (λ (s : SystemState). s.system_ports) h.3 in
-    keeps_slots old new (h.3 ∙ ap (with_system_ports old) (sym system_ports)) (ap port_numbers system_ports ∙ numbers_set old.system_ports i system_port sends e refl)
-keeps_where true false i system_port old answer new e h = keeps_marker (marker_due old.table system_port.number) system_port.number system_port.mac old answer new h
+    keeps_slots old new (h.3 ∙ ap (with_system_ports old) (sym system_ports)) (ap port_numbers system_ports
+    ∙ numbers_set old.system_ports i system_port sends e refl)
+keeps_where true false i system_port old answer new e h = keeps_marker (marker_due old.table system_port.number) system_port.number
+    system_port.mac old answer new h
 
-pub keeps_sends : (o : Option ℕ) (old : SystemState) (answer : Option (List ℕ)) (new : SystemState) → TransmitsAt o old answer new → Keeps old new
+pub keeps_sends : (o : Option ℕ) (old : SystemState) (answer : Option (List ℕ)) (new : SystemState)
+    → TransmitsAt o old answer new → Keeps old new
 keeps_sends None old answer new h = absurd h
 keeps_sends (Some i) old answer new h = keeps_where h.0.port.enabled (is_due h.0.port) i h.0 old answer new h.1 h.2
 
-keeps_releases : (b : Bool) (port : ℕ) (m : Marker) (old : SystemState) (answer : Received) (new : SystemState) → Releases b port m old answer new → Keeps old new
+keeps_releases : (b : Bool) (port : ℕ) (m : Marker) (old : SystemState) (answer : Received) (new : SystemState)
+    → Releases b port m old answer new → Keeps old new
 keeps_releases false port m old answer new h = keeps_stays old new h.1
 keeps_releases true port m old answer new h = keeps_table old new h.2 h.1.aggs
 
-pub keeps_does : (effect : FrameEffect) (port : ℕ) (o : Option ℕ) (old : SystemState) (answer : Received) (new : SystemState) → Performs effect port o old answer new → Keeps old new
-keeps_does (ProcessLacpdu v) port o old answer new h = keeps_settled (OnlyPortChangesBy o (ProcessesLacpdu v)) old new (λ mid own. keeps_place (ProcessesLacpdu v) o old mid own) h.1
+pub keeps_does : (effect : FrameEffect) (port : ℕ) (o : Option ℕ) (old : SystemState) (answer : Received) (new : SystemState)
+    → Performs effect port o old answer new → Keeps old new
+keeps_does (ProcessLacpdu v) port o old answer new h = keeps_settled (OnlyPortChangesBy o (ProcessesLacpdu v)) old new
+    (λ mid own. keeps_place (ProcessesLacpdu v) o old mid own) h.1
 keeps_does (Response m) port o old answer new h = keeps_releases (is_own_response old port m) port m old answer new h
 keeps_does (Answered a) port o old answer new h = keeps_stays old new h.1
 
-pub keeps_offers : (gives : ℕ → ℕ → ℕ → Type 0) (agg : AggId) (octets : List ℕ) (old : SystemState) (answer : Result ℕ SystemFault) (new : SystemState) → Offers gives agg octets old answer new → Keeps old new
+pub keeps_offers : (gives : ℕ → ℕ → ℕ → Type 0) (agg : AggId) (octets : List ℕ) (old : SystemState) (answer : Result ℕ SystemFault)
+    (new : SystemState) → Offers gives agg octets old answer new → Keeps old new
 keeps_offers gives agg octets old (Ok port) new h = keeps_table old new h.2.1 h.2.0.aggs
 keeps_offers gives agg octets old (Err fault) new h = keeps_stays old new h.1
 
-pub keeps_becomes : (agg : AggId) (conv : ℕ) (what : Result Assignment SystemFault) (old : SystemState) (answer : Result Unit SystemFault) (new : SystemState) → GivesOrRefuses agg conv what old answer new → Keeps old new
+pub keeps_becomes : (agg : AggId) (conv : ℕ) (what : Result Assignment SystemFault) (old : SystemState) (answer : Result Unit SystemFault)
+    (new : SystemState) → GivesOrRefuses agg conv what old answer new → Keeps old new
 keeps_becomes agg conv (Ok state) old answer new h = keeps_table old new h.1.1 h.1.0.aggs
 keeps_becomes agg conv (Err fault) old answer new h = keeps_stays old new h.1
 
-new_numbers : (system : SystemId) (ports : List PortConfig) (system_ports : List SystemPort) → AllZip (HasJustStarted system) ports system_ports → port_numbers system_ports ≡ configured_numbers ports
+new_numbers : (system : SystemId) (ports : List PortConfig) (system_ports : List SystemPort)
+    → AllZip (HasJustStarted system) ports system_ports → port_numbers system_ports ≡ configured_numbers ports
 new_numbers system [] [] h = refl
 new_numbers system [] (s ∷ ss) h = absurd h
 new_numbers system (p ∷ ps) [] h = absurd h
@@ -212,22 +254,28 @@ pub ports_first : (s : SystemState) → refusal s.keys s.ports ≡ None → IsFi
 ports_first s a h = record { accepted = a; same = first_numbers s h }
 
 -- every call but a restart keeps the configuration
-pub Step-keeps : (gives : ℕ → ℕ → ℕ → Type 0) (old : SystemState) (call : Call) (answer : Reply) (new : SystemState) → (call ≡ Restart → ⊥) → Step gives old call answer new → Keeps old new
+pub Step-keeps : (gives : ℕ → ℕ → ℕ → Type 0) (old : SystemState) (call : Call) (answer : Reply) (new : SystemState) → (call ≡ Restart → ⊥)
+    → Step gives old call answer new → Keeps old new
 Step-keeps gives old Tick reply.Tick new n h = keeps_settled Ticks old new (λ mid own. keeps_tick old mid own) h
-Step-keeps gives old (Set_link p up) (reply.SetLink (Ok done)) new n h = keeps_settled (SetsLink p up) old new (λ mid own. keeps_link p up old mid own) h
+Step-keeps gives old (Set_link p up) (reply.SetLink (Ok done)) new n h = keeps_settled (SetsLink p up) old new
+    (λ mid own. keeps_link p up old mid own) h
 Step-keeps gives old (Set_link p up) (reply.SetLink (Err fault)) new n h = keeps_stays old new h.same
-Step-keeps gives old (Receive p octets) (reply.Receive (Ok answer)) new n h = keeps_does h.1 h.0.number (port_index p old.system_ports) old answer new h.4
+Step-keeps gives old (Receive p octets) (reply.Receive (Ok answer)) new n h = keeps_does h.1 h.0.number
+    (port_index p old.system_ports) old answer new h.4
 Step-keeps gives old (Receive p octets) (reply.Receive (Err fault)) new n h = keeps_stays old new h.same
 Step-keeps gives old (Configure p change) (reply.Configure (Ok true)) new n h =
-    let o = port_index p old.system_ports in keeps_settled (OnlyPortChangesBy o (ChangesParty change)) old new (λ mid own. keeps_place (ChangesParty change) o old mid own) h
+    let o = port_index p old.system_ports in keeps_settled (OnlyPortChangesBy o (ChangesParty change)) old new
+    (λ mid own. keeps_place (ChangesParty change) o old mid own) h
 Step-keeps gives old (Configure p change) (reply.Configure (Ok false)) new n h = keeps_stays old new h.1
 Step-keeps gives old (Configure p change) (reply.Configure (Err fault)) new n h = keeps_stays old new h.same
 Step-keeps gives old Restart reply.Restart new n h = absurd (n refl)
 Step-keeps gives old (Transmit p) (reply.Transmit (Ok answer)) new n h = keeps_sends (port_index p old.system_ports) old answer new h
 Step-keeps gives old (Transmit p) (reply.Transmit (Err fault)) new n h = keeps_stays old new h.same
 Step-keeps gives old (Offer agg octets) (reply.Offer answer) new n h = keeps_offers gives agg octets old answer new h
-Step-keeps gives old (Move_conversation agg conv port) (reply.MoveConversation answer) new n h = keeps_becomes agg conv (system_move_result old agg conv port) old answer new h
-Step-keeps gives old (Force agg conv) (reply.Force answer) new n h = keeps_becomes agg conv (system_force_result old agg conv) old answer new h
+Step-keeps gives old (Move_conversation agg conv port) (reply.MoveConversation answer) new n h = keeps_becomes agg conv
+    (system_move_result old agg conv port) old answer new h
+Step-keeps gives old (Force agg conv) (reply.Force answer) new n h = keeps_becomes agg conv
+    (system_force_result old agg conv) old answer new h
 Step-keeps gives old call answer new n h = absurd h
 
 -- the same for each call
@@ -246,17 +294,20 @@ restart_or_not (Offer agg octets) = inr (λ e. false≢true (ap is_restart e))
 restart_or_not (Move_conversation agg conv port) = inr (λ e. false≢true (ap is_restart e))
 restart_or_not (Force agg conv) = inr (λ e. false≢true (ap is_restart e))
 
-restarts : (gives : ℕ → ℕ → ℕ → Type 0) (old : SystemState) (answer : Reply) (new : SystemState) → Step gives old Restart answer new → (new ≡ with_table (with_system_ports old new.system_ports) new.table) × IsFirst new
+restarts : (gives : ℕ → ℕ → ℕ → Type 0) (old : SystemState) (answer : Reply) (new : SystemState) → Step gives old Restart answer new
+    → (new ≡ with_table (with_system_ports old new.system_ports) new.table) × IsFirst new
 restarts gives old reply.Restart new h = h
 restarts gives old answer new h = absurd h
 
-pub Step-frame : (gives : ℕ → ℕ → ℕ → Type 0) (old : SystemState) (call : Call) (answer : Reply) (new : SystemState) → Step gives old call answer new → new ≡ with_table (with_system_ports old new.system_ports) new.table
+pub Step-frame : (gives : ℕ → ℕ → ℕ → Type 0) (old : SystemState) (call : Call) (answer : Reply) (new : SystemState)
+    → Step gives old call answer new → new ≡ with_table (with_system_ports old new.system_ports) new.table
 Step-frame gives old call answer new h = elim (restart_or_not call) [
   | inl e ↦ (restarts gives old answer new (subst (λ c. Step gives old c answer new) e h)).0
   | inr n ↦ (Step-keeps gives old call answer new n h).frame
 ]
 
-pub Step-ports : (gives : ℕ → ℕ → ℕ → Type 0) (old : SystemState) (call : Call) (answer : Reply) (new : SystemState) → Step gives old call answer new → HasPorts old → HasPorts new
+pub Step-ports : (gives : ℕ → ℕ → ℕ → Type 0) (old : SystemState) (call : Call) (answer : Reply) (new : SystemState)
+    → Step gives old call answer new → HasPorts old → HasPorts new
 Step-ports gives old call answer new h s = elim (restart_or_not call) [
   | inl e ↦ (let r = restarts gives old answer new (subst (λ c. Step gives old c answer new) e h) in
       ports_first new (ap (λ (x : SystemState). refusal x.keys x.ports) r.0 ∙ s.accepted) r.1)
@@ -264,7 +315,8 @@ Step-ports gives old call answer new h s = elim (restart_or_not call) [
 ]
 
 -- there are as many conversations as aggregators
-pub Step-aggregators : (gives : ℕ → ℕ → ℕ → Type 0) (old : SystemState) (call : Call) (answer : Reply) (new : SystemState) → Step gives old call answer new → old.table.aggs ≡ length old.keys → new.table.aggs ≡ length new.keys
+pub Step-aggregators : (gives : ℕ → ℕ → ℕ → Type 0) (old : SystemState) (call : Call) (answer : Reply) (new : SystemState)
+    → Step gives old call answer new → old.table.aggs ≡ length old.keys → new.table.aggs ≡ length new.keys
 Step-aggregators gives old call answer new h e = elim (restart_or_not call) [
   | inl r ↦ ap (λ (t : Table). t.aggs) (restarts gives old answer new (subst (λ c. Step gives old c answer new) r h)).1.3
   | inr n ↦ (let k = Step-keeps gives old call answer new n h in k.aggs ∙ e ∙ sym (ap (λ (s : SystemState). length s.keys) k.frame))
@@ -282,7 +334,8 @@ accepted_keys_few keys ports h = below (length keys) (is_true (is_count (length 
 
 -- a configuration that a system has is accepted if the system's is
 pub is_accepted : (config : Config) (s : SystemState) → IsConfigured config s → refusal s.keys s.ports ≡ None → config_refusal config ≡ None
-is_accepted config s h none = ap (λ keys. refusal keys config.ports.items) (sym h.keys) ∙ ap (λ ports. refusal s.keys ports) (sym h.ports) ∙ none
+is_accepted config s h none = ap (λ keys. refusal keys config.ports.items) (sym h.keys)
+    ∙ ap (λ ports. refusal s.keys ports) (sym h.ports) ∙ none
 
 -- what a new system is
 abbrev pub started : Config → List Key → List SystemPort → SystemState
@@ -303,21 +356,24 @@ first_leaves aggs first s e = record {
   aggs = refl;
   first = refl;
   next = refl;
-  states = λ g k. (let free : assignment_of s.table g k ≡ Free None = ap (λ (t : Table). assignment_of t g k) e ∙ first_free aggs first g k in
+  states = λ g k. (let free : assignment_of s.table g k ≡ Free None = ap (λ (t : Table). assignment_of t g k) e
+      ∙ first_free aggs first g k in
       free ∙ sym (ap (held_unless_on (distributing (aggregator_numbered g) s.system_ports)) free));
 }
 
 pub first_settles : (aggs first : ℕ) (old new : SystemState) → old.table ≡ first_table aggs first → SettlesPorts old new → Settling old new
 first_settles aggs first old new e h = settling_joined old new new h (first_leaves aggs first new (ports_table old new h ∙ e))
 
-pub first_made : (config : Config) (keys : List Key) (start : List SystemPort) (new : SystemState) → AllZip (HasJustStarted config.system) config.ports.items start
+pub first_made : (config : Config) (keys : List Key) (start : List SystemPort) (new : SystemState)
+    → AllZip (HasJustStarted config.system) config.ports.items start
     → SettlesPorts (started config keys start) new → IsFirst new
 first_made config keys start new h k =
     let old = started config keys start in
     let f = (ports_keep old new k).frame in
     let t : new.table ≡ old.table = ports_table old new k in
     let settles : Settling old new = first_settles (length keys) config.first_marker old new refl k in
-    let same : with_system_ports new start ≡ old = ap (λ (s : SystemState). with_system_ports s start) f ∙ ap (λ (t : Table). with_table old t) t in
+    let same : with_system_ports new start ≡ old = ap (λ (s : SystemState). with_system_ports s start) f
+    ∙ ap (λ (t : Table). with_table old t) t in
     let keys_same : length new.keys ≡ length keys = ap (λ (s : SystemState). length s.keys) f in
     let marker : new.first_marker ≡ config.first_marker = ap (λ (s : SystemState). s.first_marker) f in (
       start,
@@ -326,7 +382,8 @@ first_made config keys start new h k =
       t ∙ (λ i. first_table (sym keys_same i) (sym marker i)),
     )
 
-pub configured_made : (config : Config) (keys : List Key) (start : List SystemPort) (new : SystemState) → keys ≡ config.aggregators.items → SettlesPorts (started config keys start) new → IsConfigured config new
+pub configured_made : (config : Config) (keys : List Key) (start : List SystemPort) (new : SystemState) → keys ≡ config.aggregators.items
+    → SettlesPorts (started config keys start) new → IsConfigured config new
 configured_made config keys start new e k =
     let f = (ports_keep (started config keys start) new k).frame in record {
       system = ap (λ (s : SystemState). s.system) f;
@@ -336,14 +393,35 @@ configured_made config keys start new e k =
       ports = ap (λ (s : SystemState). s.ports) f;
     }
 
-pub ports_made : (config : Config) (keys : List Key) (start : List SystemPort) (new : SystemState) → keys ≡ config.aggregators.items → config_refusal config ≡ None → AllZip (HasJustStarted config.system) config.ports.items start
+pub ports_made : (config : Config) (keys : List Key) (start : List SystemPort) (new : SystemState) → keys ≡ config.aggregators.items
+    → config_refusal config ≡ None → AllZip (HasJustStarted config.system) config.ports.items start
     → SettlesPorts (started config keys start) new → HasPorts new
 ports_made config keys start new e a h k =
     ports_kept (started config keys start) new (ports_keep (started config keys start) new k)
     (record { accepted = ap (λ l. refusal l config.ports.items) e ∙ a; same = new_numbers config.system config.ports.items start h })
 
 -- the same, from the table that the distributor begins with
-pub started_by : (config : Config) (keys : List Key) (start : List SystemPort) (t : Table) (new : SystemState) → t ≡ first_table (length keys) config.first_marker
-    → SettlesPorts (record { system = config.system; max_delay = config.max_delay; first_marker = t.first; keys = keys; ports = config.ports.items; system_ports = start; table = t }) new → SettlesPorts (started config keys start) new
+pub started_by : (config : Config) (keys : List Key) (start : List SystemPort) (t : Table) (new : SystemState)
+    → t ≡ first_table (length keys) config.first_marker
+    → SettlesPorts (record {
+      system = config.system;
+      max_delay = config.max_delay;
+      first_marker = t.first;
+      keys = keys;
+      ports =
+          config.ports.items;
+      system_ports = start;
+      table = t;
+    }) new → SettlesPorts (started config keys start) new
 started_by config keys start t new e h =
-    subst (λ (t : Table). SettlesPorts (record { system = config.system; max_delay = config.max_delay; first_marker = t.first; keys = keys; ports = config.ports.items; system_ports = start; table = t }) new) e h
+    subst (λ (t : Table). SettlesPorts
+    (record {
+      system = config.system;
+      max_delay = config.max_delay;
+      first_marker = t.first;
+      keys = keys;
+      ports =
+          config.ports.items;
+      system_ports = start;
+      table = t;
+    }) new) e h

@@ -10,7 +10,8 @@ SoFar R (suc i) [] (y ∷ ys) = ⊥
 SoFar R (suc i) (x ∷ xs) [] = ⊥
 SoFar R (suc i) (x ∷ xs) (y ∷ ys) = R x y × SoFar R i xs ys
 
-SoFar-suc : {X : Type 0} (R : X → X → Type 0) (i : ℕ) (olds news : List X) (d y : X) → i < length news → SoFar R i olds news → R (get_or news i d) y → SoFar R (suc i) olds (set news i y)
+SoFar-suc : {X : Type 0} (R : X → X → Type 0) (i : ℕ) (olds news : List X) (d y : X) → i < length news → SoFar R i olds news
+    → R (get_or news i d) y → SoFar R (suc i) olds (set news i y)
 SoFar-suc R i olds [] d y l h r = absurd (omega arith)
 SoFar-suc R zero [] (n ∷ ns) d y l h r = cc
 SoFar-suc R zero (o ∷ os) (n ∷ ns) d y l h r = let same : n ≡ o = cc in (subst (λ z. R z y) same r, cc)
@@ -18,7 +19,8 @@ SoFar-suc R (suc i) [] (n ∷ ns) d y l h r = absurd h
 SoFar-suc R (suc i) (o ∷ os) (n ∷ ns) d y l h r = (h.0, SoFar-suc R i os ns d y (omega arith) h.1 r)
 
 -- one more was written
-pub SoFar-more : {X : Type 0} (R : X → X → Type 0) (i : ℕ) (olds news : List X) (d y : X) → i < length news → SoFar R i olds news → R (get_or news i d) y → SoFar R (i + 1) olds (set news i y)
+pub SoFar-more : {X : Type 0} (R : X → X → Type 0) (i : ℕ) (olds news : List X) (d y : X) → i < length news → SoFar R i olds news
+    → R (get_or news i d) y → SoFar R (i + 1) olds (set news i y)
 SoFar-more R i olds news d y l h r = rw add-one (SoFar-suc R i olds news d y l h r)
 
 -- all were written
@@ -36,7 +38,8 @@ AllZip-weaker R S w [] (y ∷ ys) h = absurd h
 AllZip-weaker R S w (x ∷ xs) [] h = absurd h
 AllZip-weaker R S w (x ∷ xs) (y ∷ ys) h = (w x y h.0, AllZip-weaker R S w xs ys h.1)
 
-pub each-push : {A B : Type 0} (R : A → B → Type 0) (xs : List A) (ys : List B) (x : A) (y : B) → AllZip R xs ys → R x y → AllZip R (xs ++ x ∷ []) (ys ++ y ∷ [])
+pub each-push : {A B : Type 0} (R : A → B → Type 0) (xs : List A) (ys : List B) (x : A) (y : B) → AllZip R xs ys → R x y
+    → AllZip R (xs ++ x ∷ []) (ys ++ y ∷ [])
 each-push R [] [] x y h r = (r, tt)
 each-push R [] (b ∷ bs) x y h r = absurd h
 each-push R (a ∷ more) [] x y h r = absurd h
@@ -49,16 +52,19 @@ Begun R (suc i) [] ys = Unit {0}
 Begun R (suc i) (x ∷ xs) [] = ⊥
 Begun R (suc i) (x ∷ xs) (y ∷ ys) = R x y × Begun R i xs ys
 
-Begun-suc : {A B : Type 0} (R : A → B → Type 0) (i : ℕ) (xs : List A) (ys : List B) (d : A) (y : B) → i < length xs → length ys ≡ length xs → Begun R i xs ys → R (get_or xs i d) y → Begun R (suc i) xs (set ys i y)
+Begun-suc : {A B : Type 0} (R : A → B → Type 0) (i : ℕ) (xs : List A) (ys : List B) (d : A) (y : B) → i < length xs → length ys ≡ length xs
+    → Begun R i xs ys → R (get_or xs i d) y → Begun R (suc i) xs (set ys i y)
 Begun-suc R i [] ys d y l e h r = tt
 Begun-suc R i (a ∷ xs) [] d y l e h r = absurd (omega (arith, e))
 Begun-suc R zero (a ∷ xs) (b ∷ ys) d y l e h r = (r, tt)
 Begun-suc R (suc i) (a ∷ xs) (b ∷ ys) d y l e h r = (h.0, Begun-suc R i xs ys d y (omega arith) (omega (arith, e)) h.1 r)
 
-pub Begun-more : {A B : Type 0} (R : A → B → Type 0) (i : ℕ) (xs : List A) (ys : List B) (d : A) (y : B) → i < length xs → length ys ≡ length xs → Begun R i xs ys → R (get_or xs i d) y → Begun R (i + 1) xs (set ys i y)
+pub Begun-more : {A B : Type 0} (R : A → B → Type 0) (i : ℕ) (xs : List A) (ys : List B) (d : A) (y : B) → i < length xs
+    → length ys ≡ length xs → Begun R i xs ys → R (get_or xs i d) y → Begun R (i + 1) xs (set ys i y)
 Begun-more R i xs ys d y l e h r = rw add-one (Begun-suc R i xs ys d y l e h r)
 
-pub Begun-all : {A B : Type 0} (R : A → B → Type 0) (i : ℕ) (xs : List A) (ys : List B) → length xs ≤ i → length ys ≡ length xs → Begun R i xs ys → AllZip R xs ys
+pub Begun-all : {A B : Type 0} (R : A → B → Type 0) (i : ℕ) (xs : List A) (ys : List B) → length xs ≤ i → length ys ≡ length xs
+    → Begun R i xs ys → AllZip R xs ys
 Begun-all R i [] [] l e h = tt
 Begun-all R i [] (y ∷ ys) l e h = absurd (omega (arith, e))
 Begun-all R i (x ∷ xs) [] l e h = absurd (omega (arith, e))

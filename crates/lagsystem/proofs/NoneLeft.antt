@@ -1,5 +1,6 @@
 -- When all ports have chosen, none that is still eligible finds an aggregator.
-use Rattle.std.proofs.Common.{◌≡◌, ◌∙◌, ℕ, zero, suc, ◌<◌, Bool, true, false, ◌&&◌, ◌⊎◌, List, [], ◌∷◌, length, Option, Some, None, refl, sym, ap, subst, arith, inl, inr, slice_get, slice_set, if◌then◌else◌}
+use Rattle.std.proofs.Common.{◌≡◌, ◌∙◌, ℕ, zero, suc, ◌<◌, Bool, true, false, ◌&&◌, ◌⊎◌, List, [], ◌∷◌, length, Option, Some, None, refl}
+use Rattle.std.proofs.Common.{sym, ap, subst, arith, inl, inr, slice_get, slice_set, if◌then◌else◌}
 use Rattle.std.specs.List.{AllByRecursion}
 use Rattle.std.proofs.lemmas.Option.{same_Some}
 use Rattle.lagtypes.specs.declared.identifiers.AggId.{AggId}
@@ -21,7 +22,8 @@ use Rattle.lagsystem.proofs.SettlingLemmas.{set_same}
 
 -- places of a list
 
-get_other : (system_ports : List SystemPort) (n j : ℕ) (x : SystemPort) → j < n → slice_get (slice_set system_ports n x) j ≡ slice_get system_ports j
+get_other : (system_ports : List SystemPort) (n j : ℕ) (x : SystemPort) → j < n
+    → slice_get (slice_set system_ports n x) j ≡ slice_get system_ports j
 get_other [] n j x l = refl
 get_other (s ∷ ss) zero j x l = absurd (omega (arith, l))
 get_other (s ∷ ss) (suc n) zero x l = refl
@@ -42,18 +44,25 @@ length_set [] i x = refl
 length_set (s ∷ ss) zero x = refl
 length_set (s ∷ ss) (suc i) x = omega (arith, length_set ss i x)
 
-length_choose : (keys : List Key) (system_ports : List SystemPort) (i : ℕ) (o : Option SystemPort) → length (after_choice_at keys system_ports i o) ≡ length system_ports
+length_choose : (keys : List Key) (system_ports : List SystemPort) (i : ℕ) (o : Option SystemPort)
+    → length (after_choice_at keys system_ports i o) ≡ length system_ports
 length_choose keys system_ports i None = refl
 length_choose keys system_ports i (Some s) = length_set system_ports i (with_choice s (aggregator_for keys system_ports s))
 
-length_chosen : (keys : List Key) (n : ℕ) (system_ports : List SystemPort) → length (after_choices keys n system_ports) ≡ length system_ports
+length_chosen : (keys : List Key) (n : ℕ) (system_ports : List SystemPort)
+    → length (after_choices keys n system_ports) ≡ length system_ports
 length_chosen keys zero system_ports = refl
-length_chosen keys (suc n) system_ports = length_choose keys (after_choices keys n system_ports) n (slice_get (after_choices keys n system_ports) n) ∙ length_chosen keys n system_ports
+length_chosen keys (suc n) system_ports = length_choose keys (after_choices keys n system_ports) n
+    (slice_get (after_choices keys n system_ports) n) ∙ length_chosen keys n system_ports
 
 below_or_at : (j n : ℕ) → j < suc n → (j < n) ⊎ (j ≡ n)
 below_or_at j zero l = inr (omega (arith, l))
 below_or_at zero (suc n) l = inl (omega arith)
-below_or_at (suc j) (suc n) l = elim (below_or_at j n (omega (arith, l))) [ inl h ↦ inl (omega (arith, h)) | inr h ↦ inr (omega (arith, h)) ]
+below_or_at (suc j) (suc n) l = elim (below_or_at j n (omega (arith, l))) [
+  | inl h ↦ inl (omega (arith, h))
+  | inr h ↦
+      inr (omega (arith, h))
+]
 
 -- what is taken
 
@@ -66,15 +75,22 @@ not_when true x h = absurd cc
 not_when false x h = refl
 
 -- what the port at a place takes, by its own view
-pub takes_is : (keys : List Key) (system_ports : List SystemPort) (j : ℕ) (t : SystemPort) → Rises 0 (port_numbers system_ports) → slice_get system_ports j ≡ Some t
-    → aggregator_for keys system_ports t ≡ (if is_eligible (selection_view t) then (if is_eligible (selection_view t) then chosen_if_eligible keys (views system_ports) (selection_view t) else None) else None)
-takes_is keys system_ports j t r e = ap (λ o. if is_eligible (selection_view t) then chosen_for_view keys (views system_ports) o else None) (find_here 0 system_ports j t r e)
+pub takes_is : (keys : List Key) (system_ports : List SystemPort) (j : ℕ) (t : SystemPort) → Rises 0 (port_numbers system_ports)
+    → slice_get system_ports j ≡ Some t
+    → aggregator_for keys system_ports t
+    ≡ (if is_eligible (selection_view t) then (if is_eligible (selection_view t) then chosen_if_eligible keys (views system_ports)
+    (selection_view t) else None) else None)
+takes_is keys system_ports j t r e = ap (λ o. if is_eligible (selection_view t) then chosen_for_view keys (views system_ports) o else None)
+    (find_here 0 system_ports j t r e)
 
-none_then : (keys : List Key) (system_ports : List SystemPort) (i j : ℕ) (s t : SystemPort) (a : AggId) → Rises 0 (port_numbers system_ports) → slice_get system_ports i ≡ Some s → s.port.choice ≡ Unselected
-    → slice_get system_ports j ≡ Some t → j < i → aggregator_for keys system_ports t ≡ None → aggregator_for keys (slice_set system_ports i (with_choice s (Some a))) t ≡ None
+none_then : (keys : List Key) (system_ports : List SystemPort) (i j : ℕ) (s t : SystemPort) (a : AggId)
+    → Rises 0 (port_numbers system_ports) → slice_get system_ports i ≡ Some s → s.port.choice ≡ Unselected
+    → slice_get system_ports j ≡ Some t → j < i → aggregator_for keys system_ports t ≡ None
+    → aggregator_for keys (slice_set system_ports i (with_choice s (Some a))) t ≡ None
 none_then keys system_ports i j s t a r e u g l h =
     let later : List SystemPort = slice_set system_ports i (with_choice s (Some a)) in
-    let rise : Rises 0 (port_numbers later) = subst (λ ns. Rises 0 ns) (sym (numbers_set system_ports i s (with_choice s (Some a)) e refl)) r in
+    let rise : Rises 0 (port_numbers later) = subst (λ ns. Rises 0 ns)
+    (sym (numbers_set system_ports i s (with_choice s (Some a)) e refl)) r in
     let b : Bool = is_eligible (selection_view t) in
     let x : Option AggId = chosen_if_eligible keys (views system_ports) (selection_view t) in
     let y : Option AggId = chosen_if_eligible keys (views later) (selection_view t) in
@@ -97,16 +113,20 @@ not_unselected false d = refl
 
 -- each of the first n finds none
 abbrev Found_none : List Key → ℕ → List SystemPort → Type 0
-Found_none keys n system_ports = (j : ℕ) (t : SystemPort) → j < n → slice_get system_ports j ≡ Some t → aggregator_for keys system_ports t ≡ None
+Found_none keys n system_ports = (j : ℕ) (t : SystemPort) → j < n → slice_get system_ports j ≡ Some t
+    → aggregator_for keys system_ports t ≡ None
 
-one_taken : (keys : List Key) (system_ports : List SystemPort) (n : ℕ) (s : SystemPort) (o : Option AggId) → aggregator_for keys system_ports s ≡ o → slice_get system_ports n ≡ Some s → Rises 0 (port_numbers system_ports) → Found_none keys n system_ports
+one_taken : (keys : List Key) (system_ports : List SystemPort) (n : ℕ) (s : SystemPort) (o : Option AggId)
+    → aggregator_for keys system_ports s ≡ o → slice_get system_ports n ≡ Some s → Rises 0 (port_numbers system_ports)
+    → Found_none keys n system_ports
     → Found_none keys (suc n) (slice_set system_ports n (with_choice s o))
 one_taken keys system_ports n s None w e r k j t l g =
     let same : slice_set system_ports n s ≡ system_ports = set_same system_ports n s e in
     let there : slice_get system_ports j ≡ Some t = ap (λ (l : List SystemPort). slice_get l j) (sym same) ∙ g in
     let none : aggregator_for keys system_ports t ≡ None = elim (below_or_at j n l) [
       | inl h ↦ k j t h there
-      | inr h ↦ subst (λ (x : SystemPort). aggregator_for keys system_ports x ≡ None) (same_Some s t (sym e ∙ ap (slice_get system_ports) (sym h) ∙ there)) w
+      | inr h ↦ subst (λ (x : SystemPort). aggregator_for keys system_ports x ≡ None)
+          (same_Some s t (sym e ∙ ap (slice_get system_ports) (sym h) ∙ there)) w
     ] in
     ap (λ (l : List SystemPort). aggregator_for keys l t) same ∙ none
 one_taken keys system_ports n s (Some a) w e r k j t l g =
@@ -115,24 +135,34 @@ one_taken keys system_ports n s (Some a) w e r k j t l g =
     let u : s.port.choice ≡ Unselected = unselected s.port.choice _ _ can in
     let later : List SystemPort = slice_set system_ports n (with_choice s (Some a)) in
     elim (below_or_at j n l) [
-      | inl h ↦ let there : slice_get system_ports j ≡ Some t = sym (get_other system_ports n j (with_choice s (Some a)) h) ∙ g in none_then keys system_ports n j s t a r e u there h (k j t h there)
-      | inr h ↦ let is : t ≡ with_choice s (Some a) = get_here system_ports n (with_choice s (Some a)) t (ap (slice_get later) (sym h) ∙ g) in
-          subst (λ (x : SystemPort). aggregator_for keys later x ≡ None) (sym is) (not_when (is_eligible (selection_view (with_choice s (Some a)))) (chosen_aggregator keys (views later) s.number) (not_unselected _ _))
+      | inl h ↦ let there : slice_get system_ports j ≡ Some t = sym (get_other system_ports n j (with_choice s (Some a)) h)
+          ∙ g in none_then keys system_ports n j s t a r e u there h (k j t h there)
+      | inr h ↦ let is : t ≡ with_choice s (Some a) = get_here system_ports n (with_choice s (Some a)) t
+          (ap (slice_get later) (sym h) ∙ g) in
+          subst (λ (x : SystemPort). aggregator_for keys later x ≡ None) (sym is)
+          (not_when (is_eligible (selection_view (with_choice s (Some a))))
+          (chosen_aggregator keys (views later) s.number) (not_unselected _ _))
     ]
 
-one_chosen : (keys : List Key) (system_ports : List SystemPort) (n : ℕ) (o : Option SystemPort) → slice_get system_ports n ≡ o → Rises 0 (port_numbers system_ports) → Found_none keys n system_ports → Found_none keys (suc n) (after_choice_at keys system_ports n o)
-one_chosen keys system_ports n None e r k j t l g = elim (below_or_at j n l) [ inl h ↦ k j t h g | inr h ↦ absurd (nothing (sym e ∙ ap (slice_get system_ports) (sym h) ∙ g)) ]
+one_chosen : (keys : List Key) (system_ports : List SystemPort) (n : ℕ) (o : Option SystemPort) → slice_get system_ports n ≡ o
+    → Rises 0 (port_numbers system_ports) → Found_none keys n system_ports → Found_none keys (suc n) (after_choice_at keys system_ports n o)
+one_chosen keys system_ports n None e r k j t l g =
+    elim (below_or_at j n l) [ inl h ↦ k j t h g | inr h ↦ absurd (nothing (sym e ∙ ap (slice_get system_ports) (sym h) ∙ g)) ]
   where
     nothing : None ≡ Some t → ⊥
     nothing e = cc
-one_chosen keys system_ports n (Some s) e r k j t l g = one_taken keys system_ports n s (aggregator_for keys system_ports s) refl e r k j t l g
+one_chosen keys system_ports n (Some s) e r k j t l g = one_taken keys system_ports n s
+    (aggregator_for keys system_ports s) refl e r k j t l g
 
-all_chosen : (keys : List Key) (n : ℕ) (system_ports : List SystemPort) → Rises 0 (port_numbers system_ports) → Found_none keys n (after_choices keys n system_ports)
+all_chosen : (keys : List Key) (n : ℕ) (system_ports : List SystemPort) → Rises 0 (port_numbers system_ports)
+    → Found_none keys n (after_choices keys n system_ports)
 all_chosen keys zero system_ports r j t l g = absurd (omega (arith, l))
 all_chosen keys (suc n) system_ports r j t l g =
-    one_chosen keys (after_choices keys n system_ports) n (slice_get (after_choices keys n system_ports) n) refl (subst (λ ns. Rises 0 ns) (sym (chosen_numbers keys n system_ports)) r) (all_chosen keys n system_ports r) j t l g
+    one_chosen keys (after_choices keys n system_ports) n (slice_get (after_choices keys n system_ports) n) refl
+    (subst (λ ns. Rises 0 ns) (sym (chosen_numbers keys n system_ports)) r) (all_chosen keys n system_ports r) j t l g
 
-pub each_place : (P : SystemPort → Type 0) (system_ports : List SystemPort) → ((j : ℕ) (t : SystemPort) → slice_get system_ports j ≡ Some t → P t) → AllByRecursion P system_ports
+pub each_place : (P : SystemPort → Type 0) (system_ports : List SystemPort)
+    → ((j : ℕ) (t : SystemPort) → slice_get system_ports j ≡ Some t → P t) → AllByRecursion P system_ports
 each_place P [] k = tt
 each_place P (s ∷ ss) k = (k 0 s refl, each_place P ss (λ j t e. k (suc j) t e))
 
@@ -148,18 +178,23 @@ when_again : (b : Bool) (x : Option AggId) → (if b then x else None) ≡ None 
 when_again true x h = h
 when_again false x h = refl
 
-pub taken_none : (keys : List Key) (system_ports : List SystemPort) → Rises 0 (port_numbers system_ports) → AllByRecursion (λ t. TakesNone keys (views system_ports) (selection_view t)) system_ports
+pub taken_none : (keys : List Key) (system_ports : List SystemPort) → Rises 0 (port_numbers system_ports)
+    → AllByRecursion (λ t. TakesNone keys (views system_ports) (selection_view t)) system_ports
     → (j : ℕ) (t : SystemPort) → slice_get system_ports j ≡ Some t → aggregator_for keys system_ports t ≡ None
 taken_none keys system_ports r all j t e =
     takes_is keys system_ports j t r e
-    ∙ when_again (is_eligible (selection_view t)) (chosen_if_eligible keys (views system_ports) (selection_view t)) (all-get (λ t. TakesNone keys (views system_ports) (selection_view t)) system_ports j t e all)
+    ∙ when_again (is_eligible (selection_view t)) (chosen_if_eligible keys (views system_ports) (selection_view t))
+    (all-get (λ t. TakesNone keys (views system_ports) (selection_view t)) system_ports j t e all)
 
 -- each port, when all have chosen
 pub none_takes : (keys : List Key) (system_ports : List SystemPort) → Rises 0 (port_numbers system_ports)
-    → AllByRecursion (λ t. TakesNone keys (views (after_choices keys (length system_ports) system_ports)) (selection_view t)) (after_choices keys (length system_ports) system_ports)
+    → AllByRecursion (λ t. TakesNone keys (views (after_choices keys (length system_ports) system_ports)) (selection_view t))
+    (after_choices keys (length system_ports) system_ports)
 none_takes keys system_ports r =
     let last : List SystemPort = after_choices keys (length system_ports) system_ports in
     let rise : Rises 0 (port_numbers last) = subst (λ ns. Rises 0 ns) (sym (chosen_numbers keys (length system_ports) system_ports)) r in
     each_place (λ t. TakesNone keys (views last) (selection_view t)) last
     (λ j t e. when_twice (is_eligible (selection_view t)) (chosen_if_eligible keys (views last) (selection_view t))
-    (sym (takes_is keys last j t rise e) ∙ all_chosen keys (length system_ports) system_ports r j t (subst (λ m. j < m) (length_chosen keys (length system_ports) system_ports) (get_within last j t e)) e))
+    (sym (takes_is keys last j t rise e)
+    ∙ all_chosen keys (length system_ports) system_ports r j t
+    (subst (λ m. j < m) (length_chosen keys (length system_ports) system_ports) (get_within last j t e)) e))

@@ -1,5 +1,6 @@
 -- A port that found no aggregator finds none after another port chose one, nor after mux machines ran.
-use Rattle.std.proofs.Common.{◌≡◌, ◌∙◌, ℕ, zero, suc, Bool, true, false, cond, not, ◌==◌, ◌&&◌, ◌||◌, List, [], ◌∷◌, Option, Some, None, find, option_map, refl, ap, slice_get, slice_set}
+use Rattle.std.proofs.Common.{◌≡◌, ◌∙◌, ℕ, zero, suc, Bool, true, false, cond, not, ◌==◌, ◌&&◌, ◌||◌, List, [], ◌∷◌, Option, Some, None}
+use Rattle.std.proofs.Common.{find, option_map, refl, ap, slice_get, slice_set}
 use Rattle.std.specs.List.{enumerate_from, list_all}
 use Rattle.std.proofs.lemmas.Option.{same_Some}
 use Rattle.lagtypes.specs.declared.identifiers.AggId.{AggId}
@@ -8,7 +9,8 @@ use Rattle.lagtypes.specs.declared.party.Choice.TheVariants.{Unselected, Selecte
 use Rattle.lagtypes.specs.Group.{individual}
 use Rattle.selection.specs.declared.view.PortView.{PortView}
 use Rattle.selection.specs.Views.{has_chosen}
-use Rattle.selection.specs.Choice.{chosen_if_eligible, ports_that_chose, has_group_of, has_member, has_no_member, members_share_group, lowest, aggregator_of_entry, or_else}
+use Rattle.selection.specs.Choice.{chosen_if_eligible, ports_that_chose, has_group_of, has_member, has_no_member, members_share_group}
+use Rattle.selection.specs.Choice.{lowest, aggregator_of_entry, or_else}
 use Rattle.lagsystem.specs.declared.system_ports.SystemPort.{SystemPort}
 use Rattle.lagsystem.specs.Settling.{with_choice}
 use Rattle.lagsystem.specs.Views.{selection_view, views}
@@ -54,8 +56,10 @@ still_none key empty join later_empty later_join f g (row ∷ rows) e j =
     let he = first_fails (same && empty agg) row (passing key empty rows) e in
     let hj = first_fails (same && join agg) row (passing key join rows) j in
     let rest = still_none key empty join later_empty later_join f g rows he.1 hj.1 in (
-      fails_here (same && later_empty agg) row (passing key later_empty rows) (both_false same (empty agg) (later_empty agg) he.0 (f agg)) rest.0,
-      fails_here (same && later_join agg) row (passing key later_join rows) (two_false same (empty agg) (join agg) (later_join agg) he.0 hj.0 (g agg)) rest.1,
+      fails_here (same && later_empty agg) row (passing key later_empty rows)
+          (both_false same (empty agg) (later_empty agg) he.0 (f agg)) rest.0,
+      fails_here (same && later_join agg) row (passing key later_join rows)
+          (two_false same (empty agg) (join agg) (later_join agg) he.0 hj.0 (g agg)) rest.1,
     )
 
 -- if no aggregator becomes empty, and none that has members becomes joinable
@@ -66,9 +70,12 @@ pub none_stays : (keys : List Key) (seen later : List PortView) (v : PortView)
 none_stays keys seen later v f g e =
     let both = none_or (lowest keys v.party.key (members_share_group seen v)) (lowest keys v.party.key (has_no_member seen)) e in
     let rows : List (ℕ × Key) = enumerate_from 1 keys in
-    let h = still_none v.party.key (has_no_member seen) (members_share_group seen v) (has_no_member later) (members_share_group later v) f g rows
-    (none_mapped (passing v.party.key (has_no_member seen) rows) both.1) (none_mapped (passing v.party.key (members_share_group seen v) rows) both.0) in
-    ap (λ o. or_else (option_map aggregator_of_entry o) (lowest keys v.party.key (has_no_member later))) h.1 ∙ ap (option_map aggregator_of_entry) h.0
+    let h = still_none v.party.key (has_no_member seen) (members_share_group seen v) (has_no_member later)
+    (members_share_group later v) f g rows
+    (none_mapped (passing v.party.key (has_no_member seen) rows) both.1)
+    (none_mapped (passing v.party.key (members_share_group seen v) rows) both.0) in
+    ap (λ o. or_else (option_map aggregator_of_entry o) (lowest keys v.party.key (has_no_member later))) h.1
+    ∙ ap (option_map aggregator_of_entry) h.0
 
 -- one more member
 
@@ -92,58 +99,73 @@ or_still false c d h f = f h
 pub not_given : (agg : AggId) (s x : SystemPort) → x ≡ s → s.port.choice ≡ Unselected → has_chosen agg x.port.choice ≡ false
 not_given agg s x same u = ap (λ (y : SystemPort). has_chosen agg y.port.choice) same ∙ ap (has_chosen agg) u
 
-member_stays : (agg a : AggId) (system_ports : List SystemPort) (i : ℕ) (s : SystemPort) → slice_get system_ports i ≡ Some s → s.port.choice ≡ Unselected
+member_stays : (agg a : AggId) (system_ports : List SystemPort) (i : ℕ) (s : SystemPort) → slice_get system_ports i ≡ Some s
+    → s.port.choice ≡ Unselected
     → has_member (views system_ports) agg ≡ true → has_member (views (slice_set system_ports i (with_choice s (Some a)))) agg ≡ true
 member_stays agg a [] i s e u h = absurd cc
 member_stays agg a (x ∷ xs) zero s e u h =
-    or_other (has_chosen agg x.port.choice) (has_member (views xs) agg) (has_chosen agg (Selected a)) (not_given agg s x (same_Some x s e) u) h
+    or_other (has_chosen agg x.port.choice) (has_member (views xs) agg) (has_chosen agg (Selected a))
+    (not_given agg s x (same_Some x s e) u) h
 member_stays agg a (x ∷ xs) (suc i) s e u h =
-    or_still (has_chosen agg x.port.choice) (has_member (views xs) agg) (has_member (views (slice_set xs i (with_choice s (Some a)))) agg) h (member_stays agg a xs i s e u)
+    or_still (has_chosen agg x.port.choice) (has_member (views xs) agg) (has_member (views (slice_set xs i (with_choice s (Some a)))) agg) h
+    (member_stays agg a xs i s e u)
 
 and_second : (b c : Bool) → c ≡ false → (b && c) ≡ false
 and_second true c h = h
 and_second false c h = refl
 
-all_later : (test : PortView → Bool) (b : Bool) (w : PortView) (rest : List PortView) → list_all test rest ≡ false → list_all test (cond b (w ∷ rest) rest) ≡ false
+all_later : (test : PortView → Bool) (b : Bool) (w : PortView) (rest : List PortView) → list_all test rest ≡ false
+    → list_all test (cond b (w ∷ rest) rest) ≡ false
 all_later test true w rest h = and_second (test w) (list_all test rest) h
 all_later test false w rest h = h
 
-all_skipped : (test : PortView → Bool) (b : Bool) (w : PortView) (rest : List PortView) → b ≡ false → list_all test (cond b (w ∷ rest) rest) ≡ false → list_all test rest ≡ false
+all_skipped : (test : PortView → Bool) (b : Bool) (w : PortView) (rest : List PortView) → b ≡ false
+    → list_all test (cond b (w ∷ rest) rest) ≡ false → list_all test rest ≡ false
 all_skipped test true w rest n h = absurd cc
 all_skipped test false w rest n h = h
 
-all_still : (test : PortView → Bool) (b : Bool) (w : PortView) (rest more : List PortView) → list_all test (cond b (w ∷ rest) rest) ≡ false → (list_all test rest ≡ false → list_all test more ≡ false)
+all_still : (test : PortView → Bool) (b : Bool) (w : PortView) (rest more : List PortView) → list_all test (cond b (w ∷ rest) rest) ≡ false
+    → (list_all test rest ≡ false → list_all test more ≡ false)
     → list_all test (cond b (w ∷ more) more) ≡ false
 all_still test true w rest more h f = both_false (test w) (list_all test rest) (list_all test more) h f
 all_still test false w rest more h f = f h
 
-others_stay : (agg a : AggId) (v : PortView) (system_ports : List SystemPort) (i : ℕ) (s : SystemPort) → slice_get system_ports i ≡ Some s → s.port.choice ≡ Unselected
-    → list_all (has_group_of v) (ports_that_chose agg (views system_ports)) ≡ false → list_all (has_group_of v) (ports_that_chose agg (views (slice_set system_ports i (with_choice s (Some a))))) ≡ false
+others_stay : (agg a : AggId) (v : PortView) (system_ports : List SystemPort) (i : ℕ) (s : SystemPort) → slice_get system_ports i ≡ Some s
+    → s.port.choice ≡ Unselected
+    → list_all (has_group_of v) (ports_that_chose agg (views system_ports)) ≡ false
+    → list_all (has_group_of v) (ports_that_chose agg (views (slice_set system_ports i (with_choice s (Some a))))) ≡ false
 others_stay agg a v [] i s e u h = absurd cc
 others_stay agg a v (x ∷ xs) zero s e u h =
     all_later (has_group_of v) (has_chosen agg (Selected a)) (selection_view (with_choice s (Some a))) (ports_that_chose agg (views xs))
-    (all_skipped (has_group_of v) (has_chosen agg x.port.choice) (selection_view x) (ports_that_chose agg (views xs)) (not_given agg s x (same_Some x s e) u) h)
+    (all_skipped (has_group_of v) (has_chosen agg x.port.choice) (selection_view x) (ports_that_chose agg (views xs))
+    (not_given agg s x (same_Some x s e) u) h)
 others_stay agg a v (x ∷ xs) (suc i) s e u h =
-    all_still (has_group_of v) (has_chosen agg x.port.choice) (selection_view x) (ports_that_chose agg (views xs)) (ports_that_chose agg (views (slice_set xs i (with_choice s (Some a))))) h
+    all_still (has_group_of v) (has_chosen agg x.port.choice) (selection_view x) (ports_that_chose agg (views xs))
+    (ports_that_chose agg (views (slice_set xs i (with_choice s (Some a))))) h
     (others_stay agg a v xs i s e u)
 
-join_stays : (n m a later all : Bool) → m ≡ true → later ≡ true → ((n && m) && a) ≡ false → (a ≡ false → all ≡ false) → ((n && later) && all) ≡ false
+join_stays : (n m a later all : Bool) → m ≡ true → later ≡ true → ((n && m) && a) ≡ false → (a ≡ false → all ≡ false)
+    → ((n && later) && all) ≡ false
 join_stays true true a true all p q h f = f h
 join_stays true true a false all p q h f = absurd cc
 join_stays true false a later all p q h f = absurd cc
 join_stays false m a later all p q h f = refl
 
 -- a port that found none finds none after another port took an aggregator
-pub none_after : (keys : List Key) (system_ports : List SystemPort) (i : ℕ) (s : SystemPort) (a : AggId) (v : PortView) → slice_get system_ports i ≡ Some s → s.port.choice ≡ Unselected
-    → chosen_if_eligible keys (views system_ports) v ≡ None → chosen_if_eligible keys (views (slice_set system_ports i (with_choice s (Some a)))) v ≡ None
+pub none_after : (keys : List Key) (system_ports : List SystemPort) (i : ℕ) (s : SystemPort) (a : AggId) (v : PortView)
+    → slice_get system_ports i ≡ Some s → s.port.choice ≡ Unselected
+    → chosen_if_eligible keys (views system_ports) v ≡ None
+    → chosen_if_eligible keys (views (slice_set system_ports i (with_choice s (Some a)))) v ≡ None
 none_after keys system_ports i s a v e u h =
     let later : List PortView = views (slice_set system_ports i (with_choice s (Some a))) in
     none_stays keys (views system_ports) later v
     (λ agg k. not_true (has_member later agg) (member_stays agg a system_ports i s e u (not_false (has_member (views system_ports) agg) k)))
     (λ agg k j.
     let has = not_false (has_member (views system_ports) agg) k in
-    join_stays (not (individual v.party v.partner)) (has_member (views system_ports) agg) (list_all (has_group_of v) (ports_that_chose agg (views system_ports)))
-    (has_member later agg) (list_all (has_group_of v) (ports_that_chose agg later)) has (member_stays agg a system_ports i s e u has) j (others_stay agg a v system_ports i s e u))
+    join_stays (not (individual v.party v.partner)) (has_member (views system_ports) agg)
+    (list_all (has_group_of v) (ports_that_chose agg (views system_ports)))
+    (has_member later agg) (list_all (has_group_of v) (ports_that_chose agg later)) has (member_stays agg a system_ports i s e u has) j
+    (others_stay agg a v system_ports i s e u))
     h
 
 -- the same members in the same groups

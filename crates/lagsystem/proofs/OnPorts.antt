@@ -1,5 +1,6 @@
 -- After every call a conversation is On a port only if the port distributes in its aggregator.
-use Rattle.std.proofs.Common.{◌≡◌, ◌∙◌, ℕ, zero, suc, Bool, true, false, cond, ◌&&◌, eqb, List, [], ◌∷◌, Option, Some, None, Result, Ok, Err, refl, sym, ap, subst, ◌⊎◌, inl, inr, length}
+use Rattle.std.proofs.Common.{◌≡◌, ◌∙◌, ℕ, zero, suc, Bool, true, false, cond, ◌&&◌, eqb, List, [], ◌∷◌, Option, Some, None, Result, Ok}
+use Rattle.std.proofs.Common.{Err, refl, sym, ap, subst, ◌⊎◌, inl, inr, length}
 use Rattle.std.specs.Prelude.{if◌then◌else◌, slice_get, slice_set, filter, map}
 use Rattle.std.proofs.lemmas.Bool.{and_parts, eqb-true}
 use Rattle.std.proofs.lemmas.Option.{same_Some}
@@ -22,7 +23,9 @@ use Rattle.lagsystem.specs.declared.drive.Reply.{Reply}
 use Rattle.lagsystem.specs.declared.drive.Reply.TheVariants as reply
 use Rattle.lagsystem.specs.declared.fault.SystemFault.{SystemFault}
 use Rattle.lagsystem.specs.declared.system_ports.SystemPort.{SystemPort}
-use Rattle.lagsystem.specs.Calls.{Call, Tick, Set_link, Receive, Configure, Restart, Transmit, Offer, Move_conversation, Force, Ticks, ChangesParty, Performs, SetsLink, OnlyPortChangesBy, Releases, ThenSettles, Step, ProcessesLacpdu, is_own_response}
+use Rattle.lagsystem.specs.Calls.{Call, Tick, Set_link, Receive, Configure, Restart, Transmit, Offer, Move_conversation, Force, Ticks}
+use Rattle.lagsystem.specs.Calls.{ChangesParty, Performs, SetsLink, OnlyPortChangesBy, Releases, ThenSettles, Step, ProcessesLacpdu}
+use Rattle.lagsystem.specs.Calls.{is_own_response}
 use Rattle.lagsystem.specs.First.{IsFirst}
 use Rattle.lagsystem.specs.Offers.{GivesOrRefuses, Offers, system_force_result, system_move_result, assignment_of_frame}
 use Rattle.lagsystem.specs.Readers.{aggregator_numbered, number_of_conversation as conversation_number, distributes_in, distributing}
@@ -41,7 +44,8 @@ not_on : (p : ℕ) (a : Assignment) → a ≡ On p → model_conversation a ≡ 
 not_on p a e = ap model_conversation e
 
 pub first_carried : (s : SystemState) → IsFirst s → OnlyOnDistributing s
-first_carried s h g k p e = absurd (free p (sym (ap (λ (t : Table). assignment_of t g k) h.3 ∙ first_free (length s.keys) s.first_marker g k) ∙ e))
+first_carried s h g k p e =
+    absurd (free p (sym (ap (λ (t : Table). assignment_of t g k) h.3 ∙ first_free (length s.keys) s.first_marker g k) ∙ e))
   where
     free : (p : ℕ) → Free None ≡ On p → ⊥
     free p e = cc
@@ -72,7 +76,8 @@ same_carried old new e c = subst OnlyOnDistributing (sym e) c
 abbrev Carried : SystemState → ℕ → Assignment → ℕ → Type 0
 Carried old g was p = (was ≡ On p) ⊎ (distributes (distributing (aggregator_numbered g) old.system_ports) p ≡ true)
 
-table_carried : (old new : SystemState) → new ≡ with_table old new.table → OnlyOnDistributing old → ((g k p : ℕ) → assignment_of new.table g k ≡ On p → Carried old g (assignment_of old.table g k) p) → OnlyOnDistributing new
+table_carried : (old new : SystemState) → new ≡ with_table old new.table → OnlyOnDistributing old
+    → ((g k p : ℕ) → assignment_of new.table g k ≡ On p → Carried old g (assignment_of old.table g k) p) → OnlyOnDistributing new
 table_carried old new f c h g k p e =
     subst (λ (s : SystemState). distributes (distributing (aggregator_numbered g) s.system_ports) p ≡ true) (sym f)
     (elim (h g k p e) [ inl w ↦ c g k p w | inr d ↦ d ])
@@ -97,78 +102,104 @@ marked port id p (Wanted q preferred) e = flushed (eqb q port) e
     flushed true x = absurd cc
     flushed false x = x
 
-releases_carried : (b : Bool) (port : ℕ) (m : Marker) (old : SystemState) (answer : Received) (new : SystemState) → Releases b port m old answer new → OnlyOnDistributing old → OnlyOnDistributing new
+releases_carried : (b : Bool) (port : ℕ) (m : Marker) (old : SystemState) (answer : Received) (new : SystemState)
+    → Releases b port m old answer new → OnlyOnDistributing old → OnlyOnDistributing new
 releases_carried false port m old answer new h c = same_carried old new h.1 c
-releases_carried true port m old answer new h c = table_carried old new h.2 c (λ g k p e. inl (released port m.id p (assignment_of old.table g k) (sym (h.1.states g k) ∙ e)))
+releases_carried true port m old answer new h c = table_carried old new h.2 c
+    (λ g k p e. inl (released port m.id p (assignment_of old.table g k) (sym (h.1.states g k) ∙ e)))
 
-does_carried : (effect : FrameEffect) (port : ℕ) (o : Option ℕ) (old : SystemState) (answer : Received) (new : SystemState) → Performs effect port o old answer new → OnlyOnDistributing old → OnlyOnDistributing new
+does_carried : (effect : FrameEffect) (port : ℕ) (o : Option ℕ) (old : SystemState) (answer : Received) (new : SystemState)
+    → Performs effect port o old answer new → OnlyOnDistributing old → OnlyOnDistributing new
 does_carried (ProcessLacpdu v) port o old answer new h c = settled_carried (OnlyPortChangesBy o (ProcessesLacpdu v)) old new h.1
 does_carried (Response m) port o old answer new h c = releases_carried (is_own_response old port m) port m old answer new h c
 does_carried (Answered a) port o old answer new h c = same_carried old new h.1 c
 
 -- sending an LACPDU leaves what a port distributes in
-filtered : (b : Bool) (x y : SystemPort) (xs ys : List ℕ) → x.number ≡ y.number → xs ≡ ys → cond b (x.number ∷ xs) xs ≡ cond b (y.number ∷ ys) ys
+filtered : (b : Bool) (x y : SystemPort) (xs ys : List ℕ) → x.number ≡ y.number → xs ≡ ys
+    → cond b (x.number ∷ xs) xs ≡ cond b (y.number ∷ ys) ys
 filtered true x y xs ys e h = λ i. e i ∷ h i
 filtered false x y xs ys e h = h
 
-through : (b : Bool) (x : SystemPort) (xs : List SystemPort) → map (λ (s : SystemPort). s.number) (cond b (x ∷ xs) xs) ≡ cond b (x.number ∷ map (λ (s : SystemPort). s.number) xs) (map (λ (s : SystemPort). s.number) xs)
+through : (b : Bool) (x : SystemPort) (xs : List SystemPort) → map (λ (s : SystemPort). s.number) (cond b (x ∷ xs) xs) ≡ cond b (x.number
+    ∷ map (λ (s : SystemPort). s.number) xs) (map (λ (s : SystemPort). s.number) xs)
 through true x xs = refl
 through false x xs = refl
 
-more : (agg : AggId) (x : SystemPort) (xs : List SystemPort) → distributing agg (x ∷ xs) ≡ cond (distributes_in agg x) (x.number ∷ distributing agg xs) (distributing agg xs)
+more : (agg : AggId) (x : SystemPort) (xs : List SystemPort)
+    → distributing agg (x ∷ xs) ≡ cond (distributes_in agg x) (x.number ∷ distributing agg xs) (distributing agg xs)
 more agg x xs = through (distributes_in agg x) x (filter (distributes_in agg) xs)
 
-sent_distributing : (agg : AggId) (system_ports : List SystemPort) (i : ℕ) (s : SystemPort) → slice_get system_ports i ≡ Some s → distributing agg (slice_set system_ports i (record s { port = after_sending s.port })) ≡ distributing agg system_ports
+sent_distributing : (agg : AggId) (system_ports : List SystemPort) (i : ℕ) (s : SystemPort) → slice_get system_ports i ≡ Some s
+    → distributing agg (slice_set system_ports i (record s { port = after_sending s.port })) ≡ distributing agg system_ports
 sent_distributing agg [] i s e = refl
 sent_distributing agg (x ∷ xs) zero s e =
     let same : x ≡ s = same_Some x s e in
-    more agg (record s { port = after_sending s.port }) xs ∙ sym (ap (λ (y : SystemPort). cond (distributes_in agg y) (y.number ∷ distributing agg xs) (distributing agg xs)) same) ∙ sym (more agg x xs)
+    more agg (record s { port = after_sending s.port }) xs
+    ∙ sym (ap (λ (y : SystemPort). cond (distributes_in agg y) (y.number ∷ distributing agg xs) (distributing agg xs)) same)
+    ∙ sym (more agg x xs)
 sent_distributing agg (x ∷ xs) (suc i) s e =
     let ys = slice_set xs i (record s { port = after_sending s.port }) in
-    more agg x ys ∙ filtered (distributes_in agg x) x x (distributing agg ys) (distributing agg xs) refl (sent_distributing agg xs i s e) ∙ sym (more agg x xs)
+    more agg x ys ∙ filtered (distributes_in agg x) x x (distributing agg ys) (distributing agg xs) refl (sent_distributing agg xs i s e)
+    ∙ sym (more agg x xs)
 
-marker_carried : (o : Option ℕ) (port : ℕ) (mac : List ℕ) (old : SystemState) (answer : Option (List ℕ)) (new : SystemState) → SendsMarkerOf o port mac old answer new → OnlyOnDistributing old → OnlyOnDistributing new
+marker_carried : (o : Option ℕ) (port : ℕ) (mac : List ℕ) (old : SystemState) (answer : Option (List ℕ)) (new : SystemState)
+    → SendsMarkerOf o port mac old answer new → OnlyOnDistributing old → OnlyOnDistributing new
 marker_carried None port mac old answer new h c = same_carried old new h.1 c
-marker_carried (Some id) port mac old answer new h c = table_carried old new h.5 c (λ g k p e. inl (marked port id p (assignment_of old.table g k) (sym (h.4.states g k) ∙ e)))
+marker_carried (Some id) port mac old answer new h c = table_carried old new h.5 c
+    (λ g k p e. inl (marked port id p (assignment_of old.table g k) (sym (h.4.states g k) ∙ e)))
 
-where_carried : (up due : Bool) (i : ℕ) (system_port : SystemPort) (old : SystemState) (answer : Option (List ℕ)) (new : SystemState) → slice_get old.system_ports i ≡ Some system_port → TransmitsIf up due i system_port old answer new → OnlyOnDistributing old → OnlyOnDistributing new
+where_carried : (up due : Bool) (i : ℕ) (system_port : SystemPort) (old : SystemState) (answer : Option (List ℕ)) (new : SystemState)
+    → slice_get old.system_ports i ≡ Some system_port → TransmitsIf up due i system_port old answer new → OnlyOnDistributing old
+    → OnlyOnDistributing new
 where_carried false due i system_port old answer new g h c = same_carried old new h.1 c
 where_carried true true i system_port old answer new e h c = λ g k p x.
     let agg = aggregator_numbered g in
-    let system_ports : new.system_ports ≡ slice_set old.system_ports i (record system_port { port = after_sending system_port.port }) = ap (λ (s : SystemState). s.system_ports) h.3 in
-    let same : distributing agg new.system_ports ≡ distributing agg old.system_ports = ap (distributing agg) system_ports ∙ sent_distributing agg old.system_ports i system_port e in
+    let system_ports : new.system_ports ≡ slice_set old.system_ports i (record system_port { port = after_sending system_port.port }) =
+    ap (λ (s : SystemState). s.system_ports) h.3 in
+    let same : distributing agg new.system_ports ≡ distributing agg old.system_ports = ap (distributing agg) system_ports
+    ∙ sent_distributing agg old.system_ports i system_port e in
     subst (λ l. distributes l p ≡ true) (sym same) (c g k p (sym (ap (λ (s : SystemState). assignment_of s.table g k) h.3) ∙ x))
-where_carried true false i system_port old answer new e h c = marker_carried (marker_due old.table system_port.number) system_port.number system_port.mac old answer new h c
+where_carried true false i system_port old answer new e h c = marker_carried (marker_due old.table system_port.number) system_port.number
+    system_port.mac old answer new h c
 
-sends_carried : (o : Option ℕ) (old : SystemState) (answer : Option (List ℕ)) (new : SystemState) → TransmitsAt o old answer new → OnlyOnDistributing old → OnlyOnDistributing new
+sends_carried : (o : Option ℕ) (old : SystemState) (answer : Option (List ℕ)) (new : SystemState) → TransmitsAt o old answer new
+    → OnlyOnDistributing old → OnlyOnDistributing new
 sends_carried None old answer new h c = absurd h
 sends_carried (Some i) old answer new h c = where_carried h.0.port.enabled (is_due h.0.port) i h.0 old answer new h.1 h.2 c
 
 -- one conversation takes a state
-sets_carried : (agg : AggId) (conv : ℕ) (s : Assignment) (old new : SystemState) → SetsAssignment old.table new.table agg.0 conv s → new ≡ with_table old new.table → OnlyOnDistributing old
+sets_carried : (agg : AggId) (conv : ℕ) (s : Assignment) (old new : SystemState) → SetsAssignment old.table new.table agg.0 conv s
+    → new ≡ with_table old new.table → OnlyOnDistributing old
     → ((p : ℕ) → s ≡ On p → Carried old agg.0 (assignment_of old.table agg.0 conv) p) → OnlyOnDistributing new
-sets_carried agg conv s old new h f c here = table_carried old new f c (λ g k p e. either g k p (eqb agg.0 g && eqb conv k) refl (sym (h.states g k) ∙ e))
+sets_carried agg conv s old new h f c here = table_carried old new f c
+    (λ g k p e. either g k p (eqb agg.0 g && eqb conv k) refl (sym (h.states g k) ∙ e))
   where
-    either : (g k p : ℕ) (b : Bool) → (eqb agg.0 g && eqb conv k) ≡ b → cond b s (assignment_of old.table g k) ≡ On p → Carried old g (assignment_of old.table g k) p
+    either : (g k p : ℕ) (b : Bool) → (eqb agg.0 g && eqb conv k) ≡ b → cond b s (assignment_of old.table g k) ≡ On p
+        → Carried old g (assignment_of old.table g k) p
     either g k p true t x =
         let both = and_parts (eqb agg.0 g) (eqb conv k) t in
-        subst (λ n. Carried old n (assignment_of old.table n k) p) (eqb-true agg.0 g both.0) (subst (λ m. Carried old agg.0 (assignment_of old.table agg.0 m) p) (eqb-true conv k both.1) (here p x))
+        subst (λ n. Carried old n (assignment_of old.table n k) p) (eqb-true agg.0 g both.0)
+        (subst (λ m. Carried old agg.0 (assignment_of old.table agg.0 m) p) (eqb-true conv k both.1) (here p x))
     either g k p false t x = inl x
 
-may_carry : (old : SystemState) (g p port : ℕ) (a : Assignment) → MaySend (distributing (aggregator_numbered g) old.system_ports) a port → On port ≡ On p → Carried old g a p
-may_carry old g p port (Free preferred) m e = inr (subst (λ q. distributes (distributing (aggregator_numbered g) old.system_ports) q ≡ true) (same_port port p e) m)
+may_carry : (old : SystemState) (g p port : ℕ) (a : Assignment) → MaySend (distributing (aggregator_numbered g) old.system_ports) a port
+    → On port ≡ On p → Carried old g a p
+may_carry old g p port (Free preferred) m e =
+    inr (subst (λ q. distributes (distributing (aggregator_numbered g) old.system_ports) q ≡ true) (same_port port p e) m)
 may_carry old g p port (On q) m e = inl (ap (λ r. On r) (sym m ∙ same_port port p e))
 may_carry old g p port (Wanted q preferred) m e = absurd m
 may_carry old g p port (Flushing q id preferred age) m e = absurd m
 
-offers_carried : (gives : ℕ → ℕ → ℕ → Type 0) (agg : AggId) (octets : List ℕ) (old : SystemState) (answer : Result ℕ SystemFault) (new : SystemState) → Offers gives agg octets old answer new → OnlyOnDistributing old → OnlyOnDistributing new
+offers_carried : (gives : ℕ → ℕ → ℕ → Type 0) (agg : AggId) (octets : List ℕ) (old : SystemState) (answer : Result ℕ SystemFault)
+    (new : SystemState) → Offers gives agg octets old answer new → OnlyOnDistributing old → OnlyOnDistributing new
 offers_carried gives agg octets old (Ok port) new h c =
     let conv = conversation_number old octets in
     let may = assigned_may gives conv (distributing agg old.system_ports) (assignment_of_frame old agg octets) port h.1 in
     sets_carried agg conv (On port) old new h.2.0 h.2.1 c (λ p e. may_carry old agg.0 p port (assignment_of_frame old agg octets) may e)
 offers_carried gives agg octets old (Err fault) new h c = same_carried old new h.1 c
 
-moves_carried : (agg : AggId) (conv port : ℕ) (what : Result Assignment SystemFault) (old : SystemState) (answer : Result Unit SystemFault) (new : SystemState) → system_move_result old agg conv port ≡ what
+moves_carried : (agg : AggId) (conv port : ℕ) (what : Result Assignment SystemFault) (old : SystemState) (answer : Result Unit SystemFault)
+    (new : SystemState) → system_move_result old agg conv port ≡ what
     → GivesOrRefuses agg conv what old answer new → OnlyOnDistributing old → OnlyOnDistributing new
 moves_carried agg conv port (Ok s) old answer new e h c =
     let was = assignment_of old.table agg.0 conv in
@@ -179,7 +210,8 @@ moves_carried agg conv port (Ok s) old answer new e h c =
     wanted q p x = cc
 moves_carried agg conv port (Err fault) old answer new e h c = same_carried old new h.1 c
 
-forces_carried : (agg : AggId) (conv : ℕ) (what : Result Assignment SystemFault) (old : SystemState) (answer : Result Unit SystemFault) (new : SystemState) → system_force_result old agg conv ≡ what
+forces_carried : (agg : AggId) (conv : ℕ) (what : Result Assignment SystemFault) (old : SystemState) (answer : Result Unit SystemFault)
+    (new : SystemState) → system_force_result old agg conv ≡ what
     → GivesOrRefuses agg conv what old answer new → OnlyOnDistributing old → OnlyOnDistributing new
 forces_carried agg conv (Ok s) old answer new e h c =
     let free = is_forced (assignment_of old.table agg.0 conv) s (forced_to agg conv old s e) in
@@ -189,19 +221,24 @@ forces_carried agg conv (Ok s) old answer new e h c =
     freed p x = cc
 forces_carried agg conv (Err fault) old answer new e h c = same_carried old new h.1 c
 
-pub Step-carried : (gives : ℕ → ℕ → ℕ → Type 0) (old : SystemState) (call : Call) (answer : Reply) (new : SystemState) → Step gives old call answer new → OnlyOnDistributing old → OnlyOnDistributing new
+pub Step-carried : (gives : ℕ → ℕ → ℕ → Type 0) (old : SystemState) (call : Call) (answer : Reply) (new : SystemState)
+    → Step gives old call answer new → OnlyOnDistributing old → OnlyOnDistributing new
 Step-carried gives old Tick reply.Tick new h c = settled_carried Ticks old new h
 Step-carried gives old (Set_link n up) (reply.SetLink (Ok done)) new h c = settled_carried (SetsLink n up) old new h
 Step-carried gives old (Set_link n up) (reply.SetLink (Err fault)) new h c = same_carried old new h.same c
-Step-carried gives old (Receive n octets) (reply.Receive (Ok answer)) new h c = does_carried h.1 h.0.number (port_index n old.system_ports) old answer new h.4 c
+Step-carried gives old (Receive n octets) (reply.Receive (Ok answer)) new h c = does_carried h.1 h.0.number
+    (port_index n old.system_ports) old answer new h.4 c
 Step-carried gives old (Receive n octets) (reply.Receive (Err fault)) new h c = same_carried old new h.same c
-Step-carried gives old (Configure n change) (reply.Configure (Ok true)) new h c = settled_carried (OnlyPortChangesBy (port_index n old.system_ports) (ChangesParty change)) old new h
+Step-carried gives old (Configure n change) (reply.Configure (Ok true)) new h c =
+    settled_carried (OnlyPortChangesBy (port_index n old.system_ports) (ChangesParty change)) old new h
 Step-carried gives old (Configure n change) (reply.Configure (Ok false)) new h c = same_carried old new h.1 c
 Step-carried gives old (Configure n change) (reply.Configure (Err fault)) new h c = same_carried old new h.same c
 Step-carried gives old Restart reply.Restart new h c = first_carried new h.1
 Step-carried gives old (Transmit n) (reply.Transmit (Ok answer)) new h c = sends_carried (port_index n old.system_ports) old answer new h c
 Step-carried gives old (Transmit n) (reply.Transmit (Err fault)) new h c = same_carried old new h.same c
 Step-carried gives old (Offer agg octets) (reply.Offer answer) new h c = offers_carried gives agg octets old answer new h c
-Step-carried gives old (Move_conversation agg conv port) (reply.MoveConversation answer) new h c = moves_carried agg conv port (system_move_result old agg conv port) old answer new refl h c
-Step-carried gives old (Force agg conv) (reply.Force answer) new h c = forces_carried agg conv (system_force_result old agg conv) old answer new refl h c
+Step-carried gives old (Move_conversation agg conv port) (reply.MoveConversation answer) new h c = moves_carried agg conv port
+    (system_move_result old agg conv port) old answer new refl h c
+Step-carried gives old (Force agg conv) (reply.Force answer) new h c = forces_carried agg conv
+    (system_force_result old agg conv) old answer new refl h c
 Step-carried gives old call answer new h c = absurd h

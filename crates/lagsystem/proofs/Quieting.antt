@@ -1,5 +1,6 @@
 -- Right after a settling, another one has nothing to do; and if there is nothing to do, a settling changes nothing.
-use Rattle.std.proofs.Common.{◌≡◌, ◌∙◌, ℕ, zero, suc, Bool, true, false, cond, not, ◌&&◌, ◌||◌, List, [], ◌∷◌, length, Option, Some, None, refl, sym, ap, subst, inl, inr, slice_get, slice_set}
+use Rattle.std.proofs.Common.{◌≡◌, ◌∙◌, ℕ, zero, suc, Bool, true, false, cond, not, ◌&&◌, ◌||◌, List, [], ◌∷◌, length, Option, Some}
+use Rattle.std.proofs.Common.{None, refl, sym, ap, subst, inl, inr, slice_get, slice_set}
 use Rattle.std.specs.List.{AllByRecursion, AllZip, list_all}
 use Rattle.lagtypes.specs.declared.identifiers.AggId.{AggId}
 use Rattle.lagtypes.specs.declared.identifiers.Key.{Key}
@@ -18,7 +19,8 @@ use Rattle.selection.specs.Views.{is_eligible, has_chosen}
 use Rattle.selection.specs.Choice.{chosen_if_eligible, ports_that_chose, has_group_of, has_member}
 use Rattle.lagsystem.specs.declared.system_ports.SystemPort.{SystemPort}
 use Rattle.lagsystem.specs.NothingToSettle.{PeriodicsAreSettled, MuxesAreSettled, PeriodicIsSettled, MuxIsSettled}
-use Rattle.lagsystem.specs.Settling.{PortsChangeBy, PortChangesBy, Settling, SettlesPorts, after_choice_at, after_choices, with_choice, ready_of, aggregator_for}
+use Rattle.lagsystem.specs.Settling.{PortsChangeBy, PortChangesBy, Settling, SettlesPorts, after_choice_at, after_choices, with_choice}
+use Rattle.lagsystem.specs.Settling.{ready_of, aggregator_for}
 use Rattle.lagsystem.specs.State.{SystemState, port_numbers, with_system_ports}
 use Rattle.lagsystem.specs.Views.{selection_view, views}
 use Rattle.lagsystem.proofs.Keeps.{chosen_numbers, settling_parts, zip_numbers}
@@ -41,7 +43,8 @@ none_fires (row ∷ rows) p q rest f = elim f [ inl h ↦ clash (row.enabled p) 
 
 stays : (rows : List Row) (n : ℕ) (p q : Machines) → AtRest rows p → FiresTimes rows n p q → q ≡ p
 stays rows zero p q rest run = run
-stays rows (suc n) p q rest run = absurd (none_fires rows p q rest (subst (λ (x : Machines). Fires rows x q) (stays rows n p run.0 rest run.1) run.2))
+stays rows (suc n) p q rest run =
+    absurd (none_fires rows p q rest (subst (λ (x : Machines). Fires rows x q) (stays rows n p run.0 rest run.1) run.2))
 
 unready_row : (m s b : Bool) → (m && (s && b)) ≡ false → (m && (s && false)) ≡ false
 unready_row true true b h = refl
@@ -70,43 +73,55 @@ given_rests : (s : SystemPort) (o : Option AggId) → RestsAlone s → RestsAlon
 given_rests s None h = h
 given_rests s (Some agg) h = λ e. absurd cc
 
-choose_rests : (keys : List Key) (system_ports : List SystemPort) (i : ℕ) (o : Option SystemPort) → slice_get system_ports i ≡ o → AllByRecursion RestsAlone system_ports → AllByRecursion RestsAlone (after_choice_at keys system_ports i o)
+choose_rests : (keys : List Key) (system_ports : List SystemPort) (i : ℕ) (o : Option SystemPort) → slice_get system_ports i ≡ o
+    → AllByRecursion RestsAlone system_ports → AllByRecursion RestsAlone (after_choice_at keys system_ports i o)
 choose_rests keys system_ports i None e a = a
-choose_rests keys system_ports i (Some s) e a = all-set RestsAlone system_ports i (with_choice s (aggregator_for keys system_ports s)) a (given_rests s (aggregator_for keys system_ports s) (all-get RestsAlone system_ports i s e a))
+choose_rests keys system_ports i (Some s) e a = all-set RestsAlone system_ports i (with_choice s (aggregator_for keys system_ports s)) a
+    (given_rests s (aggregator_for keys system_ports s) (all-get RestsAlone system_ports i s e a))
 
-chosen_rests : (keys : List Key) (n : ℕ) (system_ports : List SystemPort) → AllByRecursion RestsAlone system_ports → AllByRecursion RestsAlone (after_choices keys n system_ports)
+chosen_rests : (keys : List Key) (n : ℕ) (system_ports : List SystemPort) → AllByRecursion RestsAlone system_ports
+    → AllByRecursion RestsAlone (after_choices keys n system_ports)
 chosen_rests keys zero system_ports a = a
-chosen_rests keys (suc n) system_ports a = choose_rests keys (after_choices keys n system_ports) n (slice_get (after_choices keys n system_ports) n) refl (chosen_rests keys n system_ports a)
+chosen_rests keys (suc n) system_ports a = choose_rests keys (after_choices keys n system_ports) n
+    (slice_get (after_choices keys n system_ports) n) refl (chosen_rests keys n system_ports a)
 
 -- the mux step leaves members and groups
 
 abbrev Steps : List Key → List PortView → Machines → Machines → Type 0
 Steps keys seen p q = RunsToRest (mux_rows (ready_of keys seen p.choice)) p q
 
-mux_groups : (b : Bool) (v : PortView) (x y : SystemPort) → y ≡ record x { port = y.port } → RunsToRest (mux_rows b) x.port y.port → has_group_of v (selection_view y) ≡ has_group_of v (selection_view x)
-mux_groups b v x y e h = Reaches-keeps (λ (p : Machines). has_group_of v (selection_view (record x { port = p }))) (mux_rows b) ((λ p. refl), ((λ p. refl), ((λ p. refl), ((λ p. refl), ((λ p. refl), ((λ p. refl), tt)))))) h.0 x.port y.port h.1
+mux_groups : (b : Bool) (v : PortView) (x y : SystemPort) → y ≡ record x { port = y.port } → RunsToRest (mux_rows b) x.port y.port
+    → has_group_of v (selection_view y) ≡ has_group_of v (selection_view x)
+mux_groups b v x y e h = Reaches-keeps (λ (p : Machines). has_group_of v (selection_view (record x { port = p }))) (mux_rows b)
+    ((λ p. refl), ((λ p. refl), ((λ p. refl), ((λ p. refl), ((λ p. refl), ((λ p. refl), tt)))))) h.0 x.port y.port h.1
 
-same_members : (keys : List Key) (seen : List PortView) (agg : AggId) (xs ys : List SystemPort) → PortsChangeBy (Steps keys seen) xs ys → has_member (views ys) agg ≡ has_member (views xs) agg
+same_members : (keys : List Key) (seen : List PortView) (agg : AggId) (xs ys : List SystemPort) → PortsChangeBy (Steps keys seen) xs ys
+    → has_member (views ys) agg ≡ has_member (views xs) agg
 same_members keys seen agg [] [] h = refl
 same_members keys seen agg [] (y ∷ ys) h = absurd h
 same_members keys seen agg (x ∷ xs) [] h = absurd h
 same_members keys seen agg (x ∷ xs) (y ∷ ys) h =
     let same = mux_choice (ready_of keys seen x.port.choice) x.port y.port h.0.1 in
-    ap (λ c. has_chosen agg c || has_member (views ys) agg) same ∙ ap (λ b. has_chosen agg x.port.choice || b) (same_members keys seen agg xs ys h.1)
+    ap (λ c. has_chosen agg c || has_member (views ys) agg) same
+    ∙ ap (λ b. has_chosen agg x.port.choice || b) (same_members keys seen agg xs ys h.1)
 
-next_all : (test : PortView → Bool) (b : Bool) (w v : PortView) (rest more : List PortView) → test v ≡ test w → list_all test more ≡ list_all test rest → list_all test (cond b (v ∷ more) more) ≡ list_all test (cond b (w ∷ rest) rest)
+next_all : (test : PortView → Bool) (b : Bool) (w v : PortView) (rest more : List PortView) → test v ≡ test w
+    → list_all test more ≡ list_all test rest → list_all test (cond b (v ∷ more) more) ≡ list_all test (cond b (w ∷ rest) rest)
 next_all test true w v rest more e h = ap (λ x. x && list_all test more) e ∙ ap (λ x. test w && x) h
 next_all test false w v rest more e h = h
 
-same_groups : (keys : List Key) (seen : List PortView) (agg : AggId) (v : PortView) (xs ys : List SystemPort) → PortsChangeBy (Steps keys seen) xs ys
+same_groups : (keys : List Key) (seen : List PortView) (agg : AggId) (v : PortView) (xs ys : List SystemPort)
+    → PortsChangeBy (Steps keys seen) xs ys
     → list_all (has_group_of v) (ports_that_chose agg (views ys)) ≡ list_all (has_group_of v) (ports_that_chose agg (views xs))
 same_groups keys seen agg v [] [] h = refl
 same_groups keys seen agg v [] (y ∷ ys) h = absurd h
 same_groups keys seen agg v (x ∷ xs) [] h = absurd h
 same_groups keys seen agg v (x ∷ xs) (y ∷ ys) h =
     let same = mux_choice (ready_of keys seen x.port.choice) x.port y.port h.0.1 in
-    ap (λ c. list_all (has_group_of v) (cond (has_chosen agg c) (selection_view y ∷ ports_that_chose agg (views ys)) (ports_that_chose agg (views ys)))) same
-    ∙ next_all (has_group_of v) (has_chosen agg x.port.choice) (selection_view x) (selection_view y) (ports_that_chose agg (views xs)) (ports_that_chose agg (views ys))
+    ap (λ c. list_all (has_group_of v) (cond (has_chosen agg c) (selection_view y ∷ ports_that_chose agg (views ys))
+    (ports_that_chose agg (views ys)))) same
+    ∙ next_all (has_group_of v) (has_chosen agg x.port.choice) (selection_view x) (selection_view y) (ports_that_chose agg (views xs))
+    (ports_that_chose agg (views ys))
     (mux_groups (ready_of keys seen x.port.choice) v x y h.0.0 h.0.1) (same_groups keys seen agg v xs ys h.1)
 
 -- a port that takes none takes none after the mux step
@@ -115,27 +130,33 @@ not_unselected b d Unselected h = absurd cc
 not_unselected true d (Selected agg) h = refl
 not_unselected false d (Selected agg) h = refl
 
-none_moved : (keys : List Key) (xs ys : List SystemPort) (x y : SystemPort) → PortsChangeBy (Steps keys (views xs)) xs ys → PortChangesBy (Steps keys (views xs)) x y → RestsAlone x → TakesNone keys (views xs) (selection_view x)
+none_moved : (keys : List Key) (xs ys : List SystemPort) (x y : SystemPort) → PortsChangeBy (Steps keys (views xs)) xs ys
+    → PortChangesBy (Steps keys (views xs)) x y → RestsAlone x → TakesNone keys (views xs) (selection_view x)
     → (s : Bool) → is_selected x.port.choice ≡ s → TakesNone keys (views ys) (selection_view y)
 none_moved keys xs ys x y all h a none true s =
     let same = mux_choice (ready_of keys (views xs) x.port.choice) x.port y.port h.1 in
-    not_when (is_eligible (selection_view y)) (chosen_if_eligible keys (views ys) (selection_view y)) (not_unselected _ _ y.port.choice (ap is_selected same ∙ s))
+    not_when (is_eligible (selection_view y)) (chosen_if_eligible keys (views ys) (selection_view y))
+    (not_unselected _ _ y.port.choice (ap is_selected same ∙ s))
 none_moved keys xs ys x y all h a none false s =
     let b = ready_of keys (views xs) x.port.choice in
     let still : y.port ≡ x.port = stays (mux_rows b) h.1.0 x.port y.port (rest_unselected b x.port s (a s)) h.1.1 in
     let same : y ≡ x = h.0 ∙ (λ i. record x { port = still i }) in
     subst (λ (z : SystemPort). TakesNone keys (views ys) (selection_view z)) (sym same)
-    (when_still (is_eligible (selection_view x)) (chosen_if_eligible keys (views xs) (selection_view x)) (chosen_if_eligible keys (views ys) (selection_view x)) none
-    (none_alike keys (views xs) (views ys) (selection_view x) (λ agg. same_members keys (views xs) agg xs ys all) (λ agg. same_groups keys (views xs) agg (selection_view x) xs ys all)))
+    (when_still (is_eligible (selection_view x)) (chosen_if_eligible keys (views xs) (selection_view x))
+    (chosen_if_eligible keys (views ys) (selection_view x)) none
+    (none_alike keys (views xs) (views ys) (selection_view x) (λ agg. same_members keys (views xs) agg xs ys all)
+    (λ agg. same_groups keys (views xs) agg (selection_view x) xs ys all)))
 
 -- what holds of one list, port for port, of the other
-zip_gives : (R : SystemPort → SystemPort → Type 0) (P Q : SystemPort → Type 0) → ((x y : SystemPort) → R x y → P x → Q y) → (xs ys : List SystemPort) → AllZip R xs ys → AllByRecursion P xs → AllByRecursion Q ys
+zip_gives : (R : SystemPort → SystemPort → Type 0) (P Q : SystemPort → Type 0) → ((x y : SystemPort) → R x y → P x → Q y)
+    → (xs ys : List SystemPort) → AllZip R xs ys → AllByRecursion P xs → AllByRecursion Q ys
 zip_gives R P Q k [] [] h a = tt
 zip_gives R P Q k [] (y ∷ ys) h a = absurd h
 zip_gives R P Q k (x ∷ xs) [] h a = absurd h
 zip_gives R P Q k (x ∷ xs) (y ∷ ys) h a = (k x y h.0 a.0, zip_gives R P Q k xs ys h.1 a.1)
 
-all_both : (P Q : SystemPort → Type 0) (xs : List SystemPort) → AllByRecursion P xs → AllByRecursion Q xs → AllByRecursion (λ x. P x × Q x) xs
+all_both : (P Q : SystemPort → Type 0) (xs : List SystemPort) → AllByRecursion P xs → AllByRecursion Q xs
+    → AllByRecursion (λ x. P x × Q x) xs
 all_both P Q [] h k = tt
 all_both P Q (x ∷ xs) h k = ((h.0, k.0), all_both P Q xs h.1 k.1)
 
@@ -143,10 +164,14 @@ all_both P Q (x ∷ xs) h k = ((h.0, k.0), all_both P Q xs h.1 k.1)
 abbrev Moved : List Key → List SystemPort → SystemPort → Type 0
 Moved keys system_ports y = TakesNone keys (views system_ports) (selection_view y) × AtRest (mux_rows false) y.port
 
-moved : (keys : List Key) (xs ys : List SystemPort) → PortsChangeBy (Steps keys (views xs)) xs ys → AllByRecursion (λ x. RestsAlone x × TakesNone keys (views xs) (selection_view x)) xs → AllByRecursion (Moved keys ys) ys
+moved : (keys : List Key) (xs ys : List SystemPort) → PortsChangeBy (Steps keys (views xs)) xs ys
+    → AllByRecursion (λ x. RestsAlone x × TakesNone keys (views xs) (selection_view x)) xs → AllByRecursion (Moved keys ys) ys
 moved keys xs ys h a =
     zip_gives (PortChangesBy (Steps keys (views xs))) (λ x. RestsAlone x × TakesNone keys (views xs) (selection_view x)) (Moved keys ys)
-    (λ x y m k. (none_moved keys xs ys x y h m k.0 k.1 (is_selected x.port.choice) refl, rest_unready (ready_of keys (views xs) x.port.choice) y.port m.1.2)) xs ys h a
+    (λ x y m k. (
+      none_moved keys xs ys x y h m k.0 k.1 (is_selected x.port.choice) refl,
+      rest_unready (ready_of keys (views xs) x.port.choice) y.port m.1.2,
+    )) xs ys h a
 
 -- the periodic step
 
@@ -154,7 +179,10 @@ periodic_view : (y z : SystemPort) → PortChangesBy RunsPeriodic y z → select
 periodic_view y z h =
     ap selection_view h.0
     ∙ ap (λ (p : Machines). selection_view (record y { port = p })) h.1.2
-    ∙ Reaches-keeps (λ (p : Machines). selection_view (record y { port = p })) periodic_rows ((λ p. refl), ((λ p. refl), ((λ p. refl), ((λ p. refl), ((λ p. refl), ((λ p. refl), ((λ p. refl), tt))))))) h.1.1.0 y.port h.1.0 h.1.1.1
+    ∙ Reaches-keeps (λ (p : Machines). selection_view (record y { port = p })) periodic_rows (
+      (λ p. refl),
+      ((λ p. refl), ((λ p. refl), ((λ p. refl), ((λ p. refl), ((λ p. refl), ((λ p. refl), tt)))))),
+    ) h.1.1.0 y.port h.1.0 h.1.1.1
 
 periodic_views : (ys zs : List SystemPort) → PortsChangeBy RunsPeriodic ys zs → views zs ≡ views ys
 periodic_views [] [] h = refl
@@ -169,7 +197,10 @@ mux_looks d p = record d { mux = p.mux; choice = p.choice; partner = p.partner }
 periodic_looks : (d p q : Machines) → RunsPeriodic p q → mux_looks d q ≡ mux_looks d p
 periodic_looks d p q h =
     ap (mux_looks d) h.2
-    ∙ Reaches-keeps (mux_looks d) periodic_rows ((λ p. refl), ((λ p. refl), ((λ p. refl), ((λ p. refl), ((λ p. refl), ((λ p. refl), ((λ p. refl), tt))))))) h.1.0 p h.0 h.1.1
+    ∙ Reaches-keeps (mux_looks d) periodic_rows (
+      (λ p. refl),
+      ((λ p. refl), ((λ p. refl), ((λ p. refl), ((λ p. refl), ((λ p. refl), ((λ p. refl), tt)))))),
+    ) h.1.0 p h.0 h.1.1
 
 periodic_rest : (p q : Machines) → RunsPeriodic p q → AtRest (mux_rows false) p → AtRest (mux_rows false) q
 periodic_rest p q h r = subst (λ (m : Machines). AtRest (mux_rows false) m) (sym (periodic_looks p p q h)) r
@@ -181,14 +212,16 @@ and_twice false c = refl
 periodic_paced : (y z : SystemPort) → PortChangesBy RunsPeriodic y z → PeriodicIsSettled z
 periodic_paced y z h =
     let mid : Machines = h.1.0 in
-    let twice : clear_ntt (clear_ntt mid) ≡ clear_ntt mid = λ i. record mid { ntt = and_twice (not (same_periodic_state NoPeriodic mid.periodic)) mid.ntt i } in
+    let twice : clear_ntt (clear_ntt mid) ≡ clear_ntt mid =
+    λ i. record mid { ntt = and_twice (not (same_periodic_state NoPeriodic mid.periodic)) mid.ntt i } in
     record {
       rows = subst (λ (p : Machines). AtRest periodic_rows p) (sym h.1.2) h.1.1.2;
       cleared = h.1.2 ∙ sym twice ∙ ap clear_ntt (sym h.1.2);
     }
 
 -- after a settling
-pub settling_still : (old new : SystemState) → Rises 0 (port_numbers old.system_ports) → SettlesPorts old new → MuxesAreSettled new.keys new.system_ports × PeriodicsAreSettled new.system_ports
+pub settling_still : (old new : SystemState) → Rises 0 (port_numbers old.system_ports) → SettlesPorts old new
+    → MuxesAreSettled new.keys new.system_ports × PeriodicsAreSettled new.system_ports
 settling_still old new r h =
     let one = h.0 in
     let two = h.2.0 in
@@ -197,10 +230,13 @@ settling_still old new r h =
     let five = h.2.2.2.2.0 in
     let keys : List Key = one.keys in
     let last : List SystemPort = after_choices keys (length one.system_ports) one.system_ports in
-    let r1 : Rises 0 (port_numbers one.system_ports) = subst (λ ns. Rises 0 ns) (sym (zip_numbers (RunsToRest (mux_rows false)) old.system_ports one.system_ports h.1.0)) r in
-    let a1 : AllByRecursion RestsAlone one.system_ports = zip_all (PortChangesBy (RunsToRest (mux_rows false))) RestsAlone (λ x y m s. m.1.2) old.system_ports one.system_ports h.1.0 in
+    let r1 : Rises 0 (port_numbers one.system_ports) = subst (λ ns. Rises 0 ns)
+    (sym (zip_numbers (RunsToRest (mux_rows false)) old.system_ports one.system_ports h.1.0)) r in
+    let a1 : AllByRecursion RestsAlone one.system_ports = zip_all (PortChangesBy (RunsToRest (mux_rows false))) RestsAlone
+    (λ x y m s. m.1.2) old.system_ports one.system_ports h.1.0 in
     let a2 : AllByRecursion (λ x. RestsAlone x × TakesNone keys (views last) (selection_view x)) last =
-    all_both RestsAlone (λ x. TakesNone keys (views last) (selection_view x)) last (chosen_rests keys (length one.system_ports) one.system_ports a1) (none_takes keys one.system_ports r1) in
+    all_both RestsAlone (λ x. TakesNone keys (views last) (selection_view x)) last
+    (chosen_rests keys (length one.system_ports) one.system_ports a1) (none_takes keys one.system_ports r1) in
     let there : three ≡ with_system_ports one last = h.2.2.1 ∙ h.2.1 in
     let m4 : PortsChangeBy (Steps keys (views last)) last four.system_ports =
     subst (λ (s : SystemState). PortsChangeBy (Steps s.keys (views s.system_ports)) s.system_ports four.system_ports) there h.2.2.2.1.0 in
@@ -208,21 +244,35 @@ settling_still old new r h =
     let m5 : PortsChangeBy RunsPeriodic four.system_ports five.system_ports = h.2.2.2.2.1.0 in
     let seen : views five.system_ports ≡ views four.system_ports = periodic_views four.system_ports five.system_ports m5 in
     let r5 : Rises 0 (port_numbers five.system_ports) =
-    subst (λ ns. Rises 0 ns) (sym (zip_numbers RunsPeriodic four.system_ports five.system_ports m5 ∙ zip_numbers (Steps keys (views last)) last four.system_ports m4 ∙ chosen_numbers keys (length one.system_ports) one.system_ports)) r1 in
-    let a5 : AllByRecursion (λ z. TakesNone keys (views five.system_ports) (selection_view z) × AtRest (mux_rows false) z.port) five.system_ports =
-    zip_gives (PortChangesBy RunsPeriodic) (Moved keys four.system_ports) (λ z. TakesNone keys (views five.system_ports) (selection_view z) × AtRest (mux_rows false) z.port)
-    (λ y z m k. (subst (λ l. TakesNone keys l (selection_view z)) (sym seen) (subst (λ v. TakesNone keys (views four.system_ports) v) (sym (periodic_view y z m)) k.0), periodic_rest y.port z.port m.1 k.1)) four.system_ports five.system_ports m5 a4 in
+    subst (λ ns. Rises 0 ns) (sym (zip_numbers RunsPeriodic four.system_ports five.system_ports m5
+    ∙ zip_numbers (Steps keys (views last)) last four.system_ports m4 ∙ chosen_numbers keys (length one.system_ports) one.system_ports))
+    r1 in
+    let a5 : AllByRecursion (λ z. TakesNone keys (views five.system_ports) (selection_view z)
+    × AtRest (mux_rows false) z.port) five.system_ports =
+    zip_gives (PortChangesBy RunsPeriodic) (Moved keys four.system_ports) (λ z. TakesNone keys (views five.system_ports) (selection_view z)
+    × AtRest (mux_rows false) z.port)
+    (λ y z m k. (
+      subst (λ l. TakesNone keys l (selection_view z)) (sym seen)
+          (subst (λ v. TakesNone keys (views four.system_ports) v) (sym (periodic_view y z m)) k.0),
+      periodic_rest y.port z.port m.1 k.1,
+    ))
+    four.system_ports five.system_ports m5 a4 in
     let still : MuxesAreSettled keys five.system_ports = each_place (MuxIsSettled keys five.system_ports) five.system_ports
     (λ j z e.
-    let k = all-get (λ z. TakesNone keys (views five.system_ports) (selection_view z) × AtRest (mux_rows false) z.port) five.system_ports j z e a5 in
+    let k = all-get (λ z. TakesNone keys (views five.system_ports) (selection_view z) × AtRest (mux_rows false) z.port)
+    five.system_ports j z e a5 in
     record {
       mux = k.1;
-      apart = taken_none keys five.system_ports r5 (both_first (λ z. TakesNone keys (views five.system_ports) (selection_view z)) (λ z. AtRest (mux_rows false) z.port) five.system_ports a5) j z e;
+      apart = taken_none keys five.system_ports r5 (both_first (λ z. TakesNone keys (views five.system_ports) (selection_view z))
+          (λ z. AtRest (mux_rows false) z.port) five.system_ports a5) j z e;
       unready = ap (λ l. ready_of keys l z.port.choice) seen ∙ none_ready keys last four.system_ports m4 z.port.choice;
     }) in
-    let paced : PeriodicsAreSettled five.system_ports = zip_all (PortChangesBy RunsPeriodic) PeriodicIsSettled periodic_paced four.system_ports five.system_ports m5 in
-    let same : five.keys ≡ keys = ap (λ (s : SystemState). s.keys) h.2.2.2.2.1.1 ∙ ap (λ (s : SystemState). s.keys) h.2.2.2.1.1 ∙ ap (λ (s : SystemState). s.keys) there in
-    subst (λ (s : SystemState). MuxesAreSettled s.keys s.system_ports × PeriodicsAreSettled s.system_ports) (sym h.2.2.2.2.2) (subst (λ (k : List Key). MuxesAreSettled k five.system_ports) (sym same) still, paced)
+    let paced : PeriodicsAreSettled five.system_ports = zip_all (PortChangesBy RunsPeriodic) PeriodicIsSettled periodic_paced
+    four.system_ports five.system_ports m5 in
+    let same : five.keys ≡ keys = ap (λ (s : SystemState). s.keys) h.2.2.2.2.1.1 ∙ ap (λ (s : SystemState). s.keys) h.2.2.2.1.1
+    ∙ ap (λ (s : SystemState). s.keys) there in
+    subst (λ (s : SystemState). MuxesAreSettled s.keys s.system_ports × PeriodicsAreSettled s.system_ports) (sym h.2.2.2.2.2)
+    (subst (λ (k : List Key). MuxesAreSettled k five.system_ports) (sym same) still, paced)
   where
     both_first : (P Q : SystemPort → Type 0) (xs : List SystemPort) → AllByRecursion (λ x. P x × Q x) xs → AllByRecursion P xs
     both_first P Q [] h = tt
@@ -230,29 +280,37 @@ settling_still old new r h =
 
 -- if nothing is to be done
 
-still_mux : (keys : List Key) (system_ports xs : List SystemPort) → AllByRecursion (MuxIsSettled keys system_ports) xs → PortsChangeBy (RunsToRest (mux_rows false)) xs xs
+still_mux : (keys : List Key) (system_ports xs : List SystemPort) → AllByRecursion (MuxIsSettled keys system_ports) xs
+    → PortsChangeBy (RunsToRest (mux_rows false)) xs xs
 still_mux keys system_ports [] h = tt
 still_mux keys system_ports (x ∷ xs) h = ((refl, (0, refl, h.0.mux)), still_mux keys system_ports xs h.1)
 
-still_ready : (keys : List Key) (system_ports xs : List SystemPort) → AllByRecursion (MuxIsSettled keys system_ports) xs → PortsChangeBy (Steps keys (views system_ports)) xs xs
+still_ready : (keys : List Key) (system_ports xs : List SystemPort) → AllByRecursion (MuxIsSettled keys system_ports) xs
+    → PortsChangeBy (Steps keys (views system_ports)) xs xs
 still_ready keys system_ports [] h = tt
 still_ready keys system_ports (x ∷ xs) h =
     ((refl, (0, refl, subst (λ b. AtRest (mux_rows b) x.port) (sym h.0.unready) h.0.mux)), still_ready keys system_ports xs h.1)
 
-still_choose : (keys : List Key) (system_ports : List SystemPort) (i : ℕ) (o : Option SystemPort) → slice_get system_ports i ≡ o → MuxesAreSettled keys system_ports → after_choice_at keys system_ports i o ≡ system_ports
+still_choose : (keys : List Key) (system_ports : List SystemPort) (i : ℕ) (o : Option SystemPort) → slice_get system_ports i ≡ o
+    → MuxesAreSettled keys system_ports → after_choice_at keys system_ports i o ≡ system_ports
 still_choose keys system_ports i None e h = refl
 still_choose keys system_ports i (Some s) e h =
-    ap (λ o. slice_set system_ports i (with_choice s o)) ((all-get (MuxIsSettled keys system_ports) system_ports i s e h).apart) ∙ set_same system_ports i s e
+    ap (λ o. slice_set system_ports i (with_choice s o)) ((all-get (MuxIsSettled keys system_ports) system_ports i s e h).apart)
+    ∙ set_same system_ports i s e
 
-still_chosen : (keys : List Key) (n : ℕ) (system_ports : List SystemPort) → MuxesAreSettled keys system_ports → after_choices keys n system_ports ≡ system_ports
+still_chosen : (keys : List Key) (n : ℕ) (system_ports : List SystemPort) → MuxesAreSettled keys system_ports
+    → after_choices keys n system_ports ≡ system_ports
 still_chosen keys zero system_ports h = refl
 still_chosen keys (suc n) system_ports h =
-    ap (λ l. after_choice_at keys l n (slice_get l n)) (still_chosen keys n system_ports h) ∙ still_choose keys system_ports n (slice_get system_ports n) refl h
+    ap (λ l. after_choice_at keys l n (slice_get l n)) (still_chosen keys n system_ports h)
+    ∙ still_choose keys system_ports n (slice_get system_ports n) refl h
 
 -- settling leaves all but the periodic machines
-pub still_settles : (s : SystemState) (news : List SystemPort) → MuxesAreSettled s.keys s.system_ports → PortsChangeBy RunsPeriodic s.system_ports news → SettlesPorts s (with_system_ports s news)
+pub still_settles : (s : SystemState) (news : List SystemPort) → MuxesAreSettled s.keys s.system_ports
+    → PortsChangeBy RunsPeriodic s.system_ports news → SettlesPorts s (with_system_ports s news)
 still_settles s news h m =
-    settling_made s s.keys s.system_ports s.system_ports s.system_ports s.system_ports news refl refl (still_mux s.keys s.system_ports s.system_ports h) (sym (still_chosen s.keys (length s.system_ports) s.system_ports h))
+    settling_made s s.keys s.system_ports s.system_ports s.system_ports s.system_ports news refl refl
+    (still_mux s.keys s.system_ports s.system_ports h) (sym (still_chosen s.keys (length s.system_ports) s.system_ports h))
     (still_ready s.keys s.system_ports s.system_ports h) m
 
 pub paced_runs : (xs : List SystemPort) → PeriodicsAreSettled xs → PortsChangeBy RunsPeriodic xs xs
@@ -260,7 +318,9 @@ paced_runs [] h = tt
 paced_runs (x ∷ xs) h = ((refl, (x.port, (0, refl, h.0.rows), h.0.cleared)), paced_runs xs h.1)
 
 -- a settling with its last step
-pub settling_quiet : (old new : SystemState) → Rises 0 (port_numbers old.system_ports) → Settling old new → MuxesAreSettled new.keys new.system_ports × PeriodicsAreSettled new.system_ports
+pub settling_quiet : (old new : SystemState) → Rises 0 (port_numbers old.system_ports) → Settling old new
+    → MuxesAreSettled new.keys new.system_ports × PeriodicsAreSettled new.system_ports
 settling_quiet old new r h =
     let p = settling_parts old new h in
-    subst (λ (s : SystemState). MuxesAreSettled s.keys s.system_ports × PeriodicsAreSettled s.system_ports) (sym p.2.frame) (settling_still old p.0 r p.1)
+    subst (λ (s : SystemState). MuxesAreSettled s.keys s.system_ports × PeriodicsAreSettled s.system_ports) (sym p.2.frame)
+    (settling_still old p.0 r p.1)

@@ -1,5 +1,6 @@
 -- What holds of each port after every call: its machines are at rest.
-use Rattle.std.proofs.Common.{◌≡◌, ℕ, zero, suc, Bool, true, false, Option, Some, None, Result, Ok, Err, List, [], ◌∷◌, length, refl, sym, ◌∙◌, subst, ap, inl, inr}
+use Rattle.std.proofs.Common.{◌≡◌, ℕ, zero, suc, Bool, true, false, Option, Some, None, Result, Ok, Err, List, [], ◌∷◌, length, refl}
+use Rattle.std.proofs.Common.{sym, ◌∙◌, subst, ap, inl, inr}
 use Rattle.std.specs.Prelude.{◌&&◌, ◌||◌, not, if◌then◌else◌, slice_get}
 use Rattle.std.specs.List.{AllZip, AllByRecursion}
 use Rattle.std.proofs.lemmas.Bool.{true≢false}
@@ -36,22 +37,37 @@ use Rattle.lagsystem.specs.Settling.{Settling, after_choices, after_choice_at, w
 use Rattle.lagsystem.specs.Offers.{GivesOrRefuses, Offers, system_force_result, system_move_result}
 use Rattle.lagsystem.specs.Sending.{TransmitsAt, SendsMarkerOf, TransmitsIf}
 use Rattle.distributor.specs.Changes.{marker_due}
-use Rattle.lagsystem.specs.Calls.{Call, Tick, Set_link, Receive, Configure, Restart, Transmit, Offer, Move_conversation, Force, Ticks, SetsPortEnabled, ChangesParty, Performs, SetsLink, PortAtChangesBy, OnlyPortChangesBy, Releases, ThenSettles, ProcessesLacpdu, changed_party, is_own_response, Step}
-use Rattle.lagsystem.specs.ModelView.{can_receive_in, can_receive, mux_consistent_of, mux_consistent, AllCanReceive, MuxesConsistent, PortsConsistent}
+use Rattle.lagsystem.specs.Calls.{Call, Tick, Set_link, Receive, Configure, Restart, Transmit, Offer, Move_conversation, Force, Ticks}
+use Rattle.lagsystem.specs.Calls.{SetsPortEnabled, ChangesParty, Performs, SetsLink, PortAtChangesBy, OnlyPortChangesBy, Releases}
+use Rattle.lagsystem.specs.Calls.{ThenSettles, ProcessesLacpdu, changed_party, is_own_response, Step}
+use Rattle.lagsystem.specs.ModelView.{can_receive_in, can_receive, mux_consistent_of, mux_consistent, AllCanReceive, MuxesConsistent}
+use Rattle.lagsystem.specs.ModelView.{PortsConsistent}
 use Rattle.portmachines.proofs.Runs.{Reaches-keeps}
 use Rattle.lagsystem.proofs.Rising.{all-set, all-get}
 
 mux_awake : (ready : Bool) (p q : Machines) → RunsToRest (mux_rows ready) p q → can_receive q ≡ can_receive p
-mux_awake ready p q h = Reaches-keeps can_receive (mux_rows ready) ((λ p. refl), ((λ p. refl), ((λ p. refl), ((λ p. refl), ((λ p. refl), ((λ p. refl), tt)))))) h.0 p q h.1
+mux_awake ready p q h = Reaches-keeps can_receive (mux_rows ready) (
+  (λ p. refl),
+  ((λ p. refl), ((λ p. refl), ((λ p. refl), ((λ p. refl), ((λ p. refl), tt))))),
+) h.0 p q h.1
 
 periodic_awake : (p q : Machines) → RunsPeriodic p q → can_receive q ≡ can_receive p
-periodic_awake p q h = ap can_receive h.2 ∙ Reaches-keeps can_receive periodic_rows ((λ p. refl), ((λ p. refl), ((λ p. refl), ((λ p. refl), ((λ p. refl), ((λ p. refl), ((λ p. refl), tt))))))) h.1.0 p h.0 h.1.1
+periodic_awake p q h = ap can_receive h.2
+    ∙ Reaches-keeps can_receive periodic_rows (
+      (λ p. refl),
+      ((λ p. refl), ((λ p. refl), ((λ p. refl), ((λ p. refl), ((λ p. refl), ((λ p. refl), tt)))))),
+    ) h.1.0 p h.0 h.1.1
 
 periodic_steady : (p q : Machines) → RunsPeriodic p q → mux_consistent q ≡ mux_consistent p
-periodic_steady p q h = ap mux_consistent h.2 ∙ Reaches-keeps mux_consistent periodic_rows ((λ p. refl), ((λ p. refl), ((λ p. refl), ((λ p. refl), ((λ p. refl), ((λ p. refl), ((λ p. refl), tt))))))) h.1.0 p h.0 h.1.1
+periodic_steady p q h = ap mux_consistent h.2
+    ∙ Reaches-keeps mux_consistent periodic_rows (
+      (λ p. refl),
+      ((λ p. refl), ((λ p. refl), ((λ p. refl), ((λ p. refl), ((λ p. refl), ((λ p. refl), tt)))))),
+    ) h.1.0 p h.0 h.1.1
 
 -- at rest
-rest_awake : (r : ReceiveState) (e : Bool) → (same_receive_state Initialize r && true) ≡ false → (same_receive_state PortDisabled r && e) ≡ false → (if e then can_receive_in r else true) ≡ true
+rest_awake : (r : ReceiveState) (e : Bool) → (same_receive_state Initialize r && true) ≡ false
+    → (same_receive_state PortDisabled r && e) ≡ false → (if e then can_receive_in r else true) ≡ true
 rest_awake Initialize e h k = absurd (true≢false h)
 rest_awake PortDisabled true h k = absurd (true≢false k)
 rest_awake PortDisabled false h k = refl
@@ -65,7 +81,8 @@ rest_awake Current false h k = refl
 receive_awake : (p q : Machines) → RunsToRest receive_rows p q → can_receive q ≡ true
 receive_awake p q h = rest_awake q.receive q.enabled h.2.0 h.2.1.1.0
 
-rest_steady : (m : MuxState) (c : Choice) (s : Bool) → (same_mux_state Attached m && not (is_selected c)) ≡ false → (same_mux_state CollectingDistributing m && (not (is_selected c) || not s)) ≡ false → mux_consistent_of m (is_selected c) s ≡ true
+rest_steady : (m : MuxState) (c : Choice) (s : Bool) → (same_mux_state Attached m && not (is_selected c)) ≡ false
+    → (same_mux_state CollectingDistributing m && (not (is_selected c) || not s)) ≡ false → mux_consistent_of m (is_selected c) s ≡ true
 rest_steady Detached c s h k = refl
 rest_steady Waiting c s h k = refl
 rest_steady Attached (Selected agg) s h k = refl
@@ -78,13 +95,15 @@ mux_steady : (ready : Bool) (p q : Machines) → RunsToRest (mux_rows ready) p q
 mux_steady ready p q h = rest_steady q.mux q.choice (partner_synchronized q) h.2.1.1.1.0 h.2.1.1.1.1.1.0
 
 -- of each port
-pub zip_all : {X : Type 0} (R : X → SystemPort → Type 0) (P : SystemPort → Type 0) → ((x : X) (y : SystemPort) → R x y → P y) → (xs : List X) (ys : List SystemPort) → AllZip R xs ys → AllByRecursion P ys
+pub zip_all : {X : Type 0} (R : X → SystemPort → Type 0) (P : SystemPort → Type 0) → ((x : X) (y : SystemPort) → R x y → P y)
+    → (xs : List X) (ys : List SystemPort) → AllZip R xs ys → AllByRecursion P ys
 zip_all R P k [] [] h = tt
 zip_all R P k [] (y ∷ ys) h = absurd h
 zip_all R P k (x ∷ xs) [] h = absurd h
 zip_all R P k (x ∷ xs) (y ∷ ys) h = (k x y h.0, zip_all R P k xs ys h.1)
 
-zip_kept : (R : SystemPort → SystemPort → Type 0) (P : SystemPort → Type 0) → ((x y : SystemPort) → R x y → P x → P y) → (xs ys : List SystemPort) → AllZip R xs ys → AllByRecursion P xs → AllByRecursion P ys
+zip_kept : (R : SystemPort → SystemPort → Type 0) (P : SystemPort → Type 0) → ((x y : SystemPort) → R x y → P x → P y)
+    → (xs ys : List SystemPort) → AllZip R xs ys → AllByRecursion P xs → AllByRecursion P ys
 zip_kept R P k [] [] h a = tt
 zip_kept R P k [] (y ∷ ys) h a = absurd h
 zip_kept R P k (x ∷ xs) [] h a = absurd h
@@ -100,15 +119,18 @@ IsAwake x = can_receive x.port ≡ true
 abbrev IsSteady : SystemPort → Type 0
 IsSteady x = mux_consistent x.port ≡ true
 
-choose_awake : (keys : List Key) (system_ports : List SystemPort) (i : ℕ) (o : Option SystemPort) → slice_get system_ports i ≡ o → AllCanReceive system_ports → AllCanReceive (after_choice_at keys system_ports i o)
+choose_awake : (keys : List Key) (system_ports : List SystemPort) (i : ℕ) (o : Option SystemPort) → slice_get system_ports i ≡ o
+    → AllCanReceive system_ports → AllCanReceive (after_choice_at keys system_ports i o)
 choose_awake keys system_ports i None e a = a
 choose_awake keys system_ports i (Some s) e a =
     let o = aggregator_for keys system_ports s in
     all-set IsAwake system_ports i (with_choice s o) a (given_awake s o ∙ all-get IsAwake system_ports i s e a)
 
-chosen_awake : (keys : List Key) (n : ℕ) (system_ports : List SystemPort) → AllCanReceive system_ports → AllCanReceive (after_choices keys n system_ports)
+chosen_awake : (keys : List Key) (n : ℕ) (system_ports : List SystemPort) → AllCanReceive system_ports
+    → AllCanReceive (after_choices keys n system_ports)
 chosen_awake keys zero system_ports a = a
-chosen_awake keys (suc n) system_ports a = choose_awake keys (after_choices keys n system_ports) n (slice_get (after_choices keys n system_ports) n) refl (chosen_awake keys n system_ports a)
+chosen_awake keys (suc n) system_ports a = choose_awake keys (after_choices keys n system_ports) n
+    (slice_get (after_choices keys n system_ports) n) refl (chosen_awake keys n system_ports a)
 
 -- a state that is the same has the same ports
 pub same_slots : (s t : SystemState) → t ≡ s → t.system_ports ≡ s.system_ports
@@ -126,11 +148,17 @@ settling_rested old new h a =
     let three = h.2.2.0 in
     let four = h.2.2.2.0 in
     let five = h.2.2.2.2.0 in
-    let a1 : AllCanReceive one.system_ports = zip_kept _ IsAwake (λ x y m k. mux_awake false x.port y.port m.1 ∙ k) old.system_ports one.system_ports h.1.0 a in
-    let a2 : AllCanReceive two.system_ports = subst (λ (s : SystemState). AllCanReceive s.system_ports) (sym h.2.1) (chosen_awake one.keys (length one.system_ports) one.system_ports a1) in
+    let a1 : AllCanReceive one.system_ports = zip_kept _ IsAwake (λ x y m k. mux_awake false x.port y.port m.1
+    ∙ k) old.system_ports one.system_ports h.1.0 a in
+    let a2 : AllCanReceive two.system_ports = subst (λ (s : SystemState). AllCanReceive s.system_ports) (sym h.2.1)
+    (chosen_awake one.keys (length one.system_ports) one.system_ports a1) in
     let a3 : AllCanReceive three.system_ports = subst (λ (s : SystemState). AllCanReceive s.system_ports) (sym h.2.2.1) a2 in
-    let a4 : AllCanReceive four.system_ports = zip_kept _ IsAwake (λ x y m k. mux_awake (ready_of three.keys (views three.system_ports) x.port.choice) x.port y.port m.1 ∙ k) three.system_ports four.system_ports h.2.2.2.1.0 a3 in
-    let s4 : MuxesConsistent four.system_ports = zip_all _ IsSteady (λ x y m. mux_steady (ready_of three.keys (views three.system_ports) x.port.choice) x.port y.port m.1) three.system_ports four.system_ports h.2.2.2.1.0 in
+    let a4 : AllCanReceive four.system_ports = zip_kept _ IsAwake
+    (λ x y m k. mux_awake (ready_of three.keys (views three.system_ports) x.port.choice) x.port y.port m.1 ∙ k) three.system_ports
+    four.system_ports h.2.2.2.1.0 a3 in
+    let s4 : MuxesConsistent four.system_ports = zip_all _ IsSteady
+    (λ x y m. mux_steady (ready_of three.keys (views three.system_ports) x.port.choice) x.port y.port m.1) three.system_ports
+    four.system_ports h.2.2.2.1.0 in
     let r5 : PortsConsistent five.system_ports = (
       zip_kept _ IsAwake (λ x y m k. periodic_awake x.port y.port m.1 ∙ k) four.system_ports five.system_ports h.2.2.2.2.1.0 a4,
       zip_kept _ IsSteady (λ x y m k. periodic_steady x.port y.port m.1 ∙ k) four.system_ports five.system_ports h.2.2.2.2.1.0 s4,
@@ -139,12 +167,14 @@ settling_rested old new h a =
 
 -- the own effects
 place_kept : (P : SystemPort → Type 0) (R : Machines → Machines → Type 0) (o : Option ℕ) (old new : List SystemPort)
-    → ((s : SystemPort) (q : Machines) → R s.port q → P s → P (record s { port = q })) → PortAtChangesBy R o old new → AllByRecursion P old → AllByRecursion P new
+    → ((s : SystemPort) (q : Machines) → R s.port q → P s → P (record s { port = q })) → PortAtChangesBy R o old new
+    → AllByRecursion P old → AllByRecursion P new
 place_kept P R None old new k h a = absurd h
 place_kept P R (Some i) old new k h a =
     subst (AllByRecursion P) (sym h.4) (all-set P old i (record h.0 { port = h.1 }) a (k h.0 h.1 h.3 (all-get P old i h.0 h.2 a)))
 
-settled_rested : (own : SystemState → SystemState → Type 0) (s t : SystemState) → ((mid : SystemState) → own s mid → AllCanReceive mid.system_ports) → ThenSettles own s t → PortsConsistent t.system_ports
+settled_rested : (own : SystemState → SystemState → Type 0) (s t : SystemState)
+    → ((mid : SystemState) → own s mid → AllCanReceive mid.system_ports) → ThenSettles own s t → PortsConsistent t.system_ports
 settled_rested own s t k h = settling_rested h.0 t h.2 (k h.0 h.1)
 
 takes_awake : (v : Lacpdu) (p q : Machines) → ProcessesLacpdu v p q → can_receive p ≡ true → can_receive q ≡ true
@@ -161,33 +191,43 @@ starts_awake : (p q : Machines) → Starts p q → can_receive q ≡ true
 starts_awake p q h = ap can_receive h.2 ∙ receive_awake (start_receive p) h.0 h.1
 
 -- what has to do with conversations alone leaves the ports
-pub marker_slots : (o : Option ℕ) (port : ℕ) (mac : List ℕ) (old : SystemState) (answer : Option (List ℕ)) (new : SystemState) → SendsMarkerOf o port mac old answer new → new.system_ports ≡ old.system_ports
+pub marker_slots : (o : Option ℕ) (port : ℕ) (mac : List ℕ) (old : SystemState) (answer : Option (List ℕ)) (new : SystemState)
+    → SendsMarkerOf o port mac old answer new → new.system_ports ≡ old.system_ports
 marker_slots None port mac old answer new h = ap (λ (x : SystemState). x.system_ports) h.1
 marker_slots (Some id) port mac old answer new h = ap (λ (x : SystemState). x.system_ports) h.5
 
-pub releases_slots : (b : Bool) (port : ℕ) (m : Marker) (old : SystemState) (answer : Received) (new : SystemState) → Releases b port m old answer new → new.system_ports ≡ old.system_ports
+pub releases_slots : (b : Bool) (port : ℕ) (m : Marker) (old : SystemState) (answer : Received) (new : SystemState)
+    → Releases b port m old answer new → new.system_ports ≡ old.system_ports
 releases_slots false port m old answer new h = ap (λ (x : SystemState). x.system_ports) h.1
 releases_slots true port m old answer new h = ap (λ (x : SystemState). x.system_ports) h.2
 
-pub offers_slots : (gives : ℕ → ℕ → ℕ → Type 0) (agg : AggId) (octets : List ℕ) (old : SystemState) (answer : Result ℕ SystemFault) (new : SystemState) → Offers gives agg octets old answer new → new.system_ports ≡ old.system_ports
+pub offers_slots : (gives : ℕ → ℕ → ℕ → Type 0) (agg : AggId) (octets : List ℕ) (old : SystemState) (answer : Result ℕ SystemFault)
+    (new : SystemState) → Offers gives agg octets old answer new → new.system_ports ≡ old.system_ports
 offers_slots gives agg octets old (Ok port) new h = ap (λ (x : SystemState). x.system_ports) h.2.1
 offers_slots gives agg octets old (Err fault) new h = ap (λ (x : SystemState). x.system_ports) h.1
 
-pub becomes_slots : (agg : AggId) (conv : ℕ) (state : Result Assignment SystemFault) (old : SystemState) (answer : Result Unit SystemFault) (new : SystemState) → GivesOrRefuses agg conv state old answer new → new.system_ports ≡ old.system_ports
+pub becomes_slots : (agg : AggId) (conv : ℕ) (state : Result Assignment SystemFault) (old : SystemState) (answer : Result Unit SystemFault)
+    (new : SystemState) → GivesOrRefuses agg conv state old answer new → new.system_ports ≡ old.system_ports
 becomes_slots agg conv (Ok state) old answer new h = ap (λ (x : SystemState). x.system_ports) h.1.1
 becomes_slots agg conv (Err fault) old answer new h = ap (λ (x : SystemState). x.system_ports) h.1
 
 -- sending
-where_kept : (g : Machines → Bool) → ((p : Machines) → g (after_sending p) ≡ g p) → (up due : Bool) (i : ℕ) (system_port : SystemPort) (old : SystemState) (answer : Option (List ℕ)) (new : SystemState) → slice_get old.system_ports i ≡ Some system_port
-    → TransmitsIf up due i system_port old answer new → AllByRecursion (λ x. g x.port ≡ true) old.system_ports → AllByRecursion (λ x. g x.port ≡ true) new.system_ports
+where_kept : (g : Machines → Bool) → ((p : Machines) → g (after_sending p) ≡ g p)
+    → (up due : Bool) (i : ℕ) (system_port : SystemPort) (old : SystemState) (answer : Option (List ℕ)) (new : SystemState)
+    → slice_get old.system_ports i ≡ Some system_port
+    → TransmitsIf up due i system_port old answer new → AllByRecursion (λ x. g x.port ≡ true) old.system_ports
+    → AllByRecursion (λ x. g x.port ≡ true) new.system_ports
 where_kept g k false due i system_port old answer new e h a = subst (AllByRecursion (λ x. g x.port ≡ true)) (sym (same_slots old new h.1)) a
 where_kept g k true true i system_port old answer new e h a =
     subst (AllByRecursion (λ x. g x.port ≡ true)) (sym (ap (λ (x : SystemState). x.system_ports) h.3))
-    (all-set (λ x. g x.port ≡ true) old.system_ports i (record system_port { port = after_sending system_port.port }) a (k system_port.port ∙ all-get (λ x. g x.port ≡ true) old.system_ports i system_port e a))
+    (all-set (λ x. g x.port ≡ true) old.system_ports i (record system_port { port = after_sending system_port.port }) a (k system_port.port
+    ∙ all-get (λ x. g x.port ≡ true) old.system_ports i system_port e a))
 where_kept g k true false i system_port old answer new e h a =
-    subst (AllByRecursion (λ x. g x.port ≡ true)) (sym (marker_slots (marker_due old.table system_port.number) system_port.number system_port.mac old answer new h)) a
+    subst (AllByRecursion (λ x. g x.port ≡ true))
+    (sym (marker_slots (marker_due old.table system_port.number) system_port.number system_port.mac old answer new h)) a
 
-sends_kept : (g : Machines → Bool) → ((p : Machines) → g (after_sending p) ≡ g p) → (o : Option ℕ) (old : SystemState) (answer : Option (List ℕ)) (new : SystemState) → TransmitsAt o old answer new
+sends_kept : (g : Machines → Bool) → ((p : Machines) → g (after_sending p) ≡ g p)
+    → (o : Option ℕ) (old : SystemState) (answer : Option (List ℕ)) (new : SystemState) → TransmitsAt o old answer new
     → AllByRecursion (λ x. g x.port ≡ true) old.system_ports → AllByRecursion (λ x. g x.port ≡ true) new.system_ports
 sends_kept g k None old answer new h a = absurd h
 sends_kept g k (Some i) old answer new h a = where_kept g k h.0.port.enabled (is_due h.0.port) i h.0 old answer new h.1 h.2 a
@@ -195,39 +235,53 @@ sends_kept g k (Some i) old answer new h a = where_kept g k h.0.port.enabled (is
 same_rested : (s t : SystemState) → t.system_ports ≡ s.system_ports → PortsConsistent s.system_ports → PortsConsistent t.system_ports
 same_rested s t e a = subst PortsConsistent (sym e) a
 
-does_rested : (effect : FrameEffect) (port : ℕ) (o : Option ℕ) (old : SystemState) (answer : Received) (new : SystemState) → Performs effect port o old answer new → PortsConsistent old.system_ports → PortsConsistent new.system_ports
+does_rested : (effect : FrameEffect) (port : ℕ) (o : Option ℕ) (old : SystemState) (answer : Received) (new : SystemState)
+    → Performs effect port o old answer new → PortsConsistent old.system_ports → PortsConsistent new.system_ports
 does_rested (ProcessLacpdu v) port o old answer new h a =
-    settled_rested (OnlyPortChangesBy o (ProcessesLacpdu v)) old new (λ mid own. place_kept IsAwake (ProcessesLacpdu v) o old.system_ports mid.system_ports (λ s q r k. takes_awake v s.port q r k) own.0 a.0) h.1
-does_rested (Response m) port o old answer new h a = same_rested old new (releases_slots (is_own_response old port m) port m old answer new h) a
+    settled_rested (OnlyPortChangesBy o (ProcessesLacpdu v)) old new
+    (λ mid own. place_kept IsAwake (ProcessesLacpdu v) o old.system_ports mid.system_ports
+    (λ s q r k. takes_awake v s.port q r k) own.0 a.0) h.1
+does_rested (Response m) port o old answer new h a = same_rested old new
+    (releases_slots (is_own_response old port m) port m old answer new h) a
 does_rested (Answered effect) port o old answer new h a = same_rested old new (same_slots old new h.1) a
 
 -- the start
 pub first_rested : (s : SystemState) → IsFirst s → PortsConsistent s.system_ports
 first_rested s h =
-    settling_rested (with_system_ports s h.0) s h.2 (zip_all (HasJustStarted s.system) IsAwake (λ c x m. starts_awake (before_start (setup_of s.system c)) x.port m.2) s.ports h.0 h.1)
+    settling_rested (with_system_ports s h.0) s h.2
+    (zip_all (HasJustStarted s.system) IsAwake (λ c x m. starts_awake (before_start (setup_of s.system c)) x.port m.2) s.ports h.0 h.1)
 
 -- every call leaves the machines at rest
-pub Step-rested : (gives : ℕ → ℕ → ℕ → Type 0) (old : SystemState) (call : Call) (answer : Reply) (new : SystemState) → Step gives old call answer new → PortsConsistent old.system_ports → PortsConsistent new.system_ports
+pub Step-rested : (gives : ℕ → ℕ → ℕ → Type 0) (old : SystemState) (call : Call) (answer : Reply) (new : SystemState)
+    → Step gives old call answer new → PortsConsistent old.system_ports → PortsConsistent new.system_ports
 Step-rested gives old Tick reply.Tick new h a =
-    settled_rested Ticks old new (λ mid own. zip_all _ IsAwake (λ x y m. receive_awake (count_down x.port) y.port m.1) old.system_ports mid.system_ports own.0) h
+    settled_rested Ticks old new (λ mid own. zip_all _ IsAwake (λ x y m. receive_awake (count_down x.port) y.port m.1) old.system_ports
+    mid.system_ports own.0) h
 Step-rested gives old (Set_link n up) (reply.SetLink (Ok done)) new h a =
     let o = port_index n old.system_ports in
-    settled_rested (SetsLink n up) old new (λ mid own. place_kept IsAwake (SetsPortEnabled up) o old.system_ports mid.system_ports (λ s q r k. receive_awake (record s.port { enabled = up }) q r) own.0 a.0) h
+    settled_rested (SetsLink n up) old new (λ mid own. place_kept IsAwake (SetsPortEnabled up) o old.system_ports mid.system_ports
+    (λ s q r k. receive_awake (record s.port { enabled = up }) q r) own.0 a.0) h
 Step-rested gives old (Set_link n up) (reply.SetLink (Err fault)) new h a = same_rested old new (same_slots old new h.same) a
-Step-rested gives old (Receive n octets) (reply.Receive (Ok answer)) new h a = does_rested h.1 h.0.number (port_index n old.system_ports) old answer new h.4 a
+Step-rested gives old (Receive n octets) (reply.Receive (Ok answer)) new h a = does_rested h.1 h.0.number
+    (port_index n old.system_ports) old answer new h.4 a
 Step-rested gives old (Receive n octets) (reply.Receive (Err fault)) new h a = same_rested old new (same_slots old new h.same) a
 Step-rested gives old (Configure n change) (reply.Configure (Ok true)) new h a =
     let o = port_index n old.system_ports in
-    settled_rested (OnlyPortChangesBy o (ChangesParty change)) old new (λ mid own. place_kept IsAwake (ChangesParty change) o old.system_ports mid.system_ports
+    settled_rested (OnlyPortChangesBy o (ChangesParty change)) old new
+    (λ mid own. place_kept IsAwake (ChangesParty change) o old.system_ports mid.system_ports
     (λ s q r k. starts_awake (record s.port { party = changed_party change s.port.party }) q r.1) own.0 a.0) h
 Step-rested gives old (Configure n change) (reply.Configure (Ok false)) new h a = same_rested old new (same_slots old new h.1) a
 Step-rested gives old (Configure n change) (reply.Configure (Err fault)) new h a = same_rested old new (same_slots old new h.same) a
 Step-rested gives old Restart reply.Restart new h a = first_rested new h.1
-Step-rested gives old (Transmit n) (reply.Transmit (Ok answer)) new h a =
-    (sends_kept can_receive (λ p. refl) (port_index n old.system_ports) old answer new h a.0, sends_kept mux_consistent (λ p. refl) (port_index n old.system_ports) old answer new h a.1)
+Step-rested gives old (Transmit n) (reply.Transmit (Ok answer)) new h a = (
+  sends_kept can_receive (λ p. refl) (port_index n old.system_ports) old answer new h a.0,
+  sends_kept mux_consistent (λ p. refl) (port_index n old.system_ports) old answer new h a.1,
+)
 Step-rested gives old (Transmit n) (reply.Transmit (Err fault)) new h a = same_rested old new (same_slots old new h.same) a
-Step-rested gives old (Offer agg octets) (reply.Offer answer) new h a = same_rested old new (offers_slots gives agg octets old answer new h) a
+Step-rested gives old (Offer agg octets) (reply.Offer answer) new h a = same_rested old new
+    (offers_slots gives agg octets old answer new h) a
 Step-rested gives old (Move_conversation agg conv port) (reply.MoveConversation answer) new h a =
     same_rested old new (becomes_slots agg conv (system_move_result old agg conv port) old answer new h) a
-Step-rested gives old (Force agg conv) (reply.Force answer) new h a = same_rested old new (becomes_slots agg conv (system_force_result old agg conv) old answer new h) a
+Step-rested gives old (Force agg conv) (reply.Force answer) new h a = same_rested old new
+    (becomes_slots agg conv (system_force_result old agg conv) old answer new h) a
 Step-rested gives old call answer new h a = absurd h

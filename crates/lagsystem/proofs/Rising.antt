@@ -1,5 +1,6 @@
 -- Ports in ascending order of their numbers.
-use Rattle.std.proofs.Common.{◌≡◌, ℕ, zero, suc, ◌+◌, ◌<◌, ◌==◌, Bool, true, false, cond, eqb, List, [], ◌∷◌, Option, Some, None, refl, sym, ◌∙◌, subst, ap, arith, inl, inr}
+use Rattle.std.proofs.Common.{◌≡◌, ℕ, zero, suc, ◌+◌, ◌<◌, ◌==◌, Bool, true, false, cond, eqb, List, [], ◌∷◌, Option, Some, None, refl}
+use Rattle.std.proofs.Common.{sym, ◌∙◌, subst, ap, arith, inl, inr}
 use Rattle.std.specs.Prelude.{find, if◌then◌else◌, nat_lt, option_map, slice_get, slice_set}
 use Rattle.std.specs.List.{AllByRecursion}
 use Rattle.std.proofs.lemmas.Bool.{eqb-true}
@@ -25,7 +26,9 @@ abbrev pub Rises : ℕ → List ℕ → Type 0
 Rises low [] = Unit {0}
 Rises low (n ∷ ns) = (low < n) × Rises n ns
 
-rises_on : (place low n : ℕ) (ns : List ℕ) (b : Bool) → nat_lt low n ≡ b → (if b then first_bad_port_number (place + 1) n ns else Some place) ≡ None → (low < n) × (first_bad_port_number (place + 1) n ns ≡ None)
+rises_on : (place low n : ℕ) (ns : List ℕ) (b : Bool) → nat_lt low n ≡ b
+    → (if b then first_bad_port_number (place + 1) n ns else Some place) ≡ None → (low < n)
+    × (first_bad_port_number (place + 1) n ns ≡ None)
 rises_on place low n ns true t e = (grind (arith, nat_tests), e)
 rises_on place low n ns false t e = cc
 
@@ -42,26 +45,31 @@ no_place None e = refl
 no_place (Some place) e = cc
 
 pub accepted_rises : (keys : List Key) (ports : List PortConfig) → refusal keys ports ≡ None → Rises 0 (configured_numbers ports)
-accepted_rises keys ports h = rises 1 0 (configured_numbers ports) (no_place (first_bad_port_number 1 0 (configured_numbers ports)) (if_then _ _ _ (if_then _ _ _ h)))
+accepted_rises keys ports h = rises 1 0 (configured_numbers ports)
+    (no_place (first_bad_port_number 1 0 (configured_numbers ports)) (if_then _ _ _ (if_then _ _ _ h)))
 
 pub ports_rise : (s : SystemState) → HasPorts s → Rises 0 (port_numbers s.system_ports)
 ports_rise s h = subst (λ ns. Rises 0 ns) (sym h.same) (accepted_rises s.keys s.ports h.accepted)
 
 -- no number twice
-not_found : (low n : ℕ) (system_ports : List SystemPort) → Rises low (port_numbers system_ports) → n < low + 1 → find_number number_of_port system_ports n ≡ None
+not_found : (low n : ℕ) (system_ports : List SystemPort) → Rises low (port_numbers system_ports) → n < low + 1
+    → find_number number_of_port system_ports n ≡ None
 not_found low n [] r l = refl
 not_found low n (s ∷ ss) r l =
-    cond_false (eqb n s.number) (Some s) (find_number number_of_port ss n) (below n s.number (omega (arith, l, r.0))) ∙ not_found s.number n ss r.1 (omega (arith, l, r.0))
+    cond_false (eqb n s.number) (Some s) (find_number number_of_port ss n) (below n s.number (omega (arith, l, r.0)))
+    ∙ not_found s.number n ss r.1 (omega (arith, l, r.0))
   where
     below : (m k : ℕ) → m < k → eqb m k ≡ false
     below m k h = grind (arith, nat_tests)
 
-pub are_numbered : (low : ℕ) (system_ports : List SystemPort) → Rises low (port_numbers system_ports) → AreNumbered number_of_port system_ports
+pub are_numbered : (low : ℕ) (system_ports : List SystemPort) → Rises low (port_numbers system_ports)
+    → AreNumbered number_of_port system_ports
 are_numbered low [] r = tt
 are_numbered low (s ∷ ss) r = (not_found s.number s.number ss r.1 (omega arith), are_numbered s.number ss r.1)
 
 -- the first view with the number of the port at a place is the port's
-rises-get : (low : ℕ) (system_ports : List SystemPort) (i : ℕ) (s : SystemPort) → Rises low (port_numbers system_ports) → slice_get system_ports i ≡ Some s → low < s.number
+rises-get : (low : ℕ) (system_ports : List SystemPort) (i : ℕ) (s : SystemPort) → Rises low (port_numbers system_ports)
+    → slice_get system_ports i ≡ Some s → low < s.number
 rises-get low [] i s r e = cc
 rises-get low (t ∷ ts) zero s r e = let same : t ≡ s = cc in subst (λ x. low < x.number) same r.0
 rises-get low (t ∷ ts) (suc i) s r e = omega (arith, rises-get t.number ts i s r.1 e, r.0)
@@ -77,26 +85,32 @@ passed false v rest h = refl
 eqb-false : (m n : ℕ) → m < n → (m == n) ≡ false
 eqb-false m n h = grind (arith, nat_tests)
 
-pub find_here : (low : ℕ) (system_ports : List SystemPort) (i : ℕ) (s : SystemPort) → Rises low (port_numbers system_ports) → slice_get system_ports i ≡ Some s → find (λ v. v.number == s.number) (views system_ports) ≡ Some (selection_view s)
+pub find_here : (low : ℕ) (system_ports : List SystemPort) (i : ℕ) (s : SystemPort) → Rises low (port_numbers system_ports)
+    → slice_get system_ports i ≡ Some s → find (λ v. v.number == s.number) (views system_ports) ≡ Some (selection_view s)
 find_here low [] i s r e = cc
 find_here low (t ∷ ts) zero s r e =
     let same : t ≡ s = cc in
-    found (t.number == s.number) (selection_view t) (selection_view s) _ (subst (λ x. (t.number == x.number) ≡ true) same ((Decides-eqb t.number t.number).1 refl)) (ap selection_view same)
+    found (t.number == s.number) (selection_view t) (selection_view s) _
+    (subst (λ x. (t.number == x.number) ≡ true) same ((Decides-eqb t.number t.number).1 refl)) (ap selection_view same)
 find_here low (t ∷ ts) (suc i) s r e =
-    passed (t.number == s.number) (selection_view t) _ (eqb-false t.number s.number (rises-get t.number ts i s r.1 e)) ∙ find_here t.number ts i s r.1 e
+    passed (t.number == s.number) (selection_view t) _ (eqb-false t.number s.number (rises-get t.number ts i s r.1 e))
+    ∙ find_here t.number ts i s r.1 e
 
 -- what holds of each port
-pub all-set : (P : SystemPort → Type 0) (system_ports : List SystemPort) (i : ℕ) (t : SystemPort) → AllByRecursion P system_ports → P t → AllByRecursion P (slice_set system_ports i t)
+pub all-set : (P : SystemPort → Type 0) (system_ports : List SystemPort) (i : ℕ) (t : SystemPort) → AllByRecursion P system_ports → P t
+    → AllByRecursion P (slice_set system_ports i t)
 all-set P [] i t all h = tt
 all-set P (s ∷ ss) zero t all h = (h, all.1)
 all-set P (s ∷ ss) (suc i) t all h = (all.0, all-set P ss i t all.1 h)
 
-pub all-get : (P : SystemPort → Type 0) (system_ports : List SystemPort) (i : ℕ) (s : SystemPort) → slice_get system_ports i ≡ Some s → AllByRecursion P system_ports → P s
+pub all-get : (P : SystemPort → Type 0) (system_ports : List SystemPort) (i : ℕ) (s : SystemPort) → slice_get system_ports i ≡ Some s
+    → AllByRecursion P system_ports → P s
 all-get P [] i s e all = cc
 all-get P (t ∷ ts) zero s e all = let same : t ≡ s = cc in subst P same all.0
 all-get P (t ∷ ts) (suc i) s e all = all-get P ts i s e all.1
 
-pub all_found : (P : SystemPort → Type 0) (system_ports : List SystemPort) → AllByRecursion P system_ports → (q : ℕ) (s : SystemPort) → find_number number_of_port system_ports q ≡ Some s → P s
+pub all_found : (P : SystemPort → Type 0) (system_ports : List SystemPort) → AllByRecursion P system_ports → (q : ℕ) (s : SystemPort)
+    → find_number number_of_port system_ports q ≡ Some s → P s
 all_found P [] all q s e = absurd (none-some s e)
 all_found P (t ∷ ts) all q s e = elim (whichever (eqb q (number_of_port t)) (Some t) (find_number number_of_port ts q) (Some s) e) [
   | inl h ↦ subst P (same_Some t s h.1) all.0
@@ -104,7 +118,8 @@ all_found P (t ∷ ts) all q s e = elim (whichever (eqb q (number_of_port t)) (S
 ]
 
 -- the port at the place of a number has that number
-pub found_place : (n : ℕ) (system_ports : List SystemPort) (i : ℕ) (s : SystemPort) → port_index n system_ports ≡ Some i → slice_get system_ports i ≡ Some s → s.number ≡ n
+pub found_place : (n : ℕ) (system_ports : List SystemPort) (i : ℕ) (s : SystemPort) → port_index n system_ports ≡ Some i
+    → slice_get system_ports i ≡ Some s → s.number ≡ n
 found_place n system_ports i s e at =
     let found = position-Some (λ (x : SystemPort). x.number == n) system_ports i s e in
     eqb-true s.number n (subst (λ (x : SystemPort). (x.number == n) ≡ true) (get_or_from_slice_get system_ports i s s at) found.1)

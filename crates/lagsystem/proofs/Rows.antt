@@ -1,5 +1,6 @@
 -- How rows change the model's view of a port.
-use Rattle.std.proofs.Common.{◌≡◌, ℕ, zero, suc, Bool, true, false, ◌&&◌, Option, List, [], ◌∷◌, sym, refl, ap, subst, inl, inr, IsTrue, IsSome}
+use Rattle.std.proofs.Common.{◌≡◌, ℕ, zero, suc, Bool, true, false, ◌&&◌, Option, List, [], ◌∷◌, sym, refl, ap, subst, inl, inr, IsTrue}
+use Rattle.std.proofs.Common.{IsSome}
 use Rattle.std.proofs.lemmas.Bool.{false≢true}
 use Rattle.std.proofs.lemmas.List.{append-nil}
 use Rattle.lagtypes.specs.declared.party.Party.{Party}
@@ -23,8 +24,10 @@ quiet p = record (model_port p) { distributes = false }
 abbrev pub QuietMoves : SystemSetup → ModelCall → ℕ → Machines → List Act → Machines → Type 0
 QuietMoves u call n p seen q = PortMoves u call n (quiet p) seen (quiet q)
 
-begins : (u : SystemSetup) (call : ModelCall) (n : ℕ) (party partner : Party) (s d : Bool) (g : Option ℕ) (on : Bool) → (on ≡ true → IsSome g × (s ≡ true))
-    → PortMoves u call n (record { party = party; partner = partner; synchronised = s; defaulted = d; aggregator = g; distributes = false }) [] (record { party = party; partner = partner; synchronised = s; defaulted = d; aggregator = g; distributes = on })
+begins : (u : SystemSetup) (call : ModelCall) (n : ℕ) (party partner : Party) (s d : Bool) (g : Option ℕ) (on : Bool)
+    → (on ≡ true → IsSome g × (s ≡ true))
+    → PortMoves u call n (record { party = party; partner = partner; synchronised = s; defaulted = d; aggregator = g; distributes = false })
+    [] (record { party = party; partner = partner; synchronised = s; defaulted = d; aggregator = g; distributes = on })
 begins u call n party partner s d g true h = (PortMove.Distribute ∷ [], (λ ports. h refl, tt), refl, refl)
 begins u call n party partner s d g false h = ([], tt, refl, refl)
 
@@ -34,31 +37,39 @@ may_begin true Unselected m h = absurd (false≢true h)
 may_begin false c m h = absurd (false≢true h)
 
 -- a port stops, moves, and begins again
-pub loudly : (u : SystemSetup) (call : ModelCall) (n : ℕ) (p q : Machines) (seen : List Act) → QuietMoves u call n p seen q → PortMoves u call n (model_port p) seen (model_port q)
+pub loudly : (u : SystemSetup) (call : ModelCall) (n : ℕ) (p q : Machines) (seen : List Act) → QuietMoves u call n p seen q
+    → PortMoves u call n (model_port p) seen (model_port q)
 loudly u call n p q seen h =
     let stop : PortMoves u call n (model_port p) [] (quiet p) = (PortMove.Stop ∷ [], (λ ports. tt, tt), refl, refl) in
-    let begin = begins u call n q.party (model_port q).partner (model_port q).synchronised q.defaulted (selected_number q.choice) (model_port q).distributes (may_begin (partner_synchronized q) q.choice (same_mux_state CollectingDistributing q.mux)) in
+    let begin = begins u call n q.party (model_port q).partner (model_port q).synchronised q.defaulted (selected_number q.choice)
+    (model_port q).distributes (may_begin (partner_synchronized q) q.choice (same_mux_state CollectingDistributing q.mux)) in
     subst (λ l. PortMoves u call n (model_port p) l (model_port q)) (append-nil seen)
-    (port_joined u call n (model_port p) (quiet q) (model_port q) seen [] (port_joined u call n (model_port p) (quiet p) (quiet q) [] seen stop h) begin)
+    (port_joined u call n (model_port p) (quiet q) (model_port q) seen []
+    (port_joined u call n (model_port p) (quiet p) (quiet q) [] seen stop h) begin)
 
 -- rows whose effects others do not see
 abbrev pub EachMoves : SystemSetup → ModelCall → ℕ → List Row → Type 0
 EachMoves u call n [] = Unit {0}
-EachMoves u call n (row ∷ rows) = ((p : Machines) → IsTrue (row.enabled p) → QuietMoves u call n p [] (row.effect p)) × EachMoves u call n rows
+EachMoves u call n (row ∷ rows) = ((p : Machines) → IsTrue (row.enabled p) → QuietMoves u call n p [] (row.effect p))
+    × EachMoves u call n rows
 
-pub fires_moves : (u : SystemSetup) (call : ModelCall) (n : ℕ) (rows : List Row) → EachMoves u call n rows → (p q : Machines) → Fires rows p q → QuietMoves u call n p [] q
+pub fires_moves : (u : SystemSetup) (call : ModelCall) (n : ℕ) (rows : List Row) → EachMoves u call n rows → (p q : Machines)
+    → Fires rows p q → QuietMoves u call n p [] q
 fires_moves u call n [] k p q h = absurd h
 fires_moves u call n (row ∷ rows) k p q h = elim h [
   | inl f ↦ subst (λ r. QuietMoves u call n p [] r) (sym f.1) (k.0 p f.0)
   | inr f ↦ fires_moves u call n rows k.1 p q f
 ]
 
-pub reaches_moves : (u : SystemSetup) (call : ModelCall) (n : ℕ) (rows : List Row) → EachMoves u call n rows → (m : ℕ) (p q : Machines) → FiresTimes rows m p q → QuietMoves u call n p [] q
+pub reaches_moves : (u : SystemSetup) (call : ModelCall) (n : ℕ) (rows : List Row) → EachMoves u call n rows → (m : ℕ) (p q : Machines)
+    → FiresTimes rows m p q → QuietMoves u call n p [] q
 reaches_moves u call n rows k zero p q run = port_stays u call n (quiet p) (quiet q) (ap quiet run)
 reaches_moves u call n rows k (suc m) p q run =
-    port_joined u call n (quiet p) (quiet run.0) (quiet q) [] [] (reaches_moves u call n rows k m p run.0 run.1) (fires_moves u call n rows k run.0 q run.2)
+    port_joined u call n (quiet p) (quiet run.0) (quiet q) [] [] (reaches_moves u call n rows k m p run.0 run.1)
+    (fires_moves u call n rows k run.0 q run.2)
 
-pub settles_moves : (u : SystemSetup) (call : ModelCall) (n : ℕ) (rows : List Row) → EachMoves u call n rows → (p q : Machines) → RunsToRest rows p q → QuietMoves u call n p [] q
+pub settles_moves : (u : SystemSetup) (call : ModelCall) (n : ℕ) (rows : List Row) → EachMoves u call n rows → (p q : Machines)
+    → RunsToRest rows p q → QuietMoves u call n p [] q
 settles_moves u call n rows k p q h = reaches_moves u call n rows k h.0 p q h.1
 
 -- rows that leave what the view has, but for distribution

@@ -1,5 +1,6 @@
 -- What readers return for a port is what the model sees of it.
-use Rattle.std.proofs.Common.{◌≡◌, ◌∙◌, ℕ, suc, ◌+◌, ◌==◌, eqb, Bool, true, false, cond, Option, Some, None, List, [], ◌∷◌, refl, sym, ap, inl, inr, eqb-true, eq-eqb, arith}
+use Rattle.std.proofs.Common.{◌≡◌, ◌∙◌, ℕ, suc, ◌+◌, ◌==◌, eqb, Bool, true, false, cond, Option, Some, None, List, [], ◌∷◌, refl, sym}
+use Rattle.std.proofs.Common.{ap, inl, inr, eqb-true, eq-eqb, arith}
 use Rattle.std.specs.Prelude.{not, length, nat_lt, slice_get, option_map}
 use Rattle.std.specs.List.{position_or_len}
 use Rattle.std.proofs.lemmas.Bool.Decides.{nat_tests}
@@ -28,21 +29,25 @@ at_end i xs true e = refl
 at_end i xs false e = sym (slice_get_past xs i (grind (arith, nat_tests)))
 
 -- one step of the search, by the rest of it
-there_next : (n : ℕ) (x : SystemPort) (xs : List SystemPort) (rest : ℕ) (b : Bool) → slice_get xs rest ≡ find_number number_of_port xs n → (x.number == n) ≡ b
+there_next : (n : ℕ) (x : SystemPort) (xs : List SystemPort) (rest : ℕ) (b : Bool)
+    → slice_get xs rest ≡ find_number number_of_port xs n → (x.number == n) ≡ b
     → slice_get (x ∷ xs) (cond (not b) (1 + rest) 0) ≡ cond (eqb n x.number) (Some x) (find_number number_of_port xs n)
 there_next n x xs rest true ih e = sym (cond_true (eqb n x.number) (Some x) (find_number number_of_port xs n) (eqb_turned n x.number ∙ e))
 there_next n x xs rest false ih e =
     let one : 1 + rest ≡ suc rest = omega arith in
-    ap (slice_get (x ∷ xs)) one ∙ ih ∙ sym (cond_false (eqb n x.number) (Some x) (find_number number_of_port xs n) (eqb_turned n x.number ∙ e))
+    ap (slice_get (x ∷ xs)) one ∙ ih
+    ∙ sym (cond_false (eqb n x.number) (Some x) (find_number number_of_port xs n) (eqb_turned n x.number ∙ e))
 
 first_there : (n : ℕ) (xs : List SystemPort) → slice_get xs (position_or_len (λ s. s.number == n) xs) ≡ find_number number_of_port xs n
 first_there n [] = refl
 first_there n (x ∷ xs) = there_next n x xs (position_or_len (λ s. s.number == n) xs) (x.number == n) (first_there n xs) refl
 
 first_place : (n : ℕ) (xs : List SystemPort) → system_port_at (port_index n xs) xs ≡ find_number number_of_port xs n
-first_place n xs = at_end (position_or_len (λ s. s.number == n) xs) xs (nat_lt (position_or_len (λ s. s.number == n) xs) (length xs)) refl ∙ first_there n xs
+first_place n xs = at_end (position_or_len (λ s. s.number == n) xs) xs (nat_lt (position_or_len (λ s. s.number == n) xs) (length xs)) refl
+    ∙ first_there n xs
 
-mapped_twice : (o : Option SystemPort) → option_map (λ (s : SystemPort). model_port s.port) o ≡ option_map model_port (option_map (λ (s : SystemPort). s.port) o)
+mapped_twice : (o : Option SystemPort) → option_map (λ (s : SystemPort). model_port s.port) o ≡ option_map model_port
+    (option_map (λ (s : SystemPort). s.port) o)
 mapped_twice None = refl
 mapped_twice (Some s) = refl
 
@@ -52,7 +57,8 @@ port_seen s p =
     ap (option_map (λ (s : SystemPort). model_port s.port)) (sym (first_place p s.system_ports))
     ∙ mapped_twice (system_port_at (port_index p s.system_ports) s.system_ports)
 
-party_shown : (o : Option Machines) → option_map (λ (a : PortFacts). a.party) (option_map model_port o) ≡ option_map (λ (x : Machines). x.party) o
+party_shown : (o : Option Machines) → option_map (λ (a : PortFacts). a.party) (option_map model_port o) ≡ option_map
+    (λ (x : Machines). x.party) o
 party_shown None = refl
 party_shown (Some p) = refl
 

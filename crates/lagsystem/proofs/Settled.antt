@@ -22,10 +22,13 @@ use Rattle.lagsystem.proofs.Keeps.{Keeps, keeps_link, keeps_place, keeps_tick}
 abbrev pub moved_on : SystemState → List SystemPort → Table → SystemState
 moved_on s system_ports table = record s { first_marker = table.first; system_ports = system_ports; table = table }
 
-pub is_moved_on : (s : SystemState) (system_ports : List SystemPort) (t : Table) → t.first ≡ s.first_marker → moved_on s system_ports t ≡ with_table (with_system_ports s system_ports) t
+pub is_moved_on : (s : SystemState) (system_ports : List SystemPort) (t : Table) → t.first ≡ s.first_marker
+    → moved_on s system_ports t ≡ with_table (with_system_ports s system_ports) t
 is_moved_on s system_ports t h = λ i. record s { first_marker = h i; system_ports = system_ports; table = t }
 
-were_carried : (old mid : SystemState) (were : List (Option AggId)) → IsSound old → Keeps old mid → were ≡ aggregators_in_use old.system_ports → ((g k p : ℕ) → assignment_of mid.table g k ≡ On p → assignment_of old.table g k ≡ On p) → WereInUse were mid
+were_carried : (old mid : SystemState) (were : List (Option AggId)) → IsSound old → Keeps old mid
+    → were ≡ aggregators_in_use old.system_ports → ((g k p : ℕ) → assignment_of mid.table g k ≡ On p → assignment_of old.table g k ≡ On p)
+    → WereInUse were mid
 were_carried old mid were s k e c = record { old = old; sound = s; before = e; same = k.same; carried = c }
 
 -- a tick brings no conversation onto a port
@@ -39,14 +42,18 @@ ticked_on (Flushing q n preferred age) p e = waits (ltb (age + 1) 30) e
     waits true x = absurd cc
     waits false x = absurd cc
 
-pub tick_made : (old : SystemState) (olds ws news : List SystemPort) (t : Table) → olds ≡ old.system_ports → news ≡ ws → old.first_marker ≡ old.table.first → PortsChangeBy (λ p q. RunsToRest receive_rows (count_down p) q) olds ws → ChangesAssignments old.table t after_tick
+pub tick_made : (old : SystemState) (olds ws news : List SystemPort) (t : Table) → olds ≡ old.system_ports → news ≡ ws
+    → old.first_marker ≡ old.table.first → PortsChangeBy (λ p q. RunsToRest receive_rows (count_down p) q) olds ws
+    → ChangesAssignments old.table t after_tick
     → Ticks old (moved_on old news t)
 tick_made old olds ws news t e w f h c =
     let own : Machines → Machines → Type 0 = λ p q. RunsToRest receive_rows (count_down p) q in
     (subst (λ l. PortsChangeBy own l news) e (subst (λ l. PortsChangeBy own olds l) (sym w) h), c, is_moved_on old news t (c.first ∙ sym f))
 
-pub tick_carried : (old mid : SystemState) (were : List (Option AggId)) → IsSound old → Ticks old mid → were ≡ aggregators_in_use old.system_ports → WereInUse were mid
-tick_carried old mid were s h e = were_carried old mid were s (keeps_tick old mid h) e (λ g k p x. ticked_on (assignment_of old.table g k) p (sym (h.1.states g k) ∙ x))
+pub tick_carried : (old mid : SystemState) (were : List (Option AggId)) → IsSound old → Ticks old mid
+    → were ≡ aggregators_in_use old.system_ports → WereInUse were mid
+tick_carried old mid were s h e = were_carried old mid were s (keeps_tick old mid h) e
+    (λ g k p x. ticked_on (assignment_of old.table g k) p (sym (h.1.states g k) ∙ x))
 
 -- nor does a link that goes down
 down_on : (port : ℕ) (a : Assignment) (p : ℕ) → after_down port a ≡ On p → a ≡ On p
@@ -67,7 +74,8 @@ down_on port (Flushing q n preferred age) p e = free (eqb q port) e
     free true x = absurd cc
     free false x = x
 
-frees_on : (up : Bool) (port : ℕ) (t new : Table) → FreesIfDown up port t new → (g k p : ℕ) → assignment_of new g k ≡ On p → assignment_of t g k ≡ On p
+frees_on : (up : Bool) (port : ℕ) (t new : Table) → FreesIfDown up port t new → (g k p : ℕ) → assignment_of new g k ≡ On p
+    → assignment_of t g k ≡ On p
 frees_on true port t new h g k p e = sym (ap (λ (x : Table). assignment_of x g k) h) ∙ e
 frees_on false port t new h g k p e = down_on port (assignment_of t g k) p (sym (h.states g k) ∙ e)
 
@@ -75,17 +83,22 @@ frees_first : (up : Bool) (port : ℕ) (t new : Table) → FreesIfDown up port t
 frees_first true port t new h = ap (λ (x : Table). x.first) h
 frees_first false port t new h = h.first
 
-pub link_made : (n : ℕ) (up : Bool) (old : SystemState) (olds ws news : List SystemPort) (t : Table) → olds ≡ old.system_ports → news ≡ ws → old.first_marker ≡ old.table.first → PortAtChangesBy (SetsPortEnabled up) (port_index n olds) olds ws → FreesIfDown up n old.table t
+pub link_made : (n : ℕ) (up : Bool) (old : SystemState) (olds ws news : List SystemPort) (t : Table) → olds ≡ old.system_ports → news ≡ ws
+    → old.first_marker ≡ old.table.first → PortAtChangesBy (SetsPortEnabled up) (port_index n olds) olds ws → FreesIfDown up n old.table t
     → SetsLink n up old (moved_on old news t)
 link_made n up old olds ws news t e w f h c = (
-  subst (λ l. PortAtChangesBy (SetsPortEnabled up) (port_index n l) l news) e (subst (λ l. PortAtChangesBy (SetsPortEnabled up) (port_index n olds) olds l) (sym w) h),
+  subst (λ l. PortAtChangesBy (SetsPortEnabled up) (port_index n l) l news) e
+      (subst (λ l. PortAtChangesBy (SetsPortEnabled up) (port_index n olds) olds l) (sym w) h),
   c,
   is_moved_on old news t (frees_first up n old.table t c ∙ sym f),
 )
 
-pub link_carried : (n : ℕ) (up : Bool) (old mid : SystemState) (were : List (Option AggId)) → IsSound old → SetsLink n up old mid → were ≡ aggregators_in_use old.system_ports → WereInUse were mid
+pub link_carried : (n : ℕ) (up : Bool) (old mid : SystemState) (were : List (Option AggId)) → IsSound old → SetsLink n up old mid
+    → were ≡ aggregators_in_use old.system_ports → WereInUse were mid
 link_carried n up old mid were s h e = were_carried old mid were s (keeps_link n up old mid h) e (frees_on up n old.table mid.table h.1)
 
 -- one port goes on, and the conversations stay
-pub place_carried : (R : Machines → Machines → Type 0) (o : Option ℕ) (old mid : SystemState) (were : List (Option AggId)) → IsSound old → OnlyPortChangesBy o R old mid → were ≡ aggregators_in_use old.system_ports → WereInUse were mid
-place_carried R o old mid were s h e = were_carried old mid were s (keeps_place R o old mid h) e (λ g k p x. sym (ap (λ (y : SystemState). assignment_of y.table g k) h.1) ∙ x)
+pub place_carried : (R : Machines → Machines → Type 0) (o : Option ℕ) (old mid : SystemState) (were : List (Option AggId)) → IsSound old
+    → OnlyPortChangesBy o R old mid → were ≡ aggregators_in_use old.system_ports → WereInUse were mid
+place_carried R o old mid were s h e = were_carried old mid were s (keeps_place R o old mid h) e
+    (λ g k p x. sym (ap (λ (y : SystemState). assignment_of y.table g k) h.1) ∙ x)

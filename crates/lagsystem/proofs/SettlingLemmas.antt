@@ -1,5 +1,6 @@
 -- What settling does, from what its loops do.
-use Rattle.std.proofs.Common.{◌≡◌, ℕ, Bool, true, false, ◌||◌, ◌&&◌, cond, List, [], ◌∷◌, length, Option, Some, None, refl, sym, ◌∙◌, subst, ap, if◌then◌else◌, filter, slice_get, slice_set, ℕ, zero, suc}
+use Rattle.std.proofs.Common.{◌≡◌, ℕ, Bool, true, false, ◌||◌, ◌&&◌, cond, List, [], ◌∷◌, length, Option, Some, None, refl, sym, ◌∙◌}
+use Rattle.std.proofs.Common.{subst, ap, if◌then◌else◌, filter, slice_get, slice_set, ℕ, zero, suc}
 use Rattle.std.proofs.lemmas.Option.{same_Some}
 use Rattle.std.specs.List.{list_all, list_any}
 use Rattle.lagtypes.specs.declared.identifiers.AggId.{AggId}
@@ -16,7 +17,8 @@ use Rattle.selection.specs.Ready.{members}
 use Rattle.lagsystem.specs.declared.system_ports.SystemPort.{SystemPort}
 use Rattle.lagsystem.specs.Views.{selection_view, views}
 use Rattle.lagsystem.specs.State.{SystemState, with_system_ports}
-use Rattle.lagsystem.specs.Settling.{PortsChangeBy, PortChangesBy, SettlesPorts, after_choice_at, after_choices, with_choice, ready_of, aggregator_for}
+use Rattle.lagsystem.specs.Settling.{PortsChangeBy, PortChangesBy, SettlesPorts, after_choice_at, after_choices, with_choice, ready_of}
+use Rattle.lagsystem.specs.Settling.{aggregator_for}
 use Rattle.lagsystem.proofs.Lists.{AllZip-weaker}
 
 abbrev one_expired : List PortView → Bool
@@ -24,17 +26,20 @@ one_expired seen = list_any (λ v. has_waited v.stage) seen
 
 -- one of them waits, and each that does has waited long enough
 abbrev have_waited : List PortView → Bool
-have_waited seen = list_any (λ v. is_detached_or_waiting v.stage) seen && list_all (λ v. has_waited v.stage) (filter (λ v. is_detached_or_waiting v.stage) seen)
+have_waited seen = list_any (λ v. is_detached_or_waiting v.stage) seen
+    && list_all (λ v. has_waited v.stage) (filter (λ v. is_detached_or_waiting v.stage) seen)
 
 pub or_false : (b c : Bool) → (b || c) ≡ false → (b ≡ false) × (c ≡ false)
 or_false true c h = cc
 or_false false c h = (refl, h)
 
-none_filtered : (b : Bool) (v : PortView) (rest : List PortView) → has_waited v.stage ≡ false → one_expired rest ≡ false → one_expired (cond b (v ∷ rest) rest) ≡ false
+none_filtered : (b : Bool) (v : PortView) (rest : List PortView) → has_waited v.stage ≡ false → one_expired rest ≡ false
+    → one_expired (cond b (v ∷ rest) rest) ≡ false
 none_filtered true v rest h k = ap (λ x. x || one_expired rest) h ∙ k
 none_filtered false v rest h k = k
 
-none_given : (agg : AggId) (system_ports : List SystemPort) → list_any (λ s. has_waited (selection_view s).stage) system_ports ≡ false → one_expired (ports_that_chose agg (views system_ports)) ≡ false
+none_given : (agg : AggId) (system_ports : List SystemPort) → list_any (λ s. has_waited (selection_view s).stage) system_ports ≡ false
+    → one_expired (ports_that_chose agg (views system_ports)) ≡ false
 none_given agg [] h = refl
 none_given agg (s ∷ ss) h =
     let both = or_false (has_waited (selection_view s).stage) (list_any (λ s. has_waited (selection_view s).stage) ss) h in
@@ -46,7 +51,8 @@ none_known false xs h = refl
 
 first_has_not : (b : Bool) (v : PortView) (rest : List PortView) → has_waited v.stage ≡ false → have_waited rest ≡ false
     → ((b || list_any (λ w. is_detached_or_waiting w.stage) rest)
-    && list_all (λ w. has_waited w.stage) (cond b (v ∷ filter (λ w. is_detached_or_waiting w.stage) rest) (filter (λ w. is_detached_or_waiting w.stage) rest))) ≡ false
+    && list_all (λ w. has_waited w.stage)
+    (cond b (v ∷ filter (λ w. is_detached_or_waiting w.stage) rest) (filter (λ w. is_detached_or_waiting w.stage) rest))) ≡ false
 first_has_not true v rest h k = ap (λ x. x && list_all (λ w. has_waited w.stage) (filter (λ w. is_detached_or_waiting w.stage) rest)) h
 first_has_not false v rest h k = k
 
@@ -57,42 +63,63 @@ none_has_waited (v ∷ vs) h =
     first_has_not (is_detached_or_waiting v.stage) v vs both.0 (none_has_waited vs both.1)
 
 -- if no port has waited long enough, no aggregator is Ready
-pub no_ready : (keys : List Key) (system_ports : List SystemPort) → list_any (λ s. has_waited (selection_view s).stage) system_ports ≡ false → (c : Choice) → ready_of keys (views system_ports) c ≡ false
+pub no_ready : (keys : List Key) (system_ports : List SystemPort) → list_any (λ s. has_waited (selection_view s).stage) system_ports ≡ false
+    → (c : Choice) → ready_of keys (views system_ports) c ≡ false
 no_ready keys system_ports h Unselected = refl
 no_ready keys system_ports h (Selected agg) =
-    none_has_waited (members keys (views system_ports) agg) (none_known (is_aggregator keys agg) (ports_that_chose agg (views system_ports)) (none_given agg system_ports h))
+    none_has_waited (members keys (views system_ports) agg) (none_known (is_aggregator keys agg) (ports_that_chose agg (views system_ports))
+    (none_given agg system_ports h))
 
-pub runs_unready : (keys : List Key) (olds news : List SystemPort) → list_any (λ s. has_waited (selection_view s).stage) olds ≡ false → PortsChangeBy (RunsToRest (mux_rows false)) olds news
+pub runs_unready : (keys : List Key) (olds news : List SystemPort) → list_any (λ s. has_waited (selection_view s).stage) olds ≡ false
+    → PortsChangeBy (RunsToRest (mux_rows false)) olds news
     → PortsChangeBy (λ p q. RunsToRest (mux_rows (ready_of keys (views olds) p.choice)) p q) olds news
 runs_unready keys olds news none h =
-    AllZip-weaker (PortChangesBy (RunsToRest (mux_rows false))) (PortChangesBy (λ p q. RunsToRest (mux_rows (ready_of keys (views olds) p.choice)) p q))
+    AllZip-weaker (PortChangesBy (RunsToRest (mux_rows false)))
+    (PortChangesBy (λ p q. RunsToRest (mux_rows (ready_of keys (views olds) p.choice)) p q))
     (λ x y m. (m.0, subst (λ b. RunsToRest (mux_rows b) x.port y.port) (sym (no_ready keys olds none x.port.choice)) m.1)) olds news h
 
-pub settling_made : (base : SystemState) (keys : List Key) (system_ports one two four five : List SystemPort) → base.keys ≡ keys → base.system_ports ≡ system_ports
+pub settling_made : (base : SystemState) (keys : List Key) (system_ports one two four five : List SystemPort) → base.keys ≡ keys
+    → base.system_ports ≡ system_ports
     → PortsChangeBy (RunsToRest (mux_rows false)) system_ports one → two ≡ after_choices keys (length one) one
     → PortsChangeBy (λ p q. RunsToRest (mux_rows (ready_of keys (views two) p.choice)) p q) two four → PortsChangeBy RunsPeriodic four five
     → SettlesPorts base (with_system_ports base five)
 settling_made base keys system_ports one two four five ek es h1 h2 h4 h5 =
-    let k1 : PortsChangeBy (RunsToRest (mux_rows false)) base.system_ports one = subst (λ l. PortsChangeBy (RunsToRest (mux_rows false)) l one) (sym es) h1 in
+    let k1 : PortsChangeBy (RunsToRest (mux_rows false)) base.system_ports one =
+    subst (λ l. PortsChangeBy (RunsToRest (mux_rows false)) l one) (sym es) h1 in
     let k2 : two ≡ after_choices base.keys (length one) one = h2 ∙ ap (λ k. after_choices k (length one) one) (sym ek) in
     let k4 : PortsChangeBy (λ p q. RunsToRest (mux_rows (ready_of base.keys (views two) p.choice)) p q) two four =
-    subst (λ k. PortsChangeBy (λ p q. RunsToRest (mux_rows (ready_of k (views two) p.choice)) p q) two four) (sym ek) h4 in
-    (with_system_ports base one, (k1, refl), (with_system_ports base two, ap (with_system_ports base) k2, (with_system_ports base two, refl, (with_system_ports base four, (k4, refl), (with_system_ports base five, (h5, refl), refl)))))
+    subst (λ k. PortsChangeBy (λ p q. RunsToRest (mux_rows (ready_of k (views two) p.choice)) p q) two four) (sym ek) h4 in (
+      with_system_ports base one,
+      (k1, refl),
+      (
+        with_system_ports base two,
+        ap (with_system_ports base) k2,
+        (with_system_ports base two, refl, (with_system_ports base four, (k4, refl), (with_system_ports base five, (h5, refl), refl))),
+      ),
+    )
 
-pub set_same : (system_ports : List SystemPort) (i : ℕ) (s : SystemPort) → slice_get system_ports i ≡ Some s → slice_set system_ports i s ≡ system_ports
+pub set_same : (system_ports : List SystemPort) (i : ℕ) (s : SystemPort) → slice_get system_ports i ≡ Some s
+    → slice_set system_ports i s ≡ system_ports
 set_same [] i s e = refl
 set_same (x ∷ xs) zero s e = let same : x ≡ s = cc in cc
 set_same (x ∷ xs) (suc i) s e = ap (λ ys. x ∷ ys) (set_same xs i s e)
 
-pub none_taken : (keys : List Key) (system_ports : List SystemPort) (i : ℕ) (s : SystemPort) → slice_get system_ports i ≡ Some s → is_eligible (selection_view s) ≡ false → system_ports ≡ after_choice_at keys system_ports i (slice_get system_ports i)
+pub none_taken : (keys : List Key) (system_ports : List SystemPort) (i : ℕ) (s : SystemPort) → slice_get system_ports i ≡ Some s
+    → is_eligible (selection_view s) ≡ false → system_ports ≡ after_choice_at keys system_ports i (slice_get system_ports i)
 none_taken keys system_ports i s e h =
-    let none : aggregator_for keys system_ports s ≡ None = ap (λ b. if b then chosen_aggregator keys (views system_ports) s.number else None) h in
-    subst (λ o. system_ports ≡ after_choice_at keys system_ports i o) (sym e) (sym (ap (λ o. slice_set system_ports i (with_choice s o)) none ∙ set_same system_ports i s e))
+    let none : aggregator_for keys system_ports s ≡ None =
+    ap (λ b. if b then chosen_aggregator keys (views system_ports) s.number else None) h in
+    subst (λ o. system_ports ≡ after_choice_at keys system_ports i o) (sym e)
+    (sym (ap (λ o. slice_set system_ports i (with_choice s o)) none ∙ set_same system_ports i s e))
 
-pub one_taken : (keys : List Key) (system_ports : List SystemPort) (i : ℕ) (s t : SystemPort) (o : Option AggId) → slice_get system_ports i ≡ Some s → slice_get system_ports i ≡ Some t → is_eligible (selection_view s) ≡ true
-    → o ≡ chosen_aggregator keys (views system_ports) t.number → slice_set system_ports i (with_choice t o) ≡ after_choice_at keys system_ports i (slice_get system_ports i)
+pub one_taken : (keys : List Key) (system_ports : List SystemPort) (i : ℕ) (s t : SystemPort) (o : Option AggId)
+    → slice_get system_ports i ≡ Some s → slice_get system_ports i ≡ Some t → is_eligible (selection_view s) ≡ true
+    → o ≡ chosen_aggregator keys (views system_ports) t.number
+    → slice_set system_ports i (with_choice t o) ≡ after_choice_at keys system_ports i (slice_get system_ports i)
 one_taken keys system_ports i s t o e f h k =
     let same : s ≡ t = same_Some s t (sym e ∙ f) in
     let ok : is_eligible (selection_view t) ≡ true = subst (λ x. is_eligible (selection_view x) ≡ true) same h in
-    let what : aggregator_for keys system_ports t ≡ o = ap (λ b. if b then chosen_aggregator keys (views system_ports) t.number else None) ok ∙ sym k in
-    subst (λ p. slice_set system_ports i (with_choice t o) ≡ after_choice_at keys system_ports i p) (sym f) (sym (ap (λ p. slice_set system_ports i (with_choice t p)) what))
+    let what : aggregator_for keys system_ports t ≡ o =
+    ap (λ b. if b then chosen_aggregator keys (views system_ports) t.number else None) ok ∙ sym k in
+    subst (λ p. slice_set system_ports i (with_choice t o) ≡ after_choice_at keys system_ports i p) (sym f)
+    (sym (ap (λ p. slice_set system_ports i (with_choice t p)) what))

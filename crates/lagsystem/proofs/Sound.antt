@@ -31,14 +31,17 @@ first_sound s p h = record {
   carried = first_carried s h;
   rested = first_rested s h;
   windowed = first_three s h;
-  members = subst (λ (v : View). Members (model_setup s) v.port) (sym (first_shows s h)) (members_first (model_setup s) (configured_setup s));
+  members = subst (λ (v : View). Members (model_setup s) v.port) (sym (first_shows s h))
+      (members_first (model_setup s) (configured_setup s));
   quiet = first_quiet s p h;
 }
 
-pub joins : (gives : ℕ → ℕ → ℕ → Type 0) (old : SystemState) (call : Call) (answer : Reply) (new : SystemState) → Step gives old call answer new → IsSound old → JoinedByLawfulMoves old call answer new
+pub joins : (gives : ℕ → ℕ → ℕ → Type 0) (old : SystemState) (call : Call) (answer : Reply) (new : SystemState)
+    → Step gives old call answer new → IsSound old → JoinedByLawfulMoves old call answer new
 joins gives old call answer new h s = Step-joins gives old call answer new (ports_rise old s.ports) s.rested h
 
-pub Step-sound : (gives : ℕ → ℕ → ℕ → Type 0) (old : SystemState) (call : Call) (answer : Reply) (new : SystemState) → Step gives old call answer new → IsSound old → IsSound new
+pub Step-sound : (gives : ℕ → ℕ → ℕ → Type 0) (old : SystemState) (call : Call) (answer : Reply) (new : SystemState)
+    → Step gives old call answer new → IsSound old → IsSound new
 Step-sound gives old call answer new h s =
     let j = joins gives old call answer new h s in
     let kept = members_call (model_setup old) j.0 (model_view old) (model_view new) j.1 (configured_setup old) j.4 s.members in record {
@@ -66,11 +69,13 @@ agrees s h = record {
 }
 
 -- a single call keeps the window
-pub one_windowed : (gives : ℕ → ℕ → ℕ → Type 0) (old : SystemState) (call : Call) (answer : Reply) (new : SystemState) → Step gives old call answer new → IsSound old → KeepsTransmitLimit old (call ∷ []) (answer ∷ [])
+pub one_windowed : (gives : ℕ → ℕ → ℕ → Type 0) (old : SystemState) (call : Call) (answer : Reply) (new : SystemState)
+    → Step gives old call answer new → IsSound old → KeepsTransmitLimit old (call ∷ []) (answer ∷ [])
 one_windowed gives old call answer new h s = window_law gives old new (call ∷ []) (answer ∷ []) s.windowed (new, h, refl)
 
 -- a step of a sound system is what every call promises
-pub answers : (gives : ℕ → ℕ → ℕ → Type 0) (old : SystemState) (call : Call) (reply : Reply) (new : SystemState) → Step gives old call reply new → IsSound old → CallPromise gives old call reply new
+pub answers : (gives : ℕ → ℕ → ℕ → Type 0) (old : SystemState) (call : Call) (reply : Reply) (new : SystemState)
+    → Step gives old call reply new → IsSound old → CallPromise gives old call reply new
 answers gives old call reply new h s = record {
   step = h;
   moves = joins gives old call reply new h s;

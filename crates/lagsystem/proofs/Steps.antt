@@ -1,5 +1,6 @@
 -- Each call of a system is a list of lawful moves.
-use Rattle.std.proofs.Common.{◌≡◌, ℕ, ◌<◌, ◌^◌, ◌==◌, Bool, true, false, cond, Option, Some, None, Result, Ok, Err, List, [], ◌∷◌, length, refl, sym, ◌∙◌, subst, ap, inl, inr, IsSome}
+use Rattle.std.proofs.Common.{◌≡◌, ℕ, ◌<◌, ◌^◌, ◌==◌, Bool, true, false, cond, Option, Some, None, Result, Ok, Err, List, [], ◌∷◌}
+use Rattle.std.proofs.Common.{length, refl, sym, ◌∙◌, subst, ap, inl, inr, IsSome}
 use Rattle.std.specs.Prelude.{◌&&◌, if◌then◌else◌, is_some, ltb, nat_lt, slice_get, slice_set}
 use Rattle.std.proofs.lemmas.Bool.{and_parts, false≢true, ltb-true}
 use Rattle.std.proofs.lemmas.Slice.Eq.{bytes_eq-Decides}
@@ -31,7 +32,8 @@ use Rattle.distributor.specs.Calls.{force_result, move_result}
 use Rattle.distributor.specs.Changes.{ChangesAssignments, Marks, after_release, marker_due, wants_marker}
 use Rattle.distributor.specs.Conversations.{Table, count_conversations, next_identifier, assignment_of}
 use Rattle.distributor.specs.Moves.{model_distributor}
-use Rattle.distributor.proofs.MoveLemmas.{down_moves, force_moves, mark_moves, move_moves, release_moves, send_moves, tick_moves as conversations_tick}
+use Rattle.distributor.proofs.MoveLemmas.{down_moves, force_moves, mark_moves, move_moves, release_moves, send_moves}
+use Rattle.distributor.proofs.MoveLemmas.{tick_moves as conversations_tick}
 use Rattle.lagmodel.specs.View.{SystemSetup, DistributorFacts, Lacp, ControlMessage as Message, ModelCall as Told, Receive as Told_receive}
 use Rattle.lagmodel.specs.Move.{Act, Sends as Shows, Sends_frame, Took, LawfulMoves, PortMove, Move}
 use Rattle.lagmodel.proofs.Uses.{moves_joined}
@@ -48,10 +50,16 @@ use Rattle.lagsystem.specs.declared.drive.Reply.TheVariants as reply
 use Rattle.lagsystem.specs.declared.fault.SystemFault.{SystemFault}
 use Rattle.lagsystem.specs.declared.fault.SystemFault.TheVariants.{NoPort, NoAggregator}
 use Rattle.lagsystem.specs.Readers.{collecting, number_of_conversation, conversation_count, distributing}
-use Rattle.lagsystem.specs.Offers.{GivesOrRefuses, Offers, system_force_result, has_aggregator, in_system, or_not_assigned, system_move_result, assignment_of_frame}
+use Rattle.lagsystem.specs.Offers.{GivesOrRefuses, Offers, system_force_result, has_aggregator, in_system, or_not_assigned}
+use Rattle.lagsystem.specs.Offers.{system_move_result, assignment_of_frame}
 use Rattle.lagsystem.specs.Sending.{TransmitsAt, SendsLacpdu, SendsMarkerOf, TransmitsIf, own_marker}
-use Rattle.lagsystem.specs.Calls.{Call, Tick, Set_link, Receive, Configure, Restart, Transmit, Offer, Move_conversation, Force, Ticks, AnswersMarker, SetsPortEnabled, ChangesParty, Performs, ReceivedFrame, Runt, Data_frame, Faulty, Carries, FreesIfDown, ParsesWhere, IsFrame, SetsLink, GivesEffect, PortAtChangesBy, OnlyPortChangesBy, Releases, ThenSettles, ProcessesLacpdu, up_or_dropped, is_own_response, Step}
-use Rattle.lagsystem.specs.ModelView.{JoinedByLawfulMoves, EffectsSeenAs, CallSeenAs, selected_number, can_receive, model_setup, lacp_message, marker_message, number_of_port, control_message, model_port, mux_consistent, can_receive_in, model_view_at, model_view, PortsConsistent}
+use Rattle.lagsystem.specs.Calls.{Call, Tick, Set_link, Receive, Configure, Restart, Transmit, Offer, Move_conversation, Force, Ticks}
+use Rattle.lagsystem.specs.Calls.{AnswersMarker, SetsPortEnabled, ChangesParty, Performs, ReceivedFrame, Runt, Data_frame, Faulty}
+use Rattle.lagsystem.specs.Calls.{Carries, FreesIfDown, ParsesWhere, IsFrame, SetsLink, GivesEffect, PortAtChangesBy, OnlyPortChangesBy}
+use Rattle.lagsystem.specs.Calls.{Releases, ThenSettles, ProcessesLacpdu, up_or_dropped, is_own_response, Step}
+use Rattle.lagsystem.specs.ModelView.{JoinedByLawfulMoves, EffectsSeenAs, CallSeenAs, selected_number, can_receive, model_setup}
+use Rattle.lagsystem.specs.ModelView.{lacp_message, marker_message, number_of_port, control_message, model_port, mux_consistent}
+use Rattle.lagsystem.specs.ModelView.{can_receive_in, model_view_at, model_view, PortsConsistent}
 use Rattle.lagsystem.specs.State.{port_numbers}
 use Rattle.lagsystem.proofs.Conversing.{assigned_may, carrying_moves, leaving_moves, table_moves}
 use Rattle.lagsystem.proofs.Keeps.{Keeps, keeps_each, keeps_link, keeps_place, keeps_tick, ports_keep, ports_table, settling_parts}
@@ -65,11 +73,14 @@ use Rattle.lagsystem.proofs.Effects.{tick_moves, links_moves, taking_moves, conf
 use Rattle.lagsystem.proofs.Choose.{Fits, chosen_moves}
 
 -- each port moves
-each_moves : (u : SystemSetup) (call : Told) (f : DistributorFacts) (R : Machines → Machines → Type 0) → ((n : ℕ) (p q : Machines) → R p q → QuietMoves u call n p [] q)
-    → (olds news : List SystemPort) → Rises 0 (port_numbers olds) → PortsChangeBy R olds news → LawfulMoves u call (model_view_at f olds) [] (model_view_at f news)
+each_moves : (u : SystemSetup) (call : Told) (f : DistributorFacts) (R : Machines → Machines → Type 0)
+    → ((n : ℕ) (p q : Machines) → R p q → QuietMoves u call n p [] q)
+    → (olds news : List SystemPort) → Rises 0 (port_numbers olds) → PortsChangeBy R olds news
+    → LawfulMoves u call (model_view_at f olds) [] (model_view_at f news)
 each_moves u call f R k olds news r h =
     all_slots_move u call f olds news (are_numbered 0 olds r)
-    (AllZip-weaker (PortChangesBy R) (SlotMoves u call) (λ x y m. (ap number_of_port m.0, loudly u call x.number x.port y.port [] (k x.number x.port y.port m.1))) olds news h)
+    (AllZip-weaker (PortChangesBy R) (SlotMoves u call)
+    (λ x y m. (ap number_of_port m.0, loudly u call x.number x.port y.port [] (k x.number x.port y.port m.1))) olds news h)
 
 rising : (s t : SystemState) → Keeps s t → Rises 0 (port_numbers s.system_ports) → Rises 0 (port_numbers t.system_ports)
 rising s t k r = subst (λ ns. Rises 0 ns) (sym k.same) r
@@ -78,7 +89,9 @@ fitting : (u : SystemSetup) (s t : SystemState) → Keeps s t → Fits u s.keys 
 fitting u s t k fits = subst (λ (x : SystemState). Fits u x.keys) (sym k.frame) fits
 
 -- the steps of settling that look at ports alone
-ports_moves : (u : SystemSetup) (call : Told) (f : DistributorFacts) (old new : SystemState) → Fits u old.keys → Rises 0 (port_numbers old.system_ports) → SettlesPorts old new → LawfulMoves u call (model_view_at f old.system_ports) [] (model_view_at f new.system_ports)
+ports_moves : (u : SystemSetup) (call : Told) (f : DistributorFacts) (old new : SystemState) → Fits u old.keys
+    → Rises 0 (port_numbers old.system_ports) → SettlesPorts old new
+    → LawfulMoves u call (model_view_at f old.system_ports) [] (model_view_at f new.system_ports)
 ports_moves u call f old new fits r h =
     let one = h.0 in
     let two = h.2.0 in
@@ -89,33 +102,46 @@ ports_moves u call f old new fits r h =
     let ready : Machines → Machines → Type 0 = λ p q. RunsToRest (mux_rows (ready_of three.keys (views three.system_ports) p.choice)) p q in
     let k1 : Keeps old one = keeps_each free old one h.1 in
     let r1 = rising old one k1 r in
-    let m1 = each_moves u call f free (λ n p q x. settles_moves u call n (mux_rows false) (mux_moves u call n false) p q x) old.system_ports one.system_ports r h.1.0 in
+    let m1 = each_moves u call f free (λ n p q x. settles_moves u call n (mux_rows false) (mux_moves u call n false) p q x) old.system_ports
+    one.system_ports r h.1.0 in
     let m2 = chosen_moves u call f one.keys one.system_ports (length one.system_ports) (fitting u old one k1 fits) r1 in
     let there : three ≡ two = h.2.2.1 in
-    let m3 : LawfulMoves u call (model_view_at f one.system_ports) [] (model_view_at f three.system_ports) = subst (λ (s : SystemState). LawfulMoves u call (model_view_at f one.system_ports) [] (model_view_at f s.system_ports)) (sym (there ∙ h.2.1)) m2 in
+    let m3 : LawfulMoves u call (model_view_at f one.system_ports) [] (model_view_at f three.system_ports) =
+    subst (λ (s : SystemState). LawfulMoves u call (model_view_at f one.system_ports) [] (model_view_at f s.system_ports))
+    (sym (there ∙ h.2.1)) m2 in
     let last : new ≡ five = h.2.2.2.2.2 in
-    let n5 : port_numbers five.system_ports ≡ port_numbers old.system_ports = ap (λ (s : SystemState). port_numbers s.system_ports) (sym last) ∙ (ports_keep old new h).same in
+    let n5 : port_numbers five.system_ports ≡ port_numbers old.system_ports = ap (λ (s : SystemState). port_numbers s.system_ports)
+    (sym last) ∙ (ports_keep old new h).same in
     let k5 : Keeps four five = keeps_each RunsPeriodic four five h.2.2.2.2.1 in
     let k4 : Keeps three four = keeps_each ready three four h.2.2.2.1 in
     let r4 : Rises 0 (port_numbers four.system_ports) = subst (λ ns. Rises 0 ns) (sym (sym k5.same ∙ n5)) r in
     let r3 : Rises 0 (port_numbers three.system_ports) = subst (λ ns. Rises 0 ns) (sym (sym k4.same ∙ sym k5.same ∙ n5)) r in
-    let m4 = each_moves u call f ready (λ n p q x. let b = ready_of three.keys (views three.system_ports) p.choice in settles_moves u call n (mux_rows b) (mux_moves u call n b) p q x) three.system_ports four.system_ports r3 h.2.2.2.1.0 in
-    let m5 = each_moves u call f RunsPeriodic (λ n p q x. runs_periodic_moves u call n p q x) four.system_ports five.system_ports r4 h.2.2.2.2.1.0 in
-    let all = moves_joined u call (model_view_at f old.system_ports) (model_view_at f one.system_ports) (model_view_at f five.system_ports) [] [] m1
-    (moves_joined u call (model_view_at f one.system_ports) (model_view_at f three.system_ports) (model_view_at f five.system_ports) [] [] m3
-    (moves_joined u call (model_view_at f three.system_ports) (model_view_at f four.system_ports) (model_view_at f five.system_ports) [] [] m4 m5)) in
+    let m4 = each_moves u call f ready (λ n p q x. let b = ready_of three.keys (views three.system_ports) p.choice in settles_moves u call n
+    (mux_rows b) (mux_moves u call n b) p q x) three.system_ports four.system_ports r3 h.2.2.2.1.0 in
+    let m5 = each_moves u call f RunsPeriodic (λ n p q x. runs_periodic_moves u call n p q x) four.system_ports
+    five.system_ports r4 h.2.2.2.2.1.0 in
+    let all = moves_joined u call (model_view_at f old.system_ports) (model_view_at f one.system_ports)
+    (model_view_at f five.system_ports) [] [] m1
+    (moves_joined u call (model_view_at f one.system_ports) (model_view_at f three.system_ports)
+    (model_view_at f five.system_ports) [] [] m3
+    (moves_joined u call (model_view_at f three.system_ports) (model_view_at f four.system_ports)
+    (model_view_at f five.system_ports) [] [] m4 m5)) in
     subst (λ (s : SystemState). LawfulMoves u call (model_view_at f old.system_ports) [] (model_view_at f s.system_ports)) (sym last) all
 
 -- settling
-pub settling_moves : (u : SystemSetup) (call : Told) (old new : SystemState) → Fits u old.keys → Rises 0 (port_numbers old.system_ports) → Settling old new → LawfulMoves u call (model_view old) [] (model_view new)
+pub settling_moves : (u : SystemSetup) (call : Told) (old new : SystemState) → Fits u old.keys → Rises 0 (port_numbers old.system_ports)
+    → Settling old new → LawfulMoves u call (model_view old) [] (model_view new)
 settling_moves u call old new fits r h =
     let p = settling_parts old new h in
     let f = model_distributor old.table in
-    let ports = subst (λ (t : Table). LawfulMoves u call (model_view old) [] (model_view_at (model_distributor t) p.0.system_ports)) (sym (ports_table old p.0 p.1)) (ports_moves u call f old p.0 fits r p.1) in
+    let ports = subst (λ (t : Table). LawfulMoves u call (model_view old) [] (model_view_at (model_distributor t) p.0.system_ports))
+    (sym (ports_table old p.0 p.1)) (ports_moves u call f old p.0 fits r p.1) in
     moves_joined u call (model_view old) (model_view p.0) (model_view new) [] [] ports (leaving_moves u call p.0 new p.2)
 
-settled_moves : (u : SystemSetup) (call : Told) (own : SystemState → SystemState → Type 0) (seen : List Act) (s t : SystemState) → Fits u s.keys → Rises 0 (port_numbers s.system_ports)
-    → ((mid : SystemState) → own s mid → Keeps s mid) → ((mid : SystemState) → own s mid → LawfulMoves u call (model_view s) seen (model_view mid))
+settled_moves : (u : SystemSetup) (call : Told) (own : SystemState → SystemState → Type 0) (seen : List Act) (s t : SystemState)
+    → Fits u s.keys → Rises 0 (port_numbers s.system_ports)
+    → ((mid : SystemState) → own s mid → Keeps s mid)
+    → ((mid : SystemState) → own s mid → LawfulMoves u call (model_view s) seen (model_view mid))
     → ThenSettles own s t → LawfulMoves u call (model_view s) seen (model_view t)
 settled_moves u call own seen s t fits r keeps moves h =
     let k = keeps h.0 h.1 in
@@ -124,28 +150,43 @@ settled_moves u call own seen s t fits r keeps moves h =
     (settling_moves u call h.0 t (fitting u s h.0 k fits) (rising s h.0 k r) h.2))
 
 -- ports alone
-slots_moved : (u : SystemSetup) (call : Told) (seen : List Act) (old mid : SystemState) → mid ≡ with_system_ports old mid.system_ports → LawfulMoves u call (model_view old) seen (model_view_at (model_distributor old.table) mid.system_ports) → LawfulMoves u call (model_view old) seen (model_view mid)
-slots_moved u call seen old mid e h = subst (λ (t : Table). LawfulMoves u call (model_view old) seen (model_view_at (model_distributor t) mid.system_ports)) (sym (ap (λ (s : SystemState). s.table) e)) h
+slots_moved : (u : SystemSetup) (call : Told) (seen : List Act) (old mid : SystemState) → mid ≡ with_system_ports old mid.system_ports
+    → LawfulMoves u call (model_view old) seen (model_view_at (model_distributor old.table) mid.system_ports)
+    → LawfulMoves u call (model_view old) seen (model_view mid)
+slots_moved u call seen old mid e h =
+    subst (λ (t : Table). LawfulMoves u call (model_view old) seen (model_view_at (model_distributor t) mid.system_ports))
+    (sym (ap (λ (s : SystemState). s.table) e)) h
 
 -- conversations alone
-table_moved : (u : SystemSetup) (call : Told) (seen : List Act) (old new : SystemState) → new ≡ with_table old new.table → LawfulMoves u call (model_view old) seen (model_view_at (model_distributor new.table) old.system_ports) → LawfulMoves u call (model_view old) seen (model_view new)
-table_moved u call seen old new e h = subst (λ (l : List SystemPort). LawfulMoves u call (model_view old) seen (model_view_at (model_distributor new.table) l)) (sym (ap (λ (s : SystemState). s.system_ports) e)) h
+table_moved : (u : SystemSetup) (call : Told) (seen : List Act) (old new : SystemState) → new ≡ with_table old new.table
+    → LawfulMoves u call (model_view old) seen (model_view_at (model_distributor new.table) old.system_ports)
+    → LawfulMoves u call (model_view old) seen (model_view new)
+table_moved u call seen old new e h =
+    subst (λ (l : List SystemPort). LawfulMoves u call (model_view old) seen (model_view_at (model_distributor new.table) l))
+    (sym (ap (λ (s : SystemState). s.system_ports) e)) h
 
 -- the port at the place of a number has that number
 -- the port with a number moves
-one_moves : (u : SystemSetup) (call : Told) (f : DistributorFacts) (n i : ℕ) (system_ports : List SystemPort) (s : SystemPort) (q : Machines) (seen : List Act) → Rises 0 (port_numbers system_ports) → port_index n system_ports ≡ Some i → slice_get system_ports i ≡ Some s
-    → QuietMoves u call n s.port seen q → LawfulMoves u call (model_view_at f system_ports) seen (model_view_at f (slice_set system_ports i (record s { port = q })))
+one_moves : (u : SystemSetup) (call : Told) (f : DistributorFacts) (n i : ℕ) (system_ports : List SystemPort) (s : SystemPort)
+    (q : Machines) (seen : List Act) → Rises 0 (port_numbers system_ports) → port_index n system_ports ≡ Some i
+    → slice_get system_ports i ≡ Some s
+    → QuietMoves u call n s.port seen q
+    → LawfulMoves u call (model_view_at f system_ports) seen (model_view_at f (slice_set system_ports i (record s { port = q })))
 one_moves u call f n i system_ports s q seen r e h k =
     let same : s.number ≡ n = found_place n system_ports i s e h in
     let loud : PortMoves u call n (model_port s.port) seen (model_port q) = loudly u call n s.port q seen k in
-    slot_moves u call f system_ports i s (record s { port = q }) seen (are_numbered 0 system_ports r) h refl (subst (λ m. PortMoves u call m (model_port s.port) seen (model_port q)) (sym same) loud)
+    slot_moves u call f system_ports i s (record s { port = q }) seen (are_numbered 0 system_ports r) h refl
+    (subst (λ m. PortMoves u call m (model_port s.port) seen (model_port q)) (sym same) loud)
 
-place_moves : (u : SystemSetup) (call : Told) (f : DistributorFacts) (R : Machines → Machines → Type 0) (n : ℕ) (old new : List SystemPort) (seen : List Act) → Rises 0 (port_numbers old)
+place_moves : (u : SystemSetup) (call : Told) (f : DistributorFacts) (R : Machines → Machines → Type 0) (n : ℕ) (old new : List SystemPort)
+    (seen : List Act) → Rises 0 (port_numbers old)
     → ((s : SystemPort) (q : Machines) (i : ℕ) → slice_get old i ≡ Some s → R s.port q → QuietMoves u call n s.port seen q)
-    → (o : Option ℕ) → port_index n old ≡ o → PortAtChangesBy R o old new → LawfulMoves u call (model_view_at f old) seen (model_view_at f new)
+    → (o : Option ℕ) → port_index n old ≡ o → PortAtChangesBy R o old new
+    → LawfulMoves u call (model_view_at f old) seen (model_view_at f new)
 place_moves u call f R n old new seen r k None e h = absurd h
 place_moves u call f R n old new seen r k (Some i) e h =
-    subst (λ l. LawfulMoves u call (model_view_at f old) seen (model_view_at f l)) (sym h.4) (one_moves u call f n i old h.0 h.1 seen r e h.2 (k h.0 h.1 i h.2 h.3))
+    subst (λ l. LawfulMoves u call (model_view_at f old) seen (model_view_at f l)) (sym h.4)
+    (one_moves u call f n i old h.0 h.1 seen r e h.2 (k h.0 h.1 i h.2 h.3))
 
 -- an LACPDU is taken if the link is enabled
 where_awake : (b x : Bool) → b ≡ true → (if b then x else true) ≡ true → x ≡ true
@@ -164,7 +205,9 @@ takes_moves : (u : SystemSetup) (n : ℕ) (v : Lacpdu) (p q : Machines) → p.en
     → QuietMoves u (Told_receive n (Some (Lacp (lacp_message v)))) n p (Took n (lacp_message v) ∷ []) q
 takes_moves u n v p q e a h = elim h [
   | inl f ↦ taking_moves u n v p q f
-  | inr r ↦ absurd (clash (can_receive_in p.receive && p.enabled) (both (can_receive_in p.receive) p.enabled (where_awake p.enabled (can_receive_in p.receive) e a) e) r.0.0)
+  | inr r ↦ absurd
+      (clash (can_receive_in p.receive && p.enabled)
+      (both (can_receive_in p.receive) p.enabled (where_awake p.enabled (can_receive_in p.receive) e a) e) r.0.0)
 ]
 
 -- a port that says synchronized is a member
@@ -199,18 +242,21 @@ abbrev response_or : Marker → FrameEffect → Marker
 response_or d (Response m) = m
 response_or d effect = d
 
-taken_by : (system_port : SystemPort) (octets : List ℕ) (v : Lacpdu) (frame : ReceivedFrame) → IsFrame octets frame → GivesEffect system_port frame (ProcessLacpdu v) → IsFrame octets (Carries (pdu.Lacpdu v))
+taken_by : (system_port : SystemPort) (octets : List ℕ) (v : Lacpdu) (frame : ReceivedFrame) → IsFrame octets frame
+    → GivesEffect system_port frame (ProcessLacpdu v) → IsFrame octets (Carries (pdu.Lacpdu v))
 taken_by system_port octets v Runt h m = absurd (not_both v Dropped m)
 taken_by system_port octets v Data_frame h m = absurd (not_both v (up_or_dropped (collecting system_port.port)) m)
 taken_by system_port octets v (Faulty fault) h m = absurd (not_both v (Ignored fault) m)
-taken_by system_port octets v (Carries (pdu.Lacpdu w)) h m = subst (λ x. IsFrame octets (Carries (pdu.Lacpdu x))) (sym (ap (taken_or v) m)) h
+taken_by system_port octets v (Carries (pdu.Lacpdu w)) h m = subst (λ x. IsFrame octets (Carries (pdu.Lacpdu x)))
+    (sym (ap (taken_or v) m)) h
 taken_by system_port octets v (Carries (pdu.Marker m)) h k = absurd (no_marker (answer_of m.kind m) k)
   where
     no_marker : (o : Option Marker) → AnswersMarker system_port.mac m o (ProcessLacpdu v) → ⊥
     no_marker None e = not_taken v m e
     no_marker (Some answer) e = not_both v _ e.3
 
-heard_taken : (system_port : SystemPort) (octets : List ℕ) (v : Lacpdu) (b : Bool) → ParsesWhere b system_port octets (ProcessLacpdu v) → (b ≡ true) × IsFrame octets (Carries (pdu.Lacpdu v))
+heard_taken : (system_port : SystemPort) (octets : List ℕ) (v : Lacpdu) (b : Bool) → ParsesWhere b system_port octets (ProcessLacpdu v)
+    → (b ≡ true) × IsFrame octets (Carries (pdu.Lacpdu v))
 heard_taken system_port octets v false h = absurd (not_both v Disabled h)
 heard_taken system_port octets v true h = (refl, taken_by system_port octets v h.0 h.1 h.2)
 
@@ -218,11 +264,13 @@ heard_taken system_port octets v true h = (refl, taken_by system_port octets v h
 not_marked : (m : Marker) (r : Received) → Response m ≡ Answered r → ⊥
 not_marked m r e = not_answered r m (sym e)
 
-is_response : (k : MarkerKind) (m w : Marker) (mac : List ℕ) → m.kind ≡ k → AnswersMarker mac m (answer_of k m) (Response w) → (w ≡ m) × (m.kind ≡ kind.Response)
+is_response : (k : MarkerKind) (m w : Marker) (mac : List ℕ) → m.kind ≡ k → AnswersMarker mac m (answer_of k m) (Response w) → (w ≡ m)
+    × (m.kind ≡ kind.Response)
 is_response kind.Response m w mac e h = (ap (response_or w) h, e)
 is_response kind.Information m w mac e h = absurd (not_marked w _ h.3)
 
-response_by : (system_port : SystemPort) (octets : List ℕ) (w : Marker) (frame : ReceivedFrame) → IsFrame octets frame → GivesEffect system_port frame (Response w) → IsFrame octets (Carries (pdu.Marker w)) × (w.kind ≡ kind.Response)
+response_by : (system_port : SystemPort) (octets : List ℕ) (w : Marker) (frame : ReceivedFrame) → IsFrame octets frame
+    → GivesEffect system_port frame (Response w) → IsFrame octets (Carries (pdu.Marker w)) × (w.kind ≡ kind.Response)
 response_by system_port octets w Runt h m = absurd (not_marked w Dropped m)
 response_by system_port octets w Data_frame h m = absurd (not_marked w (up_or_dropped (collecting system_port.port)) m)
 response_by system_port octets w (Faulty fault) h m = absurd (not_marked w (Ignored fault) m)
@@ -231,32 +279,47 @@ response_by system_port octets w (Carries (pdu.Marker m)) h a =
     let x = is_response m.kind m w system_port.mac refl a in
     (subst (λ y. IsFrame octets (Carries (pdu.Marker y))) (sym x.0) h, ap (λ (y : Marker). y.kind) x.0 ∙ x.1)
 
-heard_response : (system_port : SystemPort) (octets : List ℕ) (w : Marker) (b : Bool) → ParsesWhere b system_port octets (Response w) → IsFrame octets (Carries (pdu.Marker w)) × (w.kind ≡ kind.Response)
+heard_response : (system_port : SystemPort) (octets : List ℕ) (w : Marker) (b : Bool) → ParsesWhere b system_port octets (Response w)
+    → IsFrame octets (Carries (pdu.Marker w)) × (w.kind ≡ kind.Response)
 heard_response system_port octets w false h = absurd (not_marked w Disabled h)
 heard_response system_port octets w true h = response_by system_port octets w h.0 h.1 h.2
 
 -- an answer, without effect
 abbrev Tellable : SystemState → SystemSetup → DistributorFacts → ℕ → List ℕ → List SystemPort → Received → Type 0
 Tellable w u f n octets system_ports answer =
-    (told : Told) × (seen : List Act) × CallSeenAs (Receive n octets) told × EffectsSeenAs w (Receive n octets) (reply.Receive (Ok answer)) seen × LawfulMoves u told (model_view_at f system_ports) seen (model_view_at f system_ports)
+    (told : Told) × (seen : List Act) × CallSeenAs (Receive n octets) told
+    × EffectsSeenAs w (Receive n octets) (reply.Receive (Ok answer)) seen
+    × LawfulMoves u told (model_view_at f system_ports) seen (model_view_at f system_ports)
 
-silent : (w : SystemState) (u : SystemSetup) (f : DistributorFacts) (n : ℕ) (octets : List ℕ) (system_ports : List SystemPort) (answer : Received) → EffectsSeenAs w (Receive n octets) (reply.Receive (Ok answer)) [] → Tellable w u f n octets system_ports answer
+silent : (w : SystemState) (u : SystemSetup) (f : DistributorFacts) (n : ℕ) (octets : List ℕ) (system_ports : List SystemPort)
+    (answer : Received) → EffectsSeenAs w (Receive n octets) (reply.Receive (Ok answer)) [] → Tellable w u f n octets system_ports answer
 silent w u f n octets system_ports answer s = (Told_receive n None, [], (None, tt, refl), s, ([], tt, refl, refl))
 
-handed_silently : (w : SystemState) (u : SystemSetup) (f : DistributorFacts) (n : ℕ) (octets : List ℕ) (system_ports : List SystemPort) (o : Option AggId) → Tellable w u f n octets system_ports (up_or_dropped o)
+handed_silently : (w : SystemState) (u : SystemSetup) (f : DistributorFacts) (n : ℕ) (octets : List ℕ) (system_ports : List SystemPort)
+    (o : Option AggId) → Tellable w u f n octets system_ports (up_or_dropped o)
 handed_silently w u f n octets system_ports None = silent w u f n octets system_ports Dropped refl
 handed_silently w u f n octets system_ports (Some agg) = silent w u f n octets system_ports (Up agg) refl
 
 -- a marker is answered
-responds : (w : SystemState) (u : SystemSetup) (f : DistributorFacts) (n i : ℕ) (octets : List ℕ) (system_ports : List SystemPort) (system_port : SystemPort) (m : Marker) (k : MarkerKind) (answer : Received) → Rises 0 (port_numbers system_ports) → port_index n system_ports ≡ Some i → slice_get system_ports i ≡ Some system_port
-    → m.kind ≡ k → IsFrame octets (Carries (pdu.Marker m)) → AnswersMarker system_port.mac m (answer_of k m) (Answered answer) → Tellable w u f n octets system_ports answer
+responds : (w : SystemState) (u : SystemSetup) (f : DistributorFacts) (n i : ℕ) (octets : List ℕ) (system_ports : List SystemPort)
+    (system_port : SystemPort) (m : Marker) (k : MarkerKind) (answer : Received) → Rises 0 (port_numbers system_ports)
+    → port_index n system_ports ≡ Some i → slice_get system_ports i ≡ Some system_port
+    → m.kind ≡ k → IsFrame octets (Carries (pdu.Marker m)) → AnswersMarker system_port.mac m (answer_of k m) (Answered answer)
+    → Tellable w u f n octets system_ports answer
 responds w u f n i octets system_ports system_port m kind.Response answer r e g is h a = absurd (not_answered answer m a)
 responds w u f n i octets system_ports system_port m kind.Information answer r e g is h a =
     let call = Told_receive n (Some (Message.Marker m.system m.port m.id)) in
     let seen : List Act = Shows n (Message.Response m.system m.port m.id) ∷ [] in
     let brought : Message.Marker m.system m.port m.id ≡ marker_message m.kind m = ap (λ k. marker_message k m) (sym is) in
-    let moves = one_moves u call f n i system_ports system_port system_port.port seen r e g (PortMove.Respond m.system m.port m.id ∷ [], (λ ports. refl, tt), refl, refl) in
-    let same : slice_set system_ports i (record system_port { port = system_port.port }) ≡ system_ports = set_same system_ports i system_port g in
+    let moves = one_moves u call f n i system_ports system_port system_port.port seen r e g (
+      PortMove.Respond m.system m.port m.id
+          ∷ [],
+      (λ ports. refl, tt),
+      refl,
+      refl,
+    ) in
+    let same : slice_set system_ports i (record system_port { port = system_port.port }) ≡ system_ports =
+    set_same system_ports i system_port g in
     subst (Tellable w u f n octets system_ports) (sym (ap (answer_or answer) a.3)) (
       call,
       seen,
@@ -265,21 +328,32 @@ responds w u f n i octets system_ports system_port m kind.Information answer r e
       subst (λ l. LawfulMoves u call (model_view_at f system_ports) seen (model_view_at f l)) same moves,
     )
 
-answered_by : (w : SystemState) (u : SystemSetup) (f : DistributorFacts) (n i : ℕ) (octets : List ℕ) (system_ports : List SystemPort) (system_port : SystemPort) (answer : Received) (frame : ReceivedFrame) → Rises 0 (port_numbers system_ports) → port_index n system_ports ≡ Some i → slice_get system_ports i ≡ Some system_port
+answered_by : (w : SystemState) (u : SystemSetup) (f : DistributorFacts) (n i : ℕ) (octets : List ℕ) (system_ports : List SystemPort)
+    (system_port : SystemPort) (answer : Received) (frame : ReceivedFrame) → Rises 0 (port_numbers system_ports)
+    → port_index n system_ports ≡ Some i → slice_get system_ports i ≡ Some system_port
     → IsFrame octets frame → GivesEffect system_port frame (Answered answer) → Tellable w u f n octets system_ports answer
-answered_by w u f n i octets system_ports system_port answer Runt r e g h m = subst (Tellable w u f n octets system_ports) (sym (ap (answer_or answer) m)) (silent w u f n octets system_ports Dropped refl)
-answered_by w u f n i octets system_ports system_port answer Data_frame r e g h m = subst (Tellable w u f n octets system_ports) (sym (ap (answer_or answer) m)) (handed_silently w u f n octets system_ports (collecting system_port.port))
-answered_by w u f n i octets system_ports system_port answer (Faulty fault) r e g h m = subst (Tellable w u f n octets system_ports) (sym (ap (answer_or answer) m)) (silent w u f n octets system_ports (Ignored fault) refl)
+answered_by w u f n i octets system_ports system_port answer Runt r e g h m = subst (Tellable w u f n octets system_ports)
+    (sym (ap (answer_or answer) m)) (silent w u f n octets system_ports Dropped refl)
+answered_by w u f n i octets system_ports system_port answer Data_frame r e g h m = subst (Tellable w u f n octets system_ports)
+    (sym (ap (answer_or answer) m)) (handed_silently w u f n octets system_ports (collecting system_port.port))
+answered_by w u f n i octets system_ports system_port answer (Faulty fault) r e g h m = subst (Tellable w u f n octets system_ports)
+    (sym (ap (answer_or answer) m)) (silent w u f n octets system_ports (Ignored fault) refl)
 answered_by w u f n i octets system_ports system_port answer (Carries (pdu.Lacpdu v)) r e g h m = absurd (not_both v answer (sym m))
-answered_by w u f n i octets system_ports system_port answer (Carries (pdu.Marker m)) r e g h a = responds w u f n i octets system_ports system_port m m.kind answer r e g refl h a
+answered_by w u f n i octets system_ports system_port answer (Carries (pdu.Marker m)) r e g h a = responds w u f n i octets system_ports
+    system_port m m.kind answer r e g refl h a
 
-heard_answer : (w : SystemState) (u : SystemSetup) (f : DistributorFacts) (n i : ℕ) (octets : List ℕ) (system_ports : List SystemPort) (system_port : SystemPort) (answer : Received) (b : Bool) → Rises 0 (port_numbers system_ports) → port_index n system_ports ≡ Some i → slice_get system_ports i ≡ Some system_port
+heard_answer : (w : SystemState) (u : SystemSetup) (f : DistributorFacts) (n i : ℕ) (octets : List ℕ) (system_ports : List SystemPort)
+    (system_port : SystemPort) (answer : Received) (b : Bool) → Rises 0 (port_numbers system_ports) → port_index n system_ports ≡ Some i
+    → slice_get system_ports i ≡ Some system_port
     → ParsesWhere b system_port octets (Answered answer) → Tellable w u f n octets system_ports answer
-heard_answer w u f n i octets system_ports system_port answer false r e g h = subst (Tellable w u f n octets system_ports) (sym (ap (answer_or answer) h)) (silent w u f n octets system_ports Disabled refl)
-heard_answer w u f n i octets system_ports system_port answer true r e g h = answered_by w u f n i octets system_ports system_port answer h.0 r e g h.1 h.2
+heard_answer w u f n i octets system_ports system_port answer false r e g h = subst (Tellable w u f n octets system_ports)
+    (sym (ap (answer_or answer) h)) (silent w u f n octets system_ports Disabled refl)
+heard_answer w u f n i octets system_ports system_port answer true r e g h = answered_by w u f n i octets system_ports system_port
+    answer h.0 r e g h.1 h.2
 
 -- a frame without effect
-nothing : (old : SystemState) (call : Call) (answer : Reply) (new : SystemState) (told : Told) → CallSeenAs call told → EffectsSeenAs old call answer [] → new ≡ old → JoinedByLawfulMoves old call answer new
+nothing : (old : SystemState) (call : Call) (answer : Reply) (new : SystemState) (told : Told) → CallSeenAs call told
+    → EffectsSeenAs old call answer [] → new ≡ old → JoinedByLawfulMoves old call answer new
 nothing old call answer new told t s e = (told, [], t, s, ([], tt, refl, ap model_view e))
 
 -- a response for this system frees what waits for it
@@ -289,7 +363,8 @@ names_us s n m h = (
   (bytes_eq-Decides m.system s.system.mac).0 ((and_parts (m.port == n) (bytes_eq m.system s.system.mac) h).1),
 )
 
-releases : (b : Bool) (n port : ℕ) (octets : List ℕ) (m : Marker) (old : SystemState) (answer : Received) (new : SystemState) → port ≡ n → is_own_response old port m ≡ b → IsFrame octets (Carries (pdu.Marker m)) → m.kind ≡ kind.Response
+releases : (b : Bool) (n port : ℕ) (octets : List ℕ) (m : Marker) (old : SystemState) (answer : Received) (new : SystemState) → port ≡ n
+    → is_own_response old port m ≡ b → IsFrame octets (Carries (pdu.Marker m)) → m.kind ≡ kind.Response
     → Releases b port m old answer new → JoinedByLawfulMoves old (Receive n octets) (reply.Receive (Ok answer)) new
 releases false n port octets m old answer new p b is k h =
     subst (λ a. JoinedByLawfulMoves old (Receive n octets) (reply.Receive (Ok a)) new) (sym h.0)
@@ -301,42 +376,59 @@ releases true n port octets m old answer new p b is k h =
     let call = Told_receive n (Some (Message.Response mac n m.id)) in
     let brought : Message.Response mac n m.id ≡ control_message (pdu.Marker m) =
     (λ i. Message.Response (sym us.1 i) (sym (us.0 ∙ p) i) m.id) ∙ ap (λ k. marker_message k m) (sym k) in
-    let moves = release_moves mac old.table new.table n m.id (subst (λ q. ChangesAssignments old.table new.table (after_release q m.id)) p h.1) in
+    let moves = release_moves mac old.table new.table n m.id
+    (subst (λ q. ChangesAssignments old.table new.table (after_release q m.id)) p h.1) in
     let all = table_moved u call [] old new h.2 (table_moves u call old.system_ports old.table new.table [] moves) in
     subst (λ a. JoinedByLawfulMoves old (Receive n octets) (reply.Receive (Ok a)) new) (sym h.0)
     (call, [], (Some (Message.Response mac n m.id), (pdu.Marker m, is, brought), refl), refl, all)
 
-receives : (old : SystemState) (n : ℕ) (octets : List ℕ) (system_port : SystemPort) (effect : FrameEffect) (answer : Received) (new : SystemState) (i : ℕ) → Rises 0 (port_numbers old.system_ports) → PortsConsistent old.system_ports
-    → port_index n old.system_ports ≡ Some i → slice_get old.system_ports i ≡ Some system_port → ParsesWhere system_port.port.enabled system_port octets effect → Performs effect system_port.number (Some i) old answer new → JoinedByLawfulMoves old (Receive n octets) (reply.Receive (Ok answer)) new
+receives : (old : SystemState) (n : ℕ) (octets : List ℕ) (system_port : SystemPort) (effect : FrameEffect) (answer : Received)
+    (new : SystemState) (i : ℕ) → Rises 0 (port_numbers old.system_ports) → PortsConsistent old.system_ports
+    → port_index n old.system_ports ≡ Some i → slice_get old.system_ports i ≡ Some system_port
+    → ParsesWhere system_port.port.enabled system_port octets effect → Performs effect system_port.number (Some i) old answer new
+    → JoinedByLawfulMoves old (Receive n octets) (reply.Receive (Ok answer)) new
 receives old n octets system_port (ProcessLacpdu v) answer new i r rested e g h d =
     let x = heard_taken system_port octets v system_port.port.enabled h in
     let u = model_setup old in
     let f = model_distributor old.table in
     let call = Told_receive n (Some (Lacp (lacp_message v))) in
     let seen : List Act = Took n (lacp_message v) ∷ [] in
-    let one : (mid : SystemState) → OnlyPortChangesBy (Some i) (ProcessesLacpdu v) old mid → LawfulMoves u call (model_view old) seen (model_view mid) =
+    let one : (mid : SystemState) → OnlyPortChangesBy (Some i) (ProcessesLacpdu v) old mid
+    → LawfulMoves u call (model_view old) seen (model_view mid) =
     λ mid own.
     let same : system_port ≡ own.0.0 = same_Some system_port own.0.0 (sym g ∙ own.0.2) in
     let up : own.0.0.port.enabled ≡ true = subst (λ (y : SystemPort). y.port.enabled ≡ true) same x.0 in
-    let quietly = takes_moves u n v own.0.0.port own.0.1 up (all-get (λ y. can_receive y.port ≡ true) old.system_ports i own.0.0 own.0.2 rested.0) own.0.3 in
-    slots_moved u call seen old mid own.1 (subst (λ l. LawfulMoves u call (model_view_at f old.system_ports) seen (model_view_at f l)) (sym own.0.4) (one_moves u call f n i old.system_ports own.0.0 own.0.1 seen r e own.0.2 quietly)) in
-    let moves = settled_moves u call (OnlyPortChangesBy (Some i) (ProcessesLacpdu v)) seen old new (λ g. refl) r (λ mid own. keeps_place (ProcessesLacpdu v) (Some i) old mid own) one d.1 in
+    let quietly = takes_moves u n v own.0.0.port own.0.1 up
+    (all-get (λ y. can_receive y.port ≡ true) old.system_ports i own.0.0 own.0.2 rested.0) own.0.3 in
+    slots_moved u call seen old mid own.1 (subst (λ l. LawfulMoves u call (model_view_at f old.system_ports) seen (model_view_at f l))
+    (sym own.0.4) (one_moves u call f n i old.system_ports own.0.0 own.0.1 seen r e own.0.2 quietly)) in
+    let moves = settled_moves u call (OnlyPortChangesBy (Some i) (ProcessesLacpdu v)) seen old new (λ g. refl) r
+    (λ mid own. keeps_place (ProcessesLacpdu v) (Some i) old mid own) one d.1 in
     subst (λ a. JoinedByLawfulMoves old (Receive n octets) (reply.Receive (Ok a)) new) (sym d.0)
     (call, seen, (Some (Lacp (lacp_message v)), (pdu.Lacpdu v, x.1, refl), refl), (v, x.1, refl), moves)
 receives old n octets system_port (Response m) answer new i r rested e g h d =
     let x = heard_response system_port octets m system_port.port.enabled h in
-    releases (is_own_response old system_port.number m) n system_port.number octets m old answer new (found_place n old.system_ports i system_port e g) refl x.0 x.1 d
+    releases (is_own_response old system_port.number m) n system_port.number octets m old answer new
+    (found_place n old.system_ports i system_port e g) refl x.0 x.1 d
 receives old n octets system_port (Answered a) answer new i r rested e g h d =
-    let t = heard_answer old (model_setup old) (model_distributor old.table) n i octets old.system_ports system_port a system_port.port.enabled r e g h in
-    subst (λ (s : SystemState). JoinedByLawfulMoves old (Receive n octets) (reply.Receive (Ok answer)) s) (sym d.1) (subst (λ a. JoinedByLawfulMoves old (Receive n octets) (reply.Receive (Ok a)) old) (sym d.0) t)
+    let t = heard_answer old (model_setup old) (model_distributor old.table) n i octets old.system_ports system_port a
+    system_port.port.enabled r e g h in
+    subst (λ (s : SystemState). JoinedByLawfulMoves old (Receive n octets) (reply.Receive (Ok answer)) s) (sym d.1)
+    (subst (λ a. JoinedByLawfulMoves old (Receive n octets) (reply.Receive (Ok a)) old) (sym d.0) t)
 
-receives_place : (old : SystemState) (n : ℕ) (octets : List ℕ) (system_port : SystemPort) (effect : FrameEffect) (answer : Received) (new : SystemState) (o : Option ℕ) → Rises 0 (port_numbers old.system_ports) → PortsConsistent old.system_ports
-    → port_index n old.system_ports ≡ o → system_port_at o old.system_ports ≡ Some system_port → ParsesWhere system_port.port.enabled system_port octets effect → Performs effect system_port.number o old answer new → JoinedByLawfulMoves old (Receive n octets) (reply.Receive (Ok answer)) new
+receives_place : (old : SystemState) (n : ℕ) (octets : List ℕ) (system_port : SystemPort) (effect : FrameEffect) (answer : Received)
+    (new : SystemState) (o : Option ℕ) → Rises 0 (port_numbers old.system_ports) → PortsConsistent old.system_ports
+    → port_index n old.system_ports ≡ o → system_port_at o old.system_ports ≡ Some system_port
+    → ParsesWhere system_port.port.enabled system_port octets effect → Performs effect system_port.number o old answer new
+    → JoinedByLawfulMoves old (Receive n octets) (reply.Receive (Ok answer)) new
 receives_place old n octets system_port effect answer new None r rested e g h d = absurd (none-some system_port g)
-receives_place old n octets system_port effect answer new (Some i) r rested e g h d = receives old n octets system_port effect answer new i r rested e g h d
+receives_place old n octets system_port effect answer new (Some i) r rested e g h d = receives old n octets system_port effect
+    answer new i r rested e g h d
 
 -- what is sent
-sends_lacpdu : (old : SystemState) (n i : ℕ) (system_port : SystemPort) (answer : Option (List ℕ)) (new : SystemState) → Rises 0 (port_numbers old.system_ports) → PortsConsistent old.system_ports → port_index n old.system_ports ≡ Some i → slice_get old.system_ports i ≡ Some system_port
+sends_lacpdu : (old : SystemState) (n i : ℕ) (system_port : SystemPort) (answer : Option (List ℕ)) (new : SystemState)
+    → Rises 0 (port_numbers old.system_ports) → PortsConsistent old.system_ports → port_index n old.system_ports ≡ Some i
+    → slice_get old.system_ports i ≡ Some system_port
     → SendsLacpdu i system_port old answer new → JoinedByLawfulMoves old (Transmit n) (reply.Transmit (Ok answer)) new
 sends_lacpdu old n i system_port answer new r rested e g h =
     let p = system_port.port in
@@ -346,7 +438,9 @@ sends_lacpdu old n i system_port answer new r rested e g h =
     let f = model_distributor old.table in
     let member = all-get (λ y. mux_consistent y.port ≡ true) old.system_ports i system_port g rested.1 in
     let quietly = sending u Told.Transmit n old.max_delay p refl
-    (λ says. is_member p.choice (where_member (is_synchronized p.mux) (is_selected p.choice) (if same_mux_state CollectingDistributing p.mux then partner_synchronized p else true) member says)) in
+    (λ says. is_member p.choice
+    (where_member (is_synchronized p.mux) (is_selected p.choice)
+    (if same_mux_state CollectingDistributing p.mux then partner_synchronized p else true) member says)) in
     let moves = one_moves u Told.Transmit f n i old.system_ports system_port (after_sending p) seen r e g quietly in
     let whole = subst (λ (s : SystemState). LawfulMoves u Told.Transmit (model_view old) seen (model_view s)) (sym h.3) moves in
     subst (λ a. JoinedByLawfulMoves old (Transmit n) (reply.Transmit (Ok a)) new) (sym h.2)
@@ -360,36 +454,47 @@ below o true n id e = fits (ltb n (2 ^ 32)) refl e
     fits true t x = subst (λ m. m < 2 ^ 32) (same_Some n id x) (ltb-true n (2 ^ 32) t)
     fits false t x = absurd (none-some id x)
 
-sends_marker : (o : Option ℕ) (old : SystemState) (n port : ℕ) (mac : List ℕ) (answer : Option (List ℕ)) (new : SystemState) → marker_due old.table port ≡ o → port ≡ n
+sends_marker : (o : Option ℕ) (old : SystemState) (n port : ℕ) (mac : List ℕ) (answer : Option (List ℕ)) (new : SystemState)
+    → marker_due old.table port ≡ o → port ≡ n
     → SendsMarkerOf o port mac old answer new → JoinedByLawfulMoves old (Transmit n) (reply.Transmit (Ok answer)) new
 sends_marker None old n port mac answer new d p h =
-    subst (λ a. JoinedByLawfulMoves old (Transmit n) (reply.Transmit (Ok a)) new) (sym h.0) (nothing old (Transmit n) (reply.Transmit (Ok None)) new Told.Transmit refl refl h.1)
+    subst (λ a. JoinedByLawfulMoves old (Transmit n) (reply.Transmit (Ok a)) new) (sym h.0)
+    (nothing old (Transmit n) (reply.Transmit (Ok None)) new Told.Transmit refl refl h.1)
 sends_marker (Some id) old n port mac answer new d p h =
     let u = model_setup old in
     let m = own_marker old port id in
     let seen : List Act = Shows n (Message.Marker old.system.mac n id) ∷ [] in
     let fits : id < 2 ^ 32 = below None (ltb 0 (count_conversations (wants_marker port) old.table)) old.table.next id d in
-    let moves = mark_moves old.system.mac Told.Transmit old.table new.table n id refl fits (subst (λ q. Marks old.table new.table q id) p h.4) in
+    let moves = mark_moves old.system.mac Told.Transmit old.table new.table n id refl fits
+    (subst (λ q. Marks old.table new.table q id) p h.4) in
     let all = table_moved u Told.Transmit seen old new h.5 (table_moves u Told.Transmit old.system_ports old.table new.table seen moves) in
-    let told : Shows n (Message.Marker old.system.mac n id) ∷ [] ≡ Shows n (control_message (pdu.Marker m)) ∷ [] = λ i. Shows n (Message.Marker old.system.mac (sym p i) id) ∷ [] in
+    let told : Shows n (Message.Marker old.system.mac n id) ∷ [] ≡ Shows n (control_message (pdu.Marker m))
+    ∷ [] = λ i. Shows n (Message.Marker old.system.mac (sym p i) id) ∷ [] in
     subst (λ a. JoinedByLawfulMoves old (Transmit n) (reply.Transmit (Ok a)) new) (sym h.3)
     (Told.Transmit, seen, refl, (pdu.Marker m, (mac, h.0, h.1, h.2, refl), told), all)
 
-sends_where : (up due : Bool) (old : SystemState) (n i : ℕ) (system_port : SystemPort) (answer : Option (List ℕ)) (new : SystemState) → Rises 0 (port_numbers old.system_ports) → PortsConsistent old.system_ports → port_index n old.system_ports ≡ Some i → slice_get old.system_ports i ≡ Some system_port
+sends_where : (up due : Bool) (old : SystemState) (n i : ℕ) (system_port : SystemPort) (answer : Option (List ℕ)) (new : SystemState)
+    → Rises 0 (port_numbers old.system_ports) → PortsConsistent old.system_ports → port_index n old.system_ports ≡ Some i
+    → slice_get old.system_ports i ≡ Some system_port
     → TransmitsIf up due i system_port old answer new → JoinedByLawfulMoves old (Transmit n) (reply.Transmit (Ok answer)) new
 sends_where false due old n i system_port answer new r rested e g h =
-    subst (λ a. JoinedByLawfulMoves old (Transmit n) (reply.Transmit (Ok a)) new) (sym h.0) (nothing old (Transmit n) (reply.Transmit (Ok None)) new Told.Transmit refl refl h.1)
+    subst (λ a. JoinedByLawfulMoves old (Transmit n) (reply.Transmit (Ok a)) new) (sym h.0)
+    (nothing old (Transmit n) (reply.Transmit (Ok None)) new Told.Transmit refl refl h.1)
 sends_where true true old n i system_port answer new r rested e g h = sends_lacpdu old n i system_port answer new r rested e g h
 sends_where true false old n i system_port answer new r rested e g h =
-    sends_marker (marker_due old.table system_port.number) old n system_port.number system_port.mac answer new refl (found_place n old.system_ports i system_port e g) h
+    sends_marker (marker_due old.table system_port.number) old n system_port.number system_port.mac answer new refl
+    (found_place n old.system_ports i system_port e g) h
 
-sends_place : (old : SystemState) (n : ℕ) (o : Option ℕ) (answer : Option (List ℕ)) (new : SystemState) → Rises 0 (port_numbers old.system_ports) → PortsConsistent old.system_ports → port_index n old.system_ports ≡ o
+sends_place : (old : SystemState) (n : ℕ) (o : Option ℕ) (answer : Option (List ℕ)) (new : SystemState)
+    → Rises 0 (port_numbers old.system_ports) → PortsConsistent old.system_ports → port_index n old.system_ports ≡ o
     → TransmitsAt o old answer new → JoinedByLawfulMoves old (Transmit n) (reply.Transmit (Ok answer)) new
 sends_place old n None answer new r rested e h = absurd h
-sends_place old n (Some i) answer new r rested e h = sends_where h.0.port.enabled (is_due h.0.port) old n i h.0 answer new r rested e h.1 h.2
+sends_place old n (Some i) answer new r rested e h = sends_where h.0.port.enabled (is_due h.0.port) old n i h.0
+    answer new r rested e h.1 h.2
 
 -- what becomes of a conversation
-offers : (gives : ℕ → ℕ → ℕ → Type 0) (agg : AggId) (octets : List ℕ) (old : SystemState) (answer : Result ℕ SystemFault) (new : SystemState) → Rises 0 (port_numbers old.system_ports) → PortsConsistent old.system_ports
+offers : (gives : ℕ → ℕ → ℕ → Type 0) (agg : AggId) (octets : List ℕ) (old : SystemState) (answer : Result ℕ SystemFault)
+    (new : SystemState) → Rises 0 (port_numbers old.system_ports) → PortsConsistent old.system_ports
     → Offers gives agg octets old answer new → JoinedByLawfulMoves old (Offer agg octets) (reply.Offer answer) new
 offers gives agg octets old (Ok port) new r rested h =
     let u = model_setup old in
@@ -397,46 +502,63 @@ offers gives agg octets old (Ok port) new r rested h =
     let ports = distributing agg old.system_ports in
     let may = assigned_may gives conv ports (assignment_of_frame old agg octets) port h.1 in
     let seen : List Act = Sends_frame port agg.0 conv ∷ [] in
-    let moves = send_moves old.system.mac Told.Offer old.table new.table agg.0 conv port ports refl may h.2.0 in
-    (Told.Offer, seen, refl, refl, table_moved u Told.Offer seen old new h.2.1 (carrying_moves u Told.Offer agg old.system_ports old.table new.table seen r rested.1 moves))
-offers gives agg octets old (Err fault) new r rested h = nothing old (Offer agg octets) (reply.Offer (Err fault)) new Told.Offer refl refl h.1
+    let moves = send_moves old.system.mac Told.Offer old.table new.table agg.0 conv port ports refl may h.2.0 in (
+      Told.Offer,
+      seen,
+      refl,
+      refl,
+      table_moved u Told.Offer seen old new h.2.1
+          (carrying_moves u Told.Offer agg old.system_ports old.table new.table seen r rested.1 moves),
+    )
+offers gives agg octets old (Err fault) new r rested h = nothing old (Offer agg octets) (reply.Offer (Err fault)) new
+    Told.Offer refl refl h.1
 
-if_ok : (b : Bool) (x : Result Assignment SystemFault) (fault : SystemFault) (s : Assignment) → (if b then x else Err fault) ≡ Ok s → x ≡ Ok s
+if_ok : (b : Bool) (x : Result Assignment SystemFault) (fault : SystemFault) (s : Assignment)
+    → (if b then x else Err fault) ≡ Ok s → x ≡ Ok s
 if_ok true x fault s e = e
 if_ok false x fault s e = absurd cc
 
-known_ok : (b : Bool) (x : Result Assignment DistFault) (fault : DistFault) (s : Assignment) → in_system (if b then x else Err fault) ≡ Ok s → x ≡ Ok s
+known_ok : (b : Bool) (x : Result Assignment DistFault) (fault : DistFault) (s : Assignment)
+    → in_system (if b then x else Err fault) ≡ Ok s → x ≡ Ok s
 known_ok true (Ok a) fault s e = let same : a ≡ s = cc in ap Ok same
 known_ok true (Err f) fault s e = absurd cc
 known_ok false x fault s e = absurd cc
 
 -- what a conversation that is moved, or freed by force, becomes
-pub moved_to : (agg : AggId) (conv port : ℕ) (old : SystemState) (s : Assignment) → system_move_result old agg conv port ≡ Ok s → move_result (next_identifier old.table) (distributing agg old.system_ports) port (assignment_of old.table agg.0 conv) ≡ Ok s
+pub moved_to : (agg : AggId) (conv port : ℕ) (old : SystemState) (s : Assignment) → system_move_result old agg conv port ≡ Ok s
+    → move_result (next_identifier old.table) (distributing agg old.system_ports) port (assignment_of old.table agg.0 conv) ≡ Ok s
 moved_to agg conv port old s e =
-    let answer : Result Assignment DistFault = move_result (next_identifier old.table) (distributing agg old.system_ports) port (assignment_of old.table agg.0 conv) in
+    let answer : Result Assignment DistFault = move_result (next_identifier old.table) (distributing agg old.system_ports) port
+    (assignment_of old.table agg.0 conv) in
     let inner : Result Assignment SystemFault = in_system (or_not_assigned old conv answer) in
     known_ok (nat_lt conv (conversation_count old)) answer NotAssigned s
     (if_ok (is_some (port_index port old.system_ports)) inner NoPort s
     (if_ok (has_aggregator old agg) (if is_some (port_index port old.system_ports) then inner else Err NoPort) NoAggregator s e))
 
-pub forced_to : (agg : AggId) (conv : ℕ) (old : SystemState) (s : Assignment) → system_force_result old agg conv ≡ Ok s → force_result (assignment_of old.table agg.0 conv) ≡ Ok s
+pub forced_to : (agg : AggId) (conv : ℕ) (old : SystemState) (s : Assignment) → system_force_result old agg conv ≡ Ok s
+    → force_result (assignment_of old.table agg.0 conv) ≡ Ok s
 forced_to agg conv old s e =
     let answer : Result Assignment DistFault = force_result (assignment_of old.table agg.0 conv) in
-    known_ok (nat_lt conv (conversation_count old)) answer NotAssigned s (if_ok (has_aggregator old agg) (in_system (or_not_assigned old conv answer)) NoAggregator s e)
+    known_ok (nat_lt conv (conversation_count old)) answer NotAssigned s
+    (if_ok (has_aggregator old agg) (in_system (or_not_assigned old conv answer)) NoAggregator s e)
 
-moves_conversation : (agg : AggId) (conv port : ℕ) (what : Result Assignment SystemFault) (old : SystemState) (answer : Result Unit SystemFault) (new : SystemState) → system_move_result old agg conv port ≡ what
-    → GivesOrRefuses agg conv what old answer new → JoinedByLawfulMoves old (Move_conversation agg conv port) (reply.MoveConversation answer) new
+moves_conversation : (agg : AggId) (conv port : ℕ) (what : Result Assignment SystemFault) (old : SystemState)
+    (answer : Result Unit SystemFault) (new : SystemState) → system_move_result old agg conv port ≡ what
+    → GivesOrRefuses agg conv what old answer new
+    → JoinedByLawfulMoves old (Move_conversation agg conv port) (reply.MoveConversation answer) new
 moves_conversation agg conv port (Ok s) old answer new e h =
     let u = model_setup old in
     let call = Told.Move_conversation in
-    let moves = move_moves old.system.mac call old.table new.table agg.0 conv port (next_identifier old.table) (distributing agg old.system_ports) s (moved_to agg conv port old s e) h.1.0 in
+    let moves = move_moves old.system.mac call old.table new.table agg.0 conv port (next_identifier old.table)
+    (distributing agg old.system_ports) s (moved_to agg conv port old s e) h.1.0 in
     subst (λ a. JoinedByLawfulMoves old (Move_conversation agg conv port) (reply.MoveConversation a) new) (sym h.0)
     (call, [], refl, refl, table_moved u call [] old new h.1.1 (table_moves u call old.system_ports old.table new.table [] moves))
 moves_conversation agg conv port (Err fault) old answer new e h =
     subst (λ a. JoinedByLawfulMoves old (Move_conversation agg conv port) (reply.MoveConversation a) new) (sym h.0)
     (nothing old (Move_conversation agg conv port) (reply.MoveConversation (Err fault)) new Told.Move_conversation refl refl h.1)
 
-forces : (agg : AggId) (conv : ℕ) (what : Result Assignment SystemFault) (old : SystemState) (answer : Result Unit SystemFault) (new : SystemState) → system_force_result old agg conv ≡ what
+forces : (agg : AggId) (conv : ℕ) (what : Result Assignment SystemFault) (old : SystemState) (answer : Result Unit SystemFault)
+    (new : SystemState) → system_force_result old agg conv ≡ what
     → GivesOrRefuses agg conv what old answer new → JoinedByLawfulMoves old (Force agg conv) (reply.Force answer) new
 forces agg conv (Ok s) old answer new e h =
     let u = model_setup old in
@@ -449,7 +571,8 @@ forces agg conv (Err fault) old answer new e h =
     (nothing old (Force agg conv) (reply.Force (Err fault)) new (Told.Force agg.0 conv) refl refl h.1)
 
 -- the own effects of a tick and of a link
-ticks : (u : SystemSetup) (old mid : SystemState) → Rises 0 (port_numbers old.system_ports) → Ticks old mid → LawfulMoves u Told.Tick (model_view old) [] (model_view mid)
+ticks : (u : SystemSetup) (old mid : SystemState) → Rises 0 (port_numbers old.system_ports) → Ticks old mid
+    → LawfulMoves u Told.Tick (model_view old) [] (model_view mid)
 ticks u old mid r h =
     let f = model_distributor old.table in
     let own : Machines → Machines → Type 0 = λ p q. RunsToRest receive_rows (count_down p) q in
@@ -457,44 +580,74 @@ ticks u old mid r h =
     moves_joined u Told.Tick (model_view old) (model_view_at f mid.system_ports) (model_view mid) [] [] ports
     (table_moves u Told.Tick mid.system_ports old.table mid.table [] (conversations_tick u.system.mac Told.Tick old.table mid.table h.1))
 
-frees : (u : SystemSetup) (n : ℕ) (up : Bool) (system_ports : List SystemPort) (t new : Table) → FreesIfDown up n t new → LawfulMoves u (Told.Set_link n up) (model_view_at (model_distributor t) system_ports) [] (model_view_at (model_distributor new) system_ports)
+frees : (u : SystemSetup) (n : ℕ) (up : Bool) (system_ports : List SystemPort) (t new : Table) → FreesIfDown up n t new
+    → LawfulMoves u (Told.Set_link n up) (model_view_at (model_distributor t) system_ports) []
+    (model_view_at (model_distributor new) system_ports)
 frees u n true system_ports t new h = ([], tt, refl, ap (λ (x : Table). model_view_at (model_distributor x) system_ports) h)
 frees u n false system_ports t new h = table_moves u (Told.Set_link n false) system_ports t new [] (down_moves u.system.mac t new n h)
 
-links : (u : SystemSetup) (n : ℕ) (up : Bool) (old mid : SystemState) → Rises 0 (port_numbers old.system_ports) → SetsLink n up old mid → LawfulMoves u (Told.Set_link n up) (model_view old) [] (model_view mid)
+links : (u : SystemSetup) (n : ℕ) (up : Bool) (old mid : SystemState) → Rises 0 (port_numbers old.system_ports) → SetsLink n up old mid
+    → LawfulMoves u (Told.Set_link n up) (model_view old) [] (model_view mid)
 links u n up old mid r h =
     let call = Told.Set_link n up in
     let f = model_distributor old.table in
-    let ports = place_moves u call f (SetsPortEnabled up) n old.system_ports mid.system_ports [] r (λ s q i at y. links_moves u call n up s.port q y) (port_index n old.system_ports) refl h.0 in
-    moves_joined u call (model_view old) (model_view_at f mid.system_ports) (model_view mid) [] [] ports (frees u n up mid.system_ports old.table mid.table h.1)
+    let ports = place_moves u call f (SetsPortEnabled up) n old.system_ports mid.system_ports [] r
+    (λ s q i at y. links_moves u call n up s.port q y) (port_index n old.system_ports) refl h.0 in
+    moves_joined u call (model_view old) (model_view_at f mid.system_ports) (model_view mid) [] [] ports
+    (frees u n up mid.system_ports old.table mid.table h.1)
 
 -- a call joins the views
-pub Step-joins : (gives : ℕ → ℕ → ℕ → Type 0) (old : SystemState) (call : Call) (answer : Reply) (new : SystemState) → Rises 0 (port_numbers old.system_ports) → PortsConsistent old.system_ports
+pub Step-joins : (gives : ℕ → ℕ → ℕ → Type 0) (old : SystemState) (call : Call) (answer : Reply) (new : SystemState)
+    → Rises 0 (port_numbers old.system_ports) → PortsConsistent old.system_ports
     → Step gives old call answer new → JoinedByLawfulMoves old call answer new
 Step-joins gives old Tick reply.Tick new r rested h =
-    let u = model_setup old in
-    (Told.Tick, [], refl, refl, settled_moves u Told.Tick Ticks [] old new (λ g. refl) r (λ mid x. keeps_tick old mid x) (λ mid x. ticks u old mid r x) h)
+    let u = model_setup old in (
+      Told.Tick,
+      [],
+      refl,
+      refl,
+      settled_moves u Told.Tick Ticks [] old new (λ g. refl) r (λ mid x. keeps_tick old mid x)
+          (λ mid x. ticks u old mid r x) h,
+    )
 Step-joins gives old (Set_link n up) (reply.SetLink (Ok done)) new r rested h =
     let u = model_setup old in
-    let call = Told.Set_link n up in
-    (call, [], refl, refl, settled_moves u call (SetsLink n up) [] old new (λ g. refl) r (λ mid x. keeps_link n up old mid x) (λ mid x. links u n up old mid r x) h)
-Step-joins gives old (Set_link n up) (reply.SetLink (Err fault)) new r rested h = nothing old (Set_link n up) (reply.SetLink (Err fault)) new (Told.Set_link n up) refl refl h.same
-Step-joins gives old (Receive n octets) (reply.Receive (Ok answer)) new r rested h = receives_place old n octets h.0 h.1 answer new (port_index n old.system_ports) r rested refl h.2 h.3 h.4
-Step-joins gives old (Receive n octets) (reply.Receive (Err fault)) new r rested h = nothing old (Receive n octets) (reply.Receive (Err fault)) new (Told_receive n None) (None, tt, refl) refl h.same
+    let call = Told.Set_link n up in (
+      call,
+      [],
+      refl,
+      refl,
+      settled_moves u call (SetsLink n up) [] old new (λ g. refl) r (λ mid x. keeps_link n up old mid x)
+          (λ mid x. links u n up old mid r x) h,
+    )
+Step-joins gives old (Set_link n up) (reply.SetLink (Err fault)) new r rested h = nothing old (Set_link n up) (reply.SetLink (Err fault))
+    new (Told.Set_link n up) refl refl h.same
+Step-joins gives old (Receive n octets) (reply.Receive (Ok answer)) new r rested h = receives_place old n octets h.0 h.1 answer new
+    (port_index n old.system_ports) r rested refl h.2 h.3 h.4
+Step-joins gives old (Receive n octets) (reply.Receive (Err fault)) new r rested h = nothing old (Receive n octets)
+    (reply.Receive (Err fault)) new (Told_receive n None) (None, tt, refl) refl h.same
 Step-joins gives old (Configure n change) (reply.Configure (Ok true)) new r rested h =
     let u = model_setup old in
     let f = model_distributor old.table in
     let o = port_index n old.system_ports in
-    let moves = settled_moves u Told.Configure (OnlyPortChangesBy o (ChangesParty change)) [] old new (λ g. refl) r (λ mid x. keeps_place (ChangesParty change) o old mid x)
-    (λ mid x. slots_moved u Told.Configure [] old mid x.1 (place_moves u Told.Configure f (ChangesParty change) n old.system_ports mid.system_ports [] r (λ s q i at y. configures_moves u n change s.port q y) o refl x.0)) h in
+    let moves = settled_moves u Told.Configure (OnlyPortChangesBy o (ChangesParty change)) [] old new (λ g. refl) r
+    (λ mid x. keeps_place (ChangesParty change) o old mid x)
+    (λ mid x. slots_moved u Told.Configure [] old mid x.1
+    (place_moves u Told.Configure f (ChangesParty change) n old.system_ports mid.system_ports [] r
+    (λ s q i at y. configures_moves u n change s.port q y) o refl x.0)) h in
     (Told.Configure, [], refl, refl, moves)
-Step-joins gives old (Configure n change) (reply.Configure (Ok false)) new r rested h = nothing old (Configure n change) (reply.Configure (Ok false)) new Told.Configure refl refl h.1
-Step-joins gives old (Configure n change) (reply.Configure (Err fault)) new r rested h = nothing old (Configure n change) (reply.Configure (Err fault)) new Told.Configure refl refl h.same
+Step-joins gives old (Configure n change) (reply.Configure (Ok false)) new r rested h = nothing old (Configure n change)
+    (reply.Configure (Ok false)) new Told.Configure refl refl h.1
+Step-joins gives old (Configure n change) (reply.Configure (Err fault)) new r rested h = nothing old (Configure n change)
+    (reply.Configure (Err fault)) new Told.Configure refl refl h.same
 Step-joins gives old Restart reply.Restart new r rested h =
     (Told.Restart, [], refl, refl, (Move.Restart ∷ [], (refl, tt), refl, restarted_shows old new h.0 h.1))
-Step-joins gives old (Transmit n) (reply.Transmit (Ok answer)) new r rested h = sends_place old n (port_index n old.system_ports) answer new r rested refl h
-Step-joins gives old (Transmit n) (reply.Transmit (Err fault)) new r rested h = nothing old (Transmit n) (reply.Transmit (Err fault)) new Told.Transmit refl refl h.same
+Step-joins gives old (Transmit n) (reply.Transmit (Ok answer)) new r rested h = sends_place old n (port_index n old.system_ports)
+    answer new r rested refl h
+Step-joins gives old (Transmit n) (reply.Transmit (Err fault)) new r rested h = nothing old (Transmit n) (reply.Transmit (Err fault)) new
+    Told.Transmit refl refl h.same
 Step-joins gives old (Offer agg octets) (reply.Offer answer) new r rested h = offers gives agg octets old answer new r rested h
-Step-joins gives old (Move_conversation agg conv port) (reply.MoveConversation answer) new r rested h = moves_conversation agg conv port (system_move_result old agg conv port) old answer new refl h
-Step-joins gives old (Force agg conv) (reply.Force answer) new r rested h = forces agg conv (system_force_result old agg conv) old answer new refl h
+Step-joins gives old (Move_conversation agg conv port) (reply.MoveConversation answer) new r rested h = moves_conversation agg conv port
+    (system_move_result old agg conv port) old answer new refl h
+Step-joins gives old (Force agg conv) (reply.Force answer) new r rested h =
+    forces agg conv (system_force_result old agg conv) old answer new refl h
 Step-joins gives old call answer new r rested h = absurd h

@@ -1,5 +1,6 @@
 -- Any eleven consecutive ticks hold at most three LACPDUs of a port, over lists of calls of a system.
-use Rattle.std.proofs.Common.{◌≡◌, ◌&&◌, ◌∙◌, ◌<◌, ◌≤◌, ◌+◌, ◌==◌, ◌++◌, ℕ, zero, suc, Bool, true, false, cond, List, [], ◌∷◌, Option, Some, None, Ok, Err, drop, length, ap, sym, refl, subst, arith, get_or, nat_lt, append_assoc}
+use Rattle.std.proofs.Common.{◌≡◌, ◌&&◌, ◌∙◌, ◌<◌, ◌≤◌, ◌+◌, ◌==◌, ◌++◌, ℕ, zero, suc, Bool, true, false, cond, List, [], ◌∷◌, Option}
+use Rattle.std.proofs.Common.{Some, None, Ok, Err, drop, length, ap, sym, refl, subst, arith, get_or, nat_lt, append_assoc}
 use Rattle.std.specs.Prelude.{if◌then◌else◌, slice_get, slice_set, option_map}
 use Rattle.std.specs.List.{AllByRecursion, AllZip, find, position_or_len}
 use Rattle.slowpdu.specs.declared.pdu.Lacpdu.{Lacpdu}
@@ -43,10 +44,13 @@ use Rattle.lagsystem.specs.State.{SystemState, with_system_ports, port_index, ma
 use Rattle.lagsystem.specs.Settling.{PortsChangeBy, Settling, after_choices, after_choice_at, with_choice, ready_of, aggregator_for}
 use Rattle.lagsystem.specs.Views.{views}
 use Rattle.lagsystem.specs.First.{IsFirst, HasJustStarted, setup_of}
-use Rattle.lagsystem.specs.Calls.{Call, Tick, Set_link, Receive, Configure, Restart, Transmit, Offer, Move_conversation, Force, SetsPortEnabled, ChangesParty, changed_party, is_own_response, PortAtChangesBy, OnlyPortChangesBy, ThenSettles, ProcessesLacpdu, Performs, Step, TableRun}
+use Rattle.lagsystem.specs.Calls.{Call, Tick, Set_link, Receive, Configure, Restart, Transmit, Offer, Move_conversation, Force}
+use Rattle.lagsystem.specs.Calls.{SetsPortEnabled, ChangesParty, changed_party, is_own_response, PortAtChangesBy, OnlyPortChangesBy}
+use Rattle.lagsystem.specs.Calls.{ThenSettles, ProcessesLacpdu, Performs, Step, TableRun}
 use Rattle.lagsystem.specs.Offers.{system_force_result, system_move_result}
 use Rattle.lagsystem.specs.Sending.{TransmitsAt, SendsMarkerOf, TransmitsIf}
-use Rattle.lagsystem.specs.Windows.{EachAtMostThreeAges, AtMostThreeAges, AgesSince, StartsWithoutAges, StaysWindowed, WindowFromStart, SystemWindowLaw, sends_after, remembered_sends, tick_after, subtype}
+use Rattle.lagsystem.specs.Windows.{EachAtMostThreeAges, AtMostThreeAges, AgesSince, StartsWithoutAges, StaysWindowed, WindowFromStart}
+use Rattle.lagsystem.specs.Windows.{SystemWindowLaw, sends_after, remembered_sends, tick_after, subtype}
 use Rattle.lagsystem.proofs.Keeps.{given_number}
 use Rattle.lagsystem.proofs.Rest.{becomes_slots, last_slots, offers_slots, releases_slots, same_slots}
 
@@ -59,7 +63,8 @@ Good now p before = (calls : List port.PortCall) (ticks : List ℕ) → window.S
 good_ages : (now : ℕ) (p : Machines) → AllByRecursion (λ a. a ≤ now) p.ages → length p.ages ≤ 3 → Good now p (sent_before now p.ages)
 good_ages now p kept few calls ticks run = port_window now calls p ticks kept few run
 
-joined : (b : Bool) (now : ℕ) (before ticks : List ℕ) → (before ++ (if b then now ∷ ticks else ticks)) ≡ ((if b then before ++ now ∷ [] else before) ++ ticks)
+joined : (b : Bool) (now : ℕ) (before ticks : List ℕ)
+    → (before ++ (if b then now ∷ ticks else ticks)) ≡ ((if b then before ++ now ∷ [] else before) ++ ticks)
 joined true now before ticks = sym (append_assoc before (now ∷ []) ticks)
 joined false now before ticks = refl
 
@@ -98,32 +103,39 @@ good_end : (now : ℕ) (before : List ℕ) (o : Option Machines) → GoodAt now 
 good_end now before None g = g
 good_end now before (Some p) g = subst KeepsWindow (append-nil before) (g [] [] refl)
 
-at_first : (P Q : Machines → Type 0) (N : Type 0) (b : Bool) (x y : SystemPort) (o u : Option SystemPort) → (P x.port → Q y.port) → (At P N (port_in o) → At Q N (port_in u))
+at_first : (P Q : Machines → Type 0) (N : Type 0) (b : Bool) (x y : SystemPort) (o u : Option SystemPort) → (P x.port → Q y.port)
+    → (At P N (port_in o) → At Q N (port_in u))
     → At P N (port_in (cond b (Some x) o)) → At Q N (port_in (cond b (Some y) u))
 at_first P Q N true x y o u here rest g = here g
 at_first P Q N false x y o u here rest g = rest g
 
 -- the same, if y has the number of x
-at_number : (P Q : Machines → Type 0) (N : Type 0) (n : ℕ) (x y : SystemPort) (o u : Option SystemPort) → y.number ≡ x.number → (P x.port → Q y.port) → (At P N (port_in o) → At Q N (port_in u))
+at_number : (P Q : Machines → Type 0) (N : Type 0) (n : ℕ) (x y : SystemPort) (o u : Option SystemPort) → y.number ≡ x.number
+    → (P x.port → Q y.port) → (At P N (port_in o) → At Q N (port_in u))
     → At P N (port_in (cond (x.number == n) (Some x) o)) → At Q N (port_in (cond (y.number == n) (Some y) u))
 at_number P Q N n x y o u e here rest g =
     subst (λ k. At Q N (port_in (cond (k == n) (Some y) u))) (sym e) (at_first P Q N (x.number == n) x y o u here rest g)
 
-in_each : (P Q : Machines → Type 0) (N : Type 0) (R : Machines → Machines → Type 0) (n : ℕ) → ((p q : Machines) → R p q → P p → Q q) → (xs ys : List SystemPort) → PortsChangeBy R xs ys → In P N n xs → In Q N n ys
+in_each : (P Q : Machines → Type 0) (N : Type 0) (R : Machines → Machines → Type 0) (n : ℕ) → ((p q : Machines) → R p q → P p → Q q)
+    → (xs ys : List SystemPort) → PortsChangeBy R xs ys → In P N n xs → In Q N n ys
 in_each P Q N R n move [] [] h g = g
 in_each P Q N R n move [] (y ∷ ys) h g = absurd h
 in_each P Q N R n move (x ∷ xs) [] h g = absurd h
 in_each P Q N R n move (x ∷ xs) (y ∷ ys) h g =
-    at_number P Q N n x y (find (is_numbered n) xs) (find (is_numbered n) ys) (ap (λ (s : SystemPort). s.number) h.0.0) (move x.port y.port h.0.1) (in_each P Q N R n move xs ys h.1) g
+    at_number P Q N n x y (find (is_numbered n) xs) (find (is_numbered n) ys) (ap (λ (s : SystemPort). s.number) h.0.0)
+    (move x.port y.port h.0.1) (in_each P Q N R n move xs ys h.1) g
 
-in_set : (P : Machines → Type 0) (N : Type 0) (n : ℕ) (xs : List SystemPort) (i : ℕ) (s t : SystemPort) → slice_get xs i ≡ Some s → t.number ≡ s.number → (P s.port → P t.port) → In P N n xs → In P N n (slice_set xs i t)
+in_set : (P : Machines → Type 0) (N : Type 0) (n : ℕ) (xs : List SystemPort) (i : ℕ) (s t : SystemPort) → slice_get xs i ≡ Some s
+    → t.number ≡ s.number → (P s.port → P t.port) → In P N n xs → In P N n (slice_set xs i t)
 in_set P N n [] i s t e k move g = g
 in_set P N n (x ∷ xs) zero s t e k move g =
     let o = find (is_numbered n) xs in
     let same : x ≡ s = same_Some x s e in
-    at_number P P N n x t o o (k ∙ sym (ap (λ (y : SystemPort). y.number) same)) (subst (λ (y : SystemPort). P y.port → P t.port) (sym same) move) (λ h. h) g
+    at_number P P N n x t o o (k ∙ sym (ap (λ (y : SystemPort). y.number) same))
+    (subst (λ (y : SystemPort). P y.port → P t.port) (sym same) move) (λ h. h) g
 in_set P N n (x ∷ xs) (suc i) s t e k move g =
-    at_number P P N n x x (find (is_numbered n) xs) (find (is_numbered n) (slice_set xs i t)) refl (λ h. h) (in_set P N n xs i s t e k move) g
+    at_number P P N n x x (find (is_numbered n) xs) (find (is_numbered n) (slice_set xs i t)) refl (λ h. h)
+    (in_set P N n xs i s t e k move) g
 
 -- settling
 
@@ -140,20 +152,27 @@ in_given : (P : Machines → Type 0) → IsKept P → (s : SystemPort) (o : Opti
 in_given P kept s None g = g
 in_given P kept s (Some agg) g = kept.select agg s.port g
 
-in_choose : (P : Machines → Type 0) (N : Type 0) (n : ℕ) → IsKept P → (keys : List Key) (system_ports : List SystemPort) (i : ℕ) (o : Option SystemPort) → slice_get system_ports i ≡ o → In P N n system_ports → In P N n (after_choice_at keys system_ports i o)
+in_choose : (P : Machines → Type 0) (N : Type 0) (n : ℕ) → IsKept P
+    → (keys : List Key) (system_ports : List SystemPort) (i : ℕ) (o : Option SystemPort) → slice_get system_ports i ≡ o
+    → In P N n system_ports → In P N n (after_choice_at keys system_ports i o)
 in_choose P N n kept keys system_ports i None e g = g
 in_choose P N n kept keys system_ports i (Some s) e g =
-    let o = aggregator_for keys system_ports s in in_set P N n system_ports i s (with_choice s o) e (given_number s o) (in_given P kept s o) g
+    let o = aggregator_for keys system_ports s in in_set P N n system_ports i s (with_choice s o) e
+    (given_number s o) (in_given P kept s o) g
 
-in_chosen : (P : Machines → Type 0) (N : Type 0) (n : ℕ) → IsKept P → (keys : List Key) (k : ℕ) (system_ports : List SystemPort) → In P N n system_ports → In P N n (after_choices keys k system_ports)
+in_chosen : (P : Machines → Type 0) (N : Type 0) (n : ℕ) → IsKept P → (keys : List Key) (k : ℕ) (system_ports : List SystemPort)
+    → In P N n system_ports → In P N n (after_choices keys k system_ports)
 in_chosen P N n kept keys zero system_ports g = g
 in_chosen P N n kept keys (suc k) system_ports g =
-    let mid = after_choices keys k system_ports in in_choose P N n kept keys mid k (slice_get mid k) refl (in_chosen P N n kept keys k system_ports g)
+    let mid = after_choices keys k system_ports in in_choose P N n kept keys mid k (slice_get mid k) refl
+    (in_chosen P N n kept keys k system_ports g)
 
-in_same : (P : Machines → Type 0) (N : Type 0) (n : ℕ) (old new : SystemState) → new.system_ports ≡ old.system_ports → In P N n old.system_ports → In P N n new.system_ports
+in_same : (P : Machines → Type 0) (N : Type 0) (n : ℕ) (old new : SystemState) → new.system_ports ≡ old.system_ports
+    → In P N n old.system_ports → In P N n new.system_ports
 in_same P N n old new e g = subst (In P N n) (sym e) g
 
-in_settling : (P : Machines → Type 0) (N : Type 0) (n : ℕ) → IsKept P → (old new : SystemState) → Settling old new → In P N n old.system_ports → In P N n new.system_ports
+in_settling : (P : Machines → Type 0) (N : Type 0) (n : ℕ) → IsKept P → (old new : SystemState) → Settling old new
+    → In P N n old.system_ports → In P N n new.system_ports
 in_settling P N n kept old new h g =
     let one = h.0 in
     let two = h.2.0 in
@@ -162,9 +181,12 @@ in_settling P N n kept old new h g =
     let five = h.2.2.2.2.0 in
     let ready = λ (p : Machines). ready_of three.keys (views three.system_ports) p.choice in
     let g1 = in_each P P N (RunsToRest (mux_rows false)) n (kept.mux false) old.system_ports one.system_ports h.1.0 g in
-    let g2 = in_same P N n (with_system_ports one (after_choices one.keys (length one.system_ports) one.system_ports)) two (same_slots (with_system_ports one (after_choices one.keys (length one.system_ports) one.system_ports)) two h.2.1) (in_chosen P N n kept one.keys (length one.system_ports) one.system_ports g1) in
+    let g2 = in_same P N n (with_system_ports one (after_choices one.keys (length one.system_ports) one.system_ports)) two
+    (same_slots (with_system_ports one (after_choices one.keys (length one.system_ports) one.system_ports)) two h.2.1)
+    (in_chosen P N n kept one.keys (length one.system_ports) one.system_ports g1) in
     let g3 = in_same P N n two three (same_slots two three h.2.2.1) g2 in
-    let g4 = in_each P P N (λ p q. RunsToRest (mux_rows (ready p)) p q) n (λ p q d. kept.mux (ready p) p q d) three.system_ports four.system_ports h.2.2.2.1.0 g3 in
+    let g4 = in_each P P N (λ p q. RunsToRest (mux_rows (ready p)) p q) n (λ p q d. kept.mux (ready p) p q d) three.system_ports
+    four.system_ports h.2.2.2.1.0 g3 in
     let g5 = in_each P P N RunsPeriodic n kept.periodic four.system_ports five.system_ports h.2.2.2.2.1.0 g4 in
     in_same P N n five new (last_slots old new h) g5
 
@@ -180,19 +202,25 @@ good_kept now before = record {
 
 -- the calls' own effects
 
-in_place : (P : Machines → Type 0) (N : Type 0) (n : ℕ) (R : Machines → Machines → Type 0) → ((p q : Machines) → R p q → P p → P q) → (o : Option ℕ) (old new : List SystemPort) → PortAtChangesBy R o old new → In P N n old → In P N n new
+in_place : (P : Machines → Type 0) (N : Type 0) (n : ℕ) (R : Machines → Machines → Type 0) → ((p q : Machines) → R p q → P p → P q)
+    → (o : Option ℕ) (old new : List SystemPort) → PortAtChangesBy R o old new → In P N n old → In P N n new
 in_place P N n R move None old new h g = absurd h
 in_place P N n R move (Some i) old new h g =
     subst (In P N n) (sym h.4) (in_set P N n old i h.0 (record h.0 { port = h.1 }) h.2 refl (move h.0.port h.1 h.3) g)
 
-in_on_port : (P : Machines → Type 0) (N : Type 0) (n : ℕ) → IsKept P → (R : Machines → Machines → Type 0) → ((p q : Machines) → R p q → P p → P q) → (o : Option ℕ) (old new : SystemState) → ThenSettles (OnlyPortChangesBy o R) old new
+in_on_port : (P : Machines → Type 0) (N : Type 0) (n : ℕ) → IsKept P → (R : Machines → Machines → Type 0)
+    → ((p q : Machines) → R p q → P p → P q) → (o : Option ℕ) (old new : SystemState) → ThenSettles (OnlyPortChangesBy o R) old new
     → In P N n old.system_ports → In P N n new.system_ports
-in_on_port P N n kept R move o old new h g = in_settling P N n kept h.0 new h.2 (in_place P N n R move o old.system_ports h.0.system_ports h.1.0 g)
+in_on_port P N n kept R move o old new h g = in_settling P N n kept h.0 new h.2
+    (in_place P N n R move o old.system_ports h.0.system_ports h.1.0 g)
 
-in_does : (P : Machines → Type 0) (N : Type 0) (n : ℕ) → IsKept P → (effect : FrameEffect) (number : ℕ) (o : Option ℕ) (old : SystemState) (answer : Received) (new : SystemState) → Performs effect number o old answer new
+in_does : (P : Machines → Type 0) (N : Type 0) (n : ℕ) → IsKept P
+    → (effect : FrameEffect) (number : ℕ) (o : Option ℕ) (old : SystemState) (answer : Received) (new : SystemState)
+    → Performs effect number o old answer new
     → In P N n old.system_ports → In P N n new.system_ports
 in_does P N n kept (ProcessLacpdu v) number o old answer new h g = in_on_port P N n kept (ProcessesLacpdu v) (kept.take v) o old new h.1 g
-in_does P N n kept (Response m) number o old answer new h g = in_same P N n old new (releases_slots (is_own_response old number m) number m old answer new h) g
+in_does P N n kept (Response m) number o old answer new h g = in_same P N n old new
+    (releases_slots (is_own_response old number m) number m old answer new h) g
 in_does P N n kept (Answered effect) number o old answer new h g = in_same P N n old new (same_slots old new h.1) g
 
 -- neither a tick nor a send nor a restart
@@ -202,62 +230,79 @@ IsOther Restart = ⊥
 IsOther (Transmit m) = ⊥
 IsOther call = Unit {0}
 
-in_step : (P : Machines → Type 0) (N : Type 0) (n : ℕ) → IsKept P → (gives : ℕ → ℕ → ℕ → Type 0) (old : SystemState) (call : Call) (answer : Reply) (new : SystemState) → IsOther call → Step gives old call answer new
+in_step : (P : Machines → Type 0) (N : Type 0) (n : ℕ) → IsKept P
+    → (gives : ℕ → ℕ → ℕ → Type 0) (old : SystemState) (call : Call) (answer : Reply) (new : SystemState) → IsOther call
+    → Step gives old call answer new
     → In P N n old.system_ports → In P N n new.system_ports
 in_step P N n kept gives old (Set_link m up) (reply.SetLink (Ok done)) new o h g =
-    in_settling P N n kept h.0 new h.2 (in_place P N n (SetsPortEnabled up) (kept.link up) (port_index m old.system_ports) old.system_ports h.0.system_ports h.1.0 g)
+    in_settling P N n kept h.0 new h.2 (in_place P N n (SetsPortEnabled up) (kept.link up) (port_index m old.system_ports) old.system_ports
+    h.0.system_ports h.1.0 g)
 in_step P N n kept gives old (Set_link m up) (reply.SetLink (Err fault)) new o h g = in_same P N n old new (same_slots old new h.same) g
-in_step P N n kept gives old (Receive m octets) (reply.Receive (Ok answer)) new o h g = in_does P N n kept h.1 h.0.number (port_index m old.system_ports) old answer new h.4 g
+in_step P N n kept gives old (Receive m octets) (reply.Receive (Ok answer)) new o h g = in_does P N n kept h.1 h.0.number
+    (port_index m old.system_ports) old answer new h.4 g
 in_step P N n kept gives old (Receive m octets) (reply.Receive (Err fault)) new o h g = in_same P N n old new (same_slots old new h.same) g
-in_step P N n kept gives old (Configure m change) (reply.Configure (Ok true)) new o h g = in_on_port P N n kept (ChangesParty change) (kept.party change) (port_index m old.system_ports) old new h g
+in_step P N n kept gives old (Configure m change) (reply.Configure (Ok true)) new o h g = in_on_port P N n kept (ChangesParty change)
+    (kept.party change) (port_index m old.system_ports) old new h g
 in_step P N n kept gives old (Configure m change) (reply.Configure (Ok false)) new o h g = in_same P N n old new (same_slots old new h.1) g
-in_step P N n kept gives old (Configure m change) (reply.Configure (Err fault)) new o h g = in_same P N n old new (same_slots old new h.same) g
-in_step P N n kept gives old (Offer agg octets) (reply.Offer answer) new o h g = in_same P N n old new (offers_slots gives agg octets old answer new h) g
+in_step P N n kept gives old (Configure m change) (reply.Configure (Err fault)) new o h g = in_same P N n old new
+    (same_slots old new h.same) g
+in_step P N n kept gives old (Offer agg octets) (reply.Offer answer) new o h g = in_same P N n old new
+    (offers_slots gives agg octets old answer new h) g
 in_step P N n kept gives old (Move_conversation agg conv to) (reply.MoveConversation answer) new o h g =
     in_same P N n old new (becomes_slots agg conv (system_move_result old agg conv to) old answer new h) g
-in_step P N n kept gives old (Force agg conv) (reply.Force answer) new o h g = in_same P N n old new (becomes_slots agg conv (system_force_result old agg conv) old answer new h) g
+in_step P N n kept gives old (Force agg conv) (reply.Force answer) new o h g = in_same P N n old new
+    (becomes_slots agg conv (system_force_result old agg conv) old answer new h) g
 in_step P N n kept gives old Tick answer new o h g = absurd o
 in_step P N n kept gives old Restart answer new o h g = absurd o
 in_step P N n kept gives old (Transmit m) answer new o h g = absurd o
 in_step P N n kept gives old call answer new o h g = absurd h
 
-good_settling : (n now : ℕ) (before : List ℕ) (old new : SystemState) → Settling old new → GoodIn n now before old.system_ports → GoodIn n now before new.system_ports
+good_settling : (n now : ℕ) (before : List ℕ) (old new : SystemState) → Settling old new → GoodIn n now before old.system_ports
+    → GoodIn n now before new.system_ports
 good_settling n now before old new h g = in_settling (λ p. Good now p before) (KeepsWindow before) n (good_kept now before) old new h g
 
-good_same : (n now : ℕ) (before : List ℕ) (old new : SystemState) → new.system_ports ≡ old.system_ports → GoodIn n now before old.system_ports → GoodIn n now before new.system_ports
+good_same : (n now : ℕ) (before : List ℕ) (old new : SystemState) → new.system_ports ≡ old.system_ports
+    → GoodIn n now before old.system_ports → GoodIn n now before new.system_ports
 good_same n now before old new e g = in_same (λ p. Good now p before) (KeepsWindow before) n old new e g
 
 -- sending
 
 -- the place of a number is that of the first port with it
-at_place : (n : ℕ) (xs : List SystemPort) (b : Bool) (k : ℕ) → nat_lt k (length xs) ≡ b → system_port_at (cond b (Some k) None) xs ≡ slice_get xs k
+at_place : (n : ℕ) (xs : List SystemPort) (b : Bool) (k : ℕ) → nat_lt k (length xs) ≡ b
+    → system_port_at (cond b (Some k) None) xs ≡ slice_get xs k
 at_place n xs true k e = refl
 at_place n xs false k e = sym (slice_get_past xs k (grind (arith, nat_tests)))
 
 found : (n : ℕ) (xs : List SystemPort) → system_port_at (port_index n xs) xs ≡ find (is_numbered n) xs
 found n xs = let k = position_or_len (is_numbered n) xs in at_place n xs (nat_lt k (length xs)) k refl ∙ sym (find_at (is_numbered n) xs)
 
-found_set : (p : SystemPort → Bool) (xs : List SystemPort) (i : ℕ) (s t : SystemPort) → slice_get xs i ≡ Some s → ((k : ℕ) → k < i → p (get_or xs k s) ≡ false) → p t ≡ true → find p (slice_set xs i t) ≡ Some t
+found_set : (p : SystemPort → Bool) (xs : List SystemPort) (i : ℕ) (s t : SystemPort) → slice_get xs i ≡ Some s
+    → ((k : ℕ) → k < i → p (get_or xs k s) ≡ false) → p t ≡ true → find p (slice_set xs i t) ≡ Some t
 found_set p [] i s t e h k = absurd cc
 found_set p (x ∷ xs) zero s t e h k = ap (λ b. cond b (Some t) (find p xs)) k
 found_set p (x ∷ xs) (suc i) s t e h k =
-    ap (λ b. cond b (Some x) (find p (slice_set xs i t))) (h zero (omega arith)) ∙ found_set p xs i s t e (λ j l. h (suc j) (omega (arith, l))) k
+    ap (λ b. cond b (Some x) (find p (slice_set xs i t))) (h zero (omega arith))
+    ∙ found_set p xs i s t e (λ j l. h (suc j) (omega (arith, l))) k
 
-found_other : (p : SystemPort → Bool) (xs : List SystemPort) (i : ℕ) (s t : SystemPort) → slice_get xs i ≡ Some s → p s ≡ false → p t ≡ false → find p (slice_set xs i t) ≡ find p xs
+found_other : (p : SystemPort → Bool) (xs : List SystemPort) (i : ℕ) (s t : SystemPort) → slice_get xs i ≡ Some s → p s ≡ false
+    → p t ≡ false → find p (slice_set xs i t) ≡ find p xs
 found_other p [] i s t e h k = refl
 found_other p (x ∷ xs) zero s t e h k =
     let here : p x ≡ false = ap p (same_Some x s e) ∙ h in
     ap (λ b. cond b (Some t) (find p xs)) k ∙ sym (ap (λ b. cond b (Some x) (find p xs)) here)
 found_other p (x ∷ xs) (suc i) s t e h k = ap (λ o. cond (p x) (Some x) o) (found_other p xs i s t e h k)
 
-good_sent : (m n now : ℕ) (before : List ℕ) (b : Bool) (xs : List SystemPort) (i : ℕ) (s t : SystemPort) → (m == n) ≡ b → port_index m xs ≡ Some i → slice_get xs i ≡ Some s → t.number ≡ s.number
-    → (Good now s.port before → Good now t.port (before ++ now ∷ [])) → GoodIn n now before xs → GoodIn n now (if b then before ++ now ∷ [] else before) (slice_set xs i t)
+good_sent : (m n now : ℕ) (before : List ℕ) (b : Bool) (xs : List SystemPort) (i : ℕ) (s t : SystemPort) → (m == n) ≡ b
+    → port_index m xs ≡ Some i → slice_get xs i ≡ Some s → t.number ≡ s.number
+    → (Good now s.port before → Good now t.port (before ++ now ∷ [])) → GoodIn n now before xs
+    → GoodIn n now (if b then before ++ now ∷ [] else before) (slice_set xs i t)
 good_sent m n now before true xs i s t b read_field at k send g =
     let same : m ≡ n = eqb-true m n b in
     let first = position-Some (is_numbered m) xs i s read_field in
     let numbered : (s.number == m) ≡ true = ap (is_numbered m) (sym (get_or_from_slice_get xs i s s at)) ∙ first.1 in
     let old : find (is_numbered m) xs ≡ Some s = sym (found m xs) ∙ ap (λ o. system_port_at o xs) read_field ∙ at in
-    let new : find (is_numbered m) (slice_set xs i t) ≡ Some t = found_set (is_numbered m) xs i s t at first.2 (ap (λ j. j == m) k ∙ numbered) in
+    let new : find (is_numbered m) (slice_set xs i t) ≡ Some t = found_set (is_numbered m) xs i s t at first.2
+    (ap (λ j. j == m) k ∙ numbered) in
     let g' : GoodIn m now before xs = subst (λ j. GoodIn j now before xs) (sym same) g in
     subst (λ j. GoodIn j now (before ++ now ∷ []) (slice_set xs i t)) same
     (subst (λ o. GoodAt now (before ++ now ∷ []) (port_in o)) (sym new) (send (subst (λ o. GoodAt now before (port_in o)) old g')))
@@ -267,15 +312,18 @@ good_sent m n now before false xs i s t b read_field at k send g =
     let other : (s.number == n) ≡ false = ap (λ j. j == n) numbered ∙ b in
     subst (λ o. GoodAt now before (port_in o)) (sym (found_other (is_numbered n) xs i s t at other (ap (λ j. j == n) k ∙ other))) g
 
-good_sends : (now : ℕ) (before : List ℕ) (p : Machines) → is_due p ≡ true → Good now p before → Good now (after_sending p) (before ++ now ∷ [])
+good_sends : (now : ℕ) (before : List ℕ) (p : Machines) → is_due p ≡ true → Good now p before
+    → Good now (after_sending p) (before ++ now ∷ [])
 good_sends now before p due g =
     subst (λ b. Good now (after_sending p) (if b then before ++ now ∷ [] else before)) due
     (good_call now (port.Transmit 0) p (after_sending p) before (sym (ap (λ b. if b then after_sending p else p) due)) g)
 
 -- the octet behind the header of a control frame
-subtype_of : (mac payload : List ℕ) (k : ℕ) → IsAddress mac → HoldsNumber payload (read_field 0 1 k) → subtype (frame_octets mac payload) ≡ k
+subtype_of : (mac payload : List ℕ) (k : ℕ) → IsAddress mac → HoldsNumber payload (read_field 0 1 k)
+    → subtype (frame_octets mac payload) ≡ k
 subtype_of mac payload k a h =
-    let behind : HoldsNumber (drop 14 (frame_octets mac payload)) (read_field 0 1 k) = subst (λ b. HoldsNumber b (read_field 0 1 k)) (sym (framed_payload mac payload a.0)) h in
+    let behind : HoldsNumber (drop 14 (frame_octets mac payload)) (read_field 0 1 k) = subst (λ b. HoldsNumber b (read_field 0 1 k))
+    (sym (framed_payload mac payload a.0)) h in
     sym (octet_stands (frame_octets mac payload) 14) ∙ behind
 
 -- a call that answers nothing, or a frame with this subtype
@@ -299,35 +347,49 @@ other_kind m n now before = with_false (m == n)
     with_false true = refl
     with_false false = refl
 
-good_marker : (m n now : ℕ) (before : List ℕ) (o : Option ℕ) (number : ℕ) (mac : List ℕ) (old : SystemState) (answer : Option (List ℕ)) (new : SystemState) → SendsMarkerOf o number mac old answer new
+good_marker : (m n now : ℕ) (before : List ℕ) (o : Option ℕ) (number : ℕ) (mac : List ℕ) (old : SystemState) (answer : Option (List ℕ))
+    (new : SystemState) → SendsMarkerOf o number mac old answer new
     → GoodIn n now before old.system_ports → GoodIn n now (after_transmit m n now before answer) new.system_ports
 good_marker m n now before None number mac old answer new h g =
-    subst (λ a. GoodIn n now (after_transmit m n now before a) new.system_ports) (sym h.0) (good_same n now before old new (same_slots old new h.1) g)
+    subst (λ a. GoodIn n now (after_transmit m n now before a) new.system_ports) (sym h.0)
+    (good_same n now before old new (same_slots old new h.1) g)
 good_marker m n now before (Some id) number mac old answer new h g =
     let kind : subtype (frame_octets mac h.0) ≡ 2 = subtype_of mac h.0 2 h.1 h.2.table.fields_hold.0 in
-    let none : after_transmit m n now before (Some (frame_octets mac h.0)) ≡ before = ap (after_frame m n before now) kind ∙ other_kind m n now before in
+    let none : after_transmit m n now before (Some (frame_octets mac h.0)) ≡ before = ap (after_frame m n before now) kind
+    ∙ other_kind m n now before in
     subst (λ a. GoodIn n now (after_transmit m n now before a) new.system_ports) (sym h.3)
-    (subst (λ sends. GoodIn n now sends new.system_ports) (sym none) (good_same n now before old new (ap (λ (x : SystemState). x.system_ports) h.5) g))
+    (subst (λ sends. GoodIn n now sends new.system_ports) (sym none)
+    (good_same n now before old new (ap (λ (x : SystemState). x.system_ports) h.5) g))
 
-good_where : (m n now : ℕ) (before : List ℕ) (up due : Bool) (i : ℕ) (system_port : SystemPort) (old : SystemState) (answer : Option (List ℕ)) (new : SystemState)
-    → is_due system_port.port ≡ due → port_index m old.system_ports ≡ Some i → slice_get old.system_ports i ≡ Some system_port → TransmitsIf up due i system_port old answer new
+good_where : (m n now : ℕ) (before : List ℕ) (up due : Bool) (i : ℕ) (system_port : SystemPort) (old : SystemState)
+    (answer : Option (List ℕ)) (new : SystemState)
+    → is_due system_port.port ≡ due → port_index m old.system_ports ≡ Some i → slice_get old.system_ports i ≡ Some system_port
+    → TransmitsIf up due i system_port old answer new
     → GoodIn n now before old.system_ports → GoodIn n now (after_transmit m n now before answer) new.system_ports
 good_where m n now before false due i system_port old answer new d at e h g =
-    subst (λ a. GoodIn n now (after_transmit m n now before a) new.system_ports) (sym h.0) (good_same n now before old new (same_slots old new h.1) g)
-good_where m n now before true false i system_port old answer new d at e h g = good_marker m n now before (marker_due old.table system_port.number) system_port.number system_port.mac old answer new h g
+    subst (λ a. GoodIn n now (after_transmit m n now before a) new.system_ports) (sym h.0)
+    (good_same n now before old new (same_slots old new h.1) g)
+good_where m n now before true false i system_port old answer new d at e h g = good_marker m n now before
+    (marker_due old.table system_port.number) system_port.number system_port.mac old answer new h g
 good_where m n now before true true i system_port old answer new d at e h g =
     let payload = h.1.0 in
     let kind : subtype h.0 ≡ 1 = ap subtype h.1.3 ∙ subtype_of system_port.mac payload 1 h.1.1 h.1.2.table.fields_hold.0 in
-    let one : after_transmit m n now before (Some h.0) ≡ (if m == n then before ++ now ∷ [] else before) = ap (after_frame m n before now) kind ∙ first_kind m n now before in
-    let set : new.system_ports ≡ slice_set old.system_ports i (record system_port { port = after_sending system_port.port }) = ap (λ (x : SystemState). x.system_ports) h.3 in
-    let sent_on = good_sent m n now before (m == n) old.system_ports i system_port (record system_port { port = after_sending system_port.port }) refl at e refl (good_sends now before system_port.port d) g in
+    let one : after_transmit m n now before (Some h.0) ≡ (if m == n then before ++ now ∷ [] else before) =
+    ap (after_frame m n before now) kind ∙ first_kind m n now before in
+    let set : new.system_ports ≡ slice_set old.system_ports i (record system_port { port = after_sending system_port.port }) =
+    ap (λ (x : SystemState). x.system_ports) h.3 in
+    let sent_on = good_sent m n now before (m == n) old.system_ports i system_port
+    (record system_port { port = after_sending system_port.port }) refl at e refl (good_sends now before system_port.port d) g in
     subst (λ a. GoodIn n now (after_transmit m n now before a) new.system_ports) (sym h.2)
-    (subst (λ sends. GoodIn n now sends new.system_ports) (sym one) (subst (GoodIn n now (if m == n then before ++ now ∷ [] else before)) (sym set) sent_on))
+    (subst (λ sends. GoodIn n now sends new.system_ports) (sym one)
+    (subst (GoodIn n now (if m == n then before ++ now ∷ [] else before)) (sym set) sent_on))
 
-good_transmit : (m n now : ℕ) (before : List ℕ) (o : Option ℕ) (old : SystemState) (answer : Option (List ℕ)) (new : SystemState) → port_index m old.system_ports ≡ o → TransmitsAt o old answer new
+good_transmit : (m n now : ℕ) (before : List ℕ) (o : Option ℕ) (old : SystemState) (answer : Option (List ℕ)) (new : SystemState)
+    → port_index m old.system_ports ≡ o → TransmitsAt o old answer new
     → GoodIn n now before old.system_ports → GoodIn n now (after_transmit m n now before answer) new.system_ports
 good_transmit m n now before None old answer new at h g = absurd h
-good_transmit m n now before (Some i) old answer new at h g = good_where m n now before h.0.port.enabled (is_due h.0.port) i h.0 old answer new refl at h.1 h.2 g
+good_transmit m n now before (Some i) old answer new at h g = good_where m n now before h.0.port.enabled (is_due h.0.port) i h.0 old
+    answer new refl at h.1 h.2 g
 
 -- a start
 
@@ -351,13 +413,15 @@ empty_kept = ages_kept (λ ages. ages ≡ [])
 empty_start : (s : Setup) (p : Machines) → Starts (before_start s) p → IsEmpty p
 empty_start s p h = starts-ages (before_start s) p h
 
-empty_new : (n : ℕ) (system : SystemId) (ports : List PortConfig) (system_ports : List SystemPort) → AllZip (HasJustStarted system) ports system_ports → In IsEmpty Unit n system_ports
+empty_new : (n : ℕ) (system : SystemId) (ports : List PortConfig) (system_ports : List SystemPort)
+    → AllZip (HasJustStarted system) ports system_ports → In IsEmpty Unit n system_ports
 empty_new n system [] [] h = tt
 empty_new n system [] (s ∷ ss) h = absurd h
 empty_new n system (c ∷ cs) [] h = absurd h
 empty_new n system (c ∷ cs) (s ∷ ss) h =
     let o = find (is_numbered n) ss in
-    at_first (λ _. Unit) IsEmpty Unit (s.number == n) s s o o (λ _. empty_start (setup_of system c) s.port h.0.2) (λ _. empty_new n system cs ss h.1) (at_unit (port_in (cond (s.number == n) (Some s) o)))
+    at_first (λ _. Unit) IsEmpty Unit (s.number == n) s s o o (λ _. empty_start (setup_of system c) s.port h.0.2)
+    (λ _. empty_new n system cs ss h.1) (at_unit (port_in (cond (s.number == n) (Some s) o)))
   where
     at_unit : (o : Option Machines) → At (λ _. Unit) Unit o
     at_unit None = tt
@@ -389,36 +453,51 @@ good_first n s h =
 
 -- runs
 
-good_step : (gives : ℕ → ℕ → ℕ → Type 0) (n now : ℕ) (before : List ℕ) (old : SystemState) (call : Call) (answer : Reply) (new : SystemState) → Step gives old call answer new
+good_step : (gives : ℕ → ℕ → ℕ → Type 0) (n now : ℕ) (before : List ℕ) (old : SystemState) (call : Call) (answer : Reply)
+    (new : SystemState) → Step gives old call answer new
     → GoodIn n now before old.system_ports → GoodIn n (tick_after call now) (sends_after n now call answer before) new.system_ports
 good_step gives n now before old Tick reply.Tick new h g =
     good_settling n (now + 1) before h.0 new h.2
-    (in_each (λ p. Good now p before) (λ p. Good (now + 1) p before) (KeepsWindow before) (λ p q. RunsToRest receive_rows (count_down p) q) n (λ p q d. good_call now port.Tick p q before d) old.system_ports h.0.system_ports h.1.0 g)
+    (in_each (λ p. Good now p before) (λ p. Good (now + 1) p before) (KeepsWindow before) (λ p q. RunsToRest receive_rows (count_down p) q)
+    n (λ p q d. good_call now port.Tick p q before d) old.system_ports h.0.system_ports h.1.0 g)
 good_step gives n now before old Restart reply.Restart new h g = good_first n new h.1
-good_step gives n now before old (Transmit m) (reply.Transmit (Ok answer)) new h g = good_transmit m n now before (port_index m old.system_ports) old answer new refl h g
-good_step gives n now before old (Transmit m) (reply.Transmit (Err fault)) new h g = good_same n now before old new (same_slots old new h.same) g
-good_step gives n now before old (Set_link m up) answer new h g = in_step (λ p. Good now p before) (KeepsWindow before) n (good_kept now before) gives old (Set_link m up) answer new tt h g
-good_step gives n now before old (Receive m octets) answer new h g = in_step (λ p. Good now p before) (KeepsWindow before) n (good_kept now before) gives old (Receive m octets) answer new tt h g
-good_step gives n now before old (Configure m change) answer new h g = in_step (λ p. Good now p before) (KeepsWindow before) n (good_kept now before) gives old (Configure m change) answer new tt h g
-good_step gives n now before old (Offer agg octets) answer new h g = in_step (λ p. Good now p before) (KeepsWindow before) n (good_kept now before) gives old (Offer agg octets) answer new tt h g
+good_step gives n now before old (Transmit m) (reply.Transmit (Ok answer)) new h g = good_transmit m n now before
+    (port_index m old.system_ports) old answer new refl h g
+good_step gives n now before old (Transmit m) (reply.Transmit (Err fault)) new h g = good_same n now before old new
+    (same_slots old new h.same) g
+good_step gives n now before old (Set_link m up) answer new h g = in_step (λ p. Good now p before) (KeepsWindow before) n
+    (good_kept now before) gives old (Set_link m up) answer new tt h g
+good_step gives n now before old (Receive m octets) answer new h g = in_step (λ p. Good now p before) (KeepsWindow before) n
+    (good_kept now before) gives old (Receive m octets) answer new tt h g
+good_step gives n now before old (Configure m change) answer new h g = in_step (λ p. Good now p before) (KeepsWindow before) n
+    (good_kept now before) gives old (Configure m change) answer new tt h g
+good_step gives n now before old (Offer agg octets) answer new h g = in_step (λ p. Good now p before) (KeepsWindow before) n
+    (good_kept now before) gives old (Offer agg octets) answer new tt h g
 good_step gives n now before old (Move_conversation agg conv to) answer new h g =
-    in_step (λ p. Good now p before) (KeepsWindow before) n (good_kept now before) gives old (Move_conversation agg conv to) answer new tt h g
-good_step gives n now before old (Force agg conv) answer new h g = in_step (λ p. Good now p before) (KeepsWindow before) n (good_kept now before) gives old (Force agg conv) answer new tt h g
+    in_step (λ p. Good now p before) (KeepsWindow before) n (good_kept now before) gives old
+    (Move_conversation agg conv to) answer new tt h g
+good_step gives n now before old (Force agg conv) answer new h g = in_step (λ p. Good now p before) (KeepsWindow before) n
+    (good_kept now before) gives old (Force agg conv) answer new tt h g
 good_step gives n now before old call answer new h g = absurd h
 
-good_run : (gives : ℕ → ℕ → ℕ → Type 0) (n now : ℕ) (before : List ℕ) (old new : SystemState) (calls : List Call) (replies : List Reply) → TableRun gives old calls replies new
+good_run : (gives : ℕ → ℕ → ℕ → Type 0) (n now : ℕ) (before : List ℕ) (old new : SystemState) (calls : List Call) (replies : List Reply)
+    → TableRun gives old calls replies new
     → GoodIn n now before old.system_ports → StaysWindowed n now before calls replies
 good_run gives n now before old new [] [] h g = good_end now before (port_in (find (is_numbered n) old.system_ports)) g
 good_run gives n now before old new [] (r ∷ rs) h g = absurd h
 good_run gives n now before old new (c ∷ cs) [] h g = absurd h
-good_run gives n now before old new (c ∷ cs) (r ∷ rs) h g =
-    (good_end now before (port_in (find (is_numbered n) old.system_ports)) g, good_run gives n (tick_after c now) (sends_after n now c r before) h.0 new cs rs h.2 (good_step gives n now before old c r h.0 h.1 g))
+good_run gives n now before old new (c ∷ cs) (r ∷ rs) h g = (
+  good_end now before (port_in (find (is_numbered n) old.system_ports)) g,
+  good_run gives n (tick_after c now) (sends_after n now c r before) h.0 new cs rs h.2
+      (good_step gives n now before old c r h.0 h.1 g),
+)
 
 pub window_law : (gives : ℕ → ℕ → ℕ → Type 0) → SystemWindowLaw gives
 window_law gives old new calls replies three run n now since =
     let o = machines_of n old in
     let g = good_few now o since (three n) in
-    good_run gives n now (remembered_sends now o) old new calls replies run (subst (λ x. GoodAt now (remembered_sends now o) (port_in x)) (found n old.system_ports) g)
+    good_run gives n now (remembered_sends now o) old new calls replies run
+    (subst (λ x. GoodAt now (remembered_sends now o) (port_in x)) (found n old.system_ports) g)
 
 pub window_from_start : (gives : ℕ → ℕ → ℕ → Type 0) → WindowFromStart gives
 window_from_start gives n old new calls replies first run = good_run gives n 0 [] old new calls replies run (good_first n old first)
@@ -457,19 +536,26 @@ FewIn n system_ports = In IsFew Unit n system_ports
 few_same : (n : ℕ) (old new : SystemState) → new.system_ports ≡ old.system_ports → FewIn n old.system_ports → FewIn n new.system_ports
 few_same n old new e g = in_same IsFew Unit n old new e g
 
-few_marker : (n : ℕ) (o : Option ℕ) (number : ℕ) (mac : List ℕ) (old : SystemState) (answer : Option (List ℕ)) (new : SystemState) → SendsMarkerOf o number mac old answer new → FewIn n old.system_ports → FewIn n new.system_ports
+few_marker : (n : ℕ) (o : Option ℕ) (number : ℕ) (mac : List ℕ) (old : SystemState) (answer : Option (List ℕ)) (new : SystemState)
+    → SendsMarkerOf o number mac old answer new → FewIn n old.system_ports → FewIn n new.system_ports
 few_marker n None number mac old answer new h g = few_same n old new (same_slots old new h.1) g
 few_marker n (Some id) number mac old answer new h g = few_same n old new (ap (λ (x : SystemState). x.system_ports) h.5) g
 
-few_where : (n : ℕ) (up due : Bool) (i : ℕ) (system_port : SystemPort) (old : SystemState) (answer : Option (List ℕ)) (new : SystemState) → is_due system_port.port ≡ due → slice_get old.system_ports i ≡ Some system_port → TransmitsIf up due i system_port old answer new
+few_where : (n : ℕ) (up due : Bool) (i : ℕ) (system_port : SystemPort) (old : SystemState) (answer : Option (List ℕ)) (new : SystemState)
+    → is_due system_port.port ≡ due → slice_get old.system_ports i ≡ Some system_port → TransmitsIf up due i system_port old answer new
     → FewIn n old.system_ports → FewIn n new.system_ports
 few_where n false due i system_port old answer new d e h g = few_same n old new (same_slots old new h.1) g
-few_where n true false i system_port old answer new d e h g = few_marker n (marker_due old.table system_port.number) system_port.number system_port.mac old answer new h g
+few_where n true false i system_port old answer new d e h g = few_marker n (marker_due old.table system_port.number) system_port.number
+    system_port.mac old answer new h g
 few_where n true true i system_port old answer new d e h g =
-    let set : new.system_ports ≡ slice_set old.system_ports i (record system_port { port = after_sending system_port.port }) = ap (λ (x : SystemState). x.system_ports) h.3 in
-    subst (FewIn n) (sym set) (in_set IsFew Unit n old.system_ports i system_port (record system_port { port = after_sending system_port.port }) e refl (λ _. sent_few system_port.port d) g)
+    let set : new.system_ports ≡ slice_set old.system_ports i (record system_port { port = after_sending system_port.port }) =
+    ap (λ (x : SystemState). x.system_ports) h.3 in
+    subst (FewIn n) (sym set)
+    (in_set IsFew Unit n old.system_ports i system_port (record system_port { port = after_sending system_port.port }) e refl
+    (λ _. sent_few system_port.port d) g)
 
-few_transmit : (n : ℕ) (o : Option ℕ) (old : SystemState) (answer : Option (List ℕ)) (new : SystemState) → TransmitsAt o old answer new → FewIn n old.system_ports → FewIn n new.system_ports
+few_transmit : (n : ℕ) (o : Option ℕ) (old : SystemState) (answer : Option (List ℕ)) (new : SystemState) → TransmitsAt o old answer new
+    → FewIn n old.system_ports → FewIn n new.system_ports
 few_transmit n None old answer new h g = absurd h
 few_transmit n (Some i) old answer new h g = few_where n h.0.port.enabled (is_due h.0.port) i h.0 old answer new refl h.1 h.2 g
 
@@ -480,8 +566,10 @@ at_few (Some p) h = subst (λ ages. length ages ≤ 3) (sym h) (omega arith)
 few_kept : IsKept IsFew
 few_kept = ages_kept (λ ages. length ages ≤ 3)
 
-few_step : (n : ℕ) (gives : ℕ → ℕ → ℕ → Type 0) (old : SystemState) (call : Call) (answer : Reply) (new : SystemState) → Step gives old call answer new → FewIn n old.system_ports → FewIn n new.system_ports
-few_step n gives old Tick reply.Tick new h g = in_settling IsFew Unit n few_kept h.0 new h.2 (in_each IsFew IsFew Unit (λ p q. RunsToRest receive_rows (count_down p) q) n tick_few old.system_ports h.0.system_ports h.1.0 g)
+few_step : (n : ℕ) (gives : ℕ → ℕ → ℕ → Type 0) (old : SystemState) (call : Call) (answer : Reply) (new : SystemState)
+    → Step gives old call answer new → FewIn n old.system_ports → FewIn n new.system_ports
+few_step n gives old Tick reply.Tick new h g = in_settling IsFew Unit n few_kept h.0 new h.2
+    (in_each IsFew IsFew Unit (λ p q. RunsToRest receive_rows (count_down p) q) n tick_few old.system_ports h.0.system_ports h.1.0 g)
 few_step n gives old Restart reply.Restart new h g = at_few (port_in (find (is_numbered n) new.system_ports)) (empty_first n new h.1)
 few_step n gives old (Transmit m) (reply.Transmit (Ok answer)) new h g = few_transmit n (port_index m old.system_ports) old answer new h g
 few_step n gives old (Transmit m) (reply.Transmit (Err fault)) new h g = few_same n old new (same_slots old new h.same) g
@@ -489,7 +577,8 @@ few_step n gives old (Set_link m up) answer new h g = in_step IsFew Unit n few_k
 few_step n gives old (Receive m octets) answer new h g = in_step IsFew Unit n few_kept gives old (Receive m octets) answer new tt h g
 few_step n gives old (Configure m change) answer new h g = in_step IsFew Unit n few_kept gives old (Configure m change) answer new tt h g
 few_step n gives old (Offer agg octets) answer new h g = in_step IsFew Unit n few_kept gives old (Offer agg octets) answer new tt h g
-few_step n gives old (Move_conversation agg conv to) answer new h g = in_step IsFew Unit n few_kept gives old (Move_conversation agg conv to) answer new tt h g
+few_step n gives old (Move_conversation agg conv to) answer new h g = in_step IsFew Unit n few_kept gives old
+    (Move_conversation agg conv to) answer new tt h g
 few_step n gives old (Force agg conv) answer new h g = in_step IsFew Unit n few_kept gives old (Force agg conv) answer new tt h g
 few_step n gives old call answer new h g = absurd h
 
@@ -504,7 +593,10 @@ few_from (Some p) h = h
 pub first_three : (s : SystemState) → IsFirst s → EachAtMostThreeAges s
 first_three s h n = three_empty (machines_of n s) (empty_of n s h)
 
-pub Step-three : (gives : ℕ → ℕ → ℕ → Type 0) (old : SystemState) (call : Call) (answer : Reply) (new : SystemState) → Step gives old call answer new → EachAtMostThreeAges old → EachAtMostThreeAges new
+pub Step-three : (gives : ℕ → ℕ → ℕ → Type 0) (old : SystemState) (call : Call) (answer : Reply) (new : SystemState)
+    → Step gives old call answer new → EachAtMostThreeAges old → EachAtMostThreeAges new
 Step-three gives old call answer new h three n =
-    let before : FewIn n old.system_ports = subst (λ x. At IsFew Unit (port_in x)) (found n old.system_ports) (few_from (machines_of n old) (three n)) in
-    three_from (machines_of n new) (subst (λ x. At IsFew Unit (port_in x)) (sym (found n new.system_ports)) (few_step n gives old call answer new h before))
+    let before : FewIn n old.system_ports = subst (λ x. At IsFew Unit (port_in x)) (found n old.system_ports)
+    (few_from (machines_of n old) (three n)) in
+    three_from (machines_of n new) (subst (λ x. At IsFew Unit (port_in x)) (sym (found n new.system_ports))
+    (few_step n gives old call answer new h before))

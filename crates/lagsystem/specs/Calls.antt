@@ -1,5 +1,6 @@
 -- What each call of a system does, as a relation between the states before and after it.
-use Rattle.std.specs.Prelude.{◌≡◌, ◌≤◌, ◌<◌, ◌⊎◌, ℕ, Bool, true, false, List, [], ◌∷◌, length, drop, ◌==◌, ◌&&◌, Option, Some, None, slice_get, slice_set, Ok, Err}
+use Rattle.std.specs.Prelude.{◌≡◌, ◌≤◌, ◌<◌, ◌⊎◌, ℕ, Bool, true, false, List, [], ◌∷◌, length, drop, ◌==◌, ◌&&◌, Option, Some, None}
+use Rattle.std.specs.Prelude.{slice_get, slice_set, Ok, Err}
 use Rattle.std.specs.Bool.{IsFalse}
 use Rattle.std.specs.Str.{bytes_eq}
 use Rattle.lagtypes.specs.declared.identifiers.AggId.{AggId}
@@ -61,7 +62,8 @@ PortAtChangesBy R (Some i) old new =
 
 -- the machines of the port at this index change by the relation, and nothing else changes
 abbrev pub OnlyPortChangesBy : Option ℕ → (Machines → Machines → Type 0) → SystemState → SystemState → Type 0
-OnlyPortChangesBy index R old new = PortAtChangesBy R index old.system_ports new.system_ports × (new ≡ with_system_ports old new.system_ports)
+OnlyPortChangesBy index R old new = PortAtChangesBy R index old.system_ports new.system_ports
+    × (new ≡ with_system_ports old new.system_ports)
 
 -- there is a port at this index, and the predicate holds of its machines
 abbrev pub HoldsAtIndex : (Machines → Type 0) → Option ℕ → List SystemPort → Type 0
@@ -192,14 +194,16 @@ Releases true port m old reply new =
 -- What a frame asked for is done, and this is the answer of receive: an LACPDU is processed, a response releases
 -- conversations, and nothing else changes the system.
 abbrev pub Performs : FrameEffect → ℕ → Option ℕ → SystemState → Received → SystemState → Type 0
-Performs (ProcessLacpdu v) port index old reply new = (reply ≡ TookLacpdu) × ThenSettles (OnlyPortChangesBy index (ProcessesLacpdu v)) old new
+Performs (ProcessLacpdu v) port index old reply new =
+    (reply ≡ TookLacpdu) × ThenSettles (OnlyPortChangesBy index (ProcessesLacpdu v)) old new
 Performs (Response m) port index old reply new = Releases (is_own_response old port m) port m old reply new
 Performs (Answered answer) port index old reply new = (reply ≡ answer) × Unchanged old new
 
 -- receive, of these octets on the port at this index
 abbrev pub ReceivesAt : Option ℕ → List ℕ → SystemState → Received → SystemState → Type 0
 ReceivesAt index octets old reply new =
-    (system_port : SystemPort) × (effect : FrameEffect) × (system_port_at index old.system_ports ≡ Some system_port) × ParsesFrame system_port octets effect
+    (system_port : SystemPort) × (effect : FrameEffect) × (system_port_at index old.system_ports ≡ Some system_port)
+    × ParsesFrame system_port octets effect
     × Performs effect system_port.number index old reply new
 
 -- the port at this index has the values of the change already
@@ -214,8 +218,10 @@ Step gives old (Set_link n up) (reply.SetLink (Ok done)) new = ThenSettles (Sets
 Step gives old (Set_link n up) (reply.SetLink (Err fault)) new = RefusesNoPort (port_index n old.system_ports) fault old new
 Step gives old (Receive n octets) (reply.Receive (Ok answer)) new = ReceivesAt (port_index n old.system_ports) octets old answer new
 Step gives old (Receive n octets) (reply.Receive (Err fault)) new = RefusesNoPort (port_index n old.system_ports) fault old new
-Step gives old (Configure n change) (reply.Configure (Ok true)) new = ThenSettles (OnlyPortChangesBy (port_index n old.system_ports) (ChangesParty change)) old new
-Step gives old (Configure n change) (reply.Configure (Ok false)) new = AlreadyConfigured (port_index n old.system_ports) change old × Unchanged old new
+Step gives old (Configure n change) (reply.Configure (Ok true)) new
+    = ThenSettles (OnlyPortChangesBy (port_index n old.system_ports) (ChangesParty change)) old new
+Step gives old (Configure n change) (reply.Configure (Ok false)) new = AlreadyConfigured (port_index n old.system_ports) change old
+    × Unchanged old new
 Step gives old (Configure n change) (reply.Configure (Err fault)) new = RefusesNoPort (port_index n old.system_ports) fault old new
 Step gives old Restart reply.Restart new = (new ≡ with_table (with_system_ports old new.system_ports) new.table) × IsFirst new
 Step gives old (Transmit n) (reply.Transmit (Ok answer)) new = TransmitsAt (port_index n old.system_ports) old answer new
@@ -229,6 +235,7 @@ Step gives old call answer new = ⊥
 -- these calls, made one after another from the first state, may have these replies and lead to the last state
 abbrev pub TableRun : (ℕ → ℕ → ℕ → Type 0) → SystemState → List Call → List Reply → SystemState → Type 0
 TableRun gives old [] [] new = new ≡ old
-TableRun gives old (call ∷ calls) (answer ∷ answers) new = (mid : SystemState) × Step gives old call answer mid × TableRun gives mid calls answers new
+TableRun gives old (call ∷ calls) (answer ∷ answers) new = (mid : SystemState) × Step gives old call answer mid
+    × TableRun gives mid calls answers new
 TableRun gives old [] (answer ∷ answers) new = ⊥
 TableRun gives old (call ∷ calls) [] new = ⊥

@@ -5,7 +5,9 @@ use Rattle.distributor.specs.declared.fault.DistFault.TheVariants as dist
 use Rattle.lagsystem.specs.declared.fault.BadConfig.{BadConfig as Reason}
 use Rattle.lagsystem.specs.declared.fault.BadConfig.TheVariants.{Ports, Aggregators, PortNumber}
 use Rattle.lagsystem.specs.declared.fault.SystemFault.{SystemFault}
-use Rattle.lagsystem.specs.declared.fault.SystemFault.TheVariants.{NoPort, NoAggregator, FrameLength, SlowFrame, Held, NoneDistributing, NotDistributing, SamePort, NotAssigned, MarkersSpent, BadConfig, NoMemory}
+use Rattle.lagsystem.specs.declared.fault.SystemFault.TheVariants.{NoPort, NoAggregator, FrameLength, SlowFrame, Held, NoneDistributing}
+use Rattle.lagsystem.specs.declared.fault.SystemFault.TheVariants.{NotDistributing, SamePort, NotAssigned, MarkersSpent, BadConfig}
+use Rattle.lagsystem.specs.declared.fault.SystemFault.TheVariants.{NoMemory}
 
 -- the number of a reason to refuse a configuration, in the order of checking
 abbrev pub reason_number : Reason → ℕ

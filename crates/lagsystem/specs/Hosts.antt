@@ -12,7 +12,8 @@ use Rattle.lagsystem.specs.State.{SystemState, port_index, system_port_at}
 
 -- the state of a conversation of an aggregator; None if there is none of this number
 abbrev pub conversation_at : SystemState → AggId → ℕ → Option Assignment
-conversation_at s agg conv = if has_aggregator s agg && nat_lt conv (conversation_count s) then Some (assignment_of s.table agg.0 conv) else None
+conversation_at s agg conv = if has_aggregator s agg && nat_lt conv (conversation_count s) then Some
+    (assignment_of s.table agg.0 conv) else None
 
 -- a frame is due on the port: its link is up, and an LACPDU is due or a marker is
 abbrev pub would_transmit : SystemState → SystemPort → Bool

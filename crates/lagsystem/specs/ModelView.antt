@@ -1,5 +1,6 @@
 -- A system, its calls and its replies, as the two-system theorem (lagmodel) sees them.
-use Rattle.std.specs.Prelude.{◌≡◌, ℕ, zero, suc, Bool, true, ◌&&◌, ◌||◌, if◌then◌else◌, Option, Some, None, List, [], ◌∷◌, slice_get, option_map, Ok}
+use Rattle.std.specs.Prelude.{◌≡◌, ℕ, zero, suc, Bool, true, ◌&&◌, ◌||◌, if◌then◌else◌, Option, Some, None, List, [], ◌∷◌, slice_get}
+use Rattle.std.specs.Prelude.{option_map, Ok}
 use Rattle.std.specs.List.{AllByRecursion}
 use Rattle.lagtypes.specs.declared.identifiers.Key.{Key}
 use Rattle.lagtypes.specs.declared.identifiers.SystemId.{SystemId}
@@ -35,7 +36,8 @@ use Rattle.lagsystem.specs.State.{SystemState}
 use Rattle.lagsystem.specs.First.{setup_of, configured_number}
 use Rattle.lagsystem.specs.declared.drive.Reply.{Reply}
 use Rattle.lagsystem.specs.declared.drive.Reply.TheVariants as reply
-use Rattle.lagsystem.specs.Calls.{Call, Tick, Set_link, Receive, Configure, Restart, Transmit, Offer, Move_conversation, Force, IsFrame, Carries}
+use Rattle.lagsystem.specs.Calls.{Call, Tick, Set_link, Receive, Configure, Restart, Transmit, Offer, Move_conversation, Force, IsFrame}
+use Rattle.lagsystem.specs.Calls.{Carries}
 use Rattle.lagsystem.specs.Readers.{number_of_conversation}
 
 -- the number of the aggregator that a port has chosen; None if it is UNSELECTED

@@ -43,7 +43,8 @@ LooksUnchanged s t = (selection_view t ≡ selection_view s) × (t.port.partner.
 -- the port at this index processes an LACPDU; if the answer is true it looks the same afterwards
 abbrev pub ProcessesLacpduAt : Lacpdu → ℕ → List SystemPort → Bool → List SystemPort → Type 0
 ProcessesLacpduAt v i old alike new =
-    (s : SystemPort) × (t : SystemPort) × (slice_get old i ≡ Some s) × PortChangesBy (ProcessesLacpdu v) s t × (new ≡ slice_set old i t) × OnTrue alike (LooksUnchanged s t)
+    (s : SystemPort) × (t : SystemPort) × (slice_get old i ≡ Some s) × PortChangesBy (ProcessesLacpdu v) s t × (new ≡ slice_set old i t)
+    × OnTrue alike (LooksUnchanged s t)
 
 -- the port is in CURRENT, and the actor of the LACPDU is the partner that it has recorded
 abbrev pub HasRecordedActor : Lacpdu → SystemPort → Type 0

@@ -52,7 +52,8 @@ MayBeOfferedTo s agg octets = IsTrue (has_aggregator s agg) × MayBeOffered octe
 
 -- what the distributor returns for the frame; it picks among the ports that distribute in the aggregator
 abbrev pub AssignsPort : (ℕ → ℕ → ℕ → Type 0) → SystemState → AggId → List ℕ → Result ℕ DistFault → Type 0
-AssignsPort gives s agg octets answer = Assigns gives (number_of_conversation s octets) (distributing agg s.system_ports) (assignment_of_frame s agg octets) answer
+AssignsPort gives s agg octets answer = Assigns gives (number_of_conversation s octets) (distributing agg s.system_ports)
+    (assignment_of_frame s agg octets) answer
 
 -- an offered frame is refused with the first fault that holds
 abbrev pub RefusesOffer : (ℕ → ℕ → ℕ → Type 0) → SystemState → AggId → List ℕ → SystemFault → Type 0
@@ -65,7 +66,8 @@ RefusesOffer gives s agg octets fault =
 -- a frame is to be sent on a port, and its conversation is now on that port; or it is refused, and nothing changes
 abbrev pub Offers : (ℕ → ℕ → ℕ → Type 0) → AggId → List ℕ → SystemState → Result ℕ SystemFault → SystemState → Type 0
 Offers gives agg octets old (Ok port) new =
-    MayBeOfferedTo old agg octets × AssignsPort gives old agg octets (Ok port) × GivesAssignment agg (number_of_conversation old octets) (On port) old new
+    MayBeOfferedTo old agg octets × AssignsPort gives old agg octets (Ok port)
+    × GivesAssignment agg (number_of_conversation old octets) (On port) old new
 Offers gives agg octets old (Err fault) new = RefusesOffer gives old agg octets fault × (new ≡ old)
 
 -- the second argument if the conversation has a number from 0 to 255, else NotAssigned
@@ -82,13 +84,15 @@ abbrev pub system_move_result : SystemState → AggId → ℕ → ℕ → Result
 system_move_result s agg conv port =
     if has_aggregator s agg
     then (if is_some (port_index port s.system_ports)
-    then in_system (or_not_assigned s conv (move_result (next_identifier s.table) (distributing agg s.system_ports) port (assignment_of s.table agg.0 conv)))
+    then in_system (or_not_assigned s conv (move_result (next_identifier s.table) (distributing agg s.system_ports) port
+    (assignment_of s.table agg.0 conv)))
     else Err NoPort)
     else Err NoAggregator
 
 -- the state of a conversation after it is freed by force, or why that is refused
 abbrev pub system_force_result : SystemState → AggId → ℕ → Result Assignment SystemFault
-system_force_result s agg conv = if has_aggregator s agg then in_system (or_not_assigned s conv (force_result (assignment_of s.table agg.0 conv))) else Err NoAggregator
+system_force_result s agg conv = if has_aggregator s agg then in_system
+    (or_not_assigned s conv (force_result (assignment_of s.table agg.0 conv))) else Err NoAggregator
 
 -- the conversation gets this state; or the call is refused, and nothing changes
 abbrev pub GivesOrRefuses : AggId → ℕ → Result Assignment SystemFault → SystemState → Result Unit SystemFault → SystemState → Type 0

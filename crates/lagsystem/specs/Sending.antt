@@ -19,7 +19,8 @@ own_marker s port id = record { kind = Information; port = port; system = s.syst
 -- the octets are a control frame from the port's address with its LACPDU
 abbrev pub IsLacpduOf : ℕ → SystemPort → List ℕ → Type 0
 IsLacpduOf max_delay system_port octets =
-    (payload : List ℕ) × IsAddress system_port.mac × Writes payload (pdu_of system_port.port max_delay) × (octets ≡ frame_octets system_port.mac payload)
+    (payload : List ℕ) × IsAddress system_port.mac × Writes payload (pdu_of system_port.port max_delay)
+    × (octets ≡ frame_octets system_port.mac payload)
 
 -- the LACPDU of the port at this index is sent, and nothing else changes
 abbrev pub SendsLacpdu : ℕ → SystemPort → SystemState → Option (List ℕ) → SystemState → Type 0
@@ -51,15 +52,18 @@ PortTransmits i system_port old answer new = TransmitsIf system_port.port.enable
 -- what transmit does on the port at this index
 abbrev pub TransmitsAt : Option ℕ → SystemState → Option (List ℕ) → SystemState → Type 0
 TransmitsAt None old answer new = ⊥
-TransmitsAt (Some i) old answer new = (system_port : SystemPort) × (slice_get old.system_ports i ≡ Some system_port) × PortTransmits i system_port old answer new
+TransmitsAt (Some i) old answer new = (system_port : SystemPort) × (slice_get old.system_ports i ≡ Some system_port)
+    × PortTransmits i system_port old answer new
 
 -- the port sends the LACPDU that is due, and its machines change so; or none is due, and they stay
 abbrev pub SendsLacpduIfDue : ℕ → SystemPort → Option (List ℕ) → Machines → Type 0
 SendsLacpduIfDue max_delay system_port None port = (is_due system_port.port ≡ false) × (port ≡ system_port.port)
-SendsLacpduIfDue max_delay system_port (Some octets) port = (is_due system_port.port ≡ true) × IsLacpduOf max_delay system_port octets × (port ≡ after_sending system_port.port)
+SendsLacpduIfDue max_delay system_port (Some octets) port = (is_due system_port.port ≡ true) × IsLacpduOf max_delay system_port octets
+    × (port ≡ after_sending system_port.port)
 
 -- in the list, the port at this index sends the LACPDU that is due, if one is, and the other ports stay
 abbrev pub PortSendsLacpduIfDue : ℕ → ℕ → Option (List ℕ) → List SystemPort → List SystemPort → Type 0
 PortSendsLacpduIfDue max_delay i answer olds news =
-    (system_port : SystemPort) × (port : Machines) × (slice_get olds i ≡ Some system_port) × SendsLacpduIfDue max_delay system_port answer port
+    (system_port : SystemPort) × (port : Machines) × (slice_get olds i ≡ Some system_port)
+    × SendsLacpduIfDue max_delay system_port answer port
     × (news ≡ slice_set olds i (record system_port { port = port }))

@@ -1,5 +1,6 @@
 -- Settling (profile): six steps after a call. Each is a relation between the states before and after it.
-use Rattle.std.specs.Prelude.{◌≡◌, ℕ, zero, suc, Bool, false, List, [], ◌∷◌, length, if◌then◌else◌, Option, Some, None, slice_get, slice_set}
+use Rattle.std.specs.Prelude.{◌≡◌, ℕ, zero, suc, Bool, false, List, [], ◌∷◌, length, if◌then◌else◌, Option, Some, None, slice_get}
+use Rattle.std.specs.Prelude.{slice_set}
 use Rattle.std.specs.List.{AllZip}
 use Rattle.lagtypes.specs.declared.identifiers.AggId.{AggId}
 use Rattle.lagtypes.specs.declared.identifiers.Key.{Key}
@@ -45,7 +46,8 @@ with_choice system_port (Some agg) = record system_port { port = record system_p
 
 -- the aggregator that a port chooses, if it is eligible
 abbrev pub aggregator_for : List Key → List SystemPort → SystemPort → Option AggId
-aggregator_for keys system_ports system_port = if is_eligible (selection_view system_port) then chosen_aggregator keys (views system_ports) system_port.number else None
+aggregator_for keys system_ports system_port = if is_eligible (selection_view system_port) then chosen_aggregator keys (views system_ports)
+    system_port.number else None
 
 -- the ports after the one at this index has chosen an aggregator, if it is eligible
 abbrev pub after_choice_at : List Key → List SystemPort → ℕ → Option SystemPort → List SystemPort
@@ -91,7 +93,8 @@ pub record HoldsConversations (old new : SystemState) : Type 0 where
   pub aggs : new.table.aggs ≡ old.table.aggs
   pub first : new.table.first ≡ old.table.first
   pub next : new.table.next ≡ old.table.next
-  pub states : (g k : ℕ) → assignment_of new.table g k ≡ held_unless_on (distributing (aggregator_numbered g) old.system_ports) (assignment_of old.table g k)
+  pub states : (g k : ℕ) → assignment_of new.table g k ≡ held_unless_on (distributing (aggregator_numbered g) old.system_ports)
+      (assignment_of old.table g k)
 
 -- these steps follow one another, from the first state to the last
 abbrev pub Follows : List (SystemState → SystemState → Type 0) → SystemState → SystemState → Type 0

@@ -25,7 +25,8 @@ pub record HasPorts (s : SystemState) : Type 0 where
 
 -- a conversation is On a port only while the port distributes in its aggregator
 abbrev pub OnlyOnDistributing : SystemState → Type 0
-OnlyOnDistributing s = (g k p : ℕ) → assignment_of s.table g k ≡ On p → distributes (distributing (aggregator_numbered g) s.system_ports) p ≡ true
+OnlyOnDistributing s = (g k p : ℕ) → assignment_of s.table g k ≡ On p
+    → distributes (distributing (aggregator_numbered g) s.system_ports) p ≡ true
 
 -- what holds of every system: the invariant of `System`
 pub record IsSound (s : SystemState) : Type 0 where
@@ -45,7 +46,8 @@ pub record IsMade (config : Config) (s : SystemState) : Type 0 where
 
 -- a port distributes in the model's view exactly if its mux machine does
 abbrev pub Distribute : List SystemPort → Type 0
-Distribute system_ports = AllByRecursion (λ x. (model_port x.port).distributes ≡ same_mux_state CollectingDistributing x.port.mux) system_ports
+Distribute system_ports = AllByRecursion (λ x. (model_port x.port).distributes ≡ same_mux_state CollectingDistributing x.port.mux)
+    system_ports
 
 -- The members of an aggregator have its key and one group (LAG ID), which is not Individual if they are two or more;
 -- ports that distribute in one aggregator name one partner system and key (6.4.14.1). The ports are those of an

@@ -3,7 +3,9 @@ use Rattle.std.specs.Prelude.{ℕ, List, ◌++◌, codes, decimal}
 use Rattle.lagsystem.specs.declared.fault.BadConfig.{BadConfig as Reason}
 use Rattle.lagsystem.specs.declared.fault.BadConfig.TheVariants.{Ports, Aggregators, PortNumber}
 use Rattle.lagsystem.specs.declared.fault.SystemFault.{SystemFault}
-use Rattle.lagsystem.specs.declared.fault.SystemFault.TheVariants.{NoPort, NoAggregator, FrameLength, SlowFrame, Held, NoneDistributing, NotDistributing, SamePort, NotAssigned, MarkersSpent, BadConfig, NoMemory}
+use Rattle.lagsystem.specs.declared.fault.SystemFault.TheVariants.{NoPort, NoAggregator, FrameLength, SlowFrame, Held, NoneDistributing}
+use Rattle.lagsystem.specs.declared.fault.SystemFault.TheVariants.{NotDistributing, SamePort, NotAssigned, MarkersSpent, BadConfig}
+use Rattle.lagsystem.specs.declared.fault.SystemFault.TheVariants.{NoMemory}
 
 -- the text of a reason to refuse a configuration
 abbrev pub reason_text : Reason → List ℕ

@@ -1,5 +1,6 @@
 -- The transmit limit of each port over lists of calls (6.4.16). Ticks are counted from the last start of the system.
-use Rattle.std.specs.Prelude.{◌≡◌, ℕ, ◌+◌, ◌≤◌, ◌==◌, ◌&&◌, Bool, false, slice_index, List, [], ◌∷◌, ◌++◌, length, if◌then◌else◌, Option, Some, None, Ok}
+use Rattle.std.specs.Prelude.{◌≡◌, ℕ, ◌+◌, ◌≤◌, ◌==◌, ◌&&◌, Bool, false, slice_index, List, [], ◌∷◌, ◌++◌, length, if◌then◌else◌, Option}
+use Rattle.std.specs.Prelude.{Some, None, Ok}
 use Rattle.std.specs.List.{AllByRecursion}
 use Rattle.portmachines.specs.Machines.{Machines}
 use Rattle.portmachines.specs.Window.{KeepsWindow, sent_before}
@@ -64,7 +65,8 @@ KeepsTransmitLimit old calls replies = (n now : ℕ) → AgesSince now (machines
 
 -- every list of calls keeps the limit, whatever indices the algorithm returns
 abbrev pub SystemWindowLaw : (ℕ → ℕ → ℕ → Type 0) → Type 0
-SystemWindowLaw gives = (old new : SystemState) (calls : List Call) (replies : List Reply) → EachAtMostThreeAges old → TableRun gives old calls replies new
+SystemWindowLaw gives = (old new : SystemState) (calls : List Call) (replies : List Reply) → EachAtMostThreeAges old
+    → TableRun gives old calls replies new
     → KeepsTransmitLimit old calls replies
 
 -- a state that has just started keeps no age

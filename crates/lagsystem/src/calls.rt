@@ -85,7 +85,8 @@ impl<F: Fn(u16, usize) -> usize + Drop> System<F> {
     /// every conversation of the port is free; one settling follows. `NoPort` if there is no such port (6.4.7, 6.4.12;
     /// profile).
     pub fn set_link(&mut self, port: u16, up: bool) -> Result<(), SystemFault>
-        ensures answers { CallPromise (F.post self.old.algorithm) self.old.state (Call.Set_link port up) (Reply.SetLink result) self.new.state }
+        ensures answers { CallPromise (F.post self.old.algorithm) self.old.state (Call.Set_link port up)
+            (Reply.SetLink result) self.new.state }
         ensures algorithm { self.new.algorithm ≡ self.old.algorithm }
     {
         self.inner.set_link(port, up)
@@ -117,7 +118,8 @@ impl<F: Fn(u16, usize) -> usize + Drop> System<F> {
     /// else a marker, if a conversation is Wanted on the port and an identifier is left. `NoPort` if there is no such
     /// port (6.4.16, 6.5.3.3; profile).
     pub fn transmit(&mut self, port: u16) -> Result<Option<[u8; 124]>, SystemFault>
-        ensures answers { CallPromise (F.post self.old.algorithm) self.old.state (Call.Transmit port) (Reply.Transmit result) self.new.state }
+        ensures answers { CallPromise (F.post self.old.algorithm) self.old.state (Call.Transmit port)
+            (Reply.Transmit result) self.new.state }
         ensures algorithm { self.new.algorithm ≡ self.old.algorithm }
     {
         self.inner.transmit(port)

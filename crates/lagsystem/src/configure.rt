@@ -17,7 +17,8 @@ pub(crate) fn configure_at(
 ) -> bool
     requires { place < length system_ports.old }
     ensures acted { OnTrue result (PortAtChangesBy (ChangesParty change) (Some place) system_ports.old system_ports.new) }
-    ensures stays { OnFalse result (HoldsAtIndex (λ p. same_party (changed_party change p.party) p.party ≡ true) (Some place) system_ports.old) }
+    ensures stays { OnFalse result (HoldsAtIndex (λ p. same_party (changed_party change p.party) p.party ≡ true)
+        (Some place) system_ports.old) }
     ensures unchanged { OnFalse result (system_ports.new ≡ system_ports.old) }
 {
     if is_same(&system_ports[place].port, change) {

@@ -183,7 +183,8 @@ impl<F: Fn(u16, usize) -> usize + Drop> Inner<F> {
     fn process_lacpdu(&mut self, place: usize, pdu: &Lacpdu)
         requires sound { IsSound (inner_state self.old) }
         requires within { place < length self.old.system_ports.items }
-        ensures settled { ThenSettles (OnlyPortChangesBy (Some place) (ProcessesLacpdu pdu.now)) (inner_state self.old) (inner_state self.new) }
+        ensures settled { ThenSettles (OnlyPortChangesBy (Some place) (ProcessesLacpdu pdu.now)) (inner_state self.old)
+            (inner_state self.new) }
         ensures algorithm { self.new.distributor.algorithm ≡ self.old.distributor.algorithm }
     {
         let was = collecting(&self.system_ports[place].port);
@@ -228,7 +229,8 @@ impl<F: Fn(u16, usize) -> usize + Drop> Inner<F> {
 
     pub(crate) fn restart(&mut self)
         requires { IsSound (inner_state self.old) }
-        ensures step { Step (F.post self.old.distributor.algorithm) (inner_state self.old) Call.Restart Reply.Restart (inner_state self.new) }
+        ensures step { Step (F.post self.old.distributor.algorithm) (inner_state self.old) Call.Restart Reply.Restart
+            (inner_state self.new) }
         ensures algorithm { self.new.distributor.algorithm ≡ self.old.distributor.algorithm }
     {
         restart_each(self.system, &self.ports, &mut self.system_ports);
@@ -302,7 +304,8 @@ impl<F: Fn(u16, usize) -> usize + Drop> Inner<F> {
         requires sound { IsSound (inner_state self.old) }
         ensures step { Step (F.post self.old.distributor.algorithm) (inner_state self.old) (Call.Offer agg octets.now) (Reply.Offer result)
             (inner_state self.new) }
-        ensures within { IfOk result (λ port. number_of_conversation (inner_state self.old) octets.now < conversation_count (inner_state self.old)) }
+        ensures within { IfOk result (λ port. number_of_conversation (inner_state self.old) octets.now < conversation_count
+            (inner_state self.old)) }
         ensures algorithm { self.new.distributor.algorithm ≡ self.old.distributor.algorithm }
     {
         if !self.has_aggregator(agg) {

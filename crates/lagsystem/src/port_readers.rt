@@ -19,7 +19,8 @@ impl<F: Fn(u16, usize) -> usize + Drop> Inner<F> {
     fn slot_of(&self, number: u16) -> Option<&SystemPort>
         requires { IsSound (inner_state self.now) }
         ensures { MatchOption result (system_port_at (port_index number self.now.system_ports.items) self.now.system_ports.items ≡ None)
-            (λ system_port. system_port_at (port_index number self.now.system_ports.items) self.now.system_ports.items ≡ Some system_port.now) }
+            (λ system_port. system_port_at (port_index number self.now.system_ports.items) self.now.system_ports.items
+            ≡ Some system_port.now) }
     {
         match self.port_index(number) {
             Ok(place) => Some(&self.system_ports[place]),

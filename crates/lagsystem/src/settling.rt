@@ -98,7 +98,8 @@ fn any_waited(system_ports: &[SystemPort]) -> bool
 /// Steps 3 and 4: Ready is worked out for every aggregator; then each mux machine runs with it.
 fn run_mux(aggregators: &Aggregators, system_ports: &mut [SystemPort])
     requires { length system_ports.old ≤ 64 }
-    ensures { PortsChangeBy (λ p q. RunsToRest (mux_rows (ready_of aggregators.now (views system_ports.old) p.choice)) p q) system_ports.old system_ports.new }
+    ensures { PortsChangeBy (λ p q. RunsToRest (mux_rows (ready_of aggregators.now (views system_ports.old) p.choice)) p q)
+        system_ports.old system_ports.new }
 {
     if any_waited(system_ports) {
         let port_views = views(system_ports);
@@ -111,7 +112,8 @@ fn run_mux(aggregators: &Aggregators, system_ports: &mut [SystemPort])
 
 /// Runs each mux machine; Ready is worked out from the views before the first of them ran.
 fn run_each_mux(aggregators: &Aggregators, system_ports: &mut [SystemPort], port_views: &[PortView])
-    ensures { PortsChangeBy (λ p q. RunsToRest (mux_rows (ready_of aggregators.now port_views.now p.choice)) p q) system_ports.old system_ports.new }
+    ensures { PortsChangeBy (λ p q. RunsToRest (mux_rows (ready_of aggregators.now port_views.now p.choice)) p q)
+        system_ports.old system_ports.new }
 {
     for system_port in system_ports.iter_mut() {
         run_one_mux(aggregators, system_port, port_views);
@@ -120,7 +122,8 @@ fn run_each_mux(aggregators: &Aggregators, system_ports: &mut [SystemPort], port
 
 /// Runs the mux machine of a port; Ready is worked out from these views.
 fn run_one_mux(aggregators: &Aggregators, system_port: &mut SystemPort, port_views: &[PortView])
-    ensures { PortChangesBy (λ p q. RunsToRest (mux_rows (ready_of aggregators.now port_views.now p.choice)) p q) system_port.old system_port.new }
+    ensures { PortChangesBy (λ p q. RunsToRest (mux_rows (ready_of aggregators.now port_views.now p.choice)) p q)
+        system_port.old system_port.new }
 {
     let ready = ready_of(aggregators, port_views, system_port.port.choice());
     run_mux_rows(system_port, ready);
@@ -158,7 +161,8 @@ fn run_each_periodic(system_ports: &mut [SystemPort])
 /// SELECTED port. Step 6, the conversations, is in holding.rt.
 pub(crate) fn settle_ports(aggregators: &Aggregators, system_ports: &mut [SystemPort])
     requires { length system_ports.old ≤ 64 }
-    ensures { (base : SystemState) → base.keys ≡ aggregators.now → base.system_ports ≡ system_ports.old → SettlesPorts base (with_system_ports base system_ports.new) }
+    ensures { (base : SystemState) → base.keys ≡ aggregators.now → base.system_ports ≡ system_ports.old
+        → SettlesPorts base (with_system_ports base system_ports.new) }
 {
     run_mux_not_ready(system_ports);
     choose_all(aggregators, system_ports);

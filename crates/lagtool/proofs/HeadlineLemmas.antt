@@ -33,7 +33,8 @@ flow_in_order j (Some s) agg conv sound free =
     (counted (sent_in (flow_of_system (Some s) agg conv j)) (λ i lt. (carries_of j sound).counts_from_zero s agg conv i lt))
     (in_order_of j sound s agg conv free)
 
-not_both : (text : List ℕ) (fault : ScriptFault) (s : Script) → (ms : Members) × (parse_document text ≡ Some ms) × (plan_in ms ≡ Err fault) → HasScript text s → ⊥
+not_both : (text : List ℕ) (fault : ScriptFault) (s : Script) → (ms : Members) × (parse_document text ≡ Some ms)
+    × (plan_in ms ≡ Err fault) → HasScript text s → ⊥
 not_both text fault s (ms, parsed, refused) (ns, again, read) =
     let same : ms ≡ ns = same_Some ms ns (sym parsed ∙ again) in
     let both : Err fault ≡ Ok s = sym (ap (λ r. r >>= λ plan. Ok plan.script) refused) ∙ ap script_of same ∙ read in

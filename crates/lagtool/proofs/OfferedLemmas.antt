@@ -1,5 +1,6 @@
 -- An aggregator that no event offers a frame to sends none.
-use Rattle.std.proofs.Common.{◌≡◌, ◌==◌, ◌<◌, ◌+◌, ◌++◌, ℕ, zero, suc, Bool, true, false, List, [], ◌∷◌, Option, Some, None, get_or, length, arith, refl, sym, ap, ◌∙◌, subst, inl, inr, if◌then◌else◌, eqb-true, eq-eqb}
+use Rattle.std.proofs.Common.{◌≡◌, ◌==◌, ◌<◌, ◌+◌, ◌++◌, ℕ, zero, suc, Bool, true, false, List, [], ◌∷◌, Option, Some, None, get_or}
+use Rattle.std.proofs.Common.{length, arith, refl, sym, ap, ◌∙◌, subst, inl, inr, if◌then◌else◌, eqb-true, eq-eqb}
 use Rattle.std.specs.Prelude.{◌&&◌, ◌||◌, Result, Ok, Err, flat_map, option_map}
 use Rattle.std.specs.List.{range_with_len}
 use Rattle.std.proofs.lemmas.Bool.{cases_Bool, true≢false}
@@ -21,12 +22,15 @@ use Rattle.lagscript.specs.declared.event.Event.{Event}
 use Rattle.lagscript.specs.declared.event.Event.TheVariants as event
 use Rattle.lagworld.specs.declared.reply.Reply.{Reply}
 use Rattle.lagworld.specs.HalfCalls.{HalfAnswers, HalfTicks, forced_if_accepted}
-use Rattle.lagworld.specs.Events.{Algorithms, DoesEvent, WorldRuns, side_of, with_stamp_collected, with_link_at, with_item_sent, transmitted_item, with_collected_in, with_last_lacpdu, stamped_in, AfterTransmit, WorldReceives, AfterReceive, DeliversFrom, LosesFrom, RepeatsItem, RepeatsFrom, AfterOffer, with_frame_counted}
+use Rattle.lagworld.specs.Events.{Algorithms, DoesEvent, WorldRuns, side_of, with_stamp_collected, with_link_at, with_item_sent}
+use Rattle.lagworld.specs.Events.{transmitted_item, with_collected_in, with_last_lacpdu, stamped_in, AfterTransmit, WorldReceives}
+use Rattle.lagworld.specs.Events.{AfterReceive, DeliversFrom, LosesFrom, RepeatsItem, RepeatsFrom, AfterOffer, with_frame_counted}
 use Rattle.lagworld.specs.Making.{conversations_per_aggregator}
 use Rattle.lagworld.specs.Messages.{side_named, side_number}
 use Rattle.lagworld.specs.Readers.{flow_of_system}
 use Rattle.lagworld.specs.Sound.{IsStart}
-use Rattle.lagworld.specs.State.{ItemValue, HalfState, WorldState, LinkState, FlowValue, half, with_half, port_at, towards, with_towards, flow_at, sent_in, with_sent, with_collected, with_forced}
+use Rattle.lagworld.specs.State.{ItemValue, HalfState, WorldState, LinkState, FlowValue, half, with_half, port_at, towards, with_towards}
+use Rattle.lagworld.specs.State.{flow_at, sent_in, with_sent, with_collected, with_forced}
 use Rattle.lagworld.proofs.Flows.{flow_other_row, read_same}
 use Rattle.lagworld.proofs.Whole.{on_line}
 use Rattle.lagtool.specs.Offered.{HasSentNothing, IsSentWhereOffered, is_offered, offers_to}
@@ -60,14 +64,16 @@ of_half Two h j x Two = x
 same_flows : (old new : HalfState) → new.flows ≡ old.flows → SameSent old new
 same_flows old new e = λ g k. ap (λ xs. sent_in (flow_at xs g k)) e
 
-asked : (gives : ℕ → ℕ → ℕ → Type 0) (call : Call) (a : Answer) (s : Side) (mid : HalfState) (j : WorldState) → HalfAnswers gives call a (half s j) mid → NoneSent j (with_half s mid j)
+asked : (gives : ℕ → ℕ → ℕ → Type 0) (call : Call) (a : Answer) (s : Side) (mid : HalfState) (j : WorldState)
+    → HalfAnswers gives call a (half s j) mid → NoneSent j (with_half s mid j)
 asked gives call a s mid j x = of_half s mid j (same_flows (half s j) mid (ap (λ (h : HalfState). h.flows) x.same))
 
 ticked : (gives : ℕ → ℕ → ℕ → Type 0) (n : ℕ) (old new : HalfState) → HalfTicks gives n old new → new.flows ≡ old.flows
 ticked gives zero old new x = ap (λ (h : HalfState). h.flows) x
 ticked gives (suc n) old new x = ap (λ (h : HalfState). h.flows) x.2.same ∙ ticked gives n old x.0 x.1
 
-emitted : (s : Side) (p : ℕ) (a : Result (Option (List ℕ)) SystemFault) (j new : WorldState) (r : Reply) → AfterTransmit s p a j r new → NoneSent j new
+emitted : (s : Side) (p : ℕ) (a : Result (Option (List ℕ)) SystemFault) (j new : WorldState) (r : Reply)
+    → AfterTransmit s p a j r new → NoneSent j new
 emitted s p (Err fault) j new r x = same j new x.1
 emitted s p (Ok None) j new r x = same j new x.1
 emitted s p (Ok (Some frame)) j new r x = same (with_item_sent s p (transmitted_item s p frame (half s j)) j) new x.1
@@ -86,7 +92,8 @@ collected_on (stamp.Data system agg conv serial) j =
     of_half (side_named system) (with_collected_in agg conv serial (half (side_named system) j)) j
     (read_same sent_in (with_collected serial) agg conv (half (side_named system) j).flows (collected_kept serial))
 
-arrived : (s : Side) (p : ℕ) (item : ItemValue) (a : Result Received SystemFault) (j new : WorldState) (r : Reply) → AfterReceive s p item a j r new → NoneSent j new
+arrived : (s : Side) (p : ℕ) (item : ItemValue) (a : Result Received SystemFault) (j new : WorldState) (r : Reply)
+    → AfterReceive s p item a j r new → NoneSent j new
 arrived s p item (Err fault) j new r x = same j new x.1
 arrived s p item (Ok received.Disabled) j new r x = same j new x.1
 arrived s p item (Ok received.Dropped) j new r x = same j new x.1
@@ -94,27 +101,36 @@ arrived s p item (Ok (received.Ignored fault)) j new r x = same j new x.1
 arrived s p item (Ok received.TookLacpdu) j new r x =
     let took = with_half s (with_last_lacpdu p (stamped_in item) (half s j)) j in
     followed j took new (of_half s (with_last_lacpdu p (stamped_in item) (half s j)) j (λ g k. refl)) (same took new x.1)
-arrived s p item (Ok (received.Respond frame)) j new r x = same (with_item_sent s p (record { octets = frame; stamp = stamp.Control 0 }) j) new x.1
+arrived s p item (Ok (received.Respond frame)) j new r x =
+    same (with_item_sent s p (record { octets = frame; stamp = stamp.Control 0 }) j) new x.1
 arrived s p item (Ok (received.Released n)) j new r x = same j new x.1
-arrived s p item (Ok (received.Up agg)) j new r x = followed j (with_stamp_collected item.stamp j) new (collected_on item.stamp j) (same (with_stamp_collected item.stamp j) new x.1)
+arrived s p item (Ok (received.Up agg)) j new r x = followed j (with_stamp_collected item.stamp j) new (collected_on item.stamp j)
+    (same (with_stamp_collected item.stamp j) new x.1)
 
-arrives : (gives : Algorithms) (s : Side) (p : ℕ) (item : ItemValue) (j new : WorldState) (r : Reply) → WorldReceives gives s p item j r new → NoneSent j new
+arrives : (gives : Algorithms) (s : Side) (p : ℕ) (item : ItemValue) (j new : WorldState) (r : Reply)
+    → WorldReceives gives s p item j r new → NoneSent j new
 arrives gives s p item j new r x =
-    followed j (with_half s x.1 j) new (asked (gives s) (Receive p item.octets) (answer.Receive x.0) s x.1 j x.2) (arrived s p item x.0 (with_half s x.1 j) new r x.3)
+    followed j (with_half s x.1 j) new (asked (gives s) (Receive p item.octets) (answer.Receive x.0) s x.1 j x.2)
+    (arrived s p item x.0 (with_half s x.1 j) new r x.3)
 
-delivers : (gives : Algorithms) (s : Side) (i : ℕ) (l : LinkState) (xs : List ItemValue) (j new : WorldState) (r : Reply) → DeliversFrom gives s i l xs j r new → NoneSent j new
+delivers : (gives : Algorithms) (s : Side) (i : ℕ) (l : LinkState) (xs : List ItemValue) (j new : WorldState) (r : Reply)
+    → DeliversFrom gives s i l xs j r new → NoneSent j new
 delivers gives s i l [] j new r x = same j new x.1
 delivers gives s i l (item ∷ rest) j new r x = arrives gives s (port_at s l) item (with_link_at i (with_towards s rest l) j) new r x
 
-loses : (s : Side) (i : ℕ) (l : LinkState) (xs : List ItemValue) (j new : WorldState) (r : Reply) → LosesFrom s i l xs j r new → NoneSent j new
+loses : (s : Side) (i : ℕ) (l : LinkState) (xs : List ItemValue) (j new : WorldState) (r : Reply)
+    → LosesFrom s i l xs j r new → NoneSent j new
 loses s i l [] j new r x = same j new x.1
 loses s i l (item ∷ rest) j new r x = same (with_link_at i (with_towards s rest l) j) new x.1
 
-repeats_item : (gives : Algorithms) (s : Side) (p : ℕ) (octets : List ℕ) (st : Stamp) (j new : WorldState) (r : Reply) → RepeatsItem gives s p octets st j r new → NoneSent j new
-repeats_item gives s p octets (stamp.Control count) j new r x = arrives gives s p (record { octets = octets; stamp = stamp.Control count }) j new r x
+repeats_item : (gives : Algorithms) (s : Side) (p : ℕ) (octets : List ℕ) (st : Stamp) (j new : WorldState) (r : Reply)
+    → RepeatsItem gives s p octets st j r new → NoneSent j new
+repeats_item gives s p octets (stamp.Control count) j new r x =
+    arrives gives s p (record { octets = octets; stamp = stamp.Control count }) j new r x
 repeats_item gives s p octets (stamp.Data system agg conv serial) j new r x = same j new x.1
 
-repeats : (gives : Algorithms) (s : Side) (l : LinkState) (xs : List ItemValue) (j new : WorldState) (r : Reply) → RepeatsFrom gives s l xs j r new → NoneSent j new
+repeats : (gives : Algorithms) (s : Side) (l : LinkState) (xs : List ItemValue) (j new : WorldState) (r : Reply)
+    → RepeatsFrom gives s l xs j r new → NoneSent j new
 repeats gives s l [] j new r x = same j new x.1
 repeats gives s l (item ∷ rest) j new r x = repeats_item gives s (port_at s l) item.octets item.stamp j new r x
 
@@ -125,12 +141,15 @@ forced_where_sent (Err fault) agg conv h = λ g k. refl
 -- a frame is sent of one aggregator alone
 counted : (s : Side) (agg : AggId) (octets : List ℕ) (j : WorldState) (t : Side) (g k : ℕ) → (t ≡ s → g ≡ agg.0 → ⊥)
     → sent_of t g k (with_half s (with_frame_counted agg octets (half s j)) j) ≡ sent_of t g k j
-counted One agg octets j One g k free = ap sent_in (flow_other_row with_sent agg.0 (number_of_conversation j.one.state octets) g k j.one.flows (λ e. free refl e))
+counted One agg octets j One g k free =
+    ap sent_in (flow_other_row with_sent agg.0 (number_of_conversation j.one.state octets) g k j.one.flows (λ e. free refl e))
 counted One agg octets j Two g k free = refl
 counted Two agg octets j One g k free = refl
-counted Two agg octets j Two g k free = ap sent_in (flow_other_row with_sent agg.0 (number_of_conversation j.two.state octets) g k j.two.flows (λ e. free refl e))
+counted Two agg octets j Two g k free =
+    ap sent_in (flow_other_row with_sent agg.0 (number_of_conversation j.two.state octets) g k j.two.flows (λ e. free refl e))
 
-offered_on : (s : Side) (agg : AggId) (octets : List ℕ) (a : Result ℕ SystemFault) (j new : WorldState) (r : Reply) → AfterOffer s agg octets a j r new
+offered_on : (s : Side) (agg : AggId) (octets : List ℕ) (a : Result ℕ SystemFault) (j new : WorldState) (r : Reply)
+    → AfterOffer s agg octets a j r new
     → (t : Side) (g k : ℕ) → (t ≡ s → g ≡ agg.0 → ⊥) → sent_of t g k new ≡ sent_of t g k j
 offered_on s agg octets (Err fault) j new r x t g k free = ap (sent_of t g k) x.1
 offered_on s agg octets (Ok port) j new r x t g k free = ap (sent_of t g k) x.2 ∙ counted s agg octets j t g k free
@@ -138,7 +157,8 @@ offered_on s agg octets (Ok port) j new r x t g k free = ap (sent_of t g k) x.2 
 -- a number that names a system is that system's
 number_named : (n : ℕ) (s : Side) → side_of n ≡ Some s → n ≡ side_number s
 number_named n s e = elim (cases_Bool (n == 1)) [
-  | inl t ↦ eqb-true n 1 t ∙ ap side_number (same_Some One s (sym (cond_true (n == 1) (Some One) (if n == 2 then Some Two else None) t) ∙ e))
+  | inl t ↦ eqb-true n 1 t
+      ∙ ap side_number (same_Some One s (sym (cond_true (n == 1) (Some One) (if n == 2 then Some Two else None) t) ∙ e))
   | inr f ↦ second (sym (cond_false (n == 1) (Some One) (if n == 2 then Some Two else None) f) ∙ e)
 ]
   where
@@ -149,7 +169,8 @@ number_named n s e = elim (cases_Bool (n == 1)) [
     ]
 
 -- an offer to another aggregator
-other : (n : ℕ) (s t : Side) (agg : AggId) (g : ℕ) → n ≡ side_number s → ((n == side_number t) && (agg.0 == g)) ≡ false → t ≡ s → g ≡ agg.0 → ⊥
+other : (n : ℕ) (s t : Side) (agg : AggId) (g : ℕ) → n ≡ side_number s → ((n == side_number t) && (agg.0 == g)) ≡ false → t ≡ s → g ≡ agg.0
+    → ⊥
 other n s t agg g name free same_side same_agg =
     let here : (n == side_number t) ≡ true = eq-eqb n (side_number t) (name ∙ ap side_number (sym same_side)) in
     let there : (agg.0 == g) ≡ true = eq-eqb agg.0 g (sym same_agg) in
@@ -161,7 +182,9 @@ does_keep gives (event.Tick n count) r old new x t g k free =
     let v = value_of (side_of n) _ x in
     let s = v.0 in
     let mid = with_half s (half s new) old in
-    followed old mid new (of_half s (half s new) old (same_flows (half s old) (half s new) (ticked (gives s) count (half s old) (half s new) v.2.0.0))) (same mid new v.2.0.1) t g k
+    followed old mid new
+    (of_half s (half s new) old (same_flows (half s old) (half s new) (ticked (gives s) count (half s old) (half s new) v.2.0.0)))
+    (same mid new v.2.0.1) t g k
 does_keep gives (event.Emit n p) r old new x t g k free =
     let v = value_of (side_of n) _ x in
     let s = v.0 in
@@ -190,20 +213,23 @@ does_keep gives (event.Sense c n) r old new x t g k free =
     let l = on_line c _ old.links v.2 in
     let s = v.0 in
     let mid = with_half s (half s new) old in
-    followed old mid new (asked (gives s) (Set_link (port_at s l.1) l.1.whole) (answer.SetLink l.4.0.0) s (half s new) old l.4.0.1) (same mid new l.4.1) t g k
+    followed old mid new (asked (gives s) (Set_link (port_at s l.1) l.1.whole) (answer.SetLink l.4.0.0) s (half s new) old l.4.0.1)
+    (same mid new l.4.1) t g k
 does_keep gives (event.Restart n) r old new x t g k free =
     let v = value_of (side_of n) _ x in
     let s = v.0 in
     let mid = with_half s (half s new) old in
     followed old mid new
-    (of_half s (half s new) old (same_flows (half s old) (half s new) (ap (λ (h : HalfState). h.flows) v.2.1.0.2 ∙ ap (λ (h : HalfState). h.flows) v.2.1.0.1.same)))
+    (of_half s (half s new) old (same_flows (half s old) (half s new) (ap (λ (h : HalfState). h.flows) v.2.1.0.2
+    ∙ ap (λ (h : HalfState). h.flows) v.2.1.0.1.same)))
     (λ u h i. ap (sent_of u h i) v.2.1.1) t g k
 does_keep gives (event.Configure n p change) r old new x t g k free =
     let v = value_of (side_of n) _ x in
     let s = v.0 in
     let mid = with_half s (half s new) old in
     followed old mid new
-    (of_half s (half s new) old (same_flows (half s old) (half s new) (ap (λ (h : HalfState). h.flows) v.2.0.4 ∙ ap (λ (h : HalfState). h.flows) v.2.0.2.same)))
+    (of_half s (half s new) old (same_flows (half s old) (half s new) (ap (λ (h : HalfState). h.flows) v.2.0.4
+    ∙ ap (λ (h : HalfState). h.flows) v.2.0.2.same)))
     (same mid new v.2.1) t g k
 does_keep gives (event.Offer n agg octets) r old new x t g k free =
     let v = value_of (side_of n) _ x in
@@ -215,14 +241,16 @@ does_keep gives (event.Move n agg conv p) r old new x t g k free =
     let v = value_of (side_of n) _ x in
     let s = v.0 in
     let mid = with_half s (half s new) old in
-    followed old mid new (asked (gives s) (Move_conversation agg conv p) (answer.MoveConversation v.2.0.0) s (half s new) old v.2.0.1) (same mid new v.2.1) t g k
+    followed old mid new (asked (gives s) (Move_conversation agg conv p) (answer.MoveConversation v.2.0.0) s (half s new) old v.2.0.1)
+    (same mid new v.2.1) t g k
 does_keep gives (event.Force n agg conv) r old new x t g k free =
     let v = value_of (side_of n) _ x in
     let s = v.0 in
     let mid = with_half s (half s new) old in
     followed old mid new
     (of_half s (half s new) old
-    (λ h i. ap (λ (y : HalfState). sent_in (flow_at y.flows h i)) v.2.0.4 ∙ forced_where_sent v.2.0.0 agg conv v.2.0.1 h i ∙ ap (λ (y : HalfState). sent_in (flow_at y.flows h i)) v.2.0.2.same))
+    (λ h i. ap (λ (y : HalfState). sent_in (flow_at y.flows h i)) v.2.0.4 ∙ forced_where_sent v.2.0.0 agg conv v.2.0.1 h i
+    ∙ ap (λ (y : HalfState). sent_in (flow_at y.flows h i)) v.2.0.2.same))
     (same mid new v.2.1) t g k
 
 neither : (a b : Bool) → (a || b) ≡ false → (a ≡ false) × (b ≡ false)
@@ -246,7 +274,8 @@ first_sent j t g k start = none_sent (flow_at (half t j).flows g k) refl
     none_sent (Some x) e = (start.flows t g k x e).0
 
 -- after a run from the start only aggregators sent that frames were offered to
-pub sent_where_offered : (gives : Algorithms) (from to : WorldState) (es : List Event) (rs : List Reply) → IsStart from → WorldRuns gives from es rs to → IsSentWhereOffered es to
+pub sent_where_offered : (gives : Algorithms) (from to : WorldState) (es : List Event) (rs : List Reply) → IsStart from
+    → WorldRuns gives from es rs to → IsSentWhereOffered es to
 sent_where_offered gives from to es rs start ran s g free k = by_side (side_of s) refl
   where
     by_side : (o : Option Side) → side_of s ≡ o → sent_in (flow_of_system (side_of s) g k to) ≡ []
@@ -261,16 +290,21 @@ no_line s agg conv x e = cond_true (length (sent_in x) == 0) [] _ (ap (λ xs. le
 
 -- an aggregator that sent nothing has no lines
 pub no_row : (j : WorldState) (s agg : ℕ) → HasSentNothing j s agg → aggregator_flows_text j s agg ≡ []
-no_row j s agg quiet = empties (λ conv. flow_line s agg conv (flow_of_system (side_of s) agg conv j)) 0 conversations_per_aggregator (λ c le. no_line s agg c (flow_of_system (side_of s) agg c j) (quiet c))
+no_row j s agg quiet = empties (λ conv. flow_line s agg conv (flow_of_system (side_of s) agg conv j)) 0 conversations_per_aggregator
+    (λ c le. no_line s agg c (flow_of_system (side_of s) agg c j) (quiet c))
 
 -- and is left out
-pub row_skipped : (t u v : List ℕ) (j : WorldState) (s i : ℕ) → u ≡ t ++ flat_map (aggregator_flows_text j s) (range_with_len 1 i) → v ≡ u → HasSentNothing j s (i + 1)
+pub row_skipped : (t u v : List ℕ) (j : WorldState) (s i : ℕ) → u ≡ t ++ flat_map (aggregator_flows_text j s) (range_with_len 1 i) → v ≡ u
+    → HasSentNothing j s (i + 1)
     → v ≡ t ++ flat_map (aggregator_flows_text j s) (range_with_len 1 (i + 1))
 row_skipped t u v j s i before same quiet =
-    appended_both t u v (flat_map (aggregator_flows_text j s) (range_with_len 1 i)) [] (flat_map (aggregator_flows_text j s) (range_with_len 1 (i + 1))) before
+    appended_both t u v (flat_map (aggregator_flows_text j s) (range_with_len 1 i)) []
+    (flat_map (aggregator_flows_text j s) (range_with_len 1 (i + 1))) before
     (same ∙ sym (append_none u))
-    (ap (λ x. flat_map (aggregator_flows_text j s) (range_with_len 1 i) ++ x) (sym (no_row j s (i + 1) quiet)) ∙ range_more (aggregator_flows_text j s) 1 i (i + 1) (i + 1) (omega arith) refl)
+    (ap (λ x. flat_map (aggregator_flows_text j s) (range_with_len 1 i) ++ x) (sym (no_row j s (i + 1) quiet))
+    ∙ range_more (aggregator_flows_text j s) 1 i (i + 1) (i + 1) (omega arith) refl)
 
 -- a flag that was read and is not set
-pub unset : (flags : List Bool) (at i : ℕ) (r : Bool) → at ≡ i → i < length flags → r ≡ get_or flags at r → r ≡ false → get_or flags i false ≡ false
+pub unset : (flags : List Bool) (at i : ℕ) (r : Bool) → at ≡ i → i < length flags → r ≡ get_or flags at r → r ≡ false
+    → get_or flags i false ≡ false
 unset flags at i r same inside read off = sym (get_or_read flags i r inside (subst (λ k. r ≡ get_or flags k r) same read) false) ∙ off

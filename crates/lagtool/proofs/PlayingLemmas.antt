@@ -1,5 +1,6 @@
 -- A script is refused nothing but memory.
-use Rattle.std.proofs.Common.{◌≡◌, ◌+◌, ◌<◌, ◌≤◌, ◌==◌, ℕ, zero, suc, Bool, true, false, List, [], ◌∷◌, Option, Some, None, length, map, take, refl, sym, ap, ap₂, ◌∙◌, subst, inl, inr, if◌then◌else◌, arith}
+use Rattle.std.proofs.Common.{◌≡◌, ◌+◌, ◌<◌, ◌≤◌, ◌==◌, ℕ, zero, suc, Bool, true, false, List, [], ◌∷◌, Option, Some, None, length, map}
+use Rattle.std.proofs.Common.{take, refl, sym, ap, ap₂, ◌∙◌, subst, inl, inr, if◌then◌else◌, arith}
 use Rattle.std.specs.Prelude.{◌&&◌, is_some, nat_le, slice_get}
 use Rattle.std.specs.List.{list_all}
 use Rattle.std.proofs.lemmas.Bool.{true≢false}
@@ -13,7 +14,8 @@ use Rattle.lagscript.specs.Configs.{or_first}
 use Rattle.lagscript.specs.declared.config.BadWorld.{BadWorld}
 use Rattle.lagscript.specs.declared.config.BadWorld.TheVariants.{Lines}
 use Rattle.lagscript.specs.declared.event.Event.{Event}
-use Rattle.lagworld.specs.Events.{Algorithms, WorldRuns, cable_named, cause, cause_or_no_memory, first_event_cause, has_cable, has_system, most_events, system_named}
+use Rattle.lagworld.specs.Events.{Algorithms, WorldRuns, cable_named, cause, cause_or_no_memory, first_event_cause, has_cable}
+use Rattle.lagworld.specs.Events.{has_system, most_events, system_named}
 use Rattle.lagworld.specs.Making.{RefusesToMake, are_empty_lines, first_link, has_empty_directions}
 use Rattle.lagworld.specs.Messages.{item_value}
 use Rattle.lagworld.specs.Sound.{RefusesNext, RunStops, next_of}
@@ -40,9 +42,11 @@ abbrev pub is_bare : LinkState → Bool
 is_bare l = (length l.to_one == 0) && (length l.to_two == 0)
 
 bare_line : (line : AnyCable × AnyCable) → has_empty_directions any_items line ≡ is_bare (first_link any_items any_limit (0, 0) line)
-bare_line line = ap₂ (λ m n. (m == 0) && (n == 0)) (sym (length-map (any_items line.0) item_value)) (sym (length-map (any_items line.1) item_value))
+bare_line line = ap₂ (λ m n. (m == 0) && (n == 0)) (sym (length-map (any_items line.0) item_value))
+    (sym (length-map (any_items line.1) item_value))
 
-bare_lines : (lines : List (AnyCable × AnyCable)) → list_all (has_empty_directions any_items) lines ≡ list_all is_bare (map (first_link any_items any_limit (0, 0)) lines)
+bare_lines : (lines : List (AnyCable × AnyCable))
+    → list_all (has_empty_directions any_items) lines ≡ list_all is_bare (map (first_link any_items any_limit (0, 0)) lines)
 bare_lines [] = refl
 bare_lines (line ∷ lines) = ap₂ (λ x y. x && y) (bare_line line) (bare_lines lines)
 
@@ -50,11 +54,13 @@ both : (a b : Bool) → a ≡ true → b ≡ true → (a && b) ≡ true
 both a b e f = ap (λ x. x && b) e ∙ f
 
 -- as many lines as cables, of cables that are bare
-pub lines_there : (cables : List (ℕ × ℕ)) (lines : List (AnyCable × AnyCable)) (firsts : List LinkState) → map (first_link any_items any_limit (0, 0)) lines ≡ firsts
+pub lines_there : (cables : List (ℕ × ℕ)) (lines : List (AnyCable × AnyCable)) (firsts : List LinkState)
+    → map (first_link any_items any_limit (0, 0)) lines ≡ firsts
     → length firsts ≡ length cables → list_all is_bare firsts ≡ true → are_empty_lines any_items cables lines ≡ true
 lines_there cables lines firsts same long bare =
     both (length lines == length cables) (list_all (has_empty_directions any_items) lines)
-    (let counted : length lines ≡ length cables = sym (length-map lines (first_link any_items any_limit (0, 0))) ∙ ap length same ∙ long in grind (arith, nat_tests))
+    (let counted : length lines ≡ length cables = sym (length-map lines (first_link any_items any_limit (0, 0))) ∙ ap length same
+    ∙ long in grind (arith, nat_tests))
     (bare_lines lines ∙ ap (list_all is_bare) same ∙ bare)
 
 pub first_bare : (limits : List (Option ℕ)) → list_all is_bare (map (empty_link (0, 0)) limits) ≡ true
@@ -62,7 +68,8 @@ first_bare [] = refl
 first_bare (l ∷ limits) = first_bare limits
 
 -- one cable for each pair of ends, if there are as many limits
-pub cables_counted : (cables : List (ℕ × ℕ)) (limits : List (Option ℕ)) → length limits ≡ length cables → length (empty_links cables limits) ≡ length cables
+pub cables_counted : (cables : List (ℕ × ℕ)) (limits : List (Option ℕ)) → length limits ≡ length cables
+    → length (empty_links cables limits) ≡ length cables
 cables_counted [] limits h = refl
 cables_counted (ends ∷ cables) [] h = absurd (omega (arith, h))
 cables_counted (ends ∷ cables) (l ∷ limits) h =
@@ -72,7 +79,8 @@ cables_counted (ends ∷ cables) (l ∷ limits) h =
 -- ---- events are played
 
 -- each event counts
-acted_by : (gives : Algorithms) (es : List Event) (rs : List Reply) (old new : WorldState) → WorldRuns gives old es rs new → new.acted ≡ old.acted + length es
+acted_by : (gives : Algorithms) (es : List Event) (rs : List Reply) (old new : WorldState) → WorldRuns gives old es rs new
+    → new.acted ≡ old.acted + length es
 acted_by gives [] [] old new x = ap (λ (j : WorldState). j.acted) x ∙ (let none : old.acted ≡ old.acted + 0 = omega arith in none)
 acted_by gives [] (r ∷ rs) old new x = absurd x
 acted_by gives (e ∷ es) [] old new x = absurd x
@@ -115,10 +123,13 @@ not_spent : (n k : ℕ) → n ≡ k → k < most_events → nat_le most_events n
 not_spent n k e lt = grind (arith, nat_tests)
 
 -- the next event has no cause to be refused
-next_fine : (gives : Algorithms) (old new : WorldState) (es : List Event) (rs : List Reply) (done : ℕ) (e : Event) → WorldRuns gives old (take done es) rs new → done ≤ length es
-    → world_setup new ≡ world_setup old → old.acted ≡ 0 → AllNameExisting (length old.links) es → length es ≤ most_events → slice_get es done ≡ Some e → cause new e ≡ None
+next_fine : (gives : Algorithms) (old new : WorldState) (es : List Event) (rs : List Reply) (done : ℕ) (e : Event)
+    → WorldRuns gives old (take done es) rs new → done ≤ length es
+    → world_setup new ≡ world_setup old → old.acted ≡ 0 → AllNameExisting (length old.links) es → length es ≤ most_events
+    → slice_get es done ≡ Some e → cause new e ≡ None
 next_fine gives old new es rs done e ran within fixed acted named few at =
-    let held = halves (is_cable (length old.links) (cable_named e)) (has_system (system_named e)) (named_at (names_existing (length old.links)) es done e named at) in
+    let held = halves (is_cable (length old.links) (cable_named e)) (has_system (system_named e))
+    (named_at (names_existing (length old.links)) es done e named at) in
     let more = acted_by gives (take done es) rs old new ran in
     let long = length-take-le done es within in
     let lt = slice_get_within es done e at in
@@ -129,10 +140,13 @@ next_fine gives old new es rs done e ran within fixed acted named few at =
     (not_spent new.acted done count (omega (arith, lt, few)))
 
 -- so a run stops only for lack of memory
-pub stops_for_memory : (gives : Algorithms) (old new : WorldState) (es : List Event) (stop : RunFault) → world_setup new ≡ world_setup old → old.acted ≡ 0
+pub stops_for_memory : (gives : Algorithms) (old new : WorldState) (es : List Event) (stop : RunFault)
+    → world_setup new ≡ world_setup old → old.acted ≡ 0
     → AllNameExisting (length old.links) es → length es ≤ most_events → RunStops gives old es stop new → stop.fault ≡ NoMemory
-stops_for_memory gives old new es stop fixed acted named few s = elim s.fault [ inl h ↦ h.1 | inr h ↦ by_next (next_of es stop.done) refl h ]
+stops_for_memory gives old new es stop fixed acted named few s =
+    elim s.fault [ inl h ↦ h.1 | inr h ↦ by_next (next_of es stop.done) refl h ]
   where
     by_next : (o : Option Event) → next_of es stop.done ≡ o → RefusesNext new o stop.fault → stop.fault ≡ NoMemory
     by_next None at h = absurd h
-    by_next (Some e) at h = h.named ∙ ap cause_or_no_memory (next_fine gives old new es s.replies stop.done e s.acted s.within fixed acted named few at)
+    by_next (Some e) at h = h.named
+        ∙ ap cause_or_no_memory (next_fine gives old new es s.replies stop.done e s.acted s.within fixed acted named few at)

@@ -11,7 +11,8 @@ use Rattle.lagworld.specs.Events.{Algorithms}
 use Rattle.lagworld.specs.Making.{first_link, first_links}
 use Rattle.lagworld.specs.State.{WorldState, LinkState}
 use Rattle.lagworld.specs.declared.reply.Reply.{Reply}
-use Rattle.lagtool.specs.ReplayReport.{IsReportOfScript, IsReplayReport, Replays, agreements_text, entries_text, empty_link, empty_links, flows_text, replay_report}
+use Rattle.lagtool.specs.ReplayReport.{IsReportOfScript, IsReplayReport, Replays, agreements_text, entries_text, empty_link, empty_links}
+use Rattle.lagtool.specs.ReplayReport.{flows_text, replay_report}
 use Rattle.lagtool.specs.ReplaySteps.{AreAggregatorCounts, replay_report_with_counts}
 use Rattle.lagtool.specs.Sinks.{WritesPart, SinkState}
 use Rattle.lagtool.specs.declared.fault.ToolFault.{ToolFault}
@@ -29,7 +30,8 @@ first_lines_are (c ∷ cables) [] [] h = refl
 first_lines_are (c ∷ cables) [] (l ∷ limits) h = absurd (let e = h in cc)
 first_lines_are (c ∷ cables) (g ∷ given) [] h = absurd (let e = h in cc)
 first_lines_are (c ∷ cables) (g ∷ given) (l ∷ limits) h =
-    ap₂ (λ x xs. x ∷ xs) (ap (λ ls. with_ends c (get_or ls 0 (empty_link (0, 0) None))) h) (first_lines_are cables given limits (ap (drop 1) h))
+    ap₂ (λ x xs. x ∷ xs) (ap (λ ls. with_ends c (get_or ls 0 (empty_link (0, 0) None))) h)
+    (first_lines_are cables given limits (ap (drop 1) h))
 
 -- a cable of two empty directions with one limit
 pub empty_line : (a b : AnyCable) (limit : Option ℕ) → any_items a ≡ [] → any_items b ≡ [] → any_limit a ≡ limit → any_limit b ≡ limit
@@ -47,15 +49,21 @@ reported_is first second (a ∷ b ∷ c ∷ rest) es rs j h = absurd h
 
 -- the report of the events of a plan is that of its text
 pub replayed_is : (gives : Algorithms) (text : List ℕ) (plan : Plan) (limits : List (Option ℕ)) (es : List Event) (report said : List ℕ)
-    → HasPlan text (plan_value plan) → limits ≡ plan.limits.items → es ≡ plan.events.items → said ≡ report → IsReplayReport gives plan.config limits es report → IsReportOfScript gives text said
+    → HasPlan text (plan_value plan) → limits ≡ plan.limits.items → es ≡ plan.events.items → said ≡ report
+    → IsReplayReport gives plan.config limits es report → IsReportOfScript gives text said
 replayed_is gives text plan limits es report said has same_limits same_events says is = record {
   plan = plan;
   has = has;
-  is_report = subst (IsReplayReport gives plan.config plan.limits.items plan.events.items) (sym says) (subst (λ xs. IsReplayReport gives plan.config plan.limits.items xs report) same_events (subst (λ ls. IsReplayReport gives plan.config ls es report) same_limits is));
+  is_report = subst (IsReplayReport gives plan.config plan.limits.items plan.events.items) (sym says)
+      (subst (λ xs. IsReplayReport gives plan.config plan.limits.items xs report) same_events
+      (subst (λ ls. IsReplayReport gives plan.config ls es report) same_limits is));
 }
 
 -- a report that could not be written whole
-pub write_failed : {W : Type 0} (contents : W → Option (List ℕ)) (gives : Algorithms) (text : List ℕ) (old new : SinkState W) (r : Result ⊤ ToolFault) (report : List ℕ)
-    → IsErrAnd r (λ e. e ≡ Write) → IsReportOfScript gives text report → WritesPart contents old new report → Replays contents gives text old new r
+pub write_failed : {W : Type 0} (contents : W → Option (List ℕ)) (gives : Algorithms) (text : List ℕ) (old new : SinkState W)
+    (r : Result ⊤ ToolFault) (report : List ℕ)
+    → IsErrAnd r (λ e. e ≡ Write) → IsReportOfScript gives text report → WritesPart contents old new report
+    → Replays contents gives text old new r
 write_failed contents gives text old new (Ok x) report e is breaks = absurd e
-write_failed contents gives text old new (Err f) report e is breaks = subst (λ x. Replays contents gives text old new (Err x)) (sym e) (report, is, breaks)
+write_failed contents gives text old new (Err f) report e is breaks = subst (λ x. Replays contents gives text old new (Err x))
+    (sym e) (report, is, breaks)

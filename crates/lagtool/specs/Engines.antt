@@ -18,7 +18,8 @@ HasNoOctets hex NotMac = ⊥
 -- what `show` returns and has written: the whole text, a beginning of it, or nothing
 abbrev pub Shows : {W : Type 0} → (W → Option (List ℕ)) → List ℕ → SinkState W → SinkState W → Result Bool ToolFault → Type 0
 Shows contents hex old new (Ok accepted) = (text : List ℕ) × IsTextOfHex hex text accepted × WritesWhole contents old new text
-Shows contents hex old new (Err Write) = (text : List ℕ) × (accepted : Bool) × IsTextOfHex hex text accepted × WritesPart contents old new text
+Shows contents hex old new (Err Write) = (text : List ℕ) × (accepted : Bool) × IsTextOfHex hex text accepted
+    × WritesPart contents old new text
 Shows contents hex old new (Err NoMemory) = new ≡ old
 Shows contents hex old new (Err NotHex) = IsErr (decode_of hex) × (new ≡ old)
 Shows contents hex old new (Err Read) = ⊥

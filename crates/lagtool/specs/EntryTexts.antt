@@ -5,7 +5,8 @@ use Rattle.lagtypes.specs.Texts.{hex_text}
 use Rattle.lagsystem.specs.declared.config.PortChange.{PortChange}
 use Rattle.lagsystem.specs.declared.fault.SystemFault.{SystemFault}
 use Rattle.lagsystem.specs.declared.fault.SystemFault.TheVariants as refusal
-use Rattle.lagscript.specs.EventValues.{EventValue, tick, emit, deliver, lose, repeat, cut, join, sense, restart, configure, offer, move_to, force}
+use Rattle.lagscript.specs.EventValues.{EventValue, tick, emit, deliver, lose, repeat, cut, join, sense, restart, configure, offer}
+use Rattle.lagscript.specs.EventValues.{move_to, force}
 use Rattle.lagworld.specs.declared.agreement.Agreement.{Agreement}
 use Rattle.lagworld.specs.declared.agreement.Agreement.TheVariants as agreement
 use Rattle.lagworld.specs.declared.reply.Reply.{Reply}
@@ -95,7 +96,8 @@ reply_text reply.Joined = codes "joined"
 reply_text reply.Restarted = codes "restarted"
 reply_text (reply.Sensed up) = if up then codes "up" else codes "down"
 reply_text (reply.Configured changed) = if changed then codes "configured" else codes "unchanged"
-reply_text (reply.Port port serial accepted) = codes "port " ++ (decimal port ++ (codes " serial " ++ (decimal serial ++ 32 ∷ sent_or_lost_text accepted)))
+reply_text (reply.Port port serial accepted) =
+    codes "port " ++ (decimal port ++ (codes " serial " ++ (decimal serial ++ 32 ∷ sent_or_lost_text accepted)))
 reply_text reply.Moved = codes "moved"
 reply_text reply.Forced = codes "forced"
 reply_text (reply.Refused fault) = refused_text fault

@@ -1,6 +1,7 @@
 -- The report of a replay: its entries with their replies, and the state of cables and conversations at the end
 -- (profile).
-use Rattle.std.specs.Prelude.{◌≡◌, ⊤, ℕ, ◌+◌, ◌++◌, ◌==◌, Bool, true, List, [], ◌∷◌, flat_map, length, map, if◌then◌else◌, codes, decimal, Option, Some, None, Result, Ok, Err}
+use Rattle.std.specs.Prelude.{◌≡◌, ⊤, ℕ, ◌+◌, ◌++◌, ◌==◌, Bool, true, List, [], ◌∷◌, flat_map, length, map, if◌then◌else◌, codes}
+use Rattle.std.specs.Prelude.{decimal, Option, Some, None, Result, Ok, Err}
 use Rattle.std.specs.List.{range_with_len}
 use Rattle.lagsystem.specs.declared.config.Config.{Config}
 use Rattle.lagscript.specs.EventValues.{event_value}
@@ -64,7 +65,8 @@ flow_line s agg conv x =
 
 -- the lines of all conversations of one aggregator of system s
 abbrev pub aggregator_flows_text : WorldState → ℕ → ℕ → List ℕ
-aggregator_flows_text j s agg = flat_map (λ conv. flow_line s agg conv (flow_of_system (side_of s) agg conv j)) (range_with_len 0 conversations_per_aggregator)
+aggregator_flows_text j s agg = flat_map (λ conv. flow_line s agg conv (flow_of_system (side_of s) agg conv j))
+    (range_with_len 0 conversations_per_aggregator)
 
 -- the lines of all conversations of system s, which has this many aggregators
 abbrev pub flows_text : WorldState → ℕ → ℕ → List ℕ
@@ -91,7 +93,8 @@ empty_links _ _ = []
 
 -- These events were run, from the start of two systems and cables with these limits; the world at the end has the facts
 -- that the theorem proves.
-pub record IsRunFromStart (gives : Algorithms) (config : WorldConfig) (limits : List (Option ℕ)) (events : List Event) (replies : List Reply)
+pub record IsRunFromStart (gives : Algorithms) (config : WorldConfig) (limits : List (Option ℕ))
+    (events : List Event) (replies : List Reply)
     (to : WorldState) : Type 0 where
   pub from : WorldState
   pub systems : AreFirst config.systems from
@@ -101,7 +104,8 @@ pub record IsRunFromStart (gives : Algorithms) (config : WorldConfig) (limits : 
   pub sound : IsSound to
 
 -- the report of a run of these events
-pub record IsReplayReport (gives : Algorithms) (config : WorldConfig) (limits : List (Option ℕ)) (events : List Event) (report : List ℕ) : Type 0 where
+pub record IsReplayReport (gives : Algorithms) (config : WorldConfig) (limits : List (Option ℕ)) (events : List Event)
+    (report : List ℕ) : Type 0 where
   pub replies : List Reply
   pub to : WorldState
   pub played : IsRunFromStart gives config limits events replies to
@@ -120,7 +124,8 @@ HasNoScript text fault = (fault ≡ script.NoMemory → ⊥) × IsRefused text f
 -- what `replay` returns and has written: the whole report, a beginning of it, or nothing
 abbrev pub Replays : {W : Type 0} → (W → Option (List ℕ)) → Algorithms → List ℕ → SinkState W → SinkState W → Result ⊤ ToolFault → Type 0
 Replays contents gives text old new (Ok done) = (report : List ℕ) × IsReportOfScript gives text report × WritesWhole contents old new report
-Replays contents gives text old new (Err Write) = (report : List ℕ) × IsReportOfScript gives text report × WritesPart contents old new report
+Replays contents gives text old new (Err Write) = (report : List ℕ) × IsReportOfScript gives text report
+    × WritesPart contents old new report
 Replays contents gives text old new (Err NoMemory) = new ≡ old
 Replays contents gives text old new (Err (Script fault)) = HasNoScript text fault × (new ≡ old)
 Replays contents gives text old new (Err Read) = ⊥

@@ -1,5 +1,6 @@
 -- What `vectors` prints (profile).
-use Rattle.std.specs.Prelude.{◌≡◌, ⊤, ℕ, ◌+◌, ◌++◌, Bool, List, [], ◌∷◌, Option, Result, Ok, Err, codes, count_by, decimal, length, not, if◌then◌else◌}
+use Rattle.std.specs.Prelude.{◌≡◌, ⊤, ℕ, ◌+◌, ◌++◌, Bool, List, [], ◌∷◌, Option, Result, Ok, Err, codes, count_by, decimal, length, not}
+use Rattle.std.specs.Prelude.{if◌then◌else◌}
 use Rattle.lagtool.specs.Sinks.{WritesPart, SinkState, WritesWhole}
 use Rattle.lagtool.specs.declared.fault.ToolFault.{ToolFault}
 use Rattle.lagtool.specs.declared.fault.ToolFault.TheVariants.{Read, Write, NoMemory, Script, NotHex, NotMac}

@@ -133,7 +133,8 @@ fn report_of_script<F: Fn(u16, usize) -> usize + Drop>(
     requires one_each { length limits.now ≡ length config.cables.items }
     requires named { AllNameExisting (length config.cables.items) events.now }
     requires few { length events.now ≤ most_events }
-    ensures ok { IfOk result (λ report. IsReplayReport (both_algorithms (F.post one) (F.post two)) config limits.now events.now (string_bytes report)) }
+    ensures ok { IfOk result (λ report. IsReplayReport (both_algorithms (F.post one) (F.post two)) config limits.now events.now
+        (string_bytes report)) }
     ensures err { IfErr result (λ fault. fault ≡ NoMemory) }
 {
     let counts = aggregator_counts(&config);

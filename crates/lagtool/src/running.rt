@@ -45,7 +45,8 @@ pub(crate) fn run_events<F: Fn(u16, usize) -> usize + Drop>(
     requires acted { world.old.state.acted ≡ 0 }
     requires named { AllNameExisting (length world.old.state.links) events.now }
     requires few { length events.now ≤ most_events }
-    ensures ran { IfOk result (λ replies. WorldRuns (both_algorithms (F.post world.old.one) (F.post world.old.two)) world.old.state events.now
+    ensures ran { IfOk result (λ replies. WorldRuns (both_algorithms (F.post world.old.one) (F.post world.old.two))
+        world.old.state events.now
         replies.items world.new.state) }
     ensures sound { IsSound world.new.state }
     ensures stopped { IfErr result (λ stop. stop.fault ≡ NoMemory) }

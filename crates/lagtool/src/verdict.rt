@@ -1,5 +1,6 @@
 ghost use Rattle.std.specs.Prelude.{◌≡◌, ◌≤◌, Some, IfOk, length};
-ghost use Rattle.lagtool.specs.Verdicts.{frame_verdict, is_fault, kind_verdict, line_verdict, longest_line, payload_verdict, verdict_text, without_return};
+ghost use Rattle.lagtool.specs.Verdicts.{frame_verdict, is_fault, kind_verdict, line_verdict, longest_line, payload_verdict};
+ghost use Rattle.lagtool.specs.Verdicts.{verdict_text, without_return};
 
 use crate::texts::RefusalText;
 use hex::FromHexError;

@@ -76,7 +76,8 @@ swapped x y = swap_by (end_cmp y x) x y (λ e. sym (exact_ends y x e)) ∙ ap (�
 abbrev Either : Pair → Group → Type 0
 Either p g = ((g.lower ≡ p.one) × (g.upper ≡ p.other)) ⊎ ((g.lower ≡ p.other) × (g.upper ≡ p.one))
 
-either : (b : Bool) (p : Pair) → Either p (if b then record { lower = p.other; upper = p.one } else record { lower = p.one; upper = p.other })
+either : (b : Bool) (p : Pair)
+    → Either p (if b then record { lower = p.other; upper = p.one } else record { lower = p.one; upper = p.other })
 either true p = inr (refl, refl)
 either false p = inl (refl, refl)
 
@@ -89,7 +90,8 @@ pair_by p q g (inr a) (inr b) = inl (sym a.1 ∙ b.1, sym a.0 ∙ b.0)
 -- equal groups are of equal pairs
 pub pairs_from_groups : (p q : Pair) → lower_first p ≡ lower_first q → SamePair p q
 pairs_from_groups p q e =
-    pair_by p q (lower_first q) (subst (λ g. Either p g) e (either (is_lt (end_cmp p.other p.one)) p)) (either (is_lt (end_cmp q.other q.one)) q)
+    pair_by p q (lower_first q) (subst (λ g. Either p g) e (either (is_lt (end_cmp p.other p.one)) p))
+    (either (is_lt (end_cmp q.other q.one)) q)
 
 -- equal pairs have equal groups
 pub groups_from_pairs : (p q : Pair) → SamePair p q → lower_first p ≡ lower_first q

@@ -45,7 +45,8 @@ exact_key k l h = λ i. record { 0 = exact_number k.0 l.0 h i }
 
 pub exact_party : (a b : Party) → same_party a b ≡ true → a ≡ b
 exact_party a b h =
-    let three = and_parts ((same_system a.system b.system && (a.key.0 == b.key.0)) && same_port a.port b.port) (same_bit a.aggregatable b.aggregatable) h in
+    let three = and_parts ((same_system a.system b.system && (a.key.0 == b.key.0)) && same_port a.port b.port)
+    (same_bit a.aggregatable b.aggregatable) h in
     let two = and_parts (same_system a.system b.system && (a.key.0 == b.key.0)) (same_port a.port b.port) three.0 in
     let one = and_parts (same_system a.system b.system) (a.key.0 == b.key.0) two.0 in
     λ i. record {

@@ -19,26 +19,116 @@ one_of p false e = (and_parts (p true) (p false) e).1
 abbrev all_states : (StateBits → Bool) → Bool
 all_states p =
     both (λ a. both (λ t. both (λ g. both (λ s. both (λ c. both (λ d. both (λ f. both (λ e.
-    p (record { activity = a; timeout = t; aggregation = g; synchronization = s; collecting = c; distributing = d; defaulted = f; expired = e })))))))))
+    p (record {
+      activity = a;
+      timeout = t;
+      aggregation = g;
+      synchronization = s;
+      collecting = c;
+      distributing = d;
+      defaulted =
+          f;
+      expired = e;
+    })))))))))
 
 one_state : (p : StateBits → Bool) (b : StateBits) → all_states p ≡ true → p b ≡ true
 one_state p b h =
     let p1 : Bool → Bool = λ a. both (λ t. both (λ g. both (λ s. both (λ c. both (λ d. both (λ f. both (λ e.
-    p (record { activity = a; timeout = t; aggregation = g; synchronization = s; collecting = c; distributing = d; defaulted = f; expired = e })))))))) in
+    p (record {
+      activity = a;
+      timeout = t;
+      aggregation = g;
+      synchronization = s;
+      collecting = c;
+      distributing = d;
+      defaulted =
+          f;
+      expired = e;
+    })))))))) in
     let p2 : Bool → Bool = λ t. both (λ g. both (λ s. both (λ c. both (λ d. both (λ f. both (λ e.
-    p (record { activity = b.activity; timeout = t; aggregation = g; synchronization = s; collecting = c; distributing = d; defaulted = f; expired = e }))))))) in
+    p (record {
+      activity = b.activity;
+      timeout = t;
+      aggregation = g;
+      synchronization = s;
+      collecting = c;
+      distributing = d;
+      defaulted =
+          f;
+      expired = e;
+    }))))))) in
     let p3 : Bool → Bool = λ g. both (λ s. both (λ c. both (λ d. both (λ f. both (λ e.
-    p (record { activity = b.activity; timeout = b.timeout; aggregation = g; synchronization = s; collecting = c; distributing = d; defaulted = f; expired = e })))))) in
+    p (record {
+      activity = b.activity;
+      timeout = b.timeout;
+      aggregation = g;
+      synchronization = s;
+      collecting = c;
+      distributing =
+          d;
+      defaulted = f;
+      expired = e;
+    })))))) in
     let p4 : Bool → Bool = λ s. both (λ c. both (λ d. both (λ f. both (λ e.
-    p (record { activity = b.activity; timeout = b.timeout; aggregation = b.aggregation; synchronization = s; collecting = c; distributing = d; defaulted = f; expired = e }))))) in
+    p (record {
+      activity = b.activity;
+      timeout = b.timeout;
+      aggregation = b.aggregation;
+      synchronization = s;
+      collecting = c;
+      distributing =
+          d;
+      defaulted = f;
+      expired = e;
+    }))))) in
     let p5 : Bool → Bool = λ c. both (λ d. both (λ f. both (λ e.
-    p (record { activity = b.activity; timeout = b.timeout; aggregation = b.aggregation; synchronization = b.synchronization; collecting = c; distributing = d; defaulted = f; expired = e })))) in
+    p (record {
+      activity = b.activity;
+      timeout = b.timeout;
+      aggregation = b.aggregation;
+      synchronization = b.synchronization;
+      collecting =
+          c;
+      distributing = d;
+      defaulted = f;
+      expired = e;
+    })))) in
     let p6 : Bool → Bool = λ d. both (λ f. both (λ e.
-    p (record { activity = b.activity; timeout = b.timeout; aggregation = b.aggregation; synchronization = b.synchronization; collecting = b.collecting; distributing = d; defaulted = f; expired = e }))) in
+    p (record {
+      activity = b.activity;
+      timeout = b.timeout;
+      aggregation = b.aggregation;
+      synchronization = b.synchronization;
+      collecting =
+          b.collecting;
+      distributing = d;
+      defaulted = f;
+      expired = e;
+    }))) in
     let p7 : Bool → Bool = λ f. both (λ e.
-    p (record { activity = b.activity; timeout = b.timeout; aggregation = b.aggregation; synchronization = b.synchronization; collecting = b.collecting; distributing = b.distributing; defaulted = f; expired = e })) in
+    p (record {
+      activity = b.activity;
+      timeout = b.timeout;
+      aggregation = b.aggregation;
+      synchronization = b.synchronization;
+      collecting =
+          b.collecting;
+      distributing = b.distributing;
+      defaulted = f;
+      expired = e;
+    })) in
     let p8 : Bool → Bool = λ e.
-    p (record { activity = b.activity; timeout = b.timeout; aggregation = b.aggregation; synchronization = b.synchronization; collecting = b.collecting; distributing = b.distributing; defaulted = b.defaulted; expired = e }) in
+    p (record {
+      activity = b.activity;
+      timeout = b.timeout;
+      aggregation = b.aggregation;
+      synchronization = b.synchronization;
+      collecting =
+          b.collecting;
+      distributing = b.distributing;
+      defaulted = b.defaulted;
+      expired = e;
+    }) in
     one_of p8 b.expired (one_of p7 b.defaulted (one_of p6 b.distributing (one_of p5 b.collecting
     (one_of p4 b.synchronization (one_of p3 b.aggregation (one_of p2 b.timeout (one_of p1 b.activity h)))))))
 
@@ -71,8 +161,10 @@ alike_same false false e = refl
 
 abbrev all_alike : StateBits → StateBits → Bool
 all_alike a b =
-    alike a.activity b.activity && (alike a.timeout b.timeout && (alike a.aggregation b.aggregation && (alike a.synchronization b.synchronization
-    && (alike a.collecting b.collecting && (alike a.distributing b.distributing && (alike a.defaulted b.defaulted && alike a.expired b.expired))))))
+    alike a.activity b.activity
+    && (alike a.timeout b.timeout && (alike a.aggregation b.aggregation && (alike a.synchronization b.synchronization
+    && (alike a.collecting b.collecting
+    && (alike a.distributing b.distributing && (alike a.defaulted b.defaulted && alike a.expired b.expired))))))
 
 all_alike_same : (a b : StateBits) → all_alike a b ≡ true → a ≡ b
 all_alike_same a b e =
@@ -113,4 +205,7 @@ below_is (suc k) p n e h =
 -- the state that is made of the bits of a state octet is that octet
 pub write_back : (s : State) → s.0 < 256 → state_from_bits (bits_of s) ≡ s
 write_back s h =
-    λ i. record { 0 = same (state_from_bits (bits_of s)).0 s.0 (below_is 256 (λ n. (state_from_bits (bits_of (record { 0 = n }))).0 == n) s.0 refl h) i }
+    λ i. record {
+      0 = same (state_from_bits (bits_of s)).0 s.0
+          (below_is 256 (λ n. (state_from_bits (bits_of (record { 0 = n }))).0 == n) s.0 refl h) i;
+    }

@@ -29,7 +29,8 @@ SamePair p q = ((p.one ≡ q.one) × (p.other ≡ q.other)) ⊎ ((p.one ≡ q.ot
 
 -- a group has the lower end of the pair first (profile)
 abbrev pub lower_first : Pair → Group
-lower_first p = if is_lt (end_cmp p.other p.one) then record { lower = p.other; upper = p.one } else record { lower = p.one; upper = p.other }
+lower_first p = if is_lt (end_cmp p.other p.one) then record { lower = p.other; upper = p.one } else
+    record { lower = p.one; upper = p.other }
 
 -- the group of the link between two ends
 abbrev pub group_of : Party → Party → Group

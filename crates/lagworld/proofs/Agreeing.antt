@@ -1,5 +1,6 @@
 -- The ends of a cable never have different groups if none of the earlier variants of `Agreement` holds.
-use Rattle.std.proofs.Common.{◌≡◌, ◌≢◌, ℕ, zero, suc, ◌+◌, ◌&&◌, ◌||◌, Bool, true, false, Option, Some, None, IsSomeAnd, List, map, ap, sym, refl, ◌∙◌, subst, arith, eqb-true}
+use Rattle.std.proofs.Common.{◌≡◌, ◌≢◌, ℕ, zero, suc, ◌+◌, ◌&&◌, ◌||◌, Bool, true, false, Option, Some, None, IsSomeAnd, List, map, ap}
+use Rattle.std.proofs.Common.{sym, refl, ◌∙◌, subst, arith, eqb-true}
 use Rattle.std.specs.Prelude.{not, is_some, option_map, slice_get}
 use Rattle.std.specs.Option.{unwrap_or}
 use Rattle.std.proofs.lemmas.Bool.{and_parts, true≢false}
@@ -47,11 +48,14 @@ neither true b h = absurd (true≢false h)
 neither false b h = (refl, h)
 
 -- a port that distributes is there
-port_there : (o : Option Machines) → unwrap_or (option_map (λ (x : Machines). same_mux_state CollectingDistributing x.mux) o) false ≡ true → (x : Machines) × (o ≡ Some x) × (same_mux_state CollectingDistributing x.mux ≡ true)
+port_there : (o : Option Machines) → unwrap_or (option_map (λ (x : Machines). same_mux_state CollectingDistributing x.mux) o) false ≡ true
+    → (x : Machines) × (o ≡ Some x) × (same_mux_state CollectingDistributing x.mux ≡ true)
 port_there None h = absurd (true≢false (sym h))
 port_there (Some x) h = (x, refl, h)
 
-slot_there : (s : SystemState) (o : Option ℕ) (x : Machines) → option_map (λ (y : SystemPort). y.port) (system_port_at o s.system_ports) ≡ Some x → (P : Machines → Type 0) → ((i : ℕ) (y : SystemPort) → slice_get s.system_ports i ≡ Some y → P y.port) → P x
+slot_there : (s : SystemState) (o : Option ℕ) (x : Machines)
+    → option_map (λ (y : SystemPort). y.port) (system_port_at o s.system_ports) ≡ Some x → (P : Machines → Type 0)
+    → ((i : ℕ) (y : SystemPort) → slice_get s.system_ports i ≡ Some y → P y.port) → P x
 slot_there s None x e P w = absurd (none-some x e)
 slot_there s (Some i) x e P w = by_slot (slice_get s.system_ports i) refl e
   where
@@ -60,22 +64,29 @@ slot_there s (Some i) x e P w = by_slot (slice_get s.system_ports i) refl e
     by_slot (Some y) h e = subst P (same_Some y.port x e) (w i y h)
 
 -- it distributes for the law too
-distributes_seen : (s : SystemState) (p : ℕ) (x : Machines) → PortsAgree s → machines_of p s ≡ Some x → same_mux_state CollectingDistributing x.mux ≡ true → (model_port x).distributes ≡ true
+distributes_seen : (s : SystemState) (p : ℕ) (x : Machines) → PortsAgree s → machines_of p s ≡ Some x
+    → same_mux_state CollectingDistributing x.mux ≡ true → (model_port x).distributes ≡ true
 distributes_seen s p x a e m =
-    slot_there s (port_index p s.system_ports) x e (λ x. (model_port x).distributes ≡ same_mux_state CollectingDistributing x.mux) (λ i y h. all-get (λ y. (model_port y.port).distributes ≡ same_mux_state CollectingDistributing y.port.mux) s.system_ports i y h a.distribute) ∙ m
+    slot_there s (port_index p s.system_ports) x e (λ x. (model_port x).distributes ≡ same_mux_state CollectingDistributing x.mux)
+    (λ i y h. all-get (λ y. (model_port y.port).distributes ≡ same_mux_state CollectingDistributing y.port.mux)
+    s.system_ports i y h a.distribute) ∙ m
 
 -- the peer's LACPDU that it took last has the peer's count
-stamp_there : (n : ℕ) (o : Option StampedLacpdu) → is_stamp n o ≡ true → (m : TakenLacpdu) × (option_map model_taken o ≡ Some m) × (m.stamp ≡ n)
+stamp_there : (n : ℕ) (o : Option StampedLacpdu) → is_stamp n o ≡ true → (m : TakenLacpdu)
+    × (option_map model_taken o ≡ Some m) × (m.stamp ≡ n)
 stamp_there n None h = absurd (true≢false (sym h))
 stamp_there n (Some lacpdu) h = (model_taken lacpdu, refl, eqb-true lacpdu.stamp n h)
 
-not_defaulted : (o : Option Machines) (x : Machines) → o ≡ Some x → unwrap_or (option_map (λ (x : Machines). x.defaulted) o) false ≡ false → x.defaulted ≡ false
+not_defaulted : (o : Option Machines) (x : Machines) → o ≡ Some x → unwrap_or (option_map (λ (x : Machines). x.defaulted) o) false ≡ false
+    → x.defaulted ≡ false
 not_defaulted None x e h = absurd (none-some x e)
 not_defaulted (Some y) x e h = subst (λ (x : Machines). x.defaulted ≡ false) (same_Some y x e) h
 
 -- an end hears its present peer
-hears : (s : Side) (p q : ℕ) (x : Machines) (j : WorldState) → PortsAgree (half s j).state → machines_of p (half s j).state ≡ Some x → same_mux_state CollectingDistributing x.mux ≡ true → x.defaulted ≡ false
-    → is_stamp (change_count_in (history_at (half (peer s) j).histories q)) (taken_in (history_at (half s j).histories p)) ≡ true → LastLacpduIsUpToDate (model_world j) s p q (model_port x)
+hears : (s : Side) (p q : ℕ) (x : Machines) (j : WorldState) → PortsAgree (half s j).state → machines_of p (half s j).state ≡ Some x
+    → same_mux_state CollectingDistributing x.mux ≡ true → x.defaulted ≡ false
+    → is_stamp (change_count_in (history_at (half (peer s) j).histories q)) (taken_in (history_at (half s j).histories p)) ≡ true
+    → LastLacpduIsUpToDate (model_world j) s p q (model_port x)
 hears s p q x j a e m d t = record {
   is = port_seen (half s j).state p ∙ ap (option_map model_port) e;
   distributes = distributes_seen (half s j).state p x a e m;
@@ -83,13 +94,18 @@ hears s p q x j a e m d t = record {
   taken = stamp_there (change_count_in (history_at (half (peer s) j).histories q)) (taken_in (history_at (half s j).histories p)) t;
 }
 
-same_there : (o u : Option Machines) (x y : Machines) → o ≡ Some x → u ≡ Some y → same_groups (option_map group_at o) (option_map group_at u) ≡ same_group (group_at x) (group_at y)
-same_there o u x y e f = ap (λ o. same_groups (option_map group_at o) (option_map group_at u)) e ∙ ap (λ u. same_groups (Some (group_at x)) (option_map group_at u)) f
+same_there : (o u : Option Machines) (x y : Machines) → o ≡ Some x → u ≡ Some y
+    → same_groups (option_map group_at o) (option_map group_at u) ≡ same_group (group_at x) (group_at y)
+same_there o u x y e f = ap (λ o. same_groups (option_map group_at o) (option_map group_at u)) e
+    ∙ ap (λ u. same_groups (Some (group_at x)) (option_map group_at u)) f
 
-equal_test : (x y : Machines) → SamePair (pair_of x.party (party_of x.partner)) (pair_of y.party (party_of y.partner)) → same_group (group_at x) (group_at y) ≡ true
-equal_test x y h = subst (λ (g : Group). same_group (group_at x) g ≡ true) (groups_from_pairs (pair_of x.party (party_of x.partner)) (pair_of y.party (party_of y.partner)) h) (group-itself (group_at x))
+equal_test : (x y : Machines) → SamePair (pair_of x.party (party_of x.partner)) (pair_of y.party (party_of y.partner))
+    → same_group (group_at x) (group_at y) ≡ true
+equal_test x y h = subst (λ (g : Group). same_group (group_at x) g ≡ true)
+    (groups_from_pairs (pair_of x.party (party_of x.partner)) (pair_of y.party (party_of y.partner)) h) (group-itself (group_at x))
 
-end_there : (s : Side) (links : List LinkState) (i : ℕ) (l : LinkState) → slice_get links i ≡ Some l → end_at (map link_ends links) s (suc i) ≡ Some (port_at s l)
+end_there : (s : Side) (links : List LinkState) (i : ℕ) (l : LinkState) → slice_get links i ≡ Some l
+    → end_at (map link_ends links) s (suc i) ≡ Some (port_at s l)
 end_there s links i l e = ap (option_map (port_on s)) (slice_get-map link_ends links i ∙ ap (option_map link_ends) e) ∙ same_end s
   where
     same_end : (s : Side) → Some (port_on s (link_ends l)) ≡ Some (port_at s l)
@@ -97,40 +113,54 @@ end_there s links i l e = ap (option_map (port_on s)) (slice_get-map link_ends l
     same_end Two = refl
 
 -- So they do not differ.
-line_agrees : (j : WorldState) (i : ℕ) (l : LinkState) → IsSound j → slice_get j.links i ≡ Some l → agreement_of (end_facts j.one l.one) (end_facts j.two l.two) ≡ Differ → ⊥
+line_agrees : (j : WorldState) (i : ℕ) (l : LinkState) → IsSound j → slice_get j.links i ≡ Some l
+    → agreement_of (end_facts j.one l.one) (end_facts j.two l.two) ≡ Differ → ⊥
 line_agrees j i l s e h =
     let a = end_facts j.one l.one in
     let b = end_facts j.two l.two in
-    let f = last_of_five (not (a.distributes && b.distributes)) (a.defaulted || b.defaulted) (not (is_stamp a.count b.taken && is_stamp b.count a.taken)) (same_groups a.group b.group) h in
+    let f = last_of_five (not (a.distributes && b.distributes)) (a.defaulted || b.defaulted)
+    (not (is_stamp a.count b.taken && is_stamp b.count a.taken)) (same_groups a.group b.group) h in
     let both = and_parts a.distributes b.distributes (not_false (a.distributes && b.distributes) f.0) in
     let defaults = neither a.defaulted b.defaulted f.1 in
-    let stamps = and_parts (is_stamp a.count b.taken) (is_stamp b.count a.taken) (not_false (is_stamp a.count b.taken && is_stamp b.count a.taken) f.2) in
+    let stamps = and_parts (is_stamp a.count b.taken) (is_stamp b.count a.taken)
+    (not_false (is_stamp a.count b.taken && is_stamp b.count a.taken) f.2) in
     let one = port_there (machines_of l.one j.one.state) both.0 in
     let two = port_there (machines_of l.two j.two.state) both.1 in
-    let hears_one = hears One l.one l.two one.0 j (s.kept One).agrees one.1 one.2 (not_defaulted (machines_of l.one j.one.state) one.0 one.1 defaults.0) stamps.1 in
-    let hears_two = hears Two l.two l.one two.0 j (s.kept Two).agrees two.1 two.2 (not_defaulted (machines_of l.two j.two.state) two.0 two.1 defaults.1) stamps.0 in
-    let pair = agree_of j s (suc i) l.one l.two (model_port one.0) (model_port two.0) (end_there One j.links i l e) (end_there Two j.links i l e) hears_one hears_two in
-    true≢false (sym (equal_test one.0 two.0 pair) ∙ sym (same_there (machines_of l.one j.one.state) (machines_of l.two j.two.state) one.0 two.0 one.1 two.1) ∙ f.3)
+    let hears_one = hears One l.one l.two one.0 j (s.kept One).agrees one.1 one.2
+    (not_defaulted (machines_of l.one j.one.state) one.0 one.1 defaults.0) stamps.1 in
+    let hears_two = hears Two l.two l.one two.0 j (s.kept Two).agrees two.1 two.2
+    (not_defaulted (machines_of l.two j.two.state) two.0 two.1 defaults.1) stamps.0 in
+    let pair = agree_of j s (suc i) l.one l.two (model_port one.0) (model_port two.0) (end_there One j.links i l e)
+    (end_there Two j.links i l e) hears_one hears_two in
+    true≢false (sym (equal_test one.0 two.0 pair)
+    ∙ sym (same_there (machines_of l.one j.one.state) (machines_of l.two j.two.state) one.0 two.0 one.1 two.1) ∙ f.3)
 
 pub never_differs : (j : WorldState) (c : ℕ) → IsSound j → agreement_at j c ≢ Some Differ
 never_differs j zero s h = none-some Differ h
 never_differs j (suc i) s h = by_line (slice_get j.links i) refl h
   where
-    by_line : (o : Option LinkState) → slice_get j.links i ≡ o → option_map (λ (l : LinkState). agreement_of (end_facts j.one l.one) (end_facts j.two l.two)) o ≡ Some Differ → ⊥
+    by_line : (o : Option LinkState) → slice_get j.links i ≡ o
+        → option_map (λ (l : LinkState). agreement_of (end_facts j.one l.one) (end_facts j.two l.two)) o ≡ Some Differ → ⊥
     by_line None e h = none-some Differ h
     by_line (Some l) e h = line_agrees j i l s e (same_Some (agreement_of (end_facts j.one l.one) (end_facts j.two l.two)) Differ h)
 
 -- what code found of the cable is what there is to say of it
-pub agreement_there : (j : WorldState) (c i one two : ℕ) (whole : Bool) → c ≡ i + 1 → IsSomeAnd (slice_get j.links i) (λ l. (one ≡ l.one) × (two ≡ l.two) × (whole ≡ l.whole)) → Some (agreement_of (end_facts j.one one) (end_facts j.two two)) ≡ agreement_at j c
-agreement_there j c i one two whole e h = subst (λ c. Some (agreement_of (end_facts j.one one) (end_facts j.two two)) ≡ agreement_at j c) (sym (e ∙ next i)) (by_line (slice_get j.links i) h)
+pub agreement_there : (j : WorldState) (c i one two : ℕ) (whole : Bool) → c ≡ i + 1
+    → IsSomeAnd (slice_get j.links i) (λ l. (one ≡ l.one) × (two ≡ l.two) × (whole ≡ l.whole))
+    → Some (agreement_of (end_facts j.one one) (end_facts j.two two)) ≡ agreement_at j c
+agreement_there j c i one two whole e h = subst (λ c. Some (agreement_of (end_facts j.one one) (end_facts j.two two)) ≡ agreement_at j c)
+    (sym (e ∙ next i)) (by_line (slice_get j.links i) h)
   where
     next : (i : ℕ) → i + 1 ≡ suc i
     next i = omega arith
 
-    by_line : (o : Option LinkState) → IsSomeAnd o (λ l. (one ≡ l.one) × (two ≡ l.two) × (whole ≡ l.whole)) → Some (agreement_of (end_facts j.one one) (end_facts j.two two)) ≡ option_map (λ (l : LinkState). agreement_of (end_facts j.one l.one) (end_facts j.two l.two)) o
+    by_line : (o : Option LinkState) → IsSomeAnd o (λ l. (one ≡ l.one) × (two ≡ l.two) × (whole ≡ l.whole))
+        → Some (agreement_of (end_facts j.one one) (end_facts j.two two)) ≡ option_map
+        (λ (l : LinkState). agreement_of (end_facts j.one l.one) (end_facts j.two l.two)) o
     by_line None h = absurd h
     by_line (Some l) h = λ k. Some (agreement_of (end_facts j.one (h.0 k)) (end_facts j.two (h.1 k)))
 
-pub no_agreement : (j : WorldState) (o : Option LinkState) → is_some o ≡ false → option_map (λ (l : LinkState). agreement_of (end_facts j.one l.one) (end_facts j.two l.two)) o ≡ None
+pub no_agreement : (j : WorldState) (o : Option LinkState) → is_some o ≡ false
+    → option_map (λ (l : LinkState). agreement_of (end_facts j.one l.one) (end_facts j.two l.two)) o ≡ None
 no_agreement j None h = refl
 no_agreement j (Some l) h = absurd (true≢false h)

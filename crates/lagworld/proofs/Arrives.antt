@@ -1,5 +1,6 @@
 -- What an item that arrives on a port does.
-use Rattle.std.proofs.Common.{◌≡◌, ℕ, suc, ◌==◌, eqb, ◌++◌, Bool, true, false, cond, Option, Some, None, IsSome, List, [], ◌∷◌, map, sym, refl, ap, ◌∙◌, subst, inl, inr, ◌⊎◌, Ok, Err, Result, eqb-true, eq-eqb}
+use Rattle.std.proofs.Common.{◌≡◌, ℕ, suc, ◌==◌, eqb, ◌++◌, Bool, true, false, cond, Option, Some, None, IsSome, List, [], ◌∷◌, map, sym}
+use Rattle.std.proofs.Common.{refl, ap, ◌∙◌, subst, inl, inr, ◌⊎◌, Ok, Err, Result, eqb-true, eq-eqb}
 use Rattle.std.specs.Prelude.{option_map, option_to_list, slice_get}
 use Rattle.std.proofs.lemmas.Bool.{cases_Bool, true≢false}
 use Rattle.lagtypes.specs.declared.identifiers.AggId.{AggId}
@@ -14,7 +15,9 @@ use Rattle.slowpdu.specs.Readings.{number_at, pdu_in, lacpdu_in}
 use Rattle.slowpdu.proofs.PduInLemmas.{pdu_read}
 use Rattle.lagmodel.specs.View.{ModelCall as ModelEvent, ControlMessage as Message_pdu}
 use Rattle.lagmodel.specs.Move.{Act, Sends, Took, LawfulMoves}
-use Rattle.lagmodel.specs.World.{Side, One, Two, peer, Message, Control, Data, World, WorldSetup, Ends, IsCabling, end_at, CallHappens, Event, Happens, with_messages, at_side, at_two, handed_up, stamp_of, DeliversFirst, RepeatsFirst, LosesFirst, Receives}
+use Rattle.lagmodel.specs.World.{Side, One, Two, peer, Message, Control, Data, World, WorldSetup, Ends, IsCabling, end_at, CallHappens}
+use Rattle.lagmodel.specs.World.{Event, Happens, with_messages, at_side, at_two, handed_up, stamp_of, DeliversFirst, RepeatsFirst}
+use Rattle.lagmodel.specs.World.{LosesFirst, Receives}
 use Rattle.lagmodel.proofs.Base.{cond_true, cond_false}
 use Rattle.lagmodel.proofs.Brings.{moves_bring}
 use Rattle.lagmodel.proofs.Runs.{same_world}
@@ -23,15 +26,19 @@ use Rattle.lagsystem.specs.declared.received.Received.TheVariants as received
 use Rattle.lagsystem.specs.declared.drive.Reply.TheVariants as answer
 use Rattle.lagsystem.specs.declared.fault.SystemFault.{SystemFault}
 use Rattle.lagsystem.specs.Calls.{Receive}
-use Rattle.lagsystem.specs.ModelView.{model_setup, model_view, JoinedByLawfulMoves, FrameSeenAs, EffectsSeenAs, control_message, lacp_message as model_lacpdu}
+use Rattle.lagsystem.specs.ModelView.{model_setup, model_view, JoinedByLawfulMoves, FrameSeenAs, EffectsSeenAs, control_message}
+use Rattle.lagsystem.specs.ModelView.{lacp_message as model_lacpdu}
 use Rattle.lagsystem.specs.State.{SystemState}
 use Rattle.lagworld.specs.declared.reply.Reply.{Reply}
 use Rattle.lagworld.specs.declared.histories.StampedLacpdu.{StampedLacpdu}
 use Rattle.lagworld.specs.declared.histories.PortHistory.{PortHistory}
-use Rattle.lagworld.specs.State.{ItemValue, HalfState, LinkState, WorldState, FlowValue, half, with_half, port_at, towards, with_towards, put_on_port, is_accepted, history_at, change_count_in, taken_in, flow_at, sent_in, collected_in, forced_in, with_collected}
+use Rattle.lagworld.specs.State.{ItemValue, HalfState, LinkState, WorldState, FlowValue, half, with_half, port_at, towards, with_towards}
+use Rattle.lagworld.specs.State.{put_on_port, is_accepted, history_at, change_count_in, taken_in, flow_at, sent_in, collected_in}
+use Rattle.lagworld.specs.State.{forced_in, with_collected}
 use Rattle.lagworld.specs.Messages.{payload_in, message_in, item_message, stamp_count, side_named}
 use Rattle.lagworld.specs.HalfCalls.{HalfAnswers, set_taken}
-use Rattle.lagworld.specs.Events.{with_link_at, stamped_in, set_last_lacpdu, with_last_lacpdu, with_collected_in, WorldReceives, AfterReceive, DeliversFrom, LosesFrom, RepeatsFrom, RepeatsItem}
+use Rattle.lagworld.specs.Events.{with_link_at, stamped_in, set_last_lacpdu, with_last_lacpdu, with_collected_in, WorldReceives}
+use Rattle.lagworld.specs.Events.{AfterReceive, DeliversFrom, LosesFrom, RepeatsFrom, RepeatsItem}
 use Rattle.lagworld.specs.Sound.{IsItem, AreItems}
 use Rattle.lagworld.specs.ModelWorld.{world_setup, model_world, link_ends, messages, model_taken}
 use Rattle.lagworld.proofs.Cables.{mapped_set, end_is}
@@ -68,160 +75,238 @@ holds_lacpdu b e = rw e refl
 pub lacpdu_read : (b : List ℕ) (v : Lacpdu) → Reads b v → lacpdu_in b ≡ v
 lacpdu_read b v h = ap (lacpdu_or v) (sym (holds_lacpdu b h.table.fields_hold.0) ∙ pdu_read b (pdu.Lacpdu v) h)
 
-brought_by : (octets : List ℕ) (st : Stamp) (o : Option Message_pdu) → IsTrue_to octets st → FrameSeenAs octets o → (o ≡ None) ⊎ (o ≡ brought octets st)
+brought_by : (octets : List ℕ) (st : Stamp) (o : Option Message_pdu) → IsTrue_to octets st → FrameSeenAs octets o → (o ≡ None)
+    ⊎ (o ≡ brought octets st)
 brought_by octets st None t b = inl refl
-brought_by octets (stamp.Control count) (Some m) t b = inr (ap (λ (m : Message_pdu). Some m) (b.2 ∙ ap control_message (sym (pdu_read (payload_in octets) b.0 b.1.1))))
+brought_by octets (stamp.Control count) (Some m) t b =
+    inr (ap (λ (m : Message_pdu). Some m) (b.2 ∙ ap control_message (sym (pdu_read (payload_in octets) b.0 b.1.1))))
 brought_by octets (stamp.Data system agg conv serial) (Some m) t b = absurd (t b.1.0.1)
 
-seen_act : (s : SystemState) (p : ℕ) (octets : List ℕ) (a : Result Received SystemFault) (seen : List Act) → EffectsSeenAs s (Receive p octets) (answer.Receive a) seen → seen ≡ option_to_list (act_of p octets a)
+seen_act : (s : SystemState) (p : ℕ) (octets : List ℕ) (a : Result Received SystemFault) (seen : List Act)
+    → EffectsSeenAs s (Receive p octets) (answer.Receive a) seen → seen ≡ option_to_list (act_of p octets a)
 seen_act s p octets (Err fault) seen h = h
 seen_act s p octets (Ok received.Disabled) seen h = h
 seen_act s p octets (Ok received.Dropped) seen h = h
 seen_act s p octets (Ok (received.Ignored fault)) seen h = h
-seen_act s p octets (Ok received.TookLacpdu) seen h = h.2 ∙ ap (λ v. Took p (model_lacpdu v) ∷ []) (sym (lacpdu_read (payload_in octets) h.0 h.1.1))
-seen_act s p octets (Ok (received.Respond frame)) seen h = h.2 ∙ ap (λ v. Sends p (control_message v) ∷ []) (sym (sent_read frame (pdu.Marker h.0) h.1))
+seen_act s p octets (Ok received.TookLacpdu) seen h = h.2
+    ∙ ap (λ v. Took p (model_lacpdu v) ∷ []) (sym (lacpdu_read (payload_in octets) h.0 h.1.1))
+seen_act s p octets (Ok (received.Respond frame)) seen h = h.2
+    ∙ ap (λ v. Sends p (control_message v) ∷ []) (sym (sent_read frame (pdu.Marker h.0) h.1))
 seen_act s p octets (Ok (received.Released n)) seen h = h
 seen_act s p octets (Ok (received.Up agg)) seen h = h
 
 -- What a received item lets a system do, by what it stands for.
-pub told_receive : (p : ℕ) (octets : List ℕ) (st : Stamp) (a : Result Received SystemFault) (old new : SystemState) → IsTrue_to octets st → JoinedByLawfulMoves old (Receive p octets) (answer.Receive a) new
-    → LawfulMoves (model_setup old) (ModelEvent.Receive p (brought octets st)) (model_view old) (option_to_list (act_of p octets a)) (model_view new)
+pub told_receive : (p : ℕ) (octets : List ℕ) (st : Stamp) (a : Result Received SystemFault) (old new : SystemState) → IsTrue_to octets st
+    → JoinedByLawfulMoves old (Receive p octets) (answer.Receive a) new
+    → LawfulMoves (model_setup old) (ModelEvent.Receive p (brought octets st)) (model_view old)
+    (option_to_list (act_of p octets a)) (model_view new)
 told_receive p octets st a old new t h =
-    let moves : LawfulMoves (model_setup old) (ModelEvent.Receive p h.2.0) (model_view old) h.1 (model_view new) = subst (λ c. LawfulMoves (model_setup old) c (model_view old) h.1 (model_view new)) h.2.2 h.4 in
-    subst (λ l. LawfulMoves (model_setup old) (ModelEvent.Receive p (brought octets st)) (model_view old) l (model_view new)) (seen_act old p octets a h.1 h.3)
+    let moves : LawfulMoves (model_setup old) (ModelEvent.Receive p h.2.0) (model_view old) h.1 (model_view new) =
+    subst (λ c. LawfulMoves (model_setup old) c (model_view old) h.1 (model_view new)) h.2.2 h.4 in
+    subst (λ l. LawfulMoves (model_setup old) (ModelEvent.Receive p (brought octets st)) (model_view old) l (model_view new))
+    (seen_act old p octets a h.1 h.3)
     (elim (brought_by octets st h.2.0 t h.2.1) [
-      | inl e ↦ moves_bring (model_setup old) p (brought octets st) (model_view old) (model_view new) h.1 (subst (λ o. LawfulMoves (model_setup old) (ModelEvent.Receive p o) (model_view old) h.1 (model_view new)) e moves)
+      | inl e ↦ moves_bring (model_setup old) p (brought octets st) (model_view old) (model_view new) h.1
+          (subst (λ o. LawfulMoves (model_setup old) (ModelEvent.Receive p o) (model_view old) h.1 (model_view new)) e moves)
       | inr e ↦ subst (λ o. LawfulMoves (model_setup old) (ModelEvent.Receive p o) (model_view old) h.1 (model_view new)) e moves
     ])
 
 -- The LACPDU that a port took last, as its history has it.
-heard_here : (p : ℕ) (lacpdu : StampedLacpdu) (histories : List PortHistory) → IsSome (history_at histories p) → option_map model_taken (taken_in (history_at (set_last_lacpdu p lacpdu histories) p)) ≡ Some (model_taken lacpdu)
+heard_here : (p : ℕ) (lacpdu : StampedLacpdu) (histories : List PortHistory) → IsSome (history_at histories p)
+    → option_map model_taken (taken_in (history_at (set_last_lacpdu p lacpdu histories) p)) ≡ Some (model_taken lacpdu)
 heard_here p lacpdu [] h = absurd (let e = h in cc)
 heard_here p lacpdu (history ∷ histories) h = elim (cases_Bool (history.number == p)) [
-  | inl e ↦ ap (λ l. option_map model_taken (taken_in (history_at l p))) (cond_true (history.number == p) (set_taken lacpdu history ∷ histories) (history ∷ set_last_lacpdu p lacpdu histories) e)
-      ∙ ap (λ o. option_map model_taken (taken_in o)) (cond_true (eqb p history.number) (Some (set_taken lacpdu history)) (history_at histories p) (eq-eqb p history.number (sym (eqb-true history.number p e))))
+  | inl e ↦ ap (λ l. option_map model_taken (taken_in (history_at l p)))
+      (cond_true (history.number == p) (set_taken lacpdu history ∷ histories) (history ∷ set_last_lacpdu p lacpdu histories) e)
+      ∙ ap (λ o. option_map model_taken (taken_in o)) (cond_true (eqb p history.number) (Some (set_taken lacpdu history))
+      (history_at histories p) (eq-eqb p history.number (sym (eqb-true history.number p e))))
   | inr e ↦ (let other : eqb p history.number ≡ false = unequal p history.number e in
-      ap (λ l. option_map model_taken (taken_in (history_at l p))) (cond_false (history.number == p) (set_taken lacpdu history ∷ histories) (history ∷ set_last_lacpdu p lacpdu histories) e)
-      ∙ ap (λ o. option_map model_taken (taken_in o)) (cond_false (eqb p history.number) (Some history) (history_at (set_last_lacpdu p lacpdu histories) p) other)
+      ap (λ l. option_map model_taken (taken_in (history_at l p))) (cond_false (history.number == p) (set_taken lacpdu history ∷ histories)
+      (history ∷ set_last_lacpdu p lacpdu histories) e)
+      ∙ ap (λ o. option_map model_taken (taken_in o))
+      (cond_false (eqb p history.number) (Some history) (history_at (set_last_lacpdu p lacpdu histories) p) other)
       ∙ heard_here p lacpdu histories (subst IsSome (cond_false (eqb p history.number) (Some history) (history_at histories p) other) h))
 ]
   where
     unequal : (m n : ℕ) → eqb n m ≡ false → eqb m n ≡ false
     unequal m n e = elim (cases_Bool (eqb m n)) [ inl t ↦ absurd (true≢false (sym (eq-eqb n m (sym (eqb-true m n t))) ∙ e)) | inr t ↦ t ]
 
-pub read_log : {X : Type 0} (read : Option PortHistory → X) (p : ℕ) (lacpdu : StampedLacpdu) (q : ℕ) → ((history : PortHistory) → (q ≡ p → ⊥) ⊎ (read (Some (set_taken lacpdu history)) ≡ read (Some history)))
+pub read_log : {X : Type 0} (read : Option PortHistory → X) (p : ℕ) (lacpdu : StampedLacpdu) (q : ℕ)
+    → ((history : PortHistory) → (q ≡ p → ⊥) ⊎ (read (Some (set_taken lacpdu history)) ≡ read (Some history)))
     → (histories : List PortHistory) → read (history_at (set_last_lacpdu p lacpdu histories) q) ≡ read (history_at histories q)
 read_log read p lacpdu q same [] = refl
 read_log read p lacpdu q same (history ∷ histories) = elim (cases_Bool (history.number == p)) [
-  | inl e ↦ ap (λ l. read (history_at l q)) (cond_true (history.number == p) (set_taken lacpdu history ∷ histories) (history ∷ set_last_lacpdu p lacpdu histories) e)
+  | inl e ↦ ap (λ l. read (history_at l q)) (cond_true (history.number == p) (set_taken lacpdu history ∷ histories) (history
+      ∷ set_last_lacpdu p lacpdu histories) e)
       ∙ elim (cases_Bool (eqb q history.number)) [
         | inl t ↦ ap read (cond_true (eqb q history.number) (Some (set_taken lacpdu history)) (history_at histories q) t)
             ∙ elim (same history) [ inl n ↦ absurd (n (eqb-true q history.number t ∙ eqb-true history.number p e)) | inr h ↦ h ]
             ∙ sym (ap read (cond_true (eqb q history.number) (Some history) (history_at histories q) t))
-        | inr t ↦ ap read (cond_false (eqb q history.number) (Some (set_taken lacpdu history)) (history_at histories q) t) ∙ sym (ap read (cond_false (eqb q history.number) (Some history) (history_at histories q) t))
+        | inr t ↦ ap read (cond_false (eqb q history.number) (Some (set_taken lacpdu history)) (history_at histories q) t)
+            ∙ sym (ap read (cond_false (eqb q history.number) (Some history) (history_at histories q) t))
       ]
-  | inr e ↦ ap (λ l. read (history_at l q)) (cond_false (history.number == p) (set_taken lacpdu history ∷ histories) (history ∷ set_last_lacpdu p lacpdu histories) e)
+  | inr e ↦ ap (λ l. read (history_at l q)) (cond_false (history.number == p) (set_taken lacpdu history ∷ histories) (history
+      ∷ set_last_lacpdu p lacpdu histories) e)
       ∙ elim (cases_Bool (eqb q history.number)) [
-        | inl t ↦ ap read (cond_true (eqb q history.number) (Some history) (history_at (set_last_lacpdu p lacpdu histories) q) t) ∙ sym (ap read (cond_true (eqb q history.number) (Some history) (history_at histories q) t))
-        | inr t ↦ ap read (cond_false (eqb q history.number) (Some history) (history_at (set_last_lacpdu p lacpdu histories) q) t) ∙ read_log read p lacpdu q same histories ∙ sym (ap read (cond_false (eqb q history.number) (Some history) (history_at histories q) t))
+        | inl t ↦ ap read (cond_true (eqb q history.number) (Some history) (history_at (set_last_lacpdu p lacpdu histories) q) t)
+            ∙ sym (ap read (cond_true (eqb q history.number) (Some history) (history_at histories q) t))
+        | inr t ↦ ap read (cond_false (eqb q history.number) (Some history) (history_at (set_last_lacpdu p lacpdu histories) q) t)
+            ∙ read_log read p lacpdu q same histories
+            ∙ sym (ap read (cond_false (eqb q history.number) (Some history) (history_at histories q) t))
       ]
 ]
 
-pub count_heard : (p : ℕ) (lacpdu : StampedLacpdu) (q : ℕ) (histories : List PortHistory) → change_count_in (history_at (set_last_lacpdu p lacpdu histories) q) ≡ change_count_in (history_at histories q)
+pub count_heard : (p : ℕ) (lacpdu : StampedLacpdu) (q : ℕ) (histories : List PortHistory)
+    → change_count_in (history_at (set_last_lacpdu p lacpdu histories) q) ≡ change_count_in (history_at histories q)
 count_heard p lacpdu q histories = read_log change_count_in p lacpdu q (λ history. inr refl) histories
 
 pub taken_heard : (p : ℕ) (lacpdu : StampedLacpdu) (histories : List PortHistory) → IsSome (history_at histories p) → (q : ℕ)
-    → option_map model_taken (taken_in (history_at (set_last_lacpdu p lacpdu histories) q)) ≡ cond (eqb q p) (Some (model_taken lacpdu)) (option_map model_taken (taken_in (history_at histories q)))
+    → option_map model_taken (taken_in (history_at (set_last_lacpdu p lacpdu histories) q)) ≡ cond (eqb q p) (Some (model_taken lacpdu))
+    (option_map model_taken (taken_in (history_at histories q)))
 taken_heard p lacpdu histories h q = elim (cases_Bool (eqb q p)) [
-  | inl e ↦ subst (λ q. option_map model_taken (taken_in (history_at (set_last_lacpdu p lacpdu histories) q)) ≡ Some (model_taken lacpdu)) (sym (eqb-true q p e)) (heard_here p lacpdu histories h) ∙ sym (cond_true (eqb q p) _ _ e)
-  | inr e ↦ read_log (λ o. option_map model_taken (taken_in o)) p lacpdu q (λ history. inl (λ same. true≢false (sym (eq-eqb q p same) ∙ e))) histories ∙ sym (cond_false (eqb q p) _ _ e)
+  | inl e ↦ subst (λ q. option_map model_taken (taken_in (history_at (set_last_lacpdu p lacpdu histories) q)) ≡ Some (model_taken lacpdu))
+      (sym (eqb-true q p e)) (heard_here p lacpdu histories h) ∙ sym (cond_true (eqb q p) _ _ e)
+  | inr e ↦ read_log (λ o. option_map model_taken (taken_in o)) p lacpdu q (λ history. inl (λ same. true≢false (sym (eq-eqb q p same) ∙ e)))
+      histories ∙ sym (cond_false (eqb q p) _ _ e)
 ]
 
 -- A call that an item made, in j, from which that item was taken away: no answer but `Up` looks at what the item is.
-came : (gives : ℕ → ℕ → ℕ → Type 0) (s : Side) (p : ℕ) (item : ItemValue) (a : Result Received SystemFault) (mid h : HalfState) (ls : List LinkState) (kept : Bool) (j : WorldState)
+came : (gives : ℕ → ℕ → ℕ → Type 0) (s : Side) (p : ℕ) (item : ItemValue) (a : Result Received SystemFault) (mid h : HalfState)
+    (ls : List LinkState) (kept : Bool) (j : WorldState)
     → IsTrue_to item.octets item.stamp → HalfAnswers gives (Receive p item.octets) (answer.Receive a) (half s j) mid → h.state ≡ mid.state
     → ((q : ℕ) → change_count_in (history_at h.histories q) ≡ change_count_in (history_at (half s j).histories q))
     → Leaves (world_setup j) s (stamp_count item.stamp) kept (act_of p item.octets a) h ls j
-    → CallHappens (world_setup j) s (ModelEvent.Receive p (brought item.octets item.stamp)) (stamp_count item.stamp) (model_world j) (model_world j) (model_world (after_call s h ls j))
+    → CallHappens (world_setup j) s (ModelEvent.Receive p (brought item.octets item.stamp)) (stamp_count item.stamp) (model_world j)
+    (model_world j) (model_world (after_call s h ls j))
 came gives s p item a mid h ls kept j t x e counts q =
-    let moves = subst (λ (st : SystemState). LawfulMoves (model_setup (half s j).state) (ModelEvent.Receive p (brought item.octets item.stamp)) (model_view (half s j).state) (option_to_list (act_of p item.octets a)) (model_view st)) (sym e)
+    let moves = subst
+    (λ (st : SystemState). LawfulMoves (model_setup (half s j).state) (ModelEvent.Receive p (brought item.octets item.stamp))
+    (model_view (half s j).state) (option_to_list (act_of p item.octets a)) (model_view st)) (sym e)
     (told_receive p item.octets item.stamp a (half s j).state mid.state t x.answers.moves) in
-    one_call (world_setup j) s (ModelEvent.Receive p (brought item.octets item.stamp)) (stamp_count item.stamp) kept (act_of p item.octets a) h ls j (model_world j) q moves
-    (counts_kept s h ls j (ModelEvent.Receive p (brought item.octets item.stamp)) (option_to_list (act_of p item.octets a)) (λ e. cc) refl moves counts)
+    one_call (world_setup j) s (ModelEvent.Receive p (brought item.octets item.stamp)) (stamp_count item.stamp) kept
+    (act_of p item.octets a) h ls j (model_world j) q moves
+    (counts_kept s h ls j (ModelEvent.Receive p (brought item.octets item.stamp)) (option_to_list (act_of p item.octets a))
+    (λ e. cc) refl moves counts)
 
-quiet_at : (x : WorldSetup) (s : Side) (n : ℕ) (h : HalfState) (j : WorldState) → h.flows ≡ (half s j).flows → ((p : ℕ) → taken_in (history_at h.histories p) ≡ taken_in (history_at (half s j).histories p)) → Leaves x s n true None h j.links j
-quiet_at x s n h j e taken = record { away = λ c. refl; towards = λ c. refl; whole = λ c. refl; taken = λ p. ap (option_map model_taken) (taken p); sent = λ g k. ap (λ f. sent_in (flow_at f g k)) e; collected = λ g k. ap (λ f. collected_in (flow_at f g k)) e; forced = λ g k. ap (λ f. forced_in (flow_at f g k)) e }
+quiet_at : (x : WorldSetup) (s : Side) (n : ℕ) (h : HalfState) (j : WorldState) → h.flows ≡ (half s j).flows
+    → ((p : ℕ) → taken_in (history_at h.histories p) ≡ taken_in (history_at (half s j).histories p)) → Leaves x s n true None h j.links j
+quiet_at x s n h j e taken = record {
+  away = λ c. refl;
+  towards = λ c. refl;
+  whole = λ c. refl;
+  taken = λ p. ap (option_map model_taken)
+      (taken p);
+  sent = λ g k. ap (λ f. sent_in (flow_at f g k)) e;
+  collected = λ g k. ap (λ f. collected_in (flow_at f g k)) e;
+  forced =
+      λ g k. ap (λ f. forced_in (flow_at f g k)) e;
+}
 
-silent : (gives : ℕ → ℕ → ℕ → Type 0) (s : Side) (p : ℕ) (item : ItemValue) (a : Result Received SystemFault) (mid : HalfState) (j new : WorldState)
-    → IsTrue_to item.octets item.stamp → act_of p item.octets a ≡ None → HalfAnswers gives (Receive p item.octets) (answer.Receive a) (half s j) mid → new ≡ with_half s mid j
-    → CallHappens (world_setup j) s (ModelEvent.Receive p (brought item.octets item.stamp)) (stamp_count item.stamp) (model_world j) (model_world j) (model_world new)
+silent : (gives : ℕ → ℕ → ℕ → Type 0) (s : Side) (p : ℕ) (item : ItemValue) (a : Result Received SystemFault)
+    (mid : HalfState) (j new : WorldState)
+    → IsTrue_to item.octets item.stamp → act_of p item.octets a ≡ None
+    → HalfAnswers gives (Receive p item.octets) (answer.Receive a) (half s j) mid → new ≡ with_half s mid j
+    → CallHappens (world_setup j) s (ModelEvent.Receive p (brought item.octets item.stamp)) (stamp_count item.stamp) (model_world j)
+    (model_world j) (model_world new)
 silent gives s p item a mid j new t none x e =
-    subst (λ k. CallHappens (world_setup j) s (ModelEvent.Receive p (brought item.octets item.stamp)) (stamp_count item.stamp) (model_world j) (model_world j) (model_world k)) (sym e)
+    subst (λ k. CallHappens (world_setup j) s (ModelEvent.Receive p (brought item.octets item.stamp)) (stamp_count item.stamp)
+    (model_world j) (model_world j) (model_world k)) (sym e)
     (came gives s p item a mid mid j.links true j t x refl (λ q. ap (λ (h : HalfState). change_count_in (history_at h.histories q)) x.same)
     (subst (λ o. Leaves (world_setup j) s (stamp_count item.stamp) true o mid j.links j) (sym none)
-    (quiet_at (world_setup j) s (stamp_count item.stamp) mid j (ap (λ (h : HalfState). h.flows) x.same) (λ q. ap (λ (h : HalfState). taken_in (history_at h.histories q)) x.same))))
+    (quiet_at (world_setup j) s (stamp_count item.stamp) mid j (ap (λ (h : HalfState). h.flows) x.same)
+    (λ q. ap (λ (h : HalfState). taken_in (history_at h.histories q)) x.same))))
 
 abbrev is_up : Result Received SystemFault → Bool
 is_up (Ok (received.Up agg)) = true
 is_up _ = false
 
 -- an item comes and is not handed up
-arrived : (gives : ℕ → ℕ → ℕ → Type 0) (s : Side) (p : ℕ) (item : ItemValue) (a : Result Received SystemFault) (mid : HalfState) (r : Reply) (j new : WorldState) → IsCabling (world_setup j).cables → IsSome (history_at (half s j).histories p)
-    → IsTrue_to item.octets item.stamp → is_up a ≡ false → HalfAnswers gives (Receive p item.octets) (answer.Receive a) (half s j) mid → AfterReceive s p item a (with_half s mid j) r new
-    → CallHappens (world_setup j) s (ModelEvent.Receive p (brought item.octets item.stamp)) (stamp_count item.stamp) (model_world j) (model_world j) (model_world new)
+arrived : (gives : ℕ → ℕ → ℕ → Type 0) (s : Side) (p : ℕ) (item : ItemValue) (a : Result Received SystemFault) (mid : HalfState) (r : Reply)
+    (j new : WorldState) → IsCabling (world_setup j).cables → IsSome (history_at (half s j).histories p)
+    → IsTrue_to item.octets item.stamp → is_up a ≡ false → HalfAnswers gives (Receive p item.octets) (answer.Receive a) (half s j) mid
+    → AfterReceive s p item a (with_half s mid j) r new
+    → CallHappens (world_setup j) s (ModelEvent.Receive p (brought item.octets item.stamp)) (stamp_count item.stamp) (model_world j)
+    (model_world j) (model_world new)
 arrived gives s p item (Err fault) mid r j new one history t u x y = silent gives s p item (Err fault) mid j new t refl x y.1
-arrived gives s p item (Ok received.Disabled) mid r j new one history t u x y = silent gives s p item (Ok received.Disabled) mid j new t refl x y.1
-arrived gives s p item (Ok received.Dropped) mid r j new one history t u x y = silent gives s p item (Ok received.Dropped) mid j new t refl x y.1
-arrived gives s p item (Ok (received.Ignored fault)) mid r j new one history t u x y = silent gives s p item (Ok (received.Ignored fault)) mid j new t refl x y.1
-arrived gives s p item (Ok (received.Released n)) mid r j new one history t u x y = silent gives s p item (Ok (received.Released n)) mid j new t refl x y.1
+arrived gives s p item (Ok received.Disabled) mid r j new one history t u x y = silent gives s p item
+    (Ok received.Disabled) mid j new t refl x y.1
+arrived gives s p item (Ok received.Dropped) mid r j new one history t u x y = silent gives s p item
+    (Ok received.Dropped) mid j new t refl x y.1
+arrived gives s p item (Ok (received.Ignored fault)) mid r j new one history t u x y = silent gives s p item
+    (Ok (received.Ignored fault)) mid j new t refl x y.1
+arrived gives s p item (Ok (received.Released n)) mid r j new one history t u x y = silent gives s p item
+    (Ok (received.Released n)) mid j new t refl x y.1
 arrived gives s p item (Ok (received.Up agg)) mid r j new one history t u x y = absurd (true≢false u)
 arrived gives s p item (Ok received.TookLacpdu) mid r j new one history t u x y =
     let h = with_last_lacpdu p (stamped_in item) mid in
     let histories : mid.histories ≡ (half s j).histories = ap (λ (h : HalfState). h.histories) x.same in
     let flows : mid.flows ≡ (half s j).flows = ap (λ (h : HalfState). h.flows) x.same in
-    subst (λ k. CallHappens (world_setup j) s (ModelEvent.Receive p (brought item.octets item.stamp)) (stamp_count item.stamp) (model_world j) (model_world j) (model_world k)) (sym (y.1 ∙ written s (stamped_in item) mid j))
+    subst (λ k. CallHappens (world_setup j) s (ModelEvent.Receive p (brought item.octets item.stamp)) (stamp_count item.stamp)
+    (model_world j) (model_world j) (model_world k)) (sym (y.1 ∙ written s (stamped_in item) mid j))
     (came gives s p item (Ok received.TookLacpdu) mid h j.links true j t x refl
     (λ q. count_heard p (stamped_in item) q mid.histories ∙ ap (λ l. change_count_in (history_at l q)) histories)
     (record {
       away = λ c. refl;
       towards = λ c. refl;
       whole = λ c. refl;
-      taken = λ q. ap (λ l. option_map model_taken (taken_in (history_at (set_last_lacpdu p (stamped_in item) l) q))) histories ∙ taken_heard p (stamped_in item) (half s j).histories history q;
+      taken = λ q. ap (λ l. option_map model_taken (taken_in (history_at (set_last_lacpdu p (stamped_in item) l) q))) histories
+          ∙ taken_heard p (stamped_in item) (half s j).histories history q;
       sent = λ g k. ap (λ f. sent_in (flow_at f g k)) flows;
       collected = λ g k. ap (λ f. collected_in (flow_at f g k)) flows;
       forced = λ g k. ap (λ f. forced_in (flow_at f g k)) flows;
     }))
   where
-    written : (s : Side) (lacpdu : StampedLacpdu) (mid : HalfState) (j : WorldState) → with_half s (with_last_lacpdu p lacpdu (half s (with_half s mid j))) (with_half s mid j) ≡ with_half s (with_last_lacpdu p lacpdu mid) j
+    written : (s : Side) (lacpdu : StampedLacpdu) (mid : HalfState) (j : WorldState)
+        → with_half s (with_last_lacpdu p lacpdu (half s (with_half s mid j))) (with_half s mid j) ≡ with_half s
+        (with_last_lacpdu p lacpdu mid) j
     written One lacpdu mid j = refl
     written Two lacpdu mid j = refl
 arrived gives s p item (Ok (received.Respond frame)) mid r j new one history t u x y =
     let reply : ItemValue = record { octets = frame; stamp = stamp.Control 0 } in
     let v = pdu_in (payload_in frame) in
-    subst (λ k. CallHappens (world_setup j) s (ModelEvent.Receive p (brought item.octets item.stamp)) (stamp_count item.stamp) (model_world j) (model_world j) (model_world k)) (sym y.1)
-    (came gives s p item (Ok (received.Respond frame)) mid mid (put_on_port s p reply j.links) (is_accepted s p j.links) j t x refl (λ q. ap (λ (h : HalfState). change_count_in (history_at h.histories q)) x.same)
+    subst (λ k. CallHappens (world_setup j) s (ModelEvent.Receive p (brought item.octets item.stamp)) (stamp_count item.stamp)
+    (model_world j) (model_world j) (model_world k)) (sym y.1)
+    (came gives s p item (Ok (received.Respond frame)) mid mid (put_on_port s p reply j.links) (is_accepted s p j.links) j t x refl
+    (λ q. ap (λ (h : HalfState). change_count_in (history_at h.histories q)) x.same)
     (sends_pdu s p (control_message v) reply ((model_world j).count s p) mid j one (answers x) refl
-    (ap (λ (h : HalfState). h.flows) x.same) (λ q. ap (λ (h : HalfState). taken_in (history_at h.histories q)) x.same) (stamp_count item.stamp)))
+    (ap (λ (h : HalfState). h.flows) x.same) (λ q. ap (λ (h : HalfState). taken_in (history_at h.histories q)) x.same)
+    (stamp_count item.stamp)))
   where
     answers : HalfAnswers gives (Receive p item.octets) (answer.Receive (Ok (received.Respond frame))) (half s j) mid
-        → message_in frame (stamp.Control 0) ≡ Control (control_message (pdu_in (payload_in frame))) (stamp_of (control_message (pdu_in (payload_in frame))) ((model_world j).count s p))
+        → message_in frame (stamp.Control 0) ≡ Control (control_message (pdu_in (payload_in frame)))
+        (stamp_of (control_message (pdu_in (payload_in frame))) ((model_world j).count s p))
     answers x =
         let sees = x.answers.moves.3 in
         let same : pdu_in (payload_in frame) ≡ pdu.Marker sees.0 = sent_read frame (pdu.Marker sees.0) sees.1 in
-        stamped frame (pdu.Marker sees.0) ((model_world j).count s p) same ∙ ap (λ v. Control (control_message v) (stamp_of (control_message v) ((model_world j).count s p))) (sym same)
+        stamped frame (pdu.Marker sees.0) ((model_world j).count s p) same
+        ∙ ap (λ v. Control (control_message v) (stamp_of (control_message v) ((model_world j).count s p))) (sym same)
 
 -- a control frame comes
-control_came : (gives : ℕ → ℕ → ℕ → Type 0) (s : Side) (p : ℕ) (octets : List ℕ) (count : ℕ) (a : Result Received SystemFault) (mid : HalfState) (r : Reply) (j new : WorldState) → IsCabling (world_setup j).cables → IsSome (history_at (half s j).histories p)
-    → HalfAnswers gives (Receive p octets) (answer.Receive a) (half s j) mid → AfterReceive s p (record { octets = octets; stamp = stamp.Control count }) a (with_half s mid j) r new
-    → CallHappens (world_setup j) s (ModelEvent.Receive p (Some (control_message (pdu_in (payload_in octets))))) count (model_world j) (model_world j) (model_world new)
-control_came gives s p octets count (Ok (received.Up agg)) mid r j new one history x y = silent gives s p (record { octets = octets; stamp = stamp.Control count }) (Ok (received.Up agg)) mid j new tt refl x y.1
-control_came gives s p octets count (Err fault) mid r j new one history x y = arrived gives s p (record { octets = octets; stamp = stamp.Control count }) (Err fault) mid r j new one history tt refl x y
-control_came gives s p octets count (Ok received.Disabled) mid r j new one history x y = arrived gives s p (record { octets = octets; stamp = stamp.Control count }) (Ok received.Disabled) mid r j new one history tt refl x y
-control_came gives s p octets count (Ok received.Dropped) mid r j new one history x y = arrived gives s p (record { octets = octets; stamp = stamp.Control count }) (Ok received.Dropped) mid r j new one history tt refl x y
-control_came gives s p octets count (Ok (received.Ignored fault)) mid r j new one history x y = arrived gives s p (record { octets = octets; stamp = stamp.Control count }) (Ok (received.Ignored fault)) mid r j new one history tt refl x y
-control_came gives s p octets count (Ok received.TookLacpdu) mid r j new one history x y = arrived gives s p (record { octets = octets; stamp = stamp.Control count }) (Ok received.TookLacpdu) mid r j new one history tt refl x y
-control_came gives s p octets count (Ok (received.Respond frame)) mid r j new one history x y = arrived gives s p (record { octets = octets; stamp = stamp.Control count }) (Ok (received.Respond frame)) mid r j new one history tt refl x y
-control_came gives s p octets count (Ok (received.Released n)) mid r j new one history x y = arrived gives s p (record { octets = octets; stamp = stamp.Control count }) (Ok (received.Released n)) mid r j new one history tt refl x y
+control_came : (gives : ℕ → ℕ → ℕ → Type 0) (s : Side) (p : ℕ) (octets : List ℕ) (count : ℕ) (a : Result Received SystemFault)
+    (mid : HalfState) (r : Reply) (j new : WorldState) → IsCabling (world_setup j).cables → IsSome (history_at (half s j).histories p)
+    → HalfAnswers gives (Receive p octets) (answer.Receive a) (half s j) mid
+    → AfterReceive s p (record { octets = octets; stamp = stamp.Control count }) a (with_half s mid j) r new
+    → CallHappens (world_setup j) s (ModelEvent.Receive p (Some (control_message (pdu_in (payload_in octets))))) count (model_world j)
+    (model_world j) (model_world new)
+control_came gives s p octets count (Ok (received.Up agg)) mid r j new one history x y =
+    silent gives s p (record { octets = octets; stamp = stamp.Control count }) (Ok (received.Up agg)) mid j new tt refl x y.1
+control_came gives s p octets count (Err fault) mid r j new one history x y =
+    arrived gives s p (record { octets = octets; stamp = stamp.Control count }) (Err fault) mid r j new one history tt refl x y
+control_came gives s p octets count (Ok received.Disabled) mid r j new one history x y =
+    arrived gives s p (record { octets = octets; stamp = stamp.Control count }) (Ok received.Disabled) mid r j new one history tt refl x y
+control_came gives s p octets count (Ok received.Dropped) mid r j new one history x y =
+    arrived gives s p (record { octets = octets; stamp = stamp.Control count }) (Ok received.Dropped) mid r j new one history tt refl x y
+control_came gives s p octets count (Ok (received.Ignored fault)) mid r j new one history x y =
+    arrived gives s p (record { octets = octets; stamp = stamp.Control count }) (Ok (received.Ignored fault)) mid r j
+    new one history tt refl x y
+control_came gives s p octets count (Ok received.TookLacpdu) mid r j new one history x y =
+    arrived gives s p (record { octets = octets; stamp = stamp.Control count }) (Ok received.TookLacpdu) mid r j new one history tt refl x y
+control_came gives s p octets count (Ok (received.Respond frame)) mid r j new one history x y =
+    arrived gives s p (record { octets = octets; stamp = stamp.Control count }) (Ok (received.Respond frame)) mid r j
+    new one history tt refl x y
+control_came gives s p octets count (Ok (received.Released n)) mid r j new one history x y =
+    arrived gives s p (record { octets = octets; stamp = stamp.Control count }) (Ok (received.Released n)) mid r j
+    new one history tt refl x y
 
 -- a data frame comes
 record IsData (s : Side) (octets : List ℕ) (system agg conv : ℕ) (j : WorldState) : Type 0 where
@@ -229,7 +314,8 @@ record IsData (s : Side) (octets : List ℕ) (system agg conv : ℕ) (j : WorldS
   there : IsSome (flow_at (half (peer s) j).flows agg conv)
   plain : IsSlowProtocolsFrame octets → ⊥
 
-collected_there : (serial : ℕ) (o : Option FlowValue) → IsSome o → collected_in (option_map (with_collected serial) o) ≡ collected_in o ++ serial ∷ []
+collected_there : (serial : ℕ) (o : Option FlowValue) → IsSome o → collected_in (option_map (with_collected serial) o) ≡ collected_in o
+    ++ serial ∷ []
 collected_there serial None h = absurd (let e = h in cc)
 collected_there serial (Some x) h = refl
 
@@ -244,7 +330,8 @@ forced_kept serial (Some x) = refl
 abbrev after_up : Side → ℕ → ℕ → ℕ → WorldState → WorldState
 after_up t agg conv serial j = with_half t (with_collected_in agg conv serial (half t j)) j
 
-handed_world : (t : Side) (agg conv serial : ℕ) (j : WorldState) → IsSome (flow_at (half t j).flows agg conv) → model_world (after_up t agg conv serial j) ≡ handed_up true (Data t agg conv serial) (model_world j)
+handed_world : (t : Side) (agg conv serial : ℕ) (j : WorldState) → IsSome (flow_at (half t j).flows agg conv)
+    → model_world (after_up t agg conv serial j) ≡ handed_up true (Data t agg conv serial) (model_world j)
 handed_world One agg conv serial j there = same_world _ _ view (λ c. refl) (λ s c. refl) count taken sent collected forced
   where
     w : World
@@ -266,8 +353,11 @@ handed_world One agg conv serial j there = same_world _ _ view (λ c. refl) (λ 
     sent One g k = read_same sent_in (with_collected serial) agg conv j.one.flows (sent_kept serial) g k
     sent Two g k = refl
 
-    collected : (t : Side) (g k : ℕ) → w.collected t g k ≡ at_side (model_world j).collected One (at_two ((model_world j).collected One) agg conv ((model_world j).collected One agg conv ++ serial ∷ [])) t g k
-    collected One g k = read_changed collected_in (with_collected serial) agg conv j.one.flows _ (collected_there serial (flow_at j.one.flows agg conv) there) g k
+    collected : (t : Side) (g k : ℕ)
+        → w.collected t g k ≡ at_side (model_world j).collected One
+        (at_two ((model_world j).collected One) agg conv ((model_world j).collected One agg conv ++ serial ∷ [])) t g k
+    collected One g k = read_changed collected_in (with_collected serial) agg conv j.one.flows _
+        (collected_there serial (flow_at j.one.flows agg conv) there) g k
     collected Two g k = refl
 
     forced : (t : Side) (g k : ℕ) → w.forced t g k ≡ (model_world j).forced t g k
@@ -294,16 +384,20 @@ handed_world Two agg conv serial j there = same_world _ _ view (λ c. refl) (λ 
     sent One g k = refl
     sent Two g k = read_same sent_in (with_collected serial) agg conv j.two.flows (sent_kept serial) g k
 
-    collected : (t : Side) (g k : ℕ) → w.collected t g k ≡ at_side (model_world j).collected Two (at_two ((model_world j).collected Two) agg conv ((model_world j).collected Two agg conv ++ serial ∷ [])) t g k
+    collected : (t : Side) (g k : ℕ)
+        → w.collected t g k ≡ at_side (model_world j).collected Two
+        (at_two ((model_world j).collected Two) agg conv ((model_world j).collected Two agg conv ++ serial ∷ [])) t g k
     collected One g k = refl
-    collected Two g k = read_changed collected_in (with_collected serial) agg conv j.two.flows _ (collected_there serial (flow_at j.two.flows agg conv) there) g k
+    collected Two g k = read_changed collected_in (with_collected serial) agg conv j.two.flows _
+        (collected_there serial (flow_at j.two.flows agg conv) there) g k
 
     forced : (t : Side) (g k : ℕ) → w.forced t g k ≡ (model_world j).forced t g k
     forced One g k = refl
     forced Two g k = read_same forced_in (with_collected serial) agg conv j.two.flows (forced_kept serial) g k
 
 -- the moves of a call of s, and then a frame collected at its peer, or the other way round
-turned : (s : Side) (mid : HalfState) (agg conv serial : ℕ) (j : WorldState) → after_up (peer s) agg conv serial (with_half s mid j) ≡ with_half s mid (after_up (peer s) agg conv serial j)
+turned : (s : Side) (mid : HalfState) (agg conv serial : ℕ) (j : WorldState)
+    → after_up (peer s) agg conv serial (with_half s mid j) ≡ with_half s mid (after_up (peer s) agg conv serial j)
 turned One mid agg conv serial j = refl
 turned Two mid agg conv serial j = refl
 
@@ -323,93 +417,165 @@ fixed_up Two agg conv serial j = λ i. record { setup = λ t. same t i; cables =
     same One = refl
     same Two = refl
 
-up_came : (gives : ℕ → ℕ → ℕ → Type 0) (s : Side) (p : ℕ) (octets : List ℕ) (agg conv serial : ℕ) (up : AggId) (mid : HalfState) (j : WorldState) → IsSome (flow_at (half (peer s) j).flows agg conv) → (IsSlowProtocolsFrame octets → ⊥)
+up_came : (gives : ℕ → ℕ → ℕ → Type 0) (s : Side) (p : ℕ) (octets : List ℕ) (agg conv serial : ℕ) (up : AggId) (mid : HalfState)
+    (j : WorldState) → IsSome (flow_at (half (peer s) j).flows agg conv) → (IsSlowProtocolsFrame octets → ⊥)
     → HalfAnswers gives (Receive p octets) (answer.Receive (Ok (received.Up up))) (half s j) mid
-    → CallHappens (world_setup j) s (ModelEvent.Receive p None) 0 (model_world j) (handed_up true (Data (peer s) agg conv serial) (model_world j)) (model_world (after_up (peer s) agg conv serial (with_half s mid j)))
+    → CallHappens (world_setup j) s (ModelEvent.Receive p None) 0 (model_world j)
+    (handed_up true (Data (peer s) agg conv serial) (model_world j))
+    (model_world (after_up (peer s) agg conv serial (with_half s mid j)))
 up_came gives s p octets agg conv serial up mid j there plain x =
     let after = after_up (peer s) agg conv serial j in
     let item : ItemValue = record { octets = octets; stamp = stamp.Data 0 0 0 0 } in
-    let asked : HalfAnswers gives (Receive p octets) (answer.Receive (Ok (received.Up up))) (half s after) mid = subst (λ h. HalfAnswers gives (Receive p octets) (answer.Receive (Ok (received.Up up))) h mid) (sym (half_up s agg conv serial j)) x in
+    let asked : HalfAnswers gives (Receive p octets) (answer.Receive (Ok (received.Up up))) (half s after) mid =
+    subst (λ h. HalfAnswers gives (Receive p octets) (answer.Receive (Ok (received.Up up))) h mid)
+    (sym (half_up s agg conv serial j)) x in
     let quiet = silent gives s p item (Ok (received.Up up)) mid after (with_half s mid after) plain refl asked refl in
-    let here = subst (λ w. CallHappens (world_setup after) s (ModelEvent.Receive p None) 0 w w (model_world (with_half s mid after))) (handed_world (peer s) agg conv serial j there) quiet in
-    subst (λ x. CallHappens x s (ModelEvent.Receive p None) 0 (model_world j) (handed_up true (Data (peer s) agg conv serial) (model_world j)) (model_world (after_up (peer s) agg conv serial (with_half s mid j)))) (fixed_up (peer s) agg conv serial j)
-    (subst (λ k. CallHappens (world_setup after) s (ModelEvent.Receive p None) 0 (model_world j) (handed_up true (Data (peer s) agg conv serial) (model_world j)) (model_world k)) (sym (turned s mid agg conv serial j)) here)
+    let here = subst (λ w. CallHappens (world_setup after) s (ModelEvent.Receive p None) 0 w w (model_world (with_half s mid after)))
+    (handed_world (peer s) agg conv serial j there) quiet in
+    subst (λ x. CallHappens x s (ModelEvent.Receive p None) 0 (model_world j)
+    (handed_up true (Data (peer s) agg conv serial) (model_world j))
+    (model_world (after_up (peer s) agg conv serial (with_half s mid j)))) (fixed_up (peer s) agg conv serial j)
+    (subst (λ k. CallHappens (world_setup after) s (ModelEvent.Receive p None) 0 (model_world j)
+    (handed_up true (Data (peer s) agg conv serial) (model_world j)) (model_world k)) (sym (turned s mid agg conv serial j)) here)
 
 abbrev DataCame : Side → ℕ → ℕ → ℕ → ℕ → ℕ → WorldState → WorldState → Type 0
 DataCame s p system agg conv serial j new =
-    (up : Bool) × CallHappens (world_setup j) s (ModelEvent.Receive p None) 0 (model_world j) (handed_up up (Data (side_named system) agg conv serial) (model_world j)) (model_world new)
+    (up : Bool) × CallHappens (world_setup j) s (ModelEvent.Receive p None) 0 (model_world j)
+    (handed_up up (Data (side_named system) agg conv serial) (model_world j)) (model_world new)
 
-data_came : (gives : ℕ → ℕ → ℕ → Type 0) (s : Side) (p : ℕ) (octets : List ℕ) (system agg conv serial : ℕ) (a : Result Received SystemFault) (mid : HalfState) (r : Reply) (j new : WorldState) → IsCabling (world_setup j).cables → IsSome (history_at (half s j).histories p)
-    → IsData s octets system agg conv j → HalfAnswers gives (Receive p octets) (answer.Receive a) (half s j) mid → AfterReceive s p (record { octets = octets; stamp = stamp.Data system agg conv serial }) a (with_half s mid j) r new
+data_came : (gives : ℕ → ℕ → ℕ → Type 0) (s : Side) (p : ℕ) (octets : List ℕ) (system agg conv serial : ℕ) (a : Result Received SystemFault)
+    (mid : HalfState) (r : Reply) (j new : WorldState) → IsCabling (world_setup j).cables → IsSome (history_at (half s j).histories p)
+    → IsData s octets system agg conv j → HalfAnswers gives (Receive p octets) (answer.Receive a) (half s j) mid
+    → AfterReceive s p (record { octets = octets; stamp = stamp.Data system agg conv serial }) a (with_half s mid j) r new
     → DataCame s p system agg conv serial j new
 data_came gives s p octets system agg conv serial (Ok (received.Up up)) mid r j new one history d x y =
     let side = d.origin in
-    let here : new ≡ after_up (peer s) agg conv serial (with_half s mid j) = y.1 ∙ ap (λ t. after_up t agg conv serial (with_half s mid j)) side in (
+    let here : new ≡ after_up (peer s) agg conv serial (with_half s mid j) = y.1
+    ∙ ap (λ t. after_up t agg conv serial (with_half s mid j)) side in (
       true,
-      subst (λ t. CallHappens (world_setup j) s (ModelEvent.Receive p None) 0 (model_world j) (handed_up true (Data t agg conv serial) (model_world j)) (model_world new)) (sym side)
-          (subst (λ k. CallHappens (world_setup j) s (ModelEvent.Receive p None) 0 (model_world j) (handed_up true (Data (peer s) agg conv serial) (model_world j)) (model_world k)) (sym here) (up_came gives s p octets agg conv serial up mid j d.there d.plain x)),
+      subst (λ t. CallHappens (world_setup j) s (ModelEvent.Receive p None) 0 (model_world j)
+          (handed_up true (Data t agg conv serial) (model_world j)) (model_world new)) (sym side)
+          (subst (λ k. CallHappens (world_setup j) s (ModelEvent.Receive p None) 0 (model_world j)
+          (handed_up true (Data (peer s) agg conv serial) (model_world j)) (model_world k)) (sym here)
+          (up_came gives s p octets agg conv serial up mid j d.there d.plain x)),
     )
-data_came gives s p octets system agg conv serial (Err fault) mid r j new one history d x y = (false, arrived gives s p (record { octets = octets; stamp = stamp.Data system agg conv serial }) (Err fault) mid r j new one history d.plain refl x y)
-data_came gives s p octets system agg conv serial (Ok received.Disabled) mid r j new one history d x y = (false, arrived gives s p (record { octets = octets; stamp = stamp.Data system agg conv serial }) (Ok received.Disabled) mid r j new one history d.plain refl x y)
-data_came gives s p octets system agg conv serial (Ok received.Dropped) mid r j new one history d x y = (false, arrived gives s p (record { octets = octets; stamp = stamp.Data system agg conv serial }) (Ok received.Dropped) mid r j new one history d.plain refl x y)
-data_came gives s p octets system agg conv serial (Ok (received.Ignored fault)) mid r j new one history d x y = (false, arrived gives s p (record { octets = octets; stamp = stamp.Data system agg conv serial }) (Ok (received.Ignored fault)) mid r j new one history d.plain refl x y)
-data_came gives s p octets system agg conv serial (Ok received.TookLacpdu) mid r j new one history d x y = (false, arrived gives s p (record { octets = octets; stamp = stamp.Data system agg conv serial }) (Ok received.TookLacpdu) mid r j new one history d.plain refl x y)
-data_came gives s p octets system agg conv serial (Ok (received.Respond frame)) mid r j new one history d x y = (false, arrived gives s p (record { octets = octets; stamp = stamp.Data system agg conv serial }) (Ok (received.Respond frame)) mid r j new one history d.plain refl x y)
-data_came gives s p octets system agg conv serial (Ok (received.Released n)) mid r j new one history d x y = (false, arrived gives s p (record { octets = octets; stamp = stamp.Data system agg conv serial }) (Ok (received.Released n)) mid r j new one history d.plain refl x y)
+data_came gives s p octets system agg conv serial (Err fault) mid r j new one history d x y = (
+  false,
+  arrived gives s p (record { octets = octets; stamp = stamp.Data system agg conv serial }) (Err fault) mid r j new one
+      history d.plain refl x y,
+)
+data_came gives s p octets system agg conv serial (Ok received.Disabled) mid r j new one history d x y = (
+  false,
+  arrived gives s p (record { octets = octets; stamp = stamp.Data system agg conv serial }) (Ok received.Disabled) mid r j new one
+      history d.plain refl x y,
+)
+data_came gives s p octets system agg conv serial (Ok received.Dropped) mid r j new one history d x y = (
+  false,
+  arrived gives s p (record { octets = octets; stamp = stamp.Data system agg conv serial }) (Ok received.Dropped) mid r j new one
+      history d.plain refl x y,
+)
+data_came gives s p octets system agg conv serial (Ok (received.Ignored fault)) mid r j new one history d x y = (
+  false,
+  arrived gives s p (record { octets = octets; stamp = stamp.Data system agg conv serial }) (Ok (received.Ignored fault)) mid r j
+      new one history d.plain refl x y,
+)
+data_came gives s p octets system agg conv serial (Ok received.TookLacpdu) mid r j new one history d x y = (
+  false,
+  arrived gives s p (record { octets = octets; stamp = stamp.Data system agg conv serial }) (Ok received.TookLacpdu) mid r j new
+      one history d.plain refl x y,
+)
+data_came gives s p octets system agg conv serial (Ok (received.Respond frame)) mid r j new one history d x y = (
+  false,
+  arrived gives s p (record { octets = octets; stamp = stamp.Data system agg conv serial }) (Ok (received.Respond frame)) mid r j
+      new one history d.plain refl x y,
+)
+data_came gives s p octets system agg conv serial (Ok (received.Released n)) mid r j new one history d x y = (
+  false,
+  arrived gives s p (record { octets = octets; stamp = stamp.Data system agg conv serial }) (Ok (received.Released n)) mid r j new
+      one history d.plain refl x y,
+)
 
-popped_fixed : (s : Side) (i : ℕ) (l : LinkState) (rest : List ItemValue) (old : WorldState) → slice_get old.links i ≡ Some l → world_setup (with_link_at i (with_towards s rest l) old) ≡ world_setup old
-popped_fixed s i l rest old there = ap (λ (e : List Ends). record { setup = (world_setup old).setup; cables = e }) (mapped_set link_ends old.links i (with_towards s rest l) l there refl)
+popped_fixed : (s : Side) (i : ℕ) (l : LinkState) (rest : List ItemValue) (old : WorldState) → slice_get old.links i ≡ Some l
+    → world_setup (with_link_at i (with_towards s rest l) old) ≡ world_setup old
+popped_fixed s i l rest old there = ap (λ (e : List Ends). record { setup = (world_setup old).setup; cables = e })
+    (mapped_set link_ends old.links i (with_towards s rest l) l there refl)
 
 -- the first item of a cable comes, and is taken away
-delivered : (gives : Side → ℕ → ℕ → ℕ → Type 0) (s : Side) (i : ℕ) (l : LinkState) (octets : List ℕ) (st : Stamp) (rest : List ItemValue) (r : Reply) (old new : WorldState) → slice_get old.links i ≡ Some l → IsCabling (world_setup old).cables
-    → IsSome (history_at (half s old).histories (port_at s l)) → IsItem s octets st old → WorldReceives gives s (port_at s l) (record { octets = octets; stamp = st }) (with_link_at i (with_towards s rest l) old) r new
-    → Receives (world_setup old) s (port_at s l) (message_in octets st) (model_world old) (with_messages (model_world old) (suc i) s (map item_message rest)) (model_world new)
+delivered : (gives : Side → ℕ → ℕ → ℕ → Type 0) (s : Side) (i : ℕ) (l : LinkState) (octets : List ℕ) (st : Stamp) (rest : List ItemValue)
+    (r : Reply) (old new : WorldState) → slice_get old.links i ≡ Some l → IsCabling (world_setup old).cables
+    → IsSome (history_at (half s old).histories (port_at s l)) → IsItem s octets st old
+    → WorldReceives gives s (port_at s l) (record { octets = octets; stamp = st }) (with_link_at i (with_towards s rest l) old) r new
+    → Receives (world_setup old) s (port_at s l) (message_in octets st) (model_world old)
+    (with_messages (model_world old) (suc i) s (map item_message rest)) (model_world new)
 delivered gives s i l octets (stamp.Control count) rest r old new there one history t x =
     let j = with_link_at i (with_towards s rest l) old in
     let f = popped_fixed s i l rest old there in
-    let c = control_came (gives s) s (port_at s l) octets count x.0 x.1 r j new (subst (λ (x : WorldSetup). IsCabling x.cables) (sym f) one) history x.2 x.3 in
+    let c = control_came (gives s) s (port_at s l) octets count x.0 x.1 r j new
+    (subst (λ (x : WorldSetup). IsCabling x.cables) (sym f) one) history x.2 x.3 in
     let told : ModelEvent = ModelEvent.Receive (port_at s l) (Some (control_message (pdu_in (payload_in octets)))) in
-    subst (λ w. CallHappens (world_setup old) s told count w w (model_world new)) (popped_world s i l rest old there) (subst (λ x. CallHappens x s told count (model_world j) (model_world j) (model_world new)) f c)
+    subst (λ w. CallHappens (world_setup old) s told count w w (model_world new)) (popped_world s i l rest old there)
+    (subst (λ x. CallHappens x s told count (model_world j) (model_world j) (model_world new)) f c)
 delivered gives s i l octets (stamp.Data system agg conv serial) rest r old new there one history t x =
     let j = with_link_at i (with_towards s rest l) old in
     let f = popped_fixed s i l rest old there in
-    let c = data_came (gives s) s (port_at s l) octets system agg conv serial x.0 x.1 r j new (subst (λ (x : WorldSetup). IsCabling x.cables) (sym f) one) history (record { origin = t.0; there = t.1; plain = t.2 }) x.2 x.3 in
+    let c = data_came (gives s) s (port_at s l) octets system agg conv serial x.0 x.1 r j new
+    (subst (λ (x : WorldSetup). IsCabling x.cables) (sym f) one) history (record { origin = t.0; there = t.1; plain = t.2 }) x.2 x.3 in
     let told : ModelEvent = ModelEvent.Receive (port_at s l) None in (
       c.0,
-      subst (λ w. CallHappens (world_setup old) s told 0 w (handed_up c.0 (Data (side_named system) agg conv serial) w) (model_world new)) (popped_world s i l rest old there) (subst (λ x. CallHappens x s told 0 (model_world j) (handed_up c.0 (Data (side_named system) agg conv serial) (model_world j)) (model_world new)) f c.1),
+      subst (λ w. CallHappens (world_setup old) s told 0 w (handed_up c.0 (Data (side_named system) agg conv serial) w) (model_world new))
+          (popped_world s i l rest old there)
+          (subst (λ x. CallHappens x s told 0 (model_world j) (handed_up c.0 (Data (side_named system) agg conv serial) (model_world j))
+          (model_world new)) f c.1),
     )
 
 -- what the law finds on a cable
-line_is : (s : Side) (i : ℕ) (l : LinkState) (xs : List ItemValue) (old : WorldState) → slice_get old.links i ≡ Some l → towards s l ≡ xs → (model_world old).on_cable s (suc i) ≡ map item_message xs
+line_is : (s : Side) (i : ℕ) (l : LinkState) (xs : List ItemValue) (old : WorldState) → slice_get old.links i ≡ Some l → towards s l ≡ xs
+    → (model_world old).on_cable s (suc i) ≡ map item_message xs
 line_is s i l xs old there e = ap (messages s) there ∙ ap (map item_message) e
 
-pub deliver_happens : (gives : Side → ℕ → ℕ → ℕ → Type 0) (s : Side) (i : ℕ) (l : LinkState) (xs : List ItemValue) (r : Reply) (old new : WorldState) → slice_get old.links i ≡ Some l → towards s l ≡ xs → IsCabling (world_setup old).cables
+pub deliver_happens : (gives : Side → ℕ → ℕ → ℕ → Type 0) (s : Side) (i : ℕ) (l : LinkState) (xs : List ItemValue) (r : Reply)
+    (old new : WorldState) → slice_get old.links i ≡ Some l → towards s l ≡ xs → IsCabling (world_setup old).cables
     → IsSome (history_at (half s old).histories (port_at s l)) → AreItems s xs old → DeliversFrom gives s i l xs old r new
     → Happens (world_setup old) (Event.Deliver (suc i) s) (model_world old) (model_world new)
 deliver_happens gives s i l [] r old new there e one history t x =
-    subst (λ ms. DeliversFirst (world_setup old) (suc i) s (end_at (world_setup old).cables s (suc i)) ms (model_world old) (model_world new)) (sym (line_is s i l [] old there e)) (ap model_world x.1)
+    subst (λ ms. DeliversFirst (world_setup old) (suc i) s (end_at (world_setup old).cables s (suc i)) ms (model_world old)
+    (model_world new)) (sym (line_is s i l [] old there e)) (ap model_world x.1)
 deliver_happens gives s i l (item ∷ rest) r old new there e one history t x =
-    subst (λ ms. DeliversFirst (world_setup old) (suc i) s (end_at (world_setup old).cables s (suc i)) ms (model_world old) (model_world new)) (sym (line_is s i l (item ∷ rest) old there e))
-    (subst (λ o. DeliversFirst (world_setup old) (suc i) s o (map item_message (item ∷ rest)) (model_world old) (model_world new)) (sym (end_is s old.links i l there))
+    subst (λ ms. DeliversFirst (world_setup old) (suc i) s (end_at (world_setup old).cables s (suc i)) ms (model_world old)
+    (model_world new)) (sym (line_is s i l (item ∷ rest) old there e))
+    (subst (λ o. DeliversFirst (world_setup old) (suc i) s o (map item_message (item ∷ rest)) (model_world old) (model_world new))
+    (sym (end_is s old.links i l there))
     (delivered gives s i l item.octets item.stamp rest r old new there one history t.0 x))
 
 -- the first item comes and stays
-repeated : (gives : Side → ℕ → ℕ → ℕ → Type 0) (s : Side) (i : ℕ) (p : ℕ) (octets : List ℕ) (st : Stamp) (rest : List Message) (r : Reply) (old new : WorldState) → IsCabling (world_setup old).cables
-    → IsSome (history_at (half s old).histories p) → RepeatsItem gives s p octets st old r new → RepeatsFirst (world_setup old) (suc i) s (Some p) (message_in octets st ∷ rest) (model_world old) (model_world new)
-repeated gives s i p octets (stamp.Control count) rest r old new one history x = control_came (gives s) s p octets count x.0 x.1 r old new one history x.2 x.3
+repeated : (gives : Side → ℕ → ℕ → ℕ → Type 0) (s : Side) (i : ℕ) (p : ℕ) (octets : List ℕ) (st : Stamp) (rest : List Message) (r : Reply)
+    (old new : WorldState) → IsCabling (world_setup old).cables
+    → IsSome (history_at (half s old).histories p) → RepeatsItem gives s p octets st old r new
+    → RepeatsFirst (world_setup old) (suc i) s (Some p) (message_in octets st ∷ rest) (model_world old) (model_world new)
+repeated gives s i p octets (stamp.Control count) rest r old new one history x = control_came (gives s) s p octets count x.0 x.1 r
+    old new one history x.2 x.3
 repeated gives s i p octets (stamp.Data system agg conv serial) rest r old new one history x = ap model_world x.1
 
-pub repeat_happens : (gives : Side → ℕ → ℕ → ℕ → Type 0) (s : Side) (i : ℕ) (l : LinkState) (xs : List ItemValue) (r : Reply) (old new : WorldState) → slice_get old.links i ≡ Some l → towards s l ≡ xs → IsCabling (world_setup old).cables
-    → IsSome (history_at (half s old).histories (port_at s l)) → RepeatsFrom gives s l xs old r new → Happens (world_setup old) (Event.Repeat (suc i) s) (model_world old) (model_world new)
+pub repeat_happens : (gives : Side → ℕ → ℕ → ℕ → Type 0) (s : Side) (i : ℕ) (l : LinkState) (xs : List ItemValue) (r : Reply)
+    (old new : WorldState) → slice_get old.links i ≡ Some l → towards s l ≡ xs → IsCabling (world_setup old).cables
+    → IsSome (history_at (half s old).histories (port_at s l)) → RepeatsFrom gives s l xs old r new
+    → Happens (world_setup old) (Event.Repeat (suc i) s) (model_world old) (model_world new)
 repeat_happens gives s i l [] r old new there e one history x =
-    subst (λ ms. RepeatsFirst (world_setup old) (suc i) s (end_at (world_setup old).cables s (suc i)) ms (model_world old) (model_world new)) (sym (line_is s i l [] old there e)) (ap model_world x.1)
+    subst (λ ms. RepeatsFirst (world_setup old) (suc i) s (end_at (world_setup old).cables s (suc i)) ms (model_world old)
+    (model_world new)) (sym (line_is s i l [] old there e)) (ap model_world x.1)
 repeat_happens gives s i l (item ∷ rest) r old new there e one history x =
-    subst (λ ms. RepeatsFirst (world_setup old) (suc i) s (end_at (world_setup old).cables s (suc i)) ms (model_world old) (model_world new)) (sym (line_is s i l (item ∷ rest) old there e))
-    (subst (λ o. RepeatsFirst (world_setup old) (suc i) s o (map item_message (item ∷ rest)) (model_world old) (model_world new)) (sym (end_is s old.links i l there))
+    subst (λ ms. RepeatsFirst (world_setup old) (suc i) s (end_at (world_setup old).cables s (suc i)) ms (model_world old)
+    (model_world new)) (sym (line_is s i l (item ∷ rest) old there e))
+    (subst (λ o. RepeatsFirst (world_setup old) (suc i) s o (map item_message (item ∷ rest)) (model_world old) (model_world new))
+    (sym (end_is s old.links i l there))
     (repeated gives s i (port_at s l) item.octets item.stamp (map item_message rest) r old new one history x))
 
 -- the first item is lost
-pub lose_happens : (s : Side) (i : ℕ) (l : LinkState) (xs : List ItemValue) (r : Reply) (old new : WorldState) → slice_get old.links i ≡ Some l → towards s l ≡ xs → LosesFrom s i l xs old r new → Happens (world_setup old) (Event.Lose (suc i) s) (model_world old) (model_world new)
-lose_happens s i l [] r old new there e x = subst (λ ms. LosesFirst (suc i) s ms (model_world old) (model_world new)) (sym (line_is s i l [] old there e)) (ap model_world x.1)
+pub lose_happens : (s : Side) (i : ℕ) (l : LinkState) (xs : List ItemValue) (r : Reply) (old new : WorldState)
+    → slice_get old.links i ≡ Some l → towards s l ≡ xs → LosesFrom s i l xs old r new
+    → Happens (world_setup old) (Event.Lose (suc i) s) (model_world old) (model_world new)
+lose_happens s i l [] r old new there e x = subst (λ ms. LosesFirst (suc i) s ms (model_world old) (model_world new))
+    (sym (line_is s i l [] old there e)) (ap model_world x.1)
 lose_happens s i l (item ∷ rest) r old new there e x =
-    subst (λ ms. LosesFirst (suc i) s ms (model_world old) (model_world new)) (sym (line_is s i l (item ∷ rest) old there e)) (ap model_world x.1 ∙ popped_world s i l rest old there)
+    subst (λ ms. LosesFirst (suc i) s ms (model_world old) (model_world new)) (sym (line_is s i l (item ∷ rest) old there e))
+    (ap model_world x.1 ∙ popped_world s i l rest old there)

@@ -1,5 +1,6 @@
 -- The events that change parameters of ports, a configure and a restart, and the change counts.
-use Rattle.std.proofs.Common.{◌≡◌, ◌≢◌, ℕ, zero, suc, ◌+◌, eqb, Bool, true, if◌then◌else◌, Option, Some, None, IsSome, List, [], ◌∷◌, map, sym, refl, ap, ◌∙◌, subst, inl, inr, ◌⊎◌, Result, eqb-true, arith}
+use Rattle.std.proofs.Common.{◌≡◌, ◌≢◌, ℕ, zero, suc, ◌+◌, eqb, Bool, true, if◌then◌else◌, Option, Some, None, IsSome, List, [], ◌∷◌}
+use Rattle.std.proofs.Common.{map, sym, refl, ap, ◌∙◌, subst, inl, inr, ◌⊎◌, Result, eqb-true, arith}
 use Rattle.std.specs.Prelude.{option_map, slice_get, is_some}
 use Rattle.std.proofs.lemmas.Bool.{cases_Bool, true≢false}
 use Rattle.std.proofs.lemmas.Option.{none-some, same_Some}
@@ -23,28 +24,35 @@ use Rattle.lagsystem.proofs.FirstView.{first_shows}
 use Rattle.lagsystem.proofs.Seen.{party_seen, port_seen}
 use Rattle.lagworld.specs.declared.reply.Reply.{Reply}
 use Rattle.lagworld.specs.declared.histories.PortHistory.{PortHistory}
-use Rattle.lagworld.specs.State.{HalfState, LinkState, WorldState, half, with_half, with_links, emptied, element_numbered, history_at, change_count_in, taken_in, flow_at, sent_in, collected_in, forced_in}
-use Rattle.lagworld.specs.HalfCalls.{HalfAnswers, HalfConfigures, HalfRestarts, with_changes_counted, change_counted, party_of_port, is_party}
+use Rattle.lagworld.specs.State.{HalfState, LinkState, WorldState, half, with_half, with_links, emptied, element_numbered, history_at}
+use Rattle.lagworld.specs.State.{change_count_in, taken_in, flow_at, sent_in, collected_in, forced_in}
+use Rattle.lagworld.specs.HalfCalls.{HalfAnswers, HalfConfigures, HalfRestarts, with_changes_counted, change_counted, party_of_port}
+use Rattle.lagworld.specs.HalfCalls.{is_party}
 use Rattle.lagworld.specs.Events.{InHalf, model_change}
 use Rattle.lagworld.specs.Sound.{IsHalfSound}
 use Rattle.lagworld.specs.ModelWorld.{world_setup, model_world, is_whole, messages, model_taken}
 use Rattle.lagworld.proofs.OneSystem.{after_call, one_call, quietly, configured_kept}
 
-pub log_mapped : (s : SystemState) (histories : List PortHistory) (q : ℕ) → history_at (map (change_counted s) histories) q ≡ option_map (change_counted s) (history_at histories q)
+pub log_mapped : (s : SystemState) (histories : List PortHistory) (q : ℕ)
+    → history_at (map (change_counted s) histories) q ≡ option_map (change_counted s) (history_at histories q)
 log_mapped s [] q = refl
 log_mapped s (history ∷ histories) q = elim (cases_Bool (eqb q history.number)) [
-  | inl e ↦ cond_true (eqb q history.number) (Some (change_counted s history)) _ e ∙ sym (ap (option_map (change_counted s)) (cond_true (eqb q history.number) (Some history) (history_at histories q) e))
-  | inr e ↦ cond_false (eqb q history.number) (Some (change_counted s history)) _ e ∙ log_mapped s histories q ∙ sym (ap (option_map (change_counted s)) (cond_false (eqb q history.number) (Some history) (history_at histories q) e))
+  | inl e ↦ cond_true (eqb q history.number) (Some (change_counted s history)) _ e
+      ∙ sym (ap (option_map (change_counted s)) (cond_true (eqb q history.number) (Some history) (history_at histories q) e))
+  | inr e ↦ cond_false (eqb q history.number) (Some (change_counted s history)) _ e ∙ log_mapped s histories q
+      ∙ sym (ap (option_map (change_counted s)) (cond_false (eqb q history.number) (Some history) (history_at histories q) e))
 ]
 
 taken_mapped : (s : SystemState) (o : Option PortHistory) → taken_in (option_map (change_counted s) o) ≡ taken_in o
 taken_mapped s None = refl
 taken_mapped s (Some history) = refl
 
-pub taken_counted : (s : SystemState) (histories : List PortHistory) (q : ℕ) → taken_in (history_at (map (change_counted s) histories) q) ≡ taken_in (history_at histories q)
+pub taken_counted : (s : SystemState) (histories : List PortHistory) (q : ℕ)
+    → taken_in (history_at (map (change_counted s) histories) q) ≡ taken_in (history_at histories q)
 taken_counted s histories q = ap taken_in (log_mapped s histories q) ∙ taken_mapped s (history_at histories q)
 
-pub find_name : (s : SystemState) (histories : List PortHistory) (q : ℕ) (history : PortHistory) → history_at histories q ≡ Some history → history.number ≡ q
+pub find_name : (s : SystemState) (histories : List PortHistory) (q : ℕ) (history : PortHistory)
+    → history_at histories q ≡ Some history → history.number ≡ q
 find_name s [] q history e = absurd (none-some history e)
 find_name s (l ∷ histories) q history e = elim (cases_Bool (eqb q l.number)) [
   | inl t ↦ (let same : l ≡ history = same_Some l history (sym (cond_true (eqb q l.number) (Some l) (history_at histories q) t) ∙ e) in
@@ -56,39 +64,60 @@ find_name s (l ∷ histories) q history e = elim (cases_Bool (eqb q l.number)) [
 one_more : (n : ℕ) → n + 1 ≡ suc n
 one_more n = omega arith
 
-changed_or_not : (a : Party) (o new : Option Party) (n : ℕ) → o ≡ Some a → ((new ≡ o) × ((if is_party a new then n else n + 1) ≡ n)) ⊎ ((new ≢ o) × ((if is_party a new then n else n + 1) ≡ suc n))
+changed_or_not : (a : Party) (o new : Option Party) (n : ℕ) → o ≡ Some a → ((new ≡ o) × ((if is_party a new then n else n + 1) ≡ n))
+    ⊎ ((new ≢ o) × ((if is_party a new then n else n + 1) ≡ suc n))
 changed_or_not a o None n e = inr ((λ h. none-some a (h ∙ e)), one_more n)
 changed_or_not a o (Some b) n e = elim (cases_Bool (same_party b a)) [
   | inl t ↦ inl (ap (λ (x : Party). Some x) (exact_party b a t) ∙ sym e, cond_true (same_party b a) n (n + 1) t)
-  | inr t ↦ inr ((λ h. true≢false (sym (subst (λ x. same_party x a ≡ true) (sym (same_Some b a (h ∙ e))) (party_itself a)) ∙ t)), cond_false (same_party b a) n (n + 1) t ∙ one_more n)
+  | inr t ↦ inr (
+    (λ h. true≢false (sym (subst (λ x. same_party x a ≡ true) (sym (same_Some b a (h ∙ e))) (party_itself a)) ∙ t)),
+    cond_false (same_party b a) n (n + 1) t ∙ one_more n,
+  )
 ]
 
 -- the same of a port of a system: old and new are what the law sees
-port_counted : (old new : HalfState) → IsHalfSound old → new.histories ≡ old.histories → ((p : ℕ) → party_of_port old.state p ≡ None → party_of_port new.state p ≡ None) → (p : ℕ)
-    → ((party_at (model_view new.state) p ≡ party_at (model_view old.state) p) × (change_count_in (history_at (with_changes_counted new).histories p) ≡ change_count_in (history_at old.histories p)))
-    ⊎ ((party_at (model_view new.state) p ≢ party_at (model_view old.state) p) × (change_count_in (history_at (with_changes_counted new).histories p) ≡ suc (change_count_in (history_at old.histories p))))
+port_counted : (old new : HalfState) → IsHalfSound old → new.histories ≡ old.histories
+    → ((p : ℕ) → party_of_port old.state p ≡ None → party_of_port new.state p ≡ None) → (p : ℕ)
+    → ((party_at (model_view new.state) p ≡ party_at (model_view old.state) p)
+    × (change_count_in (history_at (with_changes_counted new).histories p) ≡ change_count_in (history_at old.histories p)))
+    ⊎ ((party_at (model_view new.state) p ≢ party_at (model_view old.state) p)
+    × (change_count_in (history_at (with_changes_counted new).histories p) ≡ suc (change_count_in (history_at old.histories p))))
 port_counted old new k e none p = by_log (history_at old.histories p) refl
   where
-    there : change_count_in (history_at (with_changes_counted new).histories p) ≡ change_count_in (option_map (change_counted new.state) (history_at old.histories p))
-    there = ap change_count_in (log_mapped new.state new.histories p) ∙ ap (λ l. change_count_in (option_map (change_counted new.state) (history_at l p))) e
+    there : change_count_in (history_at (with_changes_counted new).histories p) ≡ change_count_in
+        (option_map (change_counted new.state) (history_at old.histories p))
+    there = ap change_count_in (log_mapped new.state new.histories p)
+        ∙ ap (λ l. change_count_in (option_map (change_counted new.state) (history_at l p))) e
 
     no_party : (o : Option Party) → party_of_port old.state p ≡ o → history_at old.histories p ≡ None → party_of_port old.state p ≡ None
     no_party None h l = h
     no_party (Some a) h l = absurd (none-is_some (history_at old.histories p) l (k.logged p (subst IsSome (sym h) refl)))
 
     by_log : (o : Option PortHistory) → history_at old.histories p ≡ o
-        → ((party_at (model_view new.state) p ≡ party_at (model_view old.state) p) × (change_count_in (history_at (with_changes_counted new).histories p) ≡ change_count_in (history_at old.histories p)))
-        ⊎ ((party_at (model_view new.state) p ≢ party_at (model_view old.state) p) × (change_count_in (history_at (with_changes_counted new).histories p) ≡ suc (change_count_in (history_at old.histories p))))
+        → ((party_at (model_view new.state) p ≡ party_at (model_view old.state) p)
+        × (change_count_in (history_at (with_changes_counted new).histories p) ≡ change_count_in (history_at old.histories p)))
+        ⊎ ((party_at (model_view new.state) p ≢ party_at (model_view old.state) p)
+        × (change_count_in (history_at (with_changes_counted new).histories p) ≡ suc (change_count_in (history_at old.histories p))))
     by_log None h =
         let before = no_party (party_of_port old.state p) refl h in
-        inl (party_seen new.state p ∙ none p before ∙ sym before ∙ sym (party_seen old.state p), there ∙ ap (λ o. change_count_in (option_map (change_counted new.state) o)) h ∙ sym (ap change_count_in h))
+        inl (
+          party_seen new.state p ∙ none p before ∙ sym before ∙ sym (party_seen old.state p),
+          there
+              ∙ ap (λ o. change_count_in (option_map (change_counted new.state) o)) h ∙ sym (ap change_count_in h),
+        )
     by_log (Some history) h =
         let name = find_name old.state old.histories p history h in
-        let count : change_count_in (history_at (with_changes_counted new).histories p) ≡ (if is_party history.party (party_of_port new.state p) then history.count else history.count + 1) =
-        there ∙ ap (λ o. change_count_in (option_map (change_counted new.state) o)) h ∙ ap (λ q. if is_party history.party (party_of_port new.state q) then history.count else history.count + 1) name in
+        let count : change_count_in (history_at (with_changes_counted new).histories p)
+        ≡ (if is_party history.party (party_of_port new.state p) then history.count else history.count + 1) =
+        there ∙ ap (λ o. change_count_in (option_map (change_counted new.state) o)) h
+        ∙ ap (λ q. if is_party history.party (party_of_port new.state q) then history.count else history.count + 1) name in
         elim (changed_or_not history.party (party_of_port old.state p) (party_of_port new.state p) history.count (k.parties p history h)) [
           | inl x ↦ inl (party_seen new.state p ∙ x.0 ∙ sym (party_seen old.state p), count ∙ x.1 ∙ sym (ap change_count_in h))
-          | inr x ↦ inr ((λ y. x.0 (sym (party_seen new.state p) ∙ y ∙ party_seen old.state p)), count ∙ x.1 ∙ sym (ap (λ o. suc (change_count_in o)) h))
+          | inr x ↦ inr (
+            (λ y. x.0 (sym (party_seen new.state p) ∙ y ∙ party_seen old.state p)),
+            count ∙ x.1
+                ∙ sym (ap (λ o. suc (change_count_in o)) h),
+          )
         ]
 
 -- the ports of a system are those of its configuration
@@ -99,29 +128,39 @@ port_there s p = ap is_some (port_seen s p) ∙ both (machines_of p s)
     both None = refl
     both (Some p) = refl
 
-pub same_ports : (gives : ℕ → ℕ → ℕ → Type 0) (call : Call) (a : Answer) (old new : HalfState) → IsHalfSound old → HalfAnswers gives call a old new → (p : ℕ) → is_some (party_of_port new.state p) ≡ is_some (party_of_port old.state p)
+pub same_ports : (gives : ℕ → ℕ → ℕ → Type 0) (call : Call) (a : Answer) (old new : HalfState) → IsHalfSound old
+    → HalfAnswers gives call a old new → (p : ℕ) → is_some (party_of_port new.state p) ≡ is_some (party_of_port old.state p)
 same_ports gives call a old new k x p =
-    sym (port_there new.state p) ∙ x.answers.agrees.members.configured p ∙ ap (λ u. is_some (u.party p)) (configured_kept gives call a old new x) ∙ sym (k.agrees.members.configured p) ∙ port_there old.state p
+    sym (port_there new.state p) ∙ x.answers.agrees.members.configured p
+    ∙ ap (λ u. is_some (u.party p)) (configured_kept gives call a old new x) ∙ sym (k.agrees.members.configured p)
+    ∙ port_there old.state p
 
-pub no_port : (gives : ℕ → ℕ → ℕ → Type 0) (call : Call) (a : Answer) (old new : HalfState) → IsHalfSound old → HalfAnswers gives call a old new → (p : ℕ) → party_of_port old.state p ≡ None → party_of_port new.state p ≡ None
+pub no_port : (gives : ℕ → ℕ → ℕ → Type 0) (call : Call) (a : Answer) (old new : HalfState) → IsHalfSound old
+    → HalfAnswers gives call a old new → (p : ℕ) → party_of_port old.state p ≡ None → party_of_port new.state p ≡ None
 no_port gives call a old new k x p e = gone (party_of_port new.state p) refl
   where
     gone : (o : Option Party) → party_of_port new.state p ≡ o → party_of_port new.state p ≡ None
     gone None h = h
     gone (Some b) h = absurd (true≢false (sym (ap is_some h) ∙ same_ports gives call a old new k x p ∙ ap is_some e))
 
-pub counts_of : (s : Side) (mid : HalfState) (ls : List LinkState) (j : WorldState) → IsHalfSound (half s j) → mid.histories ≡ (half s j).histories → ((p : ℕ) → party_of_port (half s j).state p ≡ None → party_of_port mid.state p ≡ None)
-    → CountsChanges (model_world j) (model_world (after_call s (with_changes_counted mid) ls j)) (model_world (after_call s (with_changes_counted mid) ls j)).count
+pub counts_of : (s : Side) (mid : HalfState) (ls : List LinkState) (j : WorldState) → IsHalfSound (half s j)
+    → mid.histories ≡ (half s j).histories → ((p : ℕ) → party_of_port (half s j).state p ≡ None → party_of_port mid.state p ≡ None)
+    → CountsChanges (model_world j) (model_world (after_call s (with_changes_counted mid) ls j))
+    (model_world (after_call s (with_changes_counted mid) ls j)).count
 counts_of One mid ls j k e none One p = port_counted j.one mid k e none p
 counts_of One mid ls j k e none Two p = inl (refl, refl)
 counts_of Two mid ls j k e none One p = inl (refl, refl)
 counts_of Two mid ls j k e none Two p = port_counted j.two mid k e none p
 
-told_configure : (p : ℕ) (change : PortChange) (a : Result Bool SystemFault) (old new : SystemState) → JoinedByLawfulMoves old (Configure p change) (answer.Configure a) new → LawfulMoves (model_setup old) ModelEvent.Configure (model_view old) [] (model_view new)
-told_configure p change a old new h = subst (λ l. LawfulMoves (model_setup old) ModelEvent.Configure (model_view old) l (model_view new)) h.3 (subst (λ c. LawfulMoves (model_setup old) c (model_view old) h.1 (model_view new)) h.2 h.4)
+told_configure : (p : ℕ) (change : PortChange) (a : Result Bool SystemFault) (old new : SystemState)
+    → JoinedByLawfulMoves old (Configure p change) (answer.Configure a) new
+    → LawfulMoves (model_setup old) ModelEvent.Configure (model_view old) [] (model_view new)
+told_configure p change a old new h = subst (λ l. LawfulMoves (model_setup old) ModelEvent.Configure (model_view old) l (model_view new))
+    h.3 (subst (λ c. LawfulMoves (model_setup old) c (model_view old) h.1 (model_view new)) h.2 h.4)
 
 -- A port is configured, and the count of each port whose party differs then is one more.
-pub configure_happens : (gives : ℕ → ℕ → ℕ → Type 0) (s : Side) (p : ℕ) (change : PortChange) (r : Reply) (old new : WorldState) → IsHalfSound (half s old) → InHalf s (λ h k. HalfConfigures gives p change h r k) old new
+pub configure_happens : (gives : ℕ → ℕ → ℕ → Type 0) (s : Side) (p : ℕ) (change : PortChange) (r : Reply) (old new : WorldState)
+    → IsHalfSound (half s old) → InHalf s (λ h k. HalfConfigures gives p change h r k) old new
     → Happens (world_setup old) (Event.Configure s p (model_change change)) (model_world old) (model_world new)
 configure_happens gives s p change r old new k x =
     let a = x.0.0 in
@@ -130,9 +169,11 @@ configure_happens gives s p change r old new k x =
     let same : new ≡ with_half s (with_changes_counted mid) old = x.1 ∙ ap (λ h. with_half s h old) x.0.4 in
     subst (λ j. CallHappens (world_setup old) s ModelEvent.Configure 0 (model_world old) (model_world old) (model_world j)) (sym same)
     (one_call (world_setup old) s ModelEvent.Configure 0 true None (with_changes_counted mid) old.links old (model_world old)
-    (quietly (world_setup old) s (with_changes_counted mid) old (ap (λ (h : HalfState). h.flows) asked.same) (λ q. taken_counted mid.state mid.histories q ∙ ap (λ (h : HalfState). taken_in (history_at h.histories q)) asked.same))
+    (quietly (world_setup old) s (with_changes_counted mid) old (ap (λ (h : HalfState). h.flows) asked.same)
+    (λ q. taken_counted mid.state mid.histories q ∙ ap (λ (h : HalfState). taken_in (history_at h.histories q)) asked.same))
     (told_configure p change a (half s old).state mid.state asked.answers.moves)
-    (counts_of s mid old.links old k (ap (λ (h : HalfState). h.histories) asked.same) (no_port gives (Configure p change) (answer.Configure a) (half s old) mid k asked)))
+    (counts_of s mid old.links old k (ap (λ (h : HalfState). h.histories) asked.same)
+    (no_port gives (Configure p change) (answer.Configure a) (half s old) mid k asked)))
 
 -- A restart: the first view, and nothing is left on any cable.
 no_line : (links : List LinkState) (t : Side) (i : ℕ) → messages t (slice_get (map emptied links) i) ≡ []
@@ -154,9 +195,16 @@ whole_left : (links : List LinkState) (c : ℕ) → is_whole (element_numbered (
 whole_left links zero = refl
 whole_left links (suc i) = same_whole links i
 
-restarted : (s : Side) (h : HalfState) (v : View) (old : WorldState) → model_view h.state ≡ v → h.flows ≡ (half s old).flows → ((p : ℕ) → taken_in (history_at h.histories p) ≡ taken_in (history_at (half s old).histories p))
-    → model_world (after_call s h (map emptied old.links) old) ≡ record (model_world old) { view = at_side (model_world old).view s v; on_cable = λ t c. []; count = (model_world (after_call s h (map emptied old.links) old)).count }
-restarted One h v old e flows taken = same_world _ _ view (whole_left old.links) (nothing_left old.links) (λ t p. refl) took sent collected forced
+restarted : (s : Side) (h : HalfState) (v : View) (old : WorldState) → model_view h.state ≡ v → h.flows ≡ (half s old).flows
+    → ((p : ℕ) → taken_in (history_at h.histories p) ≡ taken_in (history_at (half s old).histories p))
+    → model_world (after_call s h (map emptied old.links) old) ≡ record (model_world old) {
+      view = at_side (model_world old).view s v;
+      on_cable = λ t c. [];
+      count =
+          (model_world (after_call s h (map emptied old.links) old)).count;
+    }
+restarted One h v old e flows taken = same_world _ _ view (whole_left old.links) (nothing_left old.links)
+    (λ t p. refl) took sent collected forced
   where
     w : World
     w = model_world (after_call One h (map emptied old.links) old)
@@ -180,7 +228,8 @@ restarted One h v old e flows taken = same_world _ _ view (whole_left old.links)
     forced : (t : Side) (g k : ℕ) → w.forced t g k ≡ (model_world old).forced t g k
     forced One g k = ap (λ f. forced_in (flow_at f g k)) flows
     forced Two g k = refl
-restarted Two h v old e flows taken = same_world _ _ view (whole_left old.links) (nothing_left old.links) (λ t p. refl) took sent collected forced
+restarted Two h v old e flows taken = same_world _ _ view (whole_left old.links) (nothing_left old.links)
+    (λ t p. refl) took sent collected forced
   where
     w : World
     w = model_world (after_call Two h (map emptied old.links) old)
@@ -205,16 +254,21 @@ restarted Two h v old e flows taken = same_world _ _ view (whole_left old.links)
     forced One g k = refl
     forced Two g k = ap (λ f. forced_in (flow_at f g k)) flows
 
-pub restart_happens : (gives : ℕ → ℕ → ℕ → Type 0) (s : Side) (old new : WorldState) → IsHalfSound (half s old) → InHalf s (HalfRestarts gives) (with_links old (map emptied old.links)) new
+pub restart_happens : (gives : ℕ → ℕ → ℕ → Type 0) (s : Side) (old new : WorldState) → IsHalfSound (half s old)
+    → InHalf s (HalfRestarts gives) (with_links old (map emptied old.links)) new
     → Happens (world_setup old) (Event.Restart s) (model_world old) (model_world new)
 restart_happens gives s old new k x =
     let mid = x.0.0 in
     let asked = x.0.1 in
     let h = with_changes_counted mid in
-    let same : new ≡ after_call s h (map emptied old.links) old = x.1 ∙ ap (λ h. with_half s h (with_links old (map emptied old.links))) x.0.2 in
-    let start : model_view mid.state ≡ first_view (model_setup (half s old).state) = first_shows mid.state asked.answers.step.1 ∙ ap first_view (configured_kept gives Restart answer.Restart (half s old) mid asked) in
-    let e = restarted s h (first_view (model_setup (half s old).state)) old start (ap (λ (h : HalfState). h.flows) asked.same) (λ q. taken_counted mid.state mid.histories q ∙ ap (λ (h : HalfState). taken_in (history_at h.histories q)) asked.same) in
-    let counts = counts_of s mid (map emptied old.links) old k (ap (λ (h : HalfState). h.histories) asked.same) (no_port gives Restart answer.Restart (half s old) mid k asked) in
+    let same : new ≡ after_call s h (map emptied old.links) old = x.1
+    ∙ ap (λ h. with_half s h (with_links old (map emptied old.links))) x.0.2 in
+    let start : model_view mid.state ≡ first_view (model_setup (half s old).state) = first_shows mid.state asked.answers.step.1
+    ∙ ap first_view (configured_kept gives Restart answer.Restart (half s old) mid asked) in
+    let e = restarted s h (first_view (model_setup (half s old).state)) old start (ap (λ (h : HalfState). h.flows) asked.same)
+    (λ q. taken_counted mid.state mid.histories q ∙ ap (λ (h : HalfState). taken_in (history_at h.histories q)) asked.same) in
+    let counts = counts_of s mid (map emptied old.links) old k (ap (λ (h : HalfState). h.histories) asked.same)
+    (no_port gives Restart answer.Restart (half s old) mid k asked) in
     let w = model_world (after_call s h (map emptied old.links) old) in
     subst (λ j. Happens (world_setup old) (Event.Restart s) (model_world old) (model_world j)) (sym same)
     (w.count, subst (λ (v : World). CountsChanges (model_world old) v w.count) e counts, e)

@@ -14,15 +14,19 @@ use Rattle.lagsystem.specs.Offers.{GivesOrRefuses, system_force_result}
 use Rattle.lagsystem.specs.ModelView.{model_setup, model_view, JoinedByLawfulMoves}
 use Rattle.lagsystem.specs.State.{SystemState}
 use Rattle.lagworld.specs.declared.reply.Reply.{Reply}
-use Rattle.lagworld.specs.State.{HalfState, WorldState, FlowValue, half, with_half, history_at, change_count_in, taken_in, flow_at, sent_in, collected_in, forced_in, change_flow, with_forced}
+use Rattle.lagworld.specs.State.{HalfState, WorldState, FlowValue, half, with_half, history_at, change_count_in, taken_in, flow_at}
+use Rattle.lagworld.specs.State.{sent_in, collected_in, forced_in, change_flow, with_forced}
 use Rattle.lagworld.specs.HalfCalls.{HalfAnswers, HalfForces, forced_if_accepted, with_state}
 use Rattle.lagworld.specs.Events.{InHalf}
 use Rattle.lagworld.specs.ModelWorld.{world_setup, model_world}
 use Rattle.lagworld.proofs.Flows.{read_changed, read_same}
 use Rattle.lagworld.proofs.OneSystem.{after_call, one_call, quietly, counts_kept}
 
-told_force : (agg : AggId) (conv : ℕ) (a : Result Unit SystemFault) (old new : SystemState) → JoinedByLawfulMoves old (Force agg conv) (answer.Force a) new → LawfulMoves (model_setup old) (ModelEvent.Force agg.0 conv) (model_view old) [] (model_view new)
-told_force agg conv a old new h = subst (λ l. LawfulMoves (model_setup old) (ModelEvent.Force agg.0 conv) (model_view old) l (model_view new)) h.3 (subst (λ c. LawfulMoves (model_setup old) c (model_view old) h.1 (model_view new)) h.2 h.4)
+told_force : (agg : AggId) (conv : ℕ) (a : Result Unit SystemFault) (old new : SystemState)
+    → JoinedByLawfulMoves old (Force agg conv) (answer.Force a) new
+    → LawfulMoves (model_setup old) (ModelEvent.Force agg.0 conv) (model_view old) [] (model_view new)
+told_force agg conv a old new h = subst (λ l. LawfulMoves (model_setup old) (ModelEvent.Force agg.0 conv) (model_view old) l
+    (model_view new)) h.3 (subst (λ c. LawfulMoves (model_setup old) c (model_view old) h.1 (model_view new)) h.2 h.4)
 
 -- the conversation counts as forced, and nothing else is otherwise
 abbrev force_flow : ℕ → ℕ → HalfState → HalfState
@@ -41,7 +45,8 @@ collected_kept None = refl
 collected_kept (Some x) = refl
 
 forced_world : (s : Side) (g k : ℕ) (j : WorldState) → IsSome (flow_at (half s j).flows g k)
-    → model_world (with_half s (force_flow g k (half s j)) j) ≡ record (model_world j) { forced = at_side (model_world j).forced s (at_two ((model_world j).forced s) g k true) }
+    → model_world (with_half s (force_flow g k (half s j)) j) ≡ record (model_world j)
+    { forced = at_side (model_world j).forced s (at_two ((model_world j).forced s) g k true) }
 forced_world One g k j there = same_world _ _ view (λ c. refl) (λ s c. refl) count taken sent collected forced
   where
     w : World
@@ -99,7 +104,8 @@ forced_world Two g k j there = same_world _ _ view (λ c. refl) (λ s c. refl) c
     forced One h i = refl
     forced Two h i = read_changed forced_in with_forced g k j.two.flows true (forced_there (flow_at j.two.flows g k) there) h i
 
-fixed_force : (s : Side) (g k : ℕ) (j : WorldState) (t : Side) → (world_setup (with_half s (force_flow g k (half s j)) j)).setup t ≡ (world_setup j).setup t
+fixed_force : (s : Side) (g k : ℕ) (j : WorldState) (t : Side)
+    → (world_setup (with_half s (force_flow g k (half s j)) j)).setup t ≡ (world_setup j).setup t
 fixed_force One g k j One = refl
 fixed_force One g k j Two = refl
 fixed_force Two g k j One = refl
@@ -114,7 +120,8 @@ twice One h i j = refl
 twice Two h i j = refl
 
 -- a refusal changes nothing
-refused_same : (agg : AggId) (conv : ℕ) (what : Result Assignment SystemFault) (fault : SystemFault) (old new : SystemState) → GivesOrRefuses agg conv what old (Err fault) new → new ≡ old
+refused_same : (agg : AggId) (conv : ℕ) (what : Result Assignment SystemFault) (fault : SystemFault) (old new : SystemState)
+    → GivesOrRefuses agg conv what old (Err fault) new → new ≡ old
 refused_same agg conv (Ok state) fault old new h = absurd (let e = h.0 in cc)
 refused_same agg conv (Err other) fault old new h = h.1
 
@@ -122,8 +129,11 @@ with_itself : (s : Side) (j : WorldState) → with_half s (half s j) j ≡ j
 with_itself One j = refl
 with_itself Two j = refl
 
-forced_by : (gives : ℕ → ℕ → ℕ → Type 0) (s : Side) (agg : AggId) (conv : ℕ) (a : Result Unit SystemFault) (mid : HalfState) (old : WorldState) → ((done : Unit) → a ≡ Ok done → IsSome (flow_at (half s old).flows agg.0 conv))
-    → HalfAnswers gives (Force agg conv) (answer.Force a) (half s old) mid → Happens (world_setup old) (Event.Force s agg.0 conv) (model_world old) (model_world (with_half s (forced_if_accepted a agg conv mid) old))
+forced_by : (gives : ℕ → ℕ → ℕ → Type 0) (s : Side) (agg : AggId) (conv : ℕ) (a : Result Unit SystemFault) (mid : HalfState)
+    (old : WorldState) → ((done : Unit) → a ≡ Ok done → IsSome (flow_at (half s old).flows agg.0 conv))
+    → HalfAnswers gives (Force agg conv) (answer.Force a) (half s old) mid
+    → Happens (world_setup old) (Event.Force s agg.0 conv) (model_world old)
+    (model_world (with_half s (forced_if_accepted a agg conv mid) old))
 forced_by gives s agg conv (Err fault) mid old there x =
     let state = refused_same agg conv (system_force_result (half s old).state agg conv) fault (half s old).state mid.state x.answers.step in
     let same : mid ≡ half s old = x.same ∙ ap (λ (st : SystemState). with_state st (half s old)) state in
@@ -137,22 +147,34 @@ forced_by gives s agg conv (Ok done) mid old there x =
     let moves = told_force agg conv (Ok done) (half s old).state mid.state x.answers.moves in
     let here : LawfulMoves ((world_setup j).setup s) told ((model_world j).view s) [] (model_view h.state) =
     subst (λ u. LawfulMoves u told ((model_world j).view s) [] (model_view h.state)) (sym (fixed_force s g conv old s))
-    (subst (λ (f : HalfState). LawfulMoves (model_setup (half s old).state) told (model_view f.state) [] (model_view h.state)) (sym (half_force s g conv old)) moves) in
-    let flows : h.flows ≡ (half s j).flows = ap (λ (f : HalfState). change_flow with_forced g conv f.flows) x.same ∙ sym (ap (λ (f : HalfState). f.flows) (half_force s g conv old)) in
-    let histories : h.histories ≡ (half s j).histories = ap (λ (f : HalfState). f.histories) x.same ∙ sym (ap (λ (f : HalfState). f.histories) (half_force s g conv old)) in
+    (subst (λ (f : HalfState). LawfulMoves (model_setup (half s old).state) told (model_view f.state) [] (model_view h.state))
+    (sym (half_force s g conv old)) moves) in
+    let flows : h.flows ≡ (half s j).flows = ap (λ (f : HalfState). change_flow with_forced g conv f.flows) x.same
+    ∙ sym (ap (λ (f : HalfState). f.flows) (half_force s g conv old)) in
+    let histories : h.histories ≡ (half s j).histories = ap (λ (f : HalfState). f.histories) x.same
+    ∙ sym (ap (λ (f : HalfState). f.histories) (half_force s g conv old)) in
     let call = one_call (world_setup j) s told 0 true None h j.links j (model_world j)
     (quietly (world_setup j) s h j flows (λ p. ap (λ l. taken_in (history_at l p)) histories))
     here
     (counts_kept s h j.links j told [] (λ e. cc) refl here (λ p. ap (λ l. change_count_in (history_at l p)) histories)) in
-    let fixed : world_setup j ≡ world_setup old = λ i. record { setup = λ t. fixed_force s g conv old t i; cables = (world_setup old).cables } in
+    let fixed : world_setup j ≡ world_setup old = λ i. record {
+      setup = λ t. fixed_force s g conv old t i;
+      cables =
+          (world_setup old).cables;
+    } in
     let world = forced_world s g conv old found in
-    inr (subst (λ k. CallHappens (world_setup old) s told 0 (model_world old) (record (model_world old) { forced = at_side (model_world old).forced s (at_two ((model_world old).forced s) g conv true) }) (model_world k)) (twice s h (force_flow g conv (half s old)) old)
+    inr (subst (λ k. CallHappens (world_setup old) s told 0 (model_world old)
+    (record (model_world old) { forced = at_side (model_world old).forced s (at_two ((model_world old).forced s) g conv true) })
+    (model_world k)) (twice s h (force_flow g conv (half s old)) old)
     (subst (λ w. CallHappens (world_setup old) s told 0 w w (model_world (after_call s h j.links j))) world
     (subst (λ x. CallHappens x s told 0 (model_world j) (model_world j) (model_world (after_call s h j.links j))) fixed call)))
 
 -- A conversation of which serials are kept is forced, or that is refused.
-pub force_happens : (gives : ℕ → ℕ → ℕ → Type 0) (s : Side) (agg : AggId) (conv : ℕ) (r : Reply) (old new : WorldState) → (x : InHalf s (λ h k. HalfForces gives agg conv h r k) old new)
-    → ((done : Unit) → x.0.0 ≡ Ok done → IsSome (flow_at (half s old).flows agg.0 conv)) → Happens (world_setup old) (Event.Force s agg.0 conv) (model_world old) (model_world new)
+pub force_happens : (gives : ℕ → ℕ → ℕ → Type 0) (s : Side) (agg : AggId) (conv : ℕ) (r : Reply) (old new : WorldState)
+    → (x : InHalf s (λ h k. HalfForces gives agg conv h r k) old new)
+    → ((done : Unit) → x.0.0 ≡ Ok done → IsSome (flow_at (half s old).flows agg.0 conv))
+    → Happens (world_setup old) (Event.Force s agg.0 conv) (model_world old) (model_world new)
 force_happens gives s agg conv r old new x there =
     let same : new ≡ with_half s (forced_if_accepted x.0.0 agg conv x.0.1) old = x.1 ∙ ap (λ h. with_half s h old) x.0.4 in
-    subst (λ j. Happens (world_setup old) (Event.Force s agg.0 conv) (model_world old) (model_world j)) (sym same) (forced_by gives s agg conv x.0.0 x.0.1 old there x.0.2)
+    subst (λ j. Happens (world_setup old) (Event.Force s agg.0 conv) (model_world old) (model_world j)) (sym same)
+    (forced_by gives s agg conv x.0.0 x.0.1 old there x.0.2)

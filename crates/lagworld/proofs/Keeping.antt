@@ -1,5 +1,6 @@
 -- Each event preserves the invariant of a world.
-use Rattle.std.proofs.Common.{◌≡◌, ◌≤◌, ℕ, ◌+◌, ◌++◌, Bool, true, false, Option, Some, None, IsSome, List, [], ◌∷◌, map, sym, refl, ◌∙◌, subst, Ok, Err, Result, arith}
+use Rattle.std.proofs.Common.{◌≡◌, ◌≤◌, ℕ, ◌+◌, ◌++◌, Bool, true, false, Option, Some, None, IsSome, List, [], ◌∷◌, map, sym, refl, ◌∙◌}
+use Rattle.std.proofs.Common.{subst, Ok, Err, Result, arith}
 use Rattle.std.specs.Prelude.{slice_get, nat_le}
 use Rattle.std.proofs.lemmas.Bool.Decides.{nat_tests}
 use Rattle.lagtypes.specs.declared.identifiers.AggId.{AggId}
@@ -21,14 +22,19 @@ use Rattle.lagsystem.specs.Readers.{number_of_conversation}
 use Rattle.lagscript.specs.declared.event.Event.{Event}
 use Rattle.lagscript.specs.declared.event.Event.TheVariants as event
 use Rattle.lagworld.specs.declared.reply.Reply.{Reply}
-use Rattle.lagworld.specs.State.{ItemValue, HalfState, LinkState, WorldState, half, with_half, with_links, port_at, towards, with_towards, emptied, cut, joined, flow_at, with_forced, with_sent, with_collected}
+use Rattle.lagworld.specs.State.{ItemValue, HalfState, LinkState, WorldState, half, with_half, with_links, port_at, towards}
+use Rattle.lagworld.specs.State.{with_towards, emptied, cut, joined, flow_at, with_forced, with_sent, with_collected}
 use Rattle.lagworld.specs.Messages.{payload_in, side_named, side_number}
 use Rattle.lagworld.specs.HalfCalls.{HalfAnswers, forced_if_accepted}
-use Rattle.lagworld.specs.Events.{Algorithms, first_event_cause, side_of, with_stamp_collected, DoesEvent, WorldSteps, cause, with_link_at, with_item_sent, stamp_for, transmitted_item, stamped_in, AfterTransmit, WorldReceives, AfterReceive, DeliversFrom, LosesFrom, RepeatsItem, RepeatsFrom, AfterOffer, offered_item, with_frame_counted, model_event, most_events}
+use Rattle.lagworld.specs.Events.{Algorithms, first_event_cause, side_of, with_stamp_collected, DoesEvent, WorldSteps, cause}
+use Rattle.lagworld.specs.Events.{with_link_at, with_item_sent, stamp_for, transmitted_item, stamped_in, AfterTransmit, WorldReceives}
+use Rattle.lagworld.specs.Events.{AfterReceive, DeliversFrom, LosesFrom, RepeatsItem, RepeatsFrom, AfterOffer, offered_item}
+use Rattle.lagworld.specs.Events.{with_frame_counted, model_event, most_events}
 use Rattle.lagworld.specs.Sound.{IsItem, AreItems, IsSound, IsReached}
 use Rattle.lagworld.specs.ModelWorld.{world_setup, model_world}
 use Rattle.lagworld.proofs.Sides.{half_there}
-use Rattle.lagworld.proofs.Soundness.{IsShaped, GoesOn, goes_on, Follows, follows_then, follows_same, follows_half, items_weaker, follows_set, follows_emptied, follows_put, asked_on, ticks_on, counted_on, heard_on, flow_on}
+use Rattle.lagworld.proofs.Soundness.{IsShaped, GoesOn, goes_on, Follows, follows_then, follows_same, follows_half, items_weaker}
+use Rattle.lagworld.proofs.Soundness.{follows_set, follows_emptied, follows_put, asked_on, ticks_on, counted_on, heard_on, flow_on}
 use Rattle.lagworld.proofs.Whole.{on_line, steps_happen}
 
 -- counts may rise by one
@@ -36,66 +42,84 @@ up_to_one : (a b : WorldState) → Follows 0 a b → Follows 1 a b
 up_to_one a b x = record { shaped = x.shaped; fixed = x.fixed; counts = λ s n m le h. x.counts s n m (omega arith) h }
 
 -- the half of a world that changed
-half_on : (s : Side) (h : HalfState) (j : WorldState) (k : HalfState) → IsShaped (with_half s h j) → GoesOn 0 h k → GoesOn 0 (half s (with_half s h j)) k
+half_on : (s : Side) (h : HalfState) (j : WorldState) (k : HalfState) → IsShaped (with_half s h j) → GoesOn 0 h k
+    → GoesOn 0 (half s (with_half s h j)) k
 half_on s h j k i g = subst (λ x. GoesOn 0 x k) (sym (half_there s h j)) g
 
 -- a call of a system, and no party can change
-asks : (gives : ℕ → ℕ → ℕ → Type 0) (s : Side) (call : Call) (a : _) (mid : HalfState) (j : WorldState) → IsShaped j → (call ≡ Restart → ⊥) → ((n : ℕ) (c : _) → call ≡ Configure n c → ⊥) → HalfAnswers gives call a (half s j) mid → Follows 0 j (with_half s mid j)
+asks : (gives : ℕ → ℕ → ℕ → Type 0) (s : Side) (call : Call) (a : _) (mid : HalfState) (j : WorldState) → IsShaped j → (call ≡ Restart → ⊥)
+    → ((n : ℕ) (c : _) → call ≡ Configure n c → ⊥) → HalfAnswers gives call a (half s j) mid → Follows 0 j (with_half s mid j)
 asks gives s call a mid j i r c x = follows_half 0 s mid j i (asked_on gives call a (half s j) mid (i.kept s) r c x)
 
 control_item : (s : Side) (octets : List ℕ) (v : Pdu) (n : ℕ) (j : WorldState) → IsItem s octets (stamp_for v n) j
 control_item s octets (pdu.Lacpdu v) n j = tt
 control_item s octets (pdu.Marker m) n j = tt
 
-emitted : (s : Side) (p : ℕ) (a : Result (Option (List ℕ)) SystemFault) (j new : WorldState) (r : Reply) → IsShaped j → AfterTransmit s p a j r new → Follows 0 j new
+emitted : (s : Side) (p : ℕ) (a : Result (Option (List ℕ)) SystemFault) (j new : WorldState) (r : Reply) → IsShaped j
+    → AfterTransmit s p a j r new → Follows 0 j new
 emitted s p (Err fault) j new r i x = follows_same j new i x.1
 emitted s p (Ok None) j new r i x = follows_same j new i x.1
-emitted s p (Ok (Some frame)) j new r i x = subst (Follows 0 j) (sym x.1) (follows_put s p (transmitted_item s p frame (half s j)) j i (control_item (peer s) frame (pdu_in (payload_in frame)) _ j))
+emitted s p (Ok (Some frame)) j new r i x = subst (Follows 0 j) (sym x.1)
+    (follows_put s p (transmitted_item s p frame (half s j)) j i (control_item (peer s) frame (pdu_in (payload_in frame)) _ j))
 
 collected_on : (st : Stamp) (j : WorldState) → IsShaped j → Follows 0 j (with_stamp_collected st j)
 collected_on (stamp.Control count) j i = follows_same j j i refl
-collected_on (stamp.Data system agg conv serial) j i = follows_half 0 (side_named system) _ j i (flow_on (with_collected serial) agg conv (half (side_named system) j) (i.kept (side_named system)))
+collected_on (stamp.Data system agg conv serial) j i = follows_half 0 (side_named system) _ j i
+    (flow_on (with_collected serial) agg conv (half (side_named system) j) (i.kept (side_named system)))
 
-arrived : (s : Side) (p : ℕ) (item : ItemValue) (a : Result Received SystemFault) (j new : WorldState) (r : Reply) → IsShaped j → AfterReceive s p item a j r new → Follows 0 j new
+arrived : (s : Side) (p : ℕ) (item : ItemValue) (a : Result Received SystemFault) (j new : WorldState) (r : Reply) → IsShaped j
+    → AfterReceive s p item a j r new → Follows 0 j new
 arrived s p item (Err fault) j new r i x = follows_same j new i x.1
 arrived s p item (Ok received.Disabled) j new r i x = follows_same j new i x.1
 arrived s p item (Ok received.Dropped) j new r i x = follows_same j new i x.1
 arrived s p item (Ok (received.Ignored fault)) j new r i x = follows_same j new i x.1
-arrived s p item (Ok received.TookLacpdu) j new r i x = subst (Follows 0 j) (sym x.1) (follows_half 0 s _ j i (heard_on p (stamped_in item) (half s j) (i.kept s)))
-arrived s p item (Ok (received.Respond frame)) j new r i x = subst (Follows 0 j) (sym x.1) (follows_put s p (record { octets = frame; stamp = stamp.Control 0 }) j i tt)
+arrived s p item (Ok received.TookLacpdu) j new r i x = subst (Follows 0 j) (sym x.1)
+    (follows_half 0 s _ j i (heard_on p (stamped_in item) (half s j) (i.kept s)))
+arrived s p item (Ok (received.Respond frame)) j new r i x = subst (Follows 0 j) (sym x.1)
+    (follows_put s p (record { octets = frame; stamp = stamp.Control 0 }) j i tt)
 arrived s p item (Ok (received.Released n)) j new r i x = follows_same j new i x.1
 arrived s p item (Ok (received.Up agg)) j new r i x = subst (Follows 0 j) (sym x.1) (collected_on item.stamp j i)
 
-arrives : (gives : Algorithms) (s : Side) (p : ℕ) (item : ItemValue) (j new : WorldState) (r : Reply) → IsShaped j → WorldReceives gives s p item j r new → Follows 0 j new
+arrives : (gives : Algorithms) (s : Side) (p : ℕ) (item : ItemValue) (j new : WorldState) (r : Reply) → IsShaped j
+    → WorldReceives gives s p item j r new → Follows 0 j new
 arrives gives s p item j new r i x =
     let mid = asks (gives s) s (Receive p item.octets) (answer.Receive x.0) x.1 j i (λ e. cc) (λ n c e. cc) x.2 in
     follows_then 0 j (with_half s x.1 j) new mid (arrived s p item x.0 (with_half s x.1 j) new r mid.shaped x.3)
 
 -- an item is taken off
-popped_items : (s : Side) (l : LinkState) (item : ItemValue) (rest : List ItemValue) (j : WorldState) → towards s l ≡ item ∷ rest → ((t : Side) → AreItems t (towards t l) j) → (t : Side) → AreItems t (towards t (with_towards s rest l)) j
+popped_items : (s : Side) (l : LinkState) (item : ItemValue) (rest : List ItemValue) (j : WorldState) → towards s l ≡ item ∷ rest
+    → ((t : Side) → AreItems t (towards t l) j) → (t : Side) → AreItems t (towards t (with_towards s rest l)) j
 popped_items One l item rest j e h One = (subst (λ xs. AreItems One xs j) e (h One)).1
 popped_items One l item rest j e h Two = h Two
 popped_items Two l item rest j e h One = h One
 popped_items Two l item rest j e h Two = (subst (λ xs. AreItems Two xs j) e (h Two)).1
 
-popped : (s : Side) (i : ℕ) (l : LinkState) (item : ItemValue) (rest : List ItemValue) (j : WorldState) → IsShaped j → slice_get j.links i ≡ Some l → towards s l ≡ item ∷ rest → Follows 0 j (with_link_at i (with_towards s rest l) j)
-popped s i l item rest j h there e = follows_set i l (with_towards s rest l) j h there refl (λ t. refl) (popped_items s l item rest j e (λ t. h.items t i l there))
+popped : (s : Side) (i : ℕ) (l : LinkState) (item : ItemValue) (rest : List ItemValue) (j : WorldState) → IsShaped j
+    → slice_get j.links i ≡ Some l → towards s l ≡ item ∷ rest → Follows 0 j (with_link_at i (with_towards s rest l) j)
+popped s i l item rest j h there e = follows_set i l (with_towards s rest l) j h there refl (λ t. refl)
+    (popped_items s l item rest j e (λ t. h.items t i l there))
 
-delivers : (gives : Algorithms) (s : Side) (i : ℕ) (l : LinkState) (xs : List ItemValue) (j new : WorldState) (r : Reply) → IsShaped j → slice_get j.links i ≡ Some l → towards s l ≡ xs → DeliversFrom gives s i l xs j r new → Follows 0 j new
+delivers : (gives : Algorithms) (s : Side) (i : ℕ) (l : LinkState) (xs : List ItemValue) (j new : WorldState) (r : Reply) → IsShaped j
+    → slice_get j.links i ≡ Some l → towards s l ≡ xs → DeliversFrom gives s i l xs j r new → Follows 0 j new
 delivers gives s i l [] j new r h there e x = follows_same j new h x.1
 delivers gives s i l (item ∷ rest) j new r h there e x =
     let off = popped s i l item rest j h there e in
-    follows_then 0 j (with_link_at i (with_towards s rest l) j) new off (arrives gives s (port_at s l) item (with_link_at i (with_towards s rest l) j) new r off.shaped x)
+    follows_then 0 j (with_link_at i (with_towards s rest l) j) new off
+    (arrives gives s (port_at s l) item (with_link_at i (with_towards s rest l) j) new r off.shaped x)
 
-loses : (s : Side) (i : ℕ) (l : LinkState) (xs : List ItemValue) (j new : WorldState) (r : Reply) → IsShaped j → slice_get j.links i ≡ Some l → towards s l ≡ xs → LosesFrom s i l xs j r new → Follows 0 j new
+loses : (s : Side) (i : ℕ) (l : LinkState) (xs : List ItemValue) (j new : WorldState) (r : Reply) → IsShaped j
+    → slice_get j.links i ≡ Some l → towards s l ≡ xs → LosesFrom s i l xs j r new → Follows 0 j new
 loses s i l [] j new r h there e x = follows_same j new h x.1
 loses s i l (item ∷ rest) j new r h there e x = subst (Follows 0 j) (sym x.1) (popped s i l item rest j h there e)
 
-repeats_item : (gives : Algorithms) (s : Side) (p : ℕ) (octets : List ℕ) (st : Stamp) (j new : WorldState) (r : Reply) → IsShaped j → RepeatsItem gives s p octets st j r new → Follows 0 j new
-repeats_item gives s p octets (stamp.Control count) j new r h x = arrives gives s p (record { octets = octets; stamp = stamp.Control count }) j new r h x
+repeats_item : (gives : Algorithms) (s : Side) (p : ℕ) (octets : List ℕ) (st : Stamp) (j new : WorldState) (r : Reply) → IsShaped j
+    → RepeatsItem gives s p octets st j r new → Follows 0 j new
+repeats_item gives s p octets (stamp.Control count) j new r h x =
+    arrives gives s p (record { octets = octets; stamp = stamp.Control count }) j new r h x
 repeats_item gives s p octets (stamp.Data system agg conv serial) j new r h x = follows_same j new h x.1
 
-repeats : (gives : Algorithms) (s : Side) (l : LinkState) (xs : List ItemValue) (j new : WorldState) (r : Reply) → IsShaped j → RepeatsFrom gives s l xs j r new → Follows 0 j new
+repeats : (gives : Algorithms) (s : Side) (l : LinkState) (xs : List ItemValue) (j new : WorldState) (r : Reply) → IsShaped j
+    → RepeatsFrom gives s l xs j r new → Follows 0 j new
 repeats gives s l [] j new r h x = follows_same j new h x.1
 repeats gives s l (item ∷ rest) j new r h x = repeats_item gives s (port_at s l) item.octets item.stamp j new r h x
 
@@ -108,23 +132,32 @@ named_number : (s : Side) → side_named (side_number s) ≡ s
 named_number One = refl
 named_number Two = refl
 
-plain : (gives : ℕ → ℕ → ℕ → Type 0) (s : Side) (agg : AggId) (octets : List ℕ) (port : ℕ) (mid : HalfState) (j : WorldState) → HalfAnswers gives (Offer agg octets) (answer.Offer (Ok port)) (half s j) mid → IsSlowProtocolsFrame octets → ⊥
+plain : (gives : ℕ → ℕ → ℕ → Type 0) (s : Side) (agg : AggId) (octets : List ℕ) (port : ℕ) (mid : HalfState) (j : WorldState)
+    → HalfAnswers gives (Offer agg octets) (answer.Offer (Ok port)) (half s j) mid → IsSlowProtocolsFrame octets → ⊥
 plain gives s agg octets port mid j x = x.answers.step.0.1.1
 
-offered_on : (gives : ℕ → ℕ → ℕ → Type 0) (s : Side) (agg : AggId) (octets : List ℕ) (a : Result ℕ SystemFault) (j mid new : WorldState) (r : Reply) → IsShaped mid → ((port : ℕ) → a ≡ Ok port → IsSlowProtocolsFrame octets → ⊥) → AfterOffer s agg octets a mid r new → Follows 0 mid new
+offered_on : (gives : ℕ → ℕ → ℕ → Type 0) (s : Side) (agg : AggId) (octets : List ℕ) (a : Result ℕ SystemFault) (j mid new : WorldState)
+    (r : Reply) → IsShaped mid → ((port : ℕ) → a ≡ Ok port → IsSlowProtocolsFrame octets → ⊥)
+    → AfterOffer s agg octets a mid r new → Follows 0 mid new
 offered_on gives s agg octets (Err fault) j mid new r i p x = follows_same mid new i x.1
 offered_on gives s agg octets (Ok port) j mid new r i p x =
     let k = number_of_conversation (half s mid).state octets in
     let sent = follows_half 0 s (with_frame_counted agg octets (half s mid)) mid i (flow_on with_sent agg.0 k (half s mid) (i.kept s)) in
     let after = with_half s (with_frame_counted agg octets (half s mid)) mid in
-    let there : IsSome (flow_at (half s after).flows agg.0 k) = subst (λ (h : HalfState). IsSome (flow_at h.flows agg.0 k)) (sym (half_there s (with_frame_counted agg octets (half s mid)) mid)) ((flow_on with_sent agg.0 k (half s mid) (i.kept s)).flows agg.0 k x.0) in
+    let there : IsSome (flow_at (half s after).flows agg.0 k) = subst (λ (h : HalfState). IsSome (flow_at h.flows agg.0 k))
+    (sym (half_there s (with_frame_counted agg octets (half s mid)) mid))
+    ((flow_on with_sent agg.0 k (half s mid) (i.kept s)).flows agg.0 k x.0) in
     subst (Follows 0 mid) (sym x.2)
     (follows_then 0 mid after (with_item_sent s port (offered_item s port agg octets (half s mid)) after) sent
-    (follows_put s port (offered_item s port agg octets (half s mid)) after sent.shaped
-    (named_number s ∙ sym (peer_twice s), subst (λ t. IsSome (flow_at (half t after).flows agg.0 k)) (sym (peer_twice s)) there, p port refl)))
+    (follows_put s port (offered_item s port agg octets (half s mid)) after sent.shaped (
+      named_number s ∙ sym (peer_twice s),
+      subst (λ t. IsSome (flow_at (half t after).flows agg.0 k)) (sym (peer_twice s)) there,
+      p port refl,
+    )))
 
 -- a conversation is forced
-forces : (s : Side) (agg : AggId) (conv : ℕ) (a : Result Unit SystemFault) (mid : HalfState) (j : WorldState) → IsShaped j → GoesOn 0 (half s j) mid → Follows 0 j (with_half s (forced_if_accepted a agg conv mid) j)
+forces : (s : Side) (agg : AggId) (conv : ℕ) (a : Result Unit SystemFault) (mid : HalfState) (j : WorldState) → IsShaped j
+    → GoesOn 0 (half s j) mid → Follows 0 j (with_half s (forced_if_accepted a agg conv mid) j)
 forces s agg conv (Ok done) mid j i g = follows_half 0 s _ j i (goes_on (half s j) mid _ g (flow_on with_forced agg.0 conv mid g.kept))
 forces s agg conv (Err fault) mid j i g = follows_half 0 s mid j i g
 
@@ -132,15 +165,19 @@ nothing_on : (s : Side) (l : LinkState) (j : WorldState) → AreItems s (towards
 nothing_on One l j = tt
 nothing_on Two l j = tt
 
-pub does_follow : (gives : Algorithms) (e : Event) (r : Reply) (old new : WorldState) → IsShaped old → DoesEvent gives old e r new → Follows 1 old new
+pub does_follow : (gives : Algorithms) (e : Event) (r : Reply) (old new : WorldState) → IsShaped old
+    → DoesEvent gives old e r new → Follows 1 old new
 does_follow gives (event.Tick n count) r old new i x =
     let v = value_of (side_of n) _ x in
-    subst (Follows 1 old) (sym v.2.0.1) (up_to_one old _ (follows_half 0 v.0 (half v.0 new) old i (ticks_on (gives v.0) count (half v.0 old) (half v.0 new) (i.kept v.0) v.2.0.0)))
+    subst (Follows 1 old) (sym v.2.0.1)
+    (up_to_one old _
+    (follows_half 0 v.0 (half v.0 new) old i (ticks_on (gives v.0) count (half v.0 old) (half v.0 new) (i.kept v.0) v.2.0.0)))
 does_follow gives (event.Emit n p) r old new i x =
     let v = value_of (side_of n) _ x in
     let s = v.0 in
     let mid = asks (gives s) s (Transmit p) (answer.Transmit v.2.0) v.2.1 old i (λ e. cc) (λ n c e. cc) v.2.2 in
-    up_to_one old new (follows_then 0 old (with_half s v.2.1 old) new mid (emitted s p v.2.0 (with_half s v.2.1 old) new r mid.shaped v.2.3))
+    up_to_one old new
+    (follows_then 0 old (with_half s v.2.1 old) new mid (emitted s p v.2.0 (with_half s v.2.1 old) new r mid.shaped v.2.3))
 does_follow gives (event.Deliver c n) r old new i x =
     let v = value_of (side_of n) _ x in
     let l = on_line c _ old.links v.2 in
@@ -155,15 +192,19 @@ does_follow gives (event.Repeat c n) r old new i x =
     up_to_one old new (repeats gives v.0 l.1 (towards v.0 l.1) old new r i l.4)
 does_follow gives (event.Cut c) r old new i x =
     let l = on_line c _ old.links x in
-    subst (Follows 1 old) (sym l.4.1) (up_to_one old _ (follows_set l.0 l.1 (cut l.1) old i l.3 refl (λ t. refl) (λ t. nothing_on t l.1 old)))
+    subst (Follows 1 old) (sym l.4.1)
+    (up_to_one old _ (follows_set l.0 l.1 (cut l.1) old i l.3 refl (λ t. refl) (λ t. nothing_on t l.1 old)))
 does_follow gives (event.Join c) r old new i x =
     let l = on_line c _ old.links x in
-    subst (Follows 1 old) (sym l.4.1) (up_to_one old _ (follows_set l.0 l.1 (joined l.1) old i l.3 refl (λ t. refl) (λ t. i.items t l.0 l.1 l.3)))
+    subst (Follows 1 old) (sym l.4.1)
+    (up_to_one old _ (follows_set l.0 l.1 (joined l.1) old i l.3 refl (λ t. refl) (λ t. i.items t l.0 l.1 l.3)))
 does_follow gives (event.Sense c n) r old new i x =
     let v = value_of (side_of n) _ x in
     let l = on_line c _ old.links v.2 in
     let s = v.0 in
-    subst (Follows 1 old) (sym l.4.1) (up_to_one old _ (asks (gives s) s (Set_link (port_at s l.1) l.1.whole) (answer.SetLink l.4.0.0) (half s new) old i (λ e. cc) (λ n c e. cc) l.4.0.1))
+    subst (Follows 1 old) (sym l.4.1)
+    (up_to_one old _ (asks (gives s) s (Set_link (port_at s l.1) l.1.whole) (answer.SetLink l.4.0.0) (half s new) old i
+    (λ e. cc) (λ n c e. cc) l.4.0.1))
 does_follow gives (event.Restart n) r old new i x =
     let v = value_of (side_of n) _ x in
     let s = v.0 in
@@ -171,27 +212,37 @@ does_follow gives (event.Restart n) r old new i x =
     let off = follows_emptied old i in
     let mid = v.2.1.0.0 in
     follows_then 1 old j new off
-    (subst (Follows 1 j) (sym v.2.1.1) (subst (λ h. Follows 1 j (with_half s h j)) (sym v.2.1.0.2) (follows_half 1 s _ j off.shaped (counted_on (gives s) Restart answer.Restart (half s j) mid (off.shaped.kept s) v.2.1.0.1))))
+    (subst (Follows 1 j) (sym v.2.1.1)
+    (subst (λ h. Follows 1 j (with_half s h j)) (sym v.2.1.0.2)
+    (follows_half 1 s _ j off.shaped (counted_on (gives s) Restart answer.Restart (half s j) mid (off.shaped.kept s) v.2.1.0.1))))
 does_follow gives (event.Configure n p change) r old new i x =
     let v = value_of (side_of n) _ x in
     let s = v.0 in
-    subst (Follows 1 old) (sym v.2.1) (subst (λ h. Follows 1 old (with_half s h old)) (sym v.2.0.4) (follows_half 1 s _ old i (counted_on (gives s) (Configure p change) (answer.Configure v.2.0.0) (half s old) v.2.0.1 (i.kept s) v.2.0.2)))
+    subst (Follows 1 old) (sym v.2.1)
+    (subst (λ h. Follows 1 old (with_half s h old)) (sym v.2.0.4)
+    (follows_half 1 s _ old i (counted_on (gives s) (Configure p change) (answer.Configure v.2.0.0)
+    (half s old) v.2.0.1 (i.kept s) v.2.0.2)))
 does_follow gives (event.Offer n agg octets) r old new i x =
     let v = value_of (side_of n) _ x in
     let s = v.0 in
     let mid = asks (gives s) s (Offer agg octets.items) (answer.Offer v.2.0) v.2.1 old i (λ e. cc) (λ n c e. cc) v.2.2 in
     up_to_one old new (follows_then 0 old (with_half s v.2.1 old) new mid
     (offered_on (gives s) s agg octets.items v.2.0 old (with_half s v.2.1 old) new r mid.shaped
-    (λ port e. plain (gives s) s agg octets.items port v.2.1 old (subst (λ a. HalfAnswers (gives s) (Offer agg octets.items) (answer.Offer a) (half s old) v.2.1) e v.2.2)) v.2.3))
+    (λ port e. plain (gives s) s agg octets.items port v.2.1 old
+    (subst (λ a. HalfAnswers (gives s) (Offer agg octets.items) (answer.Offer a) (half s old) v.2.1) e v.2.2)) v.2.3))
 does_follow gives (event.Move n agg conv p) r old new i x =
     let v = value_of (side_of n) _ x in
     let s = v.0 in
-    subst (Follows 1 old) (sym v.2.1) (up_to_one old _ (asks (gives s) s (Move_conversation agg conv p) (answer.MoveConversation v.2.0.0) (half s new) old i (λ e. cc) (λ n c e. cc) v.2.0.1))
+    subst (Follows 1 old) (sym v.2.1)
+    (up_to_one old _ (asks (gives s) s (Move_conversation agg conv p) (answer.MoveConversation v.2.0.0) (half s new) old i
+    (λ e. cc) (λ n c e. cc) v.2.0.1))
 does_follow gives (event.Force n agg conv) r old new i x =
     let v = value_of (side_of n) _ x in
     let s = v.0 in
     subst (Follows 1 old) (sym v.2.1) (subst (λ h. Follows 1 old (with_half s h old)) (sym v.2.0.4)
-    (up_to_one old _ (forces s agg conv v.2.0.0 v.2.0.1 old i (asked_on (gives s) (Force agg conv) (answer.Force v.2.0.0) (half s old) v.2.0.1 (i.kept s) (λ e. cc) (λ n c e. cc) v.2.0.2))))
+    (up_to_one old _
+    (forces s agg conv v.2.0.0 v.2.0.1 old i (asked_on (gives s) (Force agg conv) (answer.Force v.2.0.0) (half s old) v.2.0.1 (i.kept s)
+    (λ e. cc) (λ n c e. cc) v.2.0.2))))
 
 shaped_of : (j : WorldState) → IsSound j → IsShaped j
 shaped_of j i = record { kept = i.kept; items = i.items; ends = i.ends }
@@ -200,10 +251,14 @@ shaped_of j i = record { kept = i.kept; items = i.items; ends = i.ends }
 one_event : (x : WorldSetup) (e : ModelEvent) (v w : World) → Happens x e v w → Run x (e ∷ []) v w
 one_event x e v w h = (w, h, refl)
 
-reached_more : (e : ModelEvent) (old new : WorldState) → world_setup new ≡ world_setup old → Happens (world_setup old) e (model_world old) (model_world new) → IsReached old → IsReached new
+reached_more : (e : ModelEvent) (old new : WorldState) → world_setup new ≡ world_setup old
+    → Happens (world_setup old) e (model_world old) (model_world new) → IsReached old → IsReached new
 reached_more e old new f h r =
-    subst (λ x. (events : List ModelEvent) × Run x events (first_world x) (model_world new)) (sym f)
-    (r.0 ++ e ∷ [], runs_joined (world_setup old) r.0 (e ∷ []) (first_world (world_setup old)) (model_world old) (model_world new) r.1 (one_event (world_setup old) e (model_world old) (model_world new) h))
+    subst (λ x. (events : List ModelEvent) × Run x events (first_world x) (model_world new)) (sym f) (
+      r.0 ++ e ∷ [],
+      runs_joined (world_setup old) r.0 (e ∷ []) (first_world (world_setup old)) (model_world old) (model_world new) r.1
+          (one_event (world_setup old) e (model_world old) (model_world new) h),
+    )
 
 not_spent : (c s b : Bool) → first_event_cause c s b ≡ None → b ≡ false
 not_spent true true false h = refl
@@ -212,10 +267,12 @@ not_spent true false b h = absurd (let e = h in cc)
 not_spent false s b h = absurd (let e = h in cc)
 
 -- Every event that acts keeps a world sound, and what it has for good.
-pub steps_fixed : (gives : Algorithms) (e : Event) (r : Reply) (old new : WorldState) → IsSound old → WorldSteps gives old e r new → world_setup new ≡ world_setup old
+pub steps_fixed : (gives : Algorithms) (e : Event) (r : Reply) (old new : WorldState) → IsSound old → WorldSteps gives old e r new
+    → world_setup new ≡ world_setup old
 steps_fixed gives e r old new i x = (does_follow gives e r old (record new { acted = old.acted }) (shaped_of old i) x.0).fixed
 
-pub steps_sound : (gives : Algorithms) (e : Event) (r : Reply) (old new : WorldState) → IsSound old → cause old e ≡ None → WorldSteps gives old e r new → IsSound new
+pub steps_sound : (gives : Algorithms) (e : Event) (r : Reply) (old new : WorldState) → IsSound old → cause old e ≡ None
+    → WorldSteps gives old e r new → IsSound new
 steps_sound gives e r old new i c x =
     let f = does_follow gives e r old (record new { acted = old.acted }) (shaped_of old i) x.0 in
     let room : nat_le most_events old.acted ≡ false = not_spent _ _ _ c in

@@ -1,5 +1,6 @@
 -- The first item on a cable is lost.
-use Rattle.std.proofs.Common.{◌≡◌, ℕ, zero, suc, Bool, Option, Some, None, IsSomeAnd, List, [], ◌∷◌, drop, map, set, sym, refl, ap, ◌∙◌, subst}
+use Rattle.std.proofs.Common.{◌≡◌, ℕ, zero, suc, Bool, Option, Some, None, IsSomeAnd, List, [], ◌∷◌, drop, map, set, sym, refl, ap, ◌∙◌}
+use Rattle.std.proofs.Common.{subst}
 use Rattle.std.specs.Prelude.{is_some, slice_get}
 use Rattle.std.proofs.lemmas.Option.{same_Some}
 use Rattle.lagmodel.specs.World.{Side, One, Two}
@@ -25,9 +26,11 @@ set_same [] i x h = refl
 set_same (y ∷ xs) zero x h = ap (λ z. z ∷ xs) (sym (same_Some y x h))
 set_same (y ∷ xs) (suc i) x h = ap (λ zs. y ∷ zs) (set_same xs i x h)
 
-lost_from : (s : Side) (i : ℕ) (l : LinkState) (items : List ItemValue) (old : WorldState) (links : List LinkState) → slice_get old.links i ≡ Some l → towards s l ≡ items → links ≡ set old.links i (with_towards s (drop 1 items) l)
+lost_from : (s : Side) (i : ℕ) (l : LinkState) (items : List ItemValue) (old : WorldState) (links : List LinkState)
+    → slice_get old.links i ≡ Some l → towards s l ≡ items → links ≡ set old.links i (with_towards s (drop 1 items) l)
     → LosesFrom s i l items old (lost_reply (is_some (slice_get items 0))) (with_links old links)
-lost_from s i l [] old links here is n = (refl, ap (with_links old) (n ∙ ap (set old.links i) (nothing_towards s l is) ∙ set_same old.links i l here))
+lost_from s i l [] old links here is n =
+    (refl, ap (with_links old) (n ∙ ap (set old.links i) (nothing_towards s l is) ∙ set_same old.links i l here))
 lost_from s i l (item ∷ rest) old links here is n = (refl, ap (with_links old) n)
 
 -- the first item of the cable at a place is lost
@@ -36,7 +39,8 @@ pub lost_there : (s : Side) (i : ℕ) (r : Reply) (lost : Bool) (old : WorldStat
     → IsSomeAnd (slice_get old.links i) (λ l. LosesFrom s i l (towards s l) old r (with_links old links))
 lost_there s i r lost old links e h = at_it (slice_get old.links i) refl h
   where
-    at_it : (found : Option LinkState) → slice_get old.links i ≡ found → IsSomeAnd found (λ l. (links ≡ set old.links i (without_first s l)) × (lost ≡ is_some (slice_get (towards s l) 0)))
+    at_it : (found : Option LinkState) → slice_get old.links i ≡ found → IsSomeAnd found (λ l. (links ≡ set old.links i (without_first s l))
+        × (lost ≡ is_some (slice_get (towards s l) 0)))
         → IsSomeAnd found (λ l. LosesFrom s i l (towards s l) old r (with_links old links))
     at_it None here h = absurd h
     at_it (Some l) here h =

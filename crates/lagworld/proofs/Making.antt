@@ -1,5 +1,7 @@
 -- A world made from a configuration that is accepted is a start.
-use Rattle.std.proofs.Common.{◌≡◌, ◌≢◌, ◌≤◌, ◌<◌, ℕ, zero, suc, ◌==◌, eqb, ◌&&◌, ◌||◌, Bool, true, false, if◌then◌else◌, Option, Some, None, IsSome, List, [], ◌∷◌, length, map, take, replicate, get_or, sym, refl, ap, ◌∙◌, subst, inl, inr, ◌⊎◌, eqb-true, eq-eqb, arith}
+use Rattle.std.proofs.Common.{◌≡◌, ◌≢◌, ◌≤◌, ◌<◌, ℕ, zero, suc, ◌==◌, eqb, ◌&&◌, ◌||◌, Bool, true, false, if◌then◌else◌, Option, Some}
+use Rattle.std.proofs.Common.{None, IsSome, List, [], ◌∷◌, length, map, take, replicate, get_or, sym, refl, ap, ◌∙◌, subst, inl, inr}
+use Rattle.std.proofs.Common.{◌⊎◌, eqb-true, eq-eqb, arith}
 use Rattle.std.specs.Prelude.{not, option_map, slice_get}
 use Rattle.std.specs.List.{list_all}
 use Rattle.std.proofs.lemmas.Bool.{and_parts, cases_Bool, true≢false}
@@ -22,21 +24,27 @@ use Rattle.lagsystem.proofs.FirstView.{first_shows}
 use Rattle.lagsystem.proofs.Seen.{party_seen}
 use Rattle.lagscript.specs.declared.config.BadWorld.TheVariants.{SameSystem, CableEnd, System}
 use Rattle.lagscript.specs.declared.config.WorldConfig.{WorldConfig}
-use Rattle.lagscript.specs.Configs.{ConfigValue, bad_end, can_join, first_below, has_bad_end, has_port, or_first, config_value, world_refusal, refusal_of_all, refusal_of_two, same_system, shares_end, system_refusal}
+use Rattle.lagscript.specs.Configs.{ConfigValue, bad_end, can_join, first_below, has_bad_end, has_port, or_first, config_value}
+use Rattle.lagscript.specs.Configs.{world_refusal, refusal_of_all, refusal_of_two, same_system, shares_end, system_refusal}
 use Rattle.lagworld.specs.declared.histories.PortHistory.{PortHistory}
-use Rattle.lagworld.specs.State.{HalfState, WorldState, LinkState, FlowValue, half, port_at, towards, history_at, flow_at, flow_in_aggregator}
+use Rattle.lagworld.specs.State.{HalfState, WorldState, LinkState, FlowValue, half, port_at, towards, history_at, flow_at}
+use Rattle.lagworld.specs.State.{flow_in_aggregator}
 use Rattle.lagworld.specs.Messages.{item_value}
 use Rattle.lagworld.specs.HalfCalls.{party_of_port}
-use Rattle.lagworld.specs.Making.{IsFirstHalf, are_empty_lines, conversations_per_aggregator, first_flows, first_link, first_links, first_history, first_histories, first_aggregator_flows, has_empty_directions, empty_flow}
+use Rattle.lagworld.specs.Making.{IsFirstHalf, are_empty_lines, conversations_per_aggregator, first_flows, first_link, first_links}
+use Rattle.lagworld.specs.Making.{first_history, first_histories, first_aggregator_flows, has_empty_directions, empty_flow}
 use Rattle.lagworld.specs.Sound.{AreBelow, IsHalfSound, IsStart}
 use Rattle.lagworld.specs.ModelWorld.{link_ends}
 
 -- what is kept of a port is what its configuration says
-log_found : (system : SystemId) (ports : List PortConfig) (p : ℕ) → history_at (first_histories system ports) p ≡ option_map (first_history system) (find_number configured_number ports p)
+log_found : (system : SystemId) (ports : List PortConfig) (p : ℕ)
+    → history_at (first_histories system ports) p ≡ option_map (first_history system) (find_number configured_number ports p)
 log_found system [] p = refl
 log_found system (c ∷ cs) p = elim (cases_Bool (eqb p c.number)) [
-  | inl e ↦ cond_true (eqb p c.number) (Some (first_history system c)) _ e ∙ sym (ap (option_map (first_history system)) (cond_true (eqb p c.number) (Some c) (find_number configured_number cs p) e))
-  | inr e ↦ cond_false (eqb p c.number) (Some (first_history system c)) _ e ∙ log_found system cs p ∙ sym (ap (option_map (first_history system)) (cond_false (eqb p c.number) (Some c) (find_number configured_number cs p) e))
+  | inl e ↦ cond_true (eqb p c.number) (Some (first_history system c)) _ e
+      ∙ sym (ap (option_map (first_history system)) (cond_true (eqb p c.number) (Some c) (find_number configured_number cs p) e))
+  | inr e ↦ cond_false (eqb p c.number) (Some (first_history system c)) _ e ∙ log_found system cs p
+      ∙ sym (ap (option_map (first_history system)) (cond_false (eqb p c.number) (Some c) (find_number configured_number cs p) e))
 ]
 
 party_back : (o : Option Party) → option_map (λ (a : PortFacts). a.party) (option_map first_port o) ≡ o
@@ -44,15 +52,18 @@ party_back None = refl
 party_back (Some a) = refl
 
 -- the party of a port in the first state
-first_party : (s : SystemState) (p : ℕ) → model_view s ≡ first_view (model_setup s) → party_of_port s p ≡ option_map (configured_party s.system) (find_number configured_number s.ports p)
+first_party : (s : SystemState) (p : ℕ) → model_view s ≡ first_view (model_setup s)
+    → party_of_port s p ≡ option_map (configured_party s.system) (find_number configured_number s.ports p)
 first_party s p e = sym (party_seen s p) ∙ ap (λ v. party_at v p) e ∙ party_back ((model_setup s).party p)
 
 -- so each history has the party of its port, and each port has a history
-log_party : (system : SystemId) (o : Option PortConfig) (history : PortHistory) → option_map (first_history system) o ≡ Some history → option_map (configured_party system) o ≡ Some history.party
+log_party : (system : SystemId) (o : Option PortConfig) (history : PortHistory) → option_map (first_history system) o ≡ Some history
+    → option_map (configured_party system) o ≡ Some history.party
 log_party system None history e = absurd (none-some history e)
 log_party system (Some c) history e = ap (λ (l : PortHistory). Some l.party) (same_Some (first_history system c) history e)
 
-log_some : {X : Type 0} (f : PortConfig → X) (system : SystemId) (o : Option PortConfig) → IsSome (option_map f o) → IsSome (option_map (first_history system) o)
+log_some : {X : Type 0} (f : PortConfig → X) (system : SystemId) (o : Option PortConfig) → IsSome (option_map f o)
+    → IsSome (option_map (first_history system) o)
 log_some f system None h = absurd (let e = h in cc)
 log_some f system (Some c) h = refl
 
@@ -73,7 +84,8 @@ flow_empty n (suc g) k x e = by_row (slice_get (first_flows n) g) refl e
   where
     by_row : (o : Option (List FlowValue)) → slice_get (first_flows n) g ≡ o → flow_at (first_flows n) (suc g) k ≡ Some x → x ≡ empty_flow
     by_row None h e = absurd (none-some x (sym (ap (λ o. flow_in_aggregator o k) h) ∙ e))
-    by_row (Some row) h e = same_item conversations_per_aggregator k empty_flow x (sym (ap (λ r. slice_get r k) (same_item n g first_aggregator_flows row h)) ∙ sym (ap (λ o. flow_in_aggregator o k) h) ∙ e)
+    by_row (Some row) h e = same_item conversations_per_aggregator k empty_flow x
+        (sym (ap (λ r. slice_get r k) (same_item n g first_aggregator_flows row h)) ∙ sym (ap (λ o. flow_in_aggregator o k) h) ∙ e)
 
 enough : (s : SystemState) → conversations_of s ≤ conversations_per_aggregator
 unfolding conversations_per_aggregator
@@ -83,7 +95,8 @@ flow_there : (s : SystemState) (n g k : ℕ) → 0 < g → g ≤ n → k < conve
 flow_there s n zero k low high small = absurd (omega arith)
 flow_there s n (suc g) k low high small =
     let row : slice_get (first_flows n) g ≡ Some first_aggregator_flows = item_there n g first_aggregator_flows (omega arith) in
-    let x : slice_get first_aggregator_flows k ≡ Some empty_flow = item_there conversations_per_aggregator k empty_flow (omega (arith, enough s)) in
+    let x : slice_get first_aggregator_flows k ≡ Some empty_flow = item_there conversations_per_aggregator k empty_flow
+    (omega (arith, enough s)) in
     subst IsSome (sym (ap (λ o. flow_in_aggregator o k) row ∙ x)) refl
 
 -- what holds of a system that is made
@@ -96,9 +109,13 @@ flows_named config h f = f.flows ∙ ap (λ keys. first_flows (length keys)) (sy
 half_kept : (config : Config) (h : HalfState) → IsFirstHalf config h → PortsAgree h.state → IsHalfSound h
 half_kept config h f a = record {
   agrees = a;
-  parties = λ p l e. first_party h.state p shows ∙ log_party h.state.system (find_number configured_number h.state.ports p) l (sym (history p) ∙ e);
-  logged = λ p x. subst IsSome (sym (history p)) (log_some (configured_party h.state.system) h.state.system (find_number configured_number h.state.ports p) (subst IsSome (first_party h.state p shows) x));
-  flows = λ g k low high small. subst (λ f. IsSome (flow_at f g k)) (sym (flows_named config h f)) (flow_there h.state (length h.state.keys) g k low high small);
+  parties = λ p l e. first_party h.state p shows
+      ∙ log_party h.state.system (find_number configured_number h.state.ports p) l (sym (history p) ∙ e);
+  logged = λ p x. subst IsSome (sym (history p))
+      (log_some (configured_party h.state.system) h.state.system (find_number configured_number h.state.ports p)
+      (subst IsSome (first_party h.state p shows) x));
+  flows = λ g k low high small. subst (λ f. IsSome (flow_at f g k)) (sym (flows_named config h f))
+      (flow_there h.state (length h.state.keys) g k low high small);
 }
   where
     shows : model_view h.state ≡ first_view (model_setup h.state)
@@ -111,16 +128,19 @@ none_counted : (system : SystemId) (ports : List PortConfig) → AreBelow 0 (fir
 none_counted system [] = tt
 none_counted system (c ∷ cs) = (omega arith, none_counted system cs)
 
-log_first : (system : SystemId) (o : Option PortConfig) (history : PortHistory) → option_map (first_history system) o ≡ Some history → (history.count ≡ 0) × (history.taken ≡ None)
+log_first : (system : SystemId) (o : Option PortConfig) (history : PortHistory) → option_map (first_history system) o ≡ Some history
+    → (history.count ≡ 0) × (history.taken ≡ None)
 log_first system None history e = absurd (none-some history e)
-log_first system (Some c) history e = let same = same_Some (first_history system c) history e in (sym (ap (λ (l : PortHistory). l.count) same), sym (ap (λ (l : PortHistory). l.taken) same))
+log_first system (Some c) history e = let same = same_Some (first_history system c) history e in
+    (sym (ap (λ (l : PortHistory). l.count) same), sym (ap (λ (l : PortHistory). l.taken) same))
 
 -- a port of the configuration has a history
 port_found : (ports : List PortConfig) (p : ℕ) → has_port ports p ≡ true → IsSome (find_number configured_number ports p)
 port_found [] p h = absurd (true≢false (sym h))
 port_found (c ∷ cs) p h = elim (cases_Bool (eqb p c.number)) [
   | inl e ↦ subst IsSome (sym (cond_true (eqb p c.number) (Some c) (find_number configured_number cs p) e)) refl
-  | inr e ↦ subst IsSome (sym (cond_false (eqb p c.number) (Some c) (find_number configured_number cs p) e)) (port_found cs p (or_second (eqb c.number p) (has_port cs p) (other e) h))
+  | inr e ↦ subst IsSome (sym (cond_false (eqb p c.number) (Some c) (find_number configured_number cs p) e))
+      (port_found cs p (or_second (eqb c.number p) (has_port cs p) (other e) h))
 ]
   where
     or_second : (a b : Bool) → a ≡ false → (a || b) ≡ true → b ≡ true
@@ -139,7 +159,9 @@ module _ {C : Type 0} (items : C → List Item) (limit : C → Option ℕ) where
   emptied_line [] h = refl
   emptied_line (x ∷ xs) h = let none : length (x ∷ xs) ≡ 0 = eqb-true (length (x ∷ xs)) 0 h in absurd (omega (arith, none))
 
-  pub line_empty : (cables : List (ℕ × ℕ)) (lines : List (C × C)) (i : ℕ) (l : LinkState) → list_all (has_empty_directions items) lines ≡ true → slice_get (first_links items limit cables lines) i ≡ Some l → (s : Side) → (towards s l ≡ []) × (l.whole ≡ true)
+  pub line_empty : (cables : List (ℕ × ℕ)) (lines : List (C × C)) (i : ℕ) (l : LinkState)
+      → list_all (has_empty_directions items) lines ≡ true → slice_get (first_links items limit cables lines) i ≡ Some l → (s : Side)
+      → (towards s l ≡ []) × (l.whole ≡ true)
   line_empty [] lines i l h e s = absurd (none-some l e)
   line_empty (c ∷ cs) [] i l h e s = absurd (none-some l e)
   line_empty (c ∷ cs) (x ∷ xs) zero l h e s =
@@ -147,13 +169,16 @@ module _ {C : Type 0} (items : C → List Item) (limit : C → Option ℕ) where
       let both = and_parts (length (items x.0) == 0) (length (items x.1) == 0) here.0 in
       subst (λ (l : LinkState). (towards s l ≡ []) × (l.whole ≡ true)) (same_Some (first_link items limit c x) l e) (on_side s both)
     where
-      on_side : (s : Side) → ((length (items x.0) == 0) ≡ true) × ((length (items x.1) == 0) ≡ true) → (towards s (first_link items limit c x) ≡ []) × ((first_link items limit c x).whole ≡ true)
+      on_side : (s : Side) → ((length (items x.0) == 0) ≡ true) × ((length (items x.1) == 0) ≡ true)
+          → (towards s (first_link items limit c x) ≡ []) × ((first_link items limit c x).whole ≡ true)
       on_side One b = (emptied_line (items x.0) b.0, refl)
       on_side Two b = (emptied_line (items x.1) b.1, refl)
-  line_empty (c ∷ cs) (x ∷ xs) (suc i) l h e s = line_empty cs xs i l (and_parts (has_empty_directions items x) (list_all (has_empty_directions items) xs) h).1 e s
+  line_empty (c ∷ cs) (x ∷ xs) (suc i) l h e s = line_empty cs xs i l
+      (and_parts (has_empty_directions items x) (list_all (has_empty_directions items) xs) h).1 e s
 
   -- each joins the ports that the configuration names
-  ends_made : (cables : List (ℕ × ℕ)) (lines : List (C × C)) (i : ℕ) (l : LinkState) → slice_get (first_links items limit cables lines) i ≡ Some l → slice_get cables i ≡ Some (l.one, l.two)
+  ends_made : (cables : List (ℕ × ℕ)) (lines : List (C × C)) (i : ℕ) (l : LinkState)
+      → slice_get (first_links items limit cables lines) i ≡ Some l → slice_get cables i ≡ Some (l.one, l.two)
   ends_made [] lines i l e = absurd (none-some l e)
   ends_made (c ∷ cs) [] i l e = absurd (none-some l e)
   ends_made (c ∷ cs) (x ∷ xs) zero l e = ap (λ (l : LinkState). Some (l.one, l.two)) (same_Some (first_link items limit c x) l e)
@@ -197,33 +222,43 @@ first_none (Some x) p h = absurd (none-some x (sym h))
 are_joined : (first second : List PortConfig) (cables : List (ℕ × ℕ)) → bad_end first second cables ≡ None → AreJoined first second cables
 are_joined first second cables h i l =
     is_false (can_join first second (take i cables) (get_or cables i (0, 0)))
-    (none_below (has_bad_end first second cables) (length cables) i (mapped_none suc (first_below (has_bad_end first second cables) (length cables)) h) l)
+    (none_below (has_bad_end first second cables) (length cables) i
+    (mapped_none suc (first_below (has_bad_end first second cables) (length cables)) h) l)
 
-two_joined : (a b : ConfigValue) (cables : List (ℕ × ℕ)) → refusal_of_two a b cables ≡ None → (refusal a.aggregators a.ports ≡ None) × (refusal b.aggregators b.ports ≡ None) × AreJoined a.ports b.ports cables
+two_joined : (a b : ConfigValue) (cables : List (ℕ × ℕ)) → refusal_of_two a b cables ≡ None → (refusal a.aggregators a.ports ≡ None)
+    × (refusal b.aggregators b.ports ≡ None) × AreJoined a.ports b.ports cables
 two_joined a b cables h =
     let one = first_none (system_refusal 1 a) _ h in
     let two = first_none (system_refusal 2 b) _ one.1 in
-    let same = first_none (if same_system a.system b.system then Some SameSystem else None) _ two.1 in
-    (mapped_none (System 1) (refusal a.aggregators a.ports) one.0, mapped_none (System 2) (refusal b.aggregators b.ports) two.0, are_joined a.ports b.ports cables (mapped_none CableEnd (bad_end a.ports b.ports cables) same.1))
+    let same = first_none (if same_system a.system b.system then Some SameSystem else None) _ two.1 in (
+      mapped_none (System 1) (refusal a.aggregators a.ports) one.0,
+      mapped_none (System 2) (refusal b.aggregators b.ports) two.0,
+      are_joined a.ports b.ports cables (mapped_none CableEnd (bad_end a.ports b.ports cables) same.1),
+    )
 
 -- a cable that there is can be joined
-joined_at : (first second : List PortConfig) (cables : List (ℕ × ℕ)) (i : ℕ) (c : ℕ × ℕ) → AreJoined first second cables → slice_get cables i ≡ Some c → can_join first second (take i cables) c ≡ true
-joined_at first second cables i c h e = subst (λ c. can_join first second (take i cables) c ≡ true) (get_or_from_slice_get cables i c (0, 0) e) (h i (slice_get_within cables i c e))
+joined_at : (first second : List PortConfig) (cables : List (ℕ × ℕ)) (i : ℕ) (c : ℕ × ℕ) → AreJoined first second cables
+    → slice_get cables i ≡ Some c → can_join first second (take i cables) c ≡ true
+joined_at first second cables i c h e = subst (λ c. can_join first second (take i cables) c ≡ true)
+    (get_or_from_slice_get cables i c (0, 0) e) (h i (slice_get_within cables i c e))
 
 is_not : (b : Bool) → not b ≡ true → b ≡ false
 is_not true h = absurd (true≢false (sym h))
 is_not false h = refl
 
 -- no earlier cable has one of its ends
-not_shared : (cables : List (ℕ × ℕ)) (i k : ℕ) (c d : ℕ × ℕ) → shares_end (take k cables) d ≡ false → i < k → slice_get cables i ≡ Some c → ((c.0 == d.0) || (c.1 == d.1)) ≡ false
+not_shared : (cables : List (ℕ × ℕ)) (i k : ℕ) (c d : ℕ × ℕ) → shares_end (take k cables) d ≡ false → i < k → slice_get cables i ≡ Some c
+    → ((c.0 == d.0) || (c.1 == d.1)) ≡ false
 not_shared [] i k c d h l e = absurd (none-some c e)
 not_shared (x ∷ xs) i zero c d h l e = absurd (omega arith)
-not_shared (x ∷ xs) zero (suc k) c d h l e = subst (λ (c : ℕ × ℕ). ((c.0 == d.0) || (c.1 == d.1)) ≡ false) (same_Some x c e) (front ((x.0 == d.0) || (x.1 == d.1)) (shares_end (take k xs) d) h)
+not_shared (x ∷ xs) zero (suc k) c d h l e = subst (λ (c : ℕ × ℕ). ((c.0 == d.0) || (c.1 == d.1)) ≡ false) (same_Some x c e)
+    (front ((x.0 == d.0) || (x.1 == d.1)) (shares_end (take k xs) d) h)
   where
     front : (a b : Bool) → (a || b) ≡ false → a ≡ false
     front true b h = absurd (true≢false h)
     front false b h = refl
-not_shared (x ∷ xs) (suc i) (suc k) c d h l e = not_shared xs i k c d (back ((x.0 == d.0) || (x.1 == d.1)) (shares_end (take k xs) d) h) (omega arith) e
+not_shared (x ∷ xs) (suc i) (suc k) c d h l e = not_shared xs i k c d (back ((x.0 == d.0) || (x.1 == d.1)) (shares_end (take k xs) d) h)
+    (omega arith) e
   where
     back : (a b : Bool) → (a || b) ≡ false → b ≡ false
     back true b h = absurd (true≢false h)
@@ -256,38 +291,54 @@ neither : (i k : ℕ) → i ≢ k → (i < k → ⊥) → (k < i → ⊥) → �
 neither i k ne a b = elim (below_or i k ne) [ inl l ↦ a l | inr l ↦ b l ]
 
 -- so no port has two cables
-one_cable : (first second : List PortConfig) (cables : List (ℕ × ℕ)) (s : Side) (i k : ℕ) (c d : ℕ × ℕ) → AreJoined first second cables → slice_get cables i ≡ Some c → slice_get cables k ≡ Some d → end_of_pair s c ≡ end_of_pair s d → i < k → ⊥
+one_cable : (first second : List PortConfig) (cables : List (ℕ × ℕ)) (s : Side) (i k : ℕ) (c d : ℕ × ℕ) → AreJoined first second cables
+    → slice_get cables i ≡ Some c → slice_get cables k ≡ Some d → end_of_pair s c ≡ end_of_pair s d → i < k → ⊥
 one_cable first second cables s i k c d h e f same l =
-    let join = and_parts (has_port first d.0 && has_port second d.1) (not (shares_end (take k cables) d)) (joined_at first second cables k d h f) in
+    let join = and_parts (has_port first d.0 && has_port second d.1) (not (shares_end (take k cables) d))
+    (joined_at first second cables k d h f) in
     apart s c d (not_shared cables i k c d (is_not (shares_end (take k cables) d) join.1) l e) same
 
 -- the ports of a cable are ports
-ports_there : (first second : List PortConfig) (cables : List (ℕ × ℕ)) (i : ℕ) (c : ℕ × ℕ) → AreJoined first second cables → slice_get cables i ≡ Some c → (has_port first c.0 ≡ true) × (has_port second c.1 ≡ true)
-ports_there first second cables i c h e = and_parts (has_port first c.0) (has_port second c.1) (and_parts (has_port first c.0 && has_port second c.1) (not (shares_end (take i cables) c)) (joined_at first second cables i c h e)).0
+ports_there : (first second : List PortConfig) (cables : List (ℕ × ℕ)) (i : ℕ) (c : ℕ × ℕ) → AreJoined first second cables
+    → slice_get cables i ≡ Some c → (has_port first c.0 ≡ true) × (has_port second c.1 ≡ true)
+ports_there first second cables i c h e = and_parts (has_port first c.0) (has_port second c.1)
+    (and_parts (has_port first c.0 && has_port second c.1) (not (shares_end (take i cables) c)) (joined_at first second cables i c h e)).0
 
 module _ {C : Type 0} (items : C → List Item) (limit : C → Option ℕ) where
   -- the end of a cable that was made
-  end_made : (cables : List (ℕ × ℕ)) (lines : List (C × C)) (s : Side) (n p : ℕ) → end_at (map link_ends (first_links items limit cables lines)) s n ≡ Some p → (i : ℕ) × (c : ℕ × ℕ) × (n ≡ suc i) × (slice_get cables i ≡ Some c) × (end_of_pair s c ≡ p)
+  end_made : (cables : List (ℕ × ℕ)) (lines : List (C × C)) (s : Side) (n p : ℕ)
+      → end_at (map link_ends (first_links items limit cables lines)) s n ≡ Some p → (i : ℕ) × (c : ℕ × ℕ) × (n ≡ suc i)
+      × (slice_get cables i ≡ Some c) × (end_of_pair s c ≡ p)
   end_made cables lines s zero p e = absurd (none-some p e)
   end_made cables lines s (suc i) p e = by_line (slice_get ls i) refl (sym (ap (option_map (port_on s)) (slice_get-map link_ends ls i)) ∙ e)
     where
       ls : List LinkState
       ls = first_links items limit cables lines
 
-      by_line : (o : Option LinkState) → slice_get ls i ≡ o → option_map (port_on s) (option_map link_ends o) ≡ Some p → (k : ℕ) × (c : ℕ × ℕ) × (suc i ≡ suc k) × (slice_get cables k ≡ Some c) × (end_of_pair s c ≡ p)
+      by_line : (o : Option LinkState) → slice_get ls i ≡ o → option_map (port_on s) (option_map link_ends o) ≡ Some p → (k : ℕ)
+          × (c : ℕ × ℕ) × (suc i ≡ suc k) × (slice_get cables k ≡ Some c) × (end_of_pair s c ≡ p)
       by_line None h e = absurd (none-some p e)
-      by_line (Some l) h e = (i, (l.one, l.two), refl, ends_made items limit cables lines i l h, on_side s ∙ same_Some (port_on s (link_ends l)) p e)
+      by_line (Some l) h e = (
+        i,
+        (l.one, l.two),
+        refl,
+        ends_made items limit cables lines i l h,
+        on_side s
+            ∙ same_Some (port_on s (link_ends l)) p e,
+      )
         where
           on_side : (s : Side) → end_of_pair s (l.one, l.two) ≡ port_on s (link_ends l)
           on_side One = refl
           on_side Two = refl
 
-  cabled : (first second : List PortConfig) (cables : List (ℕ × ℕ)) (lines : List (C × C)) → AreJoined first second cables → IsCabling (map link_ends (first_links items limit cables lines))
+  cabled : (first second : List PortConfig) (cables : List (ℕ × ℕ)) (lines : List (C × C)) → AreJoined first second cables
+      → IsCabling (map link_ends (first_links items limit cables lines))
   cabled first second cables lines h s m n p e f =
       let x = end_made cables lines s m p e in
       let y = end_made cables lines s n p f in
       let same : end_of_pair s x.1 ≡ end_of_pair s y.1 = x.4 ∙ sym y.4 in
-      x.2 ∙ ap suc (equal x.0 y.0 (one_cable first second cables s x.0 y.0 x.1 y.1 h x.3 y.3 same) (one_cable first second cables s y.0 x.0 y.1 x.1 h y.3 x.3 (sym same))) ∙ sym y.2
+      x.2 ∙ ap suc (equal x.0 y.0 (one_cable first second cables s x.0 y.0 x.1 y.1 h x.3 y.3 same)
+      (one_cable first second cables s y.0 x.0 y.1 x.1 h y.3 x.3 (sym same))) ∙ sym y.2
     where
       equal : (i k : ℕ) → (i < k → ⊥) → (k < i → ⊥) → i ≡ k
       equal i k a b = elim (cases_Bool (eqb i k)) [
@@ -296,22 +347,27 @@ module _ {C : Type 0} (items : C → List Item) (limit : C → Option ℕ) where
       ]
 
   -- each end of a cable that was made has a history
-  end_logged : (config : Config) (h : HalfState) (p : ℕ) → IsFirstHalf config h → has_port config.ports.items p ≡ true → IsSome (history_at h.histories p)
+  end_logged : (config : Config) (h : HalfState) (p : ℕ) → IsFirstHalf config h → has_port config.ports.items p ≡ true
+      → IsSome (history_at h.histories p)
   end_logged config h p f x =
-      subst IsSome (sym (ap (λ l. history_at l p) f.histories ∙ log_found config.system config.ports.items p)) (logged (find_number configured_number config.ports.items p) (port_found config.ports.items p x))
+      subst IsSome (sym (ap (λ l. history_at l p) f.histories ∙ log_found config.system config.ports.items p))
+      (logged (find_number configured_number config.ports.items p) (port_found config.ports.items p x))
     where
       logged : (o : Option PortConfig) → IsSome o → IsSome (option_map (first_history config.system) o)
       logged None e = absurd (let h = e in cc)
       logged (Some c) e = refl
 
-  pub is_start : (a b : Config) (cables : List (ℕ × ℕ)) (lines : List (C × C)) (j : WorldState) → IsFirstHalf a j.one → IsFirstHalf b j.two → PortsAgree j.one.state → PortsAgree j.two.state
-      → refusal_of_two (config_value a) (config_value b) cables ≡ None → list_all (has_empty_directions items) lines ≡ true → j.links ≡ first_links items limit cables lines → j.acted ≡ 0 → IsStart j
+  pub is_start : (a b : Config) (cables : List (ℕ × ℕ)) (lines : List (C × C)) (j : WorldState) → IsFirstHalf a j.one → IsFirstHalf b j.two
+      → PortsAgree j.one.state → PortsAgree j.two.state
+      → refusal_of_two (config_value a) (config_value b) cables ≡ None → list_all (has_empty_directions items) lines ≡ true
+      → j.links ≡ first_links items limit cables lines → j.acted ≡ 0 → IsStart j
   is_start a b cables lines j f g agrees_one agrees_two accepted empty made acted = record {
     kept = kept;
     shows = shows;
     cabling = subst (λ ls. IsCabling (map link_ends ls)) (sym made) (cabled a.ports.items b.ports.items cables lines joined);
     empty = λ s i l e. line_empty items limit cables lines i l empty (sym (ap (λ ls. slice_get ls i) made) ∙ e) s;
-    ends = λ s i l e. end_there s l (ports_there a.ports.items b.ports.items cables i (l.one, l.two) joined (ends_made items limit cables lines i l (sym (ap (λ ls. slice_get ls i) made) ∙ e)));
+    ends = λ s i l e. end_there s l (ports_there a.ports.items b.ports.items cables i (l.one, l.two) joined
+        (ends_made items limit cables lines i l (sym (ap (λ ls. slice_get ls i) made) ∙ e)));
     counts = counts;
     histories = histories;
     flows = flows;
@@ -329,7 +385,8 @@ module _ {C : Type 0} (items : C → List Item) (limit : C → Option ℕ) where
       shows One = first_shows j.one.state f.first
       shows Two = first_shows j.two.state g.first
 
-      end_there : (s : Side) (l : LinkState) → (has_port a.ports.items l.one ≡ true) × (has_port b.ports.items l.two ≡ true) → IsSome (history_at (half s j).histories (port_at s l))
+      end_there : (s : Side) (l : LinkState) → (has_port a.ports.items l.one ≡ true) × (has_port b.ports.items l.two ≡ true)
+          → IsSome (history_at (half s j).histories (port_at s l))
       end_there One l x = end_logged a j.one l.one f x.0
       end_there Two l x = end_logged b j.two l.two g x.1
 
@@ -337,32 +394,43 @@ module _ {C : Type 0} (items : C → List Item) (limit : C → Option ℕ) where
       counts One = subst (AreBelow 0) (sym f.histories) (none_counted a.system a.ports.items)
       counts Two = subst (AreBelow 0) (sym g.histories) (none_counted b.system b.ports.items)
 
-      histories : (s : Side) (p : ℕ) (history : PortHistory) → history_at (half s j).histories p ≡ Some history → (history.count ≡ 0) × (history.taken ≡ None)
-      histories One p history e = log_first a.system (find_number configured_number a.ports.items p) history (sym (ap (λ l. history_at l p) f.histories ∙ log_found a.system a.ports.items p) ∙ e)
-      histories Two p history e = log_first b.system (find_number configured_number b.ports.items p) history (sym (ap (λ l. history_at l p) g.histories ∙ log_found b.system b.ports.items p) ∙ e)
+      histories : (s : Side) (p : ℕ) (history : PortHistory) → history_at (half s j).histories p ≡ Some history → (history.count ≡ 0)
+          × (history.taken ≡ None)
+      histories One p history e = log_first a.system (find_number configured_number a.ports.items p) history
+          (sym (ap (λ l. history_at l p) f.histories ∙ log_found a.system a.ports.items p) ∙ e)
+      histories Two p history e = log_first b.system (find_number configured_number b.ports.items p) history
+          (sym (ap (λ l. history_at l p) g.histories ∙ log_found b.system b.ports.items p) ∙ e)
 
       nothing : (x : FlowValue) → x ≡ empty_flow → (x.sent ≡ []) × (x.collected ≡ []) × (x.forced ≡ false)
       nothing x e = (ap (λ (x : FlowValue). x.sent) e, ap (λ (x : FlowValue). x.collected) e, ap (λ (x : FlowValue). x.forced) e)
 
-      flows : (s : Side) (n k : ℕ) (x : FlowValue) → flow_at (half s j).flows n k ≡ Some x → (x.sent ≡ []) × (x.collected ≡ []) × (x.forced ≡ false)
+      flows : (s : Side) (n k : ℕ) (x : FlowValue) → flow_at (half s j).flows n k ≡ Some x → (x.sent ≡ [])
+          × (x.collected ≡ []) × (x.forced ≡ false)
       flows One n k x e = nothing x (flow_empty (length a.aggregators.items) n k x (sym (ap (λ l. flow_at l n k) f.flows) ∙ e))
       flows Two n k x e = nothing x (flow_empty (length b.aggregators.items) n k x (sym (ap (λ l. flow_at l n k) g.flows) ∙ e))
 
 -- what was tested of two lists in other places holds of them
-pub same_test : {X Y : Type 0} (f : X → Y → Bool) (x there : X) (y here : Y) (r : Bool) → there ≡ x → here ≡ y → r ≡ f there here → r ≡ true → f x y ≡ true
+pub same_test : {X Y : Type 0} (f : X → Y → Bool) (x there : X) (y here : Y) (r : Bool) → there ≡ x → here ≡ y → r ≡ f there here
+    → r ≡ true → f x y ≡ true
 same_test f x there y here r e g h t = (λ i. f (sym e i) (sym g i)) ∙ sym h ∙ t
 
 -- the configuration of system 2 is not refused if both are not
-pub second_accepted : (config : WorldConfig) (a b : Config) → config.systems ≡ a ∷ b ∷ [] → world_refusal config ≡ None → refusal_of_one b ≡ None
-second_accepted config a b e h = (two_joined (config_value a) (config_value b) config.cables.items (sym (ap (λ systems. refusal_of_all (map config_value systems) config.cables.items) e) ∙ h)).1
+pub second_accepted : (config : WorldConfig) (a b : Config) → config.systems ≡ a ∷ b ∷ [] → world_refusal config ≡ None
+    → refusal_of_one b ≡ None
+second_accepted config a b e h =
+    (two_joined (config_value a) (config_value b) config.cables.items
+    (sym (ap (λ systems. refusal_of_all (map config_value systems) config.cables.items) e) ∙ h)).1
 
 -- what code knows of a world that it made
 module _ {C : Type 0} (items : C → List Item) (limit : C → Option ℕ) where
-  two_accepted : (config : WorldConfig) (a b : Config) → config.systems ≡ a ∷ b ∷ [] → world_refusal config ≡ None → refusal_of_two (config_value a) (config_value b) config.cables.items ≡ None
+  two_accepted : (config : WorldConfig) (a b : Config) → config.systems ≡ a ∷ b ∷ [] → world_refusal config ≡ None
+      → refusal_of_two (config_value a) (config_value b) config.cables.items ≡ None
   two_accepted config a b e h = sym (ap (λ systems. refusal_of_all (map config_value systems) config.cables.items) e) ∙ h
 
-  pub made_start : (config : WorldConfig) (a b : Config) (lines : List (C × C)) (j : WorldState) → config.systems ≡ a ∷ b ∷ [] → world_refusal config ≡ None → are_empty_lines items config.cables.items lines ≡ true
-      → IsFirstHalf a j.one → IsFirstHalf b j.two → PortsAgree j.one.state → PortsAgree j.two.state → j.links ≡ first_links items limit config.cables.items lines → j.acted ≡ 0 → IsStart j
+  pub made_start : (config : WorldConfig) (a b : Config) (lines : List (C × C)) (j : WorldState) → config.systems ≡ a ∷ b ∷ []
+      → world_refusal config ≡ None → are_empty_lines items config.cables.items lines ≡ true
+      → IsFirstHalf a j.one → IsFirstHalf b j.two → PortsAgree j.one.state → PortsAgree j.two.state
+      → j.links ≡ first_links items limit config.cables.items lines → j.acted ≡ 0 → IsStart j
   made_start config a b lines j e h fit f g agrees_one agrees_two made acted =
       is_start items limit a b config.cables.items lines j f g agrees_one agrees_two (two_accepted config a b e h)
       (and_parts (length lines == length config.cables.items) (list_all (has_empty_directions items) lines) fit).1 made acted

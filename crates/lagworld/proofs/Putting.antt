@@ -1,12 +1,15 @@
 -- What is put on a cable, in code and as contracts see it.
-use Rattle.std.proofs.Common.{◌≡◌, ℕ, zero, suc, ◌+◌, ◌<◌, ◌≤◌, eqb, inl, inr, eqb-true, eq-eqb, arith, Bool, false, not, cond, Option, Some, None, IsSomeAnd, Result, Ok, Err, OnOk, List, [], ◌∷◌, map, length, set, get_or, sym, refl, ap, ◌∙◌, subst, nat_lt}
+use Rattle.std.proofs.Common.{◌≡◌, ℕ, zero, suc, ◌+◌, ◌<◌, ◌≤◌, eqb, inl, inr, eqb-true, eq-eqb, arith, Bool, false, not, cond, Option}
+use Rattle.std.proofs.Common.{Some, None, IsSomeAnd, Result, Ok, Err, OnOk, List, [], ◌∷◌, map, length, set, get_or, sym, refl, ap, ◌∙◌}
+use Rattle.std.proofs.Common.{subst, nat_lt}
 use Rattle.std.specs.Prelude.{slice_get, position, option_map, IfSome}
 use Rattle.std.specs.List.{position_or_len}
 use Rattle.std.proofs.lemmas.List.{length-map, map-set, set-get_or}
 use Rattle.std.proofs.lemmas.Bool.{cases_Bool, true≢false}
 use Rattle.std.proofs.lemmas.Option.{slice_get-map, slice_get_read}
 use Rattle.lagmodel.specs.World.{Side}
-use Rattle.lagworld.specs.State.{ItemValue, LinkState, accepts, sent_on, link_index, link_at, change_link, accepts_at, put_on_port, is_accepted}
+use Rattle.lagworld.specs.State.{ItemValue, LinkState, accepts, sent_on, link_index, link_at, change_link, accepts_at, put_on_port}
+use Rattle.lagworld.specs.State.{is_accepted}
 
 first_seen : {X Y : Type 0} (f : X → Y) (q : Y → Bool) (xs : List X) → position_or_len q (map f xs) ≡ position_or_len (λ x. q (f x)) xs
 first_seen f q [] = refl
@@ -19,31 +22,45 @@ place_seen f q xs =
     ∙ ap (λ m. cond (nat_lt (position_or_len (λ x. q (f x)) xs) m) (Some (position_or_len (λ x. q (f x)) xs)) None) (length-map xs f)
 
 -- the port has no cable
-pub put_nowhere : (s : Side) (p : ℕ) (item : ItemValue) (links : List LinkState) → link_index s p links ≡ None → (put_on_port s p item links ≡ links) × (is_accepted s p links ≡ false)
-put_nowhere s p item links e = (ap (λ o. change_link o (sent_on s item) (link_at o links) links) e, ap (λ o. accepts_at s (link_at o links)) e)
+pub put_nowhere : (s : Side) (p : ℕ) (item : ItemValue) (links : List LinkState) → link_index s p links ≡ None
+    → (put_on_port s p item links ≡ links) × (is_accepted s p links ≡ false)
+put_nowhere s p item links e = (
+  ap (λ o. change_link o (sent_on s item) (link_at o links) links) e,
+  ap (λ o. accepts_at s (link_at o links)) e,
+)
 
 -- its cable was sent the item
 pub put_there : (s : Side) (p : ℕ) (item : ItemValue) (links new : List LinkState) (kept : Bool) (i : ℕ) → link_index s p links ≡ Some i
-    → IsSomeAnd (slice_get links i) (λ l. (new ≡ set links i (sent_on s item l)) × (kept ≡ accepts s l)) → (new ≡ put_on_port s p item links) × (kept ≡ is_accepted s p links)
+    → IsSomeAnd (slice_get links i) (λ l. (new ≡ set links i (sent_on s item l)) × (kept ≡ accepts s l))
+    → (new ≡ put_on_port s p item links) × (kept ≡ is_accepted s p links)
 put_there s p item links new kept i e h = at_it (slice_get links i) refl h
   where
-    at_it : (o : Option LinkState) → slice_get links i ≡ o → IsSomeAnd o (λ l. (new ≡ set links i (sent_on s item l)) × (kept ≡ accepts s l))
+    at_it : (o : Option LinkState) → slice_get links i ≡ o
+        → IsSomeAnd o (λ l. (new ≡ set links i (sent_on s item l)) × (kept ≡ accepts s l))
         → (new ≡ put_on_port s p item links) × (kept ≡ is_accepted s p links)
     at_it None is h = absurd h
     at_it (Some l) is h = (
-      h.0 ∙ sym (ap (λ o. change_link o (sent_on s item) (link_at o links) links) e ∙ ap (λ o. change_link (Some i) (sent_on s item) o links) is),
+      h.0 ∙ sym (ap (λ o. change_link o (sent_on s item) (link_at o links) links) e
+          ∙ ap (λ o. change_link (Some i) (sent_on s item) o links) is),
       h.1 ∙ sym (ap (λ o. accepts_at s (link_at o links)) e ∙ ap (accepts_at s) is),
     )
 
 -- the cable at a place was sent the item
-pub sent_at : {X Y : Type 0} (f : X → Y) (h : Y → Y) (t : Y → Bool) (xs : List X) (i : ℕ) (x new : X) (kept : Bool) → i < length xs → x ≡ get_or xs i x → f new ≡ h (f x) → kept ≡ t (f x)
+pub sent_at : {X Y : Type 0} (f : X → Y) (h : Y → Y) (t : Y → Bool) (xs : List X) (i : ℕ) (x new : X) (kept : Bool) → i < length xs
+    → x ≡ get_or xs i x → f new ≡ h (f x) → kept ≡ t (f x)
     → IsSomeAnd (slice_get (map f xs) i) (λ y. (map f (set xs i new) ≡ set (map f xs) i (h y)) × (kept ≡ t y))
 sent_at f h t xs i x new kept lt read e k =
-    let there : slice_get (map f xs) i ≡ Some (f x) = slice_get-map f xs i ∙ ap (option_map f) (slice_get_read xs (length xs) i x refl lt read) in
-    subst (λ o. IsSomeAnd o (λ y. (map f (set xs i new) ≡ set (map f xs) i (h y)) × (kept ≡ t y))) (sym there) (map-set f xs i new ∙ ap (set (map f xs) i) e, k)
+    let there : slice_get (map f xs) i ≡ Some (f x) = slice_get-map f xs i
+    ∙ ap (option_map f) (slice_get_read xs (length xs) i x refl lt read) in
+    subst (λ o. IsSomeAnd o (λ y. (map f (set xs i new) ≡ set (map f xs) i (h y)) × (kept ≡ t y))) (sym there) (
+      map-set f xs i new
+          ∙ ap (set (map f xs) i) e,
+      k,
+    )
 
 -- a write that is not seen
-pub same_at : {X Y : Type 0} (f : X → Y) (xs : List X) (i : ℕ) (x new : X) → x ≡ get_or xs i x → f new ≡ f x → map f (set xs i new) ≡ map f xs
+pub same_at : {X Y : Type 0} (f : X → Y) (xs : List X) (i : ℕ) (x new : X) → x ≡ get_or xs i x → f new ≡ f x
+    → map f (set xs i new) ≡ map f xs
 same_at f xs i x new read e =
     map-set f xs i new ∙ ap (set (map f xs) i) e ∙ sym (map-set f xs i x) ∙ ap (map f) (ap (set xs i) read ∙ set-get_or xs i x)
 
@@ -58,7 +75,8 @@ ok_weaker (Ok x) f h = f h
 ok_weaker (Err e) f h = tt
 
 -- what is written leaves what is before it
-pub before_written : {X : Type 0} (P : X → Type 0) (xs : List X) (i k : ℕ) (x : X) → k < i → IfSome (slice_get xs k) P → IfSome (slice_get (set xs i x) k) P
+pub before_written : {X : Type 0} (P : X → Type 0) (xs : List X) (i k : ℕ) (x : X) → k < i → IfSome (slice_get xs k) P
+    → IfSome (slice_get (set xs i x) k) P
 before_written P [] i k x lt h = h
 before_written P (z ∷ xs) zero k x lt h = absurd (omega (arith, lt))
 before_written P (z ∷ xs) (suc i) zero x lt h = h
@@ -72,7 +90,8 @@ one_more_below P n h here i lt = elim (cases_Bool (eqb i n)) [
 ]
 
 -- all of a list
-pub each_of : {X : Type 0} (P : X → Type 0) (xs : List X) (n : ℕ) → length xs ≤ n → ((i : ℕ) → i < n → IfSome (slice_get xs i) P) → (i : ℕ) → IfSome (slice_get xs i) P
+pub each_of : {X : Type 0} (P : X → Type 0) (xs : List X) (n : ℕ) → length xs ≤ n → ((i : ℕ) → i < n → IfSome (slice_get xs i) P) → (i : ℕ)
+    → IfSome (slice_get xs i) P
 each_of P [] n le h i = tt
 each_of P (x ∷ xs) n le h zero = h zero (omega (arith, le))
 each_of P (x ∷ xs) zero le h (suc i) = absurd (omega (arith, le))

@@ -1,12 +1,14 @@
 -- What a sound world promises, and runs of events.
-use Rattle.std.proofs.Common.{◌≡◌, ◌<◌, ℕ, ◌+◌, ◌++◌, Option, Some, None, List, [], ◌∷◌, map, take, length, get_or, sym, refl, ap, ◌∙◌, subst, inl, inr, ◌⊎◌, true, Ok, Err, Result, IfOk, IfErr}
+use Rattle.std.proofs.Common.{◌≡◌, ◌<◌, ℕ, ◌+◌, ◌++◌, Option, Some, None, List, [], ◌∷◌, map, take, length, get_or, sym, refl, ap, ◌∙◌}
+use Rattle.std.proofs.Common.{subst, inl, inr, ◌⊎◌, true, Ok, Err, Result, IfOk, IfErr}
 use Rattle.std.proofs.lemmas.List.{take_more, map-append}
 use Rattle.std.proofs.lemmas.Option.{slice_get-get_or}
 use Rattle.lagmodel.specs.World.{Side, World, WorldSetup, IsWorldSetup, Happens, Run}
 use Rattle.lagmodel.specs.Law.{OnePartner, EndsAgree, InOrder}
 use Rattle.lagmodel.proofs.Counting.{counts_from_zero}
 use Rattle.lagmodel.proofs.Events.{lawful}
-use Rattle.lagmodel.proofs.Laws.{one_partner_holds, agree_holds, in_order_holds, took_synchronised_holds, names_present_holds, on_its_cable_holds, flushed_by_marker_holds, below_next_holds, collected_then_in_flight_holds}
+use Rattle.lagmodel.proofs.Laws.{one_partner_holds, agree_holds, in_order_holds, took_synchronised_holds, names_present_holds}
+use Rattle.lagmodel.proofs.Laws.{on_its_cable_holds, flushed_by_marker_holds, below_next_holds, collected_then_in_flight_holds}
 use Rattle.lagmodel.proofs.Runs.{runs_joined}
 use Rattle.lagsystem.proofs.FirstView.{configured_setup}
 use Rattle.lagscript.specs.declared.event.Event.{Event}
@@ -25,13 +27,15 @@ pub is_fixed : (j : WorldState) → IsSound j → IsWorldSetup (world_setup j)
 is_fixed j i = record { setup = λ s. configured_setup (half s j).state; cables = i.cabling }
 
 pub one_partner_of : (j : WorldState) → IsSound j → (s : Side) → OnePartner ((model_world j).view s)
-one_partner_of j i = one_partner_holds (world_setup j) (model_world j) (lawful (world_setup j) i.reached.0 (model_world j) (is_fixed j i) i.reached.1)
+one_partner_of j i = one_partner_holds (world_setup j) (model_world j)
+    (lawful (world_setup j) i.reached.0 (model_world j) (is_fixed j i) i.reached.1)
 
 pub agree_of : (j : WorldState) → IsSound j → EndsAgree (world_setup j) (model_world j)
 agree_of j i = agree_holds (world_setup j) (model_world j) (lawful (world_setup j) i.reached.0 (model_world j) (is_fixed j i) i.reached.1)
 
 pub in_order_of : (j : WorldState) → IsSound j → InOrder (model_world j)
-in_order_of j i = in_order_holds (world_setup j) (model_world j) (lawful (world_setup j) i.reached.0 (model_world j) (is_fixed j i) i.reached.1)
+in_order_of j i = in_order_holds (world_setup j) (model_world j)
+    (lawful (world_setup j) i.reached.0 (model_world j) (is_fixed j i) i.reached.1)
 
 pub carries_of : (j : WorldState) → IsSound j → HeadlineFacts j
 carries_of j i =
@@ -50,33 +54,45 @@ carries_of j i =
     }
 
 -- what a step leaves, whatever it answers
-pub sound_after : (gives : Algorithms) (e : Event) (result : Result Reply WorldFault) (old new : WorldState) → IsSound old → IfOk result (λ r. cause old e ≡ None) → IfOk result (λ r. WorldSteps gives old e r new) → IfErr result (λ f. new ≡ old) → IsSound new
+pub sound_after : (gives : Algorithms) (e : Event) (result : Result Reply WorldFault) (old new : WorldState) → IsSound old
+    → IfOk result (λ r. cause old e ≡ None) → IfOk result (λ r. WorldSteps gives old e r new) → IfErr result (λ f. new ≡ old) → IsSound new
 sound_after gives e (Ok r) old new i c x u = steps_sound gives e r old new i c x
 sound_after gives e (Err f) old new i c x u = subst IsSound (sym u) i
 
-pub fixed_after : (gives : Algorithms) (e : Event) (result : Result Reply WorldFault) (old new : WorldState) → IsSound old → IfOk result (λ r. WorldSteps gives old e r new) → IfErr result (λ f. new ≡ old) → world_setup new ≡ world_setup old
+pub fixed_after : (gives : Algorithms) (e : Event) (result : Result Reply WorldFault) (old new : WorldState) → IsSound old
+    → IfOk result (λ r. WorldSteps gives old e r new) → IfErr result (λ f. new ≡ old) → world_setup new ≡ world_setup old
 fixed_after gives e (Ok r) old new i x u = steps_fixed gives e r old new i x
 fixed_after gives e (Err f) old new i x u = ap world_setup u
 
-pub happens_after : (gives : Algorithms) (e : Event) (result : Result Reply WorldFault) (old new : WorldState) → IsSound old → IfOk result (λ r. WorldSteps gives old e r new) → IfOk result (λ r. Happens (world_setup old) (model_event e) (model_world old) (model_world new))
+pub happens_after : (gives : Algorithms) (e : Event) (result : Result Reply WorldFault) (old new : WorldState) → IsSound old
+    → IfOk result (λ r. WorldSteps gives old e r new)
+    → IfOk result (λ r. Happens (world_setup old) (model_event e) (model_world old) (model_world new))
 happens_after gives e (Ok r) old new i x = steps_happen gives e r old new i x
 happens_after gives e (Err f) old new i x = tt
 
 -- one more event
-runs_more : (gives : Algorithms) (old mid new : WorldState) (es : List Event) (rs : List Reply) (e : Event) (r : Reply) → WorldRuns gives old es rs mid → WorldSteps gives mid e r new → WorldRuns gives old (es ++ e ∷ []) (rs ++ r ∷ []) new
+runs_more : (gives : Algorithms) (old mid new : WorldState) (es : List Event) (rs : List Reply) (e : Event) (r : Reply)
+    → WorldRuns gives old es rs mid → WorldSteps gives mid e r new → WorldRuns gives old (es ++ e ∷ []) (rs ++ r ∷ []) new
 runs_more gives old mid new [] [] e r h x = (new, subst (λ j. WorldSteps gives j e r new) h x, refl)
 runs_more gives old mid new [] (q ∷ rs) e r h x = absurd h
 runs_more gives old mid new (d ∷ es) [] e r h x = absurd h
 runs_more gives old mid new (d ∷ es) (q ∷ rs) e r h x = (h.0, h.1, runs_more gives h.0 mid new es rs e r h.2 x)
 
-pub runs_on : (gives : Algorithms) (old mid new : WorldState) (es : List Event) (rs : List Reply) (n : ℕ) (d : Event) (r : Reply) → n < length es → WorldRuns gives old (take n es) rs mid → WorldSteps gives mid (get_or es n d) r new → WorldRuns gives old (take (n + 1) es) (rs ++ r ∷ []) new
-runs_on gives old mid new es rs n d r l h x = subst (λ l. WorldRuns gives old l (rs ++ r ∷ []) new) (sym (take_more es n d l)) (runs_more gives old mid new (take n es) rs (get_or es n d) r h x)
+pub runs_on : (gives : Algorithms) (old mid new : WorldState) (es : List Event) (rs : List Reply) (n : ℕ) (d : Event) (r : Reply)
+    → n < length es → WorldRuns gives old (take n es) rs mid → WorldSteps gives mid (get_or es n d) r new
+    → WorldRuns gives old (take (n + 1) es) (rs ++ r ∷ []) new
+runs_on gives old mid new es rs n d r l h x = subst (λ l. WorldRuns gives old l (rs ++ r ∷ []) new) (sym (take_more es n d l))
+    (runs_more gives old mid new (take n es) rs (get_or es n d) r h x)
 
-pub world_on : (x : WorldSetup) (old mid new : World) (es : List Event) (n : ℕ) (d : Event) → n < length es → Run x (map model_event (take n es)) old mid → Happens x (model_event (get_or es n d)) mid new → Run x (map model_event (take (n + 1) es)) old new
+pub world_on : (x : WorldSetup) (old mid new : World) (es : List Event) (n : ℕ) (d : Event) → n < length es
+    → Run x (map model_event (take n es)) old mid → Happens x (model_event (get_or es n d)) mid new
+    → Run x (map model_event (take (n + 1) es)) old new
 world_on x old mid new es n d l h e =
     subst (λ l. Run x l old new) (sym (ap (map model_event) (take_more es n d l) ∙ map-append model_event (take n es) (get_or es n d ∷ [])))
     (runs_joined x (map model_event (take n es)) (model_event (get_or es n d) ∷ []) old mid new h (new, e, refl))
 
 -- why a step was refused
-pub stopped_by : (j : WorldState) (es : List Event) (n : ℕ) (d : Event) (fault : WorldFault) → n < length es → fault ≡ cause_or_no_memory (cause j (get_or es n d)) → (cause j (get_or es n d) ≡ None → may_take_memory (get_or es n d) ≡ true) → RefusesNext j (next_of es n) fault
+pub stopped_by : (j : WorldState) (es : List Event) (n : ℕ) (d : Event) (fault : WorldFault) → n < length es
+    → fault ≡ cause_or_no_memory (cause j (get_or es n d)) → (cause j (get_or es n d) ≡ None → may_take_memory (get_or es n d) ≡ true)
+    → RefusesNext j (next_of es n) fault
 stopped_by j es n d fault l h m = subst (λ o. RefusesNext j o fault) (sym (slice_get-get_or es n d l)) (record { named = h; memory = m })

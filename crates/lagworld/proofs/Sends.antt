@@ -12,7 +12,8 @@ use Rattle.slowpdu.proofs.PduLemmas.{written_pdu}
 use Rattle.slowpdu.proofs.PduInLemmas.{pdu_read}
 use Rattle.lagmodel.specs.View.{ModelCall as ModelEvent, ControlMessage as Message_pdu}
 use Rattle.lagmodel.specs.Move.{Act, Sends, Sends_frame, LawfulMoves}
-use Rattle.lagmodel.specs.World.{Side, One, Two, peer, Control, Data, IsCabling, end_at, stamp_of, CallHappens, Event, Happens, put_on_cable as put_in}
+use Rattle.lagmodel.specs.World.{Side, One, Two, peer, Control, Data, IsCabling, end_at, stamp_of, CallHappens, Event, Happens}
+use Rattle.lagmodel.specs.World.{put_on_cable as put_in}
 use Rattle.lagsystem.specs.declared.drive.Reply.TheVariants as answer
 use Rattle.lagsystem.specs.declared.fault.SystemFault.{SystemFault}
 use Rattle.lagsystem.specs.Calls.{Transmit, Offer}
@@ -21,10 +22,12 @@ use Rattle.lagsystem.specs.ModelView.{model_setup, model_view, JoinedByLawfulMov
 use Rattle.lagsystem.specs.State.{SystemState}
 use Rattle.lagsystem.proofs.Sent.{sent_payload}
 use Rattle.lagworld.specs.declared.reply.Reply.{Reply}
-use Rattle.lagworld.specs.State.{ItemValue, HalfState, WorldState, FlowValue, half, with_half, put_on_port, is_accepted, history_at, change_count_in, taken_in, flow_at, sent_in, collected_in, forced_in, change_flow, with_sent}
+use Rattle.lagworld.specs.State.{ItemValue, HalfState, WorldState, FlowValue, half, with_half, put_on_port, is_accepted, history_at}
+use Rattle.lagworld.specs.State.{change_count_in, taken_in, flow_at, sent_in, collected_in, forced_in, change_flow, with_sent}
 use Rattle.lagworld.specs.Messages.{payload_in, message_in, item_message, side_number, side_named}
 use Rattle.lagworld.specs.HalfCalls.{HalfAnswers}
-use Rattle.lagworld.specs.Events.{with_item_sent, stamp_for, transmitted_item, WorldEmits, AfterTransmit, WorldOffers, AfterOffer, offered_item, with_frame_counted}
+use Rattle.lagworld.specs.Events.{with_item_sent, stamp_for, transmitted_item, WorldEmits, AfterTransmit, WorldOffers, AfterOffer}
+use Rattle.lagworld.specs.Events.{offered_item, with_frame_counted}
 use Rattle.lagworld.specs.ModelWorld.{world_setup, model_world, model_taken}
 use Rattle.lagworld.proofs.Cables.{put_away, put_towards, put_whole}
 use Rattle.lagworld.proofs.Flows.{read_changed, read_same}
@@ -41,18 +44,22 @@ no_stamp kind.Information m n = refl
 no_stamp kind.Response m n = refl
 
 -- the message that goes onto the cable
-pub stamped : (octets : List ℕ) (v : Pdu) (n : ℕ) → pdu_in (payload_in octets) ≡ v → message_in octets (stamp_for v n) ≡ Control (control_message v) (stamp_of (control_message v) n)
+pub stamped : (octets : List ℕ) (v : Pdu) (n : ℕ) → pdu_in (payload_in octets) ≡ v
+    → message_in octets (stamp_for v n) ≡ Control (control_message v) (stamp_of (control_message v) n)
 stamped octets (pdu.Lacpdu v) n e = ap (λ v. Control (control_message v) n) e
-stamped octets (pdu.Marker m) n e = ap (λ v. Control (control_message v) 0) e ∙ ap (Control (control_message (pdu.Marker m))) (sym (no_stamp m.kind m n))
+stamped octets (pdu.Marker m) n e = ap (λ v. Control (control_message v) 0) e
+    ∙ ap (Control (control_message (pdu.Marker m))) (sym (no_stamp m.kind m n))
 
 -- what a PDU that is sent leaves
-pub sends_pdu : (s : Side) (p : ℕ) (pdu : Message_pdu) (item : ItemValue) (count : ℕ) (h : HalfState) (j : WorldState) → IsCabling (world_setup j).cables
+pub sends_pdu : (s : Side) (p : ℕ) (pdu : Message_pdu) (item : ItemValue) (count : ℕ) (h : HalfState) (j : WorldState)
+    → IsCabling (world_setup j).cables
     → item_message item ≡ Control pdu (stamp_of pdu count) → count ≡ (model_world j).count s p
     → h.flows ≡ (half s j).flows → ((p : ℕ) → taken_in (history_at h.histories p) ≡ taken_in (history_at (half s j).histories p))
     → (stamp : ℕ) → Leaves (world_setup j) s stamp (is_accepted s p j.links) (Some (Sends p pdu)) h (put_on_port s p item j.links) j
 sends_pdu s p pdu item count h j one e n flows taken stamp = record {
   away = λ c. put_away s p item j.links (one s) c
-      ∙ ap (λ m. put_in (end_at (world_setup j).cables s) (model_world j).whole (is_accepted s p j.links) p m ((model_world j).on_cable (peer s)) c) (e ∙ ap (λ n. Control pdu (stamp_of pdu n)) n);
+      ∙ ap (λ m. put_in (end_at (world_setup j).cables s) (model_world j).whole (is_accepted s p j.links) p m
+      ((model_world j).on_cable (peer s)) c) (e ∙ ap (λ n. Control pdu (stamp_of pdu n)) n);
   towards = put_towards s p item j.links;
   whole = put_whole s p item j.links;
   taken = λ q. ap (option_map model_taken) (taken q);
@@ -61,47 +68,69 @@ sends_pdu s p pdu item count h j one e n flows taken stamp = record {
   forced = λ g k. ap (λ f. forced_in (flow_at f g k)) flows;
 }
 
-told_silence : (n : ℕ) (a : Result (Option (List ℕ)) SystemFault) (old new : SystemState) → ((seen : List Act) → EffectsSeenAs old (Transmit n) (answer.Transmit a) seen → seen ≡ []) → JoinedByLawfulMoves old (Transmit n) (answer.Transmit a) new → LawfulMoves (model_setup old) ModelEvent.Transmit (model_view old) [] (model_view new)
-told_silence n a old new none h = subst (λ l. LawfulMoves (model_setup old) ModelEvent.Transmit (model_view old) l (model_view new)) (none h.1 h.3) (subst (λ c. LawfulMoves (model_setup old) c (model_view old) h.1 (model_view new)) h.2 h.4)
+told_silence : (n : ℕ) (a : Result (Option (List ℕ)) SystemFault) (old new : SystemState)
+    → ((seen : List Act) → EffectsSeenAs old (Transmit n) (answer.Transmit a) seen → seen ≡ [])
+    → JoinedByLawfulMoves old (Transmit n) (answer.Transmit a) new
+    → LawfulMoves (model_setup old) ModelEvent.Transmit (model_view old) [] (model_view new)
+told_silence n a old new none h = subst (λ l. LawfulMoves (model_setup old) ModelEvent.Transmit (model_view old) l (model_view new))
+    (none h.1 h.3) (subst (λ c. LawfulMoves (model_setup old) c (model_view old) h.1 (model_view new)) h.2 h.4)
 
 told_sent : (n : ℕ) (frame : List ℕ) (old new : SystemState) → JoinedByLawfulMoves old (Transmit n) (answer.Transmit (Ok (Some frame))) new
-    → LawfulMoves (model_setup old) ModelEvent.Transmit (model_view old) (Sends n (control_message (pdu_in (payload_in frame))) ∷ []) (model_view new)
+    → LawfulMoves (model_setup old) ModelEvent.Transmit (model_view old) (Sends n (control_message (pdu_in (payload_in frame)))
+    ∷ []) (model_view new)
 told_sent n frame old new h =
     let same = sent_read frame h.3.0 h.3.1 in
-    subst (λ l. LawfulMoves (model_setup old) ModelEvent.Transmit (model_view old) l (model_view new)) (h.3.2 ∙ ap (λ v. Sends n (control_message v) ∷ []) (sym same)) (subst (λ c. LawfulMoves (model_setup old) c (model_view old) h.1 (model_view new)) h.2 h.4)
+    subst (λ l. LawfulMoves (model_setup old) ModelEvent.Transmit (model_view old) l (model_view new)) (h.3.2
+    ∙ ap (λ v. Sends n (control_message v) ∷ []) (sym same))
+    (subst (λ c. LawfulMoves (model_setup old) c (model_view old) h.1 (model_view new)) h.2 h.4)
 
-emitted : (gives : ℕ → ℕ → ℕ → Type 0) (s : Side) (p : ℕ) (a : Result (Option (List ℕ)) SystemFault) (mid : HalfState) (r : Reply) (old new : WorldState) → IsCabling (world_setup old).cables
+emitted : (gives : ℕ → ℕ → ℕ → Type 0) (s : Side) (p : ℕ) (a : Result (Option (List ℕ)) SystemFault) (mid : HalfState) (r : Reply)
+    (old new : WorldState) → IsCabling (world_setup old).cables
     → HalfAnswers gives (Transmit p) (answer.Transmit a) (half s old) mid → AfterTransmit s p a (with_half s mid old) r new
     → CallHappens (world_setup old) s ModelEvent.Transmit 0 (model_world old) (model_world old) (model_world new)
 emitted gives s p (Err fault) mid r old new one x y =
     subst (λ j. CallHappens (world_setup old) s ModelEvent.Transmit 0 (model_world old) (model_world old) (model_world j)) (sym y.1)
-    (quiet_asked gives s (Transmit p) (answer.Transmit (Err fault)) ModelEvent.Transmit mid old x (λ e. cc) refl (told_silence p (Err fault) (half s old).state mid.state (λ seen e. e) x.answers.moves))
+    (quiet_asked gives s (Transmit p) (answer.Transmit (Err fault)) ModelEvent.Transmit mid old x (λ e. cc) refl
+    (told_silence p (Err fault) (half s old).state mid.state (λ seen e. e) x.answers.moves))
 emitted gives s p (Ok None) mid r old new one x y =
     subst (λ j. CallHappens (world_setup old) s ModelEvent.Transmit 0 (model_world old) (model_world old) (model_world j)) (sym y.1)
-    (quiet_asked gives s (Transmit p) (answer.Transmit (Ok None)) ModelEvent.Transmit mid old x (λ e. cc) refl (told_silence p (Ok None) (half s old).state mid.state (λ seen e. e) x.answers.moves))
+    (quiet_asked gives s (Transmit p) (answer.Transmit (Ok None)) ModelEvent.Transmit mid old x (λ e. cc) refl
+    (told_silence p (Ok None) (half s old).state mid.state (λ seen e. e) x.answers.moves))
 emitted gives s p (Ok (Some frame)) mid r old new one x y =
     let v = pdu_in (payload_in frame) in
     let count = change_count_in (history_at (half s (with_half s mid old)).histories p) in
-    let histories : (half s (with_half s mid old)).histories ≡ (half s old).histories = ap (λ (h : HalfState). h.histories) (half_there s mid old ∙ x.same) in
+    let histories : (half s (with_half s mid old)).histories ≡ (half s old).histories = ap (λ (h : HalfState). h.histories)
+    (half_there s mid old ∙ x.same) in
     let moves = told_sent p frame (half s old).state mid.state x.answers.moves in
     subst (λ j. CallHappens (world_setup old) s ModelEvent.Transmit 0 (model_world old) (model_world old) (model_world j)) (sym y.1)
-    (one_call (world_setup old) s ModelEvent.Transmit 0 (is_accepted s p old.links) (Some (Sends p (control_message v))) mid (put_on_port s p (transmitted_item s p frame (half s (with_half s mid old))) old.links) old (model_world old)
-    (sends_pdu s p (control_message v) (transmitted_item s p frame (half s (with_half s mid old))) count mid old one (stamped frame v count refl) (ap (λ l. change_count_in (history_at l p)) histories)
+    (one_call (world_setup old) s ModelEvent.Transmit 0 (is_accepted s p old.links) (Some (Sends p (control_message v))) mid
+    (put_on_port s p (transmitted_item s p frame (half s (with_half s mid old))) old.links) old (model_world old)
+    (sends_pdu s p (control_message v) (transmitted_item s p frame (half s (with_half s mid old))) count mid old one
+    (stamped frame v count refl) (ap (λ l. change_count_in (history_at l p)) histories)
     (ap (λ (h : HalfState). h.flows) x.same) (λ q. ap (λ (h : HalfState). taken_in (history_at h.histories q)) x.same) 0)
     moves
-    (counts_kept s mid (put_on_port s p (transmitted_item s p frame (half s (with_half s mid old))) old.links) old ModelEvent.Transmit (Sends p (control_message v) ∷ []) (λ e. cc) refl moves (λ q. ap (λ (h : HalfState). change_count_in (history_at h.histories q)) x.same)))
+    (counts_kept s mid (put_on_port s p (transmitted_item s p frame (half s (with_half s mid old))) old.links) old ModelEvent.Transmit
+    (Sends p (control_message v) ∷ []) (λ e. cc) refl moves
+    (λ q. ap (λ (h : HalfState). change_count_in (history_at h.histories q)) x.same)))
 
 -- A port sends what is due.
-pub emit_happens : (gives : Side → ℕ → ℕ → ℕ → Type 0) (s : Side) (p : ℕ) (r : Reply) (old new : WorldState) → IsCabling (world_setup old).cables → WorldEmits gives s p old r new
+pub emit_happens : (gives : Side → ℕ → ℕ → ℕ → Type 0) (s : Side) (p : ℕ) (r : Reply) (old new : WorldState)
+    → IsCabling (world_setup old).cables → WorldEmits gives s p old r new
     → Happens (world_setup old) (Event.Emit s p) (model_world old) (model_world new)
 emit_happens gives s p r old new one x = emitted (gives s) s p x.0 x.1 r old new one x.2 x.3
 
-told_offer : (agg : AggId) (octets : List ℕ) (port : ℕ) (old new : SystemState) → JoinedByLawfulMoves old (Offer agg octets) (answer.Offer (Ok port)) new
-    → LawfulMoves (model_setup old) ModelEvent.Offer (model_view old) (Sends_frame port agg.0 (number_of_conversation old octets) ∷ []) (model_view new)
-told_offer agg octets port old new h = subst (λ l. LawfulMoves (model_setup old) ModelEvent.Offer (model_view old) l (model_view new)) h.3 (subst (λ c. LawfulMoves (model_setup old) c (model_view old) h.1 (model_view new)) h.2 h.4)
+told_offer : (agg : AggId) (octets : List ℕ) (port : ℕ) (old new : SystemState)
+    → JoinedByLawfulMoves old (Offer agg octets) (answer.Offer (Ok port)) new
+    → LawfulMoves (model_setup old) ModelEvent.Offer (model_view old) (Sends_frame port agg.0 (number_of_conversation old octets)
+    ∷ []) (model_view new)
+told_offer agg octets port old new h = subst (λ l. LawfulMoves (model_setup old) ModelEvent.Offer (model_view old) l (model_view new)) h.3
+    (subst (λ c. LawfulMoves (model_setup old) c (model_view old) h.1 (model_view new)) h.2 h.4)
 
-told_refused : (agg : AggId) (octets : List ℕ) (fault : SystemFault) (old new : SystemState) → JoinedByLawfulMoves old (Offer agg octets) (answer.Offer (Err fault)) new → LawfulMoves (model_setup old) ModelEvent.Offer (model_view old) [] (model_view new)
-told_refused agg octets fault old new h = subst (λ l. LawfulMoves (model_setup old) ModelEvent.Offer (model_view old) l (model_view new)) h.3 (subst (λ c. LawfulMoves (model_setup old) c (model_view old) h.1 (model_view new)) h.2 h.4)
+told_refused : (agg : AggId) (octets : List ℕ) (fault : SystemFault) (old new : SystemState)
+    → JoinedByLawfulMoves old (Offer agg octets) (answer.Offer (Err fault)) new
+    → LawfulMoves (model_setup old) ModelEvent.Offer (model_view old) [] (model_view new)
+told_refused agg octets fault old new h = subst (λ l. LawfulMoves (model_setup old) ModelEvent.Offer (model_view old) l (model_view new))
+    h.3 (subst (λ c. LawfulMoves (model_setup old) c (model_view old) h.1 (model_view new)) h.2 h.4)
 
 named_side : (s : Side) → side_named (side_number s) ≡ s
 named_side One = refl
@@ -119,45 +148,56 @@ forced_kept : (o : Option FlowValue) → forced_in (option_map with_sent o) ≡ 
 forced_kept None = refl
 forced_kept (Some x) = refl
 
-offered_calls : (gives : ℕ → ℕ → ℕ → Type 0) (s : Side) (agg : AggId) (octets : List ℕ) (a : Result ℕ SystemFault) (mid : HalfState) (r : Reply) (old new : WorldState) → IsCabling (world_setup old).cables
+offered_calls : (gives : ℕ → ℕ → ℕ → Type 0) (s : Side) (agg : AggId) (octets : List ℕ) (a : Result ℕ SystemFault) (mid : HalfState)
+    (r : Reply) (old new : WorldState) → IsCabling (world_setup old).cables
     → HalfAnswers gives (Offer agg octets) (answer.Offer a) (half s old) mid → AfterOffer s agg octets a (with_half s mid old) r new
     → CallHappens (world_setup old) s ModelEvent.Offer 0 (model_world old) (model_world old) (model_world new)
 offered_calls gives s agg octets (Err fault) mid r old new one x y =
     subst (λ j. CallHappens (world_setup old) s ModelEvent.Offer 0 (model_world old) (model_world old) (model_world j)) (sym y.1)
-    (quiet_asked gives s (Offer agg octets) (answer.Offer (Err fault)) ModelEvent.Offer mid old x (λ e. cc) refl (told_refused agg octets fault (half s old).state mid.state x.answers.moves))
+    (quiet_asked gives s (Offer agg octets) (answer.Offer (Err fault)) ModelEvent.Offer mid old x (λ e. cc) refl
+    (told_refused agg octets fault (half s old).state mid.state x.answers.moves))
 offered_calls gives s agg octets (Ok port) mid r old new one x y =
     let k = number_of_conversation (half s old).state octets in
     let h = with_frame_counted agg octets mid in
     let item = offered_item s port agg octets mid in
     let flows : mid.flows ≡ (half s old).flows = ap (λ (h : HalfState). h.flows) x.same in
-    let there : IsSome (flow_at (half s old).flows agg.0 k) = subst (λ f. IsSome (flow_at f agg.0 k)) (ap (λ (h : HalfState). h.flows) (half_there s mid old) ∙ flows) y.0 in
+    let there : IsSome (flow_at (half s old).flows agg.0 k) = subst (λ f. IsSome (flow_at f agg.0 k))
+    (ap (λ (h : HalfState). h.flows) (half_there s mid old) ∙ flows) y.0 in
     let moves = told_offer agg octets port (half s old).state mid.state x.answers.moves in
     let same : new ≡ after_call s h (put_on_port s port item old.links) old = y.2 ∙ same_joint s agg octets port mid old in
     subst (λ j. CallHappens (world_setup old) s ModelEvent.Offer 0 (model_world old) (model_world old) (model_world j)) (sym same)
-    (one_call (world_setup old) s ModelEvent.Offer 0 (is_accepted s port old.links) (Some (Sends_frame port agg.0 k)) h (put_on_port s port item old.links) old (model_world old)
+    (one_call (world_setup old) s ModelEvent.Offer 0 (is_accepted s port old.links) (Some (Sends_frame port agg.0 k)) h
+    (put_on_port s port item old.links) old (model_world old)
     (record {
       away = λ c. put_away s port item old.links (one s) c
-          ∙ ap (λ m. put_in (end_at (world_setup old).cables s) (model_world old).whole (is_accepted s port old.links) port m ((model_world old).on_cable (peer s)) c)
-          (ap (λ t. Data t agg.0 k (length (sent_in (flow_at mid.flows agg.0 k)))) (named_side s) ∙ ap (λ f. Data s agg.0 k (length (sent_in (flow_at f agg.0 k)))) flows);
+          ∙ ap (λ m. put_in (end_at (world_setup old).cables s) (model_world old).whole (is_accepted s port old.links) port m
+          ((model_world old).on_cable (peer s)) c)
+          (ap (λ t. Data t agg.0 k (length (sent_in (flow_at mid.flows agg.0 k)))) (named_side s)
+          ∙ ap (λ f. Data s agg.0 k (length (sent_in (flow_at f agg.0 k)))) flows);
       towards = put_towards s port item old.links;
       whole = put_whole s port item old.links;
       taken = λ q. ap (λ (h : HalfState). option_map model_taken (taken_in (history_at h.histories q))) x.same;
       sent = λ g j. ap (λ f. sent_in (flow_at (change_flow with_sent agg.0 k f) g j)) flows
           ∙ read_changed sent_in with_sent agg.0 k (half s old).flows _ (sent_there (flow_at (half s old).flows agg.0 k) there) g j;
-      collected = λ g j. ap (λ f. collected_in (flow_at (change_flow with_sent agg.0 k f) g j)) flows ∙ read_same collected_in with_sent agg.0 k (half s old).flows collected_kept g j;
-      forced = λ g j. ap (λ f. forced_in (flow_at (change_flow with_sent agg.0 k f) g j)) flows ∙ read_same forced_in with_sent agg.0 k (half s old).flows forced_kept g j;
+      collected = λ g j. ap (λ f. collected_in (flow_at (change_flow with_sent agg.0 k f) g j)) flows
+          ∙ read_same collected_in with_sent agg.0 k (half s old).flows collected_kept g j;
+      forced = λ g j. ap (λ f. forced_in (flow_at (change_flow with_sent agg.0 k f) g j)) flows
+          ∙ read_same forced_in with_sent agg.0 k (half s old).flows forced_kept g j;
     })
     moves
-    (counts_kept s h (put_on_port s port item old.links) old ModelEvent.Offer (Sends_frame port agg.0 k ∷ []) (λ e. cc) refl moves (λ q. ap (λ (h : HalfState). change_count_in (history_at h.histories q)) x.same)))
+    (counts_kept s h (put_on_port s port item old.links) old ModelEvent.Offer (Sends_frame port agg.0 k ∷ []) (λ e. cc) refl moves
+    (λ q. ap (λ (h : HalfState). change_count_in (history_at h.histories q)) x.same)))
   where
     same_joint : (s : Side) (agg : AggId) (octets : List ℕ) (port : ℕ) (mid : HalfState) (old : WorldState)
-        → with_item_sent s port (offered_item s port agg octets (half s (with_half s mid old))) (with_half s (with_frame_counted agg octets (half s (with_half s mid old))) (with_half s mid old))
+        → with_item_sent s port (offered_item s port agg octets (half s (with_half s mid old)))
+        (with_half s (with_frame_counted agg octets (half s (with_half s mid old))) (with_half s mid old))
         ≡ after_call s (with_frame_counted agg octets mid) (put_on_port s port (offered_item s port agg octets mid) old.links) old
     same_joint One agg octets port mid old = refl
     same_joint Two agg octets port mid old = refl
 
 -- A frame is offered: of a conversation of which serials are kept.
-pub offer_happens : (gives : Side → ℕ → ℕ → ℕ → Type 0) (s : Side) (agg : AggId) (octets : List ℕ) (r : Reply) (old new : WorldState) → IsCabling (world_setup old).cables
+pub offer_happens : (gives : Side → ℕ → ℕ → ℕ → Type 0) (s : Side) (agg : AggId) (octets : List ℕ) (r : Reply) (old new : WorldState)
+    → IsCabling (world_setup old).cables
     → WorldOffers gives s agg octets old r new
     → Happens (world_setup old) (Event.Offer s agg.0 octets) (model_world old) (model_world new)
 offer_happens gives s agg octets r old new one x = offered_calls (gives s) s agg octets x.0 x.1 r old new one x.2 x.3

@@ -3,14 +3,17 @@ use Rattle.std.proofs.Common.{◌≡◌, ◌<◌, ◌+◌, ◌++◌, ℕ, List, 
 use Rattle.std.proofs.lemmas.List.{take_more, map-append, replicate_more}
 
 -- one more is made of each item in turn
-pub mapped_more : {X Y : Type 0} (f : X → Y) (xs : List X) (ys new : List Y) (i : ℕ) (d : X) (y : Y) → i < length xs → ys ≡ map f (take i xs) → y ≡ f (get_or xs i d) → new ≡ ys ++ y ∷ [] → new ≡ map f (take (i + 1) xs)
+pub mapped_more : {X Y : Type 0} (f : X → Y) (xs : List X) (ys new : List Y) (i : ℕ) (d : X) (y : Y) → i < length xs
+    → ys ≡ map f (take i xs) → y ≡ f (get_or xs i d) → new ≡ ys ++ y ∷ [] → new ≡ map f (take (i + 1) xs)
 mapped_more f xs ys new i d y l h e n =
     n ∙ ap (λ ys. ys ++ y ∷ []) h ∙ ap (λ y. map f (take i xs) ++ y ∷ []) e
     ∙ sym (ap (map f) (take_more xs i d l) ∙ map-append f (take i xs) (get_or xs i d ∷ []))
 
 -- one more of the same kind
-pub filled : {X Y : Type 0} (f : X → Y) (xs new : List X) (x : X) (y : Y) (n : ℕ) → map f xs ≡ replicate n y → f x ≡ y → new ≡ xs ++ x ∷ [] → map f new ≡ replicate (n + 1) y
-filled f xs new x y n h e s = ap (map f) s ∙ map-append f xs (x ∷ []) ∙ ap (λ ys. ys ++ f x ∷ []) h ∙ ap (λ y'. replicate n y ++ y' ∷ []) e ∙ replicate_more n y
+pub filled : {X Y : Type 0} (f : X → Y) (xs new : List X) (x : X) (y : Y) (n : ℕ) → map f xs ≡ replicate n y → f x ≡ y → new ≡ xs ++ x ∷ []
+    → map f new ≡ replicate (n + 1) y
+filled f xs new x y n h e s = ap (map f) s ∙ map-append f xs (x ∷ []) ∙ ap (λ ys. ys ++ f x ∷ []) h
+    ∙ ap (λ y'. replicate n y ++ y' ∷ []) e ∙ replicate_more n y
 
 -- a list of two items that came off one after another
 pub two_of : {X : Type 0} (xs ys zs : List X) (a b : X) → length xs ≡ 2 → xs ≡ a ∷ ys → ys ≡ b ∷ zs → xs ≡ a ∷ b ∷ []

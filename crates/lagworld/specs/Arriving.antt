@@ -1,5 +1,6 @@
 -- How an item arrives on a port, step by step.
-use Rattle.std.specs.Prelude.{◌≡◌, ◌==◌, ◌<◌, ℕ, Bool, true, false, List, [], ◌∷◌, drop, Option, Some, None, IsSomeAnd, Result, Ok, Err, map, position, slice_get, vec_len, vec_capacity}
+use Rattle.std.specs.Prelude.{◌≡◌, ◌==◌, ◌<◌, ℕ, Bool, true, false, List, [], ◌∷◌, drop, Option, Some, None, IsSomeAnd, Result, Ok, Err}
+use Rattle.std.specs.Prelude.{map, position, slice_get, vec_len, vec_capacity}
 use Rattle.std.specs.Global.{Vec}
 use Rattle.cables.specs.declared.item.Item.{Item}
 use Rattle.cables.specs.declared.item.Stamp.{Stamp}
@@ -19,9 +20,11 @@ use Rattle.lagworld.specs.declared.histories.StampedLacpdu.{StampedLacpdu}
 use Rattle.lagworld.specs.declared.histories.PortHistory.{PortHistory}
 use Rattle.lagworld.specs.declared.reply.Reply.{Reply}
 use Rattle.lagworld.specs.declared.reply.Reply.TheVariants as reply
-use Rattle.lagworld.specs.State.{ItemValue, HalfState, LinkState, WorldState, FlowValue, by_side, element_numbered, port_at, towards, with_towards, is_accepted}
+use Rattle.lagworld.specs.State.{ItemValue, HalfState, LinkState, WorldState, FlowValue, by_side, element_numbered, port_at, towards}
+use Rattle.lagworld.specs.State.{with_towards, is_accepted}
 use Rattle.lagworld.specs.HalfCalls.{HalfAnswers, with_state}
-use Rattle.lagworld.specs.Events.{Algorithms, InHalf, OnLink, DeliversFrom, RepeatsFrom, stamped_in, set_last_lacpdu, with_last_lacpdu, with_item_sent, with_stamp_collected}
+use Rattle.lagworld.specs.Events.{Algorithms, InHalf, OnLink, DeliversFrom, RepeatsFrom, stamped_in, set_last_lacpdu, with_last_lacpdu}
+use Rattle.lagworld.specs.Events.{with_item_sent, with_stamp_collected}
 use Rattle.lagworld.specs.Inner.{flow_value}
 use Rattle.lagworld.specs.Messages.{side_named}
 use Rattle.lagworld.specs.Places.{IsReserved}
@@ -57,13 +60,15 @@ last_lacpdu_recorded p (Some lacpdu) histories = set_last_lacpdu p lacpdu histor
 
 -- The first item of the list arrives on port p of one of the two systems, which answers a; without an item, a is None
 -- and nothing changes.
-abbrev pub HalfReceivesFirst : (ℕ → ℕ → ℕ → Type 0) → ℕ → List ItemValue → Option (Result Received SystemFault) → HalfState → HalfState → Type 0
+abbrev pub HalfReceivesFirst : (ℕ → ℕ → ℕ → Type 0) → ℕ → List ItemValue → Option (Result Received SystemFault)
+    → HalfState → HalfState → Type 0
 HalfReceivesFirst gives p [] a old new = (a ≡ None) × (new ≡ old)
 HalfReceivesFirst gives p (item ∷ rest) a old new = IsSomeAnd a (λ a. HalfReceives gives p item a old new)
 
 -- The first item of the list arrives on port p of system s, which answers a; without an item, a is None and nothing
 -- changes.
-abbrev pub WorldReceivesFirst : Algorithms → Side → ℕ → List ItemValue → Option (Result Received SystemFault) → WorldState → WorldState → Type 0
+abbrev pub WorldReceivesFirst : Algorithms → Side → ℕ → List ItemValue → Option (Result Received SystemFault)
+    → WorldState → WorldState → Type 0
 WorldReceivesFirst gives s p [] a old new = (a ≡ None) × (new ≡ old)
 WorldReceivesFirst gives s p (item ∷ rest) a old new = IsSomeAnd a (λ a. InHalf s (HalfReceives (gives s) p item a) old new)
 

@@ -1,5 +1,6 @@
 -- What each event does to two systems and their cables.
-use Rattle.std.specs.Prelude.{◌≡◌, ℕ, zero, suc, ◌+◌, ◌==◌, Bool, true, false, List, [], ◌∷◌, length, map, Option, Some, None, IsSome, IsSomeAnd, is_some, nat_le, Result, Ok, Err, slice_get, slice_set, if◌then◌else◌}
+use Rattle.std.specs.Prelude.{◌≡◌, ℕ, zero, suc, ◌+◌, ◌==◌, Bool, true, false, List, [], ◌∷◌, length, map, Option, Some, None, IsSome}
+use Rattle.std.specs.Prelude.{IsSomeAnd, is_some, nat_le, Result, Ok, Err, slice_get, slice_set, if◌then◌else◌}
 use Rattle.lagtypes.specs.declared.identifiers.AggId.{AggId}
 use Rattle.cables.specs.declared.item.Stamp.{Stamp}
 use Rattle.cables.specs.declared.item.Stamp.TheVariants as stamp
@@ -23,7 +24,9 @@ use Rattle.lagworld.specs.declared.fault.WorldFault.{WorldFault}
 use Rattle.lagworld.specs.declared.fault.WorldFault.TheVariants.{NoCable, NoSystem, Spent, NoMemory}
 use Rattle.lagworld.specs.declared.histories.StampedLacpdu.{StampedLacpdu}
 use Rattle.lagworld.specs.declared.histories.PortHistory.{PortHistory}
-use Rattle.lagworld.specs.State.{ItemValue, HalfState, LinkState, WorldState, half, with_half, with_links, port_at, towards, with_towards, emptied, cut, joined, element_numbered, put_on_port, is_accepted, history_at, change_count_in, change_flow, with_sent, with_collected, flow_at, sent_in}
+use Rattle.lagworld.specs.State.{ItemValue, HalfState, LinkState, WorldState, half, with_half, with_links, port_at, towards}
+use Rattle.lagworld.specs.State.{with_towards, emptied, cut, joined, element_numbered, put_on_port, is_accepted, history_at}
+use Rattle.lagworld.specs.State.{change_count_in, change_flow, with_sent, with_collected, flow_at, sent_in}
 use Rattle.lagworld.specs.Messages.{payload_in, side_number, side_named, stamp_count}
 use Rattle.lagworld.specs.HalfCalls.{HalfAnswers, HalfTicks, HalfSenses, HalfConfigures, HalfRestarts, HalfMoves, HalfForces, set_taken}
 
@@ -64,7 +67,8 @@ sent_reply (pdu.Marker m) accepted = reply.Marker m.id accepted
 
 -- the frame that port p sends, with its stamp: for an LACPDU the port's change count, else 0
 abbrev pub transmitted_item : Side → ℕ → List ℕ → HalfState → ItemValue
-transmitted_item s p frame h = record { octets = frame; stamp = stamp_for (pdu_in (payload_in frame)) (change_count_in (history_at h.histories p)) }
+transmitted_item s p frame h =
+    record { octets = frame; stamp = stamp_for (pdu_in (payload_in frame)) (change_count_in (history_at h.histories p)) }
 
 -- What the world does with the answer to Transmit of port p of system s: it sends the frame, and gives the reply of
 -- Emit.
@@ -72,7 +76,8 @@ abbrev pub AfterTransmit : Side → ℕ → Result (Option (List ℕ)) SystemFau
 AfterTransmit s p (Err fault) old r new = (r ≡ reply.Refused fault) × (new ≡ old)
 AfterTransmit s p (Ok None) old r new = (r ≡ reply.Nothing) × (new ≡ old)
 AfterTransmit s p (Ok (Some frame)) old r new =
-    (r ≡ sent_reply (pdu_in (payload_in frame)) (is_accepted s p old.links)) × (new ≡ with_item_sent s p (transmitted_item s p frame (half s old)) old)
+    (r ≡ sent_reply (pdu_in (payload_in frame)) (is_accepted s p old.links))
+    × (new ≡ with_item_sent s p (transmitted_item s p frame (half s old)) old)
 
 -- an Emit event does this: system s is asked for the frame that is due on port p, which is then sent
 abbrev pub WorldEmits : Algorithms → Side → ℕ → WorldState → Reply → WorldState → Type 0
@@ -87,7 +92,8 @@ stamped_in item = record { pdu = lacpdu_in (payload_in item.octets); stamp = sta
 -- the histories, with this LACPDU recorded as the one that port p took last
 abbrev pub set_last_lacpdu : ℕ → StampedLacpdu → List PortHistory → List PortHistory
 set_last_lacpdu p lacpdu [] = []
-set_last_lacpdu p lacpdu (history ∷ histories) = if history.number == p then set_taken lacpdu history ∷ histories else history ∷ set_last_lacpdu p lacpdu histories
+set_last_lacpdu p lacpdu (history ∷ histories) = if history.number == p then set_taken lacpdu history ∷ histories else history
+    ∷ set_last_lacpdu p lacpdu histories
 
 -- the half, with this LACPDU as the one that port p took last
 abbrev pub with_last_lacpdu : ℕ → StampedLacpdu → HalfState → HalfState
@@ -110,7 +116,8 @@ AfterReceive s p item (Err fault) old r new = (r ≡ reply.Refused fault) × (ne
 AfterReceive s p item (Ok received.Disabled) old r new = (r ≡ reply.Disabled) × (new ≡ old)
 AfterReceive s p item (Ok received.Dropped) old r new = (r ≡ reply.Dropped) × (new ≡ old)
 AfterReceive s p item (Ok (received.Ignored fault)) old r new = (r ≡ reply.Ignored) × (new ≡ old)
-AfterReceive s p item (Ok received.TookLacpdu) old r new = (r ≡ reply.Took) × (new ≡ with_half s (with_last_lacpdu p (stamped_in item) (half s old)) old)
+AfterReceive s p item (Ok received.TookLacpdu) old r new = (r ≡ reply.Took)
+    × (new ≡ with_half s (with_last_lacpdu p (stamped_in item) (half s old)) old)
 AfterReceive s p item (Ok (received.Respond frame)) old r new =
     (r ≡ reply.Responded (is_accepted s p old.links)) × (new ≡ with_item_sent s p (record { octets = frame; stamp = stamp.Control 0 }) old)
 AfterReceive s p item (Ok (received.Released n)) old r new = (r ≡ reply.Released n) × (new ≡ old)
@@ -119,13 +126,15 @@ AfterReceive s p item (Ok (received.Up agg)) old r new = (r ≡ reply.Up agg) ×
 -- an item arrives on port p of system s
 abbrev pub WorldReceives : Algorithms → Side → ℕ → ItemValue → WorldState → Reply → WorldState → Type 0
 WorldReceives gives s p item old r new =
-    (a : Result Received SystemFault) × (mid : HalfState) × HalfAnswers (gives s) (Receive p item.octets) (answer.Receive a) (half s old) mid
+    (a : Result Received SystemFault) × (mid : HalfState)
+    × HalfAnswers (gives s) (Receive p item.octets) (answer.Receive a) (half s old) mid
     × AfterReceive s p item a (with_half s mid old) r new
 
 -- the first item towards s is taken off and arrives at the end of cable i
 abbrev pub DeliversFrom : Algorithms → Side → ℕ → LinkState → List ItemValue → WorldState → Reply → WorldState → Type 0
 DeliversFrom gives s i l [] old r new = (r ≡ reply.Empty) × (new ≡ old)
-DeliversFrom gives s i l (item ∷ rest) old r new = WorldReceives gives s (port_at s l) item (with_link_at i (with_towards s rest l) old) r new
+DeliversFrom gives s i l (item ∷ rest) old r new = WorldReceives gives s (port_at s l) item
+    (with_link_at i (with_towards s rest l) old) r new
 
 -- the first item towards s is taken off cable i and is lost; the reply is Empty if there is none
 abbrev pub LosesFrom : Side → ℕ → LinkState → List ItemValue → WorldState → Reply → WorldState → Type 0
@@ -163,7 +172,8 @@ AfterOffer s agg octets (Ok port) old r new =
     IsSome (flow_at (half s old).flows agg.0 (number_of_conversation (half s old).state octets))
     × (r ≡ reply.Port port (length (sent_in (flow_at (half s old).flows agg.0 (number_of_conversation (half s old).state octets))))
     (is_accepted s port old.links))
-    × (new ≡ with_item_sent s port (offered_item s port agg octets (half s old)) (with_half s (with_frame_counted agg octets (half s old)) old))
+    × (new ≡ with_item_sent s port (offered_item s port agg octets (half s old))
+    (with_half s (with_frame_counted agg octets (half s old)) old))
 
 -- an Offer event does this: system s is offered the frame, which is then sent on the port that it answers
 abbrev pub WorldOffers : Algorithms → Side → AggId → List ℕ → WorldState → Reply → WorldState → Type 0
@@ -173,11 +183,13 @@ WorldOffers gives s agg octets old r new =
 
 -- what the event does, if its system and cable exist
 abbrev pub DoesEvent : Algorithms → WorldState → Event → Reply → WorldState → Type 0
-DoesEvent gives old (event.Tick n count) r new = IsSomeAnd (side_of n) (λ s. InHalf s (HalfTicks (gives s) count) old new × (r ≡ reply.Ticked))
+DoesEvent gives old (event.Tick n count) r new = IsSomeAnd (side_of n)
+    (λ s. InHalf s (HalfTicks (gives s) count) old new × (r ≡ reply.Ticked))
 DoesEvent gives old (event.Emit n p) r new = IsSomeAnd (side_of n) (λ s. WorldEmits gives s p old r new)
 DoesEvent gives old (event.Deliver c n) r new =
     IsSomeAnd (side_of n) (λ s. OnLink c (λ i l. DeliversFrom gives s i l (towards s l) old r new) old.links)
-DoesEvent gives old (event.Lose c n) r new = IsSomeAnd (side_of n) (λ s. OnLink c (λ i l. LosesFrom s i l (towards s l) old r new) old.links)
+DoesEvent gives old (event.Lose c n) r new = IsSomeAnd (side_of n)
+    (λ s. OnLink c (λ i l. LosesFrom s i l (towards s l) old r new) old.links)
 DoesEvent gives old (event.Repeat c n) r new =
     IsSomeAnd (side_of n) (λ s. OnLink c (λ i l. RepeatsFrom gives s l (towards s l) old r new) old.links)
 DoesEvent gives old (event.Cut c) r new = OnLink c (λ i l. (r ≡ reply.Cut) × (new ≡ with_link_at i (cut l) old)) old.links
@@ -189,8 +201,10 @@ DoesEvent gives old (event.Restart n) r new =
 DoesEvent gives old (event.Configure n p change) r new = IsSomeAnd (side_of n)
     (λ s. InHalf s (λ h k. HalfConfigures (gives s) p change h r k) old new)
 DoesEvent gives old (event.Offer n agg octets) r new = IsSomeAnd (side_of n) (λ s. WorldOffers gives s agg octets.items old r new)
-DoesEvent gives old (event.Move n agg conv p) r new = IsSomeAnd (side_of n) (λ s. InHalf s (λ h k. HalfMoves (gives s) agg conv p h r k) old new)
-DoesEvent gives old (event.Force n agg conv) r new = IsSomeAnd (side_of n) (λ s. InHalf s (λ h k. HalfForces (gives s) agg conv h r k) old new)
+DoesEvent gives old (event.Move n agg conv p) r new = IsSomeAnd (side_of n)
+    (λ s. InHalf s (λ h k. HalfMoves (gives s) agg conv p h r k) old new)
+DoesEvent gives old (event.Force n agg conv) r new = IsSomeAnd (side_of n)
+    (λ s. InHalf s (λ h k. HalfForces (gives s) agg conv h r k) old new)
 
 -- From old, the world may give this reply to the event and change to new.
 abbrev pub WorldSteps : Algorithms → WorldState → Event → Reply → WorldState → Type 0
@@ -246,7 +260,8 @@ has_system (Some n) = is_some (side_of n)
 -- The first of three reasons to refuse an event: its cable does not exist, its system does not exist, no more events may
 -- act. The arguments: the cable exists; the system exists; no more may act.
 abbrev pub first_event_cause : Bool → Bool → Bool → Option WorldFault
-first_event_cause cable system spent = if cable then (if system then (if spent then Some Spent else None) else Some NoSystem) else Some NoCable
+first_event_cause cable system spent =
+    if cable then (if system then (if spent then Some Spent else None) else Some NoSystem) else Some NoCable
 
 -- the first reason to refuse an event, leaving memory aside
 abbrev pub cause : WorldState → Event → Option WorldFault

@@ -47,7 +47,12 @@ party_or a (Some b) = b
 
 -- The history of a port after an event: its own parameters, and its change count, which is one more if they differ.
 abbrev pub with_party_recorded : Option Party → PortHistory → PortHistory
-with_party_recorded party history = record history { party = party_or history.party party; count = if is_party history.party party then history.count else history.count + 1 }
+with_party_recorded party history =
+    record history {
+      party = party_or history.party party;
+      count = if is_party history.party party then history.count
+          else history.count + 1;
+    }
 
 -- the history of a port, with the own parameters that it has in this state, and its changes counted
 abbrev pub change_counted : SystemState → PortHistory → PortHistory
@@ -69,7 +74,8 @@ or_refused f (Err fault) = reply.Refused fault
 -- the port at an end of a cable learns whether the cable is whole
 abbrev pub HalfSenses : (ℕ → ℕ → ℕ → Type 0) → ℕ → Bool → HalfState → Reply → HalfState → Type 0
 HalfSenses gives p up old r new =
-    (a : Result Unit SystemFault) × HalfAnswers gives (Set_link p up) (answer.SetLink a) old new × (r ≡ or_refused (λ done. reply.Sensed up) a)
+    (a : Result Unit SystemFault) × HalfAnswers gives (Set_link p up) (answer.SetLink a) old new
+    × (r ≡ or_refused (λ done. reply.Sensed up) a)
 
 -- a port gets another key, priority or Aggregation bit, and changes are counted
 abbrev pub HalfConfigures : (ℕ → ℕ → ℕ → Type 0) → ℕ → PortChange → HalfState → Reply → HalfState → Type 0

@@ -3,7 +3,8 @@ use Rattle.std.specs.Prelude.{Bool, true, List, [], map, Option, Some, None, opt
 use Rattle.lagmodel.specs.World.{Side, Message, Ends, TakenLacpdu, World, WorldSetup}
 use Rattle.lagsystem.specs.ModelView.{model_setup, lacp_message as model_lacpdu, model_view}
 use Rattle.lagworld.specs.declared.histories.StampedLacpdu.{StampedLacpdu}
-use Rattle.lagworld.specs.State.{WorldState, LinkState, half, towards, element_numbered, history_at, change_count_in, taken_in, flow_at, sent_in, collected_in, forced_in}
+use Rattle.lagworld.specs.State.{WorldState, LinkState, half, towards, element_numbered, history_at, change_count_in, taken_in, flow_at}
+use Rattle.lagworld.specs.State.{sent_in, collected_in, forced_in}
 use Rattle.lagworld.specs.Messages.{item_message}
 
 -- the two ports that a cable joins

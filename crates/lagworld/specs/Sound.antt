@@ -4,7 +4,8 @@ use Rattle.cables.specs.declared.item.Stamp.{Stamp}
 use Rattle.cables.specs.declared.item.Stamp.TheVariants as stamp
 use Rattle.slowpdu.specs.Frames.{IsSlowProtocolsFrame}
 use Rattle.lagmodel.specs.World.{Side, One, Two, peer, IsCabling, Event as ModelEvent, Run, first_world}
-use Rattle.lagmodel.specs.Law.{LastLacpduSaysInSync, UpToDateLacpdusNameSender, OnItsCable, FlushedByMarker, BelowNext, CollectedThenInFlight, CountsFromZero}
+use Rattle.lagmodel.specs.Law.{LastLacpduSaysInSync, UpToDateLacpdusNameSender, OnItsCable, FlushedByMarker, BelowNext}
+use Rattle.lagmodel.specs.Law.{CollectedThenInFlight, CountsFromZero}
 use Rattle.lagmodel.specs.View.{first_view}
 use Rattle.lagsystem.specs.ModelView.{model_setup, model_view}
 use Rattle.lagsystem.specs.Sound.{PortsAgree}
@@ -112,7 +113,8 @@ pub record IsStart (j : WorldState) : Type 0 where
   pub empty : (s : Side) (i : ℕ) (l : LinkState) → slice_get j.links i ≡ Some l → (towards s l ≡ []) × (l.whole ≡ true)
   pub ends : (s : Side) (i : ℕ) (l : LinkState) → slice_get j.links i ≡ Some l → IsSome (history_at (half s j).histories (port_at s l))
   pub counts : (s : Side) → AreBelow 0 (half s j).histories
-  pub histories : (s : Side) (p : ℕ) (history : PortHistory) → history_at (half s j).histories p ≡ Some history → (history.count ≡ 0) × (history.taken ≡ None)
+  pub histories : (s : Side) (p : ℕ) (history : PortHistory) → history_at (half s j).histories p ≡ Some history → (history.count ≡ 0)
+      × (history.taken ≡ None)
   pub flows : (s : Side) (g k : ℕ) (x : FlowValue) → flow_at (half s j).flows g k ≡ Some x → (x.sent ≡ []) × (x.collected ≡ [])
       × (x.forced ≡ false)
   pub acted : j.acted ≡ 0

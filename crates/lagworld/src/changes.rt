@@ -43,7 +43,8 @@ impl<F: Fn(u16, usize) -> usize + Drop> Half<F> {
     /// Gives a port of this system another key, priority or Aggregation bit.
     fn configure(&mut self, port: u16, change: PortChange) -> Reply
         requires { AreBelow most_events self.old.histories.items }
-        ensures configures { HalfConfigures (F.post self.old.system.algorithm) port change (half_state self.old) result (half_state self.new) }
+        ensures configures { HalfConfigures (F.post self.old.system.algorithm) port change (half_state self.old)
+            result (half_state self.new) }
         ensures algorithm { self.new.system.algorithm ≡ self.old.system.algorithm }
     {
         let answer = self.system.configure(port, change);

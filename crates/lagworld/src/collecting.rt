@@ -43,7 +43,8 @@ pub(crate) fn reserve_collected(
 /// Adds a serial number to a conversation's list of collected ones, for which a place is reserved.
 fn collect_in(conversations: &mut Vec<Flow>, conv: usize, serial: u64)
     requires room { CanCollect (slice_get conversations.old.items conv) }
-    ensures { aggregator_flow_values conversations.new ≡ change_flow_in (with_collected serial) (slice_get (aggregator_flow_values conversations.old) conv) conv (aggregator_flow_values conversations.old) }
+    ensures { aggregator_flow_values conversations.new ≡ change_flow_in (with_collected serial)
+        (slice_get (aggregator_flow_values conversations.old) conv) conv (aggregator_flow_values conversations.old) }
 {
     if conv >= conversations.len() {
         return;

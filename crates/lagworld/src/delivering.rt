@@ -1,8 +1,11 @@
-ghost use Rattle.std.specs.Prelude.{◌≡◌, ◌+◌, ◌≤◌, ◌<◌, ℕ, [], length, map, option_map, slice_get, slice_set, true, vec_capacity, vec_len, IfErr, IfOk, IfSome, IsSomeAnd, OnOk, Some};
+ghost use Rattle.std.specs.Prelude.{◌≡◌, ◌+◌, ◌≤◌, ◌<◌, ℕ, [], length, map, option_map, slice_get, slice_set, true, vec_capacity};
+ghost use Rattle.std.specs.Prelude.{vec_len, IfErr, IfOk, IfSome, IsSomeAnd, OnOk, Some};
 ghost use Rattle.slowpdu.specs.declared.pdu.Lacpdu.{Lacpdu};
 ghost use Rattle.slowpdu.specs.Lacpdus.{Reads};
 ghost use Rattle.lagworld.specs.declared.fault.WorldFault.TheVariants.{NoMemory as OutOfMemory};
-ghost use Rattle.lagworld.specs.Arriving.{HalfReceives, Concludes, WorldDelivers, HalfReceivesFirst, WorldReceivesFirst, CarriesLacpdu, CanCollectFor, IsToRecord, HasPlacesForItem, WorldRepeats, first_head, head_in, is_data, last_lacpdu_recorded, history_index, without_first};
+ghost use Rattle.lagworld.specs.Arriving.{HalfReceives, Concludes, WorldDelivers, HalfReceivesFirst, WorldReceivesFirst, CarriesLacpdu};
+ghost use Rattle.lagworld.specs.Arriving.{CanCollectFor, IsToRecord, HasPlacesForItem, WorldRepeats, first_head, head_in, is_data};
+ghost use Rattle.lagworld.specs.Arriving.{last_lacpdu_recorded, history_index, without_first};
 ghost use Rattle.lagworld.specs.Events.{with_stamp_collected, has_cable, stamped_in, with_item_sent, set_last_lacpdu};
 ghost use Rattle.lagworld.specs.WorldCalls.{world_state};
 ghost use Rattle.lagworld.specs.Inner.{half_state, link_state, link_states};
@@ -137,7 +140,8 @@ fn record_last_lacpdu(histories: &mut Vec<PortHistory>, port: u16, lacpdu: Optio
 impl<F: Fn(u16, usize) -> usize + Drop> Half<F> {
     /// An item arrives on a port of this system.
     fn receive(&mut self, port: u16, item: &Item) -> Result<Received, SystemFault>
-        ensures comes { HalfReceives (F.post self.old.system.algorithm) port (item_value item.now) result (half_state self.old) (half_state self.new) }
+        ensures comes { HalfReceives (F.post self.old.system.algorithm) port (item_value item.now) result
+            (half_state self.old) (half_state self.new) }
         ensures algorithm { self.new.system.algorithm ≡ self.old.system.algorithm }
         ensures flows { self.new.flows ≡ self.old.flows }
     {
@@ -153,7 +157,8 @@ impl<F: Fn(u16, usize) -> usize + Drop> Half<F> {
         cable: &C,
         port: u16,
     ) -> Option<Result<Received, SystemFault>>
-        ensures comes { HalfReceivesFirst (F.post self.old.system.algorithm) port (map item_value (C.items cable.now)) result (half_state self.old)
+        ensures comes { HalfReceivesFirst (F.post self.old.system.algorithm) port (map item_value (C.items cable.now))
+            result (half_state self.old)
             (half_state self.new) }
         ensures algorithm { self.new.system.algorithm ≡ self.old.system.algorithm }
         ensures flows { self.new.flows ≡ self.old.flows }
@@ -276,7 +281,8 @@ impl<C: Cable, F: Fn(u16, usize) -> usize + Drop> Inner<C, F> {
     fn receive_first(&mut self, side: Side, index: usize) -> Option<Result<Received, SystemFault>>
         requires { index < length self.old.links.items }
         ensures received { IsSomeAnd (slice_get (link_states C.items C.limit self.old.links.items) index)
-            (λ l. WorldReceivesFirst (both_algorithms (F.post self.old.one.system.algorithm) (F.post self.old.two.system.algorithm)) (model_side side)
+            (λ l. WorldReceivesFirst (both_algorithms (F.post self.old.one.system.algorithm) (F.post self.old.two.system.algorithm))
+            (model_side side)
             (port_at (model_side side) l) (towards (model_side side) l) result (world_state C.items C.limit self.old)
             (world_state C.items C.limit self.new)) }
         ensures links { self.new.links ≡ self.old.links }
@@ -299,7 +305,8 @@ impl<C: Cable, F: Fn(u16, usize) -> usize + Drop> Inner<C, F> {
         requires empty { bytes.items ≡ [] }
         requires room { vec_len bytes + 124 ≤ vec_capacity bytes }
         ensures accepted { result ≡ is_accepted (model_side side) port (link_states C.items C.limit self.old.links.items) }
-        ensures put { world_state C.items C.limit self.new ≡ with_item_sent (model_side side) port (record { octets = frame; stamp = Stamp.Control 0 })
+        ensures put { world_state C.items C.limit self.new ≡ with_item_sent (model_side side) port
+            (record { octets = frame; stamp = Stamp.Control 0 })
             (world_state C.items C.limit self.old) }
         ensures acted { self.new.acted ≡ self.old.acted }
         ensures algorithm_one { self.new.one.system.algorithm ≡ self.old.one.system.algorithm }

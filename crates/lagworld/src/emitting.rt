@@ -149,7 +149,8 @@ impl<C: Cable, F: Fn(u16, usize) -> usize + Drop> Inner<C, F> {
         requires place { IsReserved C.items C.limit C.reserved (model_side side) port self.old.links.items }
         requires empty { octets.items ≡ [] }
         requires room { vec_len octets + 124 ≤ vec_capacity octets }
-        ensures emits { WorldEmits (both_algorithms (F.post self.old.one.system.algorithm) (F.post self.old.two.system.algorithm)) (model_side side) port
+        ensures emits { WorldEmits (both_algorithms (F.post self.old.one.system.algorithm) (F.post self.old.two.system.algorithm))
+            (model_side side) port
             (world_state C.items C.limit self.old) result (world_state C.items C.limit self.new) }
         ensures acted { self.new.acted ≡ self.old.acted }
         ensures algorithm_one { self.new.one.system.algorithm ≡ self.old.one.system.algorithm }
@@ -164,7 +165,8 @@ impl<C: Cable, F: Fn(u16, usize) -> usize + Drop> Inner<C, F> {
 
     /// Sends what is due on a port of a system.
     pub(crate) fn emit(&mut self, system: u8, port: u16) -> Result<Reply, WorldFault>
-        ensures emits { IfOk result (λ reply. WorldEmits (both_algorithms (F.post self.old.one.system.algorithm) (F.post self.old.two.system.algorithm))
+        ensures emits { IfOk result
+            (λ reply. WorldEmits (both_algorithms (F.post self.old.one.system.algorithm) (F.post self.old.two.system.algorithm))
             (side_named system) port (world_state C.items C.limit self.old) reply (world_state C.items C.limit self.new)) }
         ensures refused { IfErr result (λ fault. fault ≡ OutOfMemory) }
         ensures unchanged { IfErr result (λ fault. world_state C.items C.limit self.new ≡ world_state C.items C.limit self.old) }

@@ -59,7 +59,8 @@ impl<C: Cable, F: Fn(u16, usize) -> usize + Drop> Inner<C, F> {
         requires two { PicksIndexes (F.pre self.old.two.system.algorithm) (F.post self.old.two.system.algorithm) }
         requires sound { IsSound (world_state C.items C.limit self.old) }
         ensures accepted { IfOk result (λ reply. cause (world_state C.items C.limit self.old) event.now ≡ None) }
-        ensures steps { IfOk result (λ reply. WorldSteps (both_algorithms (F.post self.old.one.system.algorithm) (F.post self.old.two.system.algorithm))
+        ensures steps { IfOk result
+            (λ reply. WorldSteps (both_algorithms (F.post self.old.one.system.algorithm) (F.post self.old.two.system.algorithm))
             (world_state C.items C.limit self.old) event.now reply (world_state C.items C.limit self.new)) }
         ensures refused { IfErr result (λ fault. fault ≡ cause_or_no_memory (cause (world_state C.items C.limit self.old) event.now)) }
         ensures memory { IfErr result (λ fault. cause (world_state C.items C.limit self.old) event.now ≡ None
@@ -83,7 +84,8 @@ impl<C: Cable, F: Fn(u16, usize) -> usize + Drop> Inner<C, F> {
         requires two { PicksIndexes (F.pre self.old.two.system.algorithm) (F.post self.old.two.system.algorithm) }
         requires sound { IsSound (world_state C.items C.limit self.old) }
         requires accepted { cause (world_state C.items C.limit self.old) event.now ≡ None }
-        ensures does { IfOk result (λ reply. DoesEvent (both_algorithms (F.post self.old.one.system.algorithm) (F.post self.old.two.system.algorithm))
+        ensures does { IfOk result
+            (λ reply. DoesEvent (both_algorithms (F.post self.old.one.system.algorithm) (F.post self.old.two.system.algorithm))
             (world_state C.items C.limit self.old) event.now reply (world_state C.items C.limit self.new)) }
         ensures refused { IfErr result (λ fault. fault ≡ OutOfMemory) }
         ensures memory { IfErr result (λ fault. may_take_memory event.now ≡ true) }

@@ -9,7 +9,8 @@ ghost use Rattle.lagworld.specs.ModelWorld.{world_setup, model_world};
 /// What an event does to a sound world, one whose invariant holds, is an event of the two-system theorem (lagmodel),
 /// whatever the distribution algorithms return (profile).
 pub fn each_event_happens<F: Fn(u16, usize) -> usize>()
-    ensures { (one two : F) (e : Event) (r : Reply) (old new : WorldState) → IsSound old → WorldSteps (both_algorithms (F.post one) (F.post two)) old e r new
+    ensures { (one two : F) (e : Event) (r : Reply) (old new : WorldState) → IsSound old
+        → WorldSteps (both_algorithms (F.post one) (F.post two)) old e r new
         → Happens (world_setup old) (model_event e) (model_world old) (model_world new) }
 {}
 

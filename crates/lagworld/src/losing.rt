@@ -57,7 +57,8 @@ impl<C: Cable, F: Fn(u16, usize) -> usize + Drop> Inner<C, F> {
     /// Loses the first item on a cable towards a system.
     pub(crate) fn lose(&mut self, cable: u16, system: u8) -> Reply
         requires there { has_cable (world_state C.items C.limit self.old) (Some cable) ≡ true }
-        ensures loses { WorldLoses (side_named system) cable (world_state C.items C.limit self.old) result (world_state C.items C.limit self.new) }
+        ensures loses { WorldLoses (side_named system) cable (world_state C.items C.limit self.old) result
+            (world_state C.items C.limit self.new) }
         ensures acted { self.new.acted ≡ self.old.acted }
         ensures algorithm_one { self.new.one.system.algorithm ≡ self.old.one.system.algorithm }
         ensures algorithm_two { self.new.two.system.algorithm ≡ self.old.two.system.algorithm }

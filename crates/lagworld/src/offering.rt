@@ -50,7 +50,8 @@ impl<F: Fn(u16, usize) -> usize + Drop> Half<F> {
     /// Offers a frame to an aggregator of this system; returns the port to send it on.
     fn ask_offer(&mut self, agg: AggId, frame: &[u8]) -> Result<u16, SystemFault>
         requires { PicksIndexes (F.pre self.old.system.algorithm) (F.post self.old.system.algorithm) }
-        ensures assigns { HalfAsksOffer (F.post self.old.system.algorithm) agg frame.now result (half_state self.old) (half_state self.new) }
+        ensures assigns { HalfAsksOffer (F.post self.old.system.algorithm) agg frame.now result
+            (half_state self.old) (half_state self.new) }
         ensures flows { self.new.flows ≡ self.old.flows }
         ensures algorithm { self.new.system.algorithm ≡ self.old.system.algorithm }
     {
@@ -144,9 +145,11 @@ impl<C: Cable, F: Fn(u16, usize) -> usize + Drop> Inner<C, F> {
     /// Records that a conversation of a system sends one more frame; returns the serial number of that frame.
     fn record_frame_sent(&mut self, side: Side, agg: AggId, conv: u16) -> u64
         requires { HasRoom agg.0 conv (by_side (model_side side) self.old.one.flows.items self.old.two.flows.items) }
-        ensures serial { result ≡ length (sent_in (flow_at (half (model_side side) (world_state C.items C.limit self.old)).flows agg.0 conv)) }
+        ensures serial { result ≡ length
+            (sent_in (flow_at (half (model_side side) (world_state C.items C.limit self.old)).flows agg.0 conv)) }
         ensures sent { world_state C.items C.limit self.new ≡ with_half (model_side side)
-            (with_sent_in agg.0 conv (half (model_side side) (world_state C.items C.limit self.old))) (world_state C.items C.limit self.old) }
+            (with_sent_in agg.0 conv (half (model_side side) (world_state C.items C.limit self.old)))
+            (world_state C.items C.limit self.old) }
         ensures links { self.new.links ≡ self.old.links }
         ensures acted { self.new.acted ≡ self.old.acted }
         ensures algorithm_one { self.new.one.system.algorithm ≡ self.old.one.system.algorithm }

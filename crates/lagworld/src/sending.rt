@@ -1,4 +1,5 @@
-ghost use Rattle.std.specs.Prelude.{◌≡◌, ◌<◌, ◌==◌, ◌++◌, [], ◌∷◌, ℕ, length, map, not, position, slice_get, slice_set, if◌then◌else◌, IfErr, IfSome, IsSomeAnd, IsTrue, OnOk, Some};
+ghost use Rattle.std.specs.Prelude.{◌≡◌, ◌<◌, ◌==◌, ◌++◌, [], ◌∷◌, ℕ, length, map, not, position, slice_get, slice_set, if◌then◌else◌};
+ghost use Rattle.std.specs.Prelude.{IfErr, IfSome, IsSomeAnd, IsTrue, OnOk, Some};
 ghost use Rattle.lagworld.specs.declared.fault.WorldFault.TheVariants.{NoMemory as OutOfMemory};
 ghost use Rattle.lagworld.specs.Inner.{link_state, link_states};
 ghost use Rattle.lagworld.specs.Messages.{item_value};
@@ -47,7 +48,8 @@ impl<C: Cable> Link<C> {
     /// Sends an item of a system on this cable; returns false, and loses the item, if the cable is cut or full.
     fn send(&mut self, side: Side, item: Item) -> bool
         requires { IsTrue (is_reserved C.reserved (model_side side) self.old) }
-        ensures sent { link_state C.items C.limit self.new ≡ sent_on (model_side side) (item_value item) (link_state C.items C.limit self.old) }
+        ensures sent { link_state C.items C.limit self.new ≡ sent_on (model_side side) (item_value item)
+            (link_state C.items C.limit self.old) }
         ensures accepted { result ≡ accepts (model_side side) (link_state C.items C.limit self.old) }
     {
         if !self.whole {

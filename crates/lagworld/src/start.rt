@@ -4,7 +4,9 @@ ghost use Rattle.lagsystem.specs.First.{config_refusal as refusal_of_one};
 ghost use Rattle.lagsystem.specs.Sound.{PortsAgree};
 ghost use Rattle.lagworld.specs.WorldCalls.{world_state};
 ghost use Rattle.lagworld.specs.Inner.{half_state, link_states, flow_value};
-ghost use Rattle.lagworld.specs.Making.{IsFirstHalf, IsMade, RefusesToMake, are_empty_lines, conversations_per_aggregator, first_flows, first_links, first_history, first_histories, first_aggregator_flows, has_empty_directions, empty_flow, refusal_with};
+ghost use Rattle.lagworld.specs.Making.{IsFirstHalf, IsMade, RefusesToMake, are_empty_lines, conversations_per_aggregator, first_flows};
+ghost use Rattle.lagworld.specs.Making.{first_links, first_history, first_histories, first_aggregator_flows, has_empty_directions};
+ghost use Rattle.lagworld.specs.Making.{empty_flow, refusal_with};
 ghost use Rattle.lagworld.specs.Sound.{IsStart};
 ghost use Rattle.lagworld.specs.declared.fault.WorldFault.TheVariants.{NoMemory as OutOfMemory};
 

@@ -69,7 +69,8 @@ impl<C: Cable, F: Fn(u16, usize) -> usize + Drop> World<C, F> {
         requires one { PicksIndexes (F.pre self.old.one) (F.post self.old.one) }
         requires two { PicksIndexes (F.pre self.old.two) (F.post self.old.two) }
         ensures accepted { IfOk result (λ reply. cause self.old.state event.now ≡ None) }
-        ensures steps { IfOk result (λ reply. WorldSteps (both_algorithms (F.post self.old.one) (F.post self.old.two)) self.old.state event.now reply
+        ensures steps { IfOk result (λ reply. WorldSteps (both_algorithms (F.post self.old.one) (F.post self.old.two))
+            self.old.state event.now reply
             self.new.state) }
         ensures happens { IfOk result (λ reply. Happens (world_setup self.old.state) (model_event event.now) (model_world self.old.state)
             (model_world self.new.state)) }
@@ -102,10 +103,12 @@ impl<C: Cable, F: Fn(u16, usize) -> usize + Drop> World<C, F> {
     pub fn run(&mut self, events: &[Event]) -> Result<Vec<Reply>, RunFault>
         requires one { PicksIndexes (F.pre self.old.one) (F.post self.old.one) }
         requires two { PicksIndexes (F.pre self.old.two) (F.post self.old.two) }
-        ensures ran { IfOk result (λ replies. WorldRuns (both_algorithms (F.post self.old.one) (F.post self.old.two)) self.old.state events.now
+        ensures ran { IfOk result (λ replies. WorldRuns (both_algorithms (F.post self.old.one) (F.post self.old.two))
+            self.old.state events.now
             replies.items self.new.state) }
         ensures happened { IfOk result (λ replies. RunsInModel self.old.state events.now self.new.state) }
-        ensures stopped { IfErr result (λ stop. RunStops (both_algorithms (F.post self.old.one) (F.post self.old.two)) self.old.state events.now stop
+        ensures stopped { IfErr result
+            (λ stop. RunStops (both_algorithms (F.post self.old.one) (F.post self.old.two)) self.old.state events.now stop
             self.new.state) }
         ensures one_partner { (s : Side) → OnePartner ((model_world self.new.state).view s) }
         ensures agree { EndsAgree (world_setup self.new.state) (model_world self.new.state) }

@@ -1,5 +1,6 @@
 -- The machines are deterministic: each call has exactly one effect.
-use Rattle.std.proofs.Common.{◌≡◌, ℕ, zero, suc, Bool, true, false, cond, not, ◌&&◌, ◌||◌, List, [], ◌∷◌, refl, sym, ◌∙◌, ap, subst, inl, inr}
+use Rattle.std.proofs.Common.{◌≡◌, ℕ, zero, suc, Bool, true, false, cond, not, ◌&&◌, ◌||◌, List, [], ◌∷◌, refl, sym, ◌∙◌, ap, subst, inl}
+use Rattle.std.proofs.Common.{inr}
 use Rattle.std.proofs.lemmas.Bool.{and_left, and_right, and_parts, or_parts, not-true}
 use Rattle.lagtypes.specs.declared.party.Choice.{Choice}
 use Rattle.lagtypes.specs.declared.party.Choice.TheVariants.{Unselected, Selected}
@@ -44,7 +45,8 @@ record OneWay (I : Machines → Type 0) (rows : List Row) : Type 0 where
   same : (p q r : Machines) → I p → Fires rows p q → Fires rows p r → q ≡ r
   stays : (p q : Machines) → I p → Fires rows p q → I q
 
-one_end : (I : Machines → Type 0) (rows : List Row) → OneWay I rows → (n m : ℕ) (p q r : Machines) → I p → Goes rows n p q → Goes rows m p r → AtRest rows q → AtRest rows r → q ≡ r
+one_end : (I : Machines → Type 0) (rows : List Row) → OneWay I rows → (n m : ℕ) (p q r : Machines) → I p → Goes rows n p q → Goes rows m p r
+    → AtRest rows q → AtRest rows r → q ≡ r
 one_end I rows way zero zero p q r i g h a b = g ∙ sym h
 one_end I rows way zero (suc m) p q r i g h a b = absurd (none_fires rows p h.0 (subst (AtRest rows) g a) h.1)
 one_end I rows way (suc n) zero p q r i g h a b = absurd (none_fires rows p g.0 (subst (AtRest rows) h b) g.1)
@@ -52,7 +54,8 @@ one_end I rows way (suc n) (suc m) p q r i g h a b =
     let e : g.0 ≡ h.0 = way.same p g.0 h.0 i g.1 h.1 in
     one_end I rows way n m g.0 q r (way.stays p g.0 i g.1) g.2 (subst (λ (x : Machines). Goes rows m x r) (sym e) h.2) a b
 
-settles_one : (I : Machines → Type 0) (rows : List Row) → OneWay I rows → (p q r : Machines) → I p → RunsToRest rows p q → RunsToRest rows p r → q ≡ r
+settles_one : (I : Machines → Type 0) (rows : List Row) → OneWay I rows → (p q r : Machines) → I p → RunsToRest rows p q
+    → RunsToRest rows p r → q ≡ r
 settles_one I rows way p q r i g h = one_end I rows way g.0 h.0 p q r i (goes rows g.0 p q g.1) (goes rows h.0 p r h.1) g.2 h.2
 
 -- rows of which at most one is enabled
@@ -71,8 +74,10 @@ tests (row ∷ rows) p = row.enabled p ∷ tests rows p
 
 none-rest : (rows : List Row) (p : Machines) → none (tests rows p) ≡ true → AtRest rows p
 none-rest [] p h = tt
-none-rest (row ∷ rows) p h =
-    (not-true (row.enabled p) (and_parts (not (row.enabled p)) (none (tests rows p)) h).0, none-rest rows p (and_parts (not (row.enabled p)) (none (tests rows p)) h).1)
+none-rest (row ∷ rows) p h = (
+  not-true (row.enabled p) (and_parts (not (row.enabled p)) (none (tests rows p)) h).0,
+  none-rest rows p (and_parts (not (row.enabled p)) (none (tests rows p)) h).1,
+)
 
 cond-then : (b x : Bool) → cond b x true ≡ true → b ≡ true → x ≡ true
 cond-then true x h t = h
@@ -80,7 +85,9 @@ cond-then false x h t = let e : false ≡ true = t in cc
 
 later-rest : (row : Row) (rows : List Row) (p : Machines) → at_most_one (tests (row ∷ rows) p) ≡ true → row.enabled p ≡ true → AtRest rows p
 later-rest row rows p h t =
-    none-rest rows p (cond-then (row.enabled p) (none (tests rows p)) (and_parts (cond (row.enabled p) (none (tests rows p)) true) (at_most_one (tests rows p)) h).0 t)
+    none-rest rows p
+    (cond-then (row.enabled p) (none (tests rows p))
+    (and_parts (cond (row.enabled p) (none (tests rows p)) true) (at_most_one (tests rows p)) h).0 t)
 
 fires_one : (rows : List Row) (p q r : Machines) → at_most_one (tests rows p) ≡ true → Fires rows p q → Fires rows p r → q ≡ r
 fires_one [] p q r h f g = absurd f
@@ -103,17 +110,20 @@ in_order-not earlier (row ∷ rows) p q f =
       | inr h ↦ (or_parts (earlier p) (row.enabled p) (in_order-not (λ x. earlier x || row.enabled x) rows p q h)).0
     ]
 
-in_order-one : (earlier : Machines → Bool) (rows : List Row) (p q r : Machines) → Fires (in_order earlier rows) p q → Fires (in_order earlier rows) p r → q ≡ r
+in_order-one : (earlier : Machines → Bool) (rows : List Row) (p q r : Machines) → Fires (in_order earlier rows) p q
+    → Fires (in_order earlier rows) p r → q ≡ r
 in_order-one earlier [] p q r f g = absurd f
 in_order-one earlier (row ∷ rows) p q r f g =
     let next : Machines → Bool = λ x. earlier x || row.enabled x in
     elim f [
       | inl x ↦ elim g [
         | inl y ↦ x.1 ∙ sym y.1
-        | inr y ↦ no (row.enabled p) (and_parts (not (earlier p)) (row.enabled p) x.0).1 (or_parts (earlier p) (row.enabled p) (in_order-not next rows p r y)).1
+        | inr y ↦ no (row.enabled p) (and_parts (not (earlier p)) (row.enabled p) x.0).1
+            (or_parts (earlier p) (row.enabled p) (in_order-not next rows p r y)).1
       ]
       | inr x ↦ elim g [
-        | inl y ↦ no (row.enabled p) (and_parts (not (earlier p)) (row.enabled p) y.0).1 (or_parts (earlier p) (row.enabled p) (in_order-not next rows p q x)).1
+        | inl y ↦ no (row.enabled p) (and_parts (not (earlier p)) (row.enabled p) y.0).1
+            (or_parts (earlier p) (row.enabled p) (in_order-not next rows p q x)).1
         | inr y ↦ in_order-one next rows p q r x y
       ]
     ]
@@ -132,7 +142,8 @@ sixth_of_six : (b : Bool) → at_most_one (false ∷ false ∷ false ∷ false �
 sixth_of_six true = refl
 sixth_of_six false = refl
 
-mux-tests : (ready : Bool) (p : Machines) (s : MuxState) (c : Choice) → at_most_one (tests (mux_rows ready) (record p { mux = s; choice = c })) ≡ true
+mux-tests : (ready : Bool) (p : Machines) (s : MuxState) (c : Choice)
+    → at_most_one (tests (mux_rows ready) (record p { mux = s; choice = c })) ≡ true
 mux-tests ready p Detached Unselected = refl
 mux-tests ready p Detached (Selected agg) = refl
 mux-tests ready p Waiting Unselected = refl
@@ -174,39 +185,70 @@ second_of_five : (b : Bool) → at_most_one (false ∷ b ∷ false ∷ false ∷
 second_of_five true = refl
 second_of_five false = refl
 
-second_or_fourth : (enabled expired : Bool) → (expired && not enabled) ≡ false → at_most_one (false ∷ not enabled ∷ false ∷ expired ∷ false ∷ []) ≡ true
+second_or_fourth : (enabled expired : Bool) → (expired && not enabled) ≡ false
+    → at_most_one (false ∷ not enabled ∷ false ∷ expired ∷ false ∷ []) ≡ true
 second_or_fourth true true h = refl
 second_or_fourth true false h = refl
 second_or_fourth false true h = sym h
 second_or_fourth false false h = refl
 
-second_or_fifth : (enabled expired : Bool) → (expired && not enabled) ≡ false → at_most_one (false ∷ not enabled ∷ false ∷ false ∷ expired ∷ []) ≡ true
+second_or_fifth : (enabled expired : Bool) → (expired && not enabled) ≡ false
+    → at_most_one (false ∷ not enabled ∷ false ∷ false ∷ expired ∷ []) ≡ true
 second_or_fifth true true h = refl
 second_or_fifth true false h = refl
 second_or_fifth false true h = sym h
 second_or_fifth false false h = refl
 
 -- INITIALIZE has two rows that do the same
-from_start : (p q : Machines) → Fires receive_rows (record p { receive = Initialize }) q → q ≡ partner_not_synchronized (record p { receive = PortDisabled })
+from_start : (p q : Machines) → Fires receive_rows (record p { receive = Initialize }) q
+    → q ≡ partner_not_synchronized (record p { receive = PortDisabled })
 from_start p q f =
-    elim f [ inl h ↦ h.1 | inr f ↦ elim f [ inl h ↦ h.1 | inr f ↦ elim f [ inl h ↦ no false h.0 refl | inr f ↦ elim f [ inl h ↦ no false h.0 refl | inr f ↦ elim f [ inl h ↦ no false h.0 refl | inr f ↦ absurd f ] ] ] ] ]
+    elim f [
+      | inl h ↦ h.1
+      | inr f ↦
+          elim f [
+            | inl h ↦ h.1
+            | inr f ↦
+                elim f [
+                  | inl h ↦ no false h.0 refl
+                  | inr f ↦
+                      elim f [ inl h ↦ no false h.0 refl | inr f ↦ elim f [ inl h ↦ no false h.0 refl | inr f ↦ absurd f ] ]
+                ]
+          ]
+    ]
 
-receive-same : (p : Machines) (s : ReceiveState) (q r : Machines) → safe s p.enabled (current_while_expired p) → Fires receive_rows (record p { receive = s }) q → Fires receive_rows (record p { receive = s }) r → q ≡ r
+receive-same : (p : Machines) (s : ReceiveState) (q r : Machines) → safe s p.enabled (current_while_expired p)
+    → Fires receive_rows (record p { receive = s }) q → Fires receive_rows (record p { receive = s }) r → q ≡ r
 receive-same p Initialize q r i f g = from_start p q f ∙ sym (from_start p r g)
 receive-same p PortDisabled q r i f g = fires_one receive_rows (record p { receive = PortDisabled }) q r (third_of_five p.enabled) f g
-receive-same p Expired q r i f g = fires_one receive_rows (record p { receive = Expired }) q r (second_or_fourth p.enabled (current_while_expired p) i) f g
+receive-same p Expired q r i f g = fires_one receive_rows (record p { receive = Expired }) q r
+    (second_or_fourth p.enabled (current_while_expired p) i) f g
 receive-same p Defaulted q r i f g = fires_one receive_rows (record p { receive = Defaulted }) q r (second_of_five (not p.enabled)) f g
-receive-same p Current q r i f g = fires_one receive_rows (record p { receive = Current }) q r (second_or_fifth p.enabled (current_while_expired p) i) f g
+receive-same p Current q r i f g = fires_one receive_rows (record p { receive = Current }) q r
+    (second_or_fifth p.enabled (current_while_expired p) i) f g
 
 receive-stays : (p q : Machines) → IsSafe p → Fires receive_rows p q → IsSafe q
 receive-stays p q i f =
-    elim f [ inl h ↦ subst IsSafe (sym h.1) tt | inr f ↦ elim f [ inl h ↦ subst IsSafe (sym h.1) tt | inr f ↦ elim f [ inl h ↦ subst IsSafe (sym h.1) refl | inr f ↦ elim f [ inl h ↦ subst IsSafe (sym h.1) tt | inr f ↦ elim f [ inl h ↦ subst IsSafe (sym h.1) refl | inr f ↦ absurd f ] ] ] ] ]
+    elim f [
+      | inl h ↦ subst IsSafe (sym h.1) tt
+      | inr f ↦
+          elim f [
+            | inl h ↦ subst IsSafe (sym h.1) tt
+            | inr f ↦
+                elim f [
+                  | inl h ↦ subst IsSafe (sym h.1) refl
+                  | inr f ↦
+                      elim f [ inl h ↦ subst IsSafe (sym h.1) tt | inr f ↦ elim f [ inl h ↦ subst IsSafe (sym h.1) refl | inr f ↦ absurd f ] ]
+                ]
+          ]
+    ]
 
 receive-way : OneWay IsSafe receive_rows
 receive-way = record { same = λ p q r i f g. receive-same p p.receive q r i f g; stays = receive-stays }
 
 -- at rest a port is still so after a tick
-rest-counted : (p : Machines) (s : ReceiveState) (expired : Bool) → AtRest receive_rows (record p { receive = s }) → safe s p.enabled expired
+rest-counted : (p : Machines) (s : ReceiveState) (expired : Bool) → AtRest receive_rows (record p { receive = s })
+    → safe s p.enabled expired
 rest-counted p Initialize expired rest = tt
 rest-counted p PortDisabled expired rest = tt
 rest-counted p Expired expired rest = and_right expired (not p.enabled) rest.1.0
@@ -214,7 +256,8 @@ rest-counted p Defaulted expired rest = tt
 rest-counted p Current expired rest = and_right expired (not p.enabled) rest.1.0
 
 -- and after a change of the link
-rest-linked : (p : Machines) (s : ReceiveState) (enabled : Bool) → AtRest receive_rows (record p { receive = s }) → safe s enabled (current_while_expired p)
+rest-linked : (p : Machines) (s : ReceiveState) (enabled : Bool) → AtRest receive_rows (record p { receive = s })
+    → safe s enabled (current_while_expired p)
 rest-linked p Initialize enabled rest = tt
 rest-linked p PortDisabled enabled rest = tt
 rest-linked p Expired enabled rest = and_left (current_while_expired p) (not enabled) rest.1.1.1.0
@@ -227,7 +270,8 @@ taking-one pdu p q r f g = elim f [ inl x ↦ elim g [ inl y ↦ x.1 ∙ sym y.1
 -- each call has one effect
 pub one_effect : OneEffect
 one_effect Tick old one other rest h k =
-    settles_one IsSafe receive_rows receive-way (count_down old) one other (rest-counted old old.receive (current_while_expired (count_down old)) rest) h k
+    settles_one IsSafe receive_rows receive-way (count_down old) one other
+    (rest-counted old old.receive (current_while_expired (count_down old)) rest) h k
 one_effect (Transmit max_delay) old one other rest h k = h ∙ sym k
 one_effect (Set_link enabled) old one other rest h k =
     settles_one IsSafe receive_rows receive-way (record old { enabled = enabled }) one other (rest-linked old old.receive enabled rest) h k

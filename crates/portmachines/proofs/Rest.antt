@@ -14,7 +14,8 @@ looked_at p = (p.receive, p.enabled, p.current_while)
 
 rest-along : (p q : Machines) → looked_at q ≡ looked_at p → AtRest receive_rows p → AtRest receive_rows q
 rest-along p q e rest =
-    subst (λ (s : ReceiveState × Bool × ℕ). AtRest receive_rows (record p { receive = s.0; enabled = s.1; current_while = s.2 })) (sym e) rest
+    subst (λ (s : ReceiveState × Bool × ℕ). AtRest receive_rows (record p { receive = s.0; enabled = s.1; current_while = s.2 }))
+    (sym e) rest
 
 mux-keeps : (ready : Bool) → EachKeeps looked_at (mux_rows ready)
 mux-keeps ready = (λ p. refl, (λ p. refl, (λ p. refl, (λ p. refl, (λ p. refl, (λ p. refl, tt))))))
@@ -22,7 +23,8 @@ mux-keeps ready = (λ p. refl, (λ p. refl, (λ p. refl, (λ p. refl, (λ p. ref
 periodic-keeps : EachKeeps looked_at periodic_rows
 periodic-keeps = (λ p. refl, (λ p. refl, (λ p. refl, (λ p. refl, (λ p. refl, (λ p. refl, (λ p. refl, tt)))))))
 
-pub rest_after_mux : (ready : Bool) (n : ℕ) (p q : Machines) → FiresTimes (mux_rows ready) n p q → AtRest receive_rows p → AtRest receive_rows q
+pub rest_after_mux : (ready : Bool) (n : ℕ) (p q : Machines) → FiresTimes (mux_rows ready) n p q
+    → AtRest receive_rows p → AtRest receive_rows q
 rest_after_mux ready n p q run rest = rest-along p q (Reaches-keeps looked_at (mux_rows ready) (mux-keeps ready) n p q run) rest
 
 pub rest_after_periodic : (p q : Machines) → RunsPeriodic p q → AtRest receive_rows p → AtRest receive_rows q

@@ -4,7 +4,8 @@ use Rattle.portmachines.specs.Machines.{Machines}
 use Rattle.portmachines.specs.Rows.{Row, Fires, FiresTimes}
 
 -- one more row fires
-pub Reaches-more : (rows : List Row) (n : ℕ) (old mid new : Machines) → FiresTimes rows n old mid → Fires rows mid new → FiresTimes rows (n + 1) old new
+pub Reaches-more : (rows : List Row) (n : ℕ) (old mid new : Machines) → FiresTimes rows n old mid → Fires rows mid new
+    → FiresTimes rows (n + 1) old new
 Reaches-more rows n old mid new run fired = rw add-one (mid, run, fired)
 
 -- no row changes what f reads
@@ -16,6 +17,7 @@ pub Fires-keeps : {A : Type 0} (f : Machines → A) (rows : List Row) → EachKe
 Fires-keeps f [] k p q h = absurd h
 Fires-keeps f (row ∷ rows) k p q h = elim h [ inl fired ↦ ap f fired.1 ∙ k.0 p | inr later ↦ Fires-keeps f rows k.1 p q later ]
 
-pub Reaches-keeps : {A : Type 0} (f : Machines → A) (rows : List Row) → EachKeeps f rows → (n : ℕ) (p q : Machines) → FiresTimes rows n p q → f q ≡ f p
+pub Reaches-keeps : {A : Type 0} (f : Machines → A) (rows : List Row) → EachKeeps f rows → (n : ℕ) (p q : Machines)
+    → FiresTimes rows n p q → f q ≡ f p
 Reaches-keeps f rows k zero p q run = ap f run
 Reaches-keeps f rows k (suc n) p q run = Fires-keeps f rows k run.0 q run.2 ∙ Reaches-keeps f rows k n p run.0 run.1

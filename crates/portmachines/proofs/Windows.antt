@@ -1,5 +1,6 @@
 -- Any eleven consecutive ticks hold at most three LACPDUs.
-use Rattle.std.proofs.Common.{◌≡◌, ℕ, zero, suc, ◌+◌, ◌-◌, ◌≤◌, ◌<◌, Bool, true, false, ◌&&◌, cond, List, [], ◌∷◌, ◌++◌, length, nat_le, nat_lt, if◌then◌else◌, refl, sym, ◌∙◌, ap, subst, arith, append_assoc, inl, inr}
+use Rattle.std.proofs.Common.{◌≡◌, ℕ, zero, suc, ◌+◌, ◌-◌, ◌≤◌, ◌<◌, Bool, true, false, ◌&&◌, cond, List, [], ◌∷◌, ◌++◌, length, nat_le}
+use Rattle.std.proofs.Common.{nat_lt, if◌then◌else◌, refl, sym, ◌∙◌, ap, subst, arith, append_assoc, inl, inr}
 use Rattle.std.specs.List.{AllByRecursion}
 use Rattle.std.proofs.lemmas.Bool.Decides.{nat_tests}
 use Rattle.slowpdu.specs.declared.pdu.Lacpdu.{Lacpdu}
@@ -85,7 +86,9 @@ ge_from : (a k : ℕ) → nat_lt a k ≡ false → k ≤ a
 ge_from a k h = grind (arith, nat_tests)
 
 -- the ages that are at most k + 1 after the tick were at most k before it
-aged-one : (k a : ℕ) (rest : List ℕ) (b : Bool) → k + 1 ≤ 10 → nat_lt (a + 1) 11 ≡ b → count_passing (λ x. nat_le x (k + 1)) (cond b ((a + 1) ∷ rest) rest) ≡ cond (nat_le a k) 1 0 + count_passing (λ x. nat_le x (k + 1)) rest
+aged-one : (k a : ℕ) (rest : List ℕ) (b : Bool) → k + 1 ≤ 10 → nat_lt (a + 1) 11 ≡ b
+    → count_passing (λ x. nat_le x (k + 1)) (cond b ((a + 1) ∷ rest) rest) ≡ cond (nat_le a k) 1 0 + count_passing
+    (λ x. nat_le x (k + 1)) rest
 aged-one k a rest true h e = ap (λ b. cond b 1 0 + count_passing (λ x. nat_le x (k + 1)) rest) (le_suc a k)
 aged-one k a rest false h e =
     let old = ge_from (a + 1) 11 e in
@@ -114,16 +117,20 @@ none : (p : ℕ → Bool) (xs : List ℕ) → AllByRecursion (λ x. p x ≡ fals
 none p [] h = refl
 none p (x ∷ xs) h = let here : bit (p x) ≡ 0 = ap bit h.0 in omega (arith, here, none p xs h.1)
 
-later-recent : (now : ℕ) (ages ticks : List ℕ) → Inv now ages ticks → (k : ℕ) → k ≤ 10 → count_passing (λ s. nat_le (now + 1) (s + k)) ticks ≤ count_passing (λ a. nat_le a k) (aged ages)
+later-recent : (now : ℕ) (ages ticks : List ℕ) → Inv now ages ticks → (k : ℕ) → k ≤ 10
+    → count_passing (λ s. nat_le (now + 1) (s + k)) ticks ≤ count_passing (λ a. nat_le a k) (aged ages)
 later-recent now ages ticks i zero h =
-    let no = none (λ s. nat_le (now + 1) (s + 0)) ticks (all-weaker (λ s. s ≤ now) (λ s. nat_le (now + 1) (s + 0) ≡ false) ticks (λ s e. le_false (now + 1) (s + 0) (omega (arith, e))) i.past) in
+    let no = none (λ s. nat_le (now + 1) (s + 0)) ticks (all-weaker (λ s. s ≤ now) (λ s. nat_le (now + 1) (s + 0) ≡ false) ticks
+    (λ s e. le_false (now + 1) (s + 0) (omega (arith, e))) i.past) in
     omega (arith, no)
 later-recent now ages ticks i (suc k) h =
     let fewer = count-weaker (λ s. nat_le (now + 1) (s + suc k)) (λ s. nat_le now (s + k)) ticks
-    (all-weaker (λ s. s ≤ now) (λ s. nat_le (now + 1) (s + suc k) ≡ true → nat_le now (s + k) ≡ true) ticks (λ s e t. let l = le_from (now + 1) (s + suc k) t in le_true now (s + k) (omega (arith, l))) i.past) in
+    (all-weaker (λ s. s ≤ now) (λ s. nat_le (now + 1) (s + suc k) ≡ true → nat_le now (s + k) ≡ true) ticks
+    (λ s e t. let l = le_from (now + 1) (s + suc k) t in le_true now (s + k) (omega (arith, l))) i.past) in
     let old = i.recent k (omega (arith, h)) in
     let e : suc k ≡ k + 1 = omega arith in
-    let same : count_passing (λ a. nat_le a (suc k)) (aged ages) ≡ count_passing (λ a. nat_le a k) ages = rw e (count-aged k ages (omega (arith, h))) in
+    let same : count_passing (λ a. nat_le a (suc k)) (aged ages) ≡ count_passing (λ a. nat_le a k) ages =
+    rw e (count-aged k ages (omega (arith, h))) in
     omega (arith, fewer, old, same)
 
 Inv-tick : (now : ℕ) (ages ticks : List ℕ) → Inv now ages ticks → Inv (now + 1) (aged ages) ticks
@@ -133,7 +140,8 @@ Inv-tick now ages ticks i = record {
   window = i.window;
 }
 
-sent-window : (now : ℕ) (ages ticks : List ℕ) → length ages < 3 → Inv now ages ticks → (first : ℕ) (b : Bool) → (nat_le first now && nat_lt now (first + 11)) ≡ b → within_eleven first ticks + cond b 1 0 ≤ 3
+sent-window : (now : ℕ) (ages ticks : List ℕ) → length ages < 3 → Inv now ages ticks → (first : ℕ) (b : Bool)
+    → (nat_le first now && nat_lt now (first + 11)) ≡ b → within_eleven first ticks + cond b 1 0 ≤ 3
 sent-window now ages ticks few i first true e =
     let below = lt_from now (first + 11) (and_right (nat_le first now) _ e) in
     let some = count-weaker (λ s. nat_le first s && nat_lt s (first + 11)) (λ s. nat_le now (s + 10)) ticks
@@ -164,7 +172,11 @@ Inv-same now p q ticks e i = subst (λ ages. Inv now ages ticks) (sym e) i
 
 pub taking-ages : (pdu : Lacpdu) (p q : Machines) → FiresIfEnabled (lacpdu_rows pdu) p q → q.ages ≡ p.ages
 taking-ages pdu p q h =
-    elim h [ inl fired ↦ Fires-keeps ages_of (lacpdu_rows pdu) (taking-same pdu) p q fired | inr rest ↦ ap (λ (x : Machines). x.ages) rest.1 ]
+    elim h [
+      | inl fired ↦ Fires-keeps ages_of (lacpdu_rows pdu) (taking-same pdu) p q fired
+      | inr rest ↦
+          ap (λ (x : Machines). x.ages) rest.1
+    ]
 
 pub periodic-ages : (p q : Machines) → RunsPeriodic p q → q.ages ≡ p.ages
 periodic-ages p q h =
@@ -180,19 +192,25 @@ append-nil (x ∷ xs) = ap (λ ys. x ∷ ys) (append-nil xs)
 abbrev Continues : ℕ → List PortCall → Machines → Type 0
 Continues now calls mid = (before rest : List ℕ) → Inv now mid.ages before → SendsAtTicks now calls mid rest → KeepsWindow (before ++ rest)
 
-transmit-window : (now : ℕ) (calls : List PortCall) (old mid : Machines) (before ticks rest : List ℕ) (due : Bool) → is_due old ≡ due → Continues now calls mid → Inv now old.ages before → mid ≡ (if due then after_sending old else old) → SendsAtTicks now calls mid rest → ticks ≡ (if due then now ∷ rest else rest) → KeepsWindow (before ++ ticks)
+transmit-window : (now : ℕ) (calls : List PortCall) (old mid : Machines) (before ticks rest : List ℕ) (due : Bool) → is_due old ≡ due
+    → Continues now calls mid → Inv now old.ages before → mid ≡ (if due then after_sending old else old) → SendsAtTicks now calls mid rest
+    → ticks ≡ (if due then now ∷ rest else rest) → KeepsWindow (before ++ ticks)
 transmit-window now calls old mid before ticks rest true due go i e run t =
     let few = lt_from (length old.ages) 3 (and_right old.ntt _ due) in
-    let next : Inv now mid.ages (before ++ now ∷ []) = subst (λ (p : Machines). Inv now p.ages (before ++ now ∷ [])) (sym e) (Inv-send now old.ages before few i) in
+    let next : Inv now mid.ages (before ++ now ∷ []) = subst (λ (p : Machines). Inv now p.ages (before ++ now ∷ [])) (sym e)
+    (Inv-send now old.ages before few i) in
     subst KeepsWindow (append_assoc before (now ∷ []) rest ∙ ap (λ xs. before ++ xs) (sym t)) (go (before ++ now ∷ []) rest next run)
 transmit-window now calls old mid before ticks rest false due go i e run t =
-    subst KeepsWindow (ap (λ xs. before ++ xs) (sym t)) (go before rest (Inv-same now old mid before (ap (λ (x : Machines). x.ages) e) i) run)
+    subst KeepsWindow (ap (λ xs. before ++ xs) (sym t))
+    (go before rest (Inv-same now old mid before (ap (λ (x : Machines). x.ages) e) i) run)
 
-quiet-window : (now : ℕ) (calls : List PortCall) (old mid : Machines) (before ticks rest : List ℕ) → Continues now calls mid → mid.ages ≡ old.ages → Inv now old.ages before → SendsAtTicks now calls mid rest → ticks ≡ rest → KeepsWindow (before ++ ticks)
+quiet-window : (now : ℕ) (calls : List PortCall) (old mid : Machines) (before ticks rest : List ℕ) → Continues now calls mid
+    → mid.ages ≡ old.ages → Inv now old.ages before → SendsAtTicks now calls mid rest → ticks ≡ rest → KeepsWindow (before ++ ticks)
 quiet-window now calls old mid before ticks rest go e i run t =
     subst KeepsWindow (ap (λ xs. before ++ xs) (sym t)) (go before rest (Inv-same now old mid before e i) run)
 
-run-window : (now : ℕ) (calls : List PortCall) (old : Machines) (before ticks : List ℕ) → Inv now old.ages before → SendsAtTicks now calls old ticks → KeepsWindow (before ++ ticks)
+run-window : (now : ℕ) (calls : List PortCall) (old : Machines) (before ticks : List ℕ) → Inv now old.ages before
+    → SendsAtTicks now calls old ticks → KeepsWindow (before ++ ticks)
 run-window now [] old before ticks i h = subst KeepsWindow (sym (ap (λ xs. before ++ xs) h ∙ append-nil before)) i.window
 run-window now (Tick ∷ calls) old before ticks i h =
     let ages : h.0.ages ≡ aged old.ages = settles-same (count_down old) h.0 h.2 in
@@ -201,17 +219,20 @@ run-window now (Tick ∷ calls) old before ticks i h =
 run-window now (Transmit max_delay ∷ calls) old before ticks i h =
     transmit-window now calls old h.0 before ticks h.1 (is_due old) refl (λ b r. run-window now calls h.0 b r) i h.2 h.3 h.4
 run-window now (Set_link enabled ∷ calls) old before ticks i h =
-    quiet-window now calls old h.0 before ticks h.1 (λ b r. run-window now calls h.0 b r) (settles-same (record old { enabled = enabled }) h.0 h.2) i h.3 h.4
+    quiet-window now calls old h.0 before ticks h.1 (λ b r. run-window now calls h.0 b r)
+    (settles-same (record old { enabled = enabled }) h.0 h.2) i h.3 h.4
 run-window now (Take pdu ∷ calls) old before ticks i h =
     quiet-window now calls old h.0 before ticks h.1 (λ b r. run-window now calls h.0 b r) (taking-ages pdu old h.0 h.2) i h.3 h.4
 run-window now (Mux ready ∷ calls) old before ticks i h =
-    quiet-window now calls old h.0 before ticks h.1 (λ b r. run-window now calls h.0 b r) (Reaches-keeps ages_of (mux_rows ready) (mux-same ready) h.2.0 old h.0 h.2.1) i h.3 h.4
+    quiet-window now calls old h.0 before ticks h.1 (λ b r. run-window now calls h.0 b r)
+    (Reaches-keeps ages_of (mux_rows ready) (mux-same ready) h.2.0 old h.0 h.2.1) i h.3 h.4
 run-window now (Periodic ∷ calls) old before ticks i h =
     quiet-window now calls old h.0 before ticks h.1 (λ b r. run-window now calls h.0 b r) (periodic-ages old h.0 h.2) i h.3 h.4
 run-window now (Select choice ∷ calls) old before ticks i h =
     quiet-window now calls old h.0 before ticks h.1 (λ b r. run-window now calls h.0 b r) (ap (λ (x : Machines). x.ages) h.2) i h.3 h.4
 run-window now (Reinit party ∷ calls) old before ticks i h =
-    quiet-window now calls old h.0 before ticks h.1 (λ b r. run-window now calls h.0 b r) (starts-ages (record old { party = party }) h.0 h.2) i h.3 h.4
+    quiet-window now calls old h.0 before ticks h.1 (λ b r. run-window now calls h.0 b r)
+    (starts-ages (record old { party = party }) h.0 h.2) i h.3 h.4
 
 -- the start
 
@@ -219,10 +240,16 @@ past-before : (now : ℕ) (ages : List ℕ) → AllByRecursion (λ s. s ≤ now)
 past-before now [] = tt
 past-before now (a ∷ more) = (omega arith, past-before now more)
 
-recent-before : (now k : ℕ) (ages : List ℕ) → AllByRecursion (λ a. a ≤ now) ages → count_passing (λ s. nat_le now (s + k)) (sent_before now ages) ≤ count_passing (λ a. nat_le a k) ages
+recent-before : (now k : ℕ) (ages : List ℕ) → AllByRecursion (λ a. a ≤ now) ages
+    → count_passing (λ s. nat_le now (s + k)) (sent_before now ages) ≤ count_passing (λ a. nat_le a k) ages
 recent-before now k [] h = omega arith
 recent-before now k (a ∷ more) h =
-    omega (arith, recent-before now k more h.1, bit-weaker (nat_le now (now - a + k)) (nat_le a k) (λ t. let l = le_from now (now - a + k) t in le_true a k (omega (arith, l, h.0))))
+    omega (
+      arith,
+      recent-before now k more h.1,
+      bit-weaker (nat_le now (now - a + k)) (nat_le a k)
+          (λ t. let l = le_from now (now - a + k) t in le_true a k (omega (arith, l, h.0))),
+    )
 
 length-before : (now : ℕ) (ages : List ℕ) → length (sent_before now ages) ≡ length ages
 length-before now [] = refl
@@ -235,6 +262,11 @@ window_law now calls old ticks kept few h =
     (record {
       past = past-before now old.ages;
       recent = λ k _. recent-before now k old.ages kept;
-      window = λ first. omega (arith, count-length (λ s. nat_le first s && nat_lt s (first + 11)) (sent_before now old.ages), length-before now old.ages, few);
+      window = λ first. omega (
+        arith,
+        count-length (λ s. nat_le first s && nat_lt s (first + 11)) (sent_before now old.ages),
+        length-before now old.ages,
+        few,
+      );
     })
     h

@@ -145,6 +145,7 @@ abbrev pub lacpdu_rows : Lacpdu → List Row
 lacpdu_rows pdu =
     -- EXPIRED, DEFAULTED, CURRENT; an LACPDU came; to CURRENT; update_Selected; update_NTT; recordPDU; current_while
     -- starts; Expired false
-    receive_row (λ s. same_receive_state Expired s || same_receive_state Defaulted s || same_receive_state Current s) (λ p. p.enabled) Current
+    receive_row (λ s. same_receive_state Expired s || same_receive_state Defaulted s || same_receive_state Current s)
+    (λ p. p.enabled) Current
     (λ p. start_current_while (record_pdu pdu (update_ntt pdu (update_selected (party_of pdu.actor) p))))
     ∷ []

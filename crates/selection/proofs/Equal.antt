@@ -25,7 +25,8 @@ group-from_test v w h = pairs_from_groups (ends w) (ends v) (exact_group (group_
 
 test-from_group : (v w : PortView) → SamePair (ends w) (ends v) → has_group_of v w ≡ true
 test-from_group v w h =
-    subst (λ g. same_group (group_of w.party w.partner) g ≡ true) (groups_from_pairs (ends w) (ends v) h) (group-itself (group_of w.party w.partner))
+    subst (λ g. same_group (group_of w.party w.partner) g ≡ true) (groups_from_pairs (ends w) (ends v) h)
+    (group-itself (group_of w.party w.partner))
 
 pub group-test : (v w : PortView) → IsTrue (has_group_of v w) ↔ SamePair (ends w) (ends v)
 group-test v w = (group-from_test v w, test-from_group v w)
@@ -47,7 +48,8 @@ ordered-has false e f p h = or_right (has_side e p) (has_side f p) h
 
 partner-kept : (a b : Party) → is_side (group_of a b) b ≡ true
 partner-kept a b =
-    ordered-has (is_lt (end_cmp (end_of (individual a b) b) (end_of (individual a b) a))) (end_of (individual a b) a) (end_of (individual a b) b) b
+    ordered-has (is_lt (end_cmp (end_of (individual a b) b) (end_of (individual a b) a))) (end_of (individual a b) a)
+    (end_of (individual a b) b) b
     (side-itself (individual a b) b)
 
 differs : (a b : Party) (g : Group) (same : Bool) → same_group (group_of a b) g ≡ same → is_side g b ≡ false → same ≡ false
@@ -56,5 +58,6 @@ differs a b g true e h =
     let kept : is_side g b ≡ true = subst (λ k. is_side k b ≡ true) (exact_group (group_of a b) g e) (partner-kept a b) in absurd cc
 
 -- so a group with no such end is another one
-pub group-without_partner : (a b : Party) (g : Group) → (has_side g.lower b || has_side g.upper b) ≡ false → same_group (group_of a b) g ≡ false
+pub group-without_partner : (a b : Party) (g : Group) → (has_side g.lower b || has_side g.upper b) ≡ false
+    → same_group (group_of a b) g ≡ false
 group-without_partner a b g h = differs a b g (same_group (group_of a b) g) refl h

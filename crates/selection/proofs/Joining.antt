@@ -1,5 +1,6 @@
 -- The choice of a port leads to an aggregator that it may join.
-use Rattle.std.proofs.Common.{◌≡◌, ◌≢◌, ℕ, zero, suc, ◌+◌, ◌-◌, Bool, true, false, not, ◌&&◌, ◌||◌, cond, List, [], ◌∷◌, ◌⊎◌, inl, inr, refl, sym, ◌∙◌, subst, ap, arith, Option, Some, None}
+use Rattle.std.proofs.Common.{◌≡◌, ◌≢◌, ℕ, zero, suc, ◌+◌, ◌-◌, Bool, true, false, not, ◌&&◌, ◌||◌, cond, List, [], ◌∷◌, ◌⊎◌, inl, inr}
+use Rattle.std.proofs.Common.{refl, sym, ◌∙◌, subst, ap, arith, Option, Some, None}
 use Rattle.std.specs.Prelude.{◌==◌, IfSome, IsSomeAnd, if◌then◌else◌, slice_get, find}
 use Rattle.std.specs.List.{All, AllByRecursion, list_all, enumerate_from}
 use Rattle.std.specs.Option.{option_map}
@@ -15,7 +16,8 @@ use Rattle.selection.specs.declared.view.PortView.{PortView}
 use Rattle.lagtypes.specs.Same.{same_system}
 use Rattle.lagtypes.specs.Choices.{is_unselected}
 use Rattle.selection.specs.Views.{is_detached, is_eligible, has_chosen}
-use Rattle.selection.specs.Choice.{chosen_if_eligible, chosen_for_view, ports_that_chose, has_group_of, has_member, has_no_member, members_share_group, lowest_from, aggregator_of_entry, or_else}
+use Rattle.selection.specs.Choice.{chosen_if_eligible, chosen_for_view, ports_that_chose, has_group_of, has_member, has_no_member}
+use Rattle.selection.specs.Choice.{members_share_group, lowest_from, aggregator_of_entry, or_else}
 use Rattle.selection.specs.Joining.{HasNoMember, MembersShareGroup, MayJoin, ends}
 
 -- tests
@@ -54,11 +56,13 @@ none_is_member agg (w ∷ ws) h = (
 )
 
 -- what all that are kept pass, the first passes if it is kept
-kept_passes : (test : PortView → Bool) (b : Bool) (w : PortView) (rest : List PortView) → list_all test (cond b (w ∷ rest) rest) ≡ true → (b ≡ true → test w ≡ true) × (list_all test rest ≡ true)
+kept_passes : (test : PortView → Bool) (b : Bool) (w : PortView) (rest : List PortView) → list_all test (cond b (w ∷ rest) rest) ≡ true
+    → (b ≡ true → test w ≡ true) × (list_all test rest ≡ true)
 kept_passes test true w rest h = (λ _. (and_parts (test w) (list_all test rest) h).0, (and_parts (test w) (list_all test rest) h).1)
 kept_passes test false w rest h = (λ k. absurd cc, h)
 
-members_share : (agg : AggId) (v : PortView) (views : List PortView) → list_all (has_group_of v) (ports_that_chose agg views) ≡ true → AllByRecursion (λ w. w.choice ≡ Selected agg → SamePair (ends w) (ends v)) views
+members_share : (agg : AggId) (v : PortView) (views : List PortView) → list_all (has_group_of v) (ports_that_chose agg views) ≡ true
+    → AllByRecursion (λ w. w.choice ≡ Selected agg → SamePair (ends w) (ends v)) views
 members_share agg v [] h = tt
 members_share agg v (w ∷ ws) h =
     let both = kept_passes (has_group_of v) (has_chosen agg w.choice) w (ports_that_chose agg ws) h in (
@@ -81,13 +85,32 @@ here : (first : ℕ) (k key : Key) (keys : List Key) (test : AggId → Bool) (ag
     → option_map aggregator_of_entry (cond (b && t) (Some (first, k)) rest) ≡ Some agg → Found first (k ∷ keys) key test agg
 here first k key keys test agg rest later true true same passed e =
     let is : aggregator_of_entry (first, k) ≡ agg = cc in
-    record { place = 0; counted = omega (arith, ap (λ (a : AggId). a.0) is); has_key = ap Some (exact_key k key same); passes = subst (λ a. test a ≡ true) is passed }
+    record {
+      place = 0;
+      counted = omega (arith, ap (λ (a : AggId). a.0) is);
+      has_key = ap Some (exact_key k key same);
+      passes =
+          subst (λ a. test a ≡ true) is passed;
+    }
 here first k key keys test agg rest later true false same passed e =
-    let found = later e in record { place = suc found.place; counted = omega (arith, found.counted); has_key = found.has_key; passes = found.passes }
+    let found = later e in record {
+      place = suc found.place;
+      counted = omega (arith, found.counted);
+      has_key =
+          found.has_key;
+      passes = found.passes;
+    }
 here first k key keys test agg rest later false t same passed e =
-    let found = later e in record { place = suc found.place; counted = omega (arith, found.counted); has_key = found.has_key; passes = found.passes }
+    let found = later e in record {
+      place = suc found.place;
+      counted = omega (arith, found.counted);
+      has_key =
+          found.has_key;
+      passes = found.passes;
+    }
 
-lowest-found : (first : ℕ) (keys : List Key) (key : Key) (test : AggId → Bool) (agg : AggId) → lowest_from first keys key test ≡ Some agg → Found first keys key test agg
+lowest-found : (first : ℕ) (keys : List Key) (key : Key) (test : AggId → Bool) (agg : AggId) → lowest_from first keys key test ≡ Some agg
+    → Found first keys key test agg
 lowest-found first [] key test agg e = absurd cc
 lowest-found first (k ∷ ks) key test agg e =
     here first k key ks test agg (find (λ row. (row.1.0 == key.0) && test (aggregator_of_entry row)) (enumerate_from (first + 1) ks))
@@ -101,17 +124,22 @@ is-unselected (Selected given) h = absurd cc
 
 eligible-apart : (v : PortView) → is_eligible v ≡ true → v.partner.system ≢ v.party.system
 eligible-apart v h e =
-    let differs = (and_parts (((v.enabled && v.settled) && is_detached v.stage) && is_unselected v.choice) (not (same_system v.partner.system v.party.system)) h).1 in
-    not_both (same_system v.partner.system v.party.system) (subst (λ s. same_system v.partner.system s ≡ true) e (system-itself v.partner.system)) (not-true (same_system v.partner.system v.party.system) differs)
+    let differs = (and_parts (((v.enabled && v.settled) && is_detached v.stage) && is_unselected v.choice)
+    (not (same_system v.partner.system v.party.system)) h).1 in
+    not_both (same_system v.partner.system v.party.system)
+    (subst (λ s. same_system v.partner.system s ≡ true) e (system-itself v.partner.system))
+    (not-true (same_system v.partner.system v.party.system) differs)
 
 eligible-outside : (v : PortView) → is_eligible v ≡ true → v.choice ≡ Unselected
 eligible-outside v h =
-    let first = (and_parts (((v.enabled && v.settled) && is_detached v.stage) && is_unselected v.choice) (not (same_system v.partner.system v.party.system)) h).0 in
+    let first = (and_parts (((v.enabled && v.settled) && is_detached v.stage) && is_unselected v.choice)
+    (not (same_system v.partner.system v.party.system)) h).0 in
     is-unselected v.choice ((and_parts ((v.enabled && v.settled) && is_detached v.stage) (is_unselected v.choice) first).1)
 
 -- the choice
 
-joins-by : (keys : List Key) (views : List PortView) (v : PortView) (agg : AggId) (test : AggId → Bool) → is_eligible v ≡ true → Found 1 keys v.party.key test agg
+joins-by : (keys : List Key) (views : List PortView) (v : PortView) (agg : AggId) (test : AggId → Bool) → is_eligible v ≡ true
+    → Found 1 keys v.party.key test agg
     → (test agg ≡ true → HasNoMember views agg ⊎ MembersShareGroup views agg v) → MayJoin keys views agg v
 joins-by keys views v agg test ok found members =
     let place : agg.0 - 1 ≡ found.place = omega (arith, found.counted) in
@@ -123,15 +151,22 @@ joins-by keys views v agg test ok found members =
       members = members found.passes;
     }
 
-shared-members : (views : List PortView) (v : PortView) (agg : AggId) → members_share_group views v agg ≡ true → MembersShareGroup views agg v
+shared-members : (views : List PortView) (v : PortView) (agg : AggId) → members_share_group views v agg ≡ true
+    → MembersShareGroup views agg v
 shared-members views v agg h =
-    let some = (and_parts (not (individual v.party v.partner) && has_member views agg) (list_all (has_group_of v) (ports_that_chose agg views)) h).0 in
+    let some = (and_parts (not (individual v.party v.partner) && has_member views agg)
+    (list_all (has_group_of v) (ports_that_chose agg views)) h).0 in
     record {
-      aggregatable = not-true (individual v.party v.partner) ((and_parts (not (individual v.party v.partner)) (has_member views agg) some).0);
-      one_group = all-from_each _ views (members_share agg v views ((and_parts (not (individual v.party v.partner) && has_member views agg) (list_all (has_group_of v) (ports_that_chose agg views)) h).1));
+      aggregatable = not-true (individual v.party v.partner)
+          ((and_parts (not (individual v.party v.partner)) (has_member views agg) some).0);
+      one_group = all-from_each _ views
+          (members_share agg v views
+          ((and_parts (not (individual v.party v.partner) && has_member views agg)
+          (list_all (has_group_of v) (ports_that_chose agg views)) h).1));
     }
 
-chosen : (keys : List Key) (views : List PortView) (v : PortView) (agg : AggId) → is_eligible v ≡ true → (o : Option AggId) → lowest_from 1 keys v.party.key (members_share_group views v) ≡ o
+chosen : (keys : List Key) (views : List PortView) (v : PortView) (agg : AggId) → is_eligible v ≡ true → (o : Option AggId)
+    → lowest_from 1 keys v.party.key (members_share_group views v) ≡ o
     → or_else o (lowest_from 1 keys v.party.key (has_no_member views)) ≡ Some agg → MayJoin keys views agg v
 chosen keys views v agg ok None none e =
     joins-by keys views v agg (has_no_member views) ok (lowest-found 1 keys v.party.key (has_no_member views) agg e)
@@ -145,14 +180,17 @@ if-some true o agg e = (refl, e)
 if-some false o agg e = absurd cc
 
 -- the port joins what it takes
-pub choice-joins : (keys : List Key) (views : List PortView) (v : PortView) (agg : AggId) → chosen_for_view keys views (Some v) ≡ Some agg → MayJoin keys views agg v
+pub choice-joins : (keys : List Key) (views : List PortView) (v : PortView) (agg : AggId) → chosen_for_view keys views (Some v) ≡ Some agg
+    → MayJoin keys views agg v
 choice-joins keys views v agg e =
     let both = if-some (is_eligible v) (chosen_if_eligible keys views v) agg e in
     chosen keys views v agg both.0 (lowest_from 1 keys v.party.key (members_share_group views v)) refl both.1
 
 -- the same of what a call answers for the port that it has seen
 pub answer-joins : (keys : List Key) (views : List PortView) (seen : Option PortView) (v : PortView) (answer : Option AggId)
-    → seen ≡ Some v → is_eligible v ≡ true → answer ≡ chosen_if_eligible keys views v → IfSome answer (λ agg. IsSomeAnd seen (MayJoin keys views agg))
+    → seen ≡ Some v → is_eligible v ≡ true → answer ≡ chosen_if_eligible keys views v
+    → IfSome answer (λ agg. IsSomeAnd seen (MayJoin keys views agg))
 answer-joins keys views seen v None is ok e = tt
 answer-joins keys views seen v (Some agg) is ok e =
-    subst (λ o. IsSomeAnd o (MayJoin keys views agg)) (sym is) (chosen keys views v agg ok (lowest_from 1 keys v.party.key (members_share_group views v)) refl (sym e))
+    subst (λ o. IsSomeAnd o (MayJoin keys views agg)) (sym is)
+    (chosen keys views v agg ok (lowest_from 1 keys v.party.key (members_share_group views v)) refl (sym e))

@@ -1,5 +1,6 @@
 -- How an aggregator stands after one view more.
-use Rattle.std.proofs.Common.{◌≡◌, ℕ, ◌+◌, ◌<◌, Bool, true, false, not, ◌&&◌, ◌||◌, cond, List, [], ◌∷◌, length, take, get_or, refl, ◌∙◌, ap}
+use Rattle.std.proofs.Common.{◌≡◌, ℕ, ◌+◌, ◌<◌, Bool, true, false, not, ◌&&◌, ◌||◌, cond, List, [], ◌∷◌, length, take, get_or, refl, ◌∙◌}
+use Rattle.std.proofs.Common.{ap}
 use Rattle.std.specs.Prelude.{filter, if◌then◌else◌}
 use Rattle.std.specs.List.{list_all, list_any}
 use Rattle.std.proofs.lemmas.List.Folds.{list_all-append, list_any_more}
@@ -19,7 +20,8 @@ and-true : (b : Bool) → (b && true) ≡ b
 and-true true = refl
 and-true false = refl
 
-none_first : (f : PortView → Bool) (w : PortView) (rest : List PortView) (b any : Bool) → (b || any) ≡ false → (any ≡ false → list_all f rest ≡ true)
+none_first : (f : PortView → Bool) (w : PortView) (rest : List PortView) (b any : Bool) → (b || any) ≡ false
+    → (any ≡ false → list_all f rest ≡ true)
     → list_all f (cond b (w ∷ rest) rest) ≡ true
 none_first f w rest true any h k = absurd cc
 none_first f w rest false any h k = k h
@@ -38,12 +40,14 @@ of_one f w false = refl
 abbrev stands : Bool → Bool → Bool → Standing
 stands shared some all = if not some then Empty else (if (shared && some) && all then Joinable else Taken)
 
-stands-same : (shared some other_some all other_all : Bool) → some ≡ other_some → all ≡ other_all → stands shared some all ≡ stands shared other_some other_all
+stands-same : (shared some other_some all other_all : Bool) → some ≡ other_some → all ≡ other_all
+    → stands shared some all ≡ stands shared other_some other_all
 stands-same shared some other_some all other_all e h = rw (e, h) refl
 
 -- one more port, which is a member or not
 stands-more : (shared some all has_chosen same : Bool) → (some ≡ false → all ≡ true)
-    → stands shared (some || has_chosen) (all && cond has_chosen same true) ≡ (if has_chosen then with_member (shared && same) (stands shared some all) else stands shared some all)
+    → stands shared (some || has_chosen) (all && cond has_chosen same true) ≡ (if has_chosen then with_member (shared && same)
+    (stands shared some all) else stands shared some all)
 stands-more shared false false has_chosen same h = let e : false ≡ true = h refl in absurd cc
 stands-more shared false true false same h = refl
 stands-more true false true true same h = refl
@@ -60,7 +64,8 @@ abbrev stands_in : (PortView → Bool) → (PortView → Bool) → Bool → List
 stands_in p f shared views = stands shared (list_any p views) (list_all f (filter p views))
 
 all-next : (p f : PortView → Bool) (views : List PortView) (i : ℕ) (d : PortView) → i < length views
-    → list_all f (filter p (take (i + 1) views)) ≡ (list_all f (filter p (take i views)) && cond (p (get_or views i d)) (f (get_or views i d)) true)
+    → list_all f (filter p (take (i + 1) views)) ≡ (list_all f (filter p (take i views))
+    && cond (p (get_or views i d)) (f (get_or views i d)) true)
 all-next p f views i d within =
     ap (λ l. list_all f l) (filter_more p views i d within)
     ∙ list_all-append f (filter p (take i views)) (cond (p (get_or views i d)) (get_or views i d ∷ []) [])
@@ -68,7 +73,8 @@ all-next p f views i d within =
 
 stands-next : (p f : PortView → Bool) (shared : Bool) (views : List PortView) (i : ℕ) (d : PortView) → i < length views
     → stands_in p f shared (take (i + 1) views)
-    ≡ (if p (get_or views i d) then with_member (shared && f (get_or views i d)) (stands_in p f shared (take i views)) else stands_in p f shared (take i views))
+    ≡ (if p (get_or views i d) then with_member (shared && f (get_or views i d)) (stands_in p f shared (take i views)) else stands_in p
+    f shared (take i views))
 stands-next p f shared views i d within =
     stands-same shared _ _ _ _ (list_any_more p views i d within) (all-next p f views i d within)
     ∙ stands-more shared (list_any p (take i views)) (list_all f (filter p (take i views))) (p (get_or views i d)) (f (get_or views i d))

@@ -73,7 +73,8 @@ impl Standings {
 /// Notes the choice of a port in the standings of the 64 aggregators after a number.
 fn note(list: &mut [Standing; 64], before: u16, port: &PortView, group: &Group, view: &PortView)
     requires { group.now ≡ group_of port.now.party port.now.partner }
-    ensures { (place : ℕ) → place < 64 → standing_at list.new place ≡ with_port (aggregator_after before place) port.now view.now (standing_at list.old place) }
+    ensures { (place : ℕ) → place < 64 → standing_at list.new place ≡ with_port (aggregator_after before place) port.now view.now
+        (standing_at list.old place) }
 {
     if let Choice::Selected(agg) = view.choice {
         if before < agg.0 && agg.0 - before <= 64 {

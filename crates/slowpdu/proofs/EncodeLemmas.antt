@@ -27,20 +27,28 @@ two_bytes : (n : ℕ) → n < 2 ^ 16 → n / 256 % 256 * 256 + (n % 256 * 1 + 0)
 two_bytes n h = omega arith
 
 pub written_cells : (p k q n s p' k' q' n' s' t a b c d e f a' b' c' d' e' f' : ℕ)
-    → let v : Lacpdu = make_lacpdu (make_info p (a ∷ b ∷ c ∷ d ∷ e ∷ f ∷ []) k q n s) (make_info p' (a' ∷ b' ∷ c' ∷ d' ∷ e' ∷ f' ∷ []) k' q' n' s') t in
+    → let v : Lacpdu = make_lacpdu (make_info p (a ∷ b ∷ c ∷ d ∷ e ∷ f ∷ []) k q n s)
+    (make_info p' (a' ∷ b' ∷ c' ∷ d' ∷ e' ∷ f' ∷ []) k' q' n' s') t in
     InfoFits v.actor → InfoFits v.partner → t < 2 ^ 16 → AreOctets (encoded v) → Writes (encoded v) v
 written_cells p k q n s p' k' q' n' s' t a b c d e f a' b' c' d' e' f' = λ fits fits' delay octets.
-    let v : Lacpdu = make_lacpdu (make_info p (a ∷ b ∷ c ∷ d ∷ e ∷ f ∷ []) k q n s) (make_info p' (a' ∷ b' ∷ c' ∷ d' ∷ e' ∷ f' ∷ []) k' q' n' s') t in
+    let v : Lacpdu = make_lacpdu (make_info p (a ∷ b ∷ c ∷ d ∷ e ∷ f ∷ []) k q n s)
+    (make_info p' (a' ∷ b' ∷ c' ∷ d' ∷ e' ∷ f' ∷ []) k' q' n' s') t in
     let octet_alone : s * 1 + 0 ≡ s = omega arith in
     let octet_alone' : s' * 1 + 0 ≡ s' = omega arith in
-    let actor : AllByRecursion (HoldsNumber (encoded v)) (info_fields 4 v.actor) =
-    (two_bytes p fits.system_priority, (refl, (two_bytes k fits.key, (two_bytes q fits.port_priority, (two_bytes n fits.port, (octet_alone, tt)))))) in
-    let partner : AllByRecursion (HoldsNumber (encoded v)) (info_fields 24 v.partner) =
-    (two_bytes p' fits'.system_priority, (refl, (two_bytes k' fits'.key, (two_bytes q' fits'.port_priority, (two_bytes n' fits'.port, (octet_alone', tt)))))) in
-    let collector : List Field = ignored_field 42 1 3 ∷ read_field 43 1 16 ∷ read_field 44 2 t ∷ ignored_field 58 1 0 ∷ ignored_field 59 1 0 ∷ [] in
+    let actor : AllByRecursion (HoldsNumber (encoded v)) (info_fields 4 v.actor) = (
+      two_bytes p fits.system_priority,
+      (refl, (two_bytes k fits.key, (two_bytes q fits.port_priority, (two_bytes n fits.port, (octet_alone, tt))))),
+    ) in
+    let partner : AllByRecursion (HoldsNumber (encoded v)) (info_fields 24 v.partner) = (
+      two_bytes p' fits'.system_priority,
+      (refl, (two_bytes k' fits'.key, (two_bytes q' fits'.port_priority, (two_bytes n' fits'.port, (octet_alone', tt))))),
+    ) in
+    let collector : List Field = ignored_field 42 1 3 ∷ read_field 43 1 16 ∷ read_field 44 2 t ∷ ignored_field 58 1 0
+    ∷ ignored_field 59 1 0 ∷ [] in
     let last : AllByRecursion (HoldsNumber (encoded v)) collector = (refl, (refl, (two_bytes t delay, (refl, (refl, tt))))) in
     let partner_on : List Field = ignored_field 22 1 2 ∷ read_field 23 1 20 ∷ (info_fields 24 v.partner ++ collector) in
-    let second : AllByRecursion (HoldsNumber (encoded v)) partner_on = (refl, (refl, all-append (HoldsNumber (encoded v)) (info_fields 24 v.partner) collector partner last)) in
+    let second : AllByRecursion (HoldsNumber (encoded v)) partner_on =
+    (refl, (refl, all-append (HoldsNumber (encoded v)) (info_fields 24 v.partner) collector partner last)) in
     record {
       addresses = (fits.address, fits'.address);
       table = record {
@@ -69,9 +77,11 @@ claim v actor partner =
     v.partner.system.priority v.partner.key.0 v.partner.port.priority v.partner.port.number (octet v.partner.state) v.max_delay
     x.0 x.1 x.2 x.3 x.4 x.5 y.0 y.1 y.2 y.3 y.4 y.5 in
     let n : List ℕ = y.0 ∷ y.1 ∷ y.2 ∷ y.3 ∷ y.4 ∷ y.5 ∷ [] in
-    subst (λ (t : List ℕ). Claim (with_macs v v.actor.system.mac t)) (sym y.6) (subst (λ (t : List ℕ). Claim (with_macs v t n)) (sym x.6) cells)
+    subst (λ (t : List ℕ). Claim (with_macs v v.actor.system.mac t)) (sym y.6)
+    (subst (λ (t : List ℕ). Claim (with_macs v t n)) (sym x.6) cells)
 
-pub written : (v : Lacpdu) (b : List ℕ) → b ≡ encoded v → InfoFits v.actor → InfoFits v.partner → v.max_delay < 2 ^ 16 → AreOctets b → Writes b v
+pub written : (v : Lacpdu) (b : List ℕ) → b ≡ encoded v → InfoFits v.actor → InfoFits v.partner → v.max_delay < 2 ^ 16
+    → AreOctets b → Writes b v
 written v b e actor partner delay octets =
     subst (λ (t : List ℕ). AreOctets t → Writes t v) (sym e) (claim v actor partner actor partner delay) octets
 
@@ -89,7 +99,8 @@ all_put v p1 p2 p3 p4 p5 p6 e1 e2 e3 e4 e5 e6 =
 -- the octets that `encode` puts for a marker, in its order
 abbrev pub encoded_marker : Marker → List ℕ
 encoded_marker m =
-    replaced (replaced (replaced (replaced (replicate 110 0) 0 (2 ∷ 1 ∷ tlv_type m.kind ∷ 16 ∷ [])) 4 (big_bytes 2 m.port)) 6 m.system) 12 (big_bytes 4 m.id)
+    replaced (replaced (replaced (replaced (replicate 110 0) 0 (2 ∷ 1 ∷ tlv_type m.kind ∷ 16 ∷ [])) 4 (big_bytes 2 m.port)) 6 m.system) 12
+    (big_bytes 4 m.id)
 
 marker_cells : (k : MarkerKind) (p id a b c d e f : ℕ)
     → let m : Marker = make_marker k p (a ∷ b ∷ c ∷ d ∷ e ∷ f ∷ []) id in
@@ -111,14 +122,17 @@ MarkerClaim m = m.port < 2 ^ 16 → m.id < 2 ^ 32 → IsAddress m.system → Are
 marker_claim : (m : Marker) → IsAddress m.system → MarkerClaim m
 marker_claim m address =
     let x = six m.system address.0 in
-    subst (λ (t : List ℕ). MarkerClaim (make_marker m.kind m.port t m.id)) (sym x.6) (marker_cells m.kind m.port m.id x.0 x.1 x.2 x.3 x.4 x.5)
+    subst (λ (t : List ℕ). MarkerClaim (make_marker m.kind m.port t m.id)) (sym x.6)
+    (marker_cells m.kind m.port m.id x.0 x.1 x.2 x.3 x.4 x.5)
 
-pub marker_written : (m : Marker) (b : List ℕ) → b ≡ encoded_marker m → m.port < 2 ^ 16 → m.id < 2 ^ 32 → IsAddress m.system → AreOctets b → WritesMarker b m
+pub marker_written : (m : Marker) (b : List ℕ) → b ≡ encoded_marker m → m.port < 2 ^ 16 → m.id < 2 ^ 32 → IsAddress m.system
+    → AreOctets b → WritesMarker b m
 marker_written m b e port id address octets =
     subst (λ (t : List ℕ). AreOctets t → WritesMarker t m) (sym e) (marker_claim m address port id address) octets
 
 -- the writes of `encode` for a marker, one after the other
-pub all_put_marker : (m : Marker) (n : ℕ) (p1 p2 p3 p4 : List ℕ) → n ≡ tlv_type m.kind → p1 ≡ replaced (replicate 110 0) 0 (2 ∷ 1 ∷ n ∷ 16 ∷ [])
+pub all_put_marker : (m : Marker) (n : ℕ) (p1 p2 p3 p4 : List ℕ) → n ≡ tlv_type m.kind
+    → p1 ≡ replaced (replicate 110 0) 0 (2 ∷ 1 ∷ n ∷ 16 ∷ [])
     → p2 ≡ replaced p1 4 (big_bytes 2 m.port) → p3 ≡ replaced p2 6 m.system → p4 ≡ replaced p3 12 (big_bytes 4 m.id) → p4 ≡ encoded_marker m
 all_put_marker m n p1 p2 p3 p4 en e1 e2 e3 e4 =
     e4 ∙ ap (λ (b : List ℕ). replaced b 12 (big_bytes 4 m.id)) (

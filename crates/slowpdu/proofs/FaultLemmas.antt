@@ -1,5 +1,6 @@
 -- The fault of a payload, cause by cause.
-use Rattle.std.proofs.Common.{◌≡◌, ◌≤◌, ◌<◌, ◌⊎◌, ◌++◌, ℕ, Bool, true, false, List, [], ◌∷◌, length, slice_index, None, refl, sym, ◌∙◌, inl, inr, arith}
+use Rattle.std.proofs.Common.{◌≡◌, ◌≤◌, ◌<◌, ◌⊎◌, ◌++◌, ℕ, Bool, true, false, List, [], ◌∷◌, length, slice_index, None, refl, sym, ◌∙◌}
+use Rattle.std.proofs.Common.{inl, inr, arith}
 use Rattle.std.specs.Prelude.{◌==◌, ◌&&◌, ◌||◌, not, nat_lt}
 use Rattle.std.proofs.lemmas.Bool.Decides.{nat_tests}
 use Rattle.std.proofs.lemmas.Grind.{common_steps}
@@ -9,11 +10,13 @@ use Rattle.slowpdu.specs.declared.fault.WireFault.TheVariants.{Short, OtherSubty
 use Rattle.slowpdu.specs.Layout.{payload_len}
 use Rattle.slowpdu.specs.Faults.{Cause, first_cause, fault_of}
 
-pub no_fault_1 : (b : List ℕ) → payload_len ≤ length b → slice_index b 0 ≡ 1 → slice_index b 3 ≡ 20 → slice_index b 23 ≡ 20 → slice_index b 43 ≡ 16
+pub no_fault_1 : (b : List ℕ) → payload_len ≤ length b → slice_index b 0 ≡ 1 → slice_index b 3 ≡ 20
+    → slice_index b 23 ≡ 20 → slice_index b 43 ≡ 16
     → fault_of b ≡ None
 no_fault_1 b long subtype actor partner collector = grind (arith, common_steps)
 
-pub no_fault_2 : (b : List ℕ) → payload_len ≤ length b → slice_index b 0 ≡ 2 → slice_index b 3 ≡ 16 → (slice_index b 2 ≡ 1) ⊎ (slice_index b 2 ≡ 2)
+pub no_fault_2 : (b : List ℕ) → payload_len ≤ length b → slice_index b 0 ≡ 2 → slice_index b 3 ≡ 16
+    → (slice_index b 2 ≡ 1) ⊎ (slice_index b 2 ≡ 2)
     → fault_of b ≡ None
 no_fault_2 b long subtype size kind = grind (arith, common_steps)
 
@@ -25,7 +28,8 @@ abbrev marker_causes : ℕ → ℕ → ℕ → List Cause
 marker_causes subtype type actor = ((subtype == 2) && not (actor == 16), BadLength 3 actor) ∷ marker_type_causes subtype type
 
 abbrev collector_causes : ℕ → ℕ → ℕ → ℕ → List Cause
-collector_causes subtype type actor collector = ((subtype == 1) && not (collector == 16), BadLength 43 collector) ∷ marker_causes subtype type actor
+collector_causes subtype type actor collector = ((subtype == 1) && not (collector == 16), BadLength 43 collector)
+    ∷ marker_causes subtype type actor
 
 abbrev partner_causes : ℕ → ℕ → ℕ → ℕ → ℕ → List Cause
 partner_causes subtype type actor partner collector =
@@ -61,7 +65,8 @@ fault-append b rest long =
     ∙ rw (subtype, type, actor, partner, collector) (sym (long_fault b long))
 
 -- if no cause of a list holds, neither the first nor one of the rest does
-none_holds : (holds : Bool) (e : WireFault) (rest : List Cause) → first_cause ((holds, e) ∷ rest) ≡ None → (holds ≡ false) × (first_cause rest ≡ None)
+none_holds : (holds : Bool) (e : WireFault) (rest : List Cause) → first_cause ((holds, e) ∷ rest) ≡ None → (holds ≡ false)
+    × (first_cause rest ≡ None)
 none_holds true e rest h = absurd cc
 none_holds false e rest h = (refl, h)
 

@@ -9,7 +9,8 @@ use Rattle.slowpdu.specs.Layout.{IsAddress, Field, HoldsNumber, read_fields, pay
 use Rattle.slowpdu.specs.Lacpdus.{Reads, Writes, lacpdu_table, info_fields}
 use Rattle.slowpdu.specs.Faults.{fault_of}
 use Rattle.slowpdu.proofs.FaultLemmas.{no_fault_1}
-use Rattle.slowpdu.proofs.LayoutLemmas.{one_number, one_table, numbers, octet_stands, all-append, table-append, table_of_append, written_table}
+use Rattle.slowpdu.proofs.LayoutLemmas.{one_number, one_table, numbers, octet_stands, all-append, table-append, table_of_append}
+use Rattle.slowpdu.proofs.LayoutLemmas.{written_table}
 
 abbrev pub number_at : ℕ → List ℕ → ℕ
 number_at i ns = slice_index ns i
@@ -48,11 +49,14 @@ read_numbers v = numbers (read_fields (lacpdu_table v))
 -- a payload has one reading
 pub one_reading : (b : List ℕ) (v w : Lacpdu) → Reads b v → Reads b w → w ≡ v
 one_reading b v w hv hw =
-    let e : read_numbers w ≡ read_numbers v = one_table b (read_fields (lacpdu_table w)) (read_fields (lacpdu_table v)) refl hw.table.fields_hold hv.table.fields_hold in
+    let e : read_numbers w ≡ read_numbers v = one_table b (read_fields (lacpdu_table w)) (read_fields (lacpdu_table v)) refl
+    hw.table.fields_hold hv.table.fields_hold in
     same_lacpdu w v
-    (same_info w.actor v.actor (ap (number_at 2) e) (one_address w.actor.system.mac v.actor.system.mac hw.addresses.0 hv.addresses.0 (ap (number_at 3) e))
+    (same_info w.actor v.actor (ap (number_at 2) e)
+    (one_address w.actor.system.mac v.actor.system.mac hw.addresses.0 hv.addresses.0 (ap (number_at 3) e))
     (ap (number_at 4) e) (ap (number_at 5) e) (ap (number_at 6) e) (ap (number_at 7) e))
-    (same_info w.partner v.partner (ap (number_at 9) e) (one_address w.partner.system.mac v.partner.system.mac hw.addresses.1 hv.addresses.1 (ap (number_at 10) e))
+    (same_info w.partner v.partner (ap (number_at 9) e)
+    (one_address w.partner.system.mac v.partner.system.mac hw.addresses.1 hv.addresses.1 (ap (number_at 10) e))
     (ap (number_at 11) e) (ap (number_at 12) e) (ap (number_at 13) e) (ap (number_at 14) e))
     (ap (number_at 16) e)
 
@@ -68,7 +72,8 @@ pub reads_of_append : (b rest : List ℕ) (v : Lacpdu) → payload_len ≤ lengt
 reads_of_append b rest v long h = record { addresses = h.addresses; table = table_of_append b rest (lacpdu_table v) long refl h.table }
 
 -- what the checks and the fields come to
-pub all_read : (b : List ℕ) (v : Lacpdu) → payload_len ≤ length b → slice_index b 0 ≡ 1 → slice_index b 3 ≡ 20 → slice_index b 23 ≡ 20 → slice_index b 43 ≡ 16
+pub all_read : (b : List ℕ) (v : Lacpdu) → payload_len ≤ length b → slice_index b 0 ≡ 1 → slice_index b 3 ≡ 20
+    → slice_index b 23 ≡ 20 → slice_index b 43 ≡ 16
     → IsAddress v.actor.system.mac → IsAddress v.partner.system.mac
     → AllByRecursion (HoldsNumber b) (info_fields 4 v.actor) → AllByRecursion (HoldsNumber b) (info_fields 24 v.partner)
     → big_number 2 (drop 44 b) ≡ v.max_delay → Reads b v
@@ -78,8 +83,11 @@ all_read b v long subtype actor_length partner_length collector_length actor_mac
     let second : List Field = read_field 23 1 20 ∷ (info_fields 24 v.partner ++ after) in
     let second_stands : AllByRecursion (HoldsNumber b) second =
     (octet_stands b 23 ∙ partner_length, all-append (HoldsNumber b) (info_fields 24 v.partner) after partner after_stands) in
-    let fields_hold : AllByRecursion (HoldsNumber b) (read_field 0 1 1 ∷ read_field 3 1 20 ∷ (info_fields 4 v.actor ++ second)) =
-    (octet_stands b 0 ∙ subtype, (octet_stands b 3 ∙ actor_length, all-append (HoldsNumber b) (info_fields 4 v.actor) second actor second_stands)) in
+    let fields_hold : AllByRecursion (HoldsNumber b) (read_field 0 1 1 ∷ read_field 3 1 20 ∷ (info_fields 4 v.actor ++ second)) = (
+      octet_stands b 0
+          ∙ subtype,
+      (octet_stands b 3 ∙ actor_length, all-append (HoldsNumber b) (info_fields 4 v.actor) second actor second_stands),
+    ) in
     record { addresses = (actor_mac, partner_mac); table = record { long_enough = long; fields_hold = fields_hold } }
 
 -- an LACPDU is not refused

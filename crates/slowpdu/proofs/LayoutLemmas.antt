@@ -1,8 +1,43 @@
 -- Facts about tables of fields, for any table.
-use Rattle.std.proofs.Common.{◌≡◌, ◌≤◌, ◌<◌, ◌+◌, ◌-◌, ◌*◌, ◌/◌, ◌^◌, ◌++◌, ℕ, zero, suc, Bool, true, false, cond, List, [], ◌∷◌, length, drop, take, map, filter, slice_index, refl, sym, ap, ◌∙◌, add-zero, arith, inl, inr}
+use Rattle.std.proofs.Common.{
+  ◌≡◌,
+  ◌≤◌,
+  ◌<◌,
+  ◌+◌,
+  ◌-◌,
+  ◌*◌,
+  ◌/◌,
+  ◌^◌,
+  ◌++◌,
+  ℕ,
+  zero,
+  suc,
+  Bool,
+  true,
+  false,
+  cond,
+  List,
+  [],
+  ◌∷◌,
+  length,
+  drop,
+  take,
+  map,
+  filter,
+  slice_index,
+  refl,
+  sym,
+  ap,
+  ◌∙◌,
+  add-zero,
+  arith,
+  inl,
+  inr,
+}
 use Rattle.std.specs.Prelude.{nat_le, nat_lt}
 use Rattle.std.specs.List.{AllByRecursion, list_all}
-use Rattle.std.proofs.lemmas.List.{drop-append-le, length-append, length-drop, get_or-drop, get_or-take, get_or_past, length-take, ext_get_or}
+use Rattle.std.proofs.lemmas.List.{drop-append-le, length-append, length-drop, get_or-drop, get_or-take, get_or_past, length-take}
+use Rattle.std.proofs.lemmas.List.{ext_get_or}
 use Rattle.std.proofs.lemmas.Bool.{and_parts, cases_Bool, cases_lt, or_cases}
 use Rattle.std.proofs.lemmas.Nat.{div-mul-add}
 use Rattle.byteorder.specs.Endian.{big_from, big_number}
@@ -10,7 +45,8 @@ use Rattle.byteorder.specs.Numbers.{big_from-cons, big_from-lt, big_from-append,
 use Rattle.slowpdu.specs.Layout.{Field, HoldsNumber, is_within, is_covered, AreOctets, ReadsTable, WritesTable, read_fields, payload_len}
 
 -- what stands in a payload stands in it whatever follows
-pub stands-append : (b rest : List ℕ) (p : Field) → p.offset + p.width ≤ length b → big_number p.width (drop p.offset (b ++ rest)) ≡ big_number p.width (drop p.offset b)
+pub stands-append : (b rest : List ℕ) (p : Field) → p.offset + p.width ≤ length b
+    → big_number p.width (drop p.offset (b ++ rest)) ≡ big_number p.width (drop p.offset b)
 stands-append b rest p h =
     let inside : p.offset ≤ length b = omega arith in
     let long : p.width ≤ length (drop p.offset b) = omega (arith, length-drop p.offset b) in
@@ -50,9 +86,11 @@ table-append b rest places long fit h = record {
 
 pub table_of_append : (b rest : List ℕ) (places : List Field) → payload_len ≤ length b → list_all fits (read_fields places) ≡ true
     → ReadsTable (b ++ rest) places → ReadsTable b places
-table_of_append b rest places long fit h = record { long_enough = long; fields_hold = all_stood b rest (read_fields places) long fit h.fields_hold }
+table_of_append b rest places long fit h =
+    record { long_enough = long; fields_hold = all_stood b rest (read_fields places) long fit h.fields_hold }
 
-choose_all : {X : Type 0} (P : X → Type 0) (t : Bool) (x : X) (xs : List X) → P x → AllByRecursion P xs → AllByRecursion P (cond t (x ∷ xs) xs)
+choose_all : {X : Type 0} (P : X → Type 0) (t : Bool) (x : X) (xs : List X) → P x → AllByRecursion P xs
+    → AllByRecursion P (cond t (x ∷ xs) xs)
 choose_all P true x xs h rest = (h, rest)
 choose_all P false x xs h rest = rest
 
@@ -114,7 +152,8 @@ one_table b [] (q ∷ qs) e hp hq = absurd cc
 one_table b (p ∷ ps) [] e hp hq = absurd cc
 one_table b (p ∷ ps) (q ∷ qs) e hp hq =
     let parts = same_parts (p.offset, p.width) (q.offset, q.width) (shapes ps) (shapes qs) e in
-    let there : big_number p.width (drop p.offset b) ≡ big_number q.width (drop q.offset b) = ap (λ (s : ℕ × ℕ). big_number s.1 (drop s.0 b)) parts.0 in
+    let there : big_number p.width (drop p.offset b) ≡ big_number q.width (drop q.offset b) =
+    ap (λ (s : ℕ × ℕ). big_number s.1 (drop s.0 b)) parts.0 in
     let first : p.number ≡ q.number = sym hp.0 ∙ there ∙ hq.0 in
     let others = one_table b ps qs parts.1 hp.1 hq.1 in
     ap (λ (n : ℕ). n ∷ numbers ps) first ∙ ap (λ (ns : List ℕ). q.number ∷ ns) others
@@ -141,7 +180,8 @@ cut b p = take p.width (drop p.offset b)
 pub octets-cut : (b : List ℕ) (p : Field) → AreOctets b → AreOctets (cut b p)
 octets-cut b p h i = elim (cases_lt i p.width) [
   | inl low ↦
-      let e : slice_index (cut b p) i ≡ slice_index b (p.offset + i) = get_or-take p.width (drop p.offset b) i 0 low ∙ get_or-drop p.offset b i 0 in
+      let e : slice_index (cut b p) i ≡ slice_index b (p.offset + i) = get_or-take p.width (drop p.offset b) i 0 low
+      ∙ get_or-drop p.offset b i 0 in
       let octet = h (p.offset + i) in
       omega (arith, e, octet)
   | inr high ↦
@@ -150,11 +190,13 @@ octets-cut b p h i = elim (cases_lt i p.width) [
 ]
 
 -- the same number stands in two payloads, so the same octets do
-same_cut : (b c : List ℕ) (p : Field) → length b ≡ payload_len → length c ≡ payload_len → AreOctets b → AreOctets c → p.offset + p.width ≤ 110
+same_cut : (b c : List ℕ) (p : Field) → length b ≡ payload_len → length c ≡ payload_len → AreOctets b → AreOctets c
+    → p.offset + p.width ≤ 110
     → HoldsNumber b p → HoldsNumber c p → cut b p ≡ cut c p
 same_cut b c p lb lc ob oc within hb hc =
     one_number p.width (cut b p) (cut c p)
-    (omega (arith, length-take p.width (drop p.offset b), length-drop p.offset b)) (omega (arith, length-take p.width (drop p.offset c), length-drop p.offset c))
+    (omega (arith, length-take p.width (drop p.offset b), length-drop p.offset b))
+    (omega (arith, length-take p.width (drop p.offset c), length-drop p.offset c))
     (octets-cut b p ob) (octets-cut c p oc)
     (number_of_taken p.width (drop p.offset b) ∙ hb ∙ sym hc ∙ sym (number_of_taken p.width (drop p.offset c)))
 
@@ -180,7 +222,8 @@ covered_same b c (p ∷ places) i lb lc ob oc fit hb hc h =
       | inl here ↦
           let bounds = within_of_test i p here in
           in_cut b p i bounds.0 bounds.1
-          ∙ ap (λ (xs : List ℕ). slice_index xs (i - p.offset)) (same_cut b c p lb lc ob oc (le_of_test (p.offset + p.width) 110 fit_parts.0) hb.0 hc.0)
+          ∙ ap (λ (xs : List ℕ). slice_index xs (i - p.offset))
+          (same_cut b c p lb lc ob oc (le_of_test (p.offset + p.width) 110 fit_parts.0) hb.0 hc.0)
           ∙ sym (in_cut c p i bounds.0 bounds.1)
       | inr later ↦ covered_same b c places i lb lc ob oc fit_parts.1 hb.1 hc.1 later
     ]

@@ -34,8 +34,10 @@ read_numbers m = numbers (read_fields (marker_table m))
 -- a payload has one reading
 pub one_marker : (b : List ℕ) (m n : Marker) → ReadsMarker b m → ReadsMarker b n → n ≡ m
 one_marker b m n hm hn =
-    let e : read_numbers n ≡ read_numbers m = one_table b (read_fields (marker_table n)) (read_fields (marker_table m)) refl hn.table.fields_hold hm.table.fields_hold in
-    same_marker n m (one_kind n.kind m.kind (ap (number_at 1) e)) (ap (number_at 3) e) (one_address n.system m.system hn.address hm.address (ap (number_at 4) e)) (ap (number_at 5) e)
+    let e : read_numbers n ≡ read_numbers m = one_table b (read_fields (marker_table n)) (read_fields (marker_table m)) refl
+    hn.table.fields_hold hm.table.fields_hold in
+    same_marker n m (one_kind n.kind m.kind (ap (number_at 1) e)) (ap (number_at 3) e)
+    (one_address n.system m.system hn.address hm.address (ap (number_at 4) e)) (ap (number_at 5) e)
 
 -- what is written is read
 pub written_marker : (b : List ℕ) (m : Marker) → WritesMarker b m → ReadsMarker b m
@@ -49,8 +51,10 @@ pub marker_of_append : (b rest : List ℕ) (m : Marker) → payload_len ≤ leng
 marker_of_append b rest m long h = record { address = h.address; table = table_of_append b rest (marker_table m) long refl h.table }
 
 -- what the checks and the fields come to
-pub marker_read : (b : List ℕ) (m : Marker) → payload_len ≤ length b → slice_index b 0 ≡ 2 → slice_index b 3 ≡ 16 → slice_index b 2 ≡ tlv_type m.kind
-    → HoldsNumber b (read_field 4 2 m.port) → IsAddress m.system → HoldsNumber b (read_field 6 6 (big_number 6 m.system)) → HoldsNumber b (read_field 12 4 m.id) → ReadsMarker b m
+pub marker_read : (b : List ℕ) (m : Marker) → payload_len ≤ length b → slice_index b 0 ≡ 2 → slice_index b 3 ≡ 16
+    → slice_index b 2 ≡ tlv_type m.kind
+    → HoldsNumber b (read_field 4 2 m.port) → IsAddress m.system → HoldsNumber b (read_field 6 6 (big_number 6 m.system))
+    → HoldsNumber b (read_field 12 4 m.id) → ReadsMarker b m
 marker_read b m long subtype size kind port address system id = record {
   address = address;
   table = record {
@@ -67,7 +71,8 @@ a_kind Response n e = inr e
 pub no_marker_fault : (b : List ℕ) (m : Marker) → ReadsMarker b m → fault_of b ≡ None
 no_marker_fault b m h =
     let s : AllByRecursion (HoldsNumber b) (read_fields (marker_table m)) = h.table.fields_hold in
-    no_fault_2 b h.table.long_enough (sym (octet_stands b 0) ∙ s.0) (sym (octet_stands b 3) ∙ s.1.1.0) (a_kind m.kind (slice_index b 2) (sym (octet_stands b 2) ∙ s.1.0))
+    no_fault_2 b h.table.long_enough (sym (octet_stands b 0) ∙ s.0) (sym (octet_stands b 3) ∙ s.1.1.0)
+    (a_kind m.kind (slice_index b 2) (sym (octet_stands b 2) ∙ s.1.0))
 
 -- the first octet tells the two apart
 pub not_both : (b : List ℕ) (v : Lacpdu) (m : Marker) → Reads b v → ReadsMarker b m → ⊥

@@ -33,20 +33,25 @@ below_256 n mac e h = subst (λ n. n < 256 ^ 6) (sym e) (big_from-lt 0 6 mac h.1
 
 address_is : (n : ℕ) (mac : List ℕ) → n ≡ big_number 6 mac → IsAddress mac → bytes_high_first 6 n ≡ mac
 address_is n mac e h =
-    let back : big_number 6 (bytes_high_first 6 n) ≡ n = ap (big_number 6) (sym (append-nil (bytes_high_first 6 n))) ∙ big_number-reads_back 6 n [] (below_256 n mac e h) in
+    let back : big_number 6 (bytes_high_first 6 n) ≡ n = ap (big_number 6) (sym (append-nil (bytes_high_first 6 n)))
+    ∙ big_number-reads_back 6 n [] (below_256 n mac e h) in
     one_address (bytes_high_first 6 n) mac (length-bytes_high_first 6 n, octets_below 6 n) h (back ∙ e)
 
-same_info : (a b c d e : ℕ) (mac : List ℕ) (v : Info) → a ≡ v.system.priority → mac ≡ v.system.mac → b ≡ v.key.0 → c ≡ v.port.priority → d ≡ v.port.number → e ≡ v.state.0 → make_info a mac b c d e ≡ v
+same_info : (a b c d e : ℕ) (mac : List ℕ) (v : Info) → a ≡ v.system.priority → mac ≡ v.system.mac → b ≡ v.key.0 → c ≡ v.port.priority
+    → d ≡ v.port.number → e ≡ v.state.0 → make_info a mac b c d e ≡ v
 same_info a b c d e mac v priority same key port_priority port state = rw (priority, same, key, port_priority, port, state) refl
 
 same_lacpdu : (a b : Info) (n : ℕ) (v : Lacpdu) → a ≡ v.actor → b ≡ v.partner → n ≡ v.max_delay → make_lacpdu a b n ≡ v
 same_lacpdu a b n v actor partner delay = rw (actor, partner, delay) refl
 
 -- the six places of one end, by what stands in them
-info_read : (b : List ℕ) (at : ℕ) (v : Info) → IsAddress v.system.mac → number_at b at 2 ≡ v.system.priority → number_at b (at + 2) 6 ≡ big_number 6 v.system.mac
-    → number_at b (at + 8) 2 ≡ v.key.0 → number_at b (at + 10) 2 ≡ v.port.priority → number_at b (at + 12) 2 ≡ v.port.number → number_at b (at + 14) 1 ≡ v.state.0 → info_at b at ≡ v
+info_read : (b : List ℕ) (at : ℕ) (v : Info) → IsAddress v.system.mac → number_at b at 2 ≡ v.system.priority
+    → number_at b (at + 2) 6 ≡ big_number 6 v.system.mac
+    → number_at b (at + 8) 2 ≡ v.key.0 → number_at b (at + 10) 2 ≡ v.port.priority → number_at b (at + 12) 2 ≡ v.port.number
+    → number_at b (at + 14) 1 ≡ v.state.0 → info_at b at ≡ v
 info_read b at v h priority mac key port_priority port state =
-    same_info (number_at b at 2) (number_at b (at + 8) 2) (number_at b (at + 10) 2) (number_at b (at + 12) 2) (number_at b (at + 14) 1) (address_in b (at + 2)) v
+    same_info (number_at b at 2) (number_at b (at + 8) 2) (number_at b (at + 10) 2) (number_at b (at + 12) 2) (number_at b (at + 14) 1)
+    (address_in b (at + 2)) v
     priority (address_is (number_at b (at + 2) 6) v.system.mac mac h) key port_priority port state
 
 -- behind the subtype and a length stand the places of the actor, behind them a length and those of the partner
@@ -61,7 +66,8 @@ lacpdu_read b v h =
     (info_read b 24 v.partner h.addresses.1 partner.0 partner.1.0 partner.1.1.0 partner.1.1.1.0 partner.1.1.1.1.0 partner.1.1.1.1.1.0)
     delay.0
 
-same_marker : (k : MarkerKind) (port id : ℕ) (mac : List ℕ) (m : Marker) → k ≡ m.kind → port ≡ m.port → mac ≡ m.system → id ≡ m.id → make_marker k port mac id ≡ m
+same_marker : (k : MarkerKind) (port id : ℕ) (mac : List ℕ) (m : Marker) → k ≡ m.kind → port ≡ m.port → mac ≡ m.system → id ≡ m.id
+    → make_marker k port mac id ≡ m
 same_marker k port id mac m kind at system ident = rw (kind, at, system, ident) refl
 
 kind_is : (n : ℕ) (k : MarkerKind) → n ≡ tlv_type k → kind_of_tlv_type n ≡ k

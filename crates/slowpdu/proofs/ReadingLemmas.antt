@@ -35,7 +35,8 @@ is_address b at octets room =
 -- what is said of one end
 abbrev info_in : List ℕ → ℕ → Info
 info_in b at =
-    make_info (number_in 2 b at) (address_in b (at + 2)) (number_in 2 b (at + 8)) (number_in 2 b (at + 10)) (number_in 2 b (at + 12)) (number_in 1 b (at + 14))
+    make_info (number_in 2 b at) (address_in b (at + 2)) (number_in 2 b (at + 8)) (number_in 2 b (at + 10)) (number_in 2 b (at + 12))
+    (number_in 1 b (at + 14))
 
 info_stands : (b : List ℕ) (at : ℕ) → AllByRecursion (HoldsNumber b) (info_fields at (info_in b at))
 info_stands b at =
@@ -50,7 +51,8 @@ an_lacpdu b octets long h =
           (info_stands b 4) (info_stands b 24) refl,
     )
 
-a_marker : (b : List ℕ) → AreOctets b → payload_len ≤ length b → IsMarker b → (k : MarkerKind) → slice_index b 2 ≡ tlv_type k → (m : Marker) × ReadsMarker b m
+a_marker : (b : List ℕ) → AreOctets b → payload_len ≤ length b → IsMarker b → (k : MarkerKind) → slice_index b 2 ≡ tlv_type k
+    → (m : Marker) × ReadsMarker b m
 a_marker b octets long h k kind =
     let m = make_marker k (number_in 2 b 4) (address_in b 6) (number_in 4 b 12) in
     (m, marker_read b m long h.subtype h.size kind refl (is_address b 6 octets (omega arith)) (sym (number_of_taken 6 (drop 6 b))) refl)

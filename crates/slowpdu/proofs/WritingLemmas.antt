@@ -1,5 +1,6 @@
 -- Octets put into a payload, one after the other.
-use Rattle.std.proofs.Common.{◌≡◌, ◌≤◌, ◌<◌, ◌+◌, ℕ, zero, suc, Bool, true, false, List, [], ◌∷◌, ◌++◌, length, take, drop, slice_index, refl, sym, ap, subst, ◌∙◌, append_assoc, append-nil, add-zero, zero-add, arith}
+use Rattle.std.proofs.Common.{◌≡◌, ◌≤◌, ◌<◌, ◌+◌, ℕ, zero, suc, Bool, true, false, List, [], ◌∷◌, ◌++◌, length, take, drop, slice_index}
+use Rattle.std.proofs.Common.{refl, sym, ap, subst, ◌∙◌, append_assoc, append-nil, add-zero, zero-add, arith}
 use Rattle.std.specs.Prelude.{◌&&◌, ◌||◌, ◌==◌}
 use Rattle.std.proofs.lemmas.Bool.{and_parts}
 use Rattle.std.proofs.lemmas.List.{take_at, drop_at, drop-drop, drop_all, length-append, length-take}
@@ -21,7 +22,8 @@ then_put b p q xs ys o m ep eq em room =
     let rest : drop (m + length ys) p ≡ drop (o + length (xs ++ ys)) b =
     sym (drop-drop (length ys) m p) ∙ ap (drop (length ys)) dropped ∙ drop-drop (length ys) (o + length xs) b
     ∙ ap (λ (n : ℕ). drop n b) sum in
-    eq ∙ rw (taken, rest) (append_assoc (take o b) xs (ys ++ drop (o + length (xs ++ ys)) b) ∙ ap (λ (t : List ℕ). take o b ++ t) (sym (append_assoc xs ys (drop (o + length (xs ++ ys)) b))))
+    eq ∙ rw (taken, rest) (append_assoc (take o b) xs (ys ++ drop (o + length (xs ++ ys)) b)
+    ∙ ap (λ (t : List ℕ). take o b ++ t) (sym (append_assoc xs ys (drop (o + length (xs ++ ys)) b))))
 
 -- whether every octet from place k on that belongs to no place of the table is 0
 abbrev pub others_are_zero : List Field → ℕ → List ℕ → Bool

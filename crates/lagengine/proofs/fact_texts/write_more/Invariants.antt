@@ -6,4 +6,5 @@ use Rattle.lagengine.proofs.fact_texts.write_more.Given as goal
 
 -- those so far are written
 abbrev pub invariant-loop-agg : goal.invariant-loop-agg
-invariant-loop-agg g l = IsPlainFormatter l.initial.f → HasWritten g.W.Write.write_str_gives l.initial.f (each_text bar_agg_answer (map agg_answer_value (take l.agg-index l.aggs))) l.f
+invariant-loop-agg g l = IsPlainFormatter l.initial.f
+    → HasWritten g.W.Write.write_str_gives l.initial.f (each_text bar_agg_answer (map agg_answer_value (take l.agg-index l.aggs))) l.f

@@ -8,4 +8,5 @@ pub loop-port-preserved : goal.loop-port-preserved
 loop-port-preserved g c = λ plain.
     let so_far = c.loop-port.invariant plain in
     let wrote = c.in_ok-write.ensures.writes so_far.plain refl in
-    has_written_of_eq _ _ _ _ _ (each_more spaced c.args.ports.now c.loop-port.port-index _ c.loop-port-test.true) (has_written_append _ _ _ _ _ _ so_far wrote)
+    has_written_of_eq _ _ _ _ _ (each_more spaced c.args.ports.now c.loop-port.port-index _ c.loop-port-test.true)
+    (has_written_append _ _ _ _ _ _ so_far wrote)

@@ -6,7 +6,8 @@ use Rattle.lagengine.proofs.request.request_in.Goals as goal
 pub returns-in-Ok : goal.returns-in-Ok
 returns-in-Ok c =
     let short : length c.args.line.now ≤ 65536 = omega arith in
-    subst (λ r. ReadsAs request_value r c.request_of_text.result) (reads_text c.args.line.now c.in-Ok.text.now short c.in-Ok.ensures.cases.0 c.in-Ok.ensures.cases.1) c.request_of_text.ensures
+    subst (λ r. ReadsAs request_value r c.request_of_text.result)
+    (reads_text c.args.line.now c.in-Ok.text.now short c.in-Ok.ensures.cases.0 c.in-Ok.ensures.cases.1) c.request_of_text.ensures
 
 pub returns-in-Err : goal.returns-in-Err
 returns-in-Err c =

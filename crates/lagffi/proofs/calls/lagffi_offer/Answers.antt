@@ -2,4 +2,5 @@ use Rattle.lagffi.proofs.AskingLemmas.{called}
 use Rattle.lagffi.proofs.calls.lagffi_offer.Goals as goal
 
 pub returns : goal.returns
-returns c = called _ _ c.in-Some.ensures.taken c.with_algorithm-system.ensures.state c.with_algorithm.ensures.state c.put.ensures (c.offer-answer.result, c.offer-answer.ensures.answers, c.offer-answer.ensures.within, c.of.ensures)
+returns c = called _ _ c.in-Some.ensures.taken c.with_algorithm-system.ensures.state c.with_algorithm.ensures.state c.put.ensures
+    (c.offer-answer.result, c.offer-answer.ensures.answers, c.offer-answer.ensures.within, c.of.ensures)

@@ -3,4 +3,5 @@ use Rattle.lagffi.proofs.AskingLemmas.{called}
 use Rattle.lagffi.proofs.calls.lagffi_restart.Goals as goal
 
 pub returns : goal.returns
-returns c = called _ _ c.in-Some.ensures.taken c.with_algorithm-system.ensures.state c.with_algorithm.ensures.state c.put.ensures (c.restart.ensures.answers, c.restart.ensures.shows, refl)
+returns c = called _ _ c.in-Some.ensures.taken c.with_algorithm-system.ensures.state c.with_algorithm.ensures.state c.put.ensures
+    (c.restart.ensures.answers, c.restart.ensures.shows, refl)

@@ -15,5 +15,6 @@ returns-clause-answers c fits =
       c.answered.ensures ∙ ap number (c.put_first.ensures.count ∙ ap length c.distributing-answered.ensures.all),
       c.put_first.ensures.written ∙ ap (λ ns. put_first ns c.args.buffer.now) c.distributing-answered.ensures.all,
       subst (λ ns. IsStrictlyIncreasing ns) c.distributing-answered.ensures.all c.distributing-answered.ensures.ascending,
-      subst (λ (ns : List ℕ). OnFalse (has_aggregator c.with_algorithm-system.result.state (aggregator_numbered c.args.agg)) (ns ≡ [])) c.distributing-answered.ensures.all c.distributing-answered.ensures.unknown,
+      subst (λ (ns : List ℕ). OnFalse (has_aggregator c.with_algorithm-system.result.state (aggregator_numbered c.args.agg)) (ns ≡ []))
+          c.distributing-answered.ensures.all c.distributing-answered.ensures.unknown,
     )

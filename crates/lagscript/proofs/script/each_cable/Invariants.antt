@@ -8,5 +8,6 @@ use Rattle.lagscript.proofs.script.each_cable.Given as goal
 abbrev pub invariant-loop-table : goal.invariant-loop-table
 invariant-loop-table l = record {
   count : l.place ≡ l.table-index;
-  rest : after l.cables.items (each_at_place (cable_of) (l.place + 1) (map table_members (drop l.table-index l.tables))) ≡ each_at_place (cable_of) 1 (map table_members l.tables);
+  rest : after l.cables.items (each_at_place (cable_of) (l.place + 1) (map table_members (drop l.table-index l.tables))) ≡ each_at_place
+      (cable_of) 1 (map table_members l.tables);
 }

@@ -22,9 +22,13 @@ returns-clause-reads c =
     let count : c.len.result ≡ length cables = omega arith in
     let read_acts : events_in (length cables) ms ≡ Ok events = subst (λ n. events_in n ms ≡ Ok events) count counted in
     let fault : option_and_then script_fault_for (refusal_of_all systems c.in_ok-ends.ends.items) ≡ Some c.in-Some.fault = search rules in
-    let same_fault : option_and_then script_fault_for (refusal_of_all systems (ends_of cables)) ≡ Some c.in-Some.fault = subst (λ ends. option_and_then script_fault_for (refusal_of_all systems ends) ≡ Some c.in-Some.fault) (c.in_ok-ends.ensures ∙ ap ends_of c.deref-2.ensures.value) fault in
-    inr (steps_all (keys_among top_keys ms) (systems_in ms) (cables_in ms) (λ n. events_in n ms) systems cables events (Some c.in-Some.fault) known read_systems read_cables read_acts same_fault)
+    let same_fault : option_and_then script_fault_for (refusal_of_all systems (ends_of cables)) ≡ Some c.in-Some.fault =
+    subst (λ ends. option_and_then script_fault_for (refusal_of_all systems ends) ≡ Some c.in-Some.fault) (c.in_ok-ends.ensures
+    ∙ ap ends_of c.deref-2.ensures.value) fault in
+    inr (steps_all (keys_among top_keys ms) (systems_in ms) (cables_in ms) (λ n. events_in n ms) systems cables events
+    (Some c.in-Some.fault) known read_systems read_cables read_acts same_fault)
 
 pub returns-in-None-clause-from_one : goal.returns-in-None-clause-from_one
 returns-in-None-clause-from_one c =
-    subst (All (λ limit. limit ≢ Some 0)) (sym (c.in_ok-limits.ensures ∙ ap limits_of c.deref.ensures.value)) (limits_are (table_view c.args.top.now) c.in_ok-cables.cables.items c.in_ok-cables.ensures)
+    subst (All (λ limit. limit ≢ Some 0)) (sym (c.in_ok-limits.ensures ∙ ap limits_of c.deref.ensures.value))
+    (limits_are (table_view c.args.top.now) c.in_ok-cables.cables.items c.in_ok-cables.ensures)

@@ -11,7 +11,8 @@ use Rattle.lagsystem.proofs.Quieting.{paced_runs, settling_quiet, still_settles}
 use Rattle.lagsystem.proofs.Rising.{ports_rise}
 use Rattle.lagsystem.proofs.laws.settling_again_is_nothing.Goals as goal
 
-still_on : (ports : List ℕ) (p : ℕ) (b : Bool) → distributes ports p ≡ b → held_unless_on ports (if b then On p else Wanted p None) ≡ (if b then On p else Wanted p None)
+still_on : (ports : List ℕ) (p : ℕ) (b : Bool) → distributes ports p ≡ b
+    → held_unless_on ports (if b then On p else Wanted p None) ≡ (if b then On p else Wanted p None)
 still_on ports p true e = ap (λ x. if x then On p else Wanted p None) e
 still_on ports p false e = refl
 
@@ -29,11 +30,14 @@ leaves_once old new h = record {
   next = refl;
   states = λ g k.
       let ports = distributing (aggregator_numbered g) old.system_ports in
-      let same : distributing (aggregator_numbered g) new.system_ports ≡ ports = ap (λ (s : SystemState). distributing (aggregator_numbered g) s.system_ports) h.frame in
-      h.states g k ∙ sym (left_once ports (assignment_of old.table g k)) ∙ ap (held_unless_on ports) (sym (h.states g k)) ∙ ap (λ l. held_unless_on l (assignment_of new.table g k)) (sym same);
+      let same : distributing (aggregator_numbered g) new.system_ports ≡ ports =
+      ap (λ (s : SystemState). distributing (aggregator_numbered g) s.system_ports) h.frame in
+      h.states g k ∙ sym (left_once ports (assignment_of old.table g k)) ∙ ap (held_unless_on ports) (sym (h.states g k))
+      ∙ ap (λ l. held_unless_on l (assignment_of new.table g k)) (sym same);
 }
 
 pub returns : goal.returns
 returns c old new ports h =
     let k = settling_quiet old new (ports_rise old ports) h in
-    settling_joined new new new (still_settles new new.system_ports k.0 (paced_runs new.system_ports k.1)) (leaves_once (settling_parts old new h).0 new (settling_parts old new h).2)
+    settling_joined new new new (still_settles new new.system_ports k.0 (paced_runs new.system_ports k.1))
+    (leaves_once (settling_parts old new h).0 new (settling_parts old new h).2)

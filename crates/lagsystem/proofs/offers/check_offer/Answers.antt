@@ -1,7 +1,8 @@
 use Rattle.std.proofs.Common.{inl, inr}
 use Rattle.lagsystem.proofs.OfferLemmas.{control_slow, is_frame, is_long, is_short, too_short}
 use Rattle.lagsystem.proofs.offers.check_offer.Goals as goal
-use Rattle.lagsystem.proofs.offers.check_offer.Goals.{then-octets-lt14-via-then-octets-lt14, then-octets-lt14-via-else-octets-lt14+then-octets-gt-LONGEST_FRAME}
+use Rattle.lagsystem.proofs.offers.check_offer.Goals.{then-octets-lt14-via-then-octets-lt14}
+use Rattle.lagsystem.proofs.offers.check_offer.Goals.{then-octets-lt14-via-else-octets-lt14+then-octets-gt-LONGEST_FRAME}
 
 pub returns-then-octets-lt14-clause-err : goal.returns-then-octets-lt14-clause-err
 returns-then-octets-lt14-clause-err c = elim c.then-octets-lt14.branch [
@@ -10,7 +11,10 @@ returns-then-octets-lt14-clause-err c = elim c.then-octets-lt14.branch [
 ]
 
 pub returns-in-Data-clause-ok : goal.returns-in-Data-clause-ok
-returns-in-Data-clause-ok c = (is_frame c.args.octets.now c.if-octets-lt14.false c.if-octets-gt-LONGEST_FRAME.false, c.in-Data.ensures.kind.1)
+returns-in-Data-clause-ok c = (
+  is_frame c.args.octets.now c.if-octets-lt14.false c.if-octets-gt-LONGEST_FRAME.false,
+  c.in-Data.ensures.kind.1,
+)
 
 pub returns-in-Control : goal.returns-in-Control
 returns-in-Control c =

@@ -24,16 +24,19 @@ returns-in-Some-clause-chosen c =
     let t = get_or system_ports i c.index-system_ports-place-2.result in
     ap (λ (p : Machines). slice_set system_ports i (record t { port = p })) c.select.ensures
     ∙ one_taken c.args.aggregators.now system_ports i (get_or system_ports i d) t (Some c.in-Some.agg)
-    (slice_get-get_or system_ports i d c.requires.within) (slice_get-get_or system_ports i c.index-system_ports-place-2.result c.requires.within)
+    (slice_get-get_or system_ports i d c.requires.within)
+    (slice_get-get_or system_ports i c.index-system_ports-place-2.result c.requires.within)
     (sym c.is_eligible.ensures ∙ c.if-not-is_eligible.false)
-    (sym c.in-Some.is ∙ c.choose.ensures.exact ∙ ap (λ (l : List PortView). chosen_aggregator c.args.aggregators.now l t.number) c.requires.port_views)
+    (sym c.in-Some.is ∙ c.choose.ensures.exact
+    ∙ ap (λ (l : List PortView). chosen_aggregator c.args.aggregators.now l t.number) c.requires.port_views)
 
 pub returns-in-Some-clause-port_views : goal.returns-in-Some-clause-port_views
 returns-in-Some-clause-port_views c =
     let system_ports = c.args.system_ports.now in
     let i = c.args.place in
     let t = get_or system_ports i c.index-system_ports-place-2.result in
-    seen_taken c.args.port_views.now system_ports i _ c.index-system_ports-place-2.result c.in-Some.agg c.requires.port_views c.requires.within
+    seen_taken c.args.port_views.now system_ports i _ c.index-system_ports-place-2.result c.in-Some.agg
+    c.requires.port_views c.requires.within
     ∙ ap (λ (p : Machines). views (slice_set system_ports i (record t { port = p }))) (sym c.select.ensures)
 
 pub returns-in_default-clause-chosen : goal.returns-in_default-clause-chosen
@@ -43,6 +46,8 @@ returns-in_default-clause-chosen c =
     let d = c.index-system_ports-place.result in
     let t = get_or system_ports i c.index-system_ports-place-2.result in
     one_taken c.args.aggregators.now system_ports i (get_or system_ports i d) t None
-    (slice_get-get_or system_ports i d c.requires.within) (slice_get-get_or system_ports i c.index-system_ports-place-2.result c.requires.within)
+    (slice_get-get_or system_ports i d c.requires.within)
+    (slice_get-get_or system_ports i c.index-system_ports-place-2.result c.requires.within)
     (sym c.is_eligible.ensures ∙ c.if-not-is_eligible.false)
-    (sym c.in_default.is ∙ c.choose.ensures.exact ∙ ap (λ (l : List PortView). chosen_aggregator c.args.aggregators.now l t.number) c.requires.port_views)
+    (sym c.in_default.is ∙ c.choose.ensures.exact
+    ∙ ap (λ (l : List PortView). chosen_aggregator c.args.aggregators.now l t.number) c.requires.port_views)

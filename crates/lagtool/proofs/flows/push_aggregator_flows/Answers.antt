@@ -11,4 +11,5 @@ loop-conv-preserved g c =
     let s = c.args.system in
     let agg = c.args.agg in
     let j = c.args.world.now.state in
-    appended_both _ _ _ _ _ _ c.loop-conv.invariant c.in_ok-push_flow.ensures (range_more (λ conv. flow_line s agg conv (flow_of_system (side_of s) agg conv j)) 0 k (k + 1) k (omega arith) refl)
+    appended_both _ _ _ _ _ _ c.loop-conv.invariant c.in_ok-push_flow.ensures
+    (range_more (λ conv. flow_line s agg conv (flow_of_system (side_of s) agg conv j)) 0 k (k + 1) k (omega arith) refl)

@@ -13,9 +13,13 @@ loop-place-preserved g c =
     let j = c.args.world.now.state in
     let offers = c.in_ok-offers.offers.items in
     elim c.if-index.branch [
-      | then-index+in_ok-push_aggregator_flows w ↦ ap string_bytes w.text-is ∙ appended_both _ _ _ _ _ _ c.loop-place.invariant w.in_ok-push_aggregator_flows.ensures (range_more (aggregator_flows_text j s) 1 i (i + 1) (i + 1) (omega arith) refl)
+      | then-index+in_ok-push_aggregator_flows w ↦ ap string_bytes w.text-is
+          ∙ appended_both _ _ _ _ _ _ c.loop-place.invariant w.in_ok-push_aggregator_flows.ensures
+          (range_more (aggregator_flows_text j s) 1 i (i + 1) (i + 1) (omega arith) refl)
       | else-index w ↦ (
           let inside : i + 1 < length offers = omega (arith, c.in_ok-offers.ensures.length, c.loop-place-test.true) in
-          let off = unset offers c.from.result (i + 1) c.index.result.now (omega (arith, c.from.ensures)) inside c.index.ensures w.if-index.false in
-          row_skipped _ _ _ j s i c.loop-place.invariant (ap string_bytes w.text-is) (c.requires s (i + 1) (sym (c.in_ok-offers.ensures.flags (i + 1) inside) ∙ off)))
+          let off = unset offers c.from.result (i + 1) c.index.result.now (omega (arith, c.from.ensures)) inside
+          c.index.ensures w.if-index.false in
+          row_skipped _ _ _ j s i c.loop-place.invariant (ap string_bytes w.text-is)
+          (c.requires s (i + 1) (sym (c.in_ok-offers.ensures.flags (i + 1) inside) ∙ off)))
     ]

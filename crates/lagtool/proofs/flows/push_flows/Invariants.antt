@@ -5,4 +5,5 @@ use Rattle.lagtool.specs.ReplayReport.{aggregator_flows_text}
 use Rattle.lagtool.proofs.flows.push_flows.Given as goal
 
 abbrev pub invariant-loop-place : goal.invariant-loop-place
-invariant-loop-place g l = string_bytes l.text ≡ string_bytes l.initial.text ++ flat_map (aggregator_flows_text l.world.state l.system) (range_with_len 1 l.place)
+invariant-loop-place g l = string_bytes l.text ≡ string_bytes l.initial.text
+    ++ flat_map (aggregator_flows_text l.world.state l.system) (range_with_len 1 l.place)

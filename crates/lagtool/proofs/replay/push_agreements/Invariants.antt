@@ -7,4 +7,5 @@ use Rattle.lagtool.proofs.replay.push_agreements.Given as goal
 
 abbrev pub invariant-loop-place : goal.invariant-loop-place
 invariant-loop-place g l =
-    string_bytes l.text ≡ string_bytes l.initial.text ++ flat_map (λ c. agreement_line c (agreement_at l.world.state c)) (range_with_len 1 l.place)
+    string_bytes l.text ≡ string_bytes l.initial.text
+    ++ flat_map (λ c. agreement_line c (agreement_at l.world.state c)) (range_with_len 1 l.place)

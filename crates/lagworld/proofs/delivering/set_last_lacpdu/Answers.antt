@@ -9,4 +9,5 @@ returns-in-Some c =
     (c.in-Some.ensures.index ∙ ap (history_index c.args.port) c.deref.ensures.value) c.index_mut.ensures.value
 
 pub returns-in-None : goal.returns-in-None
-returns-in-None c = heard_nowhere c.args.port c.args.lacpdu c.args.histories.now.items (c.in-None.ensures.index ∙ ap (history_index c.args.port) c.deref.ensures.value)
+returns-in-None c = heard_nowhere c.args.port c.args.lacpdu c.args.histories.now.items (c.in-None.ensures.index
+    ∙ ap (history_index c.args.port) c.deref.ensures.value)

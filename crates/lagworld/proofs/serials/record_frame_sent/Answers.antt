@@ -22,7 +22,8 @@ returns-in-Some-clause-serial c =
     let read = c.index_mut-conversations.ensures.value in
     let is = c.in-Some.ensures.there.0 in
     let lt : i < length rows = omega (arith, c.in-Some.ensures.there.1) in
-    c.record_sent_in.ensures.serial ∙ ap (λ o. length (sent_in o)) (row_read rows c.args.agg.0 i c.from.result row is lt read ∙ ap (flow_at (flow_values rows) c.args.agg.0) c.from.ensures)
+    c.record_sent_in.ensures.serial ∙ ap (λ o. length (sent_in o)) (row_read rows c.args.agg.0 i c.from.result row is lt read
+    ∙ ap (flow_at (flow_values rows) c.args.agg.0) c.from.ensures)
 
 pub returns-in-Some-clause-sent : goal.returns-in-Some-clause-sent
 returns-in-Some-clause-sent c =
@@ -32,17 +33,20 @@ returns-in-Some-clause-sent c =
     let read = c.index_mut-conversations.ensures.value in
     let is = c.in-Some.ensures.there.0 in
     let lt : i < length rows = omega (arith, c.in-Some.ensures.there.1) in
-    subst (λ k. flow_values (set rows i c.record_sent_in.new.conversations) ≡ change_flow with_sent c.args.agg.0 k (flow_values rows)) c.from.ensures
+    subst (λ k. flow_values (set rows i c.record_sent_in.new.conversations) ≡ change_flow with_sent c.args.agg.0 k (flow_values rows))
+    c.from.ensures
     (row_set with_sent rows c.args.agg.0 i c.from.result row c.record_sent_in.new.conversations is lt read c.record_sent_in.ensures.sent)
 
 pub returns-in-None-clause-serial : goal.returns-in-None-clause-serial
 returns-in-None-clause-serial c =
     let rows = c.args.flows.now.items in
-    let nowhere : (c.args.agg.0 ≡ 0) ⊎ (length rows < c.args.agg.0) = elim c.in-None.ensures.nowhere [ inl e ↦ inl e | inr lt ↦ inr (omega (arith, lt)) ] in
+    let nowhere : (c.args.agg.0 ≡ 0)
+    ⊎ (length rows < c.args.agg.0) = elim c.in-None.ensures.nowhere [ inl e ↦ inl e | inr lt ↦ inr (omega (arith, lt)) ] in
     sym (ap (λ o. length (sent_in o)) (no_row_read rows c.args.agg.0 c.args.conv nowhere))
 
 pub returns-in-None-clause-sent : goal.returns-in-None-clause-sent
 returns-in-None-clause-sent c =
     let rows = c.args.flows.now.items in
-    let nowhere : (c.args.agg.0 ≡ 0) ⊎ (length rows < c.args.agg.0) = elim c.in-None.ensures.nowhere [ inl e ↦ inl e | inr lt ↦ inr (omega (arith, lt)) ] in
+    let nowhere : (c.args.agg.0 ≡ 0)
+    ⊎ (length rows < c.args.agg.0) = elim c.in-None.ensures.nowhere [ inl e ↦ inl e | inr lt ↦ inr (omega (arith, lt)) ] in
     no_row_set with_sent rows c.args.agg.0 c.args.conv nowhere

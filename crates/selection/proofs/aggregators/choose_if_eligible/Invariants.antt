@@ -8,6 +8,8 @@ invariant-loop-key l = record {
   place : l.number ≡ l.key-index;
   tells : Tells l.views l.port l.standings.before l.standings.list;
   behind : l.standings.before ≤ l.number;
-  joinable : lowest_from (l.key-index + 1) (drop l.key-index l.keys) l.port.party.key (members_share_group l.views l.port) ≡ lowest l.keys l.port.party.key (members_share_group l.views l.port);
-  vacant : or_else l.empty (lowest_from (l.key-index + 1) (drop l.key-index l.keys) l.port.party.key (has_no_member l.views)) ≡ lowest l.keys l.port.party.key (has_no_member l.views);
+  joinable : lowest_from (l.key-index + 1) (drop l.key-index l.keys) l.port.party.key (members_share_group l.views l.port) ≡ lowest l.keys
+      l.port.party.key (members_share_group l.views l.port);
+  vacant : or_else l.empty (lowest_from (l.key-index + 1) (drop l.key-index l.keys) l.port.party.key (has_no_member l.views)) ≡ lowest
+      l.keys l.port.party.key (has_no_member l.views);
 }

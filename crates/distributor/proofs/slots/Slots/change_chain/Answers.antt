@@ -7,18 +7,21 @@ use Rattle.distributor.specs.declared.change.Change.{Change}
 use Rattle.distributor.specs.Changes.{after_change}
 use Rattle.distributor.specs.Chains.{assignment_port, slot_state, IsChained}
 use Rattle.distributor.proofs.FlagLemmas.{change_flagged}
-use Rattle.distributor.proofs.WalkLemmas.{Walking, steps, walk_begins, walk_ends, walk_below, walk_after, walk_before, step_stays, step_leaves, stays_smaller, leaves_smaller, port_kept, walk_all, walk_found}
+use Rattle.distributor.proofs.WalkLemmas.{Walking, steps, walk_begins, walk_ends, walk_below, walk_after, walk_before, step_stays}
+use Rattle.distributor.proofs.WalkLemmas.{step_leaves, stays_smaller, leaves_smaller, port_kept, walk_all, walk_found}
 use Rattle.distributor.proofs.slots.Slots.change_chain.Goals as goal
 
 -- the first place of a chain, as it is read
-begin : (count : ℕ) (states : List Assignment) (next prev : List ℕ) (h : IsChained count states next prev) (chain at : ℕ) (f : Assignment → Assignment) → chain < 64
+begin : (count : ℕ) (states : List Assignment) (next prev : List ℕ) (h : IsChained count states next prev) (chain at : ℕ) (f : Assignment
+    → Assignment) → chain < 64
     → at ≡ get_or next (count + chain) at → Walking chain f count states states next prev at false
 begin count states next prev h chain at f lt read =
     let e : at ≡ get_or next (count + chain) 0 = get_or_read next (count + chain) at (omega (arith, h.next_len, lt)) read 0 in
     subst (λ a. Walking chain f count states states next prev a false) (sym e) (walk_begins chain f count states next prev h lt false)
 
 -- what is read at a place of the walk
-module _ (chain : ℕ) (change : Change) (count : ℕ) (olds states : List Assignment) (next prev : List ℕ) (at : ℕ) (found : Bool) (w : Walking chain (after_change change) count olds states next prev at found) (n : at ≡ count + chain → ⊥) where
+module _ (chain : ℕ) (change : Change) (count : ℕ) (olds states : List Assignment) (next prev : List ℕ) (at : ℕ) (found : Bool)
+    (w : Walking chain (after_change change) count olds states next prev at found) (n : at ≡ count + chain → ⊥) where
   below : at < count
   below = walk_below chain (after_change change) count olds states next prev at found w n
 
@@ -95,7 +98,10 @@ loop-at-preserved-in-None c =
     let goes = read_next c.args.chain c.args.change _ _ _ _ _ _ _ w n _ c.index-at-in-loop-at.ensures in
     let free : assignment_port c.apply-state.result ≡ None = sym c.port.ensures ∙ c.in-None.is in
     record {
-      walking = step_leaves c.args.chain (after_change c.args.change) _ _ _ _ _ _ _ w n _ is _ goes _ _ c.take_from_ring.ensures.next c.take_from_ring.ensures.prev (c.loop-at.flushing || c.is_flushing-flushing.result) (λ e. or_left c.loop-at.flushing c.is_flushing-flushing.result e) (λ e. or_right c.loop-at.flushing c.is_flushing-flushing.result (c.is_flushing-flushing.ensures ∙ e)) free;
+      walking = step_leaves c.args.chain (after_change c.args.change) _ _ _ _ _ _ _ w n _ is _ goes _ _ c.take_from_ring.ensures.next
+          c.take_from_ring.ensures.prev (c.loop-at.flushing || c.is_flushing-flushing.result)
+          (λ e. or_left c.loop-at.flushing c.is_flushing-flushing.result e) (λ e. or_right c.loop-at.flushing c.is_flushing-flushing.result
+          (c.is_flushing-flushing.ensures ∙ e)) free;
       count = i.count;
       flags = i.flags;
       end = i.end;
@@ -110,9 +116,12 @@ loop-at-smaller-in-None c =
     c.apply-state.ensures ∙ ap (after_change c.args.change) (read_state c.args.chain c.args.change _ _ _ _ _ _ _ w n _ c.index.ensures) in
     let goes = read_next c.args.chain c.args.change _ _ _ _ _ _ _ w n _ c.index-at-in-loop-at.ensures in
     let free : assignment_port c.apply-state.result ≡ None = sym c.port.ensures ∙ c.in-None.is in
-    let small = leaves_smaller c.args.chain (after_change c.args.change) _ _ _ _ _ _ _ w n _ is _ goes _ _ c.take_from_ring.ensures.next c.take_from_ring.ensures.prev free in
-    subst (λ e. steps c.take_from_ring.new.next.items e c.loop-at.self.count c.index-at-in-loop-at.result.now < steps c.loop-at.self.next.items e c.loop-at.self.count c.loop-at.at) (sym i.end)
-    (subst (λ m. steps c.take_from_ring.new.next.items (c.args.self.now.count + c.args.chain) m c.index-at-in-loop-at.result.now < steps c.loop-at.self.next.items (c.args.self.now.count + c.args.chain) m c.loop-at.at) (sym i.count) small)
+    let small = leaves_smaller c.args.chain (after_change c.args.change) _ _ _ _ _ _ _ w n _ is _ goes _ _ c.take_from_ring.ensures.next
+    c.take_from_ring.ensures.prev free in
+    subst (λ e. steps c.take_from_ring.new.next.items e c.loop-at.self.count c.index-at-in-loop-at.result.now < steps
+    c.loop-at.self.next.items e c.loop-at.self.count c.loop-at.at) (sym i.end)
+    (subst (λ m. steps c.take_from_ring.new.next.items (c.args.self.now.count + c.args.chain) m c.index-at-in-loop-at.result.now < steps
+    c.loop-at.self.next.items (c.args.self.now.count + c.args.chain) m c.loop-at.at) (sym i.count) small)
 
 pub loop-at-preserved : goal.loop-at-preserved
 loop-at-preserved c =
@@ -120,12 +129,15 @@ loop-at-preserved c =
     let w = i.walking in
     let n : c.loop-at.at ≡ c.args.self.now.count + c.args.chain → ⊥ = λ e. c.loop-at-test.true (e ∙ sym i.end) in
     let same = read_state c.args.chain c.args.change _ _ _ _ _ _ _ w n _ c.index.ensures in
-    let is : c.apply-state.result ≡ after_change c.args.change (slot_state c.loop-at.self.states.items c.loop-at.at) = c.apply-state.ensures ∙ ap (after_change c.args.change) same in
+    let is : c.apply-state.result ≡ after_change c.args.change (slot_state c.loop-at.self.states.items c.loop-at.at) = c.apply-state.ensures
+    ∙ ap (after_change c.args.change) same in
     let goes = read_next c.args.chain c.args.change _ _ _ _ _ _ _ w n _ c.index-at-in-loop-at.ensures in
     let stays : assignment_port c.apply-state.result ≡ assignment_port (slot_state c.loop-at.self.states.items c.loop-at.at) =
     ap assignment_port is ∙ port_kept c.args.change _ c.in-Some.field-0 (sym (ap assignment_port is) ∙ sym c.port.ensures ∙ c.in-Some.is) in
     record {
-      walking = step_stays c.args.chain (after_change c.args.change) _ _ _ _ _ _ _ w n _ is _ goes (c.loop-at.flushing || c.is_flushing-flushing.result) (λ e. or_left c.loop-at.flushing c.is_flushing-flushing.result e) (λ e. or_right c.loop-at.flushing c.is_flushing-flushing.result (c.is_flushing-flushing.ensures ∙ e)) stays;
+      walking = step_stays c.args.chain (after_change c.args.change) _ _ _ _ _ _ _ w n _ is _ goes (c.loop-at.flushing
+          || c.is_flushing-flushing.result) (λ e. or_left c.loop-at.flushing c.is_flushing-flushing.result e)
+          (λ e. or_right c.loop-at.flushing c.is_flushing-flushing.result (c.is_flushing-flushing.ensures ∙ e)) stays;
       count = i.count;
       flags = i.flags;
       end = i.end;
@@ -137,13 +149,16 @@ loop-at-smaller c =
     let w = i.walking in
     let n : c.loop-at.at ≡ c.args.self.now.count + c.args.chain → ⊥ = λ e. c.loop-at-test.true (e ∙ sym i.end) in
     let same = read_state c.args.chain c.args.change _ _ _ _ _ _ _ w n _ c.index.ensures in
-    let is : c.apply-state.result ≡ after_change c.args.change (slot_state c.loop-at.self.states.items c.loop-at.at) = c.apply-state.ensures ∙ ap (after_change c.args.change) same in
+    let is : c.apply-state.result ≡ after_change c.args.change (slot_state c.loop-at.self.states.items c.loop-at.at) = c.apply-state.ensures
+    ∙ ap (after_change c.args.change) same in
     let goes = read_next c.args.chain c.args.change _ _ _ _ _ _ _ w n _ c.index-at-in-loop-at.ensures in
     let stays : assignment_port c.apply-state.result ≡ assignment_port (slot_state c.loop-at.self.states.items c.loop-at.at) =
     ap assignment_port is ∙ port_kept c.args.change _ c.in-Some.field-0 (sym (ap assignment_port is) ∙ sym c.port.ensures ∙ c.in-Some.is) in
     let small = stays_smaller c.args.chain (after_change c.args.change) _ _ _ _ _ _ _ w n _ is _ goes stays in
-    subst (λ e. steps c.loop-at.self.next.items e c.loop-at.self.count c.index-at-in-loop-at.result.now < steps c.loop-at.self.next.items e c.loop-at.self.count c.loop-at.at) (sym i.end)
-    (subst (λ m. steps c.loop-at.self.next.items (c.args.self.now.count + c.args.chain) m c.index-at-in-loop-at.result.now < steps c.loop-at.self.next.items (c.args.self.now.count + c.args.chain) m c.loop-at.at) (sym i.count) small)
+    subst (λ e. steps c.loop-at.self.next.items e c.loop-at.self.count c.index-at-in-loop-at.result.now < steps c.loop-at.self.next.items e
+    c.loop-at.self.count c.loop-at.at) (sym i.end)
+    (subst (λ m. steps c.loop-at.self.next.items (c.args.self.now.count + c.args.chain) m c.index-at-in-loop-at.result.now < steps
+    c.loop-at.self.next.items (c.args.self.now.count + c.args.chain) m c.loop-at.at) (sym i.count) small)
 
 pub returns-clause-states : goal.returns-clause-states
 returns-clause-states c =
@@ -155,5 +170,7 @@ returns-clause-flagged c =
     let i = c.loop-at.invariant in
     let e = c.loop-at-test.false ∙ i.end in
     rw i.flags
-    (change_flagged c.args.change c.args.chain c.args.self.now.states.items c.loop-at.self.states.items c.args.self.now.flushing.items c.loop-at.flushing c.requires.below c.requires.flagged
-    (walk_all c.args.chain (after_change c.args.change) _ _ _ _ _ _ _ i.walking e) (walk_found c.args.chain (after_change c.args.change) _ _ _ _ _ _ _ i.walking e))
+    (change_flagged c.args.change c.args.chain c.args.self.now.states.items c.loop-at.self.states.items c.args.self.now.flushing.items
+    c.loop-at.flushing c.requires.below c.requires.flagged
+    (walk_all c.args.chain (after_change c.args.change) _ _ _ _ _ _ _ i.walking e)
+    (walk_found c.args.chain (after_change c.args.change) _ _ _ _ _ _ _ i.walking e))

@@ -5,7 +5,8 @@ use Rattle.distributor.proofs.slots.Slots.change_chain.Given as goal
 
 abbrev pub invariant-loop-at : goal.invariant-loop-at
 invariant-loop-at l = record {
-  walking : Walking l.chain (after_change l.change) l.fn.self.count l.fn.self.states.items l.self.states.items l.self.next.items l.self.prev.items l.at l.flushing;
+  walking : Walking l.chain (after_change l.change) l.fn.self.count l.fn.self.states.items l.self.states.items l.self.next.items
+      l.self.prev.items l.at l.flushing;
   count : l.self.count ≡ l.fn.self.count;
   flags : l.self.flushing ≡ l.fn.self.flushing;
   end : l.end ≡ l.fn.self.count + l.chain;

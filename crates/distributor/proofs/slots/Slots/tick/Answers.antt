@@ -22,18 +22,22 @@ loop-chain-preserved c =
           rw w.self-is record {
             chained = w.change_chain.ensures.chained;
             flagged = w.change_chain.ensures.flagged;
-            ticking = tick_walked c.loop-chain.chain c.args.self.now.states.items c.loop-chain.self.states.items _ i.ticking w.change_chain.ensures.states;
+            ticking = tick_walked c.loop-chain.chain c.args.self.now.states.items c.loop-chain.self.states.items _ i.ticking
+                w.change_chain.ensures.states;
             count = w.change_chain.ensures.count ∙ i.count;
             few = few;
           }
       | else-index w ↦
-          (let inside : c.loop-chain.chain < length c.loop-chain.self.flushing.items = omega (arith, c.loop-chain-test.true, i.flagged.flags_len) in
+          (let inside : c.loop-chain.chain < length c.loop-chain.self.flushing.items =
+          omega (arith, c.loop-chain-test.true, i.flagged.flags_len) in
           let none : get_or c.loop-chain.self.flushing.items c.loop-chain.chain false ≡ false =
-          sym (get_or_read c.loop-chain.self.flushing.items c.loop-chain.chain c.index.result.now inside c.index.ensures false) ∙ w.if-index.false in
+          sym (get_or_read c.loop-chain.self.flushing.items c.loop-chain.chain c.index.result.now inside c.index.ensures false)
+          ∙ w.if-index.false in
           rw w.self-is record {
             chained = i.chained;
             flagged = i.flagged;
-            ticking = tick_passed c.loop-chain.chain c.args.self.now.states.items c.loop-chain.self.states.items c.loop-chain.self.flushing.items i.ticking i.flagged none;
+            ticking = tick_passed c.loop-chain.chain c.args.self.now.states.items c.loop-chain.self.states.items
+                c.loop-chain.self.flushing.items i.ticking i.flagged none;
             count = i.count;
             few = few;
           })
@@ -43,4 +47,5 @@ pub returns-clause-states : goal.returns-clause-states
 returns-clause-states c =
     let i = c.loop-chain.invariant in
     let done : c.loop-chain.chain ≡ 64 = omega (arith, c.loop-chain-test.false, i.few) in
-    tick_ends c.args.self.now.states.items c.loop-chain.self.states.items (subst (λ n. Ticking n c.args.self.now.states.items c.loop-chain.self.states.items) done i.ticking)
+    tick_ends c.args.self.now.states.items c.loop-chain.self.states.items
+    (subst (λ n. Ticking n c.args.self.now.states.items c.loop-chain.self.states.items) done i.ticking)

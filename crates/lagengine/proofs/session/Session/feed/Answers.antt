@@ -8,7 +8,11 @@ use Rattle.lagengine.proofs.session.Session.feed.Goals as goal
 
 pub read_octet-requires : goal.read_octet-requires
 read_octet-requires g c =
-    record { usable = subst (λ f. PicksIndexes (λ conv count. g.F.Fn.pre f (conv, (count, tt))) (λ conv count place. g.F.Fn.post f (conv, (count, tt)) place)) (sym c.loop-octet.invariant.algorithm) c.requires.usable }
+    record {
+      usable =
+          subst (λ f. PicksIndexes (λ conv count. g.F.Fn.pre f (conv, (count, tt)))
+          (λ conv count place. g.F.Fn.post f (conv, (count, tt)) place)) (sym c.loop-octet.invariant.algorithm) c.requires.usable;
+    }
 
 pub loop-octet-preserved : goal.loop-octet-preserved
 loop-octet-preserved g c =
@@ -48,7 +52,11 @@ returns-in_err-read_octet-clause-err g c =
     let rest = drop (n + 1) piece in
     let f = c.args.self.now.engine.algorithm in
     let why = c.in_err-read_octet.field-0.0 in
-    let here = subst (λ (f : g.row.F.Denot). StopsAnswering (post f) w b.state t u (continue_line b.line (lines_of (x ∷ rest))) why) i.algorithm (c.in_err-read_octet.ensures.err rest) in
-    let split : take n piece ++ x ∷ rest ≡ piece = ap (λ zs. take n piece ++ zs) (sym (drop_more piece n 0 c.loop-octet-test.true)) ∙ take-append-drop n piece in
-    on_stop (StopsAnswering (post f) w a.state s u (continue_line a.line (lines_of piece))) why c.from_residual.result c.from_residual.ensures.1
-    (subst (λ zs. StopsAnswering (post f) w a.state s u (continue_line a.line (lines_of zs)) why) split (halts_after (post f) w a b s t u (take n piece) (x ∷ rest) why i.feeds here))
+    let here = subst (λ (f : g.row.F.Denot). StopsAnswering (post f) w b.state t u (continue_line b.line (lines_of (x ∷ rest))) why)
+    i.algorithm (c.in_err-read_octet.ensures.err rest) in
+    let split : take n piece ++ x ∷ rest ≡ piece = ap (λ zs. take n piece ++ zs) (sym (drop_more piece n 0 c.loop-octet-test.true))
+    ∙ take-append-drop n piece in
+    on_stop (StopsAnswering (post f) w a.state s u (continue_line a.line (lines_of piece))) why c.from_residual.result
+    c.from_residual.ensures.1
+    (subst (λ zs. StopsAnswering (post f) w a.state s u (continue_line a.line (lines_of zs)) why) split
+    (halts_after (post f) w a b s t u (take n piece) (x ∷ rest) why i.feeds here))

@@ -9,11 +9,16 @@ use Rattle.lagsystem.proofs.calls.System.configure.Goals as goal
 
 pub invariant_of-self : goal.invariant_of-self
 invariant_of-self g c =
-    Step-sound (λ conv count place. g.F.Fn.post c.self.inside.inner.distributor.algorithm (conv, (count, tt)) place) (inner_state c.self.inside.inner) (Call.Configure c.args.port c.args.change) (Reply.Configure c.configure.result) (inner_state c.configure.new.self)
+    Step-sound (λ conv count place. g.F.Fn.post c.self.inside.inner.distributor.algorithm (conv, (count, tt)) place)
+    (inner_state c.self.inside.inner) (Call.Configure c.args.port c.args.change) (Reply.Configure c.configure.result)
+    (inner_state c.configure.new.self)
     c.configure.ensures.step c.self.invariant
 
 pub returns-clause-answers : goal.returns-clause-answers
 returns-clause-answers g c =
-    subst (λ (w : SystemValue g.row.F.Denot). CallPromise (λ conv count place. g.F.Fn.post w.algorithm (conv, (count, tt)) place) w.state (Call.Configure c.args.port c.args.change) (Reply.Configure c.configure.result) (inner_state c.configure.new.self)) c.self.view_is
-    (answers (λ conv count place. g.F.Fn.post c.self.inside.inner.distributor.algorithm (conv, (count, tt)) place) (inner_state c.self.inside.inner) (Call.Configure c.args.port c.args.change) (Reply.Configure c.configure.result) (inner_state c.configure.new.self)
+    subst (λ (w : SystemValue g.row.F.Denot). CallPromise (λ conv count place. g.F.Fn.post w.algorithm (conv, (count, tt)) place) w.state
+    (Call.Configure c.args.port c.args.change) (Reply.Configure c.configure.result) (inner_state c.configure.new.self)) c.self.view_is
+    (answers (λ conv count place. g.F.Fn.post c.self.inside.inner.distributor.algorithm (conv, (count, tt)) place)
+    (inner_state c.self.inside.inner) (Call.Configure c.args.port c.args.change) (Reply.Configure c.configure.result)
+    (inner_state c.configure.new.self)
     c.configure.ensures.step c.self.invariant)

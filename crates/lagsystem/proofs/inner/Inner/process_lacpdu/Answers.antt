@@ -23,12 +23,17 @@ settle-requires g c =
     let i = c.args.place in
     let system_port = c.index.result.now in
     let olds = c.deref_mut.result.now in
-    let there : slice_get v.items i ≡ Some system_port = subst (λ (x : SystemPort). slice_get v.items i ≡ Some x) (sym c.index.ensures) (slice_get-get_or v.items i system_port c.requires.within) in
+    let there : slice_get v.items i ≡ Some system_port = subst (λ (x : SystemPort). slice_get v.items i ≡ Some x) (sym c.index.ensures)
+    (slice_get-get_or v.items i system_port c.requires.within) in
     let took = on_place_taken c.args.pdu.now i olds c.process_lacpdu_at.result ws c.process_lacpdu_at.ensures in
-    let own = on_port_made (ProcessesLacpdu c.args.pdu.now) (λ l. Some c.args.place) s c.deref_mut.result.now ws news c.deref_mut.ensures.value (with_items_is v ws (omega arith))
+    let own = on_port_made (ProcessesLacpdu c.args.pdu.now) (λ l. Some c.args.place) s c.deref_mut.result.now ws news
+    c.deref_mut.ensures.value (with_items_is v ws (omega arith))
     took in
-    place_carried (ProcessesLacpdu c.args.pdu.now) (Some c.args.place) s (with_system_ports s news) c.as_slice.result.now c.requires.sound own
-    (c.as_slice.ensures.value ∙ were_before (ProcessesLacpdu c.args.pdu.now) i s.system_ports olds ws news c.deref.result.now system_port c.collecting-was.result c.aggregators_in_use_before-before.result.items c.deref_mut.ensures.value (with_items_is v ws (omega arith)) c.deref.ensures.value there took c.collecting-was.ensures c.aggregators_in_use_before-before.ensures)
+    place_carried (ProcessesLacpdu c.args.pdu.now) (Some c.args.place) s (with_system_ports s news)
+    c.as_slice.result.now c.requires.sound own
+    (c.as_slice.ensures.value ∙ were_before (ProcessesLacpdu c.args.pdu.now) i s.system_ports olds ws news c.deref.result.now system_port
+    c.collecting-was.result c.aggregators_in_use_before-before.result.items c.deref_mut.ensures.value (with_items_is v ws (omega arith))
+    c.deref.ensures.value there took c.collecting-was.ensures c.aggregators_in_use_before-before.ensures)
 
 pub returns-then-process_lacpdu_at-clause-settled : goal.returns-then-process_lacpdu_at-clause-settled
 returns-then-process_lacpdu_at-clause-settled g c =
@@ -40,10 +45,13 @@ returns-then-process_lacpdu_at-clause-settled g c =
     let last = c.run_periodic_at.new.system_ports in
     let one = with_items v ws in
     let took : ProcessesLacpduAt pdu i s.system_ports true ws =
-    subst (λ (l : List SystemPort). ProcessesLacpduAt pdu i l true ws) c.deref_mut.ensures.value (subst (λ b. ProcessesLacpduAt pdu i c.deref_mut.result.now b ws) c.if-process_lacpdu_at.true c.process_lacpdu_at.ensures) in
+    subst (λ (l : List SystemPort). ProcessesLacpduAt pdu i l true ws) c.deref_mut.ensures.value
+    (subst (λ b. ProcessesLacpduAt pdu i c.deref_mut.result.now b ws) c.if-process_lacpdu_at.true c.process_lacpdu_at.ensures) in
     let paced : PortAtChangesBy RunsPeriodic (Some i) ws last =
-    subst (λ (l : List SystemPort). PortAtChangesBy RunsPeriodic (Some i) l last) (c.deref_mut-then-process_lacpdu_at.ensures.value ∙ with_items_is v ws (omega arith)) c.run_periodic_at.ensures in
-    subst (λ (l : List SystemPort). ThenSettles (OnlyPortChangesBy (Some i) (ProcessesLacpdu pdu)) s (with_system_ports s l)) (sym (with_items_is one last (omega arith)))
+    subst (λ (l : List SystemPort). PortAtChangesBy RunsPeriodic (Some i) l last) (c.deref_mut-then-process_lacpdu_at.ensures.value
+    ∙ with_items_is v ws (omega arith)) c.run_periodic_at.ensures in
+    subst (λ (l : List SystemPort). ThenSettles (OnlyPortChangesBy (Some i) (ProcessesLacpdu pdu)) s (with_system_ports s l))
+    (sym (with_items_is one last (omega arith)))
     (took_quietly pdu s i ws last c.requires.sound.quiet c.requires.sound.carried took paced)
 
 pub returns-else-process_lacpdu_at-clause-settled : goal.returns-else-process_lacpdu_at-clause-settled
@@ -53,7 +61,8 @@ returns-else-process_lacpdu_at-clause-settled g c =
     let ws = c.process_lacpdu_at.new.system_ports in
     let news = (with_items v ws).items in (
       with_system_ports s news,
-      on_port_made (ProcessesLacpdu c.args.pdu.now) (λ l. Some c.args.place) s c.deref_mut.result.now ws news c.deref_mut.ensures.value (with_items_is v ws (omega arith))
+      on_port_made (ProcessesLacpdu c.args.pdu.now) (λ l. Some c.args.place) s c.deref_mut.result.now ws news c.deref_mut.ensures.value
+          (with_items_is v ws (omega arith))
           (on_place_taken c.args.pdu.now c.args.place c.deref_mut.result.now c.process_lacpdu_at.result ws c.process_lacpdu_at.ensures),
       c.settle.ensures.settled,
     )

@@ -24,14 +24,17 @@ returns-in-Response-clause-received g c =
     let one = c.index.result.now in
     let system_port = c.index-2.result.now in
     let m = c.in-Response.marker in
-    let here : slice_get items c.args.place ≡ Some one = slice_get-get_or items c.args.place one c.requires.within ∙ ap (λ (x : SystemPort). Some x) (sym c.index.ensures) in
-    let there : slice_get items c.args.place ≡ Some system_port = slice_get-get_or items c.args.place system_port c.requires.within ∙ ap (λ (x : SystemPort). Some x) (sym c.index-2.ensures) in
+    let here : slice_get items c.args.place ≡ Some one = slice_get-get_or items c.args.place one c.requires.within
+    ∙ ap (λ (x : SystemPort). Some x) (sym c.index.ensures) in
+    let there : slice_get items c.args.place ≡ Some system_port = slice_get-get_or items c.args.place system_port c.requires.within
+    ∙ ap (λ (x : SystemPort). Some x) (sym c.index-2.ensures) in
     let same : one ≡ system_port = same_Some one system_port (sym here ∙ there) in (
       system_port,
       Response m,
       there,
       subst (λ h. ParsesFrame system_port c.args.octets.now h) c.in-Response.is c.parse_frame.ensures,
-      subst (λ (x : SystemPort). Releases (is_own_response (inner_state c.args.self.now) x.number m) x.number m (inner_state c.args.self.now) (Released c.release.result) (inner_state c.release.new.self)) same c.release.ensures.released,
+      subst (λ (x : SystemPort). Releases (is_own_response (inner_state c.args.self.now) x.number m) x.number m
+          (inner_state c.args.self.now) (Released c.release.result) (inner_state c.release.new.self)) same c.release.ensures.released,
     )
 
 pub returns-in-Answered-clause-received : goal.returns-in-Answered-clause-received
@@ -39,7 +42,8 @@ returns-in-Answered-clause-received g c =
     let system_port = c.index-2.result.now in (
       system_port,
       Answered c.in-Answered.reply,
-      slice_get-get_or c.args.self.now.system_ports.items c.args.place system_port c.requires.within ∙ ap (λ (x : SystemPort). Some x) (sym c.index-2.ensures),
+      slice_get-get_or c.args.self.now.system_ports.items c.args.place system_port c.requires.within
+          ∙ ap (λ (x : SystemPort). Some x) (sym c.index-2.ensures),
       subst (λ h. ParsesFrame system_port c.args.octets.now h) c.in-Answered.is c.parse_frame.ensures,
       (refl, refl),
     )

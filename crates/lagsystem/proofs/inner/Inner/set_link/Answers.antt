@@ -15,9 +15,12 @@ settle-requires g c =
     let ws = c.set_link_at.new.system_ports in
     let news = (with_items v ws).items in
     let t = c.free_conversations_if_down.new.distributor.table in
-    let acted = goes_by_number (SetsPortEnabled c.args.up) c.args.number c.in_ok-place.place s.system_ports c.deref_mut.result.now ws c.deref_mut.ensures.value c.in_ok-place.ensures.place c.set_link_at.ensures in
-    let own = link_made c.args.number c.args.up s c.deref_mut.result.now ws news t c.deref_mut.ensures.value (with_items_is v ws (omega arith)) refl acted c.free_conversations_if_down.ensures.frees in
-    link_carried c.args.number c.args.up s (moved_on s news t) c.as_slice.result.now c.requires own (c.as_slice.ensures.value ∙ c.aggregators_in_use-before.ensures ∙ ap aggregators_in_use c.deref.ensures.value)
+    let acted = goes_by_number (SetsPortEnabled c.args.up) c.args.number c.in_ok-place.place s.system_ports c.deref_mut.result.now ws
+    c.deref_mut.ensures.value c.in_ok-place.ensures.place c.set_link_at.ensures in
+    let own = link_made c.args.number c.args.up s c.deref_mut.result.now ws news t c.deref_mut.ensures.value
+    (with_items_is v ws (omega arith)) refl acted c.free_conversations_if_down.ensures.frees in
+    link_carried c.args.number c.args.up s (moved_on s news t) c.as_slice.result.now c.requires own (c.as_slice.ensures.value
+    ∙ c.aggregators_in_use-before.ensures ∙ ap aggregators_in_use c.deref.ensures.value)
 
 pub returns-clause-step : goal.returns-clause-step
 returns-clause-step g c =
@@ -26,8 +29,10 @@ returns-clause-step g c =
     let ws = c.set_link_at.new.system_ports in
     let news = (with_items v ws).items in
     let t = c.free_conversations_if_down.new.distributor.table in
-    let acted = goes_by_number (SetsPortEnabled c.args.up) c.args.number c.in_ok-place.place s.system_ports c.deref_mut.result.now ws c.deref_mut.ensures.value c.in_ok-place.ensures.place c.set_link_at.ensures in (
+    let acted = goes_by_number (SetsPortEnabled c.args.up) c.args.number c.in_ok-place.place s.system_ports c.deref_mut.result.now ws
+    c.deref_mut.ensures.value c.in_ok-place.ensures.place c.set_link_at.ensures in (
       moved_on s news t,
-      link_made c.args.number c.args.up s c.deref_mut.result.now ws news t c.deref_mut.ensures.value (with_items_is v ws (omega arith)) refl acted c.free_conversations_if_down.ensures.frees,
+      link_made c.args.number c.args.up s c.deref_mut.result.now ws news t c.deref_mut.ensures.value (with_items_is v ws (omega arith)) refl
+          acted c.free_conversations_if_down.ensures.frees,
       c.settle.ensures.settled,
     )

@@ -20,7 +20,8 @@ returns-in-Some-clause-step g c =
     let ws = c.transmit_lacpdu_at.new.system_ports in
     let within = c.in_ok-place.ensures.within in
     let placed = c.in_ok-place.ensures.place in
-    let there : slice_get v.items i ≡ Some system_port = subst (λ (x : SystemPort). slice_get v.items i ≡ Some x) (sym c.index.ensures) (slice_get-get_or v.items i system_port within) in
+    let there : slice_get v.items i ≡ Some system_port = subst (λ (x : SystemPort). slice_get v.items i ≡ Some x) (sym c.index.ensures)
+    (slice_get-get_or v.items i system_port within) in
     let up : system_port.port.enabled ≡ true = sym c.is_enabled.ensures ∙ c.if-not-is_enabled.false in
     sends_lacpdu s (port_index c.args.number v.items) i system_port octets olds ws (with_items v ws).items
     placed
@@ -39,9 +40,11 @@ returns-clause-step g c =
     let ws = c.transmit_lacpdu_at.new.system_ports in
     let within = c.in_ok-place.ensures.within in
     let placed = c.in_ok-place.ensures.place in
-    let there : slice_get v.items i ≡ Some system_port = subst (λ (x : SystemPort). slice_get v.items i ≡ Some x) (sym c.index.ensures) (slice_get-get_or v.items i system_port within) in
+    let there : slice_get v.items i ≡ Some system_port = subst (λ (x : SystemPort). slice_get v.items i ≡ Some x) (sym c.index.ensures)
+    (slice_get-get_or v.items i system_port within) in
     let up : system_port.port.enabled ≡ true = sym c.is_enabled.ensures ∙ c.if-not-is_enabled.false in
-    sends_marker s c.args.number i system_port c.index-2.result.now olds ws (with_items v ws).items c.transmit_marker.result (inner_state c.transmit_marker.new.self)
+    sends_marker s c.args.number i system_port c.index-2.result.now olds ws (with_items v ws).items c.transmit_marker.result
+    (inner_state c.transmit_marker.new.self)
     placed
     within
     there

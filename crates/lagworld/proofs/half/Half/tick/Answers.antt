@@ -9,9 +9,11 @@ use Rattle.lagworld.proofs.half.Half.tick.Goals as goal
 pub loop-done-preserved : goal.loop-done-preserved
 loop-done-preserved g c = record {
   within = omega arith;
-  ticks = one_tick (λ conv count place. g.F.Fn.post c.args.self.now.system.algorithm (conv, (count, tt)) place) c.loop-done.done (half_state c.args.self.now) (half_state c.loop-done.self) _ c.loop-done.invariant.ticks
+  ticks = one_tick (λ conv count place. g.F.Fn.post c.args.self.now.system.algorithm (conv, (count, tt)) place) c.loop-done.done
+      (half_state c.args.self.now) (half_state c.loop-done.self) _ c.loop-done.invariant.ticks
       (record {
-        answers = subst (λ f. CallPromise (λ conv count place. g.F.Fn.post f (conv, (count, tt)) place) c.loop-done.self.system.state Tick answer.Tick c.tick.new.self.state) c.loop-done.invariant.algorithm c.tick.ensures.answers;
+        answers = subst (λ f. CallPromise (λ conv count place. g.F.Fn.post f (conv, (count, tt)) place) c.loop-done.self.system.state Tick
+            answer.Tick c.tick.new.self.state) c.loop-done.invariant.algorithm c.tick.ensures.answers;
         same = refl;
       });
   algorithm = c.tick.ensures.algorithm ∙ c.loop-done.invariant.algorithm;

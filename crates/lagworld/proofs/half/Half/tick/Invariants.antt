@@ -6,7 +6,8 @@ use Rattle.lagworld.proofs.half.Half.tick.Given as goal
 abbrev pub invariant-loop-done : goal.invariant-loop-done
 invariant-loop-done g l = record {
   within : l.done ≤ l.count;
-  ticks : HalfTicks (λ conv count place. g.F.Fn.post l.fn.self.system.algorithm (conv, (count, tt)) place) l.done (half_state l.fn.self) (half_state l.self);
+  ticks : HalfTicks (λ conv count place. g.F.Fn.post l.fn.self.system.algorithm (conv, (count, tt)) place) l.done
+      (half_state l.fn.self) (half_state l.self);
   algorithm : l.self.system.algorithm ≡ l.fn.self.system.algorithm;
 }
 

@@ -14,4 +14,5 @@ pub returns : goal.returns
 returns g c =
     let told = c.link_status-status.result in
     ap Some (c.agreement_of.ensures ∙ (λ i. agreement_of (c.end_facts-one.ensures i) (c.end_facts-two.ensures i)))
-    ∙ agreement_there (world_state g.C.Cable.items g.C.Cable.limit c.args.self.now) c.args.cable c.link_index_of.result told.one told.two told.whole c.link_index_of.ensures.at c.link_status-status.ensures
+    ∙ agreement_there (world_state g.C.Cable.items g.C.Cable.limit c.args.self.now) c.args.cable c.link_index_of.result told.one told.two
+    told.whole c.link_index_of.ensures.at c.link_status-status.ensures

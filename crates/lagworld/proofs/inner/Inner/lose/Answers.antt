@@ -17,5 +17,6 @@ returns-clause-loses g c =
     let links = link_states g.C.Cable.items g.C.Cable.limit c.lose_at.new.links.items in
     let r = c.lost_reply.result in
     subst (λ s. WorldLoses s c.args.cable old r (with_links old links)) c.side_named-side.ensures
-    (on_place c.args.cable i (λ l. LosesFrom s i l (towards s l) old r (with_links old links)) (λ i l. LosesFrom s i l (towards s l) old r (with_links old links)) old.links c.link_index_of-index.ensures.at (λ l x. x)
+    (on_place c.args.cable i (λ l. LosesFrom s i l (towards s l) old r (with_links old links))
+    (λ i l. LosesFrom s i l (towards s l) old r (with_links old links)) old.links c.link_index_of-index.ensures.at (λ l x. x)
     (lost_there s i r c.lose_at.result old links c.lost_reply.ensures c.lose_at.ensures))

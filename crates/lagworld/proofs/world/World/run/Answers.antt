@@ -26,28 +26,35 @@ returns-in-Err-clause-carries g c = carries_of c.args.self.now.state c.alloc-all
 
 pub step-requires-clause-one : goal.step-requires-clause-one
 step-requires-clause-one g c =
-    subst (λ f. PicksIndexes (λ conv count. g.F.Fn.pre f (conv, (count, tt))) (λ conv count place. g.F.Fn.post f (conv, (count, tt)) place)) (sym c.loop-done.invariant.one) c.requires.one
+    subst (λ f. PicksIndexes (λ conv count. g.F.Fn.pre f (conv, (count, tt))) (λ conv count place. g.F.Fn.post f (conv, (count, tt)) place))
+    (sym c.loop-done.invariant.one) c.requires.one
 
 pub step-requires-clause-two : goal.step-requires-clause-two
 step-requires-clause-two g c =
-    subst (λ f. PicksIndexes (λ conv count. g.F.Fn.pre f (conv, (count, tt))) (λ conv count place. g.F.Fn.post f (conv, (count, tt)) place)) (sym c.loop-done.invariant.two) c.requires.two
+    subst (λ f. PicksIndexes (λ conv count. g.F.Fn.pre f (conv, (count, tt))) (λ conv count place. g.F.Fn.post f (conv, (count, tt)) place))
+    (sym c.loop-done.invariant.two) c.requires.two
 
 pub returns-in-Err-step-clause-stopped : goal.returns-in-Err-step-clause-stopped
 returns-in-Err-step-clause-stopped g c =
-    let gives : Algorithms = both_algorithms (λ conv count place. g.F.Fn.post c.args.self.now.one (conv, (count, tt)) place) (λ conv count place. g.F.Fn.post c.args.self.now.two (conv, (count, tt)) place) in
+    let gives : Algorithms = both_algorithms (λ conv count place. g.F.Fn.post c.args.self.now.one (conv, (count, tt)) place)
+    (λ conv count place. g.F.Fn.post c.args.self.now.two (conv, (count, tt)) place) in
     let old = c.args.self.now.state in
     let es = c.args.events.now in
     let n = c.loop-done.done in
     let e = c.index-events-done.result in
     let same = sym c.in-Err-step.ensures.unchanged in
-    let refused = subst (λ (x : Event). c.in-Err-step.fault ≡ cause_or_no_memory (cause c.loop-done.self.state x)) c.index-events-done.is c.in-Err-step.ensures.refused in
-    let memory = subst (λ (x : Event). cause c.loop-done.self.state x ≡ None → may_take_memory x ≡ true) c.index-events-done.is c.in-Err-step.ensures.memory in
+    let refused = subst (λ (x : Event). c.in-Err-step.fault ≡ cause_or_no_memory (cause c.loop-done.self.state x)) c.index-events-done.is
+    c.in-Err-step.ensures.refused in
+    let memory = subst (λ (x : Event). cause c.loop-done.self.state x ≡ None → may_take_memory x ≡ true) c.index-events-done.is
+    c.in-Err-step.ensures.memory in
     record {
       replies = c.loop-done.replies.items;
       within = c.loop-done.invariant.within;
       acted = subst (λ (j : WorldState). WorldRuns gives old (take n es) c.loop-done.replies.items j) same c.loop-done.invariant.ran;
-      happened = subst (λ (j : WorldState). Run (world_setup old) (map model_event (take n es)) (model_world old) (model_world j)) same c.loop-done.invariant.happened;
-      fault = inr (subst (λ (j : WorldState). RefusesNext j (next_of es n) c.in-Err-step.fault) same (stopped_by c.loop-done.self.state es n e c.in-Err-step.fault c.loop-done-test.true refused memory));
+      happened = subst (λ (j : WorldState). Run (world_setup old) (map model_event (take n es)) (model_world old) (model_world j)) same
+          c.loop-done.invariant.happened;
+      fault = inr (subst (λ (j : WorldState). RefusesNext j (next_of es n) c.in-Err-step.fault) same
+          (stopped_by c.loop-done.self.state es n e c.in-Err-step.fault c.loop-done-test.true refused memory));
     }
 
 pub returns-in-Err-step-clause-one_partner : goal.returns-in-Err-step-clause-one_partner
@@ -74,14 +81,25 @@ loop-done-preserved g c =
     let n = c.loop-done.done in
     let e = c.index-events-done.result in
     let r = c.in-Ok-step.reply in
-    let steps_one = subst (λ f. WorldSteps (both_algorithms (λ conv count place. g.F.Fn.post f (conv, (count, tt)) place) (λ conv count place. g.F.Fn.post c.loop-done.self.two (conv, (count, tt)) place)) mid e r new) c.loop-done.invariant.one c.in-Ok-step.ensures.steps in
-    let steps_two = subst (λ f. WorldSteps (both_algorithms (λ conv count place. g.F.Fn.post c.args.self.now.one (conv, (count, tt)) place) (λ conv count place. g.F.Fn.post f (conv, (count, tt)) place)) mid e r new) c.loop-done.invariant.two steps_one in
-    let gives : Algorithms = both_algorithms (λ conv count place. g.F.Fn.post c.args.self.now.one (conv, (count, tt)) place) (λ conv count place. g.F.Fn.post c.args.self.now.two (conv, (count, tt)) place) in
-    let happens = subst (λ x. Happens x (model_event e) (model_world mid) (model_world new)) c.loop-done.invariant.fixed c.in-Ok-step.ensures.happens in
+    let steps_one = subst
+    (λ f. WorldSteps (both_algorithms (λ conv count place. g.F.Fn.post f (conv, (count, tt)) place)
+    (λ conv count place. g.F.Fn.post c.loop-done.self.two (conv, (count, tt)) place)) mid e r new) c.loop-done.invariant.one
+    c.in-Ok-step.ensures.steps in
+    let steps_two = subst
+    (λ f. WorldSteps (both_algorithms (λ conv count place. g.F.Fn.post c.args.self.now.one (conv, (count, tt)) place)
+    (λ conv count place. g.F.Fn.post f (conv, (count, tt)) place)) mid e r new) c.loop-done.invariant.two steps_one in
+    let gives : Algorithms = both_algorithms (λ conv count place. g.F.Fn.post c.args.self.now.one (conv, (count, tt)) place)
+    (λ conv count place. g.F.Fn.post c.args.self.now.two (conv, (count, tt)) place) in
+    let happens = subst (λ x. Happens x (model_event e) (model_world mid) (model_world new)) c.loop-done.invariant.fixed
+    c.in-Ok-step.ensures.happens in
     record {
       within = omega arith;
-      ran = rw c.push_reserved.ensures.items (runs_on gives old mid new es c.loop-done.replies.items n e r c.loop-done-test.true c.loop-done.invariant.ran (subst (λ (x : Event). WorldSteps gives mid x r new) c.index-events-done.is steps_two));
-      happened = world_on (world_setup old) (model_world old) (model_world mid) (model_world new) es n e c.loop-done-test.true c.loop-done.invariant.happened (subst (λ (x : Event). Happens (world_setup old) (model_event x) (model_world mid) (model_world new)) c.index-events-done.is happens);
+      ran = rw c.push_reserved.ensures.items (runs_on gives old mid new es c.loop-done.replies.items n e r c.loop-done-test.true
+          c.loop-done.invariant.ran (subst (λ (x : Event). WorldSteps gives mid x r new) c.index-events-done.is steps_two));
+      happened = world_on (world_setup old) (model_world old) (model_world mid) (model_world new) es n e c.loop-done-test.true
+          c.loop-done.invariant.happened
+          (subst (λ (x : Event). Happens (world_setup old) (model_event x) (model_world mid) (model_world new))
+          c.index-events-done.is happens);
       fixed = c.step.ensures.fixed ∙ c.loop-done.invariant.fixed;
       sound = c.step.ensures.sound;
       one = c.step.ensures.algorithm_one ∙ c.loop-done.invariant.one;

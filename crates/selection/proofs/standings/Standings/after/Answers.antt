@@ -18,6 +18,7 @@ loop-view-preserved c = record {
     many = c.note.array_long;
     each = λ place below.
         rw (c.note.ensures place below, c.loop-view.invariant.tells.each place below)
-        (sym (standing-more c.args.port.now (aggregator_after c.args.before place) c.args.views.now c.loop-view.view-index _ c.loop-view-test.true));
+        (sym (standing-more c.args.port.now (aggregator_after c.args.before place) c.args.views.now c.loop-view.view-index _
+        c.loop-view-test.true));
   };
 }
