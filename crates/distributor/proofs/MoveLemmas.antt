@@ -18,7 +18,7 @@ use Rattle.lagmodel.proofs.Uses.{flows_become}
 use Rattle.distributor.specs.Conversations.{Table, first_table, assignment_of, slot_index}
 use Rattle.distributor.specs.Changes.{SetsAssignment, ChangesAssignments, Marks, after_leave, after_mark, after_release, after_down}
 use Rattle.distributor.specs.Changes.{after_tick}
-use Rattle.distributor.specs.Calls.{MaySend, move_result, force_result, distributes}
+use Rattle.distributor.specs.Calls.{MaySend, move_result, force_result, is_among}
 use Rattle.distributor.proofs.TableLemmas.{first_free}
 use Rattle.distributor.specs.Moves.{model_conversation, model_distributor, OnlyListedDistribute, NoneDistributes}
 
@@ -93,7 +93,7 @@ pub is_moved : (next : Option ℕ) (ports : List ℕ) (to : ℕ) (old new : Assi
 is_moved next ports to (state.Free preferred) new h = absurd cc
 is_moved next ports to (state.Wanted p preferred) new h = absurd cc
 is_moved next ports to (state.Flushing p n preferred age) new h = absurd cc
-is_moved next ports to (state.On p) new h = (p, refl, checked (distributes ports to) (eqb p to) (is_none next) h)
+is_moved next ports to (state.On p) new h = (p, refl, checked (is_among ports to) (eqb p to) (is_none next) h)
   where
     checked : (x y z : Bool)
         → cond x (cond y (Err DistFault.SamePort) (cond z (Err DistFault.MarkersSpent) (Ok (state.Wanted p (Some to)))))

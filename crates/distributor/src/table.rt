@@ -19,6 +19,7 @@ const CONVERSATIONS: u32 = 256;
 #[derive(Drop)]
 pub(crate) struct ConversationTable {
     aggs: u16,
+    /// The identifier of the first marker.
     first: u32,
     next: u64,
     slots: Slots,
@@ -36,6 +37,7 @@ impl Model for ConversationTable {
 }
 
 impl ConversationTable {
+    /// Makes the table at the start: every conversation free, and `first` the identifier of the first marker.
     pub(crate) fn new(alloc: Global, aggs: u16, first: u32) -> Result<ConversationTable, NoMemory>
         ensures { IfOk result (λ t. t ≡ first_table aggs first) }
     {
@@ -62,6 +64,7 @@ impl ConversationTable {
         agg > 0 && agg <= self.aggs && u32::from(conv) < CONVERSATIONS
     }
 
+    /// The state of a conversation; Free without a preferred port if there is no such conversation.
     pub(crate) fn state(&self, agg: u16, conv: u16) -> Assignment
         ensures { result ≡ assignment_of self.now agg conv }
     {
@@ -71,6 +74,7 @@ impl ConversationTable {
         Assignment::Free { preferred: None }
     }
 
+    /// Gives a conversation a state that is not Flushing.
     pub(crate) fn set(&mut self, agg: u16, conv: u16, state: Assignment)
         requires known { IsConversation self.old agg conv }
         requires still { is_flushing state ≡ false }
@@ -79,8 +83,8 @@ impl ConversationTable {
         self.slots.set(slot_index(agg, conv), state);
     }
 
-    /// Whether some conversation is Wanted on the port.
-    pub(crate) fn is_wanted_on(&self, port: u16) -> bool
+    /// Whether some conversation is Wanted on the port, that is, waits for a marker to be sent there.
+    pub(crate) fn wants_marker_on(&self, port: u16) -> bool
         ensures { result ≡ nat_lt 0 (count_conversations (wants_marker port) self.now) }
     {
         self.slots.count(ConversationTest::WantsMarker(port)) > 0
@@ -100,7 +104,8 @@ impl ConversationTable {
         self.slots.count(ConversationTest::NamesPort(port))
     }
 
-    /// Applies a change to every conversation.
+    /// Gives every conversation its state after this event: a port stops distributing, a marker is sent, its response
+    /// comes, a link goes down or a tick passes. The next marker identifier stays.
     pub(crate) fn change(&mut self, change: Change)
         ensures { ChangesAssignments self.old self.new (after_change change) }
     {
@@ -126,7 +131,7 @@ impl ConversationTable {
         ensures some { IfSome result (λ id. Marks self.old self.new port id) }
         ensures none { IfNone result (self.new ≡ self.old) }
     {
-        if !self.is_wanted_on(port) {
+        if !self.wants_marker_on(port) {
             return None;
         }
         let id = self.next_identifier()?;

@@ -5,4 +5,4 @@ use Rattle.lagsystem.specs.State.{SystemState}
 
 -- port 1, and no other, distributes in aggregator 1
 abbrev pub IsUp : SystemState → Type 0
-IsUp s = distributing (aggregator_numbered 1) s.slots ≡ 1 ∷ []
+IsUp s = distributing (aggregator_numbered 1) s.system_ports ≡ 1 ∷ []

@@ -58,7 +58,7 @@ request_fault_text fault.NoSystem = codes "no-system"
 request_fault_text fault.NotKeeping = codes "not-keeping"
 request_fault_text fault.NoMemory = codes "no-memory"
 
--- why a system could not be made, or refused a call
+-- why a configuration is refused
 abbrev pub reason_name : BadConfig → List ℕ
 reason_name reason.Ports = codes "ports"
 reason_name reason.Aggregators = codes "aggregators"
@@ -100,7 +100,7 @@ received_text (Respond octets) = codes "respond " ++ encode_lower octets
 received_text (Released count) = codes "released " ++ decimal count
 received_text (Up agg) = codes "up " ++ decimal agg.0
 
--- a frame that is to be sent: the subtype of its payload, and its octets
+-- "lacpdu " or "marker ", by the subtype of a frame that is to be sent
 abbrev pub subtype_word : List ℕ → List ℕ
 subtype_word octets = if slice_index octets 14 == 1 then codes "lacpdu " else codes "marker "
 
@@ -108,7 +108,7 @@ subtype_word octets = if slice_index octets 14 == 1 then codes "lacpdu " else co
 abbrev pub sent_text : List ℕ → List ℕ
 sent_text octets = subtype_word octets ++ encode_lower octets
 
--- `done` for a call, or its fault
+-- "ok" for a call that was done, or its fault
 abbrev pub done_text : Result Unit SystemFault → List ℕ
 done_text (Ok done) = codes "ok"
 done_text (Err f) = refused_text f
@@ -212,7 +212,7 @@ fact_or_none (Some f) = fact_text f
 abbrev pub port_answer_text : PortAnswer → List ℕ
 port_answer_text t = codes "port " ++ (decimal t.port ++ (codes ": " ++ fact_or_none t.fact))
 
--- the numbers, with a space before each; or none
+-- the number, with a space before it
 abbrev pub spaced : ℕ → List ℕ
 spaced n = 32 ∷ decimal n
 
@@ -248,7 +248,7 @@ abbrev pub conversation_or_none : Option Assignment → List ℕ
 conversation_or_none None = codes "none"
 conversation_or_none (Some assignment) = conversation_text assignment
 
--- each port with a bar after it; then the aggregators, with a bar between them
+-- a port's answer, with a bar after it
 abbrev pub port_bar : PortAnswer → List ℕ
 port_bar t = port_answer_text t ++ codes " | "
 

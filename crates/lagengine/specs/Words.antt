@@ -67,7 +67,7 @@ link_word = one_of (codes "up") (codes "down") fault.Link
 abbrev pub aggregation_word : List ℕ → Result Bool RequestFault
 aggregation_word = one_of (codes "aggregatable") (codes "individual") fault.Kind
 
--- octets in hexadecimal digits, upper or lower case; the empty word has none
+-- the octets that hexadecimal digits stand for, upper or lower case; the empty word stands for the empty list
 abbrev pub hex_word : List ℕ → Result (List ℕ) RequestFault
 hex_word w = or_fault fault.Hex (result_ok (decode_of w))
 

@@ -79,7 +79,7 @@ impl fmt::Display for PartnerText<'_> {
     }
 }
 
-/// Selected, with the aggregator of a port.
+/// The variable Selected of a port: `unselected`, or `selected` with its aggregator.
 #[derive(Clone, Copy)]
 struct ChoiceText(Choice);
 

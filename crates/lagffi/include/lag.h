@@ -349,7 +349,7 @@ static inline struct lag_group lag_group(struct lag *handle, uint16_t port) {
     return refused;
 }
 
-/* Whether the recorded partner is the administrative default. */
+/* Actor_State.Defaulted: whether recordDefault set the recorded partner, and no LACPDU since. */
 static inline struct lag_truth lag_defaulted(struct lag *handle, uint16_t port) {
     return handle ? lagffi_defaulted(handle, port) : lag_null_truth();
 }

@@ -16,7 +16,7 @@ use Rattle.lagffi.specs.declared.made.LagConfig.{LagConfig}
 use Rattle.lagffi.specs.declared.made.LagMade.{LagMade}
 use Rattle.lagffi.specs.declared.made.LagPort.{LagPort}
 
--- the number of a handle that holds a system already
+-- the status that lagffi_new answers for a handle that holds a system already
 abbrev pub holds_system_already : ℕ
 holds_system_already = 14
 
@@ -41,8 +41,8 @@ lag_port_config p =
 abbrev pub refusal_of : List ℕ → List LagPort → Option BadConfig
 refusal_of keys ports = refusal (map lag_key keys) (map lag_port_config ports)
 
--- The first state of a system with this configuration, which is accepted: its ports agree, and it shows as the first view of the
--- law does.
+-- The first state of a system with this configuration, which is accepted: its ports agree, and its view is the first
+-- view of the two-system theorem (lagmodel).
 pub record IsMadeOfLagConfig (config : LagConfig) (of_keys : List ℕ) (of_ports : List LagPort) (s : SystemState) : Type 0 where
   pub first : IsFirst s
   pub agrees : PortsAgree s

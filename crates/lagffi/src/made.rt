@@ -196,7 +196,7 @@ pub extern "C" fn lagffi_new(
     }
 }
 
-/// Frees the system of a handle, which is empty then.
+/// Frees the system of a handle, and leaves the handle empty. Answers 0, or 13 if the handle held no system.
 #[unsafe(no_mangle)]
 pub extern "C" fn lagffi_free(alloc: Global, lag: &mut Lag) -> u32
     ensures left { held_state lag.new.held.kept ≡ None }

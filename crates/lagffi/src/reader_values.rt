@@ -4,7 +4,7 @@ ghost use Rattle.lagffi.specs.ReaderValues.{group_or_no_port, lag_group, info_or
 ghost use Rattle.lagffi.specs.ReaderValues.{assignment_refused, no_end, group_refused, info_refused, marker_refused, party_refused};
 ghost use Rattle.lagffi.specs.ReaderValues.{state_or_no_port, party_or_no_port, lag_party, receive_state_or_no_port};
 
-use crate::values::{LagNumber, NO_PORT, NOT_ASSIGNED_REFUSED, OK};
+use crate::values::{LagNumber, NO_CONVERSATION, NO_PORT, OK};
 use bitflags::Flags;
 use lagsystem::{AggId, Assignment, Choice, Group, Info, MuxState, Party, ReceiveState, State};
 use lagtypes::End;
@@ -114,7 +114,7 @@ impl LagParty {
         }
     }
 
-    /// What a reader tells.
+    /// The answer of a reader of ports; refused if there is no such port.
     pub(crate) fn of(answer: Option<Party>) -> LagParty
         ensures { result ≡ party_or_no_port answer }
     {
@@ -176,7 +176,7 @@ impl LagInfo {
         }
     }
 
-    /// What a reader tells.
+    /// The answer of a reader of ports; refused if there is no such port.
     pub(crate) fn of(answer: Option<Info>) -> LagInfo
         ensures { result ≡ info_or_no_port answer }
     {
@@ -274,7 +274,7 @@ impl LagGroup {
         }
     }
 
-    /// What a reader tells.
+    /// The answer of a reader of ports; refused if there is no such port.
     pub(crate) fn of(answer: Option<Group>) -> LagGroup
         ensures { result ≡ group_or_no_port answer }
     {
@@ -293,15 +293,15 @@ pub struct LagAssignment {
     pub status: u32,
     /// 0 Free, 1 On, 2 Wanted, 3 Flushing.
     pub what: u32,
-    /// Of 1, 2 and 3 the port; else 0.
+    /// The port, if `what` is 1, 2 or 3; else 0.
     pub port: u16,
     /// Whether there is a preferred port.
     pub prefers: bool,
     /// The preferred port, or 0.
     pub preferred: u16,
-    /// Of 3 the identifier of its marker; else 0.
+    /// The identifier of its marker, if `what` is 3; else 0.
     pub id: u32,
-    /// Of 3 the ticks since its marker; else 0.
+    /// How many ticks have passed since its marker, if `what` is 3; else 0.
     pub age: u8,
 }
 
@@ -362,13 +362,13 @@ impl LagAssignment {
         }
     }
 
-    /// What a reader tells.
+    /// The state of the conversation; refused if there is no such aggregator or conversation.
     pub(crate) fn of(answer: Option<Assignment>) -> LagAssignment
         ensures { result ≡ assignment_or_refused answer }
     {
         match answer {
             Some(assignment) => LagAssignment::this(&assignment),
-            None => LagAssignment::refused(NOT_ASSIGNED_REFUSED),
+            None => LagAssignment::refused(NO_CONVERSATION),
         }
     }
 }

@@ -62,7 +62,7 @@ pub extern "C" fn lagffi_is_due(alloc: Global, lag: &mut Lag, port: u16) -> LagT
     answer
 }
 
-/// Whether the recorded partner of a port is the administrative default.
+/// Actor_State.Defaulted: whether recordDefault set the recorded partner of a port, and no LACPDU since (6.4.2.3).
 #[unsafe(no_mangle)]
 pub extern "C" fn lagffi_defaulted(alloc: Global, lag: &mut Lag, port: u16) -> LagTruth
     ensures { ReadsHeldSystem (held_state lag.old.held.kept) (held_state lag.new.held.kept)
@@ -229,7 +229,7 @@ pub extern "C" fn lagffi_aggregators(alloc: Global, lag: &mut Lag) -> LagNumber
     answer
 }
 
-/// The conversation of a frame in its aggregator; refused below 14 octets.
+/// The number of the conversation of a frame, the same in every aggregator; refused below 14 octets.
 #[unsafe(no_mangle)]
 pub extern "C" fn lagffi_conversation(alloc: Global, lag: &mut Lag, frame: &[u8]) -> LagNumber
     ensures { ReadsHeldSystem (held_state lag.old.held.kept) (held_state lag.new.held.kept)
@@ -266,7 +266,7 @@ pub extern "C" fn lagffi_conversation_state(
     answer
 }
 
-/// The identifier of the next marker, where one is left.
+/// The identifier of the next marker that the system will send; `left` is false once 4294967295 was used.
 #[unsafe(no_mangle)]
 pub extern "C" fn lagffi_next_marker(alloc: Global, lag: &mut Lag) -> LagMarker
     ensures { ReadsHeldSystem (held_state lag.old.held.kept) (held_state lag.new.held.kept)
@@ -281,7 +281,7 @@ pub extern "C" fn lagffi_next_marker(alloc: Global, lag: &mut Lag) -> LagMarker
     answer
 }
 
-/// How many ports there are. The buffer has 64 places; their numbers are written at its front, and nothing else.
+/// How many ports there are. The buffer has 64 places; the port numbers are written at its front, and nothing else.
 #[unsafe(no_mangle)]
 pub extern "C" fn lagffi_ports(alloc: Global, lag: &mut Lag, buffer: &mut [u16]) -> LagNumber
     ensures room { IsFalse (length buffer.old == port_list_length) → (result ≡ number_refused wrong_buffer_length)
@@ -304,7 +304,8 @@ pub extern "C" fn lagffi_ports(alloc: Global, lag: &mut Lag, buffer: &mut [u16])
     LagNumber::answered(put_first(&answered, buffer))
 }
 
-/// How many ports distribute in an aggregator. The buffer has 64 places; their numbers are written at its front, and nothing else.
+/// How many ports distribute in an aggregator. The buffer has 64 places; the numbers of these ports are written at its
+/// front, and nothing else.
 #[unsafe(no_mangle)]
 pub extern "C" fn lagffi_distributing(
     alloc: Global,

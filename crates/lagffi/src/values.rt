@@ -17,10 +17,10 @@ pub(crate) const NO_PORT: u32 = 1;
 pub(crate) const NO_SYSTEM: u32 = 13;
 /// A buffer has another length than the function asks.
 pub(crate) const WRONG_BUFFER_LENGTH: u32 = 15;
-/// An offered frame has not 14 to 1518 octets.
+/// The length of a frame is refused: an offered one has not 14 to 1518 octets, one asked about has fewer than 14.
 pub(crate) const FRAME_LENGTH_REFUSED: u32 = 3;
-/// The conversation is free, or there is no such conversation.
-pub(crate) const NOT_ASSIGNED_REFUSED: u32 = 9;
+/// A reader finds no such aggregator or conversation. Of a free conversation it tells the state, and refuses nothing.
+pub(crate) const NO_CONVERSATION: u32 = 9;
 /// The most ports and the most aggregators of a system.
 pub(crate) const PORT_LIST_LENGTH: usize = 64;
 /// The octets of a frame that a system makes: 14 of header, 110 of payload.

@@ -11,7 +11,7 @@ use Rattle.lagline.specs.declared.line.LineFault.TheVariants.{Help, Usage, NoMem
 use Rattle.lagline.specs.declared.line.Job.{Job}
 use Rattle.lagline.specs.declared.line.Job.TheVariants.{Decode, Respond, Check, Replay, Vectors}
 
--- an argument that is required
+-- a required positional argument with this id (a `Rule` is what clap's contracts call an `Arg`)
 abbrev pub required_argument : Text → Rule
 required_argument id = record (new_rule id) { required = true }
 

@@ -19,7 +19,7 @@ pub enum Job<'a> {
     Respond { mac: &'a str, hex: &'a str },
     /// `lagtool check FILE`: says for each line of a file what frame it is; `-` is standard input.
     Check { file: &'a str },
-    /// `lagtool replay REPLAY_SCRIPT`: runs a script of two systems; `-` is standard input.
+    /// `lagtool replay SCRIPT`: runs a script of two systems; `-` is standard input.
     Replay { script: &'a str },
     /// `lagtool vectors`: tests the program on known inputs.
     Vectors,

@@ -23,13 +23,13 @@ port_allowed : (u : SystemSetup) (n : ℕ) (came : Option ControlMessage) (ports
     → PortAllowed u (Receive n None) ports p m a → PortAllowed u (Receive n came) ports p m a
 port_allowed u n came ports p PortMove.Stop a h = tt
 port_allowed u n came ports p PortMove.Leave a h = tt
-port_allowed u n came ports p PortMove.Desynchronise a h = tt
+port_allowed u n came ports p PortMove.Desynchronize a h = tt
 port_allowed u n came ports p (PortMove.Reconfigure party) a h = absurd (true≢false (ap is_receive h.0))
 port_allowed u n came ports p PortMove.Default a h = h
-port_allowed u n came ports p (PortMove.Take told synchronised) a h = absurd (none-some (Lacp told) (ap brought h.0))
+port_allowed u n came ports p (PortMove.Take told synchronized) a h = absurd (none-some (Lacp told) (ap brought h.0))
 port_allowed u n came ports p (PortMove.Join g) a h = h
 port_allowed u n came ports p PortMove.Distribute a h = h
-port_allowed u n came ports p (PortMove.Announce synchronised) a h = h
+port_allowed u n came ports p (PortMove.Announce synchronized) a h = h
 port_allowed u n came ports p (PortMove.Respond mac port identifier) a h = absurd (none-some (Marker mac port identifier) (ap brought h))
 
 change_allowed : (mac : List ℕ) (n : ℕ) (came : Option ControlMessage) (g k : ℕ) (m : ConversationMove) (c : Conversation)

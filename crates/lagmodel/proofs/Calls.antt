@@ -39,13 +39,13 @@ parties_same u call old new seen n r x q = ap (λ (v : View). party_at v q) x.3 
         → (port_after m a).party ≡ a.party
     one PortMove.Stop a ports p y = refl
     one PortMove.Leave a ports p y = refl
-    one PortMove.Desynchronise a ports p y = refl
+    one PortMove.Desynchronize a ports p y = refl
     one (PortMove.Reconfigure party) a ports p y = absurd (n y.0)
     one PortMove.Default a ports p y = refl
-    one (PortMove.Take pdu synchronised) a ports p y = refl
+    one (PortMove.Take pdu synchronized) a ports p y = refl
     one (PortMove.Join g) a ports p y = refl
     one PortMove.Distribute a ports p y = refl
-    one (PortMove.Announce synchronised) a ports p y = refl
+    one (PortMove.Announce synchronized) a ports p y = refl
     one (PortMove.Respond mac port identifier) a ports p y = refl
 
     step : (m : Move) (v : View) → MoveAllowed u call v m → party_at (view_after u m v) q ≡ party_at v q

@@ -63,8 +63,8 @@ agree_holds x w i c p q a b ep eq h k =
 pub in_order_holds : (x : WorldSetup) (w : World) → Lawful x w → InOrder w
 in_order_holds x w i s g k u = handed_front s g k _ _ _ _ (w.sent s g k) (w.collected s g k) ((i s).lanes.orderly g k 0 u)
 
-pub took_synchronised_holds : (x : WorldSetup) (w : World) → Lawful x w → LastLacpduSaysInSync w
-took_synchronised_holds x w i s p a h d f =
+pub last_lacpdu_in_sync : (x : WorldSetup) (w : World) → Lawful x w → LastLacpduSaysInSync w
+last_lacpdu_in_sync x w i s p a h d f =
     let r = (i s).heard p a h f in
     let y = r.3 (((i s).members.member p a h d).1) in (
       r.0,

@@ -9,7 +9,7 @@ use Rattle.lagtypes.specs.declared.party.Party.{Party}
 use Rattle.lagtypes.specs.Group.{individual, Pair, SamePair, pair_of}
 use Rattle.lagtypes.specs.declared.group.End.{End}
 use Rattle.lagmodel.specs.View.{PortFacts, SystemSetup, IsSystemSetup, first_port, first_view, ModelCall, at_port, View}
-use Rattle.lagmodel.specs.Move.{PortMove, Stop, Leave, Desynchronise, Reconfigure, Default, Take, Join, Distribute, Announce, Respond}
+use Rattle.lagmodel.specs.Move.{PortMove, Stop, Leave, Desynchronize, Reconfigure, Default, Take, Join, Distribute, Announce, Respond}
 use Rattle.lagmodel.specs.Move.{pair_at, PortAllowed, port_after}
 use Rattle.lagmodel.specs.Law.{OnePartner, Members}
 use Rattle.lagmodel.proofs.Base.{no_value, none-is_some, same_value, value_of, mapped_some, chosen}
@@ -58,7 +58,7 @@ pub record Owes (u : SystemSetup) (ports : ℕ → Option PortFacts) (p : ℕ) (
   pub key : (g : ℕ) → b.aggregator ≡ Some g → u.key g ≡ Some b.party.key
   pub group : (g q : ℕ) (c : PortFacts) → (q ≡ p → ⊥) → ports q ≡ Some c → b.aggregator ≡ Some g → c.aggregator ≡ Some g
       → SamePair (pair_at b) (pair_at c) × (individual b.party b.partner ≡ false)
-  pub member : b.distributes ≡ true → IsSome b.aggregator × (b.synchronised ≡ true)
+  pub member : b.distributes ≡ true → IsSome b.aggregator × (b.synchronized ≡ true)
 
 pub changed : (u : SystemSetup) (ports : ℕ → Option PortFacts) (p : ℕ) (f : PortFacts → PortFacts) (a : PortFacts) → ports p ≡ Some a
     → Members u ports → Owes u ports p a (f a) → Members u (at_port ports p f)
@@ -91,7 +91,7 @@ changed u ports p f a h i o = record {
     ]
   ];
   member = λ q b e d. elim (changed_port ports p q f a b h e) [
-    | inl x ↦ subst (λ (b : PortFacts). b.distributes ≡ true → IsSome b.aggregator × (b.synchronised ≡ true)) x.1 o.member d
+    | inl x ↦ subst (λ (b : PortFacts). b.distributes ≡ true → IsSome b.aggregator × (b.synchronized ≡ true)) x.1 o.member d
     | inr x ↦ i.member q b x.1 d
   ];
 }
@@ -99,7 +99,7 @@ changed u ports p f a h i o = record {
 -- a port that keeps its aggregator, its party and its partner
 steady : (u : SystemSetup) (ports : ℕ → Option PortFacts) (p : ℕ) (a b : PortFacts) → ports p ≡ Some a → Members u ports
     → b.aggregator ≡ a.aggregator → b.party ≡ a.party → b.partner ≡ a.partner
-    → (b.distributes ≡ true → IsSome b.aggregator × (b.synchronised ≡ true)) → Owes u ports p a b
+    → (b.distributes ≡ true → IsSome b.aggregator × (b.synchronized ≡ true)) → Owes u ports p a b
 steady u ports p a b h i e1 e2 e3 m = record {
   number = ap (λ (x : Party). x.port.number) e2;
   own = ap (λ (x : Party). x.system) e2;
@@ -130,15 +130,15 @@ owed : (u : SystemSetup) (call : ModelCall) (ports : ℕ → Option PortFacts) (
     → Members u ports → PortAllowed u call ports p m a → Owes u ports p a (port_after m a)
 owed u call ports p Stop a h i x = steady u ports p a _ h i refl refl refl (λ d. absurd (false≢true d))
 owed u call ports p Leave a h i x = outside u ports p a _ refl refl refl (λ d. false≢true d)
-owed u call ports p Desynchronise a h i x = steady u ports p a _ h i refl refl refl (λ d. absurd (false≢true d))
+owed u call ports p Desynchronize a h i x = steady u ports p a _ h i refl refl refl (λ d. absurd (false≢true d))
 owed u call ports p (Reconfigure party) a h i x = outside u ports p a _ x.3 x.2 x.1 (idle u ports p a h i x.1)
 owed u call ports p Default a h i x = elim x [
   | inl n ↦ outside u ports p a _ refl refl n (idle u ports p a h i n)
   | inr z ↦ steady u ports p a _ h i refl refl (sym z) (λ d. ((i.member p a h d).0, refl))
 ]
-owed u call ports p (Take pdu synchronised) a h i x = elim x.1 [
-  | inl e ↦ steady u ports p a _ h i refl refl e (λ d. let b = and_parts synchronised a.distributes d in ((i.member p a h b.1).0, b.0))
-  | inr n ↦ outside u ports p a _ refl refl n (λ d. idle u ports p a h i n ((and_parts synchronised a.distributes d).1))
+owed u call ports p (Take pdu synchronized) a h i x = elim x.1 [
+  | inl e ↦ steady u ports p a _ h i refl refl e (λ d. let b = and_parts synchronized a.distributes d in ((i.member p a h b.1).0, b.0))
+  | inr n ↦ outside u ports p a _ refl refl n (λ d. idle u ports p a h i n ((and_parts synchronized a.distributes d).1))
 ]
 owed u call ports p (Join g) a h i x = record {
   number = refl;
@@ -151,7 +151,7 @@ owed u call ports p (Join g) a h i x = record {
   member = λ d. absurd (idle u ports p a h i x.0 d);
 }
 owed u call ports p Distribute a h i x = steady u ports p a _ h i refl refl refl (λ d. x)
-owed u call ports p (Announce synchronised) a h i x = steady u ports p a _ h i refl refl refl (i.member p a h)
+owed u call ports p (Announce synchronized) a h i x = steady u ports p a _ h i refl refl refl (i.member p a h)
 owed u call ports p (Respond mac port identifier) a h i x = steady u ports p a _ h i refl refl refl (i.member p a h)
 
 -- a move of a port keeps the facts

@@ -7,7 +7,7 @@ use Rattle.std.proofs.lemmas.Option.{none-some, same_Some}
 use Rattle.lagtypes.specs.declared.party.Party.{Party}
 use Rattle.lagmodel.specs.View.{PortFacts, DistributorFacts, View, SystemSetup, first_port, first_view, LacpMessage, Lacp, Marker}
 use Rattle.lagmodel.specs.View.{Response, ModelCall, at_port, is_restart, replies_frame}
-use Rattle.lagmodel.specs.Move.{Took, PortMove, Stop, Leave, Desynchronise, Reconfigure, Default, Take, Join, Distribute, Announce}
+use Rattle.lagmodel.specs.Move.{Took, PortMove, Stop, Leave, Desynchronize, Reconfigure, Default, Take, Join, Distribute, Announce}
 use Rattle.lagmodel.specs.Move.{Respond, DistributorMove, Send, Mark, Become, distributor_act, Move, Port, Flow, Restart, PortAllowed}
 use Rattle.lagmodel.specs.Move.{port_after, port_act, MoveAllowed, view_after, act, act_of_port}
 use Rattle.lagmodel.specs.World.{Side, Message, Control, Data, put_on_cable, at_cable, on_cable_after, taken_after, TakenLacpdu, party_at}
@@ -39,7 +39,7 @@ abbrev pub Heard : PortFacts → Option TakenLacpdu → Type 0
 Heard a o =
     a.defaulted ≡ false
     → (m : TakenLacpdu) × (o ≡ Some m) × (a.partner ≡ m.pdu.actor)
-    × (a.synchronised ≡ true → (m.pdu.synchronised ≡ true) × ((m.pdu.partner ≡ a.party) ⊎ (m.pdu.actor.aggregatable ≡ false)))
+    × (a.synchronized ≡ true → (m.pdu.synchronized ≡ true) × ((m.pdu.partner ≡ a.party) ⊎ (m.pdu.actor.aggregatable ≡ false)))
 
 abbrev pub AllHeard : (ℕ → Option PortFacts) → (ℕ → Option TakenLacpdu) → Type 0
 AllHeard ports taken = (p : ℕ) (a : PortFacts) → ports p ≡ Some a → Heard a (taken p)
@@ -58,15 +58,15 @@ heard_port : (u : SystemSetup) (call : ModelCall) (ports : ℕ → Option PortFa
     → AllHeard (at_port ports p (port_after m)) (taken_after stamp (port_act p m a) taken)
 heard_port u call ports p stamp taken Stop a h x i = heard_changed ports taken taken p (port_after Stop) a h (i p a h) (λ q e. refl) i
 heard_port u call ports p stamp taken Leave a h x i = heard_changed ports taken taken p (port_after Leave) a h (i p a h) (λ q e. refl) i
-heard_port u call ports p stamp taken Desynchronise a h x i =
-    heard_changed ports taken taken p (port_after Desynchronise) a h (λ d. let r = i p a h d in (r.0, r.1, r.2, λ e. absurd (false≢true e)))
+heard_port u call ports p stamp taken Desynchronize a h x i =
+    heard_changed ports taken taken p (port_after Desynchronize) a h (λ d. let r = i p a h d in (r.0, r.1, r.2, λ e. absurd (false≢true e)))
     (λ q e. refl) i
 heard_port u call ports p stamp taken (Reconfigure party) a h x i = heard_changed ports taken taken p (port_after (Reconfigure party)) a h
     (λ d. absurd (true≢false d)) (λ q e. refl) i
 heard_port u call ports p stamp taken Default a h x i = heard_changed ports taken taken p (port_after Default) a h
     (λ d. absurd (true≢false d)) (λ q e. refl) i
-heard_port u call ports p stamp taken (Take pdu synchronised) a h x i =
-    heard_changed ports taken (taken_after stamp (Some (Took p pdu)) taken) p (port_after (Take pdu synchronised)) a h
+heard_port u call ports p stamp taken (Take pdu synchronized) a h x i =
+    heard_changed ports taken (taken_after stamp (Some (Took p pdu)) taken) p (port_after (Take pdu synchronized)) a h
     (λ d. (record { pdu = pdu; stamp = stamp }, self, refl, x.2)) (λ q ne. other q ne) i
   where
     self : taken_after stamp (Some (Took p pdu)) taken p ≡ Some (record { pdu = pdu; stamp = stamp })
@@ -78,8 +78,8 @@ heard_port u call ports p stamp taken (Join g) a h x i = heard_changed ports tak
     (i p a h) (λ q e. refl) i
 heard_port u call ports p stamp taken Distribute a h x i = heard_changed ports taken taken p (port_after Distribute) a h
     (i p a h) (λ q e. refl) i
-heard_port u call ports p stamp taken (Announce synchronised) a h x i = heard_changed ports taken taken p
-    (port_after (Announce synchronised)) a h (i p a h) (λ q e. refl) i
+heard_port u call ports p stamp taken (Announce synchronized) a h x i = heard_changed ports taken taken p
+    (port_after (Announce synchronized)) a h (i p a h) (λ q e. refl) i
 heard_port u call ports p stamp taken (Respond mac q n) a h x i = heard_changed ports taken taken p (port_after (Respond mac q n)) a h
     (i p a h) (λ q e. refl) i
 
@@ -127,18 +127,18 @@ stamps_port : (s : Side) (ends theirs : ℕ → Option ℕ) (party : ℕ → Opt
     → Stamps ends theirs party count out taken
     → Stamps ends theirs party count (on_cable_after s ends whole count sent kept (act_of_port p m o) out) taken
 stamps_port s ends theirs party count out taken whole sent kept u call v p m None h x r i = i
-stamps_port s ends theirs party count out taken whole sent kept u call v p (Announce synchronised) (Some a) h x r i =
+stamps_port s ends theirs party count out taken whole sent kept u call v p (Announce synchronized) (Some a) h x r i =
     stamps_put ends theirs party count out taken whole kept p
-    (Control (Lacp (record { actor = a.party; partner = a.partner; synchronised = synchronised })) (count p))
+    (Control (Lacp (record { actor = a.party; partner = a.partner; synchronized = synchronized })) (count p))
     (omega arith, λ e. sym (r x.0 p) ∙ ap (option_map (λ (a : PortFacts). a.party)) h) i
 stamps_port s ends theirs party count out taken whole sent kept u call v p (Respond mac q n) (Some a) h x r i =
     stamps_put ends theirs party count out taken whole kept p (Control (Response mac q n) 0) tt i
 stamps_port s ends theirs party count out taken whole sent kept u call v p Stop (Some a) h x r i = i
 stamps_port s ends theirs party count out taken whole sent kept u call v p Leave (Some a) h x r i = i
-stamps_port s ends theirs party count out taken whole sent kept u call v p Desynchronise (Some a) h x r i = i
+stamps_port s ends theirs party count out taken whole sent kept u call v p Desynchronize (Some a) h x r i = i
 stamps_port s ends theirs party count out taken whole sent kept u call v p (Reconfigure new) (Some a) h x r i = i
 stamps_port s ends theirs party count out taken whole sent kept u call v p Default (Some a) h x r i = i
-stamps_port s ends theirs party count out taken whole sent kept u call v p (Take pdu synchronised) (Some a) h x r i = i
+stamps_port s ends theirs party count out taken whole sent kept u call v p (Take pdu synchronized) (Some a) h x r i = i
 stamps_port s ends theirs party count out taken whole sent kept u call v p (Join g) (Some a) h x r i = i
 stamps_port s ends theirs party count out taken whole sent kept u call v p Distribute (Some a) h x r i = i
 
@@ -195,12 +195,12 @@ stamps_peer ends theirs party count out taken whole theirs_forced u call stamp v
     go : (m : PortMove) (o : Option PortFacts) → IsSomeAnd o (PortAllowed u call v.port p m)
         → Stamps ends theirs party count out (taken_after stamp (act_of_port p m o) taken)
     go m None x = i
-    go (Take pdu synchronised) (Some a) x = stamps_taken ends theirs party count out taken p pdu stamp (w.came p (Lacp pdu) x.0) i
-    go (Announce synchronised) (Some a) x = i
+    go (Take pdu synchronized) (Some a) x = stamps_taken ends theirs party count out taken p pdu stamp (w.came p (Lacp pdu) x.0) i
+    go (Announce synchronized) (Some a) x = i
     go (Respond mac q n) (Some a) x = i
     go Stop (Some a) x = i
     go Leave (Some a) x = i
-    go Desynchronise (Some a) x = i
+    go Desynchronize (Some a) x = i
     go (Reconfigure new) (Some a) x = i
     go Default (Some a) x = i
     go (Join g) (Some a) x = i
@@ -218,13 +218,13 @@ party_kept : (u : SystemSetup) (call : ModelCall) (ports : ℕ → Option PortFa
     → PortAllowed u call ports p m a → replies_frame call ≡ true → (port_after m a).party ≡ a.party
 party_kept u call ports p Stop a x r = refl
 party_kept u call ports p Leave a x r = refl
-party_kept u call ports p Desynchronise a x r = refl
+party_kept u call ports p Desynchronize a x r = refl
 party_kept u call ports p (Reconfigure party) a x r = absurd (false≢true (subst (λ c. replies_frame c ≡ true) x.0 r))
 party_kept u call ports p Default a x r = refl
-party_kept u call ports p (Take pdu synchronised) a x r = refl
+party_kept u call ports p (Take pdu synchronized) a x r = refl
 party_kept u call ports p (Join g) a x r = refl
 party_kept u call ports p Distribute a x r = refl
-party_kept u call ports p (Announce synchronised) a x r = refl
+party_kept u call ports p (Announce synchronized) a x r = refl
 party_kept u call ports p (Respond mac q n) a x r = refl
 
 pub parties_kept : (u : SystemSetup) (call : ModelCall) (v : View) (m : Move) → MoveAllowed u call v m → is_restart call ≡ false

@@ -59,13 +59,13 @@ abbrev x₀ : WorldSetup
 x₀ = record { setup = λ s. setup_of (priority_of s); cables = record { one = 1; two = 1 } ∷ [] }
 
 abbrev pdu₁ : LacpMessage
-pdu₁ = record { actor = party_of 2; partner = zero_party; synchronised = false }
+pdu₁ = record { actor = party_of 2; partner = zero_party; synchronized = false }
 
 abbrev pdu₂ : LacpMessage
-pdu₂ = record { actor = party_of 1; partner = party_of 2; synchronised = true }
+pdu₂ = record { actor = party_of 1; partner = party_of 2; synchronized = true }
 
 abbrev pdu₃ : LacpMessage
-pdu₃ = record { actor = party_of 2; partner = party_of 1; synchronised = true }
+pdu₃ = record { actor = party_of 2; partner = party_of 1; synchronized = true }
 
 abbrev next : Side → ℕ → List (Move × Bool) → World → World
 next s stamp ms w = record (world_after_all x₀ s stamp ms w) { count = w.count }
@@ -231,7 +231,7 @@ something_arrives = (
   w₈,
   record (first_port (party_of 1)) {
     partner = party_of 2;
-    synchronised = true;
+    synchronized = true;
     defaulted = false;
     aggregator =
         Some 1;
@@ -239,7 +239,7 @@ something_arrives = (
   },
   record (first_port (party_of 2)) {
     partner = party_of 1;
-    synchronised = true;
+    synchronized = true;
     defaulted = false;
     aggregator =
         Some 1;

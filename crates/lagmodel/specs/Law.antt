@@ -1,4 +1,4 @@
--- What holds after each event of two systems, in every schedule.
+-- What holds after each event of two systems, in every schedule. The law of which moves are allowed is in Move.
 use Rattle.std.specs.Prelude.{◌≡◌, ℕ, ◌<◌, Bool, true, false, ◌&&◌, cond, eqb, ◌⊎◌, Option, Some, IsSome, is_some, List, [], ◌∷◌, ◌++◌}
 use Rattle.std.specs.Prelude.{Contains, length, slice_index}
 use Rattle.lagtypes.specs.Group.{individual, SamePair, pair_of}
@@ -37,7 +37,7 @@ pub record Members (u : SystemSetup) (ports : ℕ → Option PortFacts) : Type 0
   pub key : (p g : ℕ) (a : PortFacts) → ports p ≡ Some a → a.aggregator ≡ Some g → u.key g ≡ Some a.party.key
   pub group : (g p q : ℕ) (a b : PortFacts) → (p ≡ q → ⊥) → ports p ≡ Some a → ports q ≡ Some b → a.aggregator ≡ Some g
       → b.aggregator ≡ Some g → SamePair (pair_at a) (pair_at b) × (individual a.party a.partner ≡ false)
-  pub member : (p : ℕ) (a : PortFacts) → ports p ≡ Some a → a.distributes ≡ true → IsSome a.aggregator × (a.synchronised ≡ true)
+  pub member : (p : ℕ) (a : PortFacts) → ports p ≡ Some a → a.distributes ≡ true → IsSome a.aggregator × (a.synchronized ≡ true)
 
 -- Ports of one system that distribute in one aggregator have one partner system and key (6.3.6, 6.4.14.1).
 abbrev pub OnePartner : View → Type 0
@@ -47,7 +47,7 @@ OnePartner v =
     → (a.partner.system ≡ b.partner.system) × (a.partner.key ≡ b.partner.key)
 
 -- Port p of system s, with the view a, distributes and does not have a defaulted partner, and port q of the peer did
--- not change since it sent the LACPDU that port p received last.
+-- not change since it sent the LACPDU that port p took last.
 pub record LastLacpduIsUpToDate (w : World) (s : Side) (p q : ℕ) (a : PortFacts) : Type 0 where
   pub is : (w.view s).port p ≡ Some a
   pub distributes : a.distributes ≡ true
@@ -55,7 +55,7 @@ pub record LastLacpduIsUpToDate (w : World) (s : Side) (p q : ℕ) (a : PortFact
   pub taken : (m : TakenLacpdu) × (w.taken s p ≡ Some m) × (m.stamp ≡ w.count (peer s) q)
 
 -- The two ends of a cable have the same group (6.3.6), the same unordered pair of ends, if both distribute, neither
--- changed since it sent the LACPDU that its peer received last, and neither has a defaulted partner.
+-- changed since it sent the LACPDU that its peer took last, and neither has a defaulted partner.
 abbrev pub EndsAgree : WorldSetup → World → Type 0
 EndsAgree x w =
     (c p q : ℕ) (a b : PortFacts) → end_at x.cables One c ≡ Some p → end_at x.cables Two c ≡ Some q
@@ -67,15 +67,15 @@ EndsAgree x w =
 abbrev pub InOrder : World → Type 0
 InOrder w = (s : Side) (g k : ℕ) → w.forced s g k ≡ false → IsSubsequence (w.collected s g k) (w.sent s g k)
 
--- If a port distributes and its partner is not defaulted, the LACPDU that it received last said IN_SYNC. If that
+-- If a port distributes and its partner is not defaulted, the LACPDU that it took last said IN_SYNC. If that
 -- LACPDU's Actor is aggregatable, its Actor and Partner are the two ends of the port's present group.
 abbrev pub LastLacpduSaysInSync : World → Type 0
 LastLacpduSaysInSync w =
     (s : Side) (p : ℕ) (a : PortFacts) → (w.view s).port p ≡ Some a → a.distributes ≡ true → a.defaulted ≡ false
-    → (m : TakenLacpdu) × (w.taken s p ≡ Some m) × (m.pdu.synchronised ≡ true)
+    → (m : TakenLacpdu) × (w.taken s p ≡ Some m) × (m.pdu.synchronized ≡ true)
     × (m.pdu.actor.aggregatable ≡ true → SamePair (pair_of m.pdu.actor m.pdu.partner) (pair_at a))
 
--- If an LACPDU in flight, or one that was received last, has a stamp that equals its sender's change count, its Actor
+-- If an LACPDU in flight, or one that was taken last, has a stamp that equals its sender's change count, its Actor
 -- is the sender as it is now.
 abbrev pub UpToDateLacpdusNameSender : WorldSetup → World → Type 0
 UpToDateLacpdusNameSender x w =
@@ -123,7 +123,7 @@ CollectedThenInFlight w =
 abbrev pub CountsFromZero : World → Type 0
 CountsFromZero w = (s : Side) (g k i : ℕ) → i < length (w.sent s g k) → slice_index (w.sent s g k) i ≡ i
 
--- One system makes these calls one after another, each by lawful moves, with any visible acts.
+-- One system makes these calls one after another, each by moves that `MoveAllowed` allows, with any visible acts.
 abbrev pub LawfulRun : SystemSetup → List ModelCall → View → View → Type 0
 LawfulRun u [] old new = new ≡ old
 LawfulRun u (call ∷ calls) old new = (seen : List Act) × (mid : View) × LawfulMoves u call old seen mid × LawfulRun u calls mid new

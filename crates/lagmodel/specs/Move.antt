@@ -21,13 +21,13 @@ pub data Act : Type 0 where
 pub data PortMove : Type 0 where
   Stop : PortMove  -- 6.4.15
   Leave : PortMove  -- 6.4.8, Selected; 6.4.15, DETACHED
-  Desynchronise : PortMove  -- 6.4.12, EXPIRED and PORT_DISABLED
+  Desynchronize : PortMove  -- 6.4.12, EXPIRED and PORT_DISABLED
   Reconfigure : (party : Party) → PortMove  -- 6.4.7; 6.4.12, INITIALIZE
   Default : PortMove  -- 6.4.9, recordDefault; 6.4.12, DEFAULTED
-  Take : (pdu : LacpMessage) (synchronised : Bool) → PortMove  -- 6.4.9, recordPDU and update_Selected; 6.4.12, CURRENT
+  Take : (pdu : LacpMessage) (synchronized : Bool) → PortMove  -- 6.4.9, recordPDU and update_Selected; 6.4.12, CURRENT
   Join : (aggregator : ℕ) → PortMove  -- 6.4.14
   Distribute : PortMove  -- 6.4.15, COLLECTING_DISTRIBUTING
-  Announce : (synchronised : Bool) → PortMove  -- 6.4.16
+  Announce : (synchronized : Bool) → PortMove  -- 6.4.16
   Respond : (mac : List ℕ) (port identifier : ℕ) → PortMove  -- 6.2.6, 6.5.4
 
 -- the port's group, as a pair of ends: its own parameters and its recorded partner's (6.3.6)
@@ -39,7 +39,7 @@ abbrev pub PortAllowed : SystemSetup → ModelCall → (ℕ → Option PortFacts
 -- at any moment it stops distributing, leaves its aggregator, or records that its partner is not synchronized
 PortAllowed u call ports p Stop a = Unit {0}
 PortAllowed u call ports p Leave a = Unit {0}
-PortAllowed u call ports p Desynchronise a = Unit {0}
+PortAllowed u call ports p Desynchronize a = Unit {0}
 -- outside every aggregator, and only in a configure, it gets other parameters and a defaulted partner
 PortAllowed u call ports p (Reconfigure party) a =
     (call ≡ ModelCall.Configure) × (a.aggregator ≡ None) × (party.system ≡ a.party.system) × (party.port.number ≡ a.party.port.number)
@@ -48,10 +48,10 @@ PortAllowed u call ports p Default a = (a.aggregator ≡ None) ⊎ (a.partner �
 -- It receives the LACPDU that comes on it; outside every aggregator if its Actor is another partner. The partner is
 -- recorded as synchronized only if the LACPDU says so, and either names this port as its Partner or has an Individual
 -- Actor.
-PortAllowed u call ports p (Take pdu synchronised) a =
+PortAllowed u call ports p (Take pdu synchronized) a =
     (call ≡ Receive p (Some (Lacp pdu)))
     × ((pdu.actor ≡ a.partner) ⊎ (a.aggregator ≡ None))
-    × (synchronised ≡ true → (pdu.synchronised ≡ true) × ((pdu.partner ≡ a.party) ⊎ (pdu.actor.aggregatable ≡ false)))
+    × (synchronized ≡ true → (pdu.synchronized ≡ true) × ((pdu.partner ≡ a.party) ⊎ (pdu.actor.aggregatable ≡ false)))
 -- It joins an aggregator that has its key and either no member or only members of its group, which is not Individual. A
 -- system is not aggregated with itself (profile).
 PortAllowed u call ports p (Join g) a =
@@ -62,10 +62,10 @@ PortAllowed u call ports p (Join g) a =
     ⊎ (((q : ℕ) (b : PortFacts) → ports q ≡ Some b → b.aggregator ≡ Some g → SamePair (pair_at b) (pair_at a))
     × (individual a.party a.partner ≡ false)))
 -- a member whose partner is recorded as synchronized starts to distribute
-PortAllowed u call ports p Distribute a = IsSome a.aggregator × (a.synchronised ≡ true)
+PortAllowed u call ports p Distribute a = IsSome a.aggregator × (a.synchronized ≡ true)
 -- it sends an LACPDU with its own and its partner's parameters as they are now; this says IN_SYNC only if the port is a
 -- member
-PortAllowed u call ports p (Announce synchronised) a = (replies_frame call ≡ true) × (synchronised ≡ true → IsSome a.aggregator)
+PortAllowed u call ports p (Announce synchronized) a = (replies_frame call ≡ true) × (synchronized ≡ true → IsSome a.aggregator)
 -- it answers the marker that comes on it
 PortAllowed u call ports p (Respond mac port identifier) a = call ≡ Receive p (Some (Marker mac port identifier))
 
@@ -73,21 +73,21 @@ PortAllowed u call ports p (Respond mac port identifier) a = call ≡ Receive p 
 abbrev pub port_after : PortMove → PortFacts → PortFacts
 port_after Stop a = record a { distributes = false }
 port_after Leave a = record a { aggregator = None; distributes = false }
-port_after Desynchronise a = record a { synchronised = false; distributes = false }
-port_after (Reconfigure party) a = record a { party = party; partner = zero_party; synchronised = true; defaulted = true }
-port_after Default a = record a { partner = zero_party; synchronised = true; defaulted = true }
-port_after (Take pdu synchronised) a =
-    record a { partner = pdu.actor; synchronised = synchronised; defaulted = false; distributes = synchronised && a.distributes }
+port_after Desynchronize a = record a { synchronized = false; distributes = false }
+port_after (Reconfigure party) a = record a { party = party; partner = zero_party; synchronized = true; defaulted = true }
+port_after Default a = record a { partner = zero_party; synchronized = true; defaulted = true }
+port_after (Take pdu synchronized) a =
+    record a { partner = pdu.actor; synchronized = synchronized; defaulted = false; distributes = synchronized && a.distributes }
 port_after (Join g) a = record a { aggregator = Some g }
 port_after Distribute a = record a { distributes = true }
-port_after (Announce synchronised) a = a
+port_after (Announce synchronized) a = a
 port_after (Respond mac port identifier) a = a
 
 -- the visible act of a move of port p: an LACPDU or a Marker Response that it sends, or an LACPDU that it receives
 abbrev pub port_act : ℕ → PortMove → PortFacts → Option Act
-port_act p (Announce synchronised) a = Some (Sends p (Lacp (record { actor = a.party; partner = a.partner; synchronised = synchronised })))
+port_act p (Announce synchronized) a = Some (Sends p (Lacp (record { actor = a.party; partner = a.partner; synchronized = synchronized })))
 port_act p (Respond mac port identifier) a = Some (Sends p (Response mac port identifier))
-port_act p (Take pdu synchronised) a = Some (Took p pdu)
+port_act p (Take pdu synchronized) a = Some (Took p pdu)
 port_act p _ a = None
 
 -- the changes of one conversation, other than sending a frame (profile; 6.5.2 says what markers are for)

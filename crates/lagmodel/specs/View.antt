@@ -18,7 +18,7 @@ zero_party = record {
 pub record PortFacts : Type 0 where
   pub party : Party
   pub partner : Party
-  pub synchronised : Bool
+  pub synchronized : Bool
   pub defaulted : Bool
   pub aggregator : Option ℕ
   pub distributes : Bool
@@ -66,7 +66,7 @@ abbrev pub first_port : Party → PortFacts
 first_port party = record {
   party = party;
   partner = zero_party;
-  synchronised = false;
+  synchronized = false;
   defaulted = true;
   aggregator = None;
   distributes = false;
@@ -83,7 +83,7 @@ first_view u = record {
 pub record LacpMessage : Type 0 where
   pub actor : Party
   pub partner : Party
-  pub synchronised : Bool
+  pub synchronized : Bool
 
 -- a control PDU: an LACPDU, or a marker or its response with requester system, requester port and transaction
 -- identifier (6.5.3.3)

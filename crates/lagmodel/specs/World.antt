@@ -52,7 +52,7 @@ end_at cables s (suc c) = option_map (port_on s) (slice_get cables c)
 abbrev pub IsCabling : List Ends → Type 0
 IsCabling cables = (s : Side) (c d p : ℕ) → end_at cables s c ≡ Some p → end_at cables s d ≡ Some p → c ≡ d
 
--- an LACPDU that a port received, with its stamp
+-- an LACPDU that a port took (received and processed), with its stamp
 pub record TakenLacpdu : Type 0 where
   pub pdu : LacpMessage
   pub stamp : ℕ
@@ -60,7 +60,7 @@ pub record TakenLacpdu : Type 0 where
 -- two systems and their cables, with what has happened so far
 pub record World : Type 0 where
   pub view : Side → View
-  pub whole : ℕ → Bool  -- of a cable
+  pub whole : ℕ → Bool  -- whether a cable is whole, that is, not cut
   pub on_cable : Side → ℕ → List Message  -- what is on a cable towards a system, the next to come first
   pub count : Side → ℕ → ℕ  -- the change count of a port
   pub taken : Side → ℕ → Option TakenLacpdu  -- the LACPDU that a port took last
@@ -96,7 +96,7 @@ first_world x = record {
 abbrev pub party_at : View → ℕ → Option Party
 party_at v p = option_map (λ (a : PortFacts). a.party) (v.port p)
 
--- the stamp of a control PDU, if its sender has this change count
+-- the stamp of a control PDU whose sender has this change count: that count for an LACPDU, else 0
 abbrev pub stamp_of : ControlMessage → ℕ → ℕ
 stamp_of (Lacp pdu) count = count
 stamp_of (Marker mac port identifier) count = 0
@@ -112,7 +112,7 @@ is_port p (Some q) = eqb q p
 abbrev pub put_on_cable : (ℕ → Option ℕ) → (ℕ → Bool) → Bool → ℕ → Message → (ℕ → List Message) → ℕ → List Message
 put_on_cable ends whole accepted p m lines c = cond (accepted && (whole c && is_port p (ends c))) (lines c ++ m ∷ []) (lines c)
 
--- The next three: the messages on the cables, the serial numbers sent and the LACPDUs received last, after a visible
+-- The next three: the messages on the cables, the serial numbers sent and the LACPDUs taken last, after a visible
 -- act of system s.
 -- `accepted`: whether the cable accepts what is sent. `stamp`: the stamp of what came in this call.
 abbrev pub on_cable_after : Side → (ℕ → Option ℕ) → (ℕ → Bool) → (ℕ → ℕ) → (ℕ → ℕ → List ℕ) → Bool → Option Act → (ℕ → List Message) → ℕ
@@ -131,7 +131,7 @@ sent_after (Some (Sends p pdu)) sent = sent
 sent_after (Some (Sends_frame p g k)) sent = at_two sent g k (sent g k ++ length (sent g k) ∷ [])
 sent_after (Some (Took p pdu)) sent = sent
 
--- the LACPDU that each port received last: another one for a port that receives one
+-- the LACPDU that each port took last: if a port takes one in this act, that one with the stamp of what came
 abbrev pub taken_after : ℕ → Option Act → (ℕ → Option TakenLacpdu) → ℕ → Option TakenLacpdu
 taken_after stamp None taken = taken
 taken_after stamp (Some (Sends p pdu)) taken = taken
@@ -249,7 +249,7 @@ Happens x (Cut c) old new =
     new ≡ record old { whole = at_cable old.whole c false; on_cable = λ s. at_cable (old.on_cable s) c [] }
 Happens x (Join c) old new = new ≡ record old { whole = at_cable old.whole c true }
 Happens x (Sense c s) old new = SensesCable x s (end_at x.cables s c) (old.whole c) old new
--- a restart of a system loses what is on its cables, which are all cables
+-- every cable joins both systems, so a restart of either loses what is on all cables
 Happens x (Restart s) old new =
     AfterCounting old (record old { view = at_side old.view s (first_view (x.setup s)); on_cable = λ t c. [] }) new
 Happens x (Configure s p change) old new = CallHappens x s ModelCall.Configure 0 old old new

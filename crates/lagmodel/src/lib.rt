@@ -18,7 +18,7 @@ pub fn headline()
     ensures one_partner { IsInvariant (λ x w. (s : Side) → OnePartner (w.view s)) }
     ensures agree { IsInvariant (λ x w. EndsAgree x w) }
     ensures in_order { IsInvariant (λ x w. InOrder w) }
-    ensures took_synchronised { IsInvariant (λ x w. LastLacpduSaysInSync w) }
+    ensures took_synchronized { IsInvariant (λ x w. LastLacpduSaysInSync w) }
     ensures names_present { IsInvariant (λ x w. UpToDateLacpdusNameSender x w) }
     ensures on_its_cable { IsInvariant (λ x w. OnItsCable x w) }
     ensures flushed_by_marker { IsInvariant (λ x w. FlushedByMarker x w) }

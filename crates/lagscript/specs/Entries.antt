@@ -42,7 +42,7 @@ hex_word w = or_fault entry.Hex (octets_of w)
 abbrev pub WordReader : Type 0 → Type 0
 WordReader A = List ℕ → Result A EntryFault
 
--- the word after the first, if there is exactly one; else Count
+-- the one word, if there is exactly one; else Count
 abbrev pub one_word : List (List ℕ) → Result (List ℕ) EntryFault
 one_word (a ∷ []) = Ok a
 one_word _ = Err entry.Count

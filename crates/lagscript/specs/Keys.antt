@@ -45,7 +45,7 @@ abbrev pub flag_in : Data → Option Bool
 flag_in (boolean b) = Some b
 flag_in _ = None
 
--- the six octets of a string that is a MAC address; None for any other value
+-- the six octets of a string that is a MAC address with dashes (00-11-22-AA-BB-CC); None for any other value
 abbrev pub mac_in : Data → Option (List ℕ)
 mac_in d = option_and_then mac_of (as_str d)
 

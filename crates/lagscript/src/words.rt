@@ -51,7 +51,7 @@ pub(crate) fn mac_of(text: &str) -> Option<[u8; 6]>
     <[u8; 6] as FromHex>::from_hex(digits).ok()
 }
 
-/// Why a word has no octets.
+/// Why the octets of a word cannot be read.
 #[derive(Clone, Copy, Debug, PartialEq, Eq)]
 pub enum NoOctets {
     /// The word is not hexadecimal.

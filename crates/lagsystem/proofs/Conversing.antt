@@ -15,7 +15,7 @@ use Rattle.selection.specs.Views.{has_chosen}
 use Rattle.distributor.specs.declared.assignment.Assignment.{Assignment}
 use Rattle.distributor.specs.declared.assignment.Assignment.TheVariants.{Free, On, Wanted, Flushing}
 use Rattle.distributor.specs.declared.fault.DistFault.{DistFault}
-use Rattle.distributor.specs.Calls.{Assigns, MaySend, PicksPort, distributes}
+use Rattle.distributor.specs.Calls.{Assigns, MaySend, PicksPort, is_among}
 use Rattle.distributor.specs.Conversations.{Table}
 use Rattle.distributor.specs.Moves.{OnlyListedDistribute, NoneDistributes, model_distributor}
 use Rattle.distributor.proofs.MoveLemmas.{Makes, each_moves}
@@ -47,7 +47,7 @@ leaves_one : (mac : List ℕ) (call : Told) (ports : List ℕ) (g k : ℕ) (a : 
 leaves_one mac call ports g k (Free preferred) = inl refl
 leaves_one mac call ports g k (Wanted p preferred) = inl refl
 leaves_one mac call ports g k (Flushing p id preferred age) = inl refl
-leaves_one mac call ports g k (On p) = either (distributes ports p)
+leaves_one mac call ports g k (On p) = either (is_among ports p)
   where
     either : (b : Bool) → Makes mac call g k (On p) (if b then On p else Wanted p None)
     either true = inl refl
@@ -132,14 +132,14 @@ carrying_moves u call agg system_ports t new seen r a h =
     (λ g p x. subst (λ m. Distributes v.port m p) (sym x.0) (seen_distributing agg p 0 system_ports r a x.1)) h)
 
 -- the port that the distributor answers may carry the frame
-among : (xs : List ℕ) (i q : ℕ) → slice_get xs i ≡ Some q → distributes xs q ≡ true
+among : (xs : List ℕ) (i q : ℕ) → slice_get xs i ≡ Some q → is_among xs q ≡ true
 among [] i q e = absurd (none-some q e)
-among (x ∷ xs) zero q e = here (eqb x q) (distributes xs q) (eq-eqb x q (same_Some x q e))
+among (x ∷ xs) zero q e = here (eqb x q) (is_among xs q) (eq-eqb x q (same_Some x q e))
   where
     here : (a b : Bool) → a ≡ true → (a || b) ≡ true
     here true b h = refl
     here false b h = absurd (false≢true h)
-among (x ∷ xs) (suc i) q e = there (eqb x q) (distributes xs q) (among xs i q e)
+among (x ∷ xs) (suc i) q e = there (eqb x q) (is_among xs q) (among xs i q e)
   where
     there : (a b : Bool) → b ≡ true → (a || b) ≡ true
     there true b h = refl
@@ -155,19 +155,19 @@ no_Ok : (p : ℕ) (fault : DistFault) → port_answer p ≡ Err fault → ⊥
 no_Ok p fault e = cc
 
 picked_may : (gives : ℕ → ℕ → ℕ → Type 0) (conv : ℕ) (ports : List ℕ) (port : ℕ) → PicksPort gives conv ports (Ok port)
-    → distributes ports port ≡ true
+    → is_among ports port ≡ true
 picked_may gives conv [] port h = absurd (no_Ok port DistFault.NoneDistributing h)
-picked_may gives conv (p ∷ ports) port h = subst (λ q. distributes (p ∷ ports) q ≡ true) (sym (same_Ok port h.1 h.4))
+picked_may gives conv (p ∷ ports) port h = subst (λ q. is_among (p ∷ ports) q ≡ true) (sym (same_Ok port h.1 h.4))
     (among (p ∷ ports) h.0 h.1 h.3)
 
 pub assigned_may : (gives : ℕ → ℕ → ℕ → Type 0) (conv : ℕ) (ports : List ℕ) (s : Assignment) (port : ℕ)
     → Assigns gives conv ports s (Ok port) → MaySend ports s port
 assigned_may gives conv ports (Free None) port h = picked_may gives conv ports port h
-assigned_may gives conv ports (Free (Some p)) port h = preferred (distributes ports p) refl h
+assigned_may gives conv ports (Free (Some p)) port h = preferred (is_among ports p) refl h
   where
-    preferred : (b : Bool) → distributes ports p ≡ b → MatchOption (cond b (Some p) None) (PicksPort gives conv ports (Ok port))
-        (λ q. port_answer port ≡ Ok q) → distributes ports port ≡ true
-    preferred true e a = subst (λ q. distributes ports q ≡ true) (sym (same_Ok port p a)) e
+    preferred : (b : Bool) → is_among ports p ≡ b → MatchOption (cond b (Some p) None) (PicksPort gives conv ports (Ok port))
+        (λ q. port_answer port ≡ Ok q) → is_among ports port ≡ true
+    preferred true e a = subst (λ q. is_among ports q ≡ true) (sym (same_Ok port p a)) e
     preferred false e a = picked_may gives conv ports port a
 assigned_may gives conv ports (On p) port h = same_Ok port p h
 assigned_may gives conv ports (Wanted p preferred) port h = absurd (no_Ok port DistFault.Held h)

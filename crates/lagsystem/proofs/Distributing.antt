@@ -10,7 +10,7 @@ use Rattle.std.proofs.lemmas.Bool.Decides.{nat_tests}
 use Rattle.std.proofs.lemmas.Option.{none-some, slice_get_past}
 use Rattle.lagtypes.specs.declared.identifiers.AggId.{AggId}
 use Rattle.lagtypes.specs.declared.identifiers.Key.{Key}
-use Rattle.distributor.specs.Calls.{distributes}
+use Rattle.distributor.specs.Calls.{is_among}
 use Rattle.lagmodel.specs.View.{PortFacts}
 use Rattle.lagsystem.specs.declared.system_ports.SystemPort.{SystemPort}
 use Rattle.lagsystem.specs.Offers.{has_aggregator}
@@ -55,8 +55,8 @@ pub distributing_rise : (agg : AggId) (s : SystemState) → HasPorts s → IsStr
 distributing_rise agg s h = increasing 0 (distributing agg s.system_ports) (filtered (distributes_in agg) 0 s.system_ports (ports_rise s h))
 
 -- an aggregator in which a port distributes is there
-first_of : (p : ℕ) (ps : List ℕ) → distributes (p ∷ ps) p ≡ true
-first_of p ps = ap (λ b. b || distributes ps p) (eq-eqb p p refl)
+first_of : (p : ℕ) (ps : List ℕ) → is_among (p ∷ ps) p ≡ true
+first_of p ps = ap (λ b. b || is_among ps p) (eq-eqb p p refl)
 
 there : (o : Option PortFacts) (P : PortFacts → Type 0) → IsSomeAnd o P → (a : PortFacts) × (o ≡ Some a) × P a
 there None P h = absurd h
@@ -75,7 +75,7 @@ none_there : (agg : AggId) (s : SystemState) (ports : List ℕ) → IsSound s �
     → distributing agg s.system_ports ≡ ports → ports ≡ []
 none_there agg s [] h unknown e = refl
 none_there agg s (p ∷ ports) h unknown e =
-    let on : distributes (distributing agg s.system_ports) p ≡ true = subst (λ l. distributes l p ≡ true) (sym e) (first_of p ports) in
+    let on : is_among (distributing agg s.system_ports) p ≡ true = subst (λ l. is_among l p ≡ true) (sym e) (first_of p ports) in
     let a = there ((model_view s).port p) _ (seen_distributing agg p 0 s.system_ports (ports_rise s h.ports) h.rested.1 on) in
     absurd (false≢true (sym unknown ∙ has_key s.keys agg.0 a.0.party.key (h.members.key p agg.0 a.0 a.1 a.2.0)))
 

@@ -33,7 +33,7 @@ abbrev stopped : Party → Party → Bool → Bool → Option ℕ → PortFacts
 stopped party partner s d g = record {
   party = party;
   partner = partner;
-  synchronised = s;
+  synchronized = s;
   defaulted = d;
   aggregator =
       g;
@@ -81,10 +81,10 @@ on_defaults party d g = ap (with_bits party default_partner d g) (encode_then_de
 pub zero_named : zero_party ≡ party_of default_partner
 zero_named = sym (ap (named default_partner) (encode_then_decode default_bits))
 
-desynchronised : (party : Party) (info : Info) (d : Bool) (g : Option ℕ)
+desynchronized : (party : Party) (info : Info) (d : Bool) (g : Option ℕ)
     → with_bits party info d g (bits_of (with_synchronization false info.state)) ≡ with_bits party info d g
     (record (bits_of info.state) { synchronization = false })
-desynchronised party info d g = ap (with_bits party info d g) (encode_then_decode (record (bits_of info.state) { synchronization = false }))
+desynchronized party info d g = ap (with_bits party info d g) (encode_then_decode (record (bits_of info.state) { synchronization = false }))
 
 expiring : (party : Party) (info : Info) (d : Bool) (g : Option ℕ)
     → with_bits party info d g (bits_of (with_timeout true (with_synchronization false info.state))) ≡ with_bits party info d g
@@ -96,11 +96,11 @@ expiring party info d g =
 
 pub receive_moves : (u : SystemSetup) (call : ModelCall) (n : ℕ) → EachMoves u call n receive_rows
 receive_moves u call n = (
-  λ p h. (PortMove.Desynchronise ∷ [], (λ ports. tt, tt), refl, desynchronised p.party p.partner p.defaulted (selected_number p.choice)),
+  λ p h. (PortMove.Desynchronize ∷ [], (λ ports. tt, tt), refl, desynchronized p.party p.partner p.defaulted (selected_number p.choice)),
   (
-    λ p h. (PortMove.Desynchronise ∷ [], (λ ports. tt, tt), refl, desynchronised p.party p.partner p.defaulted (selected_number p.choice)),
+    λ p h. (PortMove.Desynchronize ∷ [], (λ ports. tt, tt), refl, desynchronized p.party p.partner p.defaulted (selected_number p.choice)),
     (
-      λ p h. (PortMove.Desynchronise ∷ [], (λ ports. tt, tt), refl, expiring p.party p.partner p.defaulted (selected_number p.choice)),
+      λ p h. (PortMove.Desynchronize ∷ [], (λ ports. tt, tt), refl, expiring p.party p.partner p.defaulted (selected_number p.choice)),
       (
         λ p h.
             let same = same_party (party_of default_partner) (party_of p.partner) in
@@ -109,7 +109,7 @@ receive_moves u call n = (
             (defaulting u call n p.party (party_of p.partner) (partner_synchronized p) p.defaulted p.choice same (λ t. zero_named
             ∙ exact_party (party_of default_partner) (party_of p.partner) t)),
         (
-          λ p h. (PortMove.Desynchronise ∷ [], (λ ports. tt, tt), refl, expiring p.party p.partner p.defaulted (selected_number p.choice)),
+          λ p h. (PortMove.Desynchronize ∷ [], (λ ports. tt, tt), refl, expiring p.party p.partner p.defaulted (selected_number p.choice)),
           tt,
         ),
       ),
@@ -129,7 +129,7 @@ links_moves u call n up p q h = settles_moves u call n receive_rows (receive_mov
 taking : (u : SystemSetup) (call : ModelCall) (n : ℕ) (party partner : Party) (s d : Bool) (c : Choice) (b : Bool)
     (v : Told_lacpdu) (t : Bool)
     → call ≡ Receive n (Some (Lacp v)) → (b ≡ true → v.actor ≡ partner)
-    → (t ≡ true → (v.synchronised ≡ true) × ((v.partner ≡ party) ⊎ (v.actor.aggregatable ≡ false)))
+    → (t ≡ true → (v.synchronized ≡ true) × ((v.partner ≡ party) ⊎ (v.actor.aggregatable ≡ false)))
     → PortMoves u call n (stopped party partner s d (selected_number c)) (Took n v
     ∷ []) (stopped party v.actor t false (selected_number (if b then c else Unselected)))
 taking u call n party partner s d c true v t e h k = (
@@ -214,7 +214,7 @@ announced n p b =
     Shows n (Lacp (record {
       actor = record { system = p.party.system; key = p.party.key; port = p.party.port; aggregatable = b.aggregation };
       partner = party_of p.partner;
-      synchronised = b.synchronization;
+      synchronized = b.synchronization;
     })) ∷ []
 
 pub sending : (u : SystemSetup) (call : ModelCall) (n max_delay : ℕ) (p : Machines) → replies_frame call ≡ true

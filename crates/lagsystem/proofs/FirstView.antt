@@ -66,7 +66,7 @@ zip_ports n m v w (x ∷ xs) (y ∷ ys) h q =
 
 -- the start rows, with the link down
 abbrev hushed : Machines → PortFacts
-hushed p = record (model_port p) { synchronised = false; distributes = false }
+hushed p = record (model_port p) { synchronized = false; distributes = false }
 
 record Beginning (party : Party) (p : Machines) : Type 0 where
   pub looks : hushed p ≡ first_port party
@@ -145,7 +145,7 @@ starts_idle s q h =
       | inr e ↦ e.1
     ] in
     subst (Idle s.party) (sym h.2) (record {
-      looks = (λ i. record (model_port mid) { synchronised = sync i; distributes = sync i && (is_selected mid.choice && false) }) ∙ x.looks;
+      looks = (λ i. record (model_port mid) { synchronized = sync i; distributes = sync i && (is_selected mid.choice && false) }) ∙ x.looks;
       down = x.down;
       detached = refl;
       nobody = x.nobody;

@@ -9,7 +9,7 @@ use Rattle.slowpdu.specs.declared.pdu.Marker.{Marker}
 use Rattle.portmachines.specs.Transmit.{is_due, after_sending}
 use Rattle.distributor.specs.declared.assignment.Assignment.{Assignment}
 use Rattle.distributor.specs.declared.assignment.Assignment.TheVariants.{Free, On, Wanted, Flushing}
-use Rattle.distributor.specs.Calls.{MaySend, distributes}
+use Rattle.distributor.specs.Calls.{MaySend, is_among}
 use Rattle.distributor.specs.Changes.{SetsAssignment, after_mark, after_release, marker_due}
 use Rattle.distributor.specs.Conversations.{Table, next_identifier, assignment_of}
 use Rattle.distributor.specs.Moves.{model_conversation}
@@ -51,19 +51,19 @@ first_carried s h g k p e =
     free p e = cc
 
 -- step 6 leaves those that are on ports that distribute
-left_is : (ports : List ℕ) (a : Assignment) (p : ℕ) → held_unless_on ports a ≡ On p → distributes ports p ≡ true
+left_is : (ports : List ℕ) (a : Assignment) (p : ℕ) → held_unless_on ports a ≡ On p → is_among ports p ≡ true
 left_is ports (Free preferred) p e = absurd cc
 left_is ports (Wanted q preferred) p e = absurd cc
 left_is ports (Flushing q id preferred age) p e = absurd cc
-left_is ports (On q) p e = still (distributes ports q) refl e
+left_is ports (On q) p e = still (is_among ports q) refl e
   where
-    still : (b : Bool) → distributes ports q ≡ b → (if b then On q else Wanted q None) ≡ On p → distributes ports p ≡ true
-    still true t x = subst (λ r. distributes ports r ≡ true) (same_port q p x) t
+    still : (b : Bool) → is_among ports q ≡ b → (if b then On q else Wanted q None) ≡ On p → is_among ports p ≡ true
+    still true t x = subst (λ r. is_among ports r ≡ true) (same_port q p x) t
     still false t x = absurd cc
 
 leaves_carried : (old new : SystemState) → HoldsConversations old new → OnlyOnDistributing new
 leaves_carried old new h g k p e =
-    subst (λ (s : SystemState). distributes (distributing (aggregator_numbered g) s.system_ports) p ≡ true) (sym h.frame)
+    subst (λ (s : SystemState). is_among (distributing (aggregator_numbered g) s.system_ports) p ≡ true) (sym h.frame)
     (left_is (distributing (aggregator_numbered g) old.system_ports) (assignment_of old.table g k) p (sym (h.states g k) ∙ e))
 
 settled_carried : (own : SystemState → SystemState → Type 0) (old new : SystemState) → ThenSettles own old new → OnlyOnDistributing new
@@ -74,12 +74,12 @@ same_carried old new e c = subst OnlyOnDistributing (sym e) c
 
 -- the ports stay, and a conversation is where it was or on a port that distributes in its aggregator
 abbrev Carried : SystemState → ℕ → Assignment → ℕ → Type 0
-Carried old g was p = (was ≡ On p) ⊎ (distributes (distributing (aggregator_numbered g) old.system_ports) p ≡ true)
+Carried old g was p = (was ≡ On p) ⊎ (is_among (distributing (aggregator_numbered g) old.system_ports) p ≡ true)
 
 table_carried : (old new : SystemState) → new ≡ with_table old new.table → OnlyOnDistributing old
     → ((g k p : ℕ) → assignment_of new.table g k ≡ On p → Carried old g (assignment_of old.table g k) p) → OnlyOnDistributing new
 table_carried old new f c h g k p e =
-    subst (λ (s : SystemState). distributes (distributing (aggregator_numbered g) s.system_ports) p ≡ true) (sym f)
+    subst (λ (s : SystemState). is_among (distributing (aggregator_numbered g) s.system_ports) p ≡ true) (sym f)
     (elim (h g k p e) [ inl w ↦ c g k p w | inr d ↦ d ])
 
 released : (port id p : ℕ) (a : Assignment) → after_release port id a ≡ On p → a ≡ On p
@@ -158,7 +158,7 @@ where_carried true true i system_port old answer new e h c = λ g k p x.
     ap (λ (s : SystemState). s.system_ports) h.3 in
     let same : distributing agg new.system_ports ≡ distributing agg old.system_ports = ap (distributing agg) system_ports
     ∙ sent_distributing agg old.system_ports i system_port e in
-    subst (λ l. distributes l p ≡ true) (sym same) (c g k p (sym (ap (λ (s : SystemState). assignment_of s.table g k) h.3) ∙ x))
+    subst (λ l. is_among l p ≡ true) (sym same) (c g k p (sym (ap (λ (s : SystemState). assignment_of s.table g k) h.3) ∙ x))
 where_carried true false i system_port old answer new e h c = marker_carried (marker_due old.table system_port.number) system_port.number
     system_port.mac old answer new h c
 
@@ -185,7 +185,7 @@ sets_carried agg conv s old new h f c here = table_carried old new f c
 may_carry : (old : SystemState) (g p port : ℕ) (a : Assignment) → MaySend (distributing (aggregator_numbered g) old.system_ports) a port
     → On port ≡ On p → Carried old g a p
 may_carry old g p port (Free preferred) m e =
-    inr (subst (λ q. distributes (distributing (aggregator_numbered g) old.system_ports) q ≡ true) (same_port port p e) m)
+    inr (subst (λ q. is_among (distributing (aggregator_numbered g) old.system_ports) q ≡ true) (same_port port p e) m)
 may_carry old g p port (On q) m e = inl (ap (λ r. On r) (sym m ∙ same_port port p e))
 may_carry old g p port (Wanted q preferred) m e = absurd m
 may_carry old g p port (Flushing q id preferred age) m e = absurd m

@@ -26,8 +26,8 @@ QuietMoves u call n p seen q = PortMoves u call n (quiet p) seen (quiet q)
 
 begins : (u : SystemSetup) (call : ModelCall) (n : ℕ) (party partner : Party) (s d : Bool) (g : Option ℕ) (on : Bool)
     → (on ≡ true → IsSome g × (s ≡ true))
-    → PortMoves u call n (record { party = party; partner = partner; synchronised = s; defaulted = d; aggregator = g; distributes = false })
-    [] (record { party = party; partner = partner; synchronised = s; defaulted = d; aggregator = g; distributes = on })
+    → PortMoves u call n (record { party = party; partner = partner; synchronized = s; defaulted = d; aggregator = g; distributes = false })
+    [] (record { party = party; partner = partner; synchronized = s; defaulted = d; aggregator = g; distributes = on })
 begins u call n party partner s d g true h = (PortMove.Distribute ∷ [], (λ ports. h refl, tt), refl, refl)
 begins u call n party partner s d g false h = ([], tt, refl, refl)
 
@@ -41,7 +41,7 @@ pub loudly : (u : SystemSetup) (call : ModelCall) (n : ℕ) (p q : Machines) (se
     → PortMoves u call n (model_port p) seen (model_port q)
 loudly u call n p q seen h =
     let stop : PortMoves u call n (model_port p) [] (quiet p) = (PortMove.Stop ∷ [], (λ ports. tt, tt), refl, refl) in
-    let begin = begins u call n q.party (model_port q).partner (model_port q).synchronised q.defaulted (selected_number q.choice)
+    let begin = begins u call n q.party (model_port q).partner (model_port q).synchronized q.defaulted (selected_number q.choice)
     (model_port q).distributes (may_begin (partner_synchronized q) q.choice (same_mux_state CollectingDistributing q.mux)) in
     subst (λ l. PortMoves u call n (model_port p) l (model_port q)) (append-nil seen)
     (port_joined u call n (model_port p) (quiet q) (model_port q) seen []

@@ -20,7 +20,7 @@ use Rattle.portmachines.specs.Rows.{AtRest}
 use Rattle.portmachines.proofs.Runs.{Reaches-keeps}
 use Rattle.distributor.specs.declared.assignment.Assignment.{Assignment}
 use Rattle.distributor.specs.declared.assignment.Assignment.TheVariants.{Free, On, Wanted, Flushing}
-use Rattle.distributor.specs.Calls.{distributes}
+use Rattle.distributor.specs.Calls.{is_among}
 use Rattle.distributor.specs.Conversations.{assignment_of}
 use Rattle.selection.specs.declared.view.PortView.{PortView}
 use Rattle.selection.specs.Views.{is_eligible}
@@ -133,7 +133,7 @@ alike_distributing agg (x ∷ xs) (suc i) s t e n d =
     ∙ sym (more agg x xs)
 
 -- no conversation leaves
-carried_on : (ports : List ℕ) (a : Assignment) → ((p : ℕ) → a ≡ On p → distributes ports p ≡ true) → a ≡ held_unless_on ports a
+carried_on : (ports : List ℕ) (a : Assignment) → ((p : ℕ) → a ≡ On p → is_among ports p ≡ true) → a ≡ held_unless_on ports a
 carried_on ports (Free preferred) k = refl
 carried_on ports (On p) k = sym (ap (λ b. if b then On p else Wanted p None) (k p refl))
 carried_on ports (Wanted p preferred) k = refl
@@ -148,7 +148,7 @@ stays_on old new c t d = record {
   first = refl;
   next = refl;
   states = λ g k. carried_on (distributing (aggregator_numbered g) new.system_ports) (assignment_of new.table g k)
-      (λ p e. ap (λ l. distributes l p) (d g) ∙ c g k p (sym (ap (λ x. assignment_of x g k) t) ∙ e));
+      (λ p e. ap (λ l. is_among l p) (d g) ∙ c g k p (sym (ap (λ x. assignment_of x g k) t) ∙ e));
 }
 
 -- the periodic machine leaves what conversations look at

@@ -11,7 +11,7 @@ use Rattle.lagsystem.specs.declared.drive.Reply.{Reply}
 use Rattle.lagsystem.specs.Calls.{Call, Step}
 use Rattle.lagsystem.specs.First.{IsFirst}
 use Rattle.lagsystem.specs.ModelView.{MuxesConsistent, JoinedByLawfulMoves, model_setup, model_view}
-use Rattle.lagsystem.specs.Sound.{PortsAgree, CallPromise, Distribute, HasPorts, IsSound}
+use Rattle.lagsystem.specs.Sound.{PortsAgree, CallPromise, DistributeAsMuxDoes, HasPorts, IsSound}
 use Rattle.lagsystem.specs.State.{SystemState}
 use Rattle.lagsystem.specs.Windows.{KeepsTransmitLimit}
 use Rattle.lagsystem.proofs.FirstView.{configured_setup, first_shows}
@@ -55,7 +55,7 @@ Step-sound gives old call answer new h s =
     }
 
 -- at rest a port distributes exactly if its mux machine does
-all_distribute : (system_ports : List SystemPort) → MuxesConsistent system_ports → Distribute system_ports
+all_distribute : (system_ports : List SystemPort) → MuxesConsistent system_ports → DistributeAsMuxDoes system_ports
 all_distribute [] h = tt
 all_distribute (x ∷ xs) h = (rest_distributes x.port.mux (selected x.port) (partner_synchronized x.port) h.0, all_distribute xs h.1)
 

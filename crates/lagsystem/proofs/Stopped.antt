@@ -12,7 +12,7 @@ use Rattle.portmachines.specs.Mux.{same_mux_state}
 use Rattle.selection.specs.Views.{has_chosen}
 use Rattle.distributor.specs.declared.assignment.Assignment.{Assignment}
 use Rattle.distributor.specs.declared.assignment.Assignment.TheVariants.{Free, On, Wanted, Flushing}
-use Rattle.distributor.specs.Calls.{distributes}
+use Rattle.distributor.specs.Calls.{is_among}
 use Rattle.distributor.specs.Changes.{ChangesAssignments}
 use Rattle.distributor.specs.Conversations.{assignment_of}
 use Rattle.lagsystem.specs.declared.system_ports.SystemPort.{SystemPort}
@@ -24,11 +24,11 @@ use Rattle.lagsystem.proofs.Rising.{Rises, ports_rise}
 
 -- whether the port distributes in the aggregator
 abbrev pub on : AggId → List SystemPort → ℕ → Bool
-on agg system_ports p = distributes (distributing agg system_ports) p
+on agg system_ports p = is_among (distributing agg system_ports) p
 
 one_more : (b : Bool) (s : SystemPort) (rest : List SystemPort) (p : ℕ)
-    → distributes (map (λ (x : SystemPort). x.number) (cond b (s ∷ rest) rest)) p ≡ ((b && eqb s.number p)
-    || distributes (map (λ (x : SystemPort). x.number) rest) p)
+    → is_among (map (λ (x : SystemPort). x.number) (cond b (s ∷ rest) rest)) p ≡ ((b && eqb s.number p)
+    || is_among (map (λ (x : SystemPort). x.number) rest) p)
 one_more true s rest p = refl
 one_more false s rest p = refl
 
@@ -133,12 +133,12 @@ stops_where agg p low (o ∷ olds) (n ∷ news) r e h =
     ]
 
 -- what leaves these ports is left on the others
-left_by : (ports : List ℕ) (leaves : ℕ → Bool) (a : Assignment) → ((p : ℕ) → a ≡ On p → leaves p ≡ not (distributes ports p))
+left_by : (ports : List ℕ) (leaves : ℕ → Bool) (a : Assignment) → ((p : ℕ) → a ≡ On p → leaves p ≡ not (is_among ports p))
     → after_holding leaves a ≡ held_unless_on ports a
 left_by ports leaves (Free preferred) h = refl
 left_by ports leaves (Wanted p preferred) h = refl
 left_by ports leaves (Flushing p id preferred age) h = refl
-left_by ports leaves (On p) h = turned (leaves p) (distributes ports p) (h p refl)
+left_by ports leaves (On p) h = turned (leaves p) (is_among ports p) (h p refl)
   where
     turned : (b d : Bool) → b ≡ not d → (if b then Wanted p None else On p) ≡ (if d then On p else Wanted p None)
     turned b true e = ap (λ (x : Bool). if x then Wanted p None else On p) e

@@ -45,13 +45,13 @@ abbrev pub selected_number : Choice → Option ℕ
 selected_number Unselected = None
 selected_number (Selected agg) = Some agg.0
 
--- a port in the model, also in the middle of a settling: it distributes if its mux machine does and no mux row is about
--- to stop it
+-- A port in the model: it distributes if its mux machine does and no mux row is about to stop it. There is such a row
+-- only during settling, the six steps after a call (specs/Settling).
 abbrev pub model_port : Machines → PortFacts
 model_port p = record {
   party = p.party;
   partner = party_of p.partner;
-  synchronised = partner_synchronized p;
+  synchronized = partner_synchronized p;
   defaulted = p.defaulted;
   aggregator = selected_number p.choice;
   distributes = partner_synchronized p && (selected p && same_mux_state CollectingDistributing p.mux);
@@ -93,7 +93,7 @@ model_setup s = record {
 
 -- an LACPDU as the model has it
 abbrev pub lacp_message : Lacpdu → LacpMessage
-lacp_message v = record { actor = party_of v.actor; partner = party_of v.partner; synchronised = (bits_of v.actor.state).synchronization }
+lacp_message v = record { actor = party_of v.actor; partner = party_of v.partner; synchronized = (bits_of v.actor.state).synchronization }
 
 -- a marker or its response as the model has it
 abbrev pub marker_message : MarkerKind → Marker → ControlMessage
@@ -105,8 +105,8 @@ abbrev pub control_message : Pdu → ControlMessage
 control_message (pdu.Lacpdu v) = Lacp (lacp_message v)
 control_message (pdu.Marker m) = marker_message m.kind m
 
--- These received octets are a control frame with this PDU. Without a PDU they may be any: the model then takes the receive
--- for one of something else.
+-- These received octets are a control frame with this PDU. With None they may be any octets: to the model, something
+-- else than a control PDU came.
 abbrev pub FrameSeenAs : List ℕ → Option ControlMessage → Type 0
 FrameSeenAs octets None = Unit {0}
 FrameSeenAs octets (Some message) = (payload : Pdu) × IsFrame octets (Carries payload) × (message ≡ control_message payload)
@@ -155,10 +155,11 @@ can_receive_in s = (same_receive_state Expired s || same_receive_state Defaulted
 abbrev pub can_receive : Machines → Bool
 can_receive p = if p.enabled then can_receive_in p.receive else true
 
--- a port that is synchronized is SELECTED, and one that collects and distributes has a synchronized partner
+-- in ATTACHED and COLLECTING_DISTRIBUTING the port is SELECTED; in the latter, its partner is also synchronized
 abbrev pub mux_consistent_of : MuxState → Bool → Bool → Bool
-mux_consistent_of mux is_member synchronised =
-    (if is_synchronized mux then is_member else true) && (if same_mux_state CollectingDistributing mux then synchronised else true)
+mux_consistent_of mux is_port_selected is_partner_synchronized =
+    (if is_synchronized mux then is_port_selected else true)
+    && (if same_mux_state CollectingDistributing mux then is_partner_synchronized else true)
 
 -- the same of the mux machine of a port
 abbrev pub mux_consistent : Machines → Bool

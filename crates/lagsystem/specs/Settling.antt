@@ -17,7 +17,7 @@ use Rattle.selection.specs.Ready.{is_ready}
 use Rattle.lagsystem.specs.declared.system_ports.SystemPort.{SystemPort}
 use Rattle.distributor.specs.declared.assignment.Assignment.{Assignment}
 use Rattle.distributor.specs.declared.assignment.Assignment.TheVariants.{On, Wanted}
-use Rattle.distributor.specs.Calls.{distributes}
+use Rattle.distributor.specs.Calls.{is_among}
 use Rattle.distributor.specs.Conversations.{assignment_of}
 use Rattle.lagsystem.specs.Readers.{aggregator_numbered, distributing}
 use Rattle.lagsystem.specs.Views.{selection_view, views}
@@ -83,7 +83,7 @@ RunsAllPeriodic old new = OnlyPortsChangeBy RunsPeriodic old new
 
 -- a conversation that is On a port that is not in the list becomes Wanted on it
 abbrev pub held_unless_on : List ℕ → Assignment → Assignment
-held_unless_on ports (On p) = if distributes ports p then On p else Wanted p None
+held_unless_on ports (On p) = if is_among ports p then On p else Wanted p None
 held_unless_on ports s = s
 
 -- 6. each conversation On a port that does not distribute in its aggregator becomes Wanted on that port, and nothing

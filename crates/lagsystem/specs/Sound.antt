@@ -5,7 +5,7 @@ use Rattle.portmachines.specs.declared.mux.MuxState.TheVariants.{CollectingDistr
 use Rattle.portmachines.specs.Mux.{same_mux_state}
 use Rattle.lagmodel.specs.Law.{Members, OnePartner}
 use Rattle.distributor.specs.declared.assignment.Assignment.TheVariants.{On}
-use Rattle.distributor.specs.Calls.{distributes}
+use Rattle.distributor.specs.Calls.{is_among}
 use Rattle.distributor.specs.Conversations.{assignment_of}
 use Rattle.lagsystem.specs.declared.system_ports.SystemPort.{SystemPort}
 use Rattle.lagsystem.specs.declared.config.Config.{Config}
@@ -26,7 +26,7 @@ pub record HasPorts (s : SystemState) : Type 0 where
 -- a conversation is On a port only while the port distributes in its aggregator
 abbrev pub OnlyOnDistributing : SystemState → Type 0
 OnlyOnDistributing s = (g k p : ℕ) → assignment_of s.table g k ≡ On p
-    → distributes (distributing (aggregator_numbered g) s.system_ports) p ≡ true
+    → is_among (distributing (aggregator_numbered g) s.system_ports) p ≡ true
 
 -- what holds of every system: the invariant of `System`
 pub record IsSound (s : SystemState) : Type 0 where
@@ -45,8 +45,8 @@ pub record IsMade (config : Config) (s : SystemState) : Type 0 where
   pub sound : IsSound s
 
 -- a port distributes in the model's view exactly if its mux machine does
-abbrev pub Distribute : List SystemPort → Type 0
-Distribute system_ports = AllByRecursion (λ x. (model_port x.port).distributes ≡ same_mux_state CollectingDistributing x.port.mux)
+abbrev pub DistributeAsMuxDoes : List SystemPort → Type 0
+DistributeAsMuxDoes system_ports = AllByRecursion (λ x. (model_port x.port).distributes ≡ same_mux_state CollectingDistributing x.port.mux)
     system_ports
 
 -- The members of an aggregator have its key and one group (LAG ID), which is not Individual if they are two or more;
@@ -57,7 +57,7 @@ pub record PortsAgree (s : SystemState) : Type 0 where
   pub windowed : EachAtMostThreeAges s
   pub members : Members (model_setup s) (model_view s).port
   pub one_partner : OnePartner (model_view s)
-  pub distribute : Distribute s.system_ports
+  pub distribute : DistributeAsMuxDoes s.system_ports
 
 -- What every call promises. It is a `Step`; the model allows it, with the visible acts that its reply has; each port
 -- keeps its transmit limit; the ports agree after it (`PortsAgree`); and the configuration stays.

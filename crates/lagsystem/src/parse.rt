@@ -22,7 +22,8 @@ fn collect_data_frame(system_port: &SystemPort, octets: &[u8]) -> Received
     }
 }
 
-/// What a Marker PDU or a Marker Response asks for on a port whose link is up.
+/// What either kind of marker asks for on a port whose link is up: for a Marker PDU, to send the Marker Response;
+/// for a Marker Response, to release the conversations that wait for it.
 fn answer_marker(system_port: &SystemPort, marker: &Marker) -> FrameEffect
     ensures { AnswersMarker system_port.now.mac marker.now (response_to marker.now) result }
 {

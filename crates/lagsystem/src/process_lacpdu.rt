@@ -28,8 +28,8 @@ fn is_same_partner(now: &Info, was: &Info) -> bool
     now.party().matches(&was.party()) && now.state == was.state
 }
 
-/// Processes an LACPDU, and returns whether the port looks the same to the other ports and its partner's state is
-/// unchanged.
+/// Processes an LACPDU. If this returns true, the Selection Logic sees the port as before, and the state octet of its
+/// partner is unchanged; false says nothing.
 fn process_lacpdu_on(system_port: &mut SystemPort, pdu: &Lacpdu) -> bool
     ensures taken { PortChangesBy (ProcessesLacpdu pdu.now) system_port.old system_port.new }
     ensures same { OnTrue result (LooksUnchanged system_port.old system_port.new) }
@@ -41,7 +41,8 @@ fn process_lacpdu_on(system_port: &mut SystemPort, pdu: &Lacpdu) -> bool
     known && is_same_partner(&now, &was)
 }
 
-/// Processes an LACPDU on the port at this index, and returns whether the port looks the same to the other ports.
+/// Processes an LACPDU on the port at this index. If this returns true, the Selection Logic sees the port as before, and
+/// the state octet of its partner is unchanged; false says nothing.
 pub(crate) fn process_lacpdu_at(system_ports: &mut [SystemPort], place: usize, pdu: &Lacpdu) -> bool
     requires { place < length system_ports.old }
     ensures { ProcessesLacpduAt pdu.now place system_ports.old result system_ports.new }

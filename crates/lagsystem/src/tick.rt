@@ -5,6 +5,7 @@ ghost use Rattle.lagsystem.specs.Settling.{PortsChangeBy, PortChangesBy};
 
 use crate::system_ports::SystemPort;
 
+/// One tick of one port: its timers count down, its sent LACPDUs get one tick older, and its receive machine runs.
 fn tick_one(system_port: &mut SystemPort)
     ensures { PortChangesBy (λ p q. RunsToRest receive_rows (count_down p) q) system_port.old system_port.new }
 {

@@ -26,7 +26,7 @@ use Rattle.lagworld.specs.Events.{Algorithms, DoesEvent, WorldRuns, side_of, wit
 use Rattle.lagworld.specs.Events.{transmitted_item, with_collected_in, with_last_lacpdu, stamped_in, AfterTransmit, WorldReceives}
 use Rattle.lagworld.specs.Events.{AfterReceive, DeliversFrom, LosesFrom, RepeatsItem, RepeatsFrom, AfterOffer, with_frame_counted}
 use Rattle.lagworld.specs.Making.{conversations_per_aggregator}
-use Rattle.lagworld.specs.Messages.{side_named, side_number}
+use Rattle.lagworld.specs.Messages.{side_numbered, side_number}
 use Rattle.lagworld.specs.Readers.{flow_of_system}
 use Rattle.lagworld.specs.Sound.{IsStart}
 use Rattle.lagworld.specs.State.{ItemValue, HalfState, WorldState, LinkState, FlowValue, half, with_half, port_at, towards, with_towards}
@@ -89,8 +89,8 @@ forced_kept (Some x) = refl
 collected_on : (st : Stamp) (j : WorldState) → NoneSent j (with_stamp_collected st j)
 collected_on (stamp.Control count) j = λ t g k. refl
 collected_on (stamp.Data system agg conv serial) j =
-    of_half (side_named system) (with_collected_in agg conv serial (half (side_named system) j)) j
-    (read_same sent_in (with_collected serial) agg conv (half (side_named system) j).flows (collected_kept serial))
+    of_half (side_numbered system) (with_collected_in agg conv serial (half (side_numbered system) j)) j
+    (read_same sent_in (with_collected serial) agg conv (half (side_numbered system) j).flows (collected_kept serial))
 
 arrived : (s : Side) (p : ℕ) (item : ItemValue) (a : Result Received SystemFault) (j new : WorldState) (r : Reply)
     → AfterReceive s p item a j r new → NoneSent j new

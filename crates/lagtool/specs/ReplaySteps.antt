@@ -19,6 +19,7 @@ abbrev pub AreAggregatorCounts : ℕ → ℕ → List Config → Type 0
 AreAggregatorCounts first second (a ∷ b ∷ []) = (first ≡ length a.aggregators.items) × (second ≡ length b.aggregators.items)
 AreAggregatorCounts first second _ = ⊥
 
--- cables of two empty directions, with these limits; the ends do not matter here, so (0, 0) stands for them
+-- one pair for each limit: the two directions of a cable (an AnyCable is one direction), both empty and with that
+-- limit; the ends do not matter here, so (0, 0) stands for them
 abbrev pub AreEmptyDirections : List (Option ℕ) → List (AnyCable × AnyCable) → Type 0
 AreEmptyDirections limits lines = map (first_link any_items any_limit (0, 0)) lines ≡ map (empty_link (0, 0)) limits

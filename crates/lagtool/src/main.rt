@@ -48,7 +48,7 @@ use std::{env, fs, io};
 use vectors::vectors;
 
 /// Says on standard error why a command line could not be done; returns exit status 2.
-fn refused<D: Display + Drop>(rt: &impl Eprint, why: D) -> ExitCode {
+fn could_not_do<D: Display + Drop>(rt: &impl Eprint, why: D) -> ExitCode {
     let _ = eprintln!(rt; "lagtool: {why}");
     ExitCode::from(2)
 }
@@ -58,13 +58,13 @@ fn explained(rt: &(impl Print + Eprint), fault: LineFault) -> ExitCode {
     match fault {
         LineFault::Help(text) => match text.print(rt) {
             Ok(()) => ExitCode::SUCCESS,
-            Err(_) => refused(rt, ToolFault::Write),
+            Err(_) => could_not_do(rt, ToolFault::Write),
         },
         LineFault::Usage(text) => {
             let _ = text.print(rt);
             ExitCode::from(2)
         }
-        LineFault::NoMemory => refused(rt, ToolFault::NoMemory),
+        LineFault::NoMemory => could_not_do(rt, ToolFault::NoMemory),
     }
 }
 
@@ -106,7 +106,7 @@ fn check_file<R: Print + Files + Input + AllocGlobal>(
 }
 
 /// The text of a file, or of standard input for `-`.
-fn text_of<R: Files + Input + AllocGlobal>(rt: &R, file: &str) -> Result<String, ToolFault> {
+fn read_text<R: Files + Input + AllocGlobal>(rt: &R, file: &str) -> Result<String, ToolFault> {
     let read = if file == "-" {
         io::read_to_string(rt.alloc(), rt.reader())
     } else {
@@ -124,7 +124,7 @@ fn replay_file<R: Print + Files + Input + AllocGlobal>(
     rt: &R,
     file: &str,
 ) -> Result<bool, ToolFault> {
-    let text = text_of(rt, file)?;
+    let text = read_text(rt, file)?;
     let mut sink = Sink::new(io::writer(rt));
     replay(rt.alloc(), text.as_str(), by_number, by_number, &mut sink)?;
     Ok(true)
@@ -166,11 +166,11 @@ fn words_of(rt: &HostRuntime) -> io::Result<Vec<String>> {
 fn main(rt: HostRuntime) -> ExitCode {
     match words_of(&rt) {
         Ok(words) => status(&rt, words.as_slice()),
-        Err(error) if error.kind() == io::ErrorKind::OutOfMemory => refused(
+        Err(error) if error.kind() == io::ErrorKind::OutOfMemory => could_not_do(
             &rt,
             ToolFault::NoMemory,
         ),
         // The only other error is a word that is not UTF-8.
-        Err(_) => refused(&rt, "a word is not UTF-8"),
+        Err(_) => could_not_do(&rt, "a word is not UTF-8"),
     }
 }

@@ -3,10 +3,10 @@ ghost use Rattle.lagtool.specs.Vectors.{RunsVectors, failures, vector_line, vect
 
 use crate::algorithm::by_number;
 use crate::fault::ToolFault;
+use crate::known_texts;
 use crate::known_texts::Pieces;
 use crate::replay::replay;
 use crate::reply::reply;
-use crate::known_texts;
 use crate::show::{octets_of, show};
 use crate::sink::Sink;
 use crate::summary::Summary;

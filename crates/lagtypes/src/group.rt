@@ -21,7 +21,7 @@ pub struct End {
 }
 
 impl End {
-    /// The end that has these parameters, in an Individual link or in another.
+    /// The end with these parameters; it names the port only if the link is Individual.
     fn of(party: &Party, individual: bool) -> End
         ensures { result ≡ end_of individual party.now }
     {
@@ -32,7 +32,7 @@ impl End {
         }
     }
 
-    /// Whether this end is the lower of the two in that order (profile).
+    /// Whether this end is the lower of the two, in the order that `End` describes (profile).
     pub fn is_below(&self, other: &End) -> bool
         ensures { result ≡ is_lt (end_cmp self.now other.now) }
     {

@@ -12,7 +12,7 @@ use Rattle.lagworld.specs.declared.fault.WorldFault.{WorldFault}
 use Rattle.lagworld.specs.declared.reply.Reply.{Reply}
 use Rattle.lagworld.specs.Asking.{WorldForces}
 use Rattle.lagworld.specs.State.{WorldState}
-use Rattle.lagworld.specs.Messages.{side_named}
+use Rattle.lagworld.specs.Messages.{side_numbered}
 use Rattle.lagworld.specs.Events.{Algorithms, DoesEvent, WorldEmits, WorldOffers, side_of, cause, first_event_cause, has_cable}
 use Rattle.lagworld.specs.Events.{has_system, most_events}
 use Rattle.lagworld.specs.WorldCalls.{WorldTicks}
@@ -22,7 +22,7 @@ second true true c h = (refl, refl)
 second true false c h = absurd (let e = h in cc)
 second false b c h = absurd (let e = h in cc)
 
-pub side_there : (n : ℕ) → is_some (side_of n) ≡ true → side_of n ≡ Some (side_named n)
+pub side_there : (n : ℕ) → is_some (side_of n) ≡ true → side_of n ≡ Some (side_numbered n)
 side_there n h = by_one (n == 1) (n == 2) h
   where
     by_one : (a b : Bool) → is_some (if a then Some One else (if b then Some Two else None)) ≡ true
@@ -31,11 +31,11 @@ side_there n h = by_one (n == 1) (n == 2) h
     by_one false true h = refl
     by_one false false h = absurd (true≢false (sym h))
 
-pub at_side_of : (n : ℕ) (P : Side → Type 0) → is_some (side_of n) ≡ true → P (side_named n) → IsSomeAnd (side_of n) P
+pub at_side_of : (n : ℕ) (P : Side → Type 0) → is_some (side_of n) ≡ true → P (side_numbered n) → IsSomeAnd (side_of n) P
 at_side_of n P h x = subst (λ o. IsSomeAnd o P) (sym (side_there n h)) x
 
 pub tick_does : (gives : Algorithms) (n count : ℕ) (e : Event) (r : Reply) (old new : WorldState) → e ≡ event.Tick n count
-    → cause old e ≡ None → WorldTicks gives (side_named n) count old r new → DoesEvent gives old e r new
+    → cause old e ≡ None → WorldTicks gives (side_numbered n) count old r new → DoesEvent gives old e r new
 tick_does gives n count e r old new is c x =
     subst (λ e. DoesEvent gives old e r new) (sym is)
     (at_side_of n _ (second (has_cable old None) (is_some (side_of n)) _ (subst (λ e. cause old e ≡ None) is c)).1 x)
@@ -50,21 +50,21 @@ there : (j : WorldState) (n : ℕ) → first_event_cause (has_cable j None) (has
 there j n h = (second (has_cable j None) (is_some (side_of n)) (nat_le most_events j.acted) h).1
 
 pub emit_does : (gives : Algorithms) (n p : ℕ) (e : Event) (r : Result Reply WorldFault) (old new : WorldState) → e ≡ event.Emit n p
-    → cause old e ≡ None → IfOk r (λ x. WorldEmits gives (side_named n) p old x new) → IfOk r (λ x. DoesEvent gives old e x new)
-emit_does gives n p e r old new is c = if_ok r (λ x. WorldEmits gives (side_named n) p old x new) (λ x. DoesEvent gives old e x new)
+    → cause old e ≡ None → IfOk r (λ x. WorldEmits gives (side_numbered n) p old x new) → IfOk r (λ x. DoesEvent gives old e x new)
+emit_does gives n p e r old new is c = if_ok r (λ x. WorldEmits gives (side_numbered n) p old x new) (λ x. DoesEvent gives old e x new)
     (λ x h. subst (λ e. DoesEvent gives old e x new) (sym is)
     (at_side_of n (λ s. WorldEmits gives s p old x new) (there old n (subst (λ e. cause old e ≡ None) is c)) h))
 
 pub offer_does : (gives : Algorithms) (n : ℕ) (agg : AggId) (octets : Vec ℕ) (e : Event) (r : Result Reply WorldFault)
     (old new : WorldState) → e ≡ event.Offer n agg octets → cause old e ≡ None
-    → IfOk r (λ x. WorldOffers gives (side_named n) agg octets.items old x new) → IfOk r (λ x. DoesEvent gives old e x new)
-offer_does gives n agg octets e r old new is c = if_ok r (λ x. WorldOffers gives (side_named n) agg octets.items old x new)
+    → IfOk r (λ x. WorldOffers gives (side_numbered n) agg octets.items old x new) → IfOk r (λ x. DoesEvent gives old e x new)
+offer_does gives n agg octets e r old new is c = if_ok r (λ x. WorldOffers gives (side_numbered n) agg octets.items old x new)
     (λ x. DoesEvent gives old e x new)
     (λ x h. subst (λ e. DoesEvent gives old e x new) (sym is) (at_side_of n (λ s. WorldOffers gives s agg octets.items old x new)
     (there old n (subst (λ e. cause old e ≡ None) is c)) h))
 
 pub force_does : (gives : Algorithms) (n : ℕ) (agg : AggId) (conv : ℕ) (e : Event) (r : Reply) (old new : WorldState)
-    → e ≡ event.Force n agg conv → cause old e ≡ None → WorldForces gives (side_named n) agg conv old r new → DoesEvent gives old e r new
+    → e ≡ event.Force n agg conv → cause old e ≡ None → WorldForces gives (side_numbered n) agg conv old r new → DoesEvent gives old e r new
 force_does gives n agg conv e r old new is c x =
     subst (λ e. DoesEvent gives old e r new) (sym is)
     (at_side_of n (λ s. WorldForces gives s agg conv old r new) (there old n (subst (λ e. cause old e ≡ None) is c)) x)

@@ -35,7 +35,7 @@ use Rattle.lagworld.specs.declared.histories.PortHistory.{PortHistory}
 use Rattle.lagworld.specs.State.{ItemValue, HalfState, LinkState, WorldState, FlowValue, half, with_half, port_at, towards, with_towards}
 use Rattle.lagworld.specs.State.{put_on_port, is_accepted, history_at, change_count_in, taken_in, flow_at, sent_in, collected_in}
 use Rattle.lagworld.specs.State.{forced_in, with_collected}
-use Rattle.lagworld.specs.Messages.{payload_in, message_in, item_message, stamp_count, side_named}
+use Rattle.lagworld.specs.Messages.{payload_in, message_in, item_message, stamp_count, side_numbered}
 use Rattle.lagworld.specs.HalfCalls.{HalfAnswers, set_taken}
 use Rattle.lagworld.specs.Events.{with_link_at, stamped_in, set_last_lacpdu, with_last_lacpdu, with_collected_in, WorldReceives}
 use Rattle.lagworld.specs.Events.{AfterReceive, DeliversFrom, LosesFrom, RepeatsFrom, RepeatsItem}
@@ -310,7 +310,7 @@ control_came gives s p octets count (Ok (received.Released n)) mid r j new one h
 
 -- a data frame comes
 record IsData (s : Side) (octets : List ℕ) (system agg conv : ℕ) (j : WorldState) : Type 0 where
-  origin : side_named system ≡ peer s
+  origin : side_numbered system ≡ peer s
   there : IsSome (flow_at (half (peer s) j).flows agg conv)
   plain : IsSlowProtocolsFrame octets → ⊥
 
@@ -441,7 +441,7 @@ up_came gives s p octets agg conv serial up mid j there plain x =
 abbrev DataCame : Side → ℕ → ℕ → ℕ → ℕ → ℕ → WorldState → WorldState → Type 0
 DataCame s p system agg conv serial j new =
     (up : Bool) × CallHappens (world_setup j) s (ModelEvent.Receive p None) 0 (model_world j)
-    (handed_up up (Data (side_named system) agg conv serial) (model_world j)) (model_world new)
+    (handed_up up (Data (side_numbered system) agg conv serial) (model_world j)) (model_world new)
 
 data_came : (gives : ℕ → ℕ → ℕ → Type 0) (s : Side) (p : ℕ) (octets : List ℕ) (system agg conv serial : ℕ) (a : Result Received SystemFault)
     (mid : HalfState) (r : Reply) (j new : WorldState) → IsCabling (world_setup j).cables → IsSome (history_at (half s j).histories p)
@@ -522,9 +522,9 @@ delivered gives s i l octets (stamp.Data system agg conv serial) rest r old new 
     (subst (λ (x : WorldSetup). IsCabling x.cables) (sym f) one) history (record { origin = t.0; there = t.1; plain = t.2 }) x.2 x.3 in
     let told : ModelEvent = ModelEvent.Receive (port_at s l) None in (
       c.0,
-      subst (λ w. CallHappens (world_setup old) s told 0 w (handed_up c.0 (Data (side_named system) agg conv serial) w) (model_world new))
+      subst (λ w. CallHappens (world_setup old) s told 0 w (handed_up c.0 (Data (side_numbered system) agg conv serial) w) (model_world new))
           (popped_world s i l rest old there)
-          (subst (λ x. CallHappens x s told 0 (model_world j) (handed_up c.0 (Data (side_named system) agg conv serial) (model_world j))
+          (subst (λ x. CallHappens x s told 0 (model_world j) (handed_up c.0 (Data (side_numbered system) agg conv serial) (model_world j))
           (model_world new)) f c.1),
     )
 

@@ -24,7 +24,7 @@ use Rattle.lagscript.specs.declared.event.Event.TheVariants as event
 use Rattle.lagworld.specs.declared.reply.Reply.{Reply}
 use Rattle.lagworld.specs.State.{ItemValue, HalfState, LinkState, WorldState, half, with_half, with_links, port_at, towards}
 use Rattle.lagworld.specs.State.{with_towards, emptied, cut, joined, flow_at, with_forced, with_sent, with_collected}
-use Rattle.lagworld.specs.Messages.{payload_in, side_named, side_number}
+use Rattle.lagworld.specs.Messages.{payload_in, side_numbered, side_number}
 use Rattle.lagworld.specs.HalfCalls.{HalfAnswers, forced_if_accepted}
 use Rattle.lagworld.specs.Events.{Algorithms, first_event_cause, side_of, with_stamp_collected, DoesEvent, WorldSteps, cause}
 use Rattle.lagworld.specs.Events.{with_link_at, with_item_sent, stamp_for, transmitted_item, stamped_in, AfterTransmit, WorldReceives}
@@ -64,8 +64,8 @@ emitted s p (Ok (Some frame)) j new r i x = subst (Follows 0 j) (sym x.1)
 
 collected_on : (st : Stamp) (j : WorldState) → IsShaped j → Follows 0 j (with_stamp_collected st j)
 collected_on (stamp.Control count) j i = follows_same j j i refl
-collected_on (stamp.Data system agg conv serial) j i = follows_half 0 (side_named system) _ j i
-    (flow_on (with_collected serial) agg conv (half (side_named system) j) (i.kept (side_named system)))
+collected_on (stamp.Data system agg conv serial) j i = follows_half 0 (side_numbered system) _ j i
+    (flow_on (with_collected serial) agg conv (half (side_numbered system) j) (i.kept (side_numbered system)))
 
 arrived : (s : Side) (p : ℕ) (item : ItemValue) (a : Result Received SystemFault) (j new : WorldState) (r : Reply) → IsShaped j
     → AfterReceive s p item a j r new → Follows 0 j new
@@ -128,7 +128,7 @@ peer_twice : (s : Side) → peer (peer s) ≡ s
 peer_twice One = refl
 peer_twice Two = refl
 
-named_number : (s : Side) → side_named (side_number s) ≡ s
+named_number : (s : Side) → side_numbered (side_number s) ≡ s
 named_number One = refl
 named_number Two = refl
 

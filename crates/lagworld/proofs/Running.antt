@@ -7,7 +7,7 @@ use Rattle.lagmodel.specs.World.{Side, World, WorldSetup, IsWorldSetup, Happens,
 use Rattle.lagmodel.specs.Law.{OnePartner, EndsAgree, InOrder}
 use Rattle.lagmodel.proofs.Counting.{counts_from_zero}
 use Rattle.lagmodel.proofs.Events.{lawful}
-use Rattle.lagmodel.proofs.Laws.{one_partner_holds, agree_holds, in_order_holds, took_synchronised_holds, names_present_holds}
+use Rattle.lagmodel.proofs.Laws.{one_partner_holds, agree_holds, in_order_holds, last_lacpdu_in_sync, names_present_holds}
 use Rattle.lagmodel.proofs.Laws.{on_its_cable_holds, flushed_by_marker_holds, below_next_holds, collected_then_in_flight_holds}
 use Rattle.lagmodel.proofs.Runs.{runs_joined}
 use Rattle.lagsystem.proofs.FirstView.{configured_setup}
@@ -44,7 +44,7 @@ carries_of j i =
     let f = is_fixed j i in
     let l = lawful x i.reached.0 w f i.reached.1 in
     record {
-      took_synchronised = took_synchronised_holds x w l;
+      took_synchronized = last_lacpdu_in_sync x w l;
       names_present = names_present_holds x w l;
       on_its_cable = on_its_cable_holds x w l;
       flushed_by_marker = flushed_by_marker_holds x w f l;

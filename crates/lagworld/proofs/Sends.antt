@@ -24,7 +24,7 @@ use Rattle.lagsystem.proofs.Sent.{sent_payload}
 use Rattle.lagworld.specs.declared.reply.Reply.{Reply}
 use Rattle.lagworld.specs.State.{ItemValue, HalfState, WorldState, FlowValue, half, with_half, put_on_port, is_accepted, history_at}
 use Rattle.lagworld.specs.State.{change_count_in, taken_in, flow_at, sent_in, collected_in, forced_in, change_flow, with_sent}
-use Rattle.lagworld.specs.Messages.{payload_in, message_in, item_message, side_number, side_named}
+use Rattle.lagworld.specs.Messages.{payload_in, message_in, item_message, side_number, side_numbered}
 use Rattle.lagworld.specs.HalfCalls.{HalfAnswers}
 use Rattle.lagworld.specs.Events.{with_item_sent, stamp_for, transmitted_item, WorldEmits, AfterTransmit, WorldOffers, AfterOffer}
 use Rattle.lagworld.specs.Events.{offered_item, with_frame_counted}
@@ -132,7 +132,7 @@ told_refused : (agg : AggId) (octets : List ℕ) (fault : SystemFault) (old new 
 told_refused agg octets fault old new h = subst (λ l. LawfulMoves (model_setup old) ModelEvent.Offer (model_view old) l (model_view new))
     h.3 (subst (λ c. LawfulMoves (model_setup old) c (model_view old) h.1 (model_view new)) h.2 h.4)
 
-named_side : (s : Side) → side_named (side_number s) ≡ s
+named_side : (s : Side) → side_numbered (side_number s) ≡ s
 named_side One = refl
 named_side Two = refl
 

@@ -21,7 +21,7 @@ use Rattle.lagscript.specs.declared.event.Event.{Event}
 use Rattle.lagscript.specs.declared.event.Event.TheVariants as event
 use Rattle.lagworld.specs.declared.reply.Reply.{Reply}
 use Rattle.lagworld.specs.State.{LinkState, HalfState, WorldState, half, towards, flow_at}
-use Rattle.lagworld.specs.Messages.{side_named}
+use Rattle.lagworld.specs.Messages.{side_numbered}
 use Rattle.lagworld.specs.Events.{Algorithms, DoesEvent, WorldSteps, side_of, model_event, model_change, OnLink}
 use Rattle.lagworld.specs.Sound.{IsSound, IsHalfSound}
 use Rattle.lagworld.specs.ModelWorld.{world_setup, model_world}
@@ -33,7 +33,7 @@ use Rattle.lagworld.proofs.Forced.{force_happens}
 use Rattle.std.proofs.lemmas.Bool.Decides.{nat_tests}
 
 -- a number that names a system names this one
-pub named : (n : ℕ) (s : Side) → side_of n ≡ Some s → side_named n ≡ s
+pub named : (n : ℕ) (s : Side) → side_of n ≡ Some s → side_numbered n ≡ s
 named n s e = elim (cases_Bool (n == 1)) [
   | inl t ↦ cond_true (n == 1) One Two t ∙ same_Some One s (sym (cond_true (n == 1) (Some One) (if n == 2 then Some Two else None) t) ∙ e)
   | inr f ↦ cond_false (n == 1) One Two f ∙ second (n == 2) (sym (cond_false (n == 1) (Some One) (if n == 2 then Some Two else None) f) ∙ e)
@@ -83,7 +83,7 @@ forced_there h agg conv done new k x =
     k.flows agg.0 conv (let e = two.0 in grind (arith, nat_tests)) (let e = two.1 in grind (arith, nat_tests)) (grind (arith, nat_tests))
 
 -- the side that an event names, in what the law is told
-at_named : (P : Side → Type 0) (n : ℕ) (s : Side) → side_of n ≡ Some s → P s → P (side_named n)
+at_named : (P : Side → Type 0) (n : ℕ) (s : Side) → side_of n ≡ Some s → P s → P (side_numbered n)
 at_named P n s e h = subst P (sym (named n s e)) h
 
 pub does_happen : (gives : Algorithms) (e : Event) (r : Reply) (old new : WorldState) → IsSound old → DoesEvent gives old e r new

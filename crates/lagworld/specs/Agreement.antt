@@ -14,7 +14,7 @@ use Rattle.lagworld.specs.declared.histories.StampedLacpdu.{StampedLacpdu}
 use Rattle.lagworld.specs.State.{HalfState, LinkState, WorldState, element_numbered, history_at, change_count_in, taken_in}
 
 -- The values of an end of a cable that are compared: whether it distributes, whether its partner is defaulted, its
--- change count, the LACPDU that it received last, and its group. A port that does not exist does not distribute.
+-- change count, the LACPDU that it took last, and its group. A port that does not exist does not distribute.
 abbrev pub end_facts : HalfState → ℕ → EndFacts
 end_facts h p = record {
   distributes = unwrap_or (option_map (λ x. same_mux_state CollectingDistributing x.mux) (machines_of p h.state)) false;
@@ -24,7 +24,7 @@ end_facts h p = record {
   group = option_map group_at (machines_of p h.state);
 }
 
--- the change count of an end is the stamp of the LACPDU that its peer received last
+-- the change count of an end is the stamp of the LACPDU that its peer took last
 abbrev pub is_stamp : ℕ → Option StampedLacpdu → Bool
 is_stamp count None = false
 is_stamp count (Some lacpdu) = lacpdu.stamp == count

@@ -26,7 +26,7 @@ use Rattle.lagworld.specs.HalfCalls.{HalfAnswers, with_state}
 use Rattle.lagworld.specs.Events.{Algorithms, InHalf, OnLink, DeliversFrom, RepeatsFrom, stamped_in, set_last_lacpdu, with_last_lacpdu}
 use Rattle.lagworld.specs.Events.{with_item_sent, with_stamp_collected}
 use Rattle.lagworld.specs.Inner.{flow_value}
-use Rattle.lagworld.specs.Messages.{side_named}
+use Rattle.lagworld.specs.Messages.{side_numbered}
 use Rattle.lagworld.specs.Places.{IsReserved}
 
 -- if the item was an LACPDU and was received, it is recorded with its stamp; else nothing is
@@ -126,7 +126,7 @@ CanCollectAt agg conv flows = CanCollectIn conv (element_numbered flows agg)
 -- conversations of systems 1 and 2; nothing is asked for a control frame.
 abbrev pub CanCollectFor : Stamp → List (Vec Flow) → List (Vec Flow) → Type 0
 CanCollectFor (stamp.Control count) one two = Unit {0}
-CanCollectFor (stamp.Data system agg conv serial) one two = CanCollectAt agg conv (by_side (side_named system) one two)
+CanCollectFor (stamp.Data system agg conv serial) one two = CanCollectAt agg conv (by_side (side_numbered system) one two)
 
 -- The places that an item may need that arrives on a port of a system: one on the cable of that port, and one for a
 -- serial number.

@@ -27,7 +27,7 @@ use Rattle.lagworld.specs.declared.histories.PortHistory.{PortHistory}
 use Rattle.lagworld.specs.State.{ItemValue, HalfState, LinkState, WorldState, half, with_half, with_links, port_at, towards}
 use Rattle.lagworld.specs.State.{with_towards, emptied, cut, joined, element_numbered, put_on_port, is_accepted, history_at}
 use Rattle.lagworld.specs.State.{change_count_in, change_flow, with_sent, with_collected, flow_at, sent_in}
-use Rattle.lagworld.specs.Messages.{payload_in, side_number, side_named, stamp_count}
+use Rattle.lagworld.specs.Messages.{payload_in, side_number, side_numbered, stamp_count}
 use Rattle.lagworld.specs.HalfCalls.{HalfAnswers, HalfTicks, HalfSenses, HalfConfigures, HalfRestarts, HalfMoves, HalfForces, set_taken}
 
 -- the system with this number, 1 or 2
@@ -107,7 +107,7 @@ with_collected_in agg conv serial h = record h { flows = change_flow (with_colle
 abbrev pub with_stamp_collected : Stamp → WorldState → WorldState
 with_stamp_collected (stamp.Control count) j = j
 with_stamp_collected (stamp.Data system agg conv serial) j =
-    with_half (side_named system) (with_collected_in agg conv serial (half (side_named system) j)) j
+    with_half (side_numbered system) (with_collected_in agg conv serial (half (side_numbered system) j)) j
 
 -- What the world does with the answer to an item that came on port p of system s: it records an LACPDU, sends a
 -- response, or counts a data frame as collected.
@@ -130,13 +130,13 @@ WorldReceives gives s p item old r new =
     × HalfAnswers (gives s) (Receive p item.octets) (answer.Receive a) (half s old) mid
     × AfterReceive s p item a (with_half s mid old) r new
 
--- the first item towards s is taken off and arrives at the end of cable i
+-- the first item towards s is taken off the cable at index i, and arrives on its port of s; Empty if there is none
 abbrev pub DeliversFrom : Algorithms → Side → ℕ → LinkState → List ItemValue → WorldState → Reply → WorldState → Type 0
 DeliversFrom gives s i l [] old r new = (r ≡ reply.Empty) × (new ≡ old)
 DeliversFrom gives s i l (item ∷ rest) old r new = WorldReceives gives s (port_at s l) item
     (with_link_at i (with_towards s rest l) old) r new
 
--- the first item towards s is taken off cable i and is lost; the reply is Empty if there is none
+-- the first item towards s is taken off the cable at index i, and is lost; the reply is Empty if there is none
 abbrev pub LosesFrom : Side → ℕ → LinkState → List ItemValue → WorldState → Reply → WorldState → Type 0
 LosesFrom s i l [] old r new = (r ≡ reply.Empty) × (new ≡ old)
 LosesFrom s i l (item ∷ rest) old r new = (r ≡ reply.Lost) × (new ≡ with_link_at i (with_towards s rest l) old)
@@ -152,7 +152,8 @@ abbrev pub RepeatsFrom : Algorithms → Side → LinkState → List ItemValue �
 RepeatsFrom gives s l [] old r new = (r ≡ reply.Empty) × (new ≡ old)
 RepeatsFrom gives s l (item ∷ rest) old r new = RepeatsItem gives s (port_at s l) item.octets item.stamp old r new
 
--- the frame as an item, with the stamp of the next frame of its conversation
+-- the frame as an item with its stamp: its system, aggregator and conversation, and the conversation's next serial
+-- number; the port does not matter
 abbrev pub offered_item : Side → ℕ → AggId → List ℕ → HalfState → ItemValue
 offered_item s port agg octets h = record {
   octets = octets;
@@ -294,16 +295,16 @@ model_change c = record { key = c.key; priority = c.priority; aggregatable = c.a
 
 -- the event, as the two-system theorem (lagmodel) has it
 abbrev pub model_event : Event → ModelEvent
-model_event (event.Tick n count) = ModelEvent.Tick (side_named n) count
-model_event (event.Emit n p) = ModelEvent.Emit (side_named n) p
-model_event (event.Deliver c n) = ModelEvent.Deliver c (side_named n)
-model_event (event.Lose c n) = ModelEvent.Lose c (side_named n)
-model_event (event.Repeat c n) = ModelEvent.Repeat c (side_named n)
+model_event (event.Tick n count) = ModelEvent.Tick (side_numbered n) count
+model_event (event.Emit n p) = ModelEvent.Emit (side_numbered n) p
+model_event (event.Deliver c n) = ModelEvent.Deliver c (side_numbered n)
+model_event (event.Lose c n) = ModelEvent.Lose c (side_numbered n)
+model_event (event.Repeat c n) = ModelEvent.Repeat c (side_numbered n)
 model_event (event.Cut c) = ModelEvent.Cut c
 model_event (event.Join c) = ModelEvent.Join c
-model_event (event.Sense c n) = ModelEvent.Sense c (side_named n)
-model_event (event.Restart n) = ModelEvent.Restart (side_named n)
-model_event (event.Configure n p change) = ModelEvent.Configure (side_named n) p (model_change change)
-model_event (event.Offer n agg octets) = ModelEvent.Offer (side_named n) agg.0 octets.items
-model_event (event.Move n agg conv p) = ModelEvent.Move_conversation (side_named n) agg.0 conv p
-model_event (event.Force n agg conv) = ModelEvent.Force (side_named n) agg.0 conv
+model_event (event.Sense c n) = ModelEvent.Sense c (side_numbered n)
+model_event (event.Restart n) = ModelEvent.Restart (side_numbered n)
+model_event (event.Configure n p change) = ModelEvent.Configure (side_numbered n) p (model_change change)
+model_event (event.Offer n agg octets) = ModelEvent.Offer (side_numbered n) agg.0 octets.items
+model_event (event.Move n agg conv p) = ModelEvent.Move_conversation (side_numbered n) agg.0 conv p
+model_event (event.Force n agg conv) = ModelEvent.Force (side_numbered n) agg.0 conv

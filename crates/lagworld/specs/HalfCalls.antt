@@ -62,7 +62,7 @@ change_counted s history = with_party_recorded (party_of_port s history.number) 
 abbrev pub with_changes_counted : HalfState → HalfState
 with_changes_counted h = record h { histories = map (change_counted h.state) h.histories }
 
--- the history, with this LACPDU as the one that the port received last
+-- the history, with this LACPDU as the one that the port took last
 abbrev pub set_taken : StampedLacpdu → PortHistory → PortHistory
 set_taken lacpdu history = record history { taken = Some lacpdu }
 

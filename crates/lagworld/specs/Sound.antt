@@ -19,7 +19,7 @@ use Rattle.lagworld.specs.declared.histories.PortHistory.{PortHistory}
 use Rattle.lagworld.specs.State.{ItemValue, HalfState, FlowValue, LinkState, WorldState, half, port_at, towards, flow_at, history_at}
 use Rattle.lagworld.specs.HalfCalls.{party_of_port}
 use Rattle.lagworld.specs.Events.{Algorithms, WorldRuns, most_events, cause, cause_or_no_memory, may_take_memory, model_event}
-use Rattle.lagworld.specs.Messages.{side_named}
+use Rattle.lagworld.specs.Messages.{side_numbered}
 use Rattle.lagworld.specs.ModelWorld.{world_setup, model_world}
 
 -- the distribution algorithms of system 1 and of system 2
@@ -56,7 +56,7 @@ pub record RunStops (gives : Algorithms) (old : WorldState) (es : List Event) (s
 
 -- the invariants on which the headline rests
 pub record HeadlineFacts (j : WorldState) : Type 0 where
-  pub took_synchronised : LastLacpduSaysInSync (model_world j)
+  pub took_synchronized : LastLacpduSaysInSync (model_world j)
   pub names_present : UpToDateLacpdusNameSender (world_setup j) (model_world j)
   pub on_its_cable : OnItsCable (world_setup j) (model_world j)
   pub flushed_by_marker : FlushedByMarker (world_setup j) (model_world j)
@@ -73,7 +73,7 @@ IsReached j = (events : List ModelEvent) × Run (world_setup j) events (first_wo
 abbrev pub IsItem : Side → List ℕ → Stamp → WorldState → Type 0
 IsItem s octets (stamp.Control count) j = Unit {0}
 IsItem s octets (stamp.Data system agg conv serial) j =
-    (side_named system ≡ peer s) × IsSome (flow_at (half (peer s) j).flows agg conv) × (IsSlowProtocolsFrame octets → ⊥)
+    (side_numbered system ≡ peer s) × IsSome (flow_at (half (peer s) j).flows agg conv) × (IsSlowProtocolsFrame octets → ⊥)
 
 -- each item of the list, on its way to system s, is what its stamp says
 abbrev pub AreItems : Side → List ItemValue → WorldState → Type 0

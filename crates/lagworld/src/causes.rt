@@ -1,6 +1,6 @@
 ghost use Rattle.std.specs.Prelude.{◌≡◌};
 ghost use Rattle.lagworld.specs.Events.{cable_named, system_named, first_event_cause, has_system};
-ghost use Rattle.lagworld.specs.Messages.{side_named};
+ghost use Rattle.lagworld.specs.Messages.{side_numbered};
 ghost use Rattle.lagworld.specs.Sides.{model_side};
 
 use crate::fault::WorldFault;
@@ -16,8 +16,8 @@ pub(crate) enum Side {
 }
 
 /// System 1 for the number 1, else system 2; callers have refused every other number.
-pub(crate) fn side_named(number: u8) -> Side
-    ensures { model_side result ≡ side_named number }
+pub(crate) fn side_numbered(number: u8) -> Side
+    ensures { model_side result ≡ side_numbered number }
 {
     if number == 1 { Side::One } else { Side::Two }
 }

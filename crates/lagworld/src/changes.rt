@@ -3,10 +3,10 @@ ghost use Rattle.lagworld.specs.HalfCalls.{HalfConfigures, HalfRestarts, change_
 ghost use Rattle.lagworld.specs.Events.{most_events};
 ghost use Rattle.lagworld.specs.WorldCalls.{WorldConfigures, WorldRestarts, world_state};
 ghost use Rattle.lagworld.specs.Inner.{half_state};
-ghost use Rattle.lagworld.specs.Messages.{side_named};
+ghost use Rattle.lagworld.specs.Messages.{side_numbered};
 ghost use Rattle.lagworld.specs.Sound.{AreBelow, IsSound, both_algorithms};
 
-use crate::causes::{Side, side_named};
+use crate::causes::{Side, side_numbered};
 use crate::half::Half;
 use crate::histories::PortHistory;
 use crate::inner::Inner;
@@ -61,13 +61,13 @@ impl<C: Cable, F: Fn(u16, usize) -> usize + Drop> Inner<C, F> {
     pub(crate) fn restart(&mut self, system: u8) -> Reply
         requires { IsSound (world_state C.items C.limit self.old) }
         ensures restarts { WorldRestarts (both_algorithms (F.post self.old.one.system.algorithm) (F.post self.old.two.system.algorithm))
-            (side_named system) (world_state C.items C.limit self.old) result (world_state C.items C.limit self.new) }
+            (side_numbered system) (world_state C.items C.limit self.old) result (world_state C.items C.limit self.new) }
         ensures acted { self.new.acted ≡ self.old.acted }
         ensures algorithm_one { self.new.one.system.algorithm ≡ self.old.one.system.algorithm }
         ensures algorithm_two { self.new.two.system.algorithm ≡ self.old.two.system.algorithm }
     {
         empty_all(&mut self.links);
-        match side_named(system) {
+        match side_numbered(system) {
             Side::One => self.one.restart(),
             Side::Two => self.two.restart(),
         }
@@ -78,12 +78,12 @@ impl<C: Cable, F: Fn(u16, usize) -> usize + Drop> Inner<C, F> {
     pub(crate) fn configure(&mut self, system: u8, port: u16, change: PortChange) -> Reply
         requires { IsSound (world_state C.items C.limit self.old) }
         ensures configures { WorldConfigures (both_algorithms (F.post self.old.one.system.algorithm) (F.post self.old.two.system.algorithm))
-            (side_named system) port change (world_state C.items C.limit self.old) result (world_state C.items C.limit self.new) }
+            (side_numbered system) port change (world_state C.items C.limit self.old) result (world_state C.items C.limit self.new) }
         ensures acted { self.new.acted ≡ self.old.acted }
         ensures algorithm_one { self.new.one.system.algorithm ≡ self.old.one.system.algorithm }
         ensures algorithm_two { self.new.two.system.algorithm ≡ self.old.two.system.algorithm }
     {
-        match side_named(system) {
+        match side_numbered(system) {
             Side::One => self.one.configure(port, change),
             Side::Two => self.two.configure(port, change),
         }

@@ -9,13 +9,13 @@ ghost use Rattle.lagworld.specs.Arriving.{last_lacpdu_recorded, history_index, w
 ghost use Rattle.lagworld.specs.Events.{with_stamp_collected, has_cable, stamped_in, with_item_sent, set_last_lacpdu};
 ghost use Rattle.lagworld.specs.WorldCalls.{world_state};
 ghost use Rattle.lagworld.specs.Inner.{half_state, link_state, link_states};
-ghost use Rattle.lagworld.specs.Messages.{item_value, stamp_count, side_named};
+ghost use Rattle.lagworld.specs.Messages.{item_value, stamp_count, side_numbered};
 ghost use Rattle.lagworld.specs.Places.{IsReserved, is_reserved};
 ghost use Rattle.lagworld.specs.Sides.{model_side};
 ghost use Rattle.lagworld.specs.Sound.{both_algorithms};
 ghost use Rattle.lagworld.specs.State.{is_accepted, port_at, towards};
 
-use crate::causes::{Side, side_named};
+use crate::causes::{Side, side_numbered};
 use crate::collecting::{collect, reserve_collected};
 use crate::emitting::{CONTROL_FRAME_LENGTH, filled};
 use crate::fault::WorldFault;
@@ -93,7 +93,7 @@ fn stamped_in(item: &Item) -> Option<StampedLacpdu>
     }
 }
 
-/// The LACPDU to record for the port that received this item, if the system's answer is that it was received.
+/// The LACPDU of this item, with its stamp, to record as the port's last, if the system answers that it processed it.
 fn lacpdu_to_record(answer: Result<Received, SystemFault>, item: &Item) -> Option<StampedLacpdu>
     ensures { IsToRecord answer (item_value item.now) result }
 {
@@ -252,7 +252,7 @@ impl<C: Cable, F: Fn(u16, usize) -> usize + Drop> Inner<C, F> {
                 agg,
                 conv,
                 ..
-            } => match side_named(system) {
+            } => match side_numbered(system) {
                 Side::One => reserve_collected(&mut self.one.flows, agg, conv),
                 Side::Two => reserve_collected(&mut self.two.flows, agg, conv),
             },
@@ -334,14 +334,14 @@ impl<C: Cable, F: Fn(u16, usize) -> usize + Drop> Inner<C, F> {
                 agg,
                 conv,
                 serial,
-            } => match side_named(system) {
+            } => match side_numbered(system) {
                 Side::One => collect(&mut self.one.flows, agg, conv, serial),
                 Side::Two => collect(&mut self.two.flows, agg, conv, serial),
             },
         }
     }
 
-    /// Does what the system's answer to an item asks for outside of that system.
+    /// Sends the response, or counts the data frame as collected, as the system's answer to an item asks; gives the reply.
     fn conclude(
         &mut self,
         side: Side,
@@ -379,7 +379,7 @@ impl<C: Cable, F: Fn(u16, usize) -> usize + Drop> Inner<C, F> {
     pub(crate) fn deliver(&mut self, cable: u16, system: u8) -> Result<Reply, WorldFault>
         requires there { has_cable (world_state C.items C.limit self.old) (Some cable) ≡ true }
         ensures delivers { IfOk result (λ reply. WorldDelivers (both_algorithms (F.post self.old.one.system.algorithm)
-            (F.post self.old.two.system.algorithm)) (side_named system) cable (world_state C.items C.limit self.old) reply
+            (F.post self.old.two.system.algorithm)) (side_numbered system) cable (world_state C.items C.limit self.old) reply
             (world_state C.items C.limit self.new)) }
         ensures refused { IfErr result (λ fault. fault ≡ OutOfMemory) }
         ensures unchanged { IfErr result (λ fault. world_state C.items C.limit self.new ≡ world_state C.items C.limit self.old) }
@@ -387,7 +387,7 @@ impl<C: Cable, F: Fn(u16, usize) -> usize + Drop> Inner<C, F> {
         ensures algorithm_one { self.new.one.system.algorithm ≡ self.old.one.system.algorithm }
         ensures algorithm_two { self.new.two.system.algorithm ≡ self.old.two.system.algorithm }
     {
-        let side = side_named(system);
+        let side = side_numbered(system);
         let index = self.link_index_of(cable);
         let Some(head) = head_of(&self.links, side, index) else {
             return Ok(Reply::Empty);
@@ -404,7 +404,7 @@ impl<C: Cable, F: Fn(u16, usize) -> usize + Drop> Inner<C, F> {
     pub(crate) fn repeat(&mut self, cable: u16, system: u8) -> Result<Reply, WorldFault>
         requires there { has_cable (world_state C.items C.limit self.old) (Some cable) ≡ true }
         ensures repeats { IfOk result (λ reply. WorldRepeats (both_algorithms (F.post self.old.one.system.algorithm)
-            (F.post self.old.two.system.algorithm)) (side_named system) cable (world_state C.items C.limit self.old) reply
+            (F.post self.old.two.system.algorithm)) (side_numbered system) cable (world_state C.items C.limit self.old) reply
             (world_state C.items C.limit self.new)) }
         ensures refused { IfErr result (λ fault. fault ≡ OutOfMemory) }
         ensures unchanged { IfErr result (λ fault. world_state C.items C.limit self.new ≡ world_state C.items C.limit self.old) }
@@ -412,7 +412,7 @@ impl<C: Cable, F: Fn(u16, usize) -> usize + Drop> Inner<C, F> {
         ensures algorithm_one { self.new.one.system.algorithm ≡ self.old.one.system.algorithm }
         ensures algorithm_two { self.new.two.system.algorithm ≡ self.old.two.system.algorithm }
     {
-        let side = side_named(system);
+        let side = side_numbered(system);
         let index = self.link_index_of(cable);
         let Some(head) = head_of(&self.links, side, index) else {
             return Ok(Reply::Empty);

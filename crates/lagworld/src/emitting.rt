@@ -8,13 +8,13 @@ ghost use Rattle.lagworld.specs.Asking.{HalfAsksTransmit, WorldAsksTransmit};
 ghost use Rattle.lagworld.specs.Events.{WorldEmits, AfterTransmit, sent_reply, stamp_for};
 ghost use Rattle.lagworld.specs.WorldCalls.{world_state};
 ghost use Rattle.lagworld.specs.Inner.{half_state};
-ghost use Rattle.lagworld.specs.Messages.{payload_in, side_named};
+ghost use Rattle.lagworld.specs.Messages.{payload_in, side_numbered};
 ghost use Rattle.lagworld.specs.Places.{IsReserved};
 ghost use Rattle.lagworld.specs.Sides.{model_side};
 ghost use Rattle.lagworld.specs.Sound.{both_algorithms};
 ghost use Rattle.lagworld.specs.State.{change_count_in, half, history_at};
 
-use crate::causes::{Side, side_named};
+use crate::causes::{Side, side_numbered};
 use crate::fault::WorldFault;
 use crate::half::Half;
 use crate::histories::{PortHistory, history_of};
@@ -167,14 +167,14 @@ impl<C: Cable, F: Fn(u16, usize) -> usize + Drop> Inner<C, F> {
     pub(crate) fn emit(&mut self, system: u8, port: u16) -> Result<Reply, WorldFault>
         ensures emits { IfOk result
             (λ reply. WorldEmits (both_algorithms (F.post self.old.one.system.algorithm) (F.post self.old.two.system.algorithm))
-            (side_named system) port (world_state C.items C.limit self.old) reply (world_state C.items C.limit self.new)) }
+            (side_numbered system) port (world_state C.items C.limit self.old) reply (world_state C.items C.limit self.new)) }
         ensures refused { IfErr result (λ fault. fault ≡ OutOfMemory) }
         ensures unchanged { IfErr result (λ fault. world_state C.items C.limit self.new ≡ world_state C.items C.limit self.old) }
         ensures acted { self.new.acted ≡ self.old.acted }
         ensures algorithm_one { self.new.one.system.algorithm ≡ self.old.one.system.algorithm }
         ensures algorithm_two { self.new.two.system.algorithm ≡ self.old.two.system.algorithm }
     {
-        let side = side_named(system);
+        let side = side_numbered(system);
         let octets = Vec::with_capacity(self.alloc, CONTROL_FRAME_LENGTH)?;
         reserve_on(&mut self.links, side, port)?;
         Ok(self.emit_due(side, port, octets))

@@ -6,10 +6,12 @@ ghost use Rattle.distributor.specs.Calls.{PicksIndexes};
 ghost use Rattle.lagworld.specs.Events.{DoesEvent, OnLink, WorldSteps, with_link_at, cause, cause_or_no_memory, has_cable, may_take_memory};
 ghost use Rattle.lagworld.specs.declared.fault.WorldFault.TheVariants.{NoMemory as OutOfMemory};
 ghost use Rattle.lagworld.specs.WorldCalls.{WorldMoves, WorldSenses, WorldTicks, world_state};
-ghost use Rattle.lagworld.specs.Messages.{side_named};
+ghost use Rattle.lagworld.specs.Messages.{side_numbered};
 ghost use Rattle.lagworld.specs.Sound.{IsSound, both_algorithms};
 
-use crate::causes::{Side, cable_named, first_event_cause, has_system, side_named, system_named};
+use crate::causes::{
+    Side, cable_named, first_event_cause, has_system, side_numbered, system_named,
+};
 use crate::fault::WorldFault;
 use crate::half::Half;
 use crate::link::{Link, cut_at, join_at, link_status};
@@ -119,11 +121,11 @@ impl<C: Cable, F: Fn(u16, usize) -> usize + Drop> Inner<C, F> {
     fn tick(&mut self, system: u8, count: u16) -> Reply
         ensures acted { self.new.acted ≡ self.old.acted }
         ensures ticks { WorldTicks (both_algorithms (F.post self.old.one.system.algorithm) (F.post self.old.two.system.algorithm))
-            (side_named system) count (world_state C.items C.limit self.old) result (world_state C.items C.limit self.new) }
+            (side_numbered system) count (world_state C.items C.limit self.old) result (world_state C.items C.limit self.new) }
         ensures algorithm_one { self.new.one.system.algorithm ≡ self.old.one.system.algorithm }
         ensures algorithm_two { self.new.two.system.algorithm ≡ self.old.two.system.algorithm }
     {
-        match side_named(system) {
+        match side_numbered(system) {
             Side::One => self.one.tick(count),
             Side::Two => self.two.tick(count),
         }
@@ -134,11 +136,11 @@ impl<C: Cable, F: Fn(u16, usize) -> usize + Drop> Inner<C, F> {
     fn move_to(&mut self, system: u8, agg: AggId, conv: u16, port: u16) -> Reply
         ensures acted { self.new.acted ≡ self.old.acted }
         ensures moves { WorldMoves (both_algorithms (F.post self.old.one.system.algorithm) (F.post self.old.two.system.algorithm))
-            (side_named system) agg conv port (world_state C.items C.limit self.old) result (world_state C.items C.limit self.new) }
+            (side_numbered system) agg conv port (world_state C.items C.limit self.old) result (world_state C.items C.limit self.new) }
         ensures algorithm_one { self.new.one.system.algorithm ≡ self.old.one.system.algorithm }
         ensures algorithm_two { self.new.two.system.algorithm ≡ self.old.two.system.algorithm }
     {
-        match side_named(system) {
+        match side_numbered(system) {
             Side::One => self.one.move_to(agg, conv, port),
             Side::Two => self.two.move_to(agg, conv, port),
         }
@@ -190,14 +192,14 @@ impl<C: Cable, F: Fn(u16, usize) -> usize + Drop> Inner<C, F> {
     fn sense(&mut self, cable: u16, system: u8) -> Reply
         requires there { has_cable (world_state C.items C.limit self.old) (Some cable) ≡ true }
         ensures senses { WorldSenses (both_algorithms (F.post self.old.one.system.algorithm) (F.post self.old.two.system.algorithm))
-            (side_named system) cable (world_state C.items C.limit self.old) result (world_state C.items C.limit self.new) }
+            (side_numbered system) cable (world_state C.items C.limit self.old) result (world_state C.items C.limit self.new) }
         ensures acted { self.new.acted ≡ self.old.acted }
         ensures algorithm_one { self.new.one.system.algorithm ≡ self.old.one.system.algorithm }
         ensures algorithm_two { self.new.two.system.algorithm ≡ self.old.two.system.algorithm }
     {
         let index = self.link_index_of(cable);
         let status = link_status(&self.links, index);
-        match side_named(system) {
+        match side_numbered(system) {
             Side::One => self.one.sense(status.one, status.whole),
             Side::Two => self.two.sense(status.two, status.whole),
         }

@@ -3,11 +3,11 @@ ghost use Rattle.lagworld.specs.Asking.{WorldLoses, lost_reply, without_first};
 ghost use Rattle.lagworld.specs.Events.{has_cable};
 ghost use Rattle.lagworld.specs.WorldCalls.{world_state};
 ghost use Rattle.lagworld.specs.Inner.{link_state, link_states};
-ghost use Rattle.lagworld.specs.Messages.{item_value, side_named};
+ghost use Rattle.lagworld.specs.Messages.{item_value, side_numbered};
 ghost use Rattle.lagworld.specs.Sides.{model_side};
 ghost use Rattle.lagworld.specs.State.{towards};
 
-use crate::causes::{Side, side_named};
+use crate::causes::{Side, side_numbered};
 use crate::inner::Inner;
 use crate::link::Link;
 use crate::reply::Reply;
@@ -57,13 +57,13 @@ impl<C: Cable, F: Fn(u16, usize) -> usize + Drop> Inner<C, F> {
     /// Loses the first item on a cable towards a system.
     pub(crate) fn lose(&mut self, cable: u16, system: u8) -> Reply
         requires there { has_cable (world_state C.items C.limit self.old) (Some cable) ≡ true }
-        ensures loses { WorldLoses (side_named system) cable (world_state C.items C.limit self.old) result
+        ensures loses { WorldLoses (side_numbered system) cable (world_state C.items C.limit self.old) result
             (world_state C.items C.limit self.new) }
         ensures acted { self.new.acted ≡ self.old.acted }
         ensures algorithm_one { self.new.one.system.algorithm ≡ self.old.one.system.algorithm }
         ensures algorithm_two { self.new.two.system.algorithm ≡ self.old.two.system.algorithm }
     {
-        let side = side_named(system);
+        let side = side_numbered(system);
         let index = self.link_index_of(cable);
         lost_reply(lose_at(&mut self.links, index, side))
     }

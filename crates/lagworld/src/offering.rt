@@ -7,13 +7,13 @@ ghost use Rattle.lagworld.specs.HalfCalls.{HalfForces};
 ghost use Rattle.lagworld.specs.Events.{AfterOffer, WorldOffers};
 ghost use Rattle.lagworld.specs.WorldCalls.{world_state};
 ghost use Rattle.lagworld.specs.Inner.{half_state};
-ghost use Rattle.lagworld.specs.Messages.{side_named, side_number};
+ghost use Rattle.lagworld.specs.Messages.{side_numbered, side_number};
 ghost use Rattle.lagworld.specs.Places.{AreReserved, HasRoom};
 ghost use Rattle.lagworld.specs.Sides.{model_side};
 ghost use Rattle.lagworld.specs.Sound.{IsSound, both_algorithms};
 ghost use Rattle.lagworld.specs.State.{half, by_side, sent_in, flow_at, with_half};
 
-use crate::causes::{Side, side_named};
+use crate::causes::{Side, side_numbered};
 use crate::fault::WorldFault;
 use crate::half::Half;
 use crate::inner::Inner;
@@ -85,12 +85,12 @@ impl<C: Cable, F: Fn(u16, usize) -> usize + Drop> Inner<C, F> {
     /// Frees a conversation of a system at once.
     pub(crate) fn force(&mut self, system: u8, agg: AggId, conv: u16) -> Reply
         ensures forces { WorldForces (both_algorithms (F.post self.old.one.system.algorithm) (F.post self.old.two.system.algorithm))
-            (side_named system) agg conv (world_state C.items C.limit self.old) result (world_state C.items C.limit self.new) }
+            (side_numbered system) agg conv (world_state C.items C.limit self.old) result (world_state C.items C.limit self.new) }
         ensures acted { self.new.acted ≡ self.old.acted }
         ensures algorithm_one { self.new.one.system.algorithm ≡ self.old.one.system.algorithm }
         ensures algorithm_two { self.new.two.system.algorithm ≡ self.old.two.system.algorithm }
     {
-        match side_named(system) {
+        match side_numbered(system) {
             Side::One => self.one.force(agg, conv),
             Side::Two => self.two.force(agg, conv),
         }
@@ -108,7 +108,7 @@ impl<C: Cable, F: Fn(u16, usize) -> usize + Drop> Inner<C, F> {
         }
     }
 
-    /// The port of a system to send a frame on.
+    /// Offers a frame to an aggregator of a system; returns the port to send it on.
     fn ask_offer(&mut self, side: Side, agg: AggId, frame: &[u8]) -> Result<u16, SystemFault>
         requires one { PicksIndexes (F.pre self.old.one.system.algorithm) (F.post self.old.one.system.algorithm) }
         requires two { PicksIndexes (F.pre self.old.two.system.algorithm) (F.post self.old.two.system.algorithm) }
@@ -228,7 +228,7 @@ impl<C: Cable, F: Fn(u16, usize) -> usize + Drop> Inner<C, F> {
         requires two { PicksIndexes (F.pre self.old.two.system.algorithm) (F.post self.old.two.system.algorithm) }
         requires sound { IsSound (world_state C.items C.limit self.old) }
         ensures offers { IfOk result (λ reply. WorldOffers (both_algorithms (F.post self.old.one.system.algorithm)
-            (F.post self.old.two.system.algorithm)) (side_named system) agg frame.now.items (world_state C.items C.limit self.old) reply
+            (F.post self.old.two.system.algorithm)) (side_numbered system) agg frame.now.items (world_state C.items C.limit self.old) reply
             (world_state C.items C.limit self.new)) }
         ensures refused { IfErr result (λ fault. fault ≡ OutOfMemory) }
         ensures unchanged { IfErr result (λ fault. world_state C.items C.limit self.new ≡ world_state C.items C.limit self.old) }
@@ -236,7 +236,7 @@ impl<C: Cable, F: Fn(u16, usize) -> usize + Drop> Inner<C, F> {
         ensures algorithm_one { self.new.one.system.algorithm ≡ self.old.one.system.algorithm }
         ensures algorithm_two { self.new.two.system.algorithm ≡ self.old.two.system.algorithm }
     {
-        let side = side_named(system);
+        let side = side_numbered(system);
         let octets = Vec::from_slice(self.alloc, frame.as_slice())?;
         let conv = self.conversation(side, octets.as_slice());
         reserve_all(&mut self.links, side)?;

@@ -8,11 +8,11 @@ use Rattle.portmachines.specs.declared.mux.MuxState.TheVariants.{CollectingDistr
 use Rattle.portmachines.specs.Machines.{Machines}
 use Rattle.portmachines.specs.Mux.{same_mux_state, is_synchronized}
 
--- each age becomes one tick older; an age of 11 is removed
+-- each age becomes one tick older, and one that becomes 11 is removed
 abbrev pub aged : List ℕ → List ℕ
 aged ages = filter (λ a. nat_lt a 11) (map (λ a. a + 1) ages)
 
--- each timer above 0 counts down by one tick
+-- each timer above 0 counts down by one tick, and each age in the transmit window becomes one tick older
 abbrev pub count_down : Machines → Machines
 count_down p =
     record p {

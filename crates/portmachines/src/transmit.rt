@@ -37,7 +37,7 @@ impl Machines {
     }
 }
 
-/// Makes each age one tick older; an age of 11 is removed.
+/// Makes each age one tick older, and removes one that becomes 11.
 pub(crate) fn age_window(ages: &mut ArrayVec<u8, 3>)
     ensures { ages.new.items ≡ aged ages.old.items }
 {

@@ -30,7 +30,7 @@ pub struct PortView {
     pub partner: Party,
     /// port_enabled: whether the link is up.
     pub enabled: bool,
-    /// Whether the partner's parameters are known: the receive machine is in CURRENT or DEFAULTED.
+    /// Whether the receive machine is in CURRENT or DEFAULTED, so that the partner is known or has its default values.
     pub settled: bool,
     /// The state of the mux machine.
     pub stage: Stage,

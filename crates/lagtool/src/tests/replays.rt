@@ -1,7 +1,7 @@
 use crate::algorithm::by_number;
 use crate::fault::{FaultText, ToolFault};
+use crate::known_texts;
 use crate::replay::replay;
-use crate::rows;
 use crate::sink::Sink;
 use crate::tests::sink_of;
 use crate::vectors::{failures, vectors, vectors_text};

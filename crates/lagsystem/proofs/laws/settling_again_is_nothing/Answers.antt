@@ -1,7 +1,7 @@
 use Rattle.std.proofs.Common.{◌≡◌, ◌∙◌, ℕ, Bool, true, false, List, None, refl, sym, ap, if◌then◌else◌}
 use Rattle.distributor.specs.declared.assignment.Assignment.{Assignment}
 use Rattle.distributor.specs.declared.assignment.Assignment.TheVariants.{Free, On, Wanted, Flushing}
-use Rattle.distributor.specs.Calls.{distributes}
+use Rattle.distributor.specs.Calls.{is_among}
 use Rattle.distributor.specs.Conversations.{assignment_of}
 use Rattle.lagsystem.specs.Readers.{aggregator_numbered, distributing}
 use Rattle.lagsystem.specs.Settling.{HoldsConversations, held_unless_on}
@@ -11,14 +11,14 @@ use Rattle.lagsystem.proofs.Quieting.{paced_runs, settling_quiet, still_settles}
 use Rattle.lagsystem.proofs.Rising.{ports_rise}
 use Rattle.lagsystem.proofs.laws.settling_again_is_nothing.Goals as goal
 
-still_on : (ports : List ℕ) (p : ℕ) (b : Bool) → distributes ports p ≡ b
+still_on : (ports : List ℕ) (p : ℕ) (b : Bool) → is_among ports p ≡ b
     → held_unless_on ports (if b then On p else Wanted p None) ≡ (if b then On p else Wanted p None)
 still_on ports p true e = ap (λ x. if x then On p else Wanted p None) e
 still_on ports p false e = refl
 
 left_once : (ports : List ℕ) (a : Assignment) → held_unless_on ports (held_unless_on ports a) ≡ held_unless_on ports a
 left_once ports (Free preferred) = refl
-left_once ports (On p) = still_on ports p (distributes ports p) refl
+left_once ports (On p) = still_on ports p (is_among ports p) refl
 left_once ports (Wanted p preferred) = refl
 left_once ports (Flushing p id preferred age) = refl
 

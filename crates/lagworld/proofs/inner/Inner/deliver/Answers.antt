@@ -19,7 +19,7 @@ returns-clause-delivers g c =
     let limit = g.C.Cable.limit in
     let gives : Algorithms = both_algorithms (λ conv count place. g.F.Fn.post c.args.self.now.one.system.algorithm (conv, (count, tt))
     place) (λ conv count place. g.F.Fn.post c.args.self.now.two.system.algorithm (conv, (count, tt)) place) in
-    let side = model_side c.side_named-side.result in
+    let side = model_side c.side_numbered-side.result in
     let old = world_state items limit c.args.self.now in
     let ready = world_state items limit c.reserve_for_item.new.self in
     let lacpdu = world_state items limit c.receive_first.new.self in
@@ -35,7 +35,7 @@ returns-clause-delivers g c =
     (λ conv count place. g.F.Fn.post f (conv, (count, tt)) place)) side (port_at side l) (towards side l)
     (Some c.in-Some-receive_first.answer) ready lacpdu)) c.in_ok-bytes.ensures.algorithm_two one in
     let kept = ap (λ (ls : Vec (Cabled g.row.C.Denot)). link_states items limit ls.items) c.in-Some-receive_first.ensures.links in
-    subst (λ s. WorldDelivers gives s c.args.cable old c.conclude.result new) c.side_named-side.ensures
+    subst (λ s. WorldDelivers gives s c.args.cable old c.conclude.result new) c.side_numbered-side.ensures
     (deliver_does gives side c.args.cable c.link_index_of-index.result c.in-Some.head c.in-Some-receive_first.answer
     (λ (l : LinkState). option_map item_value c.pop_first_at.result ≡ slice_get (towards side l) 0)
     (link_states items limit c.pop_first_at.new.links.items) old ready lacpdu c.conclude.result new

@@ -14,8 +14,8 @@ returns-clause-emits g c =
     (λ conv count place. g.F.Fn.post c.args.self.now.two.system.algorithm (conv, (count, tt)) place) in
     let old = world_state g.C.Cable.items g.C.Cable.limit c.args.self.now in
     let new = world_state g.C.Cable.items g.C.Cable.limit c.emit_due.new.self in
-    subst (λ s. WorldEmits gives s c.args.port old c.emit_due.result new) c.side_named-side.ensures
-    (subst (λ j. WorldEmits gives (model_side c.side_named-side.result) c.args.port j c.emit_due.result new)
+    subst (λ s. WorldEmits gives s c.args.port old c.emit_due.result new) c.side_numbered-side.ensures
+    (subst (λ j. WorldEmits gives (model_side c.side_numbered-side.result) c.args.port j c.emit_due.result new)
     (ap (with_links old) c.reserve_on.ensures.same) c.emit_due.ensures.emits)
 
 pub returns-in_err-reserve_on-clause-unchanged : goal.returns-in_err-reserve_on-clause-unchanged

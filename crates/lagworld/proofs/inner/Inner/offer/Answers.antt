@@ -29,13 +29,13 @@ returns-clause-offers g c =
     let old = world_state g.C.Cable.items g.C.Cable.limit c.args.self.now in
     let mid = world_state g.C.Cable.items g.C.Cable.limit c.reserve_serial.new.self in
     let new = world_state g.C.Cable.items g.C.Cable.limit c.offer_reserved.new.self in
-    let s = model_side c.side_named-side.result in
+    let s = model_side c.side_numbered-side.result in
     let octets = c.in_ok-octets.octets.items in
     let r = c.offer_reserved.result in
     subst (λ s. WorldOffers
     (both_algorithms (λ conv count place. g.F.Fn.post c.args.self.now.one.system.algorithm (conv, (count, tt)) place)
     (λ conv count place. g.F.Fn.post c.args.self.now.two.system.algorithm (conv, (count, tt)) place)) s c.args.agg
-    c.args.frame.now.items old r new) c.side_named-side.ensures
+    c.args.frame.now.items old r new) c.side_numbered-side.ensures
     (subst (λ o. WorldOffers
     (both_algorithms (λ conv count place. g.F.Fn.post c.args.self.now.one.system.algorithm (conv, (count, tt)) place)
     (λ conv count place. g.F.Fn.post c.args.self.now.two.system.algorithm (conv, (count, tt)) place)) s c.args.agg o old r new)
