@@ -41,13 +41,25 @@ program_alone =
     let a = new_app (codes "lagtool") in
     record a { top = record a.top { subcommand_required = true; disable_help_subcommand = true; has_version = true } }
 
+-- the program with its first subcommand
+abbrev pub up_to_decode : App
+up_to_decode = with_subcommand program_alone decode_subcommand.top
+
+-- the program with its first two subcommands
+abbrev pub up_to_respond : App
+up_to_respond = with_subcommand up_to_decode respond_subcommand.top
+
+-- the program with its first three subcommands
+abbrev pub up_to_check : App
+up_to_check = with_subcommand up_to_respond check_subcommand.top
+
+-- the program with all its subcommands but the last
+abbrev pub up_to_replay : App
+up_to_replay = with_subcommand up_to_check replay_subcommand.top
+
 -- the program with its subcommands
 abbrev pub program : App
-program =
-    with_subcommand (with_subcommand (with_subcommand (with_subcommand (with_subcommand program_alone decode_subcommand.top)
-    respond_subcommand.top)
-    check_subcommand.top)
-    replay_subcommand.top) vectors_subcommand.top
+program = with_subcommand up_to_replay vectors_subcommand.top
 
 -- the name of the subcommand that a job is
 abbrev pub subcommand_name : Job → Text

@@ -3,6 +3,8 @@ ghost use Rattle.clap.specs.declared.builder.command.Command.TheViews.{out-Comma
 ghost use Rattle.clap.specs.Words.{app_of, fault_of, new_app, subcommand_of, subcommand_rows_of, with_rule};
 ghost use Rattle.lagline.specs.declared.line.LineFault.TheVariants.{NoMemory};
 ghost use Rattle.lagline.specs.Lines.{IsCause, IsJob, KeepsKind, has_each_argument, program, program_alone, required_argument};
+ghost use Rattle.lagline.specs.Lines.{check_subcommand, decode_subcommand, replay_subcommand, respond_subcommand};
+ghost use Rattle.lagline.specs.Lines.{up_to_check, up_to_decode, up_to_replay, up_to_respond};
 
 use crate::help;
 use clap::error::ErrorKind;
@@ -89,26 +91,78 @@ fn program_alone<'a>(alloc: Global) -> Result<Command<'a>, AllocError>
         .bin_name("lagtool")
 }
 
-/// The program with its subcommands.
+/// The line `decode HEX`.
+fn decode_line<'a>(alloc: Global) -> Result<Command<'a>, AllocError>
+    ensures app { IfOk result (λ c. app_of c ≡ decode_subcommand) }
+    ensures local { IfOk result (λ c. (fields_of c).has_globals ≡ false) }
+{
+    let decode = subcommand(alloc, "decode", help::DECODE, help::DECODE_EXAMPLE);
+    with_argument(decode, alloc, "HEX", help::DECODE_HEX)
+}
+
+/// The line `respond MAC HEX`.
+fn respond_line<'a>(alloc: Global) -> Result<Command<'a>, AllocError>
+    ensures app { IfOk result (λ c. app_of c ≡ respond_subcommand) }
+    ensures local { IfOk result (λ c. (fields_of c).has_globals ≡ false) }
+{
+    let respond = subcommand(alloc, "respond", help::RESPOND, help::RESPOND_EXAMPLE);
+    let respond = with_argument(respond, alloc, "MAC", help::RESPOND_MAC)?;
+    with_argument(respond, alloc, "HEX", help::RESPOND_HEX)
+}
+
+/// The line `check FILE`.
+fn check_line<'a>(alloc: Global) -> Result<Command<'a>, AllocError>
+    ensures app { IfOk result (λ c. app_of c ≡ check_subcommand) }
+    ensures local { IfOk result (λ c. (fields_of c).has_globals ≡ false) }
+{
+    let check = subcommand(alloc, "check", help::CHECK, help::CHECK_EXAMPLE);
+    with_argument(check, alloc, "FILE", help::CHECK_FILE)
+}
+
+/// The line `replay SCRIPT`.
+fn replay_line<'a>(alloc: Global) -> Result<Command<'a>, AllocError>
+    ensures app { IfOk result (λ c. app_of c ≡ replay_subcommand) }
+    ensures local { IfOk result (λ c. (fields_of c).has_globals ≡ false) }
+{
+    let replay = subcommand(alloc, "replay", help::REPLAY, help::REPLAY_EXAMPLE);
+    with_argument(replay, alloc, "SCRIPT", help::REPLAY_SCRIPT)
+}
+
+/// The program with its first line, `decode`. One line is added in each function, since the proof of a function grows much
+/// faster than its calls.
+fn up_to_decode<'a>(alloc: Global) -> Result<Command<'a>, AllocError>
+    ensures { IfOk result (λ c. app_of c ≡ up_to_decode) }
+{
+    program_alone(alloc)?.subcommand(decode_line(alloc)?)
+}
+
+/// The program with its lines up to `respond`.
+fn up_to_respond<'a>(alloc: Global) -> Result<Command<'a>, AllocError>
+    ensures { IfOk result (λ c. app_of c ≡ up_to_respond) }
+{
+    up_to_decode(alloc)?.subcommand(respond_line(alloc)?)
+}
+
+/// The program with its lines up to `check`.
+fn up_to_check<'a>(alloc: Global) -> Result<Command<'a>, AllocError>
+    ensures { IfOk result (λ c. app_of c ≡ up_to_check) }
+{
+    up_to_respond(alloc)?.subcommand(check_line(alloc)?)
+}
+
+/// The program with its lines up to `replay`.
+fn up_to_replay<'a>(alloc: Global) -> Result<Command<'a>, AllocError>
+    ensures { IfOk result (λ c. app_of c ≡ up_to_replay) }
+{
+    up_to_check(alloc)?.subcommand(replay_line(alloc)?)
+}
+
+/// The program with its lines.
 fn program<'a>(alloc: Global) -> Result<Command<'a>, AllocError>
     ensures { IfOk result (λ c. app_of c ≡ program) }
 {
-    let decode = subcommand(alloc, "decode", help::DECODE, help::DECODE_EXAMPLE);
-    let decode = with_argument(decode, alloc, "HEX", help::DECODE_HEX)?;
-    let respond = subcommand(alloc, "respond", help::RESPOND, help::RESPOND_EXAMPLE);
-    let respond = with_argument(respond, alloc, "MAC", help::RESPOND_MAC)?;
-    let respond = with_argument(respond, alloc, "HEX", help::RESPOND_HEX)?;
-    let check = subcommand(alloc, "check", help::CHECK, help::CHECK_EXAMPLE);
-    let check = with_argument(check, alloc, "FILE", help::CHECK_FILE)?;
-    let replay = subcommand(alloc, "replay", help::REPLAY, help::REPLAY_EXAMPLE);
-    let replay = with_argument(replay, alloc, "SCRIPT", help::REPLAY_SCRIPT)?;
     let vectors = subcommand(alloc, "vectors", help::VECTORS, help::VECTORS_LINES);
-    program_alone(alloc)?
-        .subcommand(decode)?
-        .subcommand(respond)?
-        .subcommand(check)?
-        .subcommand(replay)?
-        .subcommand(vectors)
+    up_to_replay(alloc)?.subcommand(vectors)
 }
 
 /// The job of a subcommand with the values of its arguments.
