@@ -1,5 +1,5 @@
 -- Each call changes the conversations only by moves that the model allows.
-use Rattle.std.proofs.Common.{◌≡◌, ℕ, zero, suc, ◌+◌, ◌-◌, ◌*◌, ◌/◌, ◌%◌, ◌<◌, ◌^◌, length, arith, ⊎_elim, Bool, true, false, cond, ◌&&◌}
+use Rattle.std.proofs.Common.{◌≡◌, ℕ, zero, suc, ◌+◌, ◌-◌, ◌/◌, ◌%◌, ◌<◌, ◌^◌, length, arith, ⊎_elim, Bool, true, false, cond, ◌&&◌}
 use Rattle.std.proofs.Common.{eqb, Option, Some, None, Ok, Err, List, [], ◌∷◌, sym, refl, ap, ◌∙◌, subst, ◌⊎◌, inl, inr}
 use Rattle.std.specs.Prelude.{ltb, is_none}
 use Rattle.std.proofs.lemmas.Bool.{cases_Bool, and_parts, eqb-true, eq-eqb, cond-true, cond-false, false≢true, cases_eq, ltb-true}
@@ -124,32 +124,34 @@ force_moves mac t u agg conv s e h = one_moves mac (ModelCall.Force agg conv) t 
     (is_forced (assignment_of t agg conv) s e) h
 
 -- Every conversation changes alike.
-keys_of : ℕ → List (ℕ × ℕ)
-keys_of zero = []
-keys_of (suc n) = (n / 256 + 1, n % 256) ∷ keys_of n
+keys_of : ℕ → ℕ → List (ℕ × ℕ)
+keys_of w zero = []
+keys_of w (suc n) = (n / w + 1, n % w) ∷ keys_of w n
 
-among_keys : (g k n : ℕ) → 0 < g → k < 256 → (g - 1) * 256 + k < n → IsAmong g k (keys_of n)
+among_keys : (w g k n : ℕ) → 0 < g → k < w → slot_index w g k < n → IsAmong g k (keys_of w n)
 unfolding keys_of
-among_keys g k zero p l lt = absurd (omega arith)
-among_keys g k (suc n) p l lt = ⊎_elim
-    (λ (e : (g - 1) * 256 + k ≡ n). inl (
-      omega (arith, e, div-mul-add (g - 1) 256 k l, ap (λ x. x / 256) e),
-      sym (mod-mul-add (g - 1) 256 k l) ∙ ap (λ x. x % 256) e,
+among_keys w g k zero p l lt = absurd (omega arith)
+among_keys w g k (suc n) p l lt = ⊎_elim
+    (λ (e : slot_index w g k ≡ n). inl (
+      omega (arith, p, sym (div-mul-add (g - 1) w k l) ∙ ap (λ x. x / w) e),
+      sym (mod-mul-add (g - 1) w k l) ∙ ap (λ x. x % w) e,
     ))
-    (λ (m : (g - 1) * 256 + k ≡ n → ⊥). inr (among_keys g k n p l (omega (arith, m))))
-    (cases_eq ((g - 1) * 256 + k) n)
+    (λ (m : slot_index w g k ≡ n → ⊥). inr (among_keys w g k n p l (omega (arith, m))))
+    (cases_eq (slot_index w g k) n)
 
-in_states : (t : Table) (g k : ℕ) → (assignment_of t g k ≡ state.Free None) ⊎ IsAmong g k (keys_of (length t.states))
-in_states t g k = elim (cases_Bool (ltb 0 g && ltb k 256)) [
-  | inl e ↦ (let p = and_parts (ltb 0 g) (ltb k 256) e in
-      elim (cases_Bool (ltb (slot_index g k) (length t.states))) [
-        | inl x ↦ inr (among_keys g k (length t.states) (ltb-true 0 g p.0) (ltb-true k 256 p.1)
-            (ltb-true (slot_index g k) (length t.states) x))
-        | inr y ↦ inl (cond-true (ltb 0 g && ltb k 256) _ _ e
-            ∙ get_or_past t.states (slot_index g k) (state.Free None) (ltb-false (slot_index g k) (length t.states) y))
-      ])
-  | inr f ↦ inl (cond-false (ltb 0 g && ltb k 256) _ _ f)
-]
+in_states : (t : Table) (g k : ℕ) → (assignment_of t g k ≡ state.Free None) ⊎ IsAmong g k (keys_of t.conversations (length t.states))
+in_states t g k =
+    let w = t.conversations in
+    elim (cases_Bool (ltb 0 g && ltb k w)) [
+      | inl e ↦ (let p = and_parts (ltb 0 g) (ltb k w) e in
+          elim (cases_Bool (ltb (slot_index w g k) (length t.states))) [
+            | inl x ↦ inr (among_keys w g k (length t.states) (ltb-true 0 g p.0) (ltb-true k w p.1)
+                (ltb-true (slot_index w g k) (length t.states) x))
+            | inr y ↦ inl (cond-true (ltb 0 g && ltb k w) _ _ e
+                ∙ get_or_past t.states (slot_index w g k) (state.Free None) (ltb-false (slot_index w g k) (length t.states) y))
+          ])
+      | inr f ↦ inl (cond-false (ltb 0 g && ltb k w) _ _ f)
+    ]
 
 -- what one conversation makes of itself
 abbrev pub Makes : List ℕ → ModelCall → ℕ → ℕ → Assignment → Assignment → Type 0
@@ -164,12 +166,12 @@ pub each_moves : (mac : List ℕ) (call : ModelCall) (t u : Table) (change : ℕ
     → u.next ≡ t.next → ((g k : ℕ) → assignment_of u g k ≡ change g k (assignment_of t g k))
     → DistributorMoves mac call NoneDistributes (model_distributor t) [] (model_distributor u)
 each_moves mac call t u change free makes next states =
-    let z = flows_become mac call NoneDistributes (keys_of (length t.states)) (model_distributor t) (model_distributor u).state each in
+    let z = flows_become mac call NoneDistributes (keys_of t.conversations (length t.states)) (model_distributor t) (model_distributor u).state each in
     let same : model_distributor u ≡ record (model_distributor t) { state = (model_distributor u).state } =
     λ i. record { state = (model_distributor u).state; next = next i } in
     (z.0, z.1, z.2, same ∙ z.3)
   where
-    each : BecomeByMoves (keys_of (length t.states)) mac call (model_distributor t).state (model_distributor u).state
+    each : BecomeByMoves (keys_of t.conversations (length t.states)) mac call (model_distributor t).state (model_distributor u).state
     each g k = elim (makes g k (assignment_of t g k)) [
       | inl e ↦ inl (ap model_conversation (states g k) ∙ e)
       | inr x ↦ elim (in_states t g k) [
@@ -293,6 +295,7 @@ pub same_moves : (mac : List ℕ) (call : ModelCall) (t u : Table) → u ≡ t
 same_moves mac call t u e = ([], tt, refl, ap model_distributor e)
 
 -- at the start every conversation is free for the law too
-pub first_flows : (u : SystemSetup) (aggs : ℕ) → model_distributor (first_table aggs u.first_marker) ≡ (first_view u).flows
-first_flows u aggs =
-    λ i. record { state = λ agg conv. model_conversation (first_free aggs u.first_marker agg conv i); next = u.first_marker }
+pub first_flows : (u : SystemSetup) (aggs conversations : ℕ)
+    → model_distributor (first_table aggs conversations u.first_marker) ≡ (first_view u).flows
+first_flows u aggs conversations =
+    λ i. record { state = λ agg conv. model_conversation (first_free aggs conversations u.first_marker agg conv i); next = u.first_marker }

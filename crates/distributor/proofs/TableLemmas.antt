@@ -1,22 +1,52 @@
 -- The states of the conversations, by their indices in the list.
-use Rattle.std.proofs.Common.{ℕ, ◌+◌, ◌*◌, ◌<◌, ◌≤◌, ◌≡◌, zero, suc, Bool, cond, ◌&&◌, List, length, None, get_or, map, replicate, sym}
-use Rattle.std.proofs.Common.{ap, ◌∙◌, arith, inl, inr}
-use Rattle.std.specs.Prelude.{ltb}
-use Rattle.std.proofs.lemmas.Bool.{cases_Bool, and_from, cond-true, cond-false, lt-ltb, ltb-true, ltb-false}
-use Rattle.std.proofs.lemmas.List.{get_or-map, get_or_past, get_or-replicate, length-map, length-replicate}
+use Rattle.std.proofs.Common.{ℕ, ◌+◌, ◌-◌, ◌*◌, ◌<◌, ◌≤◌, ◌≡◌, zero, suc, Bool, cond, ◌&&◌, List, length, None, get_or, set, map, replicate}
+use Rattle.std.proofs.Common.{sym, ap, ◌∙◌, arith, inl, inr}
+use Rattle.std.specs.Prelude.{eqb, ltb}
+use Rattle.std.proofs.lemmas.Bool.{cases_Bool, and_from, and_parts, cond-true, cond-false, eqb-true, eq-eqb, false≢true, lt-ltb, ltb-true}
+use Rattle.std.proofs.lemmas.Bool.{ltb-false}
+use Rattle.std.proofs.lemmas.List.{get_or-map, get_or_past, get_or-replicate, get_or-set_same, get_or-set_other, length-map, length-replicate}
+use Rattle.std.proofs.lemmas.Nat.{mul-add-lt, same_from_place}
 use Rattle.distributor.specs.declared.assignment.Assignment.{Assignment}
 use Rattle.distributor.specs.declared.assignment.Assignment.TheVariants.{Free}
 use Rattle.distributor.specs.Conversations.{Table, first_table, assignment_of, slot_index, count_conversations, sum_below}
 use Rattle.distributor.specs.Chains.{slot_state}
 use Rattle.distributor.proofs.WalkLemmas.{same_sum, bit}
 
--- the state at a place, if the numbers are in range
-abbrev pub stated : List Assignment → ℕ → ℕ → Assignment
-stated states agg conv = cond (ltb 0 agg && ltb conv 256) (get_or states (slot_index agg conv) (Free None)) (Free None)
+-- the state at a place, if the numbers are in range and each aggregator has w conversations
+abbrev pub stated : ℕ → List Assignment → ℕ → ℕ → Assignment
+stated w states agg conv = cond (ltb 0 agg && ltb conv w) (get_or states (slot_index w agg conv) (Free None)) (Free None)
 
-pub stated_in : (states : List Assignment) (agg conv : ℕ) → 0 < agg → conv < 256
-    → stated states agg conv ≡ slot_state states (slot_index agg conv)
-stated_in states agg conv p l = cond-true (ltb 0 agg && ltb conv 256) _ _ (and_from _ _ (lt-ltb 0 agg p) (lt-ltb conv 256 l))
+pub stated_in : (w : ℕ) (states : List Assignment) (agg conv : ℕ) → 0 < agg → conv < w
+    → stated w states agg conv ≡ slot_state states (slot_index w agg conv)
+stated_in w states agg conv p l = cond-true (ltb 0 agg && ltb conv w) _ _ (and_from _ _ (lt-ltb 0 agg p) (lt-ltb conv w l))
+
+-- the place of a conversation is one of the places
+pub place_inside : (w aggs agg conv : ℕ) → 0 < agg → agg ≤ aggs → conv < w → slot_index w agg conv < aggs * w
+place_inside w aggs agg conv p few l = omega (arith, mul-add-lt (agg - 1) w conv aggs (omega arith) l)
+
+-- a state that is given to one conversation is given to no other
+pub set_at : (w : ℕ) (states : List Assignment) (agg conv : ℕ) (s : Assignment) → 0 < agg → conv < w → slot_index w agg conv < length states
+    → (a c : ℕ) → stated w (set states (slot_index w agg conv) s) a c ≡ cond (eqb agg a && eqb conv c) s (stated w states a c)
+set_at w states agg conv s p l inside a c = elim (cases_Bool (eqb agg a && eqb conv c)) [
+  | inl t ↦ (let both = and_parts (eqb agg a) (eqb conv c) t in
+      let here : slot_index w a c ≡ slot_index w agg conv =
+      ap (λ n. slot_index w n c) (sym (eqb-true agg a both.0)) ∙ ap (slot_index w agg) (sym (eqb-true conv c both.1)) in
+      stated_in w _ a c (omega (arith, eqb-true agg a both.0)) (omega (arith, eqb-true conv c both.1))
+      ∙ ap (slot_state (set states (slot_index w agg conv) s)) here ∙ get_or-set_same states (slot_index w agg conv) s (Free None) inside
+      ∙ sym (cond-true (eqb agg a && eqb conv c) s (stated w states a c) t))
+  | inr f ↦ elim (cases_Bool (ltb 0 a && ltb c w)) [
+    | inl e ↦ (let in_range = and_parts (ltb 0 a) (ltb c w) e in
+        let pos = ltb-true 0 a in_range.0 in
+        let below = ltb-true c w in_range.1 in
+        let apart : slot_index w a c ≡ slot_index w agg conv → ⊥ = λ same. (
+        let one = same_from_place (a - 1) c (agg - 1) conv w below l same in
+        false≢true (sym f ∙ and_from _ _ (eq-eqb agg a (omega (arith, p, pos, one.0))) (eq-eqb conv c (sym one.1)))) in
+        stated_in w _ a c pos below ∙ get_or-set_other states (slot_index w agg conv) (slot_index w a c) s (Free None) apart
+        ∙ sym (stated_in w states a c pos below) ∙ sym (cond-false (eqb agg a && eqb conv c) s (stated w states a c) f))
+    | inr g ↦ (cond-false (ltb 0 a && ltb c w) _ _ g ∙ sym (cond-false (ltb 0 a && ltb c w) _ _ g)
+        ∙ sym (cond-false (eqb agg a && eqb conv c) s (stated w states a c) f))
+  ]
+]
 
 -- the state at a place, if every state is changed alike
 pub map_at : (f : Assignment → Assignment) → f (Free None) ≡ Free None → (states : List Assignment) (k : ℕ)
@@ -29,15 +59,15 @@ map_at f keeps states k = elim (cases_Bool (ltb k (length states))) [
 ]
 
 -- at the start every conversation is free
-pub first_free : (aggs first agg conv : ℕ) → assignment_of (first_table aggs first) agg conv ≡ Free None
-first_free aggs first agg conv = elim (cases_Bool (ltb 0 agg && ltb conv 256)) [
-  | inl e ↦ cond-true (ltb 0 agg && ltb conv 256) _ _ e ∙ elim (cases_Bool (ltb (slot_index agg conv) (aggs * 256))) [
-    | inl x ↦ get_or-replicate (aggs * 256) (slot_index agg conv) (Free None) (Free None) (ltb-true (slot_index agg conv) (aggs * 256) x)
-    | inr y ↦ (let past : length (replicate (aggs * 256) (Free None)) ≤ slot_index agg conv =
-        omega (arith, ltb-false (slot_index agg conv) (aggs * 256) y, length-replicate (aggs * 256) (Free None)) in
-        get_or_past (replicate (aggs * 256) (Free None)) (slot_index agg conv) (Free None) past)
+pub first_free : (aggs w first agg conv : ℕ) → assignment_of (first_table aggs w first) agg conv ≡ Free None
+first_free aggs w first agg conv = elim (cases_Bool (ltb 0 agg && ltb conv w)) [
+  | inl e ↦ cond-true (ltb 0 agg && ltb conv w) _ _ e ∙ elim (cases_Bool (ltb (slot_index w agg conv) (aggs * w))) [
+    | inl x ↦ get_or-replicate (aggs * w) (slot_index w agg conv) (Free None) (Free None) (ltb-true (slot_index w agg conv) (aggs * w) x)
+    | inr y ↦ (let past : length (replicate (aggs * w) (Free None)) ≤ slot_index w agg conv =
+        omega (arith, ltb-false (slot_index w agg conv) (aggs * w) y, length-replicate (aggs * w) (Free None)) in
+        get_or_past (replicate (aggs * w) (Free None)) (slot_index w agg conv) (Free None) past)
   ]
-  | inr f ↦ cond-false (ltb 0 agg && ltb conv 256) _ _ f
+  | inr f ↦ cond-false (ltb 0 agg && ltb conv w) _ _ f
 ]
 
 sum_more : (g : ℕ → ℕ) (m n : ℕ) → sum_below g (m + n) ≡ sum_below g m + sum_below (λ k. g (m + k)) n
@@ -64,13 +94,13 @@ sum_rows g w (suc rows) =
 
 -- the count over aggregators and numbers is that over the places
 pub counted_places : (passes : Assignment → Bool) (t : Table)
-    → sum_below (λ k. bit (passes (slot_state t.states k))) (t.aggs * 256) ≡ count_conversations passes t
+    → sum_below (λ k. bit (passes (slot_state t.states k))) (t.aggs * t.conversations) ≡ count_conversations passes t
 counted_places passes t =
-    sym (sum_rows (λ k. bit (passes (slot_state t.states k))) 256 t.aggs)
-    ∙ same_sum _ _ t.aggs (λ a l. same_sum _ _ 256 (λ c m. ap (λ s. bit (passes s)) (at a c m)))
+    sym (sum_rows (λ k. bit (passes (slot_state t.states k))) t.conversations t.aggs)
+    ∙ same_sum _ _ t.aggs (λ a l. same_sum _ _ t.conversations (λ c m. ap (λ s. bit (passes s)) (at a c m)))
   where
-    at : (a c : ℕ) → c < 256 → slot_state t.states (a * 256 + c) ≡ assignment_of t (a + 1) c
+    at : (a c : ℕ) → c < t.conversations → slot_state t.states (a * t.conversations + c) ≡ assignment_of t (a + 1) c
     at a c m =
         let pos : 0 < a + 1 = omega arith in
-        let here : a * 256 + c ≡ slot_index (a + 1) c = omega arith in
-        ap (slot_state t.states) here ∙ sym (stated_in t.states (a + 1) c pos m)
+        let here : a * t.conversations + c ≡ slot_index t.conversations (a + 1) c = ap (λ n. n * t.conversations + c) (omega arith) in
+        ap (slot_state t.states) here ∙ sym (stated_in t.conversations t.states (a + 1) c pos m)

@@ -9,7 +9,8 @@ use Rattle.std.proofs.lemmas.Nat.{mod_below}
 use Rattle.distributor.specs.declared.assignment.Assignment.{Assignment}
 use Rattle.distributor.specs.declared.assignment.Assignment.TheVariants.{Free, On, Wanted, Flushing}
 use Rattle.distributor.specs.Changes.{after_tick}
-use Rattle.distributor.specs.Chains.{chain_of, assignment_port, is_in_chain, is_flushing_in_chain, changed_in_chain, slot_state, IsFlagged}
+use Rattle.distributor.specs.Chains.{chain_of, assignment_port, is_in_chain, is_flagged, is_flushing, changed_in_chain, slot_state}
+use Rattle.distributor.specs.Chains.{IsFlagged}
 use Rattle.distributor.proofs.WalkLemmas.{cond_same, stands_alike, tick_port}
 use Rattle.distributor.proofs.TableLemmas.{map_at}
 
@@ -20,6 +21,10 @@ ticked chain (On port) = On port
 ticked chain (Wanted port preferred) = Wanted port preferred
 ticked chain (Flushing port id preferred age) = cond (ltb (chain_of port) chain) (after_tick (Flushing port id preferred age))
     (Flushing port id preferred age)
+
+-- whether the conversation is in the chain and waits for a Marker Response
+abbrev pub is_flushing_in_chain : ℕ → Assignment → Bool
+is_flushing_in_chain chain s = is_in_chain chain s && is_flushing s
 
 -- the tick has passed for the chains below this one
 pub record Ticking (chain : ℕ) (olds states : List Assignment) : Type 0 where
@@ -104,18 +109,30 @@ tick_walked c olds states news h is = record {
       ∙ ap (changed_in_chain c after_tick) (h.each k) ∙ ticked_more c (slot_state olds k);
 }
 
-pub tick_passed : (c : ℕ) (olds states : List Assignment) (flags : List Bool) → Ticking c olds states → IsFlagged states flags
-    → get_or flags c false ≡ false → Ticking (c + 1) olds states
-tick_passed c olds states flags h f none = record {
+and_none : (b : Bool) → (b && false) ≡ false
+and_none true = refl
+and_none false = refl
+
+-- where the flag 'Flushing' is clear, nothing is Flushing
+none_flushing : (c : ℕ) (w f : Bool) → f ≡ false → (s : Assignment) → (is_in_chain c s ≡ true → is_flagged w f s ≡ true)
+    → is_flushing_in_chain c s ≡ false
+none_flushing c w f none (Free preferred) h = refl
+none_flushing c w f none (On port) h = and_none (eqb (chain_of port) c)
+none_flushing c w f none (Wanted port preferred) h = and_none (eqb (chain_of port) c)
+none_flushing c w f none (Flushing port id preferred age) h = elim (cases_Bool (eqb (chain_of port) c)) [
+  | inl e ↦ absurd (false≢true (sym none ∙ h e))
+  | inr g ↦ ap (λ b. b && true) g
+]
+
+pub tick_passed : (c : ℕ) (olds states : List Assignment) (wanted flushing : List Bool) → Ticking c olds states
+    → IsFlagged states wanted flushing → get_or flushing c false ≡ false → Ticking (c + 1) olds states
+tick_passed c olds states wanted flushing h f none = record {
   long = h.long;
   each = λ k. h.each k ∙ ticked_still c (slot_state olds k) (sym (ap (is_flushing_in_chain c) (h.each k)) ∙ still k);
 }
   where
     still : (k : ℕ) → is_flushing_in_chain c (slot_state states k) ≡ false
-    still k = elim (cases_Bool (is_flushing_in_chain c (slot_state states k))) [
-      | inl e ↦ absurd (false≢true (sym none ∙ f.flagged c k e))
-      | inr g ↦ g
-    ]
+    still k = none_flushing c (get_or wanted c false) (get_or flushing c false) none (slot_state states k) (f.flagged c k)
 
 pub tick_ends : (olds states : List Assignment) → Ticking 64 olds states → states ≡ map after_tick olds
 tick_ends olds states h = ext_get_or (Free None) states (map after_tick olds) (h.long ∙ sym (length-map olds after_tick))

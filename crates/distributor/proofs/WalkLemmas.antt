@@ -2,7 +2,7 @@
 use Rattle.std.proofs.Common.{ℕ, ◌+◌, ◌<◌, ◌≤◌, ◌≡◌, ◌++◌, ◌&&◌, zero, suc, Bool, true, false, cond, eqb, List, [], ◌∷◌, length, Option}
 use Rattle.std.proofs.Common.{None, Some, get_or, set, map, replicate, ◌^◌, refl, sym, ap, ◌∙◌, arith, subst, ⊎_elim, inl, inr, ◌⊎◌}
 use Rattle.std.specs.Prelude.{ltb}
-use Rattle.std.proofs.lemmas.Bool.{and_parts, cases_Bool, cases_eq, eqb-true, eq-eqb, ne_eqb, cond-true, cond-false, false≢true, lt-ltb}
+use Rattle.std.proofs.lemmas.Bool.{cases_Bool, cases_eq, eqb-true, eq-eqb, ne_eqb, cond-true, cond-false, false≢true, lt-ltb}
 use Rattle.std.proofs.lemmas.Bool.{ltb-false, ltb-true}
 use Rattle.std.proofs.lemmas.List.{length-map, get_or-set_same, get_or-set_other, get_or-map, get_or_past, append_assoc, ext_get_or}
 use Rattle.std.proofs.lemmas.List.{length-replicate, get_or-replicate}
@@ -14,7 +14,7 @@ use Rattle.distributor.specs.declared.slots.ConversationTest.{ConversationTest}
 use Rattle.distributor.specs.declared.slots.ConversationTest.TheVariants.{WantsMarker, AwaitsResponse, NamesPort}
 use Rattle.distributor.specs.Conversations.{sum_below}
 use Rattle.distributor.specs.Changes.{after_change, after_tick}
-use Rattle.distributor.specs.Chains.{assignment_port, chain_of, is_in_chain, is_flushing, is_flushing_in_chain, changed_in_chain, occurs}
+use Rattle.distributor.specs.Chains.{assignment_port, chain_of, is_in_chain, changed_in_chain, occurs}
 use Rattle.distributor.specs.Chains.{Path, slot_state, IsChained, passes, tested_port}
 use Rattle.distributor.proofs.ChainLemmas.{last_of, first_of, one, one_same, one_other, occurs_append, path_first, path_split}
 use Rattle.distributor.proofs.ChainLemmas.{stands_some, stands_none, member_stands, member_below, few_on, on_below, before_on, after_on}
@@ -73,7 +73,7 @@ unfolding sum_below
 small_sum f zero few = omega arith
 small_sum f (suc n) few = omega (arith, small_sum f n few, few n)
 
-none_sum : (n : ℕ) → sum_below (λ k. 0) n ≡ 0
+pub none_sum : (n : ℕ) → sum_below (λ k. 0) n ≡ 0
 unfolding sum_below
 none_sum zero = refl
 none_sum (suc n) = omega (arith, none_sum n)
@@ -101,10 +101,9 @@ path_drop : (next prev : List ℕ) (a : ℕ) (ys rest : List ℕ) (b : ℕ) → 
 path_drop next prev a [] rest b h = h
 path_drop next prev a (y ∷ ys) rest b h = path_drop next prev y ys rest b h.1
 
--- a walk along a chain that changes each state by f has come to the place `at`; found says whether it has left a
--- conversation Flushing
+-- a walk along a chain that changes each state by f has come to the place `at`; found says which states it may have left
 pub record Walking (chain : ℕ) (f : Assignment → Assignment) (count : ℕ) (olds states : List Assignment) (next prev : List ℕ) (at : ℕ)
-    (found : Bool) : Type 0 where
+    (found : Assignment → Bool) : Type 0 where
   pub chained : IsChained count states next prev
   pub lt : chain < 64
   pub olds_len : length olds ≡ count
@@ -114,10 +113,10 @@ pub record Walking (chain : ℕ) (f : Assignment → Assignment) (count : ℕ) (
   pub here : at ≡ first_of rest (count + chain)
   pub changed : (k : ℕ)
       → slot_state states k ≡ cond (ltb 0 (occurs k rest)) (slot_state olds k) (changed_in_chain chain f (slot_state olds k))
-  pub noted : (k : ℕ) → occurs k rest ≡ 0 → is_flushing_in_chain chain (slot_state states k) ≡ true → found ≡ true
+  pub noted : (k : ℕ) → occurs k rest ≡ 0 → is_in_chain chain (slot_state states k) ≡ true → found (slot_state states k) ≡ true
 
 abbrev pub walk_begins : (chain : ℕ) (f : Assignment → Assignment) (count : ℕ) (states : List Assignment) (next prev : List ℕ)
-    (h : IsChained count states next prev) → chain < 64 → (found : Bool)
+    (h : IsChained count states next prev) → chain < 64 → (found : Assignment → Bool)
     → Walking chain f count states states next prev (get_or next (count + chain) 0) found
 walk_begins chain f count states next prev h lt found = record {
   chained = h;
@@ -135,11 +134,12 @@ walk_begins chain f count states next prev h lt found = record {
         ∙ cond-false (is_in_chain chain (slot_state states k)) _ _ g))
   ];
   noted = λ k none e. (let stands : occurs k (h.chains chain) ≡ 1 = h.homes chain k
-      ∙ ap (λ b. cond b 1 0) (and_parts (is_in_chain chain (slot_state states k)) (is_flushing (slot_state states k)) e).0 in
+      ∙ ap (λ b. cond b 1 0) e in
       absurd (omega (arith, none, stands)));
 }
 
-module _ (chain : ℕ) (f : Assignment → Assignment) (count : ℕ) (olds states : List Assignment) (next prev : List ℕ) (at : ℕ) (found : Bool)
+module _ (chain : ℕ) (f : Assignment → Assignment) (count : ℕ) (olds states : List Assignment) (next prev : List ℕ) (at : ℕ)
+    (found : Assignment → Bool)
     (w : Walking chain f count olds states next prev at found) where
   few_rest : (k : ℕ) → occurs k w.rest ≤ 1
   few_rest k = omega (arith, few_on _ _ _ _ w.chained chain k, ap (occurs k) w.split, occurs_append k w.front w.rest)
@@ -168,12 +168,12 @@ module _ (chain : ℕ) (f : Assignment → Assignment) (count : ℕ) (olds state
       over [] m z = refl
       over (x ∷ xs) m z = absurd (omega (arith, z, one_same (count + chain), ap (one (count + chain)) (sym m ∙ e)))
 
-  -- at the end every state in the chain is changed, and it is found whether one is Flushing
+  -- at the end every state in the chain is changed, and is one that the walk has found
   pub walk_all : at ≡ count + chain → (k : ℕ) → slot_state states k ≡ changed_in_chain chain f (slot_state olds k)
   walk_all e k = w.changed k
       ∙ ap (λ l. cond (ltb 0 (occurs k l)) (slot_state olds k) (changed_in_chain chain f (slot_state olds k))) (walk_over e)
 
-  pub walk_found : at ≡ count + chain → (k : ℕ) → is_flushing_in_chain chain (slot_state states k) ≡ true → found ≡ true
+  pub walk_found : at ≡ count + chain → (k : ℕ) → is_in_chain chain (slot_state states k) ≡ true → found (slot_state states k) ≡ true
   walk_found e k = w.noted k (ap (occurs k) (walk_over e))
 
   pub walk_ends : at ≡ count + chain → states ≡ map (changed_in_chain chain f) olds
@@ -232,23 +232,22 @@ module _ (chain : ℕ) (f : Assignment → Assignment) (count : ℕ) (olds state
     less_rest : (k : ℕ) → (k ≡ at → ⊥) → occurs k w.rest ≡ occurs k (after_first w.rest)
     less_rest k m = omega (arith, ap (occurs k) on, one_other k at m)
 
-    pub walk_noted : (found' : Bool) → (found ≡ true → found' ≡ true) → (is_flushing (f (slot_state states at)) ≡ true → found' ≡ true)
+    pub walk_noted : (found' : Assignment → Bool) → ((s : Assignment) → found s ≡ true → found' s ≡ true)
+        → found' (f (slot_state states at)) ≡ true
         → (k : ℕ) → occurs k (after_first w.rest) ≡ 0
-        → is_flushing_in_chain chain (slot_state (set states at (f (slot_state states at))) k) ≡ true → found' ≡ true
+        → is_in_chain chain (slot_state (set states at (f (slot_state states at))) k) ≡ true
+        → found' (slot_state (set states at (f (slot_state states at))) k) ≡ true
     walk_noted found' more new k none e = ⊎_elim
         (λ (m : k ≡ at). (let same = get_or-set_same states at (f (slot_state states at)) (Free None)
         (omega (arith, walk_below, w.chained.states_len)) in
-        new (sym (ap is_flushing same) ∙ sym (ap (λ x. is_flushing (slot_state (set states at (f (slot_state states at))) x)) m)
-        ∙ (and_parts (is_in_chain chain (slot_state (set states at (f (slot_state states at))) k))
-        (is_flushing (slot_state (set states at (f (slot_state states at))) k)) e).1)))
-        (λ (m : k ≡ at → ⊥). more
-        (w.noted k (less_rest k m ∙ none)
-        (sym (ap (is_flushing_in_chain chain) (get_or-set_other states at k (f (slot_state states at)) (Free None) m)) ∙ e)))
+        ap (λ x. found' (slot_state (set states at (f (slot_state states at))) x)) m ∙ ap found' same ∙ new))
+        (λ (m : k ≡ at → ⊥). (let same = get_or-set_other states at k (f (slot_state states at)) (Free None) m in
+        ap found' same ∙ more (slot_state states k) (w.noted k (less_rest k m ∙ none) (sym (ap (is_in_chain chain) same) ∙ e))))
         (cases_eq k at)
 
     -- the state at this place stays in its chain
-    abbrev pub walk_stays : (found' : Bool) → (found ≡ true → found' ≡ true)
-        → (is_flushing (f (slot_state states at)) ≡ true → found' ≡ true)
+    abbrev pub walk_stays : (found' : Assignment → Bool) → ((s : Assignment) → found s ≡ true → found' s ≡ true)
+        → found' (f (slot_state states at)) ≡ true
         → assignment_port (f (slot_state states at)) ≡ assignment_port (slot_state states at)
         → Walking chain f count olds (set states at (f (slot_state states at))) next prev (get_or next at 0) found'
     walk_stays found' more new same = record {
@@ -265,8 +264,8 @@ module _ (chain : ℕ) (f : Assignment → Assignment) (count : ℕ) (olds state
     }
 
     -- the state at this place leaves its chain
-    abbrev pub walk_leaves : (found' : Bool) → (found ≡ true → found' ≡ true)
-        → (is_flushing (f (slot_state states at)) ≡ true → found' ≡ true) → assignment_port (f (slot_state states at)) ≡ None
+    abbrev pub walk_leaves : (found' : Assignment → Bool) → ((s : Assignment) → found s ≡ true → found' s ≡ true)
+        → found' (f (slot_state states at)) ≡ true → assignment_port (f (slot_state states at)) ≡ None
         → Walking chain f count olds (set states at (f (slot_state states at))) (set next (get_or prev at 0) (get_or next at 0))
         (set prev (get_or next at 0) (get_or prev at 0)) (get_or next at 0) found'
     walk_leaves found' more new free = record {
@@ -282,25 +281,26 @@ module _ (chain : ℕ) (f : Assignment → Assignment) (count : ℕ) (olds state
       noted = walk_noted found' more new;
     }
 
-module _ (chain : ℕ) (f : Assignment → Assignment) (count : ℕ) (olds states : List Assignment) (next prev : List ℕ) (at : ℕ) (found : Bool)
+module _ (chain : ℕ) (f : Assignment → Assignment) (count : ℕ) (olds states : List Assignment) (next prev : List ℕ) (at : ℕ)
+    (found : Assignment → Bool)
     (w : Walking chain f count olds states next prev at found) (n : at ≡ count + chain → ⊥)
     (new : Assignment) (is : new ≡ f (slot_state states at)) (place : ℕ) (goes : place ≡ get_or next at 0) where
-  pub step_stays : (found' : Bool) → (found ≡ true → found' ≡ true) → (is_flushing new ≡ true → found' ≡ true)
+  pub step_stays : (found' : Assignment → Bool) → ((s : Assignment) → found s ≡ true → found' s ≡ true) → found' new ≡ true
       → assignment_port new ≡ assignment_port (slot_state states at)
       → Walking chain f count olds (set states at new) next prev place found'
   step_stays found' more noted same =
       subst (λ x. Walking chain f count olds (set states at x) next prev place found') (sym is)
       (subst (λ a. Walking chain f count olds (set states at (f (slot_state states at))) next prev a found') (sym goes)
-      (walk_stays chain f count olds states next prev at found w n found' more (λ e. noted (ap is_flushing is ∙ e))
+      (walk_stays chain f count olds states next prev at found w n found' more (sym (ap found' is) ∙ noted)
       (sym (ap assignment_port is) ∙ same)))
 
   pub stays_smaller : assignment_port new ≡ assignment_port (slot_state states at)
       → steps next (count + chain) count place < steps next (count + chain) count at
   stays_smaller same =
-      let v = walk_stays chain f count olds states next prev at found w n true (λ e. refl) (λ e. refl)
+      let v = walk_stays chain f count olds states next prev at found w n (λ s. true) (λ s e. refl) refl
       (sym (ap assignment_port is) ∙ same) in
       let less : steps next (count + chain) count (get_or next at 0) ≡ length (after_first w.rest) = walk_steps chain f count olds
-      (set states at (f (slot_state states at))) next prev (get_or next at 0) true v in
+      (set states at (f (slot_state states at))) next prev (get_or next at 0) (λ s. true) v in
       omega (
         arith,
         ap (steps next (count + chain) count) goes,
@@ -311,7 +311,7 @@ module _ (chain : ℕ) (f : Assignment → Assignment) (count : ℕ) (olds state
 
   module _ (next' prev' : List ℕ) (nexts : next' ≡ set next (get_or prev at 0) (get_or next at 0))
       (prevs : prev' ≡ set prev (get_or next at 0) (get_or prev at 0)) where
-    pub step_leaves : (found' : Bool) → (found ≡ true → found' ≡ true) → (is_flushing new ≡ true → found' ≡ true)
+    pub step_leaves : (found' : Assignment → Bool) → ((s : Assignment) → found s ≡ true → found' s ≡ true) → found' new ≡ true
         → assignment_port new ≡ None
         → Walking chain f count olds (set states at new) next' prev' place found'
     step_leaves found' more noted free =
@@ -320,16 +320,16 @@ module _ (chain : ℕ) (f : Assignment → Assignment) (count : ℕ) (olds state
         (subst (λ l. Walking chain f count olds (set states at (f (slot_state states at))) l prev' (get_or next at 0) found') (sym nexts)
         (subst (λ l. Walking chain f count olds (set states at (f (slot_state states at))) (set next (get_or prev at 0) (get_or next at 0))
         l (get_or next at 0) found') (sym prevs)
-        (walk_leaves chain f count olds states next prev at found w n found' more (λ e. noted (ap is_flushing is ∙ e))
+        (walk_leaves chain f count olds states next prev at found w n found' more (sym (ap found' is) ∙ noted)
         (sym (ap assignment_port is) ∙ free)))))
 
     pub leaves_smaller : assignment_port new ≡ None → steps next' (count + chain) count place < steps next (count + chain) count at
     leaves_smaller free =
-        let v = walk_leaves chain f count olds states next prev at found w n true (λ e. refl) (λ e. refl)
+        let v = walk_leaves chain f count olds states next prev at found w n (λ s. true) (λ s e. refl) refl
         (sym (ap assignment_port is) ∙ free) in
         let N = set next (get_or prev at 0) (get_or next at 0) in
         let less : steps N (count + chain) count (get_or next at 0) ≡ length (after_first w.rest) = walk_steps chain f count olds
-        (set states at (f (slot_state states at))) N (set prev (get_or next at 0) (get_or prev at 0)) (get_or next at 0) true v in
+        (set states at (f (slot_state states at))) N (set prev (get_or next at 0) (get_or prev at 0)) (get_or next at 0) (λ s. true) v in
         omega (
           arith,
           ap (steps next' (count + chain) count) goes ∙ ap (λ l. steps l (count + chain) count (get_or next at 0)) nexts,
@@ -338,7 +338,8 @@ module _ (chain : ℕ) (f : Assignment → Assignment) (count : ℕ) (olds state
           walk_steps chain f count olds states next prev at found w,
         )
 
-module _ (chain : ℕ) (f : Assignment → Assignment) (count : ℕ) (olds states : List Assignment) (next prev : List ℕ) (at : ℕ) (found : Bool)
+module _ (chain : ℕ) (f : Assignment → Assignment) (count : ℕ) (olds states : List Assignment) (next prev : List ℕ) (at : ℕ)
+    (found : Assignment → Bool)
     (w : Walking chain f count olds states next prev at found) (n : at ≡ count + chain → ⊥) where
   pub walk_after : get_or next at 0 < count + 64
   walk_after = on_below _ _ _ _ w.chained chain _ w.lt (after_on _ _ _ _ w.chained chain at w.front (after_first w.rest) w.lt
@@ -416,7 +417,7 @@ seen p states rest k = bit (p (slot_state states k) && eqb (occurs k rest) 0)
 -- a walk along a chain has counted what it has seen
 pub record Counting (chain : ℕ) (p : Assignment → Bool) (count : ℕ) (states : List Assignment) (next prev : List ℕ)
     (at n : ℕ) : Type 0 where
-  pub walk : Walking chain (λ s. s) count states states next prev at true
+  pub walk : Walking chain (λ s. s) count states states next prev at (λ s. true)
   pub counted : n ≡ sum_below (seen p states walk.rest) count
 
 pub cond_same : {X : Type 0} (b : Bool) (x : X) → cond b x x ≡ x
@@ -453,7 +454,7 @@ pub counting_begins : (chain : ℕ) (p : Assignment → Bool) (count : ℕ) (sta
     → ((s : Assignment) → is_in_chain chain s ≡ false → p s ≡ false)
     → Counting chain p count states next prev (get_or next (count + chain) 0) 0
 counting_begins chain p count states next prev h lt stands = record {
-  walk = walk_begins chain (λ s. s) count states next prev h lt true;
+  walk = walk_begins chain (λ s. s) count states next prev h lt (λ s. true);
   counted = sym (same_sum (seen p states (h.chains chain)) (λ k. 0) count (λ k l. none k) ∙ none_sum count);
 }
   where
@@ -470,19 +471,19 @@ module _ (chain : ℕ) (p : Assignment → Bool) (count : ℕ) (states : List As
   pub counting_ends : at ≡ count + chain → m ≡ sum_below (λ k. bit (p (slot_state states k))) count
   counting_ends e = h.counted ∙ same_sum (seen p states h.walk.rest) (λ k. bit (p (slot_state states k))) count (λ k l.
       ap bit (and_true (p (slot_state states k)) (eqb (occurs k h.walk.rest) 0)
-      (ap (λ xs. eqb (occurs k xs) 0) (walk_over chain (λ s. s) count states states next prev at true h.walk e))))
+      (ap (λ xs. eqb (occurs k xs) 0) (walk_over chain (λ s. s) count states states next prev at (λ s. true) h.walk e))))
 
   module _ (n : at ≡ count + chain → ⊥) where
-    abbrev on_walk : Walking chain (λ s. s) count states states next prev (get_or next at 0) true
+    abbrev on_walk : Walking chain (λ s. s) count states states next prev (get_or next at 0) (λ s. true)
     on_walk = record {
       chained = h.walk.chained;
       lt = h.walk.lt;
       olds_len = h.walk.olds_len;
       front = h.walk.front ++ at ∷ [];
       rest = after_first h.walk.rest;
-      split = walk_split chain (λ s. s) count states states next prev at true h.walk n
+      split = walk_split chain (λ s. s) count states states next prev at (λ s. true) h.walk n
           ∙ sym (append_assoc h.walk.front (at ∷ []) (after_first h.walk.rest));
-      here = walk_next chain (λ s. s) count states states next prev at true h.walk n;
+      here = walk_next chain (λ s. s) count states states next prev at (λ s. true) h.walk n;
       changed = λ k. sym (ap (cond (ltb 0 (occurs k (after_first h.walk.rest))) (slot_state states k))
           (cond_same (is_in_chain chain (slot_state states k)) (slot_state states k))
           ∙ cond_same (ltb 0 (occurs k (after_first h.walk.rest))) (slot_state states k));
@@ -492,7 +493,7 @@ module _ (chain : ℕ) (p : Assignment → Bool) (count : ℕ) (states : List As
     more : sum_below (seen p states (after_first h.walk.rest)) count ≡ bit (p (slot_state states at)) + sum_below
         (seen p states h.walk.rest) count
     more = greater_sum (seen p states (after_first h.walk.rest)) (seen p states h.walk.rest) count at (bit (p (slot_state states at)))
-        (walk_below chain (λ s. s) count states states next prev at true h.walk n) here others
+        (walk_below chain (λ s. s) count states states next prev at (λ s. true) h.walk n) here others
       where
         on : h.walk.rest ≡ at ∷ after_first h.walk.rest
         on = split_first h.walk.rest at (count + chain) h.walk.here n
@@ -500,7 +501,8 @@ module _ (chain : ℕ) (p : Assignment → Bool) (count : ℕ) (states : List As
         here : seen p states (after_first h.walk.rest) at ≡ bit (p (slot_state states at)) + seen p states h.walk.rest at
         here =
             let left = ap bit (and_true (p (slot_state states at)) (eqb (occurs at (after_first h.walk.rest)) 0)
-            (eq-eqb (occurs at (after_first h.walk.rest)) 0 (walk_once chain (λ s. s) count states states next prev at true h.walk n)))
+            (eq-eqb (occurs at (after_first h.walk.rest)) 0
+            (walk_once chain (λ s. s) count states states next prev at (λ s. true) h.walk n)))
             in
             let right = ap bit (and_right (p (slot_state states at)) (eqb (occurs at h.walk.rest) 0)
             (ne_eqb (occurs at h.walk.rest) 0 (λ z. omega (arith, z, ap (occurs at) on, one_same at)))) in
@@ -524,14 +526,14 @@ module _ (chain : ℕ) (p : Assignment → Bool) (count : ℕ) (states : List As
         → steps next (count + chain) count place < steps next (count + chain) count at
     counting_smaller place goes =
         let less : steps next (count + chain) count (get_or next at 0) ≡ length (after_first h.walk.rest) =
-        walk_steps chain (λ s. s) count states states next prev (get_or next at 0) true on_walk in
+        walk_steps chain (λ s. s) count states states next prev (get_or next at 0) (λ s. true) on_walk in
         omega (
           arith,
           ap (steps next (count + chain) count) goes,
           less,
-          walk_shorter chain (λ s. s) count states states next prev at true
+          walk_shorter chain (λ s. s) count states states next prev at (λ s. true)
               h.walk n,
-          walk_steps chain (λ s. s) count states states next prev at true h.walk,
+          walk_steps chain (λ s. s) count states states next prev at (λ s. true) h.walk,
         )
 
 other_port : (p port : ℕ) → eqb (chain_of p) (chain_of port) ≡ false → eqb p port ≡ false

@@ -1,5 +1,5 @@
 -- How the slots of conversations are chained: each that is not free is in the chain of its port number modulo 64.
-use Rattle.std.specs.Prelude.{ℕ, ◌+◌, ◌%◌, ◌<◌, ◌^◌, ◌≡◌, ◌&&◌, Bool, true, false, cond, eqb, List, [], ◌∷◌, length, get_or, Option}
+use Rattle.std.specs.Prelude.{ℕ, ◌+◌, ◌%◌, ◌<◌, ◌^◌, ◌≡◌, Bool, true, false, cond, eqb, List, [], ◌∷◌, length, get_or, Option}
 use Rattle.std.specs.Prelude.{None, Some}
 use Rattle.distributor.specs.declared.assignment.Assignment.{Assignment}
 use Rattle.distributor.specs.declared.assignment.Assignment.TheVariants.{Free, On, Wanted, Flushing}
@@ -32,9 +32,19 @@ is_flushing (On port) = false
 is_flushing (Wanted port preferred) = false
 is_flushing (Flushing port id preferred age) = true
 
--- whether the conversation is in the chain and waits for a Marker Response
-abbrev pub is_flushing_in_chain : ℕ → Assignment → Bool
-is_flushing_in_chain chain s = is_in_chain chain s && is_flushing s
+-- whether the conversation waits for a marker to be sent on its port
+abbrev pub is_wanted : Assignment → Bool
+is_wanted (Free preferred) = false
+is_wanted (On port) = false
+is_wanted (Wanted port preferred) = true
+is_wanted (Flushing port id preferred age) = false
+
+-- whether a conversation in this state may be in a chain with these two flags, 'one may be Wanted' and 'one may be Flushing'
+abbrev pub is_flagged : Bool → Bool → Assignment → Bool
+is_flagged wanted flushing (Free preferred) = true
+is_flagged wanted flushing (On port) = true
+is_flagged wanted flushing (Wanted port preferred) = wanted
+is_flagged wanted flushing (Flushing port id preferred age) = flushing
 
 -- whether the conversation is On, Wanted or Flushing on the port
 abbrev pub names_port : ℕ → Assignment → Bool
@@ -88,7 +98,9 @@ pub record IsChained (count : ℕ) (states : List Assignment) (next prev : List 
   pub joined : (c : ℕ) → c < 64 → Path next prev (count + c) (chains c) (count + c)
   pub homes : (c k : ℕ) → occurs k (chains c) ≡ cond (is_in_chain c (slot_state states k)) 1 0
 
--- The flag of a chain is set if a conversation in it is Flushing.
-pub record IsFlagged (states : List Assignment) (flags : List Bool) : Type 0 where
-  pub flags_len : length flags ≡ 64
-  pub flagged : (c k : ℕ) → is_flushing_in_chain c (slot_state states k) ≡ true → get_or flags c false ≡ true
+-- The flags of a chain allow each conversation in it: one flag is set if one is Wanted, the other if one is Flushing.
+pub record IsFlagged (states : List Assignment) (wanted flushing : List Bool) : Type 0 where
+  pub wanted_len : length wanted ≡ 64
+  pub flushing_len : length flushing ≡ 64
+  pub flagged : (c k : ℕ) → is_in_chain c (slot_state states k) ≡ true
+      → is_flagged (get_or wanted c false) (get_or flushing c false) (slot_state states k) ≡ true

@@ -1,4 +1,4 @@
--- The invariant of the slots of the conversations, 256 for each aggregator.
+-- The invariant of the slots of the conversations.
 use Rattle.std.specs.Prelude.{ℕ, ◌*◌, ◌≡◌}
 use Rattle.distributor.specs.declared.slots.Slots.{Slots}
 use Rattle.distributor.specs.Chains.{IsFlagged, IsChained}
@@ -7,12 +7,12 @@ use Rattle.distributor.specs.Chains.{IsFlagged, IsChained}
 abbrev pub AreChained : Slots → Type 0
 AreChained s = IsChained s.count s.states.items s.next.items s.prev.items
 
--- the flag of each chain with a Flushing conversation is set
+-- the flags of each chain with a Wanted or a Flushing conversation are set
 abbrev pub AreFlagged : Slots → Type 0
-AreFlagged s = IsFlagged s.states.items s.flushing.items
+AreFlagged s = IsFlagged s.states.items s.wanted.items s.flushing.items
 
--- the slots of a table with this many aggregators
-pub record SlotsFit (aggs : ℕ) (s : Slots) : Type 0 where
-  pub count : s.count ≡ aggs * 256
+-- the slots of a table with this many aggregators, and this many conversations in each
+pub record SlotsFit (aggs conversations : ℕ) (s : Slots) : Type 0 where
+  pub count : s.count ≡ aggs * conversations
   pub chained : AreChained s
   pub flagged : AreFlagged s

@@ -1,6 +1,6 @@
 ghost use Rattle.std.specs.Prelude.{◌≡◌};
 ghost use Rattle.distributor.specs.Conversations.{preference_of};
-ghost use Rattle.distributor.specs.Chains.{assignment_port, names_port, is_flushing};
+ghost use Rattle.distributor.specs.Chains.{assignment_port, names_port, is_flushing, is_wanted};
 ghost use Rattle.distributor.specs.Changes.{wants_marker, awaits_response};
 
 /// The state of a conversation (profile). Ports are port numbers. `preferred` is the port that the next frame goes on
@@ -64,6 +64,13 @@ impl Assignment {
             | Assignment::Wanted { port: p, .. }
             | Assignment::Flushing { port: p, .. } => p == port,
         }
+    }
+
+    /// Whether the conversation waits for a marker to be sent on its port.
+    pub(crate) fn is_wanted(&self) -> bool
+        ensures { result ≡ is_wanted self.now }
+    {
+        matches!(*self, Assignment::Wanted { .. })
     }
 
     /// Whether the conversation waits for the response to a marker.

@@ -1,7 +1,8 @@
-ghost use Rattle.std.specs.Prelude.{false, ◌≡◌, ◌+◌, ◌%◌, ◌<◌, ◌≤◌, ◌^◌, length, get_or, set, map, cond, ℕ, None, IfOk, replicate};
-ghost use Rattle.distributor.specs.Chains.{assignment_port, chain_of, slot_state, is_flushing};
+ghost use Rattle.std.specs.Prelude.{true, false, ◌≡◌, ◌+◌, ◌%◌, ◌<◌, ◌≤◌, ◌^◌, length, get_or, set, map, cond, ℕ, None, IfOk, replicate};
+ghost use Rattle.distributor.specs.Chains.{assignment_port, chain_of, is_in_chain, slot_state, is_flushing, is_wanted};
 ghost use Rattle.distributor.specs.Slots.{AreChained, AreFlagged};
 ghost use Rattle.distributor.specs.Changes.{after_change, after_tick};
+ghost use Rattle.std.specs.Bool.{OnFalse};
 ghost use Rattle.distributor.specs.Chains.{changed_in_chain, passes, tested_port};
 ghost use Rattle.distributor.specs.Conversations.{sum_below};
 ghost use Rattle.distributor.specs.declared.assignment.Assignment.{Assignment};
@@ -15,14 +16,16 @@ const CHAINS: u32 = 64;
 
 /// The states of all conversations, one slot each. The slots that are not free are chained by the port number of their
 /// state modulo 64, so that an event of a port need not look at every slot. A chain is a ring, doubly linked by slot
-/// numbers, that begins and ends at an entry of its own after the slots. The flag of a chain is set if one of its
-/// conversations is Flushing.
+/// numbers, that begins and ends at an entry of its own after the slots. A chain has two flags: `wanted` is set if one
+/// of its conversations is Wanted, and `flushing` if one is Flushing. Where a flag is clear, no call walks the chain in
+/// search of such a conversation.
 #[derive(Drop)]
 pub(crate) struct Slots {
     count: u32,
     states: Vec<Assignment>,
     next: Vec<u32>,
     prev: Vec<u32>,
+    wanted: Vec<bool>,
     flushing: Vec<bool>,
 }
 
@@ -74,6 +77,7 @@ impl Slots {
         let states = vec![in alloc; Assignment::Free { preferred: None }; count as usize]?;
         let mut next = vec![in alloc; 0; places as usize]?;
         let mut prev = vec![in alloc; 0; places as usize]?;
+        let wanted = vec![in alloc; false; CHAINS as usize]?;
         let flushing = vec![in alloc; false; CHAINS as usize]?;
         close(&mut next, places);
         close(&mut prev, places);
@@ -82,6 +86,7 @@ impl Slots {
             states,
             next,
             prev,
+            wanted,
             flushing,
         })
     }
@@ -105,8 +110,33 @@ impl Slots {
         ensures states { self.new.states.items ≡ set self.old.states.items slot state }
         ensures count { self.new.count ≡ self.old.count }
     {
+        flag_wanted(&mut self.wanted, state);
         self.vacate(slot);
         self.fill(slot, state);
+    }
+
+    /// Whether the flags allow a conversation that the test counts.
+    fn may_pass(&self, test: ConversationTest) -> bool
+        requires flagged { AreFlagged self.now }
+        ensures { OnFalse result ((k : ℕ) → passes test (slot_state self.now.states.items k) ≡ false) }
+    {
+        match test {
+            ConversationTest::WantsMarker(port) => self.wanted[chain(port) as usize],
+            ConversationTest::AwaitsResponse(port, _) => self.flushing[chain(port) as usize],
+            ConversationTest::NamesPort(_) => true,
+        }
+    }
+
+    /// Whether the flags allow a conversation in this chain that the change changes.
+    fn may_change(&self, chain: u32, change: Change) -> bool
+        requires flagged { AreFlagged self.now }
+        requires below { chain < 64 }
+        ensures { OnFalse result (self.now.states.items ≡ map (changed_in_chain chain (after_change change)) self.now.states.items) }
+    {
+        match change {
+            Change::Release(..) => self.flushing[chain as usize],
+            Change::Leave(_) | Change::Mark(..) | Change::Down(_) | Change::Tick => true,
+        }
     }
 
     /// Applies a change to each slot in the chain of this port.
@@ -118,10 +148,13 @@ impl Slots {
         ensures states { self.new.states.items ≡ map (changed_in_chain (chain_of port) (after_change change)) self.old.states.items }
         ensures count { self.new.count ≡ self.old.count }
     {
-        self.change_chain(chain(port), change);
+        let chain = chain(port);
+        if self.may_change(chain, change) {
+            self.change_chain(chain, change);
+        }
     }
 
-    /// Applies a change to each slot in this chain, and works out the flag of the chain again.
+    /// Applies a change to each slot in this chain, and works out the flags of the chain again.
     fn change_chain(&mut self, chain: u32, change: Change)
         requires chained { AreChained self.old }
         requires flagged { AreFlagged self.old }
@@ -133,11 +166,13 @@ impl Slots {
     {
         let end = self.count + chain;
         let mut at = self.next[end as usize];
+        let mut wanted = false;
         let mut flushing = false;
         while at != end {
             let slot = at;
             at = self.next[slot as usize];
             let state = change.apply(self.states[slot as usize]);
+            wanted |= state.is_wanted();
             flushing |= state.is_flushing();
             match state.port() {
                 None => {
@@ -147,11 +182,25 @@ impl Slots {
                 Some(_) => self.states[slot as usize] = state,
             }
         }
+        self.wanted[chain as usize] = wanted;
         self.flushing[chain as usize] = flushing;
     }
 
     /// How many conversations the test counts.
     pub(crate) fn count(&self, test: ConversationTest) -> u32
+        requires chained { AreChained self.now }
+        requires flagged { AreFlagged self.now }
+        ensures { result ≡ sum_below (λ k. cond (passes test (slot_state self.now.states.items k)) 1 0) self.now.count }
+    {
+        if self.may_pass(test) {
+            self.count_chain(test)
+        } else {
+            0
+        }
+    }
+
+    /// The same, by a walk along the chain of the test.
+    fn count_chain(&self, test: ConversationTest) -> u32
         requires chained { AreChained self.now }
         ensures { result ≡ sum_below (λ k. cond (passes test (slot_state self.now.states.items k)) 1 0) self.now.count }
     {
@@ -166,7 +215,7 @@ impl Slots {
         count
     }
 
-    /// One tick for each conversation. Only chains whose flag is set are read.
+    /// One tick for each conversation. Only chains whose flag `flushing` is set are read.
     pub(crate) fn tick(&mut self)
         requires chained { AreChained self.old }
         requires flagged { AreFlagged self.old }
@@ -204,6 +253,7 @@ impl Slots {
         ensures chained { AreChained self.new }
         ensures states { self.new.states.items ≡ set self.old.states.items slot (Assignment.Free None) }
         ensures count { self.new.count ≡ self.old.count }
+        ensures wanted { self.new.wanted ≡ self.old.wanted }
         ensures flushing { self.new.flushing ≡ self.old.flushing }
     {
         let free = Assignment::Free { preferred: None };
@@ -225,6 +275,7 @@ impl Slots {
         ensures chained { AreChained self.new }
         ensures states { self.new.states.items ≡ set self.old.states.items slot state }
         ensures count { self.new.count ≡ self.old.count }
+        ensures wanted { self.new.wanted ≡ self.old.wanted }
         ensures flushing { self.new.flushing ≡ self.old.flushing }
     {
         match state.port() {
@@ -257,6 +308,18 @@ fn free_each(states: &mut Vec<Assignment>, count: u32)
 {
     for slot in 0..count {
         states[slot as usize] = Assignment::Free { preferred: None };
+    }
+}
+
+/// Sets the flag of the chain of a state that is Wanted.
+fn flag_wanted(wanted: &mut Vec<bool>, state: Assignment)
+    requires { length wanted.old.items ≡ 64 }
+    ensures len { length wanted.new.items ≡ 64 }
+    ensures kept { (c : ℕ) → get_or wanted.old.items c false ≡ true → get_or wanted.new.items c false ≡ true }
+    ensures set { (c : ℕ) → is_in_chain c state ≡ true → is_wanted state ≡ true → get_or wanted.new.items c false ≡ true }
+{
+    if let Assignment::Wanted { port, .. } = state {
+        wanted[chain(port) as usize] = true;
     }
 }
 

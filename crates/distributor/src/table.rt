@@ -12,13 +12,12 @@ use lagtypes::NoMemory;
 use std::alloc::Global;
 use std::marker::Model;
 
-/// How many conversations an aggregator has (profile).
-const CONVERSATIONS: u32 = 256;
-
 /// The conversations of every aggregator and the identifier of the next marker.
 #[derive(Drop)]
 pub(crate) struct ConversationTable {
     aggs: u16,
+    /// How many conversations each aggregator has.
+    conversations: u16,
     /// The identifier of the first marker.
     first: u32,
     next: u64,
@@ -31,27 +30,33 @@ impl Model for ConversationTable {
 
     ghost Value = { Table };
 
-    ghost view = { λ t. record { aggs = t.aggs; first = t.first; next = t.next; states = t.slots.states.items } };
+    ghost view = { λ t. record { aggs = t.aggs; conversations = t.conversations; first = t.first; next = t.next; states = t.slots.states.items } };
 
-    ghost invariant = { λ t. SlotsFit t.aggs t.slots };
+    ghost invariant = { λ t. SlotsFit t.aggs t.conversations t.slots };
 }
 
 impl ConversationTable {
     /// Makes the table at the start: every conversation free, and `first` the identifier of the first marker.
-    pub(crate) fn new(alloc: Global, aggs: u16, first: u32) -> Result<ConversationTable, NoMemory>
-        ensures { IfOk result (λ t. t ≡ first_table aggs first) }
+    pub(crate) fn new(
+        alloc: Global,
+        aggs: u16,
+        conversations: u16,
+        first: u32,
+    ) -> Result<ConversationTable, NoMemory>
+        ensures { IfOk result (λ t. t ≡ first_table aggs conversations first) }
     {
         Ok(ConversationTable {
             aggs,
+            conversations,
             first,
             next: u64::from(first),
-            slots: Slots::new(alloc, u32::from(aggs) * CONVERSATIONS)?,
+            slots: Slots::new(alloc, u32::from(aggs) * u32::from(conversations))?,
         })
     }
 
     /// Makes every conversation free, and the next marker the first one again.
     pub(crate) fn clear(&mut self)
-        ensures { self.new ≡ first_table self.old.aggs self.old.first }
+        ensures { self.new ≡ first_table self.old.aggs self.old.conversations self.old.first }
     {
         self.slots.clear();
         self.next = u64::from(self.first);
@@ -61,15 +66,22 @@ impl ConversationTable {
     pub(crate) fn contains(&self, agg: u16, conv: u16) -> bool
         ensures { IsTrue result ↔ IsConversation self.now agg conv }
     {
-        agg > 0 && agg <= self.aggs && u32::from(conv) < CONVERSATIONS
+        agg > 0 && agg <= self.aggs && conv < self.conversations
+    }
+
+    /// How many conversations each aggregator has.
+    pub(crate) fn conversations(&self) -> u16
+        ensures { result ≡ self.now.conversations }
+    {
+        self.conversations
     }
 
     /// The state of a conversation; Free without a preferred port if there is no such conversation.
     pub(crate) fn state(&self, agg: u16, conv: u16) -> Assignment
         ensures { result ≡ assignment_of self.now agg conv }
     {
-        if agg > 0 && agg <= self.aggs && u32::from(conv) < CONVERSATIONS {
-            return self.slots.state(slot_index(agg, conv));
+        if agg > 0 && agg <= self.aggs && conv < self.conversations {
+            return self.slots.state(slot_index(self.conversations, agg, conv));
         }
         Assignment::Free { preferred: None }
     }
@@ -80,7 +92,8 @@ impl ConversationTable {
         requires still { is_flushing state ≡ false }
         ensures { SetsAssignment self.old self.new agg conv state }
     {
-        self.slots.set(slot_index(agg, conv), state);
+        self.slots
+            .set(slot_index(self.conversations, agg, conv), state);
     }
 
     /// Whether some conversation is Wanted on the port, that is, waits for a marker to be sent there.
@@ -142,9 +155,9 @@ impl ConversationTable {
 }
 
 /// The slot number of a conversation.
-fn slot_index(agg: u16, conv: u16) -> u32
+fn slot_index(conversations: u16, agg: u16, conv: u16) -> u32
     requires agg { 0 < agg }
-    ensures { result ≡ slot_index agg conv }
+    ensures { result ≡ slot_index conversations agg conv }
 {
-    (u32::from(agg) - 1) * CONVERSATIONS + u32::from(conv)
+    (u32::from(agg) - 1) * u32::from(conversations) + u32::from(conv)
 }

@@ -296,6 +296,129 @@ fn a_link_that_goes_down_frees_what_is_on_it(rt: HostRuntime) -> Result<(), Fail
     Ok(())
 }
 
+/// The last of 64 aggregators with 4096 conversations each.
+#[test]
+fn aggregators_with_4096_conversations_keep_them_apart(rt: HostRuntime) -> Result<(), Fail> {
+    let mut d = Distributor::with_conversations(rt.alloc(), 64, 4096, 7, by_number)?;
+    let free = Assignment::Free { preferred: None };
+    let last = AggId(64);
+    assert_eq!(rt; d.assign(AGG, 4095, &[1, 2]), Ok(2));
+    assert_eq!(rt; d.assign(AGG, 304, &[1, 2]), Ok(1));
+    assert_eq!(rt; d.assign(last, 4095, &[3]), Ok(3));
+    // neither the numbers modulo 256 nor the next aggregator
+    assert_eq!(rt;
+        (d.state(AGG, 48), d.state(AGG, 255), d.state(AggId(2), 0)),
+        (free, free, free)
+    );
+    assert_eq!(rt; (d.load(1), d.load(2), d.load(3)), (1, 1, 1));
+    // a move behind a marker, in the last slot
+    assert_eq!(rt; d.move_to(last, 4095, 4, &[3, 4]), Ok(()));
+    assert_eq!(rt; (d.marker_for(3), d.response(3, 7)), (Some(7), 1));
+    assert_eq!(rt; d.assign(last, 4095, &[3, 4]), Ok(4));
+    assert_eq!(rt; d.state(AGG, 4095), Assignment::On(2));
+    d.clear();
+    assert_eq!(rt; (d.load(2), d.state(last, 4095)), (0, free));
+    assert_eq!(rt; (d.conversations(), d.next_marker()), (4096, Some(7)));
+    Ok(())
+}
+
+/// There is no conversation with this number.
+fn is_beyond<F: Fn(u16, usize) -> usize + Drop>(rt: &impl Abort, d: &mut Distributor<F>, conv: u16)
+    requires usable { PicksIndexes (F.pre d.old.algorithm) (F.post d.old.algorithm) }
+    ensures algorithm { d.new.algorithm ≡ d.old.algorithm }
+{
+    let none = DistFault::NotAssigned;
+    assert!(rt; !d.is_conversation(AGG, conv), "{conv}");
+    assert_eq!(rt; d.assign(AGG, conv, &[1]), Err(none), "{conv}");
+    assert_eq!(rt; d.move_to(AGG, conv, 1, &[1]), Err(none), "{conv}");
+    assert_eq!(rt; d.force(AGG, conv), Err(none), "{conv}");
+    let free = Assignment::Free { preferred: None };
+    assert_eq!(rt; d.state(AGG, conv), free, "{conv}");
+}
+
+/// A conversation at or above the count does not exist.
+#[test]
+fn conversations_end_at_256(rt: HostRuntime) -> Result<(), Fail> {
+    let mut d = Distributor::with_conversations(rt.alloc(), 2, 256, 1, by_number)?;
+    for conv in [256, 257, 511, 65535] {
+        is_beyond(&rt, &mut d, conv);
+    }
+    assert_eq!(rt; d.assign(AggId(2), 255, &[1]), Ok(1));
+    assert_eq!(rt; d.assign(AggId(3), 0, &[1]), Err(DistFault::NotAssigned));
+    assert_eq!(rt; (d.conversations(), d.load(1)), (256, 1));
+    Ok(())
+}
+
+#[test]
+fn conversations_end_at_4096(rt: HostRuntime) -> Result<(), Fail> {
+    let mut d = Distributor::with_conversations(rt.alloc(), 2, 4096, 1, by_number)?;
+    for conv in [4096, 4097, 8191, 65535] {
+        is_beyond(&rt, &mut d, conv);
+    }
+    assert_eq!(rt; d.assign(AggId(2), 4095, &[1]), Ok(1));
+    assert_eq!(rt; d.assign(AggId(3), 0, &[1]), Err(DistFault::NotAssigned));
+    assert_eq!(rt; (d.conversations(), d.load(1)), (4096, 1));
+    Ok(())
+}
+
+#[test]
+fn new_makes_256_conversations(rt: HostRuntime) -> Result<(), Fail> {
+    let mut d = Distributor::new(rt.alloc(), 1, 1, by_number)?;
+    assert_eq!(rt; d.conversations(), 256);
+    assert_eq!(rt; d.assign(AGG, 255, &[1, 2]), Ok(2));
+    assert_eq!(rt; d.assign(AGG, 256, &[1, 2]), Err(DistFault::NotAssigned));
+    Ok(())
+}
+
+/// The port of ports 3, 5 and 67 at the index that is the conversation's number modulo 3.
+fn port_of(conv: u16) -> u16 {
+    match conv % 3 {
+        0 => 3,
+        1 => 5,
+        _ => 67,
+    }
+}
+
+/// How many conversations of the aggregator are On the port.
+fn count_on<F: Fn(u16, usize) -> usize + Drop>(d: &Distributor<F>, agg: AggId, port: u16) -> u16 {
+    let mut count = 0u16;
+    for conv in 0..4096u16 {
+        if d.state(agg, conv) == Assignment::On(port) {
+            count = count.saturating_add(1);
+        }
+    }
+    count
+}
+
+/// The conversations of aggregator 2 are on these ports, this many on each, and those of the others on none.
+fn tells_ports<F: Fn(u16, usize) -> usize + Drop>(rt: &impl Abort, d: &Distributor<F>) {
+    for (port, on) in [(3, 1366), (5, 1365), (67, 1365)] {
+        assert_eq!(rt; count_on(d, AggId(2), port), on, "on port {port}");
+        assert_eq!(rt; d.load(port), u32::from(on), "load of port {port}");
+        assert_eq!(rt; count_on(d, AGG, port), 0, "aggregator 1, port {port}");
+        assert_eq!(rt; count_on(d, AggId(3), port), 0, "aggregator 3, port {port}");
+    }
+}
+
+/// Ports 3 and 67 share a chain.
+#[test]
+fn all_4096_conversations_are_on_their_ports(rt: HostRuntime) -> Result<(), Fail> {
+    let mut d = Distributor::with_conversations(rt.alloc(), 3, 4096, 1, by_number)?;
+    for conv in 0..4096u16 {
+        let came = d.assign(AggId(2), conv, &[3, 5, 67]);
+        assert_eq!(rt; came, Ok(port_of(conv)), "conversation {conv}");
+    }
+    tells_ports(&rt, &d);
+    d.leave(67);
+    assert_eq!(rt; (count_on(&d, AggId(2), 67), d.load(67)), (0, 1365));
+    assert_eq!(rt; (d.marker_for(67), d.marker_for(3)), (Some(1), None));
+    assert_eq!(rt; d.response(67, 1), 1365);
+    d.down(3);
+    assert_eq!(rt; (d.load(3), d.load(5), d.load(67)), (0, 1365, 0));
+    assert_eq!(rt; count_on(&d, AggId(2), 5), 1365);
+    Ok(())
+}
+
 #[test]
 fn ports_are_picked_by_their_place(rt: HostRuntime) -> Result<(), Fail> {
     let mut d = Distributor::new(rt.alloc(), 2, 1, by_number)?;

@@ -65,7 +65,9 @@ fn config(alloc: Global, number: u8) -> Result<Config, SystemFault>
         },
         max_delay: 0,
         first_marker: 1,
+        conversations: 256,
         aggregators,
+        max_links: None,
         ports,
     })
 }

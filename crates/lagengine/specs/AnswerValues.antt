@@ -1,5 +1,5 @@
 -- The answer to a line (profile).
-use Rattle.std.specs.Prelude.{ℕ, List, map, Option}
+use Rattle.std.specs.Prelude.{ℕ, List, map, Option, Result}
 use Rattle.distributor.specs.declared.assignment.Assignment.{Assignment}
 use Rattle.lagsystem.specs.declared.drive.Reply.{Reply}
 use Rattle.lagsystem.specs.declared.fault.SystemFault.{SystemFault}
@@ -15,6 +15,7 @@ pub data AnswerValue : Type 0 where
   Kept : AnswerValue  -- the call was stored for `drive`
   Replied : Reply → AnswerValue
   Drove : List Reply → AnswerValue
+  ForcedPort : Result ℕ SystemFault → AnswerValue
   Refused : SystemFault → AnswerValue
   Port : PortAnswer → AnswerValue
   Ports : List ℕ → AnswerValue
@@ -32,6 +33,7 @@ answer_value answer.Done = Done
 answer_value answer.Kept = Kept
 answer_value (answer.Reply reply) = Replied reply
 answer_value (answer.Replies replies) = Drove replies.items
+answer_value (answer.ForcedPort answer) = ForcedPort answer
 answer_value (answer.Refused fault) = Refused fault
 answer_value (answer.Port answer) = Port answer
 answer_value (answer.Ports ports) = Ports ports.items

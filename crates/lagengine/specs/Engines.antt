@@ -3,16 +3,19 @@ use Rattle.std.specs.Prelude.{◌≡◌, ⊤, ◌⊎◌, Vec, ℕ, List, [], ◌
 use Rattle.distributor.specs.Conversations.{next_identifier}
 use Rattle.lagsystem.specs.Calls.{Call}
 use Rattle.lagsystem.specs.Drives.{Drives, call_of}
+use Rattle.lagsystem.specs.Forcing.{ForcesPort}
 use Rattle.lagsystem.specs.First.{IsFirst, fault_or_no_memory, refusal}
 use Rattle.lagsystem.specs.Hosts.{conversation_at}
 use Rattle.lagsystem.specs.Readers.{conversation_in}
 use Rattle.lagsystem.specs.Sound.{CallPromise}
 use Rattle.lagsystem.specs.State.{SystemState, SystemValue, port_numbers}
 use Rattle.lagsystem.specs.declared.drive.Call.{Call as Handed}
+use Rattle.lagsystem.specs.declared.fault.BadConfig.{BadConfig}
+use Rattle.lagsystem.specs.declared.fault.SystemFault.{SystemFault}
 use Rattle.lagsystem.specs.declared.drive.Reply.{Reply}
 use Rattle.lagengine.specs.Lines.{request_in}
 use Rattle.lagengine.specs.Looks.{all_aggregators, all_ports, port_answer, agg_answer}
-use Rattle.lagengine.specs.Requests.{TaskValue, RequestValue, ConfigValue, Start, Work, Make, Keep, Drive, Conversation, Ask}
+use Rattle.lagengine.specs.Requests.{TaskValue, RequestValue, ConfigValue, Start, Work, Make, Keep, Drive, ForcePort, Conversation, Ask}
 use Rattle.lagengine.specs.AnswerValues.{AnswerValue}
 use Rattle.lagengine.specs.AnswerValues as said
 use Rattle.lagengine.specs.declared.engine.Inner.{Inner}
@@ -58,23 +61,29 @@ pub record HasConfig (config : ConfigValue) (s : SystemState) : Type 0 where
   pub system : s.system ≡ config.system
   pub max_delay : s.max_delay ≡ config.max_delay
   pub first_marker : s.first_marker ≡ config.first_marker
+  pub conversations : s.conversations ≡ config.conversations
   pub keys : s.keys ≡ config.keys
+  pub max_links : s.max_links ≡ config.max_links
   pub ports : s.ports ≡ config.ports
 
 -- the answer is this fault, and nothing changes
 abbrev pub AnswersFault : RequestFault → EngineState → AnswerValue → EngineState → Type 0
 AnswersFault fault old answer new = (answer ≡ said.Fault fault) × (new ≡ old)
 
+-- the first reason to refuse this configuration; None if it is accepted
+abbrev pub config_refusal : ConfigValue → Option BadConfig
+config_refusal config = refusal config.keys config.ports config.max_links config.conversations
+
 -- a new system in its first state, and no stored calls, if the configuration is accepted and memory is granted
 abbrev pub MakesSystem : ConfigValue → EngineState → Type 0
 MakesSystem config new =
-    (s : SystemState) × (refusal config.keys config.ports ≡ None) × HasConfig config s × IsFirst s
+    (s : SystemState) × (config_refusal config ≡ None) × HasConfig config s × IsFirst s
     × (new ≡ record { system = Some s; kept = None })
 
 -- the system is made; or the answer is why not, and nothing changes
 abbrev pub AnswersStart : ConfigValue → EngineState → AnswerValue → EngineState → Type 0
 AnswersStart config old said.Done new = MakesSystem config new
-AnswersStart config old (said.Refused fault) new = (fault ≡ fault_or_no_memory (refusal config.keys config.ports)) × (new ≡ old)
+AnswersStart config old (said.Refused fault) new = (fault ≡ fault_or_no_memory (config_refusal config)) × (new ≡ old)
 AnswersStart config old answer new = ⊥
 
 -- the call is made; or it is stored, if calls are stored
@@ -113,6 +122,10 @@ DoesTask gives (Make call) s kept answer new = CallsOrKeeps gives call s kept an
 -- from now on, calls are stored
 DoesTask gives Keep s kept answer new = (answer ≡ said.Done) × (new ≡ record { system = Some s; kept = Some (kept_so_far kept) })
 DoesTask gives Drive s kept answer new = DrivesKept gives s kept answer new
+-- what is held on the port is forced, even while calls are stored
+DoesTask gives (ForcePort port) s kept answer new =
+    (forced : Result ℕ SystemFault) × (t : SystemState) × ForcesPort gives port s forced t × (answer ≡ said.ForcedPort forced)
+    × (new ≡ record { system = Some t; kept = kept })
 DoesTask gives (Conversation octets) s kept answer new = (answer ≡ said.Conversation (conversation_in s octets))
     × (new ≡ record { system = Some s; kept = kept })
 DoesTask gives (Ask q) s kept answer new = (answer ≡ reader_answer q s) × (new ≡ record { system = Some s; kept = kept })

@@ -8,6 +8,7 @@ use Rattle.portmachines.specs.Transmit.{actor_state}
 use Rattle.distributor.specs.Chains.{names_port}
 use Rattle.distributor.specs.Conversations.{count_conversations}
 use Rattle.lagsystem.specs.Hosts.{would_transmit_at}
+use Rattle.lagsystem.specs.PortStatus.{status_of_port}
 use Rattle.lagsystem.specs.Readers.{aggregator_numbered, distributing, group_at}
 use Rattle.lagsystem.specs.State.{SystemState, port_numbers, port_index, machines_of}
 use Rattle.lagengine.specs.declared.looks.Look.{Look}
@@ -42,6 +43,10 @@ fact_of of_port.State n s = option_map (λ p. fact.State (actor_state p)) (machi
 fact_of of_port.ReceiveState n s = option_map (λ p. fact.ReceiveState p.receive) (machines_of n s)
 fact_of of_port.Due n s = option_map fact.Due (would_transmit_at n s)
 fact_of of_port.Load n s = option_map fact.Load (load_of n s)
+fact_of of_port.Status n s = option_map (λ p. fact.Status (status_of_port p)) (machines_of n s)
+fact_of of_port.CurrentWhile n s = option_map (λ p. fact.CurrentWhile p.current_while) (machines_of n s)
+fact_of of_port.WaitWhile n s = option_map (λ p. fact.WaitWhile p.wait_while) (machines_of n s)
+fact_of of_port.Ntt n s = option_map (λ p. fact.Ntt p.ntt) (machines_of n s)
 
 -- the answer to a question about the port with this number, with that number
 abbrev pub port_answer : PortQuestion → SystemState → ℕ → PortAnswer

@@ -1,6 +1,7 @@
 -- The requests that lines make (profile).
-use Rattle.std.specs.Prelude.{◌≡◌, ⊤, ℕ, Bool, List, [], ◌∷◌, codes, if◌then◌else◌, Result, Ok, Err}
+use Rattle.std.specs.Prelude.{◌≡◌, ⊤, ℕ, Bool, List, [], ◌∷◌, codes, map, if◌then◌else◌, Option, Some, None, Result, Ok, Err}
 use Rattle.std.specs.Borrow.{Bor}
+use Rattle.std.specs.Option.{unwrap_or}
 use Rattle.std.specs.Str.{bytes_eq}
 use Rattle.lagtypes.specs.declared.identifiers.AggId.{AggId}
 use Rattle.lagtypes.specs.declared.identifiers.Key.{Key}
@@ -29,7 +30,9 @@ pub record ConfigValue : Type 0 where
   pub system : SystemId
   pub max_delay : ℕ
   pub first_marker : ℕ
+  pub conversations : ℕ
   pub keys : List Key
+  pub max_links : Option ℕ
   pub ports : List PortConfig
 
 -- the configuration, as a value of the logic
@@ -38,15 +41,19 @@ config_value c = record {
   system = c.system;
   max_delay = c.max_delay;
   first_marker = c.first_marker;
+  conversations = c.conversations;
   keys = c.aggregators.items;
+  max_links = c.max_links;
   ports = c.ports.items;
 }
 
--- a task for a system: make a call, store calls from now on, make the stored calls, or answer a question
+-- a task for a system: make a call, store calls from now on, make the stored calls, force what is held on a port, or answer
+-- a question
 pub data TaskValue : Type 0 where
   Make : Call → TaskValue
   Keep : TaskValue
   Drive : TaskValue
+  ForcePort : ℕ → TaskValue  -- force what is held on this port
   Conversation : List ℕ → TaskValue
   Ask : Question → TaskValue
 
@@ -55,6 +62,7 @@ abbrev pub task_value : Task → TaskValue
 task_value (task.Make call) = Make (call_of call)
 task_value task.Keep = Keep
 task_value task.Drive = Drive
+task_value (task.ForcePort port) = ForcePort port
 task_value (task.Conversation frame) = Conversation frame.items
 task_value (task.Ask question) = Ask question
 
@@ -174,12 +182,32 @@ abbrev pub configure_task : ℕ → ℕ → ℕ → Bool → TaskValue
 configure_task port key priority aggregatable = Make (Configure port
     (record { key = record { 0 = key }; priority = priority; aggregatable = aggregatable }))
 
--- PRIORITY MAC MAX_DELAY FIRST_MARKER KEYS PORT ..
+-- the words after a number that may stand, and the number; or the fault
+abbrev pub number_and_rest : Result (Option ℕ × Bor (List Word)) RequestFault → Result (Option ℕ × List (List ℕ)) RequestFault
+number_and_rest (Ok p) = Ok (p.0, map word_octets p.1.now)
+number_and_rest (Err e) = Err e
+
+-- the number behind this name if the words begin with the two, and the words after them; else no number, and all words
+abbrev pub number_behind : List ℕ → List (List ℕ) → Result (Option ℕ × List (List ℕ)) RequestFault
+number_behind name (first ∷ second ∷ rest) =
+    if bytes_eq first name then (number_word second >>= λ n. Ok (Some n, rest)) else Ok (None, first ∷ second ∷ rest)
+number_behind name words = Ok (None, words)
+
+-- PRIORITY MAC MAX_DELAY FIRST_MARKER KEYS [max-links N] [conversations N] PORT ..
 abbrev pub config_in : List (List ℕ) → Result ConfigValue RequestFault
-config_in (priority ∷ mac ∷ delay ∷ marker ∷ keys ∷ ports) =
+config_in (priority ∷ mac ∷ delay ∷ marker ∷ keys ∷ rest) =
     number_word priority >>= λ priority. mac_word mac >>= λ mac. number_word delay >>= λ delay. long_number_word marker >>= λ marker.
-    keys_word keys >>= λ keys. each port_word ports >>= λ ports.
-    Ok (record { system = record { priority = priority; mac = mac }; max_delay = delay; first_marker = marker; keys = keys; ports = ports })
+    keys_word keys >>= λ keys. number_behind (codes "max-links") rest >>= λ limit.
+    number_behind (codes "conversations") limit.1 >>= λ count. each port_word count.1 >>= λ ports.
+    Ok (record {
+      system = record { priority = priority; mac = mac };
+      max_delay = delay;
+      first_marker = marker;
+      conversations = unwrap_or count.0 256;
+      keys = keys;
+      max_links = limit.0;
+      ports = ports;
+    })
 config_in _ = Err fault.Count
 
 -- a question about one port
@@ -195,6 +223,10 @@ question_named name =
     else if bytes_eq name (codes "receive-state") then port_question of_port.ReceiveState
     else if bytes_eq name (codes "due") then port_question of_port.Due
     else if bytes_eq name (codes "load") then port_question of_port.Load
+    else if bytes_eq name (codes "port-status") then port_question of_port.Status
+    else if bytes_eq name (codes "current-while") then port_question of_port.CurrentWhile
+    else if bytes_eq name (codes "wait-while") then port_question of_port.WaitWhile
+    else if bytes_eq name (codes "ntt") then port_question of_port.Ntt
     else if bytes_eq name (codes "ports") then with_no_words (Ask question.Ports)
     else if bytes_eq name (codes "aggregators") then with_no_words (Ask question.Aggregators)
     else if bytes_eq name (codes "distributing") then with_one_word number_word (λ n. Ask (question.Distributing (agg_id n)))
@@ -215,6 +247,7 @@ call_named name =
     else if bytes_eq name (codes "move") then with_three_words number_word number_word number_word
     (λ g k port. Make (Move_conversation (agg_id g) k port))
     else if bytes_eq name (codes "force") then with_two_words number_word number_word (λ g k. Make (Force (agg_id g) k))
+    else if bytes_eq name (codes "force-port") then with_one_word number_word ForcePort
     else question_named name
 
 -- the tasks, by their first word

@@ -5,7 +5,7 @@ use Rattle.hex.specs.Hex.{encode_lower}
 use Rattle.lagtypes.specs.Octet.{octet}
 use Rattle.lagtypes.specs.Texts.{group_text, port_text, state_text, system_text}
 use Rattle.lagtypes.specs.declared.party.Choice.{Choice}
-use Rattle.lagtypes.specs.declared.party.Choice.TheVariants.{Unselected, Selected}
+use Rattle.lagtypes.specs.declared.party.Choice.TheVariants.{Unselected, Selected, Standby}
 use Rattle.lagtypes.specs.declared.party.Party.{Party}
 use Rattle.slowpdu.specs.declared.pdu.Info.{Info}
 use Rattle.slowpdu.specs.declared.fault.WireFault.{WireFault}
@@ -21,6 +21,8 @@ use Rattle.lagsystem.specs.declared.received.Received.{Received}
 use Rattle.lagsystem.specs.declared.received.Received.TheVariants.{Disabled, Dropped, Ignored, TookLacpdu, Respond, Released, Up}
 use Rattle.lagsystem.specs.declared.drive.Reply.{Reply}
 use Rattle.lagsystem.specs.declared.drive.Reply.TheVariants as reply
+use Rattle.lagsystem.specs.declared.port_status.PortStatus.{PortStatus}
+use Rattle.lagsystem.specs.declared.port_status.PortStatus.TheVariants as status
 use Rattle.lagsystem.specs.declared.fault.BadConfig.{BadConfig}
 use Rattle.lagsystem.specs.declared.fault.BadConfig.TheVariants as reason
 use Rattle.lagsystem.specs.declared.fault.SystemFault.{SystemFault}
@@ -63,6 +65,8 @@ abbrev pub reason_name : BadConfig → List ℕ
 reason_name reason.Ports = codes "ports"
 reason_name reason.Aggregators = codes "aggregators"
 reason_name (reason.PortNumber place) = codes "port-number " ++ decimal place
+reason_name reason.MaxLinks = codes "max-links"
+reason_name reason.Conversations = codes "conversations"
 
 -- the name of a fault of a system
 abbrev pub fault_name : SystemFault → List ℕ
@@ -131,6 +135,11 @@ reply_text (reply.Offer (Err f)) = refused_text f
 reply_text (reply.MoveConversation answer) = done_text answer
 reply_text (reply.Force answer) = done_text answer
 
+-- how many conversations were forced, or the fault
+abbrev pub forced_text : Result ℕ SystemFault → List ℕ
+forced_text (Ok count) = codes "forced " ++ decimal count
+forced_text (Err f) = refused_text f
+
 -- each result, with a semicolon after it
 abbrev pub reply_and_semicolon : Reply → List ℕ
 reply_and_semicolon r = reply_text r ++ 59 ∷ []
@@ -163,6 +172,7 @@ partner_text p = system_text p.system ++ (codes " key " ++ (decimal p.key.0
 abbrev pub choice_text : Choice → List ℕ
 choice_text Unselected = codes "unselected"
 choice_text (Selected agg) = codes "selected " ++ decimal agg.0
+choice_text (Standby agg) = codes "standby " ++ decimal agg.0
 
 -- the state of a mux machine
 abbrev pub mux_text : MuxState → List ℕ
@@ -178,6 +188,19 @@ receive_text receive.PortDisabled = codes "port-disabled"
 receive_text receive.Expired = codes "expired"
 receive_text receive.Defaulted = codes "defaulted"
 receive_text receive.Current = codes "current"
+
+-- whether a port distributes, and else the first reason why not
+abbrev pub status_text : PortStatus → List ℕ
+status_text status.Distributing = codes "distributing"
+status_text status.LinkDown = codes "link-down"
+status_text status.NoLacpdu = codes "no-lacpdu"
+status_text status.OnDefaults = codes "on-defaults"
+status_text status.OwnSystem = codes "own-system"
+status_text status.NoAggregator = codes "no-aggregator"
+status_text (status.Standby agg) = codes "standby " ++ decimal agg.0
+status_text (status.Waiting ticks) = codes "waiting " ++ decimal ticks
+status_text status.WaitingForMembers = codes "waiting-for-members"
+status_text status.PartnerNotSynchronized = codes "partner-not-synchronized"
 
 -- both ends of a port's link, and their group
 abbrev pub ends_text : Look → List ℕ
@@ -202,6 +225,10 @@ fact_text (fact.State s) = codes "state " ++ state_text (octet s)
 fact_text (fact.ReceiveState s) = codes "receive-state " ++ receive_text s
 fact_text (fact.Due due) = codes "due " ++ flag_text due
 fact_text (fact.Load load) = codes "load " ++ decimal load
+fact_text (fact.Status s) = codes "status " ++ status_text s
+fact_text (fact.CurrentWhile ticks) = codes "current-while " ++ decimal ticks
+fact_text (fact.WaitWhile ticks) = codes "wait-while " ++ decimal ticks
+fact_text (fact.Ntt ntt) = codes "ntt " ++ flag_text ntt
 
 -- the answer for a port, or `none` if there is no such port
 abbrev pub fact_or_none : Option PortFact → List ℕ
@@ -271,6 +298,7 @@ answer_text said.Done = codes "ok"
 answer_text said.Kept = codes "kept"
 answer_text (said.Replied r) = reply_text r
 answer_text (said.Drove replies) = replies_text replies
+answer_text (said.ForcedPort answer) = forced_text answer
 answer_text (said.Refused f) = refused_text f
 answer_text (said.Port t) = port_answer_text t
 answer_text (said.Ports ports) = codes "ports:" ++ numbers_text ports

@@ -5,7 +5,7 @@ ghost use Rattle.lagengine.specs.Texts.{answer_text};
 use crate::fact_texts::{ConversationText, NumberText, write_all, write_numbers};
 use crate::fault::RequestFault;
 use crate::looks::{AggAnswer, PortAnswer};
-use crate::reply_texts::{RefusedText, ReplyText, write_replies};
+use crate::reply_texts::{ForcedText, RefusedText, ReplyText, write_replies};
 use arrayvec::ArrayVec;
 use lagsystem::{Assignment, Reply, SystemFault};
 use std::fmt;
@@ -21,6 +21,8 @@ pub enum Answer {
     Reply(Reply),
     /// The results of the stored calls.
     Replies(Vec<Reply>),
+    /// How many conversations were forced that were held on a port, or why not.
+    ForcedPort(Result<u32, SystemFault>),
     /// Why the system could not be made.
     Refused(SystemFault),
     /// What a reader returns for a port.
@@ -52,6 +54,7 @@ impl fmt::Display for Answer {
             Answer::Kept => f.write_str("kept"),
             Answer::Reply(reply) => write!(f, "{}", ReplyText(reply)),
             Answer::Replies(replies) => write_replies(f, replies.as_slice()),
+            Answer::ForcedPort(answer) => write!(f, "{}", ForcedText(*answer)),
             Answer::Refused(fault) => write!(f, "{}", RefusedText(*fault)),
             Answer::Port(told) => write!(f, "{told}"),
             Answer::Ports(ports) => {

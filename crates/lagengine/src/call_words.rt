@@ -88,6 +88,14 @@ fn force(words: &[&str]) -> Result<Task, RequestFault>
     Ok(Task::Make(Call::Force(agg, number(conv)?)))
 }
 
+/// Reads the word of `force-port`: a port.
+fn force_port(words: &[&str]) -> Result<Task, RequestFault>
+    ensures { task_result_value result ≡ with_one_word number_word asked.ForcePort (map (λ w. w.now) words.now) }
+{
+    let port = one_word(words)?;
+    Ok(Task::ForcePort(number(port)?))
+}
+
 /// Reads the words of a question about one port.
 fn port_question(asked: PortQuestion, words: &[&str]) -> Result<Task, RequestFault>
     ensures { task_result_value result ≡ port_question asked (map (λ w. w.now) words.now) }
@@ -127,6 +135,10 @@ fn question_named(name: &str, words: &[&str]) -> Result<Task, RequestFault>
         "receive-state" => port_question(PortQuestion::ReceiveState, words),
         "due" => port_question(PortQuestion::Due, words),
         "load" => port_question(PortQuestion::Load, words),
+        "port-status" => port_question(PortQuestion::Status, words),
+        "current-while" => port_question(PortQuestion::CurrentWhile, words),
+        "wait-while" => port_question(PortQuestion::WaitWhile, words),
+        "ntt" => port_question(PortQuestion::Ntt, words),
         "ports" => task_alone(Task::Ask(Question::Ports), words),
         "aggregators" => task_alone(Task::Ask(Question::Aggregators), words),
         "distributing" => distributing(words),
@@ -150,6 +162,7 @@ pub(crate) fn call_named(name: &str, words: &[&str]) -> Result<Task, RequestFaul
         "configure" => configure(words),
         "move" => move_conversation(words),
         "force" => force(words),
+        "force-port" => force_port(words),
         _ => question_named(name, words),
     }
 }

@@ -1,5 +1,5 @@
 ghost use Rattle.std.specs.Prelude.{◌≡◌, map};
-ghost use Rattle.lagengine.specs.Requests.{ReadsAs, config_in, config_value, seven_words_octets};
+ghost use Rattle.lagengine.specs.Requests.{ReadsAs, config_in, config_value, number_and_rest, number_behind, seven_words_octets};
 ghost use Rattle.lagengine.specs.Words.{each, key_word, keys_word, port_fields, port_word, seven_fields};
 
 use crate::fault::{RequestError, RequestFault};
@@ -104,23 +104,41 @@ fn each_port(alloc: Global, words: &[&str]) -> Result<Vec<PortConfig>, RequestEr
     Ok(ports)
 }
 
-/// Reads the configuration of a new system: PRIORITY MAC MAX_DELAY FIRST_MARKER KEYS PORT .. (profile).
+/// Reads the number behind this name, if the words begin with the two; tells the words after them, else all words.
+fn number_behind<'a, 'b>(
+    name: &str,
+    words: &'b [&'a str],
+) -> Result<(Option<u16>, &'b [&'a str]), RequestFault>
+    ensures { number_and_rest result ≡ number_behind name.now (map (λ w. w.now) words.now) }
+{
+    match words {
+        [first, second, rest @ ..] if *first == name => Ok((Some(number(*second)?), rest)),
+        _ => Ok((None, words)),
+    }
+}
+
+/// Reads the configuration of a new system: PRIORITY MAC MAX_DELAY FIRST_MARKER KEYS, `max-links` with a number or
+/// nothing, `conversations` with a number or nothing for 256, and PORT .. (profile).
 pub(crate) fn system(alloc: Global, words: &[&str]) -> Result<Config, RequestError>
     ensures { ReadsAs config_value (config_in (map (λ w. w.now) words.now)) result }
 {
     match words {
-        [priority, address, delay, marker, aggregators, ports @ ..] => {
+        [priority, address, delay, marker, aggregators, rest @ ..] => {
             let priority = number(*priority)?;
             let mac = mac(*address)?;
             let max_delay = number(*delay)?;
             let first_marker = long_number(*marker)?;
             let aggregators = keys(alloc, *aggregators)?;
+            let (max_links, rest) = number_behind("max-links", rest)?;
+            let (conversations, ports) = number_behind("conversations", rest)?;
             let ports = each_port(alloc, ports)?;
             Ok(Config {
                 system: SystemId { priority, mac },
                 max_delay,
                 first_marker,
+                conversations: conversations.unwrap_or(256),
                 aggregators,
+                max_links,
                 ports,
             })
         }

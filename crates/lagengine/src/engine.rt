@@ -164,6 +164,7 @@ fn do_task<F: Fn(u16, usize) -> usize + Drop>(
             Ok(Answer::Done)
         }
         Task::Drive => drive(alloc, system, kept),
+        Task::ForcePort(port) => Ok(Answer::ForcedPort(system.force_port(port))),
         Task::Conversation(frame) => Ok(Answer::Conversation(system.conversation(&frame))),
         Task::Ask(question) => answer_question(alloc, system, question),
     }

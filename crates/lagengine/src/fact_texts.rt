@@ -4,10 +4,10 @@ ghost use Rattle.lagengine.specs.Looks.{agg_answer_value};
 ghost use Rattle.lagengine.specs.Texts.{all_text, bar_agg_answer, choice_text, conversation_or_none, each_text, ends_text, fact_text};
 ghost use Rattle.lagengine.specs.Texts.{flag_text, machines_text, aggregation_text, look_text, mux_text, number_text, numbers_text};
 ghost use Rattle.lagengine.specs.Texts.{partner_text, party_text, port_bar, preferred_text, receive_text, agg_answer_text};
-ghost use Rattle.lagengine.specs.Texts.{agg_answers_text, spaced, port_answer_text};
+ghost use Rattle.lagengine.specs.Texts.{agg_answers_text, spaced, port_answer_text, status_text};
 
 use crate::looks::{AggAnswer, Look, PortAnswer, PortFact};
-use lagsystem::{Assignment, Choice, Info, MuxState, Party, ReceiveState};
+use lagsystem::{Assignment, Choice, Info, MuxState, Party, PortStatus, ReceiveState};
 use std::fmt;
 
 /// `aggregatable` or `individual`.
@@ -79,7 +79,7 @@ impl fmt::Display for PartnerText<'_> {
     }
 }
 
-/// The variable Selected of a port: `unselected`, or `selected` with its aggregator.
+/// The variable Selected of a port: `unselected`, or `selected` or `standby` with its aggregator.
 #[derive(Clone, Copy)]
 struct ChoiceText(Choice);
 
@@ -90,6 +90,7 @@ impl fmt::Display for ChoiceText {
         match self.0 {
             Choice::Unselected => f.write_str("unselected"),
             Choice::Selected(agg) => write!(f, "selected {agg}"),
+            Choice::Standby(agg) => write!(f, "standby {agg}"),
         }
     }
 }
@@ -126,6 +127,29 @@ impl fmt::Display for ReceiveText {
             ReceiveState::Defaulted => "defaulted",
             ReceiveState::Current => "current",
         })
+    }
+}
+
+/// Whether a port distributes, and else the first reason why not.
+#[derive(Clone, Copy)]
+struct StatusText(PortStatus);
+
+impl fmt::Display for StatusText {
+    ghost output = { λ t. Some (status_text t.0) };
+
+    fn fmt<W: fmt::Write>(&self, f: &mut fmt::Formatter<W>) -> fmt::Result {
+        match self.0 {
+            PortStatus::Distributing => f.write_str("distributing"),
+            PortStatus::LinkDown => f.write_str("link-down"),
+            PortStatus::NoLacpdu => f.write_str("no-lacpdu"),
+            PortStatus::OnDefaults => f.write_str("on-defaults"),
+            PortStatus::OwnSystem => f.write_str("own-system"),
+            PortStatus::NoAggregator => f.write_str("no-aggregator"),
+            PortStatus::Standby(agg) => write!(f, "standby {agg}"),
+            PortStatus::Waiting(ticks) => write!(f, "waiting {ticks}"),
+            PortStatus::WaitingForMembers => f.write_str("waiting-for-members"),
+            PortStatus::PartnerNotSynchronized => f.write_str("partner-not-synchronized"),
+        }
     }
 }
 
@@ -195,6 +219,10 @@ impl fmt::Display for FactText<'_> {
             PortFact::ReceiveState(state) => write!(f, "receive-state {}", ReceiveText(*state)),
             PortFact::Due(due) => write!(f, "due {}", FlagText(*due)),
             PortFact::Load(load) => write!(f, "load {load}"),
+            PortFact::Status(status) => write!(f, "status {}", StatusText(*status)),
+            PortFact::CurrentWhile(ticks) => write!(f, "current-while {ticks}"),
+            PortFact::WaitWhile(ticks) => write!(f, "wait-while {ticks}"),
+            PortFact::Ntt(ntt) => write!(f, "ntt {}", FlagText(*ntt)),
         }
     }
 }

@@ -4,7 +4,9 @@ ghost use Rattle.lagsystem.specs.State.{machines_of};
 
 use crate::request::PortQuestion;
 use arrayvec::ArrayVec;
-use lagsystem::{AggId, Choice, Group, Info, MuxState, Party, ReceiveState, State, System};
+use lagsystem::{
+    AggId, Choice, Group, Info, MuxState, Party, PortStatus, ReceiveState, State, System,
+};
 use std::alloc::{AllocError, Global};
 
 /// The answer to `look` for a port (profile).
@@ -35,6 +37,14 @@ pub enum PortFact {
     Due(bool),
     /// How many conversations are On, Wanted or Flushing on it.
     Load(u32),
+    /// Whether it distributes, and else the first reason why not.
+    Status(PortStatus),
+    /// How many ticks current_while has left.
+    CurrentWhile(u16),
+    /// How many ticks wait_while has left.
+    WaitWhile(u8),
+    /// NTT: whether an LACPDU is to be sent.
+    Ntt(bool),
 }
 
 /// The answer for a port; without a value if there is no such port.
@@ -88,6 +98,10 @@ fn fact<F: Fn(u16, usize) -> usize + Drop>(
         PortQuestion::ReceiveState => Some(PortFact::ReceiveState(system.receive_state(port)?)),
         PortQuestion::Due => Some(PortFact::Due(system.is_due(port)?)),
         PortQuestion::Load => Some(PortFact::Load(load(system, port)?)),
+        PortQuestion::Status => Some(PortFact::Status(system.port_status(port)?)),
+        PortQuestion::CurrentWhile => Some(PortFact::CurrentWhile(system.current_while(port)?)),
+        PortQuestion::WaitWhile => Some(PortFact::WaitWhile(system.wait_while(port)?)),
+        PortQuestion::Ntt => Some(PortFact::Ntt(system.ntt(port)?)),
     }
 }
 

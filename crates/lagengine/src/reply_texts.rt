@@ -2,6 +2,7 @@ ghost use Rattle.std.specs.Prelude.{◌≡◌, Some};
 ghost use Rattle.std.specs.Fmt.{DisplaysOnOk};
 ghost use Rattle.hex.specs.Hex.{encode_lower};
 ghost use Rattle.lagengine.specs.Texts.{done_text, fault_name, ignored_text, reason_name, received_text, refused_text, replies_text};
+ghost use Rattle.lagengine.specs.Texts.{forced_text};
 ghost use Rattle.lagengine.specs.Texts.{reply_text, sent_text, subtype_word};
 
 use lagsystem::{BadConfig, Received, Reply, SystemFault, WireFault};
@@ -95,6 +96,8 @@ impl fmt::Display for ReasonName {
             BadConfig::Ports => f.write_str("ports"),
             BadConfig::Aggregators => f.write_str("aggregators"),
             BadConfig::PortNumber(place) => write!(f, "port-number {place}"),
+            BadConfig::MaxLinks => f.write_str("max-links"),
+            BadConfig::Conversations => f.write_str("conversations"),
         }
     }
 }
@@ -147,6 +150,21 @@ impl fmt::Display for DoneText {
     fn fmt<W: fmt::Write>(&self, f: &mut fmt::Formatter<W>) -> fmt::Result {
         match self.0 {
             Ok(()) => f.write_str("ok"),
+            Err(fault) => write!(f, "{}", RefusedText(fault)),
+        }
+    }
+}
+
+/// How many conversations were forced, or why that was refused.
+#[derive(Clone, Copy)]
+pub struct ForcedText(pub Result<u32, SystemFault>);
+
+impl fmt::Display for ForcedText {
+    ghost output = { λ t. Some (forced_text t.0) };
+
+    fn fmt<W: fmt::Write>(&self, f: &mut fmt::Formatter<W>) -> fmt::Result {
+        match self.0 {
+            Ok(count) => write!(f, "forced {count}"),
             Err(fault) => write!(f, "{}", RefusedText(fault)),
         }
     }

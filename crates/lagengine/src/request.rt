@@ -32,6 +32,14 @@ pub enum PortQuestion {
     Due,
     /// How many conversations are On, Wanted or Flushing on it.
     Load,
+    /// Whether it distributes, and else the first reason why not.
+    Status,
+    /// How many ticks current_while has left.
+    CurrentWhile,
+    /// How many ticks wait_while has left.
+    WaitWhile,
+    /// NTT: whether an LACPDU is to be sent.
+    Ntt,
 }
 
 /// A question that a reader of the system answers.
@@ -62,6 +70,8 @@ pub enum Task {
     Keep,
     /// Make the stored calls.
     Drive,
+    /// Force each conversation that is held on the port with this number, now, even while calls are stored.
+    ForcePort(u16),
     /// Work out the conversation of a frame.
     Conversation(Vec<u8>),
     /// Answer this question.

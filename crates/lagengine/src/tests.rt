@@ -193,6 +193,180 @@ const FAULTS: [Row; 33] = [
     ),
 ];
 
+/// Limits of links and counts of conversations that are refused, and the words that name them.
+const LIMITS: [Row; 19] = [
+    (
+        "system 1 020000000001 0 1 1 max-links 0 1:128:020000000001:1:1:1:1",
+        "refused 11 bad-config max-links",
+    ),
+    (
+        "system 1 020000000001 0 1 1 max-links 65 1:128:020000000001:1:1:1:1",
+        "refused 11 bad-config max-links",
+    ),
+    (
+        "system 1 020000000001 0 1 1 max-links 65535 1:128:020000000001:1:1:1:1",
+        "refused 11 bad-config max-links",
+    ),
+    (
+        "system 1 020000000001 0 1 1 conversations 0 1:128:020000000001:1:1:1:1",
+        "refused 11 bad-config conversations",
+    ),
+    (
+        "system 1 020000000001 0 1 1 conversations 255 1:128:020000000001:1:1:1:1",
+        "refused 11 bad-config conversations",
+    ),
+    (
+        "system 1 020000000001 0 1 1 conversations 257 1:128:020000000001:1:1:1:1",
+        "refused 11 bad-config conversations",
+    ),
+    (
+        "system 1 020000000001 0 1 1 conversations 4095 1:128:020000000001:1:1:1:1",
+        "refused 11 bad-config conversations",
+    ),
+    (
+        "system 1 020000000001 0 1 1 conversations 4097 1:128:020000000001:1:1:1:1",
+        "refused 11 bad-config conversations",
+    ),
+    (
+        "system 1 020000000001 0 1 1 conversations 65535 1:128:020000000001:1:1:1:1",
+        "refused 11 bad-config conversations",
+    ),
+    (
+        "system 1 020000000001 0 1 1 max-links 65 conversations 255 1:128:020000000001:1:1:1:1",
+        "refused 11 bad-config max-links",
+    ),
+    (
+        "system 1 020000000001 0 1 1 max-links 65 conversations 255 0:128:020000000001:1:1:1:1",
+        "refused 11 bad-config port-number 1",
+    ),
+    (
+        "system 1 020000000001 0 1 1 max-links 65536 1:128:020000000001:1:1:1:1",
+        "fault number",
+    ),
+    (
+        "system 1 020000000001 0 1 1 conversations x 1:128:020000000001:1:1:1:1",
+        "fault number",
+    ),
+    (
+        "system 1 020000000001 0 1 1 conversations 4096 max-links 1 1:128:020000000001:1:1:1:1",
+        "fault count",
+    ),
+    ("system 1 020000000001 0 1 1 max-links", "fault count"),
+    (
+        "system 1 020000000001 0 1 1 max-links 1",
+        "refused 11 bad-config ports",
+    ),
+    ("ports", "fault no-system"),
+    (
+        "system 1 020000000001 0 1 1 max-links 64 conversations 256 1:128:020000000001:1:1:1:1",
+        "ok",
+    ),
+    ("ports", "ports: 1"),
+];
+
+/// The conversations of frames among 4,096 and among 256.
+const CONVERSATIONS: [Row; 11] = [
+    (
+        "system 1 020000000001 0 1 1 conversations 4096 1:128:020000000001:1:1:1:1",
+        "ok",
+    ),
+    ("conversation 0200000001200200000000100800", "304"),
+    ("conversation 02000000f1200200000000100800", "304"),
+    ("conversation 0200000000200200000000100800", "48"),
+    ("conversation-state 1 4095", "free"),
+    ("conversation-state 1 4096", "none"),
+    (
+        "system 1 020000000001 0 1 1 1:128:020000000001:1:1:1:1",
+        "ok",
+    ),
+    ("conversation 0200000001200200000000100800", "48"),
+    ("conversation 02000000f1200200000000100800", "48"),
+    ("conversation-state 1 255", "free"),
+    ("conversation-state 1 256", "none"),
+];
+
+/// Two links of a group that may have one member: the second is STANDBY until the first is down.
+const STANDBY: [Row; 42] = [
+    (
+        "system 24576 020000000011 1234 7 300,700 max-links 1 3:203:020000001103:300:1:1:0 70:270:020000001146:300:1:1:0",
+        "ok",
+    ),
+    ("link 3 up", "ok"),
+    ("link 70 up", "ok"),
+    (
+        "receive 3 0180c20000020200000000778809010101141000020000000077012c004000170700000002146000020000000011012c00cb0003c50000000310003200000000000000000000000000000000000000000000000000000000000000000000000000000000000000000000000000000000000000000000000000000000",
+        "took",
+    ),
+    (
+        "receive 70 0180c20000020200000000778809010101141000020000000077012c0040005a0700000002146000020000000011012c010e0046c50000000310003200000000000000000000000000000000000000000000000000000000000000000000000000000000000000000000000000000000000000000000000000000000",
+        "took",
+    ),
+    (
+        "look 3",
+        "port 3: party 24576/02-00-00-00-00-11 key 300 port 203/3 aggregatable; partner 4096/02-00-00-00-00-77 key 300 port 64/23 state 07 active,short,aggregatable; group 4096/02-00-00-00-00-77 key 300 <> 24576/02-00-00-00-00-11 key 300; defaulted false; distributes false; selected 1; mux waiting",
+    ),
+    (
+        "look 70",
+        "port 70: party 24576/02-00-00-00-00-11 key 300 port 270/70 aggregatable; partner 4096/02-00-00-00-00-77 key 300 port 64/90 state 07 active,short,aggregatable; group 4096/02-00-00-00-00-77 key 300 <> 24576/02-00-00-00-00-11 key 300; defaulted false; distributes false; standby 1; mux waiting",
+    ),
+    ("tick", "ok"),
+    ("tick", "ok"),
+    ("tick", "ok"),
+    ("tick", "ok"),
+    ("tick", "ok"),
+    ("tick", "ok"),
+    ("tick", "ok"),
+    ("tick", "ok"),
+    ("tick", "ok"),
+    ("tick", "ok"),
+    ("tick", "ok"),
+    ("tick", "ok"),
+    ("tick", "ok"),
+    ("tick", "ok"),
+    ("tick", "ok"),
+    ("tick", "ok"),
+    ("tick", "ok"),
+    ("tick", "ok"),
+    ("tick", "ok"),
+    ("tick", "ok"),
+    (
+        "receive 3 0180c20000020200000000778809010101141000020000000077012c004000173d00000002146000020000000011012c00cb00030d0000000310003200000000000000000000000000000000000000000000000000000000000000000000000000000000000000000000000000000000000000000000000000000000",
+        "took",
+    ),
+    ("distributing 1", "aggregator 1: 3"),
+    (
+        "look 70",
+        "port 70: party 24576/02-00-00-00-00-11 key 300 port 270/70 aggregatable; partner 4096/02-00-00-00-00-77 key 300 port 64/90 state 07 active,short,aggregatable; group 4096/02-00-00-00-00-77 key 300 <> 24576/02-00-00-00-00-11 key 300; defaulted false; distributes false; standby 1; mux waiting",
+    ),
+    ("state 70", "port 70: state 05 active,aggregatable"),
+    ("offer 1 0200000001310200000000100800", "port 3"),
+    ("move 1 33 70", "refused 7 not-distributing"),
+    ("link 3 down", "ok"),
+    (
+        "look 70",
+        "port 70: party 24576/02-00-00-00-00-11 key 300 port 270/70 aggregatable; partner 4096/02-00-00-00-00-77 key 300 port 64/90 state 07 active,short,aggregatable; group 4096/02-00-00-00-00-77 key 300 <> 24576/02-00-00-00-00-11 key 300; defaulted false; distributes false; selected 1; mux attached",
+    ),
+    (
+        "state 70",
+        "port 70: state 0d active,aggregatable,synchronized",
+    ),
+    (
+        "receive 70 0180c20000020200000000778809010101141000020000000077012c0040005a3d00000002146000020000000011012c010e00460d0000000310003200000000000000000000000000000000000000000000000000000000000000000000000000000000000000000000000000000000000000000000000000000000",
+        "took",
+    ),
+    ("distributing 1", "aggregator 1: 70"),
+    ("link 3 up", "ok"),
+    (
+        "receive 3 0180c20000020200000000778809010101141000020000000077012c004000170700000002146000020000000011012c00cb0003c50000000310003200000000000000000000000000000000000000000000000000000000000000000000000000000000000000000000000000000000000000000000000000000000",
+        "took",
+    ),
+    (
+        "look 3",
+        "port 3: party 24576/02-00-00-00-00-11 key 300 port 203/3 aggregatable; partner 4096/02-00-00-00-00-77 key 300 port 64/23 state 07 active,short,aggregatable; group 4096/02-00-00-00-00-77 key 300 <> 24576/02-00-00-00-00-11 key 300; defaulted false; distributes false; standby 1; mux waiting",
+    ),
+    ("distributing 1", "aggregator 1: 70"),
+];
+
 /// A reader that gives at most a number of octets in each read, and fails after a number of reads.
 #[derive(Drop)]
 struct Given<'a> {
@@ -319,6 +493,21 @@ fn every_form_of_a_request(rt: HostRuntime) -> Result<(), Fail> {
 #[test]
 fn lines_that_are_no_requests(rt: HostRuntime) -> Result<(), Fail> {
     check(&rt, rt.alloc(), &FAULTS)
+}
+
+#[test]
+fn limits_that_are_refused(rt: HostRuntime) -> Result<(), Fail> {
+    check(&rt, rt.alloc(), &LIMITS)
+}
+
+#[test]
+fn two_counts_of_conversations(rt: HostRuntime) -> Result<(), Fail> {
+    check(&rt, rt.alloc(), &CONVERSATIONS)
+}
+
+#[test]
+fn a_standby_port_takes_the_place_of_one_that_is_down(rt: HostRuntime) -> Result<(), Fail> {
+    check(&rt, rt.alloc(), &STANDBY)
 }
 
 #[test]

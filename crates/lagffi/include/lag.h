@@ -64,6 +64,8 @@ struct lag_config {
     uint8_t mac[6];         /* the MAC address of the system */
     uint16_t max_delay;     /* CollectorMaxDelay in tens of microseconds */
     uint32_t first_marker;  /* the identifier of the first marker */
+    uint16_t conversations; /* of each aggregator, 256 or 4096 */
+    uint16_t max_links;     /* the most members of each aggregator, 1 to 64; 0: any number */
 };
 
 /* One port of a configuration. */
@@ -87,7 +89,8 @@ struct lag_change {
 /* In each answer `status` is LAG_OK or the number of the refusal; what stands beside it is 0 where it is a refusal. */
 struct lag_made {
     uint32_t status;
-    uint32_t reason; /* of LAG_BAD_CONFIG: 1 not 1 to 64 ports, 2 not 1 to 64 aggregators, 3 a port number does not rise */
+    uint32_t reason; /* of LAG_BAD_CONFIG: 1 not 1 to 64 ports, 2 not 1 to 64 aggregators, 3 a port number does not rise,
+                        4 a limit of links is above 64, 5 neither 256 nor 4096 conversations */
     size_t place;    /* of reason 3: the place of the port, from 1 */
 };
 
@@ -204,6 +207,7 @@ struct lag_group lagffi_group(struct lag *handle, uint16_t port);
 struct lag_truth lagffi_defaulted(struct lag *handle, uint16_t port);
 struct lag_truth lagffi_distributes(struct lag *handle, uint16_t port);
 struct lag_number lagffi_choice(struct lag *handle, uint16_t port);
+struct lag_truth lagffi_is_standby(struct lag *handle, uint16_t port);
 struct lag_number lagffi_mux_state(struct lag *handle, uint16_t port);
 struct lag_number lagffi_distributing(struct lag *handle, uint16_t agg, uint16_t *numbers, size_t room);
 struct lag_number lagffi_conversation(struct lag *handle, const uint8_t *frame, size_t length);
@@ -359,9 +363,14 @@ static inline struct lag_truth lag_distributes(struct lag *handle, uint16_t port
     return handle ? lagffi_distributes(handle, port) : lag_null_truth();
 }
 
-/* The aggregator that a port is given, or 0. */
+/* The aggregator that a port is given, or 0. The port is SELECTED or STANDBY with it. */
 static inline struct lag_number lag_choice(struct lag *handle, uint16_t port) {
     return handle ? lagffi_choice(handle, port) : lag_null_number();
+}
+
+/* Whether a port is STANDBY: its aggregator had no room for one more link. */
+static inline struct lag_truth lag_is_standby(struct lag *handle, uint16_t port) {
+    return handle ? lagffi_is_standby(handle, port) : lag_null_truth();
 }
 
 /* The state of the mux machine of a port. */

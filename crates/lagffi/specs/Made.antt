@@ -1,9 +1,9 @@
 -- What lag_new makes of a configuration, and what it tells.
-use Rattle.std.specs.Prelude.{◌≡◌, ℕ, List, Option, None, map}
+use Rattle.std.specs.Prelude.{◌≡◌, ℕ, ◌==◌, if◌then◌else◌, List, Option, None, Some, map}
 use Rattle.lagtypes.specs.declared.identifiers.Key.{Key}
 use Rattle.lagsystem.specs.declared.config.PortConfig.{PortConfig}
 use Rattle.lagsystem.specs.declared.fault.BadConfig.{BadConfig}
-use Rattle.lagsystem.specs.declared.fault.BadConfig.TheVariants.{Ports, Aggregators, PortNumber}
+use Rattle.lagsystem.specs.declared.fault.BadConfig.TheVariants.{Ports, Aggregators, PortNumber, MaxLinks, Conversations}
 use Rattle.lagsystem.specs.declared.fault.SystemFault.{SystemFault}
 use Rattle.lagsystem.specs.declared.fault.SystemFault.TheVariants.{BadConfig as Bad}
 use Rattle.lagsystem.specs.Faults.{fault_number}
@@ -37,9 +37,13 @@ lag_port_config p =
       short = p.short_timeout;
     }
 
--- the first reason to refuse these keys and ports
-abbrev pub refusal_of : List ℕ → List LagPort → Option BadConfig
-refusal_of keys ports = refusal (map lag_key keys) (map lag_port_config ports)
+-- a limit of links as the system takes it: 0 is no limit
+abbrev pub lag_limit : ℕ → Option ℕ
+lag_limit n = if n == 0 then None else Some n
+
+-- the first reason to refuse this configuration
+abbrev pub refusal_of : LagConfig → List ℕ → List LagPort → Option BadConfig
+refusal_of config keys ports = refusal (map lag_key keys) (map lag_port_config ports) (lag_limit config.max_links) config.conversations
 
 -- The first state of a system with this configuration, which is accepted: its ports agree, and its view is the first
 -- view of the two-system theorem (lagmodel).
@@ -47,17 +51,19 @@ pub record IsMadeOfLagConfig (config : LagConfig) (of_keys : List ℕ) (of_ports
   pub first : IsFirst s
   pub agrees : PortsAgree s
   pub shows : model_view s ≡ first_view (model_setup s)
-  pub accepted : refusal_of of_keys of_ports ≡ None
+  pub accepted : refusal_of config of_keys of_ports ≡ None
   pub priority : s.system.priority ≡ config.priority
   pub mac : s.system.mac ≡ config.mac
   pub max_delay : s.max_delay ≡ config.max_delay
   pub first_marker : s.first_marker ≡ config.first_marker
+  pub conversations : s.conversations ≡ config.conversations
   pub keys : s.keys ≡ map lag_key of_keys
+  pub max_links : s.max_links ≡ lag_limit config.max_links
   pub ports : s.ports ≡ map lag_port_config of_ports
 
 -- why none is made: the first reason to refuse the configuration; without a reason, memory was refused
-abbrev pub why_refused : List ℕ → List LagPort → SystemFault
-why_refused keys ports = fault_or_no_memory (refusal_of keys ports)
+abbrev pub why_refused : LagConfig → List ℕ → List LagPort → SystemFault
+why_refused config keys ports = fault_or_no_memory (refusal_of config keys ports)
 
 -- a status alone, without a reason to refuse a configuration; with status 0, the system was made
 abbrev pub made_with_status : ℕ → LagMade
@@ -68,4 +74,6 @@ abbrev pub made_refused : SystemFault → LagMade
 made_refused (Bad Ports) = record { status = 11; reason = 1; place = 0 }
 made_refused (Bad Aggregators) = record { status = 11; reason = 2; place = 0 }
 made_refused (Bad (PortNumber place)) = record { status = 11; reason = 3; place = place }
+made_refused (Bad MaxLinks) = record { status = 11; reason = 4; place = 0 }
+made_refused (Bad Conversations) = record { status = 11; reason = 5; place = 0 }
 made_refused fault = made_with_status (fault_number fault)

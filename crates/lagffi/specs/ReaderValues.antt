@@ -2,20 +2,23 @@
 use Rattle.std.specs.Prelude.{ℕ, true, false, List, [], ◌∷◌, Option, None, Some}
 use Rattle.distributor.specs.declared.assignment.Assignment.{Assignment}
 use Rattle.distributor.specs.declared.assignment.Assignment.TheVariants.{Free, On, Wanted, Flushing}
+use Rattle.lagtypes.specs.Choices.{is_standby}
 use Rattle.lagtypes.specs.declared.group.End.{End}
 use Rattle.lagtypes.specs.declared.group.Group.{Group}
 use Rattle.lagtypes.specs.declared.identifiers.PortId.{PortId}
 use Rattle.lagtypes.specs.declared.party.Choice.{Choice}
-use Rattle.lagtypes.specs.declared.party.Choice.TheVariants.{Unselected, Selected}
+use Rattle.lagtypes.specs.declared.party.Choice.TheVariants.{Unselected, Selected, Standby}
 use Rattle.lagtypes.specs.declared.party.Party.{Party}
 use Rattle.lagtypes.specs.declared.state.State.{State}
 use Rattle.lagtypes.specs.Group.{lower, upper}
+use Rattle.lagsystem.specs.declared.port_status.PortStatus.{PortStatus}
+use Rattle.lagsystem.specs.declared.port_status.PortStatus.TheVariants as status
 use Rattle.portmachines.specs.declared.mux.MuxState.{MuxState}
 use Rattle.portmachines.specs.declared.mux.MuxState.TheVariants as mux
 use Rattle.portmachines.specs.declared.receive.ReceiveState.{ReceiveState}
 use Rattle.portmachines.specs.declared.receive.ReceiveState.TheVariants as receive
 use Rattle.slowpdu.specs.declared.pdu.Info.{Info}
-use Rattle.lagffi.specs.Numbers.{number, number_refused}
+use Rattle.lagffi.specs.Numbers.{number, number_refused, truth, truth_refused}
 use Rattle.lagffi.specs.declared.reader_values.LagAssignment.{LagAssignment}
 use Rattle.lagffi.specs.declared.reader_values.LagEnd.{LagEnd}
 use Rattle.lagffi.specs.declared.reader_values.LagGroup.{LagGroup}
@@ -23,6 +26,7 @@ use Rattle.lagffi.specs.declared.reader_values.LagInfo.{LagInfo}
 use Rattle.lagffi.specs.declared.reader_values.LagMarker.{LagMarker}
 use Rattle.lagffi.specs.declared.reader_values.LagParty.{LagParty}
 use Rattle.lagffi.specs.declared.values.LagNumber.{LagNumber}
+use Rattle.lagffi.specs.declared.values.LagTruth.{LagTruth}
 
 -- the states of the receive machine, in the order of the standard
 abbrev pub receive_state_number : ReceiveState → ℕ
@@ -39,10 +43,24 @@ mux_state_number mux.Waiting = 1
 mux_state_number mux.Attached = 2
 mux_state_number mux.CollectingDistributing = 3
 
--- the aggregator that a port has chosen, or 0
+-- whether a port distributes, and else the reasons why not, in their order
+abbrev pub port_status_number : PortStatus → ℕ
+port_status_number status.Distributing = 0
+port_status_number status.LinkDown = 1
+port_status_number status.NoLacpdu = 2
+port_status_number status.OnDefaults = 3
+port_status_number status.OwnSystem = 4
+port_status_number status.NoAggregator = 5
+port_status_number (status.Standby agg) = 6
+port_status_number (status.Waiting ticks) = 7
+port_status_number status.WaitingForMembers = 8
+port_status_number status.PartnerNotSynchronized = 9
+
+-- the aggregator that a port is SELECTED or STANDBY with, or 0
 abbrev pub choice_number : Choice → ℕ
 choice_number Unselected = 0
 choice_number (Selected agg) = agg.0
+choice_number (Standby agg) = agg.0
 
 -- the number of the state of the receive machine of a port, or that there is no such port
 abbrev pub receive_state_or_no_port : Option ReceiveState → LagNumber
@@ -54,10 +72,20 @@ abbrev pub mux_state_or_no_port : Option MuxState → LagNumber
 mux_state_or_no_port (Some state) = number (mux_state_number state)
 mux_state_or_no_port None = number_refused 1
 
--- likewise of Selected: the aggregator that the port has chosen, or 0
+-- likewise of the status of a port
+abbrev pub port_status_or_no_port : Option PortStatus → LagNumber
+port_status_or_no_port (Some status) = number (port_status_number status)
+port_status_or_no_port None = number_refused 1
+
+-- likewise of Selected: the aggregator that the port is SELECTED or STANDBY with, or 0
 abbrev pub choice_or_no_port : Option Choice → LagNumber
 choice_or_no_port (Some choice) = number (choice_number choice)
 choice_or_no_port None = number_refused 1
+
+-- whether the port is STANDBY, or that there is no such port
+abbrev pub standby_or_no_port : Option Choice → LagTruth
+standby_or_no_port (Some choice) = truth (is_standby choice)
+standby_or_no_port None = truth_refused 1
 
 -- the state octet of a port, or that there is no such port
 abbrev pub state_or_no_port : Option State → LagNumber

@@ -1,6 +1,7 @@
 ghost use Rattle.std.specs.Prelude.{◌≡◌, ◌==◌, ◌<◌, Bool, IfOk, IsTrue, ℕ, List, Option, Result, length};
 ghost use Rattle.std.specs.Bool.{IsFalse};
 ghost use Rattle.lagsystem.specs.Calls.{Call};
+ghost use Rattle.lagsystem.specs.Forcing.{ForcesPort};
 ghost use Rattle.lagmodel.specs.View.{first_view};
 ghost use Rattle.lagsystem.specs.ModelView.{model_setup, model_view};
 ghost use Rattle.lagsystem.specs.Readers.{aggregator_numbered, conversation_count, number_of_conversation};
@@ -231,4 +232,20 @@ pub extern "C" fn lagffi_force(alloc: Global, lag: &mut Lag, agg: u16, conv: u16
     let answer = system.force(AggId(agg), conv);
     lag.put(system.with_algorithm(()), block);
     status(&answer)
+}
+
+/// Frees at once each conversation that is held on a port, Wanted or Flushing there, and answers how many.
+#[unsafe(no_mangle)]
+pub extern "C" fn lagffi_force_port(alloc: Global, lag: &mut Lag, port: u16) -> LagNumber
+    ensures { CallsHeldSystem (held_state lag.old.held.kept) (held_state lag.new.held.kept)
+        (λ old new. (answer : Result ℕ SystemFault) × ForcesPort by_number_gives port old answer new × (result ≡ number_of answer))
+        (result ≡ number_refused no_system) }
+{
+    let Some((kept, block)) = lag.take(alloc) else {
+        return LagNumber::refused(NO_SYSTEM);
+    };
+    let mut system = kept.with_algorithm(by_number);
+    let answer = system.force_port(port);
+    lag.put(system.with_algorithm(()), block);
+    LagNumber::of_count(&answer)
 }

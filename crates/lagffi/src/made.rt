@@ -3,7 +3,7 @@ ghost use Rattle.lagsystem.specs.declared.fault.SystemFault.{SystemFault};
 ghost use Rattle.lagffi.specs.Holding.{held_state};
 ghost use Rattle.lagffi.specs.Numbers.{no_system};
 ghost use Rattle.lagffi.specs.Made.{IsMadeOfLagConfig, holds_system_already, lag_key, made_refused, made_with_status, lag_port_config};
-ghost use Rattle.lagffi.specs.Made.{refusal_of, why_refused};
+ghost use Rattle.lagffi.specs.Made.{lag_limit, refusal_of, why_refused};
 
 use crate::handle::{Held, Lag};
 use crate::refusal::refusal;
@@ -27,6 +27,10 @@ pub struct LagConfig {
     pub max_delay: u16,
     /// The identifier of the first marker.
     pub first_marker: u32,
+    /// How many conversations each aggregator has, 256 or 4096.
+    pub conversations: u16,
+    /// How many links each aggregator may have as its members, 1 to 64; 0: any number.
+    pub max_links: u16,
 }
 
 /// One port of a configuration.
@@ -72,7 +76,7 @@ impl LagPort {
 pub struct LagMade {
     /// 0, or the number of the refusal.
     pub status: u32,
-    /// Of a configuration that is refused, the number of the reason, 1 to 3; else 0.
+    /// Of a configuration that is refused, the number of the reason, 1 to 5; else 0.
     pub reason: u32,
     /// Of a port number that is refused, its place from 1; else 0.
     pub place: usize,
@@ -133,6 +137,16 @@ fn ports_of(alloc: Global, ports: &[LagPort]) -> Result<Vec<PortConfig>, NoMemor
     Ok(found)
 }
 
+/// A limit of links as the system takes it: 0 is no limit.
+fn limit(max_links: u16) -> Option<u16>
+    ensures { result ≡ lag_limit max_links }
+{
+    if max_links == 0 {
+        return None;
+    }
+    Some(max_links)
+}
+
 /// Makes the system of this configuration, which is accepted, with no algorithm; refused if memory is.
 fn system_of(
     alloc: Global,
@@ -140,7 +154,7 @@ fn system_of(
     keys: &[u16],
     ports: &[LagPort],
 ) -> Result<System<()>, SystemFault>
-    requires accepted { refusal_of keys.now ports.now ≡ None }
+    requires accepted { refusal_of config.now keys.now ports.now ≡ None }
     ensures made { IfOk result (λ system. IsMadeOfLagConfig config.now keys.now ports.now system.state) }
     ensures refused { IfErr result (λ fault. fault ≡ SystemFault.NoMemory) }
 {
@@ -151,7 +165,9 @@ fn system_of(
         },
         max_delay: config.max_delay,
         first_marker: config.first_marker,
+        conversations: config.conversations,
         aggregators: keys_of(alloc, keys)?,
+        max_links: limit(config.max_links),
         ports: ports_of(alloc, ports)?,
     };
     let system = System::new(alloc, config, by_number)?;
@@ -171,14 +187,14 @@ pub extern "C" fn lagffi_new(
     ensures live { IsTrue (is_some (held_state lag.old.held.kept)) → (result ≡ made_with_status holds_system_already)
         × (held_state lag.new.held.kept ≡ held_state lag.old.held.kept) }
     ensures made { held_state lag.old.held.kept ≡ None → MatchOption (held_state lag.new.held.kept)
-        (result ≡ made_refused (why_refused keys.now ports.now))
+        (result ≡ made_refused (why_refused config.now keys.now ports.now))
         (λ s. IsMadeOfLagConfig config.now keys.now ports.now s × (result ≡ made_with_status 0)) }
 {
     if let Some((system, block)) = lag.take(alloc) {
         lag.put(system, block);
         return LagMade::with_status(HOLDS_SYSTEM_ALREADY);
     }
-    if let Some(reason) = refusal(keys, ports) {
+    if let Some(reason) = refusal(config, keys, ports) {
         return LagMade::refused(&SystemFault::BadConfig(reason));
     }
     let Some(room) = Held::room(alloc) else {

@@ -2,11 +2,14 @@ ghost use Rattle.std.specs.Prelude.{◌≡◌, Option};
 ghost use Rattle.lagffi.specs.ReaderValues.{lag_assignment_on, assignment_or_refused, lag_assignment, choice_or_no_port, lag_end};
 ghost use Rattle.lagffi.specs.ReaderValues.{group_or_no_port, lag_group, info_or_no_port, lag_info, lag_marker, mux_state_or_no_port};
 ghost use Rattle.lagffi.specs.ReaderValues.{assignment_refused, no_end, group_refused, info_refused, marker_refused, party_refused};
-ghost use Rattle.lagffi.specs.ReaderValues.{state_or_no_port, party_or_no_port, lag_party, receive_state_or_no_port};
+ghost use Rattle.lagffi.specs.ReaderValues.{port_status_or_no_port};
+ghost use Rattle.lagffi.specs.ReaderValues.{state_or_no_port, party_or_no_port, lag_party, receive_state_or_no_port, standby_or_no_port};
 
-use crate::values::{LagNumber, NO_CONVERSATION, NO_PORT, OK};
+use crate::values::{LagNumber, LagTruth, NO_CONVERSATION, NO_PORT, OK};
 use bitflags::Flags;
-use lagsystem::{AggId, Assignment, Choice, Group, Info, MuxState, Party, ReceiveState, State};
+use lagsystem::{
+    AggId, Assignment, Choice, Group, Info, MuxState, Party, PortStatus, ReceiveState, State,
+};
 use lagtypes::End;
 
 /// The state octet of a port.
@@ -52,14 +55,49 @@ pub(crate) fn mux_state_or_no_port(answer: Option<MuxState>) -> LagNumber
     LagNumber::answered(number)
 }
 
-/// The aggregator that a port has chosen, or 0.
+/// Whether a port distributes, and else the first reason why not.
+pub(crate) fn port_status_or_no_port(answer: Option<PortStatus>) -> LagNumber
+    ensures { result ≡ port_status_or_no_port answer }
+{
+    let Some(status) = answer else {
+        return LagNumber::refused(NO_PORT);
+    };
+    let number = match status {
+        PortStatus::Distributing => 0,
+        PortStatus::LinkDown => 1,
+        PortStatus::NoLacpdu => 2,
+        PortStatus::OnDefaults => 3,
+        PortStatus::OwnSystem => 4,
+        PortStatus::NoAggregator => 5,
+        PortStatus::Standby(_) => 6,
+        PortStatus::Waiting(_) => 7,
+        PortStatus::WaitingForMembers => 8,
+        PortStatus::PartnerNotSynchronized => 9,
+    };
+    LagNumber::answered(number)
+}
+
+/// The aggregator that a port is SELECTED or STANDBY with, or 0.
 pub(crate) fn choice_or_no_port(answer: Option<Choice>) -> LagNumber
     ensures { result ≡ choice_or_no_port answer }
 {
     match answer {
         Some(Choice::Unselected) => LagNumber::answered(0),
-        Some(Choice::Selected(AggId(agg))) => LagNumber::answered(u64::from(agg)),
+        Some(Choice::Selected(AggId(agg)) | Choice::Standby(AggId(agg))) => {
+            LagNumber::answered(u64::from(agg))
+        }
         None => LagNumber::refused(NO_PORT),
+    }
+}
+
+/// Whether a port is STANDBY.
+pub(crate) fn standby_or_no_port(answer: Option<Choice>) -> LagTruth
+    ensures { result ≡ standby_or_no_port answer }
+{
+    match answer {
+        Some(Choice::Standby(_)) => LagTruth::answered(true),
+        Some(Choice::Unselected | Choice::Selected(_)) => LagTruth::answered(false),
+        None => LagTruth::refused(NO_PORT),
     }
 }
 

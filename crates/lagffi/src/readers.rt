@@ -8,6 +8,7 @@ ghost use Rattle.distributor.specs.Chains.{names_port};
 ghost use Rattle.distributor.specs.Conversations.{count_conversations, next_identifier};
 ghost use Rattle.lagsystem.specs.Hosts.{conversation_at, would_transmit_at};
 ghost use Rattle.lagsystem.specs.Offers.{has_aggregator};
+ghost use Rattle.lagsystem.specs.PortStatus.{status_of_port};
 ghost use Rattle.lagsystem.specs.Readers.{aggregator_numbered, conversation_count, conversation_in, distributing, group_at};
 ghost use Rattle.lagsystem.specs.State.{port_numbers, port_index, machines_of};
 ghost use Rattle.lagffi.specs.Asking.{ReadsHeldSystem};
@@ -18,16 +19,17 @@ ghost use Rattle.lagffi.specs.Numbers.{truth_or_no_port};
 ghost use Rattle.lagffi.specs.ReaderValues.{assignment_or_refused, choice_or_no_port, group_or_no_port, info_or_no_port, lag_marker};
 ghost use Rattle.lagffi.specs.ReaderValues.{mux_state_or_no_port, assignment_refused, group_refused, info_refused, marker_refused};
 ghost use Rattle.lagffi.specs.ReaderValues.{party_refused, state_or_no_port, party_or_no_port, receive_state_or_no_port};
+ghost use Rattle.lagffi.specs.ReaderValues.{port_status_or_no_port, standby_or_no_port};
 
 use crate::handle::Lag;
 use crate::reader_values::{
     LagAssignment, LagGroup, LagInfo, LagMarker, LagParty, choice_or_no_port, mux_state_or_no_port,
-    receive_state_or_no_port, state_or_no_port,
+    port_status_or_no_port, receive_state_or_no_port, standby_or_no_port, state_or_no_port,
 };
 use crate::stored::by_number;
 use crate::values::{
-    FRAME_LENGTH_REFUSED, LagNumber, LagTruth, NO_SYSTEM, PORT_LIST_LENGTH, WRONG_BUFFER_LENGTH,
-    put_first,
+    FRAME_LENGTH_REFUSED, LagNumber, LagTruth, NO_PORT, NO_SYSTEM, PORT_LIST_LENGTH,
+    WRONG_BUFFER_LENGTH, put_first,
 };
 use lagsystem::AggId;
 use std::alloc::Global;
@@ -123,7 +125,7 @@ pub extern "C" fn lagffi_receive_state(alloc: Global, lag: &mut Lag, port: u16) 
     answer
 }
 
-/// The aggregator that a port has chosen, or 0.
+/// The aggregator that a port is SELECTED or STANDBY with, or 0.
 #[unsafe(no_mangle)]
 pub extern "C" fn lagffi_choice(alloc: Global, lag: &mut Lag, port: u16) -> LagNumber
     ensures { ReadsHeldSystem (held_state lag.old.held.kept) (held_state lag.new.held.kept)
@@ -134,6 +136,21 @@ pub extern "C" fn lagffi_choice(alloc: Global, lag: &mut Lag, port: u16) -> LagN
     };
     let system = kept.with_algorithm(by_number);
     let answer = choice_or_no_port(system.choice(port));
+    lag.put(system.with_algorithm(()), block);
+    answer
+}
+
+/// Whether a port is STANDBY: it has an aggregator that had no room for one more link.
+#[unsafe(no_mangle)]
+pub extern "C" fn lagffi_is_standby(alloc: Global, lag: &mut Lag, port: u16) -> LagTruth
+    ensures { ReadsHeldSystem (held_state lag.old.held.kept) (held_state lag.new.held.kept)
+        (λ s. result ≡ standby_or_no_port (option_map (λ p. p.choice) (machines_of port s))) (result ≡ truth_refused no_system) }
+{
+    let Some((kept, block)) = lag.take(alloc) else {
+        return LagTruth::refused(NO_SYSTEM);
+    };
+    let system = kept.with_algorithm(by_number);
+    let answer = standby_or_no_port(system.choice(port));
     lag.put(system.with_algorithm(()), block);
     answer
 }
@@ -149,6 +166,67 @@ pub extern "C" fn lagffi_mux_state(alloc: Global, lag: &mut Lag, port: u16) -> L
     };
     let system = kept.with_algorithm(by_number);
     let answer = mux_state_or_no_port(system.mux_state(port));
+    lag.put(system.with_algorithm(()), block);
+    answer
+}
+
+/// Whether a port distributes, and else the first reason why not. `lagffi_wait_while` tells the ticks of Waiting, and
+/// `lagffi_choice` the aggregator of Standby.
+#[unsafe(no_mangle)]
+pub extern "C" fn lagffi_port_status(alloc: Global, lag: &mut Lag, port: u16) -> LagNumber
+    ensures { ReadsHeldSystem (held_state lag.old.held.kept) (held_state lag.new.held.kept)
+        (λ s. result ≡ port_status_or_no_port (option_map status_of_port (machines_of port s))) (result ≡ number_refused no_system) }
+{
+    let Some((kept, block)) = lag.take(alloc) else {
+        return LagNumber::refused(NO_SYSTEM);
+    };
+    let system = kept.with_algorithm(by_number);
+    let answer = port_status_or_no_port(system.port_status(port));
+    lag.put(system.with_algorithm(()), block);
+    answer
+}
+
+/// How many ticks current_while of a port has left, 0 to 900 (6.4.10).
+#[unsafe(no_mangle)]
+pub extern "C" fn lagffi_current_while(alloc: Global, lag: &mut Lag, port: u16) -> LagNumber
+    ensures { ReadsHeldSystem (held_state lag.old.held.kept) (held_state lag.new.held.kept)
+        (λ s. result ≡ number_or_refused 1 (option_map (λ p. p.current_while) (machines_of port s))) (result ≡ number_refused no_system) }
+{
+    let Some((kept, block)) = lag.take(alloc) else {
+        return LagNumber::refused(NO_SYSTEM);
+    };
+    let system = kept.with_algorithm(by_number);
+    let answer = LagNumber::or(system.current_while(port), NO_PORT);
+    lag.put(system.with_algorithm(()), block);
+    answer
+}
+
+/// How many ticks wait_while of a port has left, 0 to 20 (6.4.10).
+#[unsafe(no_mangle)]
+pub extern "C" fn lagffi_wait_while(alloc: Global, lag: &mut Lag, port: u16) -> LagNumber
+    ensures { ReadsHeldSystem (held_state lag.old.held.kept) (held_state lag.new.held.kept)
+        (λ s. result ≡ number_or_refused 1 (option_map (λ p. p.wait_while) (machines_of port s))) (result ≡ number_refused no_system) }
+{
+    let Some((kept, block)) = lag.take(alloc) else {
+        return LagNumber::refused(NO_SYSTEM);
+    };
+    let system = kept.with_algorithm(by_number);
+    let answer = LagNumber::of_wait_while(system.wait_while(port));
+    lag.put(system.with_algorithm(()), block);
+    answer
+}
+
+/// NTT: whether an LACPDU is to be sent on a port (6.4.7).
+#[unsafe(no_mangle)]
+pub extern "C" fn lagffi_ntt(alloc: Global, lag: &mut Lag, port: u16) -> LagTruth
+    ensures { ReadsHeldSystem (held_state lag.old.held.kept) (held_state lag.new.held.kept)
+        (λ s. result ≡ truth_or_no_port (option_map (λ p. p.ntt) (machines_of port s))) (result ≡ truth_refused no_system) }
+{
+    let Some((kept, block)) = lag.take(alloc) else {
+        return LagTruth::refused(NO_SYSTEM);
+    };
+    let system = kept.with_algorithm(by_number);
+    let answer = LagTruth::of_port(system.ntt(port));
     lag.put(system.with_algorithm(()), block);
     answer
 }
@@ -209,7 +287,7 @@ pub extern "C" fn lagffi_load(alloc: Global, lag: &mut Lag, port: u16) -> LagNum
         return LagNumber::refused(NO_SYSTEM);
     };
     let system = kept.with_algorithm(by_number);
-    let answer = LagNumber::of_load(&system.load(port));
+    let answer = LagNumber::of_count(&system.load(port));
     lag.put(system.with_algorithm(()), block);
     answer
 }

@@ -2,7 +2,7 @@ ghost use Rattle.std.specs.Prelude.{◌≡◌, map};
 ghost use Rattle.lagsystem.specs.First.{configured_numbers, first_bad_port_number};
 ghost use Rattle.lagffi.specs.Made.{lag_port_config, refusal_of};
 
-use crate::made::LagPort;
+use crate::made::{LagConfig, LagPort};
 use lagsystem::BadConfig;
 
 /// The place, counted from 1, of the first port whose number is not above the one before it, or is 0.
@@ -21,9 +21,9 @@ fn first_bad_port_number(ports: &[LagPort]) -> Option<usize>
     None
 }
 
-/// The first reason to refuse these keys and ports, found before memory is taken; None if they are accepted.
-pub(crate) fn refusal(keys: &[u16], ports: &[LagPort]) -> Option<BadConfig>
-    ensures { result ≡ refusal_of keys.now ports.now }
+/// The first reason to refuse this configuration, found before memory is taken; None if it is accepted.
+pub(crate) fn refusal(config: &LagConfig, keys: &[u16], ports: &[LagPort]) -> Option<BadConfig>
+    ensures { result ≡ refusal_of config.now keys.now ports.now }
 {
     if ports.is_empty() || ports.len() > 64 {
         return Some(BadConfig::Ports);
@@ -31,5 +31,14 @@ pub(crate) fn refusal(keys: &[u16], ports: &[LagPort]) -> Option<BadConfig>
     if keys.is_empty() || keys.len() > 64 {
         return Some(BadConfig::Aggregators);
     }
-    first_bad_port_number(ports).map(BadConfig::PortNumber)
+    if let Some(place) = first_bad_port_number(ports) {
+        return Some(BadConfig::PortNumber(place));
+    }
+    if config.max_links > 64 {
+        return Some(BadConfig::MaxLinks);
+    }
+    if config.conversations != 256 && config.conversations != 4096 {
+        return Some(BadConfig::Conversations);
+    }
+    None
 }

@@ -162,13 +162,23 @@ impl LagNumber {
         }
     }
 
-    /// The answer of `load`.
-    pub(crate) fn of_load(answer: &Result<u32, SystemFault>) -> LagNumber
+    /// A count of conversations, the answer of `load` and of `force_port`.
+    pub(crate) fn of_count(answer: &Result<u32, SystemFault>) -> LagNumber
         ensures { result ≡ number_of answer.now }
     {
         match answer {
             Ok(answer) => LagNumber::answered(u64::from(*answer)),
             Err(fault) => LagNumber::refused(u32::from(fault.number())),
+        }
+    }
+
+    /// The answer of `wait_while`, or else that there is no such port.
+    pub(crate) fn of_wait_while(answer: Option<u8>) -> LagNumber
+        ensures { result ≡ number_or_refused 1 answer }
+    {
+        match answer {
+            Some(ticks) => LagNumber::answered(u64::from(ticks)),
+            None => LagNumber::refused(NO_PORT),
         }
     }
 

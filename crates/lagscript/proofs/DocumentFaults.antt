@@ -2,6 +2,7 @@
 use Rattle.std.proofs.Common.{ℕ, ◌≡◌, ◌+◌, Bool, true, false, List, [], ◌∷◌, codes, length, Option, None, Some, Result, Ok, Err}
 use Rattle.std.proofs.Common.{option_and_then, option_map, ap}
 use Rattle.toml.specs.Data.{Members, as_table}
+use Rattle.lagtypes.specs.declared.identifiers.Key.{Key}
 use Rattle.lagsystem.specs.declared.config.PortConfig.{PortConfig}
 use Rattle.lagsystem.specs.declared.fault.BadConfig.TheVariants as bad
 use Rattle.lagscript.specs.Configs.{ConfigValue, refusal_of_all}
@@ -10,8 +11,8 @@ use Rattle.lagscript.specs.Keys.{ends_in, flag_in, key_in, keys_among, limit_in,
 use Rattle.lagscript.specs.Readings.{◌>>=◌, each_at_place, or_fault, if_or_fault}
 use Rattle.lagscript.specs.Scripts.{PlanValue, events_in, cables_in, script_fault_for, ends_of, entries_in, no_fault, plan_in, planned}
 use Rattle.lagscript.specs.Scripts.{systems_in, top_keys, two_systems}
-use Rattle.lagscript.specs.Tables.{aggregators_in, cable_keys, cable_of, limit_of, system_values_in, port_keys, port_config_of, ports_in}
-use Rattle.lagscript.specs.Tables.{system_keys, system_of}
+use Rattle.lagscript.specs.Tables.{aggregators_in, cable_keys, cable_of, conversations_in, limit_of, max_links_in}
+use Rattle.lagscript.specs.Tables.{port_config_of, port_keys, ports_in, system_keys, system_of, system_values_in}
 use Rattle.lagscript.specs.declared.config.BadWorld.{BadWorld}
 use Rattle.lagscript.specs.declared.config.BadWorld.TheVariants as refused
 use Rattle.lagscript.specs.declared.fault.EntryFault.{EntryFault}
@@ -142,6 +143,14 @@ aggregators_fine : (system : ℕ) (ms : Members) → Fine (aggregators_in system
 aggregators_fine system ms = or_fine (fault.SystemValue system system_key.Aggregators)
     (value_at (codes "aggregators") (list_in key_in) None ms) (λ e. cc)
 
+max_links_fine : (system : ℕ) (ms : Members) → Fine (max_links_in system ms)
+max_links_fine system ms = or_fine (fault.SystemValue system system_key.MaxLinks)
+    (value_at (codes "max_links") (λ d. option_map Some (integer_in 65536 d)) (Some None) ms) (λ e. cc)
+
+conversations_fine : (system : ℕ) (ms : Members) → Fine (conversations_in system ms)
+conversations_fine system ms = or_fine (fault.SystemValue system system_key.Conversations)
+    (value_at (codes "conversations") (integer_in 65536) (Some 256) ms) (λ e. cc)
+
 ports_fine : (system : ℕ) (own : List ℕ) (ms : Members) → Fine (ports_in system own ms)
 ports_fine system own ms =
     then_fine (or_fault (fault.SystemValue system system_key.Port) (value_at (codes "port") (list_in as_table) None ms))
@@ -149,13 +158,26 @@ ports_fine system own ms =
     (or_fine (fault.SystemValue system system_key.Port) (value_at (codes "port") (list_in as_table) None ms) (λ e. cc))
     (in_place_fine (port_config_of system own) (port_fine system own) 1)
 
+abbrev configured : SystemValues → List Key → Option ℕ → ℕ → List PortConfig → ConfigValue
+configured n aggregators max_links conversations ports =
+    record {
+      system = n.id;
+      max_delay = n.max_delay;
+      first_marker = n.first_marker;
+      conversations = conversations;
+      aggregators = aggregators;
+      max_links = max_links;
+      ports = ports;
+    }
+
 system_fine : (system : ℕ) (ms : Members) → Fine (system_of system ms)
 system_fine system ms =
-    three_fine {D = ConfigValue} (system_values_in system ms) (λ n. aggregators_in system ms) (λ n a. ports_in system n.id.mac ms)
-    (λ n aggregators ports. Ok
-    (record { system = n.id; max_delay = n.max_delay; first_marker = n.first_marker; aggregators = aggregators; ports = ports }))
-    (numbers_fine system ms) (λ n. aggregators_fine system ms)
-    (λ n a. ports_fine system n.id.mac ms) (λ n a p e. cc)
+    three_fine {D = ConfigValue} (system_values_in system ms) (λ n. aggregators_in system ms) (λ n a. max_links_in system ms)
+    (λ n a most. conversations_in system ms >>= λ c. ports_in system n.id.mac ms >>= λ ports. Ok (configured n a most c ports))
+    (numbers_fine system ms) (λ n. aggregators_fine system ms) (λ n a. max_links_fine system ms)
+    (λ n a most. then_fine (conversations_in system ms) (λ c. ports_in system n.id.mac ms >>= λ ports. Ok (configured n a most c ports))
+    (conversations_fine system ms)
+    (λ c. then_fine (ports_in system n.id.mac ms) (λ ports. Ok (configured n a most c ports)) (ports_fine system n.id.mac ms) (λ p e. cc)))
 
 two_fine : (mss : List Members) → Fine (two_systems mss)
 two_fine mss =
@@ -210,6 +232,8 @@ config_fine None x e = cc
 config_fine (Some (refused.System side bad.Ports)) x e = cc
 config_fine (Some (refused.System side bad.Aggregators)) x e = cc
 config_fine (Some (refused.System side (bad.PortNumber place))) x e = cc
+config_fine (Some (refused.System side bad.MaxLinks)) x e = cc
+config_fine (Some (refused.System side bad.Conversations)) x e = cc
 config_fine (Some refused.SameSystem) x e = cc
 config_fine (Some (refused.CableEnd place)) x e = cc
 config_fine (Some refused.Lines) x e = cc

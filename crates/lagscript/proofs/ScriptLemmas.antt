@@ -3,11 +3,11 @@ use Rattle.std.proofs.Common.{ℕ, ◌≡◌, inl, inr, Bool, true, false, List,
 use Rattle.std.proofs.Common.{option_and_then, option_map, cond, refl, ap, subst, sym}
 use Rattle.toml.specs.Data.{Members}
 use Rattle.toml.specs.Parse.{parse_document}
-use Rattle.lagsystem.specs.First.{refusal}
+use Rattle.lagsystem.specs.First.{or_first, refusal}
 use Rattle.lagsystem.specs.declared.fault.BadConfig.{BadConfig}
 use Rattle.lagsystem.specs.declared.fault.BadConfig.TheVariants as bad
 use Rattle.lagscript.specs.EventValues.{EventValue}
-use Rattle.lagscript.specs.Configs.{ConfigValue, bad_end, or_first, refusal_of_all, same_system}
+use Rattle.lagscript.specs.Configs.{ConfigValue, bad_end, refusal_of_all, same_system}
 use Rattle.lagscript.specs.Readings.{◌>>=◌, ReadsAs, if_or_fault}
 use Rattle.lagscript.specs.Scripts.{HasPlan, HasScript, IsRefused, ReadsPlan, PlanValue, script_fault_for, ends_of, no_fault, plan_in}
 use Rattle.lagscript.specs.Scripts.{plan_value, planned}
@@ -30,9 +30,13 @@ no_reason : (one two : Option BadConfig) (same : Bool) (place : Option ℕ)
 no_reason (Some bad.Ports) two same place h = cc
 no_reason (Some bad.Aggregators) two same place h = cc
 no_reason (Some (bad.PortNumber n)) two same place h = cc
+no_reason (Some bad.MaxLinks) two same place h = cc
+no_reason (Some bad.Conversations) two same place h = cc
 no_reason None (Some bad.Ports) same place h = cc
 no_reason None (Some bad.Aggregators) same place h = cc
 no_reason None (Some (bad.PortNumber n)) same place h = cc
+no_reason None (Some bad.MaxLinks) same place h = cc
+no_reason None (Some bad.Conversations) same place h = cc
 no_reason None None true place h = cc
 no_reason None None false (Some n) h = cc
 no_reason None None false None h = refl
@@ -42,8 +46,8 @@ pub not_refused : (systems : List ConfigValue) (cables : List (ℕ × ℕ))
     → option_and_then script_fault_for (refusal_of_all systems cables) ≡ None → refusal_of_all systems cables ≡ None
 not_refused [] cables h = refl
 not_refused (a ∷ []) cables h = refl
-not_refused (a ∷ b ∷ []) cables h = no_reason (refusal a.aggregators a.ports) (refusal b.aggregators b.ports)
-    (same_system a.system b.system) (bad_end a.ports b.ports cables) h
+not_refused (a ∷ b ∷ []) cables h = no_reason (refusal a.aggregators a.ports a.max_links a.conversations)
+    (refusal b.aggregators b.ports b.max_links b.conversations) (same_system a.system b.system) (bad_end a.ports b.ports cables) h
 not_refused (a ∷ b ∷ c ∷ rest) cables h = refl
 
 -- the steps of a plan
@@ -83,6 +87,8 @@ reads_fault text ms p (fault.Entry a b) s = (ms, p, s)
 reads_fault text ms p (fault.Ports a) s = (ms, p, s)
 reads_fault text ms p (fault.AggregatorCount a) s = (ms, p, s)
 reads_fault text ms p (fault.PortNumber a b) s = (ms, p, s)
+reads_fault text ms p (fault.MaxLinks a) s = (ms, p, s)
+reads_fault text ms p (fault.ConversationCount a) s = (ms, p, s)
 reads_fault text ms p fault.SameSystem s = (ms, p, s)
 reads_fault text ms p (fault.CableEnd a) s = (ms, p, s)
 reads_fault text ms p fault.NoMemory s = tt

@@ -5,7 +5,7 @@ use Rattle.std.specs.List.{list_any}
 use Rattle.std.specs.Str.{bytes_eq}
 use Rattle.lagtypes.specs.declared.identifiers.Key.{Key}
 use Rattle.lagtypes.specs.declared.identifiers.SystemId.{SystemId}
-use Rattle.lagsystem.specs.First.{refusal}
+use Rattle.lagsystem.specs.First.{or_first, refusal}
 use Rattle.lagsystem.specs.declared.config.Config.{Config}
 use Rattle.lagsystem.specs.declared.config.PortConfig.{PortConfig}
 use Rattle.lagscript.specs.declared.config.BadWorld.{BadWorld}
@@ -17,7 +17,9 @@ pub record ConfigValue : Type 0 where
   pub system : SystemId
   pub max_delay : ℕ
   pub first_marker : ℕ
+  pub conversations : ℕ
   pub aggregators : List Key
+  pub max_links : Option ℕ
   pub ports : List PortConfig
 
 -- the configuration, as a value of the logic
@@ -27,7 +29,9 @@ config_value c =
       system = c.system;
       max_delay = c.max_delay;
       first_marker = c.first_marker;
+      conversations = c.conversations;
       aggregators = c.aggregators.items;
+      max_links = c.max_links;
       ports = c.ports.items;
     }
 
@@ -47,11 +51,6 @@ can_join ports1 ports2 earlier cable = (has_port ports1 cable.0 && has_port port
 abbrev pub has_bad_end : List PortConfig → List PortConfig → List (ℕ × ℕ) → ℕ → Bool
 has_bad_end ports1 ports2 cables i = not (can_join ports1 ports2 (take i cables) (get_or cables i (0, 0)))
 
--- the first of two values, if there is one, else the second
-abbrev pub or_first : {A : Type 0} → Option A → Option A → Option A
-or_first None other = other
-or_first (Some x) other = Some x
-
 -- the first number below a limit that passes a test
 abbrev pub first_below : (ℕ → Bool) → ℕ → Option ℕ
 first_below test zero = None
@@ -67,7 +66,7 @@ same_system a b = (a.priority == b.priority) && bytes_eq a.mac b.mac
 
 -- why the configuration of system 1 or 2 is refused, if it is
 abbrev pub system_refusal : ℕ → ConfigValue → Option BadWorld
-system_refusal side config = option_map (System side) (refusal config.aggregators config.ports)
+system_refusal side config = option_map (System side) (refusal config.aggregators config.ports config.max_links config.conversations)
 
 -- the first reason to refuse two systems and their cables: of system 1, of system 2, equal identifiers, of the cables
 abbrev pub refusal_of_two : ConfigValue → ConfigValue → List (ℕ × ℕ) → Option BadWorld

@@ -37,6 +37,8 @@ abbrev pub script_fault_for : BadWorld → Option ScriptFault
 script_fault_for (refused.System side bad.Ports) = Some (fault.Ports side)
 script_fault_for (refused.System side bad.Aggregators) = Some (fault.AggregatorCount side)
 script_fault_for (refused.System side (bad.PortNumber place)) = Some (fault.PortNumber side place)
+script_fault_for (refused.System side bad.MaxLinks) = Some (fault.MaxLinks side)
+script_fault_for (refused.System side bad.Conversations) = Some (fault.ConversationCount side)
 script_fault_for refused.SameSystem = Some fault.SameSystem
 script_fault_for (refused.CableEnd place) = Some (fault.CableEnd place)
 script_fault_for refused.Lines = None

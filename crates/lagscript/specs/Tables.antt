@@ -46,9 +46,10 @@ port_config_of system own place ms =
 
 -- the keys in the table of a system
 abbrev pub system_keys : List (List ℕ)
-system_keys = codes "priority" ∷ codes "mac" ∷ codes "max_delay" ∷ codes "first_marker" ∷ codes "aggregators" ∷ codes "port" ∷ []
+system_keys = codes "priority" ∷ codes "mac" ∷ codes "max_delay" ∷ codes "first_marker" ∷ codes "aggregators" ∷ codes "max_links"
+    ∷ codes "conversations" ∷ codes "port" ∷ []
 
--- the values of a system other than its lists
+-- the values of a system that come before its lists
 abbrev pub system_values_in : ℕ → Members → Result SystemValues ScriptFault
 system_values_in system ms =
     let wrong = fault.SystemValue system in
@@ -65,6 +66,16 @@ abbrev pub aggregators_in : ℕ → Members → Result (List Key) ScriptFault
 aggregators_in system ms = or_fault (fault.SystemValue system system_key.Aggregators)
     (value_at (codes "aggregators") (list_in key_in) None ms)
 
+-- how many links each aggregator may have; None if it is left out
+abbrev pub max_links_in : ℕ → Members → Result (Option ℕ) ScriptFault
+max_links_in system ms = or_fault (fault.SystemValue system system_key.MaxLinks)
+    (value_at (codes "max_links") (λ d. option_map Some (integer_in 65536 d)) (Some None) ms)
+
+-- how many conversations each aggregator has; 256 if it is left out
+abbrev pub conversations_in : ℕ → Members → Result ℕ ScriptFault
+conversations_in system ms = or_fault (fault.SystemValue system system_key.Conversations)
+    (value_at (codes "conversations") (integer_in 65536) (Some 256) ms)
+
 -- every element is a table, and each is read as the port at its place
 abbrev pub ports_in : ℕ → List ℕ → Members → Result (List PortConfig) ScriptFault
 ports_in system own ms = or_fault (fault.SystemValue system system_key.Port) (value_at (codes "port") (list_in as_table) None ms)
@@ -75,8 +86,18 @@ abbrev pub system_of : ℕ → Members → Result ConfigValue ScriptFault
 system_of system ms =
     system_values_in system ms >>= λ n.
     aggregators_in system ms >>= λ aggregators.
+    max_links_in system ms >>= λ max_links.
+    conversations_in system ms >>= λ conversations.
     ports_in system n.id.mac ms >>= λ ports.
-    Ok (record { system = n.id; max_delay = n.max_delay; first_marker = n.first_marker; aggregators = aggregators; ports = ports })
+    Ok (record {
+      system = n.id;
+      max_delay = n.max_delay;
+      first_marker = n.first_marker;
+      conversations = conversations;
+      aggregators = aggregators;
+      max_links = max_links;
+      ports = ports;
+    })
 
 -- ---- cables
 

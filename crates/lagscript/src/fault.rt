@@ -22,6 +22,12 @@ pub enum SystemKey {
     /// The keys of the aggregators, each 0 to 65535.
     #[error("aggregators")]
     Aggregators,
+    /// How many links each aggregator may have as its members, 0 to 65535; no limit if it is left out.
+    #[error("max_links")]
+    MaxLinks,
+    /// How many conversations each aggregator has, 0 to 65535, 256 if it is left out.
+    #[error("conversations")]
+    Conversations,
     /// The tables of the ports.
     #[error("port")]
     Port,
@@ -133,6 +139,12 @@ pub enum ScriptFault {
     /// The port of a system at this place has the number 0, or a number that is not above the one before it.
     #[error("system {0}: port number {1}")]
     PortNumber(u8, usize),
+    /// The limit of links of this system is not 1 to 64.
+    #[error("system {0}: max links")]
+    MaxLinks(u8),
+    /// This system has neither 256 nor 4096 conversations in each aggregator.
+    #[error("system {0}: conversation count")]
+    ConversationCount(u8),
     /// Both systems have the same identifier.
     #[error("two systems with one identifier")]
     SameSystem,

@@ -39,6 +39,8 @@ fn script_fault_for(reason: BadWorld) -> Option<ScriptFault>
             BadConfig::Ports => Some(ScriptFault::Ports(side)),
             BadConfig::Aggregators => Some(ScriptFault::AggregatorCount(side)),
             BadConfig::PortNumber(place) => Some(ScriptFault::PortNumber(side, place)),
+            BadConfig::MaxLinks => Some(ScriptFault::MaxLinks(side)),
+            BadConfig::Conversations => Some(ScriptFault::ConversationCount(side)),
         },
         BadWorld::SameSystem => Some(ScriptFault::SameSystem),
         BadWorld::CableEnd(place) => Some(ScriptFault::CableEnd(place)),

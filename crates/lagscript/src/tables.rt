@@ -2,14 +2,15 @@ ghost use Rattle.std.specs.Prelude.{◌≡◌, map};
 ghost use Rattle.toml.specs.View.{table_view};
 ghost use Rattle.lagscript.specs.Configs.{config_value};
 ghost use Rattle.lagscript.specs.Readings.{ReadsAs, each_at_place};
-ghost use Rattle.lagscript.specs.Tables.{aggregators_in, cable_of, limit_of, system_values_in, port_config_of, ports_in, system_of};
+ghost use Rattle.lagscript.specs.Tables.{aggregators_in, cable_of, conversations_in, limit_of, max_links_in, port_config_of};
+ghost use Rattle.lagscript.specs.Tables.{ports_in, system_of, system_values_in};
 ghost use Rattle.lagscript.specs.declared.fault.ScriptFault.TheVariants.{NoMemory};
 ghost use Rattle.lagscript.specs.Results.{table_members};
 
 use crate::fault::{PortKey, ScriptFault, SystemKey};
 use crate::lists::{keys_in, tables_in};
 use crate::values::{
-    ends_at, flag_at, has_only, limit_in, long_number_at, mac_at, member, number_at,
+    ends_at, flag_at, has_only, integer_in, limit_in, long_number_at, mac_at, member, number_at,
 };
 use lagsystem::{Config, PortConfig};
 use lagtypes::{Key, SystemId};
@@ -17,12 +18,14 @@ use std::alloc::Global;
 use toml::Table;
 
 /// The keys in the table of a system.
-const SYSTEM_KEYS: [&str; 6] = [
+const SYSTEM_KEYS: [&str; 8] = [
     "priority",
     "mac",
     "max_delay",
     "first_marker",
     "aggregators",
+    "max_links",
+    "conversations",
     "port",
 ];
 
@@ -125,7 +128,29 @@ fn aggregators_of(alloc: Global, system: u8, table: &Table) -> Result<Vec<Key>, 
     }
 }
 
-/// The values of a system other than its lists.
+/// Reads how many links each aggregator of a system may have; None if it is left out.
+fn max_links_of(system: u8, table: &Table) -> Result<Option<u16>, ScriptFault>
+    ensures { result ≡ max_links_in system (table_view table.now) }
+{
+    let wrong = ScriptFault::SystemValue(system, SystemKey::MaxLinks);
+    match member(table, "max_links") {
+        Some(value) => match integer_in(value) {
+            Some(most) => Ok(Some(most)),
+            None => Err(wrong),
+        },
+        None => Ok(None),
+    }
+}
+
+/// Reads how many conversations each aggregator of a system has.
+fn conversations_of(system: u8, table: &Table) -> Result<u16, ScriptFault>
+    ensures { result ≡ conversations_in system (table_view table.now) }
+{
+    let wrong = ScriptFault::SystemValue(system, SystemKey::Conversations);
+    number_at(table, "conversations", Some(256)).ok_or(wrong)
+}
+
+/// The values of a system that come before its lists.
 #[derive(Clone, Copy, Debug, PartialEq, Eq)]
 struct SystemValues {
     id: SystemId,
@@ -133,7 +158,7 @@ struct SystemValues {
     first_marker: u32,
 }
 
-/// Reads the values of a system other than its lists.
+/// Reads the values of a system that come before its lists.
 fn system_values_of(system: u8, table: &Table) -> Result<SystemValues, ScriptFault>
     ensures { result ≡ system_values_in system (table_view table.now) }
 {
@@ -160,12 +185,16 @@ pub(crate) fn system_of(alloc: Global, system: u8, table: &Table) -> Result<Conf
 {
     let numbers = system_values_of(system, table)?;
     let aggregators = aggregators_of(alloc, system, table)?;
+    let max_links = max_links_of(system, table)?;
+    let conversations = conversations_of(system, table)?;
     let ports = ports_of(alloc, system, numbers.id.mac, table)?;
     Ok(Config {
         system: numbers.id,
         max_delay: numbers.max_delay,
         first_marker: numbers.first_marker,
+        conversations,
         aggregators,
+        max_links,
         ports,
     })
 }

@@ -1,25 +1,26 @@
 -- Choosing an aggregator is the model's move of joining it.
-use Rattle.std.proofs.Common.{◌≡◌, ◌≢◌, ℕ, zero, suc, ◌<◌, ◌-◌, Bool, true, false, List, [], ◌∷◌, inl, inr, refl, sym, ◌∙◌, subst, ap}
-use Rattle.std.proofs.Common.{arith, Option, Some, None}
-use Rattle.std.specs.Prelude.{◌&&◌, slice_get, slice_set, not}
-use Rattle.std.specs.List.{All, AllByRecursion}
-use Rattle.std.proofs.lemmas.Bool.{false≢true}
+use Rattle.std.proofs.Common.{◌≡◌, ◌≢◌, ℕ, Bool, true, false, List, [], ◌∷◌, inl, inr, refl, sym, ◌∙◌, subst, ap}
+use Rattle.std.proofs.Common.{Option, Some, None}
+use Rattle.std.specs.Prelude.{◌&&◌, length, option_map, slice_get, slice_set, not}
+use Rattle.std.specs.List.{AllByRecursion}
+use Rattle.std.proofs.lemmas.Bool.{cases_eq, false≢true}
 use Rattle.std.proofs.lemmas.Option.{none-some, same_Some}
 use Rattle.lagtypes.specs.declared.identifiers.AggId.{AggId}
 use Rattle.lagtypes.specs.declared.identifiers.Key.{Key}
 use Rattle.lagtypes.specs.declared.party.Choice.{Choice}
-use Rattle.lagtypes.specs.declared.party.Choice.TheVariants.{Unselected, Selected}
-use Rattle.lagtypes.specs.Group.{SamePair}
+use Rattle.lagtypes.specs.declared.party.Choice.TheVariants.{Unselected, Selected, Standby}
+use Rattle.lagtypes.specs.Group.{SamePair, individual}
+use Rattle.slowpdu.specs.Parties.{party_of}
 use Rattle.portmachines.specs.declared.mux.MuxState.{MuxState}
 use Rattle.portmachines.specs.declared.mux.MuxState.TheVariants.{Detached, Waiting, Attached, CollectingDistributing}
 use Rattle.lagtypes.specs.Choices.{is_selected}
 use Rattle.portmachines.specs.Mux.{same_mux_state, partner_synchronized}
-use Rattle.selection.specs.declared.view.PortView.{PortView as Seen}
 use Rattle.selection.specs.Choice.{chosen_aggregator, chosen_for_view}
-use Rattle.selection.specs.Joining.{MayJoin, ends}
+use Rattle.selection.specs.Joining.{IsOccupant, MayJoin, ends}
 use Rattle.lagtypes.specs.Same.{same_system}
-use Rattle.lagtypes.specs.Choices.{is_unselected}
+use Rattle.lagtypes.specs.Choices.{is_standby, is_unselected}
 use Rattle.selection.specs.Views.{is_detached, is_eligible}
+use Rattle.selection.specs.Limits.{AggregatorsValue, has_room}
 use Rattle.selection.proofs.Joining.{choice-joins, if-some}
 use Rattle.lagmodel.specs.View.{PortFacts, SystemSetup, ModelCall, DistributorFacts}
 use Rattle.lagmodel.specs.Move.{PortMove, PortAllowed, port_after, pair_at, LawfulMoves}
@@ -27,26 +28,23 @@ use Rattle.lagmodel.specs.Bridge.{find_number, ports_of}
 use Rattle.lagmodel.proofs.Base.{mapped_some}
 use Rattle.lagmodel.proofs.Uses.{moves_at, moves_joined}
 use Rattle.lagsystem.specs.declared.system_ports.SystemPort.{SystemPort}
-use Rattle.lagsystem.specs.Settling.{after_choices, after_choice_at, with_choice, aggregator_for}
-use Rattle.lagsystem.specs.ModelView.{number_of_port, model_port_of, model_view_at, key_of, selected_number}
+use Rattle.lagsystem.specs.Settling.{ChoosesIn, PromotesNext, after_choices, with_choice, aggregator_for, choice_for, choice_if, choice_in}
+use Rattle.lagsystem.specs.Occupants.{OccupantsAgree, occupied}
+use Rattle.lagsystem.specs.ModelView.{number_of_port, model_port, model_port_of, model_view_at, key_of, selected_number}
 use Rattle.lagsystem.specs.State.{port_numbers}
 use Rattle.lagsystem.specs.Views.{views, selection_view, stage_of}
-use Rattle.lagsystem.proofs.Keeps.{chosen_numbers}
-use Rattle.lagsystem.proofs.Rising.{Rises, all_found, are_numbered, find_here}
+use Rattle.lagsystem.proofs.Keeps.{given_number, numbers_set}
+use Rattle.lagsystem.proofs.Limiting.{next_stands}
+use Rattle.lagsystem.proofs.NoneLeft.{each_place}
+use Rattle.lagsystem.proofs.Occupying.{each_seen, key_there, promotion_agrees}
+use Rattle.lagsystem.proofs.OfPort.{port_stays, slot_moves}
+use Rattle.lagsystem.proofs.PromotionLemmas.{choices_keep, promotions_keep}
+use Rattle.lagsystem.proofs.Rising.{Rises, all-get, all-set, all_found, are_numbered, find_here}
 use Rattle.lagsystem.proofs.SettlingLemmas.{set_same}
 
 -- the keys of the aggregators are those of the configuration
 abbrev pub Fits : SystemSetup → List Key → Type 0
 Fits u keys = (g : ℕ) → u.key g ≡ key_of keys g
-
-key_there : (keys : List Key) (n : ℕ) (k : Key) → 0 < n → slice_get keys (n - 1) ≡ Some k → key_of keys n ≡ Some k
-key_there keys zero k l e = absurd (omega arith)
-key_there keys (suc n) k l e = let same : suc n - 1 ≡ n = omega arith in subst (λ m. slice_get keys m ≡ Some k) same e
-
-each_seen : (P : Seen → Type 0) (system_ports : List SystemPort) → All P (views system_ports)
-    → AllByRecursion (λ s. P (selection_view s)) system_ports
-each_seen P [] h = tt
-each_seen P (s ∷ ss) h = (h 0 (selection_view s) (omega arith), each_seen P ss (λ k d within. h (suc k) d (omega arith)))
 
 all_weaker : (P Q : SystemPort → Type 0) → ((s : SystemPort) → P s → Q s) → (system_ports : List SystemPort) → AllByRecursion P system_ports
     → AllByRecursion Q system_ports
@@ -61,6 +59,7 @@ all_shown P system_ports all q b e =
 
 given_there : (agg : AggId) (c : Choice) → selected_number c ≡ Some agg.0 → c ≡ Selected agg
 given_there agg Unselected e = absurd (none-some agg.0 e)
+given_there agg (Standby a) e = absurd (none-some agg.0 e)
 given_there agg (Selected a) e = let same = same_Some a.0 agg.0 e in λ i. Selected (record { 0 = same i })
 
 join_allowed : (u : SystemSetup) (call : ModelCall) (keys : List Key) (system_ports : List SystemPort) (system_port : SystemPort)
@@ -71,20 +70,20 @@ join_allowed u call keys system_ports system_port agg fits j = (
   ap selected_number j.outside,
   j.apart,
   fits agg.0 ∙ key_there keys agg.0 system_port.port.party.key j.numbered j.key,
-  elim j.members [
+  elim j.occupants [
     | inl none ↦
         inl (all_shown (λ b. b.aggregator ≢ Some agg.0) system_ports
-        (all_weaker (λ s. s.port.choice ≢ Selected agg) (λ s. (model_port_of s).aggregator ≢ Some agg.0)
-        (λ s away e. away (given_there agg s.port.choice e)) system_ports
-        (each_seen (λ w. w.choice ≢ Selected agg) system_ports none)))
+        (all_weaker (λ s. IsOccupant agg (selection_view s) → ⊥) (λ s. (model_port_of s).aggregator ≢ Some agg.0)
+        (λ s away e. away (inl (given_there agg s.port.choice e))) system_ports
+        (each_seen (λ w. IsOccupant agg w → ⊥) system_ports none)))
     | inr shared ↦
         inr (
           all_shown (λ b. b.aggregator ≡ Some agg.0 → SamePair (pair_at b) (pair_at (model_port_of system_port))) system_ports
-              (all_weaker (λ s. s.port.choice ≡ Selected agg → SamePair (ends (selection_view s)) (ends (selection_view system_port)))
+              (all_weaker (λ s. IsOccupant agg (selection_view s) → SamePair (ends (selection_view s)) (ends (selection_view system_port)))
               (λ s. (model_port_of s).aggregator ≡ Some agg.0
               → SamePair (pair_at (model_port_of s)) (pair_at (model_port_of system_port)))
-              (λ s here e. here (given_there agg s.port.choice e)) system_ports
-              (each_seen (λ w. w.choice ≡ Selected agg → SamePair (ends w) (ends (selection_view system_port)))
+              (λ s here e. here (inl (given_there agg s.port.choice e))) system_ports
+              (each_seen (λ w. IsOccupant agg w → SamePair (ends w) (ends (selection_view system_port)))
               system_ports shared.one_group)),
           shared.aggregatable,
         )
@@ -110,7 +109,7 @@ still true false m h = refl
 still false x m h = refl
 
 joined : (s : SystemPort) (agg : AggId) → is_eligible (selection_view s) ≡ true
-    → model_port_of (with_choice s (Some agg)) ≡ port_after (PortMove.Join agg.0) (model_port_of s)
+    → model_port_of (with_choice s (Some (Selected agg))) ≡ port_after (PortMove.Join agg.0) (model_port_of s)
 joined s agg ok =
     let v = selection_view s in
     let mux = detached s.port.mux s.port.wait_while (detached_part v.enabled v.settled (is_detached v.stage) (is_unselected v.choice)
@@ -120,35 +119,144 @@ joined s agg ok =
     ap view (still sync true (same_mux_state CollectingDistributing s.port.mux) mux
     ∙ sym (still sync (is_selected s.port.choice) (same_mux_state CollectingDistributing s.port.mux) mux))
 
-given_moves : (u : SystemSetup) (call : ModelCall) (f : DistributorFacts) (keys : List Key) (system_ports : List SystemPort) (i : ℕ)
-    (system_port : SystemPort) (o : Option AggId) → Fits u keys → Rises 0 (port_numbers system_ports)
-    → slice_get system_ports i ≡ Some system_port
-    → aggregator_for keys system_ports system_port ≡ o
-    → LawfulMoves u call (model_view_at f system_ports) [] (model_view_at f (slice_set system_ports i (with_choice system_port o)))
-given_moves u call f keys system_ports i system_port None fits r h k =
-    ([], tt, refl, ap (model_view_at f) (set_same system_ports i system_port h))
-given_moves u call f keys system_ports i system_port (Some agg) fits r h k =
-    let x = if-some (is_eligible (selection_view system_port)) (chosen_aggregator keys (views system_ports) system_port.number) agg k in
-    let j = choice-joins keys (views system_ports) (selection_view system_port) agg
-    (sym (ap (chosen_for_view keys (views system_ports)) (find_here 0 system_ports i system_port r h)) ∙ x.1) in
-    moves_at number_of_port model_port_of u call f system_ports i system_port (with_choice system_port (Some agg)) (PortMove.Join agg.0)
-    (are_numbered 0 system_ports r) h refl (joined system_port agg x.0) (join_allowed u call keys system_ports system_port agg fits j)
+-- a STANDBY port is seen as one outside every aggregator
+standby_stays : (s : SystemPort) (agg : AggId) → s.port.choice ≡ Unselected
+    → model_port_of (with_choice s (Some (Standby agg))) ≡ model_port_of s
+standby_stays s agg e = ap (λ c. model_port (record s.port { choice = c })) (sym e)
 
-choose_moves : (u : SystemSetup) (call : ModelCall) (f : DistributorFacts) (keys : List Key) (system_ports : List SystemPort) (i : ℕ)
-    (o : Option SystemPort) → slice_get system_ports i ≡ o → Fits u keys → Rises 0 (port_numbers system_ports)
-    → LawfulMoves u call (model_view_at f system_ports) [] (model_view_at f (after_choice_at keys system_ports i o))
-choose_moves u call f keys system_ports i None e fits r = ([], tt, refl, refl)
-choose_moves u call f keys system_ports i (Some system_port) e fits r = given_moves u call f keys system_ports i system_port
-    (aggregator_for keys system_ports system_port) fits r e refl
+taken_moves : (u : SystemSetup) (call : ModelCall) (f : DistributorFacts) (keys : List Key) (system_ports : List SystemPort) (i : ℕ)
+    (s : SystemPort) (agg : AggId) (room : Bool) → Fits u keys → Rises 0 (port_numbers system_ports) → slice_get system_ports i ≡ Some s
+    → is_eligible (selection_view s) ≡ true → MayJoin keys (views system_ports) agg (selection_view s)
+    → LawfulMoves u call (model_view_at f system_ports) []
+    (model_view_at f (slice_set system_ports i (with_choice s (Some (choice_if room agg)))))
+taken_moves u call f keys system_ports i s agg true fits r h ok j =
+    moves_at number_of_port model_port_of u call f system_ports i s (with_choice s (Some (Selected agg))) (PortMove.Join agg.0)
+    (are_numbered 0 system_ports r) h refl (joined s agg ok) (join_allowed u call keys system_ports s agg fits j)
+taken_moves u call f keys system_ports i s agg false fits r h ok j =
+    slot_moves u call f system_ports i s (with_choice s (Some (Standby agg))) [] (are_numbered 0 system_ports r) h refl
+    (port_stays u call s.number (model_port_of s) (model_port_of (with_choice s (Some (Standby agg)))) (standby_stays s agg j.outside))
+
+-- the port takes an aggregator that it may join, or none
+pub taken_joins : (keys : List Key) (system_ports : List SystemPort) (i : ℕ) (s : SystemPort) (agg : AggId)
+    → Rises 0 (port_numbers system_ports) → slice_get system_ports i ≡ Some s → aggregator_for keys system_ports s ≡ Some agg
+    → (is_eligible (selection_view s) ≡ true) × MayJoin keys (views system_ports) agg (selection_view s)
+taken_joins keys system_ports i s agg r h k =
+    let x = if-some (is_eligible (selection_view s)) (chosen_aggregator keys (views system_ports) s.number) agg k in (
+      x.0,
+      choice-joins keys (views system_ports) (selection_view s) agg
+          (sym (ap (chosen_for_view keys (views system_ports)) (find_here 0 system_ports i s r h)) ∙ x.1),
+    )
+
+given_moves : (u : SystemSetup) (call : ModelCall) (f : DistributorFacts) (aggs : AggregatorsValue) (system_ports : List SystemPort) (i : ℕ)
+    (s : SystemPort) (o : Option AggId) → Fits u aggs.keys → Rises 0 (port_numbers system_ports)
+    → slice_get system_ports i ≡ Some s → aggregator_for aggs.keys system_ports s ≡ o
+    → LawfulMoves u call (model_view_at f system_ports) []
+    (model_view_at f (slice_set system_ports i (with_choice s (option_map (choice_in aggs (views system_ports)) o))))
+given_moves u call f aggs system_ports i s None fits r h k = ([], tt, refl, ap (model_view_at f) (set_same system_ports i s h))
+given_moves u call f aggs system_ports i s (Some agg) fits r h k =
+    let x = taken_joins aggs.keys system_ports i s agg r h k in
+    taken_moves u call f aggs.keys system_ports i s agg (has_room aggs (views system_ports) agg) fits r h x.0 x.1
+
+-- the choices of step 2 of settling
+abbrev MovedSoFar : SystemSetup → ModelCall → DistributorFacts → List SystemPort → List SystemPort → Type 0
+MovedSoFar u call f start l = LawfulMoves u call (model_view_at f start) [] (model_view_at f l) × Rises 0 (port_numbers l)
+
+chosen_moves : (u : SystemSetup) (call : ModelCall) (f : DistributorFacts) (aggs : AggregatorsValue) (start : List SystemPort) (n : ℕ)
+    → Fits u aggs.keys → (l : List SystemPort) → MovedSoFar u call f start l → MovedSoFar u call f start (after_choices aggs n l)
+chosen_moves u call f aggs start n fits l h =
+    choices_keep aggs (MovedSoFar u call f start)
+    (λ l i s e m. (
+      moves_joined u call (model_view_at f start) (model_view_at f l)
+          (model_view_at f (slice_set l i (with_choice s (choice_for aggs l s)))) [] [] m.0
+          (given_moves u call f aggs l i s (aggregator_for aggs.keys l s) fits m.1 e refl),
+      subst (λ ns. Rises 0 ns) (sym (numbers_set l i s (with_choice s (choice_for aggs l s)) e (given_number s (choice_for aggs l s)))) m.1,
+    )) n l h
+
+-- a promotion
+
+not_itself : (agg : AggId) (c : Choice) → c ≡ Standby agg → c ≡ Selected agg → ⊥
+not_itself agg c e k = none-some agg.0 (ap selected_number (sym e ∙ k))
+
+occupied_by : (agg : AggId) (c : Choice) → c ≡ Selected agg → occupied c ≡ Some agg.0
+occupied_by agg c e = ap occupied e
+
+-- other members have its group, as occupants
+others_share : (keys : List Key) (l : List SystemPort) (i : ℕ) (s : SystemPort) (agg : AggId) → OccupantsAgree keys l
+    → slice_get l i ≡ Some s → s.port.choice ≡ Standby agg → (j : ℕ) (t : SystemPort) → slice_get l j ≡ Some t
+    → (model_port_of t).aggregator ≡ Some agg.0
+    → SamePair (pair_at (model_port_of t)) (pair_at (model_port_of s)) × (individual s.port.party (party_of s.port.partner) ≡ false)
+others_share keys l i s agg a g e j t h m = elim (cases_eq j i) [
+  | inl same ↦ (let is : t ≡ s = same_Some t s (sym h ∙ ap (slice_get l) same ∙ g) in
+      absurd (not_itself agg s.port.choice e (ap (λ (x : SystemPort). x.port.choice) (sym is) ∙ given_there agg t.port.choice m)))
+  | inr ne ↦ (let mine : occupied s.port.choice ≡ Some agg.0 = ap occupied e in
+      let its = occupied_by agg t.port.choice (given_there agg t.port.choice m) in
+      ((a.group agg.0 j i t s ne h g its mine).0, (a.group agg.0 i j s t (λ x. ne (sym x)) g h mine its).1))
+]
+
+promote_allowed : (u : SystemSetup) (call : ModelCall) (keys : List Key) (l : List SystemPort) (i : ℕ) (s : SystemPort) (agg : AggId)
+    (b : Bool) → individual s.port.party (party_of s.port.partner) ≡ b → Fits u keys → OccupantsAgree keys l → slice_get l i ≡ Some s
+    → s.port.choice ≡ Standby agg
+    → PortAllowed u call (ports_of number_of_port model_port_of l) s.number (PortMove.Join agg.0) (model_port_of s)
+promote_allowed u call keys l i s agg false is fits a g e =
+    let mine : occupied s.port.choice ≡ Some agg.0 = ap occupied e in (
+      ap selected_number e,
+      a.apart i agg.0 s g mine,
+      fits agg.0 ∙ a.key i agg.0 s g mine,
+      inr (
+        all_shown (λ b. b.aggregator ≡ Some agg.0 → SamePair (pair_at b) (pair_at (model_port_of s))) l
+            (each_place (λ t. (model_port_of t).aggregator ≡ Some agg.0 → SamePair (pair_at (model_port_of t)) (pair_at (model_port_of s))) l
+            (λ j t h m. (others_share keys l i s agg a g e j t h m).0)),
+        is,
+      ),
+    )
+promote_allowed u call keys l i s agg true is fits a g e =
+    let mine : occupied s.port.choice ≡ Some agg.0 = ap occupied e in (
+      ap selected_number e,
+      a.apart i agg.0 s g mine,
+      fits agg.0 ∙ a.key i agg.0 s g mine,
+      inl (all_shown (λ b. b.aggregator ≢ Some agg.0) l
+          (each_place (λ t. (model_port_of t).aggregator ≢ Some agg.0) l
+          (λ j t h m. false≢true (sym (others_share keys l i s agg a g e j t h m).1 ∙ is)))),
+    )
+
+-- its mux machine does not distribute
+abbrev pub StandbyIsIdle : SystemPort → Type 0
+StandbyIsIdle s = is_standby s.port.choice ≡ true → same_mux_state CollectingDistributing s.port.mux ≡ false
+
+promoted : (s : SystemPort) (agg : AggId) → s.port.choice ≡ Standby agg → StandbyIsIdle s
+    → model_port_of (with_choice s (Some (Selected agg))) ≡ port_after (PortMove.Join agg.0) (model_port_of s)
+promoted s agg e idle =
+    let mux = idle (ap is_standby e) in
+    let sync = partner_synchronized s.port in
+    let view : Bool → PortFacts = λ d. record (model_port_of s) { aggregator = Some agg.0; distributes = d } in
+    ap view (still sync true (same_mux_state CollectingDistributing s.port.mux) mux
+    ∙ sym (still sync (is_selected s.port.choice) (same_mux_state CollectingDistributing s.port.mux) mux))
+
+-- what every promotion keeps
+abbrev PromotedSoFar : SystemSetup → ModelCall → DistributorFacts → List Key → List SystemPort → List SystemPort → Type 0
+PromotedSoFar u call f keys start l = MovedSoFar u call f start l × OccupantsAgree keys l × AllByRecursion StandbyIsIdle l
+
+promotes_on : (u : SystemSetup) (call : ModelCall) (f : DistributorFacts) (aggs : AggregatorsValue) (start : List SystemPort)
+    → Fits u aggs.keys → (agg : AggId) (l m : List SystemPort) → PromotesNext aggs agg l m → PromotedSoFar u call f aggs.keys start l
+    → PromotedSoFar u call f aggs.keys start m
+promotes_on u call f aggs start fits agg l m h p =
+    let s = h.1 in
+    let t : SystemPort = with_choice s (Some (Selected agg)) in
+    let stands = next_stands aggs agg l m h in
+    let move = moves_at number_of_port model_port_of u call f l h.0 s t (PortMove.Join agg.0) (are_numbered 0 l p.0.1) h.3 refl
+    (promoted s agg stands (all-get StandbyIsIdle l h.0 s h.3 p.2))
+    (promote_allowed u call aggs.keys l h.0 s agg (individual s.port.party (party_of s.port.partner)) refl fits p.1 h.3 stands) in
+    let all = moves_joined u call (model_view_at f start) (model_view_at f l) (model_view_at f (slice_set l h.0 t)) [] [] p.0.0 move in
+    let rise = subst (λ ns. Rises 0 ns) (sym (numbers_set l h.0 s t h.3 refl)) p.0.1 in
+    subst (PromotedSoFar u call f aggs.keys start) (sym h.4)
+    ((all, rise), promotion_agrees aggs.keys l h.0 s agg h.3 stands p.1, all-set StandbyIsIdle l h.0 t p.2 (λ x. absurd (false≢true x)))
 
 -- step 2 of settling
-pub chosen_moves : (u : SystemSetup) (call : ModelCall) (f : DistributorFacts) (keys : List Key) (system_ports : List SystemPort) (n : ℕ)
-    → Fits u keys → Rises 0 (port_numbers system_ports)
-    → LawfulMoves u call (model_view_at f system_ports) [] (model_view_at f (after_choices keys n system_ports))
-chosen_moves u call f keys system_ports zero fits r = ([], tt, refl, refl)
-chosen_moves u call f keys system_ports (suc n) fits r =
-    let mid = after_choices keys n system_ports in
-    moves_joined u call (model_view_at f system_ports) (model_view_at f mid)
-    (model_view_at f (after_choices keys (suc n) system_ports)) [] []
-    (chosen_moves u call f keys system_ports n fits r)
-    (choose_moves u call f keys mid n (slice_get mid n) refl fits (subst (λ ns. Rises 0 ns) (sym (chosen_numbers keys n system_ports)) r))
+pub choosing_moves : (u : SystemSetup) (call : ModelCall) (f : DistributorFacts) (aggs : AggregatorsValue) (old new : List SystemPort)
+    → Fits u aggs.keys → Rises 0 (port_numbers old) → OccupantsAgree aggs.keys old → AllByRecursion StandbyIsIdle old
+    → ChoosesIn aggs old new → LawfulMoves u call (model_view_at f old) [] (model_view_at f new)
+choosing_moves u call f aggs old new fits r a idle h =
+    let p = promotions_keep aggs (PromotedSoFar u call f aggs.keys old) (promotes_on u call f aggs old fits) (length aggs.keys) old h.0 h.1
+    ((([], tt, refl, refl), r), a, idle) in
+    subst (λ l. LawfulMoves u call (model_view_at f old) [] (model_view_at f l)) (sym h.2)
+    (chosen_moves u call f aggs old (length h.0) fits h.0 p.0).0

@@ -3,11 +3,10 @@ use Rattle.std.proofs.Common.{◌≡◌, ◌∙◌, ℕ, zero, suc, ◌<◌, Boo
 use Rattle.std.proofs.Common.{slice_set, refl, subst, ap, arith}
 use Rattle.std.specs.List.{list_any}
 use Rattle.std.proofs.lemmas.Option.{same_Some}
-use Rattle.lagtypes.specs.declared.identifiers.AggId.{AggId}
-use Rattle.lagtypes.specs.declared.identifiers.Key.{Key}
-use Rattle.lagtypes.specs.declared.party.Choice.TheVariants.{Selected}
+use Rattle.lagtypes.specs.declared.party.Choice.{Choice}
 use Rattle.selection.specs.Views.{is_eligible}
 use Rattle.selection.specs.declared.view.PortView.{PortView}
+use Rattle.selection.specs.Limits.{AggregatorsValue}
 use Rattle.lagsystem.specs.declared.system_ports.SystemPort.{SystemPort}
 use Rattle.lagsystem.specs.Settling.{after_choice_at, after_choices, with_choice}
 use Rattle.lagsystem.specs.Views.{selection_view, views}
@@ -16,20 +15,20 @@ use Rattle.lagsystem.proofs.SettlingLemmas.{none_taken, or_false}
 abbrev one_eligible : List SystemPort → Bool
 one_eligible system_ports = list_any (λ s. is_eligible (selection_view s)) system_ports
 
-seen_given : (system_ports : List SystemPort) (i : ℕ) (d : PortView) (t : SystemPort) (agg : AggId) → i < length system_ports
-    → slice_set (views system_ports) i (record (get_or (views system_ports) i d) { choice = Selected agg }) ≡ views
-    (slice_set system_ports i (with_choice (get_or system_ports i t) (Some agg)))
-seen_given [] i d t agg l = absurd (omega arith)
-seen_given (x ∷ xs) zero d t agg l = refl
-seen_given (x ∷ xs) (suc i) d t agg l = ap (λ vs. selection_view x ∷ vs) (seen_given xs i d t agg (omega arith))
+seen_given : (system_ports : List SystemPort) (i : ℕ) (d : PortView) (t : SystemPort) (c : Choice) → i < length system_ports
+    → slice_set (views system_ports) i (record (get_or (views system_ports) i d) { choice = c }) ≡ views
+    (slice_set system_ports i (with_choice (get_or system_ports i t) (Some c)))
+seen_given [] i d t c l = absurd (omega arith)
+seen_given (x ∷ xs) zero d t c l = refl
+seen_given (x ∷ xs) (suc i) d t c l = ap (λ vs. selection_view x ∷ vs) (seen_given xs i d t c (omega arith))
 
--- if the port at a place took an aggregator, its view takes it too
-pub seen_taken : (seen : List PortView) (system_ports : List SystemPort) (i : ℕ) (d : PortView) (t : SystemPort) (agg : AggId)
+-- if the port at a place gets this value of Selected, its view gets it too
+pub seen_taken : (seen : List PortView) (system_ports : List SystemPort) (i : ℕ) (d : PortView) (t : SystemPort) (c : Choice)
     → seen ≡ views system_ports → i < length system_ports
-    → slice_set seen i (record (get_or seen i d) { choice = Selected agg }) ≡ views
-    (slice_set system_ports i (with_choice (get_or system_ports i t) (Some agg)))
-seen_taken seen system_ports i d t agg e l = ap (λ vs. slice_set vs i (record (get_or vs i d) { choice = Selected agg })) e
-    ∙ seen_given system_ports i d t agg l
+    → slice_set seen i (record (get_or seen i d) { choice = c }) ≡ views
+    (slice_set system_ports i (with_choice (get_or system_ports i t) (Some c)))
+seen_taken seen system_ports i d t c e l = ap (λ vs. slice_set vs i (record (get_or vs i d) { choice = c })) e
+    ∙ seen_given system_ports i d t c l
 
 not_here : (system_ports : List SystemPort) (i : ℕ) (s : SystemPort) → one_eligible system_ports ≡ false → slice_get system_ports i ≡ Some s
     → is_eligible (selection_view s) ≡ false
@@ -38,15 +37,15 @@ not_here (x ∷ xs) zero s h e = let same : x ≡ s = same_Some x s e in subst (
     (or_false (is_eligible (selection_view x)) (one_eligible xs) h).0
 not_here (x ∷ xs) (suc i) s h e = not_here xs i s (or_false (is_eligible (selection_view x)) (one_eligible xs) h).1 e
 
-stays_at : (keys : List Key) (system_ports : List SystemPort) (i : ℕ) (o : Option SystemPort) → one_eligible system_ports ≡ false
-    → slice_get system_ports i ≡ o → system_ports ≡ after_choice_at keys system_ports i o
-stays_at keys system_ports i None h e = refl
-stays_at keys system_ports i (Some s) h e = none_taken keys system_ports i s e (not_here system_ports i s h e)
-    ∙ ap (after_choice_at keys system_ports i) e
+stays_at : (aggs : AggregatorsValue) (system_ports : List SystemPort) (i : ℕ) (o : Option SystemPort) → one_eligible system_ports ≡ false
+    → slice_get system_ports i ≡ o → system_ports ≡ after_choice_at aggs system_ports i o
+stays_at aggs system_ports i None h e = refl
+stays_at aggs system_ports i (Some s) h e = none_taken aggs system_ports i s e (not_here system_ports i s h e)
+    ∙ ap (after_choice_at aggs system_ports i) e
 
 -- if no port is eligible, none takes an aggregator
-pub none_chosen : (keys : List Key) (n : ℕ) (system_ports : List SystemPort) → one_eligible system_ports ≡ false
-    → system_ports ≡ after_choices keys n system_ports
-none_chosen keys zero system_ports h = refl
-none_chosen keys (suc n) system_ports h = subst (λ l. system_ports ≡ after_choice_at keys l n (slice_get l n))
-    (none_chosen keys n system_ports h) (stays_at keys system_ports n (slice_get system_ports n) h refl)
+pub none_chosen : (aggs : AggregatorsValue) (n : ℕ) (system_ports : List SystemPort) → one_eligible system_ports ≡ false
+    → system_ports ≡ after_choices aggs n system_ports
+none_chosen aggs zero system_ports h = refl
+none_chosen aggs (suc n) system_ports h = subst (λ l. system_ports ≡ after_choice_at aggs l n (slice_get l n))
+    (none_chosen aggs n system_ports h) (stays_at aggs system_ports n (slice_get system_ports n) h refl)

@@ -7,7 +7,7 @@ use Rattle.std.proofs.lemmas.Bool.Decides.{Decides-eqb}
 use Rattle.std.proofs.lemmas.Option.{none-some, same_Some}
 use Rattle.lagtypes.specs.declared.identifiers.AggId.{AggId}
 use Rattle.lagtypes.specs.declared.party.Choice.{Choice}
-use Rattle.lagtypes.specs.declared.party.Choice.TheVariants.{Unselected, Selected}
+use Rattle.lagtypes.specs.declared.party.Choice.TheVariants.{Unselected, Selected, Standby}
 use Rattle.portmachines.specs.declared.mux.MuxState.{MuxState}
 use Rattle.portmachines.specs.declared.mux.MuxState.TheVariants.{Detached, Waiting, Attached, CollectingDistributing}
 use Rattle.portmachines.specs.Mux.{same_mux_state, partner_synchronized, selected}
@@ -83,6 +83,7 @@ rest_distributes CollectingDistributing false s h = absurd (false≢true h)
 -- a port that distributes in an aggregator is seen to do so
 given_number : (agg : AggId) (c : Choice) → has_chosen agg c ≡ true → selected_number c ≡ Some agg.0
 given_number agg Unselected h = absurd (false≢true h)
+given_number agg (Standby a) h = absurd (false≢true h)
 given_number agg (Selected a) h = ap (λ n. Some n) ((Decides-eqb a.0 agg.0).0 h)
 
 seen_there : (agg : AggId) (s : SystemPort) → (mux_consistent_of s.port.mux (selected s.port) (partner_synchronized s.port) ≡ true)

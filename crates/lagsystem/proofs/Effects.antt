@@ -23,7 +23,7 @@ use Rattle.portmachines.specs.Transmit.{count_down, pdu_of, after_sending}
 use Rattle.lagmodel.specs.View.{zero_party, PortFacts, SystemSetup, ModelCall, Lacp, Receive, replies_frame, LacpMessage as Told_lacpdu}
 use Rattle.lagmodel.specs.Move.{Act, Sends as Shows, Took, PortMove}
 use Rattle.lagsystem.specs.declared.config.PortChange.{PortChange}
-use Rattle.lagsystem.specs.Calls.{SetsPortEnabled, ChangesParty, changed_party}
+use Rattle.lagsystem.specs.Calls.{SetsPortEnabled, choice_with_link, ChangesParty, changed_party}
 use Rattle.lagsystem.specs.ModelView.{selected_number, lacp_message}
 use Rattle.lagsystem.proofs.OfPort.{PortMoves, port_joined}
 use Rattle.lagsystem.proofs.Rows.{quiet, QuietMoves, EachMoves, settles_moves}
@@ -121,9 +121,19 @@ pub tick_moves : (u : SystemSetup) (call : ModelCall) (n : ℕ) (p q : Machines)
     → QuietMoves u call n p [] q
 tick_moves u call n p q h = settles_moves u call n receive_rows (receive_moves u call n) (count_down p) q h
 
-pub links_moves : (u : SystemSetup) (call : ModelCall) (n : ℕ) (up : Bool) (p q : Machines) → SetsPortEnabled up p q
-    → QuietMoves u call n p [] q
-links_moves u call n up p q h = settles_moves u call n receive_rows (receive_moves u call n) (record p { enabled = up }) q h
+-- with a limit of links, a port whose link goes down leaves its aggregator
+leaving_link : (u : SystemSetup) (call : ModelCall) (n : ℕ) (max_links : Option ℕ) (up : Bool) (p : Machines)
+    → QuietMoves u call n p [] (record p { enabled = up; choice = choice_with_link max_links up p.choice })
+leaving_link u call n None up p = ([], tt, refl, refl)
+leaving_link u call n (Some most) true p = ([], tt, refl, refl)
+leaving_link u call n (Some most) false p = (PortMove.Leave ∷ [], (λ ports. tt, tt), refl, refl)
+
+pub links_moves : (u : SystemSetup) (call : ModelCall) (n : ℕ) (max_links : Option ℕ) (up : Bool) (p q : Machines)
+    → SetsPortEnabled max_links up p q → QuietMoves u call n p [] q
+links_moves u call n max_links up p q h =
+    let mid : Machines = record p { enabled = up; choice = choice_with_link max_links up p.choice } in
+    port_joined u call n (quiet p) (quiet mid) (quiet q) [] [] (leaving_link u call n max_links up p)
+    (settles_moves u call n receive_rows (receive_moves u call n) mid q h)
 
 -- update_Selected and recordPDU
 taking : (u : SystemSetup) (call : ModelCall) (n : ℕ) (party partner : Party) (s d : Bool) (c : Choice) (b : Bool)

@@ -4,10 +4,9 @@ use Rattle.std.proofs.Common.{subst, ap, ◌⊎◌, inl, inr}
 use Rattle.std.specs.Prelude.{◌&&◌, not, if◌then◌else◌, option_map, slice_get, slice_set}
 use Rattle.std.specs.List.{AllZip, AllByRecursion}
 use Rattle.std.proofs.lemmas.Bool.{and_parts, true≢false}
-use Rattle.lagtypes.specs.declared.identifiers.Key.{Key}
 use Rattle.lagtypes.specs.declared.identifiers.SystemId.{SystemId}
 use Rattle.lagtypes.specs.declared.party.Party.{Party}
-use Rattle.lagtypes.specs.declared.party.Choice.TheVariants.{Unselected}
+use Rattle.lagtypes.specs.declared.party.Choice.TheVariants.{Unselected, Standby}
 use Rattle.lagtypes.specs.States.{bits_of, with_synchronization}
 use Rattle.lagtypes.proofs.StateLemmas.{encode_then_decode}
 use Rattle.portmachines.specs.declared.mux.MuxState.TheVariants.{Detached, Waiting, Attached, CollectingDistributing}
@@ -32,15 +31,21 @@ use Rattle.std.proofs.lemmas.Option.{none-some, same_Some}
 use Rattle.lagsystem.specs.declared.config.PortConfig.{PortConfig}
 use Rattle.lagsystem.specs.declared.system_ports.SystemPort.{SystemPort}
 use Rattle.lagsystem.specs.First.{IsFirst, HasJustStarted, configured_number, setup_of}
-use Rattle.lagsystem.specs.Settling.{PortsChangeBy, PortChangesBy, after_choice_at, after_choices, with_choice, ready_of, aggregator_for}
+use Rattle.lagsystem.specs.Settling.{PortsChangeBy, PortChangesBy, after_choice_at, after_choices, with_choice, ready_of}
+use Rattle.lagsystem.specs.Settling.{ChoosesIn, PromotesFirst, PromotesNext, choice_for}
 use Rattle.lagsystem.specs.ModelView.{model_setup, number_of_port, configured_party, model_port, model_port_of, model_view}
-use Rattle.lagsystem.specs.State.{SystemState, with_system_ports, with_table}
+use Rattle.lagsystem.specs.State.{SystemState, aggregators_value, with_system_ports, with_table}
 use Rattle.lagsystem.specs.Views.{views, selection_view as seen_at}
 use Rattle.lagsystem.proofs.Effects.{named, zero_named}
 use Rattle.portmachines.proofs.Runs.{Reaches-keeps}
 use Rattle.lagsystem.proofs.Rest.{last_slots, zip_all}
 use Rattle.lagsystem.proofs.Rising.{all-get}
-use Rattle.lagsystem.proofs.SettlingLemmas.{set_same}
+use Rattle.lagsystem.proofs.SettlingLemmas.{none_for, set_same}
+use Rattle.lagsystem.proofs.Limiting.{next_stands}
+use Rattle.lagtypes.specs.declared.identifiers.AggId.{AggId}
+use Rattle.lagsystem.proofs.Occupying.{periodic_stays}
+use Rattle.lagsystem.proofs.PromotionLemmas.{promotions_keep}
+use Rattle.selection.specs.Limits.{AggregatorsValue}
 
 clash : (b : Bool) → b ≡ true → b ≡ false → ⊥
 clash true h k = cc
@@ -207,21 +212,45 @@ idle_slots system R k (c ∷ cs) (x ∷ xs) (y ∷ ys) a h =
 not_eligible : (s : SystemPort) → s.port.enabled ≡ false → is_eligible (seen_at s) ≡ false
 not_eligible s e = ap (λ b. is_eligible (record (seen_at s) { enabled = b })) e
 
-choose_idle : (keys : List Key) (system_ports : List SystemPort) (i : ℕ) (o : Option SystemPort) → slice_get system_ports i ≡ o
-    → AllByRecursion (λ s. s.port.enabled ≡ false) system_ports → after_choice_at keys system_ports i o ≡ system_ports
-choose_idle keys system_ports i None e down = refl
-choose_idle keys system_ports i (Some s) e down =
-    let none : aggregator_for keys system_ports s ≡ None =
-    ap (λ b. if b then chosen_aggregator keys (views system_ports) s.number else None)
-    (not_eligible s (all-get (λ s. s.port.enabled ≡ false) system_ports i s e down)) in
+choose_idle : (aggs : AggregatorsValue) (system_ports : List SystemPort) (i : ℕ) (o : Option SystemPort) → slice_get system_ports i ≡ o
+    → AllByRecursion (λ s. s.port.enabled ≡ false) system_ports → after_choice_at aggs system_ports i o ≡ system_ports
+choose_idle aggs system_ports i None e down = refl
+choose_idle aggs system_ports i (Some s) e down =
+    let none : choice_for aggs system_ports s ≡ None = none_for aggs system_ports s
+    (ap (λ b. if b then chosen_aggregator aggs.keys (views system_ports) s.number else None)
+    (not_eligible s (all-get (λ s. s.port.enabled ≡ false) system_ports i s e down))) in
     ap (λ o. slice_set system_ports i (with_choice s o)) none ∙ set_same system_ports i s e
 
-chosen_idle : (keys : List Key) (n : ℕ) (system_ports : List SystemPort) → AllByRecursion (λ s. s.port.enabled ≡ false) system_ports
-    → after_choices keys n system_ports ≡ system_ports
-chosen_idle keys zero system_ports down = refl
-chosen_idle keys (suc n) system_ports down =
-    ap (λ (l : List SystemPort). after_choice_at keys l n (slice_get l n)) (chosen_idle keys n system_ports down)
-    ∙ choose_idle keys system_ports n (slice_get system_ports n) refl down
+chosen_idle : (aggs : AggregatorsValue) (n : ℕ) (system_ports : List SystemPort) → AllByRecursion (λ s. s.port.enabled ≡ false) system_ports
+    → after_choices aggs n system_ports ≡ system_ports
+chosen_idle aggs zero system_ports down = refl
+chosen_idle aggs (suc n) system_ports down =
+    ap (λ (l : List SystemPort). after_choice_at aggs l n (slice_get l n)) (chosen_idle aggs n system_ports down)
+    ∙ choose_idle aggs system_ports n (slice_get system_ports n) refl down
+
+-- no port is promoted while all are UNSELECTED
+abbrev pub AllUnselected : List SystemPort → Type 0
+AllUnselected l = AllByRecursion (λ s. s.port.choice ≡ Unselected) l
+
+promote_idle : (aggs : AggregatorsValue) (agg : AggId) (start l m : List SystemPort) → AllUnselected start → PromotesNext aggs agg l m
+    → l ≡ start → m ≡ start
+promote_idle aggs agg start l m a h e = absurd
+    (standing (sym (all-get (λ s. s.port.choice ≡ Unselected) start h.0 h.1 (ap (λ x. slice_get x h.0) (sym e) ∙ h.3) a)
+    ∙ next_stands aggs agg l m h))
+  where
+    standing : Unselected ≡ Standby agg → ⊥
+    standing x = cc
+
+promoted_idle : (aggs : AggregatorsValue) (n : ℕ) (start new : List SystemPort) → AllUnselected start → PromotesFirst aggs n start new
+    → new ≡ start
+promoted_idle aggs n start new a h =
+    promotions_keep aggs (λ l. l ≡ start) (λ agg l m x e. promote_idle aggs agg start l m a x e) n start new h refl
+
+choosing_idle : (aggs : AggregatorsValue) (start new : List SystemPort) → AllUnselected start
+    → AllByRecursion (λ s. s.port.enabled ≡ false) start → ChoosesIn aggs start new → new ≡ start
+choosing_idle aggs start new a down h =
+    let same = promoted_idle aggs (length aggs.keys) start h.0 a h.1 in
+    h.2 ∙ ap (λ (l : List SystemPort). after_choices aggs (length l) l) same ∙ chosen_idle aggs (length start) start down
 
 periodic_shown : (p q : Machines) → RunsPeriodic p q → model_port q ≡ model_port p
 periodic_shown p q h = ap model_port h.2
@@ -257,8 +286,9 @@ first_periodic s h =
     (λ c x m. m.1.down) s.ports start idle in
     let s1 : one.system_ports ≡ start = idle_slots s.system (λ p q. RunsToRest (mux_rows false) p q)
     (λ party p q a m. idle_mux false party p q a m) s.ports start one.system_ports idle run.1.0 in
-    let s2 : two.system_ports ≡ start = ap (λ (x : SystemState). x.system_ports) run.2.1
-    ∙ ap (λ (l : List SystemPort). after_choices one.keys (length l) l) s1 ∙ chosen_idle one.keys (length start) start down in
+    let nobody : AllUnselected start = zip_all (Idles s.system) (λ x. x.port.choice ≡ Unselected) (λ c x m. m.1.nobody) s.ports start idle in
+    let s2 : two.system_ports ≡ start = choosing_idle (aggregators_value one) start two.system_ports nobody down
+    (subst (λ l. ChoosesIn (aggregators_value one) l two.system_ports) s1 run.2.1.0) in
     let s3 : three.system_ports ≡ start = ap (λ (x : SystemState). x.system_ports) run.2.2.1 ∙ s2 in
     let ready : Machines → Machines → Type 0 = λ p q. RunsToRest (mux_rows (ready_of three.keys (views three.system_ports) p.choice)) p q in
     let s4 : four.system_ports ≡ start =
@@ -284,13 +314,26 @@ first_shows s h =
     λ i. record {
       port = λ q. (same_ports q ∙ first_ports q ∙ composed first_port (configured_party s.system) (find_number configured_number s.ports q))
           i;
-      flows = (ap model_distributor h.3 ∙ first_flows (model_setup s) (length s.keys)) i;
+      flows = (ap model_distributor h.3 ∙ first_flows (model_setup s) (length s.keys) s.conversations) i;
     }
 
 -- a restart shows the first view
 pub restarted_shows : (old new : SystemState) → new ≡ with_table (with_system_ports old new.system_ports) new.table → IsFirst new
     → model_view new ≡ first_view (model_setup old)
 restarted_shows old new e h = first_shows new h ∙ ap (λ (s : SystemState). first_view (model_setup s)) e
+
+-- no port is in an aggregator at first
+pub first_unselected : (s : SystemState) → IsFirst s → AllUnselected s.system_ports
+first_unselected s h =
+    let idle : AllByRecursion (λ x. x.port.choice ≡ Unselected) h.0 = zip_all (HasJustStarted s.system) (λ x. x.port.choice ≡ Unselected)
+    (λ c x m. (starts_idle (setup_of s.system c) x.port m.2).nobody) s.ports h.0 h.1 in
+    kept h.0 s.system_ports (first_periodic s h) idle
+  where
+    kept : (xs ys : List SystemPort) → PortsChangeBy RunsPeriodic xs ys → AllUnselected xs → AllUnselected ys
+    kept [] [] h a = tt
+    kept [] (y ∷ ys) h a = absurd h
+    kept (x ∷ xs) [] h a = absurd h
+    kept (x ∷ xs) (y ∷ ys) h a = (elim (periodic_stays x.port y.port h.0.1) [ inl e ↦ e | inr e ↦ e.0 ∙ a.0 ], kept xs ys h.1 a.1)
 
 -- a configuration is a setup
 number_found : (ports : List PortConfig) (q : ℕ) (c : PortConfig) → find_number configured_number ports q ≡ Some c → c.number ≡ q

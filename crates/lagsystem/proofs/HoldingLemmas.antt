@@ -89,6 +89,7 @@ left_more before system_ports i d e old mid new l same h stops k =
     ∙ ap (λ b. f p || b) (and_true (n == p)) in
     record {
       aggs = k.aggs ∙ h.aggs;
+      conversations = k.conversations ∙ h.conversations;
       first = k.first ∙ h.first;
       next = k.next ∙ h.next;
       states = λ x y. k.states x y ∙ ap (after_leave n) (h.states x y) ∙ leave_more f g n more (assignment_of old x y);
@@ -108,6 +109,7 @@ left_same before system_ports i d e old new l same h stays =
     λ p. stopped_more before system_ports i d e p l same ∙ ap (λ b. f p || ((n == p) && b)) stays ∙ or_none (f p) (n == p) in
     record {
       aggs = h.aggs;
+      conversations = h.conversations;
       first = h.first;
       next = h.next;
       states = λ x y. h.states x y ∙ leave_same f g equal (assignment_of old x y);

@@ -5,6 +5,7 @@ use Rattle.std.specs.Prelude.{if◌then◌else◌, nat_le, slice_get, slice_set}
 use Rattle.std.specs.List.{AllZip}
 use Rattle.std.proofs.lemmas.Bool.{and_parts, false≢true}
 use Rattle.std.proofs.lemmas.Bool.Decides.{nat_tests}
+use Rattle.std.proofs.lemmas.List.{length-map}
 use Rattle.lagtypes.specs.declared.identifiers.AggId.{AggId}
 use Rattle.lagtypes.specs.declared.identifiers.Key.{Key}
 use Rattle.lagtypes.specs.declared.identifiers.SystemId.{SystemId}
@@ -27,11 +28,16 @@ use Rattle.lagsystem.specs.declared.received.Received.{Received}
 use Rattle.lagsystem.specs.declared.config.PortConfig.{PortConfig}
 use Rattle.lagsystem.specs.declared.fault.BadConfig.{BadConfig}
 use Rattle.lagsystem.specs.declared.system_ports.SystemPort.{SystemPort}
-use Rattle.lagsystem.specs.State.{SystemState, with_system_ports, with_table, port_index}
+use Rattle.lagsystem.specs.State.{SystemState, aggregators_value, with_system_ports, with_table, port_index}
 use Rattle.lagsystem.specs.Settling.{PortsChangeBy, OnlyPortsChangeBy, HoldsConversations, Settling, SettlesPorts, after_choices}
-use Rattle.lagsystem.specs.Settling.{after_choice_at, with_choice, held_unless_on, ready_of, aggregator_for}
+use Rattle.lagsystem.specs.Settling.{ChoosesIn, PromotesFirst, choice_for, with_choice, held_unless_on, ready_of}
+use Rattle.lagsystem.proofs.PromotionLemmas.{KeptByChoices, choices_keep, choosing_keeps, promotions_keep}
+use Rattle.lagtypes.specs.declared.party.Choice.{Choice}
+use Rattle.lagtypes.specs.declared.party.Choice.TheVariants.{Selected}
+use Rattle.selection.specs.Limits.{AggregatorsValue}
 use Rattle.lagsystem.specs.Views.{views}
-use Rattle.lagsystem.specs.First.{IsConfigured, IsFirst, HasJustStarted, configured_numbers, refusal, config_refusal, is_count}
+use Rattle.lagsystem.specs.First.{IsConfigured, IsFirst, HasJustStarted, configured_number, configured_numbers, refusal, config_refusal}
+use Rattle.lagsystem.specs.First.{is_count}
 use Rattle.lagsystem.specs.declared.config.Config.{Config}
 use Rattle.lagsystem.specs.Sound.{HasPorts}
 use Rattle.lagsystem.specs.State.{port_numbers}
@@ -92,21 +98,28 @@ numbers_set [] i s t e n = refl
 numbers_set (x ∷ xs) zero s t e n = let same : x ≡ s = cc in let here : x.number ≡ s.number = ap (λ (y : SystemPort). y.number) same in cc
 numbers_set (x ∷ xs) (suc i) s t e n = ap (λ ns. x.number ∷ ns) (numbers_set xs i s t e n)
 
-pub given_number : (s : SystemPort) (o : Option AggId) → (with_choice s o).number ≡ s.number
+pub given_number : (s : SystemPort) (o : Option Choice) → (with_choice s o).number ≡ s.number
 given_number s None = refl
-given_number s (Some agg) = refl
+given_number s (Some choice) = refl
 
-choose_numbers : (keys : List Key) (system_ports : List SystemPort) (i : ℕ) (o : Option SystemPort) → slice_get system_ports i ≡ o
-    → port_numbers (after_choice_at keys system_ports i o) ≡ port_numbers system_ports
-choose_numbers keys system_ports i None e = refl
-choose_numbers keys system_ports i (Some s) e = let o = aggregator_for keys system_ports s in numbers_set system_ports i s
-    (with_choice s o) e (given_number s o)
+selects_numbers : (numbers : List ℕ) → KeptByChoices (λ l. port_numbers l ≡ numbers)
+selects_numbers numbers l i s o e h = numbers_set l i s (with_choice s o) e (given_number s o) ∙ h
 
-pub chosen_numbers : (keys : List Key) (n : ℕ) (system_ports : List SystemPort)
-    → port_numbers (after_choices keys n system_ports) ≡ port_numbers system_ports
-chosen_numbers keys zero system_ports = refl
-chosen_numbers keys (suc n) system_ports = choose_numbers keys (after_choices keys n system_ports) n
-    (slice_get (after_choices keys n system_ports) n) refl ∙ chosen_numbers keys n system_ports
+pub chosen_numbers : (aggs : AggregatorsValue) (n : ℕ) (system_ports : List SystemPort)
+    → port_numbers (after_choices aggs n system_ports) ≡ port_numbers system_ports
+chosen_numbers aggs n system_ports =
+    choices_keep aggs (λ l. port_numbers l ≡ port_numbers system_ports)
+    (λ l i s e h. selects_numbers (port_numbers system_ports) l i s (choice_for aggs l s) e h) n system_ports refl
+
+pub promoted_numbers : (aggs : AggregatorsValue) (n : ℕ) (old new : List SystemPort) → PromotesFirst aggs n old new
+    → port_numbers new ≡ port_numbers old
+promoted_numbers aggs n old new h =
+    promotions_keep aggs (λ l. port_numbers l ≡ port_numbers old)
+    (λ agg l m x p. ap port_numbers x.4 ∙ selects_numbers (port_numbers old) l x.0 x.1 (Some (Selected agg)) x.3 p) n old new h refl
+
+-- step 2 of settling leaves the numbers
+pub choosing_numbers : (aggs : AggregatorsValue) (old new : List SystemPort) → ChoosesIn aggs old new → port_numbers new ≡ port_numbers old
+choosing_numbers aggs old new h = choosing_keeps (λ l. port_numbers l ≡ port_numbers old) (selects_numbers (port_numbers old)) aggs old new h refl
 
 -- the steps that look at ports alone
 pub ports_keep : (old new : SystemState) → SettlesPorts old new → Keeps old new
@@ -117,8 +130,7 @@ ports_keep old new h =
     let four = h.2.2.2.0 in
     let five = h.2.2.2.2.0 in
     let chose : Keeps one two =
-    keeps_slots one two (h.2.1 ∙ ap (with_system_ports one) (sym (ap (λ (s : SystemState). s.system_ports) h.2.1)))
-    (ap (λ (s : SystemState). port_numbers s.system_ports) h.2.1 ∙ chosen_numbers one.keys (length one.system_ports) one.system_ports) in
+    keeps_slots one two h.2.1.1 (choosing_numbers (aggregators_value one) one.system_ports two.system_ports h.2.1.0) in
     keeps_joined old one new (keeps_each (RunsToRest (mux_rows false)) old one h.1)
     (keeps_joined one two new chose
     (keeps_joined two three new (keeps_stays two three h.2.2.1)
@@ -130,7 +142,7 @@ ports_keep old new h =
 pub ports_table : (old new : SystemState) → SettlesPorts old new → new.table ≡ old.table
 ports_table old new h =
     let table : SystemState → Table = λ s. s.table in
-    ap table h.2.2.2.2.2 ∙ ap table h.2.2.2.2.1.1 ∙ ap table h.2.2.2.1.1 ∙ ap table h.2.2.1 ∙ ap table h.2.1 ∙ ap table h.1.1
+    ap table h.2.2.2.2.2 ∙ ap table h.2.2.2.2.1.1 ∙ ap table h.2.2.2.1.1 ∙ ap table h.2.2.1 ∙ ap table h.2.1.1 ∙ ap table h.1.1
 
 -- one settling is those steps, and then the one of the conversations
 pub settling_parts : (old new : SystemState) → Settling old new → (five : SystemState) × SettlesPorts old five × HoldsConversations five new
@@ -185,7 +197,7 @@ frees_aggs false n old new h = h.aggs
 pub keeps_link : (n : ℕ) (up : Bool) (old new : SystemState) → SetsLink n up old new → Keeps old new
 keeps_link n up old new h = record {
   frame = h.2;
-  same = place_numbers (SetsPortEnabled up) (port_index n old.system_ports) old.system_ports
+  same = place_numbers (SetsPortEnabled old.max_links up) (port_index n old.system_ports) old.system_ports
       new.system_ports h.0;
   aggs = frees_aggs up n old.table new.table h.1;
 }
@@ -246,11 +258,11 @@ first_numbers s h = (settling_keeps (with_system_ports s h.0) s h.2).same ∙ ne
 
 pub ports_kept : (old new : SystemState) → Keeps old new → HasPorts old → HasPorts new
 ports_kept old new k s = record {
-  accepted = ap (λ (x : SystemState). refusal x.keys x.ports) k.frame ∙ s.accepted;
+  accepted = ap (λ (x : SystemState). refusal x.keys x.ports x.max_links x.conversations) k.frame ∙ s.accepted;
   same = k.same ∙ s.same ∙ sym (ap (λ (x : SystemState). configured_numbers x.ports) k.frame);
 }
 
-pub ports_first : (s : SystemState) → refusal s.keys s.ports ≡ None → IsFirst s → HasPorts s
+pub ports_first : (s : SystemState) → refusal s.keys s.ports s.max_links s.conversations ≡ None → IsFirst s → HasPorts s
 ports_first s a h = record { accepted = a; same = first_numbers s h }
 
 -- every call but a restart keeps the configuration
@@ -310,7 +322,7 @@ pub Step-ports : (gives : ℕ → ℕ → ℕ → Type 0) (old : SystemState) (c
     → Step gives old call answer new → HasPorts old → HasPorts new
 Step-ports gives old call answer new h s = elim (restart_or_not call) [
   | inl e ↦ (let r = restarts gives old answer new (subst (λ c. Step gives old c answer new) e h) in
-      ports_first new (ap (λ (x : SystemState). refusal x.keys x.ports) r.0 ∙ s.accepted) r.1)
+      ports_first new (ap (λ (x : SystemState). refusal x.keys x.ports x.max_links x.conversations) r.0 ∙ s.accepted) r.1)
   | inr n ↦ ports_kept old new (Step-keeps gives old call answer new n h) s
 ]
 
@@ -329,97 +341,122 @@ is_true false x y h = cc
 below : (n : ℕ) → is_count n ≡ true → n ≤ 64
 below n h = let k : nat_le n 64 ≡ true = (and_parts (nat_le 1 n) (nat_le n 64) h).1 in grind (arith, nat_tests)
 
-pub accepted_keys_few : (keys : List Key) (ports : List PortConfig) → refusal keys ports ≡ None → length keys ≤ 64
-accepted_keys_few keys ports h = below (length keys) (is_true (is_count (length keys)) _ _ (if_then (is_count (length ports)) _ _ h))
+pub accepted_keys_few : (keys : List Key) (ports : List PortConfig) (most : Option ℕ) (conversations : ℕ)
+    → refusal keys ports most conversations ≡ None → length keys ≤ 64
+accepted_keys_few keys ports most conversations h = below (length keys) (is_true (is_count (length keys)) _ _ (if_then (is_count (length ports)) _ _ h))
+
+pub few_ports : (s : SystemState) → HasPorts s → length s.system_ports ≤ 64
+few_ports s h =
+    let few = below (length s.ports) (is_true (is_count (length s.ports)) _ _ h.accepted) in
+    let same : length (port_numbers s.system_ports) ≡ length (configured_numbers s.ports) = ap length h.same in
+    omega (arith, few, same, length-map s.system_ports (λ x. x.number), length-map s.ports configured_number)
 
 -- a configuration that a system has is accepted if the system's is
-pub is_accepted : (config : Config) (s : SystemState) → IsConfigured config s → refusal s.keys s.ports ≡ None → config_refusal config ≡ None
-is_accepted config s h none = ap (λ keys. refusal keys config.ports.items) (sym h.keys)
-    ∙ ap (λ ports. refusal s.keys ports) (sym h.ports) ∙ none
+pub is_accepted : (config : Config) (s : SystemState) → IsConfigured config s
+    → refusal s.keys s.ports s.max_links s.conversations ≡ None → config_refusal config ≡ None
+is_accepted config s h none = ap (λ keys. refusal keys config.ports.items config.max_links config.conversations) (sym h.keys)
+    ∙ ap (λ ports. refusal s.keys ports config.max_links config.conversations) (sym h.ports)
+    ∙ ap (λ most. refusal s.keys s.ports most config.conversations) (sym h.max_links)
+    ∙ ap (refusal s.keys s.ports s.max_links) (sym h.conversations) ∙ none
 
 -- what a new system is
-abbrev pub started : Config → List Key → List SystemPort → SystemState
-started config keys start = record {
+abbrev pub started : Config → List Key → Option ℕ → List SystemPort → SystemState
+started config keys most start = record {
   system = config.system;
   max_delay = config.max_delay;
   first_marker = config.first_marker;
+  conversations = config.conversations;
   keys = keys;
+  max_links = most;
   ports = config.ports.items;
   system_ports = start;
-  table = first_table (length keys) config.first_marker;
+  table = first_table (length keys) config.conversations config.first_marker;
 }
 
 -- every conversation is free, so none leaves its port
-first_leaves : (aggs first : ℕ) (s : SystemState) → s.table ≡ first_table aggs first → HoldsConversations s s
-first_leaves aggs first s e = record {
+first_leaves : (aggs conversations first : ℕ) (s : SystemState) → s.table ≡ first_table aggs conversations first → HoldsConversations s s
+first_leaves aggs conversations first s e = record {
   frame = refl;
   aggs = refl;
+  conversations = refl;
   first = refl;
   next = refl;
   states = λ g k. (let free : assignment_of s.table g k ≡ Free None = ap (λ (t : Table). assignment_of t g k) e
-      ∙ first_free aggs first g k in
+      ∙ first_free aggs conversations first g k in
       free ∙ sym (ap (held_unless_on (distributing (aggregator_numbered g) s.system_ports)) free));
 }
 
-pub first_settles : (aggs first : ℕ) (old new : SystemState) → old.table ≡ first_table aggs first → SettlesPorts old new → Settling old new
-first_settles aggs first old new e h = settling_joined old new new h (first_leaves aggs first new (ports_table old new h ∙ e))
+pub first_settles : (aggs conversations first : ℕ) (old new : SystemState) → old.table ≡ first_table aggs conversations first
+    → SettlesPorts old new → Settling old new
+first_settles aggs conversations first old new e h =
+    settling_joined old new new h (first_leaves aggs conversations first new (ports_table old new h ∙ e))
 
-pub first_made : (config : Config) (keys : List Key) (start : List SystemPort) (new : SystemState)
+pub first_made : (config : Config) (keys : List Key) (most : Option ℕ) (start : List SystemPort) (new : SystemState)
     → AllZip (HasJustStarted config.system) config.ports.items start
-    → SettlesPorts (started config keys start) new → IsFirst new
-first_made config keys start new h k =
-    let old = started config keys start in
+    → SettlesPorts (started config keys most start) new → IsFirst new
+first_made config keys most start new h k =
+    let old = started config keys most start in
     let f = (ports_keep old new k).frame in
     let t : new.table ≡ old.table = ports_table old new k in
-    let settles : Settling old new = first_settles (length keys) config.first_marker old new refl k in
+    let settles : Settling old new = first_settles (length keys) config.conversations config.first_marker old new refl k in
     let same : with_system_ports new start ≡ old = ap (λ (s : SystemState). with_system_ports s start) f
     ∙ ap (λ (t : Table). with_table old t) t in
     let keys_same : length new.keys ≡ length keys = ap (λ (s : SystemState). length s.keys) f in
+    let count : new.conversations ≡ config.conversations = ap (λ (s : SystemState). s.conversations) f in
     let marker : new.first_marker ≡ config.first_marker = ap (λ (s : SystemState). s.first_marker) f in (
       start,
       subst (λ (s : SystemState). AllZip (HasJustStarted s.system) s.ports start) (sym same) h,
       subst (λ (s : SystemState). Settling s new) (sym same) settles,
-      t ∙ (λ i. first_table (sym keys_same i) (sym marker i)),
+      t ∙ (λ i. first_table (sym keys_same i) (sym count i) (sym marker i)),
     )
 
-pub configured_made : (config : Config) (keys : List Key) (start : List SystemPort) (new : SystemState) → keys ≡ config.aggregators.items
-    → SettlesPorts (started config keys start) new → IsConfigured config new
-configured_made config keys start new e k =
-    let f = (ports_keep (started config keys start) new k).frame in record {
+pub configured_made : (config : Config) (keys : List Key) (most : Option ℕ) (start : List SystemPort) (new : SystemState) → keys ≡ config.aggregators.items
+    → most ≡ config.max_links → SettlesPorts (started config keys most start) new → IsConfigured config new
+configured_made config keys most start new e limit k =
+    let f = (ports_keep (started config keys most start) new k).frame in record {
       system = ap (λ (s : SystemState). s.system) f;
       max_delay = ap (λ (s : SystemState). s.max_delay) f;
       first_marker = ap (λ (s : SystemState). s.first_marker) f;
+      conversations = ap (λ (s : SystemState). s.conversations) f;
       keys = ap (λ (s : SystemState). s.keys) f ∙ e;
+      max_links = ap (λ (s : SystemState). s.max_links) f ∙ limit;
       ports = ap (λ (s : SystemState). s.ports) f;
     }
 
-pub ports_made : (config : Config) (keys : List Key) (start : List SystemPort) (new : SystemState) → keys ≡ config.aggregators.items
-    → config_refusal config ≡ None → AllZip (HasJustStarted config.system) config.ports.items start
-    → SettlesPorts (started config keys start) new → HasPorts new
-ports_made config keys start new e a h k =
-    ports_kept (started config keys start) new (ports_keep (started config keys start) new k)
-    (record { accepted = ap (λ l. refusal l config.ports.items) e ∙ a; same = new_numbers config.system config.ports.items start h })
+pub ports_made : (config : Config) (keys : List Key) (most : Option ℕ) (start : List SystemPort) (new : SystemState) → keys ≡ config.aggregators.items
+    → most ≡ config.max_links → config_refusal config ≡ None → AllZip (HasJustStarted config.system) config.ports.items start
+    → SettlesPorts (started config keys most start) new → HasPorts new
+ports_made config keys most start new e limit a h k =
+    ports_kept (started config keys most start) new (ports_keep (started config keys most start) new k) (record {
+      accepted = ap (λ l. refusal l config.ports.items most config.conversations) e
+          ∙ ap (λ most. refusal config.aggregators.items config.ports.items most config.conversations) limit ∙ a;
+      same = new_numbers config.system config.ports.items start h;
+    })
 
 -- the same, from the table that the distributor begins with
-pub started_by : (config : Config) (keys : List Key) (start : List SystemPort) (t : Table) (new : SystemState)
-    → t ≡ first_table (length keys) config.first_marker
+pub started_by : (config : Config) (keys : List Key) (most : Option ℕ) (start : List SystemPort) (t : Table) (new : SystemState)
+    → t ≡ first_table (length keys) config.conversations config.first_marker
     → SettlesPorts (record {
       system = config.system;
       max_delay = config.max_delay;
       first_marker = t.first;
+      conversations = t.conversations;
       keys = keys;
+      max_links = most;
       ports =
           config.ports.items;
       system_ports = start;
       table = t;
-    }) new → SettlesPorts (started config keys start) new
-started_by config keys start t new e h =
+    }) new → SettlesPorts (started config keys most start) new
+started_by config keys most start t new e h =
     subst (λ (t : Table). SettlesPorts
     (record {
       system = config.system;
       max_delay = config.max_delay;
       first_marker = t.first;
+      conversations = t.conversations;
       keys = keys;
+      max_links = most;
       ports =
           config.ports.items;
       system_ports = start;

@@ -1,6 +1,11 @@
 pub mod Lists
 pub mod SettlingLemmas
 pub mod Choosing
+pub mod PromotionLemmas
+pub mod Occupying
+pub mod Limiting
+pub mod NextLemmas
+pub mod ForcingLemmas
 pub mod StateLemmas
 pub mod TableLemmas
 pub mod HoldingLemmas
@@ -30,6 +35,7 @@ pub mod Unready
 pub mod Quieting
 pub mod Skipping
 pub mod StillSteps
+pub mod OccupantSteps
 pub mod Seen
 pub mod Distributing
 pub mod Sent

@@ -1,18 +1,19 @@
 -- When all ports have chosen, none that is still eligible finds an aggregator.
 use Rattle.std.proofs.Common.{◌≡◌, ◌∙◌, ℕ, zero, suc, ◌<◌, Bool, true, false, ◌&&◌, ◌⊎◌, List, [], ◌∷◌, length, Option, Some, None, refl}
-use Rattle.std.proofs.Common.{sym, ap, subst, arith, inl, inr, slice_get, slice_set, if◌then◌else◌}
+use Rattle.std.proofs.Common.{sym, ap, subst, arith, inl, inr, slice_get, slice_set, if◌then◌else◌, option_map}
 use Rattle.std.specs.List.{AllByRecursion}
 use Rattle.std.proofs.lemmas.Option.{same_Some}
 use Rattle.lagtypes.specs.declared.identifiers.AggId.{AggId}
 use Rattle.lagtypes.specs.declared.identifiers.Key.{Key}
 use Rattle.lagtypes.specs.declared.party.Choice.{Choice}
-use Rattle.lagtypes.specs.declared.party.Choice.TheVariants.{Unselected, Selected}
+use Rattle.lagtypes.specs.declared.party.Choice.TheVariants.{Unselected, Selected, Standby}
 use Rattle.lagtypes.specs.Choices.{is_unselected}
 use Rattle.selection.specs.declared.view.PortView.{PortView}
 use Rattle.selection.specs.Views.{is_eligible}
 use Rattle.selection.specs.Choice.{chosen_aggregator, chosen_if_eligible, chosen_for_view}
+use Rattle.selection.specs.Limits.{AggregatorsValue, has_room}
 use Rattle.lagsystem.specs.declared.system_ports.SystemPort.{SystemPort}
-use Rattle.lagsystem.specs.Settling.{after_choice_at, after_choices, with_choice, aggregator_for}
+use Rattle.lagsystem.specs.Settling.{after_choice_at, after_choices, with_choice, aggregator_for, choice_for, choice_if, choice_in}
 use Rattle.lagsystem.specs.State.{port_numbers}
 use Rattle.lagsystem.specs.Views.{selection_view, views}
 use Rattle.lagsystem.proofs.Keeps.{chosen_numbers, numbers_set}
@@ -44,16 +45,16 @@ length_set [] i x = refl
 length_set (s ∷ ss) zero x = refl
 length_set (s ∷ ss) (suc i) x = omega (arith, length_set ss i x)
 
-length_choose : (keys : List Key) (system_ports : List SystemPort) (i : ℕ) (o : Option SystemPort)
-    → length (after_choice_at keys system_ports i o) ≡ length system_ports
-length_choose keys system_ports i None = refl
-length_choose keys system_ports i (Some s) = length_set system_ports i (with_choice s (aggregator_for keys system_ports s))
+length_choose : (aggs : AggregatorsValue) (system_ports : List SystemPort) (i : ℕ) (o : Option SystemPort)
+    → length (after_choice_at aggs system_ports i o) ≡ length system_ports
+length_choose aggs system_ports i None = refl
+length_choose aggs system_ports i (Some s) = length_set system_ports i (with_choice s (choice_for aggs system_ports s))
 
-length_chosen : (keys : List Key) (n : ℕ) (system_ports : List SystemPort)
-    → length (after_choices keys n system_ports) ≡ length system_ports
-length_chosen keys zero system_ports = refl
-length_chosen keys (suc n) system_ports = length_choose keys (after_choices keys n system_ports) n
-    (slice_get (after_choices keys n system_ports) n) ∙ length_chosen keys n system_ports
+length_chosen : (aggs : AggregatorsValue) (n : ℕ) (system_ports : List SystemPort)
+    → length (after_choices aggs n system_ports) ≡ length system_ports
+length_chosen aggs zero system_ports = refl
+length_chosen aggs (suc n) system_ports = length_choose aggs (after_choices aggs n system_ports) n
+    (slice_get (after_choices aggs n system_ports) n) ∙ length_chosen aggs n system_ports
 
 below_or_at : (j n : ℕ) → j < suc n → (j < n) ⊎ (j ≡ n)
 below_or_at j zero l = inr (omega (arith, l))
@@ -83,7 +84,7 @@ pub takes_is : (keys : List Key) (system_ports : List SystemPort) (j : ℕ) (t :
 takes_is keys system_ports j t r e = ap (λ o. if is_eligible (selection_view t) then chosen_for_view keys (views system_ports) o else None)
     (find_here 0 system_ports j t r e)
 
-none_then : (keys : List Key) (system_ports : List SystemPort) (i j : ℕ) (s t : SystemPort) (a : AggId)
+none_then : (keys : List Key) (system_ports : List SystemPort) (i j : ℕ) (s t : SystemPort) (a : Choice)
     → Rises 0 (port_numbers system_ports) → slice_get system_ports i ≡ Some s → s.port.choice ≡ Unselected
     → slice_get system_ports j ≡ Some t → j < i → aggregator_for keys system_ports t ≡ None
     → aggregator_for keys (slice_set system_ports i (with_choice s (Some a))) t ≡ None
@@ -98,29 +99,34 @@ none_then keys system_ports i j s t a r e u g l h =
     ∙ when_still b (if b then x else None) (if b then y else None) (sym (takes_is keys system_ports j t r g) ∙ h)
     (λ k. when_still b x y k (none_after keys system_ports i s a (selection_view t) e u))
 
-eligible_then : (b : Bool) (x : Option AggId) (a : AggId) → (if b then x else None) ≡ Some a → b ≡ true
+pub eligible_then : (b : Bool) (x : Option AggId) (a : AggId) → (if b then x else None) ≡ Some a → b ≡ true
 eligible_then true x a e = refl
 eligible_then false x a e = absurd cc
 
-unselected : (c : Choice) (b d : Bool) → ((b && is_unselected c) && d) ≡ true → c ≡ Unselected
+pub unselected : (c : Choice) (b d : Bool) → ((b && is_unselected c) && d) ≡ true → c ≡ Unselected
 unselected Unselected b d h = refl
 unselected (Selected agg) true d h = absurd cc
 unselected (Selected agg) false d h = absurd cc
+unselected (Standby agg) true d h = absurd cc
+unselected (Standby agg) false d h = absurd cc
 
-not_unselected : (b d : Bool) → ((b && false) && d) ≡ false
-not_unselected true d = refl
-not_unselected false d = refl
+not_unselected : (room : Bool) (agg : AggId) (b d : Bool) → ((b && is_unselected (choice_if room agg)) && d) ≡ false
+not_unselected true agg true d = refl
+not_unselected true agg false d = refl
+not_unselected false agg true d = refl
+not_unselected false agg false d = refl
 
 -- each of the first n finds none
 abbrev Found_none : List Key → ℕ → List SystemPort → Type 0
 Found_none keys n system_ports = (j : ℕ) (t : SystemPort) → j < n → slice_get system_ports j ≡ Some t
     → aggregator_for keys system_ports t ≡ None
 
-one_taken : (keys : List Key) (system_ports : List SystemPort) (n : ℕ) (s : SystemPort) (o : Option AggId)
-    → aggregator_for keys system_ports s ≡ o → slice_get system_ports n ≡ Some s → Rises 0 (port_numbers system_ports)
-    → Found_none keys n system_ports
-    → Found_none keys (suc n) (slice_set system_ports n (with_choice s o))
-one_taken keys system_ports n s None w e r k j t l g =
+one_taken : (aggs : AggregatorsValue) (system_ports : List SystemPort) (n : ℕ) (s : SystemPort) (o : Option AggId)
+    → aggregator_for aggs.keys system_ports s ≡ o → slice_get system_ports n ≡ Some s → Rises 0 (port_numbers system_ports)
+    → Found_none aggs.keys n system_ports
+    → Found_none aggs.keys (suc n) (slice_set system_ports n (with_choice s (option_map (choice_in aggs (views system_ports)) o)))
+one_taken aggs system_ports n s None w e r k j t l g =
+    let keys = aggs.keys in
     let same : slice_set system_ports n s ≡ system_ports = set_same system_ports n s e in
     let there : slice_get system_ports j ≡ Some t = ap (λ (l : List SystemPort). slice_get l j) (sym same) ∙ g in
     let none : aggregator_for keys system_ports t ≡ None = elim (below_or_at j n l) [
@@ -129,37 +135,41 @@ one_taken keys system_ports n s None w e r k j t l g =
           (same_Some s t (sym e ∙ ap (slice_get system_ports) (sym h) ∙ there)) w
     ] in
     ap (λ (l : List SystemPort). aggregator_for keys l t) same ∙ none
-one_taken keys system_ports n s (Some a) w e r k j t l g =
+one_taken aggs system_ports n s (Some a) w e r k j t l g =
+    let keys = aggs.keys in
+    let room = has_room aggs (views system_ports) a in
+    let c = choice_if room a in
     let v = selection_view s in
     let can : is_eligible v ≡ true = eligible_then (is_eligible v) (chosen_aggregator keys (views system_ports) s.number) a w in
     let u : s.port.choice ≡ Unselected = unselected s.port.choice _ _ can in
-    let later : List SystemPort = slice_set system_ports n (with_choice s (Some a)) in
+    let later : List SystemPort = slice_set system_ports n (with_choice s (Some c)) in
     elim (below_or_at j n l) [
-      | inl h ↦ let there : slice_get system_ports j ≡ Some t = sym (get_other system_ports n j (with_choice s (Some a)) h)
-          ∙ g in none_then keys system_ports n j s t a r e u there h (k j t h there)
-      | inr h ↦ let is : t ≡ with_choice s (Some a) = get_here system_ports n (with_choice s (Some a)) t
+      | inl h ↦ let there : slice_get system_ports j ≡ Some t = sym (get_other system_ports n j (with_choice s (Some c)) h)
+          ∙ g in none_then keys system_ports n j s t c r e u there h (k j t h there)
+      | inr h ↦ let is : t ≡ with_choice s (Some c) = get_here system_ports n (with_choice s (Some c)) t
           (ap (slice_get later) (sym h) ∙ g) in
           subst (λ (x : SystemPort). aggregator_for keys later x ≡ None) (sym is)
-          (not_when (is_eligible (selection_view (with_choice s (Some a))))
-          (chosen_aggregator keys (views later) s.number) (not_unselected _ _))
+          (not_when (is_eligible (selection_view (with_choice s (Some c))))
+          (chosen_aggregator keys (views later) s.number) (not_unselected room a _ _))
     ]
 
-one_chosen : (keys : List Key) (system_ports : List SystemPort) (n : ℕ) (o : Option SystemPort) → slice_get system_ports n ≡ o
-    → Rises 0 (port_numbers system_ports) → Found_none keys n system_ports → Found_none keys (suc n) (after_choice_at keys system_ports n o)
-one_chosen keys system_ports n None e r k j t l g =
+one_chosen : (aggs : AggregatorsValue) (system_ports : List SystemPort) (n : ℕ) (o : Option SystemPort) → slice_get system_ports n ≡ o
+    → Rises 0 (port_numbers system_ports) → Found_none aggs.keys n system_ports
+    → Found_none aggs.keys (suc n) (after_choice_at aggs system_ports n o)
+one_chosen aggs system_ports n None e r k j t l g =
     elim (below_or_at j n l) [ inl h ↦ k j t h g | inr h ↦ absurd (nothing (sym e ∙ ap (slice_get system_ports) (sym h) ∙ g)) ]
   where
     nothing : None ≡ Some t → ⊥
     nothing e = cc
-one_chosen keys system_ports n (Some s) e r k j t l g = one_taken keys system_ports n s
-    (aggregator_for keys system_ports s) refl e r k j t l g
+one_chosen aggs system_ports n (Some s) e r k j t l g = one_taken aggs system_ports n s
+    (aggregator_for aggs.keys system_ports s) refl e r k j t l g
 
-all_chosen : (keys : List Key) (n : ℕ) (system_ports : List SystemPort) → Rises 0 (port_numbers system_ports)
-    → Found_none keys n (after_choices keys n system_ports)
-all_chosen keys zero system_ports r j t l g = absurd (omega (arith, l))
-all_chosen keys (suc n) system_ports r j t l g =
-    one_chosen keys (after_choices keys n system_ports) n (slice_get (after_choices keys n system_ports) n) refl
-    (subst (λ ns. Rises 0 ns) (sym (chosen_numbers keys n system_ports)) r) (all_chosen keys n system_ports r) j t l g
+all_chosen : (aggs : AggregatorsValue) (n : ℕ) (system_ports : List SystemPort) → Rises 0 (port_numbers system_ports)
+    → Found_none aggs.keys n (after_choices aggs n system_ports)
+all_chosen aggs zero system_ports r j t l g = absurd (omega (arith, l))
+all_chosen aggs (suc n) system_ports r j t l g =
+    one_chosen aggs (after_choices aggs n system_ports) n (slice_get (after_choices aggs n system_ports) n) refl
+    (subst (λ ns. Rises 0 ns) (sym (chosen_numbers aggs n system_ports)) r) (all_chosen aggs n system_ports r) j t l g
 
 pub each_place : (P : SystemPort → Type 0) (system_ports : List SystemPort)
     → ((j : ℕ) (t : SystemPort) → slice_get system_ports j ≡ Some t → P t) → AllByRecursion P system_ports
@@ -187,14 +197,15 @@ taken_none keys system_ports r all j t e =
     (all-get (λ t. TakesNone keys (views system_ports) (selection_view t)) system_ports j t e all)
 
 -- each port, when all have chosen
-pub none_takes : (keys : List Key) (system_ports : List SystemPort) → Rises 0 (port_numbers system_ports)
-    → AllByRecursion (λ t. TakesNone keys (views (after_choices keys (length system_ports) system_ports)) (selection_view t))
-    (after_choices keys (length system_ports) system_ports)
-none_takes keys system_ports r =
-    let last : List SystemPort = after_choices keys (length system_ports) system_ports in
-    let rise : Rises 0 (port_numbers last) = subst (λ ns. Rises 0 ns) (sym (chosen_numbers keys (length system_ports) system_ports)) r in
+pub none_takes : (aggs : AggregatorsValue) (system_ports : List SystemPort) → Rises 0 (port_numbers system_ports)
+    → AllByRecursion (λ t. TakesNone aggs.keys (views (after_choices aggs (length system_ports) system_ports)) (selection_view t))
+    (after_choices aggs (length system_ports) system_ports)
+none_takes aggs system_ports r =
+    let keys = aggs.keys in
+    let last : List SystemPort = after_choices aggs (length system_ports) system_ports in
+    let rise : Rises 0 (port_numbers last) = subst (λ ns. Rises 0 ns) (sym (chosen_numbers aggs (length system_ports) system_ports)) r in
     each_place (λ t. TakesNone keys (views last) (selection_view t)) last
     (λ j t e. when_twice (is_eligible (selection_view t)) (chosen_if_eligible keys (views last) (selection_view t))
     (sym (takes_is keys last j t rise e)
-    ∙ all_chosen keys (length system_ports) system_ports r j t
-    (subst (λ m. j < m) (length_chosen keys (length system_ports) system_ports) (get_within last j t e)) e))
+    ∙ all_chosen aggs (length system_ports) system_ports r j t
+    (subst (λ m. j < m) (length_chosen aggs (length system_ports) system_ports) (get_within last j t e)) e))

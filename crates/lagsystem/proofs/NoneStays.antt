@@ -5,11 +5,12 @@ use Rattle.std.specs.List.{enumerate_from, list_all}
 use Rattle.std.proofs.lemmas.Option.{same_Some}
 use Rattle.lagtypes.specs.declared.identifiers.AggId.{AggId}
 use Rattle.lagtypes.specs.declared.identifiers.Key.{Key}
-use Rattle.lagtypes.specs.declared.party.Choice.TheVariants.{Unselected, Selected}
+use Rattle.lagtypes.specs.declared.party.Choice.{Choice}
+use Rattle.lagtypes.specs.declared.party.Choice.TheVariants.{Unselected}
 use Rattle.lagtypes.specs.Group.{individual}
 use Rattle.selection.specs.declared.view.PortView.{PortView}
-use Rattle.selection.specs.Views.{has_chosen}
-use Rattle.selection.specs.Choice.{chosen_if_eligible, ports_that_chose, has_group_of, has_member, has_no_member, members_share_group}
+use Rattle.selection.specs.Views.{occupies}
+use Rattle.selection.specs.Choice.{chosen_if_eligible, occupants, has_group_of, has_occupant, has_no_occupant, occupants_share_group}
 use Rattle.selection.specs.Choice.{lowest, aggregator_of_entry, or_else}
 use Rattle.lagsystem.specs.declared.system_ports.SystemPort.{SystemPort}
 use Rattle.lagsystem.specs.Settling.{with_choice}
@@ -62,22 +63,22 @@ still_none key empty join later_empty later_join f g (row ∷ rows) e j =
           (two_false same (empty agg) (join agg) (later_join agg) he.0 hj.0 (g agg)) rest.1,
     )
 
--- if no aggregator becomes empty, and none that has members becomes joinable
+-- if no aggregator becomes empty, and none that is occupied becomes joinable
 pub none_stays : (keys : List Key) (seen later : List PortView) (v : PortView)
-    → ((agg : AggId) → has_no_member seen agg ≡ false → has_no_member later agg ≡ false)
-    → ((agg : AggId) → has_no_member seen agg ≡ false → members_share_group seen v agg ≡ false → members_share_group later v agg ≡ false)
+    → ((agg : AggId) → has_no_occupant seen agg ≡ false → has_no_occupant later agg ≡ false)
+    → ((agg : AggId) → has_no_occupant seen agg ≡ false → occupants_share_group seen v agg ≡ false → occupants_share_group later v agg ≡ false)
     → chosen_if_eligible keys seen v ≡ None → chosen_if_eligible keys later v ≡ None
 none_stays keys seen later v f g e =
-    let both = none_or (lowest keys v.party.key (members_share_group seen v)) (lowest keys v.party.key (has_no_member seen)) e in
+    let both = none_or (lowest keys v.party.key (occupants_share_group seen v)) (lowest keys v.party.key (has_no_occupant seen)) e in
     let rows : List (ℕ × Key) = enumerate_from 1 keys in
-    let h = still_none v.party.key (has_no_member seen) (members_share_group seen v) (has_no_member later)
-    (members_share_group later v) f g rows
-    (none_mapped (passing v.party.key (has_no_member seen) rows) both.1)
-    (none_mapped (passing v.party.key (members_share_group seen v) rows) both.0) in
-    ap (λ o. or_else (option_map aggregator_of_entry o) (lowest keys v.party.key (has_no_member later))) h.1
+    let h = still_none v.party.key (has_no_occupant seen) (occupants_share_group seen v) (has_no_occupant later)
+    (occupants_share_group later v) f g rows
+    (none_mapped (passing v.party.key (has_no_occupant seen) rows) both.1)
+    (none_mapped (passing v.party.key (occupants_share_group seen v) rows) both.0) in
+    ap (λ o. or_else (option_map aggregator_of_entry o) (lowest keys v.party.key (has_no_occupant later))) h.1
     ∙ ap (option_map aggregator_of_entry) h.0
 
--- one more member
+-- one more occupant
 
 pub not_false : (b : Bool) → not b ≡ false → b ≡ true
 not_false true h = refl
@@ -96,19 +97,19 @@ or_still : (b c d : Bool) → (b || c) ≡ true → (c ≡ true → d ≡ true) 
 or_still true c d h f = refl
 or_still false c d h f = f h
 
-pub not_given : (agg : AggId) (s x : SystemPort) → x ≡ s → s.port.choice ≡ Unselected → has_chosen agg x.port.choice ≡ false
-not_given agg s x same u = ap (λ (y : SystemPort). has_chosen agg y.port.choice) same ∙ ap (has_chosen agg) u
+pub not_given : (agg : AggId) (s x : SystemPort) → x ≡ s → s.port.choice ≡ Unselected → occupies agg x.port.choice ≡ false
+not_given agg s x same u = ap (λ (y : SystemPort). occupies agg y.port.choice) same ∙ ap (occupies agg) u
 
-member_stays : (agg a : AggId) (system_ports : List SystemPort) (i : ℕ) (s : SystemPort) → slice_get system_ports i ≡ Some s
+occupant_stays : (agg : AggId) (a : Choice) (system_ports : List SystemPort) (i : ℕ) (s : SystemPort) → slice_get system_ports i ≡ Some s
     → s.port.choice ≡ Unselected
-    → has_member (views system_ports) agg ≡ true → has_member (views (slice_set system_ports i (with_choice s (Some a)))) agg ≡ true
-member_stays agg a [] i s e u h = absurd cc
-member_stays agg a (x ∷ xs) zero s e u h =
-    or_other (has_chosen agg x.port.choice) (has_member (views xs) agg) (has_chosen agg (Selected a))
+    → has_occupant (views system_ports) agg ≡ true → has_occupant (views (slice_set system_ports i (with_choice s (Some a)))) agg ≡ true
+occupant_stays agg a [] i s e u h = absurd cc
+occupant_stays agg a (x ∷ xs) zero s e u h =
+    or_other (occupies agg x.port.choice) (has_occupant (views xs) agg) (occupies agg a)
     (not_given agg s x (same_Some x s e) u) h
-member_stays agg a (x ∷ xs) (suc i) s e u h =
-    or_still (has_chosen agg x.port.choice) (has_member (views xs) agg) (has_member (views (slice_set xs i (with_choice s (Some a)))) agg) h
-    (member_stays agg a xs i s e u)
+occupant_stays agg a (x ∷ xs) (suc i) s e u h =
+    or_still (occupies agg x.port.choice) (has_occupant (views xs) agg) (has_occupant (views (slice_set xs i (with_choice s (Some a)))) agg) h
+    (occupant_stays agg a xs i s e u)
 
 and_second : (b c : Bool) → c ≡ false → (b && c) ≡ false
 and_second true c h = h
@@ -130,18 +131,18 @@ all_still : (test : PortView → Bool) (b : Bool) (w : PortView) (rest more : Li
 all_still test true w rest more h f = both_false (test w) (list_all test rest) (list_all test more) h f
 all_still test false w rest more h f = f h
 
-others_stay : (agg a : AggId) (v : PortView) (system_ports : List SystemPort) (i : ℕ) (s : SystemPort) → slice_get system_ports i ≡ Some s
+others_stay : (agg : AggId) (a : Choice) (v : PortView) (system_ports : List SystemPort) (i : ℕ) (s : SystemPort) → slice_get system_ports i ≡ Some s
     → s.port.choice ≡ Unselected
-    → list_all (has_group_of v) (ports_that_chose agg (views system_ports)) ≡ false
-    → list_all (has_group_of v) (ports_that_chose agg (views (slice_set system_ports i (with_choice s (Some a))))) ≡ false
+    → list_all (has_group_of v) (occupants agg (views system_ports)) ≡ false
+    → list_all (has_group_of v) (occupants agg (views (slice_set system_ports i (with_choice s (Some a))))) ≡ false
 others_stay agg a v [] i s e u h = absurd cc
 others_stay agg a v (x ∷ xs) zero s e u h =
-    all_later (has_group_of v) (has_chosen agg (Selected a)) (selection_view (with_choice s (Some a))) (ports_that_chose agg (views xs))
-    (all_skipped (has_group_of v) (has_chosen agg x.port.choice) (selection_view x) (ports_that_chose agg (views xs))
+    all_later (has_group_of v) (occupies agg a) (selection_view (with_choice s (Some a))) (occupants agg (views xs))
+    (all_skipped (has_group_of v) (occupies agg x.port.choice) (selection_view x) (occupants agg (views xs))
     (not_given agg s x (same_Some x s e) u) h)
 others_stay agg a v (x ∷ xs) (suc i) s e u h =
-    all_still (has_group_of v) (has_chosen agg x.port.choice) (selection_view x) (ports_that_chose agg (views xs))
-    (ports_that_chose agg (views (slice_set xs i (with_choice s (Some a))))) h
+    all_still (has_group_of v) (occupies agg x.port.choice) (selection_view x) (occupants agg (views xs))
+    (occupants agg (views (slice_set xs i (with_choice s (Some a))))) h
     (others_stay agg a v xs i s e u)
 
 join_stays : (n m a later all : Bool) → m ≡ true → later ≡ true → ((n && m) && a) ≡ false → (a ≡ false → all ≡ false)
@@ -152,30 +153,30 @@ join_stays true false a later all p q h f = absurd cc
 join_stays false m a later all p q h f = refl
 
 -- a port that found none finds none after another port took an aggregator
-pub none_after : (keys : List Key) (system_ports : List SystemPort) (i : ℕ) (s : SystemPort) (a : AggId) (v : PortView)
+pub none_after : (keys : List Key) (system_ports : List SystemPort) (i : ℕ) (s : SystemPort) (a : Choice) (v : PortView)
     → slice_get system_ports i ≡ Some s → s.port.choice ≡ Unselected
     → chosen_if_eligible keys (views system_ports) v ≡ None
     → chosen_if_eligible keys (views (slice_set system_ports i (with_choice s (Some a)))) v ≡ None
 none_after keys system_ports i s a v e u h =
     let later : List PortView = views (slice_set system_ports i (with_choice s (Some a))) in
     none_stays keys (views system_ports) later v
-    (λ agg k. not_true (has_member later agg) (member_stays agg a system_ports i s e u (not_false (has_member (views system_ports) agg) k)))
+    (λ agg k. not_true (has_occupant later agg) (occupant_stays agg a system_ports i s e u (not_false (has_occupant (views system_ports) agg) k)))
     (λ agg k j.
-    let has = not_false (has_member (views system_ports) agg) k in
-    join_stays (not (individual v.party v.partner)) (has_member (views system_ports) agg)
-    (list_all (has_group_of v) (ports_that_chose agg (views system_ports)))
-    (has_member later agg) (list_all (has_group_of v) (ports_that_chose agg later)) has (member_stays agg a system_ports i s e u has) j
+    let has = not_false (has_occupant (views system_ports) agg) k in
+    join_stays (not (individual v.party v.partner)) (has_occupant (views system_ports) agg)
+    (list_all (has_group_of v) (occupants agg (views system_ports)))
+    (has_occupant later agg) (list_all (has_group_of v) (occupants agg later)) has (occupant_stays agg a system_ports i s e u has) j
     (others_stay agg a v system_ports i s e u))
     h
 
--- the same members in the same groups
+-- the same occupants in the same groups
 pub none_alike : (keys : List Key) (seen later : List PortView) (v : PortView)
-    → ((agg : AggId) → has_member later agg ≡ has_member seen agg)
-    → ((agg : AggId) → list_all (has_group_of v) (ports_that_chose agg later) ≡ list_all (has_group_of v) (ports_that_chose agg seen))
+    → ((agg : AggId) → has_occupant later agg ≡ has_occupant seen agg)
+    → ((agg : AggId) → list_all (has_group_of v) (occupants agg later) ≡ list_all (has_group_of v) (occupants agg seen))
     → chosen_if_eligible keys seen v ≡ None → chosen_if_eligible keys later v ≡ None
 none_alike keys seen later v f g h =
     none_stays keys seen later v
     (λ agg k. ap not (f agg) ∙ k)
-    (λ agg k j. ap (λ b. (not (individual v.party v.partner) && b) && list_all (has_group_of v) (ports_that_chose agg later)) (f agg)
-    ∙ ap (λ b. (not (individual v.party v.partner) && has_member seen agg) && b) (g agg) ∙ j)
+    (λ agg k j. ap (λ b. (not (individual v.party v.partner) && b) && list_all (has_group_of v) (occupants agg later)) (f agg)
+    ∙ ap (λ b. (not (individual v.party v.partner) && has_occupant seen agg) && b) (g agg) ∙ j)
     h

@@ -1,10 +1,19 @@
 -- Frames that are offered.
-use Rattle.std.proofs.Common.{◌≡◌, ℕ, ◌<◌, ◌≤◌, true, false, List, length, arith, subst, Bor}
-use Rattle.std.proofs.lemmas.Bool.{le-leb, lt-leb, and_from, and_left, and_right}
+use Rattle.std.proofs.Common.{◌≡◌, ◌∙◌, ℕ, ◌<◌, ◌≤◌, ◌-◌, ◌%◌, Bool, true, false, eqb, eqb-true, inl, inr, List, length, arith, refl, subst, sym, Bor}
+use Rattle.std.specs.Prelude.{bit_and, ◌||◌, IsErrAnd, Result, Ok, Err}
+use Rattle.std.proofs.lemmas.Bool.{le-leb, lt-leb, and_from, and_left, and_right, cases_Bool}
+use Rattle.std.proofs.lemmas.Nat.{and_mask}
+use Rattle.distributor.specs.Conversations.{is_conversation_count}
 use Rattle.slowpdu.specs.declared.frames.Kind.{Kind}
 use Rattle.slowpdu.specs.declared.frames.Kind.TheVariants.{Control, TooShort}
 use Rattle.slowpdu.specs.Frames.{IsFrameOfKind, IsSlowProtocolsFrame}
-use Rattle.lagsystem.specs.Offers.{is_frame_length, longest_frame}
+use Rattle.distributor.specs.declared.fault.DistFault.{DistFault}
+use Rattle.distributor.specs.declared.fault.DistFault.TheVariants as dist
+use Rattle.lagtypes.specs.declared.identifiers.AggId.{AggId}
+use Rattle.lagsystem.specs.declared.fault.SystemFault.{SystemFault}
+use Rattle.lagsystem.specs.Faults.{system_fault}
+use Rattle.lagsystem.specs.Offers.{AssignsPort, MayBeOfferedTo, Offers, RefusesOffer, is_frame_length, longest_frame}
+use Rattle.lagsystem.specs.State.{SystemState}
 
 pub is_frame : (octets : List ℕ) → 14 ≤ length octets → length octets ≤ 1518 → is_frame_length octets ≡ true
 unfolding longest_frame
@@ -24,3 +33,29 @@ control_slow octets kind rest e h = (subst (IsFrameOfKind octets) e h).1
 
 pub too_short : (octets : List ℕ) (kind : Kind) → kind ≡ TooShort → 14 ≤ length octets → IsFrameOfKind octets kind → ⊥
 too_short octets kind e low h = let short : length octets < 14 = subst (IsFrameOfKind octets) e h in omega (arith, short)
+
+-- the low bits of a number, as many as the conversations have
+pub low_bits : (n x : ℕ) → is_conversation_count n ≡ true → bit_and x (n - 1) ≡ x % n
+low_bits n x h = elim (cases_Bool (eqb n 256)) [
+  | inl few ↦ subst (λ m. bit_and x (m - 1) ≡ x % m) (sym (eqb-true n 256 few)) (and_mask x 8)
+  | inr other ↦ subst (λ m. bit_and x (m - 1) ≡ x % m) (sym (eqb-true n 4096 (sym (or_second (eqb n 256) (eqb n 4096) other) ∙ h))) (and_mask x 12)
+]
+  where
+    or_second : (a b : Bool) → a ≡ false → (a || b) ≡ b
+    or_second a b e = subst (λ c. (c || b) ≡ b) (sym e) refl
+
+-- what the distributor refuses is refused
+pub offer_refused : (gives : ℕ → ℕ → ℕ → Type 0) (agg : AggId) (octets : List ℕ) (old new : SystemState) (r : Result ℕ SystemFault)
+    (cause : DistFault) → IsErrAnd r (λ fault. fault ≡ system_fault cause) → MayBeOfferedTo old agg octets
+    → AssignsPort gives old agg octets (Err cause) → new ≡ old → Offers gives agg octets old r new
+offer_refused gives agg octets old new (Ok port) cause e may a same = absurd e
+offer_refused gives agg octets old new (Err fault) cause e may a same =
+    (subst (RefusesOffer gives old agg octets) (sym e) (by_cause cause a), same)
+  where
+    by_cause : (f : DistFault) → AssignsPort gives old agg octets (Err f) → RefusesOffer gives old agg octets (system_fault f)
+    by_cause dist.Held a = (dist.Held, may, a, refl)
+    by_cause dist.NoneDistributing a = (dist.NoneDistributing, may, a, refl)
+    by_cause dist.NotDistributing a = (dist.NotDistributing, may, a, refl)
+    by_cause dist.SamePort a = (dist.SamePort, may, a, refl)
+    by_cause dist.NotAssigned a = (dist.NotAssigned, may, a, refl)
+    by_cause dist.MarkersSpent a = (dist.MarkersSpent, may, a, refl)

@@ -45,7 +45,7 @@ not_on p a e = ap model_conversation e
 
 pub first_carried : (s : SystemState) → IsFirst s → OnlyOnDistributing s
 first_carried s h g k p e =
-    absurd (free p (sym (ap (λ (t : Table). assignment_of t g k) h.3 ∙ first_free (length s.keys) s.first_marker g k) ∙ e))
+    absurd (free p (sym (ap (λ (t : Table). assignment_of t g k) h.3 ∙ first_free (length s.keys) s.conversations s.first_marker g k) ∙ e))
   where
     free : (p : ℕ) → Free None ≡ On p → ⊥
     free p e = cc

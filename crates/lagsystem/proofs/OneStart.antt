@@ -71,5 +71,5 @@ one_first s t e h k =
     start (first_periodic t k) in
     let system_ports : t.system_ports ≡ s.system_ports = one_periodic s.system s.ports h.0 t.system_ports s.system_ports h.1
     moves (first_periodic s h) in
-    let table : t.table ≡ s.table = k.3 ∙ ap (λ (x : SystemState). first_table (length x.keys) x.first_marker) e ∙ sym h.3 in
+    let table : t.table ≡ s.table = k.3 ∙ ap (λ (x : SystemState). first_table (length x.keys) x.conversations x.first_marker) e ∙ sym h.3 in
     e ∙ (λ i. with_table (with_system_ports s (system_ports i)) (table i))

@@ -1,11 +1,11 @@
 -- Right after a settling, another one has nothing to do; and if there is nothing to do, a settling changes nothing.
 use Rattle.std.proofs.Common.{◌≡◌, ◌∙◌, ℕ, zero, suc, Bool, true, false, cond, not, ◌&&◌, ◌||◌, List, [], ◌∷◌, length, Option, Some}
-use Rattle.std.proofs.Common.{None, refl, sym, ap, subst, inl, inr, slice_get, slice_set}
+use Rattle.std.proofs.Common.{None, refl, sym, ap, subst, inl, inr, slice_get, slice_set, option_map}
 use Rattle.std.specs.List.{AllByRecursion, AllZip, list_all}
 use Rattle.lagtypes.specs.declared.identifiers.AggId.{AggId}
 use Rattle.lagtypes.specs.declared.identifiers.Key.{Key}
 use Rattle.lagtypes.specs.declared.party.Choice.{Choice}
-use Rattle.lagtypes.specs.declared.party.Choice.TheVariants.{Unselected, Selected}
+use Rattle.lagtypes.specs.declared.party.Choice.TheVariants.{Unselected, Selected, Standby}
 use Rattle.lagtypes.specs.Choices.{is_selected, is_unselected}
 use Rattle.portmachines.specs.Machines.{Machines}
 use Rattle.portmachines.specs.Mux.{same_mux_state, mux_rows}
@@ -15,20 +15,25 @@ use Rattle.portmachines.specs.declared.periodic.PeriodicState.TheVariants.{NoPer
 use Rattle.portmachines.specs.Rows.{AtRest, Fires, FiresTimes, Row, RunsToRest}
 use Rattle.portmachines.proofs.Runs.{Reaches-keeps}
 use Rattle.selection.specs.declared.view.PortView.{PortView}
-use Rattle.selection.specs.Views.{is_eligible, has_chosen}
-use Rattle.selection.specs.Choice.{chosen_if_eligible, ports_that_chose, has_group_of, has_member}
+use Rattle.selection.specs.Limits.{AggregatorsValue, has_room}
+use Rattle.std.proofs.lemmas.Bool.{false≢true}
+use Rattle.selection.specs.Views.{is_eligible, occupies}
+use Rattle.selection.specs.Choice.{chosen_if_eligible, occupants, has_group_of, has_occupant}
 use Rattle.lagsystem.specs.declared.system_ports.SystemPort.{SystemPort}
 use Rattle.lagsystem.specs.NothingToSettle.{PeriodicsAreSettled, MuxesAreSettled, PeriodicIsSettled, MuxIsSettled}
-use Rattle.lagsystem.specs.Settling.{PortsChangeBy, PortChangesBy, Settling, SettlesPorts, after_choice_at, after_choices, with_choice}
-use Rattle.lagsystem.specs.Settling.{ready_of, aggregator_for}
-use Rattle.lagsystem.specs.State.{SystemState, port_numbers, with_system_ports}
+use Rattle.lagsystem.specs.Settling.{PortsChangeBy, PortChangesBy, PromotesFirst, Settling, SettlesPorts, after_choice_at, after_choices}
+use Rattle.lagsystem.specs.Settling.{ready_of, aggregator_for, choice_for, choice_if, choice_in, with_choice}
+use Rattle.lagsystem.specs.Occupants.{NoneIsNext}
+use Rattle.lagsystem.specs.State.{SystemState, aggregators_value, port_numbers, with_system_ports}
 use Rattle.lagsystem.specs.Views.{selection_view, views}
-use Rattle.lagsystem.proofs.Keeps.{chosen_numbers, settling_parts, zip_numbers}
+use Rattle.lagsystem.proofs.Keeps.{chosen_numbers, promoted_numbers, settling_keeps, settling_parts, zip_numbers}
+use Rattle.lagsystem.proofs.Limiting.{nothing_promoted, settled_none}
+use Rattle.lagsystem.proofs.PromotionLemmas.{choices_keep, promotions_keep}
 use Rattle.lagsystem.proofs.NoneLeft.{TakesNone, each_place, none_takes, not_when, taken_none, when_still}
 use Rattle.lagsystem.proofs.NoneStays.{none_alike}
-use Rattle.lagsystem.proofs.Rest.{zip_all}
+use Rattle.lagsystem.proofs.Rest.{last_slots, zip_all}
 use Rattle.lagsystem.proofs.Rising.{Rises, all-get, all-set}
-use Rattle.lagsystem.proofs.SettlingLemmas.{set_same, settling_made}
+use Rattle.lagsystem.proofs.SettlingLemmas.{none_for, set_same, settling_made}
 use Rattle.lagsystem.proofs.Unready.{mux_choice, none_ready}
 
 -- rows at rest
@@ -67,25 +72,32 @@ rest_unselected b p s h = (h.0, (h.1.0, (unselected_row (same_mux_state Waiting 
 -- the ports when all have chosen: an UNSELECTED one is at rest
 
 abbrev RestsAlone : SystemPort → Type 0
-RestsAlone x = is_selected x.port.choice ≡ false → AtRest (mux_rows false) x.port
+RestsAlone x = is_unselected x.port.choice ≡ true → AtRest (mux_rows false) x.port
 
-given_rests : (s : SystemPort) (o : Option AggId) → RestsAlone s → RestsAlone (with_choice s o)
-given_rests s None h = h
-given_rests s (Some agg) h = λ e. absurd cc
+taken_rests : (s : SystemPort) (agg : AggId) (room : Bool) → RestsAlone (with_choice s (Some (choice_if room agg)))
+taken_rests s agg true e = absurd (false≢true e)
+taken_rests s agg false e = absurd (false≢true e)
 
-choose_rests : (keys : List Key) (system_ports : List SystemPort) (i : ℕ) (o : Option SystemPort) → slice_get system_ports i ≡ o
-    → AllByRecursion RestsAlone system_ports → AllByRecursion RestsAlone (after_choice_at keys system_ports i o)
-choose_rests keys system_ports i None e a = a
-choose_rests keys system_ports i (Some s) e a = all-set RestsAlone system_ports i (with_choice s (aggregator_for keys system_ports s)) a
-    (given_rests s (aggregator_for keys system_ports s) (all-get RestsAlone system_ports i s e a))
+given_rests : (aggs : AggregatorsValue) (seen : List PortView) (s : SystemPort) (o : Option AggId) → RestsAlone s
+    → RestsAlone (with_choice s (option_map (choice_in aggs seen) o))
+given_rests aggs seen s None h = h
+given_rests aggs seen s (Some agg) h = taken_rests s agg (has_room aggs seen agg)
 
-chosen_rests : (keys : List Key) (n : ℕ) (system_ports : List SystemPort) → AllByRecursion RestsAlone system_ports
-    → AllByRecursion RestsAlone (after_choices keys n system_ports)
-chosen_rests keys zero system_ports a = a
-chosen_rests keys (suc n) system_ports a = choose_rests keys (after_choices keys n system_ports) n
-    (slice_get (after_choices keys n system_ports) n) refl (chosen_rests keys n system_ports a)
+chosen_rests : (aggs : AggregatorsValue) (n : ℕ) (l : List SystemPort) → AllByRecursion RestsAlone l
+    → AllByRecursion RestsAlone (after_choices aggs n l)
+chosen_rests aggs n l a =
+    choices_keep aggs (AllByRecursion RestsAlone)
+    (λ l i s e a. all-set RestsAlone l i (with_choice s (choice_for aggs l s)) a
+    (given_rests aggs (views l) s (aggregator_for aggs.keys l s) (all-get RestsAlone l i s e a))) n l a
 
--- the mux step leaves members and groups
+promoted_rests : (aggs : AggregatorsValue) (n : ℕ) (old new : List SystemPort) → PromotesFirst aggs n old new
+    → AllByRecursion RestsAlone old → AllByRecursion RestsAlone new
+promoted_rests aggs n old new h a =
+    promotions_keep aggs (AllByRecursion RestsAlone)
+    (λ agg l m x a. subst (AllByRecursion RestsAlone) (sym x.4)
+    (all-set RestsAlone l x.0 (with_choice x.1 (Some (Selected agg))) a (λ e. absurd (false≢true e)))) n old new h a
+
+-- the mux step leaves occupants and groups
 
 abbrev Steps : List Key → List PortView → Machines → Machines → Type 0
 Steps keys seen p q = RunsToRest (mux_rows (ready_of keys seen p.choice)) p q
@@ -95,15 +107,15 @@ mux_groups : (b : Bool) (v : PortView) (x y : SystemPort) → y ≡ record x { p
 mux_groups b v x y e h = Reaches-keeps (λ (p : Machines). has_group_of v (selection_view (record x { port = p }))) (mux_rows b)
     ((λ p. refl), ((λ p. refl), ((λ p. refl), ((λ p. refl), ((λ p. refl), ((λ p. refl), tt)))))) h.0 x.port y.port h.1
 
-same_members : (keys : List Key) (seen : List PortView) (agg : AggId) (xs ys : List SystemPort) → PortsChangeBy (Steps keys seen) xs ys
-    → has_member (views ys) agg ≡ has_member (views xs) agg
-same_members keys seen agg [] [] h = refl
-same_members keys seen agg [] (y ∷ ys) h = absurd h
-same_members keys seen agg (x ∷ xs) [] h = absurd h
-same_members keys seen agg (x ∷ xs) (y ∷ ys) h =
+same_occupants : (keys : List Key) (seen : List PortView) (agg : AggId) (xs ys : List SystemPort) → PortsChangeBy (Steps keys seen) xs ys
+    → has_occupant (views ys) agg ≡ has_occupant (views xs) agg
+same_occupants keys seen agg [] [] h = refl
+same_occupants keys seen agg [] (y ∷ ys) h = absurd h
+same_occupants keys seen agg (x ∷ xs) [] h = absurd h
+same_occupants keys seen agg (x ∷ xs) (y ∷ ys) h =
     let same = mux_choice (ready_of keys seen x.port.choice) x.port y.port h.0.1 in
-    ap (λ c. has_chosen agg c || has_member (views ys) agg) same
-    ∙ ap (λ b. has_chosen agg x.port.choice || b) (same_members keys seen agg xs ys h.1)
+    ap (λ c. occupies agg c || has_occupant (views ys) agg) same
+    ∙ ap (λ b. occupies agg x.port.choice || b) (same_occupants keys seen agg xs ys h.1)
 
 next_all : (test : PortView → Bool) (b : Bool) (w v : PortView) (rest more : List PortView) → test v ≡ test w
     → list_all test more ≡ list_all test rest → list_all test (cond b (v ∷ more) more) ≡ list_all test (cond b (w ∷ rest) rest)
@@ -112,39 +124,44 @@ next_all test false w v rest more e h = h
 
 same_groups : (keys : List Key) (seen : List PortView) (agg : AggId) (v : PortView) (xs ys : List SystemPort)
     → PortsChangeBy (Steps keys seen) xs ys
-    → list_all (has_group_of v) (ports_that_chose agg (views ys)) ≡ list_all (has_group_of v) (ports_that_chose agg (views xs))
+    → list_all (has_group_of v) (occupants agg (views ys)) ≡ list_all (has_group_of v) (occupants agg (views xs))
 same_groups keys seen agg v [] [] h = refl
 same_groups keys seen agg v [] (y ∷ ys) h = absurd h
 same_groups keys seen agg v (x ∷ xs) [] h = absurd h
 same_groups keys seen agg v (x ∷ xs) (y ∷ ys) h =
     let same = mux_choice (ready_of keys seen x.port.choice) x.port y.port h.0.1 in
-    ap (λ c. list_all (has_group_of v) (cond (has_chosen agg c) (selection_view y ∷ ports_that_chose agg (views ys))
-    (ports_that_chose agg (views ys)))) same
-    ∙ next_all (has_group_of v) (has_chosen agg x.port.choice) (selection_view x) (selection_view y) (ports_that_chose agg (views xs))
-    (ports_that_chose agg (views ys))
+    ap (λ c. list_all (has_group_of v) (cond (occupies agg c) (selection_view y ∷ occupants agg (views ys))
+    (occupants agg (views ys)))) same
+    ∙ next_all (has_group_of v) (occupies agg x.port.choice) (selection_view x) (selection_view y) (occupants agg (views xs))
+    (occupants agg (views ys))
     (mux_groups (ready_of keys seen x.port.choice) v x y h.0.0 h.0.1) (same_groups keys seen agg v xs ys h.1)
 
 -- a port that takes none takes none after the mux step
-not_unselected : (b d : Bool) (c : Choice) → is_selected c ≡ true → ((b && is_unselected c) && d) ≡ false
-not_unselected b d Unselected h = absurd cc
-not_unselected true d (Selected agg) h = refl
-not_unselected false d (Selected agg) h = refl
+not_unselected : (b d u : Bool) → u ≡ false → ((b && u) && d) ≡ false
+not_unselected b d true h = absurd cc
+not_unselected true d false h = refl
+not_unselected false d false h = refl
+
+not_selected : (c : Choice) → is_unselected c ≡ true → is_selected c ≡ false
+not_selected Unselected h = refl
+not_selected (Selected agg) h = absurd cc
+not_selected (Standby agg) h = refl
 
 none_moved : (keys : List Key) (xs ys : List SystemPort) (x y : SystemPort) → PortsChangeBy (Steps keys (views xs)) xs ys
     → PortChangesBy (Steps keys (views xs)) x y → RestsAlone x → TakesNone keys (views xs) (selection_view x)
-    → (s : Bool) → is_selected x.port.choice ≡ s → TakesNone keys (views ys) (selection_view y)
-none_moved keys xs ys x y all h a none true s =
+    → (s : Bool) → is_unselected x.port.choice ≡ s → TakesNone keys (views ys) (selection_view y)
+none_moved keys xs ys x y all h a none false s =
     let same = mux_choice (ready_of keys (views xs) x.port.choice) x.port y.port h.1 in
     not_when (is_eligible (selection_view y)) (chosen_if_eligible keys (views ys) (selection_view y))
-    (not_unselected _ _ y.port.choice (ap is_selected same ∙ s))
-none_moved keys xs ys x y all h a none false s =
+    (not_unselected _ _ (is_unselected y.port.choice) (ap is_unselected same ∙ s))
+none_moved keys xs ys x y all h a none true s =
     let b = ready_of keys (views xs) x.port.choice in
-    let still : y.port ≡ x.port = stays (mux_rows b) h.1.0 x.port y.port (rest_unselected b x.port s (a s)) h.1.1 in
+    let still : y.port ≡ x.port = stays (mux_rows b) h.1.0 x.port y.port (rest_unselected b x.port (not_selected x.port.choice s) (a s)) h.1.1 in
     let same : y ≡ x = h.0 ∙ (λ i. record x { port = still i }) in
     subst (λ (z : SystemPort). TakesNone keys (views ys) (selection_view z)) (sym same)
     (when_still (is_eligible (selection_view x)) (chosen_if_eligible keys (views xs) (selection_view x))
     (chosen_if_eligible keys (views ys) (selection_view x)) none
-    (none_alike keys (views xs) (views ys) (selection_view x) (λ agg. same_members keys (views xs) agg xs ys all)
+    (none_alike keys (views xs) (views ys) (selection_view x) (λ agg. same_occupants keys (views xs) agg xs ys all)
     (λ agg. same_groups keys (views xs) agg (selection_view x) xs ys all)))
 
 -- what holds of one list, port for port, of the other
@@ -169,7 +186,7 @@ moved : (keys : List Key) (xs ys : List SystemPort) → PortsChangeBy (Steps key
 moved keys xs ys h a =
     zip_gives (PortChangesBy (Steps keys (views xs))) (λ x. RestsAlone x × TakesNone keys (views xs) (selection_view x)) (Moved keys ys)
     (λ x y m k. (
-      none_moved keys xs ys x y h m k.0 k.1 (is_selected x.port.choice) refl,
+      none_moved keys xs ys x y h m k.0 k.1 (is_unselected x.port.choice) refl,
       rest_unready (ready_of keys (views xs) x.port.choice) y.port m.1.2,
     )) xs ys h a
 
@@ -229,15 +246,21 @@ settling_still old new r h =
     let four = h.2.2.2.0 in
     let five = h.2.2.2.2.0 in
     let keys : List Key = one.keys in
-    let last : List SystemPort = after_choices keys (length one.system_ports) one.system_ports in
+    let aggs : AggregatorsValue = aggregators_value one in
+    let mid : List SystemPort = h.2.1.0.0 in
+    let last : List SystemPort = after_choices aggs (length mid) mid in
+    let is : two.system_ports ≡ last = h.2.1.0.2 in
     let r1 : Rises 0 (port_numbers one.system_ports) = subst (λ ns. Rises 0 ns)
     (sym (zip_numbers (RunsToRest (mux_rows false)) old.system_ports one.system_ports h.1.0)) r in
     let a1 : AllByRecursion RestsAlone one.system_ports = zip_all (PortChangesBy (RunsToRest (mux_rows false))) RestsAlone
     (λ x y m s. m.1.2) old.system_ports one.system_ports h.1.0 in
+    let a0 : AllByRecursion RestsAlone mid = promoted_rests aggs (length keys) one.system_ports mid h.2.1.0.1 a1 in
+    let r0 : Rises 0 (port_numbers mid) = subst (λ ns. Rises 0 ns)
+    (sym (promoted_numbers aggs (length keys) one.system_ports mid h.2.1.0.1)) r1 in
     let a2 : AllByRecursion (λ x. RestsAlone x × TakesNone keys (views last) (selection_view x)) last =
     all_both RestsAlone (λ x. TakesNone keys (views last) (selection_view x)) last
-    (chosen_rests keys (length one.system_ports) one.system_ports a1) (none_takes keys one.system_ports r1) in
-    let there : three ≡ with_system_ports one last = h.2.2.1 ∙ h.2.1 in
+    (chosen_rests aggs (length mid) mid a0) (none_takes aggs mid r0) in
+    let there : three ≡ with_system_ports one last = h.2.2.1 ∙ h.2.1.1 ∙ ap (with_system_ports one) is in
     let m4 : PortsChangeBy (Steps keys (views last)) last four.system_ports =
     subst (λ (s : SystemState). PortsChangeBy (Steps s.keys (views s.system_ports)) s.system_ports four.system_ports) there h.2.2.2.1.0 in
     let a4 : AllByRecursion (Moved keys four.system_ports) four.system_ports = moved keys last four.system_ports m4 a2 in
@@ -245,8 +268,8 @@ settling_still old new r h =
     let seen : views five.system_ports ≡ views four.system_ports = periodic_views four.system_ports five.system_ports m5 in
     let r5 : Rises 0 (port_numbers five.system_ports) =
     subst (λ ns. Rises 0 ns) (sym (zip_numbers RunsPeriodic four.system_ports five.system_ports m5
-    ∙ zip_numbers (Steps keys (views last)) last four.system_ports m4 ∙ chosen_numbers keys (length one.system_ports) one.system_ports))
-    r1 in
+    ∙ zip_numbers (Steps keys (views last)) last four.system_ports m4 ∙ chosen_numbers aggs (length mid) mid))
+    r0 in
     let a5 : AllByRecursion (λ z. TakesNone keys (views five.system_ports) (selection_view z)
     × AtRest (mux_rows false) z.port) five.system_ports =
     zip_gives (PortChangesBy RunsPeriodic) (Moved keys four.system_ports) (λ z. TakesNone keys (views five.system_ports) (selection_view z)
@@ -291,26 +314,30 @@ still_ready keys system_ports [] h = tt
 still_ready keys system_ports (x ∷ xs) h =
     ((refl, (0, refl, subst (λ b. AtRest (mux_rows b) x.port) (sym h.0.unready) h.0.mux)), still_ready keys system_ports xs h.1)
 
-still_choose : (keys : List Key) (system_ports : List SystemPort) (i : ℕ) (o : Option SystemPort) → slice_get system_ports i ≡ o
-    → MuxesAreSettled keys system_ports → after_choice_at keys system_ports i o ≡ system_ports
-still_choose keys system_ports i None e h = refl
-still_choose keys system_ports i (Some s) e h =
-    ap (λ o. slice_set system_ports i (with_choice s o)) ((all-get (MuxIsSettled keys system_ports) system_ports i s e h).apart)
+still_choose : (aggs : AggregatorsValue) (system_ports : List SystemPort) (i : ℕ) (o : Option SystemPort) → slice_get system_ports i ≡ o
+    → MuxesAreSettled aggs.keys system_ports → after_choice_at aggs system_ports i o ≡ system_ports
+still_choose aggs system_ports i None e h = refl
+still_choose aggs system_ports i (Some s) e h =
+    ap (λ o. slice_set system_ports i (with_choice s o))
+    (none_for aggs system_ports s (all-get (MuxIsSettled aggs.keys system_ports) system_ports i s e h).apart)
     ∙ set_same system_ports i s e
 
-still_chosen : (keys : List Key) (n : ℕ) (system_ports : List SystemPort) → MuxesAreSettled keys system_ports
-    → after_choices keys n system_ports ≡ system_ports
-still_chosen keys zero system_ports h = refl
-still_chosen keys (suc n) system_ports h =
-    ap (λ l. after_choice_at keys l n (slice_get l n)) (still_chosen keys n system_ports h)
-    ∙ still_choose keys system_ports n (slice_get system_ports n) refl h
+still_chosen : (aggs : AggregatorsValue) (n : ℕ) (system_ports : List SystemPort) → MuxesAreSettled aggs.keys system_ports
+    → after_choices aggs n system_ports ≡ system_ports
+still_chosen aggs zero system_ports h = refl
+still_chosen aggs (suc n) system_ports h =
+    ap (λ l. after_choice_at aggs l n (slice_get l n)) (still_chosen aggs n system_ports h)
+    ∙ still_choose aggs system_ports n (slice_get system_ports n) refl h
 
 -- settling leaves all but the periodic machines
 pub still_settles : (s : SystemState) (news : List SystemPort) → MuxesAreSettled s.keys s.system_ports
-    → PortsChangeBy RunsPeriodic s.system_ports news → SettlesPorts s (with_system_ports s news)
-still_settles s news h m =
-    settling_made s s.keys s.system_ports s.system_ports s.system_ports s.system_ports news refl refl
-    (still_mux s.keys s.system_ports s.system_ports h) (sym (still_chosen s.keys (length s.system_ports) s.system_ports h))
+    → NoneIsNext (aggregators_value s) (views s.system_ports) → PortsChangeBy RunsPeriodic s.system_ports news
+    → SettlesPorts s (with_system_ports s news)
+still_settles s news h none m =
+    let aggs = aggregators_value s in
+    settling_made s aggs s.system_ports s.system_ports s.system_ports s.system_ports news refl refl
+    (still_mux s.keys s.system_ports s.system_ports h)
+    (s.system_ports, nothing_promoted aggs (length s.keys) s.system_ports none, sym (still_chosen aggs (length s.system_ports) s.system_ports h))
     (still_ready s.keys s.system_ports s.system_ports h) m
 
 pub paced_runs : (xs : List SystemPort) → PeriodicsAreSettled xs → PortsChangeBy RunsPeriodic xs xs
@@ -324,3 +351,30 @@ settling_quiet old new r h =
     let p = settling_parts old new h in
     subst (λ (s : SystemState). MuxesAreSettled s.keys s.system_ports × PeriodicsAreSettled s.system_ports) (sym p.2.frame)
     (settling_still old p.0 r p.1)
+
+-- after a settling no STANDBY port comes next
+
+periodic_choice : (p q : Machines) → RunsPeriodic p q → q.choice ≡ p.choice
+periodic_choice p q h = ap (λ (m : Machines). m.choice) h.2
+    ∙ Reaches-keeps (λ (m : Machines). m.choice) periodic_rows (
+      (λ p. refl),
+      ((λ p. refl), ((λ p. refl), ((λ p. refl), ((λ p. refl), ((λ p. refl), ((λ p. refl), tt)))))),
+    ) h.1.0 p h.0 h.1.1
+
+pub settling_none : (old new : SystemState) → Settling old new → NoneIsNext (aggregators_value new) (views new.system_ports)
+settling_none old new h =
+    let one = h.0 in
+    let two = h.2.0 in
+    let three = h.2.2.0 in
+    let four = h.2.2.2.0 in
+    let five = h.2.2.2.2.0 in
+    let ready : Machines → Machines → Type 0 = Steps two.keys (views two.system_ports) in
+    let m4 : PortsChangeBy ready two.system_ports four.system_ports =
+    subst (λ (s : SystemState). PortsChangeBy (Steps s.keys (views s.system_ports)) s.system_ports four.system_ports) h.2.2.1 h.2.2.2.1.0 in
+    let none = settled_none (aggregators_value one) ready RunsPeriodic
+    (λ p q x. mux_choice (ready_of two.keys (views two.system_ports) p.choice) p q x) periodic_choice
+    one.system_ports two.system_ports four.system_ports five.system_ports h.2.1.0 m4 h.2.2.2.2.1.0 in
+    let same : aggregators_value new ≡ aggregators_value one = ap aggregators_value (settling_keeps old new h).frame
+    ∙ sym (ap aggregators_value h.1.1) in
+    subst (λ a. NoneIsNext a (views new.system_ports)) (sym same)
+    (subst (λ l. NoneIsNext (aggregators_value one) (views l)) (sym (last_slots old new h)) none)

@@ -1,13 +1,12 @@
 -- What holds of each port after every call: its machines are at rest.
-use Rattle.std.proofs.Common.{◌≡◌, ℕ, zero, suc, Bool, true, false, Option, Some, None, Result, Ok, Err, List, [], ◌∷◌, length, refl}
+use Rattle.std.proofs.Common.{◌≡◌, ℕ, Bool, true, false, Option, Some, None, Result, Ok, Err, List, [], ◌∷◌, refl}
 use Rattle.std.proofs.Common.{sym, ◌∙◌, subst, ap, inl, inr}
 use Rattle.std.specs.Prelude.{◌&&◌, ◌||◌, not, if◌then◌else◌, slice_get}
 use Rattle.std.specs.List.{AllZip, AllByRecursion}
 use Rattle.std.proofs.lemmas.Bool.{true≢false}
 use Rattle.lagtypes.specs.declared.identifiers.AggId.{AggId}
-use Rattle.lagtypes.specs.declared.identifiers.Key.{Key}
 use Rattle.lagtypes.specs.declared.party.Choice.{Choice}
-use Rattle.lagtypes.specs.declared.party.Choice.TheVariants.{Unselected, Selected}
+use Rattle.lagtypes.specs.declared.party.Choice.TheVariants.{Unselected, Selected, Standby}
 use Rattle.slowpdu.specs.declared.pdu.Lacpdu.{Lacpdu}
 use Rattle.slowpdu.specs.declared.pdu.Marker.{Marker}
 use Rattle.distributor.specs.declared.assignment.Assignment.{Assignment}
@@ -31,14 +30,15 @@ use Rattle.lagsystem.specs.declared.drive.Reply.TheVariants as reply
 use Rattle.lagsystem.specs.declared.fault.SystemFault.{SystemFault}
 use Rattle.lagsystem.specs.declared.system_ports.SystemPort.{SystemPort}
 use Rattle.lagsystem.specs.Views.{views}
-use Rattle.lagsystem.specs.State.{SystemState, with_system_ports, port_index}
+use Rattle.lagsystem.specs.State.{SystemState, aggregators_value, with_system_ports, port_index}
 use Rattle.lagsystem.specs.First.{IsFirst, HasJustStarted, setup_of}
-use Rattle.lagsystem.specs.Settling.{Settling, after_choices, after_choice_at, with_choice, ready_of, aggregator_for}
+use Rattle.lagsystem.specs.Settling.{Settling, with_choice, ready_of}
+use Rattle.lagsystem.proofs.PromotionLemmas.{KeptByChoices, choosing_keeps}
 use Rattle.lagsystem.specs.Offers.{GivesOrRefuses, Offers, system_force_result, system_move_result}
 use Rattle.lagsystem.specs.Sending.{TransmitsAt, SendsMarkerOf, TransmitsIf}
 use Rattle.distributor.specs.Changes.{marker_due}
 use Rattle.lagsystem.specs.Calls.{Call, Tick, Set_link, Receive, Configure, Restart, Transmit, Offer, Move_conversation, Force, Ticks}
-use Rattle.lagsystem.specs.Calls.{SetsPortEnabled, ChangesParty, Performs, SetsLink, PortAtChangesBy, OnlyPortChangesBy, Releases}
+use Rattle.lagsystem.specs.Calls.{SetsPortEnabled, choice_with_link, ChangesParty, Performs, SetsLink, PortAtChangesBy, OnlyPortChangesBy, Releases}
 use Rattle.lagsystem.specs.Calls.{ThenSettles, ProcessesLacpdu, changed_party, is_own_response, Step}
 use Rattle.lagsystem.specs.ModelView.{can_receive_in, can_receive, mux_consistent_of, mux_consistent, AllCanReceive, MuxesConsistent}
 use Rattle.lagsystem.specs.ModelView.{PortsConsistent}
@@ -87,9 +87,11 @@ rest_steady Detached c s h k = refl
 rest_steady Waiting c s h k = refl
 rest_steady Attached (Selected agg) s h k = refl
 rest_steady Attached Unselected s h k = absurd (true≢false h)
+rest_steady Attached (Standby agg) s h k = absurd (true≢false h)
 rest_steady CollectingDistributing (Selected agg) true h k = refl
 rest_steady CollectingDistributing (Selected agg) false h k = absurd (true≢false k)
 rest_steady CollectingDistributing Unselected s h k = absurd (true≢false k)
+rest_steady CollectingDistributing (Standby agg) s h k = absurd (true≢false k)
 
 mux_steady : (ready : Bool) (p q : Machines) → RunsToRest (mux_rows ready) p q → mux_consistent q ≡ true
 mux_steady ready p q h = rest_steady q.mux q.choice (partner_synchronized q) h.2.1.1.1.0 h.2.1.1.1.1.1.0
@@ -109,7 +111,7 @@ zip_kept R P k [] (y ∷ ys) h a = absurd h
 zip_kept R P k (x ∷ xs) [] h a = absurd h
 zip_kept R P k (x ∷ xs) (y ∷ ys) h a = (k x y h.0 a.0, zip_kept R P k xs ys h.1 a.1)
 
-given_awake : (s : SystemPort) (o : Option AggId) → can_receive (with_choice s o).port ≡ can_receive s.port
+given_awake : (s : SystemPort) (o : Option Choice) → can_receive (with_choice s o).port ≡ can_receive s.port
 given_awake s None = refl
 given_awake s (Some agg) = refl
 
@@ -119,18 +121,8 @@ IsAwake x = can_receive x.port ≡ true
 abbrev IsSteady : SystemPort → Type 0
 IsSteady x = mux_consistent x.port ≡ true
 
-choose_awake : (keys : List Key) (system_ports : List SystemPort) (i : ℕ) (o : Option SystemPort) → slice_get system_ports i ≡ o
-    → AllCanReceive system_ports → AllCanReceive (after_choice_at keys system_ports i o)
-choose_awake keys system_ports i None e a = a
-choose_awake keys system_ports i (Some s) e a =
-    let o = aggregator_for keys system_ports s in
-    all-set IsAwake system_ports i (with_choice s o) a (given_awake s o ∙ all-get IsAwake system_ports i s e a)
-
-chosen_awake : (keys : List Key) (n : ℕ) (system_ports : List SystemPort) → AllCanReceive system_ports
-    → AllCanReceive (after_choices keys n system_ports)
-chosen_awake keys zero system_ports a = a
-chosen_awake keys (suc n) system_ports a = choose_awake keys (after_choices keys n system_ports) n
-    (slice_get (after_choices keys n system_ports) n) refl (chosen_awake keys n system_ports a)
+selects_awake : KeptByChoices AllCanReceive
+selects_awake l i s o e a = all-set IsAwake l i (with_choice s o) a (given_awake s o ∙ all-get IsAwake l i s e a)
 
 -- a state that is the same has the same ports
 pub same_slots : (s t : SystemState) → t ≡ s → t.system_ports ≡ s.system_ports
@@ -150,8 +142,8 @@ settling_rested old new h a =
     let five = h.2.2.2.2.0 in
     let a1 : AllCanReceive one.system_ports = zip_kept _ IsAwake (λ x y m k. mux_awake false x.port y.port m.1
     ∙ k) old.system_ports one.system_ports h.1.0 a in
-    let a2 : AllCanReceive two.system_ports = subst (λ (s : SystemState). AllCanReceive s.system_ports) (sym h.2.1)
-    (chosen_awake one.keys (length one.system_ports) one.system_ports a1) in
+    let a2 : AllCanReceive two.system_ports =
+    choosing_keeps AllCanReceive selects_awake (aggregators_value one) one.system_ports two.system_ports h.2.1.0 a1 in
     let a3 : AllCanReceive three.system_ports = subst (λ (s : SystemState). AllCanReceive s.system_ports) (sym h.2.2.1) a2 in
     let a4 : AllCanReceive four.system_ports = zip_kept _ IsAwake
     (λ x y m k. mux_awake (ready_of three.keys (views three.system_ports) x.port.choice) x.port y.port m.1 ∙ k) three.system_ports
@@ -259,8 +251,8 @@ Step-rested gives old Tick reply.Tick new h a =
     mid.system_ports own.0) h
 Step-rested gives old (Set_link n up) (reply.SetLink (Ok done)) new h a =
     let o = port_index n old.system_ports in
-    settled_rested (SetsLink n up) old new (λ mid own. place_kept IsAwake (SetsPortEnabled up) o old.system_ports mid.system_ports
-    (λ s q r k. receive_awake (record s.port { enabled = up }) q r) own.0 a.0) h
+    settled_rested (SetsLink n up) old new (λ mid own. place_kept IsAwake (SetsPortEnabled old.max_links up) o old.system_ports mid.system_ports
+    (λ s q r k. receive_awake (record s.port { enabled = up; choice = choice_with_link old.max_links up s.port.choice }) q r) own.0 a.0) h
 Step-rested gives old (Set_link n up) (reply.SetLink (Err fault)) new h a = same_rested old new (same_slots old new h.same) a
 Step-rested gives old (Receive n octets) (reply.Receive (Ok answer)) new h a = does_rested h.1 h.0.number
     (port_index n old.system_ports) old answer new h.4 a

@@ -9,11 +9,12 @@ use Rattle.std.proofs.lemmas.List.Quantifiers.{position-Some}
 use Rattle.std.proofs.lemmas.Option.{get_or_from_slice_get, none-some, same_Some}
 use Rattle.lagmodel.specs.Bridge.{AreNumbered, find_number}
 use Rattle.lagmodel.proofs.Base.{chosen as whichever, cond_false}
+use Rattle.distributor.specs.Conversations.{is_conversation_count}
 use Rattle.lagsystem.specs.declared.config.PortConfig.{PortConfig}
 use Rattle.lagsystem.specs.declared.fault.BadConfig.{BadConfig}
-use Rattle.lagsystem.specs.declared.fault.BadConfig.TheVariants.{PortNumber}
+use Rattle.lagsystem.specs.declared.fault.BadConfig.TheVariants.{PortNumber, Conversations}
 use Rattle.lagsystem.specs.declared.system_ports.SystemPort.{SystemPort}
-use Rattle.lagsystem.specs.First.{first_bad_port_number, configured_numbers, refusal}
+use Rattle.lagsystem.specs.First.{first_bad_port_number, configured_numbers, or_first, refusal, refusal_of_limits}
 use Rattle.lagsystem.specs.ModelView.{number_of_port}
 use Rattle.lagsystem.specs.Sound.{HasPorts}
 use Rattle.lagsystem.specs.State.{SystemState, port_numbers, port_index}
@@ -40,16 +41,33 @@ pub if_then : (b : Bool) (x : Option BadConfig) (y : BadConfig) → (if b then x
 if_then true x y h = h
 if_then false x y h = cc
 
-no_place : (o : Option ℕ) → option_map PortNumber o ≡ None → o ≡ None
-no_place None e = refl
-no_place (Some place) e = cc
+-- no port number, limit or count of a configuration that is accepted is a reason to refuse it
+accepted_numbers : (keys : List Key) (ports : List PortConfig) (most : Option ℕ) (conversations : ℕ)
+    → refusal keys ports most conversations ≡ None
+    → (first_bad_port_number 1 0 (configured_numbers ports) ≡ None) × (refusal_of_limits most conversations ≡ None)
+accepted_numbers keys ports most conversations h = parts (first_bad_port_number 1 0 (configured_numbers ports))
+    (refusal_of_limits most conversations) (if_then _ _ _ (if_then _ _ _ h))
+  where
+    parts : (o : Option ℕ) (b : Option BadConfig) → or_first (option_map PortNumber o) b ≡ None → (o ≡ None) × (b ≡ None)
+    parts None b e = (refl, e)
+    parts (Some place) b e = cc
 
-pub accepted_rises : (keys : List Key) (ports : List PortConfig) → refusal keys ports ≡ None → Rises 0 (configured_numbers ports)
-accepted_rises keys ports h = rises 1 0 (configured_numbers ports)
-    (no_place (first_bad_port_number 1 0 (configured_numbers ports)) (if_then _ _ _ (if_then _ _ _ h)))
+pub accepted_count : (keys : List Key) (ports : List PortConfig) (most : Option ℕ) (conversations : ℕ)
+    → refusal keys ports most conversations ≡ None → is_conversation_count conversations ≡ true
+accepted_count keys ports most conversations h =
+    is_so (is_conversation_count conversations) (if_then _ _ _ (accepted_numbers keys ports most conversations h).1)
+  where
+    is_so : (b : Bool) → (if b then None else Some Conversations) ≡ None → b ≡ true
+    is_so true e = refl
+    is_so false e = cc
+
+pub accepted_rises : (keys : List Key) (ports : List PortConfig) (most : Option ℕ) (conversations : ℕ)
+    → refusal keys ports most conversations ≡ None → Rises 0 (configured_numbers ports)
+accepted_rises keys ports most conversations h =
+    rises 1 0 (configured_numbers ports) (accepted_numbers keys ports most conversations h).0
 
 pub ports_rise : (s : SystemState) → HasPorts s → Rises 0 (port_numbers s.system_ports)
-ports_rise s h = subst (λ ns. Rises 0 ns) (sym h.same) (accepted_rises s.keys s.ports h.accepted)
+ports_rise s h = subst (λ ns. Rises 0 ns) (sym h.same) (accepted_rises s.keys s.ports s.max_links s.conversations h.accepted)
 
 -- no number twice
 not_found : (low n : ℕ) (system_ports : List SystemPort) → Rises low (port_numbers system_ports) → n < low + 1

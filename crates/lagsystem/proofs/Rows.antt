@@ -5,7 +5,7 @@ use Rattle.std.proofs.lemmas.Bool.{false≢true}
 use Rattle.std.proofs.lemmas.List.{append-nil}
 use Rattle.lagtypes.specs.declared.party.Party.{Party}
 use Rattle.lagtypes.specs.declared.party.Choice.{Choice}
-use Rattle.lagtypes.specs.declared.party.Choice.TheVariants.{Unselected, Selected}
+use Rattle.lagtypes.specs.declared.party.Choice.TheVariants.{Unselected, Selected, Standby}
 use Rattle.portmachines.specs.declared.mux.MuxState.TheVariants.{CollectingDistributing}
 use Rattle.portmachines.specs.Machines.{Machines}
 use Rattle.portmachines.specs.Rows.{Row, Fires, FiresTimes, RunsToRest}
@@ -34,6 +34,7 @@ begins u call n party partner s d g false h = ([], tt, refl, refl)
 may_begin : (s : Bool) (c : Choice) (m : Bool) → (s && (is_selected c && m)) ≡ true → IsSome (selected_number c) × (s ≡ true)
 may_begin true (Selected agg) m h = (refl, refl)
 may_begin true Unselected m h = absurd (false≢true h)
+may_begin true (Standby agg) m h = absurd (false≢true h)
 may_begin false c m h = absurd (false≢true h)
 
 -- a port stops, moves, and begins again

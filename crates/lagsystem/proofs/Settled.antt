@@ -20,11 +20,12 @@ use Rattle.lagsystem.proofs.Keeps.{Keeps, keeps_link, keeps_place, keeps_tick}
 
 -- a state of these fields, with other ports and conversations
 abbrev pub moved_on : SystemState → List SystemPort → Table → SystemState
-moved_on s system_ports table = record s { first_marker = table.first; system_ports = system_ports; table = table }
+moved_on s system_ports table =
+    record s { first_marker = table.first; conversations = table.conversations; system_ports = system_ports; table = table }
 
 pub is_moved_on : (s : SystemState) (system_ports : List SystemPort) (t : Table) → t.first ≡ s.first_marker
-    → moved_on s system_ports t ≡ with_table (with_system_ports s system_ports) t
-is_moved_on s system_ports t h = λ i. record s { first_marker = h i; system_ports = system_ports; table = t }
+    → t.conversations ≡ s.conversations → moved_on s system_ports t ≡ with_table (with_system_ports s system_ports) t
+is_moved_on s system_ports t h k = λ i. record s { first_marker = h i; conversations = k i; system_ports = system_ports; table = t }
 
 were_carried : (old mid : SystemState) (were : List (Option AggId)) → IsSound old → Keeps old mid
     → were ≡ aggregators_in_use old.system_ports → ((g k p : ℕ) → assignment_of mid.table g k ≡ On p → assignment_of old.table g k ≡ On p)
@@ -43,12 +44,16 @@ ticked_on (Flushing q n preferred age) p e = waits (ltb (age + 1) 30) e
     waits false x = absurd cc
 
 pub tick_made : (old : SystemState) (olds ws news : List SystemPort) (t : Table) → olds ≡ old.system_ports → news ≡ ws
-    → old.first_marker ≡ old.table.first → PortsChangeBy (λ p q. RunsToRest receive_rows (count_down p) q) olds ws
+    → old.first_marker ≡ old.table.first → old.conversations ≡ old.table.conversations
+    → PortsChangeBy (λ p q. RunsToRest receive_rows (count_down p) q) olds ws
     → ChangesAssignments old.table t after_tick
     → Ticks old (moved_on old news t)
-tick_made old olds ws news t e w f h c =
-    let own : Machines → Machines → Type 0 = λ p q. RunsToRest receive_rows (count_down p) q in
-    (subst (λ l. PortsChangeBy own l news) e (subst (λ l. PortsChangeBy own olds l) (sym w) h), c, is_moved_on old news t (c.first ∙ sym f))
+tick_made old olds ws news t e w f k h c =
+    let own : Machines → Machines → Type 0 = λ p q. RunsToRest receive_rows (count_down p) q in (
+      subst (λ l. PortsChangeBy own l news) e (subst (λ l. PortsChangeBy own olds l) (sym w) h),
+      c,
+      is_moved_on old news t (c.first ∙ sym f) (c.conversations ∙ sym k),
+    )
 
 pub tick_carried : (old mid : SystemState) (were : List (Option AggId)) → IsSound old → Ticks old mid
     → were ≡ aggregators_in_use old.system_ports → WereInUse were mid
@@ -83,14 +88,19 @@ frees_first : (up : Bool) (port : ℕ) (t new : Table) → FreesIfDown up port t
 frees_first true port t new h = ap (λ (x : Table). x.first) h
 frees_first false port t new h = h.first
 
+frees_count : (up : Bool) (port : ℕ) (t new : Table) → FreesIfDown up port t new → new.conversations ≡ t.conversations
+frees_count true port t new h = ap (λ (x : Table). x.conversations) h
+frees_count false port t new h = h.conversations
+
 pub link_made : (n : ℕ) (up : Bool) (old : SystemState) (olds ws news : List SystemPort) (t : Table) → olds ≡ old.system_ports → news ≡ ws
-    → old.first_marker ≡ old.table.first → PortAtChangesBy (SetsPortEnabled up) (port_index n olds) olds ws → FreesIfDown up n old.table t
+    → old.first_marker ≡ old.table.first → old.conversations ≡ old.table.conversations
+    → PortAtChangesBy (SetsPortEnabled old.max_links up) (port_index n olds) olds ws → FreesIfDown up n old.table t
     → SetsLink n up old (moved_on old news t)
-link_made n up old olds ws news t e w f h c = (
-  subst (λ l. PortAtChangesBy (SetsPortEnabled up) (port_index n l) l news) e
-      (subst (λ l. PortAtChangesBy (SetsPortEnabled up) (port_index n olds) olds l) (sym w) h),
+link_made n up old olds ws news t e w f k h c = (
+  subst (λ l. PortAtChangesBy (SetsPortEnabled old.max_links up) (port_index n l) l news) e
+      (subst (λ l. PortAtChangesBy (SetsPortEnabled old.max_links up) (port_index n olds) olds l) (sym w) h),
   c,
-  is_moved_on old news t (frees_first up n old.table t c ∙ sym f),
+  is_moved_on old news t (frees_first up n old.table t c ∙ sym f) (frees_count up n old.table t c ∙ sym k),
 )
 
 pub link_carried : (n : ℕ) (up : Bool) (old mid : SystemState) (were : List (Option AggId)) → IsSound old → SetsLink n up old mid

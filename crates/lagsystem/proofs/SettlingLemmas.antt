@@ -1,12 +1,12 @@
 -- What settling does, from what its loops do.
-use Rattle.std.proofs.Common.{◌≡◌, ℕ, Bool, true, false, ◌||◌, ◌&&◌, cond, List, [], ◌∷◌, length, Option, Some, None, refl, sym, ◌∙◌}
-use Rattle.std.proofs.Common.{subst, ap, if◌then◌else◌, filter, slice_get, slice_set, ℕ, zero, suc}
+use Rattle.std.proofs.Common.{◌≡◌, ℕ, Bool, true, false, ◌||◌, ◌&&◌, cond, List, [], ◌∷◌, Option, Some, None, refl, sym, ◌∙◌}
+use Rattle.std.proofs.Common.{subst, ap, if◌then◌else◌, filter, slice_get, slice_set, ℕ, zero, suc, option_map}
 use Rattle.std.proofs.lemmas.Option.{same_Some}
 use Rattle.std.specs.List.{list_all, list_any}
 use Rattle.lagtypes.specs.declared.identifiers.AggId.{AggId}
 use Rattle.lagtypes.specs.declared.identifiers.Key.{Key}
 use Rattle.lagtypes.specs.declared.party.Choice.{Choice}
-use Rattle.lagtypes.specs.declared.party.Choice.TheVariants.{Unselected, Selected}
+use Rattle.lagtypes.specs.declared.party.Choice.TheVariants.{Unselected, Selected, Standby}
 use Rattle.portmachines.specs.Rows.{RunsToRest}
 use Rattle.portmachines.specs.Mux.{mux_rows}
 use Rattle.portmachines.specs.Periodic.{RunsPeriodic}
@@ -14,11 +14,12 @@ use Rattle.selection.specs.declared.view.PortView.{PortView}
 use Rattle.selection.specs.Views.{has_waited, is_eligible, has_chosen, is_detached_or_waiting}
 use Rattle.selection.specs.Choice.{chosen_aggregator, ports_that_chose, is_aggregator}
 use Rattle.selection.specs.Ready.{members}
+use Rattle.selection.specs.Limits.{AggregatorsValue}
 use Rattle.lagsystem.specs.declared.system_ports.SystemPort.{SystemPort}
 use Rattle.lagsystem.specs.Views.{selection_view, views}
-use Rattle.lagsystem.specs.State.{SystemState, with_system_ports}
-use Rattle.lagsystem.specs.Settling.{PortsChangeBy, PortChangesBy, SettlesPorts, after_choice_at, after_choices, with_choice, ready_of}
-use Rattle.lagsystem.specs.Settling.{aggregator_for}
+use Rattle.lagsystem.specs.State.{SystemState, aggregators_value, with_system_ports}
+use Rattle.lagsystem.specs.Settling.{PortsChangeBy, PortChangesBy, SettlesPorts, after_choice_at, with_choice, ready_of}
+use Rattle.lagsystem.specs.Settling.{ChoosesIn, aggregator_for, choice_for, choice_in}
 use Rattle.lagsystem.proofs.Lists.{AllZip-weaker}
 
 abbrev one_expired : List PortView → Bool
@@ -66,6 +67,7 @@ none_has_waited (v ∷ vs) h =
 pub no_ready : (keys : List Key) (system_ports : List SystemPort) → list_any (λ s. has_waited (selection_view s).stage) system_ports ≡ false
     → (c : Choice) → ready_of keys (views system_ports) c ≡ false
 no_ready keys system_ports h Unselected = refl
+no_ready keys system_ports h (Standby agg) = refl
 no_ready keys system_ports h (Selected agg) =
     none_has_waited (members keys (views system_ports) agg) (none_known (is_aggregator keys agg) (ports_that_chose agg (views system_ports))
     (none_given agg system_ports h))
@@ -78,22 +80,23 @@ runs_unready keys olds news none h =
     (PortChangesBy (λ p q. RunsToRest (mux_rows (ready_of keys (views olds) p.choice)) p q))
     (λ x y m. (m.0, subst (λ b. RunsToRest (mux_rows b) x.port y.port) (sym (no_ready keys olds none x.port.choice)) m.1)) olds news h
 
-pub settling_made : (base : SystemState) (keys : List Key) (system_ports one two four five : List SystemPort) → base.keys ≡ keys
-    → base.system_ports ≡ system_ports
-    → PortsChangeBy (RunsToRest (mux_rows false)) system_ports one → two ≡ after_choices keys (length one) one
-    → PortsChangeBy (λ p q. RunsToRest (mux_rows (ready_of keys (views two) p.choice)) p q) two four → PortsChangeBy RunsPeriodic four five
-    → SettlesPorts base (with_system_ports base five)
-settling_made base keys system_ports one two four five ek es h1 h2 h4 h5 =
+pub settling_made : (base : SystemState) (aggs : AggregatorsValue) (system_ports one two four five : List SystemPort)
+    → aggregators_value base ≡ aggs → base.system_ports ≡ system_ports
+    → PortsChangeBy (RunsToRest (mux_rows false)) system_ports one → ChoosesIn aggs one two
+    → PortsChangeBy (λ p q. RunsToRest (mux_rows (ready_of aggs.keys (views two) p.choice)) p q) two four
+    → PortsChangeBy RunsPeriodic four five → SettlesPorts base (with_system_ports base five)
+settling_made base aggs system_ports one two four five ek es h1 h2 h4 h5 =
     let k1 : PortsChangeBy (RunsToRest (mux_rows false)) base.system_ports one =
     subst (λ l. PortsChangeBy (RunsToRest (mux_rows false)) l one) (sym es) h1 in
-    let k2 : two ≡ after_choices base.keys (length one) one = h2 ∙ ap (λ k. after_choices k (length one) one) (sym ek) in
+    let k2 : ChoosesIn (aggregators_value base) one two = subst (λ a. ChoosesIn a one two) (sym ek) h2 in
     let k4 : PortsChangeBy (λ p q. RunsToRest (mux_rows (ready_of base.keys (views two) p.choice)) p q) two four =
-    subst (λ k. PortsChangeBy (λ p q. RunsToRest (mux_rows (ready_of k (views two) p.choice)) p q) two four) (sym ek) h4 in (
+    subst (λ (a : AggregatorsValue). PortsChangeBy (λ p q. RunsToRest (mux_rows (ready_of a.keys (views two) p.choice)) p q) two four)
+    (sym ek) h4 in (
       with_system_ports base one,
       (k1, refl),
       (
         with_system_ports base two,
-        ap (with_system_ports base) k2,
+        (k2, refl),
         (with_system_ports base two, refl, (with_system_ports base four, (k4, refl), (with_system_ports base five, (h5, refl), refl))),
       ),
     )
@@ -104,22 +107,29 @@ set_same [] i s e = refl
 set_same (x ∷ xs) zero s e = let same : x ≡ s = cc in cc
 set_same (x ∷ xs) (suc i) s e = ap (λ ys. x ∷ ys) (set_same xs i s e)
 
-pub none_taken : (keys : List Key) (system_ports : List SystemPort) (i : ℕ) (s : SystemPort) → slice_get system_ports i ≡ Some s
-    → is_eligible (selection_view s) ≡ false → system_ports ≡ after_choice_at keys system_ports i (slice_get system_ports i)
-none_taken keys system_ports i s e h =
-    let none : aggregator_for keys system_ports s ≡ None =
-    ap (λ b. if b then chosen_aggregator keys (views system_ports) s.number else None) h in
-    subst (λ o. system_ports ≡ after_choice_at keys system_ports i o) (sym e)
+-- a port that takes no aggregator stays
+pub none_for : (aggs : AggregatorsValue) (system_ports : List SystemPort) (s : SystemPort)
+    → aggregator_for aggs.keys system_ports s ≡ None → choice_for aggs system_ports s ≡ None
+none_for aggs system_ports s h = ap (option_map (choice_in aggs (views system_ports))) h
+
+pub none_taken : (aggs : AggregatorsValue) (system_ports : List SystemPort) (i : ℕ) (s : SystemPort) → slice_get system_ports i ≡ Some s
+    → is_eligible (selection_view s) ≡ false → system_ports ≡ after_choice_at aggs system_ports i (slice_get system_ports i)
+none_taken aggs system_ports i s e h =
+    let none : choice_for aggs system_ports s ≡ None = none_for aggs system_ports s
+    (ap (λ b. if b then chosen_aggregator aggs.keys (views system_ports) s.number else None) h) in
+    subst (λ o. system_ports ≡ after_choice_at aggs system_ports i o) (sym e)
     (sym (ap (λ o. slice_set system_ports i (with_choice s o)) none ∙ set_same system_ports i s e))
 
-pub one_taken : (keys : List Key) (system_ports : List SystemPort) (i : ℕ) (s t : SystemPort) (o : Option AggId)
+pub one_taken : (aggs : AggregatorsValue) (system_ports : List SystemPort) (i : ℕ) (s t : SystemPort) (o : Option AggId)
     → slice_get system_ports i ≡ Some s → slice_get system_ports i ≡ Some t → is_eligible (selection_view s) ≡ true
-    → o ≡ chosen_aggregator keys (views system_ports) t.number
-    → slice_set system_ports i (with_choice t o) ≡ after_choice_at keys system_ports i (slice_get system_ports i)
-one_taken keys system_ports i s t o e f h k =
+    → o ≡ chosen_aggregator aggs.keys (views system_ports) t.number
+    → slice_set system_ports i (with_choice t (option_map (choice_in aggs (views system_ports)) o)) ≡ after_choice_at aggs system_ports i
+    (slice_get system_ports i)
+one_taken aggs system_ports i s t o e f h k =
+    let seen = views system_ports in
     let same : s ≡ t = same_Some s t (sym e ∙ f) in
     let ok : is_eligible (selection_view t) ≡ true = subst (λ x. is_eligible (selection_view x) ≡ true) same h in
-    let what : aggregator_for keys system_ports t ≡ o =
-    ap (λ b. if b then chosen_aggregator keys (views system_ports) t.number else None) ok ∙ sym k in
-    subst (λ p. slice_set system_ports i (with_choice t o) ≡ after_choice_at keys system_ports i p) (sym f)
-    (sym (ap (λ p. slice_set system_ports i (with_choice t p)) what))
+    let what : aggregator_for aggs.keys system_ports t ≡ o =
+    ap (λ b. if b then chosen_aggregator aggs.keys seen t.number else None) ok ∙ sym k in
+    subst (λ p. slice_set system_ports i (with_choice t (option_map (choice_in aggs seen) o)) ≡ after_choice_at aggs system_ports i p) (sym f)
+    (sym (ap (λ p. slice_set system_ports i (with_choice t (option_map (choice_in aggs seen) p))) what))

@@ -32,7 +32,8 @@ use Rattle.lagsystem.specs.NothingToSettle.{LooksUnchanged, ProcessesLacpduAt}
 use Rattle.lagsystem.specs.Readers.{aggregator_numbered, distributes_in, distributing}
 use Rattle.lagsystem.specs.Settling.{PortsChangeBy, HoldsConversations, PortChangesBy, Settling, held_unless_on, ready_of}
 use Rattle.lagsystem.specs.Sound.{OnlyOnDistributing}
-use Rattle.lagsystem.specs.State.{SystemState, with_system_ports}
+use Rattle.lagsystem.specs.Occupants.{NoneIsNext}
+use Rattle.lagsystem.specs.State.{SystemState, aggregators_value, with_system_ports}
 use Rattle.lagsystem.specs.Views.{stage_of, selection_view, views}
 use Rattle.lagsystem.proofs.Keeps.{settling_joined}
 use Rattle.lagsystem.proofs.Quieting.{paced_runs, still_settles}
@@ -145,6 +146,7 @@ stays_on : (old new : SystemState) → OnlyOnDistributing old → new.table ≡ 
 stays_on old new c t d = record {
   frame = refl;
   aggs = refl;
+  conversations = refl;
   first = refl;
   next = refl;
   states = λ g k. carried_on (distributing (aggregator_numbered g) new.system_ports) (assignment_of new.table g k)
@@ -173,11 +175,11 @@ set_twice (x ∷ xs) zero t u = refl
 set_twice (x ∷ xs) (suc i) t u = ap (λ l. x ∷ l) (set_twice xs i t u)
 
 pub skipped : (v : Lacpdu) (old : SystemState) (i : ℕ) (s t u : SystemPort) → MuxesAreSettled old.keys old.system_ports
-    × PeriodicsAreSettled old.system_ports → OnlyOnDistributing old → slice_get old.system_ports i ≡ Some s
+    × PeriodicsAreSettled old.system_ports → NoneIsNext (aggregators_value old) (views old.system_ports) → OnlyOnDistributing old → slice_get old.system_ports i ≡ Some s
     → PortChangesBy (ProcessesLacpdu v) s t → LooksUnchanged s t → PortChangesBy RunsPeriodic t u
     → Settling (with_system_ports old (slice_set old.system_ports i t))
     (with_system_ports old (slice_set (slice_set old.system_ports i t) i u))
-skipped v old i s t u q c e m a r =
+skipped v old i s t u q none c e m a r =
     let mid : SystemState = with_system_ports old (slice_set old.system_ports i t) in
     let news : List SystemPort = slice_set mid.system_ports i u in
     let new : SystemState = with_system_ports old news in
@@ -189,6 +191,7 @@ skipped v old i s t u q c e m a r =
     ∙ alike_distributing agg old.system_ports i s u e number
     (λ j. distributes_in agg (record s { port = record s.port { mux = mux j; choice = chosen_aggregator j } })) in
     settling_joined mid new new (still_settles mid news (taken_still old.keys v old.system_ports i s t e m a q.0)
+    (subst (λ l. NoneIsNext (aggregators_value old) l) (sym (alike_views old.system_ports i s t e a.0)) none)
     (set_runs old.system_ports i t u q.1 r))
     (stays_on old new c refl (λ g. same (aggregator_numbered g)))
 
@@ -204,10 +207,10 @@ get_set (x ∷ xs) (suc i) s t u e h = get_set xs i s t u e h
 
 -- the lists that the two parts of the call leave
 pub took_quietly : (v : Lacpdu) (old : SystemState) (i : ℕ) (one two : List SystemPort) → MuxesAreSettled old.keys old.system_ports
-    × PeriodicsAreSettled old.system_ports → OnlyOnDistributing old
+    × PeriodicsAreSettled old.system_ports → NoneIsNext (aggregators_value old) (views old.system_ports) → OnlyOnDistributing old
     → ProcessesLacpduAt v i old.system_ports true one → PortAtChangesBy RunsPeriodic (Some i) one two
     → ThenSettles (OnlyPortChangesBy (Some i) (ProcessesLacpdu v)) old (with_system_ports old two)
-took_quietly v old i one two q c h k =
+took_quietly v old i one two q none c h k =
     let s = h.0 in
     let t = h.1 in
     let is : k.0 ≡ t = get_set old.system_ports i s t k.0 h.2 (ap (λ l. slice_get l i) (sym h.4) ∙ k.2) in
@@ -217,7 +220,7 @@ took_quietly v old i one two q c h k =
       with_system_ports old (slice_set old.system_ports i t),
       ((s, t.port, h.2, h.3.1, ap (slice_set old.system_ports i) h.3.0), refl),
       subst (λ l. Settling (with_system_ports old (slice_set old.system_ports i t)) (with_system_ports old l)) (sym last)
-          (skipped v old i s t u q c h.2 h.3 h.5 (refl, runs)),
+          (skipped v old i s t u q none c h.2 h.3 h.5 (refl, runs)),
     )
 
 -- what a known LACPDU leaves

@@ -16,6 +16,7 @@ use Rattle.lagsystem.specs.State.{SystemState}
 use Rattle.lagsystem.specs.Windows.{KeepsTransmitLimit}
 use Rattle.lagsystem.proofs.FirstView.{configured_setup, first_shows}
 use Rattle.lagsystem.proofs.Keeps.{Step-aggregators, Step-frame, Step-ports}
+use Rattle.lagsystem.proofs.OccupantSteps.{Step-placed, first_placed}
 use Rattle.lagsystem.proofs.OnPorts.{Step-carried, first_carried}
 use Rattle.lagsystem.proofs.Conversing.{rest_distributes}
 use Rattle.lagsystem.proofs.Rest.{Step-rested, first_rested}
@@ -33,12 +34,15 @@ first_sound s p h = record {
   windowed = first_three s h;
   members = subst (λ (v : View). Members (model_setup s) v.port) (sym (first_shows s h))
       (members_first (model_setup s) (configured_setup s));
-  quiet = first_quiet s p h;
+  quiet = let q = first_quiet s p h in (q.0, q.1);
+  promoted = (first_quiet s p h).2;
+  occupants = (first_placed s h).0;
+  limited = (first_placed s h).1;
 }
 
 pub joins : (gives : ℕ → ℕ → ℕ → Type 0) (old : SystemState) (call : Call) (answer : Reply) (new : SystemState)
     → Step gives old call answer new → IsSound old → JoinedByLawfulMoves old call answer new
-joins gives old call answer new h s = Step-joins gives old call answer new (ports_rise old s.ports) s.rested h
+joins gives old call answer new h s = Step-joins gives old call answer new (ports_rise old s.ports) s.rested s.occupants h
 
 pub Step-sound : (gives : ℕ → ℕ → ℕ → Type 0) (old : SystemState) (call : Call) (answer : Reply) (new : SystemState)
     → Step gives old call answer new → IsSound old → IsSound new
@@ -50,7 +54,10 @@ Step-sound gives old call answer new h s =
       carried = Step-carried gives old call answer new h s.carried;
       rested = Step-rested gives old call answer new h s.rested;
       windowed = Step-three gives old call answer new h s.windowed;
-      quiet = Step-quiet gives old call answer new h s.ports s.quiet;
+      quiet = let q = Step-quiet gives old call answer new h s.ports (s.quiet.0, s.quiet.1, s.promoted) in (q.0, q.1);
+      promoted = (Step-quiet gives old call answer new h s.ports (s.quiet.0, s.quiet.1, s.promoted)).2;
+      occupants = (Step-placed gives old call answer new h s.ports (s.occupants, s.limited)).0;
+      limited = (Step-placed gives old call answer new h s.ports (s.occupants, s.limited)).1;
       members = subst (λ u. Members u (model_view new).port) (sym (ap model_setup (Step-frame gives old call answer new h))) kept;
     }
 
@@ -65,6 +72,7 @@ agrees s h = record {
   windowed = h.windowed;
   members = h.members;
   one_partner = one_partner (model_setup s) (model_view s) h.members;
+  limited = h.limited;
   distribute = all_distribute s.system_ports h.rested.1;
 }
 
@@ -82,4 +90,5 @@ answers gives old call reply new h s = record {
   window = one_windowed gives old call reply new h s;
   agrees = agrees new (Step-sound gives old call reply new h s);
   configured = ap model_setup (Step-frame gives old call reply new h);
+  conversations = ap (λ (s : SystemState). s.conversations) (Step-frame gives old call reply new h);
 }

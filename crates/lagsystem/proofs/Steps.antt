@@ -1,7 +1,7 @@
 -- Each call of a system is a list of lawful moves.
 use Rattle.std.proofs.Common.{◌≡◌, ℕ, ◌<◌, ◌^◌, ◌==◌, Bool, true, false, cond, Option, Some, None, Result, Ok, Err, List, [], ◌∷◌}
-use Rattle.std.proofs.Common.{length, refl, sym, ◌∙◌, subst, ap, inl, inr, IsSome}
-use Rattle.std.specs.Prelude.{◌&&◌, if◌then◌else◌, is_some, ltb, nat_lt, slice_get, slice_set}
+use Rattle.std.proofs.Common.{refl, sym, ◌∙◌, subst, ap, inl, inr, IsSome}
+use Rattle.std.specs.Prelude.{◌&&◌, ◌||◌, not, if◌then◌else◌, is_some, ltb, nat_lt, slice_get, slice_set}
 use Rattle.std.proofs.lemmas.Bool.{and_parts, false≢true, ltb-true}
 use Rattle.std.proofs.lemmas.Slice.Eq.{bytes_eq-Decides}
 use Rattle.std.specs.Str.{bytes_eq}
@@ -10,7 +10,7 @@ use Rattle.std.proofs.lemmas.List.{append-nil}
 use Rattle.std.proofs.lemmas.Option.{none-some, same_Some}
 use Rattle.lagtypes.specs.declared.identifiers.AggId.{AggId}
 use Rattle.lagtypes.specs.declared.party.Choice.{Choice}
-use Rattle.lagtypes.specs.declared.party.Choice.TheVariants.{Unselected, Selected}
+use Rattle.lagtypes.specs.declared.party.Choice.TheVariants.{Unselected, Selected, Standby}
 use Rattle.slowpdu.specs.declared.pdu.Lacpdu.{Lacpdu}
 use Rattle.slowpdu.specs.declared.pdu.Marker.{Marker}
 use Rattle.slowpdu.specs.declared.pdu.MarkerKind.{MarkerKind}
@@ -19,7 +19,7 @@ use Rattle.slowpdu.specs.declared.pdu.Pdu.TheVariants as pdu
 use Rattle.slowpdu.specs.Markers.{answer_of}
 use Rattle.portmachines.specs.declared.mux.MuxState.TheVariants.{CollectingDistributing}
 use Rattle.portmachines.specs.Machines.{Machines}
-use Rattle.lagtypes.specs.Choices.{is_selected}
+use Rattle.lagtypes.specs.Choices.{is_selected, is_standby}
 use Rattle.portmachines.specs.Mux.{same_mux_state, is_synchronized, mux_rows, partner_synchronized}
 use Rattle.portmachines.specs.Periodic.{RunsPeriodic}
 use Rattle.portmachines.specs.Receive.{receive_rows}
@@ -42,7 +42,7 @@ use Rattle.lagsystem.specs.declared.received.FrameEffect.TheVariants.{ProcessLac
 use Rattle.lagsystem.specs.declared.received.Received.{Received}
 use Rattle.lagsystem.specs.declared.received.Received.TheVariants.{Disabled, Dropped, Ignored, Released, Up}
 use Rattle.lagsystem.specs.declared.system_ports.SystemPort.{SystemPort}
-use Rattle.lagsystem.specs.State.{SystemState, with_system_ports, with_table, port_index, system_port_at}
+use Rattle.lagsystem.specs.State.{SystemState, aggregators_value, with_system_ports, with_table, port_index, system_port_at}
 use Rattle.lagsystem.specs.Settling.{PortChangesBy, PortsChangeBy, Settling, SettlesPorts, ready_of}
 use Rattle.lagsystem.specs.Views.{views}
 use Rattle.lagsystem.specs.declared.drive.Reply.{Reply}
@@ -65,12 +65,16 @@ use Rattle.lagsystem.proofs.Conversing.{assigned_may, carrying_moves, leaving_mo
 use Rattle.lagsystem.proofs.Keeps.{Keeps, keeps_each, keeps_link, keeps_place, keeps_tick, ports_keep, ports_table, settling_parts}
 use Rattle.lagsystem.proofs.FirstView.{restarted_shows}
 use Rattle.lagsystem.proofs.Lists.{AllZip-weaker}
+use Rattle.lagsystem.proofs.Rest.{zip_all}
 use Rattle.lagsystem.proofs.Rising.{Rises, all-get, are_numbered, found_place}
 use Rattle.lagsystem.proofs.SettlingLemmas.{set_same}
 use Rattle.lagsystem.proofs.OfPort.{PortMoves, SlotMoves, slot_moves, all_slots_move}
 use Rattle.lagsystem.proofs.Rows.{QuietMoves, loudly, settles_moves, mux_moves, runs_periodic_moves}
 use Rattle.lagsystem.proofs.Effects.{tick_moves, links_moves, taking_moves, configures_moves, sending}
-use Rattle.lagsystem.proofs.Choose.{Fits, chosen_moves}
+use Rattle.lagsystem.proofs.Choose.{Fits, StandbyIsIdle, choosing_moves}
+use Rattle.lagsystem.proofs.Occupying.{EachStays, configure_stays, link_stays, mux_stays, place_stays, stay_agrees, taking_stays}
+use Rattle.lagsystem.proofs.Occupying.{tick_stays, zip_stay}
+use Rattle.lagsystem.specs.Occupants.{OccupantsAgree}
 
 -- each port moves
 each_moves : (u : SystemSetup) (call : Told) (f : DistributorFacts) (R : Machines → Machines → Type 0)
@@ -88,11 +92,26 @@ rising s t k r = subst (λ ns. Rises 0 ns) (sym k.same) r
 fitting : (u : SystemSetup) (s t : SystemState) → Keeps s t → Fits u s.keys → Fits u t.keys
 fitting u s t k fits = subst (λ (x : SystemState). Fits u x.keys) (sym k.frame) fits
 
+-- at rest a STANDBY port does not distribute
+carries_not : (b c s : Bool) → (b && (not c || not s)) ≡ false → c ≡ false → b ≡ false
+carries_not true true s h e = absurd cc
+carries_not true false s h e = absurd cc
+carries_not false c s h e = refl
+
+standby_not : (c : Choice) → is_standby c ≡ true → is_selected c ≡ false
+standby_not Unselected h = refl
+standby_not (Selected agg) h = absurd (false≢true h)
+standby_not (Standby agg) h = refl
+
+rest_idle : (x y : SystemPort) → PortChangesBy (RunsToRest (mux_rows false)) x y → StandbyIsIdle y
+rest_idle x y m e = carries_not (same_mux_state CollectingDistributing y.port.mux) (is_selected y.port.choice)
+    (partner_synchronized y.port) m.1.2.1.1.1.1.1.0 (standby_not y.port.choice e)
+
 -- the steps of settling that look at ports alone
 ports_moves : (u : SystemSetup) (call : Told) (f : DistributorFacts) (old new : SystemState) → Fits u old.keys
-    → Rises 0 (port_numbers old.system_ports) → SettlesPorts old new
+    → Rises 0 (port_numbers old.system_ports) → OccupantsAgree old.keys old.system_ports → SettlesPorts old new
     → LawfulMoves u call (model_view_at f old.system_ports) [] (model_view_at f new.system_ports)
-ports_moves u call f old new fits r h =
+ports_moves u call f old new fits r agree h =
     let one = h.0 in
     let two = h.2.0 in
     let three = h.2.2.0 in
@@ -104,11 +123,16 @@ ports_moves u call f old new fits r h =
     let r1 = rising old one k1 r in
     let m1 = each_moves u call f free (λ n p q x. settles_moves u call n (mux_rows false) (mux_moves u call n false) p q x) old.system_ports
     one.system_ports r h.1.0 in
-    let m2 = chosen_moves u call f one.keys one.system_ports (length one.system_ports) (fitting u old one k1 fits) r1 in
+    let a1 : OccupantsAgree one.keys one.system_ports =
+    subst (λ (s : SystemState). OccupantsAgree s.keys one.system_ports) (sym h.1.1)
+    (stay_agrees old.keys old.system_ports one.system_ports (zip_stay free (mux_stays false) old.system_ports one.system_ports h.1.0) agree) in
+    let idle = zip_all (PortChangesBy free) StandbyIsIdle rest_idle old.system_ports one.system_ports h.1.0 in
+    let m2 = choosing_moves u call f (aggregators_value one) one.system_ports two.system_ports (fitting u old one k1 fits) r1 a1 idle
+    h.2.1.0 in
     let there : three ≡ two = h.2.2.1 in
     let m3 : LawfulMoves u call (model_view_at f one.system_ports) [] (model_view_at f three.system_ports) =
     subst (λ (s : SystemState). LawfulMoves u call (model_view_at f one.system_ports) [] (model_view_at f s.system_ports))
-    (sym (there ∙ h.2.1)) m2 in
+    (sym there) m2 in
     let last : new ≡ five = h.2.2.2.2.2 in
     let n5 : port_numbers five.system_ports ≡ port_numbers old.system_ports = ap (λ (s : SystemState). port_numbers s.system_ports)
     (sym last) ∙ (ports_keep old new h).same in
@@ -130,24 +154,26 @@ ports_moves u call f old new fits r h =
 
 -- settling
 pub settling_moves : (u : SystemSetup) (call : Told) (old new : SystemState) → Fits u old.keys → Rises 0 (port_numbers old.system_ports)
-    → Settling old new → LawfulMoves u call (model_view old) [] (model_view new)
-settling_moves u call old new fits r h =
+    → OccupantsAgree old.keys old.system_ports → Settling old new → LawfulMoves u call (model_view old) [] (model_view new)
+settling_moves u call old new fits r agree h =
     let p = settling_parts old new h in
     let f = model_distributor old.table in
     let ports = subst (λ (t : Table). LawfulMoves u call (model_view old) [] (model_view_at (model_distributor t) p.0.system_ports))
-    (sym (ports_table old p.0 p.1)) (ports_moves u call f old p.0 fits r p.1) in
+    (sym (ports_table old p.0 p.1)) (ports_moves u call f old p.0 fits r agree p.1) in
     moves_joined u call (model_view old) (model_view p.0) (model_view new) [] [] ports (leaving_moves u call p.0 new p.2)
 
 settled_moves : (u : SystemSetup) (call : Told) (own : SystemState → SystemState → Type 0) (seen : List Act) (s t : SystemState)
-    → Fits u s.keys → Rises 0 (port_numbers s.system_ports)
-    → ((mid : SystemState) → own s mid → Keeps s mid)
+    → Fits u s.keys → Rises 0 (port_numbers s.system_ports) → OccupantsAgree s.keys s.system_ports
+    → ((mid : SystemState) → own s mid → Keeps s mid) → ((mid : SystemState) → own s mid → EachStays s.system_ports mid.system_ports)
     → ((mid : SystemState) → own s mid → LawfulMoves u call (model_view s) seen (model_view mid))
     → ThenSettles own s t → LawfulMoves u call (model_view s) seen (model_view t)
-settled_moves u call own seen s t fits r keeps moves h =
+settled_moves u call own seen s t fits r agree keeps stay moves h =
     let k = keeps h.0 h.1 in
+    let a : OccupantsAgree h.0.keys h.0.system_ports = subst (λ (x : SystemState). OccupantsAgree x.keys h.0.system_ports) (sym k.frame)
+    (stay_agrees s.keys s.system_ports h.0.system_ports (stay h.0 h.1) agree) in
     subst (λ l. LawfulMoves u call (model_view s) l (model_view t)) (append-nil seen)
     (moves_joined u call (model_view s) (model_view h.0) (model_view t) seen [] (moves h.0 h.1)
-    (settling_moves u call h.0 t (fitting u s h.0 k fits) (rising s h.0 k r) h.2))
+    (settling_moves u call h.0 t (fitting u s h.0 k fits) (rising s h.0 k r) a h.2))
 
 -- ports alone
 slots_moved : (u : SystemSetup) (call : Told) (seen : List Act) (old mid : SystemState) → mid ≡ with_system_ports old mid.system_ports
@@ -219,6 +245,7 @@ where_member false x rest h e = absurd (false≢true e)
 is_member : (c : Choice) → is_selected c ≡ true → IsSome (selected_number c)
 is_member (Selected agg) h = refl
 is_member Unselected h = absurd (false≢true h)
+is_member (Standby agg) h = absurd (false≢true h)
 
 -- what a port heard
 not_both : (v : Lacpdu) (r : Received) → ProcessLacpdu v ≡ Answered r → ⊥
@@ -383,11 +410,11 @@ releases true n port octets m old answer new p b is k h =
     (call, [], (Some (Message.Response mac n m.id), (pdu.Marker m, is, brought), refl), refl, all)
 
 receives : (old : SystemState) (n : ℕ) (octets : List ℕ) (system_port : SystemPort) (effect : FrameEffect) (answer : Received)
-    (new : SystemState) (i : ℕ) → Rises 0 (port_numbers old.system_ports) → PortsConsistent old.system_ports
+    (new : SystemState) (i : ℕ) → Rises 0 (port_numbers old.system_ports) → PortsConsistent old.system_ports → OccupantsAgree old.keys old.system_ports
     → port_index n old.system_ports ≡ Some i → slice_get old.system_ports i ≡ Some system_port
     → ParsesWhere system_port.port.enabled system_port octets effect → Performs effect system_port.number (Some i) old answer new
     → JoinedByLawfulMoves old (Receive n octets) (reply.Receive (Ok answer)) new
-receives old n octets system_port (ProcessLacpdu v) answer new i r rested e g h d =
+receives old n octets system_port (ProcessLacpdu v) answer new i r rested agree e g h d =
     let x = heard_taken system_port octets v system_port.port.enabled h in
     let u = model_setup old in
     let f = model_distributor old.table in
@@ -402,28 +429,29 @@ receives old n octets system_port (ProcessLacpdu v) answer new i r rested e g h 
     (all-get (λ y. can_receive y.port ≡ true) old.system_ports i own.0.0 own.0.2 rested.0) own.0.3 in
     slots_moved u call seen old mid own.1 (subst (λ l. LawfulMoves u call (model_view_at f old.system_ports) seen (model_view_at f l))
     (sym own.0.4) (one_moves u call f n i old.system_ports own.0.0 own.0.1 seen r e own.0.2 quietly)) in
-    let moves = settled_moves u call (OnlyPortChangesBy (Some i) (ProcessesLacpdu v)) seen old new (λ g. refl) r
-    (λ mid own. keeps_place (ProcessesLacpdu v) (Some i) old mid own) one d.1 in
+    let moves = settled_moves u call (OnlyPortChangesBy (Some i) (ProcessesLacpdu v)) seen old new (λ g. refl) r agree
+    (λ mid own. keeps_place (ProcessesLacpdu v) (Some i) old mid own)
+    (λ mid own. place_stays (ProcessesLacpdu v) (taking_stays v) (Some i) old.system_ports mid.system_ports own.0) one d.1 in
     subst (λ a. JoinedByLawfulMoves old (Receive n octets) (reply.Receive (Ok a)) new) (sym d.0)
     (call, seen, (Some (Lacp (lacp_message v)), (pdu.Lacpdu v, x.1, refl), refl), (v, x.1, refl), moves)
-receives old n octets system_port (Response m) answer new i r rested e g h d =
+receives old n octets system_port (Response m) answer new i r rested agree e g h d =
     let x = heard_response system_port octets m system_port.port.enabled h in
     releases (is_own_response old system_port.number m) n system_port.number octets m old answer new
     (found_place n old.system_ports i system_port e g) refl x.0 x.1 d
-receives old n octets system_port (Answered a) answer new i r rested e g h d =
+receives old n octets system_port (Answered a) answer new i r rested agree e g h d =
     let t = heard_answer old (model_setup old) (model_distributor old.table) n i octets old.system_ports system_port a
     system_port.port.enabled r e g h in
     subst (λ (s : SystemState). JoinedByLawfulMoves old (Receive n octets) (reply.Receive (Ok answer)) s) (sym d.1)
     (subst (λ a. JoinedByLawfulMoves old (Receive n octets) (reply.Receive (Ok a)) old) (sym d.0) t)
 
 receives_place : (old : SystemState) (n : ℕ) (octets : List ℕ) (system_port : SystemPort) (effect : FrameEffect) (answer : Received)
-    (new : SystemState) (o : Option ℕ) → Rises 0 (port_numbers old.system_ports) → PortsConsistent old.system_ports
+    (new : SystemState) (o : Option ℕ) → Rises 0 (port_numbers old.system_ports) → PortsConsistent old.system_ports → OccupantsAgree old.keys old.system_ports
     → port_index n old.system_ports ≡ o → system_port_at o old.system_ports ≡ Some system_port
     → ParsesWhere system_port.port.enabled system_port octets effect → Performs effect system_port.number o old answer new
     → JoinedByLawfulMoves old (Receive n octets) (reply.Receive (Ok answer)) new
-receives_place old n octets system_port effect answer new None r rested e g h d = absurd (none-some system_port g)
-receives_place old n octets system_port effect answer new (Some i) r rested e g h d = receives old n octets system_port effect
-    answer new i r rested e g h d
+receives_place old n octets system_port effect answer new None r rested agree e g h d = absurd (none-some system_port g)
+receives_place old n octets system_port effect answer new (Some i) r rested agree e g h d = receives old n octets system_port effect
+    answer new i r rested agree e g h d
 
 -- what is sent
 sends_lacpdu : (old : SystemState) (n i : ℕ) (system_port : SystemPort) (answer : Option (List ℕ)) (new : SystemState)
@@ -591,63 +619,67 @@ links : (u : SystemSetup) (n : ℕ) (up : Bool) (old mid : SystemState) → Rise
 links u n up old mid r h =
     let call = Told.Set_link n up in
     let f = model_distributor old.table in
-    let ports = place_moves u call f (SetsPortEnabled up) n old.system_ports mid.system_ports [] r
-    (λ s q i at y. links_moves u call n up s.port q y) (port_index n old.system_ports) refl h.0 in
+    let ports = place_moves u call f (SetsPortEnabled old.max_links up) n old.system_ports mid.system_ports [] r
+    (λ s q i at y. links_moves u call n old.max_links up s.port q y) (port_index n old.system_ports) refl h.0 in
     moves_joined u call (model_view old) (model_view_at f mid.system_ports) (model_view mid) [] [] ports
     (frees u n up mid.system_ports old.table mid.table h.1)
 
 -- a call joins the views
 pub Step-joins : (gives : ℕ → ℕ → ℕ → Type 0) (old : SystemState) (call : Call) (answer : Reply) (new : SystemState)
-    → Rises 0 (port_numbers old.system_ports) → PortsConsistent old.system_ports
+    → Rises 0 (port_numbers old.system_ports) → PortsConsistent old.system_ports → OccupantsAgree old.keys old.system_ports
     → Step gives old call answer new → JoinedByLawfulMoves old call answer new
-Step-joins gives old Tick reply.Tick new r rested h =
+Step-joins gives old Tick reply.Tick new r rested agree h =
     let u = model_setup old in (
       Told.Tick,
       [],
       refl,
       refl,
-      settled_moves u Told.Tick Ticks [] old new (λ g. refl) r (λ mid x. keeps_tick old mid x)
+      settled_moves u Told.Tick Ticks [] old new (λ g. refl) r agree (λ mid x. keeps_tick old mid x)
+          (λ mid x. zip_stay (λ p q. RunsToRest receive_rows (count_down p) q) tick_stays old.system_ports mid.system_ports x.0)
           (λ mid x. ticks u old mid r x) h,
     )
-Step-joins gives old (Set_link n up) (reply.SetLink (Ok done)) new r rested h =
+Step-joins gives old (Set_link n up) (reply.SetLink (Ok done)) new r rested agree h =
     let u = model_setup old in
     let call = Told.Set_link n up in (
       call,
       [],
       refl,
       refl,
-      settled_moves u call (SetsLink n up) [] old new (λ g. refl) r (λ mid x. keeps_link n up old mid x)
+      settled_moves u call (SetsLink n up) [] old new (λ g. refl) r agree (λ mid x. keeps_link n up old mid x)
+          (λ mid x. place_stays (SetsPortEnabled old.max_links up) (link_stays old.max_links up) (port_index n old.system_ports)
+          old.system_ports mid.system_ports x.0)
           (λ mid x. links u n up old mid r x) h,
     )
-Step-joins gives old (Set_link n up) (reply.SetLink (Err fault)) new r rested h = nothing old (Set_link n up) (reply.SetLink (Err fault))
+Step-joins gives old (Set_link n up) (reply.SetLink (Err fault)) new r rested agree h = nothing old (Set_link n up) (reply.SetLink (Err fault))
     new (Told.Set_link n up) refl refl h.same
-Step-joins gives old (Receive n octets) (reply.Receive (Ok answer)) new r rested h = receives_place old n octets h.0 h.1 answer new
-    (port_index n old.system_ports) r rested refl h.2 h.3 h.4
-Step-joins gives old (Receive n octets) (reply.Receive (Err fault)) new r rested h = nothing old (Receive n octets)
+Step-joins gives old (Receive n octets) (reply.Receive (Ok answer)) new r rested agree h = receives_place old n octets h.0 h.1 answer new
+    (port_index n old.system_ports) r rested agree refl h.2 h.3 h.4
+Step-joins gives old (Receive n octets) (reply.Receive (Err fault)) new r rested agree h = nothing old (Receive n octets)
     (reply.Receive (Err fault)) new (Told_receive n None) (None, tt, refl) refl h.same
-Step-joins gives old (Configure n change) (reply.Configure (Ok true)) new r rested h =
+Step-joins gives old (Configure n change) (reply.Configure (Ok true)) new r rested agree h =
     let u = model_setup old in
     let f = model_distributor old.table in
     let o = port_index n old.system_ports in
-    let moves = settled_moves u Told.Configure (OnlyPortChangesBy o (ChangesParty change)) [] old new (λ g. refl) r
+    let moves = settled_moves u Told.Configure (OnlyPortChangesBy o (ChangesParty change)) [] old new (λ g. refl) r agree
     (λ mid x. keeps_place (ChangesParty change) o old mid x)
+    (λ mid x. place_stays (ChangesParty change) (configure_stays change) o old.system_ports mid.system_ports x.0)
     (λ mid x. slots_moved u Told.Configure [] old mid x.1
     (place_moves u Told.Configure f (ChangesParty change) n old.system_ports mid.system_ports [] r
     (λ s q i at y. configures_moves u n change s.port q y) o refl x.0)) h in
     (Told.Configure, [], refl, refl, moves)
-Step-joins gives old (Configure n change) (reply.Configure (Ok false)) new r rested h = nothing old (Configure n change)
+Step-joins gives old (Configure n change) (reply.Configure (Ok false)) new r rested agree h = nothing old (Configure n change)
     (reply.Configure (Ok false)) new Told.Configure refl refl h.1
-Step-joins gives old (Configure n change) (reply.Configure (Err fault)) new r rested h = nothing old (Configure n change)
+Step-joins gives old (Configure n change) (reply.Configure (Err fault)) new r rested agree h = nothing old (Configure n change)
     (reply.Configure (Err fault)) new Told.Configure refl refl h.same
-Step-joins gives old Restart reply.Restart new r rested h =
+Step-joins gives old Restart reply.Restart new r rested agree h =
     (Told.Restart, [], refl, refl, (Move.Restart ∷ [], (refl, tt), refl, restarted_shows old new h.0 h.1))
-Step-joins gives old (Transmit n) (reply.Transmit (Ok answer)) new r rested h = sends_place old n (port_index n old.system_ports)
+Step-joins gives old (Transmit n) (reply.Transmit (Ok answer)) new r rested agree h = sends_place old n (port_index n old.system_ports)
     answer new r rested refl h
-Step-joins gives old (Transmit n) (reply.Transmit (Err fault)) new r rested h = nothing old (Transmit n) (reply.Transmit (Err fault)) new
+Step-joins gives old (Transmit n) (reply.Transmit (Err fault)) new r rested agree h = nothing old (Transmit n) (reply.Transmit (Err fault)) new
     Told.Transmit refl refl h.same
-Step-joins gives old (Offer agg octets) (reply.Offer answer) new r rested h = offers gives agg octets old answer new r rested h
-Step-joins gives old (Move_conversation agg conv port) (reply.MoveConversation answer) new r rested h = moves_conversation agg conv port
+Step-joins gives old (Offer agg octets) (reply.Offer answer) new r rested agree h = offers gives agg octets old answer new r rested h
+Step-joins gives old (Move_conversation agg conv port) (reply.MoveConversation answer) new r rested agree h = moves_conversation agg conv port
     (system_move_result old agg conv port) old answer new refl h
-Step-joins gives old (Force agg conv) (reply.Force answer) new r rested h =
+Step-joins gives old (Force agg conv) (reply.Force answer) new r rested agree h =
     forces agg conv (system_force_result old agg conv) old answer new refl h
-Step-joins gives old call answer new r rested h = absurd h
+Step-joins gives old call answer new r rested agree h = absurd h

@@ -19,26 +19,33 @@ use Rattle.lagsystem.specs.Offers.{system_force_result, system_move_result}
 use Rattle.lagsystem.specs.NothingToSettle.{PeriodicsAreSettled, MuxesAreSettled, PeriodicIsSettled, MuxIsSettled}
 use Rattle.lagsystem.specs.Sending.{TransmitsAt, TransmitsIf}
 use Rattle.lagsystem.specs.Sound.{HasPorts}
-use Rattle.lagsystem.specs.State.{SystemState, port_numbers, port_index, with_system_ports}
+use Rattle.lagsystem.specs.State.{SystemState, aggregators_value, port_numbers, port_index, with_system_ports}
 use Rattle.lagsystem.proofs.Keeps.{Keeps, Step-frame, Step-ports, keeps_link, keeps_place, keeps_tick, settling_keeps}
-use Rattle.lagsystem.proofs.Quieting.{settling_quiet}
+use Rattle.lagsystem.proofs.Quieting.{settling_none, settling_quiet}
+use Rattle.lagsystem.specs.Occupants.{NoneIsNext}
+use Rattle.lagsystem.specs.Views.{views}
+use Rattle.selection.specs.Limits.{AggregatorsValue}
 use Rattle.lagsystem.proofs.Rest.{becomes_slots, marker_slots, offers_slots, releases_slots, same_slots}
 use Rattle.lagsystem.proofs.Rising.{Rises, all-get, all-set, ports_rise}
 use Rattle.lagsystem.proofs.Skipping.{alike_still, alike_views, all_among}
 
 abbrev pub IsQuiet : SystemState → Type 0
 IsQuiet s = MuxesAreSettled s.keys s.system_ports × PeriodicsAreSettled s.system_ports
+    × NoneIsNext (aggregators_value s) (views s.system_ports)
 
 -- the ports stay
-same_quiet : (s t : SystemState) → t.keys ≡ s.keys → t.system_ports ≡ s.system_ports → IsQuiet s → IsQuiet t
+same_quiet : (s t : SystemState) → aggregators_value t ≡ aggregators_value s → t.system_ports ≡ s.system_ports → IsQuiet s → IsQuiet t
 same_quiet s t k e q = (
-  subst (λ l. MuxesAreSettled t.keys l) (sym e) (subst (λ ks. MuxesAreSettled ks s.system_ports) (sym k) q.0),
+  subst (λ l. MuxesAreSettled t.keys l) (sym e)
+      (subst (λ (a : AggregatorsValue). MuxesAreSettled a.keys s.system_ports) (sym k) q.0),
   subst PeriodicsAreSettled (sym e) q.1,
+  subst (λ l. NoneIsNext (aggregators_value t) (views l)) (sym e) (subst (λ a. NoneIsNext a (views s.system_ports)) (sym k) q.2),
 )
 
 settled_quiet : (own : SystemState → SystemState → Type 0) (old new : SystemState) → Rises 0 (port_numbers old.system_ports)
     → ((mid : SystemState) → own old mid → Keeps old mid) → ThenSettles own old new → IsQuiet new
-settled_quiet own old new r k h = settling_quiet h.0 new (subst (λ ns. Rises 0 ns) (sym (k h.0 h.1).same) r) h.2
+settled_quiet own old new r k h =
+    let q = settling_quiet h.0 new (subst (λ ns. Rises 0 ns) (sym (k h.0 h.1).same) r) h.2 in (q.0, q.1, settling_none h.0 new h.2)
 
 -- sending
 and_none : (b : Bool) → false ≡ (b && false)
@@ -61,23 +68,24 @@ sent_quiet old i s e q =
           (all-set (MuxIsSettled old.keys old.system_ports) old.system_ports i t q.0
           (alike_still old.keys old.system_ports s t refl here.mux here)),
       all-set PeriodicIsSettled old.system_ports i t q.1 (sent_paced s (all-get PeriodicIsSettled old.system_ports i s e q.1)),
+      subst (λ l. NoneIsNext (aggregators_value old) l) (sym (alike_views old.system_ports i s t e refl)) q.2,
     )
 
 where_quiet : (up due : Bool) (i : ℕ) (system_port : SystemPort) (old : SystemState) (answer : Option (List ℕ)) (new : SystemState)
-    → slice_get old.system_ports i ≡ Some system_port → new.keys ≡ old.keys → TransmitsIf up due i system_port old answer new
+    → slice_get old.system_ports i ≡ Some system_port → aggregators_value new ≡ aggregators_value old → TransmitsIf up due i system_port old answer new
     → IsQuiet old → IsQuiet new
 where_quiet false due i system_port old answer new e k h q = same_quiet old new k (same_slots old new h.1) q
 where_quiet true true i system_port old answer new e k h q = subst IsQuiet (sym h.3) (sent_quiet old i system_port e q)
 where_quiet true false i system_port old answer new e k h q = same_quiet old new k
     (marker_slots (marker_due old.table system_port.number) system_port.number system_port.mac old answer new h) q
 
-sends_quiet : (o : Option ℕ) (old : SystemState) (answer : Option (List ℕ)) (new : SystemState) → new.keys ≡ old.keys
+sends_quiet : (o : Option ℕ) (old : SystemState) (answer : Option (List ℕ)) (new : SystemState) → aggregators_value new ≡ aggregators_value old
     → TransmitsAt o old answer new → IsQuiet old → IsQuiet new
 sends_quiet None old answer new k h q = absurd h
 sends_quiet (Some i) old answer new k h q = where_quiet h.0.port.enabled (is_due h.0.port) i h.0 old answer new h.1 k h.2 q
 
 does_quiet : (effect : FrameEffect) (port : ℕ) (o : Option ℕ) (old : SystemState) (answer : Received) (new : SystemState)
-    → Rises 0 (port_numbers old.system_ports) → new.keys ≡ old.keys → Performs effect port o old answer new → IsQuiet old → IsQuiet new
+    → Rises 0 (port_numbers old.system_ports) → aggregators_value new ≡ aggregators_value old → Performs effect port o old answer new → IsQuiet old → IsQuiet new
 does_quiet (ProcessLacpdu v) port o old answer new r k h q = settled_quiet (OnlyPortChangesBy o (ProcessesLacpdu v)) old new r
     (keeps_place (ProcessesLacpdu v) o old) h.1
 does_quiet (Response m) port o old answer new r k h q = same_quiet old new k
@@ -88,17 +96,18 @@ does_quiet (Answered a) port o old answer new r k h q = same_quiet old new k (sa
 pub first_quiet : (s : SystemState) → HasPorts s → IsFirst s → IsQuiet s
 first_quiet s p h =
     let start : SystemState = with_system_ports s h.0 in
-    settling_quiet start s (subst (λ ns. Rises 0 ns) (settling_keeps start s h.2).same (ports_rise s p)) h.2
+    let q = settling_quiet start s (subst (λ ns. Rises 0 ns) (settling_keeps start s h.2).same (ports_rise s p)) h.2 in
+    (q.0, q.1, settling_none start s h.2)
 
 pub Step-quiet : (gives : ℕ → ℕ → ℕ → Type 0) (old : SystemState) (call : Call) (answer : Reply) (new : SystemState)
     → Step gives old call answer new → HasPorts old → IsQuiet old → IsQuiet new
 Step-quiet gives old call answer new h p q = quiet call answer new h
-    (ap (λ (s : SystemState). s.keys) (Step-frame gives old call answer new h)) (Step-ports gives old call answer new h p)
+    (ap aggregators_value (Step-frame gives old call answer new h)) (Step-ports gives old call answer new h p)
   where
     r : Rises 0 (port_numbers old.system_ports)
     r = ports_rise old p
 
-    quiet : (call : Call) (answer : Reply) (new : SystemState) → Step gives old call answer new → new.keys ≡ old.keys
+    quiet : (call : Call) (answer : Reply) (new : SystemState) → Step gives old call answer new → aggregators_value new ≡ aggregators_value old
         → HasPorts new → IsQuiet new
     quiet Tick reply.Tick new h k n = settled_quiet Ticks old new r (keeps_tick old) h
     quiet (Set_link m up) (reply.SetLink (Ok done)) new h k n = settled_quiet (SetsLink m up) old new r (keeps_link m up old) h

@@ -6,7 +6,7 @@ use Rattle.std.proofs.lemmas.Bool.{cases_Bool, false≢true, true≢false}
 use Rattle.std.proofs.lemmas.Bool.Decides.{Decides-eqb, nat_tests}
 use Rattle.lagtypes.specs.declared.identifiers.AggId.{AggId}
 use Rattle.lagtypes.specs.declared.party.Choice.{Choice}
-use Rattle.lagtypes.specs.declared.party.Choice.TheVariants.{Unselected, Selected}
+use Rattle.lagtypes.specs.declared.party.Choice.TheVariants.{Unselected, Selected, Standby}
 use Rattle.portmachines.specs.declared.mux.MuxState.TheVariants.{CollectingDistributing}
 use Rattle.portmachines.specs.Mux.{same_mux_state}
 use Rattle.selection.specs.Views.{has_chosen}
@@ -69,6 +69,7 @@ none_stopped low (was ∷ before) (s ∷ system_ports) p r l =
 -- the port was carrying in the aggregator if it distributed in it
 given_agg : (agg : AggId) (c : Choice) (b : Bool) → (has_chosen agg c && b) ≡ true → (if b then selected_aggregator c else None) ≡ Some agg
 given_agg agg Unselected b h = absurd (false≢true h)
+given_agg agg (Standby a) b h = absurd (false≢true h)
 given_agg agg (Selected a) true h = let same = (Decides-eqb a.0 agg.0).0 (left (a.0 == agg.0) h) in λ i. Some (record { 0 = same i })
   where
     left : (x : Bool) → (x && true) ≡ true → x ≡ true
@@ -152,6 +153,7 @@ pub leaves_made : (were : List (Option AggId)) (start mid new : SystemState) →
 leaves_made were start mid new w n t h e = record {
   frame = e;
   aggs = h.aggs;
+  conversations = h.conversations;
   first = h.first;
   next = h.next;
   states = λ g k. (let a = assignment_of mid.table g k in

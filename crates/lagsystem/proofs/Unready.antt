@@ -6,7 +6,7 @@ use Rattle.std.proofs.lemmas.Bool.{eqb-true}
 use Rattle.lagtypes.specs.declared.identifiers.AggId.{AggId}
 use Rattle.lagtypes.specs.declared.identifiers.Key.{Key}
 use Rattle.lagtypes.specs.declared.party.Choice.{Choice}
-use Rattle.lagtypes.specs.declared.party.Choice.TheVariants.{Unselected, Selected}
+use Rattle.lagtypes.specs.declared.party.Choice.TheVariants.{Unselected, Selected, Standby}
 use Rattle.lagtypes.specs.Choices.{is_selected, is_unselected}
 use Rattle.portmachines.specs.declared.mux.MuxState.{MuxState}
 use Rattle.portmachines.specs.declared.mux.MuxState.TheVariants.{Detached, Waiting, Attached, CollectingDistributing}
@@ -57,6 +57,7 @@ joined_waiting CollectingDistributing x g h k = cc
 
 selected_not : (c : Choice) (a b : Bool) → (is_selected c && a) ≡ true → (b && is_unselected c) ≡ true → ⊥
 selected_not Unselected a b h k = cc
+selected_not (Standby agg) a b h k = cc
 selected_not (Selected agg) a true h k = cc
 selected_not (Selected agg) a false h k = cc
 
@@ -137,8 +138,10 @@ joined_at_rest : (m : MuxState) (w : ℕ) (c : Choice) → is_selected c ≡ tru
     → (same_mux_state Waiting m && (is_selected c && true)) ≡ false → is_detached_or_waiting (stage_of m w) ≡ false
 joined_at_rest Detached w Unselected s h k = absurd cc
 joined_at_rest Detached w (Selected agg) s h k = absurd cc
+joined_at_rest Detached w (Standby agg) s h k = absurd cc
 joined_at_rest Waiting w Unselected s h k = absurd cc
 joined_at_rest Waiting w (Selected agg) s h k = absurd cc
+joined_at_rest Waiting w (Standby agg) s h k = absurd cc
 joined_at_rest Attached w c s h k = refl
 joined_at_rest CollectingDistributing w c s h k = refl
 
@@ -169,11 +172,13 @@ mux_choice b p q h = Reaches-keeps (λ (p : Machines). p.choice) (mux_rows b) (
 
 given_selected : (agg : AggId) (c : Choice) → has_chosen agg c ≡ true → is_selected c ≡ true
 given_selected agg Unselected h = absurd cc
+given_selected agg (Standby g) h = absurd cc
 given_selected agg (Selected g) h = refl
 
 ready_given : (keys : List Key) (seen : List PortView) (agg : AggId) (c : Choice) → has_chosen agg c ≡ true
     → ready_of keys seen c ≡ is_ready keys seen agg
 ready_given keys seen agg Unselected h = absurd cc
+ready_given keys seen agg (Standby g) h = absurd cc
 ready_given keys seen agg (Selected g) h = let e : g.0 ≡ agg.0 = eqb-true g.0 agg.0 h in λ i. is_ready keys seen (record { 0 = e i })
 
 -- lists
@@ -348,4 +353,5 @@ unready_cases keys agg xs ys h false e true i =
 pub none_ready : (keys : List Key) (xs ys : List SystemPort) → PortsChangeBy (Steps keys (views xs)) xs ys → (c : Choice)
     → ready_of keys (views ys) c ≡ false
 none_ready keys xs ys h Unselected = refl
+none_ready keys xs ys h (Standby agg) = refl
 none_ready keys xs ys h (Selected agg) = unready_cases keys agg xs ys h (is_ready keys (views xs) agg) refl (is_aggregator keys agg) refl

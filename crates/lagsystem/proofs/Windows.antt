@@ -10,10 +10,8 @@ use Rattle.std.proofs.lemmas.List.{append-nil, length-append}
 use Rattle.std.proofs.lemmas.List.Folds.{find_at}
 use Rattle.std.proofs.lemmas.List.Quantifiers.{position-Some}
 use Rattle.std.proofs.lemmas.Option.{slice_get_past, get_or_from_slice_get, same_Some}
-use Rattle.lagtypes.specs.declared.identifiers.AggId.{AggId}
-use Rattle.lagtypes.specs.declared.identifiers.Key.{Key}
 use Rattle.lagtypes.specs.declared.identifiers.SystemId.{SystemId}
-use Rattle.lagtypes.specs.declared.party.Choice.TheVariants.{Selected}
+use Rattle.lagtypes.specs.declared.party.Choice.{Choice}
 use Rattle.slowpdu.specs.Frames.{frame_octets}
 use Rattle.slowpdu.specs.Layout.{IsAddress, HoldsNumber, read_field}
 use Rattle.slowpdu.proofs.LayoutLemmas.{octet_stands}
@@ -40,12 +38,13 @@ use Rattle.lagsystem.specs.declared.config.PortConfig.{PortConfig}
 use Rattle.lagsystem.specs.declared.drive.Reply.{Reply}
 use Rattle.lagsystem.specs.declared.drive.Reply.TheVariants as reply
 use Rattle.lagsystem.specs.declared.system_ports.SystemPort.{SystemPort}
-use Rattle.lagsystem.specs.State.{SystemState, with_system_ports, port_index, machines_of, system_port_at}
-use Rattle.lagsystem.specs.Settling.{PortsChangeBy, Settling, after_choices, after_choice_at, with_choice, ready_of, aggregator_for}
+use Rattle.lagsystem.specs.State.{SystemState, aggregators_value, with_system_ports, port_index, machines_of, system_port_at}
+use Rattle.lagsystem.specs.Settling.{PortsChangeBy, Settling, with_choice, ready_of}
+use Rattle.lagsystem.proofs.PromotionLemmas.{KeptByChoices, choosing_keeps}
 use Rattle.lagsystem.specs.Views.{views}
 use Rattle.lagsystem.specs.First.{IsFirst, HasJustStarted, setup_of}
 use Rattle.lagsystem.specs.Calls.{Call, Tick, Set_link, Receive, Configure, Restart, Transmit, Offer, Move_conversation, Force}
-use Rattle.lagsystem.specs.Calls.{SetsPortEnabled, ChangesParty, changed_party, is_own_response, PortAtChangesBy, OnlyPortChangesBy}
+use Rattle.lagsystem.specs.Calls.{SetsPortEnabled, choice_with_link, ChangesParty, changed_party, is_own_response, PortAtChangesBy, OnlyPortChangesBy}
 use Rattle.lagsystem.specs.Calls.{ThenSettles, ProcessesLacpdu, Performs, Step, TableRun}
 use Rattle.lagsystem.specs.Offers.{system_force_result, system_move_result}
 use Rattle.lagsystem.specs.Sending.{TransmitsAt, SendsMarkerOf, TransmitsIf}
@@ -143,29 +142,17 @@ in_set P N n (x ∷ xs) (suc i) s t e k move g =
 record IsKept (P : Machines → Type 0) : Type 0 where
   mux : (ready : Bool) (p q : Machines) → RunsToRest (mux_rows ready) p q → P p → P q
   periodic : (p q : Machines) → RunsPeriodic p q → P p → P q
-  select : (agg : AggId) (p : Machines) → P p → P (record p { choice = Selected agg })
-  link : (up : Bool) (p q : Machines) → SetsPortEnabled up p q → P p → P q
+  select : (choice : Choice) (p : Machines) → P p → P (record p { choice = choice })
+  link : (up : Bool) (p q : Machines) → RunsToRest receive_rows (record p { enabled = up }) q → P p → P q
   take : (v : Lacpdu) (p q : Machines) → ProcessesLacpdu v p q → P p → P q
   party : (change : PortChange) (p q : Machines) → ChangesParty change p q → P p → P q
 
-in_given : (P : Machines → Type 0) → IsKept P → (s : SystemPort) (o : Option AggId) → P s.port → P (with_choice s o).port
+in_given : (P : Machines → Type 0) → IsKept P → (s : SystemPort) (o : Option Choice) → P s.port → P (with_choice s o).port
 in_given P kept s None g = g
-in_given P kept s (Some agg) g = kept.select agg s.port g
+in_given P kept s (Some choice) g = kept.select choice s.port g
 
-in_choose : (P : Machines → Type 0) (N : Type 0) (n : ℕ) → IsKept P
-    → (keys : List Key) (system_ports : List SystemPort) (i : ℕ) (o : Option SystemPort) → slice_get system_ports i ≡ o
-    → In P N n system_ports → In P N n (after_choice_at keys system_ports i o)
-in_choose P N n kept keys system_ports i None e g = g
-in_choose P N n kept keys system_ports i (Some s) e g =
-    let o = aggregator_for keys system_ports s in in_set P N n system_ports i s (with_choice s o) e
-    (given_number s o) (in_given P kept s o) g
-
-in_chosen : (P : Machines → Type 0) (N : Type 0) (n : ℕ) → IsKept P → (keys : List Key) (k : ℕ) (system_ports : List SystemPort)
-    → In P N n system_ports → In P N n (after_choices keys k system_ports)
-in_chosen P N n kept keys zero system_ports g = g
-in_chosen P N n kept keys (suc k) system_ports g =
-    let mid = after_choices keys k system_ports in in_choose P N n kept keys mid k (slice_get mid k) refl
-    (in_chosen P N n kept keys k system_ports g)
+in_select : (P : Machines → Type 0) (N : Type 0) (n : ℕ) → IsKept P → KeptByChoices (In P N n)
+in_select P N n kept l i s o e g = in_set P N n l i s (with_choice s o) e (given_number s o) (in_given P kept s o) g
 
 in_same : (P : Machines → Type 0) (N : Type 0) (n : ℕ) (old new : SystemState) → new.system_ports ≡ old.system_ports
     → In P N n old.system_ports → In P N n new.system_ports
@@ -181,9 +168,7 @@ in_settling P N n kept old new h g =
     let five = h.2.2.2.2.0 in
     let ready = λ (p : Machines). ready_of three.keys (views three.system_ports) p.choice in
     let g1 = in_each P P N (RunsToRest (mux_rows false)) n (kept.mux false) old.system_ports one.system_ports h.1.0 g in
-    let g2 = in_same P N n (with_system_ports one (after_choices one.keys (length one.system_ports) one.system_ports)) two
-    (same_slots (with_system_ports one (after_choices one.keys (length one.system_ports) one.system_ports)) two h.2.1)
-    (in_chosen P N n kept one.keys (length one.system_ports) one.system_ports g1) in
+    let g2 = choosing_keeps (In P N n) (in_select P N n kept) (aggregators_value one) one.system_ports two.system_ports h.2.1.0 g1 in
     let g3 = in_same P N n two three (same_slots two three h.2.2.1) g2 in
     let g4 = in_each P P N (λ p q. RunsToRest (mux_rows (ready p)) p q) n (λ p q d. kept.mux (ready p) p q d) three.system_ports
     four.system_ports h.2.2.2.1.0 g3 in
@@ -194,7 +179,7 @@ good_kept : (now : ℕ) (before : List ℕ) → IsKept (λ p. Good now p before)
 good_kept now before = record {
   mux = λ ready p q d. good_call now (port.Mux ready) p q before d;
   periodic = λ p q d. good_call now port.Periodic p q before d;
-  select = λ agg p. good_call now (port.Select (Selected agg)) p (record p { choice = Selected agg }) before refl;
+  select = λ choice p. good_call now (port.Select choice) p (record p { choice = choice }) before refl;
   link = λ up p q d. good_call now (port.Set_link up) p q before d;
   take = λ v p q d. good_call now (port.Take v) p q before d;
   party = λ change p q d. good_call now (port.Reinit (changed_party change p.party)) p q before d.1;
@@ -235,7 +220,9 @@ in_step : (P : Machines → Type 0) (N : Type 0) (n : ℕ) → IsKept P
     → Step gives old call answer new
     → In P N n old.system_ports → In P N n new.system_ports
 in_step P N n kept gives old (Set_link m up) (reply.SetLink (Ok done)) new o h g =
-    in_settling P N n kept h.0 new h.2 (in_place P N n (SetsPortEnabled up) (kept.link up) (port_index m old.system_ports) old.system_ports
+    in_settling P N n kept h.0 new h.2 (in_place P N n (SetsPortEnabled old.max_links up)
+    (λ p q r g. let c = choice_with_link old.max_links up p.choice in kept.link up (record p { choice = c }) q r (kept.select c p g))
+    (port_index m old.system_ports) old.system_ports
     h.0.system_ports h.1.0 g)
 in_step P N n kept gives old (Set_link m up) (reply.SetLink (Err fault)) new o h g = in_same P N n old new (same_slots old new h.same) g
 in_step P N n kept gives old (Receive m octets) (reply.Receive (Ok answer)) new o h g = in_does P N n kept h.1 h.0.number

@@ -4,6 +4,8 @@ use Rattle.std.specs.Prelude.{slice_get, slice_set, Ok, Err}
 use Rattle.std.specs.Bool.{IsFalse}
 use Rattle.std.specs.Str.{bytes_eq}
 use Rattle.lagtypes.specs.declared.identifiers.AggId.{AggId}
+use Rattle.lagtypes.specs.declared.party.Choice.{Choice}
+use Rattle.lagtypes.specs.declared.party.Choice.TheVariants.{Unselected}
 use Rattle.lagtypes.specs.declared.party.Party.{Party}
 use Rattle.slowpdu.specs.declared.pdu.Lacpdu.{Lacpdu}
 use Rattle.slowpdu.specs.declared.pdu.Marker.{Marker}
@@ -92,9 +94,15 @@ Ticks old new =
     × ChangesAssignments old.table new.table after_tick
     × (new ≡ with_table (with_system_ports old new.system_ports) new.table)
 
--- port_enabled gets this value, and then the receive machine runs until it is at rest
-abbrev pub SetsPortEnabled : Bool → Machines → Machines → Type 0
-SetsPortEnabled up p q = RunsToRest receive_rows (record p { enabled = up }) q
+-- Selected of a port whose link is set: with a limit of links, UNSELECTED if the link is down; else it stays (profile)
+abbrev pub choice_with_link : Option ℕ → Bool → Choice → Choice
+choice_with_link None up choice = choice
+choice_with_link (Some most) true choice = choice
+choice_with_link (Some most) false choice = Unselected
+
+-- port_enabled gets this value, and Selected what goes with it; then the receive machine runs until it is at rest
+abbrev pub SetsPortEnabled : Option ℕ → Bool → Machines → Machines → Type 0
+SetsPortEnabled max_links up p q = RunsToRest receive_rows (record p { enabled = up; choice = choice_with_link max_links up p.choice }) q
 
 -- if the link is down, every conversation of the port with this number becomes free
 abbrev pub FreesIfDown : Bool → ℕ → Table → Table → Type 0
@@ -104,7 +112,7 @@ FreesIfDown false port old new = ChangesAssignments old new (after_down port)
 -- port_enabled of the port with this number is set
 abbrev pub SetsLink : ℕ → Bool → SystemState → SystemState → Type 0
 SetsLink n up old new =
-    PortAtChangesBy (SetsPortEnabled up) (port_index n old.system_ports) old.system_ports new.system_ports
+    PortAtChangesBy (SetsPortEnabled old.max_links up) (port_index n old.system_ports) old.system_ports new.system_ports
     × FreesIfDown up n old.table new.table
     × (new ≡ with_table (with_system_ports old new.system_ports) new.table)
 

@@ -1,5 +1,5 @@
 -- The first state of a system.
-use Rattle.std.specs.Prelude.{◌≡◌, ℕ, Bool, ◌+◌, ◌&&◌, List, [], ◌∷◌, length, map, nat_le, nat_lt, if◌then◌else◌, Option}
+use Rattle.std.specs.Prelude.{◌≡◌, ℕ, Bool, true, ◌+◌, ◌&&◌, List, [], ◌∷◌, length, map, nat_le, nat_lt, if◌then◌else◌, Option}
 use Rattle.std.specs.Prelude.{Some, None, option_map}
 use Rattle.std.specs.List.{AllZip}
 use Rattle.lagtypes.specs.declared.identifiers.Key.{Key}
@@ -9,11 +9,11 @@ use Rattle.portmachines.specs.Start.{Starts, before_start}
 use Rattle.lagsystem.specs.declared.config.Config.{Config}
 use Rattle.lagsystem.specs.declared.config.PortConfig.{PortConfig}
 use Rattle.lagsystem.specs.declared.fault.BadConfig.{BadConfig}
-use Rattle.lagsystem.specs.declared.fault.BadConfig.TheVariants.{Ports, Aggregators, PortNumber}
+use Rattle.lagsystem.specs.declared.fault.BadConfig.TheVariants.{Ports, Aggregators, PortNumber, MaxLinks, Conversations}
 use Rattle.lagsystem.specs.declared.fault.SystemFault.{SystemFault}
 use Rattle.lagsystem.specs.declared.fault.SystemFault.TheVariants.{NoMemory, BadConfig as Bad}
 use Rattle.lagsystem.specs.declared.system_ports.SystemPort.{SystemPort}
-use Rattle.distributor.specs.Conversations.{first_table}
+use Rattle.distributor.specs.Conversations.{first_table, is_conversation_count}
 use Rattle.lagsystem.specs.Settling.{Settling}
 use Rattle.lagsystem.specs.State.{SystemState, with_system_ports}
 
@@ -40,14 +40,16 @@ HasJustStarted system c system_port = (system_port.number ≡ c.number) × (syst
 abbrev pub IsFirst : SystemState → Type 0
 IsFirst s =
     (start : List SystemPort) × AllZip (HasJustStarted s.system) s.ports start × Settling (with_system_ports s start) s
-    × (s.table ≡ first_table (length s.keys) s.first_marker)
+    × (s.table ≡ first_table (length s.keys) s.conversations s.first_marker)
 
 -- the state has this configuration
 pub record IsConfigured (config : Config) (s : SystemState) : Type 0 where
   pub system : s.system ≡ config.system
   pub max_delay : s.max_delay ≡ config.max_delay
   pub first_marker : s.first_marker ≡ config.first_marker
+  pub conversations : s.conversations ≡ config.conversations
   pub keys : s.keys ≡ config.aggregators.items
+  pub max_links : s.max_links ≡ config.max_links
   pub ports : s.ports ≡ config.ports.items
 
 -- the number of a configured port
@@ -68,14 +70,36 @@ first_bad_port_number place low (n ∷ ns) = if nat_lt low n then first_bad_port
 abbrev pub is_count : ℕ → Bool
 is_count n = nat_le 1 n && nat_le n 64
 
--- the first reason to refuse a configuration with these aggregators and ports
-abbrev pub refusal : List Key → List PortConfig → Option BadConfig
-refusal keys ports =
-    if is_count (length ports) then (if is_count (length keys) then option_map PortNumber (first_bad_port_number 1 0 (configured_numbers ports)) else Some Aggregators) else Some Ports
+-- the first of two values, if there is one, else the second
+abbrev pub or_first : {A : Type 0} → Option A → Option A → Option A
+or_first None other = other
+or_first (Some x) other = Some x
+
+-- a limit of links is 1 to 64; None is no limit
+abbrev pub is_limit : Option ℕ → Bool
+is_limit None = true
+is_limit (Some most) = is_count most
+
+-- the first reason to refuse this limit of links and this many conversations
+abbrev pub refusal_of_limits : Option ℕ → ℕ → Option BadConfig
+refusal_of_limits max_links conversations =
+    if is_limit max_links then (if is_conversation_count conversations then None else Some Conversations) else Some MaxLinks
+
+-- the first reason to refuse these ports, this limit of links and this many conversations, if there are 1 to 64 ports and
+-- aggregators
+abbrev pub refusal_of_numbers : List PortConfig → Option ℕ → ℕ → Option BadConfig
+refusal_of_numbers ports max_links conversations =
+    or_first (option_map PortNumber (first_bad_port_number 1 0 (configured_numbers ports))) (refusal_of_limits max_links conversations)
+
+-- the first reason to refuse a configuration with these aggregators and ports, this limit of links and this many
+-- conversations
+abbrev pub refusal : List Key → List PortConfig → Option ℕ → ℕ → Option BadConfig
+refusal keys ports max_links conversations =
+    if is_count (length ports) then (if is_count (length keys) then refusal_of_numbers ports max_links conversations else Some Aggregators) else Some Ports
 
 -- the first reason to refuse this configuration; None if it is accepted
 abbrev pub config_refusal : Config → Option BadConfig
-config_refusal config = refusal config.aggregators.items config.ports.items
+config_refusal config = refusal config.aggregators.items config.ports.items config.max_links config.conversations
 
 -- the fault of `new` if this is the reason to refuse its configuration; without a reason, memory was refused
 abbrev pub fault_or_no_memory : Option BadConfig → SystemFault

@@ -2,12 +2,14 @@ pub mod Faults
 pub mod State
 pub mod Views
 pub mod Settling
+pub mod Promoting
 pub mod First
 pub mod Readers
 pub mod Offers
 pub mod Sending
 pub mod Calls
 pub mod ModelView
+pub mod Occupants
 pub mod Sound
 pub mod Holding
 pub mod Inner
@@ -16,5 +18,7 @@ pub mod Drives
 pub mod NothingToSettle
 pub mod SecondSettling
 pub mod Hosts
+pub mod PortStatus
 pub mod Due
 pub mod Texts
+pub mod Forcing

@@ -5,7 +5,7 @@ use Rattle.std.specs.List.{AllByRecursion}
 use Rattle.lagtypes.specs.declared.identifiers.Key.{Key}
 use Rattle.lagtypes.specs.declared.identifiers.SystemId.{SystemId}
 use Rattle.lagtypes.specs.declared.party.Choice.{Choice}
-use Rattle.lagtypes.specs.declared.party.Choice.TheVariants.{Unselected, Selected}
+use Rattle.lagtypes.specs.declared.party.Choice.TheVariants.{Unselected, Selected, Standby}
 use Rattle.lagtypes.specs.declared.party.Party.{Party}
 use Rattle.lagtypes.specs.States.{bits_of}
 use Rattle.slowpdu.specs.declared.pdu.Lacpdu.{Lacpdu}
@@ -40,10 +40,11 @@ use Rattle.lagsystem.specs.Calls.{Call, Tick, Set_link, Receive, Configure, Rest
 use Rattle.lagsystem.specs.Calls.{Carries}
 use Rattle.lagsystem.specs.Readers.{number_of_conversation}
 
--- the number of the aggregator that a port has chosen; None if it is UNSELECTED
+-- the number of the aggregator of which a port is a member; None if it is UNSELECTED or STANDBY
 abbrev pub selected_number : Choice → Option ℕ
 selected_number Unselected = None
 selected_number (Selected agg) = Some agg.0
+selected_number (Standby agg) = None
 
 -- A port in the model: it distributes if its mux machine does and no mux row is about to stop it. There is such a row
 -- only during settling, the six steps after a call (specs/Settling).

@@ -70,7 +70,7 @@ Offers gives agg octets old (Ok port) new =
     × GivesAssignment agg (number_of_conversation old octets) (On port) old new
 Offers gives agg octets old (Err fault) new = RefusesOffer gives old agg octets fault × (new ≡ old)
 
--- the second argument if the conversation has a number from 0 to 255, else NotAssigned
+-- the second argument if there is a conversation of this number, else NotAssigned
 abbrev pub or_not_assigned : SystemState → ℕ → Result Assignment DistFault → Result Assignment DistFault
 or_not_assigned s conv answer = if nat_lt conv (conversation_count s) then answer else Err dist.NotAssigned
 

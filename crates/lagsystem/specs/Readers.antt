@@ -1,9 +1,10 @@
 -- What the readers of a system return.
-use Rattle.std.specs.Prelude.{ℕ, Bool, ◌&&◌, List, length, slice_index, bit_xor, filter, map, Option, Some, None, nat_lt, if◌then◌else◌}
+use Rattle.std.specs.Prelude.{ℕ, ◌+◌, ◌*◌, ◌%◌, Bool, ◌&&◌, List, length, slice_index, bit_xor, filter, map, Option, Some, None, nat_lt}
+use Rattle.std.specs.Prelude.{if◌then◌else◌}
 use Rattle.lagtypes.specs.declared.group.Group.{Group}
 use Rattle.lagtypes.specs.declared.identifiers.AggId.{AggId}
 use Rattle.lagtypes.specs.declared.party.Choice.{Choice}
-use Rattle.lagtypes.specs.declared.party.Choice.TheVariants.{Unselected, Selected}
+use Rattle.lagtypes.specs.declared.party.Choice.TheVariants.{Unselected, Selected, Standby}
 use Rattle.lagtypes.specs.Group.{group_of}
 use Rattle.portmachines.specs.declared.mux.MuxState.TheVariants.{CollectingDistributing}
 use Rattle.portmachines.specs.Machines.{Machines}
@@ -21,10 +22,11 @@ group_at p = group_of p.party (party_of p.partner)
 abbrev pub distributes_in : AggId → SystemPort → Bool
 distributes_in agg s = has_chosen agg s.port.choice && same_mux_state CollectingDistributing s.port.mux
 
--- the aggregator that a port has chosen; None if it is UNSELECTED
+-- the aggregator of which a port is a member; None if it is UNSELECTED or STANDBY
 abbrev pub selected_aggregator : Choice → Option AggId
 selected_aggregator Unselected = None
 selected_aggregator (Selected agg) = Some agg
+selected_aggregator (Standby agg) = None
 
 -- the aggregator in which the port collects (6.2.3)
 abbrev pub collecting : Machines → Option AggId
@@ -40,11 +42,16 @@ distributing agg system_ports = map (λ s. s.number) (filter (distributes_in agg
 
 -- how many conversations each aggregator has; they are numbered from 0 (profile)
 abbrev pub conversation_count : SystemState → ℕ
-conversation_count s = 256
+conversation_count s = s.conversations
 
--- the conversation of a frame: the last octet of its destination address exclusive-or that of its source (profile)
+-- the number that two octets make, from this offset on
+abbrev pub two_octets : List ℕ → ℕ → ℕ
+two_octets octets offset = slice_index octets offset * 256 + slice_index octets (offset + 1)
+
+-- the conversation of a frame: the last two octets of its destination address exclusive-or those of its source, of which
+-- the low 8 bits count if there are 256 conversations, and the low 12 if there are 4096 (profile)
 abbrev pub number_of_conversation : SystemState → List ℕ → ℕ
-number_of_conversation s octets = bit_xor (slice_index octets 5) (slice_index octets 11)
+number_of_conversation s octets = bit_xor (two_octets octets 4) (two_octets octets 10) % conversation_count s
 
 -- the conversation of a frame; None below 14 octets
 abbrev pub conversation_in : SystemState → List ℕ → Option ℕ

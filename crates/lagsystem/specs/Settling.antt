@@ -1,11 +1,11 @@
 -- Settling (profile): six steps after a call. Each is a relation between the states before and after it.
-use Rattle.std.specs.Prelude.{◌≡◌, ℕ, zero, suc, Bool, false, List, [], ◌∷◌, length, if◌then◌else◌, Option, Some, None, slice_get}
-use Rattle.std.specs.Prelude.{slice_set}
+use Rattle.std.specs.Prelude.{◌≡◌, ℕ, zero, suc, Bool, true, false, List, [], ◌∷◌, length, if◌then◌else◌, Option, Some, None}
+use Rattle.std.specs.Prelude.{slice_get, slice_set, option_map}
 use Rattle.std.specs.List.{AllZip}
 use Rattle.lagtypes.specs.declared.identifiers.AggId.{AggId}
 use Rattle.lagtypes.specs.declared.identifiers.Key.{Key}
 use Rattle.lagtypes.specs.declared.party.Choice.{Choice}
-use Rattle.lagtypes.specs.declared.party.Choice.TheVariants.{Unselected, Selected}
+use Rattle.lagtypes.specs.declared.party.Choice.TheVariants.{Unselected, Selected, Standby}
 use Rattle.portmachines.specs.Machines.{Machines}
 use Rattle.portmachines.specs.Rows.{RunsToRest}
 use Rattle.portmachines.specs.Mux.{mux_rows}
@@ -13,6 +13,7 @@ use Rattle.portmachines.specs.Periodic.{RunsPeriodic}
 use Rattle.selection.specs.declared.view.PortView.{PortView}
 use Rattle.selection.specs.Views.{is_eligible}
 use Rattle.selection.specs.Choice.{chosen_aggregator}
+use Rattle.selection.specs.Limits.{AggregatorsValue, has_room, next_standby_index}
 use Rattle.selection.specs.Ready.{is_ready}
 use Rattle.lagsystem.specs.declared.system_ports.SystemPort.{SystemPort}
 use Rattle.distributor.specs.declared.assignment.Assignment.{Assignment}
@@ -21,7 +22,7 @@ use Rattle.distributor.specs.Calls.{is_among}
 use Rattle.distributor.specs.Conversations.{assignment_of}
 use Rattle.lagsystem.specs.Readers.{aggregator_numbered, distributing}
 use Rattle.lagsystem.specs.Views.{selection_view, views}
-use Rattle.lagsystem.specs.State.{SystemState, with_system_ports, with_table}
+use Rattle.lagsystem.specs.State.{SystemState, aggregators_value, with_system_ports, with_table}
 
 -- the port keeps its number and its MAC address, and its machines change by the relation
 abbrev pub PortChangesBy : (Machines → Machines → Type 0) → SystemPort → SystemPort → Type 0
@@ -39,34 +40,74 @@ OnlyPortsChangeBy R old new = PortsChangeBy R old.system_ports new.system_ports 
 abbrev pub RunsMuxNotReady : SystemState → SystemState → Type 0
 RunsMuxNotReady old new = OnlyPortsChangeBy (RunsToRest (mux_rows false)) old new
 
--- the port, SELECTED with this aggregator if there is one
-abbrev pub with_choice : SystemPort → Option AggId → SystemPort
+-- the port with this value of Selected, if there is one
+abbrev pub with_choice : SystemPort → Option Choice → SystemPort
 with_choice system_port None = system_port
-with_choice system_port (Some agg) = record system_port { port = record system_port.port { choice = Selected agg } }
+with_choice system_port (Some choice) = record system_port { port = record system_port.port { choice = choice } }
+
+-- the STANDBY port that comes next in the aggregator becomes SELECTED
+abbrev pub PromotesNext : AggregatorsValue → AggId → List SystemPort → List SystemPort → Type 0
+PromotesNext aggs agg old new =
+    (i : ℕ) × (system_port : SystemPort) × (next_standby_index aggs (views old) agg ≡ Some i) × (slice_get old i ≡ Some system_port)
+    × (new ≡ slice_set old i (with_choice system_port (Some (Selected agg))))
+
+-- n STANDBY ports of the aggregator become SELECTED, one after another
+abbrev pub PromotesTimes : AggregatorsValue → AggId → ℕ → List SystemPort → List SystemPort → Type 0
+PromotesTimes aggs agg zero old new = new ≡ old
+PromotesTimes aggs agg (suc n) old new = (mid : List SystemPort) × PromotesTimes aggs agg n old mid × PromotesNext aggs agg mid new
+
+-- STANDBY ports of the aggregator become SELECTED until none comes next: it has no room, or no STANDBY port
+abbrev pub PromotesAll : AggregatorsValue → AggId → List SystemPort → List SystemPort → Type 0
+PromotesAll aggs agg old new = (n : ℕ) × PromotesTimes aggs agg n old new × (next_standby_index aggs (views new) agg ≡ None)
+
+-- so in the first n aggregators, ascending
+abbrev pub PromotesFirst : AggregatorsValue → ℕ → List SystemPort → List SystemPort → Type 0
+PromotesFirst aggs zero old new = new ≡ old
+PromotesFirst aggs (suc n) old new =
+    (mid : List SystemPort) × PromotesFirst aggs n old mid × PromotesAll aggs (aggregator_numbered (suc n)) mid new
 
 -- the aggregator that a port chooses, if it is eligible
 abbrev pub aggregator_for : List Key → List SystemPort → SystemPort → Option AggId
 aggregator_for keys system_ports system_port = if is_eligible (selection_view system_port) then chosen_aggregator keys (views system_ports)
     system_port.number else None
 
+-- SELECTED with the aggregator if that has room, else STANDBY
+abbrev pub choice_if : Bool → AggId → Choice
+choice_if true agg = Selected agg
+choice_if false agg = Standby agg
+
+-- what a port becomes that takes the aggregator
+abbrev pub choice_in : AggregatorsValue → List PortView → AggId → Choice
+choice_in aggs seen agg = choice_if (has_room aggs seen agg) agg
+
+-- what a port becomes that chooses an aggregator, if it is eligible
+abbrev pub choice_for : AggregatorsValue → List SystemPort → SystemPort → Option Choice
+choice_for aggs system_ports system_port = option_map (choice_in aggs (views system_ports)) (aggregator_for aggs.keys system_ports system_port)
+
 -- the ports after the one at this index has chosen an aggregator, if it is eligible
-abbrev pub after_choice_at : List Key → List SystemPort → ℕ → Option SystemPort → List SystemPort
-after_choice_at keys system_ports index None = system_ports
-after_choice_at keys system_ports index (Some system_port) = slice_set system_ports index (with_choice system_port (aggregator_for keys system_ports system_port))
+abbrev pub after_choice_at : AggregatorsValue → List SystemPort → ℕ → Option SystemPort → List SystemPort
+after_choice_at aggs system_ports index None = system_ports
+after_choice_at aggs system_ports index (Some system_port) = slice_set system_ports index (with_choice system_port (choice_for aggs system_ports system_port))
 
 -- the first n ports have chosen their aggregators, one after another; each sees the choices made before it
-abbrev pub after_choices : List Key → ℕ → List SystemPort → List SystemPort
-after_choices keys zero system_ports = system_ports
-after_choices keys (suc n) system_ports = after_choice_at keys (after_choices keys n system_ports) n (slice_get (after_choices keys n system_ports) n)
+abbrev pub after_choices : AggregatorsValue → ℕ → List SystemPort → List SystemPort
+after_choices aggs zero system_ports = system_ports
+after_choices aggs (suc n) system_ports = after_choice_at aggs (after_choices aggs n system_ports) n (slice_get (after_choices aggs n system_ports) n)
 
--- 2. each eligible port, ascending, chooses its aggregator
+-- STANDBY ports become SELECTED where there is room; then each eligible port, ascending, chooses its aggregator
+abbrev pub ChoosesIn : AggregatorsValue → List SystemPort → List SystemPort → Type 0
+ChoosesIn aggs old new =
+    (mid : List SystemPort) × PromotesFirst aggs (length aggs.keys) old mid × (new ≡ after_choices aggs (length mid) mid)
+
+-- 2. so the ports change, and nothing else changes
 abbrev pub Chooses : SystemState → SystemState → Type 0
-Chooses old new = new ≡ with_system_ports old (after_choices old.keys (length old.system_ports) old.system_ports)
+Chooses old new = ChoosesIn (aggregators_value old) old.system_ports new.system_ports × (new ≡ with_system_ports old new.system_ports)
 
--- Ready of the aggregator that the port has chosen; false if it has chosen none
+-- Ready of the aggregator of which the port is a member; false if it is of none
 abbrev pub ready_of : List Key → List PortView → Choice → Bool
 ready_of keys seen Unselected = false
 ready_of keys seen (Selected agg) = is_ready keys seen agg
+ready_of keys seen (Standby agg) = false
 
 -- 3. Ready is worked out for each aggregator in this state; step 4 uses these values; nothing changes in
 -- this step
@@ -91,6 +132,7 @@ held_unless_on ports s = s
 pub record HoldsConversations (old new : SystemState) : Type 0 where
   pub frame : new ≡ with_table old new.table
   pub aggs : new.table.aggs ≡ old.table.aggs
+  pub conversations : new.table.conversations ≡ old.table.conversations
   pub first : new.table.first ≡ old.table.first
   pub next : new.table.next ≡ old.table.next
   pub states : (g k : ℕ) → assignment_of new.table g k ≡ held_unless_on (distributing (aggregator_numbered g) old.system_ports)

@@ -14,13 +14,15 @@ use Rattle.lagsystem.specs.Calls.{Call, Step}
 use Rattle.lagsystem.specs.First.{IsConfigured, IsFirst, configured_numbers, refusal}
 use Rattle.lagsystem.specs.ModelView.{PortsConsistent, JoinedByLawfulMoves, model_setup, model_port, model_view}
 use Rattle.lagsystem.specs.NothingToSettle.{PeriodicsAreSettled, MuxesAreSettled}
+use Rattle.lagsystem.specs.Occupants.{NoneIsNext, OccupantsAgree, WithinLimit}
 use Rattle.lagsystem.specs.Readers.{aggregator_numbered, distributing}
-use Rattle.lagsystem.specs.State.{SystemState, port_numbers}
+use Rattle.lagsystem.specs.State.{SystemState, aggregators_value, port_numbers}
+use Rattle.lagsystem.specs.Views.{views}
 use Rattle.lagsystem.specs.Windows.{KeepsTransmitLimit, EachAtMostThreeAges}
 
 -- the configuration is one that is accepted, and the system has just its ports, in their order
 pub record HasPorts (s : SystemState) : Type 0 where
-  pub accepted : refusal s.keys s.ports ≡ None
+  pub accepted : refusal s.keys s.ports s.max_links s.conversations ≡ None
   pub same : port_numbers s.system_ports ≡ configured_numbers s.ports
 
 -- a conversation is On a port only while the port distributes in its aggregator
@@ -37,6 +39,9 @@ pub record IsSound (s : SystemState) : Type 0 where
   pub windowed : EachAtMostThreeAges s
   pub members : Members (model_setup s) (model_view s).port
   pub quiet : MuxesAreSettled s.keys s.system_ports × PeriodicsAreSettled s.system_ports
+  pub occupants : OccupantsAgree s.keys s.system_ports
+  pub limited : WithinLimit s.max_links (views s.system_ports)
+  pub promoted : NoneIsNext (aggregators_value s) (views s.system_ports)
 
 -- the state that `new` makes of a configuration
 pub record IsMade (config : Config) (s : SystemState) : Type 0 where
@@ -50,13 +55,15 @@ DistributeAsMuxDoes system_ports = AllByRecursion (λ x. (model_port x.port).dis
     system_ports
 
 -- The members of an aggregator have its key and one group (LAG ID), which is not Individual if they are two or more;
--- ports that distribute in one aggregator name one partner system and key (6.4.14.1). The ports are those of an
--- accepted configuration, and each keeps at most three ages of its transmit window (6.4.16).
+-- ports that distribute in one aggregator name one partner system and key (6.4.14.1). No aggregator has more members than
+-- the limit of links (profile). The ports are those of an accepted configuration, and each keeps at most three ages of its
+-- transmit window (6.4.16).
 pub record PortsAgree (s : SystemState) : Type 0 where
   pub ports : HasPorts s
   pub windowed : EachAtMostThreeAges s
   pub members : Members (model_setup s) (model_view s).port
   pub one_partner : OnePartner (model_view s)
+  pub limited : WithinLimit s.max_links (views s.system_ports)
   pub distribute : DistributeAsMuxDoes s.system_ports
 
 -- What every call promises. It is a `Step`; the model allows it, with the visible acts that its reply has; each port
@@ -67,3 +74,4 @@ pub record CallPromise (gives : ℕ → ℕ → ℕ → Type 0) (old : SystemSta
   pub window : KeepsTransmitLimit old (call ∷ []) (reply ∷ [])
   pub agrees : PortsAgree new
   pub configured : model_setup new ≡ model_setup old
+  pub conversations : new.conversations ≡ old.conversations

@@ -3,20 +3,28 @@ use Rattle.std.specs.Prelude.{ℕ, ◌==◌, List, map, Option, Some, None, slic
 use Rattle.lagtypes.specs.declared.identifiers.Key.{Key}
 use Rattle.lagtypes.specs.declared.identifiers.SystemId.{SystemId}
 use Rattle.portmachines.specs.Machines.{Machines}
+use Rattle.selection.specs.Limits.{AggregatorsValue}
 use Rattle.distributor.specs.Conversations.{Table}
 use Rattle.lagsystem.specs.declared.config.PortConfig.{PortConfig}
 use Rattle.lagsystem.specs.declared.system_ports.SystemPort.{SystemPort}
 
--- the configuration: system identifier, CollectorMaxDelay, first marker identifier, keys of the aggregators, and the
--- ports as they were configured; then the ports as they are now, in the same order; and the conversations
+-- the configuration: system identifier, CollectorMaxDelay, first marker identifier, how many conversations each
+-- aggregator has, keys of the aggregators, how many links each may have, and the ports as they were configured; then the
+-- ports as they are now, in the same order; and the conversations
 pub record SystemState : Type 0 where
   pub system : SystemId
   pub max_delay : ℕ
   pub first_marker : ℕ
+  pub conversations : ℕ
   pub keys : List Key
+  pub max_links : Option ℕ
   pub ports : List PortConfig
   pub system_ports : List SystemPort
   pub table : Table
+
+-- the aggregators, as the Selection Logic has them
+abbrev pub aggregators_value : SystemState → AggregatorsValue
+aggregators_value s = record { keys = s.keys; max_links = s.max_links }
 
 -- what contracts see of a system: its state, and the algorithm that picks the ports of conversations
 pub record SystemValue (F : Type 0) : Type 0 where

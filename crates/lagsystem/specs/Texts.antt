@@ -1,7 +1,7 @@
 -- The texts of the faults, as Display writes them.
 use Rattle.std.specs.Prelude.{ℕ, List, ◌++◌, codes, decimal}
 use Rattle.lagsystem.specs.declared.fault.BadConfig.{BadConfig as Reason}
-use Rattle.lagsystem.specs.declared.fault.BadConfig.TheVariants.{Ports, Aggregators, PortNumber}
+use Rattle.lagsystem.specs.declared.fault.BadConfig.TheVariants.{Ports, Aggregators, PortNumber, MaxLinks, Conversations}
 use Rattle.lagsystem.specs.declared.fault.SystemFault.{SystemFault}
 use Rattle.lagsystem.specs.declared.fault.SystemFault.TheVariants.{NoPort, NoAggregator, FrameLength, SlowFrame, Held, NoneDistributing}
 use Rattle.lagsystem.specs.declared.fault.SystemFault.TheVariants.{NotDistributing, SamePort, NotAssigned, MarkersSpent, BadConfig}
@@ -13,6 +13,8 @@ reason_text Ports = codes "the configuration has not 1 to 64 ports"
 reason_text Aggregators = codes "the configuration has not 1 to 64 aggregators"
 reason_text (PortNumber place) = codes "the port at place " ++ (decimal place
     ++ codes " has the number 0 or one that is not above the number before it")
+reason_text MaxLinks = codes "the limit of links of an aggregator is not 1 to 64"
+reason_text Conversations = codes "the configuration has neither 256 nor 4096 conversations"
 
 -- the text of a fault of a system
 abbrev pub fault_text : SystemFault → List ℕ

@@ -42,7 +42,8 @@ impl<F: Fn(u16, usize) -> usize + Drop> System<F> {
     /// Makes a system with all links down. Every port starts (BEGIN), one settling follows, and every conversation is
     /// free. Refused in this order: `BadConfig(Ports)` if there are not 1 to 64 ports, `BadConfig(Aggregators)` if
     /// there are not 1 to 64 aggregators, `BadConfig(PortNumber)` if the port numbers do not ascend from 1 or more,
-    /// `NoMemory` if memory is refused (profile).
+    /// `BadConfig(MaxLinks)` if there is a limit of links that is not 1 to 64, `BadConfig(Conversations)` if there are
+    /// neither 256 nor 4096 conversations, `NoMemory` if memory is refused (profile).
     pub fn new(alloc: Global, config: Config, algorithm: F) -> Result<System<F>, SystemFault>
         requires usable { PicksIndexes (F.pre algorithm) (F.post algorithm) }
         ensures first { IfOk result (λ s. IsFirst s.state) }
@@ -82,7 +83,7 @@ impl<F: Fn(u16, usize) -> usize + Drop> System<F> {
     }
 
     /// Sets port_enabled: the link of a port is up or down now. Its receive machine runs; if the link is down now,
-    /// every conversation of the port is free; one settling follows. `NoPort` if there is no such port (6.4.7, 6.4.12;
+    /// every conversation of the port is free, and with a limit of links the port is UNSELECTED; one settling follows. `NoPort` if there is no such port (6.4.7, 6.4.12;
     /// profile).
     pub fn set_link(&mut self, port: u16, up: bool) -> Result<(), SystemFault>
         ensures answers { CallPromise (F.post self.old.algorithm) self.old.state (Call.Set_link port up)
@@ -141,7 +142,7 @@ impl<F: Fn(u16, usize) -> usize + Drop> System<F> {
 
     /// Moves a conversation of an aggregator to another port. A marker is wanted on its present port, and its frames are
     /// held until the response, `force`, or that port's link going down frees it; it then prefers the new port. Refused in
-    /// this order: `NoAggregator`; `NoPort`; `NotAssigned` if the conversation is free or has no number from 0 to 255;
+    /// this order: `NoAggregator`; `NoPort`; `NotAssigned` if the conversation is free or there is none of this number;
     /// `Held` while it is Wanted or Flushing; `NotDistributing` if the port does not distribute in the aggregator;
     /// `SamePort` if it is on that port; `MarkersSpent` if no marker identifier is left (6.2.5; profile).
     pub fn move_conversation(&mut self, agg: AggId, conv: u16, port: u16) -> Result<(), SystemFault>
@@ -154,7 +155,7 @@ impl<F: Fn(u16, usize) -> usize + Drop> System<F> {
 
     /// Frees a conversation of an aggregator at once, so its frames may be reordered. If it is Wanted or Flushing, it
     /// still prefers the port that it was to move to. Refused in this order: `NoAggregator`; `NotAssigned` if the
-    /// conversation is free or has no number from 0 to 255 (profile).
+    /// conversation is free or there is none of this number (profile).
     pub fn force(&mut self, agg: AggId, conv: u16) -> Result<(), SystemFault>
         ensures answers { CallPromise (F.post self.old.algorithm) self.old.state (Call.Force agg conv) (Reply.Force result) self.new.state }
         ensures algorithm { self.new.algorithm ≡ self.old.algorithm }

@@ -12,8 +12,8 @@ use distributor::Assignment;
 use lagtypes::AggId;
 
 impl<F: Fn(u16, usize) -> usize + Drop> System<F> {
-    /// The conversation of a frame, in whichever aggregator, 0 to 255: octet 5 exclusive-or octet 11. None if the frame
-    /// has fewer than 14 octets (profile).
+    /// The conversation of a frame, in whichever aggregator: the low bits of octets 4 and 5 exclusive-or octets 10 and
+    /// 11, 8 bits for 256 conversations, and 12 for 4096. None if the frame has fewer than 14 octets (profile).
     pub fn conversation(&self, frame: &[u8]) -> Option<u16>
         ensures is { result ≡ conversation_in self.now.state frame.now }
         ensures within { IfSome result (λ conv. conv < conversation_count self.now.state) }
@@ -24,7 +24,7 @@ impl<F: Fn(u16, usize) -> usize + Drop> System<F> {
         Some(self.inner.number_of_conversation(frame))
     }
 
-    /// The state of a conversation of an aggregator; None if there is no such aggregator, or if `conv` is not 0 to 255
+    /// The state of a conversation of an aggregator; None if there is no such aggregator or no such conversation
     /// (profile).
     pub fn conversation_state(&self, agg: AggId, conv: u16) -> Option<Assignment>
         ensures { result ≡ conversation_at self.now.state agg conv }

@@ -12,7 +12,7 @@ pub(crate) fn collecting(port: &Port) -> Option<AggId>
 {
     match port.choice() {
         Choice::Selected(agg) if port.distributes() => Some(agg),
-        Choice::Selected(_) | Choice::Unselected => None,
+        Choice::Selected(_) | Choice::Standby(_) | Choice::Unselected => None,
     }
 }
 
@@ -22,7 +22,7 @@ pub(crate) fn distributes_in(system_port: &SystemPort, agg: AggId) -> bool
 {
     match system_port.port.choice() {
         Choice::Selected(given) => given == agg && system_port.port.distributes(),
-        Choice::Unselected => false,
+        Choice::Standby(_) | Choice::Unselected => false,
     }
 }
 

@@ -17,6 +17,10 @@ pub enum BadConfig {
     Aggregators,
     /// 3: the port at this place, counted from 1, has the number 0, or one that is not above the number before it.
     PortNumber(usize),
+    /// 4: the limit of links is not 1 to 64.
+    MaxLinks,
+    /// 5: there are neither 256 nor 4096 conversations in each aggregator.
+    Conversations,
 }
 
 /// Why a system cannot be made, or why it refuses a call (profile).
@@ -38,7 +42,7 @@ pub enum SystemFault {
     NotDistributing,
     /// 8: the conversation is on that port already.
     SamePort,
-    /// 9: the conversation is free, or has no number from 0 to 255.
+    /// 9: the conversation is free, or there is no such conversation.
     NotAssigned,
     /// 10: no Requester_Transaction_ID is left.
     MarkersSpent,
@@ -49,7 +53,7 @@ pub enum SystemFault {
 }
 
 impl BadConfig {
-    /// The number of the reason, 1 to 3 (profile).
+    /// The number of the reason, 1 to 5 (profile).
     pub fn number(&self) -> u8
         ensures { result ≡ reason_number self.now }
     {
@@ -57,6 +61,8 @@ impl BadConfig {
             BadConfig::Ports => 1,
             BadConfig::Aggregators => 2,
             BadConfig::PortNumber(_) => 3,
+            BadConfig::MaxLinks => 4,
+            BadConfig::Conversations => 5,
         }
     }
 }
@@ -95,6 +101,12 @@ impl fmt::Display for BadConfig {
                 f,
                 "the port at place {place} has the number 0 or one that is not above the number before it"
             ),
+            BadConfig::MaxLinks => f.write_str(
+                "the limit of links of an aggregator is not 1 to 64",
+            ),
+            BadConfig::Conversations => {
+                f.write_str("the configuration has neither 256 nor 4096 conversations")
+            }
         }
     }
 }

@@ -69,14 +69,17 @@ impl<F: Fn(u16, usize) -> usize + Drop> Inner<F> {
             system,
             max_delay,
             first_marker,
+            conversations,
             aggregators: keys,
+            max_links,
             ports,
         } = config;
-        let aggregators = Aggregators::new(alloc, &keys)?;
+        let aggregators = Aggregators::with_limit(alloc, &keys, max_links)?;
         let system_ports = new_system_ports(alloc, system, &ports)?;
-        let distributor = Distributor::new(
+        let distributor = Distributor::with_conversations(
             alloc,
             aggregator_count(&keys),
+            conversations,
             first_marker,
             algorithm,
         )?;
@@ -144,7 +147,12 @@ impl<F: Fn(u16, usize) -> usize + Drop> Inner<F> {
     {
         let place = self.port_index(number)?;
         let before = aggregators_in_use(&self.system_ports);
-        set_link_at(&mut self.system_ports, place, up);
+        set_link_at(
+            &mut self.system_ports,
+            place,
+            self.aggregators.max_links(),
+            up,
+        );
         free_conversations_if_down(&mut self.distributor, number, up);
         self.settle(before.as_slice());
         Ok(())

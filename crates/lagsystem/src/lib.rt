@@ -12,13 +12,16 @@ mod conversation_readers;
 mod distributing_ports;
 mod drive;
 mod fault;
+mod forcing;
 mod holding;
 mod inner;
 mod laws;
 mod offers;
 mod parse;
 mod port_readers;
+mod port_status;
 mod process_lacpdu;
+mod promoting;
 mod received;
 mod set_link;
 mod settling;
@@ -38,6 +41,7 @@ pub use lagtypes::{AggId, Choice, Group, Key, NoMemory, Party, PortId, State, Sy
 pub use laws::{
     first_state_is_one, settling_again_is_nothing, transmit_answers_what_is_due, window_holds,
 };
+pub use port_status::PortStatus;
 pub use portmachines::{MuxState, ReceiveState};
 pub use received::Received;
 pub use slowpdu::{Info, WireFault};

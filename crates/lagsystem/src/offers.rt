@@ -2,6 +2,7 @@ ghost use Rattle.std.specs.Prelude.{◌≡◌, ◌≤◌, ◌<◌, length, IfErr
 ghost use Rattle.lagsystem.specs.Offers.{MayBeOffered, RefusesFrame};
 ghost use Rattle.lagsystem.specs.Inner.{inner_state};
 ghost use Rattle.lagsystem.specs.Readers.{number_of_conversation, conversation_count};
+ghost use Rattle.lagsystem.specs.Sound.{IsSound};
 
 use crate::fault::SystemFault;
 use crate::inner::Inner;
@@ -25,13 +26,16 @@ pub(crate) fn check_offer(octets: &[u8]) -> Result<(), SystemFault>
 }
 
 impl<F: Fn(u16, usize) -> usize + Drop> Inner<F> {
-    /// The number of the conversation of a frame, 0 to 255: octet 5 exclusive-or octet 11, the last octets of the two
-    /// addresses. The frame has at least 14 octets (profile).
+    /// The number of the conversation of a frame: the low bits of octets 4 and 5 exclusive-or octets 10 and 11, the last
+    /// two of each address; 8 bits for 256 conversations, and 12 for 4096. The frame has at least 14 octets (profile).
     pub(crate) fn number_of_conversation(&self, octets: &[u8]) -> u16
-        requires { 14 ≤ length octets.now }
+        requires sound { IsSound (inner_state self.now) }
+        requires long { 14 ≤ length octets.now }
         ensures is { result ≡ number_of_conversation (inner_state self.now) octets.now }
         ensures within { result < conversation_count (inner_state self.now) }
     {
-        u16::from(octets[5] ^ octets[11])
+        let destination = u16::from_be_bytes([octets[4], octets[5]]);
+        let source = u16::from_be_bytes([octets[10], octets[11]]);
+        (destination ^ source) & (self.distributor.conversations() - 1)
     }
 }

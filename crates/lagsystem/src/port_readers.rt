@@ -16,7 +16,7 @@ use slowpdu::Info;
 
 impl<F: Fn(u16, usize) -> usize + Drop> Inner<F> {
     /// The port with this number.
-    fn slot_of(&self, number: u16) -> Option<&SystemPort>
+    pub(crate) fn slot_of(&self, number: u16) -> Option<&SystemPort>
         requires { IsSound (inner_state self.now) }
         ensures { MatchOption result (system_port_at (port_index number self.now.system_ports.items) self.now.system_ports.items ≡ None)
             (λ system_port. system_port_at (port_index number self.now.system_ports.items) self.now.system_ports.items
@@ -145,6 +145,36 @@ impl<F: Fn(u16, usize) -> usize + Drop> System<F> {
     {
         match self.inner.slot_of(port) {
             Some(system_port) => Some(system_port.port.mux_state()),
+            None => None,
+        }
+    }
+
+    /// How many ticks current_while of a port has left, 0 to 900 (6.4.10); None if there is no such port.
+    pub fn current_while(&self, port: u16) -> Option<u16>
+        ensures { result ≡ option_map (λ p. p.current_while) (machines_of port self.now.state) }
+    {
+        match self.inner.slot_of(port) {
+            Some(system_port) => Some(system_port.port.current_while()),
+            None => None,
+        }
+    }
+
+    /// How many ticks wait_while of a port has left, 0 to 20 (6.4.10); None if there is no such port.
+    pub fn wait_while(&self, port: u16) -> Option<u8>
+        ensures { result ≡ option_map (λ p. p.wait_while) (machines_of port self.now.state) }
+    {
+        match self.inner.slot_of(port) {
+            Some(system_port) => Some(system_port.port.wait_while()),
+            None => None,
+        }
+    }
+
+    /// NTT: whether an LACPDU is to be sent on a port (6.4.7); None if there is no such port.
+    pub fn ntt(&self, port: u16) -> Option<bool>
+        ensures { result ≡ option_map (λ p. p.ntt) (machines_of port self.now.state) }
+    {
+        match self.inner.slot_of(port) {
+            Some(system_port) => Some(system_port.port.ntt()),
             None => None,
         }
     }

@@ -6,10 +6,12 @@ ghost use Rattle.portmachines.specs.Periodic.{RunsPeriodic};
 ghost use Rattle.selection.specs.Views.{has_waited, is_eligible};
 ghost use Rattle.lagsystem.specs.Views.{selection_view, views};
 ghost use Rattle.lagsystem.specs.Settling.{PortsChangeBy, PortChangesBy, SettlesPorts, after_choice_at, after_choices, ready_of};
-ghost use Rattle.lagsystem.specs.State.{SystemState, with_system_ports};
+ghost use Rattle.lagsystem.specs.Settling.{ChoosesIn, choice_in};
+ghost use Rattle.lagsystem.specs.State.{SystemState, aggregators_value, with_system_ports};
 
+use crate::promoting::{may_promote, promote_each};
 use crate::system_ports::{SystemPort, has_waited, is_eligible, views};
-use lagtypes::Choice;
+use lagtypes::{AggId, Choice};
 use selection::{Aggregators, PortView};
 
 /// Runs the mux machine of a port, with this value of Ready.
@@ -37,6 +39,17 @@ fn any_eligible(system_ports: &[SystemPort]) -> bool
         .any(|system_port| is_eligible(system_port))
 }
 
+/// What a port becomes that takes the aggregator: SELECTED if that has room, else STANDBY.
+fn choice_in(aggregators: &Aggregators, port_views: &[PortView], agg: AggId) -> Choice
+    ensures { result ≡ choice_in aggregators.now port_views.now agg }
+{
+    if aggregators.room(port_views, agg) {
+        Choice::Selected(agg)
+    } else {
+        Choice::Standby(agg)
+    }
+}
+
 /// Lets the port at this index choose an aggregator, if it is eligible. The list of the views of all ports is
 /// updated, so that the ports after it see the choice.
 fn choose_one(
@@ -55,7 +68,7 @@ fn choose_one(
     }
     let system_port = &mut system_ports[place];
     if let Some(agg) = aggregators.choose(port_views, system_port.number) {
-        let choice = Choice::Selected(agg);
+        let choice = choice_in(aggregators, port_views, agg);
         system_port.port.select(choice);
         port_views[place].choice = choice;
     }
@@ -75,12 +88,17 @@ fn choose_each(
     }
 }
 
-/// Step 2: each eligible port chooses its aggregator, in order; each sees the choices made before it.
+/// Step 2: STANDBY ports become SELECTED where there is room; then each eligible port chooses its aggregator, in order;
+/// each sees the choices made before it.
 fn choose_all(aggregators: &Aggregators, system_ports: &mut [SystemPort])
     requires { length system_ports.old ≤ 64 }
-    ensures { system_ports.new ≡ after_choices aggregators.now (length system_ports.old) system_ports.old }
+    ensures { ChoosesIn aggregators.now system_ports.old system_ports.new }
 {
-    if any_eligible(system_ports) {
+    if may_promote(aggregators, system_ports) {
+        let mut port_views = views(system_ports);
+        promote_each(aggregators, system_ports, port_views.as_mut_slice());
+        choose_each(aggregators, system_ports, port_views.as_mut_slice());
+    } else if any_eligible(system_ports) {
         let mut port_views = views(system_ports);
         choose_each(aggregators, system_ports, port_views.as_mut_slice());
     }
@@ -98,7 +116,7 @@ fn any_waited(system_ports: &[SystemPort]) -> bool
 /// Steps 3 and 4: Ready is worked out for every aggregator; then each mux machine runs with it.
 fn run_mux(aggregators: &Aggregators, system_ports: &mut [SystemPort])
     requires { length system_ports.old ≤ 64 }
-    ensures { PortsChangeBy (λ p q. RunsToRest (mux_rows (ready_of aggregators.now (views system_ports.old) p.choice)) p q)
+    ensures { PortsChangeBy (λ p q. RunsToRest (mux_rows (ready_of aggregators.now.keys (views system_ports.old) p.choice)) p q)
         system_ports.old system_ports.new }
 {
     if any_waited(system_ports) {
@@ -112,7 +130,7 @@ fn run_mux(aggregators: &Aggregators, system_ports: &mut [SystemPort])
 
 /// Runs each mux machine; Ready is worked out from the views before the first of them ran.
 fn run_each_mux(aggregators: &Aggregators, system_ports: &mut [SystemPort], port_views: &[PortView])
-    ensures { PortsChangeBy (λ p q. RunsToRest (mux_rows (ready_of aggregators.now port_views.now p.choice)) p q)
+    ensures { PortsChangeBy (λ p q. RunsToRest (mux_rows (ready_of aggregators.now.keys port_views.now p.choice)) p q)
         system_ports.old system_ports.new }
 {
     for system_port in system_ports.iter_mut() {
@@ -122,19 +140,19 @@ fn run_each_mux(aggregators: &Aggregators, system_ports: &mut [SystemPort], port
 
 /// Runs the mux machine of a port; Ready is worked out from these views.
 fn run_one_mux(aggregators: &Aggregators, system_port: &mut SystemPort, port_views: &[PortView])
-    ensures { PortChangesBy (λ p q. RunsToRest (mux_rows (ready_of aggregators.now port_views.now p.choice)) p q)
+    ensures { PortChangesBy (λ p q. RunsToRest (mux_rows (ready_of aggregators.now.keys port_views.now p.choice)) p q)
         system_port.old system_port.new }
 {
     let ready = ready_of(aggregators, port_views, system_port.port.choice());
     run_mux_rows(system_port, ready);
 }
 
-/// Ready of the aggregator that the port has chosen; false if it has chosen none.
+/// Ready of the aggregator of which the port is a member; false if it is of none.
 fn ready_of(aggregators: &Aggregators, port_views: &[PortView], choice: Choice) -> bool
-    ensures { result ≡ ready_of aggregators.now port_views.now choice }
+    ensures { result ≡ ready_of aggregators.now.keys port_views.now choice }
 {
     match choice {
-        Choice::Unselected => false,
+        Choice::Unselected | Choice::Standby(_) => false,
         Choice::Selected(agg) => aggregators.ready(port_views, agg),
     }
 }
@@ -161,7 +179,7 @@ fn run_each_periodic(system_ports: &mut [SystemPort])
 /// SELECTED port. Step 6, the conversations, is in holding.rt.
 pub(crate) fn settle_ports(aggregators: &Aggregators, system_ports: &mut [SystemPort])
     requires { length system_ports.old ≤ 64 }
-    ensures { (base : SystemState) → base.keys ≡ aggregators.now → base.system_ports ≡ system_ports.old
+    ensures { (base : SystemState) → aggregators_value base ≡ aggregators.now → base.system_ports ≡ system_ports.old
         → SettlesPorts base (with_system_ports base system_ports.new) }
 {
     run_mux_not_ready(system_ports);

@@ -1,6 +1,7 @@
 ghost use Rattle.std.specs.Prelude.{◌≡◌, ◌≤◌, length, vec_len, IfOk};
 ghost use Rattle.std.specs.List.{AllZip};
 ghost use Rattle.lagsystem.specs.First.{HasJustStarted, first_bad_port_number, configured_numbers, refusal, config_refusal};
+ghost use Rattle.lagsystem.specs.First.{is_limit};
 
 use crate::config::{Config, PortConfig};
 use crate::fault::BadConfig;
@@ -53,9 +54,24 @@ fn first_bad_port_number(ports: &[PortConfig]) -> Option<usize>
     None
 }
 
+/// Whether this is a limit of links: 1 to 64, or none.
+fn is_limit(max_links: Option<u16>) -> bool
+    ensures { result ≡ is_limit max_links }
+{
+    match max_links {
+        Some(most) => most >= 1 && most <= 64,
+        None => true,
+    }
+}
+
 /// The first reason to refuse a configuration; None if it is accepted.
-fn refusal(keys: &[Key], ports: &[PortConfig]) -> Option<BadConfig>
-    ensures { result ≡ refusal keys.now ports.now }
+fn refusal(
+    keys: &[Key],
+    ports: &[PortConfig],
+    max_links: Option<u16>,
+    conversations: u16,
+) -> Option<BadConfig>
+    ensures { result ≡ refusal keys.now ports.now max_links conversations }
 {
     if ports.is_empty() || ports.len() > 64 {
         return Some(BadConfig::Ports);
@@ -63,16 +79,31 @@ fn refusal(keys: &[Key], ports: &[PortConfig]) -> Option<BadConfig>
     if keys.is_empty() || keys.len() > 64 {
         return Some(BadConfig::Aggregators);
     }
-    first_bad_port_number(ports).map(BadConfig::PortNumber)
+    if let Some(place) = first_bad_port_number(ports) {
+        return Some(BadConfig::PortNumber(place));
+    }
+    if !is_limit(max_links) {
+        return Some(BadConfig::MaxLinks);
+    }
+    if conversations != 256 && conversations != 4096 {
+        return Some(BadConfig::Conversations);
+    }
+    None
 }
 
 impl Config {
     /// The first reason for which `System::new` refuses this configuration: not 1 to 64 ports, not 1 to 64 aggregators,
-    /// or a port whose number is 0 or not above the one before it. None if it is accepted (profile).
+    /// a port whose number is 0 or not above the one before it, a limit of links that is not 1 to 64, or neither 256 nor
+    /// 4096 conversations. None if it is accepted (profile).
     pub fn refusal(&self) -> Option<BadConfig>
         ensures { result ≡ config_refusal self.now }
     {
-        refusal(&self.aggregators, &self.ports)
+        refusal(
+            &self.aggregators,
+            &self.ports,
+            self.max_links,
+            self.conversations,
+        )
     }
 }
 

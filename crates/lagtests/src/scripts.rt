@@ -76,7 +76,8 @@ const ENTRY_2: Frame = Frame {
 /// The first keys of a system, before those of a row.
 pub(crate) const MAC: &str = "mac = \"02-00-00-00-00-0f\", ";
 
-pub(crate) const KEYS: &str = "mac = \"02-00-00-00-00-0f\", aggregators = [1], ";
+/// The same and the aggregators.
+pub(crate) const AGGREGATORS: &str = "mac = \"02-00-00-00-00-0f\", aggregators = [1], ";
 
 /// The outcome of reading a text: `read`, or the text of the fault.
 pub(crate) fn outcome(alloc: Global, text: &str) -> Result<String, AllocError> {
@@ -138,6 +139,7 @@ fn systems_are_refused(rt: HostRuntime) -> Result<(), Fail> {
         ("", ": mac"),
         ("a = 1", ": extra key"),
         ("limit = 1, priority = -1", ": extra key"),
+        ("ports = 3", ": extra key"),
         ("priority = -1", ": priority"),
         ("priority = 65536", ": priority"),
         ("priority = 1.0", ": priority"),
@@ -148,6 +150,9 @@ fn systems_are_refused(rt: HostRuntime) -> Result<(), Fail> {
         ("mac = \"02-00-00-00-00-0\"", ": mac"),
         ("mac = \"02-00-00-00-00-001\"", ": mac"),
         ("mac = \"02:00-00-00-00-01\"", ": mac"),
+        ("mac = \"02-00x00-00-00-01\"", ": mac"),
+        ("mac = \"02-00-00x00-00-01\"", ": mac"),
+        ("mac = \"02-00-00-00x00-01\"", ": mac"),
         ("mac = \"02-00-00-00-00:01\"", ": mac"),
         ("mac = \"02-0000--00-00-01\"", ": mac"),
         ("mac = \"02-00-00-00-00-0g\"", ": mac"),
@@ -209,6 +214,52 @@ fn later_keys_of_systems_are_refused(rt: HostRuntime) -> Result<(), Fail> {
     let alloc = rt.alloc();
     assert_eq!(rt; first_other(alloc, &SYSTEM_1, MAC, &rows)?, None);
     assert_eq!(rt; first_other(alloc, &SYSTEM_2, MAC, &rows)?, None);
+    Ok(())
+}
+
+/// The keys between the aggregators and the ports of a system.
+#[test]
+fn limits_of_links_and_counts_of_conversations_are_refused(rt: HostRuntime) -> Result<(), Fail> {
+    let rows = [
+        ("max_links = -1", ": max_links"),
+        ("max_links = 65536", ": max_links"),
+        ("max_links = \"1\"", ": max_links"),
+        ("max_links = [1], conversations = [1]", ": max_links"),
+        ("conversations = -1", ": conversations"),
+        ("conversations = 65536", ": conversations"),
+        ("conversations = \"256\", port = 1", ": conversations"),
+        ("max_links = 0, conversations = 256.0", ": conversations"),
+        ("max_links = 0, conversations = 257", ": port"),
+        ("max_link = 1, conversations = true", ": extra key"),
+    ];
+    let alloc = rt.alloc();
+    assert_eq!(rt; first_other(alloc, &SYSTEM_1, AGGREGATORS, &rows)?, None);
+    assert_eq!(rt; first_other(alloc, &SYSTEM_2, AGGREGATORS, &rows)?, None);
+    Ok(())
+}
+
+#[test]
+fn other_limits_of_links_and_counts_are_refused(rt: HostRuntime) -> Result<(), Fail> {
+    let rows = [
+        ("max_links = 0", ": max links"),
+        ("max_links = 65", ": max links"),
+        ("max_links = 65535, conversations = 0", ": max links"),
+        ("conversations = 0", ": conversation count"),
+        ("conversations = 255", ": conversation count"),
+        ("conversations = 257", ": conversation count"),
+        ("conversations = 4095", ": conversation count"),
+        (
+            "max_links = 64, conversations = 4097",
+            ": conversation count",
+        ),
+        ("conversations = 65535", ": conversation count"),
+        ("max_links = 1, conversations = 4096", "read"),
+        ("conversations = 256, max_links = 64", "read"),
+    ];
+    let alloc = rt.alloc();
+    let given = format!(in alloc; "{AGGREGATORS}port = [{{number = 1, key = 1}}], ")?;
+    assert_eq!(rt; first_other(alloc, &SYSTEM_1, given.as_str(), &rows)?, None);
+    assert_eq!(rt; first_other(alloc, &SYSTEM_2, given.as_str(), &rows)?, None);
     Ok(())
 }
 
@@ -283,6 +334,8 @@ fn entries_are_refused(rt: HostRuntime) -> Result<(), Fail> {
         ("Tick 1 1", ": word"),
         (" tick 1 1", ": word"),
         ("ticks 1 1", ": word"),
+        ("offers 1 1 00", ": word"),
+        ("link 1 1", ": word"),
         ("tick", ": count"),
         ("tick 1", ": count"),
         ("tick  1 1", ": count"),
@@ -322,6 +375,9 @@ fn entries_of_cables_are_refused(rt: HostRuntime) -> Result<(), Fail> {
         ("deliver 1 3", ": system"),
         ("deliver 65536 3", ": number"),
         ("lose 2 1", ": cable"),
+        ("lose 2 3", ": cable"),
+        ("repeat 2 3", ": cable"),
+        ("sense 2 3", ": cable"),
         ("lose 1 0", ": system"),
         ("lose 1 1 1", ": count"),
         ("repeat 1 x", ": number"),
@@ -358,23 +414,31 @@ fn entries_of_systems_are_refused(rt: HostRuntime) -> Result<(), Fail> {
         ("configure 1 1 1 128 both", ": kind"),
         ("configure 1 1 1 128 ", ": kind"),
         ("configure 1 1 1 128 Individual", ": kind"),
+        ("configure 1 1 1 128 INDIVIDUAL", ": kind"),
+        ("configure 1 1 1 128 aggregatables", ": kind"),
+        ("configure 1 1 1 128 aggregatable extra", ": count"),
         ("configure 1 1 1 65536 both", ": number"),
         ("configure 1 1 65536 128 both", ": number"),
         ("configure 1 65536 1 128 both", ": number"),
         ("configure 0 65536 1 128 both", ": system"),
         ("offer 1 1", ": count"),
+        ("offer 1 1 0200000000200200000000100800 00", ": count"),
         ("offer 1 1 0g", ": hex"),
         ("offer 1 1 0", ": hex"),
         ("offer 1 1 0x00", ": hex"),
         ("offer 1 65536 0g", ": number"),
         ("offer 3 65536 0g", ": system"),
         ("move 1 1 1", ": count"),
+        ("move 1 1 48 2 2", ": count"),
         ("move 3 1 1 1", ": system"),
+        ("move 3 65536 1 1", ": system"),
         ("move 1 65536 1 1", ": number"),
         ("move 1 1 65536 1", ": number"),
         ("move 1 1 1 65536", ": number"),
         ("force 1 1", ": count"),
+        ("force 1 1 48 1", ": count"),
         ("force 3 1 1", ": system"),
+        ("force 3 65536 1", ": system"),
         ("force 1 65536 1", ": number"),
         ("force 1 1 65536", ": number"),
     ];
@@ -397,8 +461,8 @@ fn smallest_and_greatest_are_read(rt: HostRuntime) -> Result<(), Fail> {
             "read",
         ),
     ];
-    assert_eq!(rt; first_other(alloc, &SYSTEM_1, KEYS, &systems)?, None);
-    assert_eq!(rt; first_other(alloc, &SYSTEM_2, KEYS, &systems)?, None);
+    assert_eq!(rt; first_other(alloc, &SYSTEM_1, AGGREGATORS, &systems)?, None);
+    assert_eq!(rt; first_other(alloc, &SYSTEM_2, AGGREGATORS, &systems)?, None);
     let keys = [
         (
             "aggregators = [0, 65535], port = [{number = 1, key = 0}]",

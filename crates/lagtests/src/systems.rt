@@ -5,8 +5,11 @@ mod frames;
 mod hostile;
 mod load;
 mod memory;
+mod most_links;
 mod plan;
+mod standby;
 mod truncated;
+mod wide;
 
 ghost use Rattle.std.specs.Prelude.{◌<◌};
 
@@ -227,7 +230,9 @@ fn config(alloc: Global, numbers: &[u16], count: usize) -> Result<Config, NoMemo
         system: end(1, 1, 1, 0).system,
         max_delay: 0,
         first_marker: 1,
+        conversations: 256,
         aggregators: aggregators(alloc, count)?,
+        max_links: None,
         ports: ports(alloc, numbers)?,
     })
 }

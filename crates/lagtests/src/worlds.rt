@@ -7,6 +7,7 @@ mod planned;
 mod refusals;
 mod restarts;
 mod scripted;
+mod standby;
 mod starts;
 
 use crate::worlds::given::{Setting, lines, modulo, world_config};

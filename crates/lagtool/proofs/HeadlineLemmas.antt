@@ -1,6 +1,6 @@
 -- The last lines of a report say what holds of every world.
-use Rattle.std.proofs.Common.{◌≡◌, ◌<◌, ◌+◌, ℕ, List, [], ◌∷◌, Option, Some, None, false, length, get_or, refl, sym, ap, ◌∙◌, subst, arith}
-use Rattle.std.specs.Prelude.{Result, Ok, Err}
+use Rattle.std.proofs.Common.{◌≡◌, ◌<◌, ◌+◌, ℕ, List, Option, Some, None, false, length, get_or, refl, sym, ap, ◌∙◌, subst, arith}
+use Rattle.std.specs.Prelude.{Ok, Err}
 use Rattle.std.specs.List.{range_with_len}
 use Rattle.std.proofs.lemmas.List.{ext_get_or}
 use Rattle.std.proofs.lemmas.List.FromFn.{get_or-range_with_len, length-range_with_len}
@@ -62,5 +62,7 @@ not_refused text (script.Entry n why) s h k = not_both text (script.Entry n why)
 not_refused text (script.Ports n) s h k = not_both text (script.Ports n) s h.1 k
 not_refused text (script.AggregatorCount n) s h k = not_both text (script.AggregatorCount n) s h.1 k
 not_refused text (script.PortNumber n p) s h k = not_both text (script.PortNumber n p) s h.1 k
+not_refused text (script.MaxLinks n) s h k = not_both text (script.MaxLinks n) s h.1 k
+not_refused text (script.ConversationCount n) s h k = not_both text (script.ConversationCount n) s h.1 k
 not_refused text script.SameSystem s h k = not_both text script.SameSystem s h.1 k
 not_refused text (script.CableEnd c) s h k = not_both text (script.CableEnd c) s h.1 k

@@ -16,7 +16,7 @@ use Rattle.lagscript.specs.Entries.{WordReader, event_at, event_in, event_of_wor
 use Rattle.lagscript.specs.Entries.{with_five_words, five_words, with_four_words, four_words, hex_word, aggregation_word, number_word}
 use Rattle.lagscript.specs.Entries.{with_one_word, one_word, frameless_event_named, system_word, with_three_words, three_words}
 use Rattle.lagscript.specs.Entries.{ticks_word, with_two_words, two_words}
-use Rattle.lagscript.specs.Configs.{ConfigValue, refusal_of_all}
+use Rattle.lagscript.specs.Configs.{refusal_of_all}
 use Rattle.lagscript.specs.Keys.{keys_among, list_in, value_at, value_or}
 use Rattle.lagscript.specs.Readings.{◌>>=◌, each_at_place, or_fault, if_or_fault}
 use Rattle.lagscript.specs.Scripts.{HasPlan, PlanValue, events_in, cables_in, script_fault_for, ends_of, entries_in, no_fault, plan_in}

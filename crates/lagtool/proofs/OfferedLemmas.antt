@@ -25,7 +25,6 @@ use Rattle.lagworld.specs.HalfCalls.{HalfAnswers, HalfTicks, forced_if_accepted}
 use Rattle.lagworld.specs.Events.{Algorithms, DoesEvent, WorldRuns, side_of, with_stamp_collected, with_link_at, with_item_sent}
 use Rattle.lagworld.specs.Events.{transmitted_item, with_collected_in, with_last_lacpdu, stamped_in, AfterTransmit, WorldReceives}
 use Rattle.lagworld.specs.Events.{AfterReceive, DeliversFrom, LosesFrom, RepeatsItem, RepeatsFrom, AfterOffer, with_frame_counted}
-use Rattle.lagworld.specs.Making.{conversations_per_aggregator}
 use Rattle.lagworld.specs.Messages.{side_numbered, side_number}
 use Rattle.lagworld.specs.Readers.{flow_of_system}
 use Rattle.lagworld.specs.Sound.{IsStart}
@@ -34,7 +33,7 @@ use Rattle.lagworld.specs.State.{flow_at, sent_in, with_sent, with_collected, wi
 use Rattle.lagworld.proofs.Flows.{flow_other_row, read_same}
 use Rattle.lagworld.proofs.Whole.{on_line}
 use Rattle.lagtool.specs.Offered.{HasSentNothing, IsSentWhereOffered, is_offered, offers_to}
-use Rattle.lagtool.specs.ReplayReport.{flow_line, aggregator_flows_text}
+use Rattle.lagtool.specs.ReplayReport.{flow_line, aggregator_flows_text, most_conversations}
 use Rattle.lagtool.proofs.ReplayLemmas.{append_none, appended_both, empties, range_more}
 
 -- what a conversation of a system sent
@@ -290,7 +289,7 @@ no_line s agg conv x e = cond_true (length (sent_in x) == 0) [] _ (ap (λ xs. le
 
 -- an aggregator that sent nothing has no lines
 pub no_row : (j : WorldState) (s agg : ℕ) → HasSentNothing j s agg → aggregator_flows_text j s agg ≡ []
-no_row j s agg quiet = empties (λ conv. flow_line s agg conv (flow_of_system (side_of s) agg conv j)) 0 conversations_per_aggregator
+no_row j s agg quiet = empties (λ conv. flow_line s agg conv (flow_of_system (side_of s) agg conv j)) 0 most_conversations
     (λ c le. no_line s agg c (flow_of_system (side_of s) agg c j) (quiet c))
 
 -- and is left out

@@ -1,12 +1,16 @@
 -- A world before any event, and its report as that of a text.
-use Rattle.std.proofs.Common.{◌≡◌, ◌++◌, ℕ, List, [], ◌∷◌, map, get_or, drop, refl, ap, ap₂, sym, subst, None}
-use Rattle.std.specs.Prelude.{⊤, IsErrAnd, Option, Result, Ok, Err}
+use Rattle.std.proofs.Common.{◌≡◌, ◌++◌, ℕ, List, [], ◌∷◌, map, get_or, drop, refl, ap, ap₂, sym, subst, None, length, arith}
+use Rattle.std.specs.Prelude.{⊤, IsErrAnd, Option, Result, Ok, Err, slice_index_or}
 use Rattle.cables.specs.AnyCable.{any_items, any_limit}
 use Rattle.cables.specs.declared.any.AnyCable.{AnyCable}
+use Rattle.lagscript.specs.Configs.{world_refusal}
 use Rattle.lagscript.specs.Scripts.{HasPlan, plan_value}
 use Rattle.lagscript.specs.declared.event.Event.{Event}
+use Rattle.lagscript.specs.declared.config.WorldConfig.{WorldConfig}
 use Rattle.lagscript.specs.declared.plan.Plan.{Plan}
+use Rattle.lagsystem.specs.First.{config_refusal as refusal_of_one}
 use Rattle.lagsystem.specs.declared.config.Config.{Config}
+use Rattle.lagworld.proofs.Making.{second_accepted}
 use Rattle.lagworld.specs.Events.{Algorithms}
 use Rattle.lagworld.specs.Making.{first_link, first_links}
 use Rattle.lagworld.specs.State.{WorldState, LinkState}
@@ -67,3 +71,11 @@ pub write_failed : {W : Type 0} (contents : W → Option (List ℕ)) (gives : Al
 write_failed contents gives text old new (Ok x) report e is breaks = absurd e
 write_failed contents gives text old new (Err f) report e is breaks = subst (λ x. Replays contents gives text old new (Err x))
     (sym e) (report, is, breaks)
+
+-- the configuration of system 2 is accepted if those of two systems and their cables are
+pub second_fits : (config : WorldConfig) (systems : List Config) (other : Config) → config.systems ≡ systems → length systems ≡ 2
+    → world_refusal config ≡ None → refusal_of_one (slice_index_or systems 1 other) ≡ None
+second_fits config [] other e two h = absurd (omega (arith, two))
+second_fits config (a ∷ []) other e two h = absurd (omega (arith, two))
+second_fits config (a ∷ b ∷ []) other e two h = second_accepted config a b e h
+second_fits config (a ∷ b ∷ c ∷ rest) other e two h = absurd (omega (arith, two))

@@ -1,5 +1,5 @@
 -- The text of an entry, of its reply and of an agreement in the report of a replay (profile).
-use Rattle.std.specs.Prelude.{ℕ, ◌++◌, Bool, true, false, List, [], ◌∷◌, codes, decimal, flat_map, if◌then◌else◌}
+use Rattle.std.specs.Prelude.{ℕ, ◌++◌, Bool, List, ◌∷◌, codes, decimal, flat_map, if◌then◌else◌}
 use Rattle.lagtypes.specs.Octet.{octet}
 use Rattle.lagtypes.specs.Texts.{hex_text}
 use Rattle.lagsystem.specs.declared.config.PortChange.{PortChange}

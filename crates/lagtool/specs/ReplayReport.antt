@@ -1,6 +1,6 @@
 -- The report of a replay: its entries with their replies, and the state of cables and conversations at the end
 -- (profile).
-use Rattle.std.specs.Prelude.{◌≡◌, ⊤, ℕ, ◌+◌, ◌++◌, ◌==◌, Bool, true, List, [], ◌∷◌, flat_map, length, map, if◌then◌else◌, codes}
+use Rattle.std.specs.Prelude.{◌≡◌, ⊤, ℕ, ◌+◌, ◌++◌, ◌==◌, Bool, true, List, [], ◌∷◌, flat_map, length, if◌then◌else◌, codes}
 use Rattle.std.specs.Prelude.{decimal, Option, Some, None, Result, Ok, Err}
 use Rattle.std.specs.List.{range_with_len}
 use Rattle.lagsystem.specs.declared.config.Config.{Config}
@@ -13,7 +13,7 @@ use Rattle.lagscript.specs.declared.fault.ScriptFault.TheVariants as script
 use Rattle.lagscript.specs.declared.plan.Plan.{Plan}
 use Rattle.lagworld.specs.Agreement.{agreement_at}
 use Rattle.lagworld.specs.Events.{Algorithms, WorldRuns, side_of}
-use Rattle.lagworld.specs.Making.{AreFirst, conversations_per_aggregator}
+use Rattle.lagworld.specs.Making.{AreFirst}
 use Rattle.lagworld.specs.Readers.{flow_of_system}
 use Rattle.lagworld.specs.Sound.{IsSound}
 use Rattle.lagworld.specs.State.{WorldState, LinkState, FlowValue, collected_in, forced_in, sent_in}
@@ -63,10 +63,14 @@ flow_line s agg conv x =
     ∷ (decimal conv ++ (codes " sent " ++ (decimal (length (sent_in x)) ++ (codes " collected"
     ++ (collected_text (collected_in x) ++ (forced_text (forced_in x) ++ 10 ∷ []))))))))
 
+-- how many conversations an aggregator can have
+unfoldable pub most_conversations : ℕ
+most_conversations = 4096
+
 -- the lines of all conversations of one aggregator of system s
 abbrev pub aggregator_flows_text : WorldState → ℕ → ℕ → List ℕ
 aggregator_flows_text j s agg = flat_map (λ conv. flow_line s agg conv (flow_of_system (side_of s) agg conv j))
-    (range_with_len 0 conversations_per_aggregator)
+    (range_with_len 0 most_conversations)
 
 -- the lines of all conversations of system s, which has this many aggregators
 abbrev pub flows_text : WorldState → ℕ → ℕ → List ℕ

@@ -1,5 +1,5 @@
 -- What `vectors` prints (profile).
-use Rattle.std.specs.Prelude.{◌≡◌, ⊤, ℕ, ◌+◌, ◌++◌, Bool, List, [], ◌∷◌, Option, Result, Ok, Err, codes, count_by, decimal, length, not}
+use Rattle.std.specs.Prelude.{◌≡◌, ℕ, ◌+◌, ◌++◌, Bool, List, [], ◌∷◌, Option, Result, Ok, Err, codes, count_by, decimal, length, not}
 use Rattle.std.specs.Prelude.{if◌then◌else◌}
 use Rattle.lagtool.specs.Sinks.{WritesPart, SinkState, WritesWhole}
 use Rattle.lagtool.specs.declared.fault.ToolFault.{ToolFault}

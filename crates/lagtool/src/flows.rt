@@ -1,20 +1,19 @@
 ghost use Rattle.std.specs.Prelude.{◌≡◌, ◌<◌, ◌+◌, ◌++◌, ◌||◌, ℕ, OnOk, IfOk, false, get_or, length, string_bytes};
 ghost use Rattle.lagworld.specs.Events.{side_of};
-ghost use Rattle.lagworld.specs.Making.{conversations_per_aggregator};
 ghost use Rattle.lagworld.specs.Readers.{flow_of_system};
 ghost use Rattle.lagtool.specs.Offered.{AreOfferFlags, IsSentWhereOffered, offers_to};
-ghost use Rattle.lagtool.specs.ReplayReport.{collected_text, flow_line, flows_text, aggregator_flows_text};
+ghost use Rattle.lagtool.specs.ReplayReport.{collected_text, flow_line, flows_text, aggregator_flows_text, most_conversations};
 
 use cables::AnyCable;
 use lagtypes::AggId;
 use lagworld::{Event, World};
 use std::alloc::{AllocError, Global};
 
-/// How many conversations an aggregator has (profile).
-fn conversations_per_aggregator() -> u16
-    ensures { result ≡ conversations_per_aggregator }
+/// How many conversations an aggregator can have (profile).
+fn most_conversations() -> u16
+    ensures { result ≡ most_conversations }
 {
-    256
+    4096
 }
 
 /// Adds the serial numbers that were collected, with a space before each.
@@ -62,7 +61,7 @@ fn push_aggregator_flows<F: Fn(u16, usize) -> usize + Drop>(
 ) -> Result<(), AllocError>
     ensures { OnOk result (string_bytes text.new ≡ string_bytes text.old ++ aggregator_flows_text world.now.state system agg) }
 {
-    for conv in 0..conversations_per_aggregator() {
+    for conv in 0..most_conversations() {
         push_flow(text, world, system, agg, conv)?;
     }
     Ok(())

@@ -12,11 +12,16 @@ use std::io::Write;
 use std::test::Fail;
 
 mod checks;
+mod conversations;
+mod links;
 mod memory;
+mod refusals;
 mod replays;
 mod spent;
 mod streams;
 mod texts;
+mod worlds;
+mod wrong_answers;
 
 /// A text in hexadecimal: its pieces, and how often each is repeated.
 type Pieces = &'static [(&'static str, usize)];

@@ -28,7 +28,7 @@ fn joined(alloc: Global, pieces: Pieces) -> Result<String, AllocError> {
 }
 
 /// Whether a command returned this and wrote this text. A sink in memory fails only if memory is refused.
-fn wrote(
+pub(crate) fn wrote(
     ended: Result<bool, ToolFault>,
     sink: Sink<Vec<u8>>,
     accepted: bool,
@@ -44,7 +44,12 @@ fn wrote(
 }
 
 /// Whether `show` prints this text for a payload.
-fn shows(alloc: Global, payload: Pieces, accepted: bool, text: &str) -> Result<bool, AllocError> {
+pub(crate) fn shows(
+    alloc: Global,
+    payload: Pieces,
+    accepted: bool,
+    text: &str,
+) -> Result<bool, AllocError> {
     let hex = joined(alloc, payload)?;
     let mut sink = Sink::new(Vec::new(alloc));
     let ended = show(alloc, hex.as_str(), &mut sink);
@@ -52,7 +57,12 @@ fn shows(alloc: Global, payload: Pieces, accepted: bool, text: &str) -> Result<b
 }
 
 /// Whether `reply` prints this text for a frame.
-fn replies(alloc: Global, frame: Pieces, answered: bool, text: &str) -> Result<bool, AllocError> {
+pub(crate) fn replies(
+    alloc: Global,
+    frame: Pieces,
+    answered: bool,
+    text: &str,
+) -> Result<bool, AllocError> {
     let hex = joined(alloc, frame)?;
     let mut sink = Sink::new(Vec::new(alloc));
     let ended = reply(alloc, "020000000002", hex.as_str(), &mut sink);
@@ -60,7 +70,7 @@ fn replies(alloc: Global, frame: Pieces, answered: bool, text: &str) -> Result<b
 }
 
 /// Whether `replay` prints this text for a script of two systems with one cable.
-fn replays(alloc: Global, events: &str, text: &str) -> Result<bool, AllocError> {
+pub(crate) fn replays(alloc: Global, events: &str, text: &str) -> Result<bool, AllocError> {
     let mut script = String::from_str(alloc, events)?;
     script.push_str(known_texts::ONE_CABLE)?;
     let mut sink = Sink::new(Vec::new(alloc));
@@ -82,7 +92,7 @@ fn octets_in(alloc: Global, pieces: Pieces) -> Result<Vec<u8>, AllocError> {
 }
 
 /// Whether an LACPDU that was decoded is encoded as the same octets.
-fn encodes(alloc: Global, payload: Pieces) -> Result<bool, AllocError> {
+pub(crate) fn encodes(alloc: Global, payload: Pieces) -> Result<bool, AllocError> {
     let octets = octets_in(alloc, payload)?;
     match decode(octets.as_slice()) {
         Ok(Pdu::Lacpdu(lacpdu)) => Ok(lacpdu.encode().as_slice() == octets.as_slice()),
@@ -110,13 +120,19 @@ fn small_config(alloc: Global) -> Result<Config, AllocError> {
         },
         max_delay: 0,
         first_marker: 1,
+        conversations: 256,
         aggregators: Vec::from_slice(alloc, &[key])?,
+        max_links: None,
         ports: Vec::from_slice(alloc, &[port])?,
     })
 }
 
 /// Whether a system ignores a control frame with this payload, and its port stays as it was.
-fn ignores(alloc: Global, payload: Pieces, cause: WireFault) -> Result<bool, AllocError> {
+pub(crate) fn ignores(
+    alloc: Global,
+    payload: Pieces,
+    cause: WireFault,
+) -> Result<bool, AllocError> {
     let mut frame = octets_in(alloc, known_texts::HEADER)?;
     frame.extend_from_slice(octets_in(alloc, payload)?.as_slice())?;
     let Ok(mut system) = System::new(alloc, small_config(alloc)?, by_number) else {

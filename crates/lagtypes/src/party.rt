@@ -28,7 +28,7 @@ impl Party {
     }
 }
 
-/// The variable Selected of a port, with the aggregator that the Selection Logic gave it (6.4.8). There is no STANDBY.
+/// The variable Selected of a port, with the aggregator that the Selection Logic gave it (6.4.8).
 #[derive(Clone, Copy, Debug, Default, PartialEq, Eq, Hash)]
 pub enum Choice {
     /// UNSELECTED: no aggregator.
@@ -36,4 +36,6 @@ pub enum Choice {
     Unselected,
     /// SELECTED, with this aggregator.
     Selected(AggId),
+    /// STANDBY, with this aggregator: it had no room for one more link.
+    Standby(AggId),
 }

@@ -522,7 +522,8 @@ delivered gives s i l octets (stamp.Data system agg conv serial) rest r old new 
     (subst (λ (x : WorldSetup). IsCabling x.cables) (sym f) one) history (record { origin = t.0; there = t.1; plain = t.2 }) x.2 x.3 in
     let told : ModelEvent = ModelEvent.Receive (port_at s l) None in (
       c.0,
-      subst (λ w. CallHappens (world_setup old) s told 0 w (handed_up c.0 (Data (side_numbered system) agg conv serial) w) (model_world new))
+      subst
+          (λ w. CallHappens (world_setup old) s told 0 w (handed_up c.0 (Data (side_numbered system) agg conv serial) w) (model_world new))
           (popped_world s i l rest old there)
           (subst (λ x. CallHappens x s told 0 (model_world j) (handed_up c.0 (Data (side_numbered system) agg conv serial) (model_world j))
           (model_world new)) f c.1),

@@ -15,23 +15,23 @@ use Rattle.lagmodel.specs.Bridge.{find_number}
 use Rattle.lagmodel.proofs.Base.{cond_true, cond_false}
 use Rattle.lagsystem.specs.declared.config.Config.{Config}
 use Rattle.lagsystem.specs.declared.config.PortConfig.{PortConfig}
-use Rattle.lagsystem.specs.First.{configured_number, refusal, config_refusal as refusal_of_one}
+use Rattle.lagsystem.specs.First.{configured_number, or_first, refusal, config_refusal as refusal_of_one}
 use Rattle.lagsystem.specs.ModelView.{model_setup, configured_party, model_view}
 use Rattle.lagsystem.specs.Sound.{PortsAgree}
 use Rattle.lagsystem.specs.State.{SystemState}
-use Rattle.lagsystem.specs.Readers.{conversation_count as conversations_of}
+use Rattle.lagsystem.specs.Readers.{conversation_count}
 use Rattle.lagsystem.proofs.FirstView.{first_shows}
 use Rattle.lagsystem.proofs.Seen.{party_seen}
 use Rattle.lagscript.specs.declared.config.BadWorld.TheVariants.{SameSystem, CableEnd, System}
 use Rattle.lagscript.specs.declared.config.WorldConfig.{WorldConfig}
-use Rattle.lagscript.specs.Configs.{ConfigValue, bad_end, can_join, first_below, has_bad_end, has_port, or_first, config_value}
+use Rattle.lagscript.specs.Configs.{ConfigValue, bad_end, can_join, first_below, has_bad_end, has_port, config_value}
 use Rattle.lagscript.specs.Configs.{world_refusal, refusal_of_all, refusal_of_two, same_system, shares_end, system_refusal}
 use Rattle.lagworld.specs.declared.histories.PortHistory.{PortHistory}
 use Rattle.lagworld.specs.State.{HalfState, WorldState, LinkState, FlowValue, half, port_at, towards, history_at, flow_at}
 use Rattle.lagworld.specs.State.{flow_in_aggregator}
 use Rattle.lagworld.specs.Messages.{item_value}
 use Rattle.lagworld.specs.HalfCalls.{party_of_port}
-use Rattle.lagworld.specs.Making.{IsFirstHalf, are_empty_lines, conversations_per_aggregator, first_flows, first_link, first_links}
+use Rattle.lagworld.specs.Making.{IsFirstHalf, are_empty_lines, first_flows, first_link, first_links}
 use Rattle.lagworld.specs.Making.{first_history, first_histories, first_aggregator_flows, has_empty_directions, empty_flow}
 use Rattle.lagworld.specs.Sound.{AreBelow, IsHalfSound, IsStart}
 use Rattle.lagworld.specs.ModelWorld.{link_ends}
@@ -78,33 +78,30 @@ item_there zero i x l = absurd (omega arith)
 item_there (suc n) zero x l = refl
 item_there (suc n) (suc i) x l = item_there n i x (omega arith)
 
-flow_empty : (n g k : ℕ) (x : FlowValue) → flow_at (first_flows n) g k ≡ Some x → x ≡ empty_flow
-flow_empty n zero k x e = absurd (none-some x e)
-flow_empty n (suc g) k x e = by_row (slice_get (first_flows n) g) refl e
+flow_empty : (n m g k : ℕ) (x : FlowValue) → flow_at (first_flows n m) g k ≡ Some x → x ≡ empty_flow
+flow_empty n m zero k x e = absurd (none-some x e)
+flow_empty n m (suc g) k x e = by_row (slice_get (first_flows n m) g) refl e
   where
-    by_row : (o : Option (List FlowValue)) → slice_get (first_flows n) g ≡ o → flow_at (first_flows n) (suc g) k ≡ Some x → x ≡ empty_flow
+    by_row : (o : Option (List FlowValue)) → slice_get (first_flows n m) g ≡ o → flow_at (first_flows n m) (suc g) k ≡ Some x
+        → x ≡ empty_flow
     by_row None h e = absurd (none-some x (sym (ap (λ o. flow_in_aggregator o k) h) ∙ e))
-    by_row (Some row) h e = same_item conversations_per_aggregator k empty_flow x
-        (sym (ap (λ r. slice_get r k) (same_item n g first_aggregator_flows row h)) ∙ sym (ap (λ o. flow_in_aggregator o k) h) ∙ e)
+    by_row (Some row) h e = same_item m k empty_flow x
+        (sym (ap (λ r. slice_get r k) (same_item n g (first_aggregator_flows m) row h)) ∙ sym (ap (λ o. flow_in_aggregator o k) h) ∙ e)
 
-enough : (s : SystemState) → conversations_of s ≤ conversations_per_aggregator
-unfolding conversations_per_aggregator
-enough s = omega arith
-
-flow_there : (s : SystemState) (n g k : ℕ) → 0 < g → g ≤ n → k < conversations_of s → IsSome (flow_at (first_flows n) g k)
-flow_there s n zero k low high small = absurd (omega arith)
-flow_there s n (suc g) k low high small =
-    let row : slice_get (first_flows n) g ≡ Some first_aggregator_flows = item_there n g first_aggregator_flows (omega arith) in
-    let x : slice_get first_aggregator_flows k ≡ Some empty_flow = item_there conversations_per_aggregator k empty_flow
-    (omega (arith, enough s)) in
+flow_there : (n m g k : ℕ) → 0 < g → g ≤ n → k < m → IsSome (flow_at (first_flows n m) g k)
+flow_there n m zero k low high small = absurd (omega arith)
+flow_there n m (suc g) k low high small =
+    let row : slice_get (first_flows n m) g ≡ Some (first_aggregator_flows m) = item_there n g (first_aggregator_flows m) (omega arith) in
+    let x : slice_get (first_aggregator_flows m) k ≡ Some empty_flow = item_there m k empty_flow small in
     subst IsSome (sym (ap (λ o. flow_in_aggregator o k) row ∙ x)) refl
 
 -- what holds of a system that is made
 logs_named : (config : Config) (h : HalfState) → IsFirstHalf config h → h.histories ≡ first_histories h.state.system h.state.ports
 logs_named config h f = f.histories ∙ (λ i. first_histories (sym f.configured.system i) (sym f.configured.ports i))
 
-flows_named : (config : Config) (h : HalfState) → IsFirstHalf config h → h.flows ≡ first_flows (length h.state.keys)
-flows_named config h f = f.flows ∙ ap (λ keys. first_flows (length keys)) (sym f.configured.keys)
+flows_named : (config : Config) (h : HalfState) → IsFirstHalf config h
+    → h.flows ≡ first_flows (length h.state.keys) (conversation_count h.state)
+flows_named config h f = f.flows ∙ (λ i. first_flows (length (sym f.configured.keys i)) (sym f.configured.conversations i))
 
 half_kept : (config : Config) (h : HalfState) → IsFirstHalf config h → PortsAgree h.state → IsHalfSound h
 half_kept config h f a = record {
@@ -115,7 +112,7 @@ half_kept config h f a = record {
       (log_some (configured_party h.state.system) h.state.system (find_number configured_number h.state.ports p)
       (subst IsSome (first_party h.state p shows) x));
   flows = λ g k low high small. subst (λ f. IsSome (flow_at f g k)) (sym (flows_named config h f))
-      (flow_there h.state (length h.state.keys) g k low high small);
+      (flow_there (length h.state.keys) (conversation_count h.state) g k low high small);
 }
   where
     shows : model_view h.state ≡ first_view (model_setup h.state)
@@ -225,14 +222,15 @@ are_joined first second cables h i l =
     (none_below (has_bad_end first second cables) (length cables) i
     (mapped_none suc (first_below (has_bad_end first second cables) (length cables)) h) l)
 
-two_joined : (a b : ConfigValue) (cables : List (ℕ × ℕ)) → refusal_of_two a b cables ≡ None → (refusal a.aggregators a.ports ≡ None)
-    × (refusal b.aggregators b.ports ≡ None) × AreJoined a.ports b.ports cables
+two_joined : (a b : ConfigValue) (cables : List (ℕ × ℕ)) → refusal_of_two a b cables ≡ None
+    → (refusal a.aggregators a.ports a.max_links a.conversations ≡ None)
+    × (refusal b.aggregators b.ports b.max_links b.conversations ≡ None) × AreJoined a.ports b.ports cables
 two_joined a b cables h =
     let one = first_none (system_refusal 1 a) _ h in
     let two = first_none (system_refusal 2 b) _ one.1 in
     let same = first_none (if same_system a.system b.system then Some SameSystem else None) _ two.1 in (
-      mapped_none (System 1) (refusal a.aggregators a.ports) one.0,
-      mapped_none (System 2) (refusal b.aggregators b.ports) two.0,
+      mapped_none (System 1) (refusal a.aggregators a.ports a.max_links a.conversations) one.0,
+      mapped_none (System 2) (refusal b.aggregators b.ports b.max_links b.conversations) two.0,
       are_joined a.ports b.ports cables (mapped_none CableEnd (bad_end a.ports b.ports cables) same.1),
     )
 
@@ -406,15 +404,24 @@ module _ {C : Type 0} (items : C → List Item) (limit : C → Option ℕ) where
 
       flows : (s : Side) (n k : ℕ) (x : FlowValue) → flow_at (half s j).flows n k ≡ Some x → (x.sent ≡ [])
           × (x.collected ≡ []) × (x.forced ≡ false)
-      flows One n k x e = nothing x (flow_empty (length a.aggregators.items) n k x (sym (ap (λ l. flow_at l n k) f.flows) ∙ e))
-      flows Two n k x e = nothing x (flow_empty (length b.aggregators.items) n k x (sym (ap (λ l. flow_at l n k) g.flows) ∙ e))
+      flows One n k x e = nothing x
+          (flow_empty (length a.aggregators.items) a.conversations n k x (sym (ap (λ l. flow_at l n k) f.flows) ∙ e))
+      flows Two n k x e = nothing x
+          (flow_empty (length b.aggregators.items) b.conversations n k x (sym (ap (λ l. flow_at l n k) g.flows) ∙ e))
 
 -- what was tested of two lists in other places holds of them
 pub same_test : {X Y : Type 0} (f : X → Y → Bool) (x there : X) (y here : Y) (r : Bool) → there ≡ x → here ≡ y → r ≡ f there here
     → r ≡ true → f x y ≡ true
 same_test f x there y here r e g h t = (λ i. f (sym e i) (sym g i)) ∙ sym h ∙ t
 
--- the configuration of system 2 is not refused if both are not
+-- the configuration of system 1 is not refused if both are not
+pub first_accepted : (config : WorldConfig) (a b : Config) → config.systems ≡ a ∷ b ∷ [] → world_refusal config ≡ None
+    → refusal_of_one a ≡ None
+first_accepted config a b e h =
+    (two_joined (config_value a) (config_value b) config.cables.items
+    (sym (ap (λ systems. refusal_of_all (map config_value systems) config.cables.items) e) ∙ h)).0
+
+-- nor is that of system 2
 pub second_accepted : (config : WorldConfig) (a b : Config) → config.systems ≡ a ∷ b ∷ [] → world_refusal config ≡ None
     → refusal_of_one b ≡ None
 second_accepted config a b e h =

@@ -1,14 +1,20 @@
 -- What becomes of a frame that is offered, and of a conversation that is forced.
+use Rattle.std.proofs.Common.{◌%◌, zero, suc}
 use Rattle.std.proofs.Common.{◌≡◌, ◌<◌, ◌≤◌, ℕ, ◌&&◌, Bool, true, false, Option, Some, None, IsSome, List, length, sym, refl, ap, ◌∙◌}
 use Rattle.std.proofs.Common.{subst, Ok, Err, Result, nat_lt, nat_le, arith}
+use Rattle.std.specs.Prelude.{bit_xor}
 use Rattle.std.proofs.lemmas.Bool.{true≢false}
 use Rattle.std.proofs.lemmas.Bool.Decides.{nat_tests}
 use Rattle.lagtypes.specs.declared.identifiers.AggId.{AggId}
+use Rattle.distributor.specs.Conversations.{is_conversation_count}
 use Rattle.cables.specs.declared.item.Stamp.{Stamp}
 use Rattle.cables.specs.declared.item.Stamp.TheVariants as stamp
 use Rattle.lagmodel.specs.World.{Side}
 use Rattle.lagsystem.specs.declared.fault.SystemFault.{SystemFault}
-use Rattle.lagsystem.specs.Readers.{number_of_conversation, conversation_count}
+use Rattle.lagsystem.specs.Readers.{number_of_conversation, conversation_count, two_octets}
+use Rattle.lagsystem.specs.Sound.{PortsAgree}
+use Rattle.lagsystem.specs.State.{SystemState}
+use Rattle.lagsystem.proofs.Rising.{accepted_count}
 use Rattle.lagworld.specs.declared.link.Link.{Link as Cabled}
 use Rattle.lagworld.specs.declared.reply.Reply.{Reply}
 use Rattle.lagworld.specs.declared.reply.Reply.TheVariants as reply
@@ -37,6 +43,19 @@ both : (a b : Bool) → (a && b) ≡ true → (a ≡ true) × (b ≡ true)
 both true true h = (refl, refl)
 both true false h = absurd (true≢false (sym h))
 both false b h = absurd (true≢false (sym h))
+
+-- every system has a conversation, which has number 0
+pub first_conversation : (s : SystemState) → PortsAgree s → 0 < conversation_count s
+first_conversation s agrees = some (conversation_count s) (accepted_count s.keys s.ports s.max_links s.conversations agrees.ports.accepted)
+  where
+    some : (n : ℕ) → is_conversation_count n ≡ true → 0 < n
+    some zero h = absurd (true≢false (sym h))
+    some (suc n) h = omega arith
+
+-- a frame has the same conversation as long as there are as many
+pub same_number : (octets : List ℕ) (old new : SystemState) → new.conversations ≡ old.conversations
+    → number_of_conversation old octets ≡ number_of_conversation new octets
+same_number octets old new same = ap (λ n. bit_xor (two_octets octets 4) (two_octets octets 10) % n) (sym same)
 
 -- a frame that a system takes is long enough for a conversation
 pub long_enough : (gives : Algorithms) (s : Side) (agg : AggId) (octets : List ℕ) (a : Result ℕ SystemFault) (port : ℕ)

@@ -34,6 +34,7 @@ use Rattle.lagworld.proofs.Flows.{read_changed, read_same}
 use Rattle.lagworld.proofs.OneSystem.{Leaves, after_call, one_call, counts_kept}
 use Rattle.lagworld.proofs.Sides.{half_there}
 use Rattle.lagworld.proofs.Happens.{quiet_asked}
+use Rattle.lagworld.proofs.OfferLemmas.{same_number}
 
 -- what is sent reads as what was sent
 pub sent_read : (frame : List ℕ) (v : Pdu) → IsSent frame v → pdu_in (payload_in frame) ≡ v
@@ -157,13 +158,15 @@ offered_calls gives s agg octets (Err fault) mid r old new one x y =
     (quiet_asked gives s (Offer agg octets) (answer.Offer (Err fault)) ModelEvent.Offer mid old x (λ e. cc) refl
     (told_refused agg octets fault (half s old).state mid.state x.answers.moves))
 offered_calls gives s agg octets (Ok port) mid r old new one x y =
-    let k = number_of_conversation (half s old).state octets in
+    let k = number_of_conversation mid.state octets in
     let h = with_frame_counted agg octets mid in
     let item = offered_item s port agg octets mid in
     let flows : mid.flows ≡ (half s old).flows = ap (λ (h : HalfState). h.flows) x.same in
-    let there : IsSome (flow_at (half s old).flows agg.0 k) = subst (λ f. IsSome (flow_at f agg.0 k))
-    (ap (λ (h : HalfState). h.flows) (half_there s mid old) ∙ flows) y.0 in
-    let moves = told_offer agg octets port (half s old).state mid.state x.answers.moves in
+    let there : IsSome (flow_at (half s old).flows agg.0 k) = subst (λ f. IsSome (flow_at f agg.0 k)) flows
+    (subst (λ (h : HalfState). IsSome (flow_at h.flows agg.0 (number_of_conversation h.state octets))) (half_there s mid old) y.0) in
+    let moves = subst (λ n. LawfulMoves (model_setup (half s old).state) ModelEvent.Offer (model_view (half s old).state)
+    (Sends_frame port agg.0 n ∷ []) (model_view mid.state)) (same_number octets (half s old).state mid.state x.answers.conversations)
+    (told_offer agg octets port (half s old).state mid.state x.answers.moves) in
     let same : new ≡ after_call s h (put_on_port s port item old.links) old = y.2 ∙ same_joint s agg octets port mid old in
     subst (λ j. CallHappens (world_setup old) s ModelEvent.Offer 0 (model_world old) (model_world old) (model_world j)) (sym same)
     (one_call (world_setup old) s ModelEvent.Offer 0 (is_accepted s port old.links) (Some (Sends_frame port agg.0 k)) h

@@ -6,11 +6,11 @@ use Rattle.cables.specs.declared.item.Item.{Item}
 use Rattle.lagtypes.specs.declared.identifiers.SystemId.{SystemId}
 use Rattle.lagsystem.specs.declared.config.Config.{Config}
 use Rattle.lagsystem.specs.declared.config.PortConfig.{PortConfig}
-use Rattle.lagsystem.specs.First.{IsConfigured, IsFirst, setup_of}
+use Rattle.lagsystem.specs.First.{IsConfigured, IsFirst, or_first, setup_of}
 use Rattle.lagscript.specs.declared.config.BadWorld.{BadWorld}
 use Rattle.lagscript.specs.declared.config.BadWorld.TheVariants.{Lines}
 use Rattle.lagscript.specs.declared.config.WorldConfig.{WorldConfig}
-use Rattle.lagscript.specs.Configs.{or_first, world_refusal}
+use Rattle.lagscript.specs.Configs.{world_refusal}
 use Rattle.lagworld.specs.declared.fault.WorldFault.{WorldFault}
 use Rattle.lagworld.specs.declared.fault.WorldFault.TheVariants.{NoMemory, BadConfig}
 use Rattle.lagworld.specs.declared.histories.PortHistory.{PortHistory}
@@ -25,28 +25,24 @@ first_history system c = record { number = c.number; party = (setup_of system c)
 abbrev pub first_histories : SystemId → List PortConfig → List PortHistory
 first_histories system ports = map (first_history system) ports
 
--- how many conversations an aggregator has: as many as in lagsystem
-unfoldable pub conversations_per_aggregator : ℕ
-conversations_per_aggregator = 256
-
 -- the record of a conversation before any event
 abbrev pub empty_flow : FlowValue
 empty_flow = record { sent = []; collected = []; forced = false }
 
--- the records of an aggregator's conversations before any event
-abbrev pub first_aggregator_flows : List FlowValue
-first_aggregator_flows = replicate conversations_per_aggregator empty_flow
+-- the records of an aggregator's conversations, of this many, before any event
+abbrev pub first_aggregator_flows : ℕ → List FlowValue
+first_aggregator_flows conversations = replicate conversations empty_flow
 
--- the records of the conversations of this many aggregators before any event
-abbrev pub first_flows : ℕ → List (List FlowValue)
-first_flows aggs = replicate aggs first_aggregator_flows
+-- the records of this many aggregators with this many conversations each, before any event
+abbrev pub first_flows : ℕ → ℕ → List (List FlowValue)
+first_flows aggs conversations = replicate aggs (first_aggregator_flows conversations)
 
 -- a system in its first state, with this configuration
 pub record IsFirstHalf (config : Config) (h : HalfState) : Type 0 where
   pub first : IsFirst h.state
   pub configured : IsConfigured config h.state
   pub histories : h.histories ≡ first_histories config.system config.ports.items
-  pub flows : h.flows ≡ first_flows (length config.aggregators.items)
+  pub flows : h.flows ≡ first_flows (length config.aggregators.items) config.conversations
 
 -- both systems are in their first state
 abbrev pub AreFirst : List Config → WorldState → Type 0

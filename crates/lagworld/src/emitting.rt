@@ -99,8 +99,8 @@ impl<F: Fn(u16, usize) -> usize + Drop> Half<F> {
 impl<C: Cable, F: Fn(u16, usize) -> usize + Drop> Inner<C, F> {
     /// Returns the frame that is due on a port of a system.
     fn transmit(&mut self, side: Side, port: u16) -> Result<Option<[u8; 124]>, SystemFault>
-        ensures transmits { WorldAsksTransmit (both_algorithms (F.post self.old.one.system.algorithm) (F.post self.old.two.system.algorithm))
-            (model_side side) port result (world_state C.items C.limit self.old) (world_state C.items C.limit self.new) }
+        ensures transmits { WorldAsksTransmit
+            (both_algorithms (F.post self.old.one.system.algorithm) (F.post self.old.two.system.algorithm)) (model_side side) port result (world_state C.items C.limit self.old) (world_state C.items C.limit self.new) }
         ensures links { self.new.links ≡ self.old.links }
         ensures acted { self.new.acted ≡ self.old.acted }
         ensures algorithm_one { self.new.one.system.algorithm ≡ self.old.one.system.algorithm }

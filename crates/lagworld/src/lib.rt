@@ -31,8 +31,11 @@ mod world;
 pub use agreement::Agreement;
 pub use fault::{RunFault, WorldFault};
 pub use lagscript::{
-    BadWorld, EntryFault, Event, PortKey, ScriptFault, SystemKey, WorldConfig, read_script,
+    BadWorld, EntryFault, Event, Plan, PortKey, ScriptFault, SystemKey, WorldConfig, read_plan,
+    read_script,
 };
-pub use laws::{a_start_is_sound, each_event_happens, each_event_keeps};
+pub use laws::{
+    a_start_is_sound, each_event_happens, each_event_keeps, each_world_keeps_the_headline,
+};
 pub use reply::Reply;
 pub use world::World;

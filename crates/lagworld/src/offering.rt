@@ -1,6 +1,7 @@
 ghost use Rattle.std.specs.Prelude.{◌≡◌, ◌<◌, ◌≤◌, IfErr, IfOk, IsSome, Ok, OnOk, length};
 ghost use Rattle.distributor.specs.Calls.{PicksIndexes};
 ghost use Rattle.lagsystem.specs.Readers.{number_of_conversation, conversation_count};
+ghost use Rattle.lagsystem.specs.Sound.{PortsAgree};
 ghost use Rattle.lagworld.specs.declared.fault.WorldFault.TheVariants.{NoMemory as OutOfMemory};
 ghost use Rattle.lagworld.specs.Asking.{HalfAsksOffer, WorldAsksOffer, WorldForces, HalfAsksForce, with_sent_in};
 ghost use Rattle.lagworld.specs.HalfCalls.{HalfForces};
@@ -36,9 +37,11 @@ fn side_number(side: Side) -> u8
 }
 
 impl<F: Fn(u16, usize) -> usize + Drop> Half<F> {
-    /// The conversation of a frame, 0 to 255; 0 if the frame has fewer than 14 octets.
+    /// The conversation of a frame; 0 if the frame has fewer than 14 octets.
     fn conversation(&self, frame: &[u8]) -> u16
+        requires agrees { PortsAgree self.now.system.state }
         ensures is { 14 ≤ length frame.now → result ≡ number_of_conversation self.now.system.state frame.now }
+        ensures short { length frame.now < 14 → result ≡ 0 }
         ensures within { result < conversation_count self.now.system.state }
     {
         match self.system.conversation(frame) {
@@ -98,6 +101,7 @@ impl<C: Cable, F: Fn(u16, usize) -> usize + Drop> Inner<C, F> {
 
     /// The conversation of a frame in a system.
     fn conversation(&self, side: Side, frame: &[u8]) -> u16
+        requires sound { IsSound (world_state C.items C.limit self.now) }
         ensures is { 14 ≤ length frame.now → result ≡ number_of_conversation
             (half (model_side side) (world_state C.items C.limit self.now)).state frame.now }
         ensures within { result < conversation_count (half (model_side side) (world_state C.items C.limit self.now)).state }
@@ -170,7 +174,8 @@ impl<C: Cable, F: Fn(u16, usize) -> usize + Drop> Inner<C, F> {
         conv: u16,
         octets: Vec<u8>,
     ) -> Reply
-        requires conversation { conv ≡ number_of_conversation (half (model_side side) (world_state C.items C.limit self.old)).state octets.items }
+        requires conversation { conv
+            ≡ number_of_conversation (half (model_side side) (world_state C.items C.limit self.old)).state octets.items }
         requires there { IsSome (flow_at (half (model_side side) (world_state C.items C.limit self.old)).flows agg.0 conv) }
         requires place { AreReserved C.reserved (model_side side) self.old.links.items }
         requires room { HasRoom agg.0 conv (by_side (model_side side) self.old.one.flows.items self.old.two.flows.items) }

@@ -4,7 +4,7 @@ ghost use Rattle.lagsystem.specs.First.{config_refusal as refusal_of_one};
 ghost use Rattle.lagsystem.specs.Sound.{PortsAgree};
 ghost use Rattle.lagworld.specs.WorldCalls.{world_state};
 ghost use Rattle.lagworld.specs.Inner.{half_state, link_states, flow_value};
-ghost use Rattle.lagworld.specs.Making.{IsFirstHalf, IsMade, RefusesToMake, are_empty_lines, conversations_per_aggregator, first_flows};
+ghost use Rattle.lagworld.specs.Making.{IsFirstHalf, IsMade, RefusesToMake, are_empty_lines, first_flows};
 ghost use Rattle.lagworld.specs.Making.{first_links, first_history, first_histories, first_aggregator_flows, has_empty_directions};
 ghost use Rattle.lagworld.specs.Making.{empty_flow, refusal_with};
 ghost use Rattle.lagworld.specs.Sound.{IsStart};
@@ -20,13 +20,6 @@ use lagscript::{BadWorld, WorldConfig};
 use lagsystem::{Config, PortConfig, System};
 use lagtypes::{Party, PortId, SystemId};
 use std::alloc::{AllocError, Global};
-
-/// How many conversations an aggregator has (profile).
-fn conversations_per_aggregator() -> usize
-    ensures { result ≡ conversations_per_aggregator }
-{
-    256
-}
 
 /// The history of a port before any event.
 fn first_history(system: SystemId, port: &PortConfig) -> PortHistory
@@ -75,11 +68,10 @@ fn first_flow(alloc: Global) -> Flow
     }
 }
 
-/// The records of an aggregator's conversations before any event.
-fn first_aggregator_flows(alloc: Global) -> Result<Vec<Flow>, AllocError>
-    ensures { IfOk result (λ conversations. map flow_value conversations.items ≡ first_aggregator_flows) }
+/// The records of an aggregator's conversations, of this many, before any event.
+fn first_aggregator_flows(alloc: Global, count: usize) -> Result<Vec<Flow>, AllocError>
+    ensures { IfOk result (λ conversations. map flow_value conversations.items ≡ first_aggregator_flows count) }
 {
-    let count = conversations_per_aggregator();
     let mut conversations = Vec::with_capacity(alloc, count)?;
     let mut made = 0;
     while made < count {
@@ -89,15 +81,19 @@ fn first_aggregator_flows(alloc: Global) -> Result<Vec<Flow>, AllocError>
     Ok(conversations)
 }
 
-/// The records of this many aggregators before any event.
-fn first_flows(alloc: Global, count: usize) -> Result<Vec<Vec<Flow>>, AllocError>
-    ensures { IfOk result (λ rows. map (λ xs. map flow_value xs.items) rows.items ≡ first_flows count) }
+/// The records of this many aggregators with this many conversations each, before any event.
+fn first_flows(
+    alloc: Global,
+    count: usize,
+    conversations: usize,
+) -> Result<Vec<Vec<Flow>>, AllocError>
+    ensures { IfOk result (λ rows. map (λ xs. map flow_value xs.items) rows.items ≡ first_flows count conversations) }
 {
     let mut rows = Vec::with_capacity(alloc, count)?;
     let mut made = 0;
     while made < count {
-        let conversations = first_aggregator_flows(alloc)?;
-        rows.push_reserved(conversations);
+        let row = first_aggregator_flows(alloc, conversations)?;
+        rows.push_reserved(row);
         made += 1;
     }
     Ok(rows)
@@ -114,7 +110,8 @@ impl<F: Fn(u16, usize) -> usize + Drop> Half<F> {
         ensures refused { IfErr result (λ fault. fault ≡ OutOfMemory) }
     {
         let histories = first_histories(alloc, config.system, &config.ports)?;
-        let flows = first_flows(alloc, config.aggregators.len())?;
+        let conversations = usize::from(config.conversations);
+        let flows = first_flows(alloc, config.aggregators.len(), conversations)?;
         match System::new(alloc, config, algorithm) {
             Ok(system) => Ok(Half {
                 system,

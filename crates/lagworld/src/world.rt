@@ -100,6 +100,8 @@ impl<C: Cable, F: Fn(u16, usize) -> usize + Drop> World<C, F> {
     /// - the two ends of a cable have the same Link Aggregation Group, if both distribute, neither changed since it sent
     ///   the LACPDU that its peer received last, and neither has a defaulted partner (`agree`);
     /// - what a conversation collected, if it was never forced, is a subsequence of what it sent (`in_order`).
+    ///
+    /// `each_world_keeps_the_headline` says the same of each world on the way.
     pub fn run(&mut self, events: &[Event]) -> Result<Vec<Reply>, RunFault>
         requires one { PicksIndexes (F.pre self.old.one) (F.post self.old.one) }
         requires two { PicksIndexes (F.pre self.old.two) (F.post self.old.two) }

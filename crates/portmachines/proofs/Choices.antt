@@ -3,7 +3,7 @@ use Rattle.std.proofs.Common.{◌≡◌, ℕ, zero, suc, Bool, true, false, cond
 use Rattle.std.proofs.Common.{inr}
 use Rattle.std.proofs.lemmas.Bool.{and_left, and_right, and_parts, or_parts, not-true}
 use Rattle.lagtypes.specs.declared.party.Choice.{Choice}
-use Rattle.lagtypes.specs.declared.party.Choice.TheVariants.{Unselected, Selected}
+use Rattle.lagtypes.specs.declared.party.Choice.TheVariants.{Unselected, Selected, Standby}
 use Rattle.slowpdu.specs.declared.pdu.Lacpdu.{Lacpdu}
 use Rattle.portmachines.specs.declared.mux.MuxState.{MuxState}
 use Rattle.portmachines.specs.declared.mux.MuxState.TheVariants.{Detached, Waiting, Attached, CollectingDistributing}
@@ -146,12 +146,16 @@ mux-tests : (ready : Bool) (p : Machines) (s : MuxState) (c : Choice)
     → at_most_one (tests (mux_rows ready) (record p { mux = s; choice = c })) ≡ true
 mux-tests ready p Detached Unselected = refl
 mux-tests ready p Detached (Selected agg) = refl
+mux-tests ready p Detached (Standby agg) = refl
 mux-tests ready p Waiting Unselected = refl
 mux-tests ready p Waiting (Selected agg) = third_of_six ready
+mux-tests ready p Waiting (Standby agg) = refl
 mux-tests ready p Attached Unselected = refl
 mux-tests ready p Attached (Selected agg) = fifth_of_six (partner_synchronized p)
+mux-tests ready p Attached (Standby agg) = refl
 mux-tests ready p CollectingDistributing Unselected = refl
 mux-tests ready p CollectingDistributing (Selected agg) = sixth_of_six (not (partner_synchronized p))
+mux-tests ready p CollectingDistributing (Standby agg) = refl
 
 abbrev Always : Machines → Type 0
 Always p = Unit {0}

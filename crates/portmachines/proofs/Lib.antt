@@ -2,3 +2,4 @@ pub mod Runs
 pub mod Rest
 pub mod Choices
 pub mod Windows
+mod OneRow

@@ -48,7 +48,8 @@ mux_row from guard to effect =
       effect = λ p. effect (record p { mux = to });
     }
 
--- all rows of the mux machine; the argument is Ready of the aggregator that the port was given
+-- all rows of the mux machine; the argument is Ready of the aggregator that the port was given. 'Not UNSELECTED' is
+-- SELECTED or STANDBY, 'not SELECTED' is UNSELECTED or STANDBY; a port that is STANDBY stays in WAITING.
 abbrev pub mux_rows : Bool → List Row
 mux_rows ready =
     -- DETACHED; not UNSELECTED; to WAITING; wait_while starts with 20 ticks

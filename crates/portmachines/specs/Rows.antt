@@ -38,3 +38,9 @@ in_order earlier [] = []
 in_order earlier (row ∷ rows) =
     record { enabled = λ p. not (earlier p) && row.enabled p; effect = row.effect }
     ∷ in_order (λ p. earlier p || row.enabled p) rows
+
+-- no two of the rows are enabled together where the test holds: where a row is enabled, no later one is
+abbrev pub OneEnabledAtMost : (Machines → Bool) → List Row → Type 0
+OneEnabledAtMost test [] = Unit {0}
+OneEnabledAtMost test (row ∷ rows) =
+    ((p : Machines) → IsTrue (test p) → IsTrue (row.enabled p) → AtRest rows p) × OneEnabledAtMost test rows

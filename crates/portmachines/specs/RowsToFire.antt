@@ -1,5 +1,7 @@
 -- Bounds on the number of rows that may still fire, by which the loops are shown to end (profile).
 use Rattle.std.specs.Prelude.{ℕ, Bool, true, false}
+use Rattle.lagtypes.specs.declared.party.Choice.{Choice}
+use Rattle.lagtypes.specs.declared.party.Choice.TheVariants.{Unselected, Selected, Standby}
 use Rattle.portmachines.specs.declared.mux.MuxState.{MuxState}
 use Rattle.portmachines.specs.declared.mux.MuxState.TheVariants.{Detached, Waiting, Attached, CollectingDistributing}
 use Rattle.portmachines.specs.declared.receive.ReceiveState.{ReceiveState}
@@ -7,26 +9,30 @@ use Rattle.portmachines.specs.declared.receive.ReceiveState.TheVariants.{Initial
 use Rattle.portmachines.specs.declared.periodic.PeriodicState.{PeriodicState}
 use Rattle.portmachines.specs.declared.periodic.PeriodicState.TheVariants.{NoPeriodic, Fast, Slow, PeriodicTx}
 use Rattle.portmachines.specs.Machines.{Machines}
-use Rattle.portmachines.specs.Mux.{selected, partner_synchronized}
+use Rattle.portmachines.specs.Mux.{partner_synchronized}
 use Rattle.portmachines.specs.Periodic.{is_silent, timer_expired, partner_short}
 use Rattle.portmachines.specs.Receive.{current_while_expired}
 
--- of the mux machine, by: SELECTED, Ready, and Synchronization of the partner
-abbrev mux_bound : Bool → Bool → Bool → MuxState → ℕ
-mux_bound true true true Detached = 3
-mux_bound true true false Detached = 2
-mux_bound true false synchronized Detached = 1
-mux_bound true true true Waiting = 2
-mux_bound true true false Waiting = 1
-mux_bound true false synchronized Waiting = 0
-mux_bound true ready true Attached = 1
-mux_bound true ready false Attached = 0
-mux_bound true ready true CollectingDistributing = 0
-mux_bound true ready false CollectingDistributing = 1
-mux_bound false ready synchronized Detached = 0
-mux_bound false ready synchronized Waiting = 1
-mux_bound false ready synchronized Attached = 1
-mux_bound false ready synchronized CollectingDistributing = 2
+-- of the mux machine, by: Selected, Ready, and Synchronization of the partner
+abbrev mux_bound : Choice → Bool → Bool → MuxState → ℕ
+mux_bound (Selected agg) true true Detached = 3
+mux_bound (Selected agg) true false Detached = 2
+mux_bound (Selected agg) false synchronized Detached = 1
+mux_bound (Selected agg) true true Waiting = 2
+mux_bound (Selected agg) true false Waiting = 1
+mux_bound (Selected agg) false synchronized Waiting = 0
+mux_bound (Selected agg) ready true Attached = 1
+mux_bound (Selected agg) ready false Attached = 0
+mux_bound (Selected agg) ready true CollectingDistributing = 0
+mux_bound (Selected agg) ready false CollectingDistributing = 1
+mux_bound (Standby agg) ready synchronized Detached = 1
+mux_bound (Standby agg) ready synchronized Waiting = 0
+mux_bound (Standby agg) ready synchronized Attached = 2
+mux_bound (Standby agg) ready synchronized CollectingDistributing = 3
+mux_bound Unselected ready synchronized Detached = 0
+mux_bound Unselected ready synchronized Waiting = 1
+mux_bound Unselected ready synchronized Attached = 1
+mux_bound Unselected ready synchronized CollectingDistributing = 2
 
 -- of the periodic machine, by: link down or both ends passive, periodic_timer expired, and Short Timeout of the partner
 abbrev periodic_bound : Bool → Bool → Bool → PeriodicState → ℕ
@@ -61,7 +67,7 @@ receive_bound true false Current = 0
 
 -- how many mux rows may still fire
 abbrev pub mux_rows_to_fire : Bool → Machines → ℕ
-mux_rows_to_fire ready p = mux_bound (selected p) ready (partner_synchronized p) p.mux
+mux_rows_to_fire ready p = mux_bound p.choice ready (partner_synchronized p) p.mux
 
 -- how many periodic rows may still fire
 abbrev pub periodic_rows_to_fire : Machines → ℕ

@@ -16,6 +16,6 @@ mod transmit;
 
 pub use mux::MuxState;
 pub use periodic::PeriodicState;
-pub use port::{Port, Setup, each_call_has_one_effect};
+pub use port::{Port, Setup, each_call_has_one_effect, one_row_is_enabled_at_most};
 pub use receive::ReceiveState;
 pub use transmit::window_holds;

@@ -46,17 +46,21 @@ impl Machines {
     {
         let synchronized = self.partner.state.is_synchronized();
         let next = match (self.mux, self.choice) {
-            (MuxState::Detached, Choice::Selected(_)) => MuxState::Waiting,
+            (MuxState::Detached, Choice::Selected(_) | Choice::Standby(_)) => MuxState::Waiting,
             (MuxState::Waiting, Choice::Selected(_)) if ready => MuxState::Attached,
-            (MuxState::Waiting | MuxState::Attached, Choice::Unselected) => MuxState::Detached,
+            (MuxState::Waiting, Choice::Unselected)
+            | (MuxState::Attached, Choice::Unselected | Choice::Standby(_)) => MuxState::Detached,
             (MuxState::Attached, Choice::Selected(_)) if synchronized => {
                 MuxState::CollectingDistributing
             }
-            (MuxState::CollectingDistributing, Choice::Unselected) => MuxState::Attached,
+            (MuxState::CollectingDistributing, Choice::Unselected | Choice::Standby(_)) => {
+                MuxState::Attached
+            }
             (MuxState::CollectingDistributing, Choice::Selected(_)) if !synchronized => {
                 MuxState::Attached
             }
             (MuxState::Detached, Choice::Unselected)
+            | (MuxState::Waiting, Choice::Standby(_))
             | (
                 MuxState::Waiting | MuxState::Attached | MuxState::CollectingDistributing,
                 Choice::Selected(_),

@@ -1,7 +1,7 @@
-ghost use Rattle.std.specs.Prelude.{◌≡◌, ◌≤◌, ◌==◌, if◌then◌else◌, Some, None};
-ghost use Rattle.portmachines.specs.Rows.{AtRest, FiresTimes, RunsToRest, FiresIfEnabled};
+ghost use Rattle.std.specs.Prelude.{◌≡◌, ◌≤◌, ◌==◌, if◌then◌else◌, Some, None, Bool, true};
+ghost use Rattle.portmachines.specs.Rows.{AtRest, FiresTimes, OneEnabledAtMost, RunsToRest, FiresIfEnabled};
 ghost use Rattle.portmachines.specs.Receive.{receive_rows, lacpdu_rows};
-ghost use Rattle.portmachines.specs.Periodic.{RunsPeriodic};
+ghost use Rattle.portmachines.specs.Periodic.{RunsPeriodic, periodic_rows};
 ghost use Rattle.portmachines.specs.Mux.{mux_rows, same_mux_state};
 ghost use Rattle.portmachines.specs.Transmit.{actor_state, count_down, is_due, pdu_of, after_sending};
 ghost use Rattle.portmachines.specs.Start.{Starts, before_start};
@@ -259,4 +259,12 @@ impl Port {
 /// The machines are deterministic: each call of a port has exactly one effect (profile).
 pub fn each_call_has_one_effect()
     ensures { OneEffect }
+{}
+
+/// No two rows of a machine are enabled together: of the mux machine with either value of Ready, of the periodic machine
+/// with its rows in order, and, where the link is up, of the receive machine (6.4.12, 6.4.13, 6.4.15; profile).
+pub fn one_row_is_enabled_at_most()
+    ensures mux { (ready : Bool) → OneEnabledAtMost (λ p. true) (mux_rows ready) }
+    ensures periodic { OneEnabledAtMost (λ p. true) periodic_rows }
+    ensures receive { OneEnabledAtMost (λ p. p.enabled) receive_rows }
 {}

@@ -527,6 +527,55 @@ fn each_mux_row_but_the_first_asks(rt: HostRuntime) {
     assert!(rt; asks(&mut port, false), "from ATTACHED to DETACHED");
 }
 
+/// From each state: how many rows fire, and where they lead.
+#[test]
+fn a_port_on_standby_waits(rt: HostRuntime) {
+    let standby = Choice::Standby(AggId(1));
+    let rows = [
+        (MuxState::Detached, 1),
+        (MuxState::Waiting, 0),
+        (MuxState::Attached, 2),
+        (MuxState::CollectingDistributing, 3),
+    ];
+    for (from, want) in rows {
+        let mut port = quiet_port(true, true);
+        let synchronized = matches!(from, MuxState::CollectingDistributing);
+        port.take(&saying(if synchronized { 0x0f } else { 0x07 }, end(1, 0x07)));
+        if !matches!(from, MuxState::Detached) {
+            port.select(Choice::Selected(AggId(1)));
+            let _fired = port.mux(!matches!(from, MuxState::Waiting));
+        }
+        assert_eq!(rt; port.mux_state(), from, "before it is STANDBY");
+        port.select(standby);
+        assert_eq!(rt; port.mux(true), want, "rows that fire from {from:?}");
+        assert_eq!(rt; port.mux_state(), MuxState::Waiting, "from {from:?}");
+        assert_eq!(rt; port.state().bits() & 0x38, 0, "state, from {from:?}");
+        assert_eq!(rt; port.choice(), standby, "choice, from {from:?}");
+    }
+}
+
+/// A STANDBY port waits for wait_while as a SELECTED one does, and stays in WAITING until it is SELECTED.
+#[test]
+fn a_port_on_standby_is_promoted(rt: HostRuntime) {
+    let mut port = quiet_port(true, true);
+    port.take(&saying(0x07, end(1, 0x07)));
+    port.select(Choice::Standby(AggId(1)));
+    assert_eq!(rt; port.mux(false), 1, "rows to WAITING");
+    assert_eq!(rt; port.wait_while(), 20, "wait_while");
+    run(&mut port, 20);
+    assert_eq!(rt; port.has_waited(), true, "after 20 ticks");
+    assert_eq!(rt; port.mux(true), 0, "rows that fire while it is STANDBY");
+    port.select(Choice::Selected(AggId(1)));
+    assert_eq!(rt; port.mux(false), 0, "rows that fire while it is not Ready");
+    assert_eq!(rt; port.mux(true), 1, "rows to ATTACHED");
+    assert_eq!(rt; port.mux_state(), MuxState::Attached);
+    port.select(Choice::Standby(AggId(1)));
+    assert!(rt; asks(&mut port, true), "from ATTACHED by way of DETACHED");
+    port.select(Choice::Unselected);
+    assert_eq!(rt; port.mux(true), 1, "rows to DETACHED");
+    assert_eq!(rt; port.mux_state(), MuxState::Detached);
+}
+
 /// The information six times, each time with another one of its six parameters changed.
 fn with_one_changed(end: Info) -> [Info; 6] {
     let mut ends = [end; 6];

@@ -7,7 +7,7 @@ use Rattle.std.specs.Option.{option_map}
 use Rattle.lagtypes.specs.declared.identifiers.AggId.{AggId}
 use Rattle.lagtypes.specs.declared.identifiers.Key.{Key}
 use Rattle.lagtypes.specs.declared.party.Choice.{Choice}
-use Rattle.lagtypes.specs.declared.party.Choice.TheVariants.{Unselected, Selected}
+use Rattle.lagtypes.specs.declared.party.Choice.TheVariants.{Unselected, Selected, Standby}
 use Rattle.lagtypes.specs.Group.{SamePair, individual}
 use Rattle.std.proofs.lemmas.Bool.{and_parts}
 use Rattle.lagtypes.proofs.SameLemmas.{exact_key, itself, system-itself}
@@ -15,10 +15,10 @@ use Rattle.selection.proofs.Equal.{group-test}
 use Rattle.selection.specs.declared.view.PortView.{PortView}
 use Rattle.lagtypes.specs.Same.{same_system}
 use Rattle.lagtypes.specs.Choices.{is_unselected}
-use Rattle.selection.specs.Views.{is_detached, is_eligible, has_chosen}
-use Rattle.selection.specs.Choice.{chosen_if_eligible, chosen_for_view, ports_that_chose, has_group_of, has_member, has_no_member}
-use Rattle.selection.specs.Choice.{members_share_group, lowest_from, aggregator_of_entry, or_else}
-use Rattle.selection.specs.Joining.{HasNoMember, MembersShareGroup, MayJoin, ends}
+use Rattle.selection.specs.Views.{is_detached, is_eligible, occupies}
+use Rattle.selection.specs.Choice.{chosen_if_eligible, chosen_for_view, occupants, has_group_of, has_occupant, has_no_occupant}
+use Rattle.selection.specs.Choice.{occupants_share_group, lowest_from, aggregator_of_entry, or_else}
+use Rattle.selection.specs.Joining.{HasNoOccupant, IsOccupant, OccupantsShareGroup, MayJoin, ends}
 
 -- tests
 
@@ -34,12 +34,12 @@ or-false_right : (b c : Bool) → (b || c) ≡ false → c ≡ false
 or-false_right true c h = absurd cc
 or-false_right false c h = h
 
--- members
+-- occupants
 
-given-member : (agg : AggId) (choice : Choice) → choice ≡ Selected agg → has_chosen agg choice ≡ true
-given-member agg choice e = rw e (itself agg.0)
+given-occupant : (agg : AggId) (w : PortView) → IsOccupant agg w → occupies agg w.choice ≡ true
+given-occupant agg w e = elim e [ inl x ↦ rw x (itself agg.0) | inr x ↦ rw x (itself agg.0) ]
 
-all-from_each : (P : PortView → Type 0) (views : List PortView) → AllByRecursion P views → All P views
+pub all-from_each : (P : PortView → Type 0) (views : List PortView) → AllByRecursion P views → All P views
 all-from_each P [] h k d within = absurd (omega arith)
 all-from_each P (w ∷ ws) h zero d within = h.0
 all-from_each P (w ∷ ws) h (suc k) d within = all-from_each P ws h.1 k d (omega arith)
@@ -48,11 +48,11 @@ not_both : (b : Bool) → b ≡ true → b ≡ false → ⊥
 not_both true h k = cc
 not_both false h k = cc
 
-none_is_member : (agg : AggId) (views : List PortView) → has_member views agg ≡ false → AllByRecursion (λ w. w.choice ≢ Selected agg) views
-none_is_member agg [] h = tt
-none_is_member agg (w ∷ ws) h = (
-  λ e. not_both (has_chosen agg w.choice) (given-member agg w.choice e) (or-false_left (has_chosen agg w.choice) (has_member ws agg) h),
-  none_is_member agg ws (or-false_right (has_chosen agg w.choice) (has_member ws agg) h),
+none_occupies : (agg : AggId) (views : List PortView) → has_occupant views agg ≡ false → AllByRecursion (λ w. IsOccupant agg w → ⊥) views
+none_occupies agg [] h = tt
+none_occupies agg (w ∷ ws) h = (
+  λ e. not_both (occupies agg w.choice) (given-occupant agg w e) (or-false_left (occupies agg w.choice) (has_occupant ws agg) h),
+  none_occupies agg ws (or-false_right (occupies agg w.choice) (has_occupant ws agg) h),
 )
 
 -- what all that are kept pass, the first passes if it is kept
@@ -61,13 +61,13 @@ kept_passes : (test : PortView → Bool) (b : Bool) (w : PortView) (rest : List 
 kept_passes test true w rest h = (λ _. (and_parts (test w) (list_all test rest) h).0, (and_parts (test w) (list_all test rest) h).1)
 kept_passes test false w rest h = (λ k. absurd cc, h)
 
-members_share : (agg : AggId) (v : PortView) (views : List PortView) → list_all (has_group_of v) (ports_that_chose agg views) ≡ true
-    → AllByRecursion (λ w. w.choice ≡ Selected agg → SamePair (ends w) (ends v)) views
-members_share agg v [] h = tt
-members_share agg v (w ∷ ws) h =
-    let both = kept_passes (has_group_of v) (has_chosen agg w.choice) w (ports_that_chose agg ws) h in (
-      λ e. (group-test v w).0 (both.0 (given-member agg w.choice e)),
-      members_share agg v ws both.1,
+occupants_share : (agg : AggId) (v : PortView) (views : List PortView) → list_all (has_group_of v) (occupants agg views) ≡ true
+    → AllByRecursion (λ w. IsOccupant agg w → SamePair (ends w) (ends v)) views
+occupants_share agg v [] h = tt
+occupants_share agg v (w ∷ ws) h =
+    let both = kept_passes (has_group_of v) (occupies agg w.choice) w (occupants agg ws) h in (
+      λ e. (group-test v w).0 (both.0 (given-occupant agg w e)),
+      occupants_share agg v ws both.1,
     )
 
 -- the lowest aggregator
@@ -121,6 +121,7 @@ lowest-found first (k ∷ ks) key test agg e =
 is-unselected : (choice : Choice) → is_unselected choice ≡ true → choice ≡ Unselected
 is-unselected Unselected h = refl
 is-unselected (Selected given) h = absurd cc
+is-unselected (Standby given) h = absurd cc
 
 eligible-apart : (v : PortView) → is_eligible v ≡ true → v.partner.system ≢ v.party.system
 eligible-apart v h e =
@@ -140,40 +141,40 @@ eligible-outside v h =
 
 joins-by : (keys : List Key) (views : List PortView) (v : PortView) (agg : AggId) (test : AggId → Bool) → is_eligible v ≡ true
     → Found 1 keys v.party.key test agg
-    → (test agg ≡ true → HasNoMember views agg ⊎ MembersShareGroup views agg v) → MayJoin keys views agg v
-joins-by keys views v agg test ok found members =
+    → (test agg ≡ true → HasNoOccupant views agg ⊎ OccupantsShareGroup views agg v) → MayJoin keys views agg v
+joins-by keys views v agg test ok found others =
     let place : agg.0 - 1 ≡ found.place = omega (arith, found.counted) in
     record {
       outside = eligible-outside v ok;
       apart = eligible-apart v ok;
       numbered = omega (arith, found.counted);
       key = subst (λ i. slice_get keys i ≡ Some v.party.key) (sym place) found.has_key;
-      members = members found.passes;
+      occupants = others found.passes;
     }
 
-shared-members : (views : List PortView) (v : PortView) (agg : AggId) → members_share_group views v agg ≡ true
-    → MembersShareGroup views agg v
-shared-members views v agg h =
-    let some = (and_parts (not (individual v.party v.partner) && has_member views agg)
-    (list_all (has_group_of v) (ports_that_chose agg views)) h).0 in
+shared-occupants : (views : List PortView) (v : PortView) (agg : AggId) → occupants_share_group views v agg ≡ true
+    → OccupantsShareGroup views agg v
+shared-occupants views v agg h =
+    let some = (and_parts (not (individual v.party v.partner) && has_occupant views agg)
+    (list_all (has_group_of v) (occupants agg views)) h).0 in
     record {
       aggregatable = not-true (individual v.party v.partner)
-          ((and_parts (not (individual v.party v.partner)) (has_member views agg) some).0);
+          ((and_parts (not (individual v.party v.partner)) (has_occupant views agg) some).0);
       one_group = all-from_each _ views
-          (members_share agg v views
-          ((and_parts (not (individual v.party v.partner) && has_member views agg)
-          (list_all (has_group_of v) (ports_that_chose agg views)) h).1));
+          (occupants_share agg v views
+          ((and_parts (not (individual v.party v.partner) && has_occupant views agg)
+          (list_all (has_group_of v) (occupants agg views)) h).1));
     }
 
 chosen : (keys : List Key) (views : List PortView) (v : PortView) (agg : AggId) → is_eligible v ≡ true → (o : Option AggId)
-    → lowest_from 1 keys v.party.key (members_share_group views v) ≡ o
-    → or_else o (lowest_from 1 keys v.party.key (has_no_member views)) ≡ Some agg → MayJoin keys views agg v
+    → lowest_from 1 keys v.party.key (occupants_share_group views v) ≡ o
+    → or_else o (lowest_from 1 keys v.party.key (has_no_occupant views)) ≡ Some agg → MayJoin keys views agg v
 chosen keys views v agg ok None none e =
-    joins-by keys views v agg (has_no_member views) ok (lowest-found 1 keys v.party.key (has_no_member views) agg e)
-    (λ t. inl (all-from_each _ views (none_is_member agg views (not-true (has_member views agg) t))))
+    joins-by keys views v agg (has_no_occupant views) ok (lowest-found 1 keys v.party.key (has_no_occupant views) agg e)
+    (λ t. inl (all-from_each _ views (none_occupies agg views (not-true (has_occupant views agg) t))))
 chosen keys views v agg ok (Some a) is e =
-    joins-by keys views v agg (members_share_group views v) ok (lowest-found 1 keys v.party.key (members_share_group views v) agg (is ∙ e))
-    (λ t. inr (shared-members views v agg t))
+    joins-by keys views v agg (occupants_share_group views v) ok (lowest-found 1 keys v.party.key (occupants_share_group views v) agg (is ∙ e))
+    (λ t. inr (shared-occupants views v agg t))
 
 pub if-some : (b : Bool) (o : Option AggId) (agg : AggId) → (if b then o else None) ≡ Some agg → (b ≡ true) × (o ≡ Some agg)
 if-some true o agg e = (refl, e)
@@ -184,7 +185,7 @@ pub choice-joins : (keys : List Key) (views : List PortView) (v : PortView) (agg
     → MayJoin keys views agg v
 choice-joins keys views v agg e =
     let both = if-some (is_eligible v) (chosen_if_eligible keys views v) agg e in
-    chosen keys views v agg both.0 (lowest_from 1 keys v.party.key (members_share_group views v)) refl both.1
+    chosen keys views v agg both.0 (lowest_from 1 keys v.party.key (occupants_share_group views v)) refl both.1
 
 -- the same of what a call answers for the port that it has seen
 pub answer-joins : (keys : List Key) (views : List PortView) (seen : Option PortView) (v : PortView) (answer : Option AggId)
@@ -193,4 +194,4 @@ pub answer-joins : (keys : List Key) (views : List PortView) (seen : Option Port
 answer-joins keys views seen v None is ok e = tt
 answer-joins keys views seen v (Some agg) is ok e =
     subst (λ o. IsSomeAnd o (MayJoin keys views agg)) (sym is)
-    (chosen keys views v agg ok (lowest_from 1 keys v.party.key (members_share_group views v)) refl (sym e))
+    (chosen keys views v agg ok (lowest_from 1 keys v.party.key (occupants_share_group views v)) refl (sym e))

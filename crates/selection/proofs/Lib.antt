@@ -2,3 +2,4 @@ pub mod Equal
 pub mod Joining
 pub mod Rising
 pub mod StandingLemmas
+pub mod LimitLemmas

@@ -10,9 +10,9 @@ use Rattle.lagtypes.specs.Group.{individual}
 use Rattle.selection.specs.declared.standings.Standing.{Standing}
 use Rattle.selection.specs.declared.standings.Standing.TheVariants.{Empty, Joinable, Taken}
 use Rattle.selection.specs.declared.view.PortView.{PortView}
-use Rattle.selection.specs.Views.{has_chosen}
+use Rattle.selection.specs.Views.{occupies}
 use Rattle.selection.specs.Choice.{has_group_of}
-use Rattle.selection.specs.Standing.{standing, with_member, with_port}
+use Rattle.selection.specs.Standing.{standing, with_occupant, with_port}
 
 -- tests
 
@@ -26,7 +26,7 @@ none_first : (f : PortView → Bool) (w : PortView) (rest : List PortView) (b an
 none_first f w rest true any h k = absurd cc
 none_first f w rest false any h k = k h
 
--- where there is no member, all members pass
+-- where none is kept, all that are kept pass
 none_differs : (p f : PortView → Bool) (views : List PortView) → list_any p views ≡ false → list_all f (filter p views) ≡ true
 none_differs p f [] h = refl
 none_differs p f (w ∷ ws) h = none_first f w (filter p ws) (p w) (list_any p ws) h (none_differs p f ws)
@@ -36,7 +36,7 @@ of_one : (f : PortView → Bool) (w : PortView) (b : Bool) → list_all f (cond 
 of_one f w true = and-true (f w)
 of_one f w false = refl
 
--- how an aggregator stands: whether the port is in no Individual link, there is a member, and all members have its group
+-- how an aggregator stands: whether the port is in no Individual link, there is an occupant, and all occupants have its group
 abbrev stands : Bool → Bool → Bool → Standing
 stands shared some all = if not some then Empty else (if (shared && some) && all then Joinable else Taken)
 
@@ -44,11 +44,11 @@ stands-same : (shared some other_some all other_all : Bool) → some ≡ other_s
     → stands shared some all ≡ stands shared other_some other_all
 stands-same shared some other_some all other_all e h = rw (e, h) refl
 
--- one more port, which is a member or not
-stands-more : (shared some all has_chosen same : Bool) → (some ≡ false → all ≡ true)
-    → stands shared (some || has_chosen) (all && cond has_chosen same true) ≡ (if has_chosen then with_member (shared && same)
+-- one more port, which occupies it or not
+stands-more : (shared some all occupies same : Bool) → (some ≡ false → all ≡ true)
+    → stands shared (some || occupies) (all && cond occupies same true) ≡ (if occupies then with_occupant (shared && same)
     (stands shared some all) else stands shared some all)
-stands-more shared false false has_chosen same h = let e : false ≡ true = h refl in absurd cc
+stands-more shared false false occupies same h = let e : false ≡ true = h refl in absurd cc
 stands-more shared false true false same h = refl
 stands-more true false true true same h = refl
 stands-more false false true true same h = refl
@@ -59,7 +59,7 @@ stands-more true true false true same h = refl
 stands-more false true true true same h = refl
 stands-more false true false true same h = refl
 
--- the same of views: which of them are members, and which have the port's group
+-- the same of views: which of them are occupants, and which have the port's group
 abbrev stands_in : (PortView → Bool) → (PortView → Bool) → Bool → List PortView → Standing
 stands_in p f shared views = stands shared (list_any p views) (list_all f (filter p views))
 
@@ -73,7 +73,7 @@ all-next p f views i d within =
 
 stands-next : (p f : PortView → Bool) (shared : Bool) (views : List PortView) (i : ℕ) (d : PortView) → i < length views
     → stands_in p f shared (take (i + 1) views)
-    ≡ (if p (get_or views i d) then with_member (shared && f (get_or views i d)) (stands_in p f shared (take i views)) else stands_in p
+    ≡ (if p (get_or views i d) then with_occupant (shared && f (get_or views i d)) (stands_in p f shared (take i views)) else stands_in p
     f shared (take i views))
 stands-next p f shared views i d within =
     stands-same shared _ _ _ _ (list_any_more p views i d within) (all-next p f views i d within)
@@ -83,4 +83,4 @@ stands-next p f shared views i d within =
 pub standing-more : (v : PortView) (agg : AggId) (views : List PortView) (i : ℕ) (d : PortView) → i < length views
     → standing (take (i + 1) views) v agg ≡ with_port agg v (get_or views i d) (standing (take i views) v agg)
 standing-more v agg views i d within =
-    stands-next (λ w. has_chosen agg w.choice) (has_group_of v) (not (individual v.party v.partner)) views i d within
+    stands-next (λ w. occupies agg w.choice) (has_group_of v) (not (individual v.party v.partner)) views i d within

@@ -8,26 +8,26 @@ use Rattle.lagtypes.specs.Same.{same_system}
 use Rattle.selection.specs.declared.standings.Standing.{Standing}
 use Rattle.selection.specs.declared.standings.Standing.TheVariants.{Empty, Joinable, Taken}
 use Rattle.selection.specs.declared.view.PortView.{PortView}
-use Rattle.selection.specs.Views.{has_chosen}
-use Rattle.selection.specs.Choice.{has_group_of, has_no_member, members_share_group}
+use Rattle.selection.specs.Views.{occupies}
+use Rattle.selection.specs.Choice.{has_group_of, has_no_occupant, occupants_share_group}
 
--- it has no member, or the port can join its members, or neither
+-- it has no occupant, or the port can join its occupants, or neither
 abbrev pub standing : List PortView → PortView → AggId → Standing
-standing views v agg = if has_no_member views agg then Empty else (if members_share_group views v agg then Joinable else Taken)
+standing views v agg = if has_no_occupant views agg then Empty else (if occupants_share_group views v agg then Joinable else Taken)
 
--- the member has the port's group, which is not Individual
+-- the occupant has the port's group, which is not Individual
 abbrev pub goes_with : PortView → PortView → Bool
-goes_with v member = not (individual v.party v.partner) && has_group_of v member
+goes_with v occupant = not (individual v.party v.partner) && has_group_of v occupant
 
--- how an aggregator stands once a port is a member too, which goes with the port or not
-abbrev pub with_member : Bool → Standing → Standing
-with_member goes Empty = if goes then Joinable else Taken
-with_member goes Joinable = if goes then Joinable else Taken
-with_member goes Taken = Taken
+-- how an aggregator stands once another port occupies it too, which goes with the port or not
+abbrev pub with_occupant : Bool → Standing → Standing
+with_occupant goes Empty = if goes then Joinable else Taken
+with_occupant goes Joinable = if goes then Joinable else Taken
+with_occupant goes Taken = Taken
 
 -- the same of a port that may be in another aggregator, or in none
 abbrev pub with_port : AggId → PortView → PortView → Standing → Standing
-with_port agg v other was = if has_chosen agg other.choice then with_member (goes_with v other) was else was
+with_port agg v other was = if occupies agg other.choice then with_occupant (goes_with v other) was else was
 
 -- the aggregator at this place among those after a number
 abbrev pub aggregator_after : ℕ → ℕ → AggId

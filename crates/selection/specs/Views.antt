@@ -3,7 +3,7 @@ use Rattle.std.specs.Prelude.{ℕ, ◌≤◌, ◌==◌, Bool, true, false, not, 
 use Rattle.std.specs.List.Sorted.{IsStrictlyIncreasing}
 use Rattle.lagtypes.specs.declared.identifiers.AggId.{AggId}
 use Rattle.lagtypes.specs.declared.party.Choice.{Choice}
-use Rattle.lagtypes.specs.declared.party.Choice.TheVariants.{Unselected, Selected}
+use Rattle.lagtypes.specs.declared.party.Choice.TheVariants.{Unselected, Selected, Standby}
 use Rattle.selection.specs.declared.view.PortView.{PortView}
 use Rattle.selection.specs.declared.view.Stage.{Stage}
 use Rattle.selection.specs.declared.view.Stage.TheVariants.{Detached, Waiting, Joined}
@@ -27,6 +27,19 @@ find_view views port = find (λ v. v.number == port) views
 abbrev pub has_chosen : AggId → Choice → Bool
 has_chosen agg Unselected = false
 has_chosen agg (Selected given) = given.0 == agg.0
+has_chosen agg (Standby given) = false
+
+-- the port is STANDBY and has chosen this aggregator
+abbrev pub stands_by : AggId → Choice → Bool
+stands_by agg Unselected = false
+stands_by agg (Selected given) = false
+stands_by agg (Standby given) = given.0 == agg.0
+
+-- the port is SELECTED or STANDBY and has chosen this aggregator: it occupies the aggregator
+abbrev pub occupies : AggId → Choice → Bool
+occupies agg Unselected = false
+occupies agg (Selected given) = given.0 == agg.0
+occupies agg (Standby given) = given.0 == agg.0
 
 -- DETACHED
 abbrev pub is_detached : Stage → Bool

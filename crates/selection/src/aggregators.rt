@@ -1,9 +1,10 @@
-ghost use Rattle.std.specs.Prelude.{◌≡◌, ◌≤◌, IfOk, IfSome, IsSomeAnd, filter, length};
+ghost use Rattle.std.specs.Prelude.{◌≡◌, ◌≤◌, IfOk, IfSome, IsSomeAnd, None, filter, length};
 ghost use Rattle.std.specs.List.{list_all, list_any};
 ghost use Rattle.std.specs.List.Sorted.{IsStrictlyIncreasing};
 ghost use Rattle.selection.specs.Views.{has_waited, is_detached_or_waiting};
 ghost use Rattle.selection.specs.Choice.{chosen_if_eligible, ports_that_chose, first_65535};
 
+use crate::limits::{StandbyRow, is_below, lowest_standby, member_count};
 use crate::standings::{Standing, Standings};
 use crate::view::{PortView, find_view};
 use arrayvec::ArrayVec;
@@ -15,42 +16,59 @@ use std::marker::Model;
 #[derive(Debug, Drop)]
 pub struct Aggregators {
     keys: Vec<Key>,
+    /// How many members each may have; None: any number.
+    max_links: Option<u16>,
 }
 
 impl Model for Aggregators {
-    ghost use Rattle.std.specs.Prelude.{◌≤◌, List, length};
-    ghost use Rattle.lagtypes.specs.declared.identifiers.Key.{Key};
+    ghost use Rattle.std.specs.Prelude.{◌≤◌, length};
+    ghost use Rattle.selection.specs.Limits.{AggregatorsValue};
 
-    ghost Value = { List Key };
+    ghost Value = { AggregatorsValue };
 
-    ghost view = { λ a. a.keys.items };
+    ghost view = { λ a. record { keys = a.keys.items; max_links = a.max_links } };
 
     ghost invariant = { λ a. length a.keys.items ≤ 65535 };
 }
 
 impl Aggregators {
     ghost use Rattle.selection.specs.Joining.{MayJoin};
+    ghost use Rattle.selection.specs.Limits.{IsNext, IsNumberOfNext, has_room, next_standby, next_standby_index, next_standby_row};
     ghost use Rattle.selection.specs.Views.{AreViews, numbers, find_view};
     ghost use Rattle.selection.specs.Choice.{chosen_aggregator, is_aggregator};
     ghost use Rattle.selection.specs.Ready.{is_ready, members};
 
-    /// Makes aggregators 1, 2 and so on with these keys. Keys after the first 65535 are left out. `NoMemory` if memory
-    /// for them is refused (profile).
+    /// Makes aggregators 1, 2 and so on with these keys, each for any number of links. Keys after the first 65535 are
+    /// left out. `NoMemory` if memory for them is refused (profile).
     pub fn new(alloc: Global, keys: &[Key]) -> Result<Aggregators, NoMemory>
-        ensures first { IfOk result (λ a. a ≡ first_65535 keys.now) }
-        ensures all { IfOk result (λ a. length keys.now ≤ 65535 → a ≡ keys.now) }
+        ensures first { IfOk result (λ a. a.keys ≡ first_65535 keys.now) }
+        ensures all { IfOk result (λ a. length keys.now ≤ 65535 → a.keys ≡ keys.now) }
+        ensures unlimited { IfOk result (λ a. a.max_links ≡ None) }
+    {
+        Aggregators::with_limit(alloc, keys, None)
+    }
+
+    /// The same with a limit: no port becomes a member of an aggregator that has this many; None: no limit (profile).
+    pub fn with_limit(
+        alloc: Global,
+        keys: &[Key],
+        max_links: Option<u16>,
+    ) -> Result<Aggregators, NoMemory>
+        ensures first { IfOk result (λ a. a.keys ≡ first_65535 keys.now) }
+        ensures all { IfOk result (λ a. length keys.now ≤ 65535 → a.keys ≡ keys.now) }
+        ensures limit { IfOk result (λ a. a.max_links ≡ max_links) }
     {
         let keys = Vec::from_slice(alloc, first_65535(keys))?;
-        Ok(Aggregators { keys })
+        Ok(Aggregators { keys, max_links })
     }
 
     /// The aggregator that the port with this number chooses: the lowest one that has the port's key and at least one
-    /// member, if all members have the port's group (LAG ID) and the group is not Individual; else the lowest one with
-    /// that key and no member; else None (profile). None also if there is no view of the port, or if it is not
-    /// eligible.
+    /// occupant, a SELECTED or STANDBY port that was given it, if all occupants have the port's group (LAG ID) and the
+    /// group is not Individual; else the lowest one with that key and no occupant; else None (profile). None also if
+    /// there is no view of the port, or if it is not eligible.
     pub fn choose(&self, views: &[PortView], port: u16) -> Option<AggId>
-        ensures exact { result ≡ chosen_aggregator self.now views.now port }
-        ensures joins { IfSome result (λ agg. IsSomeAnd (find_view views.now port) (MayJoin self.now views.now agg)) }
+        ensures exact { result ≡ chosen_aggregator self.now.keys views.now port }
+        ensures joins { IfSome result (λ agg. IsSomeAnd (find_view views.now port) (MayJoin self.now.keys views.now agg)) }
     {
         match find_view(views, port) {
             Some(view) if view.is_eligible() => choose_if_eligible(
@@ -65,7 +83,7 @@ impl Aggregators {
     /// Whether the aggregator is Ready: at least one member is in DETACHED or WAITING, and each member in one of these
     /// is in WAITING with wait_while expired (6.4.14). False if there is no such aggregator.
     pub fn ready(&self, views: &[PortView], agg: AggId) -> bool
-        ensures { result ≡ is_ready self.now views.now agg }
+        ensures { result ≡ is_ready self.now.keys views.now agg }
     {
         self.is_aggregator(agg)
             && any_detached_or_waiting(views, agg)
@@ -76,7 +94,7 @@ impl Aggregators {
     /// aggregator (6.4.14; profile).
     pub fn members(&self, views: &[PortView], agg: AggId) -> ArrayVec<u16, 64>
         requires { AreViews views.now }
-        ensures exact { result.items ≡ numbers (members self.now views.now agg) }
+        ensures exact { result.items ≡ numbers (members self.now.keys views.now agg) }
         ensures ascending { IsStrictlyIncreasing result.items }
     {
         let mut found = ArrayVec::new();
@@ -90,16 +108,64 @@ impl Aggregators {
         found
     }
 
+    /// Whether there is such an aggregator and it has fewer members than the limit (profile).
+    pub fn room(&self, views: &[PortView], agg: AggId) -> bool
+        ensures { result ≡ has_room self.now views.now agg }
+    {
+        self.is_aggregator(agg) && is_below(self.max_links, member_count(views, agg))
+    }
+
+    /// The number of the STANDBY port that comes next in the aggregator: the one with the lowest port identifier. None
+    /// without room or without a STANDBY port (6.4.14; profile).
+    pub fn next_standby(&self, views: &[PortView], agg: AggId) -> Option<u16>
+        ensures exact { result ≡ next_standby self.now views.now agg }
+        ensures next { IfSome result (λ number. IsNumberOfNext self.now views.now agg number) }
+    {
+        match self.next_standby_row(views, agg) {
+            Some(row) => Some(row.port.number),
+            None => None,
+        }
+    }
+
+    /// The index of that port among the views.
+    pub fn next_standby_index(&self, views: &[PortView], agg: AggId) -> Option<usize>
+        ensures exact { result ≡ next_standby_index self.now views.now agg }
+        ensures next { IfSome result (λ index. IsNext self.now views.now agg index) }
+    {
+        match self.next_standby_row(views, agg) {
+            Some(row) => Some(row.index),
+            None => None,
+        }
+    }
+
+    fn next_standby_row(&self, views: &[PortView], agg: AggId) -> Option<StandbyRow>
+        ensures { result ≡ next_standby_row self.now views.now agg }
+    {
+        if self.room(views, agg) {
+            lowest_standby(views, agg)
+        } else {
+            None
+        }
+    }
+
+    /// How many members each aggregator may have; None: any number (profile).
+    pub fn max_links(&self) -> Option<u16>
+        ensures { result ≡ self.now.max_links }
+    {
+        self.max_links
+    }
+
     /// How many aggregators there are, at most 65535 (profile).
     pub fn count(&self) -> usize
-        ensures { result ≡ length self.now }
+        ensures exact { result ≡ length self.now.keys }
+        ensures few { result ≤ 65535 }
     {
         self.keys.len()
     }
 
     /// Whether there is such an aggregator.
     fn is_aggregator(&self, agg: AggId) -> bool
-        ensures { result ≡ is_aggregator self.now agg }
+        ensures { result ≡ is_aggregator self.now.keys agg }
     {
         1 <= agg.0 && agg.0 as usize <= self.keys.len()
     }
@@ -139,7 +205,7 @@ fn all_have_waited(views: &[PortView], agg: AggId) -> bool
         .all(|view| view.has_waited())
 }
 
-/// The lowest aggregator that an eligible port can join, else the lowest one with no member.
+/// The lowest aggregator that an eligible port can join, else the lowest one with no occupant.
 fn choose_if_eligible(keys: &[Key], views: &[PortView], port: &PortView) -> Option<AggId>
     requires { length keys.now ≤ 65535 }
     ensures { result ≡ chosen_if_eligible keys.now views.now port.now }

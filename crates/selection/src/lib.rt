@@ -1,11 +1,13 @@
 //! The Selection Logic of one system: which aggregator an eligible port chooses, which ports are the members of an
-//! aggregator, and when it is Ready (IEEE 802.1AX-2014, 6.4.14; profile).
+//! aggregator, when it is Ready, and with a limit on its links which STANDBY port comes next (IEEE 802.1AX-2014, 6.4.14;
+//! profile).
 //!
 //! In comments, "profile" is docs/PROFILE.md.
 #![tactic(auto)]
 
 mod aggregators;
 mod laws;
+mod limits;
 mod standings;
 mod view;
 

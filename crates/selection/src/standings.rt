@@ -1,6 +1,6 @@
 ghost use Rattle.std.specs.Prelude.{◌≡◌, ◌+◌, ◌<◌, ℕ};
 ghost use Rattle.lagtypes.specs.Group.{group_of};
-ghost use Rattle.selection.specs.Standing.{Tells, aggregator_after, goes_with, standing, standing_at, with_member, with_port};
+ghost use Rattle.selection.specs.Standing.{Tells, aggregator_after, goes_with, standing, standing_at, with_occupant, with_port};
 
 use crate::view::PortView;
 use lagtypes::{AggId, Choice, Group};
@@ -8,24 +8,24 @@ use lagtypes::{AggId, Choice, Group};
 /// How an aggregator stands to a port that chooses.
 #[derive(Clone, Copy, Debug)]
 pub(crate) enum Standing {
-    /// It has no member.
+    /// No port occupies it.
     Empty,
-    /// It has a member, and all members have the port's group, which is not Individual.
+    /// It has an occupant, and all occupants have the port's group, which is not Individual.
     Joinable,
-    /// It has a member, and the port cannot join.
+    /// It has an occupant, and the port cannot join.
     Taken,
 }
 
 impl Standing {
-    /// How the aggregator stands once this port is a member too.
-    fn with(self, port: &PortView, group: &Group, member: &PortView) -> Standing
+    /// How the aggregator stands once this port occupies it too.
+    fn with(self, port: &PortView, group: &Group, occupant: &PortView) -> Standing
         requires { group.now ≡ group_of port.now.party port.now.partner }
-        ensures { result ≡ with_member (goes_with port.now member.now) self }
+        ensures { result ≡ with_occupant (goes_with port.now occupant.now) self }
     {
         if matches!(self, Standing::Taken) {
             return self;
         }
-        if !port.is_individual() && member.has_group(group) {
+        if !port.is_individual() && occupant.has_group(group) {
             Standing::Joinable
         } else {
             Standing::Taken
@@ -76,7 +76,7 @@ fn note(list: &mut [Standing; 64], before: u16, port: &PortView, group: &Group, 
     ensures { (place : ℕ) → place < 64 → standing_at list.new place ≡ with_port (aggregator_after before place) port.now view.now
         (standing_at list.old place) }
 {
-    if let Choice::Selected(agg) = view.choice {
+    if let Choice::Selected(agg) | Choice::Standby(agg) = view.choice {
         if before < agg.0 && agg.0 - before <= 64 {
             let place = usize::from(agg.0 - before - 1);
             list[place] = list[place].with(port, group, view);

@@ -237,6 +237,7 @@ fn tells_which_port_is_eligible(rt: HostRuntime) {
         ),
         (with(Stage::Joined, Choice::Unselected), false),
         (with(Stage::Detached, selected(1)), false),
+        (with(Stage::Detached, standby(1)), false),
         (view(1, A), false),
         (other_priority, true),
     ];
@@ -282,6 +283,187 @@ fn is_ready_where_all_that_wait_have_waited(rt: HostRuntime) -> Result<(), Fail>
         let ready = aggregators.ready(&views, AggId(agg));
         assert_eq!(rt; ready, want, "row {place}: ready of aggregator {agg}");
     }
+    Ok(())
+}
+
+fn standby(agg: u16) -> Choice {
+    Choice::Standby(AggId(agg))
+}
+
+/// Ports 5, 7 and 9 of one partner, STANDBY with this aggregator. Port 7 has the lowest port identifier and port 5 the
+/// highest, by their priorities.
+fn all_standby(agg: u16) -> [PortView; 3] {
+    let mut views = [view(5, B), view(7, B), view(9, B)];
+    for (view, priority) in views.iter_mut().zip([300, 200, 250]) {
+        view.choice = standby(agg);
+        view.party.port.priority = priority;
+    }
+    views
+}
+
+/// Port 5 is a member of aggregator 1, and ports 7 and 9 are STANDBY with it; port 9 has the lower port identifier.
+fn two_standby() -> [PortView; 3] {
+    let mut views = all_standby(1);
+    views[0].choice = selected(1);
+    views[2].party.port.priority = 100;
+    views
+}
+
+/// Ports 5 and 9 are members of aggregator 1, and port 7 is STANDBY with it.
+fn two_members() -> [PortView; 3] {
+    let mut views = two_standby();
+    views[2].choice = selected(1);
+    views
+}
+
+/// Ports 5, 7 and 9 are STANDBY with aggregator 1 and have equal priorities.
+fn equal_priorities() -> [PortView; 3] {
+    let mut views = all_standby(1);
+    for view in views.iter_mut() {
+        view.party.port.priority = 128;
+    }
+    views
+}
+
+/// The same, and the numbers in their port identifiers fall.
+fn falling_identifiers() -> [PortView; 3] {
+    let mut views = equal_priorities();
+    for (view, number) in views.iter_mut().zip([40, 30, 20]) {
+        view.party.port.number = number;
+    }
+    views
+}
+
+/// Ports 5, 7 and 9 are STANDBY with aggregators 3, 1 and 2.
+fn one_standby_each() -> [PortView; 3] {
+    let mut views = all_standby(3);
+    views[1].choice = standby(1);
+    views[2].choice = standby(2);
+    views
+}
+
+/// For a limit and an aggregator: whether that has room, and the STANDBY port that comes next, by its index and number.
+#[test]
+fn tells_room_and_the_next_standby_port(rt: HostRuntime) -> Result<(), Fail> {
+    let keys = [Key(1), Key(1), Key(2)];
+    let rows = [
+        (all_standby(1), Some(1), 1, true, Some((1, 7))),
+        (all_standby(1), Some(0), 1, false, None),
+        (all_standby(1), Some(1), 2, true, None),
+        (all_standby(0), Some(1), 0, false, None),
+        (all_standby(4), None, 4, false, None),
+        (all_standby(3), Some(64), 3, true, Some((1, 7))),
+        (two_standby(), Some(1), 1, false, None),
+        (two_standby(), Some(2), 1, true, Some((2, 9))),
+        (two_standby(), None, 1, true, Some((2, 9))),
+        (two_members(), Some(1), 1, false, None),
+        (two_members(), Some(2), 1, false, None),
+        (two_members(), Some(3), 1, true, Some((1, 7))),
+        (equal_priorities(), Some(1), 1, true, Some((0, 5))),
+        (falling_identifiers(), Some(1), 1, true, Some((2, 9))),
+        (one_standby_each(), Some(1), 1, true, Some((1, 7))),
+        (one_standby_each(), Some(1), 2, true, Some((2, 9))),
+        (one_standby_each(), Some(1), 3, true, Some((0, 5))),
+        (views(), Some(1), 1, true, None),
+    ];
+    for (place, (views, limit, agg, room, next)) in rows.into_iter().enumerate() {
+        let aggregators = Aggregators::with_limit(rt.alloc(), &keys, limit)?;
+        assert_eq!(rt; aggregators.max_links(), limit, "row {place}: max_links");
+        let agg = AggId(agg);
+        assert_eq!(rt; aggregators.room(&views, agg), room, "row {place}: room");
+        let index = aggregators.next_standby_index(&views, agg);
+        let number = aggregators.next_standby(&views, agg);
+        assert_eq!(rt; index, next.map(|(index, _)| index), "row {place}: index");
+        assert_eq!(rt;
+            number,
+            next.map(|(_, number)| number),
+            "row {place}: number"
+        );
+    }
+    Ok(())
+}
+
+#[test]
+fn new_makes_aggregators_without_a_limit(rt: HostRuntime) -> Result<(), Fail> {
+    let aggregators = aggregators(rt.alloc())?;
+    assert_eq!(rt; aggregators.max_links(), None);
+    assert_eq!(rt; aggregators.count(), 3);
+    Ok(())
+}
+
+/// Port 1 is STANDBY with aggregator 1.
+fn first_standby() -> [PortView; 3] {
+    let mut views = views();
+    views[0].choice = standby(1);
+    views
+}
+
+/// The same, and port 3, whose partner is another one, is STANDBY with aggregator 2.
+fn both_occupied() -> [PortView; 3] {
+    let mut views = first_standby();
+    views[2].choice = standby(2);
+    views
+}
+
+/// Port 1 is a member of aggregator 1; port 3, whose partner is another one, is STANDBY with it.
+fn member_and_standby() -> [PortView; 3] {
+    let mut views = first_selected();
+    views[2].choice = standby(1);
+    views
+}
+
+/// Port 1 is STANDBY with aggregator 1, and the partner of port 2 is Individual.
+fn individual_beside_standby() -> [PortView; 3] {
+    let mut views = first_standby();
+    views[1].partner.aggregatable = false;
+    views
+}
+
+/// What a port chooses does not depend on the limit.
+#[test]
+fn a_standby_port_occupies_its_aggregator(rt: HostRuntime) -> Result<(), Fail> {
+    let rows = [
+        (first_standby(), 2, 1),
+        (first_standby(), 3, 2),
+        (both_occupied(), 2, 1),
+        (member_and_standby(), 2, 2),
+        (individual_beside_standby(), 2, 2),
+        (first_selected(), 2, 1),
+    ];
+    for limit in [None, Some(1)] {
+        let aggregators = Aggregators::with_limit(rt.alloc(), &[Key(1), Key(1), Key(2)], limit)?;
+        for (place, (views, port, want)) in rows.into_iter().enumerate() {
+            let chosen = aggregators.choose(&views, port);
+            assert_eq!(rt; chosen, Some(AggId(want)), "row {place}, limit {limit:?}");
+        }
+    }
+    Ok(())
+}
+
+#[test]
+fn a_standby_port_is_no_member(rt: HostRuntime) -> Result<(), Fail> {
+    let aggregators = aggregators(rt.alloc())?;
+    let views = member_and_standby();
+    assert!(rt; are_views(&views), "are_views");
+    let found = aggregators.members(&views, AggId(1));
+    let want: &[u16] = &[1];
+    assert_eq!(rt; found.as_slice(), want, "members");
+    Ok(())
+}
+
+#[test]
+fn ready_looks_at_no_standby_port(rt: HostRuntime) -> Result<(), Fail> {
+    let aggregators = aggregators(rt.alloc())?;
+    let waited = Stage::Waiting { expired: true };
+    let mut views = members(1, waited, Stage::Waiting { expired: false });
+    assert!(rt; !aggregators.ready(&views, AggId(1)), "as a member");
+    views[1].choice = standby(1);
+    assert!(rt; aggregators.ready(&views, AggId(1)), "as a STANDBY port");
+    views[0].choice = standby(1);
+    assert!(rt;
+        !aggregators.ready(&views, AggId(1)),
+        "with STANDBY ports alone"
+    );
     Ok(())
 }
 

@@ -2,7 +2,8 @@ ghost use Rattle.std.specs.Prelude.{◌≡◌, ◌↔◌, ◌||◌, IsTrue};
 ghost use Rattle.std.specs.List.Sorted.{IsStrictlyIncreasing};
 ghost use Rattle.lagtypes.specs.Group.{group_of, individual};
 ghost use Rattle.lagtypes.specs.Same.{same_group, same_system};
-ghost use Rattle.selection.specs.Views.{AreViews, has_waited, is_eligible, has_chosen, numbers, find_view, is_detached_or_waiting};
+ghost use Rattle.selection.specs.Views.{AreViews, has_waited, is_eligible, has_chosen, stands_by, numbers, find_view};
+ghost use Rattle.selection.specs.Views.{is_detached_or_waiting};
 ghost use Rattle.selection.specs.Standing.{has_side};
 
 use lagtypes::{AggId, Choice, End, Group, Party};
@@ -60,8 +61,18 @@ impl PortView {
         ensures { result ≡ has_chosen agg self.now.choice }
     {
         match self.choice {
-            Choice::Unselected => false,
+            Choice::Unselected | Choice::Standby(_) => false,
             Choice::Selected(given) => given == agg,
+        }
+    }
+
+    /// Whether the port is STANDBY and was given this aggregator.
+    pub(crate) fn stands_by(&self, agg: AggId) -> bool
+        ensures { result ≡ stands_by agg self.now.choice }
+    {
+        match self.choice {
+            Choice::Unselected | Choice::Selected(_) => false,
+            Choice::Standby(given) => given == agg,
         }
     }
 

@@ -96,6 +96,17 @@ fn limits_are_read_one_a_cable(rt: HostRuntime) -> Result<(), Fail> {
             "cable 2: limit",
         ),
         (
+            "{ends = [1, 4]}, {ends = [2, 5]}, {ends = [1, 6]}",
+            "",
+            "cable 3: end",
+        ),
+        (
+            "{ends = [1, 4]}, {ends = [2, 5]}, {ends = [3, 4]}",
+            "",
+            "cable 3: end",
+        ),
+        ("{ends = [7, 7]}, {ends = [8, 8]}", "", "cable 1: end"),
+        (
             "{ends = [1, 4], limit = 9}, {ends = [1, 4], limit = 8}",
             "\"cut 3\"",
             "event 1: cable",

@@ -42,7 +42,7 @@ ends = [2, 2]
 ";
 
 const TWO_CABLES_READ: &str =
-    "WorldConfig { systems: [Config { system: SystemId { priority: 32768, mac: [2, 0, 0, 0, 0, 1] }, max_delay: 0, first_marker: 1, aggregators: [Key(1)], ports: [PortConfig { number: 1, priority: 128, mac: [2, 0, 0, 0, 0, 1], key: Key(1), aggregatable: true, active: true, short: true }, PortConfig { number: 2, priority: 128, mac: [2, 0, 0, 0, 0, 1], key: Key(1), aggregatable: true, active: true, short: true }] }, Config { system: SystemId { priority: 32768, mac: [2, 0, 0, 0, 0, 2] }, max_delay: 0, first_marker: 1, aggregators: [Key(1)], ports: [PortConfig { number: 1, priority: 128, mac: [2, 0, 0, 0, 0, 2], key: Key(1), aggregatable: true, active: true, short: true }, PortConfig { number: 2, priority: 128, mac: [2, 0, 0, 0, 0, 2], key: Key(1), aggregatable: true, active: true, short: true }] }], cables: [(1, 1), (2, 2)] } []";
+    "WorldConfig { systems: [Config { system: SystemId { priority: 32768, mac: [2, 0, 0, 0, 0, 1] }, max_delay: 0, first_marker: 1, conversations: 256, aggregators: [Key(1)], max_links: None, ports: [PortConfig { number: 1, priority: 128, mac: [2, 0, 0, 0, 0, 1], key: Key(1), aggregatable: true, active: true, short: true }, PortConfig { number: 2, priority: 128, mac: [2, 0, 0, 0, 0, 1], key: Key(1), aggregatable: true, active: true, short: true }] }, Config { system: SystemId { priority: 32768, mac: [2, 0, 0, 0, 0, 2] }, max_delay: 0, first_marker: 1, conversations: 256, aggregators: [Key(1)], max_links: None, ports: [PortConfig { number: 1, priority: 128, mac: [2, 0, 0, 0, 0, 2], key: Key(1), aggregatable: true, active: true, short: true }, PortConfig { number: 2, priority: 128, mac: [2, 0, 0, 0, 0, 2], key: Key(1), aggregatable: true, active: true, short: true }] }], cables: [(1, 1), (2, 2)] } []";
 
 const FULL: &str = "events = [\"restart 2\", \"cut 1\"]
 [[system]]
@@ -50,6 +50,8 @@ priority = 0
 mac = \"ab-CD-00-00-00-ff\"
 max_delay = 65535
 first_marker = 4294967295
+conversations = 4096
+max_links = 63
 aggregators = [65535, 0]
 [[system.port]]
 number = 65535
@@ -71,7 +73,7 @@ ends = [65535, 3]
 ";
 
 const FULL_READ: &str =
-    "WorldConfig { systems: [Config { system: SystemId { priority: 0, mac: [171, 205, 0, 0, 0, 255] }, max_delay: 65535, first_marker: 4294967295, aggregators: [Key(65535), Key(0)], ports: [PortConfig { number: 65535, priority: 65535, mac: [2, 0, 0, 0, 0, 32], key: Key(0), aggregatable: false, active: false, short: false }] }, Config { system: SystemId { priority: 32768, mac: [171, 205, 0, 0, 0, 255] }, max_delay: 0, first_marker: 1, aggregators: [Key(1)], ports: [PortConfig { number: 3, priority: 128, mac: [171, 205, 0, 0, 0, 255], key: Key(65535), aggregatable: true, active: true, short: false }] }], cables: [(65535, 3)] } [Restart(2), Cut(1)]";
+    "WorldConfig { systems: [Config { system: SystemId { priority: 0, mac: [171, 205, 0, 0, 0, 255] }, max_delay: 65535, first_marker: 4294967295, conversations: 4096, aggregators: [Key(65535), Key(0)], max_links: Some(63), ports: [PortConfig { number: 65535, priority: 65535, mac: [2, 0, 0, 0, 0, 32], key: Key(0), aggregatable: false, active: false, short: false }] }, Config { system: SystemId { priority: 32768, mac: [171, 205, 0, 0, 0, 255] }, max_delay: 0, first_marker: 1, conversations: 256, aggregators: [Key(1)], max_links: None, ports: [PortConfig { number: 3, priority: 128, mac: [171, 205, 0, 0, 0, 255], key: Key(65535), aggregatable: true, active: true, short: false }] }], cables: [(65535, 3)] } [Restart(2), Cut(1)]";
 
 /// The plan that is read from a text, or the text of its fault.
 fn read_as(alloc: Global, text: &str) -> Result<String, AllocError> {
@@ -211,25 +213,42 @@ fn with_aggregators(alloc: Global, count: usize) -> Result<String, AllocError> {
     )
 }
 
-/// The outcome of reading this many events.
-fn with_events(alloc: Global, count: usize) -> Result<String, AllocError> {
+/// The outcome of reading this many events with this text.
+fn with_events(alloc: Global, text: &str, count: usize) -> Result<String, AllocError> {
     let end = format!(in alloc; "]{}", SYSTEMS.behind)?;
     outcome(
         alloc,
-        repeated(alloc, "events = [", "\"tick 1 1\",", count, end.as_str())?.as_str(),
+        repeated(alloc, "events = [", text, count, end.as_str())?.as_str(),
     )
 }
 
 #[test]
-fn counts_have_limits(rt: HostRuntime) -> Result<(), Fail> {
+fn aggregators_have_a_limit(rt: HostRuntime) -> Result<(), Fail> {
     let alloc = rt.alloc();
     assert_eq!(rt; with_aggregators(alloc, 64)?.as_str(), "read");
     assert_eq!(rt;
         with_aggregators(alloc, 65)?.as_str(),
         "system 1: aggregator count"
     );
-    assert_eq!(rt; with_events(alloc, 100_000)?.as_str(), "read");
-    assert_eq!(rt; with_events(alloc, 100_001)?.as_str(), "events");
+    Ok(())
+}
+
+/// How many events are read to their end. tools/long-tests reads ten times as many, the most that a script may have,
+/// which takes too long beside other proofs.
+const EVENTS: usize = 10_000;
+
+/// The count of the events is looked at before the first of them.
+#[test]
+fn events_have_a_limit(rt: HostRuntime) -> Result<(), Fail> {
+    let alloc = rt.alloc();
+    let tick = "\"tick 1 1\",";
+    assert_eq!(rt; with_events(alloc, tick, EVENTS)?.as_str(), "read");
+    let empty = "\"\",";
+    assert_eq!(rt;
+        with_events(alloc, empty, 100_000)?.as_str(),
+        "event 1: word"
+    );
+    assert_eq!(rt; with_events(alloc, empty, 100_001)?.as_str(), "events");
     Ok(())
 }
 

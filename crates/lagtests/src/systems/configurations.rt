@@ -4,6 +4,7 @@ use lagsystem::{
     BadConfig, Choice, Key, PortChange, PortConfig, Received, State, System, SystemFault,
 };
 use slowpdu::{Lacpdu, frame};
+use std::alloc::{AllocError, Global};
 use std::test::Fail;
 
 /// Writes the numbers from 1 on.
@@ -14,7 +15,7 @@ fn number_all(numbers: &mut [u16]) {
 }
 
 /// The numbers of as many ports as a system may have.
-fn most_numbers() -> [u16; 64] {
+pub(crate) fn most_numbers() -> [u16; 64] {
     let mut numbers = [0; 64];
     number_all(&mut numbers);
     numbers
@@ -54,25 +55,87 @@ fn configurations_are_refused_in_order(rt: HostRuntime) -> Result<(), Fail> {
 }
 
 #[test]
-fn reasons_have_numbers_and_texts(rt: HostRuntime) -> Result<(), Fail> {
-    let reasons = [
-        (BadConfig::Ports, "the configuration has not 1 to 64 ports"),
-        (
-            BadConfig::Aggregators,
-            "the configuration has not 1 to 64 aggregators",
-        ),
-        (
-            BadConfig::PortNumber(7),
-            "the port at place 7 has the number 0 or one that is not above the number before it",
-        ),
+fn other_counts_of_conversations_are_refused_last(rt: HostRuntime) -> Result<(), Fail> {
+    for conversations in [0, 1, 255, 257, 4095, 4097, 65535] {
+        let mut given = config(rt.alloc(), &[1, 2], 2)?;
+        given.conversations = conversations;
+        assert_eq!(rt; given.refusal(), Some(BadConfig::Conversations));
+        let refused = plays(&rt, rt.alloc(), given, &[]).err();
+        let reason = SystemFault::BadConfig(BadConfig::Conversations);
+        assert_eq!(rt; refused, Some(reason));
+    }
+    Ok(())
+}
+
+#[test]
+fn other_limits_of_links_are_refused(rt: HostRuntime) -> Result<(), Fail> {
+    for limit in [0, 65, 65535] {
+        let mut given = config(rt.alloc(), &[1, 2], 2)?;
+        given.max_links = Some(limit);
+        assert_eq!(rt; given.refusal(), Some(BadConfig::MaxLinks), "{limit}");
+        let refused = plays(&rt, rt.alloc(), given, &[]).err();
+        let reason = SystemFault::BadConfig(BadConfig::MaxLinks);
+        assert_eq!(rt; refused, Some(reason), "{limit}");
+    }
+    for limit in [1, 64] {
+        let mut given = config(rt.alloc(), &[1, 2], 2)?;
+        given.max_links = Some(limit);
+        assert_eq!(rt; given.refusal(), None, "{limit}");
+    }
+    Ok(())
+}
+
+/// A configuration in which the limit and the count are refused too is refused for the first reason.
+#[test]
+fn limits_and_counts_are_refused_last(rt: HostRuntime) -> Result<(), Fail> {
+    let rows: [(&[u16], u16, u16, Option<BadConfig>); 4] = [
+        (&[1, 1], 0, 0, Some(BadConfig::PortNumber(2))),
+        (&[1, 2], 65, 257, Some(BadConfig::MaxLinks)),
+        (&[1, 2], 3, 257, Some(BadConfig::Conversations)),
+        (&[1, 2], 3, 4096, None),
     ];
-    for (number, (reason, text)) in (1..).zip(reasons) {
+    for (numbers, limit, conversations, reason) in rows {
+        let mut given = config(rt.alloc(), numbers, 2)?;
+        given.max_links = Some(limit);
+        given.conversations = conversations;
+        assert_eq!(rt; given.refusal(), reason, "limit {limit}");
+    }
+    Ok(())
+}
+
+/// The reasons to refuse a configuration, in the order of their numbers, from 1 on.
+const REASONS: [(BadConfig, &str); 5] = [
+    (BadConfig::Ports, "the configuration has not 1 to 64 ports"),
+    (
+        BadConfig::Aggregators,
+        "the configuration has not 1 to 64 aggregators",
+    ),
+    (
+        BadConfig::PortNumber(7),
+        "the port at place 7 has the number 0 or one that is not above the number before it",
+    ),
+    (
+        BadConfig::MaxLinks,
+        "the limit of links of an aggregator is not 1 to 64",
+    ),
+    (
+        BadConfig::Conversations,
+        "the configuration has neither 256 nor 4096 conversations",
+    ),
+];
+
+/// Whether a reason, and the fault that it is the reason of, print this text.
+fn prints(alloc: Global, reason: BadConfig, text: &str) -> Result<bool, AllocError> {
+    let alone = format!(in alloc; "{reason}")?;
+    let fault = format!(in alloc; "{}", SystemFault::BadConfig(reason))?;
+    Ok(alone.as_str() == text && fault.as_str() == text)
+}
+
+#[test]
+fn reasons_have_numbers_and_texts(rt: HostRuntime) -> Result<(), Fail> {
+    for (number, (reason, text)) in (1..).zip(REASONS) {
         assert_eq!(rt; reason.number(), number);
-        let printed = format!(in rt.alloc(); "{reason}")?;
-        assert_eq!(rt; printed.as_str(), text);
-        let fault = SystemFault::BadConfig(reason);
-        let printed = format!(in rt.alloc(); "{fault}")?;
-        assert_eq!(rt; printed.as_str(), text);
+        assert!(rt; prints(rt.alloc(), reason, text)?, "{text}");
     }
     Ok(())
 }

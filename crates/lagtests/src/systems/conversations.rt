@@ -12,6 +12,9 @@ const THIRD: [u8; 14] = [2, 0, 0, 0, 0, 0x22, 2, 0, 0, 0, 0, 0x10, 8, 0];
 /// A data frame of conversation 255.
 const LAST: [u8; 14] = [2, 0, 0, 0, 0, 0xa5, 2, 0, 0, 0, 0, 0x5a, 8, 0];
 
+/// A data frame of conversation 304 if there are 4096 of them, and of conversation 48 if there are 256.
+const WIDE: [u8; 14] = [2, 0, 0, 0, 0xf1, 0x20, 2, 0, 0, 0, 0, 0x10, 8, 0];
+
 /// A Marker Response that names system 1.
 fn response(port: u16, id: u32) -> Marker {
     marker(MarkerKind::Response, port, 1, id)
@@ -297,5 +300,37 @@ fn the_last_conversation_moves_and_is_forced(rt: HostRuntime) -> Result<(), Fail
     ];
     let rows = joined(rt.alloc(), &[&coming_up(), &rows])?;
     plays(&rt, rt.alloc(), given, &rows)?;
+    Ok(())
+}
+
+#[test]
+fn four_more_bits_count_if_there_are_4096_conversations(rt: HostRuntime) -> Result<(), Fail> {
+    let mut given = config(rt.alloc(), &[1, 2], 2)?;
+    given.conversations = 4096;
+    let rows = [
+        Row::Conversation(&WIDE, Some(304)),
+        Row::Conversation(&LAST, Some(255)),
+        Row::Offers(1, &WIDE, Ok(1)),
+        Row::Conversing(1, 304, Some(Assignment::On(1))),
+        Row::Conversing(1, 48, Some(Assignment::Free { preferred: None })),
+        Row::Conversing(1, 4095, Some(Assignment::Free { preferred: None })),
+        Row::Conversing(1, 4096, None),
+        Row::Moves(1, 4096, 1, Err(SystemFault::NotAssigned)),
+        Row::Forces(1, 4096, Err(SystemFault::NotAssigned)),
+        Row::Moves(1, 304, 2, Ok(())),
+        Row::Offers(1, &WIDE, Err(SystemFault::Held)),
+        Row::Marks(1, 1),
+        Row::Releases(1, response(1, 1), 1),
+        Row::Offers(1, &WIDE, Ok(2)),
+    ];
+    let rows = joined(rt.alloc(), &[&coming_up(), &rows])?;
+    plays(&rt, rt.alloc(), given, &rows)?;
+    let given = config(rt.alloc(), &[1, 2], 2)?;
+    plays(
+        &rt,
+        rt.alloc(),
+        given,
+        &[Row::Conversation(&WIDE, Some(48))],
+    )?;
     Ok(())
 }

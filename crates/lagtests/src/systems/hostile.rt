@@ -6,6 +6,9 @@ use slowpdu::{MarkerKind, frame};
 use std::process::Abort;
 use std::test::Fail;
 
+/// How many frames come. tools/long-tests plays ten times as many, which takes too long beside other proofs.
+const FRAMES: u32 = 1_000;
+
 /// A linear congruential generator: it gives the same octets in each run.
 #[derive(Drop)]
 struct Congruence {
@@ -312,7 +315,7 @@ fn hostile_frames_keep_the_laws(rt: HostRuntime) -> Result<(), Fail> {
     };
     let mut clock = Clock::start();
     let mut happened = NOTHING_YET;
-    for place in 0..10_000 {
+    for place in 0..FRAMES {
         let port = draw.port();
         if draw.one_in(128) {
             peers.wander(&mut draw, port);

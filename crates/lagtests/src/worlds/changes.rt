@@ -122,10 +122,8 @@ fn a_configure_holds_the_conversations_of_its_port(rt: HostRuntime) -> Result<()
 
 /// Two cables between ports with Long Timeout, and one marker identifier left.
 const LAST_MARKER: Setting = Setting {
-    two_cables: true,
-    short: false,
-    aggregatable: true,
     first_marker: 4_294_967_295,
+    ..TWO
 };
 
 const SPENT: [(Entry, Want); 15] = [

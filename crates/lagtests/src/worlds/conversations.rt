@@ -1,8 +1,9 @@
-use crate::worlds::Entry::{Cut, Deliver, Emit, Force, Join, Lose, Offer, Repeat, Tick};
+use crate::worlds::Entry::{Cut, Deliver, Emit, Force, Join, Lose, Move, Offer, Repeat, Tick};
 use crate::worlds::Want::{Is, Lacpdu, LacpduLost};
-use crate::worlds::given::TWO;
+use crate::worlds::given::{Setting, TWO};
 use crate::worlds::starts::{COMING_UP, HELD, MOVED, TICKED, TOOK, UP_1};
 use crate::worlds::{Entry, F48, Flow, Row, Want, plays, runs, steps};
+use lagsystem::SystemFault;
 use lagworld::{Agreement, Reply};
 use std::test::Fail;
 
@@ -250,5 +251,125 @@ pub(crate) const NARROW_ROW: Row = Row {
 #[test]
 fn a_full_cable_hands_back_a_marker(rt: HostRuntime) -> Result<(), Fail> {
     runs(&rt, rt.alloc(), &NARROW_ROW, Some(1), 0)?;
+    Ok(())
+}
+
+/// A data frame of conversation 304 if there are 4096 of them, and of conversation 48 if there are 256.
+const F304: [u8; 14] = [2, 0, 0, 0, 1, 0x20, 2, 0, 0, 0, 0, 0x10, 8, 0];
+
+const UNKNOWN: Want = Is(Reply::Refused(SystemFault::NotAssigned));
+
+/// `TWO`, with 4096 conversations in each aggregator of system 1.
+const WIDE: Setting = Setting {
+    conversations: 4096,
+    ..TWO
+};
+
+const APART: [(Entry, Want); 6] = [
+    (Offer(1, 1, &F304), Is(Reply::Port(1, 0, true))),
+    (Offer(1, 1, &F48), Is(Reply::Port(1, 0, true))),
+    (Move(1, 1, 304, 2), Is(Reply::Moved)),
+    (Offer(1, 1, &F304), HELD),
+    (Offer(1, 1, &F48), Is(Reply::Port(1, 1, true))),
+    (Move(1, 1, 4096, 2), UNKNOWN),
+];
+
+const APART_ROW: Row = Row {
+    setting: WIDE,
+    first: &COMING_UP,
+    rest: &APART,
+    agreements: &[],
+    flows: &[
+        Flow {
+            system: 1,
+            conv: 48,
+            sent: 2,
+            collected: &[],
+            forced: false,
+        },
+        Flow {
+            system: 1,
+            conv: 304,
+            sent: 1,
+            collected: &[],
+            forced: false,
+        },
+    ],
+};
+
+const TOGETHER: [(Entry, Want); 3] = [
+    (Offer(1, 1, &F304), Is(Reply::Port(1, 0, true))),
+    (Offer(1, 1, &F48), Is(Reply::Port(1, 1, true))),
+    (Move(1, 1, 304, 2), UNKNOWN),
+];
+
+const TOGETHER_ROW: Row = Row {
+    setting: TWO,
+    first: &COMING_UP,
+    rest: &TOGETHER,
+    agreements: &[],
+    flows: &[Flow {
+        system: 1,
+        conv: 48,
+        sent: 2,
+        collected: &[],
+        forced: false,
+    }],
+};
+
+/// A data frame of the same conversation of 4096, whose octet 4 has bits above the low four.
+const F304_AGAIN: [u8; 14] = [2, 0, 0, 0, 0xf1, 0x20, 2, 0, 0, 0, 0, 0x10, 8, 0];
+
+/// A data frame from system 2 to system 1, of conversation 304 if there are 4096 of them.
+const BACK: [u8; 14] = [2, 0, 0, 0, 1, 0x10, 2, 0, 0, 0, 0, 0x20, 8, 0];
+
+/// System 2 numbers its frames by its own count.
+const OWN_COUNT: [(Entry, Want); 4] = [
+    (Offer(1, 1, &F304_AGAIN), Is(Reply::Port(1, 0, true))),
+    (Offer(2, 1, &BACK), Is(Reply::Port(1, 0, true))),
+    (Deliver(1, 1), UP_1),
+    (Move(2, 1, 304, 2), UNKNOWN),
+];
+
+const OWN_COUNT_ROW: Row = Row {
+    setting: WIDE,
+    first: &COMING_UP,
+    rest: &OWN_COUNT,
+    agreements: &[],
+    flows: &[
+        Flow {
+            system: 1,
+            conv: 304,
+            sent: 1,
+            collected: &[],
+            forced: false,
+        },
+        Flow {
+            system: 2,
+            conv: 48,
+            sent: 1,
+            collected: &[0],
+            forced: false,
+        },
+        Flow {
+            system: 2,
+            conv: 304,
+            sent: 0,
+            collected: &[],
+            forced: false,
+        },
+    ],
+};
+
+#[test]
+fn two_frames_are_one_conversation_of_256_or_two_of_4096(rt: HostRuntime) -> Result<(), Fail> {
+    plays(&rt, rt.alloc(), &APART_ROW)?;
+    plays(&rt, rt.alloc(), &TOGETHER_ROW)?;
+    Ok(())
+}
+
+#[test]
+fn each_system_numbers_frames_by_its_own_count(rt: HostRuntime) -> Result<(), Fail> {
+    plays(&rt, rt.alloc(), &OWN_COUNT_ROW)?;
     Ok(())
 }

@@ -6,6 +6,18 @@ use lagtypes::{Key, NoMemory, SystemId};
 use lagworld::{WorldConfig, WorldFault};
 use std::alloc::Global;
 
+/// How many links each aggregator of system 1 and of system 2 may have; None: any number.
+#[derive(Clone, Copy)]
+pub(crate) struct Limits {
+    pub first: Option<u16>,
+    pub second: Option<u16>,
+}
+
+const NO_LIMITS: Limits = Limits {
+    first: None,
+    second: None,
+};
+
 /// The configuration of two systems. Cable 1 joins their ports 1.
 #[derive(Clone, Copy)]
 pub(crate) struct Setting {
@@ -17,6 +29,9 @@ pub(crate) struct Setting {
     pub aggregatable: bool,
     /// The identifier of the first marker of system 1.
     pub first_marker: u32,
+    /// How many conversations each aggregator of system 1 has.
+    pub conversations: u16,
+    pub limits: Limits,
 }
 
 /// One cable between ports with Short Timeout.
@@ -25,6 +40,8 @@ pub(crate) const ONE: Setting = Setting {
     short: true,
     aggregatable: true,
     first_marker: 1,
+    conversations: 256,
+    limits: NO_LIMITS,
 };
 
 /// Two cables between ports with Long Timeout.
@@ -33,6 +50,8 @@ pub(crate) const TWO: Setting = Setting {
     short: false,
     aggregatable: true,
     first_marker: 1,
+    conversations: 256,
+    limits: NO_LIMITS,
 };
 
 /// Two cables between ports with Short Timeout; those of system 1 are Individual.
@@ -41,6 +60,8 @@ pub(crate) const INDIVIDUAL: Setting = Setting {
     short: true,
     aggregatable: false,
     first_marker: 1,
+    conversations: 256,
+    limits: NO_LIMITS,
 };
 
 /// The distribution algorithm of both systems.
@@ -89,7 +110,17 @@ pub(crate) fn config(
         },
         max_delay: 0,
         first_marker: if system == 1 { setting.first_marker } else { 1 },
+        conversations: if system == 1 {
+            setting.conversations
+        } else {
+            256
+        },
         aggregators: Vec::from_slice(alloc, &[Key(1)])?,
+        max_links: if system == 1 {
+            setting.limits.first
+        } else {
+            setting.limits.second
+        },
         ports,
     })
 }

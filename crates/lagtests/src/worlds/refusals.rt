@@ -2,9 +2,11 @@ use crate::worlds::Entry::{
     Configure, Cut, Deliver, Emit, Force, Join, Move, Offer, Restart, Sense, Tick,
 };
 use crate::worlds::Want::Is;
-use crate::worlds::given::{INDIVIDUAL, ONE, cable, joined, lines, modulo, world_config};
-use crate::worlds::starts::{HELD, LINK_UP, NONE_DISTRIBUTING, TICKED};
-use crate::worlds::{Entry, F48, Row, Want, event, events, plays};
+use crate::worlds::given::{INDIVIDUAL, ONE, TWO, cable, joined, lines, modulo, world_config};
+use crate::worlds::starts::{COMING_UP, HELD, LINK_UP, NONE_DISTRIBUTING, TICKED, UP_1};
+use crate::worlds::{
+    Entry, F48, Flow, Row, Want, compare_run, entries, event, events, plays, tells,
+};
 use cables::{AnyCable, Cable, Item, Stamp};
 use lagsystem::{BadConfig, SystemFault};
 use lagtypes::AggId;
@@ -289,7 +291,53 @@ fn refusals_of_a_system_are_replies(rt: HostRuntime) -> Result<(), Fail> {
 }
 
 /// Triples of system, aggregator and conversation, in each of which one does not exist.
-const NO_FLOWS: [(u8, u16, u16); 5] = [(0, 1, 48), (3, 1, 48), (1, 0, 48), (1, 2, 48), (2, 1, 256)];
+const NO_FLOWS: [(u8, u16, u16); 9] = [
+    (0, 1, 48),
+    (3, 1, 48),
+    (1, 0, 48),
+    (2, 0, 48),
+    (1, 2, 48),
+    (2, 2, 48),
+    (1, 1, 256),
+    (2, 1, 256),
+    (2, 1, 304),
+];
+
+/// A frame of conversation 48 of system 2.
+const BACK: [u8; 14] = [2, 0, 0, 0, 0, 0x10, 2, 0, 0, 0, 0, 0x20, 8, 0];
+
+/// Each system sends a frame of conversation 48, which the other collects, and then the conversation is forced.
+const FORCED: [(Entry, Want); 6] = [
+    (Offer(1, 1, &F48), Is(Reply::Port(1, 0, true))),
+    (Offer(2, 1, &BACK), Is(Reply::Port(1, 0, true))),
+    (Deliver(1, 1), UP_1),
+    (Deliver(1, 2), UP_1),
+    (Force(1, 1, 48), Is(Reply::Forced)),
+    (Force(2, 1, 48), Is(Reply::Forced)),
+];
+
+const FORCED_ROW: Row = Row {
+    setting: TWO,
+    first: &COMING_UP,
+    rest: &FORCED,
+    agreements: &[],
+    flows: &[
+        Flow {
+            system: 1,
+            conv: 48,
+            sent: 1,
+            collected: &[0],
+            forced: true,
+        },
+        Flow {
+            system: 2,
+            conv: 48,
+            sent: 1,
+            collected: &[0],
+            forced: true,
+        },
+    ],
+};
 
 /// Checks what a world returns for a conversation that does not exist.
 fn tells_no_flow<F: Fn(u16, usize) -> usize + Drop>(
@@ -313,11 +361,16 @@ fn tells_systems<F: Fn(u16, usize) -> usize + Drop>(rt: &impl Abort, world: &Wor
     }
 }
 
+/// Plays the row, and asks for what does not exist.
 fn nothing_told(rt: &impl Abort, alloc: Global) -> Result<(), WorldFault> {
-    let config = world_config(alloc, ONE)?;
-    let lines = lines(alloc, 1, None)?;
-    let world = World::new(alloc, config, modulo, modulo, lines)?;
-    for cable in [0, 2] {
+    let entries = entries(alloc, &FORCED_ROW)?;
+    let events = events(alloc, &entries)?;
+    let config = world_config(alloc, TWO)?;
+    let lines = lines(alloc, 2, None)?;
+    let mut world = World::new(alloc, config, modulo, modulo, lines)?;
+    compare_run(rt, 0, &entries, world.run(&events));
+    tells(rt, &world, &FORCED_ROW);
+    for cable in [0, 3] {
         assert_eq!(rt; world.agreement(cable), None, "agreement of cable {cable}");
     }
     for flow in NO_FLOWS {

@@ -15,6 +15,8 @@ returns-clause-made c =
       mac = ap (λ (s : SystemId). s.mac) configured.system;
       max_delay = configured.max_delay;
       first_marker = configured.first_marker;
+      conversations = configured.conversations;
       keys = configured.keys ∙ c.in_ok-keys_of.ensures;
+      max_links = configured.max_links ∙ c.limit.ensures;
       ports = configured.ports ∙ c.in_ok-ports_of.ensures;
     })

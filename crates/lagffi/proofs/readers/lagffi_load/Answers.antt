@@ -4,4 +4,4 @@ use Rattle.lagffi.proofs.readers.lagffi_load.Goals as goal
 
 pub returns : goal.returns
 returns c = asked _ _ c.in-Some.ensures.taken c.with_algorithm-system.ensures.state c.with_algorithm.ensures.state c.put.ensures
-    (told_load _ _ _ c.load.ensures c.of_load-answer.ensures)
+    (told_load _ _ _ c.load.ensures c.of_count-answer.ensures)

@@ -1,4 +1,4 @@
-use Rattle.std.proofs.Common.{◌≡◌, ◌≢◌, true, Some, Ok, inr, length, map, option_and_then, rules, subst, sym, ap, ◌∙◌, arith}
+use Rattle.std.proofs.Common.{◌≡◌, ◌≢◌, true, None, Some, Ok, inr, length, map, option_and_then, rules, subst, sym, ap, ◌∙◌, arith}
 use Rattle.std.specs.List.{All}
 use Rattle.toml.specs.View.{table_view}
 use Rattle.lagscript.specs.EventValues.{event_values}
@@ -6,7 +6,7 @@ use Rattle.lagscript.specs.Configs.{config_value, refusal_of_all}
 use Rattle.lagscript.specs.Keys.{keys_among}
 use Rattle.lagscript.specs.Scripts.{events_in, cables_in, script_fault_for, ends_of, limits_of, systems_in, top_keys}
 use Rattle.lagscript.proofs.LimitLemmas.{limits_are}
-use Rattle.lagscript.proofs.ScriptLemmas.{steps_all}
+use Rattle.lagscript.proofs.ScriptLemmas.{not_refused, steps_all}
 use Rattle.lagscript.proofs.script.plan_in.Goals as goal
 
 pub returns-clause-reads : goal.returns-clause-reads
@@ -27,6 +27,12 @@ returns-clause-reads c =
     ∙ ap ends_of c.deref-2.ensures.value) fault in
     inr (steps_all (keys_among top_keys ms) (systems_in ms) (cables_in ms) (λ n. events_in n ms) systems cables events
     (Some c.in-Some.fault) known read_systems read_cables read_acts same_fault)
+
+pub returns-in-None-clause-accepted : goal.returns-in-None-clause-accepted
+returns-in-None-clause-accepted c =
+    let systems = map config_value c.in_ok-systems.systems in
+    let fault : option_and_then script_fault_for (refusal_of_all systems c.in_ok-ends.ends.items) ≡ None = search rules in
+    not_refused systems c.in_ok-ends.ends.items fault
 
 pub returns-in-None-clause-from_one : goal.returns-in-None-clause-from_one
 returns-in-None-clause-from_one c =

@@ -7,7 +7,7 @@ use Rattle.lagsystem.specs.Readers.{aggregator_numbered, distributing}
 use Rattle.lagsystem.specs.Settling.{HoldsConversations, held_unless_on}
 use Rattle.lagsystem.specs.State.{SystemState}
 use Rattle.lagsystem.proofs.Keeps.{settling_joined, settling_parts}
-use Rattle.lagsystem.proofs.Quieting.{paced_runs, settling_quiet, still_settles}
+use Rattle.lagsystem.proofs.Quieting.{paced_runs, settling_none, settling_quiet, still_settles}
 use Rattle.lagsystem.proofs.Rising.{ports_rise}
 use Rattle.lagsystem.proofs.laws.settling_again_is_nothing.Goals as goal
 
@@ -26,6 +26,7 @@ leaves_once : (old new : SystemState) → HoldsConversations old new → HoldsCo
 leaves_once old new h = record {
   frame = refl;
   aggs = refl;
+  conversations = refl;
   first = refl;
   next = refl;
   states = λ g k.
@@ -39,5 +40,5 @@ leaves_once old new h = record {
 pub returns : goal.returns
 returns c old new ports h =
     let k = settling_quiet old new (ports_rise old ports) h in
-    settling_joined new new new (still_settles new new.system_ports k.0 (paced_runs new.system_ports k.1))
+    settling_joined new new new (still_settles new new.system_ports k.0 (settling_none old new h) (paced_runs new.system_ports k.1))
     (leaves_once (settling_parts old new h).0 new (settling_parts old new h).2)

@@ -3,6 +3,8 @@ use Rattle.std.proofs.lemmas.Option.{slice_get-get_or}
 use Rattle.portmachines.specs.Machines.{Machines}
 use Rattle.selection.specs.Choice.{chosen_aggregator}
 use Rattle.selection.specs.declared.view.PortView.{PortView}
+use Rattle.lagtypes.specs.declared.party.Choice.{Choice}
+use Rattle.lagsystem.specs.Settling.{choice_in, with_choice}
 use Rattle.lagsystem.specs.Views.{views}
 use Rattle.lagsystem.proofs.Choosing.{seen_taken}
 use Rattle.lagsystem.proofs.SettlingLemmas.{none_taken, one_taken}
@@ -22,20 +24,23 @@ returns-in-Some-clause-chosen c =
     let i = c.args.place in
     let d = c.index-system_ports-place.result in
     let t = get_or system_ports i c.index-system_ports-place-2.result in
+    let aggs = c.args.aggregators.now in
     ap (λ (p : Machines). slice_set system_ports i (record t { port = p })) c.select.ensures
-    ∙ one_taken c.args.aggregators.now system_ports i (get_or system_ports i d) t (Some c.in-Some.agg)
+    ∙ ap (λ (choice : Choice). slice_set system_ports i (with_choice t (Some choice)))
+    (c.choice_in-choice.ensures ∙ ap (λ (l : List PortView). choice_in aggs l c.in-Some.agg) c.requires.port_views)
+    ∙ one_taken aggs system_ports i (get_or system_ports i d) t (Some c.in-Some.agg)
     (slice_get-get_or system_ports i d c.requires.within)
     (slice_get-get_or system_ports i c.index-system_ports-place-2.result c.requires.within)
     (sym c.is_eligible.ensures ∙ c.if-not-is_eligible.false)
     (sym c.in-Some.is ∙ c.choose.ensures.exact
-    ∙ ap (λ (l : List PortView). chosen_aggregator c.args.aggregators.now l t.number) c.requires.port_views)
+    ∙ ap (λ (l : List PortView). chosen_aggregator c.args.aggregators.now.keys l t.number) c.requires.port_views)
 
 pub returns-in-Some-clause-port_views : goal.returns-in-Some-clause-port_views
 returns-in-Some-clause-port_views c =
     let system_ports = c.args.system_ports.now in
     let i = c.args.place in
     let t = get_or system_ports i c.index-system_ports-place-2.result in
-    seen_taken c.args.port_views.now system_ports i _ c.index-system_ports-place-2.result c.in-Some.agg
+    seen_taken c.args.port_views.now system_ports i _ c.index-system_ports-place-2.result c.choice_in-choice.result
     c.requires.port_views c.requires.within
     ∙ ap (λ (p : Machines). views (slice_set system_ports i (record t { port = p }))) (sym c.select.ensures)
 
@@ -50,4 +55,4 @@ returns-in_default-clause-chosen c =
     (slice_get-get_or system_ports i c.index-system_ports-place-2.result c.requires.within)
     (sym c.is_eligible.ensures ∙ c.if-not-is_eligible.false)
     (sym c.in_default.is ∙ c.choose.ensures.exact
-    ∙ ap (λ (l : List PortView). chosen_aggregator c.args.aggregators.now l t.number) c.requires.port_views)
+    ∙ ap (λ (l : List PortView). chosen_aggregator c.args.aggregators.now.keys l t.number) c.requires.port_views)

@@ -6,5 +6,5 @@ use Rattle.lagsystem.proofs.Lists.{SoFar}
 use Rattle.lagsystem.proofs.settling.run_each_mux.Given as goal
 
 abbrev pub invariant-loop-system_port : goal.invariant-loop-system_port
-invariant-loop-system_port l = SoFar (PortChangesBy (λ p q. RunsToRest (mux_rows (ready_of l.aggregators l.port_views p.choice)) p q))
+invariant-loop-system_port l = SoFar (PortChangesBy (λ p q. RunsToRest (mux_rows (ready_of l.aggregators.keys l.port_views p.choice)) p q))
     l.system_port-index l.initial.system_ports l.system_ports

@@ -1,4 +1,4 @@
-use Rattle.std.proofs.Common.{◌≡◌, List, length, map, ap, sym, ◌∙◌, subst}
+use Rattle.std.proofs.Common.{List, length, map, ap, sym, ◌∙◌, subst}
 use Rattle.std.proofs.lemmas.List.{length-map}
 use Rattle.distributor.specs.Calls.{PicksIndexes}
 use Rattle.lagworld.specs.Events.{Algorithms, WorldRuns}

@@ -6,7 +6,7 @@ use Rattle.lagworld.proofs.start.first_flows.Given as goal
 abbrev pub invariant-loop-made : goal.invariant-loop-made
 invariant-loop-made l = record {
   within : l.made ≤ l.count;
-  same : map (λ xs. map flow_value xs.items) l.rows.items ≡ replicate l.made first_aggregator_flows;
+  same : map (λ xs. map flow_value xs.items) l.rows.items ≡ replicate l.made (first_aggregator_flows l.conversations);
   count : vec_len l.rows ≡ l.made;
   room : l.count ≤ vec_capacity l.rows;
 }

@@ -1,5 +1,5 @@
 use Rattle.std.proofs.Common.{◌≡◌, ◌≤◌, ◌+◌, drop}
-use Rattle.selection.specs.Choice.{has_no_member, members_share_group, lowest, lowest_from, or_else}
+use Rattle.selection.specs.Choice.{has_no_occupant, occupants_share_group, lowest, lowest_from, or_else}
 use Rattle.selection.specs.Standing.{Tells}
 use Rattle.selection.proofs.aggregators.choose_if_eligible.Given as goal
 
@@ -8,8 +8,8 @@ invariant-loop-key l = record {
   place : l.number ≡ l.key-index;
   tells : Tells l.views l.port l.standings.before l.standings.list;
   behind : l.standings.before ≤ l.number;
-  joinable : lowest_from (l.key-index + 1) (drop l.key-index l.keys) l.port.party.key (members_share_group l.views l.port) ≡ lowest l.keys
-      l.port.party.key (members_share_group l.views l.port);
-  vacant : or_else l.empty (lowest_from (l.key-index + 1) (drop l.key-index l.keys) l.port.party.key (has_no_member l.views)) ≡ lowest
-      l.keys l.port.party.key (has_no_member l.views);
+  joinable : lowest_from (l.key-index + 1) (drop l.key-index l.keys) l.port.party.key (occupants_share_group l.views l.port) ≡ lowest l.keys
+      l.port.party.key (occupants_share_group l.views l.port);
+  vacant : or_else l.empty (lowest_from (l.key-index + 1) (drop l.key-index l.keys) l.port.party.key (has_no_occupant l.views)) ≡ lowest
+      l.keys l.port.party.key (has_no_occupant l.views);
 }

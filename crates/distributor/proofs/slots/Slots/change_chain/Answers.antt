@@ -1,12 +1,12 @@
-use Rattle.std.proofs.Common.{◌≡◌, ◌<◌, ◌+◌, ◌||◌, ℕ, Bool, false, List, None, get_or, sym, refl, ap, ◌∙◌, arith, subst}
+use Rattle.std.proofs.Common.{◌≡◌, ◌<◌, ◌+◌, ◌||◌, ℕ, Bool, true, false, List, None, get_or, sym, refl, ap, ◌∙◌, arith, subst}
 use Rattle.std.proofs.lemmas.List.{get_or_read}
-use Rattle.std.proofs.lemmas.Bool.{or_left, or_right}
+use Rattle.std.proofs.lemmas.Bool.{or_left}
 use Rattle.distributor.specs.declared.assignment.Assignment.{Assignment}
 use Rattle.distributor.specs.declared.assignment.Assignment.TheVariants.{Free}
 use Rattle.distributor.specs.declared.change.Change.{Change}
 use Rattle.distributor.specs.Changes.{after_change}
-use Rattle.distributor.specs.Chains.{assignment_port, slot_state, IsChained}
-use Rattle.distributor.proofs.FlagLemmas.{change_flagged}
+use Rattle.distributor.specs.Chains.{assignment_port, is_flagged, is_flushing, is_wanted, slot_state, IsChained}
+use Rattle.distributor.proofs.FlagLemmas.{change_flagged, flagged_more, flagged_noted}
 use Rattle.distributor.proofs.WalkLemmas.{Walking, steps, walk_begins, walk_ends, walk_below, walk_after, walk_before, step_stays}
 use Rattle.distributor.proofs.WalkLemmas.{step_leaves, stays_smaller, leaves_smaller, port_kept, walk_all, walk_found}
 use Rattle.distributor.proofs.slots.Slots.change_chain.Goals as goal
@@ -14,13 +14,22 @@ use Rattle.distributor.proofs.slots.Slots.change_chain.Goals as goal
 -- the first place of a chain, as it is read
 begin : (count : ℕ) (states : List Assignment) (next prev : List ℕ) (h : IsChained count states next prev) (chain at : ℕ) (f : Assignment
     → Assignment) → chain < 64
-    → at ≡ get_or next (count + chain) at → Walking chain f count states states next prev at false
+    → at ≡ get_or next (count + chain) at → Walking chain f count states states next prev at (is_flagged false false)
 begin count states next prev h chain at f lt read =
     let e : at ≡ get_or next (count + chain) 0 = get_or_read next (count + chain) at (omega (arith, h.next_len, lt)) read 0 in
-    subst (λ a. Walking chain f count states states next prev a false) (sym e) (walk_begins chain f count states next prev h lt false)
+    subst (λ a. Walking chain f count states states next prev a (is_flagged false false)) (sym e)
+    (walk_begins chain f count states next prev h lt (is_flagged false false))
+
+-- the flags with one more state noted
+noted_more : (w x f g : Bool) (s : Assignment) → is_flagged w f s ≡ true → is_flagged (w || x) (f || g) s ≡ true
+noted_more w x f g s e = flagged_more w (w || x) f (f || g) (λ h. or_left w x h) (λ h. or_left f g h) s e
+
+noted_here : (w x f g : Bool) (s : Assignment) → x ≡ is_wanted s → g ≡ is_flushing s → is_flagged (w || x) (f || g) s ≡ true
+noted_here w x f g s m n = ap (λ b. is_flagged (w || b) (f || g) s) m ∙ ap (λ b. is_flagged (w || is_wanted s) (f || b) s) n
+    ∙ flagged_noted w f s
 
 -- what is read at a place of the walk
-module _ (chain : ℕ) (change : Change) (count : ℕ) (olds states : List Assignment) (next prev : List ℕ) (at : ℕ) (found : Bool)
+module _ (chain : ℕ) (change : Change) (count : ℕ) (olds states : List Assignment) (next prev : List ℕ) (at : ℕ) (found : Assignment → Bool)
     (w : Walking chain (after_change change) count olds states next prev at found) (n : at ≡ count + chain → ⊥) where
   below : at < count
   below = walk_below chain (after_change change) count olds states next prev at found w n
@@ -35,7 +44,8 @@ pub loop-at-init : goal.loop-at-init
 loop-at-init c = record {
   walking = begin _ _ _ _ c.requires.chained c.args.chain _ _ c.requires.below c.index-at.ensures;
   count = refl;
-  flags = refl;
+  wanted = refl;
+  flushing = refl;
   end = refl;
 }
 
@@ -99,11 +109,12 @@ loop-at-preserved-in-None c =
     let free : assignment_port c.apply-state.result ≡ None = sym c.port.ensures ∙ c.in-None.is in
     record {
       walking = step_leaves c.args.chain (after_change c.args.change) _ _ _ _ _ _ _ w n _ is _ goes _ _ c.take_from_ring.ensures.next
-          c.take_from_ring.ensures.prev (c.loop-at.flushing || c.is_flushing-flushing.result)
-          (λ e. or_left c.loop-at.flushing c.is_flushing-flushing.result e) (λ e. or_right c.loop-at.flushing c.is_flushing-flushing.result
-          (c.is_flushing-flushing.ensures ∙ e)) free;
+          c.take_from_ring.ensures.prev _ (noted_more c.loop-at.wanted c.is_wanted-wanted.result c.loop-at.flushing
+          c.is_flushing-flushing.result)
+          (noted_here _ _ _ _ c.apply-state.result c.is_wanted-wanted.ensures c.is_flushing-flushing.ensures) free;
       count = i.count;
-      flags = i.flags;
+      wanted = i.wanted;
+      flushing = i.flushing;
       end = i.end;
     }
 
@@ -135,11 +146,12 @@ loop-at-preserved c =
     let stays : assignment_port c.apply-state.result ≡ assignment_port (slot_state c.loop-at.self.states.items c.loop-at.at) =
     ap assignment_port is ∙ port_kept c.args.change _ c.in-Some.field-0 (sym (ap assignment_port is) ∙ sym c.port.ensures ∙ c.in-Some.is) in
     record {
-      walking = step_stays c.args.chain (after_change c.args.change) _ _ _ _ _ _ _ w n _ is _ goes (c.loop-at.flushing
-          || c.is_flushing-flushing.result) (λ e. or_left c.loop-at.flushing c.is_flushing-flushing.result e)
-          (λ e. or_right c.loop-at.flushing c.is_flushing-flushing.result (c.is_flushing-flushing.ensures ∙ e)) stays;
+      walking = step_stays c.args.chain (after_change c.args.change) _ _ _ _ _ _ _ w n _ is _ goes _
+          (noted_more c.loop-at.wanted c.is_wanted-wanted.result c.loop-at.flushing c.is_flushing-flushing.result)
+          (noted_here _ _ _ _ c.apply-state.result c.is_wanted-wanted.ensures c.is_flushing-flushing.ensures) stays;
       count = i.count;
-      flags = i.flags;
+      wanted = i.wanted;
+      flushing = i.flushing;
       end = i.end;
     }
 
@@ -169,8 +181,8 @@ pub returns-clause-flagged : goal.returns-clause-flagged
 returns-clause-flagged c =
     let i = c.loop-at.invariant in
     let e = c.loop-at-test.false ∙ i.end in
-    rw i.flags
-    (change_flagged c.args.change c.args.chain c.args.self.now.states.items c.loop-at.self.states.items c.args.self.now.flushing.items
-    c.loop-at.flushing c.requires.below c.requires.flagged
+    rw (i.wanted, i.flushing)
+    (change_flagged c.args.change c.args.chain c.args.self.now.states.items c.loop-at.self.states.items c.args.self.now.wanted.items
+    c.args.self.now.flushing.items c.loop-at.wanted c.loop-at.flushing c.requires.below c.requires.flagged
     (walk_all c.args.chain (after_change c.args.change) _ _ _ _ _ _ _ i.walking e)
     (walk_found c.args.chain (after_change c.args.change) _ _ _ _ _ _ _ i.walking e))

@@ -1,14 +1,16 @@
 use Rattle.std.proofs.Common.{◌≡◌, ◌+◌}
 use Rattle.distributor.specs.Changes.{after_change}
+use Rattle.distributor.specs.Chains.{is_flagged}
 use Rattle.distributor.proofs.WalkLemmas.{Walking, steps}
 use Rattle.distributor.proofs.slots.Slots.change_chain.Given as goal
 
 abbrev pub invariant-loop-at : goal.invariant-loop-at
 invariant-loop-at l = record {
   walking : Walking l.chain (after_change l.change) l.fn.self.count l.fn.self.states.items l.self.states.items l.self.next.items
-      l.self.prev.items l.at l.flushing;
+      l.self.prev.items l.at (is_flagged l.wanted l.flushing);
   count : l.self.count ≡ l.fn.self.count;
-  flags : l.self.flushing ≡ l.fn.self.flushing;
+  wanted : l.self.wanted ≡ l.fn.self.wanted;
+  flushing : l.self.flushing ≡ l.fn.self.flushing;
   end : l.end ≡ l.fn.self.count + l.chain;
 }
 

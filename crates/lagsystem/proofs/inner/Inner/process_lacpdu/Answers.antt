@@ -1,4 +1,4 @@
-use Rattle.std.proofs.Common.{◌≡◌, ◌∙◌, Some, true, arith, slice_get, subst, sym, List}
+use Rattle.std.proofs.Common.{◌≡◌, ◌≤◌, ◌∙◌, Some, true, ap, arith, length, slice_get, subst, sym, List}
 use Rattle.std.specs.Vec.{with_items}
 use Rattle.std.proofs.lemmas.List.{with_items_is}
 use Rattle.std.proofs.lemmas.Option.{slice_get-get_or}
@@ -8,11 +8,20 @@ use Rattle.lagsystem.specs.Calls.{PortAtChangesBy, OnlyPortChangesBy, ThenSettle
 use Rattle.lagsystem.specs.Inner.{inner_state}
 use Rattle.lagsystem.specs.NothingToSettle.{ProcessesLacpduAt}
 use Rattle.lagsystem.specs.State.{with_system_ports}
+use Rattle.lagsystem.proofs.Keeps.{few_ports}
 use Rattle.lagsystem.proofs.PlaceLemmas.{were_before}
 use Rattle.lagsystem.proofs.Settled.{place_carried}
 use Rattle.lagsystem.proofs.Skipping.{on_place_taken, took_quietly}
 use Rattle.lagsystem.proofs.StateLemmas.{on_port_made}
 use Rattle.lagsystem.proofs.inner.Inner.process_lacpdu.Goals as goal
+
+pub aggregators_in_use_before-before-requires-clause-few : goal.aggregators_in_use_before-before-requires-clause-few
+aggregators_in_use_before-before-requires-clause-few g c =
+    let v = c.args.self.now.system_ports in
+    let ws = c.process_lacpdu_at.new.system_ports in
+    let few : length v.items ≤ 64 = few_ports (inner_state c.args.self.now) c.requires.sound.ports in
+    let same : length c.deref.result.now ≡ length ws = ap length (c.deref.ensures.value ∙ with_items_is v ws (omega arith)) in
+    omega (arith, few, same)
 
 pub settle-requires : goal.settle-requires
 settle-requires g c =
@@ -52,7 +61,7 @@ returns-then-process_lacpdu_at-clause-settled g c =
     ∙ with_items_is v ws (omega arith)) c.run_periodic_at.ensures in
     subst (λ (l : List SystemPort). ThenSettles (OnlyPortChangesBy (Some i) (ProcessesLacpdu pdu)) s (with_system_ports s l))
     (sym (with_items_is one last (omega arith)))
-    (took_quietly pdu s i ws last c.requires.sound.quiet c.requires.sound.carried took paced)
+    (took_quietly pdu s i ws last c.requires.sound.quiet c.requires.sound.promoted c.requires.sound.carried took paced)
 
 pub returns-else-process_lacpdu_at-clause-settled : goal.returns-else-process_lacpdu_at-clause-settled
 returns-else-process_lacpdu_at-clause-settled g c =

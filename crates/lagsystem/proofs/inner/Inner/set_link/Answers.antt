@@ -1,7 +1,7 @@
-use Rattle.std.proofs.Common.{◌∙◌, ap, arith, refl}
+use Rattle.std.proofs.Common.{◌∙◌, Some, ap, arith, refl, subst}
 use Rattle.std.specs.Vec.{with_items}
 use Rattle.std.proofs.lemmas.List.{with_items_is}
-use Rattle.lagsystem.specs.Calls.{SetsPortEnabled}
+use Rattle.lagsystem.specs.Calls.{PortAtChangesBy, SetsPortEnabled}
 use Rattle.lagsystem.specs.Inner.{inner_state}
 use Rattle.lagsystem.specs.Holding.{aggregators_in_use}
 use Rattle.lagsystem.proofs.PlaceLemmas.{goes_by_number}
@@ -15,10 +15,11 @@ settle-requires g c =
     let ws = c.set_link_at.new.system_ports in
     let news = (with_items v ws).items in
     let t = c.free_conversations_if_down.new.distributor.table in
-    let acted = goes_by_number (SetsPortEnabled c.args.up) c.args.number c.in_ok-place.place s.system_ports c.deref_mut.result.now ws
-    c.deref_mut.ensures.value c.in_ok-place.ensures.place c.set_link_at.ensures in
+    let acted = goes_by_number (SetsPortEnabled s.max_links c.args.up) c.args.number c.in_ok-place.place s.system_ports c.deref_mut.result.now ws
+    c.deref_mut.ensures.value c.in_ok-place.ensures.place (subst (λ o. PortAtChangesBy (SetsPortEnabled o c.args.up) (Some c.in_ok-place.place)
+    c.deref_mut.result.now ws) c.max_links.ensures c.set_link_at.ensures) in
     let own = link_made c.args.number c.args.up s c.deref_mut.result.now ws news t c.deref_mut.ensures.value
-    (with_items_is v ws (omega arith)) refl acted c.free_conversations_if_down.ensures.frees in
+    (with_items_is v ws (omega arith)) refl refl acted c.free_conversations_if_down.ensures.frees in
     link_carried c.args.number c.args.up s (moved_on s news t) c.as_slice.result.now c.requires own (c.as_slice.ensures.value
     ∙ c.aggregators_in_use-before.ensures ∙ ap aggregators_in_use c.deref.ensures.value)
 
@@ -29,10 +30,11 @@ returns-clause-step g c =
     let ws = c.set_link_at.new.system_ports in
     let news = (with_items v ws).items in
     let t = c.free_conversations_if_down.new.distributor.table in
-    let acted = goes_by_number (SetsPortEnabled c.args.up) c.args.number c.in_ok-place.place s.system_ports c.deref_mut.result.now ws
-    c.deref_mut.ensures.value c.in_ok-place.ensures.place c.set_link_at.ensures in (
+    let acted = goes_by_number (SetsPortEnabled s.max_links c.args.up) c.args.number c.in_ok-place.place s.system_ports c.deref_mut.result.now ws
+    c.deref_mut.ensures.value c.in_ok-place.ensures.place (subst (λ o. PortAtChangesBy (SetsPortEnabled o c.args.up) (Some c.in_ok-place.place)
+    c.deref_mut.result.now ws) c.max_links.ensures c.set_link_at.ensures) in (
       moved_on s news t,
-      link_made c.args.number c.args.up s c.deref_mut.result.now ws news t c.deref_mut.ensures.value (with_items_is v ws (omega arith)) refl
+      link_made c.args.number c.args.up s c.deref_mut.result.now ws news t c.deref_mut.ensures.value (with_items_is v ws (omega arith)) refl refl
           acted c.free_conversations_if_down.ensures.frees,
       c.settle.ensures.settled,
     )

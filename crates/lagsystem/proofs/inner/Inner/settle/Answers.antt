@@ -20,9 +20,9 @@ returns-clause-settled g c =
     let start = inner_state c.args.self.now in
     let mid = inner_state c.settle_ports.new.self in
     let t = c.hold_conversations.new.distributor.table in
-    let new = record mid { first_marker = t.first; table = t } in
+    let new = record mid { first_marker = t.first; conversations = t.conversations; table = t } in
     let changes = subst (λ (l : List SystemPort). ChangesAssignments mid.table t (after_holding (stopped c.args.before.now l)))
     c.deref.ensures.value c.hold_conversations.ensures.changed in
     settling_joined start mid new c.settle_ports.ensures.settled
     (leaves_made c.args.before.now start mid new c.requires (ports_keep start mid c.settle_ports.ensures.settled).same
-    (ports_table start mid c.settle_ports.ensures.settled) changes (table_taken mid t changes.first))
+    (ports_table start mid c.settle_ports.ensures.settled) changes (table_taken mid t changes.first changes.conversations))

@@ -13,7 +13,7 @@ settle-requires g c =
     let ws = c.tick_each.new.system_ports in
     let news = (with_items v ws).items in
     let t = c.tick.new.self.table in
-    let own = tick_made s c.deref_mut.result.now ws news t c.deref_mut.ensures.value (with_items_is v ws (omega arith)) refl
+    let own = tick_made s c.deref_mut.result.now ws news t c.deref_mut.ensures.value (with_items_is v ws (omega arith)) refl refl
     c.tick_each.ensures c.tick.ensures.changed in
     tick_carried s (moved_on s news t) c.as_slice.result.now c.requires own (c.as_slice.ensures.value ∙ c.aggregators_in_use-before.ensures
     ∙ ap aggregators_in_use c.deref.ensures.value)
@@ -26,7 +26,7 @@ returns-clause-step g c =
     let news = (with_items v ws).items in
     let t = c.tick.new.self.table in (
       moved_on s news t,
-      tick_made s c.deref_mut.result.now ws news t c.deref_mut.ensures.value (with_items_is v ws (omega arith)) refl
+      tick_made s c.deref_mut.result.now ws news t c.deref_mut.ensures.value (with_items_is v ws (omega arith)) refl refl
           c.tick_each.ensures c.tick.ensures.changed,
       c.settle.ensures.settled,
     )

@@ -1,7 +1,12 @@
 use Rattle.std.proofs.Common.{ap, sym, refl, ◌∙◌}
 use Rattle.lagworld.specs.Making.{are_empty_lines, first_links}
-use Rattle.lagworld.proofs.Making.{made_start, same_test, second_accepted}
+use Rattle.lagworld.proofs.Making.{first_accepted, made_start, same_test, second_accepted}
 use Rattle.lagworld.proofs.inner.Inner.new.Goals as goal
+
+pub new-requires-clause-accepted : goal.new-requires-clause-accepted
+new-requires-clause-accepted g c =
+    first_accepted c.args.config c.in-Some-both.systems.0 c.in-Some-both.systems.1 c.in-Some-both.ensures
+    (sym c.refusal.ensures ∙ c.in_default.is)
 
 pub new-requires-2-clause-accepted : goal.new-requires-2-clause-accepted
 new-requires-2-clause-accepted g c =

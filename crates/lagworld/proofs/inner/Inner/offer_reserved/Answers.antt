@@ -1,10 +1,11 @@
-use Rattle.std.proofs.Common.{refl, subst, Ok, Err}
+use Rattle.std.proofs.Common.{◌∙◌, refl, subst, Ok, Err}
 use Rattle.lagworld.specs.declared.reply.Reply.TheVariants as reply
 use Rattle.lagworld.specs.Asking.{WorldAsksOffer}
 use Rattle.lagworld.specs.WorldCalls.{world_state}
 use Rattle.lagworld.specs.Sides.{model_side}
 use Rattle.lagworld.specs.Sound.{both_algorithms}
-use Rattle.lagworld.proofs.OfferLemmas.{offers_of, long_enough, taken_there}
+use Rattle.lagworld.specs.State.{half}
+use Rattle.lagworld.proofs.OfferLemmas.{offers_of, long_enough, same_number, taken_there}
 use Rattle.lagworld.proofs.inner.Inner.offer_reserved.Goals as goal
 
 pub returns-in-Err-clause-offers : goal.returns-in-Err-clause-offers
@@ -41,6 +42,8 @@ send_offered-requires-clause-conversation g c =
     c.ask_offer.ensures.assigns in
     c.requires.conversation (long_enough gives (model_side c.args.side) c.args.agg c.args.octets.items c.ask_offer.result
     c.in-Ok.port old mid c.in-Ok.is x)
+    ∙ same_number c.args.octets.items (half (model_side c.args.side) old).state (half (model_side c.args.side) mid).state
+    x.0.answers.conversations
 
 pub send_offered-requires-clause-there : goal.send_offered-requires-clause-there
 send_offered-requires-clause-there g c =

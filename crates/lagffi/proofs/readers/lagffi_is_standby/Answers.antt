@@ -1,0 +1,8 @@
+use mathlib.Core.Path.{◌∙◌, ap}
+use Rattle.lagffi.specs.ReaderValues.{standby_or_no_port}
+use Rattle.lagffi.proofs.AskingLemmas.{asked}
+use Rattle.lagffi.proofs.readers.lagffi_is_standby.Goals as goal
+
+pub returns : goal.returns
+returns c = asked _ _ c.in-Some.ensures.taken c.with_algorithm-system.ensures.state c.with_algorithm.ensures.state c.put.ensures
+    (c.standby_or_no_port-answer.ensures ∙ ap standby_or_no_port c.choice.ensures)

@@ -1,0 +1,8 @@
+use mathlib.Core.Path.{◌∙◌, ap}
+use Rattle.lagffi.specs.Numbers.{number_or_refused}
+use Rattle.lagffi.proofs.AskingLemmas.{asked}
+use Rattle.lagffi.proofs.readers.lagffi_wait_while.Goals as goal
+
+pub returns : goal.returns
+returns c = asked _ _ c.in-Some.ensures.taken c.with_algorithm-system.ensures.state c.with_algorithm.ensures.state c.put.ensures
+    (c.of_wait_while-answer.ensures ∙ ap (number_or_refused 1) c.wait_while.ensures)

@@ -1,0 +1,338 @@
+-- How many members an aggregator has, and that no STANDBY port comes next after step 2 of settling.
+use Rattle.std.proofs.Common.{◌≡◌, ℕ, zero, suc, ◌+◌, ◌<◌, ◌≤◌, Bool, true, false, cond, ◌&&◌, List, [], ◌∷◌, ◌⊎◌, inl, inr, refl, sym, ◌∙◌}
+use Rattle.std.proofs.Common.{subst, ap, arith, length, Option, Some, None}
+use Rattle.std.specs.Prelude.{◌==◌, nat_le, nat_lt, option_map, slice_get, slice_set}
+use Rattle.std.specs.List.{AllByRecursion}
+use Rattle.std.proofs.lemmas.Bool.{and_parts, cases_Bool, eqb-true}
+use Rattle.std.proofs.lemmas.Bool.Decides.{nat_tests}
+use Rattle.std.proofs.lemmas.Option.{none-some, same_Some}
+use Rattle.lagtypes.specs.declared.identifiers.AggId.{AggId}
+use Rattle.lagtypes.specs.declared.party.Choice.{Choice}
+use Rattle.lagtypes.specs.declared.party.Choice.TheVariants.{Unselected, Selected, Standby}
+use Rattle.portmachines.specs.Machines.{Machines}
+use Rattle.selection.specs.declared.view.PortView.{PortView}
+use Rattle.selection.specs.Views.{has_chosen, is_eligible, stands_by}
+use Rattle.selection.specs.Choice.{chosen_aggregator, is_aggregator, ports_that_chose}
+use Rattle.selection.specs.Limits.{AggregatorsValue, has_room, is_below}
+use Rattle.selection.proofs.LimitLemmas.{NoneStandsBy, is_next, none_is_next, nothing_is_next}
+use Rattle.lagsystem.specs.declared.system_ports.SystemPort.{SystemPort}
+use Rattle.lagsystem.specs.Occupants.{NoneIsNext, WithinLimit}
+use Rattle.lagsystem.specs.Readers.{aggregator_numbered}
+use Rattle.lagsystem.specs.Settling.{ChoosesIn, PortsChangeBy, PromotesFirst, PromotesNext, aggregator_for}
+use Rattle.lagsystem.specs.Settling.{choice_if, choice_in, with_choice}
+use Rattle.lagsystem.specs.Views.{selection_view, views}
+use Rattle.lagsystem.proofs.NoneLeft.{eligible_then, unselected}
+use Rattle.lagsystem.proofs.Occupying.{LeavesOrStays}
+use Rattle.lagsystem.proofs.PromotionLemmas.{all_keep, choices_keep, promotions_keep}
+
+-- counts
+
+abbrev pub count : AggId → List SystemPort → ℕ
+count agg [] = zero
+count agg (s ∷ ss) = cond (has_chosen agg s.port.choice) (suc (count agg ss)) (count agg ss)
+
+one_counted : (b : Bool) (v : PortView) (rest : List PortView) (n : ℕ) → length rest ≡ n → length (cond b (v ∷ rest) rest) ≡ cond b (suc n) n
+one_counted true v rest n h = ap (λ m. suc m) h
+one_counted false v rest n h = h
+
+counted : (agg : AggId) (l : List SystemPort) → length (ports_that_chose agg (views l)) ≡ count agg l
+counted agg [] = refl
+counted agg (s ∷ ss) = one_counted (has_chosen agg s.port.choice) (selection_view s) (ports_that_chose agg (views ss)) (count agg ss)
+    (counted agg ss)
+
+-- no aggregator has more members than before
+abbrev pub Fewer : List SystemPort → List SystemPort → Type 0
+Fewer old new = (agg : AggId) → count agg new ≤ count agg old
+
+same_bit : (b : Bool) (m n : ℕ) → m ≤ n → cond b (suc m) m ≤ cond b (suc n) n
+same_bit true m n h = omega (arith, h)
+same_bit false m n h = h
+
+no_bit : (b : Bool) (m n : ℕ) → m ≤ n → m ≤ cond b (suc n) n
+no_bit true m n h = omega (arith, h)
+no_bit false m n h = h
+
+bit_less : (agg : AggId) (c d : Choice) (m n : ℕ) → (d ≡ Unselected) ⊎ (d ≡ c) → m ≤ n
+    → cond (has_chosen agg d) (suc m) m ≤ cond (has_chosen agg c) (suc n) n
+bit_less agg c d m n h l = elim h [
+  | inl e ↦ subst (λ x. cond (has_chosen agg x) (suc m) m ≤ cond (has_chosen agg c) (suc n) n) (sym e) (no_bit (has_chosen agg c) m n l)
+  | inr e ↦ subst (λ x. cond (has_chosen agg x) (suc m) m ≤ cond (has_chosen agg c) (suc n) n) (sym e) (same_bit (has_chosen agg c) m n l)
+]
+
+left_or_same : (p q : Machines) → LeavesOrStays p q → (q.choice ≡ Unselected) ⊎ (q.choice ≡ p.choice)
+left_or_same p q h = elim h [ inl e ↦ inl e | inr e ↦ inr e.0 ]
+
+pub same_fewer : (old new : List SystemPort) → new ≡ old → Fewer old new
+same_fewer old new e agg = subst (λ l. count agg l ≤ count agg old) (sym e) (omega arith)
+
+pub zip_fewer : (R : Machines → Machines → Type 0) → ((p q : Machines) → R p q → LeavesOrStays p q) → (xs ys : List SystemPort)
+    → PortsChangeBy R xs ys → Fewer xs ys
+zip_fewer R k [] [] h agg = omega arith
+zip_fewer R k [] (y ∷ ys) h agg = absurd h
+zip_fewer R k (x ∷ xs) [] h agg = absurd h
+zip_fewer R k (x ∷ xs) (y ∷ ys) h agg =
+    bit_less agg x.port.choice y.port.choice (count agg ys) (count agg xs) (left_or_same x.port y.port (k x.port y.port h.0.1))
+    (zip_fewer R k xs ys h.1 agg)
+
+pub set_fewer : (xs : List SystemPort) (i : ℕ) (s t : SystemPort) → slice_get xs i ≡ Some s → LeavesOrStays s.port t.port
+    → Fewer xs (slice_set xs i t)
+set_fewer [] i s t e h agg = absurd (none-some s e)
+set_fewer (x ∷ xs) zero s t e h agg =
+    let same : s.port ≡ x.port = ap (λ (z : SystemPort). z.port) (sym (same_Some x s e)) in
+    bit_less agg x.port.choice t.port.choice (count agg xs) (count agg xs)
+    (left_or_same x.port t.port (subst (λ p. LeavesOrStays p t.port) same h)) (omega arith)
+set_fewer (x ∷ xs) (suc i) s t e h agg = same_bit (has_chosen agg x.port.choice) (count agg (slice_set xs i t)) (count agg xs)
+    (set_fewer xs i s t e h agg)
+
+-- one port gets a value of Selected
+
+one_more : (b h : Bool) (n : ℕ) → cond b (suc n) n ≤ cond h (suc n) n + cond b 1 0
+one_more true true n = omega arith
+one_more true false n = omega arith
+one_more false true n = omega arith
+one_more false false n = omega arith
+
+later_more : (h : Bool) (m n k : ℕ) → m ≤ n + k → cond h (suc m) m ≤ cond h (suc n) n + k
+later_more true m n k l = omega (arith, l)
+later_more false m n k l = l
+
+set_more : (agg : AggId) (l : List SystemPort) (i : ℕ) (s : SystemPort) (c : Choice)
+    → count agg (slice_set l i (with_choice s (Some c))) ≤ count agg l + cond (has_chosen agg c) 1 0
+set_more agg [] i s c = omega arith
+set_more agg (x ∷ xs) zero s c = one_more (has_chosen agg c) (has_chosen agg x.port.choice) (count agg xs)
+set_more agg (x ∷ xs) (suc i) s c = later_more (has_chosen agg x.port.choice) (count agg (slice_set xs i (with_choice s (Some c))))
+    (count agg xs) (cond (has_chosen agg c) 1 0) (set_more agg xs i s c)
+
+grows_here : (b h : Bool) (n : ℕ) → h ≡ false → cond h (suc n) n ≤ cond b (suc n) n
+grows_here true true n e = omega arith
+grows_here false true n e = absurd cc
+grows_here true false n e = omega arith
+grows_here false false n e = omega arith
+
+set_grows : (agg : AggId) (l : List SystemPort) (i : ℕ) (s : SystemPort) (c : Choice) → slice_get l i ≡ Some s
+    → has_chosen agg s.port.choice ≡ false → count agg l ≤ count agg (slice_set l i (with_choice s (Some c)))
+set_grows agg [] i s c e h = absurd (none-some s e)
+set_grows agg (x ∷ xs) zero s c e h = grows_here (has_chosen agg c) (has_chosen agg x.port.choice) (count agg xs)
+    (ap (λ (z : SystemPort). has_chosen agg z.port.choice) (same_Some x s e) ∙ h)
+set_grows agg (x ∷ xs) (suc i) s c e h = same_bit (has_chosen agg x.port.choice) (count agg xs)
+    (count agg (slice_set xs i (with_choice s (Some c)))) (set_grows agg xs i s c e h)
+
+-- the limit
+
+pub within_fewer : (max_links : Option ℕ) (old new : List SystemPort) → Fewer old new → WithinLimit max_links (views old)
+    → WithinLimit max_links (views new)
+within_fewer None old new h w = tt
+within_fewer (Some most) old new h w = λ agg. omega (arith, h agg, w agg, counted agg old, counted agg new)
+
+below_most : (k : Bool) (n most : ℕ) → (k && nat_lt n most) ≡ true → n < most
+below_most true n most h = grind (arith, nat_tests)
+below_most false n most h = absurd cc
+
+fits_one : (agg a : AggId) (l : List SystemPort) (i : ℕ) (s : SystemPort) (most : ℕ) (k b : Bool) → (agg.0 == a.0) ≡ b
+    → (k && nat_lt (length (ports_that_chose agg (views l))) most) ≡ true → length (ports_that_chose a (views l)) ≤ most
+    → length (ports_that_chose a (views (slice_set l i (with_choice s (Some (Selected agg)))))) ≤ most
+fits_one agg a l i s most k true e room w =
+    let m : List SystemPort = slice_set l i (with_choice s (Some (Selected agg))) in
+    let number : agg.0 ≡ a.0 = eqb-true agg.0 a.0 e in
+    let same : count agg l ≡ count a l = λ j. count (record { 0 = number j }) l in
+    let more : count a m ≤ count a l + 1 = subst (λ b. count a m ≤ count a l + cond b 1 0) e (set_more a l i s (Selected agg)) in
+    omega (arith, more, counted a m, counted agg l, same, below_most k (length (ports_that_chose agg (views l))) most room)
+fits_one agg a l i s most k false e room w =
+    let m : List SystemPort = slice_set l i (with_choice s (Some (Selected agg))) in
+    let more : count a m ≤ count a l + 0 = subst (λ b. count a m ≤ count a l + cond b 1 0) e (set_more a l i s (Selected agg)) in
+    omega (arith, more, counted a m, counted a l, w)
+
+selected_within : (max_links : Option ℕ) (l : List SystemPort) (i : ℕ) (s : SystemPort) (agg : AggId) (k : Bool)
+    → (k && is_below max_links (length (ports_that_chose agg (views l)))) ≡ true → WithinLimit max_links (views l)
+    → WithinLimit max_links (views (slice_set l i (with_choice s (Some (Selected agg)))))
+selected_within None l i s agg k room w = tt
+selected_within (Some most) l i s agg k room w = λ a. fits_one agg a l i s most k (agg.0 == a.0) refl room (w a)
+
+standby_within : (max_links : Option ℕ) (l : List SystemPort) (i : ℕ) (s : SystemPort) (agg : AggId) → WithinLimit max_links (views l)
+    → WithinLimit max_links (views (slice_set l i (with_choice s (Some (Standby agg)))))
+standby_within max_links l i s agg w =
+    within_fewer max_links l (slice_set l i (with_choice s (Some (Standby agg)))) (λ a. omega (arith, set_more a l i s (Standby agg))) w
+
+taken_within : (aggs : AggregatorsValue) (l : List SystemPort) (i : ℕ) (s : SystemPort) (agg : AggId) (room : Bool)
+    → has_room aggs (views l) agg ≡ room → WithinLimit aggs.max_links (views l)
+    → WithinLimit aggs.max_links (views (slice_set l i (with_choice s (Some (choice_if room agg)))))
+taken_within aggs l i s agg true e w = selected_within aggs.max_links l i s agg (is_aggregator aggs.keys agg) e w
+taken_within aggs l i s agg false e w = standby_within aggs.max_links l i s agg w
+
+choice_within : (aggs : AggregatorsValue) (l : List SystemPort) (i : ℕ) (s : SystemPort) (o : Option AggId) → slice_get l i ≡ Some s
+    → (slice_set l i s ≡ l) → WithinLimit aggs.max_links (views l)
+    → WithinLimit aggs.max_links (views (slice_set l i (with_choice s (option_map (choice_in aggs (views l)) o))))
+choice_within aggs l i s None e same w = subst (λ m. WithinLimit aggs.max_links (views m)) (sym same) w
+choice_within aggs l i s (Some agg) e same w = taken_within aggs l i s agg (has_room aggs (views l) agg) refl w
+
+set_itself : (l : List SystemPort) (i : ℕ) (s : SystemPort) → slice_get l i ≡ Some s → slice_set l i s ≡ l
+set_itself [] i s e = refl
+set_itself (x ∷ xs) zero s e = λ j. sym (same_Some x s e) j ∷ xs
+set_itself (x ∷ xs) (suc i) s e = ap (λ ys. x ∷ ys) (set_itself xs i s e)
+
+pub choosing_within : (aggs : AggregatorsValue) (old new : List SystemPort) → ChoosesIn aggs old new → WithinLimit aggs.max_links (views old)
+    → WithinLimit aggs.max_links (views new)
+choosing_within aggs old new h w =
+    let P : List SystemPort → Type 0 = λ l. WithinLimit aggs.max_links (views l) in
+    subst P (sym h.2)
+    (choices_keep aggs P (λ l i s e q. choice_within aggs l i s (aggregator_for aggs.keys l s) e (set_itself l i s e) q) (length h.0) h.0
+    (promotions_keep aggs P (λ agg l m x q. subst P (sym x.4)
+    (selected_within aggs.max_links l x.0 x.1 agg (is_aggregator aggs.keys agg) ((is_next aggs (views l) agg x.0 x.2).room) q))
+    (length aggs.keys) old h.0 h.1 w))
+
+none_counted : (agg : AggId) (l : List SystemPort) → AllByRecursion (λ s. s.port.choice ≡ Unselected) l → count agg l ≡ 0
+none_counted agg [] h = refl
+none_counted agg (s ∷ ss) h = ap (λ c. cond (has_chosen agg c) (suc (count agg ss)) (count agg ss)) h.0 ∙ none_counted agg ss h.1
+
+-- where all are UNSELECTED
+pub none_within : (max_links : Option ℕ) (l : List SystemPort) → AllByRecursion (λ s. s.port.choice ≡ Unselected) l
+    → WithinLimit max_links (views l)
+none_within None l h = tt
+none_within (Some most) l h = λ agg. omega (arith, counted agg l, none_counted agg l h)
+
+-- which aggregator has none that comes next
+
+abbrev NoneNext : AggregatorsValue → AggId → List SystemPort → Type 0
+NoneNext aggs agg l = (has_room aggs (views l) agg ≡ false) ⊎ NoneStandsBy agg (views l)
+
+below_less : (max_links : Option ℕ) (k : Bool) (m n : ℕ) → m ≤ n → (k && is_below max_links m) ≡ false
+    → (k && is_below max_links n) ≡ false
+below_less max_links false m n l h = refl
+below_less None true m n l h = h
+below_less (Some most) true m n l h = grind (arith, nat_tests)
+
+room_less : (aggs : AggregatorsValue) (agg : AggId) (l m : List SystemPort) → count agg l ≤ count agg m
+    → has_room aggs (views l) agg ≡ false → has_room aggs (views m) agg ≡ false
+room_less aggs agg l m h r =
+    below_less aggs.max_links (is_aggregator aggs.keys agg) (length (ports_that_chose agg (views l))) (length (ports_that_chose agg (views m)))
+    (omega (arith, h, counted agg l, counted agg m)) r
+
+stands_set : (agg : AggId) (l : List SystemPort) (i : ℕ) (t : SystemPort) → stands_by agg t.port.choice ≡ false
+    → NoneStandsBy agg (views l) → NoneStandsBy agg (views (slice_set l i t))
+stands_set agg [] i t e h = tt
+stands_set agg (x ∷ xs) zero t e h = (e, h.1)
+stands_set agg (x ∷ xs) (suc i) t e h = (h.0, stands_set agg xs i t e h.1)
+
+-- a promotion keeps it in every aggregator
+pub next_stands : (aggs : AggregatorsValue) (agg : AggId) (l m : List SystemPort) (h : PromotesNext aggs agg l m)
+    → h.1.port.choice ≡ Standby agg
+next_stands aggs agg l m h =
+    let n = is_next aggs (views l) agg h.0 h.2 in
+    ap (λ (v : PortView). v.choice) (same_Some (selection_view h.1) n.port (sym (seen l h.0 h.1 h.3) ∙ n.there)) ∙ n.standby
+  where
+    seen : (l : List SystemPort) (i : ℕ) (s : SystemPort) → slice_get l i ≡ Some s → slice_get (views l) i ≡ Some (selection_view s)
+    seen [] i s e = absurd (none-some s e)
+    seen (x ∷ xs) zero s e = ap (λ y. Some (selection_view y)) (same_Some x s e)
+    seen (x ∷ xs) (suc i) s e = seen xs i s e
+
+promotion_none : (aggs : AggregatorsValue) (agg : AggId) (l m : List SystemPort) → PromotesNext aggs agg l m → (a : AggId)
+    → NoneNext aggs a l → NoneNext aggs a m
+promotion_none aggs agg l m h a q =
+    let s = h.1 in
+    let t : SystemPort = with_choice s (Some (Selected agg)) in
+    let more = set_grows a l h.0 s (Selected agg) h.3 (ap (has_chosen a) (next_stands aggs agg l m h)) in
+    subst (NoneNext aggs a) (sym h.4) (elim q [
+      | inl r ↦ inl (room_less aggs a l (slice_set l h.0 t) more r)
+      | inr n ↦ inr (stands_set a l h.0 t refl n)
+    ])
+
+abbrev NoneUpTo : AggregatorsValue → ℕ → List SystemPort → Type 0
+NoneUpTo aggs n l = (a : AggId) → 0 < a.0 → a.0 ≤ n → NoneNext aggs a l
+
+up_to : (a n : ℕ) → a ≤ suc n → (a ≤ n) ⊎ (a ≡ suc n)
+up_to zero n h = inl (omega arith)
+up_to (suc a) zero h = inr (omega (arith, h))
+up_to (suc a) (suc n) h = elim (up_to a n (omega (arith, h))) [ inl l ↦ inl (omega (arith, l)) | inr e ↦ inr (omega (arith, e)) ]
+
+promotions_none : (aggs : AggregatorsValue) (n : ℕ) (old new : List SystemPort) → PromotesFirst aggs n old new → NoneUpTo aggs n new
+promotions_none aggs zero old new h a low high = absurd (omega (arith, low, high))
+promotions_none aggs (suc n) old new h a low high =
+    let agg = aggregator_numbered (suc n) in elim (up_to a.0 n high) [
+      | inl l ↦ all_keep aggs agg (NoneUpTo aggs n) (λ x y p q b lo hi. promotion_none aggs agg x y p b (q b lo hi)) h.0 new h.2
+          (promotions_none aggs n old h.0 h.1) a low l
+      | inr e ↦ subst (λ k. NoneNext aggs (aggregator_numbered k) new) (sym e) (none_is_next aggs (views new) agg h.2.2)
+    ]
+
+known_parts : (a n : ℕ) → (nat_le 1 a && nat_le a n) ≡ true → (0 < a) × (a ≤ n)
+known_parts a n h =
+    let low : nat_le 1 a ≡ true = (and_parts (nat_le 1 a) (nat_le a n) h).0 in
+    let high : nat_le a n ≡ true = (and_parts (nat_le 1 a) (nat_le a n) h).1 in
+    (grind (arith, nat_tests), grind (arith, nat_tests))
+
+all_promoted : (aggs : AggregatorsValue) (old new : List SystemPort) → PromotesFirst aggs (length aggs.keys) old new → (a : AggId)
+    → NoneNext aggs a new
+all_promoted aggs old new h a = elim (cases_Bool (is_aggregator aggs.keys a)) [
+  | inl t ↦ (let parts = known_parts a.0 (length aggs.keys) t in
+      promotions_none aggs (length aggs.keys) old new h a parts.0 parts.1)
+  | inr f ↦ inl (ap (λ b. b && is_below aggs.max_links (length (ports_that_chose a (views new)))) f)
+]
+
+-- a choice keeps it in every aggregator
+taken_none : (aggs : AggregatorsValue) (l : List SystemPort) (i : ℕ) (s : SystemPort) (agg : AggId) (room : Bool)
+    → has_room aggs (views l) agg ≡ room → slice_get l i ≡ Some s → s.port.choice ≡ Unselected → (a : AggId) → NoneNext aggs a l
+    → NoneNext aggs a (slice_set l i (with_choice s (Some (choice_if room agg))))
+taken_none aggs l i s agg true e g u a q =
+    let more = set_grows a l i s (Selected agg) g (ap (has_chosen a) u) in elim q [
+      | inl r ↦ inl (room_less aggs a l (slice_set l i (with_choice s (Some (Selected agg)))) more r)
+      | inr n ↦ inr (stands_set a l i (with_choice s (Some (Selected agg))) refl n)
+    ]
+taken_none aggs l i s agg false e g u a q =
+    let t : SystemPort = with_choice s (Some (Standby agg)) in
+    let more = set_grows a l i s (Standby agg) g (ap (has_chosen a) u) in elim q [
+      | inl r ↦ inl (room_less aggs a l (slice_set l i t) more r)
+      | inr n ↦ elim (cases_Bool (agg.0 == a.0)) [
+        | inl same ↦ (let number : agg.0 ≡ a.0 = eqb-true agg.0 a.0 same in
+            inl (room_less aggs a l (slice_set l i t) more
+            (subst (λ k. has_room aggs (views l) (aggregator_numbered k) ≡ false) number e)))
+        | inr other ↦ inr (stands_set a l i t other n)
+      ]
+    ]
+
+choice_none : (aggs : AggregatorsValue) (l : List SystemPort) (i : ℕ) (s : SystemPort) (o : Option AggId)
+    → aggregator_for aggs.keys l s ≡ o → slice_get l i ≡ Some s → (a : AggId) → NoneNext aggs a l
+    → NoneNext aggs a (slice_set l i (with_choice s (option_map (choice_in aggs (views l)) o)))
+choice_none aggs l i s None k e a q = subst (NoneNext aggs a) (sym (set_itself l i s e)) q
+choice_none aggs l i s (Some agg) k e a q =
+    let can = eligible_then (is_eligible (selection_view s)) (chosen_aggregator aggs.keys (views l) s.number) agg k in
+    taken_none aggs l i s agg (has_room aggs (views l) agg) refl e (unselected s.port.choice _ _ can) a q
+
+pub choosing_none : (aggs : AggregatorsValue) (old new : List SystemPort) → ChoosesIn aggs old new → (a : AggId) → NoneNext aggs a new
+choosing_none aggs old new h a =
+    subst (NoneNext aggs a) (sym h.2)
+    (choices_keep aggs (NoneNext aggs a) (λ l i s e q. choice_none aggs l i s (aggregator_for aggs.keys l s) refl e a q) (length h.0) h.0
+    (all_promoted aggs old h.0 h.1 a))
+
+-- steps that leave Selected
+zip_none : (aggs : AggregatorsValue) (R : Machines → Machines → Type 0) → ((p q : Machines) → R p q → q.choice ≡ p.choice)
+    → (xs ys : List SystemPort) → PortsChangeBy R xs ys → (a : AggId) → NoneNext aggs a xs → NoneNext aggs a ys
+zip_none aggs R k xs ys h a q = elim q [
+  | inl r ↦ inl (room_less aggs a xs ys (same_count xs ys h) r)
+  | inr n ↦ inr (same_stands xs ys h n)
+]
+  where
+    same_count : (xs ys : List SystemPort) → PortsChangeBy R xs ys → count a xs ≤ count a ys
+    same_count [] [] h = omega arith
+    same_count [] (y ∷ ys) h = absurd h
+    same_count (x ∷ xs) [] h = absurd h
+    same_count (x ∷ xs) (y ∷ ys) h =
+        subst (λ c. cond (has_chosen a x.port.choice) (suc (count a xs)) (count a xs) ≤ cond (has_chosen a c) (suc (count a ys)) (count a ys))
+        (sym (k x.port y.port h.0.1)) (same_bit (has_chosen a x.port.choice) (count a xs) (count a ys) (same_count xs ys h.1))
+
+    same_stands : (xs ys : List SystemPort) → PortsChangeBy R xs ys → NoneStandsBy a (views xs) → NoneStandsBy a (views ys)
+    same_stands [] [] h n = tt
+    same_stands [] (y ∷ ys) h n = absurd h
+    same_stands (x ∷ xs) [] h n = absurd h
+    same_stands (x ∷ xs) (y ∷ ys) h n = (ap (stands_by a) (k x.port y.port h.0.1) ∙ n.0, same_stands xs ys h.1 n.1)
+
+pub settled_none : (aggs : AggregatorsValue) (R S : Machines → Machines → Type 0) → ((p q : Machines) → R p q → q.choice ≡ p.choice)
+    → ((p q : Machines) → S p q → q.choice ≡ p.choice) → (one two four five : List SystemPort) → ChoosesIn aggs one two
+    → PortsChangeBy R two four → PortsChangeBy S four five → NoneIsNext aggs (views five)
+settled_none aggs R S k m one two four five h r s a =
+    nothing_is_next aggs (views five) a
+    (zip_none aggs S m four five s a (zip_none aggs R k two four r a (choosing_none aggs one two h a)))
+
+-- where none comes next, step 2 promotes none
+pub nothing_promoted : (aggs : AggregatorsValue) (n : ℕ) (l : List SystemPort) → NoneIsNext aggs (views l) → PromotesFirst aggs n l l
+nothing_promoted aggs zero l h = refl
+nothing_promoted aggs (suc n) l h =
+    (l, nothing_promoted aggs n l h, (zero, refl, h (aggregator_numbered (suc n))))

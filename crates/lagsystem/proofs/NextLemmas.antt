@@ -1,0 +1,120 @@
+-- What promoting the STANDBY port that comes next does.
+use Rattle.std.proofs.Common.{◌≡◌, ◌∙◌, ℕ, zero, suc, ◌+◌, ◌<◌, ◌≤◌, Bool, true, false, cond, List, [], ◌∷◌, ◌&&◌, ⊎_elim, length}
+use Rattle.std.proofs.Common.{filter, Option, None, Some, refl, sym}
+use Rattle.std.proofs.Common.{ap, subst, arith, slice_get, slice_set}
+use Rattle.std.proofs.lemmas.Bool.{cases_eq, false≢true}
+use Rattle.std.proofs.lemmas.Option.{none-some, same_Some}
+use Rattle.lagtypes.specs.declared.identifiers.AggId.{AggId}
+use Rattle.lagtypes.specs.declared.party.Choice.TheVariants.{Selected, Standby}
+use Rattle.lagtypes.proofs.SameLemmas.{itself}
+use Rattle.selection.specs.Choice.{is_aggregator, ports_that_chose}
+use Rattle.selection.specs.Limits.{AggregatorsValue, has_room, is_below, next_standby_index}
+use Rattle.selection.specs.Views.{has_chosen, stands_by}
+use Rattle.selection.specs.declared.view.PortView.{PortView}
+use Rattle.selection.proofs.LimitLemmas.{is_next}
+use Rattle.lagsystem.specs.declared.system_ports.SystemPort.{SystemPort}
+use Rattle.lagsystem.specs.Promoting.{count_standby}
+use Rattle.lagsystem.specs.Readers.{aggregator_numbered}
+use Rattle.lagsystem.specs.Settling.{PromotesAll, PromotesFirst, PromotesNext, with_choice}
+use Rattle.lagsystem.specs.Views.{selection_view, views}
+use Rattle.lagsystem.proofs.Limiting.{next_stands}
+
+within_views : (l : List SystemPort) (i : ℕ) (v : PortView) → slice_get (views l) i ≡ Some v → i < length l
+within_views [] i v e = absurd (none-some v e)
+within_views (x ∷ xs) zero v e = omega arith
+within_views (x ∷ xs) (suc i) v e = omega (arith, within_views xs i v e)
+
+-- there is such a port
+pub next_within : (aggs : AggregatorsValue) (l : List SystemPort) (agg : AggId) (i : ℕ) → next_standby_index aggs (views l) agg ≡ Some i
+    → i < length l
+next_within aggs l agg i e = let n = is_next aggs (views l) agg i e in within_views l i n.port n.there
+
+one_less : (b : Bool) (n : ℕ) → b ≡ true → n + 1 ≡ cond b (suc n) n
+one_less true n h = omega arith
+one_less false n h = absurd cc
+
+later_less : (h : Bool) (m n : ℕ) → m + 1 ≡ n → cond h (suc m) m + 1 ≡ cond h (suc n) n
+later_less true m n e = omega (arith, e)
+later_less false m n e = e
+
+fewer_standby : (agg : AggId) (l : List SystemPort) (i : ℕ) (s : SystemPort) → slice_get l i ≡ Some s
+    → stands_by agg s.port.choice ≡ true → count_standby agg (slice_set l i (with_choice s (Some (Selected agg)))) + 1 ≡ count_standby agg l
+fewer_standby agg [] i s e h = absurd (none-some s e)
+fewer_standby agg (x ∷ xs) zero s e h = one_less (stands_by agg x.port.choice) (count_standby agg xs)
+    (ap (λ (z : SystemPort). stands_by agg z.port.choice) (same_Some x s e) ∙ h)
+fewer_standby agg (x ∷ xs) (suc i) s e h = later_less (stands_by agg x.port.choice)
+    (count_standby agg (slice_set xs i (with_choice s (Some (Selected agg))))) (count_standby agg xs) (fewer_standby agg xs i s e h)
+
+-- one STANDBY port of the aggregator fewer
+pub promoted_fewer : (aggs : AggregatorsValue) (agg : AggId) (l m : List SystemPort) → PromotesNext aggs agg l m
+    → count_standby agg m + 1 ≡ count_standby agg l
+promoted_fewer aggs agg l m h =
+    subst (λ x. count_standby agg x + 1 ≡ count_standby agg l) (sym h.4)
+    (fewer_standby agg l h.0 h.1 h.3 (ap (stands_by agg) (next_stands aggs agg l m h) ∙ itself agg.0))
+
+-- so in one aggregator more
+pub promoted_more : (aggs : AggregatorsValue) (n : ℕ) (start l m : List SystemPort) → PromotesFirst aggs n start l
+    → PromotesAll aggs (aggregator_numbered (n + 1)) l m → PromotesFirst aggs (n + 1) start m
+promoted_more aggs n start l m h k = more (n + 1) (omega arith) k
+  where
+    more : (j : ℕ) → j ≡ suc n → PromotesAll aggs (aggregator_numbered j) l m → PromotesFirst aggs j start m
+    more j e p = subst (λ i. PromotesFirst aggs i start m) (sym e) (l, h, subst (λ i. PromotesAll aggs (aggregator_numbered i) l m) e p)
+
+-- a view is that of a port
+seen_port : (l : List SystemPort) (i : ℕ) (v : PortView) → slice_get (views l) i ≡ Some v
+    → (s : SystemPort) × (slice_get l i ≡ Some s) × (s.port.choice ≡ v.choice)
+seen_port [] i v e = absurd (none-some v e)
+seen_port (x ∷ xs) zero v e = (x, refl, ap (λ (w : PortView). w.choice) (same_Some (selection_view x) v e))
+seen_port (x ∷ xs) (suc i) v e = seen_port xs i v e
+
+-- the members of an aggregator, counted among the ports
+pub members_counted : (agg : AggId) (l : List SystemPort)
+    → length (filter (λ s. has_chosen agg s.port.choice) l) ≡ length (ports_that_chose agg (views l))
+members_counted agg [] = refl
+members_counted agg (s ∷ ss) = more (has_chosen agg s.port.choice) _ _ (members_counted agg ss)
+  where
+    more : (b : Bool) (xs : List SystemPort) (ys : List PortView) → length xs ≡ length ys
+        → length (cond b (s ∷ xs) xs) ≡ length (cond b (selection_view s ∷ ys) ys)
+    more true xs ys h = ap (λ n. suc n) h
+    more false xs ys h = h
+
+-- each of the first ports that is STANDBY has an aggregator without room
+abbrev pub NoRoomUpTo : AggregatorsValue → ℕ → List SystemPort → Type 0
+NoRoomUpTo aggs n l = (k : ℕ) (s : SystemPort) (agg : AggId) → k < n → slice_get l k ≡ Some s → s.port.choice ≡ Standby agg
+    → has_room aggs (views l) agg ≡ false
+
+-- then none comes next, if those are all
+pub none_next : (aggs : AggregatorsValue) (l : List SystemPort) (n : ℕ) → length l ≤ n → NoRoomUpTo aggs n l → (agg : AggId)
+    → next_standby_index aggs (views l) agg ≡ None
+none_next aggs l n long h agg = by_index (next_standby_index aggs (views l) agg) refl
+  where
+    by_index : (o : Option ℕ) → next_standby_index aggs (views l) agg ≡ o → o ≡ None
+    by_index None e = refl
+    by_index (Some i) e =
+        let x = is_next aggs (views l) agg i e in
+        let s = seen_port l i x.port x.there in
+        let low : i < n = omega (arith, next_within aggs l agg i e, long) in
+        absurd (false≢true (sym (h i s.0 agg low s.1 (s.2 ∙ x.standby)) ∙ x.room))
+
+-- so for one port more
+pub no_room_more : (aggs : AggregatorsValue) (l : List SystemPort) (n : ℕ) (t : SystemPort) → slice_get l n ≡ Some t → NoRoomUpTo aggs n l
+    → ((agg : AggId) → t.port.choice ≡ Standby agg → has_room aggs (views l) agg ≡ false) → NoRoomUpTo aggs (n + 1) l
+no_room_more aggs l n t there h here k s agg lt e stands = ⊎_elim
+    (λ (m : k ≡ n). (let same : t ≡ s = same_Some t s (sym there ∙ ap (slice_get l) (sym m) ∙ e) in
+    here agg (ap (λ (x : SystemPort). x.port.choice) same ∙ stands)))
+    (λ (o : k ≡ n → ⊥). (let low : k < n = omega (arith, lt, o) in h k s agg low e stands))
+    (cases_eq k n)
+
+-- as many members as the limit leave no room
+pub full_no_room : (aggs : AggregatorsValue) (l : List SystemPort) (agg : AggId)
+    → is_below aggs.max_links (length (filter (λ s. has_chosen agg s.port.choice) l)) ≡ false → has_room aggs (views l) agg ≡ false
+full_no_room aggs l agg full = and_right (is_aggregator aggs.keys agg) _
+    (ap (is_below aggs.max_links) (sym (members_counted agg l)) ∙ full)
+  where
+    and_right : (b c : Bool) → c ≡ false → (b && c) ≡ false
+    and_right true c h = h
+    and_right false c h = refl
+
+-- the aggregator of a STANDBY port
+pub same_standby : (a b : AggId) → Standby a ≡ Standby b → a ≡ b
+same_standby a b e = cc

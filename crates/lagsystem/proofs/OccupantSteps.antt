@@ -1,0 +1,210 @@
+-- Every call keeps that the occupants of an aggregator agree, and that it has no more members than the limit.
+use Rattle.std.proofs.Common.{◌≡◌, ◌∙◌, ℕ, Bool, true, false, List, Option, Some, None, Ok, Err, refl, sym, ap, subst, slice_get, slice_set}
+use Rattle.std.proofs.Common.{length, option_map}
+use Rattle.lagtypes.specs.declared.identifiers.AggId.{AggId}
+use Rattle.lagtypes.specs.declared.identifiers.Key.{Key}
+use Rattle.portmachines.specs.Machines.{Machines}
+use Rattle.portmachines.specs.Mux.{mux_rows}
+use Rattle.portmachines.specs.Periodic.{RunsPeriodic}
+use Rattle.portmachines.specs.Receive.{receive_rows}
+use Rattle.portmachines.specs.Rows.{RunsToRest}
+use Rattle.portmachines.specs.Transmit.{after_sending, count_down, is_due}
+use Rattle.selection.specs.Limits.{AggregatorsValue, has_room}
+use Rattle.distributor.specs.Changes.{marker_due}
+use Rattle.lagsystem.specs.declared.received.FrameEffect.{FrameEffect}
+use Rattle.lagsystem.specs.declared.received.FrameEffect.TheVariants.{ProcessLacpdu, Response, Answered}
+use Rattle.lagsystem.specs.declared.received.Received.{Received}
+use Rattle.lagsystem.specs.declared.drive.Reply.{Reply}
+use Rattle.lagsystem.specs.declared.drive.Reply.TheVariants as reply
+use Rattle.lagsystem.specs.declared.system_ports.SystemPort.{SystemPort}
+use Rattle.lagsystem.specs.Calls.{Call, Tick, Set_link, Receive, Configure, Restart, Transmit, Offer, Move_conversation, Force, Ticks}
+use Rattle.lagsystem.specs.Calls.{ChangesParty, Performs, SetsLink, SetsPortEnabled, OnlyPortChangesBy, PortAtChangesBy, ProcessesLacpdu, Step}
+use Rattle.lagsystem.specs.Calls.{ThenSettles, is_own_response}
+use Rattle.lagsystem.specs.First.{IsFirst}
+use Rattle.lagsystem.specs.Occupants.{OccupantsAgree, WithinLimit, occupied}
+use Rattle.lagsystem.specs.Offers.{system_force_result, system_move_result}
+use Rattle.lagsystem.specs.Sending.{TransmitsAt, TransmitsIf}
+use Rattle.lagsystem.specs.Settling.{ChoosesIn, PortsChangeBy, Settling, aggregator_for, choice_for, choice_if, choice_in, ready_of, with_choice}
+use Rattle.lagsystem.specs.Sound.{HasPorts}
+use Rattle.lagsystem.specs.State.{SystemState, aggregators_value, port_index, port_numbers}
+use Rattle.lagsystem.specs.Views.{views}
+use Rattle.lagsystem.proofs.Choose.{taken_joins}
+use Rattle.lagsystem.proofs.FirstView.{first_unselected}
+use Rattle.lagsystem.proofs.Keeps.{Keeps, Step-frame, given_number, keeps_each, keeps_link, keeps_place, keeps_tick, numbers_set}
+use Rattle.lagsystem.proofs.Keeps.{promoted_numbers, settling_keeps}
+use Rattle.lagsystem.proofs.Limiting.{Fewer, choosing_within, next_stands, none_within, set_fewer, within_fewer, zip_fewer}
+use Rattle.lagsystem.proofs.Occupying.{EachStays, LeavesOrStays, configure_stays, joining_agrees, link_stays, mux_stays, none_agrees}
+use Rattle.lagsystem.proofs.Occupying.{periodic_stays, place_stays, promotion_agrees, sending_stays, set_stays, stay_agrees}
+use Rattle.lagsystem.proofs.Occupying.{taking_stays, tick_stays, zip_stay}
+use Rattle.lagsystem.proofs.PromotionLemmas.{choices_keep, promotions_keep}
+use Rattle.lagsystem.proofs.Rest.{becomes_slots, last_slots, marker_slots, offers_slots, releases_slots, same_slots}
+use Rattle.lagsystem.proofs.Rising.{Rises, ports_rise}
+use Rattle.lagsystem.proofs.SettlingLemmas.{set_same}
+
+abbrev pub ArePlaced : AggregatorsValue → List SystemPort → Type 0
+ArePlaced aggs l = OccupantsAgree aggs.keys l × WithinLimit aggs.max_links (views l)
+
+abbrev pub IsPlaced : SystemState → Type 0
+IsPlaced s = ArePlaced (aggregators_value s) s.system_ports
+
+-- ports that stay as they are, or leave
+abbrev StayOrLeave : List SystemPort → List SystemPort → Type 0
+StayOrLeave old new = EachStays old new × Fewer old new
+
+placed_on : (aggs : AggregatorsValue) (old new : List SystemPort) → StayOrLeave old new → ArePlaced aggs old → ArePlaced aggs new
+placed_on aggs old new h p = (stay_agrees aggs.keys old new h.0 p.0, within_fewer aggs.max_links old new h.1 p.1)
+
+zip_on : (R : Machines → Machines → Type 0) → ((p q : Machines) → R p q → LeavesOrStays p q) → (aggs : AggregatorsValue)
+    → (old new : List SystemPort) → PortsChangeBy R old new → ArePlaced aggs old → ArePlaced aggs new
+zip_on R k aggs old new h p = placed_on aggs old new (zip_stay R k old new h, zip_fewer R k old new h) p
+
+place_fewer : (R : Machines → Machines → Type 0) → ((p q : Machines) → R p q → LeavesOrStays p q) → (o : Option ℕ)
+    (old new : List SystemPort) → PortAtChangesBy R o old new → Fewer old new
+place_fewer R k None old new h = absurd h
+place_fewer R k (Some i) old new h =
+    subst (Fewer old) (sym h.4) (set_fewer old i h.0 (record h.0 { port = h.1 }) h.2 (k h.0.port h.1 h.3))
+
+place_on : (R : Machines → Machines → Type 0) → ((p q : Machines) → R p q → LeavesOrStays p q) → (o : Option ℕ) → (aggs : AggregatorsValue)
+    → (old new : List SystemPort) → PortAtChangesBy R o old new → ArePlaced aggs old → ArePlaced aggs new
+place_on R k o aggs old new h p = placed_on aggs old new (place_stays R k o old new h, place_fewer R k o old new h) p
+
+-- step 2 of settling
+
+occupied_if : (room : Bool) (agg : AggId) → occupied (choice_if room agg) ≡ Some agg.0
+occupied_if true agg = refl
+occupied_if false agg = refl
+
+choice_agrees : (aggs : AggregatorsValue) (l : List SystemPort) (i : ℕ) (s : SystemPort) (o : Option AggId) → Rises 0 (port_numbers l)
+    → slice_get l i ≡ Some s → aggregator_for aggs.keys l s ≡ o → OccupantsAgree aggs.keys l
+    → OccupantsAgree aggs.keys (slice_set l i (with_choice s (option_map (choice_in aggs (views l)) o)))
+choice_agrees aggs l i s None r e k a = subst (OccupantsAgree aggs.keys) (sym (set_same l i s e)) a
+choice_agrees aggs l i s (Some agg) r e k a =
+    let room = has_room aggs (views l) agg in
+    joining_agrees aggs.keys l i s agg (choice_if room agg) e (occupied_if room agg) ((taken_joins aggs.keys l i s agg r e k).1) a
+
+abbrev AgreeRising : List Key → List SystemPort → Type 0
+AgreeRising keys l = OccupantsAgree keys l × Rises 0 (port_numbers l)
+
+choosing_agrees : (aggs : AggregatorsValue) (old new : List SystemPort) → Rises 0 (port_numbers old) → ChoosesIn aggs old new
+    → OccupantsAgree aggs.keys old → OccupantsAgree aggs.keys new
+choosing_agrees aggs old new r h a =
+    let first = promotions_keep aggs (OccupantsAgree aggs.keys) (λ agg l m x p. subst (OccupantsAgree aggs.keys) (sym x.4)
+    (promotion_agrees aggs.keys l x.0 x.1 agg x.3 (next_stands aggs agg l m x) p)) (length aggs.keys) old h.0 h.1 a in
+    let rise = subst (λ ns. Rises 0 ns) (sym (promoted_numbers aggs (length aggs.keys) old h.0 h.1)) r in
+    let last = choices_keep aggs (AgreeRising aggs.keys) (λ l i s e p. (
+      choice_agrees aggs l i s (aggregator_for aggs.keys l s) p.1 e refl p.0,
+      subst (λ ns. Rises 0 ns) (sym (numbers_set l i s (with_choice s (choice_for aggs l s)) e (given_number s (choice_for aggs l s)))) p.1,
+    )) (length h.0) h.0 (first, rise) in
+    subst (OccupantsAgree aggs.keys) (sym h.2) last.0
+
+choosing_on : (aggs : AggregatorsValue) (old new : List SystemPort) → Rises 0 (port_numbers old) → ChoosesIn aggs old new
+    → ArePlaced aggs old → ArePlaced aggs new
+choosing_on aggs old new r h p = (choosing_agrees aggs old new r h p.0, choosing_within aggs old new h p.1)
+
+settling_placed : (old new : SystemState) → Rises 0 (port_numbers old.system_ports) → Settling old new → IsPlaced old → IsPlaced new
+settling_placed old new r h p =
+    let one = h.0 in
+    let two = h.2.0 in
+    let four = h.2.2.2.0 in
+    let five = h.2.2.2.2.0 in
+    let free : Machines → Machines → Type 0 = λ p q. RunsToRest (mux_rows false) p q in
+    let ready : Machines → Machines → Type 0 = λ p q. RunsToRest (mux_rows (ready_of two.keys (views two.system_ports) p.choice)) p q in
+    let same : aggregators_value one ≡ aggregators_value old = ap aggregators_value h.1.1 in
+    let aggs = aggregators_value one in
+    let p1 : ArePlaced aggs one.system_ports = subst (λ a. ArePlaced a one.system_ports) (sym same)
+    (zip_on free (mux_stays false) (aggregators_value old) old.system_ports one.system_ports h.1.0 p) in
+    let r1 = subst (λ ns. Rises 0 ns) (sym (keeps_each free old one h.1).same) r in
+    let p2 = choosing_on aggs one.system_ports two.system_ports r1 h.2.1.0 p1 in
+    let m4 = subst (λ (s : SystemState). PortsChangeBy
+    (λ p q. RunsToRest (mux_rows (ready_of s.keys (views s.system_ports) p.choice)) p q) s.system_ports four.system_ports) h.2.2.1
+    h.2.2.2.1.0 in
+    let p4 = zip_on ready (λ p q x. mux_stays (ready_of two.keys (views two.system_ports) p.choice) p q x) aggs two.system_ports
+    four.system_ports m4 p2 in
+    let p5 = zip_on RunsPeriodic periodic_stays aggs four.system_ports five.system_ports h.2.2.2.2.1.0 p4 in
+    let whole : aggregators_value new ≡ aggs = ap aggregators_value (settling_keeps old new h).frame ∙ sym same in
+    subst (λ a. ArePlaced a new.system_ports) (sym whole) (subst (ArePlaced aggs) (sym (last_slots old new h)) p5)
+
+-- the calls
+
+same_placed : (s t : SystemState) → aggregators_value t ≡ aggregators_value s → t.system_ports ≡ s.system_ports → IsPlaced s → IsPlaced t
+same_placed s t k e p = subst (λ a. ArePlaced a t.system_ports) (sym k) (subst (ArePlaced (aggregators_value s)) (sym e) p)
+
+settled_placed : (own : SystemState → SystemState → Type 0) (old new : SystemState) → Rises 0 (port_numbers old.system_ports)
+    → ((mid : SystemState) → own old mid → Keeps old mid)
+    → ((mid : SystemState) → own old mid → ArePlaced (aggregators_value old) mid.system_ports) → ThenSettles own old new → IsPlaced new
+settled_placed own old new r keeps placed h =
+    let k = keeps h.0 h.1 in
+    settling_placed h.0 new (subst (λ ns. Rises 0 ns) (sym k.same) r) h.2
+    (subst (λ a. ArePlaced a h.0.system_ports) (sym (ap aggregators_value k.frame)) (placed h.0 h.1))
+
+where_placed : (up due : Bool) (i : ℕ) (s : SystemPort) (old : SystemState) (answer : Option (List ℕ)) (new : SystemState)
+    → slice_get old.system_ports i ≡ Some s → aggregators_value new ≡ aggregators_value old → TransmitsIf up due i s old answer new
+    → IsPlaced old → IsPlaced new
+where_placed false due i s old answer new e k h p = same_placed old new k (same_slots old new h.1) p
+where_placed true true i s old answer new e k h p =
+    let t : SystemPort = record s { port = after_sending s.port } in
+    let l = old.system_ports in
+    subst IsPlaced (sym h.3)
+    (placed_on (aggregators_value old) l (slice_set l i t) (
+      set_stays l i s t e (sending_stays s.port),
+      set_fewer l i s t e
+          (sending_stays s.port),
+    ) p)
+where_placed true false i s old answer new e k h p =
+    same_placed old new k (marker_slots (marker_due old.table s.number) s.number s.mac old answer new h) p
+
+sends_placed : (o : Option ℕ) (old : SystemState) (answer : Option (List ℕ)) (new : SystemState)
+    → aggregators_value new ≡ aggregators_value old → TransmitsAt o old answer new → IsPlaced old → IsPlaced new
+sends_placed None old answer new k h p = absurd h
+sends_placed (Some i) old answer new k h p = where_placed h.0.port.enabled (is_due h.0.port) i h.0 old answer new h.1 k h.2 p
+
+does_placed : (effect : FrameEffect) (port : ℕ) (o : Option ℕ) (old : SystemState) (answer : Received) (new : SystemState)
+    → Rises 0 (port_numbers old.system_ports) → aggregators_value new ≡ aggregators_value old → Performs effect port o old answer new
+    → IsPlaced old → IsPlaced new
+does_placed (ProcessLacpdu v) port o old answer new r k h p =
+    settled_placed (OnlyPortChangesBy o (ProcessesLacpdu v)) old new r (keeps_place (ProcessesLacpdu v) o old)
+    (λ mid x. place_on (ProcessesLacpdu v) (taking_stays v) o (aggregators_value old) old.system_ports mid.system_ports x.0 p) h.1
+does_placed (Response m) port o old answer new r k h p = same_placed old new k
+    (releases_slots (is_own_response old port m) port m old answer new h) p
+does_placed (Answered a) port o old answer new r k h p = same_placed old new k (same_slots old new h.1) p
+
+-- the start
+pub first_placed : (s : SystemState) → IsFirst s → IsPlaced s
+first_placed s h =
+    let none = first_unselected s h in (none_agrees s.keys s.system_ports none, none_within s.max_links s.system_ports none)
+
+pub Step-placed : (gives : ℕ → ℕ → ℕ → Type 0) (old : SystemState) (call : Call) (answer : Reply) (new : SystemState)
+    → Step gives old call answer new → HasPorts old → IsPlaced old → IsPlaced new
+Step-placed gives old call answer new h ports p = placed call answer new h (ap aggregators_value (Step-frame gives old call answer new h))
+  where
+    r : Rises 0 (port_numbers old.system_ports)
+    r = ports_rise old ports
+
+    placed : (call : Call) (answer : Reply) (new : SystemState) → Step gives old call answer new
+        → aggregators_value new ≡ aggregators_value old → IsPlaced new
+    placed Tick reply.Tick new h k = settled_placed Ticks old new r (keeps_tick old)
+        (λ mid x. zip_on (λ p q. RunsToRest receive_rows (count_down p) q) tick_stays (aggregators_value old) old.system_ports
+        mid.system_ports x.0 p) h
+    placed (Set_link m up) (reply.SetLink (Ok done)) new h k = settled_placed (SetsLink m up) old new r (keeps_link m up old)
+        (λ mid x. place_on (SetsPortEnabled old.max_links up) (link_stays old.max_links up) (port_index m old.system_ports)
+        (aggregators_value old) old.system_ports mid.system_ports x.0 p) h
+    placed (Set_link m up) (reply.SetLink (Err fault)) new h k = same_placed old new k (same_slots old new h.same) p
+    placed (Receive m octets) (reply.Receive (Ok answer)) new h k = does_placed h.1 h.0.number (port_index m old.system_ports)
+        old answer new r k h.4 p
+    placed (Receive m octets) (reply.Receive (Err fault)) new h k = same_placed old new k (same_slots old new h.same) p
+    placed (Configure m change) (reply.Configure (Ok true)) new h k =
+        settled_placed (OnlyPortChangesBy (port_index m old.system_ports) (ChangesParty change)) old new r
+        (keeps_place (ChangesParty change) (port_index m old.system_ports) old)
+        (λ mid x. place_on (ChangesParty change) (configure_stays change) (port_index m old.system_ports) (aggregators_value old)
+        old.system_ports mid.system_ports x.0 p) h
+    placed (Configure m change) (reply.Configure (Ok false)) new h k = same_placed old new k (same_slots old new h.1) p
+    placed (Configure m change) (reply.Configure (Err fault)) new h k = same_placed old new k (same_slots old new h.same) p
+    placed Restart reply.Restart new h k = first_placed new h.1
+    placed (Transmit m) (reply.Transmit (Ok answer)) new h k = sends_placed (port_index m old.system_ports) old answer new k h p
+    placed (Transmit m) (reply.Transmit (Err fault)) new h k = same_placed old new k (same_slots old new h.same) p
+    placed (Offer agg octets) (reply.Offer answer) new h k = same_placed old new k (offers_slots gives agg octets old answer new h) p
+    placed (Move_conversation agg conv port) (reply.MoveConversation answer) new h k =
+        same_placed old new k (becomes_slots agg conv (system_move_result old agg conv port) old answer new h) p
+    placed (Force agg conv) (reply.Force answer) new h k = same_placed old new k
+        (becomes_slots agg conv (system_force_result old agg conv) old answer new h) p
+    placed call answer new h k = absurd h

@@ -1,0 +1,35 @@
+use Rattle.std.proofs.Common.{arith, ◌≡◌, ◌∙◌, ◌+◌, ℕ, ap, is_some, length, refl, subst, sym, true}
+use Rattle.lagsystem.specs.Forcing.{ForcesFirst, ForcesIn}
+use Rattle.lagsystem.specs.Readers.{aggregator_numbered}
+use Rattle.lagsystem.specs.State.{SystemValue, port_index}
+use Rattle.lagsystem.proofs.ForcingLemmas.{one_aggregator_more}
+use Rattle.lagsystem.proofs.calls.System.force_port.Goals as goal
+
+pub loop-before-preserved : goal.loop-before-preserved
+loop-before-preserved g c =
+    let i = c.loop-before.invariant in
+    let gives : ℕ → ℕ → ℕ → Type 0 = λ conv count place. g.F.Fn.post c.args.self.now.algorithm (conv, (count, tt)) place in
+    let one = subst (λ f. ForcesIn (λ conv count place. g.F.Fn.post f (conv, (count, tt)) place) c.args.port
+    (aggregator_numbered (c.loop-before.before + 1)) c.loop-before.self.state.conversations c.loop-before.self.state
+    c.force_held_in-forced.result c.force_held_in-forced.new.self.state) i.algorithm c.force_held_in-forced.ensures.forced in
+    record {
+      forced = one_aggregator_more gives c.args.port c.loop-before.before c.args.self.now.state c.loop-before.self.state
+          c.force_held_in-forced.new.self.state c.loop-before.forced c.force_held_in-forced.result _ i.forced one refl;
+      keys = c.force_held_in-forced.ensures.keys ∙ i.keys;
+      few = omega (arith, i.few, c.force_held_in-forced.ensures.few);
+      algorithm = c.force_held_in-forced.ensures.algorithm ∙ i.algorithm;
+    }
+
+pub returns-clause-forced : goal.returns-clause-forced
+returns-clause-forced g c =
+    let gives : ℕ → ℕ → ℕ → Type 0 = λ conv count place. g.F.Fn.post c.args.self.now.algorithm (conv, (count, tt)) place in
+    let there : is_some (port_index c.args.port c.self.inside.inner.system_ports.items) ≡ true =
+    rw c.in_ok-port_index.ensures.place refl in
+    let count : c.count-before-end.result ≡ length c.args.self.now.state.keys = c.count-before-end.ensures.exact
+    ∙ ap (λ (v : SystemValue g.row.F.Denot). length v.state.keys) c.self.view_is in
+    let all : c.loop-before.before ≡ length c.args.self.now.state.keys =
+    omega (arith, count, c.loop-before-test.false, c.loop-before.auto.before-end) in (
+      subst (λ (v : SystemValue g.row.F.Denot). is_some (port_index c.args.port v.state.system_ports) ≡ true) c.self.view_is there,
+      subst (λ k. ForcesFirst gives c.args.port k c.args.self.now.state c.loop-before.forced c.loop-before.self.state) all
+          c.loop-before.invariant.forced,
+    )

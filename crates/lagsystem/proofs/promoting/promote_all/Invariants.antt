@@ -1,0 +1,14 @@
+use Rattle.std.proofs.Common.{◌≡◌, ℕ}
+use Rattle.lagsystem.specs.Promoting.{count_standby}
+use Rattle.lagsystem.specs.Settling.{PromotesTimes}
+use Rattle.lagsystem.specs.Views.{views}
+use Rattle.lagsystem.proofs.promoting.promote_all.Given as goal
+
+abbrev pub invariant-loop-agg : goal.invariant-loop-agg
+invariant-loop-agg l = record {
+  promoted : (n : ℕ) × PromotesTimes l.aggregators l.agg n l.initial.system_ports l.system_ports;
+  port_views : l.port_views ≡ views l.system_ports;
+}
+
+abbrev pub decreases-loop-agg : goal.decreases-loop-agg
+decreases-loop-agg l = count_standby l.agg l.system_ports

@@ -1,0 +1,47 @@
+-- What it is to force the conversations that are held on a port (profile).
+use Rattle.std.specs.Prelude.{◌≡◌, ℕ, zero, suc, ◌+◌, ◌==◌, Bool, true, false, cond, length, Ok, Err, Result, is_some}
+use Rattle.lagtypes.specs.declared.identifiers.AggId.{AggId}
+use Rattle.distributor.specs.declared.assignment.Assignment.{Assignment}
+use Rattle.distributor.specs.declared.assignment.Assignment.TheVariants.{Free, On, Wanted, Flushing}
+use Rattle.distributor.specs.Conversations.{assignment_of}
+use Rattle.lagsystem.specs.declared.drive.Reply.TheVariants as reply
+use Rattle.lagsystem.specs.declared.fault.SystemFault.{SystemFault}
+use Rattle.lagsystem.specs.Calls.{Force, RefusesNoPort}
+use Rattle.lagsystem.specs.Readers.{aggregator_numbered}
+use Rattle.lagsystem.specs.Sound.{CallPromise}
+use Rattle.lagsystem.specs.State.{SystemState, port_index}
+
+-- the conversation is held on this port: it is Wanted or Flushing there
+abbrev pub is_held_on : ℕ → Assignment → Bool
+is_held_on port (Free preferred) = false
+is_held_on port (On given) = false
+is_held_on port (Wanted given preferred) = given == port
+is_held_on port (Flushing given id preferred age) = given == port
+
+-- one conversation: if it is held on the port, it is forced, by the call `force`; else nothing changes
+abbrev pub ForcesIfHeld : (ℕ → ℕ → ℕ → Type 0) → ℕ → AggId → ℕ → SystemState → Bool → SystemState → Type 0
+ForcesIfHeld gives port agg conv old true new =
+    (is_held_on port (assignment_of old.table agg.0 conv) ≡ true) × CallPromise gives old (Force agg conv) (reply.Force (Ok tt)) new
+ForcesIfHeld gives port agg conv old false new = (is_held_on port (assignment_of old.table agg.0 conv) ≡ false) × (new ≡ old)
+
+-- so the first k conversations of an aggregator, ascending; n of them are forced
+abbrev pub ForcesIn : (ℕ → ℕ → ℕ → Type 0) → ℕ → AggId → ℕ → SystemState → ℕ → SystemState → Type 0
+ForcesIn gives port agg zero old n new = (new ≡ old) × (n ≡ 0)
+ForcesIn gives port agg (suc k) old n new =
+    (mid : SystemState) × (before : ℕ) × (forced : Bool) × ForcesIn gives port agg k old before mid
+    × ForcesIfHeld gives port agg k mid forced new
+    × (n ≡ before + cond forced 1 0)
+
+-- so all conversations of the first g aggregators, ascending; n of them are forced
+abbrev pub ForcesFirst : (ℕ → ℕ → ℕ → Type 0) → ℕ → ℕ → SystemState → ℕ → SystemState → Type 0
+ForcesFirst gives port zero old n new = (new ≡ old) × (n ≡ 0)
+ForcesFirst gives port (suc g) old n new =
+    (mid : SystemState) × (before : ℕ) × (more : ℕ) × ForcesFirst gives port g old before mid
+    × ForcesIn gives port (aggregator_numbered (suc g)) mid.conversations mid more new
+    × (n ≡ before + more)
+
+-- each conversation that is held on the port is forced, and the answer is how many; or there is no such port
+abbrev pub ForcesPort : (ℕ → ℕ → ℕ → Type 0) → ℕ → SystemState → Result ℕ SystemFault → SystemState → Type 0
+ForcesPort gives port old (Ok n) new =
+    (is_some (port_index port old.system_ports) ≡ true) × ForcesFirst gives port (length old.keys) old n new
+ForcesPort gives port old (Err fault) new = RefusesNoPort (port_index port old.system_ports) fault old new

@@ -1,0 +1,70 @@
+ghost use Rattle.std.specs.Prelude.{◌≡◌, ◌<◌, ◌≤◌, true};
+ghost use Rattle.distributor.specs.Calls.{PicksIndexes};
+ghost use Rattle.lagsystem.specs.Forcing.{ForcesIfHeld, ForcesIn, ForcesPort, is_held_on};
+ghost use Rattle.lagsystem.specs.Offers.{has_aggregator};
+
+use crate::calls::System;
+use crate::fault::SystemFault;
+use distributor::Assignment;
+use lagtypes::AggId;
+
+/// Whether a conversation in this state is held on the port: Wanted or Flushing there.
+fn is_held_on(state: Assignment, port: u16) -> bool
+    ensures { result ≡ is_held_on port state }
+{
+    match state {
+        Assignment::Free { .. } | Assignment::On(_) => false,
+        Assignment::Wanted { port: held, .. } | Assignment::Flushing { port: held, .. } => held
+            == port,
+    }
+}
+
+impl<F: Fn(u16, usize) -> usize + Drop> System<F> {
+    /// Forces each conversation that is held on a port, Wanted or Flushing there, exactly as `force` of each would, by
+    /// aggregator and number ascending; returns how many. Frames of these conversations may be reordered. `NoPort` if there
+    /// is no such port (profile).
+    pub fn force_port(&mut self, port: u16) -> Result<u32, SystemFault>
+        ensures forced { ForcesPort (F.post self.old.algorithm) port self.old.state result self.new.state }
+        ensures algorithm { self.new.algorithm ≡ self.old.algorithm }
+    {
+        self.inner.port_index(port)?;
+        let mut forced = 0;
+        for before in 0..self.inner.aggregators.count() {
+            forced += self.force_held_in(AggId(before as u16 + 1), port);
+        }
+        Ok(forced)
+    }
+
+    /// The same in one aggregator.
+    fn force_held_in(&mut self, agg: AggId, port: u16) -> u32
+        requires there { has_aggregator self.old.state agg ≡ true }
+        ensures forced { ForcesIn (F.post self.old.algorithm) port agg self.old.state.conversations self.old.state result self.new.state }
+        ensures keys { self.new.state.keys ≡ self.old.state.keys }
+        ensures few { result ≤ 65535 }
+        ensures algorithm { self.new.algorithm ≡ self.old.algorithm }
+    {
+        let mut forced = 0;
+        for conv in 0..self.inner.distributor.conversations() {
+            if self.force_if_held(agg, conv, port) {
+                forced += 1;
+            }
+        }
+        forced
+    }
+
+    /// The same of one conversation; false if it is not held there.
+    fn force_if_held(&mut self, agg: AggId, conv: u16, port: u16) -> bool
+        requires there { has_aggregator self.old.state agg ≡ true }
+        requires within { conv < self.old.state.conversations }
+        ensures forced { ForcesIfHeld (F.post self.old.algorithm) port agg conv self.old.state result self.new.state }
+        ensures keys { self.new.state.keys ≡ self.old.state.keys }
+        ensures conversations { self.new.state.conversations ≡ self.old.state.conversations }
+        ensures algorithm { self.new.algorithm ≡ self.old.algorithm }
+    {
+        if !is_held_on(self.inner.distributor.state(agg, conv), port) {
+            return false;
+        }
+        let _forced = self.force(agg, conv);
+        true
+    }
+}

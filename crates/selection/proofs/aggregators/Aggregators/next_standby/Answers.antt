@@ -1,0 +1,9 @@
+use Rattle.std.proofs.Common.{ap, sym, ◌∙◌}
+use Rattle.selection.specs.declared.view.PortView.{PortView}
+use Rattle.selection.proofs.LimitLemmas.{row_is_next}
+use Rattle.selection.proofs.aggregators.Aggregators.next_standby.Goals as goal
+
+pub returns-in-Some-clause-next : goal.returns-in-Some-clause-next
+returns-in-Some-clause-next c =
+    let next = row_is_next c.args.self.now c.args.views.now c.args.agg c.in-Some.row (sym c.next_standby_row.ensures ∙ c.in-Some.is) in
+    (c.in-Some.row.index, next.0, ap (λ (v : PortView). v.number) next.1)
