@@ -1,11 +1,11 @@
-"""An edit of a crate: its texts, and how they are put in and taken out."""
+"""An edit of a crate: its texts, how they are put in and taken out, and copies of the repository on which that is done."""
 
 import os
 import shutil
 
-CASES = os.path.dirname(os.path.abspath(__file__))
-TOP = os.path.dirname(os.path.dirname(CASES))
-RT = os.environ.get("RT", "rt")
+from repository import CRATES, RT, TOOLS, TOP, below, lines
+
+CASES = os.path.join(TOOLS, "wrong-definitions.d")
 
 
 def read(path):
@@ -19,38 +19,28 @@ def write(path, text):
         file.write(text)
 
 
-def listed():
-    """The crates of the repository, each with the words of its line."""
-    lines = {}
-    for line in read(os.path.join(TOP, "crates.txt")).splitlines():
-        words = line.split("#")[0].replace(":", " ").split()
-        if words:
-            lines[words[0]] = words[1:]
-    return lines
-
-
-def copy_crates(folder, crates):
+def copy_crates(folder, crates, ignore=shutil.ignore_patterns("out")):
     """Copies these crates and those of the repository that they stand on; answers their folder."""
-    lines = listed()
-    wanted, taken = list(crates), []
-    while wanted:
-        name = wanted.pop()
-        if name in lines and name not in taken:
-            taken.append(name)
-            wanted.extend(lines[name])
-            shutil.copytree(
-                os.path.join(TOP, "crates", name),
-                os.path.join(folder, "crates", name),
-                ignore=shutil.ignore_patterns("out"),
-            )
-    text = "".join(f"{name}: {' '.join(lines[name])}\n" for name in reversed(taken))
-    write(os.path.join(folder, "crates.txt"), text)
+    taken = below(*crates)
+    for name in taken:
+        shutil.copytree(os.path.join(CRATES, name), os.path.join(folder, "crates", name), ignore=ignore)
+    write_list(folder, taken)
     return os.path.join(folder, "crates")
 
 
+def write_list(folder, crates):
+    """Writes crates.txt of a folder that has these crates alone."""
+    rows = lines()
+    write(os.path.join(folder, "crates.txt"), "".join(f"{rows[name]}\n" for name in crates))
+
+
 def read_edit(crate, name):
-    """What the edit says, and its replacements as (file, old, new)."""
-    path = os.path.join(CASES, crate, name + ".edit")
+    """What the wrong definition says, and its replacements as (file, old, new)."""
+    return read_pairs(os.path.join(CASES, crate, name + ".edit"))
+
+
+def read_pairs(path):
+    """What the edit in this file says, if anything, and its replacements as (file, old, new)."""
     says, pairs, file, old = "", [], None, None
     for line in read(path).splitlines():
         word, _, text = line.partition(": ")
@@ -74,11 +64,11 @@ def apply(folder, pairs):
     was = {}
     for file, old, new in pairs:
         path = os.path.join(folder, file)
-        text = read(path)
-        was.setdefault(path, text)
+        text = read(path) if os.path.isfile(path) else ""
         if text.count(old) != 1:
             restore(was)
             return None, f"the old text stands in {file} {text.count(old)} times: {old}"
+        was.setdefault(path, text)
         write(path, text.replace(old, new))
     return was, None
 

@@ -1,0 +1,87 @@
+"""What the tools share: where the repository and the command rt are, what crates.txt says, and how a tool ends.
+
+The tools of tools/ call `run` in their last line; their other modules stand in folders NAME.d.
+"""
+
+import os
+import re
+import shutil
+import subprocess
+import sys
+
+TOOLS = os.path.dirname(os.path.abspath(__file__))
+TOP = os.path.dirname(TOOLS)
+CRATES = os.path.join(TOP, "crates")
+# The program, which tools/lagtool makes where it is missing.
+PROGRAM = os.path.join(CRATES, "lagtool", "out", "lagtool")
+RT = os.environ.get("RT", "rt")
+CC = os.environ.get("CC", "cc")
+# What a command is for, where it is not here.
+WHY = {RT: "it comes with the Rattle toolchain (README.md), and RT may name it", CC: "a C compiler, which CC may name"}
+
+
+class Missing(Exception):
+    """Something that the tool needs is not here, or failed: what is told of it."""
+
+
+def want(*names):
+    """Stops the tool where one of these commands is not here."""
+    for name in names:
+        if not shutil.which(name):
+            raise Missing(f"there is no command {name} in PATH" + (f": {WHY[name]}" if name in WHY else ""))
+
+
+def lines():
+    """The lines of crates.txt, without comments, by the names of their crates."""
+    with open(os.path.join(TOP, "crates.txt"), encoding="utf-8") as it:
+        rows = [line.split("#")[0].strip() for line in it]
+    return {re.split("[ :]", row)[0]: row for row in rows if row}
+
+
+def crates():
+    """The crates of the repository, each with those of the repository that it uses."""
+    listed = lines()
+    return {name: [it for it in row.partition(":")[2].split() if it in listed] for name, row in listed.items()}
+
+
+def below(*names):
+    """These crates and all crates of the repository that they stand on, lowest first."""
+    uses, found = crates(), []
+
+    def add(name):
+        if name not in found:
+            for it in uses[name]:
+                add(it)
+            found.append(name)
+
+    for name in names:
+        add(name)
+    return found
+
+
+def make_program():
+    """Makes the proved program, where it is missing or older than its sources, and looks that it works."""
+    if subprocess.run([os.path.join(TOOLS, "lagtool"), "vectors"], stdout=subprocess.DEVNULL).returncode:
+        raise Missing("tools/lagtool vectors fails, as the lines above say")
+
+
+def say(text):
+    """Tells a line on standard error, under the name of the tool."""
+    print(f"{os.path.basename(sys.argv[0])}: {text}", file=sys.stderr, flush=True)
+
+
+def run(main):
+    """Runs a tool. Where something is missing it ends with a line and status 2."""
+    try:
+        status = main()
+        sys.stdout.flush()
+        sys.exit(status)
+    except BrokenPipeError:
+        # Nobody reads on: there is nothing to say, and nothing is left to write at the end.
+        os.dup2(os.open(os.devnull, os.O_WRONLY), 1)
+        sys.exit(141)
+    except (Missing, OSError) as why:
+        say(why)
+        sys.exit(2)
+    except KeyboardInterrupt:
+        sys.exit(130)
