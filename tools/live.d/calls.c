@@ -1,6 +1,7 @@
 /* Calls every function of lag.h and checks what it answers: two systems of two ports each, joined port by port, come to
- * distribute; a conversation moves behind a marker; each refusal has its number, each field its place, and each function refuses
- * each null pointer; lag_new and lag_free alone take and give back memory. It prints one line for each check that fails and then
+ * distribute; a conversation moves behind a marker; under a limit of one link the second port is STANDBY until the first link
+ * is down; each refusal has its number, each field its place, and each function refuses each null pointer; lag_new and lag_free
+ * alone take and give back memory. It prints one line for each check that fails and then
  * 'calls: N passed, M failed', and ends with status 1 if one failed. It is linked with --wrap for malloc, realloc and free. */
 #include <stdio.h>
 #include <stdlib.h>
@@ -16,8 +17,8 @@ static const struct {
     EXPORT(new), EXPORT(free), EXPORT(receive), EXPORT(tick), EXPORT(set_link), EXPORT(configure), EXPORT(restart),
     EXPORT(transmit), EXPORT(offer), EXPORT(move_conversation), EXPORT(force), EXPORT(ports), EXPORT(aggregators),
     EXPORT(is_up), EXPORT(state), EXPORT(receive_state), EXPORT(is_due), EXPORT(party), EXPORT(partner), EXPORT(group),
-    EXPORT(defaulted), EXPORT(distributes), EXPORT(choice), EXPORT(mux_state), EXPORT(distributing), EXPORT(conversation),
-    EXPORT(conversation_state), EXPORT(next_marker), EXPORT(load),
+    EXPORT(defaulted), EXPORT(distributes), EXPORT(choice), EXPORT(is_standby), EXPORT(mux_state), EXPORT(distributing),
+    EXPORT(conversation), EXPORT(conversation_state), EXPORT(next_marker), EXPORT(load),
 };
 
 static unsigned passed, failed;
@@ -63,8 +64,8 @@ void __wrap_free(void *block) {
 #define FIRST_MARKER 0xfffffffe
 
 /* Makes a system of two ports. What differs between systems and ports tells which. */
-static void make(struct lag *handle, uint8_t who, uint16_t key) {
-    struct lag_config config = {(uint16_t)(0x1000 + who), {2, 0, 0, 0, 0, who}, 0, FIRST_MARKER};
+static void make(struct lag *handle, uint8_t who, uint16_t key, uint16_t conversations, uint16_t max_links) {
+    struct lag_config config = {(uint16_t)(0x1000 + who), {2, 0, 0, 0, 0, who}, 0, FIRST_MARKER, conversations, max_links};
     struct lag_port ports[2];
     uint16_t keys[2] = {key, key};
     for (uint8_t i = 1; i <= 2; i++)
@@ -119,7 +120,7 @@ static void turn(struct lag *one, struct lag *other, unsigned ticks) {
 /* Each call refuses each pointer that is null. */
 static void check_null_in_calls(struct lag *live) {
     struct lag empty = LAG_EMPTY;
-    struct lag_config config = {0, {0}, 0, 0};
+    struct lag_config config = {0, {0}, 0, 0, 256, 0};
     struct lag_port port = {0};
     struct lag_change change = {7, 128, true};
     uint8_t frame[LAG_FRAME] = {0};
@@ -148,7 +149,8 @@ static void check_null_in_readers(struct lag *live) {
     CHECK(lag_is_due(NULL, 1).status == LAG_NULL && lag_party(NULL, 1).status == LAG_NULL);
     CHECK(lag_partner(NULL, 1).status == LAG_NULL && lag_group(NULL, 1).status == LAG_NULL);
     CHECK(lag_defaulted(NULL, 1).status == LAG_NULL && lag_distributes(NULL, 1).status == LAG_NULL);
-    CHECK(lag_choice(NULL, 1).status == LAG_NULL && lag_mux_state(NULL, 1).status == LAG_NULL);
+    CHECK(lag_choice(NULL, 1).status == LAG_NULL && lag_is_standby(NULL, 1).status == LAG_NULL);
+    CHECK(lag_mux_state(NULL, 1).status == LAG_NULL);
     CHECK(lag_load(NULL, 1).status == LAG_NULL && lag_distributing(NULL, 1, numbers, LAG_MOST).status == LAG_NULL);
     CHECK(lag_distributing(live, 1, NULL, LAG_MOST).status == LAG_NULL);
     CHECK(lag_conversation(NULL, frame, sizeof frame).status == LAG_NULL && lag_conversation(live, NULL, LAG_FRAME).status == LAG_NULL);
@@ -167,6 +169,7 @@ static void check_refusals(struct lag *live) {
     CHECK(lag_ports(live, numbers, 2).status == LAG_BUFFER && lag_distributing(live, 1, numbers, 65).status == LAG_BUFFER);
     CHECK(lag_set_link(live, 9, true) == LAG_NO_PORT && lag_is_due(live, 0).status == LAG_NO_PORT);
     CHECK(lag_partner(live, 3).status == LAG_NO_PORT && lag_group(live, 3).status == LAG_NO_PORT);
+    CHECK(lag_is_standby(live, 3).status == LAG_NO_PORT && lag_is_standby(&empty, 1).status == LAG_NO_SYSTEM);
     CHECK(lag_load(live, 3).status == LAG_NO_PORT && lag_load(&empty, 1).status == LAG_NO_SYSTEM);
     CHECK(lag_offer(live, 3, frame, sizeof frame).status == LAG_NO_AGGREGATOR && lag_force(live, 0, 1) == LAG_NO_AGGREGATOR);
     CHECK(lag_offer(live, 1, frame, sizeof frame).status == LAG_NONE_DISTRIBUTING);
@@ -178,7 +181,7 @@ static void check_refusals(struct lag *live) {
 /* Those of a configuration, and of memory: each asking for it is refused in turn. */
 static void check_refused_makes(void) {
     struct lag empty = LAG_EMPTY;
-    struct lag_config config = {0, {0}, 0, 0};
+    struct lag_config config = {0, {0}, 0, 0, 256, 0};
     struct lag_port ports[LAG_MOST + 1] = {{0}};
     uint16_t keys[LAG_MOST + 1] = {0};
     struct lag_made made;
@@ -202,13 +205,37 @@ static void check_refused_makes(void) {
     CHECK(made.status == LAG_BAD_CONFIG && made.reason == 3 && made.place == 5 && !empty.live && !empty.at && blocks == before);
 }
 
+/* A limit of links is 0 to 64, and an aggregator has 256 or 4096 conversations; the limit is looked at first. */
+static void check_refused_limits(void) {
+    static const uint16_t limits[] = {65, 256, 65535}, counts[] = {0, 255, 257, 4095, 4097, 65535};
+    struct lag empty = LAG_EMPTY;
+    struct lag_config config = {0, {0}, 0, 0, 4096, 64};
+    struct lag_port port = {.number = 1};
+    uint16_t key = 0;
+    struct lag_made made;
+    CHECK(lag_new(&empty, &config, &key, 1, &port, 1).status == LAG_OK && lag_free(&empty) == LAG_OK);
+    for (size_t i = 0; i < sizeof counts / sizeof *counts; i++) {
+        config.conversations = counts[i];
+        made = lag_new(&empty, &config, &key, 1, &port, 1);
+        CHECK(made.status == LAG_BAD_CONFIG && made.reason == 5 && made.place == 0 && !empty.live);
+    }
+    for (size_t i = 0; i < sizeof limits / sizeof *limits; i++) {
+        config.max_links = limits[i];
+        made = lag_new(&empty, &config, &key, 1, &port, 1);
+        CHECK(made.status == LAG_BAD_CONFIG && made.reason == 4 && made.place == 0 && !empty.live);
+    }
+    port.number = 0;
+    CHECK(lag_new(&empty, &config, &key, 1, &port, 1).reason == 3);
+}
+
 /* Three ports, each with a flag of its own, and no two numbers alike: each field is seen in its place. */
 static void check_fields(void) {
     static const uint8_t head[] = {0x01, 0x80, 0xc2, 0, 0, 2, 2, 0x31, 0x32, 0x33, 0x34, 0x35, 0x88, 0x09, 1, 1, 1, 20, 0x11, 0x12,
         2, 0x13, 0x14, 0x15, 0x16, 0x17, 0x42, 0x43, 0x2c, 0x2d, 0x2a, 0x2b};
     static const uint16_t keys[3] = {0x4041, 0x4243, 0x4445};
     static const struct lag_config config = {
-        .priority = 0x1112, .mac = {2, 0x13, 0x14, 0x15, 0x16, 0x17}, .max_delay = 0x1819, .first_marker = 0x1a1b1c1d};
+        .priority = 0x1112, .mac = {2, 0x13, 0x14, 0x15, 0x16, 0x17}, .max_delay = 0x1819, .first_marker = 0x1a1b1c1d,
+        .conversations = 256};
     static const struct lag_port ports[3] = {
         {.number = 0x1e1f, .priority = 0x2021, .mac = {2, 0x22, 0x23, 0x24, 0x25, 0x26}, .key = 0x4041, .aggregatable = true},
         {.number = 0x2a2b, .priority = 0x2c2d, .mac = {2, 0x31, 0x32, 0x33, 0x34, 0x35}, .key = 0x4243, .active = true},
@@ -369,19 +396,57 @@ static void check_individual(struct lag *one, struct lag *other) {
     CHECK(lag_party(one, 2).aggregatable && !lag_party(one, 1).aggregatable);
 }
 
+/* Of 4,096 conversations a frame's is the low 12 bits of the last two octets of its addresses, exclusive-or. */
+static void check_many_conversations(void) {
+    static const uint8_t far[14] = {2, 0, 0, 0, 0xf1, 0x20, 2, 0, 0, 0, 0, 0x10, 8, 0};
+    struct lag many = LAG_EMPTY, few = LAG_EMPTY;
+    make(&many, 5, 7, 4096, 0);
+    make(&few, 6, 7, 256, 0);
+    CHECK(lag_conversation(&many, far, sizeof far).number == 0x130 && lag_conversation(&few, far, sizeof far).number == 0x30);
+    CHECK(lag_conversation_state(&many, 2, 4095).what == LAG_FREE && lag_conversation_state(&many, 2, 4095).status == LAG_OK);
+    CHECK(lag_conversation_state(&many, 2, 4096).status == LAG_NOT_ASSIGNED);
+    CHECK(lag_conversation_state(&few, 2, 255).status == LAG_OK && lag_conversation_state(&few, 2, 256).status == LAG_NOT_ASSIGNED);
+    CHECK(lag_free(&many) == LAG_OK && lag_free(&few) == LAG_OK);
+}
+
+/* One link may be a member: the other is STANDBY, in WAITING, and takes its place when the first is down. */
+static void check_limit(void) {
+    struct lag one = LAG_EMPTY, other = LAG_EMPTY;
+    uint16_t numbers[LAG_MOST] = {0}, agg;
+    make(&one, 3, 7, 256, 1);
+    make(&other, 4, 9, 256, 1);
+    for (uint16_t port = 1; port <= 2; port++)
+        CHECK(lag_set_link(&one, port, true) == LAG_OK && lag_set_link(&other, port, true) == LAG_OK);
+    turn(&one, &other, 60);
+    agg = (uint16_t)lag_choice(&one, 1).number;
+    CHECK(agg >= 1 && lag_choice(&one, 2).number == agg && !lag_is_standby(&one, 1).is && lag_is_standby(&one, 2).is);
+    CHECK(lag_distributing(&one, agg, numbers, LAG_MOST).number == 1 && numbers[0] == 1);
+    CHECK(lag_mux_state(&one, 2).number == LAG_WAITING && lag_is_standby(&other, 2).is);
+    CHECK(lag_set_link(&one, 1, false) == LAG_OK && lag_set_link(&other, 1, false) == LAG_OK);
+    CHECK(lag_choice(&one, 1).number == 0 && !lag_is_standby(&one, 1).is && !lag_is_standby(&one, 2).is);
+    turn(&one, &other, 20);
+    CHECK(lag_distributing(&one, agg, numbers, LAG_MOST).number == 1 && numbers[0] == 2);
+    CHECK(lag_set_link(&one, 1, true) == LAG_OK && lag_set_link(&other, 1, true) == LAG_OK);
+    turn(&one, &other, 60);
+    CHECK(lag_is_standby(&one, 1).is && !lag_is_standby(&one, 2).is && lag_choice(&one, 1).number == agg);
+    CHECK(lag_free(&one) == LAG_OK && lag_free(&other) == LAG_OK);
+}
+
 int main(void) {
     struct lag one = LAG_EMPTY, other = LAG_EMPTY;
     uint16_t agg;
     unsigned asked;
     for (size_t i = 0; i < sizeof exports / sizeof *exports; i++) check(exports[i].at != 0, exports[i].name);
     CHECK(!one.live && !one.at);
-    make(&one, 1, 7);
-    make(&other, 2, 9);
+    make(&one, 1, 7, 256, 0);
+    make(&other, 2, 9, 256, 0);
     check_null_in_calls(&one);
     check_null_in_readers(&one);
     check_refusals(&one);
     check_refused_makes();
+    check_refused_limits();
     check_fields();
+    check_many_conversations();
     asked = askings;
     check_first_frame(&one);
     check_faults(&one);
@@ -396,6 +461,7 @@ int main(void) {
     check_individual(&one, &other);
     CHECK(lag_restart(&one) == LAG_OK && !lag_is_up(&one, 1).is && lag_next_marker(&one).id == FIRST_MARKER);
     CHECK(askings == asked && blocks > 0);
+    check_limit();
     CHECK(lag_free(&one) == LAG_OK && !one.live && lag_free(&one) == LAG_NO_SYSTEM && lag_free(&other) == LAG_OK && blocks == 0);
     printf("calls: %u passed, %u failed\n", passed, failed);
     return failed > 0;

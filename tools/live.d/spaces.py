@@ -1,0 +1,127 @@
+"""Two network namespaces joined by veth pairs, and raw frames at the end of a pair."""
+
+import ctypes
+import os
+import socket
+
+from checking import Failed, Skipped, run
+
+# The namespaces are named for this process, so that two runs do not meet.
+OURS, THEIRS = f"lag-ours-{os.getpid()}", f"lag-theirs-{os.getpid()}"
+SLOW_PROTOCOLS, GROUP = 0x8809, "01:80:c2:00:00:02"
+OUTGOING, NEW_NETWORK = 4, 0x40000000
+PIDFD_OPEN, PIDFD_GETFD = 434, 438
+
+
+def ip(space, *words, **more):
+    ended = run("ip", "-n", space, *words, **more)
+    if ended.returncode:
+        raise Failed(f"ip {' '.join(words)}", ended.stderr)
+
+
+def inside(space, *words, **more):
+    """Runs a command in a namespace."""
+    return run("ip", "netns", "exec", space, *words, **more)
+
+
+def drop_spaces():
+    for space in (OURS, THEIRS):
+        run("ip", "netns", "del", space)
+
+
+def make_pair(place):
+    """A pair of a0 and b0, or a1 and b1, with both ends up."""
+    made = run("ip", "-n", OURS, "link", "add", f"a{place}", "type", "veth", "peer", "name", f"b{place}", "netns", THEIRS)
+    if made.returncode:
+        raise Skipped(f"no veth pairs: {made.stderr.strip()}")
+    ip(OURS, "link", "set", f"a{place}", "up")
+    ip(THEIRS, "link", "set", f"b{place}", "up")
+
+
+def make_spaces():
+    """Two new network namespaces, joined by two veth pairs."""
+    for space in (OURS, THEIRS):
+        made = run("ip", "netns", "add", space)
+        if made.returncode:
+            raise Skipped(f"no network namespaces: {made.stderr.strip()}")
+    for place in (0, 1):
+        make_pair(place)
+
+
+def flap(space, name, times):
+    """Takes an interface down and up at once, so many times."""
+    ip(space, "-batch", "-", input=f"link set {name} down\nlink set {name} up\n" * times)
+
+
+def losses(space, name):
+    """How often the kernel saw the carrier of an interface go."""
+    return int(inside(space, "cat", f"/sys/class/net/{name}/carrier_down_count").stdout or -1)
+
+
+def octets(mac):
+    return bytes.fromhex(mac.replace(":", ""))
+
+
+def system_call(number, *words):
+    answer = ctypes.CDLL(None, use_errno=True).syscall(number, *words)
+    if answer < 0:
+        raise Skipped(f"no system call {number}: {os.strerror(ctypes.get_errno())}")
+    return answer
+
+
+def packet_sockets(process):
+    """The packet sockets of a process, as sockets of our own."""
+    handle, found = system_call(PIDFD_OPEN, process, 0), []
+    for name in os.listdir(f"/proc/{process}/fd"):
+        if os.readlink(f"/proc/{process}/fd/{name}").startswith("socket:"):
+            taken = socket.socket(fileno=system_call(PIDFD_GETFD, handle, int(name), 0))
+            found += [taken] if taken.family == socket.AF_PACKET else []
+    os.close(handle)
+    return found
+
+
+class Wire:
+    """The end of a pair, at which raw frames of the slow protocols are sent and seen."""
+
+    def __init__(self, space, name):
+        here = os.open("/proc/self/ns/net", os.O_RDONLY)
+        there = os.open(f"/run/netns/{space}", os.O_RDONLY)
+        try:
+            self.enter(there)
+            self.socket = socket.socket(socket.AF_PACKET, socket.SOCK_RAW, socket.htons(SLOW_PROTOCOLS))
+            self.socket.bind((name, SLOW_PROTOCOLS))
+        finally:
+            self.enter(here)
+            os.close(here)
+            os.close(there)
+
+    @staticmethod
+    def enter(space):
+        if ctypes.CDLL(None, use_errno=True).setns(space, NEW_NETWORK) < 0:
+            raise Skipped(f"no way into a namespace: {os.strerror(ctypes.get_errno())}")
+
+    def send(self, payload, to=GROUP):
+        self.socket.send(octets(to) + octets("02:00:00:00:00:77") + SLOW_PROTOCOLS.to_bytes(2, "big") + payload)
+
+    def sources(self):
+        """The source addresses of what has come since the last look, oldest first."""
+        found = []
+        while True:
+            try:
+                frame, address = self.socket.recvfrom(2048, socket.MSG_DONTWAIT)
+            except BlockingIOError:
+                return found
+            if address[2] != OUTGOING:
+                found.append(frame[6:12])
+
+
+def lacpdu(system, port, state=0x0D):
+    """The payload of an LACPDU of version 1 from this system and port, whose partner is not known."""
+    actor = b"\1\x14" + b"\x80\0" + octets(system) + b"\0\7" + b"\x80\0" + port.to_bytes(2, "big") + bytes([state, 0, 0, 0])
+    partner = b"\2\x14" + bytes(18)
+    return b"\1\1" + actor + partner + b"\3\x10" + bytes(14) + bytes(52)
+
+
+def marker(kind):
+    """The payload of a marker, of kind 1, or of the response to one, of kind 2."""
+    return b"\2\1" + bytes([kind, 0x10]) + bytes(106)
