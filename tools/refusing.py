@@ -2,11 +2,10 @@
 
 import os
 import subprocess
-import sys
 import tempfile
 
-TOOLS = os.path.dirname(os.path.abspath(__file__))
-TOP = os.path.dirname(TOOLS)
+from repository import CC, TOOLS, Missing, want
+
 # No run takes so long.
 SECONDS = 60
 
@@ -15,12 +14,12 @@ class Refuser:
     """The preloaded library, built in a folder of its own."""
 
     def __enter__(self):
+        want(CC)
         self.folder = tempfile.TemporaryDirectory()
         self.library = os.path.join(self.folder.name, "refuse.so")
-        cc = os.environ.get("CC", "cc")
-        words = [cc, "-O2", "-Wall", "-fPIC", "-shared", "-o", self.library, os.path.join(TOOLS, "refuse.c")]
+        words = [CC, "-O2", "-Wall", "-fPIC", "-shared", "-o", self.library, os.path.join(TOOLS, "refuse.c")]
         if subprocess.run(words).returncode:
-            sys.exit("tools/refuse.c could not be built")
+            raise Missing(f"{CC} does not build tools/refuse.c")
         return self
 
     def __exit__(self, *_):

@@ -2,20 +2,15 @@
 cache folder outside the tree."""
 
 import os
-import re
 import shutil
 import subprocess
 
+from repository import CRATES, RT, Missing, below, lines
+
 BENCH = os.path.dirname(os.path.abspath(__file__))
-TOP = os.path.dirname(os.path.dirname(BENCH))
-RT = os.environ.get("RT", "rt")
 # The library of the calls, and what it names.
 NAME = "lagbench"
 USES = ["lagtypes", "slowpdu", "lagmodel", "distributor", "lagsystem"]
-
-
-class Failed(Exception):
-    """A command failed: what is told of it."""
 
 
 def say(text):
@@ -28,31 +23,7 @@ def log_run(cache, log, words, cwd=None, env=None):
     with open(file, "a") as it:
         ended = subprocess.run(words, cwd=cwd, env=env, stdin=subprocess.DEVNULL, stdout=it, stderr=subprocess.STDOUT)
     if ended.returncode:
-        raise Failed(f"{' '.join(words)[:100]} ended with {ended.returncode}; {file} has what it printed")
-
-
-def wanted(*names):
-    """Stops where one of these commands is not in PATH."""
-    lacking = [it for it in names if not shutil.which(it)]
-    if lacking:
-        raise Failed(f"not in PATH: {', '.join(lacking)}")
-
-
-def lines_of_crates():
-    """The lines of crates.txt, by the names of their crates."""
-    with open(f"{TOP}/crates.txt") as it:
-        rows = [line.split("#")[0].strip() for line in it]
-    return {re.split("[ :]", row)[0]: row for row in rows if row}
-
-
-def crates_below(names, lines):
-    """These crates of the repository and all below them, lowest first."""
-    found = []
-    for name in names:
-        if name in lines and name not in found:
-            below = lines[name].partition(":")[2].split()
-            found += [it for it in crates_below(below, lines) if it not in found] + [name]
-    return found
+        raise Missing(f"{' '.join(words)[:100]} ended with {ended.returncode}; {file} has what it printed")
 
 
 def stamp_of(crates, name):
@@ -65,7 +36,7 @@ def stamp_of(crates, name):
 
 def copy_crate(name, crates):
     """Copies a proved crate, its sources and its library, where another one or none is there."""
-    here = f"{TOP}/crates"
+    here = CRATES
     if stamp_of(here, name) is None or stamp_of(here, name) != stamp_of(crates, name):
         shutil.rmtree(f"{crates}/{name}", ignore_errors=True)
         for part in ("src", "specs", "proofs", "out/rlib"):
@@ -76,24 +47,22 @@ def copy_crate(name, crates):
 def lay_out(cache):
     """Lays a repository of the proved crates and the library of the calls; rt wants each source in a crate of its repository, so the
     library's sources have another suffix here."""
-    crates, lines = f"{cache}/project/crates", lines_of_crates()
-    below = crates_below(USES, lines)
+    crates, rows, used = f"{cache}/project/crates", lines(), below(*USES)
     os.makedirs(f"{crates}/{NAME}/src", exist_ok=True)
-    for name in below:
+    for name in used:
         copy_crate(name, crates)
     for name in os.listdir(f"{crates}/{NAME}/src"):
         os.remove(f"{crates}/{NAME}/src/{name}")
     for name in os.listdir(f"{BENCH}/{NAME}"):
         shutil.copy2(f"{BENCH}/{NAME}/{name}", f"{crates}/{NAME}/src/{name.removesuffix('.txt')}")
     with open(f"{cache}/project/crates.txt", "w") as it:
-        it.write("".join(lines[name] + "\n" for name in below) + f"{NAME} staticlib: {' '.join(USES)} bitflags\n")
+        it.write("".join(rows[name] + "\n" for name in used) + f"{NAME} staticlib: {' '.join(USES)} bitflags\n")
     return f"{crates}/{NAME}"
 
 
 def build_library(cache):
     """Proves and builds lagsystem, unless it stands, and then the library of the calls; answers its file."""
-    wanted(RT)
-    log_run(cache, "lagsystem", [RT, "lib"], cwd=f"{TOP}/crates/lagsystem")
+    log_run(cache, "lagsystem", [RT, "lib"], cwd=f"{CRATES}/lagsystem")
     folder = lay_out(cache)
     log_run(cache, NAME, [RT, "lib"], cwd=folder)
     return f"{folder}/out/lib{NAME}.a"
@@ -101,13 +70,14 @@ def build_library(cache):
 
 def kit():
     """The folder of the toolchain."""
-    told = subprocess.run([RT, "doc"], capture_output=True, text=True, check=True).stdout
-    return os.path.dirname(told.strip().splitlines()[-1])
+    told = subprocess.run([RT, "doc"], capture_output=True, text=True)
+    if told.returncode or not told.stdout.strip():
+        raise Missing(f"{RT} doc tells no page of the toolchain")
+    return os.path.dirname(told.stdout.strip().splitlines()[-1])
 
 
 def build_harness(cache, library, switch):
     """Builds the harness over the library and, if it is here, Open vSwitch; answers its file."""
-    wanted("gcc", "clang", "rustc")
     sources, built = f"{BENCH}/harness", f"{cache}/built"
     os.makedirs(built, exist_ok=True)
     compiles = [

@@ -6,11 +6,11 @@ import shutil
 import struct
 import subprocess
 
-from building import TOP, Failed, log_run
+from building import log_run
+from repository import PROGRAM, Missing
 
 COUNT = 100_000
 HEADER = bytes.fromhex("0180c20000020200000000098809")
-PROGRAM = os.path.join(TOP, "crates", "lagtool", "out", "lagtool")
 RUNS = 5
 # The first entries of a script, and their replies: two switches with two cables come up.
 COMING_UP = [
@@ -142,7 +142,7 @@ def fetched(cache):
             if name.endswith(".deb"):
                 log_run(cache, "apt", ["dpkg-deb", "-x", f"{state}/packages/archives/{name}", f"{root}.new"])
         os.rename(f"{root}.new", root)
-    except (Failed, OSError):
+    except (Missing, OSError):
         shutil.rmtree(f"{root}.new", ignore_errors=True)
     return root
 

@@ -1,0 +1,94 @@
+"""Reads a report of `lagtool replay`, by the lines that docs/COMMAND.md has."""
+
+import re
+
+S, N = "(?P<system>[12])", r"(?:0|[1-9]\d*)"
+CABLE, PORT = f"(?P<cable>{N})", f"(?P<port>{N})"
+KEPT = "(?P<kept>sent|lost)"
+DELIVERED = f"took|responded (?:sent|lost)|released {N}|up {N}|dropped|disabled|ignored|empty"
+# Of each entry, its words behind the first, and its replies beside the refusals.
+ENTRIES = {
+    "tick": (f"{S} {N}", "ticked"),
+    "emit": (f"{S} {PORT}", f"lacpdu (?P<lacpdu>[0-9a-f]{{2}}) {KEPT}|marker (?P<marker>{N}) {KEPT.replace('kept', 'kept_too')}|nothing"),
+    "deliver": (f"{CABLE} {S}", DELIVERED),
+    "lose": (f"{CABLE} {S}", "lost|empty"),
+    "repeat": (f"{CABLE} {S}", f"{DELIVERED}|not control"),
+    "cut": (CABLE, "cut"),
+    "join": (CABLE, "joined"),
+    "sense": (f"{CABLE} {S}", "up|down"),
+    "restart": (S, "restarted"),
+    "configure": (f"{S} {N} {N} {N} (?:aggregatable|individual)", "configured|unchanged"),
+    "offer": (f"{S} (?P<agg>{N}) (?P<hex>(?:[0-9a-f]{{2}})*)", f"port {PORT} serial (?P<serial>{N}) {KEPT}"),
+    "move": (f"{S} {N} {N} {N}", "moved"),
+    "force": (f"{S} {N} {N}", "forced"),
+}
+REFUSALS = [
+    "no-port", "no-aggregator", "frame-length", "slow-frame", "held",
+    "none-distributing", "not-distributing", "same-port", "not-assigned", "markers-spent",
+]
+REFUSED = "|".join(f"refused {number} {name}" for number, name in enumerate(REFUSALS, 1))
+LINES = {word: re.compile(rf"({N}) {word} (?P<rest>{rest}) -> (?P<reply>{reply}|{REFUSED})") for word, (rest, reply) in ENTRIES.items()}
+AGREEMENT = re.compile(f"cable ({N}) agreement (?:same|differ|changed|not-both|defaults)")
+FLOW = re.compile(rf"flow ([12])/({N})/({N}) sent {N} collected (?:none|{N}(?: {N})*)(?: forced)?")
+
+
+class Unread(Exception):
+    """What is no report, and why."""
+
+
+class Entry:
+    """An entry: its number, its first word and the others, its reply, and the parts of these that it has, else None."""
+
+    def __init__(self, word, found):
+        parts = {"port": None, "cable": None, "system": None, "lacpdu": None, "marker": None, "kept": None, "serial": None}
+        parts.update(found.groupdict())
+        self.number, self.word, self.rest, self.reply = int(found.group(1)), word, parts["rest"], parts["reply"]
+        self.system, self.cable, self.port, self.agg = (
+            it and int(it) for it in (parts["system"], parts["cable"], parts["port"], parts.get("agg"))
+        )
+        self.lacpdu, self.marker, self.serial = parts["lacpdu"], parts["marker"], parts["serial"]
+        self.kept, self.octets = parts["kept"] or parts.get("kept_too"), bytes.fromhex(parts.get("hex") or "")
+
+
+class Report:
+    """The entries of a report, its lines behind them, and the conversations that these name."""
+
+    def __init__(self):
+        self.entries, self.ends, self.flows, self.cables = [], [], set(), 0
+
+    def add(self, line):
+        """Takes the next line; answers whether it can stand there."""
+        word = line.split(" ")[1] if " " in line else ""
+        entry = LINES[word].fullmatch(line) if word in LINES else None
+        cable, flow = AGREEMENT.fullmatch(line), FLOW.fullmatch(line)
+        if entry and not self.ends and int(entry.group(1)) == len(self.entries) + 1:
+            self.entries.append(Entry(word, entry))
+            return True
+        if cable and not self.flows and int(cable.group(1)) == self.cables + 1:
+            self.cables += 1
+        elif flow:
+            self.flows.add(tuple(map(int, flow.groups())))
+        else:
+            return False
+        self.ends.append(line)
+        return True
+
+    def conversation(self, entry):
+        """The number of the conversation of a frame that was sent, of 4096 or of 256, as a flow names it."""
+        target, source = entry.octets[4:6], entry.octets[10:12]
+        number = (int.from_bytes(target, "big") ^ int.from_bytes(source, "big")) & 0xFFF
+        return number if (entry.system, entry.agg, number) in self.flows else number & 0xFF
+
+
+def read(text):
+    """The report that a text is."""
+    report = Report()
+    lines = text.split("\n")
+    if lines[-1] == "":
+        lines.pop()
+    if not lines:
+        raise Unread("the input is empty, and no report")
+    for number, line in enumerate(lines, 1):
+        if not report.add(line):
+            raise Unread(f"line {number} can't stand there in a report: {line[:80]}")
+    return report

@@ -1,0 +1,119 @@
+"""Proves and builds the program: libraries that have nothing in common side by side, the rest in turn."""
+
+import os
+import subprocess
+import sys
+import threading
+import time
+from concurrent.futures import ThreadPoolExecutor
+
+from lanes import lanes
+from repository import CRATES, RT, Missing, below, crates, say
+
+LASTS = "its proof goes on behind, 12 to 25 minutes on 4 processors, less after an earlier check"
+# The most jobs that rt takes for a check of its own accord.
+JOBS = 4
+
+
+def spoken(seconds):
+    return f"{seconds / 60:.0f} minutes" if seconds >= 120 else f"{seconds:.0f} seconds"
+
+
+def apart(name):
+    """The libraries below a crate, lowest first: lists without a crate in common, none of which stands on another, and the rest.
+    `rt` keeps a crate and all below it to itself, so those alone can be proved side by side."""
+    uses, found, rest = crates(), {}, []
+    for crate in below(name)[:-1]:
+        lowest = [it for it in below(crate) if not uses[it]]
+        (found.setdefault(lowest[0], []) if len(lowest) == 1 else rest).append(crate)
+    return list(found.values()), rest
+
+
+def size(crate):
+    """The octets of a crate's code, by which the time of its proof is estimated."""
+    folder = os.path.join(CRATES, crate, "src")
+    return sum(os.path.getsize(os.path.join(at, it)) for at, _, files in os.walk(folder) for it in files)
+
+
+class Proof:
+    """The proof of a program. What `rt` prints goes to a file of its folder out/."""
+
+    def __init__(self, name):
+        self.name, self.all = name, below(name)
+        self.sizes = {crate: size(crate) for crate in self.all}
+        self.log = os.path.join(CRATES, name, "out", "proof.log")
+        # Each crate that is proved, with the seconds that it took here.
+        self.proved, self.running, self.shown, self.is_stopped = {}, set(), None, False
+        self.jobs = min(lanes(), JOBS)
+        self.lock = threading.Lock()
+
+    def __enter__(self):
+        os.makedirs(os.path.dirname(self.log), exist_ok=True)
+        with open(self.log, "w", encoding="utf-8"):
+            return self
+
+    def __exit__(self, *_):
+        self.stop()
+        if self.shown and sys.stderr.isatty():
+            print("\r\033[K", end="", file=sys.stderr, flush=True)
+
+    def stop(self):
+        """Ends what runs, and begins nothing more."""
+        self.is_stopped = True
+        for it in list(self.running):
+            it.terminate()
+
+    def make(self):
+        """Proves all; stops where that fails."""
+        self.began = time.time()
+        lists, rest = apart(self.name)
+        longest = max(lists, key=lambda names: sum(self.sizes[it] for it in names), default=[])
+        with ThreadPoolExecutor(lanes()) as pool:
+            for proved in [pool.submit(self.prove_each, it, self.jobs if it is longest else 1) for it in lists]:
+                proved.result()
+        self.prove_each([*rest, self.name], self.jobs)
+
+    def prove_each(self, names, jobs):
+        for name in names:
+            words = ["run"] if name == self.name else ["lib"]
+            self.prove(name, [RT, *words, "--jobs", str(jobs), *(["--", "--help"] if name == self.name else [])])
+
+    def prove(self, crate, words):
+        """Proves and builds one crate. A run without proof beside it, which is soon done, goes first."""
+        if self.is_stopped:
+            return
+        began = time.time()
+        with open(self.log, "a", encoding="utf-8") as log:
+            how = {"cwd": os.path.join(CRATES, crate), "stdin": subprocess.DEVNULL, "stdout": log, "stderr": log}
+            with subprocess.Popen(["nice", "-n", "10", *words], **how) as ran:
+                self.running.add(ran)
+            self.running.remove(ran)
+        if self.is_stopped:
+            return
+        if ran.returncode:
+            self.stop()
+            raise Missing(f"the program could not be proved: {crate} failed, and {self.log} has what rt said")
+        self.proved[crate] = time.time() - began
+        if self.shown:
+            self.show(self.shown)
+
+    def left(self):
+        """The seconds that are left, by what the crates took so far; None where nothing was proved here yet."""
+        here = [it for it, took in self.proved.items() if took > 5]
+        if not here:
+            return None
+        todo = sum(self.sizes[it] for it in self.all if it not in self.proved)
+        return (time.time() - self.began) * todo / sum(self.sizes[it] for it in here)
+
+    def show(self, what):
+        """Says how far the proof is, now and after each crate; on a terminal in one line."""
+        with self.lock:
+            self.shown, left = what, self.left()
+            more = f", some {spoken(left)} more" if left else ""
+            text = f"{what}: {len(self.proved)} of {len(self.all)} crates{more}"
+            if len(self.proved) == len(self.all):
+                return
+            if sys.stderr.isatty():
+                print(f"\r\033[K{self.name}: {text}", end="", file=sys.stderr, flush=True)
+            else:
+                say(text)

@@ -1,0 +1,56 @@
+"""A run of a program without proof: `rt try`, which lasts at most 60 seconds and prints at most 1 MiB."""
+
+import os
+import re
+import subprocess
+from collections import namedtuple
+
+from repository import CRATES, RT
+
+# How a run ended: its status, and what it wrote to standard output and to standard error.
+Answer = namedtuple("Answer", "status printed said")
+ENDED = re.compile(rb"^run=ended status=(\d+) .*\n\Z", re.M)
+# The lines that `rt try` adds to the program's own on standard error.
+ADDED = re.compile(rb"(?:^(?:rt|interpreter|checked|races|run)[:=].*\n)+\Z", re.M)
+
+
+def is_stream(word):
+    """Whether a word names what is neither a file nor a folder."""
+    return os.path.exists(word) and not os.path.isfile(word) and not os.path.isdir(word)
+
+
+class Trial:
+    """The run, which begins at once. It reads copies of the files that its words name."""
+
+    def __init__(self, name, words, given):
+        self.given = given
+        self.files = {word: f"file-{number}" for number, word in enumerate(words[1:]) if os.path.isfile(word)}
+        # What can be read once only is left to the proved program.
+        self.is_able = not any(it.startswith(("/dev/", "/proc/")) or is_stream(it) for it in words[1:])
+        copies = [it for word, copy in self.files.items() for it in ("--data", f"{copy}={os.path.abspath(word)}")]
+        self.words = [RT, "try", *copies, "--", *(words[:1] + [self.files.get(it, it) for it in words[1:]])]
+        self.folder = os.path.join(CRATES, name)
+
+    def __enter__(self):
+        stdin = subprocess.DEVNULL if self.given is None else subprocess.PIPE
+        how = {"cwd": self.folder, "stdin": stdin, "stdout": subprocess.PIPE, "stderr": subprocess.PIPE}
+        self.ran = subprocess.Popen(self.words, **how) if self.is_able else None
+        return self
+
+    def __exit__(self, *_):
+        self.stop()
+
+    def stop(self):
+        if self.ran:
+            self.ran.terminate()
+
+    def answer(self):
+        """Waits for the end of the run; None if it gave no answer."""
+        if not self.ran:
+            return None
+        printed, told = self.ran.communicate(self.given)
+        ended = ENDED.search(told)
+        said = ADDED.sub(b"", told)
+        for word, copy in self.files.items():
+            said = said.replace(os.fsencode(copy), os.fsencode(word))
+        return Answer(int(ended[1]), printed, said) if ended else None

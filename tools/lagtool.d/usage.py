@@ -1,0 +1,29 @@
+"""The program's help, from the texts in its sources, where the program is not built yet."""
+
+import os
+import re
+import textwrap
+
+from repository import CRATES
+
+TEXTS = os.path.join(CRATES, "lagline", "src", "help.rt")
+
+
+def texts():
+    """The constants of the file: their names and texts."""
+    with open(TEXTS, encoding="utf-8") as it:
+        found = re.findall(r'^pub const (\w+): &str =\s*"((?:[^"\\]|\\.)*)";', it.read(), re.M | re.S)
+    return {name: re.sub(r"\\\n\s*", "", text).replace('\\"', '"') for name, text in found}
+
+
+def text(program):
+    """The help: DECODE says what the command decode does, DECODE_HEX what its word HEX is, and DECODE_EXAMPLE has an example."""
+    known = texts()
+    told = [f"{program} {known['VERSION']}: {known['ABOUT']}", ""]
+    for name in [it for it in known if "_" not in it and it not in ("VERSION", "ABOUT", "STATUSES")]:
+        more = {it.partition("_")[2]: known[it] for it in known if it.startswith(f"{name}_")}
+        words = [it for it in more if it not in ("EXAMPLE", "LINES")]
+        told.append("  ".join([" ".join([f"  {program} {name.lower()}", *words]), known[name]]))
+        told += [textwrap.indent(f"{it}: {more[it]}", "      ") for it in words]
+        told += [textwrap.indent(more[it], "      ") for it in more if it not in words] + [""]
+    return "\n".join([*told, known["STATUSES"], "", "docs/COMMAND.md has the rest. The program itself is not built yet."])
