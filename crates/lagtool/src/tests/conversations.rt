@@ -1,5 +1,6 @@
 use crate::tests::refusals::{fault_said, systems_with};
 use crate::tests::replays::{BOTH_UP, BOTH_UP_TEXT, TWO_CABLES, replayed};
+use std::alloc::{AllocError, Global};
 use std::test::Fail;
 
 /// Two frames that are of one conversation among 256 and of two among 4,096.
@@ -89,6 +90,15 @@ const MANY: &str = "conversations = 4096\n";
 
 const FEW: &str = "conversations = 256\n";
 
+/// The report of these events with these keys of the two systems; empty if the script is refused.
+fn report_of(alloc: Global, one: &str, two: &str, events: &str) -> Result<String, AllocError> {
+    let systems = systems_with(alloc, one, two)?;
+    match replayed(alloc, &[BOTH_UP, events, systems.as_str(), TWO_CABLES]) {
+        Ok(report) => Ok(report),
+        Err(_) => Ok(String::new(alloc)),
+    }
+}
+
 #[test]
 fn flows_have_the_numbers_of_their_sender(rt: HostRuntime) -> Result<(), Fail> {
     let alloc = rt.alloc();
@@ -102,8 +112,7 @@ fn flows_have_the_numbers_of_their_sender(rt: HostRuntime) -> Result<(), Fail> {
         (MANY, FEW, LAST, LAST_TEXT),
         ("", MANY, BY_SENDER, BY_SENDER_TEXT),
     ] {
-        let systems = systems_with(alloc, one, two)?;
-        let written = replayed(alloc, &[BOTH_UP, events, systems.as_str(), TWO_CABLES])?;
+        let written = report_of(alloc, one, two, events)?;
         let wanted = format!(in alloc; "{BOTH_UP_TEXT}{text}")?;
         assert_eq!(rt; written.as_str(), wanted.as_str(), "{one}{two}{events}");
     }
