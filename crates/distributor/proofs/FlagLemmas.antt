@@ -1,15 +1,15 @@
 -- The flags of the chains in which a conversation is Wanted or Flushing.
-use Rattle.std.proofs.Common.{ℕ, ◌<◌, ◌≡◌, ◌||◌, Bool, true, false, eqb, List, length, None, get_or, map, set, refl, ap, sym, ◌∙◌, arith}
+use Rattle.std.proofs.Common.{ℕ, zero, suc, ◌<◌, ◌≡◌, ◌||◌, Bool, true, false, cond, eqb, List, length, None, get_or, map, set, refl, ap, sym, ◌∙◌, arith}
 use Rattle.std.proofs.Common.{⊎_elim, inl, inr}
 use Rattle.std.proofs.lemmas.Bool.{cases_Bool, cases_eq, cond-true, cond-false, false≢true, or_right}
 use Rattle.std.proofs.lemmas.List.{ext_get_or, get_or-map, get_or-set_other, get_or-set_same, length-map, length-set}
 use Rattle.distributor.specs.declared.assignment.Assignment.{Assignment}
 use Rattle.distributor.specs.declared.assignment.Assignment.TheVariants.{Free, On, Wanted, Flushing}
 use Rattle.distributor.specs.declared.change.Change.{Change}
-use Rattle.distributor.specs.declared.change.Change.TheVariants.{Release}
+use Rattle.distributor.specs.declared.change.Change.TheVariants.{Mark, Release}
 use Rattle.distributor.specs.declared.slots.ConversationTest.TheVariants.{WantsMarker, AwaitsResponse}
 use Rattle.distributor.specs.Conversations.{sum_below}
-use Rattle.distributor.specs.Changes.{after_change}
+use Rattle.distributor.specs.Changes.{after_change, wants_marker}
 use Rattle.distributor.specs.Chains.{assignment_port, chain_of, is_in_chain, is_flagged, is_flushing, is_wanted, changed_in_chain}
 use Rattle.distributor.specs.Chains.{slot_state}
 use Rattle.distributor.specs.Chains.{passes, IsFlagged}
@@ -135,3 +135,35 @@ release_passed chain port n states wanted flushing h none =
   where
     change : Assignment → Assignment
     change = changed_in_chain chain (after_change (Release port n))
+
+-- where no conversation is Wanted on the port, a marker that is sent there changes nothing
+marked_none : (chain port n : ℕ) (s : Assignment) → wants_marker port s ≡ false → s ≡ changed_in_chain chain (after_change (Mark port n)) s
+marked_none chain port n (Free preferred) h = refl
+marked_none chain port n (On p) h = sym (cond_same (eqb (chain_of p) chain) (On p))
+marked_none chain port n (Wanted p preferred) h = sym
+    (ap (λ s. cond (eqb (chain_of p) chain) s (Wanted p preferred)) (cond-false (eqb p port) (Flushing port n preferred 0) (Wanted p preferred) h)
+    ∙ cond_same (eqb (chain_of p) chain) (Wanted p preferred))
+marked_none chain port n (Flushing p id preferred age) h = sym (cond_same (eqb (chain_of p) chain) (Flushing p id preferred age))
+
+none_below : (f : ℕ → ℕ) (n k : ℕ) → k < n → sum_below f n ≡ 0 → f k ≡ 0
+unfolding sum_below
+none_below f zero k lt e = absurd (omega arith)
+none_below f (suc n) k lt e = ⊎_elim (λ (m : k ≡ n). ap f m ∙ omega (arith, e))
+    (λ (o : k ≡ n → ⊥). none_below f n k (omega (arith, lt, o)) (omega (arith, e))) (cases_eq k n)
+
+no_bit : (b : Bool) → bit b ≡ 0 → b ≡ false
+no_bit true e = absurd (omega (arith, e))
+no_bit false e = refl
+
+pub marked_passed : (chain port n count : ℕ) (states : List Assignment) → length states ≡ count
+    → sum_below (λ k. bit (wants_marker port (slot_state states k))) count ≡ 0
+    → map (changed_in_chain chain (after_change (Mark port n))) states ≡ states
+marked_passed chain port n count states long none =
+    sym (ext_get_or (Free None) states (map change states) (sym (length-map states change))
+    (λ k lt. marked_none chain port n (slot_state states k)
+    (no_bit (wants_marker port (slot_state states k))
+    (none_below (λ j. bit (wants_marker port (slot_state states j))) count k (omega (arith, lt, long)) none))
+    ∙ sym (get_or-map change states k (Free None) (Free None) lt)))
+  where
+    change : Assignment → Assignment
+    change = changed_in_chain chain (after_change (Mark port n))

@@ -1,7 +1,7 @@
-ghost use Rattle.std.specs.Prelude.{true, false, ◌≡◌, ◌+◌, ◌%◌, ◌<◌, ◌≤◌, ◌^◌, length, get_or, set, map, cond, ℕ, None, IfOk, replicate};
+ghost use Rattle.std.specs.Prelude.{true, false, ◌≡◌, ◌+◌, ◌%◌, ◌<◌, ◌≤◌, ◌^◌, length, get_or, set, map, cond, ℕ, None, IfOk, nat_lt, replicate};
 ghost use Rattle.distributor.specs.Chains.{assignment_port, chain_of, is_in_chain, slot_state, is_flushing, is_wanted};
 ghost use Rattle.distributor.specs.Slots.{AreChained, AreFlagged};
-ghost use Rattle.distributor.specs.Changes.{after_change, after_tick};
+ghost use Rattle.distributor.specs.Changes.{after_change, after_tick, wants_marker};
 ghost use Rattle.std.specs.Bool.{OnFalse};
 ghost use Rattle.distributor.specs.Chains.{changed_in_chain, passes, tested_port};
 ghost use Rattle.distributor.specs.Conversations.{sum_below};
@@ -16,16 +16,22 @@ const CHAINS: u32 = 64;
 
 /// The states of all conversations, one slot each. The slots that are not free are chained by the port number of their
 /// state modulo 64, so that an event of a port need not look at every slot. A chain is a ring, doubly linked by slot
-/// numbers, that begins and ends at an entry of its own after the slots. A chain has two flags: `wanted` is set if one
-/// of its conversations is Wanted, and `flushing` if one is Flushing. Where a flag is clear, no call walks the chain in
-/// search of such a conversation.
+/// numbers, that begins and ends at an entry of its own after the slots. A chain has two flags. A flag that is clear says
+/// that none of its conversations is Wanted, or Flushing; then no call walks the chain in search of one. A flag that is set
+/// says that one may be: the next walk that finds none clears it.
 #[derive(Drop)]
 pub(crate) struct Slots {
+    /// How many slots there are.
     count: u32,
+    /// The state of each slot.
     states: Vec<Assignment>,
+    /// For each slot, and then for the end of each chain: what comes next in the ring.
     next: Vec<u32>,
+    /// The same, backwards.
     prev: Vec<u32>,
+    /// For each chain, whether one of its conversations may be Wanted.
     wanted: Vec<bool>,
+    /// For each chain, whether one of its conversations may be Flushing.
     flushing: Vec<bool>,
 }
 
@@ -215,7 +221,29 @@ impl Slots {
         count
     }
 
-    /// One tick for each conversation. Only chains whose flag `flushing` is set are read.
+    /// Whether some conversation is Wanted on this port. A walk that finds none works out the flags of the chain again.
+    pub(crate) fn find_wanted(&mut self, port: u16) -> bool
+        requires chained { AreChained self.old }
+        requires flagged { AreFlagged self.old }
+        ensures found { result ≡ nat_lt 0 (sum_below (λ k. cond (wants_marker port (slot_state self.old.states.items k)) 1 0) self.old.count) }
+        ensures chained { AreChained self.new }
+        ensures flagged { AreFlagged self.new }
+        ensures states { self.new.states.items ≡ self.old.states.items }
+        ensures count { self.new.count ≡ self.old.count }
+    {
+        let test = ConversationTest::WantsMarker(port);
+        if !self.may_pass(test) {
+            return false;
+        }
+        if self.count_chain(test) > 0 {
+            return true;
+        }
+        // No conversation is Wanted on the port, so this changes no state.
+        self.change_chain(chain(port), Change::Mark(port, 0));
+        false
+    }
+
+    /// One tick for each conversation. Only chains with a flag for Flushing are read.
     pub(crate) fn tick(&mut self)
         requires chained { AreChained self.old }
         requires flagged { AreFlagged self.old }
@@ -231,7 +259,7 @@ impl Slots {
         }
     }
 
-    /// Makes every slot free.
+    /// Makes every slot free, and clears all flags.
     pub(crate) fn clear(&mut self)
         requires chained { AreChained self.old }
         requires flagged { AreFlagged self.old }
@@ -239,11 +267,15 @@ impl Slots {
         ensures flagged { AreFlagged self.new }
         ensures states { self.new.states.items ≡ replicate self.old.count (Assignment.Free None) }
         ensures count { self.new.count ≡ self.old.count }
+        ensures wanted { (c : ℕ) → c < 64 → get_or self.new.wanted.items c true ≡ false }
+        ensures flushing { (c : ℕ) → c < 64 → get_or self.new.flushing.items c true ≡ false }
     {
         let places = self.count + CHAINS;
         free_each(&mut self.states, self.count);
         close(&mut self.next, places);
         close(&mut self.prev, places);
+        clear_flags(&mut self.wanted);
+        clear_flags(&mut self.flushing);
     }
 
     /// Makes a slot free, and takes it out of its chain.
@@ -308,6 +340,17 @@ fn free_each(states: &mut Vec<Assignment>, count: u32)
 {
     for slot in 0..count {
         states[slot as usize] = Assignment::Free { preferred: None };
+    }
+}
+
+/// Clears the flag of each chain.
+fn clear_flags(flags: &mut Vec<bool>)
+    requires { length flags.old.items ≡ 64 }
+    ensures len { length flags.new.items ≡ 64 }
+    ensures cleared { (c : ℕ) → c < 64 → get_or flags.new.items c true ≡ false }
+{
+    for chain in 0..CHAINS {
+        flags[chain as usize] = false;
     }
 }
 

@@ -15,12 +15,15 @@ use std::marker::Model;
 /// The conversations of every aggregator and the identifier of the next marker.
 #[derive(Drop)]
 pub(crate) struct ConversationTable {
+    /// How many aggregators there are.
     aggs: u16,
     /// How many conversations each aggregator has.
     conversations: u16,
     /// The identifier of the first marker.
     first: u32,
+    /// The identifier of the next marker; 4294967296 if none is left.
     next: u64,
+    /// The states: those of aggregator 1, then of aggregator 2, and so on.
     slots: Slots,
 }
 
@@ -138,13 +141,21 @@ impl ConversationTable {
         u32::try_from(self.next).ok()
     }
 
+    /// The same as `wants_marker_on`. A walk that finds none sees to it that the next call need not walk.
+    fn find_wanted(&mut self, port: u16) -> bool
+        ensures found { result ≡ nat_lt 0 (count_conversations (wants_marker port) self.old) }
+        ensures same { self.new ≡ self.old }
+    {
+        self.slots.find_wanted(port)
+    }
+
     /// Takes the next identifier for a marker on this port, if a conversation is Wanted there; else None.
     pub(crate) fn mark(&mut self, port: u16) -> Option<u32>
         ensures answer { result ≡ marker_due self.old port }
         ensures some { IfSome result (λ id. Marks self.old self.new port id) }
         ensures none { IfNone result (self.new ≡ self.old) }
     {
-        if !self.wants_marker_on(port) {
+        if !self.find_wanted(port) {
             return None;
         }
         let id = self.next_identifier()?;

@@ -1,0 +1,5 @@
+use Rattle.std.proofs.Common.{◌≡◌, ◌<◌, ℕ, true, false, length, get_or}
+use Rattle.distributor.proofs.slots.clear_flags.Given as goal
+
+abbrev pub invariant-loop-chain : goal.invariant-loop-chain
+invariant-loop-chain l = (length l.flags.items ≡ 64) × ((c : ℕ) → c < l.chain → get_or l.flags.items c true ≡ false)
