@@ -9,7 +9,7 @@ AreChained s = IsChained s.count s.states.items s.next.items s.prev.items
 
 -- the flags of each chain with a Wanted or a Flushing conversation are set
 abbrev pub AreFlagged : Slots → Type 0
-AreFlagged s = IsFlagged s.states.items s.wanted.items s.flushing.items
+AreFlagged s = IsFlagged s.states.items s.may_want.items s.may_flush.items
 
 -- the slots of a table with this many aggregators, and this many conversations in each
 pub record SlotsFit (aggs conversations : ℕ) (s : Slots) : Type 0 where

@@ -30,9 +30,9 @@ pub(crate) struct Slots {
     /// The same, backwards.
     prev: Vec<u32>,
     /// For each chain, whether one of its conversations may be Wanted.
-    wanted: Vec<bool>,
+    may_want: Vec<bool>,
     /// For each chain, whether one of its conversations may be Flushing.
-    flushing: Vec<bool>,
+    may_flush: Vec<bool>,
 }
 
 /// Which conversations are counted.
@@ -83,8 +83,8 @@ impl Slots {
         let states = vec![in alloc; Assignment::Free { preferred: None }; count as usize]?;
         let mut next = vec![in alloc; 0; places as usize]?;
         let mut prev = vec![in alloc; 0; places as usize]?;
-        let wanted = vec![in alloc; false; CHAINS as usize]?;
-        let flushing = vec![in alloc; false; CHAINS as usize]?;
+        let may_want = vec![in alloc; false; CHAINS as usize]?;
+        let may_flush = vec![in alloc; false; CHAINS as usize]?;
         close(&mut next, places);
         close(&mut prev, places);
         Ok(Slots {
@@ -92,8 +92,8 @@ impl Slots {
             states,
             next,
             prev,
-            wanted,
-            flushing,
+            may_want,
+            may_flush,
         })
     }
 
@@ -116,7 +116,7 @@ impl Slots {
         ensures states { self.new.states.items ≡ set self.old.states.items slot state }
         ensures count { self.new.count ≡ self.old.count }
     {
-        flag_wanted(&mut self.wanted, state);
+        flag_wanted(&mut self.may_want, state);
         self.vacate(slot);
         self.fill(slot, state);
     }
@@ -127,8 +127,8 @@ impl Slots {
         ensures { OnFalse result ((k : ℕ) → passes test (slot_state self.now.states.items k) ≡ false) }
     {
         match test {
-            ConversationTest::WantsMarker(port) => self.wanted[chain(port) as usize],
-            ConversationTest::AwaitsResponse(port, _) => self.flushing[chain(port) as usize],
+            ConversationTest::WantsMarker(port) => self.may_want[chain(port) as usize],
+            ConversationTest::AwaitsResponse(port, _) => self.may_flush[chain(port) as usize],
             ConversationTest::NamesPort(_) => true,
         }
     }
@@ -140,7 +140,7 @@ impl Slots {
         ensures { OnFalse result (self.now.states.items ≡ map (changed_in_chain chain (after_change change)) self.now.states.items) }
     {
         match change {
-            Change::Release(..) => self.flushing[chain as usize],
+            Change::Release(..) => self.may_flush[chain as usize],
             Change::Leave(_) | Change::Mark(..) | Change::Down(_) | Change::Tick => true,
         }
     }
@@ -188,8 +188,8 @@ impl Slots {
                 Some(_) => self.states[slot as usize] = state,
             }
         }
-        self.wanted[chain as usize] = wanted;
-        self.flushing[chain as usize] = flushing;
+        self.may_want[chain as usize] = wanted;
+        self.may_flush[chain as usize] = flushing;
     }
 
     /// How many conversations the test counts.
@@ -253,7 +253,7 @@ impl Slots {
         ensures count { self.new.count ≡ self.old.count }
     {
         for chain in 0..CHAINS {
-            if self.flushing[chain as usize] {
+            if self.may_flush[chain as usize] {
                 self.change_chain(chain, Change::Tick);
             }
         }
@@ -267,15 +267,15 @@ impl Slots {
         ensures flagged { AreFlagged self.new }
         ensures states { self.new.states.items ≡ replicate self.old.count (Assignment.Free None) }
         ensures count { self.new.count ≡ self.old.count }
-        ensures wanted { (c : ℕ) → c < 64 → get_or self.new.wanted.items c true ≡ false }
-        ensures flushing { (c : ℕ) → c < 64 → get_or self.new.flushing.items c true ≡ false }
+        ensures wanted { (c : ℕ) → c < 64 → get_or self.new.may_want.items c true ≡ false }
+        ensures flushing { (c : ℕ) → c < 64 → get_or self.new.may_flush.items c true ≡ false }
     {
         let places = self.count + CHAINS;
         free_each(&mut self.states, self.count);
         close(&mut self.next, places);
         close(&mut self.prev, places);
-        clear_flags(&mut self.wanted);
-        clear_flags(&mut self.flushing);
+        clear_flags(&mut self.may_want);
+        clear_flags(&mut self.may_flush);
     }
 
     /// Makes a slot free, and takes it out of its chain.
@@ -285,8 +285,8 @@ impl Slots {
         ensures chained { AreChained self.new }
         ensures states { self.new.states.items ≡ set self.old.states.items slot (Assignment.Free None) }
         ensures count { self.new.count ≡ self.old.count }
-        ensures wanted { self.new.wanted ≡ self.old.wanted }
-        ensures flushing { self.new.flushing ≡ self.old.flushing }
+        ensures wanted { self.new.may_want ≡ self.old.may_want }
+        ensures flushing { self.new.may_flush ≡ self.old.may_flush }
     {
         let free = Assignment::Free { preferred: None };
         let state = self.states[slot as usize];
@@ -307,8 +307,8 @@ impl Slots {
         ensures chained { AreChained self.new }
         ensures states { self.new.states.items ≡ set self.old.states.items slot state }
         ensures count { self.new.count ≡ self.old.count }
-        ensures wanted { self.new.wanted ≡ self.old.wanted }
-        ensures flushing { self.new.flushing ≡ self.old.flushing }
+        ensures wanted { self.new.may_want ≡ self.old.may_want }
+        ensures flushing { self.new.may_flush ≡ self.old.may_flush }
     {
         match state.port() {
             None => self.states[slot as usize] = state,

@@ -182,7 +182,7 @@ returns-clause-flagged c =
     let i = c.loop-at.invariant in
     let e = c.loop-at-test.false ∙ i.end in
     rw (i.wanted, i.flushing)
-    (change_flagged c.args.change c.args.chain c.args.self.now.states.items c.loop-at.self.states.items c.args.self.now.wanted.items
-    c.args.self.now.flushing.items c.loop-at.wanted c.loop-at.flushing c.requires.below c.requires.flagged
+    (change_flagged c.args.change c.args.chain c.args.self.now.states.items c.loop-at.self.states.items c.args.self.now.may_want.items
+    c.args.self.now.may_flush.items c.loop-at.wanted c.loop-at.flushing c.requires.below c.requires.flagged
     (walk_all c.args.chain (after_change c.args.change) _ _ _ _ _ _ _ i.walking e)
     (walk_found c.args.chain (after_change c.args.change) _ _ _ _ _ _ _ i.walking e))

@@ -9,8 +9,8 @@ invariant-loop-at l = record {
   walking : Walking l.chain (after_change l.change) l.fn.self.count l.fn.self.states.items l.self.states.items l.self.next.items
       l.self.prev.items l.at (is_flagged l.wanted l.flushing);
   count : l.self.count ≡ l.fn.self.count;
-  wanted : l.self.wanted ≡ l.fn.self.wanted;
-  flushing : l.self.flushing ≡ l.fn.self.flushing;
+  wanted : l.self.may_want ≡ l.fn.self.may_want;
+  flushing : l.self.may_flush ≡ l.fn.self.may_flush;
   end : l.end ≡ l.fn.self.count + l.chain;
 }
 

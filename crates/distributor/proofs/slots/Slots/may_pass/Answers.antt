@@ -9,20 +9,20 @@ use Rattle.distributor.proofs.slots.Slots.may_pass.Goals as goal
 pub returns-in-WantsMarker : goal.returns-in-WantsMarker
 returns-in-WantsMarker c =
     let states = c.args.self.now.states.items in
-    let flags = c.args.self.now.wanted.items in
+    let flags = c.args.self.now.may_want.items in
     let port = c.in-WantsMarker.port in
     let inside : c.chain.result < length flags = omega (arith, c.chain.ensures.below, c.requires.flagged.wanted_len) in
     OnFalse_from c.index.result.now _ (λ e.
     (let clear : get_or flags (chain_of port) false ≡ false = ap (λ x. get_or flags x false) (sym c.chain.ensures.chain)
     ∙ sym (get_or_read flags c.chain.result c.index.result.now inside c.index.ensures false) ∙ e in
     subst (λ (x : ConversationTest). (k : ℕ) → passes x (slot_state states k) ≡ false) (sym c.in-WantsMarker.is)
-    (λ k. none_wanted port (get_or flags (chain_of port) false) (get_or c.args.self.now.flushing.items (chain_of port) false) clear
+    (λ k. none_wanted port (get_or flags (chain_of port) false) (get_or c.args.self.now.may_flush.items (chain_of port) false) clear
     (slot_state states k) (c.requires.flagged.flagged (chain_of port) k))))
 
 pub returns-in-AwaitsResponse : goal.returns-in-AwaitsResponse
 returns-in-AwaitsResponse c =
     let states = c.args.self.now.states.items in
-    let flags = c.args.self.now.flushing.items in
+    let flags = c.args.self.now.may_flush.items in
     let port = c.in-AwaitsResponse.port in
     let inside : c.chain-in-AwaitsResponse.result < length flags =
     omega (arith, c.chain-in-AwaitsResponse.ensures.below, c.requires.flagged.flushing_len) in
@@ -31,5 +31,5 @@ returns-in-AwaitsResponse c =
     ∙ sym (get_or_read flags c.chain-in-AwaitsResponse.result c.index-in-AwaitsResponse.result.now inside c.index-in-AwaitsResponse.ensures
     false) ∙ e in
     subst (λ (x : ConversationTest). (k : ℕ) → passes x (slot_state states k) ≡ false) (sym c.in-AwaitsResponse.is)
-    (λ k. none_awaits port c.in-AwaitsResponse.field-1 (get_or c.args.self.now.wanted.items (chain_of port) false)
+    (λ k. none_awaits port c.in-AwaitsResponse.field-1 (get_or c.args.self.now.may_want.items (chain_of port) false)
     (get_or flags (chain_of port) false) clear (slot_state states k) (c.requires.flagged.flagged (chain_of port) k))))

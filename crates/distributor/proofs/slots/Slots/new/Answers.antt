@@ -18,8 +18,8 @@ pub returns-clause-flagged : goal.returns-clause-flagged
 returns-clause-flagged c =
     let items : c.in_ok-states.states.items ≡ replicate c.args.count (Free None) =
     c.in_ok-states.ensures.items_if_clones_equal (λ y e. e) in
-    let flags : c.in_ok-flushing.flushing.items ≡ replicate 64 false = c.in_ok-flushing.ensures.items_if_clones_equal (λ y e. e) in
-    let flags' : c.in_ok-wanted.wanted.items ≡ replicate 64 false = c.in_ok-wanted.ensures.items_if_clones_equal (λ y e. e) in
+    let flags : c.in_ok-may_flush.may_flush.items ≡ replicate 64 false = c.in_ok-may_flush.ensures.items_if_clones_equal (λ y e. e) in
+    let flags' : c.in_ok-may_want.may_want.items ≡ replicate 64 false = c.in_ok-may_want.ensures.items_if_clones_equal (λ y e. e) in
     none_flagged _ _ _ (ap length flags' ∙ length-replicate 64 false) (ap length flags ∙ length-replicate 64 false)
     (free_past c.args.count _ (ap length items ∙ length-replicate c.args.count (Free None)) (λ k lt. ap (λ xs. slot_state xs k) items
     ∙ get_or-replicate c.args.count k (Free None) (Free None) lt))

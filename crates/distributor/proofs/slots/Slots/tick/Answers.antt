@@ -28,16 +28,16 @@ loop-chain-preserved c =
             few = few;
           }
       | else-index w ↦
-          (let inside : c.loop-chain.chain < length c.loop-chain.self.flushing.items =
+          (let inside : c.loop-chain.chain < length c.loop-chain.self.may_flush.items =
           omega (arith, c.loop-chain-test.true, i.flagged.flushing_len) in
-          let none : get_or c.loop-chain.self.flushing.items c.loop-chain.chain false ≡ false =
-          sym (get_or_read c.loop-chain.self.flushing.items c.loop-chain.chain c.index.result.now inside c.index.ensures false)
+          let none : get_or c.loop-chain.self.may_flush.items c.loop-chain.chain false ≡ false =
+          sym (get_or_read c.loop-chain.self.may_flush.items c.loop-chain.chain c.index.result.now inside c.index.ensures false)
           ∙ w.if-index.false in
           rw w.self-is record {
             chained = i.chained;
             flagged = i.flagged;
             ticking = tick_passed c.loop-chain.chain c.args.self.now.states.items c.loop-chain.self.states.items
-                c.loop-chain.self.wanted.items c.loop-chain.self.flushing.items i.ticking i.flagged none;
+                c.loop-chain.self.may_want.items c.loop-chain.self.may_flush.items i.ticking i.flagged none;
             count = i.count;
             few = few;
           })
