@@ -9,11 +9,11 @@ ghost use Rattle.lagmodel.specs.World.{Side};
 ghost use Rattle.lagmodel.specs.Law.{IsInvariant, OnePartner, EndsAgree, InOrder, LastLacpduSaysInSync, UpToDateLacpdusNameSender};
 ghost use Rattle.lagmodel.specs.Law.{OnItsCable, FlushedByMarker, BelowNext, CollectedThenInFlight, CountsFromZero};
 
-/// The headline. After each event of every schedule: ports that distribute in one aggregator have one partner; the two
-/// ends of a cable have the same Link Aggregation Group, if both distribute, neither changed since it sent the LACPDU
-/// that its peer received last, and neither has a defaulted partner; and what a conversation collected, if it was never
-/// forced, is a subsequence of what it sent (6.2.4, 6.3.6, 6.4.14, 6.5). The other clauses are the invariants on which
-/// the proof rests.
+/// The headline. After each event of every schedule: ports of one system that distribute in one aggregator name one partner
+/// system and key; the two distributing ends of a cable name the same group (LAG ID), unless one of them changed since it
+/// sent the LACPDU that its peer took last, or runs on defaults; and what is collected of a conversation that was never
+/// forced is a subsequence of what was sent (6.2.4, 6.3.6, 6.4.14, 6.5). The other clauses are the invariants on which the
+/// proof rests.
 pub fn headline()
     ensures one_partner { IsInvariant (λ x w. (s : Side) → OnePartner (w.view s)) }
     ensures agree { IsInvariant (λ x w. EndsAgree x w) }
@@ -33,7 +33,7 @@ ghost use Rattle.lagmodel.specs.Move.{Act, LawfulMoves};
 ghost use Rattle.lagmodel.specs.Law.{LawfulRun, Members};
 
 /// One system by itself, whatever it receives: `Members` holds at the start and after each call, so after every list of
-/// calls; and if it holds, ports that distribute in one aggregator have one partner (6.4.14.1).
+/// calls; and if it holds, ports that distribute in one aggregator name one partner system and key (6.4.14.1).
 pub fn one_system()
     ensures first { (u : SystemSetup) → IsSystemSetup u → Members u (first_view u).port }
     ensures preserved { (u : SystemSetup) (call : ModelCall) (old new : View) (seen : List Act) → IsSystemSetup u

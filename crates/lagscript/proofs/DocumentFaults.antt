@@ -5,7 +5,8 @@ use Rattle.toml.specs.Data.{Members, as_table}
 use Rattle.lagtypes.specs.declared.identifiers.Key.{Key}
 use Rattle.lagsystem.specs.declared.config.PortConfig.{PortConfig}
 use Rattle.lagsystem.specs.declared.fault.BadConfig.TheVariants as bad
-use Rattle.lagscript.specs.Configs.{ConfigValue, refusal_of_all}
+use Rattle.lagscript.specs.Configs.{refusal_of_all}
+use Rattle.lagsystem.specs.First.{ConfigValue}
 use Rattle.lagscript.specs.Entries.{event_at, event_in, events_from, at_entry}
 use Rattle.lagscript.specs.Keys.{ends_in, flag_in, key_in, keys_among, limit_in, list_in, mac_in, integer_in, just_two, value_at}
 use Rattle.lagscript.specs.Readings.{◌>>=◌, each_at_place, or_fault, if_or_fault}

@@ -3,11 +3,12 @@ use Rattle.std.proofs.Common.{ℕ, ◌≡◌, inl, inr, Bool, true, false, List,
 use Rattle.std.proofs.Common.{option_and_then, option_map, cond, refl, ap, subst, sym}
 use Rattle.toml.specs.Data.{Members}
 use Rattle.toml.specs.Parse.{parse_document}
-use Rattle.lagsystem.specs.First.{or_first, refusal}
+use Rattle.lagtypes.specs.Same.{same_system}
+use Rattle.lagsystem.specs.First.{ConfigValue, or_first, refusal}
 use Rattle.lagsystem.specs.declared.fault.BadConfig.{BadConfig}
 use Rattle.lagsystem.specs.declared.fault.BadConfig.TheVariants as bad
 use Rattle.lagscript.specs.EventValues.{EventValue}
-use Rattle.lagscript.specs.Configs.{ConfigValue, bad_end, refusal_of_all, same_system}
+use Rattle.lagscript.specs.Configs.{bad_end, refusal_of_all}
 use Rattle.lagscript.specs.Readings.{◌>>=◌, ReadsAs, if_or_fault}
 use Rattle.lagscript.specs.Scripts.{HasPlan, HasScript, IsRefused, ReadsPlan, PlanValue, script_fault_for, ends_of, no_fault, plan_in}
 use Rattle.lagscript.specs.Scripts.{plan_value, planned}

@@ -2,38 +2,12 @@
 use Rattle.std.specs.Prelude.{ℕ, zero, suc, ◌==◌, ◌&&◌, ◌||◌, Bool, not, List, [], ◌∷◌, length, map, get_or, take, if◌then◌else◌, Option}
 use Rattle.std.specs.Prelude.{Some, None, option_map}
 use Rattle.std.specs.List.{list_any}
-use Rattle.std.specs.Str.{bytes_eq}
-use Rattle.lagtypes.specs.declared.identifiers.Key.{Key}
-use Rattle.lagtypes.specs.declared.identifiers.SystemId.{SystemId}
-use Rattle.lagsystem.specs.First.{or_first, refusal}
-use Rattle.lagsystem.specs.declared.config.Config.{Config}
+use Rattle.lagtypes.specs.Same.{same_system}
+use Rattle.lagsystem.specs.First.{ConfigValue, config_value, or_first, refusal}
 use Rattle.lagsystem.specs.declared.config.PortConfig.{PortConfig}
 use Rattle.lagscript.specs.declared.config.BadWorld.{BadWorld}
 use Rattle.lagscript.specs.declared.config.BadWorld.TheVariants.{System, SameSystem, CableEnd}
 use Rattle.lagscript.specs.declared.config.WorldConfig.{WorldConfig}
-
--- the configuration of a system, with lists in the place of its Vecs
-pub record ConfigValue : Type 0 where
-  pub system : SystemId
-  pub max_delay : ℕ
-  pub first_marker : ℕ
-  pub conversations : ℕ
-  pub aggregators : List Key
-  pub max_links : Option ℕ
-  pub ports : List PortConfig
-
--- the configuration, as a value of the logic
-abbrev pub config_value : Config → ConfigValue
-config_value c =
-    record {
-      system = c.system;
-      max_delay = c.max_delay;
-      first_marker = c.first_marker;
-      conversations = c.conversations;
-      aggregators = c.aggregators.items;
-      max_links = c.max_links;
-      ports = c.ports.items;
-    }
 
 -- one of these ports has this number
 abbrev pub has_port : List PortConfig → ℕ → Bool
@@ -59,10 +33,6 @@ first_below test (suc n) = or_first (first_below test n) (if test n then Some n 
 -- the place, counted from 1, of the first cable with an end that is no port of its system or that an earlier cable has
 abbrev pub bad_end : List PortConfig → List PortConfig → List (ℕ × ℕ) → Option ℕ
 bad_end ports1 ports2 cables = option_map suc (first_below (has_bad_end ports1 ports2 cables) (length cables))
-
--- two system identifiers have the same priority and the same MAC address
-abbrev pub same_system : SystemId → SystemId → Bool
-same_system a b = (a.priority == b.priority) && bytes_eq a.mac b.mac
 
 -- why the configuration of system 1 or 2 is refused, if it is
 abbrev pub system_refusal : ℕ → ConfigValue → Option BadWorld

@@ -6,7 +6,8 @@ use Rattle.toml.specs.Data.{Data, Members, as_table, as_str}
 use Rattle.toml.specs.Parse.{parse_document}
 use Rattle.lagsystem.specs.declared.fault.BadConfig.TheVariants as bad
 use Rattle.lagscript.specs.EventValues.{EventValue, event_values}
-use Rattle.lagscript.specs.Configs.{ConfigValue, config_value, refusal_of_all}
+use Rattle.lagsystem.specs.First.{ConfigValue, config_value}
+use Rattle.lagscript.specs.Configs.{refusal_of_all}
 use Rattle.lagscript.specs.Entries.{events_from}
 use Rattle.lagscript.specs.Keys.{keys_among, list_in, just_two, value_at}
 use Rattle.lagscript.specs.Readings.{◌>>=◌, each_at_place, or_fault, if_or_fault}

@@ -1,7 +1,8 @@
 ghost use Rattle.std.specs.Prelude.{◌≡◌, ◌≢◌, All, IfOk, None, Some, length, map, option_and_then, option_map};
 ghost use Rattle.toml.specs.View.{table_view};
 ghost use Rattle.lagscript.specs.EventValues.{event_value, event_values};
-ghost use Rattle.lagscript.specs.Configs.{config_value, world_refusal};
+ghost use Rattle.lagscript.specs.Configs.{world_refusal};
+ghost use Rattle.lagsystem.specs.First.{config_value};
 ghost use Rattle.lagscript.specs.Entries.{event_at, events_from};
 ghost use Rattle.lagscript.specs.Keys.{just_two};
 ghost use Rattle.lagscript.specs.Readings.{ReadsAs, each_at_place};

@@ -1,6 +1,6 @@
 ghost use Rattle.std.specs.Prelude.{◌≡◌, map};
 ghost use Rattle.toml.specs.View.{table_view};
-ghost use Rattle.lagscript.specs.Configs.{config_value};
+ghost use Rattle.lagsystem.specs.First.{config_value};
 ghost use Rattle.lagscript.specs.Readings.{ReadsAs, each_at_place};
 ghost use Rattle.lagscript.specs.Tables.{aggregators_in, cable_of, conversations_in, limit_of, max_links_in, port_config_of};
 ghost use Rattle.lagscript.specs.Tables.{ports_in, system_of, system_values_in};

@@ -55,12 +55,14 @@ pub record Keeps (old new : SystemState) : Type 0 where
   pub frame : new ≡ with_table (with_system_ports old new.system_ports) new.table
   pub same : port_numbers new.system_ports ≡ port_numbers old.system_ports
   pub aggs : new.table.aggs ≡ old.table.aggs
+  pub conversations : new.table.conversations ≡ old.table.conversations
 
 pub keeps_joined : (a b c : SystemState) → Keeps a b → Keeps b c → Keeps a c
 keeps_joined a b c h k = record {
   frame = k.frame ∙ ap (λ (s : SystemState). with_table (with_system_ports s c.system_ports) c.table) h.frame;
   same = k.same ∙ h.same;
   aggs = k.aggs ∙ h.aggs;
+  conversations = k.conversations ∙ h.conversations;
 }
 
 -- ports alone, or conversations alone
@@ -70,13 +72,16 @@ keeps_slots old new e n = record {
   frame = e ∙ (λ i. record old { system_ports = new.system_ports; table = sym (ap (λ (s : SystemState). s.table) e) i });
   same = n;
   aggs = ap (λ (s : SystemState). s.table.aggs) e;
+  conversations = ap (λ (s : SystemState). s.table.conversations) e;
 }
 
-pub keeps_table : (old new : SystemState) → new ≡ with_table old new.table → new.table.aggs ≡ old.table.aggs → Keeps old new
-keeps_table old new e a = record {
+pub keeps_table : (old new : SystemState) → new ≡ with_table old new.table → new.table.aggs ≡ old.table.aggs
+    → new.table.conversations ≡ old.table.conversations → Keeps old new
+keeps_table old new e a k = record {
   frame = e ∙ (λ i. record old { system_ports = sym (ap (λ (s : SystemState). s.system_ports) e) i; table = new.table });
   same = ap (λ (s : SystemState). port_numbers s.system_ports) e;
   aggs = a;
+  conversations = k;
 }
 
 pub keeps_stays : (old new : SystemState) → new ≡ old → Keeps old new
@@ -168,7 +173,7 @@ settling_joined old mid new h l =
 pub settling_keeps : (old new : SystemState) → Settling old new → Keeps old new
 settling_keeps old new h =
     let p = settling_parts old new h in
-    keeps_joined old p.0 new (ports_keep old p.0 p.1) (keeps_table p.0 new p.2.frame p.2.aggs)
+    keeps_joined old p.0 new (ports_keep old p.0 p.1) (keeps_table p.0 new p.2.frame p.2.aggs p.2.conversations)
 
 place_numbers : (R : Machines → Machines → Type 0) (o : Option ℕ) (old new : List SystemPort) → PortAtChangesBy R o old new
     → port_numbers new ≡ port_numbers old
@@ -188,11 +193,16 @@ keeps_tick old new h = record {
   same = zip_numbers (λ p q. RunsToRest receive_rows (count_down p) q) old.system_ports
       new.system_ports h.0;
   aggs = h.1.aggs;
+  conversations = h.1.conversations;
 }
 
 frees_aggs : (up : Bool) (n : ℕ) (old new : Table) → FreesIfDown up n old new → new.aggs ≡ old.aggs
 frees_aggs true n old new h = ap (λ (t : Table). t.aggs) h
 frees_aggs false n old new h = h.aggs
+
+frees_conversations : (up : Bool) (n : ℕ) (old new : Table) → FreesIfDown up n old new → new.conversations ≡ old.conversations
+frees_conversations true n old new h = ap (λ (t : Table). t.conversations) h
+frees_conversations false n old new h = h.conversations
 
 pub keeps_link : (n : ℕ) (up : Bool) (old new : SystemState) → SetsLink n up old new → Keeps old new
 keeps_link n up old new h = record {
@@ -200,12 +210,13 @@ keeps_link n up old new h = record {
   same = place_numbers (SetsPortEnabled old.max_links up) (port_index n old.system_ports) old.system_ports
       new.system_ports h.0;
   aggs = frees_aggs up n old.table new.table h.1;
+  conversations = frees_conversations up n old.table new.table h.1;
 }
 
 keeps_marker : (o : Option ℕ) (port : ℕ) (mac : List ℕ) (old : SystemState) (answer : Option (List ℕ)) (new : SystemState)
     → SendsMarkerOf o port mac old answer new → Keeps old new
 keeps_marker None port mac old answer new h = keeps_stays old new h.1
-keeps_marker (Some id) port mac old answer new h = keeps_table old new h.5 h.4.aggs
+keeps_marker (Some id) port mac old answer new h = keeps_table old new h.5 h.4.aggs h.4.conversations
 
 keeps_where : (up due : Bool) (i : ℕ) (system_port : SystemPort) (old : SystemState) (answer : Option (List ℕ)) (new : SystemState)
     → slice_get old.system_ports i ≡ Some system_port → TransmitsIf up due i system_port old answer new → Keeps old new
@@ -226,7 +237,7 @@ keeps_sends (Some i) old answer new h = keeps_where h.0.port.enabled (is_due h.0
 keeps_releases : (b : Bool) (port : ℕ) (m : Marker) (old : SystemState) (answer : Received) (new : SystemState)
     → Releases b port m old answer new → Keeps old new
 keeps_releases false port m old answer new h = keeps_stays old new h.1
-keeps_releases true port m old answer new h = keeps_table old new h.2 h.1.aggs
+keeps_releases true port m old answer new h = keeps_table old new h.2 h.1.aggs h.1.conversations
 
 pub keeps_does : (effect : FrameEffect) (port : ℕ) (o : Option ℕ) (old : SystemState) (answer : Received) (new : SystemState)
     → Performs effect port o old answer new → Keeps old new
@@ -237,12 +248,12 @@ keeps_does (Answered a) port o old answer new h = keeps_stays old new h.1
 
 pub keeps_offers : (gives : ℕ → ℕ → ℕ → Type 0) (agg : AggId) (octets : List ℕ) (old : SystemState) (answer : Result ℕ SystemFault)
     (new : SystemState) → Offers gives agg octets old answer new → Keeps old new
-keeps_offers gives agg octets old (Ok port) new h = keeps_table old new h.2.1 h.2.0.aggs
+keeps_offers gives agg octets old (Ok port) new h = keeps_table old new h.2.1 h.2.0.aggs h.2.0.conversations
 keeps_offers gives agg octets old (Err fault) new h = keeps_stays old new h.1
 
 pub keeps_becomes : (agg : AggId) (conv : ℕ) (what : Result Assignment SystemFault) (old : SystemState) (answer : Result Unit SystemFault)
     (new : SystemState) → GivesOrRefuses agg conv what old answer new → Keeps old new
-keeps_becomes agg conv (Ok state) old answer new h = keeps_table old new h.1.1 h.1.0.aggs
+keeps_becomes agg conv (Ok state) old answer new h = keeps_table old new h.1.1 h.1.0.aggs h.1.0.conversations
 keeps_becomes agg conv (Err fault) old answer new h = keeps_stays old new h.1
 
 new_numbers : (system : SystemId) (ports : List PortConfig) (system_ports : List SystemPort)
@@ -332,6 +343,15 @@ pub Step-aggregators : (gives : ℕ → ℕ → ℕ → Type 0) (old : SystemSta
 Step-aggregators gives old call answer new h e = elim (restart_or_not call) [
   | inl r ↦ ap (λ (t : Table). t.aggs) (restarts gives old answer new (subst (λ c. Step gives old c answer new) r h)).1.3
   | inr n ↦ (let k = Step-keeps gives old call answer new n h in k.aggs ∙ e ∙ sym (ap (λ (s : SystemState). length s.keys) k.frame))
+]
+
+-- each aggregator has as many conversations as are configured
+pub Step-conversations : (gives : ℕ → ℕ → ℕ → Type 0) (old : SystemState) (call : Call) (answer : Reply) (new : SystemState)
+    → Step gives old call answer new → old.table.conversations ≡ old.conversations → new.table.conversations ≡ new.conversations
+Step-conversations gives old call answer new h e = elim (restart_or_not call) [
+  | inl r ↦ ap (λ (t : Table). t.conversations) (restarts gives old answer new (subst (λ c. Step gives old c answer new) r h)).1.3
+  | inr n ↦ (let k = Step-keeps gives old call answer new n h in
+      k.conversations ∙ e ∙ sym (ap (λ (s : SystemState). s.conversations) k.frame))
 ]
 
 is_true : (b : Bool) (x : Option BadConfig) (y : BadConfig) → (if b then x else Some y) ≡ None → b ≡ true

@@ -27,6 +27,9 @@ pub mod OnPorts
 pub mod FirstView
 pub mod OneStart
 pub mod Sound
+pub mod OneFrame
+pub mod OneSettling
+pub mod OneAnswer
 pub mod Windows
 pub mod DriveLemmas
 pub mod NoneStays
@@ -39,3 +42,4 @@ pub mod OccupantSteps
 pub mod Seen
 pub mod Distributing
 pub mod Sent
+pub mod Performed

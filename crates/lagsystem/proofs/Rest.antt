@@ -1,9 +1,9 @@
 -- What holds of each port after every call: its machines are at rest.
 use Rattle.std.proofs.Common.{◌≡◌, ℕ, Bool, true, false, Option, Some, None, Result, Ok, Err, List, [], ◌∷◌, refl}
 use Rattle.std.proofs.Common.{sym, ◌∙◌, subst, ap, inl, inr}
-use Rattle.std.specs.Prelude.{◌&&◌, ◌||◌, not, if◌then◌else◌, slice_get}
+use Rattle.std.specs.Prelude.{◌&&◌, ◌||◌, ◌==◌, not, if◌then◌else◌, slice_get}
 use Rattle.std.specs.List.{AllZip, AllByRecursion}
-use Rattle.std.proofs.lemmas.Bool.{true≢false}
+use Rattle.std.proofs.lemmas.Bool.{and_parts, not-true, true≢false}
 use Rattle.lagtypes.specs.declared.identifiers.AggId.{AggId}
 use Rattle.lagtypes.specs.declared.party.Choice.{Choice}
 use Rattle.lagtypes.specs.declared.party.Choice.TheVariants.{Unselected, Selected, Standby}
@@ -19,7 +19,7 @@ use Rattle.lagtypes.specs.Choices.{is_selected}
 use Rattle.portmachines.specs.Mux.{same_mux_state, mux_rows, partner_synchronized}
 use Rattle.portmachines.specs.Periodic.{periodic_rows, RunsPeriodic}
 use Rattle.portmachines.specs.Receive.{same_receive_state, receive_rows, start_receive}
-use Rattle.portmachines.specs.Rows.{RunsToRest}
+use Rattle.portmachines.specs.Rows.{Row, AtRest, RunsToRest}
 use Rattle.portmachines.specs.Start.{Starts, before_start}
 use Rattle.portmachines.specs.Transmit.{count_down, is_due, after_sending}
 use Rattle.lagsystem.specs.declared.received.FrameEffect.{FrameEffect}
@@ -40,20 +40,35 @@ use Rattle.distributor.specs.Changes.{marker_due}
 use Rattle.lagsystem.specs.Calls.{Call, Tick, Set_link, Receive, Configure, Restart, Transmit, Offer, Move_conversation, Force, Ticks}
 use Rattle.lagsystem.specs.Calls.{SetsPortEnabled, choice_with_link, ChangesParty, Performs, SetsLink, PortAtChangesBy, OnlyPortChangesBy, Releases}
 use Rattle.lagsystem.specs.Calls.{ThenSettles, ProcessesLacpdu, changed_party, is_own_response, Step}
-use Rattle.lagsystem.specs.ModelView.{can_receive_in, can_receive, mux_consistent_of, mux_consistent, AllCanReceive, MuxesConsistent}
+use Rattle.lagsystem.specs.ModelView.{can_receive_in, can_receive, mux_consistent_of, mux_consistent, none_enabled, ReceivesAtRest}
+use Rattle.lagsystem.specs.ModelView.{MuxesConsistent}
 use Rattle.lagsystem.specs.ModelView.{PortsConsistent}
 use Rattle.portmachines.proofs.Runs.{Reaches-keeps}
 use Rattle.lagsystem.proofs.Rising.{all-set, all-get}
 
-mux_awake : (ready : Bool) (p q : Machines) → RunsToRest (mux_rows ready) p q → can_receive q ≡ can_receive p
-mux_awake ready p q h = Reaches-keeps can_receive (mux_rows ready) (
+-- a machine is at rest exactly if no row is enabled
+pub no_row : (rows : List Row) (p : Machines) → AtRest rows p → none_enabled rows p ≡ true
+no_row [] p h = refl
+no_row (row ∷ rows) p h = is_none (row.enabled p) (none_enabled rows p) h.0 (no_row rows p h.1)
+  where
+    is_none : (b c : Bool) → b ≡ false → c ≡ true → (not b && c) ≡ true
+    is_none true c h k = absurd (true≢false h)
+    is_none false c h k = k
+
+pub rests : (rows : List Row) (p : Machines) → none_enabled rows p ≡ true → AtRest rows p
+rests [] p h = tt
+rests (row ∷ rows) p h =
+    let both = and_parts (not (row.enabled p)) (none_enabled rows p) h in (not-true (row.enabled p) both.0, rests rows p both.1)
+
+mux_awake : (ready : Bool) (p q : Machines) → RunsToRest (mux_rows ready) p q → none_enabled receive_rows q ≡ none_enabled receive_rows p
+mux_awake ready p q h = Reaches-keeps (none_enabled receive_rows) (mux_rows ready) (
   (λ p. refl),
   ((λ p. refl), ((λ p. refl), ((λ p. refl), ((λ p. refl), ((λ p. refl), tt))))),
 ) h.0 p q h.1
 
-periodic_awake : (p q : Machines) → RunsPeriodic p q → can_receive q ≡ can_receive p
-periodic_awake p q h = ap can_receive h.2
-    ∙ Reaches-keeps can_receive periodic_rows (
+periodic_awake : (p q : Machines) → RunsPeriodic p q → none_enabled receive_rows q ≡ none_enabled receive_rows p
+periodic_awake p q h = ap (none_enabled receive_rows) h.2
+    ∙ Reaches-keeps (none_enabled receive_rows) periodic_rows (
       (λ p. refl),
       ((λ p. refl), ((λ p. refl), ((λ p. refl), ((λ p. refl), ((λ p. refl), ((λ p. refl), tt)))))),
     ) h.1.0 p h.0 h.1.1
@@ -78,8 +93,12 @@ rest_awake Defaulted false h k = refl
 rest_awake Current true h k = refl
 rest_awake Current false h k = refl
 
-receive_awake : (p q : Machines) → RunsToRest receive_rows p q → can_receive q ≡ true
-receive_awake p q h = rest_awake q.receive q.enabled h.2.0 h.2.1.1.0
+-- a port at rest whose link is up is in a state in which it processes LACPDUs
+pub can_receive_at_rest : (p : Machines) → none_enabled receive_rows p ≡ true → can_receive p ≡ true
+can_receive_at_rest p h = let r = rests receive_rows p h in rest_awake p.receive p.enabled r.0 r.1.1.0
+
+receive_awake : (p q : Machines) → RunsToRest receive_rows p q → none_enabled receive_rows q ≡ true
+receive_awake p q h = no_row receive_rows q h.2
 
 rest_steady : (m : MuxState) (c : Choice) (s : Bool) → (same_mux_state Attached m && not (is_selected c)) ≡ false
     → (same_mux_state CollectingDistributing m && (not (is_selected c) || not s)) ≡ false → mux_consistent_of m (is_selected c) s ≡ true
@@ -111,17 +130,17 @@ zip_kept R P k [] (y ∷ ys) h a = absurd h
 zip_kept R P k (x ∷ xs) [] h a = absurd h
 zip_kept R P k (x ∷ xs) (y ∷ ys) h a = (k x y h.0 a.0, zip_kept R P k xs ys h.1 a.1)
 
-given_awake : (s : SystemPort) (o : Option Choice) → can_receive (with_choice s o).port ≡ can_receive s.port
+given_awake : (s : SystemPort) (o : Option Choice) → none_enabled receive_rows (with_choice s o).port ≡ none_enabled receive_rows s.port
 given_awake s None = refl
 given_awake s (Some agg) = refl
 
 abbrev IsAwake : SystemPort → Type 0
-IsAwake x = can_receive x.port ≡ true
+IsAwake x = none_enabled receive_rows x.port ≡ true
 
 abbrev IsSteady : SystemPort → Type 0
 IsSteady x = mux_consistent x.port ≡ true
 
-selects_awake : KeptByChoices AllCanReceive
+selects_awake : KeptByChoices ReceivesAtRest
 selects_awake l i s o e a = all-set IsAwake l i (with_choice s o) a (given_awake s o ∙ all-get IsAwake l i s e a)
 
 -- a state that is the same has the same ports
@@ -133,19 +152,19 @@ pub last_slots : (old new : SystemState) (h : Settling old new) → new.system_p
 last_slots old new h = ap (λ (x : SystemState). x.system_ports) h.2.2.2.2.2.2 ∙ ap (λ (x : SystemState). x.system_ports) h.2.2.2.2.2.1.frame
 
 -- settling brings every mux machine to rest, and leaves the receive machines
-pub settling_rested : (old new : SystemState) → Settling old new → AllCanReceive old.system_ports → PortsConsistent new.system_ports
+pub settling_rested : (old new : SystemState) → Settling old new → ReceivesAtRest old.system_ports → PortsConsistent new.system_ports
 settling_rested old new h a =
     let one = h.0 in
     let two = h.2.0 in
     let three = h.2.2.0 in
     let four = h.2.2.2.0 in
     let five = h.2.2.2.2.0 in
-    let a1 : AllCanReceive one.system_ports = zip_kept _ IsAwake (λ x y m k. mux_awake false x.port y.port m.1
+    let a1 : ReceivesAtRest one.system_ports = zip_kept _ IsAwake (λ x y m k. mux_awake false x.port y.port m.1
     ∙ k) old.system_ports one.system_ports h.1.0 a in
-    let a2 : AllCanReceive two.system_ports =
-    choosing_keeps AllCanReceive selects_awake (aggregators_value one) one.system_ports two.system_ports h.2.1.0 a1 in
-    let a3 : AllCanReceive three.system_ports = subst (λ (s : SystemState). AllCanReceive s.system_ports) (sym h.2.2.1) a2 in
-    let a4 : AllCanReceive four.system_ports = zip_kept _ IsAwake
+    let a2 : ReceivesAtRest two.system_ports =
+    choosing_keeps ReceivesAtRest selects_awake (aggregators_value one) one.system_ports two.system_ports h.2.1.0 a1 in
+    let a3 : ReceivesAtRest three.system_ports = subst (λ (s : SystemState). ReceivesAtRest s.system_ports) (sym h.2.2.1) a2 in
+    let a4 : ReceivesAtRest four.system_ports = zip_kept _ IsAwake
     (λ x y m k. mux_awake (ready_of three.keys (views three.system_ports) x.port.choice) x.port y.port m.1 ∙ k) three.system_ports
     four.system_ports h.2.2.2.1.0 a3 in
     let s4 : MuxesConsistent four.system_ports = zip_all _ IsSteady
@@ -166,21 +185,26 @@ place_kept P R (Some i) old new k h a =
     subst (AllByRecursion P) (sym h.4) (all-set P old i (record h.0 { port = h.1 }) a (k h.0 h.1 h.3 (all-get P old i h.0 h.2 a)))
 
 settled_rested : (own : SystemState → SystemState → Type 0) (s t : SystemState)
-    → ((mid : SystemState) → own s mid → AllCanReceive mid.system_ports) → ThenSettles own s t → PortsConsistent t.system_ports
+    → ((mid : SystemState) → own s mid → ReceivesAtRest mid.system_ports) → ThenSettles own s t → PortsConsistent t.system_ports
 settled_rested own s t k h = settling_rested h.0 t h.2 (k h.0 h.1)
 
-takes_awake : (v : Lacpdu) (p q : Machines) → ProcessesLacpdu v p q → can_receive p ≡ true → can_receive q ≡ true
+takes_awake : (v : Lacpdu) (p q : Machines) → ProcessesLacpdu v p q → none_enabled receive_rows p ≡ true
+    → none_enabled receive_rows q ≡ true
 takes_awake v p q h a = elim h [
-  | inl f ↦ elim f [ inl g ↦ ap can_receive g.1 ∙ whatever p.enabled | inr g ↦ absurd g ]
-  | inr r ↦ ap can_receive r.1 ∙ a
+  | inl f ↦ elim f [
+    | inl g ↦ ap (none_enabled receive_rows) g.1 ∙ counts (and_parts (can_receive_in p.receive) p.enabled g.0).1 p.short
+    | inr g ↦ absurd g
+  ]
+  | inr r ↦ ap (none_enabled receive_rows) r.1 ∙ a
 ]
   where
-    whatever : (b : Bool) → (if b then true else true) ≡ true
-    whatever true = refl
-    whatever false = refl
+    counts : {up : Bool} → up ≡ true → (short : Bool)
+        → (not (not up) && (not ((if short then 30 else 900) == 0) && true)) ≡ true
+    counts e true = ap (λ b. not (not b) && true) e
+    counts e false = ap (λ b. not (not b) && true) e
 
-starts_awake : (p q : Machines) → Starts p q → can_receive q ≡ true
-starts_awake p q h = ap can_receive h.2 ∙ receive_awake (start_receive p) h.0 h.1
+starts_awake : (p q : Machines) → Starts p q → none_enabled receive_rows q ≡ true
+starts_awake p q h = ap (none_enabled receive_rows) h.2 ∙ receive_awake (start_receive p) h.0 h.1
 
 -- what has to do with conversations alone leaves the ports
 pub marker_slots : (o : Option ℕ) (port : ℕ) (mac : List ℕ) (old : SystemState) (answer : Option (List ℕ)) (new : SystemState)
@@ -266,7 +290,7 @@ Step-rested gives old (Configure n change) (reply.Configure (Ok false)) new h a 
 Step-rested gives old (Configure n change) (reply.Configure (Err fault)) new h a = same_rested old new (same_slots old new h.same) a
 Step-rested gives old Restart reply.Restart new h a = first_rested new h.1
 Step-rested gives old (Transmit n) (reply.Transmit (Ok answer)) new h a = (
-  sends_kept can_receive (λ p. refl) (port_index n old.system_ports) old answer new h a.0,
+  sends_kept (none_enabled receive_rows) (λ p. refl) (port_index n old.system_ports) old answer new h a.0,
   sends_kept mux_consistent (λ p. refl) (port_index n old.system_ports) old answer new h a.1,
 )
 Step-rested gives old (Transmit n) (reply.Transmit (Err fault)) new h a = same_rested old new (same_slots old new h.same) a

@@ -15,7 +15,7 @@ use Rattle.lagsystem.specs.Sound.{PortsAgree, CallPromise, DistributeAsMuxDoes, 
 use Rattle.lagsystem.specs.State.{SystemState}
 use Rattle.lagsystem.specs.Windows.{KeepsTransmitLimit}
 use Rattle.lagsystem.proofs.FirstView.{configured_setup, first_shows}
-use Rattle.lagsystem.proofs.Keeps.{Step-aggregators, Step-frame, Step-ports}
+use Rattle.lagsystem.proofs.Keeps.{Step-aggregators, Step-conversations, Step-frame, Step-ports}
 use Rattle.lagsystem.proofs.OccupantSteps.{Step-placed, first_placed}
 use Rattle.lagsystem.proofs.OnPorts.{Step-carried, first_carried}
 use Rattle.lagsystem.proofs.Conversing.{rest_distributes}
@@ -29,6 +29,7 @@ pub first_sound : (s : SystemState) → HasPorts s → IsFirst s → IsSound s
 first_sound s p h = record {
   ports = p;
   aggregators = ap (λ (t : Table). t.aggs) h.3;
+  conversations = ap (λ (t : Table). t.conversations) h.3;
   carried = first_carried s h;
   rested = first_rested s h;
   windowed = first_three s h;
@@ -51,6 +52,7 @@ Step-sound gives old call answer new h s =
     let kept = members_call (model_setup old) j.0 (model_view old) (model_view new) j.1 (configured_setup old) j.4 s.members in record {
       ports = Step-ports gives old call answer new h s.ports;
       aggregators = Step-aggregators gives old call answer new h s.aggregators;
+      conversations = Step-conversations gives old call answer new h s.conversations;
       carried = Step-carried gives old call answer new h s.carried;
       rested = Step-rested gives old call answer new h s.rested;
       windowed = Step-three gives old call answer new h s.windowed;
@@ -69,6 +71,7 @@ all_distribute (x ∷ xs) h = (rest_distributes x.port.mux (selected x.port) (pa
 pub agrees : (s : SystemState) → IsSound s → PortsAgree s
 agrees s h = record {
   ports = h.ports;
+  rested = h.rested.0;
   windowed = h.windowed;
   members = h.members;
   one_partner = one_partner (model_setup s) (model_view s) h.members;

@@ -59,13 +59,13 @@ use Rattle.lagsystem.specs.Calls.{Carries, FreesIfDown, ParsesWhere, IsFrame, Se
 use Rattle.lagsystem.specs.Calls.{Releases, ThenSettles, ProcessesLacpdu, up_or_dropped, is_own_response, Step}
 use Rattle.lagsystem.specs.ModelView.{JoinedByLawfulMoves, EffectsSeenAs, CallSeenAs, selected_number, can_receive, model_setup}
 use Rattle.lagsystem.specs.ModelView.{lacp_message, marker_message, number_of_port, control_message, model_port, mux_consistent}
-use Rattle.lagsystem.specs.ModelView.{can_receive_in, model_view_at, model_view, PortsConsistent}
+use Rattle.lagsystem.specs.ModelView.{can_receive_in, model_view_at, model_view, none_enabled, PortsConsistent}
 use Rattle.lagsystem.specs.State.{port_numbers}
 use Rattle.lagsystem.proofs.Conversing.{assigned_may, carrying_moves, leaving_moves, table_moves}
 use Rattle.lagsystem.proofs.Keeps.{Keeps, keeps_each, keeps_link, keeps_place, keeps_tick, ports_keep, ports_table, settling_parts}
 use Rattle.lagsystem.proofs.FirstView.{restarted_shows}
 use Rattle.lagsystem.proofs.Lists.{AllZip-weaker}
-use Rattle.lagsystem.proofs.Rest.{zip_all}
+use Rattle.lagsystem.proofs.Rest.{can_receive_at_rest, zip_all}
 use Rattle.lagsystem.proofs.Rising.{Rises, all-get, are_numbered, found_place}
 use Rattle.lagsystem.proofs.SettlingLemmas.{set_same}
 use Rattle.lagsystem.proofs.OfPort.{PortMoves, SlotMoves, slot_moves, all_slots_move}
@@ -426,7 +426,8 @@ receives old n octets system_port (ProcessLacpdu v) answer new i r rested agree 
     let same : system_port ≡ own.0.0 = same_Some system_port own.0.0 (sym g ∙ own.0.2) in
     let up : own.0.0.port.enabled ≡ true = subst (λ (y : SystemPort). y.port.enabled ≡ true) same x.0 in
     let quietly = takes_moves u n v own.0.0.port own.0.1 up
-    (all-get (λ y. can_receive y.port ≡ true) old.system_ports i own.0.0 own.0.2 rested.0) own.0.3 in
+    (can_receive_at_rest own.0.0.port
+    (all-get (λ y. none_enabled receive_rows y.port ≡ true) old.system_ports i own.0.0 own.0.2 rested.0)) own.0.3 in
     slots_moved u call seen old mid own.1 (subst (λ l. LawfulMoves u call (model_view_at f old.system_ports) seen (model_view_at f l))
     (sym own.0.4) (one_moves u call f n i old.system_ports own.0.0 own.0.1 seen r e own.0.2 quietly)) in
     let moves = settled_moves u call (OnlyPortChangesBy (Some i) (ProcessesLacpdu v)) seen old new (λ g. refl) r agree

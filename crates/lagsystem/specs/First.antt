@@ -42,6 +42,29 @@ IsFirst s =
     (start : List SystemPort) × AllZip (HasJustStarted s.system) s.ports start × Settling (with_system_ports s start) s
     × (s.table ≡ first_table (length s.keys) s.conversations s.first_marker)
 
+-- the configuration of a system, with lists in the place of its Vecs
+pub record ConfigValue : Type 0 where
+  pub system : SystemId
+  pub max_delay : ℕ
+  pub first_marker : ℕ
+  pub conversations : ℕ
+  pub aggregators : List Key
+  pub max_links : Option ℕ
+  pub ports : List PortConfig
+
+-- the configuration, as a value of the logic
+abbrev pub config_value : Config → ConfigValue
+config_value c =
+    record {
+      system = c.system;
+      max_delay = c.max_delay;
+      first_marker = c.first_marker;
+      conversations = c.conversations;
+      aggregators = c.aggregators.items;
+      max_links = c.max_links;
+      ports = c.ports.items;
+    }
+
 -- the state has this configuration
 pub record IsConfigured (config : Config) (s : SystemState) : Type 0 where
   pub system : s.system ≡ config.system

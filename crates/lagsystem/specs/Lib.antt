@@ -15,6 +15,7 @@ pub mod Holding
 pub mod Inner
 pub mod Windows
 pub mod Drives
+pub mod OneAnswer
 pub mod NothingToSettle
 pub mod SecondSettling
 pub mod Hosts

@@ -1,5 +1,5 @@
 -- A system, its calls and its replies, as the two-system theorem (lagmodel) sees them.
-use Rattle.std.specs.Prelude.{◌≡◌, ℕ, zero, suc, Bool, true, ◌&&◌, ◌||◌, if◌then◌else◌, Option, Some, None, List, [], ◌∷◌, slice_get}
+use Rattle.std.specs.Prelude.{◌≡◌, ℕ, zero, suc, Bool, true, not, ◌&&◌, ◌||◌, if◌then◌else◌, Option, Some, None, List, [], ◌∷◌, slice_get}
 use Rattle.std.specs.Prelude.{option_map, Ok}
 use Rattle.std.specs.List.{AllByRecursion}
 use Rattle.lagtypes.specs.declared.identifiers.Key.{Key}
@@ -24,7 +24,8 @@ use Rattle.portmachines.specs.declared.receive.ReceiveState.{ReceiveState}
 use Rattle.portmachines.specs.declared.receive.ReceiveState.TheVariants.{Expired, Defaulted, Current}
 use Rattle.portmachines.specs.Machines.{Machines}
 use Rattle.portmachines.specs.Mux.{same_mux_state, is_synchronized, partner_synchronized, selected}
-use Rattle.portmachines.specs.Receive.{same_receive_state}
+use Rattle.portmachines.specs.Receive.{receive_rows, same_receive_state}
+use Rattle.portmachines.specs.Rows.{Row}
 use Rattle.lagmodel.specs.View.{PortFacts, View, DistributorFacts, SystemSetup, ControlMessage, LacpMessage, Lacp, ModelCall}
 use Rattle.lagmodel.specs.Move.{Act, Sends, Sends_frame, Took, LawfulMoves}
 use Rattle.lagmodel.specs.Bridge.{ports_of, find_number}
@@ -166,9 +167,14 @@ mux_consistent_of mux is_port_selected is_partner_synchronized =
 abbrev pub mux_consistent : Machines → Bool
 mux_consistent p = mux_consistent_of p.mux (selected p) (partner_synchronized p)
 
--- every port whose link is up is in a state in which it processes LACPDUs
-abbrev pub AllCanReceive : List SystemPort → Type 0
-AllCanReceive system_ports = AllByRecursion (λ x. can_receive x.port ≡ true) system_ports
+-- no row of the table is enabled
+abbrev pub none_enabled : List Row → Machines → Bool
+none_enabled [] p = true
+none_enabled (row ∷ rows) p = not (row.enabled p) && none_enabled rows p
+
+-- the receive machine of every port is at rest
+abbrev pub ReceivesAtRest : List SystemPort → Type 0
+ReceivesAtRest system_ports = AllByRecursion (λ x. none_enabled receive_rows x.port ≡ true) system_ports
 
 -- the mux machine of every port fits its Selected and its partner
 abbrev pub MuxesConsistent : List SystemPort → Type 0
@@ -176,4 +182,4 @@ MuxesConsistent system_ports = AllByRecursion (λ x. mux_consistent x.port ≡ t
 
 -- these hold of each port after every call
 abbrev pub PortsConsistent : List SystemPort → Type 0
-PortsConsistent system_ports = AllCanReceive system_ports × MuxesConsistent system_ports
+PortsConsistent system_ports = ReceivesAtRest system_ports × MuxesConsistent system_ports

@@ -12,7 +12,7 @@ use Rattle.lagsystem.specs.declared.config.Config.{Config}
 use Rattle.lagsystem.specs.declared.drive.Reply.{Reply}
 use Rattle.lagsystem.specs.Calls.{Call, Step}
 use Rattle.lagsystem.specs.First.{IsConfigured, IsFirst, configured_numbers, refusal}
-use Rattle.lagsystem.specs.ModelView.{PortsConsistent, JoinedByLawfulMoves, model_setup, model_port, model_view}
+use Rattle.lagsystem.specs.ModelView.{PortsConsistent, ReceivesAtRest, JoinedByLawfulMoves, model_setup, model_port, model_view}
 use Rattle.lagsystem.specs.NothingToSettle.{PeriodicsAreSettled, MuxesAreSettled}
 use Rattle.lagsystem.specs.Occupants.{NoneIsNext, OccupantsAgree, WithinLimit}
 use Rattle.lagsystem.specs.Readers.{aggregator_numbered, distributing}
@@ -34,6 +34,7 @@ OnlyOnDistributing s = (g k p : ℕ) → assignment_of s.table g k ≡ On p
 pub record IsSound (s : SystemState) : Type 0 where
   pub ports : HasPorts s
   pub aggregators : s.table.aggs ≡ length s.keys
+  pub conversations : s.table.conversations ≡ s.conversations
   pub carried : OnlyOnDistributing s
   pub rested : PortsConsistent s.system_ports
   pub windowed : EachAtMostThreeAges s
@@ -56,10 +57,11 @@ DistributeAsMuxDoes system_ports = AllByRecursion (λ x. (model_port x.port).dis
 
 -- The members of an aggregator have its key and one group (LAG ID), which is not Individual if they are two or more;
 -- ports that distribute in one aggregator name one partner system and key (6.4.14.1). No aggregator has more members than
--- the limit of links (profile). The ports are those of an accepted configuration, and each keeps at most three ages of its
--- transmit window (6.4.16).
+-- the limit of links (profile). The ports are those of an accepted configuration, the receive machine of each is at rest,
+-- and each keeps at most three ages of its transmit window (6.4.16).
 pub record PortsAgree (s : SystemState) : Type 0 where
   pub ports : HasPorts s
+  pub rested : ReceivesAtRest s.system_ports
   pub windowed : EachAtMostThreeAges s
   pub members : Members (model_setup s) (model_view s).port
   pub one_partner : OnePartner (model_view s)

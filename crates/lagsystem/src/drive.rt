@@ -58,35 +58,8 @@ pub enum Reply {
 }
 
 impl<F: Fn(u16, usize) -> usize + Drop> System<F> {
-    /// Makes these calls in order and returns their results, one for each. `NoMemory` if memory for the results is
-    /// refused; then no call was made (profile).
-    pub fn drive(&mut self, alloc: Global, calls: &[Call]) -> Result<Vec<Reply>, NoMemory>
-        requires usable { PicksIndexes (F.pre self.old.algorithm) (F.post self.old.algorithm) }
-        ensures driven { IfOk result (λ replies. Drives (F.post self.old.algorithm) self.old.state
-            (map call_of calls.now) replies.items self.new.state) }
-        ensures window { IfOk result (λ replies. KeepsTransmitLimit self.old.state (map call_of calls.now) replies.items) }
-        ensures refused { OnErr result (self.new ≡ self.old) }
-        ensures algorithm { self.new.algorithm ≡ self.old.algorithm }
-    {
-        self.open_invariant();
-        let mut replies = Vec::with_capacity(alloc, calls.len())?;
-        for call in calls {
-            let reply = self.dispatch(call);
-            replies.push_reserved(reply);
-        }
-        Ok(replies)
-    }
-
-    /// Does nothing when it runs. The prover knows the invariant of `System` (at most three ages a port) only where
-    /// `inner` is read, and `drive` needs that invariant.
-    fn open_invariant(&self)
-        ensures { EachAtMostThreeAges self.now.state }
-    {
-        let _inner = &self.inner;
-    }
-
-    /// Makes one call.
-    fn dispatch(&mut self, call: &Call) -> Reply
+    /// Makes a call that stands as a value, and returns its result (profile).
+    pub fn call(&mut self, call: &Call) -> Reply
         requires usable { PicksIndexes (F.pre self.old.algorithm) (F.post self.old.algorithm) }
         ensures answers { CallPromise (F.post self.old.algorithm) self.old.state (call_of call.now) result self.new.state }
         ensures algorithm { self.new.algorithm ≡ self.old.algorithm }
@@ -110,5 +83,32 @@ impl<F: Fn(u16, usize) -> usize + Drop> System<F> {
             }
             Call::Force(agg, conv) => Reply::Force(self.force(*agg, *conv)),
         }
+    }
+
+    /// Makes these calls in order and returns their results, one for each. `NoMemory` if memory for the results is
+    /// refused; then no call was made (profile).
+    pub fn drive(&mut self, alloc: Global, calls: &[Call]) -> Result<Vec<Reply>, NoMemory>
+        requires usable { PicksIndexes (F.pre self.old.algorithm) (F.post self.old.algorithm) }
+        ensures driven { IfOk result (λ replies. Drives (F.post self.old.algorithm) self.old.state
+            (map call_of calls.now) replies.items self.new.state) }
+        ensures window { IfOk result (λ replies. KeepsTransmitLimit self.old.state (map call_of calls.now) replies.items) }
+        ensures refused { OnErr result (self.new ≡ self.old) }
+        ensures algorithm { self.new.algorithm ≡ self.old.algorithm }
+    {
+        self.open_invariant();
+        let mut replies = Vec::with_capacity(alloc, calls.len())?;
+        for call in calls {
+            let reply = self.call(call);
+            replies.push_reserved(reply);
+        }
+        Ok(replies)
+    }
+
+    /// Does nothing when it runs. The prover knows the invariant of `System` (at most three ages a port) only where
+    /// `inner` is read, and `drive` needs that invariant.
+    fn open_invariant(&self)
+        ensures { EachAtMostThreeAges self.now.state }
+    {
+        let _inner = &self.inner;
     }
 }

@@ -3,6 +3,7 @@ ghost use Rattle.lagsystem.specs.Due.{TransmitsWhatIsDue};
 ghost use Rattle.std.specs.Prelude.{◌≡◌};
 ghost use Rattle.lagsystem.specs.First.{IsFirst};
 ghost use Rattle.lagsystem.specs.State.{SystemState, with_system_ports, with_table};
+ghost use Rattle.lagsystem.specs.OneAnswer.{IsFunction, OneAnswer, OneRun};
 ghost use Rattle.lagsystem.specs.Windows.{StartsWithoutAges, WindowFromStart, SystemWindowLaw};
 
 /// The transmit limit: any eleven consecutive ticks since the last start of a system hold at most three LACPDUs of each
@@ -30,4 +31,12 @@ pub fn settling_again_is_nothing()
 /// `transmit` returns a frame on a port exactly if `is_due` is true there (profile).
 pub fn transmit_answers_what_is_due()
     ensures { TransmitsWhatIsDue }
+{}
+
+/// A call of a system has exactly one reply and leads to exactly one state, and so does a list of calls, if the
+/// algorithm returns one index for each conversation and count of ports. The states are equal but for the lists that
+/// the states of conversations stand in: of those, what stands for a conversation is equal (profile).
+pub fn each_call_has_one_answer<F: Fn(u16, usize) -> usize>()
+    ensures call { (algorithm : F) → IsFunction (F.post algorithm) → OneAnswer (F.post algorithm) }
+    ensures run { (algorithm : F) → IsFunction (F.post algorithm) → OneRun (F.post algorithm) }
 {}

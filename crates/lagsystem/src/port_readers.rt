@@ -11,7 +11,7 @@ use crate::calls::System;
 use crate::inner::Inner;
 use crate::system_ports::SystemPort;
 use lagtypes::{Choice, Group, Party, State};
-use portmachines::{MuxState, ReceiveState};
+use portmachines::{MuxState, Port, ReceiveState};
 use slowpdu::Info;
 
 impl<F: Fn(u16, usize) -> usize + Drop> Inner<F> {
@@ -30,6 +30,16 @@ impl<F: Fn(u16, usize) -> usize + Drop> Inner<F> {
 }
 
 impl<F: Fn(u16, usize) -> usize + Drop> System<F> {
+    /// The machines of a port, to be read: all that the readers of a port tell; None if there is no such port.
+    pub fn machines(&self, port: u16) -> Option<&Port>
+        ensures { MatchOption result (machines_of port self.now.state ≡ None) (λ p. machines_of port self.now.state ≡ Some p.now) }
+    {
+        match self.inner.slot_of(port) {
+            Some(system_port) => Some(&system_port.port),
+            None => None,
+        }
+    }
+
     /// port_enabled: whether the link of a port is up (6.4.7); None if there is no such port.
     pub fn is_up(&self, port: u16) -> Option<bool>
         ensures { result ≡ option_map (λ p. p.enabled) (machines_of port self.now.state) }

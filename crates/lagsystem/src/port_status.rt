@@ -14,8 +14,8 @@ pub enum PortStatus {
     Distributing,
     /// The link of the port is down (6.4.7, port_enabled).
     LinkDown,
-    /// The receive machine is EXPIRED: no LACPDU came since the link came up, or current_while expired since the last one
-    /// (6.4.12).
+    /// The receive machine is EXPIRED: no LACPDU came since the link came up or the port was configured anew, or
+    /// current_while expired since the last one (6.4.12).
     NoLacpdu,
     /// The receive machine is DEFAULTED: the port runs on defaults (6.4.12).
     OnDefaults,

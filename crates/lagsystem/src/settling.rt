@@ -95,13 +95,32 @@ fn choose_all(aggregators: &Aggregators, system_ports: &mut [SystemPort])
     ensures { ChoosesIn aggregators.now system_ports.old system_ports.new }
 {
     if may_promote(aggregators, system_ports) {
-        let mut port_views = views(system_ports);
-        promote_each(aggregators, system_ports, port_views.as_mut_slice());
-        choose_each(aggregators, system_ports, port_views.as_mut_slice());
+        promote_and_choose(aggregators, system_ports);
     } else if any_eligible(system_ports) {
-        let mut port_views = views(system_ports);
-        choose_each(aggregators, system_ports, port_views.as_mut_slice());
+        choose_only(aggregators, system_ports);
     }
+}
+
+/// Step 2 where a STANDBY port may be promoted. It stands alone, as do the next two that list views: else each settling
+/// clears room for lists that it does not make.
+#[inline(never)]
+fn promote_and_choose(aggregators: &Aggregators, system_ports: &mut [SystemPort])
+    requires { length system_ports.old ≤ 64 }
+    ensures { ChoosesIn aggregators.now system_ports.old system_ports.new }
+{
+    let mut port_views = views(system_ports);
+    promote_each(aggregators, system_ports, port_views.as_mut_slice());
+    choose_each(aggregators, system_ports, port_views.as_mut_slice());
+}
+
+/// Lets each port in turn choose an aggregator; none is promoted.
+#[inline(never)]
+fn choose_only(aggregators: &Aggregators, system_ports: &mut [SystemPort])
+    requires { length system_ports.old ≤ 64 }
+    ensures { system_ports.new ≡ after_choices aggregators.now (length system_ports.old) system_ports.old }
+{
+    let mut port_views = views(system_ports);
+    choose_each(aggregators, system_ports, port_views.as_mut_slice());
 }
 
 /// Whether some port is in WAITING and its wait_while has expired.
@@ -120,12 +139,22 @@ fn run_mux(aggregators: &Aggregators, system_ports: &mut [SystemPort])
         system_ports.old system_ports.new }
 {
     if any_waited(system_ports) {
-        let port_views = views(system_ports);
-        run_each_mux(aggregators, system_ports, port_views.as_slice());
+        run_mux_by_ready(aggregators, system_ports);
     } else {
         // An aggregator can only be Ready if a member has waited long enough.
         run_mux_not_ready(system_ports);
     }
+}
+
+/// The same where some port has waited.
+#[inline(never)]
+fn run_mux_by_ready(aggregators: &Aggregators, system_ports: &mut [SystemPort])
+    requires { length system_ports.old ≤ 64 }
+    ensures { PortsChangeBy (λ p q. RunsToRest (mux_rows (ready_of aggregators.now.keys (views system_ports.old) p.choice)) p q)
+        system_ports.old system_ports.new }
+{
+    let port_views = views(system_ports);
+    run_each_mux(aggregators, system_ports, port_views.as_slice());
 }
 
 /// Runs each mux machine; Ready is worked out from the views before the first of them ran.

@@ -27,7 +27,7 @@ use Rattle.lagworld.specs.declared.histories.StampedLacpdu.{StampedLacpdu}
 use Rattle.lagworld.specs.declared.histories.PortHistory.{PortHistory}
 use Rattle.lagworld.specs.declared.reply.Reply.{Reply}
 use Rattle.lagworld.specs.State.{ItemValue, HalfState, LinkState, WorldState, FlowValue, half, with_half, with_links, port_at, towards}
-use Rattle.lagworld.specs.State.{with_towards, link_index}
+use Rattle.lagworld.specs.State.{with_towards, without_first, link_index}
 use Rattle.lagworld.specs.HalfCalls.{set_taken, with_state}
 use Rattle.lagworld.specs.Events.{Algorithms, InHalf, WorldReceives, AfterReceive, DeliversFrom, RepeatsFrom, RepeatsItem, stamped_in}
 use Rattle.lagworld.specs.Events.{set_last_lacpdu}
@@ -36,7 +36,7 @@ use Rattle.lagworld.specs.Inner.{link_state, link_states}
 use Rattle.lagworld.specs.Places.{IsReserved, IsReservedAt, is_reserved}
 use Rattle.lagworld.specs.Arriving.{CarriesLacpdu, HalfReceives, Concludes, WorldDelivers, HalfReceivesFirst, WorldReceivesFirst}
 use Rattle.lagworld.specs.Arriving.{IsToRecord, WorldRepeats, first_head, head_in, is_data, last_lacpdu_recorded, history_index}
-use Rattle.lagworld.specs.Arriving.{with_lacpdu_recorded, without_first}
+use Rattle.lagworld.specs.Arriving.{with_lacpdu_recorded}
 use Rattle.lagworld.proofs.LineLemmas.{on_place}
 use Rattle.lagworld.proofs.Arrives.{lacpdu_read}
 

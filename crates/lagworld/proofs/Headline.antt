@@ -60,7 +60,7 @@ room_of false a e l = refl
 room_of true a e l = absurd (let k = e in let m = l in grind (arith, nat_tests))
 
 -- an event that acted was accepted
-accepted : (gives : Algorithms) (e : Event) (r : Reply) (old new : WorldState) → WorldSteps gives old e r new
+pub accepted : (gives : Algorithms) (e : Event) (r : Reply) (old new : WorldState) → WorldSteps gives old e r new
     → new.acted ≤ most_events → cause old e ≡ None
 accepted gives e r old new x few =
     let n = named gives e r old (record new { acted = old.acted }) x.0 in
@@ -68,7 +68,7 @@ accepted gives e r old new x few =
     (room_of (nat_le most_events old.acted) old.acted refl (omega (arith, x.1, few)))
 
 -- events only count up
-rises : (gives : Algorithms) (es : List Event) (rs : List Reply) (old new : WorldState) → WorldRuns gives old es rs new
+pub rises : (gives : Algorithms) (es : List Event) (rs : List Reply) (old new : WorldState) → WorldRuns gives old es rs new
     → old.acted ≤ new.acted
 rises gives [] [] old new h = subst (λ (j : WorldState). old.acted ≤ j.acted) (sym h) (omega arith)
 rises gives [] (r ∷ rs) old new h = absurd h

@@ -5,9 +5,9 @@ use Rattle.std.specs.Prelude.{is_some, slice_get}
 use Rattle.std.proofs.lemmas.Option.{same_Some}
 use Rattle.lagmodel.specs.World.{Side, One, Two}
 use Rattle.lagworld.specs.declared.reply.Reply.{Reply}
-use Rattle.lagworld.specs.Asking.{lost_reply, without_first}
+use Rattle.lagworld.specs.Asking.{lost_reply}
 use Rattle.lagworld.specs.Events.{LosesFrom}
-use Rattle.lagworld.specs.State.{ItemValue, LinkState, WorldState, towards, with_towards, with_links}
+use Rattle.lagworld.specs.State.{ItemValue, LinkState, WorldState, towards, with_towards, without_first, with_links}
 
 pub first_some : {X Y : Type 0} (f : X → Y) (xs : List X) → is_some (slice_get xs 0) ≡ is_some (slice_get (map f xs) 0)
 first_some f [] = refl

@@ -9,13 +9,14 @@ use Rattle.std.proofs.lemmas.Option.{none-some, same_Some, slice_get-map, slice_
 use Rattle.cables.specs.declared.item.Item.{Item}
 use Rattle.lagtypes.specs.declared.identifiers.SystemId.{SystemId}
 use Rattle.lagtypes.specs.declared.party.Party.{Party}
+use Rattle.lagtypes.specs.Same.{same_system}
 use Rattle.lagmodel.specs.View.{PortFacts, first_port, first_view}
 use Rattle.lagmodel.specs.World.{Side, One, Two, IsCabling, end_at, party_at, port_on}
 use Rattle.lagmodel.specs.Bridge.{find_number}
 use Rattle.lagmodel.proofs.Base.{cond_true, cond_false}
 use Rattle.lagsystem.specs.declared.config.Config.{Config}
 use Rattle.lagsystem.specs.declared.config.PortConfig.{PortConfig}
-use Rattle.lagsystem.specs.First.{configured_number, or_first, refusal, config_refusal as refusal_of_one}
+use Rattle.lagsystem.specs.First.{ConfigValue, config_value, configured_number, or_first, refusal, config_refusal as refusal_of_one}
 use Rattle.lagsystem.specs.ModelView.{model_setup, configured_party, model_view}
 use Rattle.lagsystem.specs.Sound.{PortsAgree}
 use Rattle.lagsystem.specs.State.{SystemState}
@@ -24,8 +25,8 @@ use Rattle.lagsystem.proofs.FirstView.{first_shows}
 use Rattle.lagsystem.proofs.Seen.{party_seen}
 use Rattle.lagscript.specs.declared.config.BadWorld.TheVariants.{SameSystem, CableEnd, System}
 use Rattle.lagscript.specs.declared.config.WorldConfig.{WorldConfig}
-use Rattle.lagscript.specs.Configs.{ConfigValue, bad_end, can_join, first_below, has_bad_end, has_port, config_value}
-use Rattle.lagscript.specs.Configs.{world_refusal, refusal_of_all, refusal_of_two, same_system, shares_end, system_refusal}
+use Rattle.lagscript.specs.Configs.{bad_end, can_join, first_below, has_bad_end, has_port}
+use Rattle.lagscript.specs.Configs.{world_refusal, refusal_of_all, refusal_of_two, shares_end, system_refusal}
 use Rattle.lagworld.specs.declared.histories.PortHistory.{PortHistory}
 use Rattle.lagworld.specs.State.{HalfState, WorldState, LinkState, FlowValue, half, port_at, towards, history_at, flow_at}
 use Rattle.lagworld.specs.State.{flow_in_aggregator}

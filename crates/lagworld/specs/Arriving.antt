@@ -1,5 +1,5 @@
 -- How an item arrives on a port, step by step.
-use Rattle.std.specs.Prelude.{◌≡◌, ◌==◌, ◌<◌, ℕ, Bool, true, false, List, [], ◌∷◌, drop, Option, Some, None, IsSomeAnd, Result, Ok, Err}
+use Rattle.std.specs.Prelude.{◌≡◌, ◌==◌, ◌<◌, ℕ, Bool, true, false, List, [], ◌∷◌, Option, Some, None, IsSomeAnd, Result, Ok, Err}
 use Rattle.std.specs.Prelude.{map, position, slice_get, vec_len, vec_capacity}
 use Rattle.std.specs.Global.{Vec}
 use Rattle.cables.specs.declared.item.Item.{Item}
@@ -21,7 +21,7 @@ use Rattle.lagworld.specs.declared.histories.PortHistory.{PortHistory}
 use Rattle.lagworld.specs.declared.reply.Reply.{Reply}
 use Rattle.lagworld.specs.declared.reply.Reply.TheVariants as reply
 use Rattle.lagworld.specs.State.{ItemValue, HalfState, LinkState, WorldState, FlowValue, by_side, element_numbered, port_at, towards}
-use Rattle.lagworld.specs.State.{with_towards, is_accepted}
+use Rattle.lagworld.specs.State.{is_accepted}
 use Rattle.lagworld.specs.HalfCalls.{HalfAnswers, with_state}
 use Rattle.lagworld.specs.Events.{Algorithms, InHalf, OnLink, DeliversFrom, RepeatsFrom, stamped_in, set_last_lacpdu, with_last_lacpdu}
 use Rattle.lagworld.specs.Events.{with_item_sent, with_stamp_collected}
@@ -93,10 +93,6 @@ first_head p (item ∷ rest) = Some (record { port = p; stamp = item.stamp })
 -- the port that the first item towards system s on this cable will arrive on, and its stamp; None without an item
 abbrev pub head_in : Side → LinkState → Option Head
 head_in s l = first_head (port_at s l) (towards s l)
-
--- the cable without its first item towards a system
-abbrev pub without_first : Side → LinkState → LinkState
-without_first s l = with_towards s (drop 1 (towards s l)) l
 
 -- the stamp is that of a data frame
 abbrev pub is_data : Stamp → Bool

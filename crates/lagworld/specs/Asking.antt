@@ -1,5 +1,5 @@
 -- What a call of one of the two systems changes, and its result.
-use Rattle.std.specs.Prelude.{ℕ, Bool, List, Option, Result, drop, if◌then◌else◌}
+use Rattle.std.specs.Prelude.{ℕ, Bool, List, Option, Result, if◌then◌else◌}
 use Rattle.lagtypes.specs.declared.identifiers.AggId.{AggId}
 use Rattle.lagsystem.specs.declared.drive.Reply.TheVariants as answer
 use Rattle.lagsystem.specs.declared.fault.SystemFault.{SystemFault}
@@ -7,7 +7,7 @@ use Rattle.lagsystem.specs.Calls.{Transmit, Offer, Force}
 use Rattle.lagmodel.specs.World.{Side}
 use Rattle.lagworld.specs.declared.reply.Reply.{Reply}
 use Rattle.lagworld.specs.declared.reply.Reply.TheVariants as reply
-use Rattle.lagworld.specs.State.{HalfState, WorldState, LinkState, change_flow, towards, with_sent, with_towards}
+use Rattle.lagworld.specs.State.{HalfState, WorldState, change_flow, towards, with_sent}
 use Rattle.lagworld.specs.HalfCalls.{HalfAnswers, HalfForces}
 use Rattle.lagworld.specs.Events.{Algorithms, InHalf, LosesFrom, OnLink}
 
@@ -41,10 +41,6 @@ WorldForces gives s agg conv old r new = InHalf s (λ h k. HalfForces (gives s) 
 -- a conversation of an aggregator has sent one more frame
 abbrev pub with_sent_in : ℕ → ℕ → HalfState → HalfState
 with_sent_in g k h = record h { flows = change_flow with_sent g k h.flows }
-
--- the cable without its first item towards a system
-abbrev pub without_first : Side → LinkState → LinkState
-without_first s l = with_towards s (drop 1 (towards s l)) l
 
 -- the reply to a Lose event: whether there was an item to lose
 abbrev pub lost_reply : Bool → Reply

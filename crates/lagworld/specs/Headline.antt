@@ -10,9 +10,9 @@ use Rattle.lagworld.specs.State.{WorldState, half}
 use Rattle.lagworld.specs.Events.{Algorithms, WorldRuns}
 use Rattle.lagworld.specs.ModelWorld.{world_setup, model_world}
 
--- What `World::run` promises of the last world, of any world: ports that distribute in one aggregator have one partner;
--- both ends of a cable have one Link Aggregation Group; frames keep their order. And in each system no aggregator has more
--- members than the limit of links.
+-- What `World::run` promises of the last world, of any world: ports of one system that distribute in one aggregator name one
+-- partner system and key; the two distributing ends of a cable name the same group; what is collected of a conversation that
+-- was never forced is a subsequence of what was sent. And in each system no aggregator has more members than the limit of links.
 pub record Headline (j : WorldState) : Type 0 where
   pub one_partner : (s : Side) → OnePartner ((model_world j).view s)
   pub agree : EndsAgree (world_setup j) (model_world j)

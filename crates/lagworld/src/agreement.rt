@@ -19,8 +19,8 @@ pub enum Agreement {
     NotBoth,
     /// An end has a defaulted partner: no LACPDU set it.
     Defaults,
-    /// An end's parameters changed since it sent the LACPDU that its peer received last (its change count is not that
-    /// LACPDU's stamp), or its peer has received none.
+    /// An end's parameters changed since it sent the LACPDU that its peer took last (its change count is not that
+    /// LACPDU's stamp), or its peer took none.
     Changed,
     /// Both ends have the same Link Aggregation Group (6.3.6).
     Same,
@@ -58,7 +58,7 @@ fn taken_in(history: Option<PortHistory>) -> Option<StampedLacpdu>
     }
 }
 
-/// Whether the change count of an end is the stamp of the LACPDU that its peer received last.
+/// Whether the change count of an end is the stamp of the LACPDU that its peer took last.
 fn is_stamp(count: u64, taken: Option<StampedLacpdu>) -> bool
     ensures { result ≡ is_stamp count taken }
 {

@@ -5,7 +5,7 @@ ghost use Rattle.slowpdu.specs.Lacpdus.{Reads};
 ghost use Rattle.lagworld.specs.declared.fault.WorldFault.TheVariants.{NoMemory as OutOfMemory};
 ghost use Rattle.lagworld.specs.Arriving.{HalfReceives, Concludes, WorldDelivers, HalfReceivesFirst, WorldReceivesFirst, CarriesLacpdu};
 ghost use Rattle.lagworld.specs.Arriving.{CanCollectFor, IsToRecord, HasPlacesForItem, WorldRepeats, first_head, head_in, is_data};
-ghost use Rattle.lagworld.specs.Arriving.{last_lacpdu_recorded, history_index, without_first};
+ghost use Rattle.lagworld.specs.Arriving.{last_lacpdu_recorded, history_index};
 ghost use Rattle.lagworld.specs.Events.{with_stamp_collected, has_cable, stamped_in, with_item_sent, set_last_lacpdu};
 ghost use Rattle.lagworld.specs.WorldCalls.{world_state};
 ghost use Rattle.lagworld.specs.Inner.{half_state, link_state, link_states};
@@ -13,7 +13,7 @@ ghost use Rattle.lagworld.specs.Messages.{item_value, stamp_count, side_numbered
 ghost use Rattle.lagworld.specs.Places.{IsReserved, is_reserved};
 ghost use Rattle.lagworld.specs.Sides.{model_side};
 ghost use Rattle.lagworld.specs.Sound.{both_algorithms};
-ghost use Rattle.lagworld.specs.State.{is_accepted, port_at, towards};
+ghost use Rattle.lagworld.specs.State.{is_accepted, port_at, towards, without_first};
 
 use crate::causes::{Side, side_numbered};
 use crate::collecting::{collect, reserve_collected};

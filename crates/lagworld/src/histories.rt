@@ -22,7 +22,7 @@ pub(crate) struct PortHistory {
     pub(crate) party: Party,
     /// The change count: how many events changed these parameters.
     pub(crate) count: u64,
-    /// The LACPDU that the port received last.
+    /// The LACPDU that the port took last.
     pub(crate) taken: Option<StampedLacpdu>,
 }
 

@@ -1,8 +1,9 @@
 //! Two `System`s joined by cables, and every event that can happen to them: ticks, sends, deliveries, losses, repeated
 //! control PDUs, cuts, restarts, changes. A `World` plays events and returns a `Reply` for each. The contract of
-//! `World::run` is the headline: after any list of events, ports that distribute in one aggregator have one partner;
-//! both ends of a cable that distribute have one Link Aggregation Group (IEEE 802.1AX-2014, 6.3.6), unless an end
-//! changed since or has a defaulted partner; and the frames of a conversation that was never forced keep their order.
+//! `World::run` is the headline: after any list of events, ports of one system that distribute in one aggregator name one
+//! partner system and key; the two distributing ends of a cable name the same group (LAG ID; IEEE 802.1AX-2014, 6.3.6),
+//! unless one of them changed since it sent the LACPDU that its peer took last, or runs on defaults; and what is collected
+//! of a conversation that was never forced is a subsequence of what was sent.
 //!
 //! In comments, "profile" is docs/PROFILE.md.
 #![tactic(auto)]
@@ -26,6 +27,8 @@ mod reply;
 mod sending;
 mod serials;
 mod start;
+#[cfg(test)]
+mod tests;
 mod world;
 
 pub use agreement::Agreement;
@@ -35,7 +38,8 @@ pub use lagscript::{
     read_script,
 };
 pub use laws::{
-    a_start_is_sound, each_event_happens, each_event_keeps, each_world_keeps_the_headline,
+    a_start_is_sound, each_event_happens, each_event_has_one_reply, each_event_keeps,
+    each_world_keeps_the_headline, events_have_limits,
 };
 pub use reply::Reply;
 pub use world::World;

@@ -1,11 +1,11 @@
 ghost use Rattle.std.specs.Prelude.{◌≡◌, ◌<◌, Some, drop, is_some, length, map, slice_get, slice_set, true, IsSomeAnd};
-ghost use Rattle.lagworld.specs.Asking.{WorldLoses, lost_reply, without_first};
+ghost use Rattle.lagworld.specs.Asking.{WorldLoses, lost_reply};
 ghost use Rattle.lagworld.specs.Events.{has_cable};
 ghost use Rattle.lagworld.specs.WorldCalls.{world_state};
 ghost use Rattle.lagworld.specs.Inner.{link_state, link_states};
 ghost use Rattle.lagworld.specs.Messages.{item_value, side_numbered};
 ghost use Rattle.lagworld.specs.Sides.{model_side};
-ghost use Rattle.lagworld.specs.State.{towards};
+ghost use Rattle.lagworld.specs.State.{towards, without_first};
 
 use crate::causes::{Side, side_numbered};
 use crate::inner::Inner;

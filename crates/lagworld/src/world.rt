@@ -96,10 +96,11 @@ impl<C: Cable, F: Fn(u16, usize) -> usize + Drop> World<C, F> {
     /// Plays events in order and returns their replies. If an event is refused, `run` stops there: `RunFault` says how
     /// many events acted and why the next did not. Memory for all replies is taken first, so `NoMemory` may come before
     /// any event acted. Whatever is returned, these hold of the world afterwards (profile; 6.3.6, 6.2.4):
-    /// - ports that distribute in one aggregator have one partner system and key (`one_partner`);
-    /// - the two ends of a cable have the same Link Aggregation Group, if both distribute, neither changed since it sent
-    ///   the LACPDU that its peer received last, and neither has a defaulted partner (`agree`);
-    /// - what a conversation collected, if it was never forced, is a subsequence of what it sent (`in_order`).
+    /// - ports of one system that distribute in one aggregator name one partner system and key (`one_partner`);
+    /// - the two distributing ends of a cable name the same group (LAG ID), unless one of them changed since it sent the
+    ///   LACPDU that its peer took last, or runs on defaults (`agree`);
+    /// - what is collected of a conversation that was never forced is a subsequence of what was sent (`in_order`): nothing
+    ///   comes twice, since no two of its frames have one serial (`counts_from_zero` of `carries`), and nothing overtakes.
     ///
     /// `each_world_keeps_the_headline` says the same of each world on the way.
     pub fn run(&mut self, events: &[Event]) -> Result<Vec<Reply>, RunFault>

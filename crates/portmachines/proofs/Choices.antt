@@ -12,7 +12,7 @@ use Rattle.portmachines.specs.declared.receive.ReceiveState.TheVariants.{Initial
 use Rattle.portmachines.specs.Machines.{Machines}
 use Rattle.portmachines.specs.Rows.{Row, Fires, AtRest, FiresTimes, RunsToRest, in_order}
 use Rattle.portmachines.specs.Receive.{receive_rows, lacpdu_rows, start_receive, current_while_expired, partner_not_synchronized}
-use Rattle.portmachines.specs.Periodic.{periodic_table, periodic_rows, clear_ntt}
+use Rattle.portmachines.specs.Periodic.{RunsPeriodic, periodic_table, periodic_rows, clear_ntt}
 use Rattle.portmachines.specs.Mux.{mux_rows, start_mux, partner_synchronized}
 use Rattle.portmachines.specs.Transmit.{count_down}
 use Rattle.portmachines.specs.Calls.{Tick, Transmit, Set_link, Take, Mux, Periodic, Select, Reinit, OneEffect}
@@ -271,6 +271,12 @@ rest-linked p Current enabled rest = and_left (current_while_expired p) (not ena
 taking-one : (pdu : Lacpdu) (p q r : Machines) → Fires (lacpdu_rows pdu) p q → Fires (lacpdu_rows pdu) p r → q ≡ r
 taking-one pdu p q r f g = elim f [ inl x ↦ elim g [ inl y ↦ x.1 ∙ sym y.1 | inr y ↦ absurd y ] | inr x ↦ absurd x ]
 
+pub one_mux : (ready : Bool) (p q r : Machines) → RunsToRest (mux_rows ready) p q → RunsToRest (mux_rows ready) p r → q ≡ r
+one_mux ready p q r h k = settles_one Always (mux_rows ready) (mux-way ready) p q r tt h k
+
+pub one_periodic : (p q r : Machines) → RunsPeriodic p q → RunsPeriodic p r → q ≡ r
+one_periodic p q r h k = h.2 ∙ ap clear_ntt (settles_one Always periodic_rows periodic-way p h.0 k.0 tt h.1 k.1) ∙ sym k.2
+
 -- each call has one effect
 pub one_effect : OneEffect
 one_effect Tick old one other rest h k =
@@ -284,10 +290,8 @@ one_effect (Take pdu) old one other rest h k =
       | inl f ↦ elim k [ inl g ↦ taking-one pdu old one other f g | inr s ↦ absurd (none_fires (lacpdu_rows pdu) old one s.0 f) ]
       | inr s ↦ elim k [ inl g ↦ absurd (none_fires (lacpdu_rows pdu) old other s.0 g) | inr t ↦ s.1 ∙ sym t.1 ]
     ]
-one_effect (Mux ready) old one other rest h k = settles_one Always (mux_rows ready) (mux-way ready) old one other tt h k
-one_effect Periodic old one other rest h k =
-    let e : h.0 ≡ k.0 = settles_one Always periodic_rows periodic-way old h.0 k.0 tt h.1 k.1 in
-    h.2 ∙ ap clear_ntt e ∙ sym k.2
+one_effect (Mux ready) old one other rest h k = one_mux ready old one other h k
+one_effect Periodic old one other rest h k = one_periodic old one other h k
 one_effect (Select choice) old one other rest h k = h ∙ sym k
 one_effect (Reinit party) old one other rest h k =
     let e : h.0 ≡ k.0 = settles_one IsSafe receive_rows receive-way (start_receive (record old { party = party })) h.0 k.0 tt h.1 k.1 in

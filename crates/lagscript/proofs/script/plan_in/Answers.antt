@@ -2,7 +2,8 @@ use Rattle.std.proofs.Common.{◌≡◌, ◌≢◌, true, None, Some, Ok, inr, l
 use Rattle.std.specs.List.{All}
 use Rattle.toml.specs.View.{table_view}
 use Rattle.lagscript.specs.EventValues.{event_values}
-use Rattle.lagscript.specs.Configs.{config_value, refusal_of_all}
+use Rattle.lagscript.specs.Configs.{refusal_of_all}
+use Rattle.lagsystem.specs.First.{config_value}
 use Rattle.lagscript.specs.Keys.{keys_among}
 use Rattle.lagscript.specs.Scripts.{events_in, cables_in, script_fault_for, ends_of, limits_of, systems_in, top_keys}
 use Rattle.lagscript.proofs.LimitLemmas.{limits_are}

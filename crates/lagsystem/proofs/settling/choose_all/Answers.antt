@@ -4,16 +4,13 @@ use Rattle.lagsystem.proofs.Choosing.{none_chosen}
 use Rattle.lagsystem.proofs.Limiting.{nothing_promoted}
 use Rattle.lagsystem.proofs.settling.choose_all.Goals as goal
 
-pub returns-then-may_promote : goal.returns-then-may_promote
-returns-then-may_promote c = (c.promote_each.new.system_ports, c.promote_each.ensures.promoted, c.choose_each.ensures)
-
 pub returns-then-any_eligible : goal.returns-then-any_eligible
 returns-then-any_eligible c =
     let system_ports = c.args.system_ports.now in (
       system_ports,
       nothing_promoted c.args.aggregators.now (length c.args.aggregators.now.keys) system_ports
           (OnFalse_at c.if-may_promote.false c.may_promote.ensures),
-      c.choose_each-then-any_eligible.ensures,
+      c.choose_only.ensures,
     )
 
 pub returns-else-any_eligible : goal.returns-else-any_eligible

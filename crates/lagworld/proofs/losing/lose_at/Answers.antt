@@ -1,8 +1,7 @@
 use Rattle.std.specs.Prelude.{is_some, slice_get}
-use Rattle.lagworld.specs.Asking.{without_first}
 use Rattle.lagworld.specs.Inner.{link_state}
 use Rattle.lagworld.specs.Sides.{model_side}
-use Rattle.lagworld.specs.State.{towards}
+use Rattle.lagworld.specs.State.{towards, without_first}
 use Rattle.lagworld.proofs.Putting.{sent_at}
 use Rattle.lagworld.proofs.losing.lose_at.Goals as goal
 

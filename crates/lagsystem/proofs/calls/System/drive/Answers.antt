@@ -6,8 +6,8 @@ use Rattle.lagsystem.proofs.DriveLemmas.{drives_all, drives_on, driven_runs}
 use Rattle.lagsystem.proofs.Windows.{window_law}
 use Rattle.lagsystem.proofs.calls.System.drive.Goals as goal
 
-pub dispatch-reply-requires : goal.dispatch-reply-requires
-dispatch-reply-requires g c =
+pub call-reply-requires : goal.call-reply-requires
+call-reply-requires g c =
     record {
       usable =
           subst (λ f. PicksIndexes (λ conv count. g.F.Fn.pre f (conv, (count, tt)))
@@ -18,19 +18,19 @@ pub loop-call-preserved : goal.loop-call-preserved
 loop-call-preserved g c =
     let i = c.loop-call.call-index in
     let calls = c.args.calls.now in
-    let answer = c.dispatch-reply.result in
+    let answer = c.call-reply.result in
     let mid = c.loop-call.self.state in
-    let new = c.dispatch-reply.new.self.state in
+    let new = c.call-reply.new.self.state in
     let same = c.call-item.is in
     let made = subst (λ f. CallPromise (λ conv count place. g.F.Fn.post f (conv, (count, tt)) place) mid (call_of c.call-item.result) answer
-    new) c.loop-call.invariant.algorithm c.dispatch-reply.ensures.answers in record {
+    new) c.loop-call.invariant.algorithm c.call-reply.ensures.answers in record {
       driven =
           rw c.push_reserved.ensures.items
           (drives_on (λ conv count place. g.F.Fn.post c.args.self.now.algorithm (conv, (count, tt)) place) c.args.self.now.state mid new
           calls c.loop-call.replies.items i c.call-item.result answer c.loop-call-test.true c.loop-call.invariant.driven
           (subst (λ x. CallPromise (λ conv count place. g.F.Fn.post c.args.self.now.algorithm (conv, (count, tt)) place) mid
           (call_of x) answer new) same made));
-      algorithm = c.dispatch-reply.ensures.algorithm ∙ c.loop-call.invariant.algorithm;
+      algorithm = c.call-reply.ensures.algorithm ∙ c.loop-call.invariant.algorithm;
       count = omega (arith, c.push_reserved.ensures.len, c.loop-call.invariant.count);
       room = omega (arith, c.push_reserved.ensures.capacity, c.loop-call.invariant.room);
     }

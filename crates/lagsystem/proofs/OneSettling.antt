@@ -1,0 +1,203 @@
+-- Settling is deterministic: the ports after it, and the state of each conversation.
+use Rattle.std.proofs.Common.{◌≡◌, ◌∙◌, ℕ, zero, suc, ◌+◌, false, List, [], ◌∷◌, length, Option, Some, None, refl, sym, ap}
+use Rattle.std.proofs.Common.{subst, slice_get, slice_set, arith}
+use Rattle.std.specs.List.{AllByRecursion}
+use Rattle.std.proofs.lemmas.Option.{none-some, same_Some}
+use Rattle.lagtypes.specs.declared.identifiers.AggId.{AggId}
+use Rattle.lagtypes.specs.declared.party.Choice.TheVariants.{Selected}
+use Rattle.portmachines.specs.Machines.{Machines}
+use Rattle.portmachines.specs.Mux.{mux_rows}
+use Rattle.portmachines.specs.Periodic.{RunsPeriodic}
+use Rattle.portmachines.specs.Rows.{RunsToRest}
+use Rattle.portmachines.proofs.Choices.{one_mux, one_periodic}
+use Rattle.selection.specs.Limits.{AggregatorsValue, next_standby_index}
+use Rattle.distributor.specs.declared.assignment.Assignment.{Assignment}
+use Rattle.distributor.specs.Conversations.{Table, assignment_of}
+use Rattle.lagsystem.specs.declared.system_ports.SystemPort.{SystemPort}
+use Rattle.lagsystem.specs.Calls.{PortAtChangesBy}
+use Rattle.lagsystem.specs.OneAnswer.{SameConversations}
+use Rattle.lagsystem.specs.Readers.{aggregator_numbered, distributing}
+use Rattle.lagsystem.specs.Settling.{ChoosesIn, PortsChangeBy, PromotesAll, PromotesFirst, PromotesNext, PromotesTimes}
+use Rattle.lagsystem.specs.Settling.{Settling, after_choices, held_unless_on, ready_of, with_choice}
+use Rattle.lagsystem.specs.State.{SystemState, aggregators_value}
+use Rattle.lagsystem.specs.Views.{views}
+use Rattle.lagsystem.proofs.Keeps.{ports_table, settling_parts}
+use Rattle.lagsystem.proofs.Rest.{last_slots}
+use Rattle.lagsystem.proofs.Rising.{all-get}
+
+-- where P holds, the relation leads to one port
+abbrev pub LeadsToOne : (Machines → Type 0) → (Machines → Machines → Type 0) → Type 0
+LeadsToOne P R = (p q r : Machines) → P p → R p q → R p r → q ≡ r
+
+abbrev pub Any : Machines → Type 0
+Any p = Unit {0}
+
+any_port : (l : List SystemPort) → AllByRecursion (λ x. Any x.port) l
+any_port [] = tt
+any_port (x ∷ xs) = (tt, any_port xs)
+
+pub one_of_each : (P : Machines → Type 0) (R : Machines → Machines → Type 0) → LeadsToOne P R → (l a b : List SystemPort)
+    → AllByRecursion (λ x. P x.port) l → PortsChangeBy R l a → PortsChangeBy R l b → a ≡ b
+one_of_each P R one [] [] [] all h k = refl
+one_of_each P R one [] [] (z ∷ zs) all h k = absurd k
+one_of_each P R one [] (y ∷ ys) b all h k = absurd h
+one_of_each P R one (x ∷ xs) [] b all h k = absurd h
+one_of_each P R one (x ∷ xs) (y ∷ ys) [] all h k = absurd k
+one_of_each P R one (x ∷ xs) (y ∷ ys) (z ∷ zs) all h k =
+    let port : y.port ≡ z.port = one x.port y.port z.port all.0 h.0.1 k.0.1 in
+    let here : y ≡ z = h.0.0 ∙ ap (λ (p : Machines). record x { port = p }) port ∙ sym k.0.0 in
+    let rest = one_of_each P R one xs ys zs all.1 h.1 k.1 in
+    λ i. here i ∷ rest i
+
+pub one_at : (P : Machines → Type 0) (R : Machines → Machines → Type 0) → LeadsToOne P R → (o : Option ℕ) (l a b : List SystemPort)
+    → AllByRecursion (λ x. P x.port) l → PortAtChangesBy R o l a → PortAtChangesBy R o l b → a ≡ b
+one_at P R one None l a b all h k = absurd h
+one_at P R one (Some i) l a b all h k =
+    let s : h.0 ≡ k.0 = same_Some h.0 k.0 (sym h.2 ∙ k.2) in
+    let port : h.1 ≡ k.1 = one h.0.port h.1 k.1 (all-get (λ x. P x.port) l i h.0 h.2 all) h.3
+    (subst (λ (x : SystemPort). R x.port k.1) (sym s) k.3) in
+    h.4 ∙ (λ j. slice_set l i (record (s j) { port = port j })) ∙ sym k.4
+
+-- promotions
+next_one : (aggs : AggregatorsValue) (agg : AggId) (l a b : List SystemPort) → PromotesNext aggs agg l a → PromotesNext aggs agg l b → a ≡ b
+next_one aggs agg l a b h k =
+    let i : h.0 ≡ k.0 = same_Some h.0 k.0 (sym h.2 ∙ k.2) in
+    let s : h.1 ≡ k.1 = same_Some h.1 k.1 (sym h.3 ∙ ap (slice_get l) i ∙ k.3) in
+    h.4 ∙ (λ j. slice_set l (i j) (with_choice (s j) (Some (Selected agg)))) ∙ sym k.4
+
+abbrev Goes : AggregatorsValue → AggId → ℕ → List SystemPort → List SystemPort → Type 0
+Goes aggs agg zero old new = new ≡ old
+Goes aggs agg (suc n) old new = (mid : List SystemPort) × PromotesNext aggs agg old mid × Goes aggs agg n mid new
+
+goes-more : (aggs : AggregatorsValue) (agg : AggId) (n : ℕ) (l m k : List SystemPort) → Goes aggs agg n l m → PromotesNext aggs agg m k
+    → Goes aggs agg (suc n) l k
+goes-more aggs agg zero l m k run next = (k, subst (λ x. PromotesNext aggs agg x k) run next, refl)
+goes-more aggs agg (suc n) l m k run next = (run.0, run.1, goes-more aggs agg n run.0 m k run.2 next)
+
+goes : (aggs : AggregatorsValue) (agg : AggId) (n : ℕ) (l m : List SystemPort) → PromotesTimes aggs agg n l m → Goes aggs agg n l m
+goes aggs agg zero l m run = run
+goes aggs agg (suc n) l m run = goes-more aggs agg n l run.0 m (goes aggs agg n l run.0 run.1) run.2
+
+none_follows : (aggs : AggregatorsValue) (agg : AggId) (l a m : List SystemPort) → a ≡ l → next_standby_index aggs (views a) agg ≡ None
+    → PromotesNext aggs agg l m → ⊥
+none_follows aggs agg l a m e n h = none-some h.0 (sym n ∙ ap (λ x. next_standby_index aggs (views x) agg) e ∙ h.2)
+
+one_end : (aggs : AggregatorsValue) (agg : AggId) (n m : ℕ) (l a b : List SystemPort) → Goes aggs agg n l a → Goes aggs agg m l b
+    → next_standby_index aggs (views a) agg ≡ None → next_standby_index aggs (views b) agg ≡ None → a ≡ b
+one_end aggs agg zero zero l a b g h x y = g ∙ sym h
+one_end aggs agg zero (suc m) l a b g h x y = absurd (none_follows aggs agg l a h.0 g x h.1)
+one_end aggs agg (suc n) zero l a b g h x y = absurd (none_follows aggs agg l b g.0 h y g.1)
+one_end aggs agg (suc n) (suc m) l a b g h x y =
+    let e : g.0 ≡ h.0 = next_one aggs agg l g.0 h.0 g.1 h.1 in
+    one_end aggs agg n m g.0 a b g.2 (subst (λ x. Goes aggs agg m x b) (sym e) h.2) x y
+
+all_one : (aggs : AggregatorsValue) (agg : AggId) (l a b : List SystemPort) → PromotesAll aggs agg l a → PromotesAll aggs agg l b → a ≡ b
+all_one aggs agg l a b h k = one_end aggs agg h.0 k.0 l a b (goes aggs agg h.0 l a h.1) (goes aggs agg k.0 l b k.1) h.2 k.2
+
+first_one : (aggs : AggregatorsValue) (n : ℕ) (l a b : List SystemPort) → PromotesFirst aggs n l a → PromotesFirst aggs n l b → a ≡ b
+first_one aggs zero l a b h k = h ∙ sym k
+first_one aggs (suc n) l a b h k =
+    let agg = aggregator_numbered (suc n) in
+    let mid : h.0 ≡ k.0 = first_one aggs n l h.0 k.0 h.1 k.1 in
+    all_one aggs agg h.0 a b h.2 (subst (λ x. PromotesAll aggs agg x b) (sym mid) k.2)
+
+choosing_one : (aggs : AggregatorsValue) (l a b : List SystemPort) → ChoosesIn aggs l a → ChoosesIn aggs l b → a ≡ b
+choosing_one aggs l a b h k =
+    let mid : h.0 ≡ k.0 = first_one aggs (length aggs.keys) l h.0 k.0 h.1 k.1 in
+    h.2 ∙ ap (λ x. after_choices aggs (length x) x) mid ∙ sym k.2
+
+-- the steps of settling that look at ports, as a relation between lists of ports
+abbrev RunsMuxIn : AggregatorsValue → List SystemPort → List SystemPort → List SystemPort → Type 0
+RunsMuxIn aggs seen old new = PortsChangeBy (λ p q. RunsToRest (mux_rows (ready_of aggs.keys (views seen) p.choice)) p q) old new
+
+abbrev SettlesIn : AggregatorsValue → List SystemPort → List SystemPort → Type 0
+SettlesIn aggs old new =
+    (one two four : List SystemPort) × PortsChangeBy (RunsToRest (mux_rows false)) old one × ChoosesIn aggs one two
+    × RunsMuxIn aggs two two four × PortsChangeBy RunsPeriodic four new
+
+settles_in : (old new : SystemState) → Settling old new → SettlesIn (aggregators_value old) old.system_ports new.system_ports
+settles_in old new h =
+    let one = h.0 in
+    let two = h.2.0 in
+    let three = h.2.2.0 in
+    let four = h.2.2.2.0 in
+    let first : aggregators_value one ≡ aggregators_value old = ap aggregators_value h.1.1 in
+    let third : aggregators_value three ≡ aggregators_value old = ap aggregators_value h.2.2.1 ∙ ap aggregators_value h.2.1.1 ∙ first in
+    let same : three.system_ports ≡ two.system_ports = ap (λ (s : SystemState). s.system_ports) h.2.2.1 in
+    let runs : RunsMuxIn (aggregators_value three) three.system_ports three.system_ports four.system_ports = h.2.2.2.1.0 in (
+      one.system_ports,
+      two.system_ports,
+      four.system_ports,
+      h.1.0,
+      subst (λ a. ChoosesIn a one.system_ports two.system_ports) first h.2.1.0,
+      subst (λ l. RunsMuxIn (aggregators_value old) l l four.system_ports) same
+          (subst (λ a. RunsMuxIn a three.system_ports three.system_ports four.system_ports) third runs),
+      subst (PortsChangeBy RunsPeriodic four.system_ports) (sym (last_slots old new h)) h.2.2.2.2.1.0,
+    )
+
+settled_one : (aggs : AggregatorsValue) (l a b : List SystemPort) → SettlesIn aggs l a → SettlesIn aggs l b → a ≡ b
+settled_one aggs l a b h k =
+    let one : h.0 ≡ k.0 = one_of_each Any (RunsToRest (mux_rows false)) (λ p q r t. one_mux false p q r) l h.0 k.0 (any_port l) h.3 k.3 in
+    let two : h.1 ≡ k.1 = choosing_one aggs h.0 h.1 k.1 h.4 (subst (λ x. ChoosesIn aggs x k.1) (sym one) k.4) in
+    let four : h.2 ≡ k.2 = one_of_each Any (λ p q. RunsToRest (mux_rows (ready_of aggs.keys (views h.1) p.choice)) p q)
+    (λ p q r t. one_mux (ready_of aggs.keys (views h.1) p.choice) p q r) h.1 h.2 k.2 (any_port h.1) h.5
+    (subst (λ x. RunsMuxIn aggs x x k.2) (sym two) k.5) in
+    one_of_each Any RunsPeriodic (λ p q r t. one_periodic p q r) h.2 a b (any_port h.2) h.6
+    (subst (λ x. PortsChangeBy RunsPeriodic x b) (sym four) k.6)
+
+-- each conversation changes by the function, and the next marker has an identifier so much higher
+pub record Changed (f : ℕ → ℕ → Assignment → Assignment) (n : ℕ) (old new : Table) : Type 0 where
+  pub aggs : new.aggs ≡ old.aggs
+  pub conversations : new.conversations ≡ old.conversations
+  pub first : new.first ≡ old.first
+  pub next : new.next ≡ old.next + n
+  pub states : (a c : ℕ) → assignment_of new a c ≡ f a c (assignment_of old a c)
+
+pub changed_one : (f : ℕ → ℕ → Assignment → Assignment) (n : ℕ) (t u a b : Table) → SameConversations t u → Changed f n t a → Changed f n u b
+    → SameConversations a b
+changed_one f n t u a b same h k = record {
+  aggs = k.aggs ∙ same.aggs ∙ sym h.aggs;
+  conversations = k.conversations ∙ same.conversations ∙ sym h.conversations;
+  first = k.first ∙ same.first ∙ sym h.first;
+  next = k.next ∙ ap (λ m. m + n) same.next ∙ sym h.next;
+  states = λ x y. k.states x y ∙ ap (f x y) (same.states x y) ∙ sym (h.states x y);
+}
+
+pub stayed_one : (t u a b : Table) → SameConversations t u → a ≡ t → b ≡ u → SameConversations a b
+stayed_one t u a b same h k = subst (λ x. SameConversations x b) (sym h) (subst (λ x. SameConversations t x) (sym k) same)
+
+-- two settlings
+abbrev pub SameAfter : SystemState → SystemState → Type 0
+SameAfter s t = (t.system_ports ≡ s.system_ports) × SameConversations s.table t.table
+
+no_more : (n : ℕ) → n ≡ n + 0
+no_more n = omega arith
+
+holds : (old new : SystemState) → Settling old new
+    → Changed (λ g k x. held_unless_on (distributing (aggregator_numbered g) new.system_ports) x) 0 old.table new.table
+holds old new h =
+    let parts = settling_parts old new h in
+    let five = parts.0 in
+    let table : five.table ≡ old.table = ports_table old five parts.1 in
+    let ports : five.system_ports ≡ new.system_ports = ap (λ (s : SystemState). s.system_ports) (sym parts.2.frame) in record {
+      aggs = parts.2.aggs ∙ ap (λ (t : Table). t.aggs) table;
+      conversations = parts.2.conversations ∙ ap (λ (t : Table). t.conversations) table;
+      first = parts.2.first ∙ ap (λ (t : Table). t.first) table;
+      next = parts.2.next ∙ ap (λ (t : Table). t.next) table ∙ no_more old.table.next;
+      states = λ g k. parts.2.states g k
+          ∙ (λ i. held_unless_on (distributing (aggregator_numbered g) (ports i)) (assignment_of (table i) g k));
+    }
+
+pub settlings_one : (s t new last : SystemState) → SameAfter s t → aggregators_value t ≡ aggregators_value s → Settling s new
+    → Settling t last → SameAfter new last
+settlings_one s t new last same aggs h k =
+    let theirs : SettlesIn (aggregators_value s) s.system_ports last.system_ports =
+    subst (λ l. SettlesIn (aggregators_value s) l last.system_ports) same.0
+    (subst (λ a. SettlesIn a t.system_ports last.system_ports) aggs (settles_in t last k)) in
+    let ports : new.system_ports ≡ last.system_ports = settled_one (aggregators_value s) s.system_ports new.system_ports
+    last.system_ports (settles_in s new h) theirs in (
+      sym ports,
+      changed_one _ 0 s.table t.table new.table last.table same.1 (holds s new h)
+          (subst (λ l. Changed (λ g k x. held_unless_on (distributing (aggregator_numbered g) l) x) 0 t.table last.table) (sym ports)
+          (holds t last k)),
+    )

@@ -1,0 +1,43 @@
+-- What comes on a port is an LACPDU that it processes, or it changes no port; and what it changes of conversations.
+use Rattle.std.proofs.Common.{◌≡◌, ℕ, Bool, true, false, Option, ◌⊎◌, inl, inr, ap}
+use Rattle.slowpdu.specs.declared.pdu.Lacpdu.{Lacpdu}
+use Rattle.slowpdu.specs.declared.pdu.Marker.{Marker}
+use Rattle.distributor.specs.Changes.{ChangesAssignments, after_release}
+use Rattle.lagsystem.specs.declared.received.FrameEffect.{FrameEffect}
+use Rattle.lagsystem.specs.declared.received.FrameEffect.TheVariants.{ProcessLacpdu, Response, Answered}
+use Rattle.lagsystem.specs.declared.received.Received.{Received}
+use Rattle.lagsystem.specs.declared.received.Received.TheVariants.{TookLacpdu}
+use Rattle.lagsystem.specs.Calls.{OnlyPortChangesBy, Performs, ProcessesLacpdu, Releases, ThenSettles, is_own_response}
+use Rattle.lagsystem.specs.State.{SystemState}
+use Rattle.lagsystem.proofs.Rest.{releases_slots, same_slots}
+
+-- the port at the index processes an LACPDU, which a settling follows; or all ports stay
+abbrev pub ProcessesOrStays : Option ℕ → SystemState → Received → SystemState → Type 0
+ProcessesOrStays index old answer new =
+    ((v : Lacpdu) × (answer ≡ TookLacpdu) × ThenSettles (OnlyPortChangesBy index (ProcessesLacpdu v)) old new)
+    ⊎ (new.system_ports ≡ old.system_ports)
+
+pub processes_or_stays : (effect : FrameEffect) (port : ℕ) (index : Option ℕ) (old : SystemState) (answer : Received) (new : SystemState)
+    → Performs effect port index old answer new → ProcessesOrStays index old answer new
+processes_or_stays (ProcessLacpdu v) port index old answer new h = inl (v, h.0, h.1)
+processes_or_stays (Response m) port index old answer new h = inr (releases_slots (is_own_response old port m) port m old answer new h)
+processes_or_stays (Answered effect) port index old answer new h = inr (same_slots old new h.1)
+
+-- an LACPDU is processed, and a settling follows; or each conversation that waits for a response is released; or the
+-- conversations stay
+abbrev pub TableChanges : Option ℕ → SystemState → SystemState → Type 0
+TableChanges index old new =
+    ((v : Lacpdu) × ThenSettles (OnlyPortChangesBy index (ProcessesLacpdu v)) old new)
+    ⊎ (((port : ℕ) × (id : ℕ) × ChangesAssignments old.table new.table (after_release port id)) ⊎ (new.table ≡ old.table))
+
+releases : (b : Bool) (port : ℕ) (m : Marker) (old : SystemState) (answer : Received) (new : SystemState)
+    → Releases b port m old answer new
+    → ((port : ℕ) × (id : ℕ) × ChangesAssignments old.table new.table (after_release port id)) ⊎ (new.table ≡ old.table)
+releases false port m old answer new h = inr (ap (λ (s : SystemState). s.table) h.1)
+releases true port m old answer new h = inl (port, m.id, h.1)
+
+pub table_changes : (effect : FrameEffect) (port : ℕ) (index : Option ℕ) (old : SystemState) (answer : Received) (new : SystemState)
+    → Performs effect port index old answer new → TableChanges index old new
+table_changes (ProcessLacpdu v) port index old answer new h = inl (v, h.1)
+table_changes (Response m) port index old answer new h = inr (releases (is_own_response old port m) port m old answer new h)
+table_changes (Answered effect) port index old answer new h = inr (inr (ap (λ (s : SystemState). s.table) h.1))

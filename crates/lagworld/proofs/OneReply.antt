@@ -1,0 +1,405 @@
+-- An event has one reply and leads to one world.
+use Rattle.std.proofs.Common.{◌≡◌, ◌∙◌, ℕ, zero, suc, ◌+◌, Bool, List, [], ◌∷◌, length, map, Option, Some, None, IsSomeAnd, Result}
+use Rattle.std.proofs.Common.{Ok, Err, refl, sym, ap, subst, arith}
+use Rattle.std.specs.Prelude.{slice_get, slice_set}
+use Rattle.lagtypes.specs.declared.identifiers.AggId.{AggId}
+use Rattle.cables.specs.declared.item.Stamp.{Stamp}
+use Rattle.cables.specs.declared.item.Stamp.TheVariants as stamp
+use Rattle.slowpdu.specs.Readings.{pdu_in}
+use Rattle.lagmodel.specs.World.{Side, One, Two}
+use Rattle.lagsystem.specs.declared.config.PortChange.{PortChange}
+use Rattle.lagsystem.specs.declared.drive.Reply.{Reply as Answer}
+use Rattle.lagsystem.specs.declared.drive.Reply.TheVariants as answer
+use Rattle.lagsystem.specs.declared.fault.SystemFault.{SystemFault}
+use Rattle.lagsystem.specs.declared.received.Received.{Received}
+use Rattle.lagsystem.specs.declared.received.Received.TheVariants as received
+use Rattle.lagsystem.specs.Calls.{Call, Configure, Force, Move_conversation, Offer, Receive, Restart, Set_link, Tick, Transmit}
+use Rattle.lagsystem.specs.OneAnswer.{IsFunction, SameState}
+use Rattle.lagsystem.specs.Readers.{number_of_conversation}
+use Rattle.lagsystem.specs.Sound.{PortsAgree}
+use Rattle.lagsystem.specs.State.{SystemState}
+use Rattle.lagsystem.proofs.OneAnswer.{one_answer}
+use Rattle.lagscript.specs.declared.event.Event.{Event}
+use Rattle.lagscript.specs.declared.event.Event.TheVariants as event
+use Rattle.lagworld.specs.declared.histories.StampedLacpdu.{StampedLacpdu}
+use Rattle.lagworld.specs.declared.reply.Reply.{Reply}
+use Rattle.lagworld.specs.declared.reply.Reply.TheVariants as reply
+use Rattle.lagworld.specs.Events.{AfterOffer, AfterReceive, AfterTransmit, Algorithms, DeliversFrom, DoesEvent, InHalf, LosesFrom, OnLink}
+use Rattle.lagworld.specs.Events.{RepeatsFrom, RepeatsItem, WorldEmits, WorldOffers, WorldReceives}
+use Rattle.lagworld.specs.Events.{offered_item, sent_reply, set_last_lacpdu, side_of, stamped_in, transmitted_item, with_collected_in}
+use Rattle.lagworld.specs.Events.{with_frame_counted, with_item_sent, with_last_lacpdu, with_link_at, with_stamp_collected}
+use Rattle.lagworld.specs.HalfCalls.{HalfAnswers, HalfConfigures, HalfForces, HalfMoves, HalfRestarts, HalfSenses, HalfTicks, change_counted}
+use Rattle.lagworld.specs.HalfCalls.{forced_if_accepted, or_refused, with_changes_counted}
+use Rattle.lagworld.specs.Messages.{payload_in, side_number, side_numbered}
+use Rattle.lagworld.specs.OneReply.{AreFunctions, OneHistory, OneReply, SameHalf, SameWorld}
+use Rattle.lagworld.specs.Sound.{both_algorithms}
+use Rattle.lagworld.specs.State.{FlowValue, HalfState, ItemValue, LinkState, WorldState, change_flow, cut, emptied}
+use Rattle.lagworld.specs.State.{flow_at, half, is_accepted, joined, port_at, put_on_port, sent_in, towards, with_forced}
+use Rattle.lagworld.specs.State.{with_collected, with_half, with_links, with_sent, with_towards}
+use Rattle.lagworld.proofs.Headline.{accepted, rises}
+use Rattle.lagworld.proofs.Keeping.{steps_sound}
+
+-- of what two relations say of one thing
+some_both : {A : Type 0} {C : Type 0} (o : Option A) (P Q : A → Type 0) → IsSomeAnd o P → IsSomeAnd o Q → ((x : A) → P x → Q x → C) → C
+some_both None P Q h k f = absurd h
+some_both (Some x) P Q h k f = f x h k
+
+link_both : {C : Type 0} (c : ℕ) (links : List LinkState) (P Q : ℕ → LinkState → Type 0)
+    → ((i : ℕ) (l : LinkState) → P i l → Q i l → C) → OnLink c P links → OnLink c Q links → C
+link_both zero links P Q f h k = absurd h
+link_both (suc i) links P Q f h k = some_both (slice_get links i) (P i) (Q i) h k (f i)
+
+-- parts of worlds that are the same
+put_half : (s : Side) (j k : WorldState) (h g : HalfState) → SameWorld j k → SameHalf h g → SameWorld (with_half s h j) (with_half s g k)
+put_half s j k h g same part = record { halves = λ t. at s t; links = same.links; acted = same.acted }
+  where
+    at : (s t : Side) → SameHalf (half t (with_half s h j)) (half t (with_half s g k))
+    at One One = part
+    at One Two = same.halves Two
+    at Two One = same.halves One
+    at Two Two = part
+
+put_links : (j k : WorldState) (ls ms : List LinkState) → SameWorld j k → ms ≡ ls → SameWorld (with_links j ls) (with_links k ms)
+put_links j k ls ms same e = record { halves = λ s. same.halves s; links = e; acted = same.acted }
+
+same_by : (a b new last : WorldState) → new ≡ a → last ≡ b → SameWorld a b → SameWorld new last
+same_by a b new last h k same = subst (λ x. SameWorld x last) (sym h) (subst (λ x. SameWorld a x) (sym k) same)
+
+half_by : (a b new last : HalfState) → new ≡ a → last ≡ b → SameHalf a b → SameHalf new last
+half_by a b new last h k same = subst (λ x. SameHalf x last) (sym h) (subst (λ x. SameHalf a x) (sym k) same)
+
+put_flows : (h k : HalfState) (f : List (List FlowValue) → List (List FlowValue)) → SameHalf h k
+    → SameHalf (record h { flows = f h.flows }) (record k { flows = f k.flows })
+put_flows h k f same = record { state = same.state; histories = same.histories; flows = ap f same.flows }
+
+link_same : (j k : WorldState) (i : ℕ) (l : LinkState) → SameWorld j k → SameWorld (with_link_at i l j) (with_link_at i l k)
+link_same j k i l same = put_links j k (slice_set j.links i l) (slice_set k.links i l) same (ap (λ ls. slice_set ls i l) same.links)
+
+sent_same : (s : Side) (p : ℕ) (x y : ItemValue) (j k : WorldState) → y ≡ x → SameWorld j k
+    → SameWorld (with_item_sent s p x j) (with_item_sent s p y k)
+sent_same s p x y j k e same =
+    put_links j k (put_on_port s p x j.links) (put_on_port s p y k.links) same (λ i. put_on_port s p (e i) (same.links i))
+
+accepted_same : (s : Side) (p : ℕ) (j k : WorldState) → SameWorld j k → is_accepted s p k.links ≡ is_accepted s p j.links
+accepted_same s p j k same = ap (is_accepted s p) same.links
+
+conversation_same : (octets : List ℕ) (s t : SystemState) → SameState s t → number_of_conversation t octets ≡ number_of_conversation s octets
+conversation_same octets s t same = ap (λ x. number_of_conversation x octets) same.others
+
+-- changes counted
+counted_same : (h k : HalfState) → SameHalf h k → SameHalf (with_changes_counted h) (with_changes_counted k)
+counted_same h k same =
+    let e : map (change_counted k.state) k.histories ≡ map (change_counted h.state) h.histories =
+    (λ i. map (change_counted (same.state.others i)) (same.histories i)) in
+    record { state = same.state; histories = e; flows = same.flows }
+
+-- one system answers
+abbrev Gives : Type 1
+Gives = ℕ → ℕ → ℕ → Type 0
+
+answers_one : (gives : Gives) → IsFunction gives → (call : Call) (a b : Answer) (h k new last : HalfState) → PortsAgree h.state → SameHalf h k
+    → HalfAnswers gives call a h new → HalfAnswers gives call b k last → (b ≡ a) × SameHalf new last
+answers_one gives one call a b h k new last agrees same x y =
+    let t = one_answer gives one h.state k.state call a b new.state last.state agrees same.state x.answers y.answers in (
+      t.0,
+      record {
+        state = t.1;
+        histories = ap (λ (w : HalfState). w.histories) y.same ∙ same.histories ∙ sym (ap (λ (w : HalfState). w.histories) x.same);
+        flows = ap (λ (w : HalfState). w.flows) y.same ∙ same.flows ∙ sym (ap (λ (w : HalfState). w.flows) x.same);
+      },
+    )
+
+ticked : (gives : Gives) (n : ℕ) (old new : HalfState) → PortsAgree old.state → HalfTicks gives n old new → PortsAgree new.state
+ticked gives zero old new p h = subst (λ (x : HalfState). PortsAgree x.state) (sym h) p
+ticked gives (suc n) old new p h = h.2.answers.agrees
+
+ticks_one : (gives : Gives) → IsFunction gives → (n : ℕ) (h k new last : HalfState) → PortsAgree h.state → SameHalf h k
+    → HalfTicks gives n h new → HalfTicks gives n k last → SameHalf new last
+ticks_one gives one zero h k new last agrees same x y = half_by h k new last x y same
+ticks_one gives one (suc n) h k new last agrees same x y =
+    let mid = ticks_one gives one n h k x.0 y.0 agrees same x.1 y.1 in
+    (answers_one gives one Tick answer.Tick answer.Tick x.0 y.0 new last (ticked gives n h x.0 agrees x.1) mid x.2 y.2).1
+
+senses_one : (gives : Gives) → IsFunction gives → (p : ℕ) (up : Bool) (h k new last : HalfState) (r q : Reply) → PortsAgree h.state → SameHalf h k
+    → HalfSenses gives p up h r new → HalfSenses gives p up k q last → (q ≡ r) × SameHalf new last
+senses_one gives one p up h k new last r q agrees same x y =
+    let t = answers_one gives one (Set_link p up) (answer.SetLink x.0) (answer.SetLink y.0) h k new last agrees same x.1 y.1 in
+    let e : y.0 ≡ x.0 = let d = t.0 in cc in
+    (y.2 ∙ ap (or_refused (λ done. reply.Sensed up)) e ∙ sym x.2, t.1)
+
+configures_one : (gives : Gives) → IsFunction gives → (p : ℕ) (c : PortChange) (h k new last : HalfState) (r q : Reply) → PortsAgree h.state
+    → SameHalf h k → HalfConfigures gives p c h r new → HalfConfigures gives p c k q last → (q ≡ r) × SameHalf new last
+configures_one gives one p c h k new last r q agrees same x y =
+    let t = answers_one gives one (Configure p c) (answer.Configure x.0) (answer.Configure y.0) h k x.1 y.1 agrees same x.2 y.2 in
+    let e : y.0 ≡ x.0 = let d = t.0 in cc in (
+      y.3 ∙ ap (or_refused (λ done. reply.Configured done)) e ∙ sym x.3,
+      half_by (with_changes_counted x.1) (with_changes_counted y.1) new last x.4 y.4 (counted_same x.1 y.1 t.1),
+    )
+
+restarts_one : (gives : Gives) → IsFunction gives → (h k new last : HalfState) → PortsAgree h.state → SameHalf h k
+    → HalfRestarts gives h new → HalfRestarts gives k last → SameHalf new last
+restarts_one gives one h k new last agrees same x y =
+    let t = answers_one gives one Restart answer.Restart answer.Restart h k x.0 y.0 agrees same x.1 y.1 in
+    half_by (with_changes_counted x.0) (with_changes_counted y.0) new last x.2 y.2 (counted_same x.0 y.0 t.1)
+
+moves_one : (gives : Gives) → IsFunction gives → (agg : AggId) (conv port : ℕ) (h k new last : HalfState) (r q : Reply) → PortsAgree h.state
+    → SameHalf h k → HalfMoves gives agg conv port h r new → HalfMoves gives agg conv port k q last → (q ≡ r) × SameHalf new last
+moves_one gives one agg conv port h k new last r q agrees same x y =
+    let t = answers_one gives one (Move_conversation agg conv port) (answer.MoveConversation x.0) (answer.MoveConversation y.0) h k new last
+    agrees same x.1 y.1 in
+    let e : y.0 ≡ x.0 = let d = t.0 in cc in
+    (y.2 ∙ ap (or_refused (λ done. reply.Moved)) e ∙ sym x.2, t.1)
+
+forced_same : (a : Result Unit SystemFault) (agg : AggId) (conv : ℕ) (h k : HalfState) → SameHalf h k
+    → SameHalf (forced_if_accepted a agg conv h) (forced_if_accepted a agg conv k)
+forced_same (Ok done) agg conv h k same = put_flows h k (λ f. change_flow with_forced agg.0 conv f) same
+forced_same (Err fault) agg conv h k same = same
+
+forces_one : (gives : Gives) → IsFunction gives → (agg : AggId) (conv : ℕ) (h k new last : HalfState) (r q : Reply) → PortsAgree h.state
+    → SameHalf h k → HalfForces gives agg conv h r new → HalfForces gives agg conv k q last → (q ≡ r) × SameHalf new last
+forces_one gives one agg conv h k new last r q agrees same x y =
+    let t = answers_one gives one (Force agg conv) (answer.Force x.0) (answer.Force y.0) h k x.1 y.1 agrees same x.2 y.2 in
+    let e : y.0 ≡ x.0 = let d = t.0 in cc in (
+      y.3 ∙ ap (or_refused (λ done. reply.Forced)) e ∙ sym x.3,
+      half_by (forced_if_accepted x.0 agg conv x.1) (forced_if_accepted y.0 agg conv y.1) new last x.4 y.4
+          (subst (λ a. SameHalf (forced_if_accepted x.0 agg conv x.1) (forced_if_accepted a agg conv y.1)) (sym e)
+          (forced_same x.0 agg conv x.1 y.1 t.1)),
+    )
+
+-- a change of one system in the world
+in_half : (s : Side) (old twin new last : WorldState) → SameWorld old twin → new ≡ with_half s (half s new) old
+    → last ≡ with_half s (half s last) twin → SameHalf (half s new) (half s last) → SameWorld new last
+in_half s old twin new last same h k part = same_by (with_half s (half s new) old) (with_half s (half s last) twin) new last h k
+    (put_half s old twin (half s new) (half s last) same part)
+
+-- emitting
+transmits_one : (s : Side) (p : ℕ) (a : Result (Option (List ℕ)) SystemFault) (old twin : WorldState) (r q : Reply) (new last : WorldState)
+    → SameWorld old twin → AfterTransmit s p a old r new → AfterTransmit s p a twin q last → (q ≡ r) × SameWorld new last
+transmits_one s p (Err fault) old twin r q new last same x y = (y.0 ∙ sym x.0, same_by old twin new last x.1 y.1 same)
+transmits_one s p (Ok None) old twin r q new last same x y = (y.0 ∙ sym x.0, same_by old twin new last x.1 y.1 same)
+transmits_one s p (Ok (Some frame)) old twin r q new last same x y =
+    let item : transmitted_item s p frame (half s twin) ≡ transmitted_item s p frame (half s old) =
+    (λ i. transmitted_item s p frame (record (half s old) { histories = (same.halves s).histories i })) in (
+      y.0 ∙ ap (sent_reply (pdu_in (payload_in frame))) (accepted_same s p old twin same) ∙ sym x.0,
+      same_by (with_item_sent s p (transmitted_item s p frame (half s old)) old)
+          (with_item_sent s p (transmitted_item s p frame (half s twin)) twin) new last x.1 y.1
+          (sent_same s p (transmitted_item s p frame (half s old)) (transmitted_item s p frame (half s twin)) old twin item same),
+    )
+
+emits_one : (gives : Algorithms) → AreFunctions gives → (s : Side) (p : ℕ) (old twin : WorldState) (r q : Reply) (new last : WorldState)
+    → PortsAgree (half s old).state → SameWorld old twin → WorldEmits gives s p old r new → WorldEmits gives s p twin q last
+    → (q ≡ r) × SameWorld new last
+emits_one gives one s p old twin r q new last agrees same x y =
+    let t = answers_one (gives s) (one s) (Transmit p) (answer.Transmit x.0) (answer.Transmit y.0) (half s old) (half s twin) x.1 y.1
+    agrees (same.halves s) x.2 y.2 in
+    let e : y.0 ≡ x.0 = let d = t.0 in cc in
+    transmits_one s p x.0 (with_half s x.1 old) (with_half s y.1 twin) r q new last (put_half s old twin x.1 y.1 same t.1) x.3
+    (subst (λ a. AfterTransmit s p a (with_half s y.1 twin) q last) e y.3)
+
+-- what came is collected, recorded or answered
+collected_same : (st : Stamp) (j k : WorldState) → SameWorld j k → SameWorld (with_stamp_collected st j) (with_stamp_collected st k)
+collected_same (stamp.Control count) j k same = same
+collected_same (stamp.Data system agg conv serial) j k same =
+    let s = side_numbered system in
+    put_half s j k (with_collected_in agg conv serial (half s j)) (with_collected_in agg conv serial (half s k)) same
+    (put_flows (half s j) (half s k) (λ f. change_flow (with_collected serial) agg conv f) (same.halves s))
+
+taken_same : (p : ℕ) (v : StampedLacpdu) (h k : HalfState) → SameHalf h k → SameHalf (with_last_lacpdu p v h) (with_last_lacpdu p v k)
+taken_same p v h k same = record { state = same.state; histories = ap (set_last_lacpdu p v) same.histories; flows = same.flows }
+
+received_one : (s : Side) (p : ℕ) (item : ItemValue) (a : Result Received SystemFault) (old twin : WorldState) (r q : Reply)
+    (new last : WorldState) → SameWorld old twin → AfterReceive s p item a old r new → AfterReceive s p item a twin q last
+    → (q ≡ r) × SameWorld new last
+received_one s p item (Err fault) old twin r q new last same x y = (y.0 ∙ sym x.0, same_by old twin new last x.1 y.1 same)
+received_one s p item (Ok received.Disabled) old twin r q new last same x y = (y.0 ∙ sym x.0, same_by old twin new last x.1 y.1 same)
+received_one s p item (Ok received.Dropped) old twin r q new last same x y = (y.0 ∙ sym x.0, same_by old twin new last x.1 y.1 same)
+received_one s p item (Ok (received.Ignored fault)) old twin r q new last same x y = (y.0 ∙ sym x.0, same_by old twin new last x.1 y.1 same)
+received_one s p item (Ok received.TookLacpdu) old twin r q new last same x y = (
+  y.0 ∙ sym x.0,
+  same_by (with_half s (with_last_lacpdu p (stamped_in item) (half s old)) old)
+      (with_half s (with_last_lacpdu p (stamped_in item) (half s twin)) twin) new last x.1 y.1
+      (put_half s old twin (with_last_lacpdu p (stamped_in item) (half s old)) (with_last_lacpdu p (stamped_in item) (half s twin)) same
+      (taken_same p (stamped_in item) (half s old) (half s twin) (same.halves s))),
+)
+received_one s p item (Ok (received.Respond frame)) old twin r q new last same x y =
+    let sent : ItemValue = record { octets = frame; stamp = stamp.Control 0 } in (
+      y.0 ∙ ap reply.Responded (accepted_same s p old twin same) ∙ sym x.0,
+      same_by (with_item_sent s p sent old) (with_item_sent s p sent twin) new last x.1 y.1 (sent_same s p sent sent old twin refl same),
+    )
+received_one s p item (Ok (received.Released n)) old twin r q new last same x y = (y.0 ∙ sym x.0, same_by old twin new last x.1 y.1 same)
+received_one s p item (Ok (received.Up agg)) old twin r q new last same x y = (
+  y.0 ∙ sym x.0,
+  same_by (with_stamp_collected item.stamp old) (with_stamp_collected item.stamp twin) new last x.1 y.1 (collected_same item.stamp old twin same),
+)
+
+receives_one : (gives : Algorithms) → AreFunctions gives → (s : Side) (p : ℕ) (item : ItemValue) (old twin : WorldState) (r q : Reply)
+    (new last : WorldState) → PortsAgree (half s old).state → SameWorld old twin → WorldReceives gives s p item old r new
+    → WorldReceives gives s p item twin q last → (q ≡ r) × SameWorld new last
+receives_one gives one s p item old twin r q new last agrees same x y =
+    let t = answers_one (gives s) (one s) (Receive p item.octets) (answer.Receive x.0) (answer.Receive y.0) (half s old) (half s twin)
+    x.1 y.1 agrees (same.halves s) x.2 y.2 in
+    let e : y.0 ≡ x.0 = let d = t.0 in cc in
+    received_one s p item x.0 (with_half s x.1 old) (with_half s y.1 twin) r q new last (put_half s old twin x.1 y.1 same t.1) x.3
+    (subst (λ a. AfterReceive s p item a (with_half s y.1 twin) q last) e y.3)
+
+delivers_one : (gives : Algorithms) → AreFunctions gives → (s : Side) (i : ℕ) (l : LinkState) (items : List ItemValue)
+    (old twin : WorldState) (r q : Reply) (new last : WorldState) → PortsAgree (half s old).state → SameWorld old twin
+    → DeliversFrom gives s i l items old r new → DeliversFrom gives s i l items twin q last → (q ≡ r) × SameWorld new last
+delivers_one gives one s i l [] old twin r q new last agrees same x y = (y.0 ∙ sym x.0, same_by old twin new last x.1 y.1 same)
+delivers_one gives one s i l (item ∷ rest) old twin r q new last agrees same x y =
+    let k = with_towards s rest l in
+    receives_one gives one s (port_at s l) item (with_link_at i k old) (with_link_at i k twin) r q new last agrees
+    (link_same old twin i k same) x y
+
+loses_one : (s : Side) (i : ℕ) (l : LinkState) (items : List ItemValue) (old twin : WorldState) (r q : Reply) (new last : WorldState)
+    → SameWorld old twin → LosesFrom s i l items old r new → LosesFrom s i l items twin q last → (q ≡ r) × SameWorld new last
+loses_one s i l [] old twin r q new last same x y = (y.0 ∙ sym x.0, same_by old twin new last x.1 y.1 same)
+loses_one s i l (item ∷ rest) old twin r q new last same x y =
+    let k = with_towards s rest l in
+    (y.0 ∙ sym x.0, same_by (with_link_at i k old) (with_link_at i k twin) new last x.1 y.1 (link_same old twin i k same))
+
+repeats_item : (gives : Algorithms) → AreFunctions gives → (s : Side) (p : ℕ) (octets : List ℕ) (st : Stamp) (old twin : WorldState)
+    (r q : Reply) (new last : WorldState) → PortsAgree (half s old).state → SameWorld old twin → RepeatsItem gives s p octets st old r new
+    → RepeatsItem gives s p octets st twin q last → (q ≡ r) × SameWorld new last
+repeats_item gives one s p octets (stamp.Control count) old twin r q new last agrees same x y =
+    receives_one gives one s p (record { octets = octets; stamp = stamp.Control count }) old twin r q new last agrees same x y
+repeats_item gives one s p octets (stamp.Data system agg conv serial) old twin r q new last agrees same x y =
+    (y.0 ∙ sym x.0, same_by old twin new last x.1 y.1 same)
+
+repeats_one : (gives : Algorithms) → AreFunctions gives → (s : Side) (l : LinkState) (items : List ItemValue) (old twin : WorldState)
+    (r q : Reply) (new last : WorldState) → PortsAgree (half s old).state → SameWorld old twin → RepeatsFrom gives s l items old r new
+    → RepeatsFrom gives s l items twin q last → (q ≡ r) × SameWorld new last
+repeats_one gives one s l [] old twin r q new last agrees same x y = (y.0 ∙ sym x.0, same_by old twin new last x.1 y.1 same)
+repeats_one gives one s l (item ∷ rest) old twin r q new last agrees same x y =
+    repeats_item gives one s (port_at s l) item.octets item.stamp old twin r q new last agrees same x y
+
+-- offering
+offered_one : (s : Side) (agg : AggId) (octets : List ℕ) (a : Result ℕ SystemFault) (old twin : WorldState) (r q : Reply)
+    (new last : WorldState) → SameWorld old twin → AfterOffer s agg octets a old r new → AfterOffer s agg octets a twin q last
+    → (q ≡ r) × SameWorld new last
+offered_one s agg octets (Err fault) old twin r q new last same x y = (y.0 ∙ sym x.0, same_by old twin new last x.1 y.1 same)
+offered_one s agg octets (Ok port) old twin r q new last same x y =
+    let part = same.halves s in
+    let conv : number_of_conversation (half s twin).state octets ≡ number_of_conversation (half s old).state octets =
+    conversation_same octets (half s old).state (half s twin).state part.state in
+    let sent : length (sent_in (flow_at (half s twin).flows agg.0 (number_of_conversation (half s twin).state octets)))
+    ≡ length (sent_in (flow_at (half s old).flows agg.0 (number_of_conversation (half s old).state octets))) =
+    (λ i. length (sent_in (flow_at (part.flows i) agg.0 (conv i)))) in
+    let item : offered_item s port agg octets (half s twin) ≡ offered_item s port agg octets (half s old) =
+    (λ i. record { octets = octets; stamp = stamp.Data (side_number s) agg.0 (conv i) (sent i) }) in
+    let counted : SameHalf (with_frame_counted agg octets (half s old)) (with_frame_counted agg octets (half s twin)) =
+    record { state = part.state; histories = part.histories; flows = λ i. change_flow with_sent agg.0 (conv i) (part.flows i) } in
+    let mine = with_half s (with_frame_counted agg octets (half s old)) old in
+    let theirs = with_half s (with_frame_counted agg octets (half s twin)) twin in (
+      y.1 ∙ (λ i. reply.Port port (sent i) (accepted_same s port old twin same i)) ∙ sym x.1,
+      same_by (with_item_sent s port (offered_item s port agg octets (half s old)) mine)
+          (with_item_sent s port (offered_item s port agg octets (half s twin)) theirs) new last x.2 y.2
+          (sent_same s port (offered_item s port agg octets (half s old)) (offered_item s port agg octets (half s twin)) mine theirs item
+          (put_half s old twin (with_frame_counted agg octets (half s old)) (with_frame_counted agg octets (half s twin)) same counted)),
+    )
+
+offers_one : (gives : Algorithms) → AreFunctions gives → (s : Side) (agg : AggId) (octets : List ℕ) (old twin : WorldState) (r q : Reply)
+    (new last : WorldState) → PortsAgree (half s old).state → SameWorld old twin → WorldOffers gives s agg octets old r new
+    → WorldOffers gives s agg octets twin q last → (q ≡ r) × SameWorld new last
+offers_one gives one s agg octets old twin r q new last agrees same x y =
+    let t = answers_one (gives s) (one s) (Offer agg octets) (answer.Offer x.0) (answer.Offer y.0) (half s old) (half s twin) x.1 y.1
+    agrees (same.halves s) x.2 y.2 in
+    let e : y.0 ≡ x.0 = let d = t.0 in cc in
+    offered_one s agg octets x.0 (with_half s x.1 old) (with_half s y.1 twin) r q new last (put_half s old twin x.1 y.1 same t.1) x.3
+    (subst (λ a. AfterOffer s agg octets a (with_half s y.1 twin) q last) e y.3)
+
+-- each event
+does_one : (gives : Algorithms) → AreFunctions gives → (e : Event) (old twin : WorldState) (r q : Reply) (new last : WorldState)
+    → ((s : Side) → PortsAgree (half s old).state) → SameWorld old twin → DoesEvent gives old e r new → DoesEvent gives twin e q last
+    → (q ≡ r) × SameWorld new last
+does_one gives one (event.Tick n count) old twin r q new last agrees same h k =
+    some_both (side_of n) _ _ h k (λ s x y. (
+      y.1 ∙ sym x.1,
+      in_half s old twin new last same x.0.1 y.0.1
+          (ticks_one (gives s) (one s) count (half s old) (half s twin) (half s new) (half s last) (agrees s) (same.halves s) x.0.0 y.0.0),
+    ))
+does_one gives one (event.Emit n p) old twin r q new last agrees same h k =
+    some_both (side_of n) _ _ h k (λ s x y. emits_one gives one s p old twin r q new last (agrees s) same x y)
+does_one gives one (event.Deliver c n) old twin r q new last agrees same h k =
+    some_both (side_of n) _ _ h k (λ s x y. link_both c old.links
+    (λ i l. DeliversFrom gives s i l (towards s l) old r new) (λ i l. DeliversFrom gives s i l (towards s l) twin q last)
+    (λ i l a b. delivers_one gives one s i l (towards s l) old twin r q new last (agrees s) same a b) x
+    (subst (OnLink c (λ i l. DeliversFrom gives s i l (towards s l) twin q last)) same.links y))
+does_one gives one (event.Lose c n) old twin r q new last agrees same h k =
+    some_both (side_of n) _ _ h k (λ s x y. link_both c old.links
+    (λ i l. LosesFrom s i l (towards s l) old r new) (λ i l. LosesFrom s i l (towards s l) twin q last)
+    (λ i l a b. loses_one s i l (towards s l) old twin r q new last same a b) x
+    (subst (OnLink c (λ i l. LosesFrom s i l (towards s l) twin q last)) same.links y))
+does_one gives one (event.Repeat c n) old twin r q new last agrees same h k =
+    some_both (side_of n) _ _ h k (λ s x y. link_both c old.links
+    (λ i l. RepeatsFrom gives s l (towards s l) old r new) (λ i l. RepeatsFrom gives s l (towards s l) twin q last)
+    (λ i l a b. repeats_one gives one s l (towards s l) old twin r q new last (agrees s) same a b) x
+    (subst (OnLink c (λ i l. RepeatsFrom gives s l (towards s l) twin q last)) same.links y))
+does_one gives one (event.Cut c) old twin r q new last agrees same h k =
+    link_both c old.links (λ i l. (r ≡ reply.Cut) × (new ≡ with_link_at i (cut l) old))
+    (λ i l. (q ≡ reply.Cut) × (last ≡ with_link_at i (cut l) twin)) (λ i l x y. (
+      y.0 ∙ sym x.0,
+      same_by (with_link_at i (cut l) old) (with_link_at i (cut l) twin) new last x.1 y.1 (link_same old twin i (cut l) same),
+    )) h (subst (OnLink c (λ i l. (q ≡ reply.Cut) × (last ≡ with_link_at i (cut l) twin))) same.links k)
+does_one gives one (event.Join c) old twin r q new last agrees same h k =
+    link_both c old.links (λ i l. (r ≡ reply.Joined) × (new ≡ with_link_at i (joined l) old))
+    (λ i l. (q ≡ reply.Joined) × (last ≡ with_link_at i (joined l) twin)) (λ i l x y. (
+      y.0 ∙ sym x.0,
+      same_by (with_link_at i (joined l) old) (with_link_at i (joined l) twin) new last x.1 y.1 (link_same old twin i (joined l) same),
+    )) h (subst (OnLink c (λ i l. (q ≡ reply.Joined) × (last ≡ with_link_at i (joined l) twin))) same.links k)
+does_one gives one (event.Sense c n) old twin r q new last agrees same h k =
+    some_both (side_of n) _ _ h k (λ s x y. link_both c old.links
+    (λ i l. InHalf s (λ h k. HalfSenses (gives s) (port_at s l) l.whole h r k) old new)
+    (λ i l. InHalf s (λ h k. HalfSenses (gives s) (port_at s l) l.whole h q k) twin last)
+    (λ i l a b. (let t = senses_one (gives s) (one s) (port_at s l) l.whole (half s old) (half s twin) (half s new) (half s last) r q
+    (agrees s) (same.halves s) a.0 b.0 in (t.0, in_half s old twin new last same a.1 b.1 t.1))) x
+    (subst (OnLink c (λ i l. InHalf s (λ h k. HalfSenses (gives s) (port_at s l) l.whole h q k) twin last)) same.links y))
+does_one gives one (event.Restart n) old twin r q new last agrees same h k =
+    some_both (side_of n) _ _ h k (λ s x y. (
+      y.0 ∙ sym x.0,
+      in_half s (with_links old (map emptied old.links)) (with_links twin (map emptied twin.links)) new last
+          (put_links old twin (map emptied old.links) (map emptied twin.links) same (ap (map emptied) same.links)) x.1.1 y.1.1
+          (restarts_one (gives s) (one s) (half s old) (half s twin) (half s new) (half s last) (agrees s) (same.halves s) x.1.0 y.1.0),
+    ))
+does_one gives one (event.Configure n p change) old twin r q new last agrees same h k =
+    some_both (side_of n) _ _ h k (λ s x y. (let t = configures_one (gives s) (one s) p change (half s old) (half s twin) (half s new)
+    (half s last) r q (agrees s) (same.halves s) x.0 y.0 in (t.0, in_half s old twin new last same x.1 y.1 t.1)))
+does_one gives one (event.Offer n agg octets) old twin r q new last agrees same h k =
+    some_both (side_of n) _ _ h k (λ s x y. offers_one gives one s agg octets.items old twin r q new last (agrees s) same x y)
+does_one gives one (event.Move n agg conv p) old twin r q new last agrees same h k =
+    some_both (side_of n) _ _ h k (λ s x y. (let t = moves_one (gives s) (one s) agg conv p (half s old) (half s twin) (half s new)
+    (half s last) r q (agrees s) (same.halves s) x.0 y.0 in (t.0, in_half s old twin new last same x.1 y.1 t.1)))
+does_one gives one (event.Force n agg conv) old twin r q new last agrees same h k =
+    some_both (side_of n) _ _ h k (λ s x y. (let t = forces_one (gives s) (one s) agg conv (half s old) (half s twin) (half s new)
+    (half s last) r q (agrees s) (same.halves s) x.0 y.0 in (t.0, in_half s old twin new last same x.1 y.1 t.1)))
+
+pub one_reply : (gives : Algorithms) → AreFunctions gives → OneReply gives
+one_reply gives one old twin e r q new last sound same h k =
+    let t = does_one gives one e old twin r q (record new { acted = old.acted }) (record last { acted = twin.acted })
+    (λ s. (sound.kept s).agrees) same h.0 k.0 in (
+      t.0,
+      record {
+        halves = λ s. t.1.halves s;
+        links = t.1.links;
+        acted = k.1 ∙ ap (λ n. n + 1) same.acted ∙ sym h.1;
+      },
+    )
+
+-- and of a list of events
+pub one_history : (gives : Algorithms) → AreFunctions gives → OneHistory gives
+one_history gives one old twin [] [] [] new last sound few same h k = (refl, same_by old twin new last h k same)
+one_history gives one old twin [] [] (q ∷ qs) new last sound few same h k = absurd k
+one_history gives one old twin [] (r ∷ rs) others new last sound few same h k = absurd h
+one_history gives one old twin (e ∷ es) [] others new last sound few same h k = absurd h
+one_history gives one old twin (e ∷ es) (r ∷ rs) [] new last sound few same h k = absurd k
+one_history gives one old twin (e ∷ es) (r ∷ rs) (q ∷ qs) new last sound few same h k =
+    let above = rises gives es rs h.0 new h.2 in
+    let mid = steps_sound gives e r old h.0 sound (accepted gives e r old h.0 h.1 (omega (arith, above, few))) h.1 in
+    let first = one_reply gives one old twin e r q h.0 k.0 sound same h.1 k.1 in
+    let rest = one_history gives one h.0 k.0 es rs qs new last mid few first.1 h.2 k.2 in
+    ((λ i. first.0 i ∷ rest.0 i), rest.1)
+
+-- of two algorithms
+pub both_functions : (a b : ℕ → ℕ → ℕ → Type 0) → IsFunction a → IsFunction b → AreFunctions (both_algorithms a b)
+both_functions a b h k One = h
+both_functions a b h k Two = k
