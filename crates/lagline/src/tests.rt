@@ -1,4 +1,5 @@
 use crate::line::{Job, LineFault, read_line};
+use crate::options::{Options, read_options};
 use std::alloc::{AllocError, Global};
 use std::test::Fail;
 
@@ -51,6 +52,33 @@ fn lines(rt: HostRuntime) -> Result<(), Fail> {
     Ok(())
 }
 
+/// The options of these words.
+fn options_of(alloc: Global, words: &[&str]) -> Result<Options, AllocError> {
+    let mut line = Vec::new(alloc);
+    for word in words {
+        line.push(String::from_str(alloc, *word)?)?;
+    }
+    Ok(read_options(&line))
+}
+
+#[test]
+fn options_before_a_subcommand(rt: HostRuntime) -> Result<(), Fail> {
+    let rows: [(&[&str], bool, usize); 7] = [
+        (&[], false, 0),
+        (&["lagtool"], false, 0),
+        (&["lagtool", "replay", "--explain"], false, 0),
+        (&["lagtool", "--explain", "replay", "a"], true, 1),
+        (&["lagtool", "--explain", "--explain"], true, 2),
+        (&["lagtool", "--explains", "replay", "a"], false, 0),
+        (&["--explain", "--help"], false, 0),
+    ];
+    for (words, explain, count) in rows {
+        let seen = options_of(rt.alloc(), words)?;
+        assert_eq!(rt; seen, Options { explain, count }, "{words:?}");
+    }
+    Ok(())
+}
+
 /// The help text that a line asks for.
 fn help_of(alloc: Global, words: &[&str]) -> Result<String, AllocError> {
     match read_line(alloc, words) {
@@ -66,8 +94,16 @@ fn help_says_what_words_mean(rt: HostRuntime) -> Result<(), Fail> {
         (
             &["lagtool", "--help"],
             &[
-                "LACPDUs", "decode", "respond", "check", "replay", "vectors", "Status 0",
-                "Status 1", "Status 2",
+                "LACPDUs",
+                "decode",
+                "respond",
+                "check",
+                "replay",
+                "vectors",
+                "Status 0",
+                "Status 1",
+                "Status 2",
+                "--explain",
             ],
         ),
         (

@@ -33,7 +33,7 @@ use Rattle.lagworld.specs.State.{flow_at, sent_in, with_sent, with_collected, wi
 use Rattle.lagworld.proofs.Flows.{flow_other_row, read_same}
 use Rattle.lagworld.proofs.Whole.{on_line}
 use Rattle.lagtool.specs.Offered.{HasSentNothing, IsSentWhereOffered, is_offered, offers_to}
-use Rattle.lagtool.specs.ReplayReport.{flow_line, aggregator_flows_text, most_conversations}
+use Rattle.lagtool.specs.ReplayReport.{flow_line, aggregator_flows_text}
 use Rattle.lagtool.proofs.ReplayLemmas.{append_none, appended_both, empties, range_more}
 
 -- what a conversation of a system sent
@@ -288,20 +288,20 @@ no_line : (s agg conv : ℕ) (x : Option FlowValue) → sent_in x ≡ [] → flo
 no_line s agg conv x e = cond_true (length (sent_in x) == 0) [] _ (ap (λ xs. length xs == 0) e)
 
 -- an aggregator that sent nothing has no lines
-pub no_row : (j : WorldState) (s agg : ℕ) → HasSentNothing j s agg → aggregator_flows_text j s agg ≡ []
-no_row j s agg quiet = empties (λ conv. flow_line s agg conv (flow_of_system (side_of s) agg conv j)) 0 most_conversations
+pub no_row : (j : WorldState) (s n agg : ℕ) → HasSentNothing j s agg → aggregator_flows_text j s n agg ≡ []
+no_row j s n agg quiet = empties (λ conv. flow_line s agg conv (flow_of_system (side_of s) agg conv j)) 0 n
     (λ c le. no_line s agg c (flow_of_system (side_of s) agg c j) (quiet c))
 
 -- and is left out
-pub row_skipped : (t u v : List ℕ) (j : WorldState) (s i : ℕ) → u ≡ t ++ flat_map (aggregator_flows_text j s) (range_with_len 1 i) → v ≡ u
-    → HasSentNothing j s (i + 1)
-    → v ≡ t ++ flat_map (aggregator_flows_text j s) (range_with_len 1 (i + 1))
-row_skipped t u v j s i before same quiet =
-    appended_both t u v (flat_map (aggregator_flows_text j s) (range_with_len 1 i)) []
-    (flat_map (aggregator_flows_text j s) (range_with_len 1 (i + 1))) before
+pub row_skipped : (t u v : List ℕ) (j : WorldState) (s n i : ℕ)
+    → u ≡ t ++ flat_map (aggregator_flows_text j s n) (range_with_len 1 i) → v ≡ u → HasSentNothing j s (i + 1)
+    → v ≡ t ++ flat_map (aggregator_flows_text j s n) (range_with_len 1 (i + 1))
+row_skipped t u v j s n i before same quiet =
+    appended_both t u v (flat_map (aggregator_flows_text j s n) (range_with_len 1 i)) []
+    (flat_map (aggregator_flows_text j s n) (range_with_len 1 (i + 1))) before
     (same ∙ sym (append_none u))
-    (ap (λ x. flat_map (aggregator_flows_text j s) (range_with_len 1 i) ++ x) (sym (no_row j s (i + 1) quiet))
-    ∙ range_more (aggregator_flows_text j s) 1 i (i + 1) (i + 1) (omega arith) refl)
+    (ap (λ x. flat_map (aggregator_flows_text j s n) (range_with_len 1 i) ++ x) (sym (no_row j s n (i + 1) quiet))
+    ∙ range_more (aggregator_flows_text j s n) 1 i (i + 1) (i + 1) (omega arith) refl)
 
 -- a flag that was read and is not set
 pub unset : (flags : List Bool) (at i : ℕ) (r : Bool) → at ≡ i → i < length flags → r ≡ get_or flags at r → r ≡ false

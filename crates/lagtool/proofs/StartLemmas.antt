@@ -16,8 +16,9 @@ use Rattle.lagworld.specs.Making.{first_link, first_links}
 use Rattle.lagworld.specs.State.{WorldState, LinkState}
 use Rattle.lagworld.specs.declared.reply.Reply.{Reply}
 use Rattle.lagtool.specs.ReplayReport.{IsReportOfScript, IsReplayReport, Replays, agreements_text, entries_text, empty_link, empty_links}
-use Rattle.lagtool.specs.ReplayReport.{flows_text, replay_report}
-use Rattle.lagtool.specs.ReplaySteps.{AreAggregatorCounts, replay_report_with_counts}
+use Rattle.lagtool.specs.ReplayReport.{replay_report}
+use Rattle.lagtool.specs.ReplaySteps.{AreCounts, flows_with_counts, replay_report_with_counts}
+use Rattle.lagtool.specs.declared.flows.Counts.{Counts}
 use Rattle.lagtool.specs.Sinks.{WritesPart, SinkState}
 use Rattle.lagtool.specs.declared.fault.ToolFault.{ToolFault}
 use Rattle.lagtool.specs.declared.fault.ToolFault.TheVariants.{Write}
@@ -42,13 +43,13 @@ pub empty_line : (a b : AnyCable) (limit : Option ℕ) → any_items a ≡ [] �
     → first_link any_items any_limit (0, 0) (a, b) ≡ empty_link (0, 0) limit
 empty_line a b limit e f g h = rw (e, f, g, h) refl
 
--- the report by counts of aggregators is that of the systems
-pub reported_is : (first second : ℕ) (systems : List Config) (es : List Event) (rs : List Reply) (j : WorldState)
-    → AreAggregatorCounts first second systems → replay_report_with_counts first second es rs j ≡ replay_report systems es rs j
+-- the report by counts is that of the systems
+pub reported_is : (first second : Counts) (systems : List Config) (es : List Event) (rs : List Reply) (j : WorldState)
+    → AreCounts first second systems → replay_report_with_counts first second es rs j ≡ replay_report systems es rs j
 reported_is first second [] es rs j h = absurd h
 reported_is first second (a ∷ []) es rs j h = absurd h
 reported_is first second (a ∷ b ∷ []) es rs j (e, f) =
-    ap₂ (λ x y. entries_text 1 es rs ++ (agreements_text j ++ (flows_text j 1 x ++ flows_text j 2 y))) e f
+    ap₂ (λ (x y : Counts). entries_text 1 es rs ++ (agreements_text j ++ (flows_with_counts j 1 x ++ flows_with_counts j 2 y))) e f
 reported_is first second (a ∷ b ∷ c ∷ rest) es rs j h = absurd h
 
 -- the report of the events of a plan is that of its text

@@ -63,22 +63,20 @@ flow_line s agg conv x =
     ∷ (decimal conv ++ (codes " sent " ++ (decimal (length (sent_in x)) ++ (codes " collected"
     ++ (collected_text (collected_in x) ++ (forced_text (forced_in x) ++ 10 ∷ []))))))))
 
--- how many conversations an aggregator can have
-unfoldable pub most_conversations : ℕ
-most_conversations = 4096
+-- the lines of all conversations of one aggregator of system s, which has this many of them
+abbrev pub aggregator_flows_text : WorldState → ℕ → ℕ → ℕ → List ℕ
+aggregator_flows_text j s conversations agg =
+    flat_map (λ conv. flow_line s agg conv (flow_of_system (side_of s) agg conv j)) (range_with_len 0 conversations)
 
--- the lines of all conversations of one aggregator of system s
-abbrev pub aggregator_flows_text : WorldState → ℕ → ℕ → List ℕ
-aggregator_flows_text j s agg = flat_map (λ conv. flow_line s agg conv (flow_of_system (side_of s) agg conv j))
-    (range_with_len 0 most_conversations)
+-- the lines of all conversations of system s, which has this many aggregators, each with this many conversations
+abbrev pub flows_text : WorldState → ℕ → ℕ → ℕ → List ℕ
+flows_text j s aggs conversations = flat_map (aggregator_flows_text j s conversations) (range_with_len 1 aggs)
 
--- the lines of all conversations of system s, which has this many aggregators
-abbrev pub flows_text : WorldState → ℕ → ℕ → List ℕ
-flows_text j s aggs = flat_map (aggregator_flows_text j s) (range_with_len 1 aggs)
-
--- the lines of all conversations of system 1, then of system 2; each system has the aggregators of its configuration
+-- the lines of all conversations of system 1, then of system 2; each system has the aggregators and the conversations of
+-- its configuration
 abbrev pub both_flows_text : WorldState → List Config → List ℕ
-both_flows_text j (a ∷ b ∷ []) = flows_text j 1 (length a.aggregators.items) ++ flows_text j 2 (length b.aggregators.items)
+both_flows_text j (a ∷ b ∷ []) =
+    flows_text j 1 (length a.aggregators.items) a.conversations ++ flows_text j 2 (length b.aggregators.items) b.conversations
 both_flows_text j _ = []
 
 -- the report of these events with these replies, after which the world is this one

@@ -8,16 +8,25 @@ use Rattle.lagworld.specs.Making.{first_link}
 use Rattle.lagworld.specs.State.{WorldState}
 use Rattle.lagworld.specs.declared.reply.Reply.{Reply}
 use Rattle.lagtool.specs.ReplayReport.{agreements_text, entries_text, empty_link, flows_text}
+use Rattle.lagtool.specs.declared.flows.Counts.{Counts}
 
--- the report, if the systems have this many aggregators
-abbrev pub replay_report_with_counts : ℕ → ℕ → List Event → List Reply → WorldState → List ℕ
+-- the lines of all conversations of system s, which has these counts
+abbrev pub flows_with_counts : WorldState → ℕ → Counts → List ℕ
+flows_with_counts j s counts = flows_text j s counts.aggregators counts.conversations
+
+-- the report, if the systems have these counts
+abbrev pub replay_report_with_counts : Counts → Counts → List Event → List Reply → WorldState → List ℕ
 replay_report_with_counts first second events replies j = entries_text 1 events replies
-    ++ (agreements_text j ++ (flows_text j 1 first ++ flows_text j 2 second))
+    ++ (agreements_text j ++ (flows_with_counts j 1 first ++ flows_with_counts j 2 second))
 
--- how many aggregators two systems have
-abbrev pub AreAggregatorCounts : ℕ → ℕ → List Config → Type 0
-AreAggregatorCounts first second (a ∷ b ∷ []) = (first ≡ length a.aggregators.items) × (second ≡ length b.aggregators.items)
-AreAggregatorCounts first second _ = ⊥
+-- how many aggregators the system of a configuration has, and how many conversations each of them has
+abbrev pub counts_of : Config → Counts
+counts_of config = record { aggregators = length config.aggregators.items; conversations = config.conversations }
+
+-- the counts of two systems
+abbrev pub AreCounts : Counts → Counts → List Config → Type 0
+AreCounts first second (a ∷ b ∷ []) = (first ≡ counts_of a) × (second ≡ counts_of b)
+AreCounts first second _ = ⊥
 
 -- one pair for each limit: the two directions of a cable (an AnyCable is one direction), both empty and with that
 -- limit; the ends do not matter here, so (0, 0) stands for them

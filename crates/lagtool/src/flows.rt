@@ -2,18 +2,18 @@ ghost use Rattle.std.specs.Prelude.{◌≡◌, ◌<◌, ◌+◌, ◌++◌, ◌||
 ghost use Rattle.lagworld.specs.Events.{side_of};
 ghost use Rattle.lagworld.specs.Readers.{flow_of_system};
 ghost use Rattle.lagtool.specs.Offered.{AreOfferFlags, IsSentWhereOffered, offers_to};
-ghost use Rattle.lagtool.specs.ReplayReport.{collected_text, flow_line, flows_text, aggregator_flows_text, most_conversations};
+ghost use Rattle.lagtool.specs.ReplayReport.{collected_text, flow_line, flows_text, aggregator_flows_text};
 
 use cables::AnyCable;
 use lagtypes::AggId;
 use lagworld::{Event, World};
 use std::alloc::{AllocError, Global};
 
-/// How many conversations an aggregator can have (profile).
-fn most_conversations() -> u16
-    ensures { result ≡ most_conversations }
-{
-    4096
+/// How many aggregators a system has, and how many conversations each of them has.
+#[derive(Clone, Copy)]
+pub(crate) struct Counts {
+    pub(crate) aggregators: u16,
+    pub(crate) conversations: u16,
 }
 
 /// Adds the serial numbers that were collected, with a space before each.
@@ -52,16 +52,18 @@ fn push_flow<F: Fn(u16, usize) -> usize + Drop>(
     text.push_str("\n")
 }
 
-/// Adds the flow lines of one aggregator: one for each of its conversations that has frames.
+/// Adds the flow lines of one aggregator, which has this many conversations: one for each that has frames.
 fn push_aggregator_flows<F: Fn(u16, usize) -> usize + Drop>(
     text: &mut String,
     world: &World<AnyCable, F>,
     system: u8,
     agg: u16,
+    conversations: u16,
 ) -> Result<(), AllocError>
-    ensures { OnOk result (string_bytes text.new ≡ string_bytes text.old ++ aggregator_flows_text world.now.state system agg) }
+    ensures { OnOk result (string_bytes text.new ≡ string_bytes text.old
+        ++ aggregator_flows_text world.now.state system conversations agg) }
 {
-    for conv in 0..most_conversations() {
+    for conv in 0..conversations {
         push_flow(text, world, system, agg, conv)?;
     }
     Ok(())
@@ -99,24 +101,25 @@ fn offer_flags(
     Ok(flags)
 }
 
-/// Adds the lines of the conversations of a system with this many aggregators, after these events. Only aggregators
-/// that an event offers a frame to can have such lines.
+/// Adds the lines of the conversations of a system with these counts, after these events. Only aggregators that an event
+/// offers a frame to can have such lines.
 pub(crate) fn push_flows<F: Fn(u16, usize) -> usize + Drop>(
     alloc: Global,
     text: &mut String,
     world: &World<AnyCable, F>,
     events: &[Event],
     system: u8,
-    aggs: u16,
+    counts: Counts,
 ) -> Result<(), AllocError>
     requires { IsSentWhereOffered events.now world.now.state }
-    ensures { OnOk result (string_bytes text.new ≡ string_bytes text.old ++ flows_text world.now.state system aggs) }
+    ensures { OnOk result (string_bytes text.new ≡ string_bytes text.old
+        ++ flows_text world.now.state system counts.aggregators counts.conversations) }
 {
-    let offers = offer_flags(alloc, events, system, aggs)?;
-    for place in 0..aggs {
+    let offers = offer_flags(alloc, events, system, counts.aggregators)?;
+    for place in 0..counts.aggregators {
         let agg = place + 1;
         if offers[usize::from(agg)] {
-            push_aggregator_flows(text, world, system, agg)?;
+            push_aggregator_flows(text, world, system, agg, counts.conversations)?;
         }
     }
     Ok(())

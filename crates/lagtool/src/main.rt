@@ -11,6 +11,7 @@ mod algorithm;
 mod checking;
 mod directions;
 mod entry_text;
+mod explaining;
 mod fault;
 mod flows;
 mod known_texts;
@@ -33,8 +34,9 @@ mod verdict;
 
 use algorithm::by_number;
 use checking::check;
+use explaining::{explain_digits, explain_script, explain_unread, explain_utf8};
 use fault::{FaultText, ToolFault};
-use lagline::{Job, LineFault, read_line};
+use lagline::{Job, LineFault, Options, read_line, read_options};
 use replay::replay;
 use reply::reply;
 use show::show;
@@ -42,7 +44,7 @@ use sink::Sink;
 use source::Source;
 use std::fmt::Display;
 use std::fs::{File, Files};
-use std::io::Input;
+use std::io::{Input, Read};
 use std::process::ExitCode;
 use std::{env, fs, io};
 use vectors::vectors;
@@ -105,29 +107,106 @@ fn check_file<R: Print + Files + Input + AllocGlobal>(
     Ok(summary.faults == 0)
 }
 
-/// The text of a file, or of standard input for `-`.
-fn read_text<R: Files + Input + AllocGlobal>(rt: &R, file: &str) -> Result<String, ToolFault> {
+/// Checks a file, or standard input for `-`; returns the exit status.
+fn status_of_check<R: Print + Eprint + Files + Input + AllocGlobal>(
+    rt: &R,
+    options: Options,
+    file: &str,
+) -> ExitCode {
+    let checked = check_file(rt, file);
+    let status = ended(rt, file, checked);
+    if options.explain && checked == Err(ToolFault::Read) {
+        explain_unread(rt, file);
+    }
+    status
+}
+
+/// The octets of a file, or of standard input for `-`.
+fn read_octets<R: Files + Input + AllocGlobal>(rt: &R, file: &str) -> Result<Vec<u8>, ToolFault> {
     let read = if file == "-" {
-        io::read_to_string(rt.alloc(), rt.reader())
+        let mut octets = Vec::new(rt.alloc());
+        match rt.reader().read_to_end(&mut octets) {
+            Ok(_) => Ok(octets),
+            Err(error) => Err(error),
+        }
     } else {
-        fs::read_to_string(rt, file)
+        fs::read(rt, file)
     };
     match read {
-        Ok(text) => Ok(text),
+        Ok(octets) => Ok(octets),
         Err(error) if error.kind() == io::ErrorKind::OutOfMemory => Err(ToolFault::NoMemory),
         Err(_) => Err(ToolFault::Read),
     }
 }
 
-/// Replays the script in a file, or in standard input for `-`; returns true if that was possible.
-fn replay_file<R: Print + Files + Input + AllocGlobal>(
+/// Replays a script, which was read from this file; returns the exit status.
+fn status_of_script<R: Print + Eprint + AllocGlobal>(
     rt: &R,
+    options: Options,
     file: &str,
-) -> Result<bool, ToolFault> {
-    let text = read_text(rt, file)?;
+    text: &str,
+) -> ExitCode {
     let mut sink = Sink::new(io::writer(rt));
-    replay(rt.alloc(), text.as_str(), by_number, by_number, &mut sink)?;
-    Ok(true)
+    let replayed = replay(rt.alloc(), text, by_number, by_number, &mut sink);
+    match replayed {
+        Ok(()) => ended(rt, file, Ok(true)),
+        Err(fault) => {
+            let status = ended(rt, file, Err(fault));
+            if let ToolFault::Script(fault) = fault
+                && options.explain
+            {
+                explain_script(rt, file, text, fault);
+            }
+            status
+        }
+    }
+}
+
+/// Replays the script in a file, or in standard input for `-`; returns the exit status.
+fn status_of_replay<R: Print + Eprint + Files + Input + AllocGlobal>(
+    rt: &R,
+    options: Options,
+    file: &str,
+) -> ExitCode {
+    let octets = match read_octets(rt, file) {
+        Ok(octets) => octets,
+        Err(fault) => {
+            let status = ended(rt, file, Err(fault));
+            if options.explain && fault == ToolFault::Read {
+                explain_unread(rt, file);
+            }
+            return status;
+        }
+    };
+    match str::from_utf8(&octets) {
+        Ok(text) => status_of_script(rt, options, file, text),
+        Err(error) => {
+            let status = ended(rt, file, Err(ToolFault::Read));
+            if options.explain {
+                explain_utf8(rt, file, &octets, error.valid_up_to());
+            }
+            status
+        }
+    }
+}
+
+/// The exit status for the result of `decode` or `respond`; standard error says why one could not be done.
+fn ended_with_words(
+    rt: &impl Eprint,
+    options: Options,
+    mac: &str,
+    hex: &str,
+    accepted: Result<bool, ToolFault>,
+) -> ExitCode {
+    let status = ended(rt, "", accepted);
+    if options.explain {
+        match accepted {
+            Err(ToolFault::NotHex) => explain_digits(rt, "HEX", hex),
+            Err(ToolFault::NotMac) => explain_digits(rt, "MAC", mac),
+            _ => {}
+        }
+    }
+    status
 }
 
 /// Runs the vectors; returns whether none failed.
@@ -140,17 +219,18 @@ fn run_vectors<R: Print + AllocGlobal>(rt: &R) -> Result<bool, ToolFault> {
 /// Does what a command line asks for; returns its exit status.
 fn status<R: Print + Eprint + Files + Input + AllocGlobal>(rt: &R, words: &[String]) -> ExitCode {
     let alloc = rt.alloc();
-    match read_line(alloc, words) {
+    let options = read_options(words);
+    match read_line(alloc, &words[options.count..]) {
         Ok(Job::Decode { hex }) => {
             let mut sink = Sink::new(io::writer(rt));
-            ended(rt, "", show(alloc, hex, &mut sink))
+            ended_with_words(rt, options, "", hex, show(alloc, hex, &mut sink))
         }
         Ok(Job::Respond { mac, hex }) => {
             let mut sink = Sink::new(io::writer(rt));
-            ended(rt, "", reply(alloc, mac, hex, &mut sink))
+            ended_with_words(rt, options, mac, hex, reply(alloc, mac, hex, &mut sink))
         }
-        Ok(Job::Check { file }) => ended(rt, file, check_file(rt, file)),
-        Ok(Job::Replay { script }) => ended(rt, script, replay_file(rt, script)),
+        Ok(Job::Check { file }) => status_of_check(rt, options, file),
+        Ok(Job::Replay { script }) => status_of_replay(rt, options, script),
         Ok(Job::Vectors) => ended(rt, "", run_vectors(rt)),
         Err(fault) => explained(rt, fault),
     }

@@ -7,13 +7,13 @@ ghost use Rattle.lagworld.specs.Sound.{both_algorithms};
 ghost use Rattle.lagtool.specs.Naming.{AllNameExisting};
 ghost use Rattle.lagtool.specs.Offered.{IsSentWhereOffered};
 ghost use Rattle.lagtool.specs.ReplayReport.{IsReplayReport, Replays, agreement_line, agreements_text, entries_text, entry_line};
-ghost use Rattle.lagtool.specs.ReplaySteps.{AreAggregatorCounts, replay_report_with_counts};
+ghost use Rattle.lagtool.specs.ReplaySteps.{AreCounts, counts_of, replay_report_with_counts};
 ghost use Rattle.lagtool.specs.declared.fault.ToolFault.TheVariants.{NoMemory};
 
 use crate::directions::all_directions;
 use crate::entry_text::EntryText;
 use crate::fault::ToolFault;
-use crate::flows::push_flows;
+use crate::flows::{Counts, push_flows};
 use crate::reply_text::{AgreementText, ReplyText};
 use crate::running::{make_world, run_events};
 use crate::sink::Sink;
@@ -80,28 +80,31 @@ fn push_agreements<F: Fn(u16, usize) -> usize + Drop>(
     Ok(())
 }
 
-/// How many aggregators a system has; its configuration is accepted.
-fn aggregator_count(config: &Config) -> u16
+/// How many aggregators a system has, and how many conversations each of them has; its configuration is accepted.
+fn counts_of(config: &Config) -> Counts
     requires { refusal_of_one config.now ≡ None }
-    ensures { result ≡ length config.now.aggregators.items }
+    ensures { result ≡ counts_of config.now }
 {
-    config.aggregators.len() as u16
+    Counts {
+        aggregators: config.aggregators.len() as u16,
+        conversations: config.conversations,
+    }
 }
 
-/// How many aggregators system 1 and system 2 have.
-fn aggregator_counts(config: &WorldConfig) -> (u16, u16)
+/// The counts of system 1 and system 2.
+fn both_counts(config: &WorldConfig) -> (Counts, Counts)
     requires { world_refusal config.now ≡ None }
-    ensures { AreAggregatorCounts result.0 result.1 config.now.systems }
+    ensures { AreCounts result.0 result.1 config.now.systems }
 {
     let [first, second] = &config.systems;
-    (aggregator_count(first), aggregator_count(second))
+    (counts_of(first), counts_of(second))
 }
 
 /// The report of a run: the entries with their replies, and the state of cables and conversations at the end.
 fn report_of<F: Fn(u16, usize) -> usize + Drop>(
     alloc: Global,
     world: &World<AnyCable, F>,
-    counts: (u16, u16),
+    counts: (Counts, Counts),
     events: &[Event],
     replies: &[Reply],
 ) -> Result<String, AllocError>
@@ -137,7 +140,7 @@ fn report_of_script<F: Fn(u16, usize) -> usize + Drop>(
         (string_bytes report)) }
     ensures err { IfErr result (λ fault. fault ≡ NoMemory) }
 {
-    let counts = aggregator_counts(&config);
+    let counts = both_counts(&config);
     // Only memory can be refused here, by the contracts of the three calls.
     let Ok(lines) = all_directions(alloc, limits) else {
         return Err(ToolFault::NoMemory);

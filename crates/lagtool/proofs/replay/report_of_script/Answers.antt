@@ -59,7 +59,7 @@ returns-clause-ok g c =
     let new = c.run_events.new.world.state in
     let es = c.args.events.now in
     let rs = c.in-Ok-run_events.replies.items in
-    let counts = c.aggregator_counts-counts.result in
+    let counts = c.both_counts-counts.result in
     let runs_one = subst
     (λ f. WorldRuns (both_algorithms (λ conv count place. g.F.Fn.post f (conv, (count, tt)) place)
     (λ conv count place. g.F.Fn.post c.in-Ok-make_world.world.two (conv, (count, tt)) place)) old es rs new)
@@ -81,5 +81,5 @@ returns-clause-ok g c =
       };
       says = c.in_ok-report_of.ensures
           ∙ ap (λ (xs : List Reply). replay_report_with_counts counts.0 counts.1 es xs new) c.deref.ensures.value
-          ∙ reported_is counts.0 counts.1 c.args.config.systems es rs new c.aggregator_counts-counts.ensures;
+          ∙ reported_is counts.0 counts.1 c.args.config.systems es rs new c.both_counts-counts.ensures;
     }

@@ -1,0 +1,193 @@
+use crate::arrays::{count_at, table_at};
+use crate::cables::explain_ends;
+use crate::entries::explain_entry;
+use crate::keys::{
+    CABLE_KEYS, PORT_KEYS, SYSTEM_KEYS, TOP_KEYS, explain_extra_key, port_key, system_key,
+};
+use crate::ports::explain_port_number;
+use crate::text_places::place_of;
+use crate::values::explain_value;
+use lagscript::{PortKey, ScriptFault, SystemKey};
+use std::alloc::{AllocError, Global};
+use toml::Table;
+
+/// The table of a system of a script.
+fn system_of(top: &Table, system: u8) -> Option<&Table> {
+    table_at(top, "system", system as usize)
+}
+
+/// The table of a port of a system of a script.
+fn port_of(top: &Table, system: u8, place: usize) -> Option<&Table> {
+    match system_of(top, system) {
+        Some(table) => table_at(table, "port", place),
+        None => None,
+    }
+}
+
+/// Says what is wrong with a value of a system.
+fn explain_system(
+    out: &mut String,
+    top: &Table,
+    system: u8,
+    key: SystemKey,
+) -> Result<(), AllocError> {
+    let (name, wanted) = system_key(key);
+    write!(out, "system {system}: ")?;
+    explain_value(out, system_of(top, system), name, wanted)
+}
+
+/// Says what is wrong with a value of a port.
+fn explain_port(
+    out: &mut String,
+    top: &Table,
+    system: u8,
+    place: usize,
+    key: PortKey,
+) -> Result<(), AllocError> {
+    let (name, wanted) = port_key(key);
+    write!(out, "system {system} port {place}: ")?;
+    explain_value(out, port_of(top, system, place), name, wanted)
+}
+
+/// Says how many a system has of what it may have 1 to 64.
+fn explain_count(
+    out: &mut String,
+    top: &Table,
+    system: u8,
+    key: &str,
+    what: &str,
+) -> Result<(), AllocError> {
+    let count = match system_of(top, system) {
+        Some(table) => count_at(table, key),
+        None => 0,
+    };
+    write!(
+        out,
+        "system {system} has {count} {what}: wanted are 1 to 64"
+    )
+}
+
+/// Says what is wrong with `system`.
+fn explain_systems(out: &mut String, top: &Table) -> Result<(), AllocError> {
+    match count_at(top, "system") {
+        0 => explain_value(out, Some(top), "system", "two tables [[system]]"),
+        2 => out.push_str("system holds what is no table: wanted are two tables [[system]]"),
+        1 => out.push_str("there is 1 table [[system]]: wanted are two"),
+        count => write!(out, "there are {count} tables [[system]]: wanted are two"),
+    }
+}
+
+/// Says what is wrong with `events`.
+fn explain_events(out: &mut String, top: &Table) -> Result<(), AllocError> {
+    match count_at(top, "events") {
+        count if count > 100_000 => {
+            write!(out, "events has {count} entries: wanted are at most 100000")
+        }
+        _ => explain_value(out, Some(top), "events", "an array of texts"),
+    }
+}
+
+/// Says what is wrong with a table of the script: a key or a value.
+fn explain_table(
+    alloc: Global,
+    out: &mut String,
+    top: &Table,
+    fault: ScriptFault,
+) -> Result<(), AllocError> {
+    match fault {
+        ScriptFault::ExtraKey => explain_extra_key(alloc, out, Some(top), &TOP_KEYS),
+        ScriptFault::SystemExtraKey(system) => {
+            write!(out, "system {system}: ")?;
+            explain_extra_key(alloc, out, system_of(top, system), &SYSTEM_KEYS)
+        }
+        ScriptFault::PortExtraKey(system, place) => {
+            write!(out, "system {system} port {place}: ")?;
+            explain_extra_key(alloc, out, port_of(top, system, place), &PORT_KEYS)
+        }
+        ScriptFault::CableExtraKey(place) => {
+            write!(out, "cable {place}: ")?;
+            explain_extra_key(alloc, out, table_at(top, "cable", place), &CABLE_KEYS)
+        }
+        ScriptFault::SystemValue(system, key) => explain_system(out, top, system, key),
+        ScriptFault::PortValue(system, place, key) => explain_port(out, top, system, place, key),
+        ScriptFault::CableEnds(place) => {
+            write!(out, "cable {place}: ")?;
+            let wanted = "two numbers, 0 to 65535: a port of system 1, a port of system 2";
+            explain_value(out, table_at(top, "cable", place), "ends", wanted)
+        }
+        ScriptFault::CableLimit(place) => {
+            write!(out, "cable {place}: ")?;
+            explain_value(
+                out,
+                table_at(top, "cable", place),
+                "limit",
+                "a number, 1 to 65535",
+            )
+        }
+        fault => explain_whole(alloc, out, top, fault),
+    }
+}
+
+/// Says what is wrong with an array or with the configuration as a whole.
+fn explain_whole(
+    alloc: Global,
+    out: &mut String,
+    top: &Table,
+    fault: ScriptFault,
+) -> Result<(), AllocError> {
+    match fault {
+        ScriptFault::Systems => explain_systems(out, top),
+        ScriptFault::Cables => explain_value(
+            out,
+            Some(top),
+            "cable",
+            "an array of tables [[cable]]",
+        ),
+        ScriptFault::Events => explain_events(out, top),
+        ScriptFault::Entry(place, cause) => explain_entry(alloc, out, top, place, cause),
+        ScriptFault::Ports(system) => explain_count(out, top, system, "port", "ports"),
+        ScriptFault::AggregatorCount(system) => {
+            explain_count(out, top, system, "aggregators", "aggregators")
+        }
+        ScriptFault::PortNumber(system, place) => {
+            write!(out, "system {system} port {place}: ")?;
+            explain_port_number(out, system_of(top, system), place)
+        }
+        ScriptFault::MaxLinks(system) => explain_system(out, top, system, SystemKey::MaxLinks),
+        ScriptFault::ConversationCount(system) => {
+            explain_system(out, top, system, SystemKey::Conversations)
+        }
+        ScriptFault::SameSystem => {
+            out.push_str("both systems have one priority and one mac: one of the two has to differ")
+        }
+        ScriptFault::CableEnd(place) => explain_ends(out, top, place),
+        _ => Ok(()),
+    }
+}
+
+/// Says where a text is no TOML, and why.
+fn explain_toml(out: &mut String, text: &str, error: &toml::de::Error) -> Result<(), AllocError> {
+    let start = match error.span() {
+        Some(span) => span.start,
+        None => 0,
+    };
+    let before = text.as_bytes().get(..start).unwrap_or(&[]);
+    let place = place_of(before);
+    write!(out, ":{}:{}: {}", place.line, place.column, error.message())
+}
+
+/// Says what is wrong with a text that `read_plan` refuses for this fault: what is to stand behind the name of its file.
+/// For `NotToml` that is `:LINE:COLUMN: ` and the message of the crate `toml`, for any other fault `: ` and a sentence.
+/// `AllocError` if memory is refused (profile).
+pub fn explain(alloc: Global, text: &str, fault: ScriptFault) -> Result<String, AllocError> {
+    let mut out = String::new(alloc);
+    match toml::table_from_str(alloc, text) {
+        Ok(top) => {
+            out.push_str(": ")?;
+            explain_table(alloc, &mut out, &top, fault)?;
+        }
+        Err(error) if error.is_memory() => return Err(AllocError),
+        Err(error) => explain_toml(&mut out, text, &error)?,
+    }
+    Ok(out)
+}

@@ -1,0 +1,20 @@
+//! Why a text is no script, in words for who wrote it: which line, key, value, entry or word, and what was expected
+//! (docs/COMMAND.md, "profile" in comments).
+#![tactic(auto)]
+
+mod arrays;
+mod cables;
+mod entries;
+mod explaining;
+mod forms;
+mod keys;
+mod names;
+mod ports;
+#[cfg(test)]
+mod tests;
+mod text_places;
+mod values;
+mod words;
+
+pub use explaining::explain;
+pub use text_places::{Place, place_of};

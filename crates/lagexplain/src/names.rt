@@ -1,0 +1,58 @@
+use std::alloc::{AllocError, Global};
+use strsim::osa_distance;
+
+/// The most edits that lead from a word to the name that was meant.
+const MOST_EDITS: usize = 2;
+
+/// The most octets of a word that is compared with names.
+const LONGEST_WORD: usize = 40;
+
+/// The name that is nearest to a word, if few edits lead there; the first of several.
+pub(crate) fn nearest<'a>(
+    alloc: Global,
+    word: &str,
+    names: &[&'a str],
+) -> Result<Option<&'a str>, AllocError> {
+    let mut found = None;
+    if word.len() > LONGEST_WORD {
+        return Ok(found);
+    }
+    let mut most = MOST_EDITS;
+    for name in names {
+        let edits = osa_distance(alloc, word, *name)?;
+        if edits < most || edits == most && found.is_none() {
+            most = edits;
+            found = Some(*name);
+        }
+    }
+    Ok(found)
+}
+
+/// Whether the name is one of these.
+pub(crate) fn is_among(known: &[&str], name: &str) -> bool {
+    known.contains(&name)
+}
+
+/// Adds a text in quotes, with its control characters escaped; of a long one only a beginning.
+pub(crate) fn quote(out: &mut String, text: &str) -> Result<(), AllocError> {
+    match text.char_indices().nth(80) {
+        Some((end, _)) => match text.get(..end) {
+            Some(beginning) => write!(out, "{beginning:?}.."),
+            None => Ok(()),
+        },
+        None => write!(out, "{text:?}"),
+    }
+}
+
+/// Adds names, with commas between them.
+pub(crate) fn list(out: &mut String, names: &[&str]) -> Result<(), AllocError> {
+    let mut is_first = true;
+    for name in names {
+        if !is_first {
+            out.push_str(", ")?;
+        }
+        is_first = false;
+        out.push_str(*name)?;
+    }
+    Ok(())
+}
