@@ -1,0 +1,56 @@
+-- How many elements of a list pass a test.
+use Rattle.std.proofs.Common.{◌≡◌, ℕ, zero, suc, ◌+◌, ◌≤◌, Bool, true, false, cond, List, [], ◌∷◌, Some, refl, ap, ◌∙◌, arith}
+use Rattle.std.specs.Prelude.{filter, length, slice_get}
+use Rattle.std.proofs.lemmas.Option.{none-some, same_Some}
+
+abbrev pub count : {A : Type 0} → (A → Bool) → List A → ℕ
+count test [] = zero
+count test (x ∷ xs) = cond (test x) (suc (count test xs)) (count test xs)
+
+one_counted : {A : Type 0} (b : Bool) (x : A) (rest : List A) (n : ℕ) → length rest ≡ n
+    → length (cond b (x ∷ rest) rest) ≡ cond b (suc n) n
+one_counted true x rest n h = ap (λ m. suc m) h
+one_counted false x rest n h = h
+
+pub counted : {A : Type 0} (test : A → Bool) (xs : List A) → length (filter test xs) ≡ count test xs
+counted test [] = refl
+counted test (x ∷ xs) = one_counted (test x) x (filter test xs) (count test xs) (counted test xs)
+
+bit_less : (a b : Bool) (m n : ℕ) → (a ≡ true → b ≡ true) → m ≤ n → cond a (suc m) m ≤ cond b (suc n) n
+bit_less true true m n h l = omega (arith, l)
+bit_less true false m n h l = absurd (wrong (h refl))
+  where
+    wrong : false ≡ true → ⊥
+    wrong e = cc
+bit_less false true m n h l = omega (arith, l)
+bit_less false false m n h l = l
+
+-- a test that is met more often counts at least as many
+pub count_less : {A : Type 0} (one other : A → Bool) → ((x : A) → one x ≡ true → other x ≡ true) → (xs : List A)
+    → count one xs ≤ count other xs
+count_less one other k [] = omega arith
+count_less one other k (x ∷ xs) = bit_less (one x) (other x) (count one xs) (count other xs) (k x) (count_less one other k xs)
+
+bit_more : (a b : Bool) (m n : ℕ) → a ≡ false → b ≡ true → m ≤ n → cond a (suc m) m + 1 ≤ cond b (suc n) n
+bit_more true b m n h k l = absurd cc
+bit_more false true m n h k l = omega (arith, l)
+bit_more false false m n h k l = absurd cc
+
+later_more : (a b : Bool) (m n : ℕ) → (a ≡ true → b ≡ true) → m + 1 ≤ n → cond a (suc m) m + 1 ≤ cond b (suc n) n
+later_more true true m n h l = omega (arith, l)
+later_more true false m n h l = absurd (wrong (h refl))
+  where
+    wrong : false ≡ true → ⊥
+    wrong e = cc
+later_more false true m n h l = omega (arith, l)
+later_more false false m n h l = l
+
+-- and one more, if an element meets it alone
+pub count_more : {A : Type 0} (one other : A → Bool) → ((x : A) → one x ≡ true → other x ≡ true) → (xs : List A) (i : ℕ) (x : A)
+    → slice_get xs i ≡ Some x → one x ≡ false → other x ≡ true → count one xs + 1 ≤ count other xs
+count_more one other k [] i x e f t = absurd (none-some x e)
+count_more one other k (y ∷ ys) zero x e f t =
+    let same : y ≡ x = same_Some y x e in
+    bit_more (one y) (other y) (count one ys) (count other ys) (ap one same ∙ f) (ap other same ∙ t) (count_less one other k ys)
+count_more one other k (y ∷ ys) (suc i) x e f t =
+    later_more (one y) (other y) (count one ys) (count other ys) (k y) (count_more one other k ys i x e f t)

@@ -1,0 +1,219 @@
+-- What the machines of a port keep, every call of a system keeps of each port.
+use Rattle.std.proofs.Common.{◌≡◌, ◌∙◌, ◌&&◌, ◌==◌, ℕ, Bool, true, false, Option, Some, None, Ok, Err, List, [], ◌∷◌, drop, refl}
+use Rattle.std.proofs.Common.{sym}
+use Rattle.std.proofs.Common.{subst, ap, arith, inl, inr}
+use Rattle.std.specs.Prelude.{slice_get}
+use Rattle.std.specs.List.{AllByRecursion}
+use Rattle.std.proofs.lemmas.Bool.Decides.{nat_tests}
+use Rattle.lagtypes.specs.declared.party.Choice.{Choice}
+use Rattle.slowpdu.specs.declared.pdu.Lacpdu.{Lacpdu}
+use Rattle.slowpdu.specs.Frames.{frame_octets}
+use Rattle.slowpdu.specs.Layout.{HoldsNumber, IsAddress, read_field}
+use Rattle.slowpdu.proofs.LayoutLemmas.{octet_stands}
+use Rattle.slowpdu.proofs.WritingLemmas.{framed_payload}
+use Rattle.distributor.specs.Changes.{marker_due}
+use Rattle.portmachines.specs.declared.port.Setup.{Setup}
+use Rattle.portmachines.specs.Machines.{Machines}
+use Rattle.portmachines.specs.Mux.{mux_rows}
+use Rattle.portmachines.specs.Periodic.{RunsPeriodic}
+use Rattle.portmachines.specs.Receive.{receive_rows}
+use Rattle.portmachines.specs.Rows.{RunsToRest}
+use Rattle.portmachines.specs.Start.{Starts, before_start}
+use Rattle.portmachines.specs.Transmit.{after_sending, count_down, is_due}
+use Rattle.lagsystem.specs.declared.config.PortChange.{PortChange}
+use Rattle.lagsystem.specs.declared.drive.Reply.{Reply}
+use Rattle.lagsystem.specs.declared.drive.Reply.TheVariants as reply
+use Rattle.lagsystem.specs.declared.received.Received.{Received}
+use Rattle.lagsystem.specs.declared.received.Received.TheVariants.{TookLacpdu}
+use Rattle.lagsystem.specs.declared.system_ports.SystemPort.{SystemPort}
+use Rattle.lagsystem.specs.Calls.{Call, Tick, Set_link, Receive, Configure, Restart, Transmit, Offer, Move_conversation, Force}
+use Rattle.lagsystem.specs.Calls.{ChangesParty, PortAtChangesBy, ProcessesLacpdu, SetsPortEnabled, Step}
+use Rattle.lagsystem.specs.First.{IsFirst, HasJustStarted, setup_of}
+use Rattle.lagsystem.specs.Offers.{system_force_result, system_move_result}
+use Rattle.lagsystem.specs.Sending.{TransmitsAt, TransmitsIf}
+use Rattle.lagsystem.specs.Settling.{PortsChangeBy, Settling, ready_of, with_choice}
+use Rattle.lagsystem.specs.State.{SystemState, aggregators_value, port_index, with_system_ports}
+use Rattle.lagsystem.specs.Views.{views}
+use Rattle.lagsystem.specs.Windows.{reply_has_lacpdu, subtype}
+use Rattle.lagsystem.proofs.Performed.{ProcessesOrStays, processes_or_stays}
+use Rattle.lagsystem.proofs.PromotionLemmas.{KeptByChoices, choosing_keeps}
+use Rattle.lagsystem.proofs.Rest.{becomes_slots, last_slots, marker_slots, offers_slots, same_slots, zip_all}
+use Rattle.lagsystem.proofs.Rising.{all-get, all-set, found_place}
+
+-- what settling does to the machines of a port keeps P; the number is the port's
+pub record KeptBySettling (P : ℕ → Machines → Type 0) : Type 0 where
+  pub mux : (n : ℕ) (ready : Bool) (p q : Machines) → RunsToRest (mux_rows ready) p q → P n p → P n q
+  pub periodic : (n : ℕ) (p q : Machines) → RunsPeriodic p q → P n p → P n q
+  pub select : (n : ℕ) (choice : Choice) (p : Machines) → P n p → P n (record p { choice = choice })
+
+-- what a call itself does keeps P
+abbrev pub KeptByCall : (ℕ → Machines → Type 0) → Call → Reply → Type 0
+KeptByCall P Tick answer = (n : ℕ) (p q : Machines) → RunsToRest receive_rows (count_down p) q → P n p → P n q
+KeptByCall P (Set_link n up) answer = (max_links : Option ℕ) (p q : Machines) → SetsPortEnabled max_links up p q → P n p → P n q
+KeptByCall P (Receive n octets) answer = (v : Lacpdu) (p q : Machines) → answer ≡ reply.Receive (Ok TookLacpdu)
+    → ProcessesLacpdu v p q
+    → P n p → P n q
+KeptByCall P (Configure n change) answer = (p q : Machines) → ChangesParty change p q → P n p → P n q
+KeptByCall P Restart answer = (n : ℕ) (u : Setup) (q : Machines) → Starts (before_start u) q → P n q
+KeptByCall P (Transmit n) answer = (p : Machines) → reply_has_lacpdu n (Transmit n) answer ≡ true → P n p → P n (after_sending p)
+KeptByCall P (Offer agg octets) answer = Unit {0}
+KeptByCall P (Move_conversation agg conv port) answer = Unit {0}
+KeptByCall P (Force agg conv) answer = Unit {0}
+
+abbrev pub OfEach : (ℕ → Machines → Type 0) → List SystemPort → Type 0
+OfEach P ports = AllByRecursion (λ (x : SystemPort). P x.number x.port) ports
+
+zip_kept : (R : Machines → Machines → Type 0) (P Q : ℕ → Machines → Type 0) → ((n : ℕ) (p q : Machines) → R p q → P n p → Q n q)
+    → (xs ys : List SystemPort) → PortsChangeBy R xs ys → OfEach P xs → OfEach Q ys
+zip_kept R P Q k [] [] h a = tt
+zip_kept R P Q k [] (y ∷ ys) h a = absurd h
+zip_kept R P Q k (x ∷ xs) [] h a = absurd h
+zip_kept R P Q k (x ∷ xs) (y ∷ ys) h a = (
+  subst (λ n. Q n y.port) (sym (ap (λ (z : SystemPort). z.number) h.0.0)) (k x.number x.port y.port h.0.1 a.0),
+  zip_kept R P Q
+      k xs ys h.1 a.1,
+)
+
+given : (P : ℕ → Machines → Type 0) → KeptBySettling P → (s : SystemPort) (o : Option Choice) → P s.number s.port
+    → P (with_choice s o).number (with_choice s o).port
+given P k s None a = a
+given P k s (Some choice) a = k.select s.number choice s.port a
+
+selects : (P : ℕ → Machines → Type 0) → KeptBySettling P → KeptByChoices (OfEach P)
+selects P k l i s o e a =
+    let Q : SystemPort → Type 0 = λ x. P x.number x.port in
+    all-set Q l i (with_choice s o) a (given P k s o (all-get Q l i s e a))
+
+pub settling_each : (P : ℕ → Machines → Type 0) → KeptBySettling P → (old new : SystemState) → Settling old new
+    → OfEach P old.system_ports
+    → OfEach P new.system_ports
+settling_each P k old new h a =
+    let one = h.0 in
+    let two = h.2.0 in
+    let three = h.2.2.0 in
+    let four = h.2.2.2.0 in
+    let five = h.2.2.2.2.0 in
+    let ready = λ (p : Machines). ready_of three.keys (views three.system_ports) p.choice in
+    let a1 : OfEach P one.system_ports = zip_kept (RunsToRest (mux_rows false)) P P (λ n. k.mux n false) old.system_ports
+    one.system_ports
+    h.1.0 a in
+    let a2 : OfEach P two.system_ports =
+    choosing_keeps (OfEach P) (selects P k) (aggregators_value one) one.system_ports two.system_ports h.2.1.0 a1 in
+    let a3 : OfEach P three.system_ports = subst (λ (s : SystemState). OfEach P s.system_ports) (sym h.2.2.1) a2 in
+    let a4 : OfEach P four.system_ports = zip_kept (λ p q. RunsToRest (mux_rows (ready p)) p q) P P (λ n p. k.mux n (ready p) p)
+    three.system_ports four.system_ports h.2.2.2.1.0 a3 in
+    let a5 : OfEach P five.system_ports = zip_kept RunsPeriodic P P k.periodic four.system_ports five.system_ports h.2.2.2.2.1.0
+    a4 in
+    subst (OfEach P) (sym (last_slots old new h)) a5
+
+place_each : (P : ℕ → Machines → Type 0) (R : Machines → Machines → Type 0) (n : ℕ) → ((p q : Machines) → R p q → P n p → P n q)
+    → (o : Option ℕ) (old new : List SystemPort) → port_index n old ≡ o → PortAtChangesBy R o old new → OfEach P old → OfEach P new
+place_each P R n k None old new e h a = absurd h
+place_each P R n k (Some i) old new e h a =
+    let Q : SystemPort → Type 0 = λ x. P x.number x.port in
+    let numbered : h.0.number ≡ n = found_place n old i h.0 e h.2 in
+    let was : P n h.0.port = subst (λ m. P m h.0.port) numbered (all-get Q old i h.0 h.2 a) in
+    subst (OfEach P) (sym h.4) (all-set Q old i (record h.0 { port = h.1 }) a (subst (λ m. P m h.1) (sym numbered) (k h.0.port
+    h.1 h.3 was)))
+
+same_each : (P : ℕ → Machines → Type 0) (s t : SystemState) → t.system_ports ≡ s.system_ports → OfEach P s.system_ports
+    → OfEach P t.system_ports
+same_each P s t e a = subst (OfEach P) (sym e) a
+
+-- the octet behind the header of a control frame
+subtype_of : (mac payload : List ℕ) (k : ℕ) → IsAddress mac → HoldsNumber payload (read_field 0 1 k)
+    → subtype (frame_octets mac payload) ≡ k
+subtype_of mac payload k a h =
+    let behind : HoldsNumber (drop 14 (frame_octets mac payload)) (read_field 0 1 k) = subst (λ b. HoldsNumber b (read_field 0 1 k))
+    (sym (framed_payload mac payload a.0)) h in
+    sym (octet_stands (frame_octets mac payload) 14) ∙ behind
+
+is_told : (n : ℕ) (frame : List ℕ) → subtype frame ≡ 1 → ((n == n) && (subtype frame == 1)) ≡ true
+is_told n frame e = grind (arith, nat_tests)
+
+sends_each : (P : ℕ → Machines → Type 0) (n : ℕ) (up due : Bool) (i : ℕ) (x : SystemPort) (old : SystemState)
+    (answer : Option (List ℕ)) (new : SystemState) → KeptByCall P (Transmit n) (reply.Transmit (Ok answer))
+    → port_index n old.system_ports ≡ Some i → slice_get old.system_ports i ≡ Some x
+    → TransmitsIf up due i x old answer new → OfEach P old.system_ports → OfEach P new.system_ports
+sends_each P n false due i x old answer new k at e h a = same_each P old new (same_slots old new h.1) a
+sends_each P n true true i x old answer new k at e h a =
+    let Q : SystemPort → Type 0 = λ y. P y.number y.port in
+    let numbered : x.number ≡ n = found_place n old.system_ports i x at e in
+    let kind : subtype h.0 ≡ 1 = ap subtype h.1.3 ∙ subtype_of x.mac h.1.0 1 h.1.1 h.1.2.table.fields_hold.0 in
+    let told : reply_has_lacpdu n (Transmit n) (reply.Transmit (Ok answer)) ≡ true =
+    ap (λ (o : Option (List ℕ)). reply_has_lacpdu n (Transmit n) (reply.Transmit (Ok o))) h.2 ∙ is_told n h.0 kind in
+    let was : P n x.port = subst (λ m. P m x.port) numbered (all-get Q old.system_ports i x e a) in
+    subst (OfEach P) (sym (ap (λ (s : SystemState). s.system_ports) h.3))
+    (all-set Q old.system_ports i (record x { port = after_sending x.port }) a
+    (subst (λ m. P m (after_sending x.port)) (sym numbered) (k x.port told was)))
+sends_each P n true false i x old answer new k at e h a =
+    same_each P old new (marker_slots (marker_due old.table x.number) x.number x.mac old answer new h) a
+
+transmits_each : (P : ℕ → Machines → Type 0) (n : ℕ) (o : Option ℕ) (old : SystemState) (answer : Option (List ℕ)) (new :
+    SystemState)
+    → KeptByCall P (Transmit n) (reply.Transmit (Ok answer)) → port_index n old.system_ports ≡ o
+    → TransmitsAt o old answer new → OfEach P old.system_ports → OfEach P new.system_ports
+transmits_each P n None old answer new k e h a = absurd h
+transmits_each P n (Some i) old answer new k e h a =
+    sends_each P n h.0.port.enabled (is_due h.0.port) i h.0 old answer new k e h.1 h.2 a
+
+receives_each : (P : ℕ → Machines → Type 0) → KeptBySettling P → (n : ℕ) (old : SystemState) (answer : Received) (new : SystemState)
+    → ((v : Lacpdu) (p q : Machines) → reply.Receive (Ok answer) ≡ reply.Receive (Ok TookLacpdu) → ProcessesLacpdu v p q
+    → P n p → P n q)
+    → ProcessesOrStays (port_index n old.system_ports) old answer new → OfEach P old.system_ports → OfEach P new.system_ports
+receives_each P s n old answer new k h a = elim h [
+  | inl x ↦ settling_each P s x.2.0 new x.2.2
+      (place_each P (ProcessesLacpdu x.0) n (λ p q. k x.0 p q (ap (λ (r : Received). reply.Receive (Ok r)) x.1)) (port_index n
+      old.system_ports)
+      old.system_ports x.2.0.system_ports refl x.2.1.0 a)
+  | inr e ↦ same_each P old new e a
+]
+
+pub first_each : (P : ℕ → Machines → Type 0) → KeptBySettling P
+    → ((n : ℕ) (u : Setup) (q : Machines) → Starts (before_start u) q → P n q) → (s : SystemState) → IsFirst s
+    → OfEach P s.system_ports
+first_each P k st s h =
+    settling_each P k (with_system_ports s h.0) s h.2
+    (zip_all (HasJustStarted s.system) (λ x. P x.number x.port) (λ c x m. st x.number (setup_of s.system c) x.port m.2) s.ports
+    h.0 h.1)
+
+-- a tick
+pub Tick-each : (P Q : ℕ → Machines → Type 0) → KeptBySettling Q
+    → ((n : ℕ) (p q : Machines) → RunsToRest receive_rows (count_down p) q → P n p → Q n q)
+    → (gives : ℕ → ℕ → ℕ → Type 0) (old : SystemState) (answer : Reply) (new : SystemState) → Step gives old Tick answer new
+    → OfEach P old.system_ports → OfEach Q new.system_ports
+Tick-each P Q s k gives old reply.Tick new h a =
+    settling_each Q s h.0 new h.2 (zip_kept (λ p q. RunsToRest receive_rows (count_down p) q) P Q k old.system_ports
+    h.0.system_ports h.1.0 a)
+Tick-each P Q s k gives old answer new h a = absurd h
+
+pub Step-each : (P : ℕ → Machines → Type 0) → KeptBySettling P → (gives : ℕ → ℕ → ℕ → Type 0) (old : SystemState) (call : Call)
+    (answer : Reply) (new : SystemState) → KeptByCall P call answer → Step gives old call answer new → OfEach P old.system_ports
+    → OfEach P new.system_ports
+Step-each P s gives old Tick answer new k h a = Tick-each P P s k gives old answer new h a
+Step-each P s gives old (Set_link n up) (reply.SetLink (Ok done)) new k h a =
+    settling_each P s h.0 new h.2 (place_each P (SetsPortEnabled old.max_links up) n (k old.max_links) (port_index n
+    old.system_ports)
+    old.system_ports h.0.system_ports refl h.1.0 a)
+Step-each P s gives old (Set_link n up) (reply.SetLink (Err fault)) new k h a = same_each P old new (same_slots old new h.same) a
+Step-each P s gives old (Receive n octets) (reply.Receive (Ok answer)) new k h a =
+    receives_each P s n old answer new k
+    (processes_or_stays h.1 h.0.number (port_index n old.system_ports) old answer new h.4) a
+Step-each P s gives old (Receive n octets) (reply.Receive (Err fault)) new k h a = same_each P old new (same_slots old new h.same) a
+Step-each P s gives old (Configure n change) (reply.Configure (Ok true)) new k h a =
+    settling_each P s h.0 new h.2 (place_each P (ChangesParty change) n k (port_index n old.system_ports) old.system_ports
+    h.0.system_ports refl h.1.0 a)
+Step-each P s gives old (Configure n change) (reply.Configure (Ok false)) new k h a = same_each P old new (same_slots old new h.1) a
+Step-each P s gives old (Configure n change) (reply.Configure (Err fault)) new k h a = same_each P old new (same_slots old new
+    h.same) a
+Step-each P s gives old Restart reply.Restart new k h a = first_each P s k new h.1
+Step-each P s gives old (Transmit n) (reply.Transmit (Ok answer)) new k h a =
+    transmits_each P n (port_index n old.system_ports) old answer new k refl h a
+Step-each P s gives old (Transmit n) (reply.Transmit (Err fault)) new k h a = same_each P old new (same_slots old new h.same) a
+Step-each P s gives old (Offer agg octets) (reply.Offer answer) new k h a =
+    same_each P old new (offers_slots gives agg octets old answer new h) a
+Step-each P s gives old (Move_conversation agg conv port) (reply.MoveConversation answer) new k h a =
+    same_each P old new (becomes_slots agg conv (system_move_result old agg conv port) old answer new h) a
+Step-each P s gives old (Force agg conv) (reply.Force answer) new k h a =
+    same_each P old new (becomes_slots agg conv (system_force_result old agg conv) old answer new h) a
+Step-each P s gives old call answer new k h a = absurd h

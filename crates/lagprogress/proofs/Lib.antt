@@ -1,0 +1,11 @@
+mod Silence
+mod Counting
+mod Selecting
+mod EachPort
+mod Timers
+mod OnePort
+mod Heartbeat
+mod Hearing
+mod Knowing
+mod Waits
+mod Halves

@@ -1,0 +1,171 @@
+-- Of one port, what each call keeps and each tick moves on, over a list of calls.
+use Rattle.std.proofs.Common.{◌≡◌, ◌∙◌, ℕ, zero, suc, ◌+◌, ◌-◌, ◌<◌, ◌≤◌, List, [], ◌∷◌, Some, sym, subst, ap, arith}
+use Rattle.std.specs.Prelude.{slice_get}
+use Rattle.std.specs.List.{AllByRecursion}
+use Rattle.std.proofs.lemmas.Option.{none-some, same_Some}
+use Rattle.portmachines.specs.Machines.{Machines}
+use Rattle.portmachines.specs.Periodic.{periodic_rows}
+use Rattle.portmachines.specs.Receive.{receive_rows}
+use Rattle.portmachines.specs.Rows.{AtRest, RunsToRest}
+use Rattle.portmachines.specs.Transmit.{count_down}
+use Rattle.lagsystem.specs.declared.drive.Reply.{Reply}
+use Rattle.lagsystem.specs.declared.system_ports.SystemPort.{SystemPort}
+use Rattle.lagsystem.specs.Calls.{Call, Tick, Set_link, Receive, Configure, Restart, Transmit, Offer, Move_conversation, Force}
+use Rattle.lagsystem.specs.Calls.{TableRun}
+use Rattle.lagsystem.specs.First.{configured_numbers}
+use Rattle.lagsystem.specs.NothingToSettle.{PeriodicIsSettled}
+use Rattle.lagsystem.specs.Sound.{IsSound}
+use Rattle.lagsystem.specs.State.{SystemState, port_numbers}
+use Rattle.lagsystem.proofs.Keeps.{Step-frame}
+use Rattle.lagsystem.proofs.Rising.{Rises, all-get, ports_rise}
+use Rattle.lagsystem.proofs.Sound.{Step-sound}
+use Rattle.lagprogress.specs.Heartbeat.{EachCall, tick_count}
+use Rattle.lagprogress.proofs.EachPort.{KeptByCall, KeptBySettling, OfEach, Step-each, Tick-each}
+
+-- the port with number n is so
+abbrev pub AtPort : ℕ → (Machines → Type 0) → ℕ → Machines → Type 0
+AtPort n P m p = m ≡ n → P p
+
+-- P of port n, with so many ticks to go and so many gone, goes on over calls that are so
+pub record GoesOn (Is : Call → Reply → Type 0) (P : ℕ → ℕ → Machines → Type 0) (n : ℕ) : Type 0 where
+  pub settles : (most k : ℕ) → KeptBySettling (AtPort n (P most k))
+  pub ticks : (most k : ℕ) (p q : Machines) → RunsToRest receive_rows (count_down p) q → AtRest periodic_rows p → P most k p
+      → P (most - 1) (k + 1) q
+  pub calls : (most k : ℕ) (call : Call) (answer : Reply) → Is call answer → (call ≡ Tick → ⊥)
+      → KeptByCall (AtPort n (P most k)) call answer
+
+with_rest : (P : ℕ → Machines → Type 0) (ports : List SystemPort) → OfEach P ports → AllByRecursion PeriodicIsSettled ports
+    → OfEach (λ m p. P m p × AtRest periodic_rows p) ports
+with_rest P [] a s = tt
+with_rest P (x ∷ xs) a s = ((a.0, s.0.rows), with_rest P xs a.1 s.1)
+
+abbrev Ends : (ℕ → ℕ → Machines → Type 0) → ℕ → ℕ → ℕ → ℕ → SystemState → Type 0
+Ends P n most k ticks new = IsSound new × OfEach (AtPort n (P (most - ticks) (k + ticks))) new.system_ports
+
+none_passed : (P : ℕ → ℕ → Machines → Type 0) (n most k : ℕ) (ports : List SystemPort) → OfEach (AtPort n (P most k)) ports
+    → OfEach (AtPort n (P (most - 0) (k + 0))) ports
+none_passed P n most k ports a = subst (λ m. OfEach (AtPort n (P m (k + 0))) ports) (omega arith)
+    (subst (λ j. OfEach (AtPort n (P most j)) ports) (omega arith) a)
+
+one_more : (P : ℕ → ℕ → Machines → Type 0) (n most k ticks : ℕ) (ports : List SystemPort)
+    → OfEach (AtPort n (P (most - 1 - ticks) (k + 1 + ticks))) ports → OfEach (AtPort n (P (most - (ticks + 1)) (k + (ticks +
+    1)))) ports
+one_more P n most k ticks ports a = subst (λ m. OfEach (AtPort n (P m (k + (ticks + 1)))) ports) (omega arith)
+    (subst (λ j. OfEach (AtPort n (P (most - 1 - ticks) j)) ports) (omega arith) a)
+
+module _ (Is : Call → Reply → Type 0) (P : ℕ → ℕ → Machines → Type 0) (n : ℕ) (g : GoesOn Is P n) (gives : ℕ → ℕ → ℕ → Type 0) where
+  ends : (most k : ℕ) (old new : SystemState) (calls : List Call) (replies : List Reply) → IsSound old
+      → OfEach (AtPort n (P most k)) old.system_ports → TableRun gives old calls replies new → EachCall Is calls replies
+      → Ends P n most k (tick_count calls) new
+  ends most k old new [] [] s a h u = (
+    subst IsSound (sym h) s,
+    subst (λ (t : SystemState). OfEach (AtPort n (P (most - 0) (k + 0))) t.system_ports) (sym h) (none_passed P n most k
+        old.system_ports a),
+  )
+  ends most k old new [] (answer ∷ answers) s a h u = absurd h
+  ends most k old new (call ∷ calls) [] s a h u = absurd h
+  ends most k old new (Tick ∷ calls) (answer ∷ answers) s a h u =
+      let rest = with_rest (AtPort n (P most k)) old.system_ports a s.quiet.1 in
+      let mid = Tick-each (λ m p. AtPort n (P most k) m p × AtRest periodic_rows p) (AtPort n (P (most - 1) (k + 1)))
+      (g.settles (most - 1) (k + 1)) (λ m p q r b e. g.ticks most k p q r b.1 (b.0 e)) gives old answer h.0 h.1 rest in
+      let end = ends (most - 1) (k + 1) h.0 new calls answers (Step-sound gives old Tick answer h.0 h.1 s) mid h.2 u.1 in
+      (end.0, one_more P n most k (tick_count calls) new.system_ports end.1)
+  ends most k old new (Set_link m up ∷ calls) (answer ∷ answers) s a h u =
+      ends most k h.0 new calls answers (Step-sound gives old (Set_link m up) answer h.0 h.1 s)
+      (Step-each (AtPort n (P most k)) (g.settles most k) gives old (Set_link m up) answer h.0
+      (g.calls most k (Set_link m up) answer u.0 (λ e. cc)) h.1 a) h.2 u.1
+  ends most k old new (Receive m octets ∷ calls) (answer ∷ answers) s a h u =
+      ends most k h.0 new calls answers (Step-sound gives old (Receive m octets) answer h.0 h.1 s)
+      (Step-each (AtPort n (P most k)) (g.settles most k) gives old (Receive m octets) answer h.0
+      (g.calls most k (Receive m octets) answer u.0 (λ e. cc)) h.1 a) h.2 u.1
+  ends most k old new (Configure m change ∷ calls) (answer ∷ answers) s a h u =
+      ends most k h.0 new calls answers (Step-sound gives old (Configure m change) answer h.0 h.1 s)
+      (Step-each (AtPort n (P most k)) (g.settles most k) gives old (Configure m change) answer h.0
+      (g.calls most k (Configure m change) answer u.0 (λ e. cc)) h.1 a) h.2 u.1
+  ends most k old new (Restart ∷ calls) (answer ∷ answers) s a h u =
+      ends most k h.0 new calls answers (Step-sound gives old Restart answer h.0 h.1 s)
+      (Step-each (AtPort n (P most k)) (g.settles most k) gives old Restart answer h.0
+      (g.calls most k Restart answer u.0 (λ e. cc)) h.1 a) h.2 u.1
+  ends most k old new (Transmit m ∷ calls) (answer ∷ answers) s a h u =
+      ends most k h.0 new calls answers (Step-sound gives old (Transmit m) answer h.0 h.1 s)
+      (Step-each (AtPort n (P most k)) (g.settles most k) gives old (Transmit m) answer h.0
+      (g.calls most k (Transmit m) answer u.0 (λ e. cc)) h.1 a) h.2 u.1
+  ends most k old new (Offer agg octets ∷ calls) (answer ∷ answers) s a h u =
+      ends most k h.0 new calls answers (Step-sound gives old (Offer agg octets) answer h.0 h.1 s)
+      (Step-each (AtPort n (P most k)) (g.settles most k) gives old (Offer agg octets) answer h.0
+      (g.calls most k (Offer agg octets) answer u.0 (λ e. cc)) h.1 a) h.2 u.1
+  ends most k old new (Move_conversation agg conv port ∷ calls) (answer ∷ answers) s a h u =
+      ends most k h.0 new calls answers (Step-sound gives old (Move_conversation agg conv port) answer h.0 h.1 s)
+      (Step-each (AtPort n (P most k)) (g.settles most k) gives old (Move_conversation agg conv port) answer h.0
+      (g.calls most k (Move_conversation agg conv port) answer u.0 (λ e. cc)) h.1 a) h.2 u.1
+  ends most k old new (Force agg conv ∷ calls) (answer ∷ answers) s a h u =
+      ends most k h.0 new calls answers (Step-sound gives old (Force agg conv) answer h.0 h.1 s)
+      (Step-each (AtPort n (P most k)) (g.settles most k) gives old (Force agg conv) answer h.0
+      (g.calls most k (Force agg conv) answer u.0 (λ e. cc)) h.1 a) h.2 u.1
+
+-- the port at a place, by its number
+
+wrong_number : (m n : ℕ) → m < n → m ≡ n → ⊥
+wrong_number m n l e = omega (arith, l, e)
+
+above : (S : Machines → Type 0) (low n : ℕ) (xs : List SystemPort) → Rises low (port_numbers xs) → n ≤ low
+    → OfEach (λ m p. m ≡ n → S p) xs
+above S low n [] r l = tt
+above S low n (y ∷ ys) r l = (
+  λ e. absurd (wrong_number n y.number (omega (arith, r.0, l)) (sym e)),
+  above S y.number n ys r.1 (omega (arith, r.0, l)),
+)
+
+higher : (low : ℕ) (xs : List SystemPort) (i : ℕ) (x : SystemPort) → Rises low (port_numbers xs) → slice_get xs i ≡ Some x
+    → low < x.number
+higher low [] i x r e = absurd (none-some x e)
+higher low (y ∷ ys) zero x r e = subst (λ (z : SystemPort). low < z.number) (same_Some y x e) r.0
+higher low (y ∷ ys) (suc i) x r e = omega (arith, higher y.number ys i x r.1 e, r.0)
+
+pub at_number : (S : Machines → Type 0) (low : ℕ) (xs : List SystemPort) (i : ℕ) (x : SystemPort) → Rises low (port_numbers xs)
+    → slice_get xs i ≡ Some x → S x.port → OfEach (λ m p. m ≡ x.number → S p) xs
+at_number S low [] i x r e s = absurd (none-some x e)
+at_number S low (y ∷ ys) zero x r e s =
+    let same : x ≡ y = sym (same_Some y x e) in (
+      λ _. subst (λ (z : SystemPort). S z.port) same s,
+      above S y.number x.number ys r.1 (subst (λ (z : SystemPort). z.number ≤ y.number) (sym same) (omega arith)),
+    )
+at_number S low (y ∷ ys) (suc i) x r e s =
+    (λ f. absurd (wrong_number y.number x.number (higher y.number ys i x r.1 e) f), at_number S y.number ys i x r.1 e s)
+
+pub same_place : (xs ys : List SystemPort) (i : ℕ) (x y : SystemPort) → port_numbers ys ≡ port_numbers xs → slice_get xs i ≡ Some x
+    → slice_get ys i ≡ Some y → y.number ≡ x.number
+same_place xs ys i x y e f g = same_Some y.number x.number (sym (number_at ys i y g) ∙ (ap (λ l. slice_get l i) e ∙ number_at xs
+    i x f))
+  where
+    number_at : (zs : List SystemPort) (j : ℕ) (z : SystemPort) → slice_get zs j ≡ Some z
+        → slice_get (port_numbers zs) j ≡ Some z.number
+    number_at [] j z h = absurd (none-some z h)
+    number_at (w ∷ ws) zero z h = ap (λ (v : SystemPort). Some v.number) (same_Some w z h)
+    number_at (w ∷ ws) (suc j) z h = number_at ws j z h
+
+same_ports : (gives : ℕ → ℕ → ℕ → Type 0) (old new : SystemState) (calls : List Call) (replies : List Reply)
+    → TableRun gives old calls replies new → new.ports ≡ old.ports
+same_ports gives old new [] [] h = ap (λ (s : SystemState). s.ports) h
+same_ports gives old new [] (answer ∷ answers) h = absurd h
+same_ports gives old new (call ∷ calls) [] h = absurd h
+same_ports gives old new (call ∷ calls) (answer ∷ answers) h =
+    same_ports gives h.0 new calls answers h.2 ∙ ap (λ (s : SystemState). s.ports) (Step-frame gives old call answer h.0 h.1)
+
+-- the port at a place, after the calls
+pub goes_on : (Is : Call → Reply → Type 0) (P : ℕ → ℕ → Machines → Type 0) (gives : ℕ → ℕ → ℕ
+    → Type 0) (most : ℕ) (old new : SystemState)
+    (calls : List Call) (replies : List Reply) (i : ℕ) (x y : SystemPort) → GoesOn Is P x.number → IsSound old
+    → slice_get old.system_ports i ≡ Some x → P most 0 x.port → TableRun gives old calls replies new → EachCall Is calls replies
+    → slice_get new.system_ports i ≡ Some y → IsSound new × P (most - tick_count calls) (0 + tick_count calls) y.port
+goes_on Is P gives most old new calls replies i x y g s at p h u there =
+    let first = at_number (P most 0) 0 old.system_ports i x (ports_rise old s.ports) at p in
+    let end = ends Is P x.number g gives most 0 old new calls replies s first h u in
+    let numbers : port_numbers new.system_ports ≡ port_numbers old.system_ports =
+    end.0.ports.same ∙ (ap configured_numbers (same_ports gives old new calls replies h) ∙ sym s.ports.same) in
+    let number = same_place old.system_ports new.system_ports i x y numbers at there in
+    let ticks = tick_count calls in (
+      end.0,
+      all-get (λ (z : SystemPort). AtPort x.number (P (most - ticks) (0 + ticks)) z.number z.port) new.system_ports i y
+          there end.1 number,
+    )

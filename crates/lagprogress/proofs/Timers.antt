@@ -1,0 +1,203 @@
+-- What happens to a port leaves no timer above the ticks that it can start with.
+use Rattle.std.proofs.Common.{◌≡◌, ℕ, zero, suc, ◌+◌, ◌-◌, ◌<◌, ◌≤◌, Bool, true, false, cond, List, [], ◌∷◌, ◌++◌, ◌⊎◌, inl, inr}
+use Rattle.std.proofs.Common.{Option}
+use Rattle.std.proofs.Common.{Some, None, refl, sym, subst, arith, if◌then◌else◌}
+use Rattle.std.specs.Prelude.{filter, map, nat_lt}
+use Rattle.std.specs.List.{AllByRecursion}
+use Rattle.std.proofs.lemmas.Bool.Decides.{nat_tests}
+use Rattle.slowpdu.specs.declared.pdu.Lacpdu.{Lacpdu}
+use Rattle.portmachines.specs.declared.port.Setup.{Setup}
+use Rattle.portmachines.specs.declared.receive.ReceiveState.{ReceiveState}
+use Rattle.portmachines.specs.declared.receive.ReceiveState.TheVariants.{Initialize, PortDisabled, Expired, Defaulted, Current}
+use Rattle.portmachines.specs.declared.periodic.PeriodicState.{PeriodicState}
+use Rattle.portmachines.specs.declared.periodic.PeriodicState.TheVariants.{NoPeriodic, Fast, Slow, PeriodicTx}
+use Rattle.portmachines.specs.Machines.{Machines}
+use Rattle.portmachines.specs.Mux.{mux_rows}
+use Rattle.portmachines.specs.Periodic.{RunsPeriodic, periodic_rows}
+use Rattle.portmachines.specs.Receive.{lacpdu_rows, receive_rows, start_receive}
+use Rattle.portmachines.specs.Rows.{Fires, FiresTimes, Row, RunsToRest}
+use Rattle.portmachines.specs.Start.{Starts, before_start}
+use Rattle.portmachines.specs.Transmit.{after_sending, aged, count_down}
+use Rattle.lagsystem.specs.declared.drive.Reply.{Reply}
+use Rattle.lagsystem.specs.Calls.{Call, Tick, Set_link, Receive, Configure, Restart, Transmit, Offer, Move_conversation, Force}
+use Rattle.lagsystem.specs.Calls.{ProcessesLacpdu, changed_party, choice_with_link}
+use Rattle.lagprogress.specs.Timers.{IsTimed, most_current_while, most_periodic_timer}
+use Rattle.lagprogress.proofs.EachPort.{KeptByCall, KeptBySettling}
+
+-- what each row keeps, its machine keeps
+
+abbrev pub RowsKeep : (Machines → Type 0) → List Row → Type 0
+RowsKeep P [] = Unit {0}
+RowsKeep P (row ∷ rows) = ((p : Machines) → P p → P (row.effect p)) × RowsKeep P rows
+
+pub fires_keep : (P : Machines → Type 0) (rows : List Row) → RowsKeep P rows → (p q : Machines) → Fires rows p q → P p → P q
+fires_keep P [] k p q h a = absurd h
+fires_keep P (row ∷ rows) k p q h a = elim h [ inl f ↦ subst P (sym f.1) (k.0 p a) | inr f ↦ fires_keep P rows k.1 p q f a ]
+
+times_keep : (P : Machines → Type 0) (rows : List Row) → RowsKeep P rows → (n : ℕ) (p q : Machines) → FiresTimes rows n p q
+    → P p → P q
+times_keep P rows k zero p q h a = subst P (sym h) a
+times_keep P rows k (suc n) p q h a = fires_keep P rows k h.0 q h.2 (times_keep P rows k n p h.0 h.1 a)
+
+pub runs_keep : (P : Machines → Type 0) (rows : List Row) → RowsKeep P rows → (p q : Machines) → RunsToRest rows p q → P p → P q
+runs_keep P rows k p q h a = times_keep P rows k h.0 p q h.1 a
+
+-- current_while
+
+-- the bound is the least in EXPIRED
+least_expired : (short : Bool) (r : ReceiveState) → 30 ≤ most_current_while short r
+least_expired true r = omega arith
+least_expired false Initialize = omega arith
+least_expired false PortDisabled = omega arith
+least_expired false Expired = omega arith
+least_expired false Defaulted = omega arith
+least_expired false Current = omega arith
+
+rises : (short : Bool) (r : ReceiveState) → most_current_while short r ≤ most_current_while short Current
+rises true r = omega arith
+rises false Initialize = omega arith
+rises false PortDisabled = omega arith
+rises false Expired = omega arith
+rises false Defaulted = omega arith
+rises false Current = omega arith
+
+as_current : (short : Bool) → (most_current_while short Initialize ≡ most_current_while short Current)
+    × (most_current_while short PortDisabled ≡ most_current_while short Current)
+    × (most_current_while short Defaulted ≡ most_current_while short Current)
+as_current true = (refl, refl, refl)
+as_current false = (refl, refl, refl)
+
+starts_with : (short : Bool) → (if short then 30 else 900) ≤ most_current_while short Current
+starts_with true = omega arith
+starts_with false = omega arith
+
+abbrev Current_while : ReceiveState → Machines → Type 0
+Current_while to p = p.current_while ≤ most_current_while p.short to
+
+to_initialize : (p : Machines) → Current_while p.receive p → Current_while Initialize p
+to_initialize p a = omega (arith, a, rises p.short p.receive, (as_current p.short).0)
+
+to_disabled : (p : Machines) → Current_while p.receive p → Current_while PortDisabled p
+to_disabled p a = omega (arith, a, rises p.short p.receive, (as_current p.short).1)
+
+to_defaulted : (p : Machines) → Current_while p.receive p → Current_while Defaulted p
+to_defaulted p a = omega (arith, a, rises p.short p.receive, (as_current p.short).2)
+
+receive_keeps : RowsKeep IsTimed receive_rows
+receive_keeps = (
+  λ p a. (to_disabled p a.0, a.1, a.2, a.3),
+  (
+    λ p a. (to_disabled p a.0, a.1, a.2, a.3),
+    (
+      λ p a. (least_expired p.short Expired, a.1, a.2, a.3),
+      (
+        λ p a. (to_defaulted p a.0, a.1, a.2, a.3),
+        (
+          λ p a. (
+            least_expired
+                p.short Expired,
+            a.1,
+            a.2,
+            a.3,
+          ),
+          tt,
+        ),
+      ),
+    ),
+  ),
+)
+
+take_keeps : (v : Lacpdu) → RowsKeep IsTimed (lacpdu_rows v)
+take_keeps v = (λ p a. (starts_with p.short, a.1, a.2, a.3), tt)
+
+-- periodic_timer
+
+most_fast : (s : PeriodicState) → most_periodic_timer s ≤ 300
+most_fast Fast = omega arith
+most_fast Slow = omega arith
+most_fast NoPeriodic = omega arith
+most_fast PeriodicTx = omega arith
+
+abbrev rises_to : (p : Machines) → IsTimed p → p.periodic_timer ≤ 300
+rises_to p a = omega (arith, a.1, most_fast p.periodic)
+
+periodic_keeps : RowsKeep IsTimed periodic_rows
+periodic_keeps = (
+  λ p a. (a.0, rises_to p a, a.2, a.3),
+  (
+    λ p a. (a.0, omega arith, a.2, a.3),
+    (
+      λ p a. (a.0, rises_to p a, a.2, a.3),
+      (
+        λ p a. (a.0, omega arith, a.2, a.3),
+        (λ p a. (a.0, rises_to p a, a.2, a.3), (λ p a. (a.0, omega arith, a.2, a.3), (λ p a. (a.0, omega arith, a.2, a.3), tt))),
+      ),
+    ),
+  ),
+)
+
+-- wait_while
+
+mux_keeps : (ready : Bool) → RowsKeep IsTimed (mux_rows ready)
+mux_keeps ready = (
+  λ p a. (a.0, a.1, omega arith, a.3),
+  (λ p a. a, (λ p a. a, (λ p a. a, (λ p a. a, (λ p a. a, tt))))),
+)
+
+-- the ages
+
+kept_age : (b : Bool) (n : ℕ) (rest : List ℕ) → nat_lt n 11 ≡ b → AllByRecursion (λ a. a < 11) rest
+    → AllByRecursion (λ a. a < 11) (cond b (n ∷ rest) rest)
+kept_age true n rest e h = (grind (arith, nat_tests), h)
+kept_age false n rest e h = h
+
+recent : (ages : List ℕ) → AllByRecursion (λ a. a < 11) (aged ages)
+recent [] = tt
+recent (a ∷ ages) = kept_age (nat_lt (a + 1) 11) (a + 1) (aged ages) refl (recent ages)
+
+sent : (ages : List ℕ) → AllByRecursion (λ a. a < 11) ages → AllByRecursion (λ a. a < 11) (ages ++ 0 ∷ [])
+sent [] h = (omega arith, tt)
+sent (a ∷ ages) h = (h.0, sent ages h.1)
+
+counts : (p : Machines) → IsTimed p → IsTimed (count_down p)
+counts p a = (omega (arith, a.0), omega (arith, a.1), omega (arith, a.2), recent p.ages)
+
+starts : (p q : Machines) → Starts p q → IsTimed p → IsTimed q
+starts p q h a =
+    subst IsTimed (sym h.2) (runs_keep IsTimed receive_rows receive_keeps (start_receive p) h.0 h.1 (
+      to_initialize p a.0,
+      a.1,
+      a.2,
+      a.3,
+    ))
+
+takes : (v : Lacpdu) (p q : Machines) → ProcessesLacpdu v p q → IsTimed p → IsTimed q
+takes v p q h a = elim h [ inl f ↦ fires_keep IsTimed (lacpdu_rows v) (take_keeps v) p q f a | inr r ↦ subst IsTimed (sym r.1) a ]
+
+zero_current : (short : Bool) → 0 ≤ most_current_while short Initialize
+zero_current short = omega arith
+
+abbrev pub TimedAt : ℕ → Machines → Type 0
+TimedAt n p = IsTimed p
+
+pub timed_settles : KeptBySettling TimedAt
+timed_settles = record {
+  mux = λ n ready p q h a. runs_keep IsTimed (mux_rows ready) (mux_keeps ready) p q h a;
+  periodic = λ n p q h a. subst IsTimed (sym h.2) (runs_keep IsTimed periodic_rows periodic_keeps p h.0 h.1 a);
+  select = λ n choice p a. a;
+}
+
+pub timed_starts : (n : ℕ) (u : Setup) (q : Machines) → Starts (before_start u) q → TimedAt n q
+timed_starts n u q h = starts (before_start u) q h (zero_current u.short, omega arith, omega arith, tt)
+
+pub timed_kept : (call : Call) (answer : Reply) → KeptByCall TimedAt call answer
+timed_kept Tick answer = λ n p q h a. runs_keep IsTimed receive_rows receive_keeps (count_down p) q h (counts p a)
+timed_kept (Set_link n up) answer = λ max_links p q h a. runs_keep IsTimed receive_rows receive_keeps
+    (record p { enabled = up; choice = choice_with_link max_links up p.choice }) q h a
+timed_kept (Receive n octets) answer = λ v p q t h a. takes v p q h a
+timed_kept (Configure n change) answer = λ p q h a. starts (record p { party = changed_party change p.party }) q h.1 a
+timed_kept Restart answer = timed_starts
+timed_kept (Transmit n) answer = λ p e a. (a.0, a.1, a.2, sent p.ages a.3)
+timed_kept (Offer agg octets) answer = tt
+timed_kept (Move_conversation agg conv port) answer = tt
+timed_kept (Force agg conv) answer = tt

@@ -1,0 +1,10 @@
+use Rattle.lagworld.specs.Sound.{both_algorithms}
+use Rattle.lagprogress.proofs.Halves.{keeps_steady, start_steady}
+use Rattle.lagprogress.proofs.each_world_is_steady.Goals as goal
+
+pub returns-clause-start : goal.returns-clause-start
+returns-clause-start g c = start_steady
+
+pub returns-clause-kept : goal.returns-clause-kept
+returns-clause-kept g c = λ one two. keeps_steady (both_algorithms (λ conv count place. g.F.Fn.post one (conv, (count, tt)) place)
+    (λ conv count place. g.F.Fn.post two (conv, (count, tt)) place))

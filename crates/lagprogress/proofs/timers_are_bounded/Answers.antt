@@ -1,0 +1,10 @@
+use Rattle.lagprogress.proofs.EachPort.{Step-each, first_each}
+use Rattle.lagprogress.proofs.Timers.{TimedAt, timed_kept, timed_settles, timed_starts}
+use Rattle.lagprogress.proofs.timers_are_bounded.Goals as goal
+
+pub returns-clause-first : goal.returns-clause-first
+returns-clause-first g c = λ s h. first_each TimedAt timed_settles timed_starts s h
+
+pub returns-clause-kept : goal.returns-clause-kept
+returns-clause-kept g c = λ algorithm old new call reply h a. Step-each TimedAt timed_settles
+    (λ conv count place. g.F.Fn.post algorithm (conv, (count, tt)) place) old call reply new (timed_kept call reply) h a

@@ -1,0 +1,41 @@
+-- What holds of both systems of each world that events lead to.
+use Rattle.std.specs.Prelude.{ℕ, List}
+use Rattle.lagmodel.specs.World.{Side}
+use Rattle.lagsystem.specs.declared.config.Config.{Config}
+use Rattle.lagsystem.specs.declared.drive.Reply.{Reply as Answer}
+use Rattle.lagsystem.specs.Calls.{Call, TableRun}
+use Rattle.lagsystem.specs.Sound.{IsSound}
+use Rattle.lagsystem.specs.State.{SystemState}
+use Rattle.lagscript.specs.declared.event.Event.{Event}
+use Rattle.lagworld.specs.declared.reply.Reply.{Reply}
+use Rattle.lagworld.specs.Events.{Algorithms, WorldSteps}
+use Rattle.lagworld.specs.Making.{AreFirst}
+use Rattle.lagworld.specs.Sound.{IsStart}
+use Rattle.lagworld.specs.State.{WorldState, half}
+use Rattle.lagprogress.specs.Timers.{PortsAreTimed}
+
+-- the system is sound, and no timer of its ports is above its bound
+abbrev pub IsSteadySystem : SystemState → Type 0
+IsSteadySystem s = IsSound s × PortsAreTimed s
+
+-- both systems of the world are so
+abbrev pub IsSteady : WorldState → Type 0
+IsSteady j = (s : Side) → IsSteadySystem (half s j).state
+
+-- a world that has just been made, of two systems in their first states, is so
+abbrev pub StartIsSteady : Type 0
+StartIsSteady = (configs : List Config) (j : WorldState) → IsStart j → AreFirst configs j → IsSteady j
+
+-- and each event keeps it
+abbrev pub EachEventKeepsSteady : Algorithms → Type 0
+EachEventKeepsSteady gives = (e : Event) (r : Reply) (old new : WorldState) → WorldSteps gives old e r new → IsSteady old
+    → IsSteady new
+
+-- some calls lead from one state of a system to another
+abbrev pub GoesByCalls : (ℕ → ℕ → ℕ → Type 0) → SystemState → SystemState → Type 0
+GoesByCalls gives old new = (calls : List Call) × (answers : List Answer) × TableRun gives old calls answers new
+
+-- each event of a world is a list of calls of each of its systems
+abbrev pub EachEventIsCalls : Algorithms → Type 0
+EachEventIsCalls gives = (e : Event) (r : Reply) (old new : WorldState) → WorldSteps gives old e r new
+    → (s : Side) → GoesByCalls (gives s) (half s old).state (half s new).state

@@ -1,0 +1,95 @@
+//! How ports make progress: which are SELECTED, how long one is silent, notices silence, and knows what it heard, and how
+//! far timers go. The functions of this crate do nothing when they run: the contract of each is a proved theorem over the
+//! states and calls of `lagsystem`, and over the events of `lagworld`.
+//!
+//! In comments, numbers such as 6.4.13 are sections of IEEE 802.1AX-2014, and "profile" is docs/PROFILE.md.
+#![tactic(auto)]
+
+ghost use Rattle.lagprogress.specs.Silence.{SilenceEnds};
+
+/// An active port whose link is up is not silent for long: how many ticks remain until NTT is true, no firing of the
+/// periodic machine raises; each tick lowers it by one; and where none remain NTT is true (6.4.13).
+pub fn silence_ends()
+    ensures { SilenceEnds }
+{}
+
+ghost use Rattle.lagprogress.specs.Selecting.{FindsAggregator, WaitsForRoom};
+
+/// A port of a sound system whose link is up, that is CURRENT or DEFAULTED and whose partner is not its own system is
+/// SELECTED, or STANDBY in an aggregator that has no room, if its system has at least as many aggregators of its key as
+/// ports of that key (6.4.14; profile).
+pub fn ports_find_aggregators()
+    ensures { FindsAggregator }
+{}
+
+/// No STANDBY port of a sound system waits while its aggregator has room: that has as many members as the limit of links
+/// (6.4.14; profile).
+pub fn standby_ports_wait_for_room()
+    ensures { WaitsForRoom }
+{}
+
+ghost use Rattle.lagprogress.specs.Timers.{EachCallKeepsTimed, FirstIsTimed};
+
+/// No timer of a port has more ticks than it can start with: current_while at most Short_Timeout_Time (30 ticks) if the
+/// port has Short Timeout or is in EXPIRED, else Long_Timeout_Time (900); periodic_timer at most Fast_Periodic_Time (10)
+/// in FAST, else Slow_Periodic_Time (300); wait_while at most Aggregate_Wait_Time (20); and no age of the transmit window
+/// is above 10 (6.4.4, 6.4.16). So it is in each first state, and each call keeps it, whatever the distribution algorithm
+/// returns.
+pub fn timers_are_bounded<F: Fn(u16, usize) -> usize>()
+    ensures first { FirstIsTimed }
+    ensures kept { (algorithm : F) → EachCallKeepsTimed (F.post algorithm) }
+{}
+
+ghost use Rattle.lagprogress.specs.Waits.{EachCallKeepsWaits, FirstWaitsAreShort};
+
+/// A conversation that waits for the response to a marker has waited fewer than 30 ticks (3 s): so it is in each first
+/// state, and each call keeps it, whatever the distribution algorithm returns (6.2.5; profile).
+pub fn waits_are_short<F: Fn(u16, usize) -> usize>()
+    ensures first { FirstWaitsAreShort }
+    ensures kept { (algorithm : F) → EachCallKeepsWaits (F.post algorithm) }
+{}
+
+ghost use Rattle.lagprogress.specs.Heartbeat.{IsHeard};
+
+/// An active port whose link stays up is heard: after any calls that leave its link up, 309 ticks or more among them, an
+/// LACPDU is due on it, if it sent none in them. So it sends one in any 309 ticks (31 s) after each of which it is asked
+/// (6.4.13, 6.4.16). The system is sound, its timers are within their bounds, and its distribution algorithm may return
+/// anything.
+pub fn active_ports_are_heard<F: Fn(u16, usize) -> usize>()
+    ensures { (algorithm : F) → IsHeard (F.post algorithm) }
+{}
+
+ghost use Rattle.lagprogress.specs.Hearing.{IsNoticed};
+
+/// Silence is noticed: a port whose link stays up, whose parameters are not changed, and that processes no LACPDU is not
+/// CURRENT after 900 ticks (90 s), or 30 (3 s) if it has Short Timeout, and it is DEFAULTED after 30 more (6.4.12). The
+/// system is sound, its timers are within their bounds, and its distribution algorithm may return anything.
+pub fn silence_is_noticed<F: Fn(u16, usize) -> usize>()
+    ensures { (algorithm : F) → IsNoticed (F.post algorithm) }
+{}
+
+ghost use Rattle.lagprogress.specs.Knowing.{IsKnown};
+
+/// What a port heard it knows: a port that processed an LACPDU is CURRENT and has recorded its actor, with its Activity
+/// and its Timeout, for 900 ticks (90 s), or 30 (3 s) if it has Short Timeout, while its link stays up, its parameters
+/// are not changed, and it processes no other LACPDU (6.4.12). The system is sound, and its distribution algorithm may
+/// return anything.
+pub fn what_was_heard_is_known<F: Fn(u16, usize) -> usize>()
+    ensures { (algorithm : F) → IsKnown (F.post algorithm) }
+{}
+
+ghost use Rattle.lagworld.specs.Sound.{both_algorithms};
+ghost use Rattle.lagprogress.specs.Steady.{EachEventIsCalls, EachEventKeepsSteady, StartIsSteady};
+
+/// Each event of a world is a list of calls of each of its two systems, perhaps an empty one; so what the other laws say
+/// of calls holds of events (profile).
+pub fn each_event_is_calls<F: Fn(u16, usize) -> usize>()
+    ensures { (one two : F) → EachEventIsCalls (both_algorithms (F.post one) (F.post two)) }
+{}
+
+/// Both systems of a world are sound, and their timers within their bounds: at the start, and after each event, whatever
+/// the distribution algorithms return (6.4.4; profile).
+pub fn each_world_is_steady<F: Fn(u16, usize) -> usize>()
+    ensures start { StartIsSteady }
+    ensures kept { (one two : F) → EachEventKeepsSteady (both_algorithms (F.post one) (F.post two)) }
+{}
