@@ -3,6 +3,7 @@ pub mod TextLemmas
 pub mod LookLemmas
 pub mod LineLemmas
 pub mod EngineLemmas
+pub mod TickLemmas
 pub mod Walks
 pub mod InputLemmas
 pub mod SinkLemmas

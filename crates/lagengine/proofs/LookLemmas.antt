@@ -9,10 +9,10 @@ use Rattle.lagengine.specs.declared.looks.AggAnswer.{AggAnswer}
 
 -- one more
 pub sharings_more : (s : SystemState) (told new : List AggAnswer) (x : AggAnswer) (n : ℕ)
-    → map agg_answer_value told ≡ map (agg_answer s) (range_with_len 0 n) → new ≡ told ++ x ∷ [] → agg_answer_value x ≡ agg_answer s n
-    → map agg_answer_value new ≡ map (agg_answer s) (range_with_len 0 (n + 1))
+    → map agg_answer_value told ≡ map (agg_answer s) (range_with_len 1 n) → new ≡ told ++ x ∷ [] → agg_answer_value x ≡ agg_answer s (n + 1)
+    → map agg_answer_value new ≡ map (agg_answer s) (range_with_len 1 (n + 1))
 sharings_more s told new x n so_far pushed is =
-    let here : 0 + n ≡ n = omega arith in
+    let here : 1 + n ≡ n + 1 = omega arith in
     ap (map agg_answer_value) pushed ∙ map-append agg_answer_value told (x ∷ []) ∙ ap (λ t. t ++ agg_answer_value x ∷ []) so_far
-    ∙ ap (λ y. map (agg_answer s) (range_with_len 0 n) ++ y ∷ []) is
-    ∙ sym (map-range_with_len_more (agg_answer s) 0 n n here)
+    ∙ ap (λ y. map (agg_answer s) (range_with_len 1 n) ++ y ∷ []) is
+    ∙ sym (map-range_with_len_more (agg_answer s) 1 n (n + 1) here)

@@ -1,7 +1,7 @@
 -- What an engine does for a line: it makes the call of the system that the line asks for.
-use Rattle.std.specs.Prelude.{◌≡◌, ⊤, ◌⊎◌, Vec, ℕ, List, [], ◌∷◌, ◌++◌, length, map, Option, Some, None, option_map, Result, Ok, Err}
+use Rattle.std.specs.Prelude.{◌≡◌, ⊤, ◌⊎◌, Vec, ℕ, List, [], ◌∷◌, ◌++◌, length, map, replicate, Option, Some, None, option_map, Result, Ok, Err}
 use Rattle.distributor.specs.Conversations.{next_identifier}
-use Rattle.lagsystem.specs.Calls.{Call}
+use Rattle.lagsystem.specs.Calls.{Call, Tick}
 use Rattle.lagsystem.specs.Drives.{Drives, call_of}
 use Rattle.lagsystem.specs.Forcing.{ForcesPort}
 use Rattle.lagsystem.specs.First.{IsFirst, fault_or_no_memory, refusal}
@@ -13,9 +13,10 @@ use Rattle.lagsystem.specs.declared.drive.Call.{Call as Handed}
 use Rattle.lagsystem.specs.declared.fault.BadConfig.{BadConfig}
 use Rattle.lagsystem.specs.declared.fault.SystemFault.{SystemFault}
 use Rattle.lagsystem.specs.declared.drive.Reply.{Reply}
+use Rattle.lagsystem.specs.declared.drive.Reply.TheVariants as reply
 use Rattle.lagengine.specs.Lines.{request_in}
 use Rattle.lagengine.specs.Looks.{all_aggregators, all_ports, port_answer, agg_answer}
-use Rattle.lagengine.specs.Requests.{TaskValue, RequestValue, ConfigValue, Start, Work, Make, Keep, Drive, ForcePort, Conversation, Ask}
+use Rattle.lagengine.specs.Requests.{TaskValue, RequestValue, ConfigValue, Start, Work, Make, Ticks, Keep, Drive, ForcePort, Conversation, Ask}
 use Rattle.lagengine.specs.AnswerValues.{AnswerValue}
 use Rattle.lagengine.specs.AnswerValues as said
 use Rattle.lagengine.specs.declared.engine.Inner.{Inner}
@@ -106,6 +107,14 @@ DrivesKept gives s (Some calls) answer new =
     (replies : List Reply) × (t : SystemState) × Drives gives s calls replies t × (answer ≡ said.Drove replies)
     × (new ≡ record { system = Some t; kept = None })
 
+-- so many ticks are made, one after another; or so many ticks are stored, if calls are stored
+abbrev pub TicksOrKeeps : (ℕ → ℕ → ℕ → Type 0) → ℕ → SystemState → Option (List Call) → AnswerValue → EngineState → Type 0
+TicksOrKeeps gives n s None answer new =
+    (t : SystemState) × Drives gives s (replicate n Tick) (replicate n reply.Tick) t × (answer ≡ said.Done)
+    × (new ≡ record { system = Some t; kept = None })
+TicksOrKeeps gives n s (Some calls) answer new = (answer ≡ said.Kept)
+    × (new ≡ record { system = Some s; kept = Some (calls ++ replicate n Tick) })
+
 -- the answer of a reader
 abbrev pub reader_answer : Question → SystemState → AnswerValue
 reader_answer (question.Port q n) s = said.Port (port_answer q s n)
@@ -119,6 +128,7 @@ reader_answer question.All s = said.All (all_ports s) (all_aggregators s)
 -- a task is done with the system
 abbrev pub DoesTask : (ℕ → ℕ → ℕ → Type 0) → TaskValue → SystemState → Option (List Call) → AnswerValue → EngineState → Type 0
 DoesTask gives (Make call) s kept answer new = CallsOrKeeps gives call s kept answer new
+DoesTask gives (Ticks n) s kept answer new = TicksOrKeeps gives n s kept answer new
 -- from now on, calls are stored
 DoesTask gives Keep s kept answer new = (answer ≡ said.Done) × (new ≡ record { system = Some s; kept = Some (kept_so_far kept) })
 DoesTask gives Drive s kept answer new = DrivesKept gives s kept answer new

@@ -1,3 +1,4 @@
+pub mod CommandLines
 pub mod Words
 pub mod Requests
 pub mod Lines

@@ -1,5 +1,5 @@
 -- The answers of the readers (profile).
-use Rattle.std.specs.Prelude.{ℕ, ◌+◌, List, length, map, Option, option_map}
+use Rattle.std.specs.Prelude.{ℕ, List, length, map, Option, option_map}
 use Rattle.std.specs.List.{range_with_len}
 use Rattle.portmachines.specs.declared.mux.MuxState.TheVariants.{CollectingDistributing}
 use Rattle.portmachines.specs.Machines.{Machines}
@@ -69,6 +69,6 @@ agg_answer s g = record { agg = g; ports = distributing (aggregator_numbered g) 
 abbrev pub all_ports : SystemState → List PortAnswer
 all_ports s = map (port_answer of_port.Look s) (port_numbers s.system_ports)
 
--- which ports distribute in it, for number 0, which is no aggregator, and for each aggregator
+-- which ports distribute in it, for each aggregator
 abbrev pub all_aggregators : SystemState → List AggAnswerValue
-all_aggregators s = map (agg_answer s) (range_with_len 0 (length s.keys + 1))
+all_aggregators s = map (agg_answer s) (range_with_len 1 (length s.keys))

@@ -1,5 +1,5 @@
 -- The requests that lines make (profile).
-use Rattle.std.specs.Prelude.{◌≡◌, ⊤, ℕ, Bool, List, [], ◌∷◌, codes, map, if◌then◌else◌, Option, Some, None, Result, Ok, Err}
+use Rattle.std.specs.Prelude.{◌≡◌, ⊤, ℕ, ◌+◌, Bool, List, [], ◌∷◌, codes, map, if◌then◌else◌, Option, Some, None, Result, Ok, Err}
 use Rattle.std.specs.Borrow.{Bor}
 use Rattle.std.specs.Option.{unwrap_or}
 use Rattle.std.specs.Str.{bytes_eq}
@@ -10,7 +10,7 @@ use Rattle.lagsystem.specs.Calls.{Call, Receive, Tick, Set_link, Configure, Rest
 use Rattle.lagsystem.specs.Drives.{call_of}
 use Rattle.lagsystem.specs.declared.config.Config.{Config}
 use Rattle.lagsystem.specs.declared.config.PortConfig.{PortConfig}
-use Rattle.lagengine.specs.Words.{◌>>=◌, SevenFields, each, number_word, long_number_word, mac_word, link_word, aggregation_word}
+use Rattle.lagengine.specs.Words.{◌>>=◌, SevenFields, each_at_place, number_word, ticks_word, long_number_word, mac_word, link_word, aggregation_word}
 use Rattle.lagengine.specs.Words.{hex_word, keys_word, port_word}
 use Rattle.lagengine.specs.declared.fault.RequestError.{RequestError}
 use Rattle.lagengine.specs.declared.fault.RequestError.TheVariants.{Fault, NoMemory}
@@ -47,10 +47,11 @@ config_value c = record {
   ports = c.ports.items;
 }
 
--- a task for a system: make a call, store calls from now on, make the stored calls, force what is held on a port, or answer
--- a question
+-- a task for a system: make a call, make some ticks, store calls from now on, make the stored calls, force what is held
+-- on a port, or answer a question
 pub data TaskValue : Type 0 where
   Make : Call → TaskValue
+  Ticks : ℕ → TaskValue  -- so many ticks, one after another
   Keep : TaskValue
   Drive : TaskValue
   ForcePort : ℕ → TaskValue  -- force what is held on this port
@@ -60,6 +61,7 @@ pub data TaskValue : Type 0 where
 -- the task, as a value of the logic
 abbrev pub task_value : Task → TaskValue
 task_value (task.Make call) = Make (call_of call)
+task_value (task.Ticks n) = Ticks n
 task_value task.Keep = Keep
 task_value task.Drive = Drive
 task_value (task.ForcePort port) = ForcePort port
@@ -145,9 +147,9 @@ abbrev pub four_words : List (List ℕ) → Result (List ℕ × List ℕ × List
 four_words (a ∷ b ∷ c ∷ d ∷ []) = Ok (a, b, c, d)
 four_words _ = Err fault.Count
 
--- what reads one word: its value, or the fault
+-- what reads the word at a place: its value, or the fault
 abbrev pub WordReader : Type 0 → Type 0
-WordReader A = List ℕ → Result A RequestFault
+WordReader A = ℕ → List ℕ → Result A RequestFault
 
 -- the task, if no words come after the first; else Count
 abbrev pub with_no_words : TaskValue → List (List ℕ) → Result TaskValue RequestFault
@@ -155,23 +157,23 @@ with_no_words asked ws = no_words ws >>= λ _. Ok asked
 
 -- the task made of exactly one word after the first, or the fault
 abbrev pub with_one_word : {A : Type 0} → WordReader A → (A → TaskValue) → List (List ℕ) → Result TaskValue RequestFault
-with_one_word f make ws = one_word ws >>= λ a. f a >>= λ x. Ok (make x)
+with_one_word f make ws = one_word ws >>= λ a. f 2 a >>= λ x. Ok (make x)
 
 -- the task made of exactly two words after the first, or the first fault
 abbrev pub with_two_words : {A B : Type 0} → WordReader A → WordReader B → (A → B → TaskValue) → List (List ℕ)
     → Result TaskValue RequestFault
-with_two_words f g make ws = two_words ws >>= λ p. f p.0 >>= λ x. g p.1 >>= λ y. Ok (make x y)
+with_two_words f g make ws = two_words ws >>= λ p. f 2 p.0 >>= λ x. g 3 p.1 >>= λ y. Ok (make x y)
 
 -- the task made of exactly three words after the first, or the first fault
 abbrev pub with_three_words : {A B C : Type 0} → WordReader A → WordReader B → WordReader C → (A → B → C → TaskValue) → List (List ℕ)
     → Result TaskValue RequestFault
-with_three_words f g h make ws = three_words ws >>= λ p. f p.0 >>= λ x. g p.1 >>= λ y. h p.2 >>= λ z. Ok (make x y z)
+with_three_words f g h make ws = three_words ws >>= λ p. f 2 p.0 >>= λ x. g 3 p.1 >>= λ y. h 4 p.2 >>= λ z. Ok (make x y z)
 
 -- the task made of exactly four words after the first, or the first fault
 abbrev pub with_four_words : {A B C D : Type 0} → WordReader A → WordReader B → WordReader C → WordReader D
     → (A → B → C → D → TaskValue) → List (List ℕ)
     → Result TaskValue RequestFault
-with_four_words f g h i make ws = four_words ws >>= λ p. f p.0 >>= λ x. g p.1 >>= λ y. h p.2 >>= λ z. i p.3 >>= λ w. Ok (make x y z w)
+with_four_words f g h i make ws = four_words ws >>= λ p. f 2 p.0 >>= λ x. g 3 p.1 >>= λ y. h 4 p.2 >>= λ z. i 5 p.3 >>= λ w. Ok (make x y z w)
 
 -- the aggregator with this number
 abbrev pub agg_id : ℕ → AggId
@@ -187,18 +189,25 @@ abbrev pub number_and_rest : Result (Option ℕ × Bor (List Word)) RequestFault
 number_and_rest (Ok p) = Ok (p.0, map word_octets p.1.now)
 number_and_rest (Err e) = Err e
 
--- the number behind this name if the words begin with the two, and the words after them; else no number, and all words
-abbrev pub number_behind : List ℕ → List (List ℕ) → Result (Option ℕ × List (List ℕ)) RequestFault
-number_behind name (first ∷ second ∷ rest) =
-    if bytes_eq first name then (number_word second >>= λ n. Ok (Some n, rest)) else Ok (None, first ∷ second ∷ rest)
-number_behind name words = Ok (None, words)
+-- the number behind this name if the words begin with the two, and the words after them; else no number, and all words.
+-- The number stands at this place.
+abbrev pub number_behind : List ℕ → ℕ → List (List ℕ) → Result (Option ℕ × List (List ℕ)) RequestFault
+number_behind name place (first ∷ second ∷ rest) =
+    if bytes_eq first name then (number_word place second >>= λ n. Ok (Some n, rest)) else Ok (None, first ∷ second ∷ rest)
+number_behind name place words = Ok (None, words)
+
+-- the place of the word that comes next: two later, behind a name with a number
+abbrev pub place_behind : ℕ → Option ℕ → ℕ
+place_behind place None = place
+place_behind place (Some n) = place + 2
 
 -- PRIORITY MAC MAX_DELAY FIRST_MARKER KEYS [max-links N] [conversations N] PORT ..
 abbrev pub config_in : List (List ℕ) → Result ConfigValue RequestFault
 config_in (priority ∷ mac ∷ delay ∷ marker ∷ keys ∷ rest) =
-    number_word priority >>= λ priority. mac_word mac >>= λ mac. number_word delay >>= λ delay. long_number_word marker >>= λ marker.
-    keys_word keys >>= λ keys. number_behind (codes "max-links") rest >>= λ limit.
-    number_behind (codes "conversations") limit.1 >>= λ count. each port_word count.1 >>= λ ports.
+    number_word 2 priority >>= λ priority. mac_word 3 mac >>= λ mac. number_word 4 delay >>= λ delay.
+    long_number_word 5 marker >>= λ marker. keys_word 6 keys >>= λ keys. number_behind (codes "max-links") 8 rest >>= λ limit.
+    number_behind (codes "conversations") (place_behind 8 limit.0) limit.1 >>= λ count.
+    each_at_place port_word (place_behind (place_behind 7 limit.0) count.0) count.1 >>= λ ports.
     Ok (record {
       system = record { priority = priority; mac = mac };
       max_delay = delay;
@@ -236,10 +245,16 @@ question_named name =
     else if bytes_eq name (codes "all") then with_no_words (Ask question.All)
     else (λ _. Err fault.Word)
 
+-- one tick if no word comes after the first, else as many ticks as one word says
+abbrev pub ticks_asked : List (List ℕ) → Result TaskValue RequestFault
+ticks_asked [] = Ok (Make Tick)
+ticks_asked (w ∷ []) = ticks_word 2 w >>= λ n. Ok (Ticks n)
+ticks_asked _ = Err fault.Count
+
 -- the calls without octets, by their first word
 abbrev pub call_named : List ℕ → List (List ℕ) → Result TaskValue RequestFault
 call_named name =
-    if bytes_eq name (codes "tick") then with_no_words (Make Tick)
+    if bytes_eq name (codes "tick") then ticks_asked
     else if bytes_eq name (codes "restart") then with_no_words (Make Restart)
     else if bytes_eq name (codes "link") then with_two_words number_word link_word (λ port up. Make (Set_link port up))
     else if bytes_eq name (codes "transmit") then with_one_word number_word (λ port. Make (Transmit port))

@@ -1,6 +1,6 @@
 ghost use Rattle.std.specs.Prelude.{◌≡◌, map};
 ghost use Rattle.lagengine.specs.Requests.{call_named, configure_task, with_four_words, with_no_words, with_one_word, port_question};
-ghost use Rattle.lagengine.specs.Requests.{question_named, task_result_value, with_three_words, with_two_words};
+ghost use Rattle.lagengine.specs.Requests.{question_named, task_result_value, ticks_asked, with_three_words, with_two_words};
 ghost use Rattle.lagengine.specs.Requests as asked;
 ghost use Rattle.lagsystem.specs.Calls as call;
 ghost use Rattle.lagengine.specs.Words.{aggregation_word, link_word, number_word};
@@ -8,7 +8,7 @@ ghost use Rattle.lagengine.specs.declared.request.Question.TheVariants as questi
 
 use crate::fault::RequestFault;
 use crate::request::{PortQuestion, Question, Task, one_word, task_alone, two_words};
-use crate::words::{aggregation, link, number};
+use crate::words::{aggregation, link, number, ticks};
 use lagsystem::{AggId, Call, Key, PortChange};
 
 /// The words, if there are exactly three.
@@ -31,13 +31,24 @@ fn four_words<'a>(words: &[&'a str]) -> Result<(&'a str, &'a str, &'a str, &'a s
     }
 }
 
+/// Reads the word of `tick`: a number of ticks, or no word for one tick.
+fn tick(words: &[&str]) -> Result<Task, RequestFault>
+    ensures { task_result_value result ≡ ticks_asked (map (λ w. w.now) words.now) }
+{
+    match words {
+        [] => Ok(Task::Make(Call::Tick)),
+        [count] => Ok(Task::Ticks(ticks(2, *count)?)),
+        _ => Err(RequestFault::Count),
+    }
+}
+
 /// Reads the words of `link`: a port, and `up` or `down`.
 fn set_link(words: &[&str]) -> Result<Task, RequestFault>
     ensures { task_result_value result ≡ with_two_words number_word link_word (λ port up. asked.Make (call.Set_link port up))
         (map (λ w. w.now) words.now) }
 {
     let (port, up) = two_words(words)?;
-    Ok(Task::Make(Call::SetLink(number(port)?, link(up)?)))
+    Ok(Task::Make(Call::SetLink(number(2, port)?, link(3, up)?)))
 }
 
 /// Reads the word of `transmit`: a port.
@@ -45,7 +56,7 @@ fn transmit(words: &[&str]) -> Result<Task, RequestFault>
     ensures { task_result_value result ≡ with_one_word number_word (λ port. asked.Make (call.Transmit port)) (map (λ w. w.now) words.now) }
 {
     let port = one_word(words)?;
-    Ok(Task::Make(Call::Transmit(number(port)?)))
+    Ok(Task::Make(Call::Transmit(number(2, port)?)))
 }
 
 /// Reads the words of `configure`: a port, its key and priority, and `aggregatable` or `individual`.
@@ -54,10 +65,10 @@ fn configure(words: &[&str]) -> Result<Task, RequestFault>
         (map (λ w. w.now) words.now) }
 {
     let (port, key, priority, aggregatable) = four_words(words)?;
-    let port = number(port)?;
-    let key = Key(number(key)?);
-    let priority = number(priority)?;
-    let aggregatable = aggregation(aggregatable)?;
+    let port = number(2, port)?;
+    let key = Key(number(3, key)?);
+    let priority = number(4, priority)?;
+    let aggregatable = aggregation(5, aggregatable)?;
     let change = PortChange {
         key,
         priority,
@@ -72,9 +83,9 @@ fn move_conversation(words: &[&str]) -> Result<Task, RequestFault>
         (λ g k port. asked.Make (call.Move_conversation (asked.agg_id g) k port)) (map (λ w. w.now) words.now) }
 {
     let (agg, conv, port) = three_words(words)?;
-    let agg = AggId(number(agg)?);
-    let conv = number(conv)?;
-    let port = number(port)?;
+    let agg = AggId(number(2, agg)?);
+    let conv = number(3, conv)?;
+    let port = number(4, port)?;
     Ok(Task::Make(Call::MoveConversation(agg, conv, port)))
 }
 
@@ -84,8 +95,8 @@ fn force(words: &[&str]) -> Result<Task, RequestFault>
         (map (λ w. w.now) words.now) }
 {
     let (agg, conv) = two_words(words)?;
-    let agg = AggId(number(agg)?);
-    Ok(Task::Make(Call::Force(agg, number(conv)?)))
+    let agg = AggId(number(2, agg)?);
+    Ok(Task::Make(Call::Force(agg, number(3, conv)?)))
 }
 
 /// Reads the word of `force-port`: a port.
@@ -93,7 +104,7 @@ fn force_port(words: &[&str]) -> Result<Task, RequestFault>
     ensures { task_result_value result ≡ with_one_word number_word asked.ForcePort (map (λ w. w.now) words.now) }
 {
     let port = one_word(words)?;
-    Ok(Task::ForcePort(number(port)?))
+    Ok(Task::ForcePort(number(2, port)?))
 }
 
 /// Reads the words of a question about one port.
@@ -101,7 +112,7 @@ fn port_question(asked: PortQuestion, words: &[&str]) -> Result<Task, RequestFau
     ensures { task_result_value result ≡ port_question asked (map (λ w. w.now) words.now) }
 {
     let port = one_word(words)?;
-    Ok(Task::Ask(Question::Port(asked, number(port)?)))
+    Ok(Task::Ask(Question::Port(asked, number(2, port)?)))
 }
 
 /// Reads the word of `distributing`: an aggregator.
@@ -110,7 +121,7 @@ fn distributing(words: &[&str]) -> Result<Task, RequestFault>
         (map (λ w. w.now) words.now) }
 {
     let agg = one_word(words)?;
-    Ok(Task::Ask(Question::Distributing(AggId(number(agg)?))))
+    Ok(Task::Ask(Question::Distributing(AggId(number(2, agg)?))))
 }
 
 /// Reads the words of `conversation-state`: an aggregator and a conversation.
@@ -120,8 +131,8 @@ fn conversation_state(words: &[&str]) -> Result<Task, RequestFault>
         (map (λ w. w.now) words.now) }
 {
     let (agg, conv) = two_words(words)?;
-    let agg = AggId(number(agg)?);
-    Ok(Task::Ask(Question::ConversationState(agg, number(conv)?)))
+    let agg = AggId(number(2, agg)?);
+    Ok(Task::Ask(Question::ConversationState(agg, number(3, conv)?)))
 }
 
 /// Reads a question, by its first word and the words after it.
@@ -155,7 +166,7 @@ pub(crate) fn call_named(name: &str, words: &[&str]) -> Result<Task, RequestFaul
     ensures { task_result_value result ≡ call_named name.now (map (λ w. w.now) words.now) }
 {
     match name {
-        "tick" => task_alone(Task::Make(Call::Tick), words),
+        "tick" => tick(words),
         "restart" => task_alone(Task::Make(Call::Restart), words),
         "link" => set_link(words),
         "transmit" => transmit(words),

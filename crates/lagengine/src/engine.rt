@@ -11,6 +11,7 @@ use crate::answer::Answer;
 use crate::fault::{RequestError, RequestFault};
 use crate::looks::{agg_answer, all_aggregators, all_ports, port_answer};
 use crate::request::{Question, Request, Task, request_in};
+use crate::ticks::tick_or_keep;
 use lagsystem::{Call, Config, Reply, System};
 use std::alloc::{AllocError, Global};
 use std::marker::Model;
@@ -159,6 +160,7 @@ fn do_task<F: Fn(u16, usize) -> usize + Drop>(
 {
     match task {
         Task::Make(call) => call_or_keep(system, kept, call),
+        Task::Ticks(count) => tick_or_keep(system, kept, count),
         Task::Keep => {
             keep(alloc, kept);
             Ok(Answer::Done)
@@ -260,7 +262,8 @@ impl<F: Fn(u16, usize) -> usize + Copy + Drop> Engine<F> {
         }
     }
 
-    /// Does the request of a line, and returns the answer. `line` has no line end. If the line is no request, or memory
+    /// Does the request of a line, and returns the answer. `line` has no
+    /// newline; one carriage return at its end is dropped. If the line is no request, or memory
     /// for it is refused, the answer is `Fault` with the first reason that holds, and nothing has changed (profile).
     pub fn answer(&mut self, line: &[u8]) -> Answer
         requires usable { PicksIndexes (F.pre self.old.algorithm) (F.post self.old.algorithm) }

@@ -5,7 +5,7 @@ ghost use Rattle.lagengine.specs.declared.fault.RequestError.TheVariants.{Fault,
 use std::alloc::{AllocError, AllocFailed};
 use std::fmt;
 
-/// Why a line is refused (profile).
+/// Why a line is refused (profile). Words are counted from 1, the name of the request.
 #[derive(Clone, Copy, Debug, PartialEq, Eq)]
 pub enum RequestFault {
     /// The line has more than 65,536 octets.
@@ -14,20 +14,22 @@ pub enum RequestFault {
     NotText,
     /// The first word names no request.
     Word,
-    /// There are too few or too many words, or fields of a word.
+    /// There are too few or too many words.
     Count,
-    /// A word is not a number, or the number is too large.
-    Number,
-    /// A MAC address is not twelve hexadecimal digits.
-    Mac,
-    /// A word is neither `1` nor `0`.
-    Flag,
-    /// A word is neither `up` nor `down`.
-    Link,
-    /// A word is neither `aggregatable` nor `individual`.
-    Kind,
-    /// Octets are not hexadecimal.
-    Hex,
+    /// The word at this place has too few or too many parts between colons.
+    Parts(usize),
+    /// The word at this place is not a number, or the number is too large, or 0 ticks; or so is a part of it.
+    Number(usize),
+    /// The MAC address in the word at this place is not twelve hexadecimal digits.
+    Mac(usize),
+    /// A part of the word at this place is neither `1` nor `0`.
+    Flag(usize),
+    /// The word at this place is neither `up` nor `down`.
+    Link(usize),
+    /// The word at this place is neither `aggregatable` nor `individual`.
+    Kind(usize),
+    /// The word at this place is not hexadecimal.
+    Hex(usize),
     /// There is no system yet.
     NoSystem,
     /// `drive` came, but no calls are stored.
@@ -40,21 +42,22 @@ impl fmt::Display for RequestFault {
     ghost output = { λ fault. Some (request_fault_text fault) };
 
     fn fmt<W: fmt::Write>(&self, f: &mut fmt::Formatter<W>) -> fmt::Result {
-        f.write_str(match self {
-            RequestFault::TooLong => "too-long",
-            RequestFault::NotText => "not-text",
-            RequestFault::Word => "word",
-            RequestFault::Count => "count",
-            RequestFault::Number => "number",
-            RequestFault::Mac => "mac",
-            RequestFault::Flag => "flag",
-            RequestFault::Link => "link",
-            RequestFault::Kind => "kind",
-            RequestFault::Hex => "hex",
-            RequestFault::NoSystem => "no-system",
-            RequestFault::NotKeeping => "not-keeping",
-            RequestFault::NoMemory => "no-memory",
-        })
+        match self {
+            RequestFault::TooLong => f.write_str("too-long"),
+            RequestFault::NotText => f.write_str("not-text"),
+            RequestFault::Word => f.write_str("word"),
+            RequestFault::Count => f.write_str("count"),
+            RequestFault::Parts(place) => write!(f, "count at word {place}"),
+            RequestFault::Number(place) => write!(f, "number at word {place}"),
+            RequestFault::Mac(place) => write!(f, "mac at word {place}"),
+            RequestFault::Flag(place) => write!(f, "flag at word {place}"),
+            RequestFault::Link(place) => write!(f, "link at word {place}"),
+            RequestFault::Kind(place) => write!(f, "kind at word {place}"),
+            RequestFault::Hex(place) => write!(f, "hex at word {place}"),
+            RequestFault::NoSystem => f.write_str("no-system"),
+            RequestFault::NotKeeping => f.write_str("not-keeping"),
+            RequestFault::NoMemory => f.write_str("no-memory"),
+        }
     }
 }
 

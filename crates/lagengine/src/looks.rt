@@ -147,7 +147,7 @@ pub(crate) fn all_ports<F: Fn(u16, usize) -> usize + Drop>(
     Ok(answer)
 }
 
-/// The ports that distribute in each aggregator; first those of number 0, which is no aggregator, so none.
+/// The ports that distribute in each aggregator.
 #[tactic(auto, using(crate::proofs::LookLemmas::sharings_more))]
 pub(crate) fn all_aggregators<F: Fn(u16, usize) -> usize + Drop>(
     alloc: Global,
@@ -159,8 +159,7 @@ pub(crate) fn all_aggregators<F: Fn(u16, usize) -> usize + Drop>(
     let Ok(count) = u16::try_from(system.aggregators()) else {
         return Err(AllocError);
     };
-    let mut answer = Vec::with_capacity(alloc, 1 + usize::from(count))?;
-    answer.push(agg_answer(system, 0))?;
+    let mut answer = Vec::with_capacity(alloc, usize::from(count))?;
     for agg in 0..count {
         answer.push(agg_answer(system, agg + 1))?;
     }

@@ -1,8 +1,8 @@
 //! `lagengine`: a system that is used through lines of text. Each line of standard input is a request; its answer, one
 //! line, goes to standard output at once.
 //!
-//! Exit status 0: the input ended; 2: it could not be read, or an answer could not be written, and standard error says
-//! why.
+//! Exit status 0: the input ended, or the help or the version was printed; 2: the input could not be read, an answer could
+//! not be written, or a word of the command line is none that the program knows, and standard error says why.
 #![tactic(auto)]
 
 ghost use Rattle.std.specs.Prelude.{◌≡◌, ◌<◌};
@@ -11,6 +11,7 @@ ghost use Rattle.lagengine.specs.Serves.{status_of};
 
 mod answer;
 mod call_words;
+mod command_line;
 mod config;
 mod engine;
 mod fact_texts;
@@ -25,14 +26,17 @@ mod source;
 mod stopped;
 #[cfg(test)]
 mod tests;
+mod ticks;
 mod words;
 
+use command_line::{Asked, HELP, VERSION, asked_in};
 use serve::serve;
 use sink::Sink;
 use source::Source;
-use std::io;
+use std::fmt::Display;
 use std::io::Input;
 use std::process::ExitCode;
+use std::{env, io};
 use stopped::Stopped;
 
 /// The distribution algorithm of the program: the conversation number modulo the count of ports, and 0 if there are
@@ -61,12 +65,55 @@ fn status_of(ended: &Result<(), Stopped>) -> u8
     }
 }
 
+/// Says on standard error why the program does not serve; returns exit status 2.
+fn refused<D: Display + Drop>(rt: &impl Eprint, why: D) -> ExitCode {
+    let _ = eprintln!(rt; "lagengine: {why}");
+    ExitCode::from(2)
+}
+
+/// Prints a text; returns the exit status.
+fn printed(rt: &(impl Print + Eprint), text: &str) -> ExitCode {
+    let mut sink = Sink::new(io::writer(rt));
+    match sink.send(text.as_bytes()) {
+        Ok(()) => ExitCode::SUCCESS,
+        Err(_) => refused(rt, Stopped::Write),
+    }
+}
+
+/// Says on standard error that the program knows no such word; returns exit status 2.
+fn unknown(rt: &impl Eprint, words: &[String]) -> ExitCode {
+    let word = words.get(1).map(|word| word.as_str()).unwrap_or("");
+    let _ = eprintln!(rt; "lagengine: no such word: {word:?}");
+    ExitCode::from(2)
+}
+
 /// Answers the lines of standard input, and returns the exit status.
-fn main(rt: HostRuntime) -> ExitCode {
-    let ended = run(&rt);
+fn served<R: Print + Eprint + Input + AllocGlobal>(rt: &R) -> ExitCode {
+    let ended = run(rt);
     let status = status_of(&ended);
     if let Err(why) = ended {
         let _ = eprintln!(rt; "lagengine: {why}");
     }
     ExitCode::from(status)
+}
+
+/// The words of the command line.
+fn words_of(rt: &HostRuntime) -> io::Result<Vec<String>> {
+    let words = env::args(rt)?.collect(rt.alloc())?;
+    Ok(words)
+}
+
+/// Does what the command line asks for, and returns the exit status.
+fn main(rt: HostRuntime) -> ExitCode {
+    match words_of(&rt) {
+        Ok(words) => match asked_in(&words) {
+            Asked::Serve => served(&rt),
+            Asked::Help => printed(&rt, HELP),
+            Asked::Version => printed(&rt, VERSION),
+            Asked::NoSuchWord => unknown(&rt, &words),
+        },
+        Err(error) if error.kind() == io::ErrorKind::OutOfMemory => refused(&rt, Stopped::NoMemory),
+        // The only other error is a word that is not UTF-8.
+        Err(_) => refused(&rt, "a word is not UTF-8"),
+    }
 }

@@ -1,5 +1,5 @@
 ghost use Rattle.std.specs.Prelude.{◌≡◌, map};
-ghost use Rattle.lagengine.specs.Lines.{longest_line, request_in, request_of_text};
+ghost use Rattle.lagengine.specs.Lines.{longest_line, request_in, request_of_octets, request_of_text, without_return};
 ghost use Rattle.lagengine.specs.Requests.{ReadsAs, request_value, no_words, with_no_words, with_one_word, request_named, task_named};
 ghost use Rattle.lagengine.specs.Requests.{task_value, with_two_words};
 ghost use Rattle.lagengine.specs.Requests as asked;
@@ -13,7 +13,7 @@ use crate::words::{number, octets, words_of};
 use lagsystem::{AggId, Call, Config};
 use std::alloc::Global;
 
-/// The most octets of a line, without its line end (profile).
+/// The most octets of a line before its newline, a carriage return counted (profile).
 pub const LONGEST_LINE: usize = 65_536;
 
 /// A question about one port.
@@ -66,6 +66,8 @@ pub enum Question {
 pub enum Task {
     /// Make this call.
     Make(Call),
+    /// Make so many ticks, one after another.
+    Ticks(u16),
     /// Store calls for `drive` from now on.
     Keep,
     /// Make the stored calls.
@@ -124,8 +126,8 @@ fn receive(alloc: Global, words: &[&str]) -> Result<Task, RequestError>
         result }
 {
     let (port, frame) = two_words(words)?;
-    let port = number(port)?;
-    let octets = octets(alloc, frame)?;
+    let port = number(2, port)?;
+    let octets = octets(alloc, 3, frame)?;
     Ok(Task::Make(Call::Receive(port, octets)))
 }
 
@@ -135,8 +137,8 @@ fn offer(alloc: Global, words: &[&str]) -> Result<Task, RequestError>
         (map (λ w. w.now) words.now)) result }
 {
     let (agg, frame) = two_words(words)?;
-    let agg = AggId(number(agg)?);
-    let octets = octets(alloc, frame)?;
+    let agg = AggId(number(2, agg)?);
+    let octets = octets(alloc, 3, frame)?;
     Ok(Task::Make(Call::Offer(agg, octets)))
 }
 
@@ -145,7 +147,7 @@ fn conversation(alloc: Global, words: &[&str]) -> Result<Task, RequestError>
     ensures { ReadsAs task_value (with_one_word hex_word asked.Conversation (map (λ w. w.now) words.now)) result }
 {
     let frame = one_word(words)?;
-    let octets = octets(alloc, frame)?;
+    let octets = octets(alloc, 2, frame)?;
     Ok(Task::Conversation(octets))
 }
 
@@ -192,15 +194,34 @@ fn request_of_text(alloc: Global, text: &str) -> Result<Request, RequestError>
     }
 }
 
-/// Reads the request in a line, which is given without its line end (profile).
+/// The line without one carriage return at its end.
+fn without_return(line: &[u8]) -> &[u8]
+    ensures { result.now ≡ without_return line.now }
+{
+    let len = line.len();
+    if len > 0 && line[len - 1] == b'\r' {
+        &line[..len - 1]
+    } else {
+        line
+    }
+}
+
+/// Reads the request in a line that is not too long, without a carriage return at its end.
+fn request_of_octets(alloc: Global, line: &[u8]) -> Result<Request, RequestError>
+    ensures { ReadsAs request_value (request_of_octets line.now) result }
+{
+    match str::from_utf8(line) {
+        Ok(text) => request_of_text(alloc, text),
+        Err(_) => Err(RequestError::Fault(RequestFault::NotText)),
+    }
+}
+
+/// Reads the request in a line, which is given without its newline; one carriage return at its end is dropped (profile).
 pub(crate) fn request_in(alloc: Global, line: &[u8]) -> Result<Request, RequestError>
     ensures { ReadsAs request_value (request_in line.now) result }
 {
     if line.len() > LONGEST_LINE {
         return Err(RequestError::Fault(RequestFault::TooLong));
     }
-    match str::from_utf8(line) {
-        Ok(text) => request_of_text(alloc, text),
-        Err(_) => Err(RequestError::Fault(RequestFault::NotText)),
-    }
+    request_of_octets(alloc, without_return(line))
 }

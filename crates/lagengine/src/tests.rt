@@ -1,6 +1,9 @@
 ghost use Rattle.std.specs.Prelude.{◌≡◌};
 
+mod port_requests;
+
 use crate::by_number;
+use crate::command_line::{Asked, asked_in};
 use crate::serve::serve;
 use crate::sink::Sink;
 use crate::source::Source;
@@ -133,7 +136,7 @@ const FORMS: [Row; 78] = [
 ];
 
 /// Lines that are refused, with their faults. The readers answer the same before and after.
-const FAULTS: [Row; 33] = [
+const FAULTS: [Row; 42] = [
     ("ports", "fault no-system"),
     ("tick", "fault no-system"),
     ("keep", "fault no-system"),
@@ -146,40 +149,49 @@ const FAULTS: [Row; 33] = [
     ("ticks", "fault word"),
     ("Tick", "fault word"),
     (" tick", "fault word"),
-    ("tick ", "fault count"),
-    ("tick 1", "fault count"),
+    ("tick ", "fault number at word 2"),
+    ("tick 1 2", "fault count"),
+    ("tick 0", "fault number at word 2"),
+    ("tick 65536", "fault number at word 2"),
+    ("tick +1", "fault number at word 2"),
+    ("tick 1 2 3", "fault count"),
+    ("tick\r", "ok"),
+    ("tick 2\r", "ok"),
+    ("tick 2\r\r", "fault number at word 2"),
+    ("\rtick", "fault word"),
+    ("\r", "fault word"),
     ("link 1", "fault count"),
     ("link 1  up", "fault count"),
-    ("link +1 up", "fault number"),
-    ("link 65536 up", "fault number"),
-    ("link -1 up", "fault number"),
-    ("link  up", "fault number"),
-    ("transmit x", "fault number"),
-    ("link 3 Up", "fault link"),
-    ("configure 3 300 203 1", "fault kind"),
-    ("receive 3 0", "fault hex"),
-    ("receive 3 0g", "fault hex"),
-    ("offer 1 zz", "fault hex"),
-    ("conversation z", "fault hex"),
+    ("link +1 up", "fault number at word 2"),
+    ("link 65536 up", "fault number at word 2"),
+    ("link -1 up", "fault number at word 2"),
+    ("link  up", "fault number at word 2"),
+    ("transmit x", "fault number at word 2"),
+    ("link 3 Up", "fault link at word 3"),
+    ("configure 3 300 203 1", "fault kind at word 5"),
+    ("receive 3 0", "fault hex at word 3"),
+    ("receive 3 0g", "fault hex at word 3"),
+    ("offer 1 zz", "fault hex at word 3"),
+    ("conversation z", "fault hex at word 2"),
     (
         "system 1 02000000000 0 1 1 1:128:020000000001:1:1:1:1",
-        "fault mac",
+        "fault mac at word 3",
     ),
     (
         "system 1 020000000001 0 4294967296 1 1:128:020000000001:1:1:1:1",
-        "fault number",
+        "fault number at word 5",
     ),
     (
         "system 1 020000000001 0 1 1,,1 1:128:020000000001:1:1:1:1",
-        "fault number",
+        "fault number at word 6",
     ),
     (
         "system 1 020000000001 0 1 1 1:128:020000000001:1:1:1",
-        "fault count",
+        "fault count at word 7",
     ),
     (
         "system 1 020000000001 0 1 1 1:128:020000000001:1:1:1:2",
-        "fault flag",
+        "fault flag at word 7",
     ),
     ("system 1 020000000001 0 1", "fault count"),
     ("system 1 020000000001 0 1 -", "refused 11 bad-config ports"),
@@ -194,7 +206,7 @@ const FAULTS: [Row; 33] = [
 ];
 
 /// Limits of links and counts of conversations that are refused, and the words that name them.
-const LIMITS: [Row; 19] = [
+const LIMITS: [Row; 20] = [
     (
         "system 1 020000000001 0 1 1 max-links 0 1:128:020000000001:1:1:1:1",
         "refused 11 bad-config max-links",
@@ -241,17 +253,24 @@ const LIMITS: [Row; 19] = [
     ),
     (
         "system 1 020000000001 0 1 1 max-links 65536 1:128:020000000001:1:1:1:1",
-        "fault number",
+        "fault number at word 8",
     ),
     (
         "system 1 020000000001 0 1 1 conversations x 1:128:020000000001:1:1:1:1",
-        "fault number",
+        "fault number at word 8",
     ),
     (
         "system 1 020000000001 0 1 1 conversations 4096 max-links 1 1:128:020000000001:1:1:1:1",
-        "fault count",
+        "fault count at word 9",
     ),
-    ("system 1 020000000001 0 1 1 max-links", "fault count"),
+    (
+        "system 1 020000000001 0 1 1 max-links",
+        "fault count at word 7",
+    ),
+    (
+        "system 1 020000000001 0 1 1 max-links 2 conversations 256 1:128:020000000001:1:1:1:1 2:128:020000000002:1:1:x:1",
+        "fault flag at word 12",
+    ),
     (
         "system 1 020000000001 0 1 1 max-links 1",
         "refused 11 bad-config ports",
@@ -283,6 +302,31 @@ const CONVERSATIONS: [Row; 11] = [
     ("conversation 02000000f1200200000000100800", "48"),
     ("conversation-state 1 255", "free"),
     ("conversation-state 1 256", "none"),
+];
+
+/// Some ticks by one line. A port whose link comes up is EXPIRED for 30 ticks, and then DEFAULTED (6.4.12); lines may end
+/// in a carriage return.
+const TICKS: [Row; 17] = [
+    (
+        "system 24576 020000000011 1234 7 300 3:203:020000001103:300:1:1:0",
+        "ok",
+    ),
+    ("link 3 up\r", "ok"),
+    ("tick 29", "ok"),
+    ("receive-state 3", "port 3: receive-state expired"),
+    ("current-while 3", "port 3: current-while 1"),
+    ("tick 1", "ok"),
+    ("receive-state 3", "port 3: receive-state defaulted"),
+    ("restart", "ok"),
+    ("link 3 up", "ok"),
+    ("keep", "ok"),
+    ("tick", "kept"),
+    ("tick 3", "kept"),
+    ("receive-state 3", "port 3: receive-state expired"),
+    ("current-while 3", "port 3: current-while 30"),
+    ("drive\r", "ok;ok;ok;ok;"),
+    ("current-while 3", "port 3: current-while 26"),
+    ("tick 65535", "ok"),
 ];
 
 /// Two links of a group that may have one member: the second is STANDBY until the first is down.
@@ -503,6 +547,41 @@ fn limits_that_are_refused(rt: HostRuntime) -> Result<(), Fail> {
 #[test]
 fn two_counts_of_conversations(rt: HostRuntime) -> Result<(), Fail> {
     check(&rt, rt.alloc(), &CONVERSATIONS)
+}
+
+#[test]
+fn some_ticks_by_one_line(rt: HostRuntime) -> Result<(), Fail> {
+    check(&rt, rt.alloc(), &TICKS)
+}
+
+/// What these words behind the name of the program ask for.
+fn asked(alloc: Global, words: &[&str]) -> Result<Asked, AllocError> {
+    let mut line = Vec::new(alloc);
+    line.push(String::from_str(alloc, "lagengine")?)?;
+    for word in words {
+        line.push(String::from_str(alloc, *word)?)?;
+    }
+    Ok(asked_in(&line))
+}
+
+#[test]
+fn words_of_the_command_line(rt: HostRuntime) -> Result<(), Fail> {
+    let rows: [(&[&str], Asked); 9] = [
+        (&[], Asked::Serve),
+        (&["--help"], Asked::Help),
+        (&["-h"], Asked::Help),
+        (&["--version"], Asked::Version),
+        (&["-V"], Asked::Version),
+        (&["--help", "extra"], Asked::Help),
+        (&["help"], Asked::NoSuchWord),
+        (&["extra", "--help"], Asked::NoSuchWord),
+        (&[""], Asked::NoSuchWord),
+    ];
+    for (words, wanted) in rows {
+        let seen = asked(rt.alloc(), words)?;
+        assert_eq!(rt; seen, wanted, "{words:?}");
+    }
+    Ok(())
 }
 
 #[test]

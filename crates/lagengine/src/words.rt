@@ -1,7 +1,7 @@
 ghost use Rattle.std.specs.Prelude.{◌≡◌, IfOk, map};
 ghost use Rattle.lagengine.specs.Requests.{ReadsAs};
 ghost use Rattle.lagengine.specs.Words.{flag_word, hex_word, aggregation_word, link_word, long_number_word, mac_word, number_below};
-ghost use Rattle.lagengine.specs.Words.{number_word, parts};
+ghost use Rattle.lagengine.specs.Words.{number_word, parts, ticks_word};
 
 use crate::fault::{RequestError, RequestFault};
 use hex::{FromHex, FromHexError};
@@ -49,69 +49,79 @@ fn long_number_of(word: &str) -> Option<u32>
     word.parse().ok()
 }
 
-/// Reads a number from 0 to 65535, in decimal digits.
-pub(crate) fn number(word: &str) -> Result<u16, RequestFault>
-    ensures { result ≡ number_word word.now }
+/// Reads the word at this place as a number from 0 to 65535, in decimal digits.
+pub(crate) fn number(place: usize, word: &str) -> Result<u16, RequestFault>
+    ensures { result ≡ number_word place word.now }
 {
-    number_of(word).ok_or(RequestFault::Number)
+    number_of(word).ok_or(RequestFault::Number(place))
 }
 
-/// Reads a number from 0 to 4294967295, in decimal digits.
-pub(crate) fn long_number(word: &str) -> Result<u32, RequestFault>
-    ensures { result ≡ long_number_word word.now }
+/// Reads the word at this place as a number of ticks, 1 to 65535.
+pub(crate) fn ticks(place: usize, word: &str) -> Result<u16, RequestFault>
+    ensures { result ≡ ticks_word place word.now }
 {
-    long_number_of(word).ok_or(RequestFault::Number)
+    match number_of(word) {
+        None | Some(0) => Err(RequestFault::Number(place)),
+        Some(n) => Ok(n),
+    }
 }
 
-/// Reads a MAC address of twelve hexadecimal digits.
-pub(crate) fn mac(word: &str) -> Result<[u8; 6], RequestFault>
-    ensures { result ≡ mac_word word.now }
+/// Reads the word at this place as a number from 0 to 4294967295, in decimal digits.
+pub(crate) fn long_number(place: usize, word: &str) -> Result<u32, RequestFault>
+    ensures { result ≡ long_number_word place word.now }
+{
+    long_number_of(word).ok_or(RequestFault::Number(place))
+}
+
+/// Reads the word at this place as a MAC address of twelve hexadecimal digits.
+pub(crate) fn mac(place: usize, word: &str) -> Result<[u8; 6], RequestFault>
+    ensures { result ≡ mac_word place word.now }
 {
     <[u8; 6] as FromHex>::from_hex(word)
         .ok()
-        .ok_or(RequestFault::Mac)
+        .ok_or(RequestFault::Mac(place))
 }
 
-/// Reads `1` as true and `0` as false.
-pub(crate) fn flag(word: &str) -> Result<bool, RequestFault>
-    ensures { result ≡ flag_word word.now }
+/// Reads the word at this place, or a part of it: `1` as true, `0` as false.
+pub(crate) fn flag(place: usize, word: &str) -> Result<bool, RequestFault>
+    ensures { result ≡ flag_word place word.now }
 {
     match word {
         "1" => Ok(true),
         "0" => Ok(false),
-        _ => Err(RequestFault::Flag),
+        _ => Err(RequestFault::Flag(place)),
     }
 }
 
-/// Reads whether a link is up: `up` or `down`.
-pub(crate) fn link(word: &str) -> Result<bool, RequestFault>
-    ensures { result ≡ link_word word.now }
+/// Reads in the word at this place whether a link is up: `up` or `down`.
+pub(crate) fn link(place: usize, word: &str) -> Result<bool, RequestFault>
+    ensures { result ≡ link_word place word.now }
 {
     match word {
         "up" => Ok(true),
         "down" => Ok(false),
-        _ => Err(RequestFault::Link),
+        _ => Err(RequestFault::Link(place)),
     }
 }
 
-/// Reads whether a port is `aggregatable` or `individual`.
-pub(crate) fn aggregation(word: &str) -> Result<bool, RequestFault>
-    ensures { result ≡ aggregation_word word.now }
+/// Reads in the word at this place whether a port is `aggregatable` or `individual`.
+pub(crate) fn aggregation(place: usize, word: &str) -> Result<bool, RequestFault>
+    ensures { result ≡ aggregation_word place word.now }
 {
     match word {
         "aggregatable" => Ok(true),
         "individual" => Ok(false),
-        _ => Err(RequestFault::Kind),
+        _ => Err(RequestFault::Kind(place)),
     }
 }
 
-/// Reads octets in hexadecimal digits.
-pub(crate) fn octets(alloc: Global, word: &str) -> Result<Vec<u8>, RequestError>
-    ensures { ReadsAs (λ v. v.items) (hex_word word.now) result }
+/// Reads the word at this place as octets in hexadecimal digits.
+pub(crate) fn octets(alloc: Global, place: usize, word: &str) -> Result<Vec<u8>, RequestError>
+    ensures { ReadsAs (λ v. v.items) (hex_word place word.now) result }
 {
     match hex::decode(alloc, word) {
         Ok(octets) => Ok(octets),
         Err(FromHexError::OutOfMemory) => Err(RequestError::NoMemory),
-        Err(_) => Err(RequestError::Fault(RequestFault::Hex)),
+        Err(_) => Err(RequestError::Fault(RequestFault::Hex(place))),
     }
 }
