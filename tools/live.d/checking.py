@@ -21,7 +21,7 @@ def check(holds, what, *told):
     print(f"{'passed' if holds else 'FAILED'}: {what}", *lines, sep="\n  ", flush=True)
 
 
-def run(*words, **more):
+def command(*words, **more):
     """Runs a command; one that is not here, or does not end in time, fails as any other."""
     try:
         return subprocess.run(words, capture_output=True, text=True, **more)

@@ -11,16 +11,30 @@ TOP = os.path.dirname(os.path.dirname(os.path.dirname(os.path.abspath(__file__))
 HEADER = f"{TOP}/crates/lagffi/include/lag.h"
 SOURCES = f"{TOP}/crates/lagffi/src"
 FAULTS = f"{TOP}/crates/lagsystem/src/fault.rt"
+WIRE_FAULTS = f"{TOP}/crates/slowpdu/src/fault.rt"
+STATES = f"{TOP}/crates/lagtypes/src/state.rt"
+OFFERS = f"{TOP}/crates/lagsystem/src/offers.rt"
 # Types of C, and their sizes on x86-64, which are their alignments too.
 TYPES = {"u8": "uint8_t", "u16": "uint16_t", "u32": "uint32_t", "u64": "uint64_t", "usize": "size_t", "bool": "bool", "*mut u8": "void *"}
 SIZES = {"uint8_t": 1, "uint16_t": 2, "uint32_t": 4, "uint64_t": 8, "size_t": 8, "bool": 1, "void *": 8}
 # What has a name of its own in C: a handle, its block, and a buffer for port numbers.
 NAMES = {"lag": "handle", "held": "at", "buffer": "numbers"}
+# Structs that have another name in C: the handle, and two that would have the name of a function.
+STRUCTS = {"Lag": "niw_system", "LagParty": "niw_actor", "LagGroup": "niw_group_id"}
 # A slice is a pointer and a length, which has no name in the sources.
-LENGTHS = {"keys": "key_count", "ports": "port_count", "response": "room", "numbers": "room"}
-# The enums whose variants lagffi tells as numbers; and the one number of the header alone, for what it refuses itself.
-TOLD = "Received|ReceiveState|MuxState|Assignment"
-OWN = {"LAG_NULL": 16}
+LENGTHS = {"keys": "key_count", "ports": "port_count", "response": "room", "numbers": "room", "views": "room"}
+# The enums whose variants lagffi tells as numbers, and what stands before a variant's name in the header; and the numbers of the
+# header alone: what it refuses itself, its version, the subtypes of PDUs, and what the sources say in words.
+TOLD = {"Received": "RECEIVED_", "ReceiveState": "RECEIVE_", "MuxState": "MUX_", "Assignment": "CONVERSATION_",
+        "PortStatus": "PORT_STATUS_"}
+OWN = {"NIW_NULL": 16, "NIW_VERSION": 2, "NIW_SENT_NOTHING": 0, "NIW_SENT_LACPDU": 1, "NIW_SENT_MARKER": 2,
+       "NIW_SHORTEST_FRAME": 14, "NIW_TICK_MILLISECONDS": 100, "NIW_FEW_CONVERSATIONS": 256, "NIW_MANY_CONVERSATIONS": 4096,
+       "NIW_BY_NUMBER": 0, "NIW_BY_SUM": 1, "NIW_REASON_ALGORITHM": 6,
+       "NIW_STATE_TEXT_ROOM": 87}
+
+# Constants that have a name of their own in C.
+CONSTANTS = {"HOLDS_SYSTEM_ALREADY": "NIW_ALREADY_LIVE", "WRONG_BUFFER_LENGTH": "NIW_BUFFER", "FRAME_LENGTH_REFUSED": "NIW_FRAME_LENGTH",
+             "NO_CONVERSATION": "NIW_NOT_ASSIGNED", "PORT_LIST_LENGTH": "NIW_MOST_PORTS", "CONTROL_FRAME_LENGTH": "NIW_FRAME", "LAST_ALGORITHM": "NIW_BY_FIRST"}
 
 
 class Unread(Exception):
@@ -47,6 +61,11 @@ def snake(name):
     return re.sub(r"(?<=[a-z])(?=[A-Z])", "_", name).lower()
 
 
+def struct_name(name):
+    """The name in C of a struct Lag.. of the sources."""
+    return STRUCTS.get(name, f"niw_{snake(name)[4:]}")
+
+
 def declared(kind, name, tail=""):
     """A field or a parameter, as C declares it."""
     return f"{kind}{'' if kind.endswith('*') else ' '}{name}{tail}"
@@ -62,7 +81,7 @@ class Structs:
     def __init__(self, text):
         bodies = dict(re.findall(r"#\[repr\(C\)\]\s*(?:#\[[^\n]*\]\s*)*pub struct (\w+) \{(.*?)\n\}", text, re.S))
         self.rattle = {name: self.fields(body) for name, body in bodies.items()}
-        self.all = {snake(name): [self.in_c(*field) for field in body] for name, body in self.rattle.items() if name.startswith("Lag")}
+        self.all = {struct_name(name): [self.in_c(*field) for field in body] for name, body in self.rattle.items() if name.startswith("Lag")}
 
     @staticmethod
     def fields(body):
@@ -85,7 +104,7 @@ class Structs:
         if kind in TYPES:
             return TYPES[kind]
         if kind in self.rattle:
-            return f"struct {snake(kind)}"
+            return f"struct {struct_name(kind)}"
         raise Unread(f"no type of C for {kind}")
 
     def layout(self, name):
@@ -144,7 +163,7 @@ def check_functions(structs, header, text):
     exports = structs.functions(text)
     found = re.findall(r"^((?:struct )?\w+) lagffi_(\w+)\((.*?)\);", header, re.M | re.S)
     yield from unlike("lagffi", exports, {name: prototype(answer, given) for answer, name, given in found})
-    inline = re.findall(r"^static inline ((?:struct )?\w+) lag_(?!null_)(\w+)\((.*?)\) \{(.*?)^\}", header, re.M | re.S)
+    inline = re.findall(r"^static inline ((?:struct )?\w+) niw_(?!null_|state_name\(|\w*_text\()(\w+)\((.*?)\) \{(.*?)^\}", header, re.M | re.S)
     yield from unlike("lag", exports, {name: prototype(answer, given) for answer, name, given, _ in inline})
     for _, name, given, body in inline:
         passed = ", ".join(re.findall(r"(\w+)(?:,|$)", one_line(given)))
@@ -154,7 +173,7 @@ def check_functions(structs, header, text):
 
 def numbers_of_header(header):
     """The enumerators and the numbers that the header defines."""
-    found = {name: int(number) for name, number in re.findall(r"^#define (LAG_\w+) (\d+)$", header, re.M)}
+    found = {name: int(number) for name, number in re.findall(r"^#define (NIW_\w+) (\d+)$", header, re.M)}
     for body in re.findall(r"^enum \{(.*?)\};", header, re.M | re.S):
         number = -1
         for name, given in re.findall(r"(\w+)(?: = (\d+))?", body):
@@ -165,26 +184,26 @@ def numbers_of_header(header):
     return found
 
 
-def variants(text, enums):
+def variants(text, told):
     """The variants of enums that are matched on, and the number that stands first behind the arrow, if there is one."""
     arms = text.split("=>")
     for before, after in zip(arms, arms[1:]):
-        matched = re.search(rf"\b(?:{enums})::(\w+)(?:\([^=]*\)| \{{[^}}]*\}})?\)*\s*$", before)
+        matched = re.search(rf"\b({'|'.join(told)})::(\w+)(?:\([^=]*\)| \{{[^}}]*\}})?\)*\s*$", before)
         number = re.search(r"\b\d+\b", after)
         if matched and number:
-            yield snake(matched[1]).upper(), number[0]
+            yield f"NIW_{told[matched[1]]}{snake(matched[2]).upper()}", int(number[0])
 
 
-def numbers_of_sources(text, header):
-    """The refusals of a system, the numbers that lagffi gives to variants, and its constants. A constant may have another name in
-    the header, but no other number: there it is looked for by its number."""
+def numbers_of_sources(text):
+    """The refusals of a system, the numbers that lagffi gives to variants, and its constants."""
     faults = re.search(r"impl SystemFault \{(.*?)\n\}", text_of(FAULTS), re.S)[1]
-    numbers = [(f"LAG_{name}", int(number)) for name, number in [*variants(faults, "SystemFault"), *variants(text, TOLD)]]
-    for name, number in re.findall(r"\bconst (\w+): (?:u32|usize) = (\d+);", text):
-        name, number = f"LAG_{name}", int(number)
-        if name not in header:
-            name = next((other for other in header if header[other] == number), name)
-        numbers.append((name, number))
+    reasons = re.search(r"impl BadConfig \{(.*?)\n\}", text_of(FAULTS), re.S)[1]
+    of_wire = re.search(r"impl WireFault \{(.*?)\n\}", text_of(WIRE_FAULTS), re.S)[1]
+    numbers = [*variants(faults, {"SystemFault": ""}), *variants(reasons, {"BadConfig": "REASON_"}),
+               *variants(of_wire, {"WireFault": "FAULT_"}), *variants(text, TOLD)]
+    numbers += [(f"NIW_STATE_{bit}", int(number)) for bit, number in re.findall(r"const (\w+) = (\d+);", text_of(STATES))]
+    for name, number in re.findall(r"\bconst (\w+): (?:u16|u32|usize) = (\d+);", text + text_of(OFFERS)):
+        numbers.append((CONSTANTS.get(name, f"NIW_{name}"), int(number)))
     found = {}
     for name, number in numbers:
         if found.setdefault(name, number) != number:
@@ -194,7 +213,24 @@ def numbers_of_sources(text, header):
 
 def check_numbers(header, text):
     found = numbers_of_header(header)
-    return unlike("number", {**numbers_of_sources(text, found), **OWN}, found)
+    return unlike("number", {**numbers_of_sources(text), **OWN}, found)
+
+
+def texts_of_header(header, name):
+    """The texts of a function of the header, by their numbers."""
+    body = re.search(rf"niw_{name}_text\(\w+ \w+\) \{{(.*?)\n\}}", header, re.S)[1]
+    return dict(enumerate(re.findall(r'"([^"]*)"', body[: body.index("};")])))
+
+
+def check_texts(header):
+    """The texts of what a system refuses are those of the sources, but where these tell a place."""
+    faults = text_of(FAULTS)
+    for enum, name, past in ("SystemFault", "status", {11}), ("BadConfig", "reason", {3}):
+        numbers = dict(re.findall(rf"{enum}::(\w+)(?:\([^)]*\))? => (\d+),", faults))
+        written = dict(re.findall(rf'{enum}::(\w+)(?:\([^)]*\))? => \{{?\s*f\.write_str\(\s*"([^"]*)"', faults))
+        wanted = {numbers[variant]: text for variant, text in written.items()}
+        found = {str(number): text for number, text in texts_of_header(header, name).items() if number in range(1, len(numbers) + 1)}
+        yield from unlike(f"text of {name}", wanted, {number: text for number, text in found.items() if int(number) not in past})
 
 
 def assertions(structs):
@@ -217,4 +253,5 @@ def compared():
         (f"the header's {len(structs.all)} structs have the fields of the sources, in their order", list(check_structs(structs, header))),
         (f"its {count} functions take and answer what the exports do", list(check_functions(structs, header, text))),
         (f"its {numbers} numbers are those of the sources", list(check_numbers(header, text))),
+        ("its texts of refusals are those of the sources", list(check_texts(header))),
     ], assertions(structs)

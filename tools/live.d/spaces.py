@@ -1,10 +1,11 @@
 """Two network namespaces joined by veth pairs, and raw frames at the end of a pair."""
 
+import contextlib
 import ctypes
 import os
 import socket
 
-from checking import Failed, Skipped, run
+from checking import Failed, Skipped, command
 
 # The namespaces are named for this process, so that two runs do not meet.
 OURS, THEIRS = f"lag-ours-{os.getpid()}", f"lag-theirs-{os.getpid()}"
@@ -14,24 +15,24 @@ PIDFD_OPEN, PIDFD_GETFD = 434, 438
 
 
 def ip(space, *words, **more):
-    ended = run("ip", "-n", space, *words, **more)
+    ended = command("ip", "-n", space, *words, **more)
     if ended.returncode:
         raise Failed(f"ip {' '.join(words)}", ended.stderr)
 
 
 def inside(space, *words, **more):
     """Runs a command in a namespace."""
-    return run("ip", "netns", "exec", space, *words, **more)
+    return command("ip", "netns", "exec", space, *words, **more)
 
 
 def drop_spaces():
     for space in (OURS, THEIRS):
-        run("ip", "netns", "del", space)
+        command("ip", "netns", "del", space)
 
 
 def make_pair(place):
     """A pair of a0 and b0, or a1 and b1, with both ends up."""
-    made = run("ip", "-n", OURS, "link", "add", f"a{place}", "type", "veth", "peer", "name", f"b{place}", "netns", THEIRS)
+    made = command("ip", "-n", OURS, "link", "add", f"a{place}", "type", "veth", "peer", "name", f"b{place}", "netns", THEIRS)
     if made.returncode:
         raise Skipped(f"no veth pairs: {made.stderr.strip()}")
     ip(OURS, "link", "set", f"a{place}", "up")
@@ -41,7 +42,7 @@ def make_pair(place):
 def make_spaces():
     """Two new network namespaces, joined by two veth pairs."""
     for space in (OURS, THEIRS):
-        made = run("ip", "netns", "add", space)
+        made = command("ip", "netns", "add", space)
         if made.returncode:
             raise Skipped(f"no network namespaces: {made.stderr.strip()}")
     for place in (0, 1):
@@ -80,25 +81,38 @@ def packet_sockets(process):
     return found
 
 
+def enter(space):
+    if ctypes.CDLL(None, use_errno=True).setns(space, NEW_NETWORK) < 0:
+        raise Skipped(f"no way into a namespace: {os.strerror(ctypes.get_errno())}")
+
+
+@contextlib.contextmanager
+def within_space(space):
+    """A socket that is made within has its place in that namespace."""
+    here = os.open("/proc/self/ns/net", os.O_RDONLY)
+    there = os.open(f"/run/netns/{space}", os.O_RDONLY)
+    try:
+        enter(there)
+        yield
+    finally:
+        enter(here)
+        os.close(here)
+        os.close(there)
+
+
+def packet_socket(space, name, protocol):
+    """A socket that sees the frames of an interface."""
+    with within_space(space):
+        opened = socket.socket(socket.AF_PACKET, socket.SOCK_RAW, socket.htons(protocol))
+        opened.bind((name, protocol))
+    return opened
+
+
 class Wire:
     """The end of a pair, at which raw frames of the slow protocols are sent and seen."""
 
     def __init__(self, space, name):
-        here = os.open("/proc/self/ns/net", os.O_RDONLY)
-        there = os.open(f"/run/netns/{space}", os.O_RDONLY)
-        try:
-            self.enter(there)
-            self.socket = socket.socket(socket.AF_PACKET, socket.SOCK_RAW, socket.htons(SLOW_PROTOCOLS))
-            self.socket.bind((name, SLOW_PROTOCOLS))
-        finally:
-            self.enter(here)
-            os.close(here)
-            os.close(there)
-
-    @staticmethod
-    def enter(space):
-        if ctypes.CDLL(None, use_errno=True).setns(space, NEW_NETWORK) < 0:
-            raise Skipped(f"no way into a namespace: {os.strerror(ctypes.get_errno())}")
+        self.socket = packet_socket(space, name, SLOW_PROTOCOLS)
 
     def send(self, payload, to=GROUP):
         self.socket.send(octets(to) + octets("02:00:00:00:00:77") + SLOW_PROTOCOLS.to_bytes(2, "big") + payload)

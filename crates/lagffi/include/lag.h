@@ -1,20 +1,21 @@
 /* LACP and the Marker protocol (IEEE 802.1AX-2014) for programs in C: one system, its calls and its readers.
  *
  * Bytes and ticks go in, frames come out. The library has no clock, no socket and no thread of its own: the caller hands it
- * every frame that comes, calls lag_tick every 100 ms, and after each call sends what lag_transmit gives for each port.
+ * every frame that comes, calls niw_tick every 100 ms, and after each call sends what niw_transmit gives for each port.
  *
  * What the caller owes, and nothing checks:
- * - A `lag` is LAG_EMPTY before its first call, and only the functions below write it. It is not copied while it is live.
+ * - A handle is NIW_EMPTY before its first call, and only the functions below write it. It is not copied while it is live.
  * - A pointer that is not null points to what its type says, and a buffer or frame has as many octets as its length says.
  *   What a call may write overlaps nothing else that the call is given.
- * - The thread that made a `lag` alone calls with it, and no signal handler does; nor does a forked child of a program with threads.
+ * - Only the thread that made one calls with it, readers too, since each call writes the handle; no signal handler does, and no
+ *   forked child of a program with threads.
  * - The program's malloc, realloc and free belong together, and align to 16 octets.
  * - A program that calls `lagffi_` functions itself, without those below, gives them no null pointer.
  *
- * Every function answers a number: LAG_OK, or why it refused. One that refuses changes nothing and writes to no buffer. A null
+ * Every function answers a number: NIW_OK, or why it refused. One that refuses changes nothing and writes to no buffer. A null
  * pointer, a handle with no system, a wrong length and an unknown port are refused so. */
-#ifndef LAG_H
-#define LAG_H
+#ifndef NIW_LAG_H
+#define NIW_LAG_H
 
 #include <stdbool.h>
 #include <stddef.h>
@@ -25,51 +26,101 @@
 extern "C" {
 #endif
 
-/* A handle. LAG_EMPTY holds no system; lag_new puts one in, and lag_free takes it out again. */
-struct lag {
+/* A handle. NIW_EMPTY holds no system; niw_new puts one in, and niw_free takes it out again. */
+struct niw_system {
     bool live;
     void *at;
 };
-#define LAG_EMPTY {false, NULL}
+#define NIW_EMPTY {false, NULL}
 
+/* The version of this header: it goes up with each change of what stands here. */
+#define NIW_VERSION 2
 /* The octets of a frame that the library answers. */
-#define LAG_FRAME 124
+#define NIW_FRAME 124
+/* The fewest and the most octets of a frame that is offered. */
+#define NIW_SHORTEST_FRAME 14
+#define NIW_LONGEST_FRAME 1518
 /* The most ports and the most aggregators of a system. */
-#define LAG_MOST 64
+#define NIW_MOST_PORTS 64
+/* How many conversations an aggregator may have. */
+#define NIW_FEW_CONVERSATIONS 256
+#define NIW_MANY_CONVERSATIONS 4096
+/* The milliseconds of a tick. */
+#define NIW_TICK_MILLISECONDS 100
 
 /* What a function answers. 1 to 12 are the refusals of a system. */
 enum {
-    LAG_OK = 0,
-    LAG_NO_PORT = 1,           /* the system has no port of this number */
-    LAG_NO_AGGREGATOR = 2,     /* the system has no such aggregator */
-    LAG_FRAME_LENGTH = 3,      /* an offered frame has not 14 to 1518 octets; lag_conversation: fewer than 14 */
-    LAG_SLOW_FRAME = 4,        /* an offered frame is one of the slow protocols, EtherType 0x8809 */
-    LAG_HELD = 5,              /* the conversation is wanted or flushing, so its frames are held */
-    LAG_NONE_DISTRIBUTING = 6, /* the conversation is free, and no port distributes in the aggregator */
-    LAG_NOT_DISTRIBUTING = 7,  /* the port to move to does not distribute in the aggregator */
-    LAG_SAME_PORT = 8,         /* the port to move to is the one that the conversation is on */
-    LAG_NOT_ASSIGNED = 9,      /* the conversation is free, or there is no such conversation or aggregator */
-    LAG_MARKERS_SPENT = 10,    /* no marker identifier is left */
-    LAG_BAD_CONFIG = 11,       /* the configuration is refused */
-    LAG_NO_MEMORY = 12,        /* memory was refused; only lag_new answers it, of a configuration that is not refused */
-    LAG_NO_SYSTEM = 13,        /* the handle holds no system */
-    LAG_LIVE = 14,             /* lag_new: the handle holds a system already */
-    LAG_BUFFER = 15,           /* a buffer has another length than the function asks */
-    LAG_NULL = 16              /* a pointer is null */
+    NIW_OK = 0,
+    NIW_NO_PORT = 1,           /* the system has no port of this number */
+    NIW_NO_AGGREGATOR = 2,     /* the system has no such aggregator */
+    NIW_FRAME_LENGTH = 3,      /* an offered frame has not 14 to 1518 octets; niw_conversation: fewer than 14 */
+    NIW_SLOW_FRAME = 4,        /* an offered frame is one of the slow protocols, EtherType 0x8809 */
+    NIW_HELD = 5,              /* the conversation is wanted or flushing, so its frames are held: until the marker's response comes,
+                                  the link of its port goes down, or niw_force or niw_force_port frees it. A link that falls
+                                  silent and stays up holds them for ever: once its port does not distribute, force it */
+    NIW_NONE_DISTRIBUTING = 6, /* the conversation is free, and no port distributes in the aggregator */
+    NIW_NOT_DISTRIBUTING = 7,  /* the port to move to does not distribute in the aggregator */
+    NIW_SAME_PORT = 8,         /* the port to move to is the one that the conversation is on */
+    NIW_NOT_ASSIGNED = 9,      /* the conversation is free, or there is no such conversation or aggregator */
+    NIW_MARKERS_SPENT = 10,    /* no marker identifier is left */
+    NIW_BAD_CONFIG = 11,       /* the configuration is refused */
+    NIW_NO_MEMORY = 12,        /* memory was refused; only niw_new answers it, of a configuration that is not refused */
+    NIW_NO_SYSTEM = 13,        /* the handle holds no system */
+    NIW_ALREADY_LIVE = 14,             /* niw_new: the handle holds a system already */
+    NIW_BUFFER = 15,           /* a buffer has less room than the function asks */
+    NIW_NULL = 16              /* a pointer is null */
 };
 
-/* What lag_new is given beside keys and ports. */
-struct lag_config {
+/* Of NIW_BAD_CONFIG: the reason. */
+enum {
+    NIW_REASON_PORTS = 1,        /* not 1 to 64 ports */
+    NIW_REASON_AGGREGATORS = 2,  /* not 1 to 64 aggregators */
+    NIW_REASON_PORT_NUMBER = 3,  /* a port number is 0, or not above the one before it */
+    NIW_REASON_MAX_LINKS = 4,    /* a limit of links is above 64 */
+    NIW_REASON_CONVERSATIONS = 5, /* neither 256 nor 4096 conversations */
+    NIW_REASON_ALGORITHM = 6      /* an algorithm that is not 0 to 2 */
+};
+
+/* Of NIW_RECEIVED_IGNORED: what is wrong with the payload. */
+enum {
+    NIW_FAULT_SHORT = 1,         /* fewer than 110 octets */
+    NIW_FAULT_OTHER_SUBTYPE = 2, /* octet 0 is neither 1 nor 2 */
+    NIW_FAULT_BAD_LENGTH = 3,    /* a length of a TLV is wrong */
+    NIW_FAULT_MARKER_TLV = 4     /* octet 2 of a Marker PDU is neither 1 nor 2 */
+};
+
+/* The bits of a state octet. */
+enum {
+    NIW_STATE_ACTIVITY = 1,
+    NIW_STATE_TIMEOUT = 2,
+    NIW_STATE_AGGREGATION = 4,
+    NIW_STATE_SYNCHRONIZATION = 8,
+    NIW_STATE_COLLECTING = 16,
+    NIW_STATE_DISTRIBUTING = 32,
+    NIW_STATE_DEFAULTED = 64,
+    NIW_STATE_EXPIRED = 128
+};
+
+/* What niw_new is given beside keys and ports. */
+struct niw_config {
     uint16_t priority;      /* the system priority */
     uint8_t mac[6];         /* the MAC address of the system */
     uint16_t max_delay;     /* CollectorMaxDelay in tens of microseconds */
     uint32_t first_marker;  /* the identifier of the first marker */
     uint16_t conversations; /* of each aggregator, 256 or 4096 */
     uint16_t max_links;     /* the most members of each aggregator, 1 to 64; 0: any number */
+    uint16_t algorithm;     /* how a conversation picks its port: NIW_BY_.. */
+};
+
+/* How a conversation picks its port, in the list of the ports that distribute: the place in it, from 0. */
+enum {
+    NIW_BY_NUMBER = 0, /* the number of the conversation, modulo the count of these ports */
+    NIW_BY_SUM = 1,    /* that number, its 16th part and its 256th part together, modulo the count */
+    NIW_BY_FIRST = 2   /* 0: the first port carries all, and the others stand in reserve */
 };
 
 /* One port of a configuration. */
-struct lag_port {
+struct niw_port {
     uint16_t number;    /* 1 to 65535 */
     uint16_t priority;
     uint8_t mac[6];     /* the source of what the port sends */
@@ -79,49 +130,58 @@ struct lag_port {
     bool short_timeout; /* LACP_Timeout: whether the port asks for short timeouts */
 };
 
-/* What lag_configure gives a port. */
-struct lag_change {
+/* What niw_configure gives a port. */
+struct niw_change {
     uint16_t key;
     uint16_t priority;
     bool aggregatable;
 };
 
-/* In each answer `status` is LAG_OK or the number of the refusal; what stands beside it is 0 where it is a refusal. */
-struct lag_made {
+/* In each answer `status` is NIW_OK or the number of the refusal; what stands beside it is 0 where it is a refusal. */
+struct niw_made {
     uint32_t status;
-    uint32_t reason; /* of LAG_BAD_CONFIG: 1 not 1 to 64 ports, 2 not 1 to 64 aggregators, 3 a port number does not rise,
-                        4 a limit of links is above 64, 5 neither 256 nor 4096 conversations */
-    size_t place;    /* of reason 3: the place of the port, from 1 */
+    uint32_t reason; /* of NIW_BAD_CONFIG: NIW_REASON_.. */
+    size_t place;    /* of NIW_REASON_PORT_NUMBER: the place of the port, from 1 */
 };
 
-struct lag_truth {
+struct niw_truth {
     uint32_t status;
     bool is;
 };
 
-struct lag_number {
+struct niw_number {
     uint32_t status;
     uint64_t number;
 };
 
 /* What became of a frame that came. */
 enum {
-    LAG_DISABLED = 0,    /* the link of the port is down */
-    LAG_DROPPED = 1,     /* fewer than 14 octets, or a data frame on a port that is not collecting */
-    LAG_IGNORED = 2,     /* a control frame whose payload is refused; `number` is the fault, 1 to 4 */
-    LAG_TOOK_LACPDU = 3, /* an LACPDU was taken */
-    LAG_RESPOND = 4,     /* a marker came: its answer stands in the buffer, to be sent on the same port */
-    LAG_RELEASED = 5,    /* a marker response came; `number` is how many conversations it released */
-    LAG_UP = 6           /* a data frame, which is handed up in the aggregator `number` */
+    NIW_RECEIVED_DISABLED = 0,    /* the link of the port is down */
+    NIW_RECEIVED_DROPPED = 1,     /* fewer than 14 octets, or a data frame on a port that is not collecting */
+    NIW_RECEIVED_IGNORED = 2,     /* a control frame whose payload is refused; `number` is NIW_FAULT_.. */
+    NIW_RECEIVED_TOOK_LACPDU = 3, /* an LACPDU was taken */
+    NIW_RECEIVED_RESPOND = 4,     /* a marker came: its answer stands in the buffer, `number` octets, to be sent on the same port */
+    NIW_RECEIVED_RELEASED = 5,    /* a marker response came; `number` is how many conversations it released */
+    NIW_RECEIVED_UP = 6           /* a data frame, which is handed up in the aggregator `number` */
 };
 
-struct lag_received {
+struct niw_received {
     uint32_t status;
     uint32_t what;
     uint32_t number;
 };
 
-struct lag_party {
+/* Which frame was due: the subtype of its PDU. */
+enum { NIW_SENT_NOTHING = 0, NIW_SENT_LACPDU = 1, NIW_SENT_MARKER = 2 };
+
+struct niw_sent {
+    uint32_t status;
+    bool is;         /* whether a frame is due, which stands in the buffer then */
+    uint8_t what;    /* NIW_SENT_.. */
+    uint32_t octets; /* of the frame: NIW_FRAME, or 0 */
+};
+
+struct niw_actor {
     uint32_t status;
     uint16_t system_priority;
     uint8_t system_mac[6];
@@ -131,18 +191,18 @@ struct lag_party {
     bool aggregatable;
 };
 
-struct lag_info {
+struct niw_info {
     uint32_t status;
     uint16_t system_priority;
     uint8_t system_mac[6];
     uint16_t key;
     uint16_t port_priority;
     uint16_t port;
-    uint8_t state; /* the state octet */
+    uint8_t state; /* the state octet: NIW_STATE_.. */
 };
 
 /* One end of a group. Its port is named only where the link is individual. */
-struct lag_end {
+struct niw_end {
     uint16_t system_priority;
     uint8_t system_mac[6];
     uint16_t key;
@@ -151,265 +211,450 @@ struct lag_end {
     uint16_t port;
 };
 
-struct lag_group {
+struct niw_group_id {
     uint32_t status;
-    struct lag_end lower;
-    struct lag_end upper;
+    struct niw_end lower;
+    struct niw_end upper;
 };
 
 /* The states of the receive machine and of the mux machine. */
-enum { LAG_INITIALIZE, LAG_PORT_DISABLED, LAG_EXPIRED, LAG_DEFAULTED, LAG_CURRENT };
-enum { LAG_DETACHED, LAG_WAITING, LAG_ATTACHED, LAG_COLLECTING_DISTRIBUTING };
+enum { NIW_RECEIVE_INITIALIZE, NIW_RECEIVE_PORT_DISABLED, NIW_RECEIVE_EXPIRED, NIW_RECEIVE_DEFAULTED, NIW_RECEIVE_CURRENT };
+enum { NIW_MUX_DETACHED, NIW_MUX_WAITING, NIW_MUX_ATTACHED, NIW_MUX_COLLECTING_DISTRIBUTING };
 
-/* What a conversation is doing. */
-enum { LAG_FREE, LAG_ON, LAG_WANTED, LAG_FLUSHING };
-
-struct lag_assignment {
-    uint32_t status;
-    uint32_t what;
-    uint16_t port;      /* of LAG_ON, LAG_WANTED and LAG_FLUSHING */
-    bool prefers;       /* whether there is a preferred port */
-    uint16_t preferred; /* that port */
-    uint32_t id;        /* of LAG_FLUSHING: the identifier of its marker */
-    uint8_t age;        /* of LAG_FLUSHING: ticks since that marker, 0 to 29 */
+/* Whether a port distributes, and else the first reason why not. */
+enum {
+    NIW_PORT_STATUS_DISTRIBUTING = 0,
+    NIW_PORT_STATUS_LINK_DOWN = 1,
+    NIW_PORT_STATUS_NO_LACPDU = 2,           /* none came since the link came up, or none in time */
+    NIW_PORT_STATUS_ON_DEFAULTS = 3,         /* so long that the port runs on defaults */
+    NIW_PORT_STATUS_OWN_SYSTEM = 4,          /* the partner is this very system */
+    NIW_PORT_STATUS_NO_AGGREGATOR = 5,       /* none has its key and its group */
+    NIW_PORT_STATUS_STANDBY = 6,             /* niw_choice tells the aggregator, which has no room for one more link */
+    NIW_PORT_STATUS_WAITING = 7,             /* niw_wait_while tells for how many ticks */
+    NIW_PORT_STATUS_WAITING_FOR_MEMBERS = 8, /* the others of its aggregator are not ready */
+    NIW_PORT_STATUS_PARTNER_NOT_SYNCHRONIZED = 9
 };
 
-struct lag_marker {
+/* What a conversation is doing. */
+enum { NIW_CONVERSATION_FREE, NIW_CONVERSATION_ON, NIW_CONVERSATION_WANTED, NIW_CONVERSATION_FLUSHING };
+
+struct niw_assignment {
+    uint32_t status;
+    uint32_t what;
+    uint16_t port;      /* of NIW_CONVERSATION_ON, NIW_CONVERSATION_WANTED and NIW_CONVERSATION_FLUSHING */
+    bool prefers;       /* whether there is a preferred port */
+    uint16_t preferred; /* that port */
+    uint32_t id;        /* of NIW_CONVERSATION_FLUSHING: the identifier of its marker */
+    uint8_t age;        /* of NIW_CONVERSATION_FLUSHING: ticks since that marker, 0 to 29 */
+};
+
+struct niw_marker {
     uint32_t status;
     bool left;   /* whether an identifier is left */
     uint32_t id; /* the next one, or 0 */
 };
 
+/* What there is to show of a port: no timer, and nothing that changes from tick to tick. */
+struct niw_view {
+    uint16_t port;
+    uint16_t aggregator; /* as niw_choice tells it, or 0 */
+    bool up;             /* whether the link is up */
+    bool standby;
+    bool defaulted;        /* as niw_defaulted tells it */
+    uint8_t state;         /* the state octet of the own side */
+    uint8_t receive_state; /* as niw_receive_state tells it */
+    uint8_t mux_state;     /* as niw_mux_state tells it */
+    uint8_t port_status;   /* as niw_port_status tells it */
+    uint8_t partner_state; /* the state octet of the recorded partner */
+    uint8_t partner_mac[6];
+    uint16_t partner_priority;
+    uint16_t partner_key;
+    uint16_t partner_port_priority;
+    uint16_t partner_port;
+};
+
 /* The library itself. No pointer given to these is null. */
-struct lag_made lagffi_new(struct lag *handle, const struct lag_config *config, const uint16_t *keys,
-    size_t key_count, const struct lag_port *ports, size_t port_count);
-uint32_t lagffi_free(struct lag *handle);
-struct lag_received lagffi_receive(struct lag *handle, uint16_t port, const uint8_t *frame, size_t length,
+struct niw_made lagffi_new(struct niw_system *handle, const struct niw_config *config, const uint16_t *keys,
+    size_t key_count, const struct niw_port *ports, size_t port_count);
+uint32_t lagffi_free(struct niw_system *handle);
+struct niw_received lagffi_receive(struct niw_system *handle, uint16_t port, const uint8_t *frame, size_t length,
     uint8_t *response, size_t room);
-uint32_t lagffi_tick(struct lag *handle);
-uint32_t lagffi_set_link(struct lag *handle, uint16_t port, bool up);
-struct lag_truth lagffi_configure(struct lag *handle, uint16_t port, const struct lag_change *change);
-uint32_t lagffi_restart(struct lag *handle);
-struct lag_truth lagffi_transmit(struct lag *handle, uint16_t port, uint8_t *frame, size_t room);
-struct lag_number lagffi_offer(struct lag *handle, uint16_t agg, const uint8_t *frame, size_t length);
-uint32_t lagffi_move_conversation(struct lag *handle, uint16_t agg, uint16_t conv, uint16_t port);
-uint32_t lagffi_force(struct lag *handle, uint16_t agg, uint16_t conv);
-struct lag_number lagffi_ports(struct lag *handle, uint16_t *numbers, size_t room);
-struct lag_number lagffi_aggregators(struct lag *handle);
-struct lag_number lagffi_load(struct lag *handle, uint16_t port);
-struct lag_truth lagffi_is_up(struct lag *handle, uint16_t port);
-struct lag_number lagffi_state(struct lag *handle, uint16_t port);
-struct lag_number lagffi_receive_state(struct lag *handle, uint16_t port);
-struct lag_truth lagffi_is_due(struct lag *handle, uint16_t port);
-struct lag_party lagffi_party(struct lag *handle, uint16_t port);
-struct lag_info lagffi_partner(struct lag *handle, uint16_t port);
-struct lag_group lagffi_group(struct lag *handle, uint16_t port);
-struct lag_truth lagffi_defaulted(struct lag *handle, uint16_t port);
-struct lag_truth lagffi_distributes(struct lag *handle, uint16_t port);
-struct lag_number lagffi_choice(struct lag *handle, uint16_t port);
-struct lag_truth lagffi_is_standby(struct lag *handle, uint16_t port);
-struct lag_number lagffi_mux_state(struct lag *handle, uint16_t port);
-struct lag_number lagffi_distributing(struct lag *handle, uint16_t agg, uint16_t *numbers, size_t room);
-struct lag_number lagffi_conversation(struct lag *handle, const uint8_t *frame, size_t length);
-struct lag_assignment lagffi_conversation_state(struct lag *handle, uint16_t agg, uint16_t conv);
-struct lag_marker lagffi_next_marker(struct lag *handle);
+uint32_t lagffi_tick(struct niw_system *handle);
+uint32_t lagffi_ticks(struct niw_system *handle, uint32_t count);
+uint32_t lagffi_set_link(struct niw_system *handle, uint16_t port, bool up);
+struct niw_truth lagffi_configure(struct niw_system *handle, uint16_t port, const struct niw_change *change);
+uint32_t lagffi_restart(struct niw_system *handle);
+struct niw_sent lagffi_transmit(struct niw_system *handle, uint16_t port, uint8_t *frame, size_t room);
+struct niw_number lagffi_offer(struct niw_system *handle, uint16_t agg, const uint8_t *frame, size_t length);
+uint32_t lagffi_move_conversation(struct niw_system *handle, uint16_t agg, uint16_t conv, uint16_t port);
+uint32_t lagffi_force(struct niw_system *handle, uint16_t agg, uint16_t conv);
+struct niw_number lagffi_force_port(struct niw_system *handle, uint16_t port);
+struct niw_number lagffi_ports(struct niw_system *handle, uint16_t *numbers, size_t room);
+struct niw_number lagffi_views(struct niw_system *handle, struct niw_view *views, size_t room);
+struct niw_number lagffi_due(struct niw_system *handle);
+struct niw_number lagffi_aggregators(struct niw_system *handle);
+struct niw_number lagffi_load(struct niw_system *handle, uint16_t port);
+struct niw_truth lagffi_is_up(struct niw_system *handle, uint16_t port);
+struct niw_number lagffi_state(struct niw_system *handle, uint16_t port);
+struct niw_number lagffi_receive_state(struct niw_system *handle, uint16_t port);
+struct niw_truth lagffi_is_due(struct niw_system *handle, uint16_t port);
+struct niw_actor lagffi_party(struct niw_system *handle, uint16_t port);
+struct niw_info lagffi_partner(struct niw_system *handle, uint16_t port);
+struct niw_group_id lagffi_group(struct niw_system *handle, uint16_t port);
+struct niw_truth lagffi_defaulted(struct niw_system *handle, uint16_t port);
+struct niw_truth lagffi_distributes(struct niw_system *handle, uint16_t port);
+struct niw_number lagffi_choice(struct niw_system *handle, uint16_t port);
+struct niw_truth lagffi_is_standby(struct niw_system *handle, uint16_t port);
+struct niw_number lagffi_mux_state(struct niw_system *handle, uint16_t port);
+struct niw_number lagffi_port_status(struct niw_system *handle, uint16_t port);
+struct niw_number lagffi_current_while(struct niw_system *handle, uint16_t port);
+struct niw_number lagffi_wait_while(struct niw_system *handle, uint16_t port);
+struct niw_truth lagffi_ntt(struct niw_system *handle, uint16_t port);
+struct niw_number lagffi_distributing(struct niw_system *handle, uint16_t agg, uint16_t *numbers, size_t room);
+struct niw_number lagffi_conversation(struct niw_system *handle, const uint8_t *frame, size_t length);
+struct niw_assignment lagffi_conversation_state(struct niw_system *handle, uint16_t agg, uint16_t conv);
+struct niw_marker lagffi_next_marker(struct niw_system *handle);
 
 /* The functions to call: they refuse a null pointer, and else pass on. */
 
-static inline struct lag_number lag_null_number(void) {
-    struct lag_number refused;
+static inline struct niw_number niw_null_number(void) {
+    struct niw_number refused;
     memset(&refused, 0, sizeof refused);
-    refused.status = LAG_NULL;
+    refused.status = NIW_NULL;
     return refused;
 }
 
-static inline struct lag_truth lag_null_truth(void) {
-    struct lag_truth refused;
+static inline struct niw_truth niw_null_truth(void) {
+    struct niw_truth refused;
     memset(&refused, 0, sizeof refused);
-    refused.status = LAG_NULL;
+    refused.status = NIW_NULL;
     return refused;
 }
 
 /* Makes a system with all links down and puts it into an empty handle. The keys are those of aggregators 1, 2 and on; the
  * port numbers rise. */
-static inline struct lag_made lag_new(struct lag *handle, const struct lag_config *config, const uint16_t *keys,
-    size_t key_count, const struct lag_port *ports, size_t port_count) {
-    struct lag_made refused;
+static inline struct niw_made niw_new(struct niw_system *handle, const struct niw_config *config, const uint16_t *keys,
+    size_t key_count, const struct niw_port *ports, size_t port_count) {
+    struct niw_made refused;
     if (handle && config && keys && ports) return lagffi_new(handle, config, keys, key_count, ports, port_count);
     memset(&refused, 0, sizeof refused);
-    refused.status = LAG_NULL;
+    refused.status = NIW_NULL;
     return refused;
 }
 
 /* Frees the system of a handle, which is empty then. */
-static inline uint32_t lag_free(struct lag *handle) {
-    return handle ? lagffi_free(handle) : (uint32_t)LAG_NULL;
+static inline uint32_t niw_free(struct niw_system *handle) {
+    return handle ? lagffi_free(handle) : (uint32_t)NIW_NULL;
 }
 
-/* A frame comes on a port. `response` has LAG_FRAME octets, and is written only for LAG_RESPOND. */
-static inline struct lag_received lag_receive(struct lag *handle, uint16_t port, const uint8_t *frame, size_t length,
+/* A frame comes on a port: of control frames hand over those to 01-80-C2-00-00-02 alone. `response` has NIW_FRAME octets or more, and
+ * is written only for NIW_RECEIVED_RESPOND, at its front. */
+static inline struct niw_received niw_receive(struct niw_system *handle, uint16_t port, const uint8_t *frame, size_t length,
     uint8_t *response, size_t room) {
-    struct lag_received refused;
+    struct niw_received refused;
     if (handle && frame && response) return lagffi_receive(handle, port, frame, length, response, room);
     memset(&refused, 0, sizeof refused);
-    refused.status = LAG_NULL;
+    refused.status = NIW_NULL;
     return refused;
 }
 
 /* 100 ms have passed. */
-static inline uint32_t lag_tick(struct lag *handle) {
-    return handle ? lagffi_tick(handle) : (uint32_t)LAG_NULL;
+static inline uint32_t niw_tick(struct niw_system *handle) {
+    return handle ? lagffi_tick(handle) : (uint32_t)NIW_NULL;
+}
+
+/* `count` times 100 ms have passed: as so many niw_tick, with nothing between them. A host that was stopped makes up few, since
+ * nothing is sent between them. */
+static inline uint32_t niw_ticks(struct niw_system *handle, uint32_t count) {
+    return handle ? lagffi_ticks(handle, count) : (uint32_t)NIW_NULL;
 }
 
 /* The link of a port is up or down now. */
-static inline uint32_t lag_set_link(struct lag *handle, uint16_t port, bool up) {
-    return handle ? lagffi_set_link(handle, port, up) : (uint32_t)LAG_NULL;
+static inline uint32_t niw_set_link(struct niw_system *handle, uint16_t port, bool up) {
+    return handle ? lagffi_set_link(handle, port, up) : (uint32_t)NIW_NULL;
 }
 
 /* Gives a port another key, priority or Aggregation bit; answers whether anything differs. */
-static inline struct lag_truth lag_configure(struct lag *handle, uint16_t port, const struct lag_change *change) {
-    return (handle && change) ? lagffi_configure(handle, port, change) : lag_null_truth();
+static inline struct niw_truth niw_configure(struct niw_system *handle, uint16_t port, const struct niw_change *change) {
+    return (handle && change) ? lagffi_configure(handle, port, change) : niw_null_truth();
 }
 
-/* Starts the system again as lag_new left it. */
-static inline uint32_t lag_restart(struct lag *handle) {
-    return handle ? lagffi_restart(handle) : (uint32_t)LAG_NULL;
+/* Starts the system again as niw_new left it: all links are down, and what niw_configure changed is lost. */
+static inline uint32_t niw_restart(struct niw_system *handle) {
+    return handle ? lagffi_restart(handle) : (uint32_t)NIW_NULL;
 }
 
-/* Whether a frame is due on a port; `frame` has LAG_FRAME octets, and is written only then. To be called until it answers false. */
-static inline struct lag_truth lag_transmit(struct lag *handle, uint16_t port, uint8_t *frame, size_t room) {
-    return (handle && frame) ? lagffi_transmit(handle, port, frame, room) : lag_null_truth();
+/* Whether a frame is due on a port, and which; `frame` has NIW_FRAME octets or more, and is written only then, at its front. To be
+ * called until its `is` is false. */
+static inline struct niw_sent niw_transmit(struct niw_system *handle, uint16_t port, uint8_t *frame, size_t room) {
+    struct niw_sent refused;
+    if (handle && frame) return lagffi_transmit(handle, port, frame, room);
+    memset(&refused, 0, sizeof refused);
+    refused.status = NIW_NULL;
+    return refused;
 }
 
-/* The port to send a frame on, in an aggregator. */
-static inline struct lag_number lag_offer(struct lag *handle, uint16_t agg, const uint8_t *frame, size_t length) {
-    return (handle && frame) ? lagffi_offer(handle, agg, frame, length) : lag_null_number();
+/* The port to send a frame on, in an aggregator: that of its conversation, which picks one by the algorithm of the configuration. */
+static inline struct niw_number niw_offer(struct niw_system *handle, uint16_t agg, const uint8_t *frame, size_t length) {
+    return (handle && frame) ? lagffi_offer(handle, agg, frame, length) : niw_null_number();
 }
 
 /* Moves a conversation to a port, behind a marker on the port that it is on. */
-static inline uint32_t lag_move_conversation(struct lag *handle, uint16_t agg, uint16_t conv, uint16_t port) {
-    return handle ? lagffi_move_conversation(handle, agg, conv, port) : (uint32_t)LAG_NULL;
+static inline uint32_t niw_move_conversation(struct niw_system *handle, uint16_t agg, uint16_t conv, uint16_t port) {
+    return handle ? lagffi_move_conversation(handle, agg, conv, port) : (uint32_t)NIW_NULL;
 }
 
 /* Frees a conversation at once, so that its frames may overtake one another. */
-static inline uint32_t lag_force(struct lag *handle, uint16_t agg, uint16_t conv) {
-    return handle ? lagffi_force(handle, agg, conv) : (uint32_t)LAG_NULL;
+static inline uint32_t niw_force(struct niw_system *handle, uint16_t agg, uint16_t conv) {
+    return handle ? lagffi_force(handle, agg, conv) : (uint32_t)NIW_NULL;
 }
 
-/* How many ports there are. `numbers` has LAG_MOST places, which `room` counts; their numbers are written, ascending. */
-static inline struct lag_number lag_ports(struct lag *handle, uint16_t *numbers, size_t room) {
-    return (handle && numbers) ? lagffi_ports(handle, numbers, room) : lag_null_number();
+/* Frees each conversation that is held on a port, as niw_force does; answers how many. */
+static inline struct niw_number niw_force_port(struct niw_system *handle, uint16_t port) {
+    return handle ? lagffi_force_port(handle, port) : niw_null_number();
+}
+
+/* How many ports there are. `numbers` has NIW_MOST_PORTS places or more, which `room` counts; their numbers are written at its front,
+ * ascending. */
+static inline struct niw_number niw_ports(struct niw_system *handle, uint16_t *numbers, size_t room) {
+    return (handle && numbers) ? lagffi_ports(handle, numbers, room) : niw_null_number();
+}
+
+/* What changed: writes what there is to show of each port into `views`, which has NIW_MOST_PORTS places or more, in the order of their
+ * numbers, and answers a mask of those that differ from what stood there. Bit 0, of the value 1, tells of the first port. The
+ * first time, `views` may hold zeros. */
+static inline struct niw_number niw_views(struct niw_system *handle, struct niw_view *views, size_t room) {
+    return (handle && views) ? lagffi_views(handle, views, room) : niw_null_number();
+}
+
+/* A mask of the ports on which niw_transmit would answer a frame now. Bit 0, of the value 1, tells of the first port. */
+static inline struct niw_number niw_due(struct niw_system *handle) {
+    return handle ? lagffi_due(handle) : niw_null_number();
 }
 
 /* How many aggregators there are. They are numbered from 1. */
-static inline struct lag_number lag_aggregators(struct lag *handle) {
-    return handle ? lagffi_aggregators(handle) : lag_null_number();
+static inline struct niw_number niw_aggregators(struct niw_system *handle) {
+    return handle ? lagffi_aggregators(handle) : niw_null_number();
 }
 
 /* Whether the link of a port is up. */
-static inline struct lag_truth lag_is_up(struct lag *handle, uint16_t port) {
-    return handle ? lagffi_is_up(handle, port) : lag_null_truth();
+static inline struct niw_truth niw_is_up(struct niw_system *handle, uint16_t port) {
+    return handle ? lagffi_is_up(handle, port) : niw_null_truth();
 }
 
 /* The state octet of a port's own side. */
-static inline struct lag_number lag_state(struct lag *handle, uint16_t port) {
-    return handle ? lagffi_state(handle, port) : lag_null_number();
+static inline struct niw_number niw_state(struct niw_system *handle, uint16_t port) {
+    return handle ? lagffi_state(handle, port) : niw_null_number();
 }
 
 /* The state of the receive machine of a port. */
-static inline struct lag_number lag_receive_state(struct lag *handle, uint16_t port) {
-    return handle ? lagffi_receive_state(handle, port) : lag_null_number();
+static inline struct niw_number niw_receive_state(struct niw_system *handle, uint16_t port) {
+    return handle ? lagffi_receive_state(handle, port) : niw_null_number();
 }
 
-/* Whether lag_transmit would answer a frame now. */
-static inline struct lag_truth lag_is_due(struct lag *handle, uint16_t port) {
-    return handle ? lagffi_is_due(handle, port) : lag_null_truth();
+/* Whether niw_transmit would answer a frame now. */
+static inline struct niw_truth niw_is_due(struct niw_system *handle, uint16_t port) {
+    return handle ? lagffi_is_due(handle, port) : niw_null_truth();
 }
 
 /* The own parameters of a port. */
-static inline struct lag_party lag_party(struct lag *handle, uint16_t port) {
-    struct lag_party refused;
+static inline struct niw_actor niw_party(struct niw_system *handle, uint16_t port) {
+    struct niw_actor refused;
     if (handle) return lagffi_party(handle, port);
     memset(&refused, 0, sizeof refused);
-    refused.status = LAG_NULL;
+    refused.status = NIW_NULL;
     return refused;
 }
 
 /* The recorded partner of a port. */
-static inline struct lag_info lag_partner(struct lag *handle, uint16_t port) {
-    struct lag_info refused;
+static inline struct niw_info niw_partner(struct niw_system *handle, uint16_t port) {
+    struct niw_info refused;
     if (handle) return lagffi_partner(handle, port);
     memset(&refused, 0, sizeof refused);
-    refused.status = LAG_NULL;
+    refused.status = NIW_NULL;
     return refused;
 }
 
 /* The Link Aggregation Group of a port. */
-static inline struct lag_group lag_group(struct lag *handle, uint16_t port) {
-    struct lag_group refused;
+static inline struct niw_group_id niw_group(struct niw_system *handle, uint16_t port) {
+    struct niw_group_id refused;
     if (handle) return lagffi_group(handle, port);
     memset(&refused, 0, sizeof refused);
-    refused.status = LAG_NULL;
+    refused.status = NIW_NULL;
     return refused;
 }
 
 /* Actor_State.Defaulted: whether recordDefault set the recorded partner, and no LACPDU since. */
-static inline struct lag_truth lag_defaulted(struct lag *handle, uint16_t port) {
-    return handle ? lagffi_defaulted(handle, port) : lag_null_truth();
+static inline struct niw_truth niw_defaulted(struct niw_system *handle, uint16_t port) {
+    return handle ? lagffi_defaulted(handle, port) : niw_null_truth();
 }
 
 /* Whether a port distributes. */
-static inline struct lag_truth lag_distributes(struct lag *handle, uint16_t port) {
-    return handle ? lagffi_distributes(handle, port) : lag_null_truth();
+static inline struct niw_truth niw_distributes(struct niw_system *handle, uint16_t port) {
+    return handle ? lagffi_distributes(handle, port) : niw_null_truth();
 }
 
 /* The aggregator that a port is given, or 0. The port is SELECTED or STANDBY with it. */
-static inline struct lag_number lag_choice(struct lag *handle, uint16_t port) {
-    return handle ? lagffi_choice(handle, port) : lag_null_number();
+static inline struct niw_number niw_choice(struct niw_system *handle, uint16_t port) {
+    return handle ? lagffi_choice(handle, port) : niw_null_number();
 }
 
 /* Whether a port is STANDBY: its aggregator had no room for one more link. */
-static inline struct lag_truth lag_is_standby(struct lag *handle, uint16_t port) {
-    return handle ? lagffi_is_standby(handle, port) : lag_null_truth();
+static inline struct niw_truth niw_is_standby(struct niw_system *handle, uint16_t port) {
+    return handle ? lagffi_is_standby(handle, port) : niw_null_truth();
 }
 
 /* The state of the mux machine of a port. */
-static inline struct lag_number lag_mux_state(struct lag *handle, uint16_t port) {
-    return handle ? lagffi_mux_state(handle, port) : lag_null_number();
+static inline struct niw_number niw_mux_state(struct niw_system *handle, uint16_t port) {
+    return handle ? lagffi_mux_state(handle, port) : niw_null_number();
+}
+
+/* Whether a port distributes, and else the first reason why not: NIW_STATUS_.. */
+static inline struct niw_number niw_port_status(struct niw_system *handle, uint16_t port) {
+    return handle ? lagffi_port_status(handle, port) : niw_null_number();
+}
+
+/* How many ticks current_while of a port has left, 0 to 900. */
+static inline struct niw_number niw_current_while(struct niw_system *handle, uint16_t port) {
+    return handle ? lagffi_current_while(handle, port) : niw_null_number();
+}
+
+/* How many ticks wait_while of a port has left, 0 to 20. */
+static inline struct niw_number niw_wait_while(struct niw_system *handle, uint16_t port) {
+    return handle ? lagffi_wait_while(handle, port) : niw_null_number();
+}
+
+/* Whether an LACPDU is to be sent on a port; niw_is_due is false where three went in the last eleven ticks. */
+static inline struct niw_truth niw_ntt(struct niw_system *handle, uint16_t port) {
+    return handle ? lagffi_ntt(handle, port) : niw_null_truth();
 }
 
 /* How many conversations are on a port, those that are held among them. */
-static inline struct lag_number lag_load(struct lag *handle, uint16_t port) {
-    return handle ? lagffi_load(handle, port) : lag_null_number();
+static inline struct niw_number niw_load(struct niw_system *handle, uint16_t port) {
+    return handle ? lagffi_load(handle, port) : niw_null_number();
 }
 
-/* How many ports distribute in an aggregator; 0 if there is none. `numbers` has LAG_MOST places; their numbers are
- * written, ascending. */
-static inline struct lag_number lag_distributing(struct lag *handle, uint16_t agg, uint16_t *numbers, size_t room) {
-    return (handle && numbers) ? lagffi_distributing(handle, agg, numbers, room) : lag_null_number();
+/* How many ports distribute in an aggregator; 0 if there is none. `numbers` has NIW_MOST_PORTS places or more; their numbers are
+ * written at its front, ascending. */
+static inline struct niw_number niw_distributing(struct niw_system *handle, uint16_t agg, uint16_t *numbers, size_t room) {
+    return (handle && numbers) ? lagffi_distributing(handle, agg, numbers, room) : niw_null_number();
 }
 
 /* The conversation of a frame in its aggregator. */
-static inline struct lag_number lag_conversation(struct lag *handle, const uint8_t *frame, size_t length) {
-    return (handle && frame) ? lagffi_conversation(handle, frame, length) : lag_null_number();
+static inline struct niw_number niw_conversation(struct niw_system *handle, const uint8_t *frame, size_t length) {
+    return (handle && frame) ? lagffi_conversation(handle, frame, length) : niw_null_number();
 }
 
 /* What a conversation of an aggregator is doing. */
-static inline struct lag_assignment lag_conversation_state(struct lag *handle, uint16_t agg, uint16_t conv) {
-    struct lag_assignment refused;
+static inline struct niw_assignment niw_conversation_state(struct niw_system *handle, uint16_t agg, uint16_t conv) {
+    struct niw_assignment refused;
     if (handle) return lagffi_conversation_state(handle, agg, conv);
     memset(&refused, 0, sizeof refused);
-    refused.status = LAG_NULL;
+    refused.status = NIW_NULL;
     return refused;
 }
 
 /* The identifier of the next marker. */
-static inline struct lag_marker lag_next_marker(struct lag *handle) {
-    struct lag_marker refused;
+static inline struct niw_marker niw_next_marker(struct niw_system *handle) {
+    struct niw_marker refused;
     if (handle) return lagffi_next_marker(handle);
     memset(&refused, 0, sizeof refused);
-    refused.status = LAG_NULL;
+    refused.status = NIW_NULL;
     return refused;
+}
+
+/* Texts. */
+
+/* What a status means. */
+static inline const char *niw_status_text(uint32_t status) {
+    static const char *const texts[] = {
+        "done",
+        "the system has no port of this number",
+        "the system has no such aggregator",
+        "an offered frame has not 14 to 1518 octets",
+        "an offered frame is one of the slow protocols",
+        "the conversation is Wanted or Flushing",
+        "the conversation is free, and no port distributes in the aggregator",
+        "the port to move to does not distribute in the aggregator",
+        "the port to move to is the one that the conversation is on",
+        "the conversation is free, or there is no such conversation",
+        "no marker identifier is left",
+        "the configuration is refused",
+        "out of memory",
+        "the handle holds no system",
+        "the handle holds a system already",
+        "a buffer has less room than the function asks",
+        "a pointer is null"};
+    return status <= NIW_NULL ? texts[status] : "unknown";
+}
+
+/* What a reason to refuse a configuration means. */
+static inline const char *niw_reason_text(uint32_t reason) {
+    static const char *const texts[] = {
+        "unknown",
+        "the configuration has not 1 to 64 ports",
+        "the configuration has not 1 to 64 aggregators",
+        "a port has the number 0 or one that is not above the number before it",
+        "the limit of links of an aggregator is not 1 to 64",
+        "the configuration has neither 256 nor 4096 conversations",
+        "the distribution algorithm is not 0 to 2"};
+    return texts[reason <= NIW_REASON_ALGORITHM ? reason : 0];
+}
+
+/* Whether a port distributes, and else why not. */
+static inline const char *niw_port_status_text(uint64_t port_status) {
+    static const char *const texts[] = {
+        "it distributes",
+        "the link is down",
+        "no LACPDU came in time",
+        "it runs on defaults",
+        "the partner is this very system",
+        "no aggregator has its key and its group",
+        "its aggregator has no room for one more link",
+        "it waits for wait_while",
+        "it waits for other ports of its aggregator",
+        "the partner is not synchronized"};
+    return port_status <= NIW_PORT_STATUS_PARTNER_NOT_SYNCHRONIZED ? texts[port_status] : "unknown";
+}
+
+/* The name of a state of the receive machine. */
+static inline const char *niw_receive_state_text(uint64_t receive_state) {
+    static const char *const texts[] = {"INITIALIZE", "PORT_DISABLED", "EXPIRED", "DEFAULTED", "CURRENT"};
+    return receive_state <= NIW_RECEIVE_CURRENT ? texts[receive_state] : "unknown";
+}
+
+/* The name of a state of the mux machine. */
+static inline const char *niw_mux_state_text(uint64_t mux_state) {
+    static const char *const texts[] = {"DETACHED", "WAITING", "ATTACHED", "COLLECTING_DISTRIBUTING"};
+    return mux_state <= NIW_MUX_COLLECTING_DISTRIBUTING ? texts[mux_state] : "unknown";
+}
+
+/* The name of a bit of a state octet, from 0 for the least significant on. */
+static inline const char *niw_state_name(unsigned bit) {
+    static const char *const names[] = {"ACTIVITY", "TIMEOUT", "AGGREGATION", "SYNCHRONIZATION", "COLLECTING", "DISTRIBUTING",
+        "DEFAULTED", "EXPIRED"};
+    return bit < 8 ? names[bit] : "unknown";
+}
+
+/* The room that niw_state_text needs at most. */
+#define NIW_STATE_TEXT_ROOM 87
+
+/* Writes the names of the bits of a state octet that are 1, with a blank between them and a 0 octet at the end, where `text` has
+ * room for them. Answers how many octets they need. */
+static inline size_t niw_state_text(uint8_t state, char *text, size_t room) {
+    size_t length = 0, needed = 0;
+    for (unsigned bit = 0; bit < 8; bit++)
+        if (state >> bit & 1) needed += strlen(niw_state_name(bit)) + 1;
+    if (needed == 0) needed = 1;
+    if (!text || room < needed) return needed;
+    for (unsigned bit = 0; bit < 8; bit++) {
+        if (!(state >> bit & 1)) continue;
+        if (length > 0) text[length++] = ' ';
+        memcpy(text + length, niw_state_name(bit), strlen(niw_state_name(bit)));
+        length += strlen(niw_state_name(bit));
+    }
+    text[length] = 0;
+    return needed;
 }
 
 #ifdef __cplusplus

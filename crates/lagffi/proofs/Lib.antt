@@ -1,4 +1,6 @@
+pub mod AlgorithmLemmas
 pub mod AsBox
 pub mod AskingLemmas
 pub mod MadeLemmas
+pub mod MaskLemmas
 pub mod ToldLemmas

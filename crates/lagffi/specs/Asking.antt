@@ -2,19 +2,28 @@
 use Rattle.std.specs.Prelude.{◌≡◌, ℕ, Option, None, Some}
 use Rattle.distributor.specs.Calls.{index_by_number}
 use Rattle.lagsystem.specs.State.{SystemState}
+use Rattle.lagffi.specs.Algorithms.{gives_by}
+use Rattle.lagffi.specs.Holding.{HeldValue}
 
--- what the algorithm of every handle may return: this place, for conversation conv and this count of ports
+-- what the algorithm by_number may return. A call other than an offer asks no algorithm: by this one it promises what it does by any.
 abbrev pub by_number_gives : ℕ → ℕ → ℕ → Type 0
 by_number_gives conv count place = place ≡ index_by_number conv count
 
--- A call: the handle held a system, which goes on by this relation and is held still; or it held none, holds none, and
--- answers its refusal.
-abbrev pub CallsHeldSystem : Option SystemState → Option SystemState → (SystemState → SystemState → Type 0) → Type 0 → Type 0
+-- A call: the handle held a system, which goes on by this relation and is held still, with its algorithm; or it held none,
+-- holds none, and answers its refusal.
+abbrev pub CallsHeldSystem : Option HeldValue → Option HeldValue → (SystemState → SystemState → Type 0) → Type 0 → Type 0
 CallsHeldSystem None new does refuses = refuses × (new ≡ None)
-CallsHeldSystem (Some s) new does refuses = (t : SystemState) × (new ≡ Some t) × does s t
+CallsHeldSystem (Some h) new does refuses = (t : SystemState) × (new ≡ Some (record h { state = t })) × does h.state t
+
+-- A call that asks the algorithm of the handle, whose numbered places may be returned.
+abbrev pub OffersToHeldSystem : Option HeldValue → Option HeldValue → ((ℕ → ℕ → ℕ → Type 0) → SystemState → SystemState → Type 0)
+    → Type 0 → Type 0
+OffersToHeldSystem None new does refuses = refuses × (new ≡ None)
+OffersToHeldSystem (Some h) new does refuses =
+    (t : SystemState) × (new ≡ Some (record h { state = t })) × does (gives_by h.algorithm) h.state t
 
 -- A reader: tells is true of the system that the handle holds, which stays as it is; or the handle held none, holds
 -- none, and refuses is true.
-abbrev pub ReadsHeldSystem : Option SystemState → Option SystemState → (SystemState → Type 0) → Type 0 → Type 0
+abbrev pub ReadsHeldSystem : Option HeldValue → Option HeldValue → (SystemState → Type 0) → Type 0 → Type 0
 ReadsHeldSystem None new tells refuses = refuses × (new ≡ None)
-ReadsHeldSystem (Some s) new tells refuses = tells s × (new ≡ Some s)
+ReadsHeldSystem (Some h) new tells refuses = tells h.state × (new ≡ Some h)

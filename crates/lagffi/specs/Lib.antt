@@ -1,8 +1,12 @@
+pub mod Algorithms
 pub mod Asking
 pub mod Frames
 pub mod Holding
 pub mod Lists
 pub mod Made
+pub mod Masks
 pub mod Numbers
 pub mod Owned
+pub mod PortViews
 pub mod ReaderValues
+pub mod Ticking

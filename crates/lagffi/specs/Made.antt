@@ -5,13 +5,14 @@ use Rattle.lagsystem.specs.declared.config.PortConfig.{PortConfig}
 use Rattle.lagsystem.specs.declared.fault.BadConfig.{BadConfig}
 use Rattle.lagsystem.specs.declared.fault.BadConfig.TheVariants.{Ports, Aggregators, PortNumber, MaxLinks, Conversations}
 use Rattle.lagsystem.specs.declared.fault.SystemFault.{SystemFault}
-use Rattle.lagsystem.specs.declared.fault.SystemFault.TheVariants.{BadConfig as Bad}
+use Rattle.lagsystem.specs.declared.fault.SystemFault.TheVariants.{BadConfig as Bad, NoMemory}
 use Rattle.lagsystem.specs.Faults.{fault_number}
 use Rattle.lagmodel.specs.View.{first_view}
-use Rattle.lagsystem.specs.First.{IsFirst, fault_or_no_memory, refusal}
+use Rattle.lagsystem.specs.First.{IsFirst, refusal}
 use Rattle.lagsystem.specs.ModelView.{model_setup, model_view}
 use Rattle.lagsystem.specs.Sound.{PortsAgree}
 use Rattle.lagsystem.specs.State.{SystemState}
+use Rattle.lagffi.specs.Algorithms.{is_algorithm}
 use Rattle.lagffi.specs.declared.made.LagConfig.{LagConfig}
 use Rattle.lagffi.specs.declared.made.LagMade.{LagMade}
 use Rattle.lagffi.specs.declared.made.LagPort.{LagPort}
@@ -61,10 +62,6 @@ pub record IsMadeOfLagConfig (config : LagConfig) (of_keys : List ℕ) (of_ports
   pub max_links : s.max_links ≡ lag_limit config.max_links
   pub ports : s.ports ≡ map lag_port_config of_ports
 
--- why none is made: the first reason to refuse the configuration; without a reason, memory was refused
-abbrev pub why_refused : LagConfig → List ℕ → List LagPort → SystemFault
-why_refused config keys ports = fault_or_no_memory (refusal_of config keys ports)
-
 -- a status alone, without a reason to refuse a configuration; with status 0, the system was made
 abbrev pub made_with_status : ℕ → LagMade
 made_with_status status = record { status = status; reason = 0; place = 0 }
@@ -77,3 +74,16 @@ made_refused (Bad (PortNumber place)) = record { status = 11; reason = 3; place 
 made_refused (Bad MaxLinks) = record { status = 11; reason = 4; place = 0 }
 made_refused (Bad Conversations) = record { status = 11; reason = 5; place = 0 }
 made_refused fault = made_with_status (fault_number fault)
+
+-- a refusal of an algorithm that there is not
+abbrev pub no_algorithm : LagMade
+no_algorithm = record { status = 11; reason = 6; place = 0 }
+
+-- this reason; else, that the algorithm with this number is none; else, that memory was refused
+abbrev pub refused_for : Option BadConfig → ℕ → LagMade
+refused_for (Some reason) algorithm = made_refused (Bad reason)
+refused_for None algorithm = if is_algorithm algorithm then made_refused NoMemory else no_algorithm
+
+-- why none is made
+abbrev pub why_refused : LagConfig → List ℕ → List LagPort → LagMade
+why_refused config keys ports = refused_for (refusal_of config keys ports) config.algorithm

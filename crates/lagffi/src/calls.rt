@@ -1,5 +1,6 @@
-ghost use Rattle.std.specs.Prelude.{◌≡◌, ◌==◌, ◌<◌, Bool, IfOk, IsTrue, ℕ, List, Option, Result, length};
+ghost use Rattle.std.specs.Prelude.{◌≡◌, ◌<◌, ◌≤◌, Bool, IfOk, IsTrue, ℕ, List, Option, Result, length, nat_le};
 ghost use Rattle.std.specs.Bool.{IsFalse};
+ghost use Rattle.distributor.specs.Calls.{PicksIndexes};
 ghost use Rattle.lagsystem.specs.Calls.{Call};
 ghost use Rattle.lagsystem.specs.Forcing.{ForcesPort};
 ghost use Rattle.lagmodel.specs.View.{first_view};
@@ -9,42 +10,53 @@ ghost use Rattle.lagsystem.specs.declared.received.Received.{Received};
 ghost use Rattle.lagsystem.specs.declared.drive.Reply.{Reply};
 ghost use Rattle.lagsystem.specs.declared.fault.SystemFault.{SystemFault};
 ghost use Rattle.lagsystem.specs.Sound.{CallPromise};
-ghost use Rattle.lagffi.specs.Asking.{CallsHeldSystem, by_number_gives};
-ghost use Rattle.lagffi.specs.Holding.{held_state};
-ghost use Rattle.lagffi.specs.Frames.{control_frame_length, received_of, truth_of_transmit, buffer_after_transmit, buffer_after_receive};
+ghost use Rattle.lagffi.specs.Algorithms.{gives_by};
+ghost use Rattle.lagffi.specs.Asking.{CallsHeldSystem, OffersToHeldSystem, by_number_gives};
+ghost use Rattle.lagffi.specs.Holding.{held_value};
+ghost use Rattle.lagffi.specs.Frames.{control_frame_length, received_of, sent_of, sent_refused, buffer_after_transmit, buffer_after_receive};
+ghost use Rattle.lagffi.specs.Lists.{put_first};
 ghost use Rattle.lagffi.specs.Numbers.{change_of, number_refused, received_refused, no_system, truth_refused, number_of};
 ghost use Rattle.lagffi.specs.Numbers.{wrong_buffer_length, status_of, truth_of};
+ghost use Rattle.lagffi.specs.Ticking.{TicksInTurn};
 
 use crate::handle::Lag;
-use crate::stored::by_number;
+use crate::stored::{by_first, by_number, by_sum};
 use crate::values::{
-    CONTROL_FRAME_LENGTH, LagChange, LagNumber, LagReceived, LagTruth, NO_SYSTEM, OK,
+    CONTROL_FRAME_LENGTH, LagChange, LagNumber, LagReceived, LagSent, LagTruth, NO_SYSTEM, OK,
     WRONG_BUFFER_LENGTH, status,
 };
-use lagsystem::{AggId, Received, SystemFault};
+use lagsystem::{AggId, Received, System, SystemFault};
 use std::alloc::Global;
+
+/// Writes a frame at the front of a buffer.
+fn put_frame(frame: &[u8], buffer: &mut [u8])
+    requires { length frame.now ≤ length buffer.old }
+    ensures { buffer.new ≡ put_first frame.now buffer.old }
+{
+    buffer[..frame.len()].copy_from_slice(frame);
+}
 
 /// Writes the response that a frame had, if it had one.
 fn write_reply(answer: &Result<Received, SystemFault>, buffer: &mut [u8])
-    requires { length buffer.old ≡ control_frame_length }
+    requires { control_frame_length ≤ length buffer.old }
     ensures { buffer.new ≡ buffer_after_receive buffer.old answer.now }
 {
     if let Ok(Received::Respond(octets)) = answer {
-        buffer.copy_from_slice(octets);
+        put_frame(octets, buffer);
     }
 }
 
 /// Writes the frame that is due, if one is.
 fn write_due(answer: &Result<Option<[u8; 124]>, SystemFault>, buffer: &mut [u8])
-    requires { length buffer.old ≡ control_frame_length }
+    requires { control_frame_length ≤ length buffer.old }
     ensures { buffer.new ≡ buffer_after_transmit buffer.old answer.now }
 {
     if let Ok(Some(octets)) = answer {
-        buffer.copy_from_slice(octets);
+        put_frame(octets, buffer);
     }
 }
 
-/// A frame comes on a port. The buffer has 124 octets; a response is written into it, and nothing else.
+/// A frame comes on a port. The buffer has 124 octets or more; a response is written at its front, and nothing else.
 #[unsafe(no_mangle)]
 pub extern "C" fn lagffi_receive(
     alloc: Global,
@@ -53,16 +65,16 @@ pub extern "C" fn lagffi_receive(
     frame: &[u8],
     response: &mut [u8],
 ) -> LagReceived
-    ensures room { IsFalse (length response.old == control_frame_length) → (result ≡ received_refused wrong_buffer_length)
-        × (held_state lag.new.held.kept ≡ held_state lag.old.held.kept) × (response.new ≡ response.old) }
-    ensures answers { IsTrue (length response.old == control_frame_length)
-        → CallsHeldSystem (held_state lag.old.held.kept) (held_state lag.new.held.kept)
+    ensures room { IsFalse (nat_le control_frame_length (length response.old)) → (result ≡ received_refused wrong_buffer_length)
+        × (held_value lag.new.held.kept ≡ held_value lag.old.held.kept) × (response.new ≡ response.old) }
+    ensures answers { IsTrue (nat_le control_frame_length (length response.old))
+        → CallsHeldSystem (held_value lag.old.held.kept) (held_value lag.new.held.kept)
         (λ old new. (answer : Result Received SystemFault)
         × CallPromise by_number_gives old (Call.Receive port frame.now) (Reply.Receive answer) new
         × (result ≡ received_of answer) × (response.new ≡ buffer_after_receive response.old answer))
         ((result ≡ received_refused no_system) × (response.new ≡ response.old)) }
 {
-    if response.len() != CONTROL_FRAME_LENGTH {
+    if response.len() < CONTROL_FRAME_LENGTH {
         return LagReceived::refused(WRONG_BUFFER_LENGTH);
     }
     let Some((kept, block)) = lag.take(alloc) else {
@@ -78,7 +90,7 @@ pub extern "C" fn lagffi_receive(
 /// One tick, 100 ms.
 #[unsafe(no_mangle)]
 pub extern "C" fn lagffi_tick(alloc: Global, lag: &mut Lag) -> u32
-    ensures { CallsHeldSystem (held_state lag.old.held.kept) (held_state lag.new.held.kept)
+    ensures { CallsHeldSystem (held_value lag.old.held.kept) (held_value lag.new.held.kept)
         (λ old new. CallPromise by_number_gives old Call.Tick Reply.Tick new × (result ≡ 0)) (result ≡ no_system) }
 {
     let Some((kept, block)) = lag.take(alloc) else {
@@ -90,10 +102,35 @@ pub extern "C" fn lagffi_tick(alloc: Global, lag: &mut Lag) -> u32
     OK
 }
 
+/// Ticks a system so many times.
+fn tick_times<F: Fn(u16, usize) -> usize + Drop>(system: &mut System<F>, count: u32)
+    ensures ticked { TicksInTurn (F.post system.old.algorithm) count system.old.state system.new.state }
+    ensures algorithm { system.new.algorithm ≡ system.old.algorithm }
+{
+    for _tick in 0..count {
+        system.tick();
+    }
+}
+
+/// So many ticks of 100 ms, one after another, and nothing between them.
+#[unsafe(no_mangle)]
+pub extern "C" fn lagffi_ticks(alloc: Global, lag: &mut Lag, count: u32) -> u32
+    ensures { CallsHeldSystem (held_value lag.old.held.kept) (held_value lag.new.held.kept)
+        (λ old new. TicksInTurn by_number_gives count old new × (result ≡ 0)) (result ≡ no_system) }
+{
+    let Some((kept, block)) = lag.take(alloc) else {
+        return NO_SYSTEM;
+    };
+    let mut system = kept.with_algorithm(by_number);
+    tick_times(&mut system, count);
+    lag.put(system.with_algorithm(()), block);
+    OK
+}
+
 /// The link of a port is up or down now.
 #[unsafe(no_mangle)]
 pub extern "C" fn lagffi_set_link(alloc: Global, lag: &mut Lag, port: u16, up: bool) -> u32
-    ensures { CallsHeldSystem (held_state lag.old.held.kept) (held_state lag.new.held.kept)
+    ensures { CallsHeldSystem (held_value lag.old.held.kept) (held_value lag.new.held.kept)
         (λ old new. (answer : Result Unit SystemFault) × CallPromise by_number_gives old (Call.Set_link port up) (Reply.SetLink answer) new
         × (result ≡ status_of answer)) (result ≡ no_system) }
 {
@@ -114,7 +151,7 @@ pub extern "C" fn lagffi_configure(
     port: u16,
     change: &LagChange,
 ) -> LagTruth
-    ensures { CallsHeldSystem (held_state lag.old.held.kept) (held_state lag.new.held.kept)
+    ensures { CallsHeldSystem (held_value lag.old.held.kept) (held_value lag.new.held.kept)
         (λ old new. (answer : Result Bool SystemFault) × CallPromise by_number_gives old (Call.Configure port (change_of change.now))
         (Reply.Configure answer) new
         × (result ≡ truth_of answer)) (result ≡ truth_refused no_system) }
@@ -131,7 +168,7 @@ pub extern "C" fn lagffi_configure(
 /// Starts the system again as it was made.
 #[unsafe(no_mangle)]
 pub extern "C" fn lagffi_restart(alloc: Global, lag: &mut Lag) -> u32
-    ensures { CallsHeldSystem (held_state lag.old.held.kept) (held_state lag.new.held.kept)
+    ensures { CallsHeldSystem (held_value lag.old.held.kept) (held_value lag.new.held.kept)
         (λ old new. CallPromise by_number_gives old Call.Restart Reply.Restart new
         × (model_view new ≡ first_view (model_setup old)) × (result ≡ 0))
         (result ≡ no_system) }
@@ -145,41 +182,77 @@ pub extern "C" fn lagffi_restart(alloc: Global, lag: &mut Lag) -> u32
     OK
 }
 
-/// Whether a frame is due on a port. The buffer has 124 octets; a due frame is written into it, and nothing else.
+/// Whether a frame is due on a port, and which. The buffer has 124 octets or more; a due frame is written at its front, and nothing
+/// else.
 #[unsafe(no_mangle)]
 pub extern "C" fn lagffi_transmit(
     alloc: Global,
     lag: &mut Lag,
     port: u16,
     frame: &mut [u8],
-) -> LagTruth
-    ensures room { IsFalse (length frame.old == control_frame_length) → (result ≡ truth_refused wrong_buffer_length)
-        × (held_state lag.new.held.kept ≡ held_state lag.old.held.kept) × (frame.new ≡ frame.old) }
-    ensures answers { IsTrue (length frame.old == control_frame_length)
-        → CallsHeldSystem (held_state lag.old.held.kept) (held_state lag.new.held.kept)
+) -> LagSent
+    ensures room { IsFalse (nat_le control_frame_length (length frame.old)) → (result ≡ sent_refused wrong_buffer_length)
+        × (held_value lag.new.held.kept ≡ held_value lag.old.held.kept) × (frame.new ≡ frame.old) }
+    ensures answers { IsTrue (nat_le control_frame_length (length frame.old))
+        → CallsHeldSystem (held_value lag.old.held.kept) (held_value lag.new.held.kept)
         (λ old new. (answer : Result (Option (List ℕ)) SystemFault)
         × CallPromise by_number_gives old (Call.Transmit port) (Reply.Transmit answer) new
-        × (result ≡ truth_of_transmit answer) × (frame.new ≡ buffer_after_transmit frame.old answer))
-        ((result ≡ truth_refused no_system) × (frame.new ≡ frame.old)) }
+        × (result ≡ sent_of answer) × (frame.new ≡ buffer_after_transmit frame.old answer))
+        ((result ≡ sent_refused no_system) × (frame.new ≡ frame.old)) }
 {
-    if frame.len() != CONTROL_FRAME_LENGTH {
-        return LagTruth::refused(WRONG_BUFFER_LENGTH);
+    if frame.len() < CONTROL_FRAME_LENGTH {
+        return LagSent::refused(WRONG_BUFFER_LENGTH);
     }
     let Some((kept, block)) = lag.take(alloc) else {
-        return LagTruth::refused(NO_SYSTEM);
+        return LagSent::refused(NO_SYSTEM);
     };
     let mut system = kept.with_algorithm(by_number);
     let answer = system.transmit(port);
     lag.put(system.with_algorithm(()), block);
     write_due(&answer, frame);
-    LagTruth::of_due(&answer)
+    LagSent::of(&answer)
 }
 
-/// The port to send a frame on, in an aggregator.
+/// Offers a frame to a system under this algorithm.
+fn offer_by<F: Fn(u16, usize) -> usize + Drop>(
+    kept: System<()>,
+    algorithm: F,
+    agg: AggId,
+    frame: &[u8],
+) -> (Result<u16, SystemFault>, System<()>)
+    requires usable { PicksIndexes (F.pre algorithm) (F.post algorithm) }
+    ensures answers { CallPromise (F.post algorithm) kept.state (Call.Offer agg frame.now) (Reply.Offer result.0) result.1.state }
+    ensures within { IfOk result.0 (λ port. number_of_conversation kept.state frame.now < conversation_count kept.state) }
+{
+    let mut system = kept.with_algorithm(algorithm);
+    let answer = system.offer(agg, frame);
+    (answer, system.with_algorithm(()))
+}
+
+/// Offers a frame to a system under the algorithm with this number.
+fn offer_with(
+    kept: System<()>,
+    algorithm: u16,
+    agg: AggId,
+    frame: &[u8],
+) -> (Result<u16, SystemFault>, System<()>)
+    ensures answers { CallPromise (gives_by algorithm) kept.state (Call.Offer agg frame.now) (Reply.Offer result.0) result.1.state }
+    ensures within { IfOk result.0 (λ port. number_of_conversation kept.state frame.now < conversation_count kept.state) }
+{
+    if algorithm >= 2 {
+        return offer_by(kept, by_first, agg, frame);
+    }
+    if algorithm >= 1 {
+        return offer_by(kept, by_sum, agg, frame);
+    }
+    offer_by(kept, by_number, agg, frame)
+}
+
+/// The port to send a frame on, in an aggregator, by the algorithm of the handle.
 #[unsafe(no_mangle)]
 pub extern "C" fn lagffi_offer(alloc: Global, lag: &mut Lag, agg: u16, frame: &[u8]) -> LagNumber
-    ensures { CallsHeldSystem (held_state lag.old.held.kept) (held_state lag.new.held.kept)
-        (λ old new. (answer : Result ℕ SystemFault) × CallPromise by_number_gives old (Call.Offer (aggregator_numbered agg) frame.now)
+    ensures { OffersToHeldSystem (held_value lag.old.held.kept) (held_value lag.new.held.kept)
+        (λ gives old new. (answer : Result ℕ SystemFault) × CallPromise gives old (Call.Offer (aggregator_numbered agg) frame.now)
         (Reply.Offer answer) new
         × IfOk answer (λ port. number_of_conversation old frame.now < conversation_count old)
         × (result ≡ number_of answer)) (result ≡ number_refused no_system) }
@@ -187,9 +260,8 @@ pub extern "C" fn lagffi_offer(alloc: Global, lag: &mut Lag, agg: u16, frame: &[
     let Some((kept, block)) = lag.take(alloc) else {
         return LagNumber::refused(NO_SYSTEM);
     };
-    let mut system = kept.with_algorithm(by_number);
-    let answer = system.offer(AggId(agg), frame);
-    lag.put(system.with_algorithm(()), block);
+    let (answer, system) = offer_with(kept, block.algorithm, AggId(agg), frame);
+    lag.put(system, block);
     LagNumber::of(&answer)
 }
 
@@ -202,7 +274,7 @@ pub extern "C" fn lagffi_move_conversation(
     conv: u16,
     port: u16,
 ) -> u32
-    ensures { CallsHeldSystem (held_state lag.old.held.kept) (held_state lag.new.held.kept)
+    ensures { CallsHeldSystem (held_value lag.old.held.kept) (held_value lag.new.held.kept)
         (λ old new. (answer : Result Unit SystemFault)
         × CallPromise by_number_gives old (Call.Move_conversation (aggregator_numbered agg) conv port)
         (Reply.MoveConversation answer) new
@@ -220,7 +292,7 @@ pub extern "C" fn lagffi_move_conversation(
 /// Frees a conversation of an aggregator at once.
 #[unsafe(no_mangle)]
 pub extern "C" fn lagffi_force(alloc: Global, lag: &mut Lag, agg: u16, conv: u16) -> u32
-    ensures { CallsHeldSystem (held_state lag.old.held.kept) (held_state lag.new.held.kept)
+    ensures { CallsHeldSystem (held_value lag.old.held.kept) (held_value lag.new.held.kept)
         (λ old new. (answer : Result Unit SystemFault) × CallPromise by_number_gives old (Call.Force (aggregator_numbered agg) conv)
         (Reply.Force answer) new
         × (result ≡ status_of answer)) (result ≡ no_system) }
@@ -237,7 +309,7 @@ pub extern "C" fn lagffi_force(alloc: Global, lag: &mut Lag, agg: u16, conv: u16
 /// Frees at once each conversation that is held on a port, Wanted or Flushing there, and answers how many.
 #[unsafe(no_mangle)]
 pub extern "C" fn lagffi_force_port(alloc: Global, lag: &mut Lag, port: u16) -> LagNumber
-    ensures { CallsHeldSystem (held_state lag.old.held.kept) (held_state lag.new.held.kept)
+    ensures { CallsHeldSystem (held_value lag.old.held.kept) (held_value lag.new.held.kept)
         (λ old new. (answer : Result ℕ SystemFault) × ForcesPort by_number_gives port old answer new × (result ≡ number_of answer))
         (result ≡ number_refused no_system) }
 {

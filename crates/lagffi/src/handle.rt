@@ -1,5 +1,5 @@
 ghost use Rattle.std.specs.Prelude.{◌≡◌, IfSome, IsTrue, MatchOption, None, Some, is_some};
-ghost use Rattle.lagffi.specs.Holding.{held_state};
+ghost use Rattle.lagffi.specs.Holding.{held_value};
 
 mod held;
 mod parts;
@@ -16,15 +16,31 @@ pub struct Lag {
     live: bool,
     pub(crate) held: Held,
     ghost tells: { live ≡ is_some held.kept },
-    ghost full: { is_some (held_state held.kept) ≡ is_some held.kept },
+    ghost full: { is_some (held_value held.kept) ≡ is_some held.kept },
+}
+
+/// The block of a system that was taken out, and the number of its distribution algorithm.
+pub(crate) struct Block {
+    pub(crate) held: Held,
+    pub(crate) algorithm: u16,
+}
+
+impl Block {
+    /// Frees the block.
+    pub(crate) fn free(self)
+        requires { IsTrue (is_some self.held.kept) }
+    {
+        let Block { held, algorithm: _ } = self;
+        held.free();
+    }
 }
 
 impl Lag {
     /// Takes the system out, beside its block.
-    pub(crate) fn take(&mut self, alloc: Global) -> Option<(System<()>, Held)>
-        ensures taken { MatchOption result (held_state self.old.held.kept ≡ None)
-            (λ taken. held_state self.old.held.kept ≡ Some taken.0.state) }
-        ensures block { IfSome result (λ taken. IsTrue (is_some taken.1.kept)) }
+    pub(crate) fn take(&mut self, alloc: Global) -> Option<(System<()>, Block)>
+        ensures taken { MatchOption result (held_value self.old.held.kept ≡ None)
+            (λ taken. held_value self.old.held.kept ≡ Some (record { state = taken.0.state; algorithm = taken.1.algorithm })) }
+        ensures block { IfSome result (λ taken. IsTrue (is_some taken.1.held.kept)) }
         ensures left { self.new.held.kept ≡ None }
     {
         let empty = Lag {
@@ -35,21 +51,28 @@ impl Lag {
         if !live {
             return None;
         }
-        let (stored, block) = held.replace(StoredSystem { system: None });
-        match stored.system {
-            Some(system) => Some((system, block)),
+        let empty = StoredSystem {
+            system: None,
+            algorithm: 0,
+        };
+        let (stored, held) = held.replace(empty);
+        let StoredSystem { system, algorithm } = stored;
+        match system {
+            Some(system) => Some((system, Block { held, algorithm })),
             None => unreachable!(),
         }
     }
 
     /// Puts a system into the empty handle, with a block for it.
-    pub(crate) fn put(&mut self, system: System<()>, block: Held)
+    pub(crate) fn put(&mut self, system: System<()>, block: Block)
         requires empty { self.old.held.kept ≡ None }
-        requires block { IsTrue (is_some block.kept) }
-        ensures { held_state self.new.held.kept ≡ Some system.state }
+        requires block { IsTrue (is_some block.held.kept) }
+        ensures { held_value self.new.held.kept ≡ Some (record { state = system.state; algorithm = block.algorithm }) }
     {
-        let (old, held) = block.replace(StoredSystem {
+        let Block { held, algorithm } = block;
+        let (old, held) = held.replace(StoredSystem {
             system: Some(system),
+            algorithm,
         });
         drop(old);
         let Lag {

@@ -1,17 +1,20 @@
 ghost use Rattle.std.specs.Prelude.{◌≡◌, IfErr, IfOk, IsTrue, MatchOption, None, is_some, map};
 ghost use Rattle.lagsystem.specs.declared.fault.SystemFault.{SystemFault};
-ghost use Rattle.lagffi.specs.Holding.{held_state};
+ghost use Rattle.lagffi.specs.Holding.{held_value};
 ghost use Rattle.lagffi.specs.Numbers.{no_system};
 ghost use Rattle.lagffi.specs.Made.{IsMadeOfLagConfig, holds_system_already, lag_key, made_refused, made_with_status, lag_port_config};
-ghost use Rattle.lagffi.specs.Made.{lag_limit, refusal_of, why_refused};
+ghost use Rattle.lagffi.specs.Algorithms.{is_algorithm};
+ghost use Rattle.lagffi.specs.Made.{lag_limit, no_algorithm, refusal_of, why_refused};
 
-use crate::handle::{Held, Lag};
+use crate::handle::{Block, Held, Lag};
 use crate::refusal::refusal;
 use crate::stored::by_number;
 use crate::values::{NO_SYSTEM, OK};
 use lagsystem::{BadConfig, Config, Key, NoMemory, PortConfig, System, SystemFault, SystemId};
 use std::alloc::Global;
 
+/// The last of the distribution algorithms, which are numbered from 0.
+const LAST_ALGORITHM: u16 = 2;
 /// The handle holds a system already.
 const HOLDS_SYSTEM_ALREADY: u32 = 14;
 
@@ -31,6 +34,8 @@ pub struct LagConfig {
     pub conversations: u16,
     /// How many links each aggregator may have as its members, 1 to 64; 0: any number.
     pub max_links: u16,
+    /// How conversations pick their ports: 0 by number, 1 by sum, 2 the first port.
+    pub algorithm: u16,
 }
 
 /// One port of a configuration.
@@ -76,7 +81,7 @@ impl LagPort {
 pub struct LagMade {
     /// 0, or the number of the refusal.
     pub status: u32,
-    /// Of a configuration that is refused, the number of the reason, 1 to 5; else 0.
+    /// Of a configuration that is refused, the number of the reason, 1 to 6; else 0.
     pub reason: u32,
     /// Of a port number that is refused, its place from 1; else 0.
     pub place: usize,
@@ -90,6 +95,17 @@ impl LagMade {
         LagMade {
             status,
             reason: 0,
+            place: 0,
+        }
+    }
+
+    /// Refused, since there is no algorithm of this number.
+    fn no_algorithm() -> LagMade
+        ensures { result ≡ no_algorithm }
+    {
+        LagMade {
+            status: 11,
+            reason: 6,
             place: 0,
         }
     }
@@ -174,8 +190,8 @@ fn system_of(
     Ok(system.with_algorithm(()))
 }
 
-/// Makes a system with all links down, and puts it into an empty handle. It is refused for what `System::new` refuses,
-/// and a configuration is looked at before memory is taken.
+/// Makes a system with all links down, and puts it into an empty handle. It is refused for what `System::new` refuses, and then for
+/// an algorithm that is not 0 to 2; a configuration is looked at before memory is taken.
 #[unsafe(no_mangle)]
 pub extern "C" fn lagffi_new(
     alloc: Global,
@@ -184,11 +200,12 @@ pub extern "C" fn lagffi_new(
     keys: &[u16],
     ports: &[LagPort],
 ) -> LagMade
-    ensures live { IsTrue (is_some (held_state lag.old.held.kept)) → (result ≡ made_with_status holds_system_already)
-        × (held_state lag.new.held.kept ≡ held_state lag.old.held.kept) }
-    ensures made { held_state lag.old.held.kept ≡ None → MatchOption (held_state lag.new.held.kept)
-        (result ≡ made_refused (why_refused config.now keys.now ports.now))
-        (λ s. IsMadeOfLagConfig config.now keys.now ports.now s × (result ≡ made_with_status 0)) }
+    ensures live { IsTrue (is_some (held_value lag.old.held.kept)) → (result ≡ made_with_status holds_system_already)
+        × (held_value lag.new.held.kept ≡ held_value lag.old.held.kept) }
+    ensures made { held_value lag.old.held.kept ≡ None → MatchOption (held_value lag.new.held.kept)
+        (result ≡ why_refused config.now keys.now ports.now)
+        (λ h. IsMadeOfLagConfig config.now keys.now ports.now h.state × IsTrue (is_algorithm config.now.algorithm)
+        × (h.algorithm ≡ config.now.algorithm) × (result ≡ made_with_status 0)) }
 {
     if let Some((system, block)) = lag.take(alloc) {
         lag.put(system, block);
@@ -197,16 +214,20 @@ pub extern "C" fn lagffi_new(
     if let Some(reason) = refusal(config, keys, ports) {
         return LagMade::refused(&SystemFault::BadConfig(reason));
     }
-    let Some(room) = Held::room(alloc) else {
+    if config.algorithm > LAST_ALGORITHM {
+        return LagMade::no_algorithm();
+    }
+    let Some(held) = Held::room(alloc) else {
         return LagMade::refused(&SystemFault::NoMemory);
     };
     match system_of(alloc, config, keys, ports) {
         Ok(system) => {
-            lag.put(system, room);
+            let algorithm = config.algorithm;
+            lag.put(system, Block { held, algorithm });
             LagMade::with_status(OK)
         }
         Err(fault) => {
-            room.free();
+            held.free();
             LagMade::refused(&fault)
         }
     }
@@ -215,8 +236,8 @@ pub extern "C" fn lagffi_new(
 /// Frees the system of a handle, and leaves the handle empty. Answers 0, or 13 if the handle held no system.
 #[unsafe(no_mangle)]
 pub extern "C" fn lagffi_free(alloc: Global, lag: &mut Lag) -> u32
-    ensures left { held_state lag.new.held.kept ≡ None }
-    ensures status { MatchOption (held_state lag.old.held.kept) (result ≡ no_system) (λ s. result ≡ 0) }
+    ensures left { held_value lag.new.held.kept ≡ None }
+    ensures status { MatchOption (held_value lag.old.held.kept) (result ≡ no_system) (λ s. result ≡ 0) }
 {
     match lag.take(alloc) {
         Some((_, block)) => {

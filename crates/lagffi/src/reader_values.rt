@@ -2,6 +2,8 @@ ghost use Rattle.std.specs.Prelude.{◌≡◌, Option};
 ghost use Rattle.lagffi.specs.ReaderValues.{lag_assignment_on, assignment_or_refused, lag_assignment, choice_or_no_port, lag_end};
 ghost use Rattle.lagffi.specs.ReaderValues.{group_or_no_port, lag_group, info_or_no_port, lag_info, lag_marker, mux_state_or_no_port};
 ghost use Rattle.lagffi.specs.ReaderValues.{assignment_refused, no_end, group_refused, info_refused, marker_refused, party_refused};
+ghost use Rattle.lagtypes.specs.Choices.{is_standby};
+ghost use Rattle.lagffi.specs.ReaderValues.{choice_number, mux_state_number, port_status_number, receive_state_number};
 ghost use Rattle.lagffi.specs.ReaderValues.{port_status_or_no_port};
 ghost use Rattle.lagffi.specs.ReaderValues.{state_or_no_port, party_or_no_port, lag_party, receive_state_or_no_port, standby_or_no_port};
 
@@ -22,47 +24,56 @@ pub(crate) fn state_or_no_port(answer: Option<State>) -> LagNumber
     }
 }
 
-/// The state of a receive machine.
-pub(crate) fn receive_state_or_no_port(answer: Option<ReceiveState>) -> LagNumber
-    ensures { result ≡ receive_state_or_no_port answer }
+/// The number of a state of the receive machine.
+pub(crate) fn receive_state_number(state: ReceiveState) -> u8
+    ensures { result ≡ receive_state_number state }
 {
-    let Some(state) = answer else {
-        return LagNumber::refused(NO_PORT);
-    };
-    let number = match state {
+    match state {
         ReceiveState::Initialize => 0,
         ReceiveState::PortDisabled => 1,
         ReceiveState::Expired => 2,
         ReceiveState::Defaulted => 3,
         ReceiveState::Current => 4,
-    };
-    LagNumber::answered(number)
+    }
+}
+
+/// The state of a receive machine.
+pub(crate) fn receive_state_or_no_port(answer: Option<ReceiveState>) -> LagNumber
+    ensures { result ≡ receive_state_or_no_port answer }
+{
+    match answer {
+        Some(state) => LagNumber::answered(u64::from(receive_state_number(state))),
+        None => LagNumber::refused(NO_PORT),
+    }
+}
+
+/// The number of a state of the mux machine.
+pub(crate) fn mux_state_number(state: MuxState) -> u8
+    ensures { result ≡ mux_state_number state }
+{
+    match state {
+        MuxState::Detached => 0,
+        MuxState::Waiting => 1,
+        MuxState::Attached => 2,
+        MuxState::CollectingDistributing => 3,
+    }
 }
 
 /// The state of a mux machine.
 pub(crate) fn mux_state_or_no_port(answer: Option<MuxState>) -> LagNumber
     ensures { result ≡ mux_state_or_no_port answer }
 {
-    let Some(state) = answer else {
-        return LagNumber::refused(NO_PORT);
-    };
-    let number = match state {
-        MuxState::Detached => 0,
-        MuxState::Waiting => 1,
-        MuxState::Attached => 2,
-        MuxState::CollectingDistributing => 3,
-    };
-    LagNumber::answered(number)
+    match answer {
+        Some(state) => LagNumber::answered(u64::from(mux_state_number(state))),
+        None => LagNumber::refused(NO_PORT),
+    }
 }
 
-/// Whether a port distributes, and else the first reason why not.
-pub(crate) fn port_status_or_no_port(answer: Option<PortStatus>) -> LagNumber
-    ensures { result ≡ port_status_or_no_port answer }
+/// The number of a port's status.
+pub(crate) fn port_status_number(status: PortStatus) -> u8
+    ensures { result ≡ port_status_number status }
 {
-    let Some(status) = answer else {
-        return LagNumber::refused(NO_PORT);
-    };
-    let number = match status {
+    match status {
         PortStatus::Distributing => 0,
         PortStatus::LinkDown => 1,
         PortStatus::NoLacpdu => 2,
@@ -73,30 +84,55 @@ pub(crate) fn port_status_or_no_port(answer: Option<PortStatus>) -> LagNumber
         PortStatus::Waiting(_) => 7,
         PortStatus::WaitingForMembers => 8,
         PortStatus::PartnerNotSynchronized => 9,
-    };
-    LagNumber::answered(number)
+    }
+}
+
+/// Whether a port distributes, and else the first reason why not.
+pub(crate) fn port_status_or_no_port(answer: Option<PortStatus>) -> LagNumber
+    ensures { result ≡ port_status_or_no_port answer }
+{
+    match answer {
+        Some(status) => LagNumber::answered(u64::from(port_status_number(status))),
+        None => LagNumber::refused(NO_PORT),
+    }
 }
 
 /// The aggregator that a port is SELECTED or STANDBY with, or 0.
+pub(crate) fn choice_number(choice: Choice) -> u16
+    ensures { result ≡ choice_number choice }
+{
+    match choice {
+        Choice::Unselected => 0,
+        Choice::Selected(AggId(agg)) | Choice::Standby(AggId(agg)) => agg,
+    }
+}
+
+/// The same, or that there is no such port.
 pub(crate) fn choice_or_no_port(answer: Option<Choice>) -> LagNumber
     ensures { result ≡ choice_or_no_port answer }
 {
     match answer {
-        Some(Choice::Unselected) => LagNumber::answered(0),
-        Some(Choice::Selected(AggId(agg)) | Choice::Standby(AggId(agg))) => {
-            LagNumber::answered(u64::from(agg))
-        }
+        Some(choice) => LagNumber::answered(u64::from(choice_number(choice))),
         None => LagNumber::refused(NO_PORT),
     }
 }
 
 /// Whether a port is STANDBY.
+pub(crate) fn is_standby(choice: Choice) -> bool
+    ensures { result ≡ is_standby choice }
+{
+    match choice {
+        Choice::Standby(_) => true,
+        Choice::Unselected | Choice::Selected(_) => false,
+    }
+}
+
+/// The same, or that there is no such port.
 pub(crate) fn standby_or_no_port(answer: Option<Choice>) -> LagTruth
     ensures { result ≡ standby_or_no_port answer }
 {
     match answer {
-        Some(Choice::Standby(_)) => LagTruth::answered(true),
-        Some(Choice::Unselected | Choice::Selected(_)) => LagTruth::answered(false),
+        Some(choice) => LagTruth::answered(is_standby(choice)),
         None => LagTruth::refused(NO_PORT),
     }
 }

@@ -1,4 +1,4 @@
-ghost use Rattle.std.specs.Prelude.{◌≡◌, ◌==◌, ◌<◌, [], IfSome, IsTrue, MatchOption, length, option_map};
+ghost use Rattle.std.specs.Prelude.{◌≡◌, ◌<◌, [], IfSome, IsTrue, MatchOption, length, nat_le, option_map};
 ghost use Rattle.std.specs.Bool.{IsFalse, OnFalse};
 ghost use Rattle.std.specs.List.Sorted.{IsStrictlyIncreasing};
 ghost use Rattle.portmachines.specs.Mux.{same_mux_state};
@@ -12,7 +12,7 @@ ghost use Rattle.lagsystem.specs.PortStatus.{status_of_port};
 ghost use Rattle.lagsystem.specs.Readers.{aggregator_numbered, conversation_count, conversation_in, distributing, group_at};
 ghost use Rattle.lagsystem.specs.State.{port_numbers, port_index, machines_of};
 ghost use Rattle.lagffi.specs.Asking.{ReadsHeldSystem};
-ghost use Rattle.lagffi.specs.Holding.{held_state};
+ghost use Rattle.lagffi.specs.Holding.{held_value};
 ghost use Rattle.lagffi.specs.Lists.{port_list_length, put_first};
 ghost use Rattle.lagffi.specs.Numbers.{number_refused, no_system, truth_refused, number, number_or_refused, wrong_buffer_length};
 ghost use Rattle.lagffi.specs.Numbers.{truth_or_no_port};
@@ -37,7 +37,7 @@ use std::alloc::Global;
 /// Whether the link of a port is up.
 #[unsafe(no_mangle)]
 pub extern "C" fn lagffi_is_up(alloc: Global, lag: &mut Lag, port: u16) -> LagTruth
-    ensures { ReadsHeldSystem (held_state lag.old.held.kept) (held_state lag.new.held.kept)
+    ensures { ReadsHeldSystem (held_value lag.old.held.kept) (held_value lag.new.held.kept)
         (λ s. result ≡ truth_or_no_port (option_map (λ p. p.enabled) (machines_of port s))) (result ≡ truth_refused no_system) }
 {
     let Some((kept, block)) = lag.take(alloc) else {
@@ -52,7 +52,7 @@ pub extern "C" fn lagffi_is_up(alloc: Global, lag: &mut Lag, port: u16) -> LagTr
 /// Whether a frame is due on a port.
 #[unsafe(no_mangle)]
 pub extern "C" fn lagffi_is_due(alloc: Global, lag: &mut Lag, port: u16) -> LagTruth
-    ensures { ReadsHeldSystem (held_state lag.old.held.kept) (held_state lag.new.held.kept)
+    ensures { ReadsHeldSystem (held_value lag.old.held.kept) (held_value lag.new.held.kept)
         (λ s. result ≡ truth_or_no_port (would_transmit_at port s)) (result ≡ truth_refused no_system) }
 {
     let Some((kept, block)) = lag.take(alloc) else {
@@ -67,7 +67,7 @@ pub extern "C" fn lagffi_is_due(alloc: Global, lag: &mut Lag, port: u16) -> LagT
 /// Actor_State.Defaulted: whether recordDefault set the recorded partner of a port, and no LACPDU since (6.4.2.3).
 #[unsafe(no_mangle)]
 pub extern "C" fn lagffi_defaulted(alloc: Global, lag: &mut Lag, port: u16) -> LagTruth
-    ensures { ReadsHeldSystem (held_state lag.old.held.kept) (held_state lag.new.held.kept)
+    ensures { ReadsHeldSystem (held_value lag.old.held.kept) (held_value lag.new.held.kept)
         (λ s. result ≡ truth_or_no_port (option_map (λ p. p.defaulted) (machines_of port s))) (result ≡ truth_refused no_system) }
 {
     let Some((kept, block)) = lag.take(alloc) else {
@@ -82,7 +82,7 @@ pub extern "C" fn lagffi_defaulted(alloc: Global, lag: &mut Lag, port: u16) -> L
 /// Whether a port distributes.
 #[unsafe(no_mangle)]
 pub extern "C" fn lagffi_distributes(alloc: Global, lag: &mut Lag, port: u16) -> LagTruth
-    ensures { ReadsHeldSystem (held_state lag.old.held.kept) (held_state lag.new.held.kept)
+    ensures { ReadsHeldSystem (held_value lag.old.held.kept) (held_value lag.new.held.kept)
         (λ s. result ≡ truth_or_no_port (option_map (λ p. same_mux_state MuxState.CollectingDistributing p.mux) (machines_of port s)))
         (result ≡ truth_refused no_system) }
 {
@@ -98,7 +98,7 @@ pub extern "C" fn lagffi_distributes(alloc: Global, lag: &mut Lag, port: u16) ->
 /// The state octet of a port's own side.
 #[unsafe(no_mangle)]
 pub extern "C" fn lagffi_state(alloc: Global, lag: &mut Lag, port: u16) -> LagNumber
-    ensures { ReadsHeldSystem (held_state lag.old.held.kept) (held_state lag.new.held.kept)
+    ensures { ReadsHeldSystem (held_value lag.old.held.kept) (held_value lag.new.held.kept)
         (λ s. result ≡ state_or_no_port (option_map actor_state (machines_of port s))) (result ≡ number_refused no_system) }
 {
     let Some((kept, block)) = lag.take(alloc) else {
@@ -113,7 +113,7 @@ pub extern "C" fn lagffi_state(alloc: Global, lag: &mut Lag, port: u16) -> LagNu
 /// The state of the receive machine of a port.
 #[unsafe(no_mangle)]
 pub extern "C" fn lagffi_receive_state(alloc: Global, lag: &mut Lag, port: u16) -> LagNumber
-    ensures { ReadsHeldSystem (held_state lag.old.held.kept) (held_state lag.new.held.kept)
+    ensures { ReadsHeldSystem (held_value lag.old.held.kept) (held_value lag.new.held.kept)
         (λ s. result ≡ receive_state_or_no_port (option_map (λ p. p.receive) (machines_of port s))) (result ≡ number_refused no_system) }
 {
     let Some((kept, block)) = lag.take(alloc) else {
@@ -128,7 +128,7 @@ pub extern "C" fn lagffi_receive_state(alloc: Global, lag: &mut Lag, port: u16) 
 /// The aggregator that a port is SELECTED or STANDBY with, or 0.
 #[unsafe(no_mangle)]
 pub extern "C" fn lagffi_choice(alloc: Global, lag: &mut Lag, port: u16) -> LagNumber
-    ensures { ReadsHeldSystem (held_state lag.old.held.kept) (held_state lag.new.held.kept)
+    ensures { ReadsHeldSystem (held_value lag.old.held.kept) (held_value lag.new.held.kept)
         (λ s. result ≡ choice_or_no_port (option_map (λ p. p.choice) (machines_of port s))) (result ≡ number_refused no_system) }
 {
     let Some((kept, block)) = lag.take(alloc) else {
@@ -143,7 +143,7 @@ pub extern "C" fn lagffi_choice(alloc: Global, lag: &mut Lag, port: u16) -> LagN
 /// Whether a port is STANDBY: it has an aggregator that had no room for one more link.
 #[unsafe(no_mangle)]
 pub extern "C" fn lagffi_is_standby(alloc: Global, lag: &mut Lag, port: u16) -> LagTruth
-    ensures { ReadsHeldSystem (held_state lag.old.held.kept) (held_state lag.new.held.kept)
+    ensures { ReadsHeldSystem (held_value lag.old.held.kept) (held_value lag.new.held.kept)
         (λ s. result ≡ standby_or_no_port (option_map (λ p. p.choice) (machines_of port s))) (result ≡ truth_refused no_system) }
 {
     let Some((kept, block)) = lag.take(alloc) else {
@@ -158,7 +158,7 @@ pub extern "C" fn lagffi_is_standby(alloc: Global, lag: &mut Lag, port: u16) -> 
 /// The state of the mux machine of a port.
 #[unsafe(no_mangle)]
 pub extern "C" fn lagffi_mux_state(alloc: Global, lag: &mut Lag, port: u16) -> LagNumber
-    ensures { ReadsHeldSystem (held_state lag.old.held.kept) (held_state lag.new.held.kept)
+    ensures { ReadsHeldSystem (held_value lag.old.held.kept) (held_value lag.new.held.kept)
         (λ s. result ≡ mux_state_or_no_port (option_map (λ p. p.mux) (machines_of port s))) (result ≡ number_refused no_system) }
 {
     let Some((kept, block)) = lag.take(alloc) else {
@@ -174,7 +174,7 @@ pub extern "C" fn lagffi_mux_state(alloc: Global, lag: &mut Lag, port: u16) -> L
 /// `lagffi_choice` the aggregator of Standby.
 #[unsafe(no_mangle)]
 pub extern "C" fn lagffi_port_status(alloc: Global, lag: &mut Lag, port: u16) -> LagNumber
-    ensures { ReadsHeldSystem (held_state lag.old.held.kept) (held_state lag.new.held.kept)
+    ensures { ReadsHeldSystem (held_value lag.old.held.kept) (held_value lag.new.held.kept)
         (λ s. result ≡ port_status_or_no_port (option_map status_of_port (machines_of port s))) (result ≡ number_refused no_system) }
 {
     let Some((kept, block)) = lag.take(alloc) else {
@@ -189,7 +189,7 @@ pub extern "C" fn lagffi_port_status(alloc: Global, lag: &mut Lag, port: u16) ->
 /// How many ticks current_while of a port has left, 0 to 900 (6.4.10).
 #[unsafe(no_mangle)]
 pub extern "C" fn lagffi_current_while(alloc: Global, lag: &mut Lag, port: u16) -> LagNumber
-    ensures { ReadsHeldSystem (held_state lag.old.held.kept) (held_state lag.new.held.kept)
+    ensures { ReadsHeldSystem (held_value lag.old.held.kept) (held_value lag.new.held.kept)
         (λ s. result ≡ number_or_refused 1 (option_map (λ p. p.current_while) (machines_of port s))) (result ≡ number_refused no_system) }
 {
     let Some((kept, block)) = lag.take(alloc) else {
@@ -204,7 +204,7 @@ pub extern "C" fn lagffi_current_while(alloc: Global, lag: &mut Lag, port: u16) 
 /// How many ticks wait_while of a port has left, 0 to 20 (6.4.10).
 #[unsafe(no_mangle)]
 pub extern "C" fn lagffi_wait_while(alloc: Global, lag: &mut Lag, port: u16) -> LagNumber
-    ensures { ReadsHeldSystem (held_state lag.old.held.kept) (held_state lag.new.held.kept)
+    ensures { ReadsHeldSystem (held_value lag.old.held.kept) (held_value lag.new.held.kept)
         (λ s. result ≡ number_or_refused 1 (option_map (λ p. p.wait_while) (machines_of port s))) (result ≡ number_refused no_system) }
 {
     let Some((kept, block)) = lag.take(alloc) else {
@@ -219,7 +219,7 @@ pub extern "C" fn lagffi_wait_while(alloc: Global, lag: &mut Lag, port: u16) -> 
 /// NTT: whether an LACPDU is to be sent on a port (6.4.7).
 #[unsafe(no_mangle)]
 pub extern "C" fn lagffi_ntt(alloc: Global, lag: &mut Lag, port: u16) -> LagTruth
-    ensures { ReadsHeldSystem (held_state lag.old.held.kept) (held_state lag.new.held.kept)
+    ensures { ReadsHeldSystem (held_value lag.old.held.kept) (held_value lag.new.held.kept)
         (λ s. result ≡ truth_or_no_port (option_map (λ p. p.ntt) (machines_of port s))) (result ≡ truth_refused no_system) }
 {
     let Some((kept, block)) = lag.take(alloc) else {
@@ -234,7 +234,7 @@ pub extern "C" fn lagffi_ntt(alloc: Global, lag: &mut Lag, port: u16) -> LagTrut
 /// The own parameters of a port.
 #[unsafe(no_mangle)]
 pub extern "C" fn lagffi_party(alloc: Global, lag: &mut Lag, port: u16) -> LagParty
-    ensures { ReadsHeldSystem (held_state lag.old.held.kept) (held_state lag.new.held.kept)
+    ensures { ReadsHeldSystem (held_value lag.old.held.kept) (held_value lag.new.held.kept)
         (λ s. result ≡ party_or_no_port (option_map (λ p. p.party) (machines_of port s))) (result ≡ party_refused no_system) }
 {
     let Some((kept, block)) = lag.take(alloc) else {
@@ -249,7 +249,7 @@ pub extern "C" fn lagffi_party(alloc: Global, lag: &mut Lag, port: u16) -> LagPa
 /// The recorded partner of a port.
 #[unsafe(no_mangle)]
 pub extern "C" fn lagffi_partner(alloc: Global, lag: &mut Lag, port: u16) -> LagInfo
-    ensures { ReadsHeldSystem (held_state lag.old.held.kept) (held_state lag.new.held.kept)
+    ensures { ReadsHeldSystem (held_value lag.old.held.kept) (held_value lag.new.held.kept)
         (λ s. result ≡ info_or_no_port (option_map (λ p. p.partner) (machines_of port s))) (result ≡ info_refused no_system) }
 {
     let Some((kept, block)) = lag.take(alloc) else {
@@ -264,7 +264,7 @@ pub extern "C" fn lagffi_partner(alloc: Global, lag: &mut Lag, port: u16) -> Lag
 /// The Link Aggregation Group of a port.
 #[unsafe(no_mangle)]
 pub extern "C" fn lagffi_group(alloc: Global, lag: &mut Lag, port: u16) -> LagGroup
-    ensures { ReadsHeldSystem (held_state lag.old.held.kept) (held_state lag.new.held.kept)
+    ensures { ReadsHeldSystem (held_value lag.old.held.kept) (held_value lag.new.held.kept)
         (λ s. result ≡ group_or_no_port (option_map group_at (machines_of port s))) (result ≡ group_refused no_system) }
 {
     let Some((kept, block)) = lag.take(alloc) else {
@@ -279,7 +279,7 @@ pub extern "C" fn lagffi_group(alloc: Global, lag: &mut Lag, port: u16) -> LagGr
 /// How many conversations are On, Wanted or Flushing on a port.
 #[unsafe(no_mangle)]
 pub extern "C" fn lagffi_load(alloc: Global, lag: &mut Lag, port: u16) -> LagNumber
-    ensures { ReadsHeldSystem (held_state lag.old.held.kept) (held_state lag.new.held.kept)
+    ensures { ReadsHeldSystem (held_value lag.old.held.kept) (held_value lag.new.held.kept)
         (λ s. MatchOption (port_index port s.system_ports) (result ≡ number_refused 1)
         (λ place. result ≡ number (count_conversations (names_port port) s.table))) (result ≡ number_refused no_system) }
 {
@@ -295,7 +295,7 @@ pub extern "C" fn lagffi_load(alloc: Global, lag: &mut Lag, port: u16) -> LagNum
 /// How many aggregators there are.
 #[unsafe(no_mangle)]
 pub extern "C" fn lagffi_aggregators(alloc: Global, lag: &mut Lag) -> LagNumber
-    ensures { ReadsHeldSystem (held_state lag.old.held.kept) (held_state lag.new.held.kept)
+    ensures { ReadsHeldSystem (held_value lag.old.held.kept) (held_value lag.new.held.kept)
         (λ s. result ≡ number (length s.keys)) (result ≡ number_refused no_system) }
 {
     let Some((kept, block)) = lag.take(alloc) else {
@@ -310,7 +310,7 @@ pub extern "C" fn lagffi_aggregators(alloc: Global, lag: &mut Lag) -> LagNumber
 /// The number of the conversation of a frame, the same in every aggregator; refused below 14 octets.
 #[unsafe(no_mangle)]
 pub extern "C" fn lagffi_conversation(alloc: Global, lag: &mut Lag, frame: &[u8]) -> LagNumber
-    ensures { ReadsHeldSystem (held_state lag.old.held.kept) (held_state lag.new.held.kept)
+    ensures { ReadsHeldSystem (held_value lag.old.held.kept) (held_value lag.new.held.kept)
         (λ s. (result ≡ number_or_refused 3 (conversation_in s frame.now))
         × IfSome (conversation_in s frame.now) (λ conv. conv < conversation_count s))
         (result ≡ number_refused no_system) }
@@ -332,7 +332,7 @@ pub extern "C" fn lagffi_conversation_state(
     agg: u16,
     conv: u16,
 ) -> LagAssignment
-    ensures { ReadsHeldSystem (held_state lag.old.held.kept) (held_state lag.new.held.kept)
+    ensures { ReadsHeldSystem (held_value lag.old.held.kept) (held_value lag.new.held.kept)
         (λ s. result ≡ assignment_or_refused (conversation_at s (aggregator_numbered agg) conv)) (result ≡ assignment_refused no_system) }
 {
     let Some((kept, block)) = lag.take(alloc) else {
@@ -347,7 +347,7 @@ pub extern "C" fn lagffi_conversation_state(
 /// The identifier of the next marker that the system will send; `left` is false once 4294967295 was used.
 #[unsafe(no_mangle)]
 pub extern "C" fn lagffi_next_marker(alloc: Global, lag: &mut Lag) -> LagMarker
-    ensures { ReadsHeldSystem (held_state lag.old.held.kept) (held_state lag.new.held.kept)
+    ensures { ReadsHeldSystem (held_value lag.old.held.kept) (held_value lag.new.held.kept)
         (λ s. result ≡ lag_marker (next_identifier s.table)) (result ≡ marker_refused no_system) }
 {
     let Some((kept, block)) = lag.take(alloc) else {
@@ -359,18 +359,18 @@ pub extern "C" fn lagffi_next_marker(alloc: Global, lag: &mut Lag) -> LagMarker
     answer
 }
 
-/// How many ports there are. The buffer has 64 places; the port numbers are written at its front, and nothing else.
+/// How many ports there are. The buffer has 64 places or more; the port numbers are written at its front, and nothing else.
 #[unsafe(no_mangle)]
 pub extern "C" fn lagffi_ports(alloc: Global, lag: &mut Lag, buffer: &mut [u16]) -> LagNumber
-    ensures room { IsFalse (length buffer.old == port_list_length) → (result ≡ number_refused wrong_buffer_length)
-        × (held_state lag.new.held.kept ≡ held_state lag.old.held.kept) × (buffer.new ≡ buffer.old) }
-    ensures answers { IsTrue (length buffer.old == port_list_length)
-        → ReadsHeldSystem (held_state lag.old.held.kept) (held_state lag.new.held.kept)
+    ensures room { IsFalse (nat_le port_list_length (length buffer.old)) → (result ≡ number_refused wrong_buffer_length)
+        × (held_value lag.new.held.kept ≡ held_value lag.old.held.kept) × (buffer.new ≡ buffer.old) }
+    ensures answers { IsTrue (nat_le port_list_length (length buffer.old))
+        → ReadsHeldSystem (held_value lag.old.held.kept) (held_value lag.new.held.kept)
         (λ s. (result ≡ number (length (port_numbers s.system_ports))) × (buffer.new ≡ put_first (port_numbers s.system_ports) buffer.old)
         × IsStrictlyIncreasing (port_numbers s.system_ports))
         ((result ≡ number_refused no_system) × (buffer.new ≡ buffer.old)) }
 {
-    if buffer.len() != PORT_LIST_LENGTH {
+    if buffer.len() < PORT_LIST_LENGTH {
         return LagNumber::refused(WRONG_BUFFER_LENGTH);
     }
     let Some((kept, block)) = lag.take(alloc) else {
@@ -382,7 +382,7 @@ pub extern "C" fn lagffi_ports(alloc: Global, lag: &mut Lag, buffer: &mut [u16])
     LagNumber::answered(put_first(&answered, buffer))
 }
 
-/// How many ports distribute in an aggregator. The buffer has 64 places; the numbers of these ports are written at its
+/// How many ports distribute in an aggregator. The buffer has 64 places or more; the numbers of these ports are written at its
 /// front, and nothing else.
 #[unsafe(no_mangle)]
 pub extern "C" fn lagffi_distributing(
@@ -391,17 +391,17 @@ pub extern "C" fn lagffi_distributing(
     agg: u16,
     buffer: &mut [u16],
 ) -> LagNumber
-    ensures room { IsFalse (length buffer.old == port_list_length) → (result ≡ number_refused wrong_buffer_length)
-        × (held_state lag.new.held.kept ≡ held_state lag.old.held.kept) × (buffer.new ≡ buffer.old) }
-    ensures answers { IsTrue (length buffer.old == port_list_length)
-        → ReadsHeldSystem (held_state lag.old.held.kept) (held_state lag.new.held.kept)
+    ensures room { IsFalse (nat_le port_list_length (length buffer.old)) → (result ≡ number_refused wrong_buffer_length)
+        × (held_value lag.new.held.kept ≡ held_value lag.old.held.kept) × (buffer.new ≡ buffer.old) }
+    ensures answers { IsTrue (nat_le port_list_length (length buffer.old))
+        → ReadsHeldSystem (held_value lag.old.held.kept) (held_value lag.new.held.kept)
         (λ s. (result ≡ number (length (distributing (aggregator_numbered agg) s.system_ports)))
         × (buffer.new ≡ put_first (distributing (aggregator_numbered agg) s.system_ports) buffer.old)
         × IsStrictlyIncreasing (distributing (aggregator_numbered agg) s.system_ports)
         × OnFalse (has_aggregator s (aggregator_numbered agg)) (distributing (aggregator_numbered agg) s.system_ports ≡ []))
         ((result ≡ number_refused no_system) × (buffer.new ≡ buffer.old)) }
 {
-    if buffer.len() != PORT_LIST_LENGTH {
+    if buffer.len() < PORT_LIST_LENGTH {
         return LagNumber::refused(WRONG_BUFFER_LENGTH);
     }
     let Some((kept, block)) = lag.take(alloc) else {

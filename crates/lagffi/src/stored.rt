@@ -1,5 +1,6 @@
 ghost use Rattle.std.specs.Prelude.{◌≡◌};
 ghost use Rattle.distributor.specs.Calls.{index_by_number};
+ghost use Rattle.lagffi.specs.Algorithms.{index_by_sum};
 
 use lagsystem::System;
 
@@ -7,6 +8,8 @@ use lagsystem::System;
 #[derive(Drop)]
 pub struct StoredSystem {
     pub(crate) system: Option<System<()>>,
+    /// The number of its distribution algorithm.
+    pub(crate) algorithm: u16,
 }
 
 /// The distribution algorithm: the number of the conversation modulo the count of ports, and 0 if there are none.
@@ -14,4 +17,23 @@ pub(crate) fn by_number(conversation: u16, count: usize) -> usize
     ensures { result ≡ index_by_number conversation count }
 {
     distributor::by_number(conversation, count)
+}
+
+/// The distribution algorithm that adds to the number its 16th and its 256th part, so that conversations whose numbers differ
+/// by a multiple of 16 or 256 do not all meet on one port.
+pub(crate) fn by_sum(conversation: u16, count: usize) -> usize
+    ensures { result ≡ index_by_sum conversation count }
+{
+    if count == 0 {
+        return 0;
+    }
+    let number = usize::from(conversation);
+    (number + number / 16 + number / 256) % count
+}
+
+/// The distribution algorithm that picks the first port for each conversation, so that the others stand in reserve.
+pub(crate) fn by_first(_conversation: u16, _count: usize) -> usize
+    ensures { result ≡ 0 }
+{
+    0
 }

@@ -1,6 +1,6 @@
-ghost use Rattle.std.specs.Prelude.{◌≡◌, length};
+ghost use Rattle.std.specs.Prelude.{◌≡◌, ◌≤◌, length};
 ghost use Rattle.lagffi.specs.Lists.{port_list_length, put_first};
-ghost use Rattle.lagffi.specs.Frames.{truth_of_transmit, received_of};
+ghost use Rattle.lagffi.specs.Frames.{received_of, sent_as, sent_of, sent_refused};
 ghost use Rattle.lagffi.specs.Numbers.{change_of, number_refused, received_refused, truth_refused, number, number_or_refused, number_of};
 ghost use Rattle.lagffi.specs.Numbers.{status_of, truth, truth_or_no_port, truth_of};
 ghost use Rattle.lagsystem.specs.Faults.{fault_number};
@@ -15,7 +15,7 @@ pub(crate) const OK: u32 = 0;
 pub(crate) const NO_PORT: u32 = 1;
 /// The handle holds no system.
 pub(crate) const NO_SYSTEM: u32 = 13;
-/// A buffer has another length than the function asks.
+/// A buffer has less room than the function asks.
 pub(crate) const WRONG_BUFFER_LENGTH: u32 = 15;
 /// The length of a frame is refused: an offered one has not 14 to 1518 octets, one asked about has fewer than 14.
 pub(crate) const FRAME_LENGTH_REFUSED: u32 = 3;
@@ -95,17 +95,6 @@ impl LagTruth {
     {
         match answer {
             Ok(is) => LagTruth::answered(*is),
-            Err(fault) => LagTruth::refused(u32::from(fault.number())),
-        }
-    }
-
-    /// Whether a frame is due.
-    pub(crate) fn of_due(answer: &Result<Option<[u8; 124]>, SystemFault>) -> LagTruth
-        ensures { result ≡ truth_of_transmit answer.now }
-    {
-        match answer {
-            Ok(Some(_)) => LagTruth::answered(true),
-            Ok(None) => LagTruth::answered(false),
             Err(fault) => LagTruth::refused(u32::from(fault.number())),
         }
     }
@@ -201,7 +190,7 @@ pub struct LagReceived {
     pub status: u32,
     /// 0 Disabled, 1 Dropped, 2 Ignored, 3 TookLacpdu, 4 Respond, 5 Released, 6 Up.
     pub what: u32,
-    /// Of 2 the number of the fault, 1 to 4; of 5 how many conversations were released; of 6 the aggregator; else 0.
+    /// Of 2 the number of the fault, 1 to 4; of 4 the octets of the response; of 5 how many conversations were released; of 6 the aggregator; else 0.
     pub number: u32,
 }
 
@@ -227,7 +216,7 @@ impl LagReceived {
             Ok(Received::Dropped) => (1, 0),
             Ok(Received::Ignored(fault)) => (2, u32::from(fault.number())),
             Ok(Received::TookLacpdu) => (3, 0),
-            Ok(Received::Respond(_)) => (4, 0),
+            Ok(Received::Respond(_)) => (4, CONTROL_FRAME_LENGTH as u32),
             Ok(Received::Released(count)) => (5, *count),
             Ok(Received::Up(AggId(agg))) => (6, u32::from(*agg)),
         };
@@ -239,9 +228,60 @@ impl LagReceived {
     }
 }
 
+/// Whether a frame is due, and which, or why that is not told.
+#[repr(C)]
+#[derive(Clone, Copy)]
+pub struct LagSent {
+    /// 0, or the number of the refusal.
+    pub status: u32,
+    /// Whether a frame is due, which stands in the buffer then.
+    pub is: bool,
+    /// The subtype of its PDU: 1 for an LACPDU (6.4.2.3), 2 for a Marker PDU (6.5.3.3); else 0.
+    pub what: u8,
+    /// How many octets of the buffer it has; else 0.
+    pub octets: u32,
+}
+
+impl LagSent {
+    /// Whether a frame is due, the subtype of its PDU and its octets.
+    fn answered(is: bool, what: u8, octets: u32) -> LagSent
+        ensures { result ≡ sent_as is what octets }
+    {
+        LagSent {
+            status: OK,
+            is,
+            what,
+            octets,
+        }
+    }
+
+    /// Refused with this number.
+    pub(crate) fn refused(why: u32) -> LagSent
+        ensures { result ≡ sent_refused why }
+    {
+        LagSent {
+            status: why,
+            is: false,
+            what: 0,
+            octets: 0,
+        }
+    }
+
+    /// The answer of a call.
+    pub(crate) fn of(answer: &Result<Option<[u8; 124]>, SystemFault>) -> LagSent
+        ensures { result ≡ sent_of answer.now }
+    {
+        match answer {
+            Ok(Some(frame)) => LagSent::answered(true, frame[14], CONTROL_FRAME_LENGTH as u32),
+            Ok(None) => LagSent::answered(false, 0, 0),
+            Err(fault) => LagSent::refused(u32::from(fault.number())),
+        }
+    }
+}
+
 /// Writes numbers at the front of a buffer, and answers how many.
 pub(crate) fn put_first(numbers: &ArrayVec<u16, 64>, buffer: &mut [u16]) -> u64
-    requires { length buffer.old ≡ port_list_length }
+    requires { port_list_length ≤ length buffer.old }
     ensures count { result ≡ length numbers.now.items }
     ensures written { buffer.new ≡ put_first numbers.now.items buffer.old }
 {

@@ -1,4 +1,4 @@
-/* What the kernel tells of interfaces: at the start, and each change. */
+/* What the kernel tells of interfaces: at the start, and each interface. */
 #define _GNU_SOURCE
 #include <errno.h>
 #include <linux/netlink.h>
@@ -15,8 +15,8 @@
 /* How long the kernel may take for its first answer, in milliseconds. */
 #define PATIENCE 10000
 
-/* What is wanted of one message. */
-struct change {
+/* What a message tells of an interface. */
+struct interface {
     int index;
     unsigned flags, type;
     char name[IFNAMSIZ];
@@ -36,7 +36,7 @@ static bool ask_again;   /* whether something was missed */
 static void ask(void) {
     struct {
         struct nlmsghdr head;
-        struct ifinfomsg of;
+        struct ifinfomsg info;
         struct rtattr mask_head;
         uint32_t mask;
     } question = {.head = {.nlmsg_type = RTM_GETLINK, .nlmsg_flags = NLM_F_REQUEST | NLM_F_DUMP, .nlmsg_seq = ++asked}};
@@ -50,86 +50,79 @@ static void ask(void) {
 }
 
 /* Takes one attribute of an interface. */
-static void take_attribute(struct change *change, unsigned type, const uint8_t *value, size_t length) {
-    if (type == IFLA_IFNAME && length <= sizeof change->name) memcpy(change->name, value, length);
-    if (type == IFLA_ADDRESS && length == sizeof change->mac) {
-        memcpy(change->mac, value, length);
-        change->has_mac = true;
+static void take_attribute(struct interface *interface, unsigned type, const uint8_t *value, size_t length) {
+    if (type == IFLA_IFNAME && length <= sizeof interface->name) memcpy(interface->name, value, length);
+    if (type == IFLA_ADDRESS && length == sizeof interface->mac) {
+        memcpy(interface->mac, value, length);
+        interface->has_mac = true;
     }
-    if (type == IFLA_CARRIER_DOWN_COUNT && length == sizeof change->losses) {
-        memcpy(&change->losses, value, length);
-        change->counts_losses = true;
+    if (type == IFLA_CARRIER_DOWN_COUNT && length == sizeof interface->losses) {
+        memcpy(&interface->losses, value, length);
+        interface->counts_losses = true;
     }
 }
 
 /* Reads a message of `length` octets, which tells of an interface. */
-static struct change read_change(const uint8_t *message, size_t length) {
-    struct change change = {0};
-    struct ifinfomsg of;
+static struct interface read_interface(const uint8_t *message, size_t length) {
+    struct interface interface = {0};
+    struct ifinfomsg info;
     struct rtattr head;
-    memcpy(&of, message + NLMSG_HDRLEN, sizeof of);
-    change.index = of.ifi_index;
-    change.flags = of.ifi_flags;
-    change.type = of.ifi_type;
-    for (size_t at = NLMSG_LENGTH(NLMSG_ALIGN(sizeof of)); at + sizeof head <= length; at += RTA_ALIGN((size_t)head.rta_len)) {
+    memcpy(&info, message + NLMSG_HDRLEN, sizeof info);
+    interface.index = info.ifi_index;
+    interface.flags = info.ifi_flags;
+    interface.type = info.ifi_type;
+    for (size_t at = NLMSG_LENGTH(NLMSG_ALIGN(sizeof info)); at + sizeof head <= length; at += RTA_ALIGN((size_t)head.rta_len)) {
         memcpy(&head, message + at, sizeof head);
         if (head.rta_len < sizeof head || head.rta_len > length - at) break;
-        take_attribute(&change, head.rta_type & (unsigned)NLA_TYPE_MASK, message + at + sizeof head, head.rta_len - sizeof head);
+        take_attribute(&interface, head.rta_type & (unsigned)NLA_TYPE_MASK, message + at + sizeof head, head.rta_len - sizeof head);
     }
-    change.name[IFNAMSIZ - 1] = 0;
-    return change;
-}
-
-/* The interface of a port is gone, or has another name now. */
-static void lose(struct link *link) {
-    set_link(link->settings.number, false);
-    close_link(link);
-    print_changes(false);
+    interface.name[IFNAMSIZ - 1] = 0;
+    return interface;
 }
 
 /* Takes up an interface that has the name of a port. At the start, what is wrong with one ends the program. */
-static bool take_up(struct link *link, const struct change *change) {
-    if (change->type != ARPHRD_ETHER) {
+static bool take_up(struct link *link, const struct interface *interface) {
+    if (interface->type != ARPHRD_ETHER) {
         if (!started) stop(WRONG_WORD, "not an Ethernet interface", link->name);
         return false;
     }
-    if (!open_link(link, change->index)) {
+    if (!open_link(link, interface->index)) {
         if (!started) stop(REFUSED, link->name, strerror(link->trouble));
         ask_again = true;
         return false;
     }
-    link->kernel_losses = change->losses;
+    link->kernel_losses = interface->losses;
     return true;
 }
 
 /* Follows an interface of a port. Its carrier may have gone and come back, of which the kernel tells at once: it counts how often
  * it went. */
-static void follow(struct link *link, const struct change *change) {
+static void follow(struct link *link, const struct interface *interface) {
     uint16_t port = link->settings.number;
-    if (change->has_mac) memcpy(link->mac, change->mac, sizeof link->mac);
-    if (change->counts_losses && change->losses != link->kernel_losses) {
-        link->counts[LOSSES] += change->losses - link->kernel_losses - (link->up ? 1 : 0);
-        link->kernel_losses = change->losses;
+    if (interface->has_mac) memcpy(link->mac, interface->mac, sizeof link->mac);
+    if (interface->counts_losses && interface->losses != link->kernel_losses) {
+        link->counts[LOSSES] += interface->losses - link->kernel_losses - (link->up ? 1 : 0);
+        link->kernel_losses = interface->losses;
         set_link(port, false);
     }
-    set_link(port, (change->flags & IFF_UP) && (change->flags & IFF_RUNNING));
+    set_link(port, (interface->flags & IFF_UP) && (interface->flags & IFF_RUNNING));
 }
 
 /* An interface is there. A port goes by its name. */
-static void take_present(const struct change *change) {
+static void take_present(const struct interface *interface) {
     for (uint16_t i = 0; i < link_count; i++) {
         struct link *link = &links[i];
-        bool named = strcmp(link->name, change->name) == 0;
-        if (link->socket >= 0 && (link->index == change->index) != named) lose(link);
-        if (!named || (link->socket < 0 && !take_up(link, change))) continue;
+        bool named = strcmp(link->name, interface->name) == 0;
+        if (link->socket >= 0 && (link->index == interface->index) != named) lose_link(link);
+        if (!named || (link->socket < 0 && !take_up(link, interface))) continue;
         link->present = true;
-        follow(link, change);
+        follow(link, interface);
     }
 }
 
 static void take_absent(int index) {
     for (uint16_t i = 0; i < link_count; i++)
-        if (links[i].socket >= 0 && links[i].index == index) lose(&links[i]);
+        if (links[i].socket >= 0 && links[i].index == index) lose_link(&links[i]);
 }
 
 /* The answer to the last question is whole: what it did not name is gone. */
@@ -137,41 +130,49 @@ static void end_answer(bool whole) {
     asking = false;
     ask_again = ask_again || !whole;
     for (uint16_t i = 0; whole && i < link_count; i++)
-        if (links[i].socket >= 0 && !links[i].present) lose(&links[i]);
+        if (links[i].socket >= 0 && !links[i].present) lose_link(&links[i]);
 }
 
 /* Takes one message. A bridge tells of its ports in messages of its own family, which say nothing of their links. */
 static void take_message(const uint8_t *message, const struct nlmsghdr *head) {
-    struct ifinfomsg of;
+    struct ifinfomsg info;
     bool answers = asking && head->nlmsg_seq == asked && head->nlmsg_pid == asker;
     if (answers && (head->nlmsg_flags & NLM_F_DUMP_INTR)) interrupted = true;
     if (answers && head->nlmsg_type == NLMSG_DONE) end_answer(!interrupted);
     if (answers && head->nlmsg_type == NLMSG_ERROR) end_answer(false);
-    if (head->nlmsg_len < NLMSG_LENGTH(sizeof of)) return;
-    memcpy(&of, message + NLMSG_HDRLEN, sizeof of);
-    if (head->nlmsg_type == RTM_NEWLINK && of.ifi_family == AF_UNSPEC) {
-        struct change change = read_change(message, head->nlmsg_len);
-        if (change.name[0]) take_present(&change);
+    if (head->nlmsg_len < NLMSG_LENGTH(sizeof info)) return;
+    memcpy(&info, message + NLMSG_HDRLEN, sizeof info);
+    if (head->nlmsg_type == RTM_NEWLINK && info.ifi_family == AF_UNSPEC) {
+        struct interface interface = read_interface(message, head->nlmsg_len);
+        if (interface.name[0]) take_present(&interface);
     }
-    if (head->nlmsg_type == RTM_DELLINK && of.ifi_family == AF_UNSPEC) take_absent(of.ifi_index);
+    if (head->nlmsg_type == RTM_DELLINK && info.ifi_family == AF_UNSPEC) take_absent(info.ifi_index);
 }
 
-/* Takes what the kernel told, in its order. Where it had no room for some, it says so, and all is asked again. */
+/* Takes the messages of `length` octets, in their order. */
+static void take_messages(const uint8_t *messages, size_t length) {
+    struct nlmsghdr head;
+    for (size_t at = 0; at + sizeof head <= length; at += NLMSG_ALIGN((size_t)head.nlmsg_len)) {
+        memcpy(&head, messages + at, sizeof head);
+        if (head.nlmsg_len < sizeof head || head.nlmsg_len > length - at) return;
+        take_message(messages + at, &head);
+    }
+}
+
+/* Takes what the kernel told. Where it had no room for some, it says so, and all is asked again. Any program of the machine may
+ * send to this socket, too: what does not come from the kernel is not looked at. */
 void take_changes(void) {
     static uint8_t room[ROOM];
-    struct nlmsghdr head;
-    for (;;) {
+    for (int turn = 0; turn < MOST_TAKEN; turn++) {
         struct sockaddr_nl from = {0};
         socklen_t length = sizeof from;
         ssize_t got = recvfrom(route, room, sizeof room, MSG_TRUNC, (struct sockaddr *)&from, &length);
         if (got < 0 && errno != ENOBUFS) return;
-        ask_again = ask_again || got < 0 || got > (ssize_t)sizeof room;
-        if (got < 0 || got > (ssize_t)sizeof room || from.nl_pid != 0) continue; /* another program may send, too */
-        for (size_t at = 0; at + sizeof head <= (size_t)got; at += NLMSG_ALIGN((size_t)head.nlmsg_len)) {
-            memcpy(&head, room + at, sizeof head);
-            if (head.nlmsg_len < sizeof head || head.nlmsg_len > (size_t)got - at) break;
-            take_message(room + at, &head);
-        }
+        if (got >= 0 && from.nl_pid != 0) continue;
+        if (got < 0 || got > (ssize_t)sizeof room)
+            ask_again = true;
+        else
+            take_messages(room, (size_t)got);
     }
 }
 

@@ -18,9 +18,9 @@
 /* Standard output; of a pipe or a terminal an opening of our own, at which no write waits. */
 static int output(void) {
     static int opened = -1;
-    struct stat it;
+    struct stat file;
     if (opened >= 0) return opened;
-    if (isatty(STDOUT_FILENO) || (fstat(STDOUT_FILENO, &it) == 0 && S_ISFIFO(it.st_mode)))
+    if (isatty(STDOUT_FILENO) || (fstat(STDOUT_FILENO, &file) == 0 && S_ISFIFO(file.st_mode)))
         opened = open("/proc/self/fd/1", O_WRONLY | O_NONBLOCK | O_NOCTTY | O_CLOEXEC);
     if (opened < 0) opened = STDOUT_FILENO;
     return opened;
@@ -35,9 +35,9 @@ static bool write_line(int fd, const char *line, size_t length) {
 }
 
 /* Ends the program with a line on standard error. */
-_Noreturn void stop(int status, const char *what, const char *of) {
+_Noreturn void stop(int status, const char *what, const char *which) {
     char line[LONGEST_LINE];
-    int used = snprintf(line, sizeof line - 1, "lagd: %s: %s", what, of);
+    int used = snprintf(line, sizeof line - 1, "lagd: %s: %s", what, which);
     size_t length = used < (int)sizeof line - 1 ? (size_t)used : sizeof line - 2;
     line[length] = '\n';
     (void)write_line(STDERR_FILENO, line, length + 1);
@@ -47,7 +47,7 @@ _Noreturn void stop(int status, const char *what, const char *of) {
 /* Ends the program where a call of the library is refused. */
 void refuse(uint32_t status, const char *call) {
     char why[32];
-    if (status == LAG_OK) return;
+    if (status == NIW_OK) return;
     snprintf(why, sizeof why, "refused with %" PRIu32, status);
     stop(REFUSED, call, why);
 }

@@ -3,12 +3,11 @@
 #include <errno.h>
 #include <fcntl.h>
 #include <linux/if_packet.h>
+#include <linux/pkt_sched.h>
 #include <net/ethernet.h>
-#include <net/if_arp.h>
 #include <netinet/in.h>
 #include <stdio.h>
 #include <string.h>
-#include <sys/epoll.h>
 #include <sys/file.h>
 #include <sys/socket.h>
 #include <sys/stat.h>
@@ -18,8 +17,6 @@
 
 #define SLOW_PROTOCOLS 0x8809
 #define LONGEST_FRAME 2048
-/* TC_PRIO_CONTROL: before data. */
-#define PRIORITY 7
 /* How many ticks a failure is told of, so that a queue that is full now and then is one line. */
 #define TROUBLE_TICKS 50
 
@@ -45,7 +42,7 @@ static int open_socket(int index) {
     int opened = socket(AF_PACKET, SOCK_RAW | SOCK_NONBLOCK | SOCK_CLOEXEC, 0); /* it takes nothing before it is bound */
     memcpy(member.mr_address, GROUP, sizeof GROUP);
     if (opened < 0) return -1;
-    (void)setsockopt(opened, SOL_SOCKET, SO_PRIORITY, &(int){PRIORITY}, sizeof(int));
+    (void)setsockopt(opened, SOL_SOCKET, SO_PRIORITY, &(int){TC_PRIO_CONTROL}, sizeof(int)); /* before data */
     (void)setsockopt(opened, SOL_PACKET, PACKET_IGNORE_OUTGOING, &(int){1}, sizeof(int));
     if (bind(opened, (struct sockaddr *)&address, sizeof address) == 0
         && setsockopt(opened, SOL_PACKET, PACKET_ADD_MEMBERSHIP, &member, sizeof member) == 0)
@@ -74,13 +71,14 @@ void close_link(struct link *link) {
     link->unsent = false;
 }
 
-/* Sends a frame, with the address that the interface has now. An LACPDU that the kernel does not take is sent again at the next
- * tick, if no newer one was due; a response is lost, as on a wire. */
+/* Sends a frame, with the address that the interface has now. An LACPDU that the kernel does not take is sent again at each tick,
+ * until a newer one is due; a response is lost, as on a wire. */
 void send_frame(struct link *link, enum count kind, const uint8_t *frame) {
-    uint8_t sent[LAG_FRAME];
+    uint8_t sent[NIW_FRAME];
     if (link->socket < 0) return;
     memcpy(sent, frame, sizeof sent);
     memcpy(sent + 6, link->mac, 6);
+    if (kind == LACPDUS_SENT) link->tried = true;
     if (send(link->socket, sent, sizeof sent, 0) == sizeof sent) {
         link->counts[kind]++;
         if (kind == LACPDUS_SENT) link->unsent = false;
@@ -90,6 +88,7 @@ void send_frame(struct link *link, enum count kind, const uint8_t *frame) {
     if (errno != ENETDOWN && errno != ENXIO) { /* of a link that is down the kernel tells, too */
         link->trouble = errno;
         link->trouble_ticks = TROUBLE_TICKS;
+        link->look_at = 0;
     }
     if (kind != LACPDUS_SENT) return;
     memmove(link->frame, frame, sizeof link->frame);
@@ -97,36 +96,36 @@ void send_frame(struct link *link, enum count kind, const uint8_t *frame) {
 }
 
 /* What a frame counts as. */
-static enum count kind_of(const struct lag_received *received) {
+static enum count kind_of(const struct niw_received *received) {
     switch (received->what) {
-    case LAG_DISABLED: return DISABLED_RECEIVED;
-    case LAG_TOOK_LACPDU: return LACPDUS_RECEIVED;
-    case LAG_RESPOND: return MARKERS_RECEIVED;
-    case LAG_RELEASED: return RESPONSES_RECEIVED;
+    case NIW_RECEIVED_DISABLED: return DISABLED_RECEIVED;
+    case NIW_RECEIVED_TOOK_LACPDU: return LACPDUS_RECEIVED;
+    case NIW_RECEIVED_RESPOND: return MARKERS_RECEIVED;
+    case NIW_RECEIVED_RELEASED: return RESPONSES_RECEIVED;
     default: return REFUSED_RECEIVED;
     }
 }
 
-/* Hands over the frames that wait at an interface, at most 64 a turn, so that no flood stops the clock. The slow protocols have
- * one address, which no bridge passes on: a frame to any other one comes from anybody. */
+/* Hands over the frames that wait at an interface, and sends the responses to markers. The slow protocols have one address, which
+ * no bridge passes on: a frame to any other one comes from anybody. */
 void take_frames(uint16_t port) {
     struct link *link = &links[port - 1];
-    uint8_t frame[LONGEST_FRAME], response[LAG_FRAME];
-    for (int turn = 0; turn < 64; turn++) {
+    uint8_t frame[LONGEST_FRAME], response[NIW_FRAME];
+    for (int turn = 0; turn < MOST_TAKEN; turn++) {
         struct sockaddr_ll from = {0};
         socklen_t length = sizeof from;
         ssize_t got = recvfrom(link->socket, frame, sizeof frame, 0, (struct sockaddr *)&from, &length);
-        struct lag_received received;
+        struct niw_received received;
         if (got < 0) return;
         if (from.sll_pkttype == PACKET_OUTGOING) continue; /* an old kernel shows what was sent */
         if (got < ETH_HLEN || memcmp(frame, GROUP, sizeof GROUP) != 0) {
             link->counts[ELSEWHERE_RECEIVED]++;
             continue;
         }
-        received = lag_receive(&own_system, port, frame, (size_t)got, response, sizeof response);
-        refuse(received.status, "lag_receive");
+        received = niw_receive(&own_system, port, frame, (size_t)got, response, sizeof response);
+        refuse(received.status, "niw_receive");
         link->counts[kind_of(&received)]++;
-        if (received.what == LAG_RESPOND) send_frame(link, RESPONSES_SENT, response);
-        send_due();
+        if (received.what == NIW_RECEIVED_TOOK_LACPDU) link->look_at = 0;
+        if (received.what == NIW_RECEIVED_RESPOND) send_frame(link, RESPONSES_SENT, response);
     }
 }

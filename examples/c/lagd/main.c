@@ -10,7 +10,6 @@
 #include <errno.h>
 #include <fcntl.h>
 #include <signal.h>
-#include <stdlib.h>
 #include <string.h>
 #include <sys/epoll.h>
 #include <sys/signalfd.h>
@@ -20,7 +19,7 @@
 #include "lagd.h"
 
 /* What is waited for beside the ports, which have their numbers. */
-enum { SIGNALS = LAG_MOST + 1, CLOCK, CHANGES, STATUS };
+enum { SIGNALS = NIW_MOST_PORTS + 1, CLOCK, CHANGES, STATUS };
 
 /* The most ticks that are made up after a stall: what comes in then is new, and time goes on from there. */
 #define MOST_TICKS 10
@@ -66,48 +65,54 @@ static void pass_time(int clock) {
     if (passed > MOST_TICKS) passed = MOST_TICKS;
     for (; passed > 0; passed--) pass_tick();
     send_due();
-    print_changes(true);
+    send_again();
+    print_changes();
 }
 
-/* What came beside frames. */
-struct came {
+/* What is ready beside frames. */
+struct ready {
     bool signal, tick, change, question;
 };
 
-static struct came look(const struct epoll_event *events, int count) {
-    struct came came = {0};
+static struct ready ready_of(const struct epoll_event *events, int count) {
+    struct ready ready = {0};
     for (int i = 0; i < count; i++) {
-        came.signal |= events[i].data.u32 == SIGNALS;
-        came.tick |= events[i].data.u32 == CLOCK;
-        came.change |= events[i].data.u32 == CHANGES;
-        came.question |= events[i].data.u32 == STATUS;
+        ready.signal |= events[i].data.u32 == SIGNALS;
+        ready.tick |= events[i].data.u32 == CLOCK;
+        ready.change |= events[i].data.u32 == CHANGES;
+        ready.question |= events[i].data.u32 == STATUS;
     }
-    return came;
+    return ready;
 }
 
+/* Takes the frames of all ports, and sends once what they made due. */
 static void take_all_frames(const struct epoll_event *events, int count) {
+    bool taken = false;
     for (int i = 0; i < count; i++) {
         uint32_t port = events[i].data.u32;
-        if (port <= LAG_MOST && links[port - 1].socket >= 0) take_frames((uint16_t)port);
+        if (port > NIW_MOST_PORTS || links[port - 1].socket < 0) continue;
+        take_frames((uint16_t)port);
+        taken = true;
     }
+    if (taken) send_due();
 }
 
 /* Waits, and serves what comes, the clock after the frames that waited. The first signal makes it tell the peers; it ends when
  * they are told, or by a second one. */
-static void run(int signals, int clock, int status, const struct lag_config *config) {
+static void run(int signals, int clock, int status, const struct niw_config *config) {
     struct epoll_event events[STATUS];
     struct signalfd_siginfo signal_info;
     bool ends = false;
     for (unsigned end_ticks = 0; !ends || (end_ticks < END_TICKS && !end_is_told());) {
         int count = epoll_wait(waits, events, STATUS, -1);
-        struct came came = look(events, count);
+        struct ready ready = ready_of(events, count);
         if (count < 0 && errno != EINTR) stop(REFUSED, "epoll", strerror(errno));
-        if (came.change) take_changes();
+        if (ready.change) take_changes();
         take_all_frames(events, count);
-        if (came.question) answer_status(status, config);
-        if (came.tick) pass_time(clock);
-        if (came.tick && ends) end_ticks++;
-        if (!came.signal) continue;
+        if (ready.question) answer_status(status, config);
+        if (ready.tick) pass_time(clock);
+        if (ready.tick && ends) end_ticks++;
+        if (!ready.signal) continue;
         if (read(signals, &signal_info, sizeof signal_info) < 0 || ends) return;
         ends = true;
         tell_end();
@@ -139,9 +144,8 @@ int main(int argc, char **argv) {
     watch(clock, CLOCK);
     watch(status, STATUS);
     started = true;
-    print_changes(false);
+    print_changes();
     run(signals, clock, status, &options.config);
-    for (uint16_t port = 1; port <= link_count; port++) set_link(port, false);
-    refuse(lag_free(&own_system), "lag_free");
+    end_system();
     return DONE;
 }

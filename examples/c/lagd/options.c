@@ -22,7 +22,7 @@ static const char HELP[] =
     "  -a, --activity active|passive   whether it speaks first: active, if not given\n"
     "  -m, --max-links N           the most links of an aggregator, 1 to 64; 0, as if not given: no limit\n"
     "  -f, --folder FOLDER         of locks and status sockets; /run/lagd if not given\n"
-    "  -s, --status                prints the state of each lagd that runs in this network namespace\n"
+    "  -s, --status                prints the state of each lagd of this network namespace and folder\n"
     "  -j, --json                  prints it as JSON, a line for each\n"
     "  -h, --help      -V, --version\n"
     "\n"
@@ -55,22 +55,27 @@ static bool is_first(const char *word, const char *first, const char *second) {
     stop(WRONG_WORD, wanted, word);
 }
 
-/* PRIORITY,MAC: a number, and six octets of two hexadecimal digits each. */
-static void read_system(char *word, struct lag_config *config) {
+/* Six octets of two hexadecimal digits each, with colons between them. */
+static bool is_mac(const char *text) {
+    bool right = strlen(text) == 17;
+    for (int i = 0; right && i < 17; i++) right = i % 3 < 2 ? isxdigit((unsigned char)text[i]) != 0 : text[i] == ':';
+    return right;
+}
+
+/* PRIORITY,MAC. */
+static void read_system(char *word, struct niw_config *config) {
     static const uint8_t none[6];
-    char *mac = strchr(word, ',');
-    bool right = mac && strlen(mac) == 18;
-    for (int i = 1; right && i < 18; i++) right = i % 3 ? isxdigit((unsigned char)mac[i]) != 0 : mac[i] == ':';
-    if (!right) stop(WRONG_WORD, "a system is PRIORITY,MAC, as 32768,02:00:00:00:00:01", word);
-    for (int i = 0; i < 6; i++) config->mac[i] = (uint8_t)strtoul(mac + 1 + 3 * i, NULL, 16);
-    if (config->mac[0] & 1) stop(WRONG_WORD, "a group address is no system", mac + 1);
-    if (memcmp(config->mac, none, 6) == 0) stop(WRONG_WORD, "the address of no system", mac + 1);
-    *mac = 0;
+    char *comma = strchr(word, ',');
+    if (!comma || !is_mac(comma + 1)) stop(WRONG_WORD, "a system is PRIORITY,MAC, as 32768,02:00:00:00:00:01", word);
+    for (int i = 0; i < 6; i++) config->mac[i] = (uint8_t)strtoul(comma + 1 + 3 * i, NULL, 16);
+    if (config->mac[0] & 1) stop(WRONG_WORD, "a group address is no system", comma + 1);
+    if (memcmp(config->mac, none, 6) == 0) stop(WRONG_WORD, "the address of no system", comma + 1);
+    *comma = 0;
     config->priority = number(word, UINT16_MAX);
 }
 
 /* A word of one interface. */
-static void read_word(const char *word, struct lag_port *port) {
+static void read_word(const char *word, struct niw_port *port) {
     if (strncmp(word, "key=", 4) == 0)
         port->key = number(word + 4, UINT16_MAX);
     else if (strncmp(word, "priority=", 9) == 0)
@@ -85,32 +90,39 @@ static void read_word(const char *word, struct lag_port *port) {
         stop(WRONG_WORD, "not a word of an interface", word);
 }
 
-/* INTERFACE[:WORD,..], for the next link. A name is one that the kernel would take. */
-static void read_link(char *text, const struct lag_port *port) {
-    struct link *link = &links[link_count];
-    char *words = strchr(text, ':');
-    char *rest = NULL;
-    size_t length = words ? (size_t)(words - text) : strlen(text);
+/* Whether the kernel would take a name of an interface. */
+static bool is_name(const char *text, size_t length) {
     bool right = length > 0 && length < IFNAMSIZ;
     for (size_t i = 0; i < length; i++) right = right && text[i] != '/' && !isspace((unsigned char)text[i]);
-    if (!right) stop(WRONG_WORD, "not the name of an interface", text);
-    memcpy(link->name, text, length);
+    return right;
+}
+
+static void refuse_twice(const char *name) {
     for (uint16_t i = 0; i < link_count; i++)
-        if (strcmp(links[i].name, link->name) == 0) stop(WRONG_WORD, "an interface is given twice", link->name);
+        if (strcmp(links[i].name, name) == 0) stop(WRONG_WORD, "an interface is given twice", name);
+}
+
+/* INTERFACE[:WORD,..], for the next link. */
+static void read_link(char *text, const struct niw_port *port) {
+    struct link *link = &links[link_count];
+    size_t length = strcspn(text, ":");
+    char *rest = text[length] ? text + length + 1 : NULL;
+    if (!is_name(text, length)) stop(WRONG_WORD, "not the name of an interface", text);
+    memcpy(link->name, text, length);
+    refuse_twice(link->name);
     link->settings = *port;
     link->settings.number = ++link_count;
-    if (!words) return;
-    for (char *word = strtok_r(words + 1, ",", &rest); word; word = strtok_r(NULL, ",", &rest)) read_word(word, &link->settings);
+    for (char *word; (word = strsep(&rest, ","));) read_word(word, &link->settings);
 }
 
 /* One option. --help and --version end the program. */
-static void read_option(int option, const char *last, struct options *options, struct lag_port *port) {
+static void read_option(int option, const char *last, struct options *options, struct niw_port *port) {
     const char letter[] = {'-', (char)optopt, 0};
     switch (option) {
     case 'p': port->priority = number(optarg, UINT16_MAX); break;
     case 't': port->short_timeout = is_first(optarg, "short", "long"); break;
     case 'a': port->active = is_first(optarg, "active", "passive"); break;
-    case 'm': options->config.max_links = number(optarg, LAG_MOST); break;
+    case 'm': options->config.max_links = number(optarg, NIW_MOST_PORTS); break;
     case 'f': options->folder = optarg; break;
     case 's': options->status = true; break;
     case 'j': options->json = true; break;
@@ -120,19 +132,24 @@ static void read_option(int option, const char *last, struct options *options, s
     }
 }
 
+/* KEY PRIORITY,MAC INTERFACE[:WORD,..].. */
+static void read_words(int count, char **words, struct niw_config *config, struct niw_port *port) {
+    if (count < 3 || count > 2 + NIW_MOST_PORTS)
+        stop(WRONG_WORD, "usage", "lagd [OPTION..] KEY PRIORITY,MAC INTERFACE.., 1 to 64 of them; lagd --help tells more");
+    port->key = number(words[0], UINT16_MAX);
+    read_system(words[1], config);
+    for (int i = 2; i < count; i++) read_link(words[i], port);
+}
+
 /* Reads the command line, and names the links. */
 struct options read_options(int argc, char **argv) {
     struct options options = {.config = {.first_marker = 1, .conversations = 256}, .folder = "/run/lagd"};
-    struct lag_port port = {.priority = 32768, .aggregatable = true, .active = true, .short_timeout = true};
+    struct niw_port port = {.priority = 32768, .aggregatable = true, .active = true, .short_timeout = true};
     opterr = 0;
     for (int option; (option = getopt_long(argc, argv, "p:t:a:m:f:sjhV", LONG, NULL)) >= 0;)
         read_option(option, argv[optind - 1], &options, &port);
     if (options.status && optind == argc) return options;
     if (options.status || options.json) stop(WRONG_WORD, "usage", "lagd --status [--json] [--folder FOLDER]");
-    if (argc - optind < 3 || argc - optind > 2 + LAG_MOST)
-        stop(WRONG_WORD, "usage", "lagd [OPTION..] KEY PRIORITY,MAC INTERFACE.., 1 to 64 of them; lagd --help tells more");
-    port.key = number(argv[optind], UINT16_MAX);
-    read_system(argv[optind + 1], &options.config);
-    for (int i = optind + 2; i < argc; i++) read_link(argv[i], &port);
+    read_words(argc - optind, argv + optind, &options.config, &port);
     return options;
 }

@@ -23,15 +23,14 @@
 /* Questions that are answered in a turn, so that no flood stops the clock. */
 #define TURN 8
 
-const char *const count_names[COUNTS] = {
-    "lacpdus_received", "markers_received", "marker_responses_received", "refused_received", "elsewhere_received",
-    "disabled_received", "lacpdus_sent", "marker_responses_sent", "failed_sent", "link_losses",
+/* What the status tells of a port. */
+struct view {
+    uint64_t status, aggregator, receive, mux, current_while, wait_while;
+    bool defaulted;
+    struct niw_actor own;
+    uint8_t state; /* the state octet of its own side */
+    struct niw_info partner;
 };
-
-static const char *const MUX[] = {"DETACHED", "WAITING", "ATTACHED", "COLLECTING_DISTRIBUTING"};
-static const char *const RECEIVE[] = {"INITIALIZE", "PORT_DISABLED", "EXPIRED", "DEFAULTED", "CURRENT"};
-static const char *const BITS[] = {"activity", "timeout", "aggregation", "synchronization", "collecting", "distributing",
-    "defaulted", "expired"};
 
 static char answer[ROOM];
 static size_t used;
@@ -69,84 +68,98 @@ static void add_string(const char *text) {
 
 /* The network namespace that this process is in. */
 unsigned long network_namespace(void) {
-    struct stat it;
-    return stat("/proc/self/ns/net", &it) == 0 ? (unsigned long)it.st_ino : 0;
+    struct stat file;
+    return stat("/proc/self/ns/net", &file) == 0 ? (unsigned long)file.st_ino : 0;
 }
 
-/* Why a port does not distribute: the first reason that holds. */
-const char *status_of(uint16_t port) {
-    struct facts facts = facts_of(port);
-    struct lag_number state = lag_receive_state(&own_system, port);
-    if (strcmp(facts.link, "missing") == 0) return "the interface is missing";
-    if (strcmp(facts.link, "down") == 0) return "the link is down";
-    if (facts.mux == LAG_COLLECTING_DISTRIBUTING) return "distributing";
-    if (facts.defaulted) return "no LACPDU came";
-    if (state.number == LAG_EXPIRED) return "no LACPDU came in time";
-    if (facts.aggregator == 0) return "no aggregator for it";
-    if (facts.standby) return "it is STANDBY";
-    if (facts.mux == LAG_WAITING) return "it waits";
-    return "the partner is not synchronized";
+static struct view view_of(uint16_t port) {
+    struct niw_actor own = niw_party(&own_system, port);
+    struct niw_info partner = niw_partner(&own_system, port);
+    refuse(own.status, "niw_party");
+    refuse(partner.status, "niw_partner");
+    return (struct view){
+        .status = status_of(port),
+        .aggregator = number_of(niw_choice(&own_system, port), "niw_choice"),
+        .receive = number_of(niw_receive_state(&own_system, port), "niw_receive_state"),
+        .mux = number_of(niw_mux_state(&own_system, port), "niw_mux_state"),
+        .current_while = number_of(niw_current_while(&own_system, port), "niw_current_while"),
+        .wait_while = number_of(niw_wait_while(&own_system, port), "niw_wait_while"),
+        .defaulted = truth_of(niw_defaulted(&own_system, port), "niw_defaulted"),
+        .own = own,
+        .state = (uint8_t)number_of(niw_state(&own_system, port), "niw_state"),
+        .partner = partner,
+    };
 }
 
 static void add_text_state(uint8_t state) {
     for (unsigned bit = 0; bit < 8; bit++)
-        if (state >> bit & 1) add(" %s", BITS[bit]);
+        if (state >> bit & 1) add(" %s", bit_name(bit));
+    add("\n");
+}
+
+static void add_text_counts(const struct link *link) {
+    for (unsigned i = 0; i < COUNTS; i++) {
+        const char *between = i == 0 || i == LACPDUS_SENT ? " " : "";
+        add("%s %s %" PRIu64 "%s", between, count_name(i), link->counts[i], i == LACPDUS_SENT - 1 ? "\n" : "");
+    }
+    add("\n");
 }
 
 /* One port as text. */
 static void add_text(uint16_t port) {
     const struct link *link = &links[port - 1];
-    struct lag_party own = lag_party(&own_system, port);
-    struct lag_info partner = lag_partner(&own_system, port);
-    add("port %u %s: %s\n  address ", port, link->name, status_of(port));
+    struct view view = view_of(port);
+    add("port %u %s: %s\n  address ", port, link->name, status_name(view.status));
     add_mac(link->mac);
-    add(", aggregator %" PRIu64 ", receive %s, mux %s\n", lag_choice(&own_system, port).number,
-        RECEIVE[lag_receive_state(&own_system, port).number], MUX[lag_mux_state(&own_system, port).number]);
-    add("  actor key %u, port %u,%u, state", own.key, own.port_priority, own.port);
-    add_text_state((uint8_t)lag_state(&own_system, port).number);
-    add("\n  partner %u,", partner.system_priority);
-    add_mac(partner.system_mac);
-    add(" key %u, port %u,%u, state", partner.key, partner.port_priority, partner.port);
-    add_text_state(partner.state);
-    add("\n ");
-    for (int i = 0; i < COUNTS; i++) add("%s %s %" PRIu64, i == LACPDUS_SENT ? "\n " : "", count_names[i], link->counts[i]);
-    if (link->trouble) add("\n  %s", strerror(link->trouble));
-    add("\n");
+    add(", aggregator %" PRIu64 ", receive %s, mux %s, current_while %" PRIu64 ", wait_while %" PRIu64 "\n", view.aggregator,
+        receive_name(view.receive), mux_name(view.mux), view.current_while, view.wait_while);
+    add("  actor key %u, port %u,%u, state", view.own.key, view.own.port_priority, view.own.port);
+    add_text_state(view.state);
+    add("  partner %u,", view.partner.system_priority);
+    add_mac(view.partner.system_mac);
+    add(" key %u, port %u,%u, state", view.partner.key, view.partner.port_priority, view.partner.port);
+    add_text_state(view.partner.state);
+    add_text_counts(link);
+    if (link->trouble) add("  %s\n", strerror(link->trouble));
 }
 
 static void add_json_state(uint8_t state) {
     const char *between = "";
-    add("\"state\":[");
+    add(",\"state\":[");
     for (unsigned bit = 0; bit < 8; bit++) {
         if (!(state >> bit & 1)) continue;
-        add("%s\"%s\"", between, BITS[bit]);
+        add("%s\"%s\"", between, bit_name(bit));
         between = ",";
     }
-    add("]");
+    add("]}");
+}
+
+static void add_json_counts(const struct link *link) {
+    add(",\"counters\":{");
+    for (unsigned i = 0; i < COUNTS; i++) add("%s\"%s\":%" PRIu64, i ? "," : "", count_name(i), link->counts[i]);
+    add("}");
 }
 
 /* One port as JSON. */
 static void add_json(uint16_t port) {
     const struct link *link = &links[port - 1];
-    struct facts facts = facts_of(port);
-    struct lag_party own = lag_party(&own_system, port);
-    const struct lag_info *partner = &facts.partner;
+    struct view view = view_of(port);
     add("%s{\"port\":%u,\"interface\":", port > 1 ? "," : "", port);
     add_string(link->name);
-    add(",\"link\":\"%s\",\"status\":\"%s\",\"address\":\"", facts.link, status_of(port));
+    add(",\"link\":\"%s\",\"status\":\"%s\",\"address\":\"", link_name(link), status_name(view.status));
     add_mac(link->mac);
-    add("\",\"aggregator\":%" PRIu64 ",\"receive\":\"%s\",\"mux\":\"%s\",", facts.aggregator,
-        RECEIVE[lag_receive_state(&own_system, port).number], MUX[facts.mux]);
-    add("\"actor\":{\"key\":%u,\"port_priority\":%u,\"port\":%u,", own.key, own.port_priority, own.port);
-    add_json_state((uint8_t)lag_state(&own_system, port).number);
-    add("},\"partner\":{\"defaulted\":%s,\"system_priority\":%u,\"system\":\"", facts.defaulted ? "true" : "false",
-        partner->system_priority);
-    add_mac(partner->system_mac);
-    add("\",\"key\":%u,\"port_priority\":%u,\"port\":%u,", partner->key, partner->port_priority, partner->port);
-    add_json_state(partner->state);
-    add("},\"counters\":{");
-    for (int i = 0; i < COUNTS; i++) add("%s\"%s\":%" PRIu64, i ? "," : "", count_names[i], link->counts[i]);
-    add("},\"trouble\":");
+    add("\",\"aggregator\":%" PRIu64 ",\"receive\":\"%s\",\"mux\":\"%s\",", view.aggregator, receive_name(view.receive),
+        mux_name(view.mux));
+    add("\"current_while\":%" PRIu64 ",\"wait_while\":%" PRIu64 ",", view.current_while, view.wait_while);
+    add("\"actor\":{\"key\":%u,\"port_priority\":%u,\"port\":%u", view.own.key, view.own.port_priority, view.own.port);
+    add_json_state(view.state);
+    add(",\"partner\":{\"defaulted\":%s,\"system_priority\":%u,\"system\":\"", view.defaulted ? "true" : "false",
+        view.partner.system_priority);
+    add_mac(view.partner.system_mac);
+    add("\",\"key\":%u,\"port_priority\":%u,\"port\":%u", view.partner.key, view.partner.port_priority, view.partner.port);
+    add_json_state(view.partner.state);
+    add_json_counts(link);
+    add(",\"trouble\":");
     add_string(link->trouble ? strerror(link->trouble) : "");
     add("}");
 }
@@ -158,7 +171,7 @@ static uint64_t seconds(void) {
 }
 
 /* The whole answer. */
-static void write_answer(const struct lag_config *config, bool json) {
+static void write_answer(const struct niw_config *config, bool json) {
     used = 0;
     add(json ? "{\"lagd\":\"%s\",\"system_priority\":%u,\"system\":\"" : "lagd %s, system %u,", VERSION, config->priority);
     add_mac(config->mac);
@@ -169,7 +182,7 @@ static void write_answer(const struct lag_config *config, bool json) {
 }
 
 /* Answers questions. One whose answer does not fit into the socket of who asks is not answered. */
-void answer_status(int socket, const struct lag_config *config) {
+void answer_status(int socket, const struct niw_config *config) {
     for (int turn = 0; turn < TURN; turn++) {
         char question[8] = {0};
         struct sockaddr_un from;
@@ -200,17 +213,26 @@ int open_status(const char *folder) {
     return opened;
 }
 
+/* A socket by which a daemon is asked, or -1. Bound without a name it gets one of its own, by which it is answered. It never
+ * waits: the queue of a daemon that is stopped may be full. */
+static int open_question(const char *path) {
+    struct sockaddr_un to = {.sun_family = AF_UNIX}, own = {.sun_family = AF_UNIX};
+    int opened = strlen(path) < sizeof to.sun_path ? socket(AF_UNIX, SOCK_DGRAM | SOCK_NONBLOCK | SOCK_CLOEXEC, 0) : -1;
+    if (opened < 0) return -1;
+    strcpy(to.sun_path, path);
+    if (bind(opened, (struct sockaddr *)&own, sizeof own.sun_family) == 0
+        && connect(opened, (struct sockaddr *)&to, sizeof to) == 0)
+        return opened;
+    close(opened);
+    return -1;
+}
+
 /* Asks one daemon, and prints its answer; answers whether there was one. */
 static bool ask_one(const char *path, const char *question) {
-    struct sockaddr_un to = {.sun_family = AF_UNIX}, own = {.sun_family = AF_UNIX};
-    struct pollfd waits = {socket(AF_UNIX, SOCK_DGRAM | SOCK_CLOEXEC, 0), POLLIN, 0};
+    struct pollfd waits = {open_question(path), POLLIN, 0};
     ssize_t got = -1;
-    if (waits.fd < 0 || strlen(path) >= sizeof to.sun_path) return false;
-    strcpy(to.sun_path, path);
-    /* Bound without a name, the socket gets one of its own, by which it is answered. */
-    if (bind(waits.fd, (struct sockaddr *)&own, sizeof own.sun_family) == 0
-        && connect(waits.fd, (struct sockaddr *)&to, sizeof to) == 0 && send(waits.fd, question, 4, 0) == 4
-        && poll(&waits, 1, PATIENCE) == 1)
+    if (waits.fd < 0) return false;
+    if (send(waits.fd, question, strlen(question), 0) > 0 && poll(&waits, 1, PATIENCE) == 1)
         got = recv(waits.fd, answer, sizeof answer, 0);
     close(waits.fd);
     return got >= 0 && fwrite(answer, 1, (size_t)got, stdout) == (size_t)got;

@@ -44,7 +44,13 @@ impl Held {
     pub(crate) fn room(alloc: Global) -> Option<Held>
         ensures { IfSome result (λ held. IsTrue (is_some held.kept)) }
     {
-        match Box::new(alloc, StoredSystem { system: None }) {
+        match Box::new(
+            alloc,
+            StoredSystem {
+                system: None,
+                algorithm: 0,
+            },
+        ) {
             Ok(block) => Some(Held::of_parts(Parts::of(block))),
             Err(_) => None,
         }

@@ -1,6 +1,6 @@
-use Rattle.lagffi.proofs.AskingLemmas.{called}
+use Rattle.lagffi.proofs.AskingLemmas.{offered}
 use Rattle.lagffi.proofs.calls.lagffi_offer.Goals as goal
 
 pub returns : goal.returns
-returns c = called _ _ c.in-Some.ensures.taken c.with_algorithm-system.ensures.state c.with_algorithm.ensures.state c.put.ensures
-    (c.offer-answer.result, c.offer-answer.ensures.answers, c.offer-answer.ensures.within, c.of.ensures)
+returns c = offered _ _ c.in-Some.ensures.taken c.put.ensures
+    (c.offer_with-answer.result.0, c.offer_with-answer.ensures.answers, c.offer_with-answer.ensures.within, c.of.ensures)

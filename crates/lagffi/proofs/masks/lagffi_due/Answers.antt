@@ -1,0 +1,11 @@
+use mathlib.Core.Path.{◌∙◌, ap}
+use Rattle.lagffi.specs.Masks.{due_on, mask}
+use Rattle.lagffi.specs.Numbers.{number}
+use Rattle.lagffi.proofs.AskingLemmas.{asked}
+use Rattle.lagffi.proofs.masks.lagffi_due.Goals as goal
+
+pub returns : goal.returns
+returns c =
+    asked _ _ c.in-Some.ensures.taken c.with_algorithm-system.ensures.state c.with_algorithm.ensures.state c.put.ensures
+    (c.answered.ensures ∙ ap number (c.mask.ensures ∙ ap mask (c.deref-2.ensures.0 ∙ c.due_on-due.ensures
+    ∙ ap (due_on c.with_algorithm-system.result.state) (c.deref.ensures.0 ∙ c.ports.ensures.all))))
