@@ -1,6 +1,7 @@
 mod configurations;
 mod conversations;
 mod driven;
+mod forced;
 mod frames;
 mod hostile;
 mod load;
@@ -8,16 +9,17 @@ mod memory;
 mod most_links;
 mod plan;
 mod standby;
+mod statuses;
 mod truncated;
 mod wide;
 
-ghost use Rattle.std.specs.Prelude.{◌<◌};
+ghost use Rattle.std.specs.Prelude.{◌≡◌, ◌<◌};
 
 use crate::systems::plan::plan_of;
 use bitflags::Flags;
 use lagsystem::{
     AggId, Assignment, Choice, Config, Group, Info, Key, MuxState, NoMemory, Party, PortConfig,
-    PortId, ReceiveState, Received, Reply, State, System, SystemFault, SystemId,
+    PortId, PortStatus, ReceiveState, Received, Reply, State, System, SystemFault, SystemId,
 };
 use slowpdu::{Lacpdu, Marker, MarkerKind};
 use std::alloc::Global;
@@ -53,6 +55,8 @@ enum Row<'a> {
     /// `move_conversation` to a port returns this.
     Moves(u16, u16, u16, Result<(), SystemFault>),
     Forces(u16, u16, Result<(), SystemFault>),
+    /// `force_port` of a port returns this.
+    ForcesPort(u16, Result<u32, SystemFault>),
     /// `transmit` returns the marker with this identifier.
     Marks(u16, u32),
     /// This Marker Response comes on a port and frees this many conversations.
@@ -60,6 +64,10 @@ enum Row<'a> {
     /// The readers return this for a port.
     Shows(u16, PortFacts),
     Chosen(u16, Choice),
+    /// `port_status` of a port returns this.
+    Status(u16, PortStatus),
+    /// `current_while`, `wait_while` and `ntt` of a port return these.
+    Timers(u16, u16, u8, bool),
     Mux(u16, MuxState),
     Defaulted(u16, bool),
     Due(u16, bool),
@@ -88,6 +96,10 @@ pub(crate) struct PortFacts {
     state: Option<State>,
     up: Option<bool>,
     due: Option<bool>,
+    status: Option<PortStatus>,
+    current_while: Option<u16>,
+    wait_while: Option<u8>,
+    ntt: Option<bool>,
 }
 
 /// What the readers return for a port that does not exist.
@@ -103,6 +115,10 @@ const NOTHING: PortFacts = PortFacts {
     state: None,
     up: None,
     due: None,
+    status: None,
+    current_while: None,
+    wait_while: None,
+    ntt: None,
 };
 
 /// The distribution algorithm of the tests.
@@ -129,6 +145,10 @@ pub(crate) fn look<F: Fn(u16, usize) -> usize + Drop>(system: &System<F>, port: 
         state: system.state(port),
         up: system.is_up(port),
         due: system.is_due(port),
+        status: system.port_status(port),
+        current_while: system.current_while(port),
+        wait_while: system.wait_while(port),
+        ntt: system.ntt(port),
     }
 }
 
@@ -195,6 +215,10 @@ fn port_without_partner(key: u16) -> PortFacts {
         state: Some(State::from_bits_retain(0x47)),
         up: Some(false),
         due: Some(false),
+        status: Some(PortStatus::LinkDown),
+        current_while: Some(0),
+        wait_while: Some(0),
+        ntt: Some(false),
     }
 }
 
@@ -251,6 +275,20 @@ fn tells<F: Fn(u16, usize) -> usize + Drop>(
             Some(choice),
             "row {place}"
         ),
+        Row::Status(port, status) => assert_eq!(rt;
+            system.port_status(port),
+            Some(status),
+            "row {place}"
+        ),
+        Row::Timers(port, current_while, wait_while, ntt) => {
+            let timers = (system.current_while(port), system.wait_while(port));
+            assert_eq!(rt;
+                timers,
+                (Some(current_while), Some(wait_while)),
+                "row {place}"
+            );
+            assert_eq!(rt; system.ntt(port), Some(ntt), "row {place}");
+        }
         Row::Mux(port, state) => assert_eq!(rt; look(system, port).mux, Some(state), "row {place}"),
         Row::Defaulted(port, is) => assert_eq!(rt;
             look(system, port).defaulted,
@@ -290,6 +328,20 @@ fn compare(rt: &impl Abort, place: usize, row: Row<'_>, replies: &[Reply], wante
     }
 }
 
+/// Forces what is held on a port, where a row says so.
+fn forces_port<F: Fn(u16, usize) -> usize + Drop>(
+    rt: &impl Abort,
+    system: &mut System<F>,
+    place: usize,
+    row: Row<'_>,
+)
+    ensures { system.new.algorithm ≡ system.old.algorithm }
+{
+    if let Row::ForcesPort(port, answer) = row {
+        assert_eq!(rt; system.force_port(port), answer, "row {place}");
+    }
+}
+
 /// The port for which the readers are expected to return what they returned before; 0, which no port has, if there is
 /// none.
 fn kept_port(row: Row<'_>) -> u16 {
@@ -312,6 +364,7 @@ fn plays(
         let before = look(&system, kept_port(*row));
         let replies = system.drive(alloc, &plan.calls)?;
         compare(rt, place, *row, &replies, &plan.replies);
+        forces_port(rt, &mut system, place, *row);
         assert_eq!(rt; look(&system, kept_port(*row)), before, "row {place}");
         tells(rt, &system, place, *row);
     }

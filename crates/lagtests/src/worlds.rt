@@ -1,4 +1,6 @@
 mod agreements;
+mod apart;
+mod both_systems;
 mod changes;
 mod conversations;
 mod given;
@@ -28,7 +30,8 @@ const F49: [u8; 14] = [2, 0, 0, 0, 0, 0x21, 2, 0, 0, 0, 0, 0x10, 8, 0];
 /// One of conversation 50.
 const F50: [u8; 14] = [2, 0, 0, 0, 0, 0x22, 2, 0, 0, 0, 0, 0x10, 8, 0];
 
-/// An event, with the octets of an offered frame. The values have the order of `Event`; a tick is 100 ms.
+/// An event, with the octets of an offered frame. The values have the order of `Event`; a tick is 100 ms. `Configure` and
+/// `Prefer` are one event.
 #[derive(Clone, Copy, Debug)]
 enum Entry {
     Tick(u8, u16),
@@ -42,6 +45,8 @@ enum Entry {
     Restart(u8),
     /// The port gets this key and Aggregation bit; its priority stays 128.
     Configure(u8, u16, u16, bool),
+    /// The port gets this priority; its key stays 1, and it stays aggregatable.
+    Prefer(u8, u16, u16),
     Offer(u8, u16, &'static [u8]),
     Move(u8, u16, u16, u16),
     Force(u8, u16, u16),
@@ -101,6 +106,15 @@ fn event(alloc: Global, entry: Entry) -> Result<Event, NoMemory> {
                 key: Key(key),
                 priority: 128,
                 aggregatable,
+            },
+        ),
+        Entry::Prefer(system, port, priority) => Event::Configure(
+            system,
+            port,
+            PortChange {
+                key: Key(1),
+                priority,
+                aggregatable: true,
             },
         ),
         Entry::Offer(system, agg, octets) => {

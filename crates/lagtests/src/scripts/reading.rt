@@ -91,6 +91,27 @@ fn configurations_are_read(rt: HostRuntime) -> Result<(), Fail> {
     Ok(())
 }
 
+/// System 1 has three ports; of each another flag is false.
+const FLAGS: &str =
+    "system = [{mac = \"02-00-00-00-00-01\", aggregators = [1], port = [{number = 1, key = 1, aggregatable = false}, {number = 2, key = 1, active = false}, {number = 3, key = 1, short = false}]}, {mac = \"02-00-00-00-00-02\", aggregators = [1], port = [{number = 1, key = 1}]}]";
+
+#[test]
+fn flags_of_ports_are_read_by_their_names(rt: HostRuntime) -> Result<(), Fail> {
+    let (config, _) = read_script(rt.alloc(), FLAGS)?;
+    let [first, _] = &config.systems;
+    let wanted = [
+        (false, true, true),
+        (true, false, true),
+        (true, true, false),
+    ];
+    assert_eq!(rt; first.ports.len(), wanted.len());
+    for (port, flags) in first.ports.iter().zip(wanted) {
+        let read = (port.aggregatable, port.active, port.short);
+        assert_eq!(rt; read, flags, "port {}", port.number);
+    }
+    Ok(())
+}
+
 /// The events of a script with this entry and one more tick, or the text of the fault.
 fn entry_as(alloc: Global, entry: &str) -> Result<String, AllocError> {
     let (before, behind) = (ENTRY_1.before, ENTRY_1.behind);

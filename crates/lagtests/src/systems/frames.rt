@@ -3,7 +3,9 @@ use crate::systems::{
     port_without_partner,
 };
 use bitflags::Flags;
-use lagsystem::{AggId, Choice, Group, MuxState, ReceiveState, Received, State, WireFault};
+use lagsystem::{
+    AggId, Choice, Group, MuxState, PortStatus, ReceiveState, Received, State, WireFault,
+};
 use slowpdu::frame;
 use std::test::Fail;
 
@@ -151,6 +153,10 @@ fn a_port_is_given_another_key(rt: HostRuntime) -> Result<(), Fail> {
         state: Some(State::from_bits_retain(0x07)),
         up: Some(true),
         due: Some(true),
+        status: Some(PortStatus::Waiting(20)),
+        current_while: Some(30),
+        wait_while: Some(20),
+        ntt: Some(true),
     };
     let again = PortFacts {
         partner: Some(no_partner(0x02)),
@@ -158,6 +164,11 @@ fn a_port_is_given_another_key(rt: HostRuntime) -> Result<(), Fail> {
         state: Some(State::from_bits_retain(0xc7)),
         up: Some(true),
         due: Some(true),
+        status: Some(PortStatus::NoLacpdu),
+        current_while: Some(30),
+        // no row but that of WAITING sets this timer
+        wait_while: Some(20),
+        ntt: Some(true),
         ..port_without_partner(2)
     };
     let rows = [

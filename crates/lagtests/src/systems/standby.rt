@@ -1,8 +1,8 @@
 use crate::systems::{DATA, PortFacts, Row, config, end, joined, mac, marker, no_partner, plays};
 use bitflags::Flags;
 use lagsystem::{
-    AggId, Choice, Config, Group, Info, Key, MuxState, NoMemory, PortId, ReceiveState, Received,
-    State, SystemFault,
+    AggId, Choice, Config, Group, Info, Key, MuxState, NoMemory, PortId, PortStatus, ReceiveState,
+    Received, State, SystemFault,
 };
 use slowpdu::{MarkerKind, frame};
 use std::alloc::Global;
@@ -117,6 +117,10 @@ fn second_on_standby() -> PortFacts {
         state: Some(State::from_bits_retain(0x07)),
         up: Some(true),
         due: Some(false),
+        status: Some(PortStatus::Standby(AggId(1))),
+        current_while: Some(10),
+        wait_while: Some(0),
+        ntt: Some(false),
     }
 }
 

@@ -1,5 +1,5 @@
 use crate::worlds::Entry::{
-    Configure, Cut, Deliver, Emit, Force, Join, Move, Offer, Restart, Sense, Tick,
+    Configure, Cut, Deliver, Emit, Force, Join, Lose, Move, Offer, Repeat, Restart, Sense, Tick,
 };
 use crate::worlds::Want::Is;
 use crate::worlds::given::{INDIVIDUAL, ONE, TWO, cable, joined, lines, modulo, world_config};
@@ -126,17 +126,23 @@ fn every_reason_to_make_no_world(rt: HostRuntime) -> Result<(), Fail> {
     Ok(())
 }
 
-/// One cable, with or without an item on its direction to system 1.
-fn line(alloc: Global, full: bool) -> Result<Vec<(AnyCable, AnyCable)>, WorldFault> {
-    let mut to_one = cable(alloc, None)?;
-    let to_two = cable(alloc, None)?;
+/// One direction of a cable, with or without an item.
+fn direction(alloc: Global, full: bool) -> Result<AnyCable, WorldFault> {
+    let mut direction = cable(alloc, None)?;
     if full {
         let bytes = Vec::new(alloc);
         let stamp = Stamp::Control(0);
-        if to_one.push(Item { bytes, stamp }).is_err() {
+        if direction.push(Item { bytes, stamp }).is_err() {
             return Err(WorldFault::NoMemory);
         }
     }
+    Ok(direction)
+}
+
+/// One cable, with or without an item on its direction to system 1, and on that to system 2.
+fn line(alloc: Global, full: (bool, bool)) -> Result<Vec<(AnyCable, AnyCable)>, WorldFault> {
+    let to_one = direction(alloc, full.0)?;
+    let to_two = direction(alloc, full.1)?;
     let mut lines = Vec::new(alloc);
     if lines.push((to_one, to_two)).is_err() {
         return Err(WorldFault::NoMemory);
@@ -145,7 +151,7 @@ fn line(alloc: Global, full: bool) -> Result<Vec<(AnyCable, AnyCable)>, WorldFau
 }
 
 /// Why no world can be made with this line.
-fn line_refusal(alloc: Global, full: bool) -> Result<Option<WorldFault>, WorldFault> {
+fn line_refusal(alloc: Global, full: (bool, bool)) -> Result<Option<WorldFault>, WorldFault> {
     let config = world_config(alloc, ONE)?;
     let lines = line(alloc, full)?;
     match World::new(alloc, config, modulo, modulo, lines) {
@@ -155,13 +161,14 @@ fn line_refusal(alloc: Global, full: bool) -> Result<Option<WorldFault>, WorldFa
 }
 
 fn line_refused(rt: &impl Abort, alloc: Global) -> Result<(), WorldFault> {
-    let wanted = WorldFault::BadConfig(BadWorld::Lines);
-    assert_eq!(rt; line_refusal(alloc, false)?, None, "an empty line");
-    assert_eq!(rt;
-        line_refusal(alloc, true)?,
-        Some(wanted),
-        "a line with an item"
-    );
+    let wanted = Some(WorldFault::BadConfig(BadWorld::Lines));
+    for (full, wanted) in [
+        ((false, false), None),
+        ((true, false), wanted),
+        ((false, true), wanted),
+    ] {
+        assert_eq!(rt; line_refusal(alloc, full)?, wanted, "{full:?}");
+    }
     Ok(())
 }
 
@@ -171,13 +178,24 @@ fn a_line_with_an_item_is_refused(rt: HostRuntime) -> Result<(), Fail> {
     Ok(())
 }
 
-const NOT_THERE: [(Entry, WorldFault); 6] = [
+const NOT_THERE: [(Entry, WorldFault); 17] = [
     (Cut(0), WorldFault::NoCable),
     (Join(2), WorldFault::NoCable),
     (Deliver(2, 3), WorldFault::NoCable),
-    (Tick(0, 1), WorldFault::NoSystem),
-    (Restart(3), WorldFault::NoSystem),
+    (Deliver(1, 3), WorldFault::NoSystem),
+    (Lose(2, 1), WorldFault::NoCable),
+    (Lose(1, 0), WorldFault::NoSystem),
+    (Repeat(0, 2), WorldFault::NoCable),
+    (Repeat(1, 3), WorldFault::NoSystem),
+    (Sense(2, 1), WorldFault::NoCable),
     (Sense(1, 0), WorldFault::NoSystem),
+    (Tick(0, 1), WorldFault::NoSystem),
+    (Emit(3, 1), WorldFault::NoSystem),
+    (Restart(3), WorldFault::NoSystem),
+    (Configure(0, 1, 1, true), WorldFault::NoSystem),
+    (Offer(3, 1, &F48), WorldFault::NoSystem),
+    (Move(0, 1, 48, 1), WorldFault::NoSystem),
+    (Force(3, 1, 48), WorldFault::NoSystem),
 ];
 
 fn stopped(rt: &impl Abort, entry: Entry, came: Result<Reply, WorldFault>, fault: WorldFault) {

@@ -1,0 +1,165 @@
+use crate::systems::{Row, config, end, joined, plays};
+use lagsystem::{AggId, PortStatus};
+use std::test::Fail;
+
+/// A port that hears nobody runs on defaults after 30 ticks, waits for 20 more, and distributes then.
+const ALONE: [Row<'static>; 25] = [
+    Row::Status(1, PortStatus::LinkDown),
+    Row::Timers(1, 0, 0, false),
+    Row::Link(1, true),
+    Row::Status(1, PortStatus::NoLacpdu),
+    Row::Timers(1, 30, 0, false),
+    Row::Ticks(9),
+    Row::Timers(1, 21, 0, false),
+    // Fast_Periodic_Time has passed
+    Row::Ticks(1),
+    Row::Timers(1, 20, 0, true),
+    Row::Ticks(19),
+    Row::Status(1, PortStatus::NoLacpdu),
+    Row::Timers(1, 1, 0, true),
+    Row::Ticks(1),
+    Row::Status(1, PortStatus::OnDefaults),
+    Row::Timers(1, 0, 20, true),
+    Row::Ticks(7),
+    Row::Timers(1, 0, 13, true),
+    Row::Ticks(12),
+    Row::Status(1, PortStatus::OnDefaults),
+    Row::Ticks(1),
+    Row::Status(1, PortStatus::Distributing),
+    Row::Timers(1, 0, 0, true),
+    Row::Link(1, false),
+    Row::Status(1, PortStatus::LinkDown),
+    Row::Timers(1, 0, 0, false),
+];
+
+#[test]
+fn a_port_without_a_peer_tells_why(rt: HostRuntime) -> Result<(), Fail> {
+    let given = config(rt.alloc(), &[1], 1)?;
+    plays(&rt, rt.alloc(), given, &ALONE)?;
+    Ok(())
+}
+
+/// Two ports of one group, of which the second hears its peer 6 ticks later. Its peer takes it for synchronized, so it asks
+/// to tell it otherwise.
+fn both_wait() -> [Row<'static>; 19] {
+    [
+        Row::Link(1, true),
+        Row::Link(2, true),
+        Row::Takes(1, end(2, 1, 1, 0x05), end(1, 1, 1, 0x07)),
+        Row::Status(1, PortStatus::Waiting(20)),
+        Row::Timers(1, 30, 20, false),
+        Row::Ticks(6),
+        Row::Status(2, PortStatus::NoLacpdu),
+        Row::Timers(2, 24, 0, false),
+        Row::Takes(2, end(2, 2, 1, 0x05), end(1, 2, 1, 0x0f)),
+        Row::Status(2, PortStatus::Waiting(20)),
+        Row::Timers(2, 30, 20, true),
+        Row::Ticks(8),
+        Row::Timers(1, 16, 6, false),
+        Row::Timers(2, 22, 12, true),
+        Row::Sends(2, end(1, 2, 1, 0x07), end(2, 2, 1, 0x05)),
+        Row::Timers(2, 22, 12, false),
+        Row::Ticks(5),
+        Row::Status(1, PortStatus::Waiting(1)),
+        Row::Status(2, PortStatus::Waiting(7)),
+    ]
+}
+
+/// The first port waits for the second, then both for their peer; the second hears no more.
+fn both_attach() -> [Row<'static>; 19] {
+    [
+        Row::Ticks(1),
+        Row::Status(1, PortStatus::WaitingForMembers),
+        Row::Timers(1, 10, 0, false),
+        Row::Status(2, PortStatus::Waiting(6)),
+        Row::Takes(1, end(2, 1, 1, 0x05), end(1, 1, 1, 0x07)),
+        Row::Ticks(6),
+        Row::Status(1, PortStatus::PartnerNotSynchronized),
+        Row::Status(2, PortStatus::PartnerNotSynchronized),
+        Row::Timers(1, 24, 0, true),
+        Row::Timers(2, 10, 0, true),
+        Row::Takes(1, end(2, 1, 1, 0x0d), end(1, 1, 1, 0x0f)),
+        Row::Status(1, PortStatus::Distributing),
+        Row::Status(2, PortStatus::PartnerNotSynchronized),
+        Row::Ticks(10),
+        Row::Status(1, PortStatus::Distributing),
+        Row::Status(2, PortStatus::NoLacpdu),
+        Row::Timers(2, 30, 0, true),
+        Row::Link(1, false),
+        Row::Status(1, PortStatus::LinkDown),
+    ]
+}
+
+#[test]
+fn ports_with_a_peer_tell_why(rt: HostRuntime) -> Result<(), Fail> {
+    let given = config(rt.alloc(), &[1, 2], 1)?;
+    let rows = joined(rt.alloc(), &[&both_wait(), &both_attach()])?;
+    plays(&rt, rt.alloc(), given, &rows)?;
+    Ok(())
+}
+
+/// Ports 1 to 5 come up. Ports 2 and 3 have the same peer, and port 5 has the system itself as its peer.
+fn five_peers() -> [Row<'static>; 10] {
+    [
+        Row::Link(1, true),
+        Row::Link(2, true),
+        Row::Link(3, true),
+        Row::Link(4, true),
+        Row::Link(5, true),
+        Row::Takes(1, end(2, 1, 1, 0x0d), end(1, 1, 1, 0x07)),
+        Row::Takes(2, end(3, 2, 1, 0x0d), end(1, 2, 1, 0x07)),
+        Row::Takes(3, end(3, 3, 1, 0x0d), end(1, 3, 1, 0x07)),
+        Row::Takes(4, end(4, 4, 1, 0x0d), end(1, 4, 1, 0x07)),
+        Row::Takes(5, end(1, 9, 1, 0x0d), end(1, 5, 1, 0x07)),
+    ]
+}
+
+/// Of five ports the first two are links, and the others stay out of their aggregators, until no port hears any more.
+const THREE_OUT: [Row<'static>; 18] = [
+    Row::Ticks(7),
+    Row::Status(1, PortStatus::Waiting(13)),
+    Row::Status(2, PortStatus::Waiting(13)),
+    Row::Status(3, PortStatus::Standby(AggId(2))),
+    Row::Timers(3, 23, 13, false),
+    Row::Status(4, PortStatus::NoAggregator),
+    Row::Timers(4, 23, 0, false),
+    Row::Status(5, PortStatus::OwnSystem),
+    Row::Ticks(13),
+    Row::Status(1, PortStatus::Distributing),
+    Row::Status(2, PortStatus::Distributing),
+    Row::Status(3, PortStatus::Standby(AggId(2))),
+    Row::Status(4, PortStatus::NoAggregator),
+    Row::Status(5, PortStatus::OwnSystem),
+    Row::Ticks(10),
+    Row::Status(3, PortStatus::NoLacpdu),
+    Row::Status(4, PortStatus::NoLacpdu),
+    Row::Status(5, PortStatus::NoLacpdu),
+];
+
+#[test]
+fn ports_that_are_no_links_tell_why(rt: HostRuntime) -> Result<(), Fail> {
+    let mut given = config(rt.alloc(), &[1, 2, 3, 4, 5], 2)?;
+    given.max_links = Some(1);
+    let rows = joined(rt.alloc(), &[&five_peers(), &THREE_OUT])?;
+    plays(&rt, rt.alloc(), given, &rows)?;
+    Ok(())
+}
+
+/// Long_Timeout_Time is 900 ticks.
+#[test]
+fn a_long_timeout_runs_for_900_ticks(rt: HostRuntime) -> Result<(), Fail> {
+    let mut given = config(rt.alloc(), &[1], 1)?;
+    for port in given.ports.iter_mut() {
+        port.short = false;
+    }
+    let rows = [
+        Row::Link(1, true),
+        Row::Takes(1, end(2, 1, 1, 0x05), end(1, 1, 1, 0x05)),
+        Row::Timers(1, 900, 20, false),
+        Row::Ticks(3),
+        Row::Timers(1, 897, 17, false),
+        Row::Status(1, PortStatus::Waiting(17)),
+    ];
+    plays(&rt, rt.alloc(), given, &rows)?;
+    Ok(())
+}

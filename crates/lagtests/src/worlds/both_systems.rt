@@ -1,0 +1,349 @@
+use crate::worlds::Entry::{
+    Configure, Deliver, Emit, Force, Move, Offer, Prefer, Restart, Sense, Tick,
+};
+use crate::worlds::Want::{Is, Lacpdu};
+use crate::worlds::given::{ONE, Setting, TWO, lines, modulo, world_config};
+use crate::worlds::starts::{
+    COMING_UP, LINK_UP, MOVED, NONE_DISTRIBUTING, ONE_CABLE, TICKED, TOOK, UP_1,
+};
+use crate::worlds::{Entry, F48, F50, Flow, Row, Want, events, plays, runs};
+use lagworld::{Agreement, Reply, World, WorldFault};
+use std::alloc::Global;
+use std::process::Abort;
+use std::test::Fail;
+
+/// Two cables between ports with Short Timeout.
+const SHORT: Setting = Setting { short: true, ..TWO };
+
+/// Two cables come up between ports with Short Timeout, and each end hears the other five times (6.4.13, 6.4.15).
+const UP: [(Entry, Want); 54] = [
+    (Sense(1, 1), LINK_UP),
+    (Sense(1, 2), LINK_UP),
+    (Sense(2, 1), LINK_UP),
+    (Sense(2, 2), LINK_UP),
+    (Tick(1, 10), TICKED),
+    (Tick(2, 10), TICKED),
+    (Emit(1, 1), Lacpdu(0xc7)),
+    (Deliver(1, 2), TOOK),
+    (Emit(1, 2), Lacpdu(0xc7)),
+    (Deliver(2, 2), TOOK),
+    (Emit(2, 1), Lacpdu(0x07)),
+    (Deliver(1, 1), TOOK),
+    (Emit(2, 2), Lacpdu(0x07)),
+    (Deliver(2, 1), TOOK),
+    (Tick(1, 10), TICKED),
+    (Tick(2, 10), TICKED),
+    (Emit(1, 1), Lacpdu(0x07)),
+    (Deliver(1, 2), TOOK),
+    (Emit(1, 2), Lacpdu(0x07)),
+    (Deliver(2, 2), TOOK),
+    (Emit(2, 1), Lacpdu(0x07)),
+    (Deliver(1, 1), TOOK),
+    (Emit(2, 2), Lacpdu(0x07)),
+    (Deliver(2, 1), TOOK),
+    (Tick(1, 10), TICKED),
+    (Tick(2, 10), TICKED),
+    (Emit(1, 1), Lacpdu(0x0f)),
+    (Deliver(1, 2), TOOK),
+    (Emit(1, 2), Lacpdu(0x0f)),
+    (Deliver(2, 2), TOOK),
+    (Emit(2, 1), Lacpdu(0x3f)),
+    (Deliver(1, 1), TOOK),
+    (Emit(2, 2), Lacpdu(0x3f)),
+    (Deliver(2, 1), TOOK),
+    (Tick(1, 10), TICKED),
+    (Tick(2, 10), TICKED),
+    (Emit(1, 1), Lacpdu(0x3f)),
+    (Deliver(1, 2), TOOK),
+    (Emit(1, 2), Lacpdu(0x3f)),
+    (Deliver(2, 2), TOOK),
+    (Emit(2, 1), Lacpdu(0x3f)),
+    (Deliver(1, 1), TOOK),
+    (Emit(2, 2), Lacpdu(0x3f)),
+    (Deliver(2, 1), TOOK),
+    (Tick(1, 10), TICKED),
+    (Tick(2, 10), TICKED),
+    (Emit(1, 1), Lacpdu(0x3f)),
+    (Deliver(1, 2), TOOK),
+    (Emit(1, 2), Lacpdu(0x3f)),
+    (Deliver(2, 2), TOOK),
+    (Emit(2, 1), Lacpdu(0x3f)),
+    (Deliver(1, 1), TOOK),
+    (Emit(2, 2), Lacpdu(0x3f)),
+    (Deliver(2, 1), TOOK),
+];
+
+const BOTH_SAME: &[(u16, Agreement)] = &[(1, Agreement::Same), (2, Agreement::Same)];
+
+const FIRST_NOT_BOTH: &[(u16, Agreement)] = &[(1, Agreement::NotBoth), (2, Agreement::Same)];
+
+const CHANGED: Want = Is(Reply::Configured(true));
+
+const SENT: Want = Is(Reply::Port(1, 0, true));
+
+/// Conversation 48 of system 1 sent one frame, which is not collected.
+const ONE_SENT: Flow = Flow {
+    system: 1,
+    conv: 48,
+    sent: 1,
+    collected: &[],
+    forced: false,
+};
+
+/// The same, but the frame is collected.
+const ONE_UP: Flow = Flow {
+    collected: &[0],
+    ..ONE_SENT
+};
+
+/// Conversation 48 of system 2 sent one frame, which is not collected.
+const ONE_SENT_BACK: Flow = Flow {
+    system: 2,
+    ..ONE_SENT
+};
+
+/// The same, but the frame is collected.
+const ONE_UP_BACK: Flow = Flow {
+    system: 2,
+    ..ONE_UP
+};
+
+/// Conversation 50 of system 1 sent one frame, which is collected.
+const ONE_UP_OF_50: Flow = Flow { conv: 50, ..ONE_UP };
+
+/// A frame of conversation 48 from system 2 to system 1.
+pub(crate) const BACK: [u8; 14] = [2, 0, 0, 0, 0, 0x10, 2, 0, 0, 0, 0, 0x20, 8, 0];
+
+const DROPPED_ROW: Row = Row {
+    setting: SHORT,
+    first: &UP,
+    rest: &[
+        (Offer(1, 1, &F48), SENT),
+        (Configure(2, 1, 2, true), CHANGED),
+        (Deliver(1, 2), Is(Reply::Dropped)),
+    ],
+    agreements: FIRST_NOT_BOTH,
+    flows: &[ONE_SENT],
+};
+
+#[test]
+fn a_dropped_frame_is_not_collected(rt: HostRuntime) -> Result<(), Fail> {
+    plays(&rt, rt.alloc(), &DROPPED_ROW)?;
+    Ok(())
+}
+
+const MOVES_BACK_ROW: Row = Row {
+    setting: SHORT,
+    first: &UP,
+    rest: &[
+        (Offer(2, 1, &F48), SENT),
+        (Deliver(1, 1), UP_1),
+        (Move(2, 1, 48, 2), Is(Reply::Moved)),
+        (Emit(2, 1), Is(Reply::Marker(1, true))),
+        (Deliver(1, 1), Is(Reply::Responded(true))),
+        (Deliver(1, 2), Is(Reply::Released(1))),
+    ],
+    agreements: BOTH_SAME,
+    flows: &[ONE_UP_BACK],
+};
+
+#[test]
+fn a_conversation_of_system_2_moves(rt: HostRuntime) -> Result<(), Fail> {
+    plays(&rt, rt.alloc(), &MOVES_BACK_ROW)?;
+    Ok(())
+}
+
+const PRIORITY_ROW: Row = Row {
+    setting: SHORT,
+    first: &UP,
+    rest: &[(Prefer(1, 1, 129), CHANGED), (Prefer(1, 1, 128), CHANGED)],
+    agreements: FIRST_NOT_BOTH,
+    flows: &[],
+};
+
+#[test]
+fn another_priority_is_a_change(rt: HostRuntime) -> Result<(), Fail> {
+    plays(&rt, rt.alloc(), &PRIORITY_ROW)?;
+    Ok(())
+}
+
+const BOTH_RELEASED_ROW: Row = Row {
+    setting: SHORT,
+    first: &UP,
+    rest: &[
+        (Offer(1, 1, &F48), SENT),
+        (Offer(1, 1, &F50), SENT),
+        MOVED,
+        (Move(1, 1, 50, 2), Is(Reply::Moved)),
+        (Emit(1, 1), Is(Reply::Marker(1, true))),
+        (Deliver(1, 2), UP_1),
+        (Deliver(1, 2), UP_1),
+        (Deliver(1, 2), Is(Reply::Responded(true))),
+        (Deliver(1, 1), Is(Reply::Released(2))),
+    ],
+    agreements: BOTH_SAME,
+    flows: &[ONE_UP, ONE_UP_OF_50],
+};
+
+#[test]
+fn one_response_releases_two_conversations(rt: HostRuntime) -> Result<(), Fail> {
+    plays(&rt, rt.alloc(), &BOTH_RELEASED_ROW)?;
+    Ok(())
+}
+
+const RESPONSE_LOST_ROW: Row = Row {
+    setting: SHORT,
+    first: &UP,
+    rest: &[
+        (Offer(1, 1, &F48), SENT),
+        (Deliver(1, 2), UP_1),
+        MOVED,
+        (Offer(2, 1, &BACK), SENT),
+        (Emit(1, 1), Is(Reply::Marker(1, true))),
+        (Deliver(1, 2), Is(Reply::Responded(false))),
+        (Deliver(1, 1), UP_1),
+    ],
+    agreements: BOTH_SAME,
+    flows: &[ONE_UP, ONE_UP_BACK],
+};
+
+#[test]
+fn a_full_cable_hands_back_a_response(rt: HostRuntime) -> Result<(), Fail> {
+    runs(&rt, rt.alloc(), &RESPONSE_LOST_ROW, Some(1), 0)?;
+    Ok(())
+}
+
+/// An LACPDU of either system says which change of its port it knows of.
+const STAMPED_ROW: Row = Row {
+    setting: SHORT,
+    first: &[(Prefer(2, 1, 127), CHANGED), (Prefer(1, 2, 126), CHANGED)],
+    rest: &UP,
+    agreements: BOTH_SAME,
+    flows: &[],
+};
+
+#[test]
+fn an_lacpdu_has_the_change_count_of_its_own_port(rt: HostRuntime) -> Result<(), Fail> {
+    plays(&rt, rt.alloc(), &STAMPED_ROW)?;
+    Ok(())
+}
+
+const RESTARTED_ROW: Row = Row {
+    setting: TWO,
+    first: &COMING_UP,
+    rest: &[
+        (Offer(2, 1, &BACK), SENT),
+        (Restart(2), Is(Reply::Restarted)),
+        (Deliver(1, 1), Is(Reply::Empty)),
+        (Offer(2, 1, &BACK), NONE_DISTRIBUTING),
+        (Offer(1, 1, &F48), SENT),
+    ],
+    agreements: &[(1, Agreement::NotBoth), (2, Agreement::NotBoth)],
+    flows: &[ONE_SENT_BACK, ONE_SENT],
+};
+
+#[test]
+fn a_restart_of_system_2_empties_the_cables(rt: HostRuntime) -> Result<(), Fail> {
+    plays(&rt, rt.alloc(), &RESTARTED_ROW)?;
+    Ok(())
+}
+
+const FORCED_TWICE_ROW: Row = Row {
+    setting: TWO,
+    first: &COMING_UP,
+    rest: &[
+        (Offer(1, 1, &F48), SENT),
+        (Force(1, 1, 48), Is(Reply::Forced)),
+        (Offer(1, 1, &F48), Is(Reply::Port(1, 1, true))),
+        (Force(1, 1, 48), Is(Reply::Forced)),
+    ],
+    agreements: &[],
+    flows: &[Flow {
+        sent: 2,
+        forced: true,
+        ..ONE_SENT
+    }],
+};
+
+#[test]
+fn a_conversation_stays_forced(rt: HostRuntime) -> Result<(), Fail> {
+    plays(&rt, rt.alloc(), &FORCED_TWICE_ROW)?;
+    Ok(())
+}
+
+/// Port 1 of system 1 gets another priority, and its own again.
+const PRIORITY_CHANGED_ROW: Row = Row {
+    setting: ONE,
+    first: &ONE_CABLE,
+    rest: &[
+        (Tick(2, 10), TICKED),
+        (Emit(2, 1), Lacpdu(0x3f)),
+        (Prefer(1, 1, 129), CHANGED),
+        (Prefer(1, 1, 128), CHANGED),
+        (Deliver(1, 1), TOOK),
+        (Tick(1, 20), TICKED),
+    ],
+    agreements: &[(1, Agreement::Changed)],
+    flows: &[],
+};
+
+/// It gets another Aggregation bit, and its own again.
+const AGGREGATION_CHANGED_ROW: Row = Row {
+    rest: &[
+        (Tick(2, 10), TICKED),
+        (Emit(2, 1), Lacpdu(0x3f)),
+        (Configure(1, 1, 1, false), CHANGED),
+        (Configure(1, 1, 1, true), CHANGED),
+        (Deliver(1, 1), TOOK),
+        (Tick(1, 20), TICKED),
+    ],
+    ..PRIORITY_CHANGED_ROW
+};
+
+/// Port 1 of system 2 gets another key, and its own again.
+const CHANGED_BACK_ROW: Row = Row {
+    rest: &[
+        (Tick(1, 10), TICKED),
+        (Emit(1, 1), Lacpdu(0x3f)),
+        (Configure(2, 1, 2, true), CHANGED),
+        (Configure(2, 1, 1, true), CHANGED),
+        (Deliver(1, 2), TOOK),
+        (Tick(2, 20), TICKED),
+    ],
+    ..PRIORITY_CHANGED_ROW
+};
+
+#[test]
+fn each_value_of_each_system_counts_as_a_change(rt: HostRuntime) -> Result<(), Fail> {
+    plays(&rt, rt.alloc(), &PRIORITY_CHANGED_ROW)?;
+    plays(&rt, rt.alloc(), &AGGREGATION_CHANGED_ROW)?;
+    plays(&rt, rt.alloc(), &CHANGED_BACK_ROW)?;
+    Ok(())
+}
+
+/// Port 1 of system 1 is changed and agrees again as soon as its LACPDUs were received; the same values once more are no
+/// change. The replies are not looked at.
+fn agrees_again(rt: &impl Abort, alloc: Global) -> Result<(), WorldFault> {
+    let up = events(alloc, &UP)?;
+    let change = events(alloc, &[(Prefer(1, 1, 129), CHANGED)])?;
+    let steps = [
+        (&up, Agreement::Same),
+        (&change, Agreement::NotBoth),
+        (&up, Agreement::Same),
+        (&change, Agreement::Same),
+    ];
+    let config = world_config(alloc, SHORT)?;
+    let lines = lines(alloc, 2, None)?;
+    let mut world = World::new(alloc, config, modulo, modulo, lines)?;
+    for (place, (events, wanted)) in steps.into_iter().enumerate() {
+        assert!(rt; world.run(events).is_ok(), "part {place}");
+        assert_eq!(rt; world.agreement(1), Some(wanted), "part {place}");
+    }
+    Ok(())
+}
+
+#[test]
+fn a_changed_port_agrees_again(rt: HostRuntime) -> Result<(), Fail> {
+    agrees_again(&rt, rt.alloc())?;
+    Ok(())
+}
