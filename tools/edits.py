@@ -39,6 +39,16 @@ def read_edit(crate, name):
     return read_pairs(os.path.join(CASES, crate, name + ".edit"))
 
 
+def read_tests(crate, name):
+    """The tests that the wrong definition names, as pairs of a crate and a test of it; none if it names none."""
+    lines = read(os.path.join(CASES, crate, name + ".edit")).splitlines()
+    return [tuple(line.split()[1:]) for line in lines if line.startswith("refused-by: ")]
+
+
+class Everywhere(str):
+    """An old text that is replaced wherever it stands in its file."""
+
+
 def read_pairs(path):
     """What the edit in this file says, if anything, and its replacements as (file, old, new)."""
     says, pairs, file, old = "", [], None, None
@@ -46,10 +56,14 @@ def read_pairs(path):
         word, _, text = line.partition(": ")
         if word == "says":
             says = text
+        elif word == "refused-by":
+            continue
         elif word == "file":
             file = text
         elif word == "old":
             old = text
+        elif word == "everywhere":
+            old = Everywhere(text)
         elif word == "new":
             pairs.append((file, old, text))
         elif line == "new:":
@@ -65,7 +79,7 @@ def apply(folder, pairs):
     for file, old, new in pairs:
         path = os.path.join(folder, file)
         text = read(path) if os.path.isfile(path) else ""
-        if text.count(old) != 1:
+        if text.count(old) != 1 and not (isinstance(old, Everywhere) and old in text):
             restore(was)
             return None, f"the old text stands in {file} {text.count(old)} times: {old}"
         was.setdefault(path, text)

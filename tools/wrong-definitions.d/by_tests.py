@@ -1,4 +1,4 @@
-"""The wrong definitions that tests refuse: each with the body that meets it, so that no contract can."""
+"""The wrong definitions that name no test: each is tried by all tests of the crates above."""
 
 import os
 import queue
@@ -19,6 +19,9 @@ LOOKS = {
     "collector": ["collector", "stored run", "lagtests"],
     "lagsystem": ["stored run", "lagtests"],
     "cables": ["cables", "lagtests"],
+    "lagscript": ["lagtests", "lagtool"],
+    "lagworld": ["lagtests", "lagtool"],
+    "lagengine": ["lagengine", "stored run"],
     "lagline": ["lagline", "lagtool"],
     "lagtool": ["lagtool"],
 }

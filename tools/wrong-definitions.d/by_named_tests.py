@@ -1,0 +1,164 @@
+"""The wrong definitions that name the tests that refuse them: many are tried in one build.
+
+For each edit the crate is copied, with the edit made, and only the named tests are left. Tests that stand in the crate itself
+are copied with it, as a module of it. Else the crate, those between it and the tests, and the module of the tests are copied
+under other names. Beside these copies all stands as it is: there each named test has to pass, and each has to fail in the copy.
+"""
+
+import os
+import re
+import shutil
+import subprocess
+from itertools import takewhile
+
+from edits import RT, apply, copy_crates, read, read_edit, read_tests, write
+from repository import below, crates, lines
+
+# How many edits one build has.
+MOST = 48
+
+
+def using(crate, folder, module):
+    """The crates that have to be copied with a crate so that a module of the tests meets the copy."""
+    text = "".join(read(path) for path in sources(folder, module))
+    return [name for name in below(*crates()) if crate in below(name) and re.search(rf"\b{name}::", text)]
+
+
+def sources(folder, module):
+    """The files of a module, which has a file and may have a folder."""
+    found = [os.path.join(at, file) for at, _, files in os.walk(os.path.join(folder, module)) for file in files]
+    return [os.path.join(folder, module + ".rt"), *found]
+
+
+def renamed(text, names, number):
+    for name in names:
+        text = re.sub(rf"\b{name}::", f"{name}_{number}::", text)
+    return text
+
+
+def keep_tests(text, module, tests):
+    """The text of a file of tests, without every other test."""
+    function = re.compile(r"^(?:///[^\n]*\n)*#\[test\]\nfn (\w+)\(.*?^}\n", re.M | re.S)
+    return function.sub(lambda it: it[0] if f"{module}::{it[1]}" in tests else "", text)
+
+
+def place(path, folder):
+    """The module that a file is."""
+    return (os.path.relpath(path, folder) if folder else path)[: -len(".rt")].replace(os.sep, "::")
+
+
+def add_copy(top, tests_crate, number, crate, name, rows):
+    """Adds the copies for one edit; answers what is wrong with it, or None."""
+    named = [test for of, test in read_tests(crate, name) if of == tests_crate]
+    folder = os.path.join(top, tests_crate, "src")
+    for module in sorted({test.split("::")[0] for test in named}):
+        names = using(crate, folder, module)
+        for one in names:
+            new = os.path.join(top, f"{one}_{number}")
+            if not os.path.isdir(new):
+                shutil.copytree(os.path.join(top, one), new)
+                if one == crate:
+                    _, fault = apply(new, read_edit(crate, name)[1])
+                    if fault:
+                        return fault
+                for path in sources(new, "src")[1:]:
+                    write(path, renamed(read(path), names, number))
+                uses = [f"{it}_{number}" if it in names else it for it in lines()[one].partition(":")[2].split()]
+                rows[f"{one}_{number}"] = uses
+        rows[tests_crate] += [f"{one}_{number}" for one in names if f"{one}_{number}" not in rows[tests_crate]]
+        for path in sources(folder, module):
+            text = renamed(keep_tests(read(path), place(path, folder), named), names, number)
+            target = os.path.join(folder, f"{module}_{number}" + path[len(os.path.join(folder, module)) :])
+            write(target, re.sub(rf"\bcrate::{module}\b", f"crate::{module}_{number}", text))
+        root = os.path.join(folder, "lib.rt")
+        write(root, read(root) + f"#[cfg(test)]\nmod {module}_{number};\n")
+    return None
+
+
+def add_own_copy(top, number, crate, name):
+    """Adds a copy of a crate with its own tests, as a module of it; answers what is wrong with the edit, or None."""
+    named = [test for _, test in read_tests(crate, name)]
+    folder, copy = os.path.join(top, crate, "src"), os.path.join(top, f"{crate}_{number}")
+    shutil.copytree(os.path.join(top, "as it was"), copy)
+    _, fault = apply(copy, read_edit(crate, name)[1])
+    if fault:
+        return fault
+    root = next(file for file in ("lib.rt", "main.rt") if os.path.isfile(os.path.join(folder, file)))
+    for path in sources(copy, "src")[1:]:
+        file = os.path.relpath(path, os.path.join(copy, "src"))
+        text = keep_tests(read(path), place(file, ""), named).replace("crate::", f"crate::copy_{number}::")
+        # Attributes of the whole crate, and tactics that name its proofs, have no place in a module.
+        text = re.sub(r"^ *#!?\[tactic\(.*\n", "", text, flags=re.M)
+        write(os.path.join(folder, f"copy_{number}.rt" if file == root else os.path.join(f"copy_{number}", file)), text)
+    root = os.path.join(folder, root)
+    write(root, read(root) + f"#[cfg(test)]\nmod copy_{number};\n")
+    shutil.rmtree(copy)
+    return None
+
+
+def build(folder, tests_crate, edits):
+    """Makes the crates for these edits; answers the folder of the tests, and what is wrong with edits, by number."""
+    shutil.rmtree(folder, ignore_errors=True)
+    top = copy_crates(folder, [tests_crate])
+    rows = {name: lines()[name].partition(":")[2].split() for name in below(tests_crate)}
+    root = os.path.join(top, tests_crate, "src")
+    files = sources(os.path.join(top, tests_crate), "src")[1:]
+    wrong = {}
+    shutil.copytree(os.path.join(top, tests_crate), os.path.join(top, "as it was"))
+    for number, (crate, name) in edits:
+        of_itself = crate == tests_crate
+        fault = add_own_copy(top, number, crate, name) if of_itself else add_copy(top, tests_crate, number, crate, name, rows)
+        if fault:
+            wrong[number] = fault
+    shutil.rmtree(os.path.join(top, "as it was"))
+    wanted = {test for _, edit in edits for of, test in read_tests(*edit) if of == tests_crate}
+    for path in files:
+        write(path, keep_tests(read(path), place(path, root), wanted))
+    write(os.path.join(folder, "crates.txt"), "".join(f"{name}: {' '.join(uses)}\n" for name, uses in rows.items()))
+    return os.path.join(top, tests_crate), wrong
+
+
+def verdict(output, number, crate, name, tests_crate):
+    """Whether the tests that an edit names refuse it, and what to print."""
+    says, _ = read_edit(crate, name)
+    if not any(line.startswith("test result: ") for line in output):
+        return False, "the tests do not build or do not end:\n" + "\n".join(output[-20:])
+    for of, test in read_tests(crate, name):
+        module, _, rest = test.partition("::")
+        copied = f"copy_{number}::{test}" if of == crate else f"{module}_{number}::{rest}"
+        if f"test {test} ... ok" not in output:
+            return False, f"{of} {test} does not pass as it stands"
+        failed = f"test {copied} ... FAILED"
+        if failed not in output:
+            return False, f"{test} does not refuse: {says}"
+        if any("time limit" in line for line in takewhile(lambda it: it.startswith(" "), output[output.index(failed) + 1 :])):
+            return False, f"{test} does not end: {says}"
+    return True, f"refused by {tests_crate}: {', '.join(test for _, test in read_tests(crate, name))}: {says}"
+
+
+def try_batch(folder, tests_crate, batch):
+    """Tries these edits in one build; answers for each its name, whether it passed, and what to print."""
+    left = list(enumerate(batch, 1))
+    while left:
+        crate, wrong = build(folder, tests_crate, left)
+        if not wrong:
+            words = [RT, "try", "--test"]
+            ended = subprocess.run(words, cwd=crate, stdout=subprocess.PIPE, stderr=subprocess.STDOUT, text=True)
+            output = ended.stdout.splitlines()
+            numbers = {int(it) for it in re.findall(r"_(\d+)(?:/src)?(?:/\S+|\.rt\S*): error", ended.stdout)}
+            wrong = {number: "does not build:\n" + ended.stdout[-2000:] for number in numbers if number <= len(batch)}
+        if not wrong:
+            yield from ((f"{of}/{name}", *verdict(output, number, of, name, tests_crate)) for number, (of, name) in left)
+            return
+        yield from ((f"{of}/{name}", False, wrong[number]) for number, (of, name) in left if number in wrong)
+        left = [it for it in left if it[0] not in wrong]
+
+
+def try_all(folder, edits):
+    """Tries the edits that name tests, those of one crate of tests after another."""
+    by_crate = {}
+    for edit in edits:
+        by_crate.setdefault(read_tests(*edit)[0][0], []).append(edit)
+    for tests_crate, of_it in by_crate.items():
+        for start in range(0, len(of_it), MOST):
+            yield from try_batch(os.path.join(folder, "named"), tests_crate, of_it[start : start + MOST])
