@@ -4,6 +4,13 @@ import os
 
 PORTS = ["2", "8", "64"]
 USED = ["1", "256", "all"]
+WIDE = ["1", "4096", "all"]
+# What looks for a conversation, and may take no longer with all in use.
+FLAT = ["transmit, nothing due", "is_due, nothing due", "receive, response for nobody"]
+# Partners, members at most, and what that is called.
+LIMITS = [("1", "0", "none"), ("1", "64", "64"), ("1", "32", "32"), ("2", "0", "none"), ("2", "16", "16")]
+# Each with a limit, and the same without.
+AGAINST = [(("1", "64"), ("1", "0")), (("1", "32"), ("1", "0")), (("2", "16"), ("2", "0"))]
 CODECS = [("rust", "plain Rust"), ("gcc", "gcc -O2"), ("clang", "clang -O3")]
 SAME, TICK = "receive, LACPDU that changes nothing", "tick"
 # What of Open vSwitch stands beside which call: the call, the harness's word for the other, its name, the ratio to reach.
@@ -27,7 +34,7 @@ class Measured:
         self.times, self.wrong, self.answers = {}, {}, 0
         for line in text.splitlines():
             kind, *words = line.split("\t")
-            if kind in ("call", "alone", "crowded"):
+            if kind in ("call", "wide", "limit", "alone", "crowded"):
                 *name, time, calls, wrong = words
                 self.times[kind, *name] = float(time)
                 self.wrong[kind, *name] = int(wrong)
@@ -89,14 +96,38 @@ def codec_rows(table, m):
     table.section(head, rows)
 
 
-def call_rows(table, m):
-    head = ["one system, ns a call: ports / conversations"] + [f"{ports} / {used}" for ports in PORTS for used in USED]
+def timed_rows(table, m, head, kind, columns):
+    """A row for each call of this kind of lines, and a column for each pair of words."""
     rows = []
-    for name in m.names("call"):
-        keys = [("call", name, ports, used) for ports in PORTS for used in USED]
+    for name in m.names(kind):
+        keys = [(kind, name, *words) for words in columns]
         cells = [number(m.times[key]) if key in m.times else "-" for key in keys]
         rows.append(([name, *cells], not any(m.wrong.get(key) for key in keys)))
     table.section(head, rows)
+
+
+def call_rows(table, m):
+    columns = [(ports, used) for ports in PORTS for used in USED]
+    head = ["one system, ns a call: ports / conversations"] + [" / ".join(it) for it in columns]
+    timed_rows(table, m, head, "call", columns)
+
+
+def wide_rows(table, m):
+    columns = [(ports, used) for ports in PORTS for used in WIDE]
+    head = ["4,096 conversations, ns a call: ports / conversations"] + [" / ".join(it) for it in columns]
+    timed_rows(table, m, head, "wide", columns)
+    for name in FLAT:
+        worst = max(m.times["wide", name, ports, used] / m.times["wide", name, ports, "1"] for ports in PORTS for used in WIDE)
+        table.goal(f"{name}, with any number of 4,096 conversations in use beside one", worst, 2)
+
+
+def limit_rows(table, m):
+    head = ["64 ports, a limit of links, ns a call"]
+    head += [f"{'one aggregator' if partners == '1' else 'two aggregators'}, {told}" for partners, _, told in LIMITS]
+    timed_rows(table, m, head, "limit", [(partners, limit) for partners, limit, _ in LIMITS])
+    for name in m.names("limit"):
+        worst = max(m.times["limit", name, *limited] / m.times["limit", name, *free] for limited, free in AGAINST)
+        table.goal(f"{name}, with a limit and none promoted beside none", worst, 1.1)
 
 
 def switch_rows(table, m, version):
@@ -135,7 +166,7 @@ def crowded_rows(table, m):
 
 def memory_rows(table, m):
     kinds, (allocations,) = m.names("later")[0], m.times["later", m.names("later")[0]]
-    rows = [([f"{ports} ports and aggregators", *map(str, m.times["memory", ports])], True) for ports in m.names("memory")]
+    rows = [([name, *map(str, m.times["memory", name])], True) for name in m.names("memory")]
     rows.append(([f"{kinds} kinds of calls afterwards", str(allocations), "-"], allocations == 0))
     table.section(["memory", "allocations", "octets"], rows)
     table.goal(f"allocations of {kinds} kinds of calls after new", float(allocations), 0)
@@ -169,6 +200,8 @@ def print_table(text, version, programs):
     print(f"{machine()}. The least CPU time of {rounds} rounds in {seconds} seconds; {m.answers:,} answers were looked at.")
     codec_rows(table, m)
     call_rows(table, m)
+    wide_rows(table, m)
+    limit_rows(table, m)
     switch_rows(table, m, version)
     offer_rows(table, m)
     crowded_rows(table, m)

@@ -30,7 +30,8 @@ pub fn making(scene: &Scene) -> (u64, u64) {
 pub fn later() -> (u64, u64) {
     let (mut kinds, mut allocations) = (0, 0);
     for (kind, _) in CALLS.into_iter().filter(|it| it.0 != Kind::Drive) {
-        let scene = if kind == Kind::Move { together(64, 256) } else { apart(64, 256, 64) };
+        let moves = matches!(kind, Kind::Move | Kind::TickFlushing);
+        let scene = if moves { together(64, 256, 256) } else { apart(64, 256, 64, 256) };
         allocations += asked(&scene, kind, 20).calls.abs_diff(asked(&scene, kind, 0).calls);
         kinds += 1;
     }

@@ -1,5 +1,6 @@
 //! Times the library `lagbench` beside plain Rust, plain C and Open vSwitch, all in one run, for so many seconds:
-//! `harness SECONDS`. Each line that it prints is one measurement, its words parted by tabs; tools/bench makes a table of them.
+//! `harness SECONDS [WORD]`; with a word, of the calls of a system only those whose lines begin with it. Each line that it prints
+//! is one measurement, its words parted by tabs; tools/bench makes a table of them.
 //! A time is the least of many repeats, in nanoseconds of this thread.
 
 mod codec;
@@ -10,7 +11,7 @@ mod system;
 mod time;
 
 use std::time::Instant;
-use system::{CALLS, Job, Kind, Scene, apart, crowded, together};
+use system::{CALLS, Job, Kind, Scene, apart, crowded, limited, together};
 
 const PORTS: [u16; 3] = [2, 8, 64];
 const CROWDED: [Kind; 7] = [
@@ -23,43 +24,84 @@ const CROWDED: [Kind; 7] = [
     Kind::ConfigureKey,
 ];
 
+/// What is timed where each aggregator has 4,096 conversations.
+const WIDE: [Kind; 8] = [
+    Kind::Response,
+    Kind::Tick,
+    Kind::TickFlushing,
+    Kind::TransmitNothing,
+    Kind::IsDue,
+    Kind::Offer,
+    Kind::ForcePort,
+    Kind::Restart,
+];
+/// What is timed with a limit of links.
+const LIMITED: [Kind; 3] = [Kind::TakeSame, Kind::TakeSync, Kind::Tick];
+/// Partners, each of which takes an aggregator, and members at most; 0 for any number.
+const LIMITS: [(u16, u16); 5] = [(1, 0), (1, 64), (1, 32), (2, 0), (2, 16)];
+
 /// A job with the words of its line.
 type Named = (String, Job);
+
+/// Scenes and calls to time, each with the words of its line.
+type Plan = Vec<(String, Scene, Kind)>;
 
 fn name_of(kind: Kind) -> &'static str {
     CALLS.iter().find(|it| it.0 == kind).unwrap().1
 }
 
-fn scenes(ports: u16) -> [(&'static str, Scene); 3] {
-    [("1", together(ports, 1)), ("256", together(ports, 256)), ("all", apart(ports, 256, ports))]
+fn scenes(ports: u16, width: u16) -> [(String, Scene); 3] {
+    [
+        ("1".to_string(), together(ports, 1, width)),
+        (width.to_string(), together(ports, width, width)),
+        ("all".to_string(), apart(ports, width, ports, width)),
+    ]
 }
 
-fn jobs() -> Vec<Named> {
-    let mut made = vec![];
-    for (kind, name) in CALLS {
-        for ports in PORTS {
-            for (used, scene) in scenes(ports) {
-                if kind != Kind::Move || !scene.apart {
-                    made.push((format!("call\t{name}\t{ports}\t{used}"), Job::new(scene, kind)));
-                }
-            }
+/// A kind of calls in each scene where it can be made: a conversation moves only where two ports share an aggregator.
+fn of_kind(plan: &mut Plan, word: &str, kind: Kind, ports: u16, width: u16) {
+    for (used, scene) in scenes(ports, width) {
+        if scene.partners == 1 || !matches!(kind, Kind::Move | Kind::TickFlushing) {
+            plan.push((format!("{word}\t{}\t{ports}\t{used}", name_of(kind)), scene, kind));
         }
     }
-    made.push(("alone\toffer\t64\t1".to_string(), Job::new(apart(64, 1, 1), Kind::Offer)));
+}
+
+fn plan() -> Plan {
+    let mut plan = vec![];
+    for (kind, _) in CALLS {
+        PORTS.iter().for_each(|ports| of_kind(&mut plan, "call", kind, *ports, 256));
+    }
+    for kind in WIDE {
+        PORTS.iter().for_each(|ports| of_kind(&mut plan, "wide", kind, *ports, 4096));
+    }
+    for kind in LIMITED {
+        for (partners, limit) in LIMITS {
+            plan.push((format!("limit\t{}\t{partners}\t{limit}", name_of(kind)), limited(partners, limit), kind));
+        }
+    }
+    plan.push(("alone\toffer\t64\t1".to_string(), apart(64, 1, 1, 256), Kind::Offer));
     for high_first in [false, true] {
         let order = if high_first { "high" } else { "low" };
         for kind in CROWDED {
-            let words = format!("crowded\t{}\t64\t{order}", name_of(kind));
-            made.push((words, Job::new(crowded(high_first), kind)));
+            plan.push((format!("crowded\t{}\t64\t{order}", name_of(kind)), crowded(high_first), kind));
         }
     }
-    made
+    plan
+}
+
+/// The calls whose lines begin with this word.
+fn jobs(word: &str) -> Vec<Named> {
+    let chosen = plan().into_iter().filter(|it| it.0.starts_with(word));
+    chosen.map(|(words, scene, kind)| (words, Job::new(scene, kind))).collect()
 }
 
 fn print_memory() {
-    for ports in PORTS {
-        let (blocks, octets) = heap::making(&together(ports, 0));
-        println!("memory\t{ports}\t{blocks}\t{octets}");
+    for width in [256, 4096] {
+        for ports in PORTS {
+            let (blocks, octets) = heap::making(&together(ports, 0, width));
+            println!("memory\t{ports} ports and aggregators of {width} conversations\t{blocks}\t{octets}");
+        }
     }
     let (kinds, allocations) = heap::later();
     println!("later\t{kinds}\t{allocations}");
@@ -88,7 +130,7 @@ fn main() {
     let seconds: f64 = std::env::args().nth(1).map_or(30.0, |it| it.parse().unwrap());
     let began = Instant::now();
     let mut codecs = codec::Codecs::new();
-    let mut jobs = jobs();
+    let mut jobs = jobs(&std::env::args().nth(2).unwrap_or_default());
     #[cfg(ovs)]
     let mut bonds = ovs::Bonds::new(&PORTS);
     let mut rounds = 0;

@@ -7,10 +7,12 @@ use crate::time::now;
 pub struct Scene {
     pub ports: u16,
     pub aggregators: u16,
-    pub apart: bool,
+    pub partners: u16,
     pub high_first: bool,
     pub conversations: u16,
     pub used: u16,
+    pub width: u16,
+    pub limit: u16,
 }
 
 #[repr(C)]
@@ -51,11 +53,14 @@ pub enum Kind {
     ConfigureKey,
     Restart,
     Drive,
+    IsDue,
+    TickFlushing,
+    ForcePort,
 }
 
 use Kind::*;
 
-pub const CALLS: [(Kind, &str); 20] = [
+pub const CALLS: [(Kind, &str); 23] = [
     (TakeSame, "receive, LACPDU that changes nothing"),
     (TakeSync, "receive, LACPDU whose Sync flips"),
     (TakeKey, "receive, LACPDU whose key flips"),
@@ -66,7 +71,9 @@ pub const CALLS: [(Kind, &str); 20] = [
     (Response, "receive, response for nobody"),
     (Faulty, "receive, faulty control frame"),
     (Tick, "tick"),
+    (TickFlushing, "tick, one conversation Flushing"),
     (TransmitNothing, "transmit, nothing due"),
+    (IsDue, "is_due, nothing due"),
     (LinkSame, "set_link, as it is"),
     (LinkFlips, "set_link, down and up"),
     (ConfigureSame, "configure, as it is"),
@@ -74,27 +81,35 @@ pub const CALLS: [(Kind, &str); 20] = [
     (Offer, "offer"),
     (ForceAndOffer, "force and offer"),
     (Move, "move_conversation, transmit, receive, offer"),
+    (ForcePort, "force_port, nothing held"),
     (Restart, "restart"),
     (Drive, "drive of one transmit"),
 ];
 
 /// No tick more: then the partners' long timeouts end.
 const MOST_TICKS: u32 = 780;
+/// So many moves of 29 ticks there and back; then an LACPDU is due, which goes before a marker.
+const MOST_MOVES: u32 = 4;
 const MOST: u32 = 1 << 20;
 
-/// All ports in one aggregator, which has so many conversations in use.
-pub fn together(ports: u16, conversations: u16) -> Scene {
-    Scene { ports, aggregators: ports, conversations, used: 1, ..Scene::default() }
+/// All ports in one aggregator, which has so many of its conversations in use.
+pub fn together(ports: u16, conversations: u16, width: u16) -> Scene {
+    Scene { ports, aggregators: ports, partners: 1, conversations, used: 1, width, ..Scene::default() }
 }
 
 /// Each port in an aggregator of its own; of so many of them so many conversations are in use.
-pub fn apart(ports: u16, conversations: u16, used: u16) -> Scene {
-    Scene { ports, aggregators: ports, apart: true, conversations, used, ..Scene::default() }
+pub fn apart(ports: u16, conversations: u16, used: u16, width: u16) -> Scene {
+    Scene { ports, aggregators: ports, partners: ports, conversations, used, width, ..Scene::default() }
 }
 
 /// 64 ports and 32 aggregators, each port with a partner of its own, so that half of the ports find none.
 pub fn crowded(high_first: bool) -> Scene {
-    Scene { ports: 64, aggregators: 32, apart: true, high_first, ..Scene::default() }
+    Scene { ports: 64, aggregators: 32, partners: 64, high_first, width: 256, ..Scene::default() }
+}
+
+/// 64 ports and 64 aggregators, of which so many partners take one each, in turn; so many members each, or any number.
+pub fn limited(partners: u16, limit: u16) -> Scene {
+    Scene { ports: 64, aggregators: 64, partners, width: 256, limit, ..Scene::default() }
 }
 
 /// One run, with its time.
@@ -114,6 +129,7 @@ fn calls_of(scene: &Scene, kind: Kind) -> u64 {
         Make => 0,
         Tick | Restart | Drive => 1,
         Move => 2,
+        TickFlushing => 58,
         TakeSync | TakeKey | LinkFlips | ConfigureSame | ConfigureKey => 2 * ports,
         Ask | AskAndTransmit => 3 * ports,
         Offer | ForceAndOffer => u64::from(scene.conversations) * u64::from(scene.used),
@@ -125,7 +141,8 @@ fn calls_of(scene: &Scene, kind: Kind) -> u64 {
 fn stands(scene: &Scene, kind: Kind, counts: &Counts) -> bool {
     let ports = u32::from(scene.ports);
     let is_crowded = scene.aggregators < scene.ports;
-    let before = if is_crowded { (ports / 2, ports / 2) } else { (ports, 0) };
+    let members = if scene.limit == 0 { ports } else { u32::from(scene.partners) * u32::from(scene.limit) };
+    let before = if is_crowded { (ports / 2, ports / 2) } else { (members.min(ports), 0) };
     let after = match kind {
         TakeKey | LinkFlips | ConfigureKey if is_crowded => (counts.distributing_after, counts.alone_after),
         TakeKey | LinkFlips => (0, 0),
@@ -133,6 +150,11 @@ fn stands(scene: &Scene, kind: Kind, counts: &Counts) -> bool {
         _ => before,
     };
     (counts.distributing, counts.alone) == before && (counts.distributing_after, counts.alone_after) == after
+}
+
+/// The same run without the calls that are timed.
+fn run_without(scene: &Scene, kind: Kind, rounds: u32) -> (f64, Counts) {
+    if kind == TickFlushing { run(scene, Move, rounds) } else { run(scene, kind, 0) }
 }
 
 /// One kind of calls in one scene: so many rounds, the least times with and without them, and how many answers were wrong.
@@ -149,11 +171,15 @@ pub struct Job {
 impl Job {
     /// Finds how many rounds take about 1.5 ms, or half of what the scene takes.
     pub fn new(scene: Scene, kind: Kind) -> Job {
-        let most = if kind == Tick { MOST_TICKS } else { MOST };
+        let most = match kind {
+            Tick => MOST_TICKS,
+            TickFlushing => MOST_MOVES,
+            _ => MOST,
+        };
         let mut rounds = 1;
         loop {
             let (with, _) = run(&scene, kind, rounds);
-            let (without, _) = run(&scene, kind, 0);
+            let (without, _) = run_without(&scene, kind, rounds);
             if with - without > 1.5e6f64.max(0.5 * without) || rounds >= most {
                 return Job { scene, kind, rounds, with: f64::MAX, without: f64::MAX, calls: 0, wrong: 0 };
             }
@@ -163,7 +189,7 @@ impl Job {
 
     pub fn again(&mut self) {
         let (with, counts) = run(&self.scene, self.kind, self.rounds);
-        let (without, _) = run(&self.scene, self.kind, 0);
+        let (without, _) = run_without(&self.scene, self.kind, self.rounds);
         self.with = self.with.min(with);
         self.without = self.without.min(without);
         let wanted = u64::from(self.rounds) * calls_of(&self.scene, self.kind);

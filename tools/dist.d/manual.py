@@ -1,0 +1,155 @@
+"""Makes man pages from the documents: the part of a page for a program becomes roff with the macros of man and tbl."""
+
+import os
+import re
+
+from repository import TOP, Missing
+
+# Of each program: the page, its first heading, and the heading that comes after its part.
+PARTS = {
+    "lagtool": ("docs/COMMAND.md", "## lagtool", "## lagengine"),
+    "lagengine": ("docs/COMMAND.md", "## lagengine", None),
+    "lagd": ("docs/USING.md", "## The daemon `lagd`", "## All faults"),
+}
+# What stands in the documents of the repository alone.
+LEFT_OUT = {"### Before it is proved"}
+# How roff writes what has a meaning for it.
+ROFF = {"\\": "\\e", "-": "\\-", "'": "\\(aq", "`": "\\(ga", "^": "\\(ha", "~": "\\(ti"}
+# How many characters a line of a table has at most.
+WIDTH = 70
+
+
+def part_of(name):
+    """The lines of a program's part, without its heading."""
+    file, first, last = PARTS[name]
+    with open(os.path.join(TOP, file), encoding="utf-8") as it:
+        lines = it.read().split("\n")
+    for heading in (first, last):
+        if heading and heading not in lines:
+            raise Missing(f"{file} has no line {heading}")
+    return lines[lines.index(first) + 1 : lines.index(last) if last else None]
+
+
+def escaped(text):
+    """Text without a meaning for roff."""
+    return "".join(ROFF.get(it, it if ord(it) < 128 else f"\\[u{ord(it):04X}]") for it in text)
+
+
+def inline(text):
+    """A text with its links as their words, its code in bold, its emphasis in italics."""
+    text = re.sub(r"!?\[([^\]]*)\]\([^)]*\)", r"\1", text)
+    found = []
+    for n, piece in enumerate(re.split(r"`([^`]*)`", text)):
+        if n % 2:
+            found.append(f"\\fB{escaped(piece)}\\fR")
+        else:
+            marked = re.split(r"\*+([^*]+)\*+", piece)
+            found += [f"\\fI{escaped(it)}\\fR" if m % 2 else escaped(it) for m, it in enumerate(marked)]
+    return "".join(found)
+
+
+def guarded(line):
+    """A line that roff does not take for a request."""
+    return "\\&" + line if line[:1] in (".", "'") else line
+
+
+def cells_of(rows):
+    """The cells of a table, row by row, without the line below its head. `\\|` is a stroke within a cell."""
+    split = [[it.strip().replace("\0", "|") for it in row.strip().strip("|").replace("\\|", "\0").split("|")] for row in rows]
+    return [split[0], *([*row, *[""] * len(split[0])][: len(split[0])] for row in split[2:])]
+
+
+def widths(cells):
+    """How wide each column is: each has room for its longest word, and what is left goes by the longest cells."""
+    columns = list(zip(*cells))
+    words = [max(len(word) for cell in column for word in cell.split() or [""]) for column in columns]
+    longest = [max(len(cell) for cell in column) for column in columns]
+    left = max(0, WIDTH - 3 * (len(columns) - 1) - sum(words))
+    wanted = [more - word for more, word in zip(longest, words)]
+    return [word + left * want // max(1, sum(wanted)) for word, want in zip(words, wanted)]
+
+
+def pairs(cells):
+    """A table of two columns: each row is what is explained, and its explanation."""
+    return [it for one, other in cells[1:] for it in (".TP", guarded(inline(one)) or "\\&", guarded(inline(other)) or "\\&")]
+
+
+def table(cells):
+    """A table of tbl; each cell is a text block, which may have several lines."""
+    columns = widths(cells)
+    text = [".PP", ".TS", "tab(@);", *(" ".join(f"l{font}w({it}n)" for it in columns) + end for font, end in (("b", ""), ("", ".")))]
+    for row in cells:
+        text.append("@".join(f"T{{\n{guarded(inline(it))}\nT}}" if it else "" for it in row))
+    return [*text, ".TE"]
+
+
+def kind_of(line):
+    if line.startswith("#"):
+        return "heading"
+    if line.startswith("|"):
+        return "table"
+    if line.startswith("    "):
+        return "code"
+    if re.match(r"(- |\d+\. )", line):
+        return "item"
+    return "blank" if not line.strip() else "text"
+
+
+def blocks(lines):
+    """The lines as blocks of one kind; a line of text goes on with an item before it."""
+    found = []
+    for line in lines:
+        kind, last = kind_of(line), found[-1] if found else ("blank", [])
+        if kind in ("text", "code") and last[0] == "item":
+            last[1].append(line)
+        elif kind == last[0] and kind not in ("heading", "item"):
+            last[1].append(line)
+        else:
+            found.append((kind, [line]))
+    return [it for it in found if it[0] != "blank"]
+
+
+def roff(kind, lines):
+    """A block as lines of roff."""
+    if kind == "heading":
+        words = lines[0].lstrip("# ")
+        return [f".{'SH' if lines[0].startswith('## ') else 'SS'} {inline(words.upper() if lines[0].startswith('## ') else words)}"]
+    if kind == "table":
+        cells = cells_of(lines)
+        return pairs(cells) if len(cells[0]) == 2 else table(cells)
+    if kind == "code":
+        return [".PP", ".nf", ".RS 4", *(guarded(escaped(it[4:])) for it in lines), ".RE", ".fi"]
+    if kind == "item":
+        return [".IP \\(bu 2", guarded(inline(" ".join(it.strip() for it in lines)[2:].strip()))]
+    return [".PP", guarded(inline(" ".join(lines)))]
+
+
+def unfenced(lines):
+    """The lines with each text between fences indented in place of them."""
+    kept, is_code = [], False
+    for line in lines:
+        if line.startswith("```"):
+            is_code = not is_code
+            kept.append("")
+        else:
+            kept.append(f"    {line}" if is_code else line)
+    return kept
+
+
+def without(lines):
+    """The lines but for the parts that are left out, each of which ends at the next heading."""
+    kept, is_left = [], False
+    for line in lines:
+        is_left = line in LEFT_OUT or is_left and not line.startswith("#")
+        if not is_left:
+            kept.append(line)
+    return kept
+
+
+def page(name, section, purpose, version):
+    """The man page of a program, as text."""
+    title = f'.TH {name.upper()} {section} "" "Niwhopera {version}" "Link aggregation"'
+    head = ["'\\\" t", title, ".SH NAME", f"{name} \\- {escaped(purpose)}", ".ad l", ".nh", ".if n .pl 10000v"]
+    body = [row for kind, lines in blocks(unfenced(without(part_of(name)))) for row in roff(kind, lines)]
+    end = [".SH FILES", "The documents are in share/doc/niwhopera below the prefix."]
+    return "\n".join([*head, ".SH DESCRIPTION", *body, *end]) + "\n"

@@ -1,0 +1,51 @@
+"""The bonding driver of the kernel, in mode 802.3ad."""
+
+import re
+
+from checking import Failed
+from places import LINKS, place_for
+
+# Collecting and Distributing of a state octet.
+CARRIES = 0x30
+
+
+class Bonding:
+    name, mixes_keys = "bonding", False
+
+    def __init__(self, packages, folder):
+        self.place = place_for("bond", ["bonding"], packages, folder)
+
+    def version(self):
+        return f"Linux {self.place.kernel}"
+
+    def start(self):
+        self.place.start()
+        bond = ["bond0", "type", "bond", "mode", "802.3ad", "miimon", "100", "lacp_rate", "fast"]
+        told = self.place.run("ip", "link", "add", *bond)
+        for name in LINKS:
+            told += self.place.run("ip", "link", "set", name, "down")
+            told += self.place.run("ip", "link", "set", name, "master", "bond0")
+        told += self.place.run("ip", "link", "set", "bond0", "up")
+        if told.strip():
+            raise Failed("the bonding driver has two links", told)
+
+    def view(self):
+        return self.place.run("cat", "/proc/net/bonding/bond0")
+
+    def carrying(self):
+        """The links of its active aggregator whose actor collects and distributes."""
+        head, *parts = re.split(r"^Slave Interface: ", self.view(), flags=re.M)
+        active = re.search(r"Aggregator ID: (\d+)", head)
+        return {part.split()[0] for part in parts if active and self.carries(part, active[1])}
+
+    @staticmethod
+    def carries(part, active):
+        own = re.search(r"Aggregator ID: (\d+)", part)
+        state = re.search(r"details actor lacp pdu:.*?port state: (\d+)", part, re.S)
+        return bool(own and state and own[1] == active and int(state[1]) & CARRIES == CARRIES and "MII Status: up" in part)
+
+    def stop(self):
+        self.place.run("ip", "link", "del", "bond0")
+
+    def end(self):
+        self.place.stop()

@@ -1,0 +1,71 @@
+"""Packages of Debian, fetched into a cache folder and unpacked there; nothing is installed."""
+
+import glob
+import os
+import shutil
+import subprocess
+
+from checking import Skipped, command
+
+
+class Packages:
+    """What is unpacked, and the commands and versions in it. What the machine has is taken first."""
+
+    def __init__(self, cache, may_fetch):
+        self.cache, self.may_fetch, self.known = os.path.abspath(cache), may_fetch, False
+        self.root = os.path.join(self.cache, "root")
+
+    def apt(self, name, *words):
+        """One of apt's commands, over lists and archives of our own and the sources and installed packages of the machine."""
+        state = [f"Dir::State::Lists={self.cache}/lists", f"Dir::Cache={self.cache}/packages", "Debug::NoLocking=1"]
+        state += ["APT::Sandbox::User=root", "APT::Install-Recommends=0"]
+        return command(name, *(word for it in state for word in ("-o", it)), *words, cwd=f"{self.cache}/packages/archives")
+
+    def learn(self):
+        """Fetches the lists of packages, once a run."""
+        if self.known:
+            return
+        if not self.may_fetch or not shutil.which("apt-get") or not shutil.which("dpkg-deb"):
+            why = "no apt-get in PATH" if self.may_fetch else "nothing is fetched"
+            raise Skipped(f"not installed, and {why}")
+        for folder in "lists/partial", "packages/archives/partial", "root":
+            os.makedirs(f"{self.cache}/{folder}", exist_ok=True)
+        told = self.apt("apt-get", "update")
+        if told.returncode:
+            raise Skipped(f"apt-get update: {told.stderr.strip()[-200:]}")
+        self.known = True
+
+    def names(self, head):
+        """The packages whose names begin so."""
+        self.learn()
+        return sorted(self.apt("apt-cache", "pkgnames", head).stdout.split())
+
+    def needs(self, name):
+        """The packages that one needs itself, of those that there are."""
+        self.learn()
+        lines = self.apt("apt-cache", "depends", "--important", name).stdout.splitlines()
+        return [line.split()[-1] for line in lines if line.strip().startswith("Depends:") and "<" not in line]
+
+    def fetch(self, *names, alone=()):
+        """Fetches and unpacks packages with what they need, and some alone; what is unpacked already is not fetched again."""
+        done = os.path.join(self.cache, f"{'-'.join(names)[:80]}.done")
+        if os.path.exists(done):
+            return
+        self.learn()
+        for words in ["install", "--yes", "--download-only", *names], ["download", *alone]:
+            told = self.apt("apt-get", *words) if len(words) > 1 else None
+            if told and told.returncode:
+                raise Skipped(f"apt-get {' '.join(words)[:60]}: {told.stderr.strip()[-200:]}")
+        for archive in glob.glob(f"{self.cache}/packages/archives/*.deb"):
+            subprocess.run(["dpkg-deb", "-x", archive, self.root], check=True)
+        open(done, "w", encoding="utf-8").close()
+
+    def path(self, name):
+        """The file of a command, of the machine or unpacked."""
+        folders = [f"{self.root}/{it}" for it in ("usr/sbin", "usr/bin", "sbin", "bin", "usr/lib/openvswitch-switch")]
+        return shutil.which(name) or shutil.which(name, path=":".join([*folders, "/usr/lib/openvswitch-switch"]))
+
+    def environment(self):
+        """What the unpacked commands are run with, so that they find their libraries."""
+        libraries = glob.glob(f"{self.root}/usr/lib/*-linux-gnu*") + glob.glob(f"{self.root}/lib/*-linux-gnu*")
+        return {**os.environ, "LD_LIBRARY_PATH": ":".join(libraries)}

@@ -1,0 +1,122 @@
+"""DPDK's testpmd: a bonded device of mode 4 (802.3ad) over two packet sockets.
+
+Its LACPDUs go out only where a program sends something. So frames come to it on a third link, twenty each second, which it forwards
+to the bonded device.
+"""
+
+import os
+import re
+import select
+import subprocess
+import threading
+import time
+
+from checking import Failed, Skipped
+from spaces import THEIRS, ip, packet_socket
+
+STARTS = 30
+PROMPT = b"testpmd> "
+# The bonded device is port 3, after the links and the port that frames come from. A data frame to all, of a type for experiments.
+BONDED, EXPERIMENT = 3, 0x88B5
+DATA = b"\xff" * 6 + bytes.fromhex("0200000000dd") + EXPERIMENT.to_bytes(2, "big") + bytes(46)
+PAUSE = 0.05
+
+
+class Pump:
+    """Sends data frames, beside the run."""
+
+    def __init__(self):
+        ip(THEIRS, "link", "add", "d0", "type", "veth", "peer", "name", "d1")
+        for name in "d0", "d1":
+            ip(THEIRS, "link", "set", name, "up")
+        self.socket, self.ends = packet_socket(THEIRS, "d0", EXPERIMENT), threading.Event()
+        self.thread = threading.Thread(target=self.send, daemon=True)
+        self.thread.start()
+
+    def send(self):
+        while not self.ends.wait(PAUSE):
+            self.socket.send(DATA)
+
+    def stop(self):
+        self.ends.set()
+        self.thread.join()
+        self.socket.close()
+        ip(THEIRS, "link", "del", "d0")
+
+
+class Testpmd:
+    name, package = "DPDK testpmd", "dpdk-dev"
+    mixes_keys = True
+
+    def __init__(self, packages, folder):
+        self.packages, self.folder, self.process, self.pump = packages, os.path.join(folder, "testpmd"), None, None
+        os.makedirs(self.folder, exist_ok=True)
+        if not packages.path("dpdk-testpmd"):
+            needs = [it for it in packages.needs(self.package) if it not in ("libdpdk-dev", "python3")]
+            packages.fetch("dpdk", *packages.names("librte-net-af-packet"), *needs, alone=[self.package])
+        if not packages.path("dpdk-testpmd"):
+            raise Skipped("its package has no dpdk-testpmd")
+
+    def drivers(self):
+        """The folder of the drivers that it loads."""
+        for base in f"{self.packages.root}/usr/lib", "/usr/lib":
+            for folder, names, _ in os.walk(base):
+                found = [it for it in names if it.startswith("pmds-")]
+                if found and folder.endswith("/dpdk"):
+                    return f"{folder}/{found[0]}"
+        raise Skipped("no drivers of DPDK")
+
+    def version(self):
+        """It is told where it starts."""
+        with open(f"{self.folder}/log", encoding="utf-8") as log:
+            return re.search(r"RTE Version: 'DPDK (\d+\.\d[\d.]*)", log.read())[1]
+
+    def start(self):
+        self.pump = Pump()
+        words = ["ip", "netns", "exec", THEIRS, "nice", "stdbuf", "-oL", self.packages.path("dpdk-testpmd"), "-v", "-l", "0,1"]
+        words += ["--no-huge", "-m", "256", "--no-pci", "--no-telemetry", "--no-shconf", "-d", self.drivers()]
+        words += [f"--vdev=net_af_packet{port},iface={name}" for port, name in enumerate(("b0", "b1", "d1"))]
+        words += ["--vdev=net_bonding0,mode=4,slave=net_af_packet0,slave=net_af_packet1"]
+        words += ["--", "-i", "--no-lsc-interrupt", "--portmask=0xc", "--total-num-mbufs=4096"]
+        with open(f"{self.folder}/log", "a", encoding="utf-8") as log:
+            pipes = {"stdin": subprocess.PIPE, "stdout": subprocess.PIPE, "stderr": log}
+            self.process = subprocess.Popen(words, env=self.packages.environment(), **pipes)
+        self.answer()
+        self.ask("start")
+
+    def answer(self):
+        """What it prints until it waits for the next line."""
+        told, until = b"", time.monotonic() + STARTS
+        while not told.endswith(PROMPT):
+            ready = select.select([self.process.stdout], [], [], max(0, until - time.monotonic()))[0]
+            part = os.read(self.process.stdout.fileno(), 65536) if ready else b""
+            if not part:
+                raise Failed("testpmd answers", told.decode(errors="replace"))
+            told += part
+        return told.decode(errors="replace")
+
+    def ask(self, line):
+        self.process.stdin.write(line.encode() + b"\n")
+        self.process.stdin.flush()
+        return self.answer()
+
+    def carrying(self):
+        """The links whose LACP collects and distributes, by what it says of its own side. It calls a link active before that."""
+        states = re.findall(r"Slave Port: (\d)\b.*?port state: ([ A-Z]*)", self.view(), re.S)
+        return {f"b{port}" for port, state in states if "COLLECTING DISTRIBUTING" in state}
+
+    def stop(self):
+        if not self.process:
+            return
+        self.process.kill()
+        self.process.wait()
+        self.process.stdin.close()
+        self.process.stdout.close()
+        self.process = None
+        self.pump.stop()
+
+    def end(self):
+        self.stop()
+
+    def view(self):
+        return self.ask(f"show bonding lacp info {BONDED}")
