@@ -10,7 +10,7 @@ from concurrent.futures import ThreadPoolExecutor
 from lanes import lanes
 from repository import CRATES, RT, Missing, below, crates, say
 
-LASTS = "its proof goes on behind, 12 to 25 minutes on 4 processors, less after an earlier check"
+LASTS = "its proof goes on behind, 12 to 30 minutes on 4 processors, less after an earlier check"
 # The most jobs that rt takes for a check of its own accord.
 JOBS = 4
 

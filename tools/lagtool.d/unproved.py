@@ -14,9 +14,9 @@ ENDED = re.compile(rb"^run=ended status=(\d+) .*\n\Z", re.M)
 ADDED = re.compile(rb"(?:^(?:rt|interpreter|checked|races|run)[:=].*\n)+\Z", re.M)
 
 
-def is_stream(word):
-    """Whether a word names what is neither a file nor a folder."""
-    return os.path.exists(word) and not os.path.isfile(word) and not os.path.isdir(word)
+def is_apart(word):
+    """Whether a word names what a copy can't stand for: a stream, a folder, or a file that may not be read."""
+    return os.path.exists(word) and not (os.path.isfile(word) and os.access(word, os.R_OK))
 
 
 class Trial:
@@ -24,11 +24,13 @@ class Trial:
 
     def __init__(self, name, words, given):
         self.given = given
-        self.files = {word: f"file-{number}" for number, word in enumerate(words[1:]) if os.path.isfile(word)}
-        # What can be read once only is left to the proved program.
-        self.is_able = not any(it.startswith(("/dev/", "/proc/")) or is_stream(it) for it in words[1:])
+        # Behind the options and the subcommand a word may name a file.
+        first = next((place + 1 for place, word in enumerate(words) if not word.startswith("-")), len(words))
+        self.files = {word: f"file-{number}" for number, word in enumerate(words[first:]) if os.path.isfile(word)}
+        # What can be read once only, or not at all, is left to the proved program.
+        self.is_able = not any(it.startswith(("/dev/", "/proc/")) or is_apart(it) for it in words[first:])
         copies = [it for word, copy in self.files.items() for it in ("--data", f"{copy}={os.path.abspath(word)}")]
-        self.words = [RT, "try", *copies, "--", *(words[:1] + [self.files.get(it, it) for it in words[1:]])]
+        self.words = [RT, "try", *copies, "--", *(words[:first] + [self.files.get(it, it) for it in words[first:]])]
         self.folder = os.path.join(CRATES, name)
 
     def __enter__(self):
