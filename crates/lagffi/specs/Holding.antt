@@ -1,4 +1,4 @@
--- The system of a handle, and how its conversations pick their ports.
+-- The system of a handle, and how its conversations pick their ports (profile).
 use Rattle.std.specs.Prelude.{ℕ, Option, None, Some}
 use Rattle.lagsystem.specs.State.{SystemState, SystemValue}
 use Rattle.lagffi.specs.declared.stored.StoredSystem.{StoredSystem}

@@ -1,4 +1,4 @@
--- Lists in a buffer.
+-- Lists in a buffer (profile).
 use Rattle.std.specs.Prelude.{ℕ, List, ◌++◌, drop, length}
 
 -- the places of a buffer for what is told of each port

@@ -1,4 +1,4 @@
--- Masks of ports. Their lowest bit tells of the first port, in the order of the port numbers.
+-- Masks of ports. Their lowest bit tells of the first port, in the order of the port numbers (profile).
 use Rattle.std.specs.Prelude.{ℕ, ◌+◌, ◌*◌, Bool, false, cond, List, [], ◌∷◌, map, Option, None, Some}
 use Rattle.lagsystem.specs.Hosts.{would_transmit_at}
 use Rattle.lagsystem.specs.State.{SystemState}

@@ -1,4 +1,4 @@
--- What there is to show of a port, and which ports show something else than before.
+-- What there is to show of a port, and which ports show something else than before (profile).
 use Rattle.std.specs.Prelude.{ℕ, ◌==◌, ◌&&◌, Bool, false, not, List, [], ◌∷◌, map, Option, None, Some}
 use Rattle.std.specs.Str.{bytes_eq}
 use Rattle.lagtypes.specs.Choices.{is_standby}

@@ -1,4 +1,4 @@
--- Ticks in turn.
+-- Ticks in turn (profile).
 use Rattle.std.specs.Prelude.{◌≡◌, ℕ, zero, suc}
 use Rattle.lagsystem.specs.declared.drive.Reply.TheVariants as reply
 use Rattle.lagsystem.specs.Calls.{Tick}

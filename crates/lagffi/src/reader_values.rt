@@ -107,7 +107,7 @@ pub(crate) fn choice_number(choice: Choice) -> u16
     }
 }
 
-/// The same, or that there is no such port.
+/// The number of the aggregator of a choice, or that there is no such port.
 pub(crate) fn choice_or_no_port(answer: Option<Choice>) -> LagNumber
     ensures { result ≡ choice_or_no_port answer }
 {
@@ -127,7 +127,7 @@ pub(crate) fn is_standby(choice: Choice) -> bool
     }
 }
 
-/// The same, or that there is no such port.
+/// Whether a choice is STANDBY, or that there is no such port.
 pub(crate) fn standby_or_no_port(answer: Option<Choice>) -> LagTruth
     ensures { result ≡ standby_or_no_port answer }
 {

@@ -190,7 +190,8 @@ pub struct LagReceived {
     pub status: u32,
     /// 0 Disabled, 1 Dropped, 2 Ignored, 3 TookLacpdu, 4 Respond, 5 Released, 6 Up.
     pub what: u32,
-    /// Of 2 the number of the fault, 1 to 4; of 4 the octets of the response; of 5 how many conversations were released; of 6 the aggregator; else 0.
+    /// Of 2 the number of the fault, 1 to 4; of 4 the octets of the response; of 5 how many conversations were released; of 6
+    /// the aggregator; else 0.
     pub number: u32,
 }
 

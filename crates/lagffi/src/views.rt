@@ -22,7 +22,7 @@ use lagsystem::{PortStatus, System};
 use portmachines::Port;
 use std::alloc::Global;
 
-/// What there is to show of a port: no timer, and nothing that changes without a cause.
+/// What there is to show of a port: no timer, and nothing that changes from tick to tick.
 #[repr(C)]
 #[derive(Clone, Copy, Default, PartialEq, Eq)]
 pub struct LagView {

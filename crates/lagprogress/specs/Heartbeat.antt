@@ -1,4 +1,4 @@
--- An active port whose link stays up is heard: after 309 ticks in which it sent no LACPDU, one is due.
+-- An active port whose link stays up is heard: after 309 ticks in which it sent no LACPDU, one is due (6.4.13, 6.4.16).
 use Rattle.std.specs.Prelude.{◌≡◌, ◌≤◌, ◌==◌, ◌&&◌, ℕ, ◌+◌, Bool, true, false, not, List, [], ◌∷◌, Some, slice_get}
 use Rattle.portmachines.specs.Transmit.{is_due}
 use Rattle.lagsystem.specs.declared.drive.Reply.{Reply}

@@ -1,4 +1,4 @@
--- What holds of both systems of each world that events lead to.
+-- What holds of both systems of each world that events lead to (profile).
 use Rattle.std.specs.Prelude.{ℕ, List}
 use Rattle.lagmodel.specs.World.{Side}
 use Rattle.lagsystem.specs.declared.config.Config.{Config}

@@ -7,8 +7,8 @@
 
 ghost use Rattle.lagprogress.specs.Silence.{SilenceEnds};
 
-/// An active port whose link is up is not silent for long: how many ticks remain until NTT is true, no firing of the
-/// periodic machine raises; each tick lowers it by one; and where none remain NTT is true (6.4.13).
+/// An active port whose link is up is not silent for long: no run of the periodic machine raises the bound on the ticks
+/// until NTT is true; each tick lowers it by one; and at 0 NTT is true (6.4.13).
 pub fn silence_ends()
     ensures { SilenceEnds }
 {}

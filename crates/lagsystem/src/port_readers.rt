@@ -30,7 +30,7 @@ impl<F: Fn(u16, usize) -> usize + Drop> Inner<F> {
 }
 
 impl<F: Fn(u16, usize) -> usize + Drop> System<F> {
-    /// The machines of a port, to be read: all that the readers of a port tell; None if there is no such port.
+    /// The machines of a port, to be read: all that the readers of a port tell; None if there is no such port (profile).
     pub fn machines(&self, port: u16) -> Option<&Port>
         ensures { MatchOption result (machines_of port self.now.state ≡ None) (λ p. machines_of port self.now.state ≡ Some p.now) }
     {

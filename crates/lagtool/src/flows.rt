@@ -12,7 +12,9 @@ use std::alloc::{AllocError, Global};
 /// How many aggregators a system has, and how many conversations each of them has.
 #[derive(Clone, Copy)]
 pub(crate) struct Counts {
+    /// How many aggregators there are; they are numbered from 1.
     pub(crate) aggregators: u16,
+    /// How many conversations each aggregator has; they are numbered from 0.
     pub(crate) conversations: u16,
 }
 

@@ -1,4 +1,4 @@
--- Which events take no memory.
+-- Which events take no memory (profile).
 use Rattle.std.specs.Prelude.{◌≡◌, ℕ, false}
 use Rattle.lagtypes.specs.declared.identifiers.AggId.{AggId}
 use Rattle.lagsystem.specs.declared.config.PortChange.{PortChange}

@@ -1,4 +1,4 @@
--- An event has one reply and leads to one world.
+-- An event has one reply and leads to one world (profile).
 use Rattle.std.specs.Prelude.{◌≡◌, ◌≤◌, List}
 use Rattle.lagmodel.specs.World.{Side}
 use Rattle.lagsystem.specs.OneAnswer.{IsFunction, SameState}

@@ -49,8 +49,8 @@ ghost use Rattle.lagsystem.specs.OneAnswer.{IsFunction};
 ghost use Rattle.lagworld.specs.OneReply.{OneHistory, OneReply};
 
 /// An event that acts has exactly one reply and leads to exactly one world, and so does a list of events, if each
-/// algorithm returns one index for each conversation and count of ports. The worlds are equal, but that of each system
-/// just what `each_call_has_one_answer` of `lagsystem` says is equal. Whether memory is refused is left open (profile).
+/// algorithm returns one index for each conversation and count of ports. The worlds are equal; of each system, what
+/// `each_call_has_one_answer` of `lagsystem` says is equal. Whether memory is refused is left open (profile).
 pub fn each_event_has_one_reply<F: Fn(u16, usize) -> usize>()
     ensures event { (one two : F) → IsFunction (F.post one) → IsFunction (F.post two)
         → OneReply (both_algorithms (F.post one) (F.post two)) }
