@@ -210,7 +210,7 @@ is_defaulted most n Current l w = absurd (omega (arith, w.1, l))
 pub is_noticed : (gives : ℕ → ℕ → ℕ → Type 0) → IsNoticed gives
 is_noticed gives old new calls replies i x y s t at up h u there =
     let awake = can_receive_at_rest x.port
-        (all-get (λ (z : SystemPort). none_enabled receive_rows z.port ≡ true) old.system_ports i x at s.rested.0) in
+    (all-get (λ (z : SystemPort). none_enabled receive_rows z.port ≡ true) old.system_ports i x at s.rested.0) in
     let timed = all-get (λ (z : SystemPort). IsTimed z.port) old.system_ports i x at t in
     let most = timeout_time x.port.short + 30 in
     let first : UnheardFor most 0 x.port = (

@@ -216,7 +216,7 @@ begins old mid v i w x s at up h there =
     let q = h.1.0.1 in
     let same : w ≡ z = same_Some w z (sym at ∙ h.1.0.2) in
     let awake = can_receive_at_rest z.port
-        (all-get (λ (c : SystemPort). none_enabled receive_rows c.port ≡ true) old.system_ports i z h.1.0.2 s.rested.0) in
+    (all-get (λ (c : SystemPort). none_enabled receive_rows c.port ≡ true) old.system_ports i z h.1.0.2 s.rested.0) in
     let first = recorded v z.port q (subst (λ (c : SystemPort). c.port.enabled ≡ true) same up) awake h.1.0.3 in
     let after : SystemPort = record z { port = q } in
     let rises : Rises 0 (port_numbers h.0.system_ports) =
