@@ -1,10 +1,13 @@
 -- Ports choose one after another, and the list of views stays equal to their views.
-use Rattle.std.proofs.Common.{◌≡◌, ◌∙◌, ℕ, zero, suc, ◌<◌, Bool, false, List, [], ◌∷◌, length, Option, Some, None, get_or, slice_get}
+use Rattle.std.proofs.Common.{◌≡◌, ◌∙◌, ℕ, zero, suc, ◌<◌, Bool, true, false, ◌&&◌, ◌||◌, not, List, [], ◌∷◌, length, Option, Some, None, get_or, slice_get}
 use Rattle.std.proofs.Common.{slice_set, refl, subst, ap, arith}
 use Rattle.std.specs.List.{list_any}
 use Rattle.std.proofs.lemmas.Option.{same_Some}
 use Rattle.lagtypes.specs.declared.party.Choice.{Choice}
-use Rattle.selection.specs.Views.{is_eligible}
+use Rattle.lagtypes.specs.declared.party.Choice.TheVariants.{Unselected, Selected, Standby}
+use Rattle.lagtypes.specs.Choices.{is_selected, is_unselected}
+use Rattle.lagtypes.specs.Same.{same_system}
+use Rattle.selection.specs.Views.{is_detached, is_eligible}
 use Rattle.selection.specs.declared.view.PortView.{PortView}
 use Rattle.selection.specs.Limits.{AggregatorsValue}
 use Rattle.lagsystem.specs.declared.system_ports.SystemPort.{SystemPort}
@@ -49,3 +52,24 @@ pub none_chosen : (aggs : AggregatorsValue) (n : ℕ) (system_ports : List Syste
 none_chosen aggs zero system_ports h = refl
 none_chosen aggs (suc n) system_ports h = subst (λ l. system_ports ≡ after_choice_at aggs l n (slice_get l n))
     (none_chosen aggs n system_ports h) (stays_at aggs system_ports n (slice_get system_ports n) h refl)
+
+-- where each port is SELECTED, none is eligible
+selected_not_eligible : (v : PortView) → not (is_selected v.choice) ≡ false → is_eligible v ≡ false
+selected_not_eligible v h = chosen v.choice h
+  where
+    middle : (a b c : Bool) → b ≡ false → ((a && b) && c) ≡ false
+    middle true b c e = ap (λ x. x && c) e
+    middle false b c e = refl
+
+    chosen : (choice : Choice) → not (is_selected choice) ≡ false
+        → ((((v.enabled && v.settled) && is_detached v.stage) && is_unselected choice) && not (same_system v.partner.system v.party.system)) ≡ false
+    chosen Unselected e = absurd cc
+    chosen (Standby agg) e = absurd cc
+    chosen (Selected agg) e =
+        middle ((v.enabled && v.settled) && is_detached v.stage) false (not (same_system v.partner.system v.party.system)) refl
+
+pub none_left_eligible : (l : List SystemPort) → list_any (λ s. not (is_selected s.port.choice)) l ≡ false → one_eligible l ≡ false
+none_left_eligible [] h = refl
+none_left_eligible (s ∷ ss) h =
+    let both = or_false (not (is_selected s.port.choice)) (list_any (λ s. not (is_selected s.port.choice)) ss) h in
+    ap (λ b. b || one_eligible ss) (selected_not_eligible (selection_view s) both.0) ∙ none_left_eligible ss both.1

@@ -1,11 +1,14 @@
 -- What promoting the STANDBY port that comes next does.
-use Rattle.std.proofs.Common.{◌≡◌, ◌∙◌, ℕ, zero, suc, ◌+◌, ◌<◌, ◌≤◌, Bool, true, false, cond, List, [], ◌∷◌, ◌&&◌, ⊎_elim, length}
+use Rattle.std.proofs.Common.{◌≡◌, ◌∙◌, ℕ, zero, suc, ◌+◌, ◌<◌, ◌≤◌, Bool, true, false, cond, not, List, [], ◌∷◌, ◌&&◌, ⊎_elim, length}
 use Rattle.std.proofs.Common.{filter, Option, None, Some, refl, sym}
 use Rattle.std.proofs.Common.{ap, subst, arith, slice_get, slice_set}
+use Rattle.std.specs.List.{list_any}
 use Rattle.std.proofs.lemmas.Bool.{cases_eq, false≢true}
 use Rattle.std.proofs.lemmas.Option.{none-some, same_Some}
 use Rattle.lagtypes.specs.declared.identifiers.AggId.{AggId}
-use Rattle.lagtypes.specs.declared.party.Choice.TheVariants.{Selected, Standby}
+use Rattle.lagtypes.specs.Choices.{is_selected}
+use Rattle.lagtypes.specs.declared.party.Choice.{Choice}
+use Rattle.lagtypes.specs.declared.party.Choice.TheVariants.{Unselected, Selected, Standby}
 use Rattle.lagtypes.proofs.SameLemmas.{itself}
 use Rattle.selection.specs.Choice.{is_aggregator, ports_that_chose}
 use Rattle.selection.specs.Limits.{AggregatorsValue, has_room, is_below, next_standby_index}
@@ -18,6 +21,7 @@ use Rattle.lagsystem.specs.Readers.{aggregator_numbered}
 use Rattle.lagsystem.specs.Settling.{PromotesAll, PromotesFirst, PromotesNext, with_choice}
 use Rattle.lagsystem.specs.Views.{selection_view, views}
 use Rattle.lagsystem.proofs.Limiting.{next_stands}
+use Rattle.lagsystem.proofs.SettlingLemmas.{or_false}
 
 within_views : (l : List SystemPort) (i : ℕ) (v : PortView) → slice_get (views l) i ≡ Some v → i < length l
 within_views [] i v e = absurd (none-some v e)
@@ -118,3 +122,21 @@ full_no_room aggs l agg full = and_right (is_aggregator aggs.keys agg) _
 -- the aggregator of a STANDBY port
 pub same_standby : (a b : AggId) → Standby a ≡ Standby b → a ≡ b
 same_standby a b e = cc
+
+-- where each port is SELECTED, none comes next
+pub none_left_standby : (aggs : AggregatorsValue) (l : List SystemPort) → list_any (λ s. not (is_selected s.port.choice)) l ≡ false
+    → (agg : AggId) → next_standby_index aggs (views l) agg ≡ None
+none_left_standby aggs l h = none_next aggs l (length l) (omega arith)
+    (λ k s agg lt e stands. absurd (false≢true (ap is_selected (sym stands) ∙ each l k s h e)))
+  where
+    selected : (c : Choice) → not (is_selected c) ≡ false → is_selected c ≡ true
+    selected Unselected e = absurd cc
+    selected (Selected agg) e = refl
+    selected (Standby agg) e = absurd cc
+
+    each : (l : List SystemPort) (k : ℕ) (s : SystemPort) → list_any (λ s. not (is_selected s.port.choice)) l ≡ false → slice_get l k ≡ Some s
+        → is_selected s.port.choice ≡ true
+    each [] k s e there = absurd (none-some s there)
+    each (x ∷ xs) zero s e there =
+        subst (λ (y : SystemPort). is_selected y.port.choice ≡ true) (same_Some x s there) (selected x.port.choice (or_false _ _ e).0)
+    each (x ∷ xs) (suc k) s e there = each xs k s (or_false _ _ e).1 there

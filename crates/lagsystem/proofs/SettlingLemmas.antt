@@ -3,6 +3,7 @@ use Rattle.std.proofs.Common.{◌≡◌, ℕ, Bool, true, false, ◌||◌, ◌&&
 use Rattle.std.proofs.Common.{subst, ap, if◌then◌else◌, filter, slice_get, slice_set, ℕ, zero, suc, option_map}
 use Rattle.std.proofs.lemmas.Option.{same_Some}
 use Rattle.std.specs.List.{list_all, list_any}
+use Rattle.lagtypes.specs.Choices.{is_selected}
 use Rattle.lagtypes.specs.declared.identifiers.AggId.{AggId}
 use Rattle.lagtypes.specs.declared.identifiers.Key.{Key}
 use Rattle.lagtypes.specs.declared.party.Choice.{Choice}
@@ -34,17 +35,26 @@ pub or_false : (b c : Bool) → (b || c) ≡ false → (b ≡ false) × (c ≡ f
 or_false true c h = cc
 or_false false c h = (refl, h)
 
-none_filtered : (b : Bool) (v : PortView) (rest : List PortView) → has_waited v.stage ≡ false → one_expired rest ≡ false
-    → one_expired (cond b (v ∷ rest) rest) ≡ false
-none_filtered true v rest h k = ap (λ x. x || one_expired rest) h ∙ k
-none_filtered false v rest h k = k
+-- a SELECTED port in WAITING with wait_while expired
+abbrev pub member_has_waited : SystemPort → Bool
+member_has_waited s = is_selected s.port.choice && has_waited (selection_view s).stage
 
-none_given : (agg : AggId) (system_ports : List SystemPort) → list_any (λ s. has_waited (selection_view s).stage) system_ports ≡ false
+none_filtered : (agg : AggId) (c : Choice) (v : PortView) (rest : List PortView) → (is_selected c && has_waited v.stage) ≡ false
+    → one_expired rest ≡ false → one_expired (cond (has_chosen agg c) (v ∷ rest) rest) ≡ false
+none_filtered agg Unselected v rest h k = k
+none_filtered agg (Standby given) v rest h k = k
+none_filtered agg (Selected given) v rest h k = one (has_chosen agg (Selected given))
+  where
+    one : (b : Bool) → one_expired (cond b (v ∷ rest) rest) ≡ false
+    one true = ap (λ x. x || one_expired rest) h ∙ k
+    one false = k
+
+none_given : (agg : AggId) (system_ports : List SystemPort) → list_any (λ s. member_has_waited s) system_ports ≡ false
     → one_expired (ports_that_chose agg (views system_ports)) ≡ false
 none_given agg [] h = refl
 none_given agg (s ∷ ss) h =
-    let both = or_false (has_waited (selection_view s).stage) (list_any (λ s. has_waited (selection_view s).stage) ss) h in
-    none_filtered (has_chosen agg s.port.choice) (selection_view s) (ports_that_chose agg (views ss)) both.0 (none_given agg ss both.1)
+    let both = or_false (member_has_waited s) (list_any (λ s. member_has_waited s) ss) h in
+    none_filtered agg s.port.choice (selection_view s) (ports_that_chose agg (views ss)) both.0 (none_given agg ss both.1)
 
 none_known : (b : Bool) (xs : List PortView) → one_expired xs ≡ false → one_expired (if b then xs else []) ≡ false
 none_known true xs h = h
@@ -63,8 +73,8 @@ none_has_waited (v ∷ vs) h =
     let both = or_false (has_waited v.stage) (one_expired vs) h in
     first_has_not (is_detached_or_waiting v.stage) v vs both.0 (none_has_waited vs both.1)
 
--- if no port has waited long enough, no aggregator is Ready
-pub no_ready : (keys : List Key) (system_ports : List SystemPort) → list_any (λ s. has_waited (selection_view s).stage) system_ports ≡ false
+-- if no member has waited long enough, no aggregator is Ready
+pub no_ready : (keys : List Key) (system_ports : List SystemPort) → list_any (λ s. member_has_waited s) system_ports ≡ false
     → (c : Choice) → ready_of keys (views system_ports) c ≡ false
 no_ready keys system_ports h Unselected = refl
 no_ready keys system_ports h (Standby agg) = refl
@@ -72,7 +82,7 @@ no_ready keys system_ports h (Selected agg) =
     none_has_waited (members keys (views system_ports) agg) (none_known (is_aggregator keys agg) (ports_that_chose agg (views system_ports))
     (none_given agg system_ports h))
 
-pub runs_unready : (keys : List Key) (olds news : List SystemPort) → list_any (λ s. has_waited (selection_view s).stage) olds ≡ false
+pub runs_unready : (keys : List Key) (olds news : List SystemPort) → list_any (λ s. member_has_waited s) olds ≡ false
     → PortsChangeBy (RunsToRest (mux_rows false)) olds news
     → PortsChangeBy (λ p q. RunsToRest (mux_rows (ready_of keys (views olds) p.choice)) p q) olds news
 runs_unready keys olds news none h =

@@ -1,5 +1,6 @@
-ghost use Rattle.std.specs.Prelude.{◌≡◌, ◌≤◌, ◌<◌, length, false, slice_get};
+ghost use Rattle.std.specs.Prelude.{◌≡◌, ◌≤◌, ◌<◌, ◌&&◌, not, length, false, slice_get};
 ghost use Rattle.std.specs.List.{list_any};
+ghost use Rattle.lagtypes.specs.Choices.{is_selected};
 ghost use Rattle.portmachines.specs.Rows.{RunsToRest};
 ghost use Rattle.portmachines.specs.Mux.{mux_rows};
 ghost use Rattle.portmachines.specs.Periodic.{RunsPeriodic};
@@ -10,7 +11,7 @@ ghost use Rattle.lagsystem.specs.Settling.{ChoosesIn, choice_in};
 ghost use Rattle.lagsystem.specs.State.{SystemState, aggregators_value, with_system_ports};
 
 use crate::promoting::{may_promote, promote_each};
-use crate::system_ports::{SystemPort, has_waited, is_eligible, views};
+use crate::system_ports::{SystemPort, is_eligible, is_selected, member_has_waited, views};
 use lagtypes::{AggId, Choice};
 use selection::{Aggregators, PortView};
 
@@ -28,6 +29,15 @@ fn run_mux_not_ready(system_ports: &mut [SystemPort])
     for system_port in system_ports.iter_mut() {
         run_mux_rows(system_port, false);
     }
+}
+
+/// Whether some port is not SELECTED. Where each is, none is promoted and none chooses.
+fn any_not_selected(system_ports: &[SystemPort]) -> bool
+    ensures { result ≡ list_any (λ s. not (is_selected s.port.choice)) system_ports.now }
+{
+    system_ports
+        .iter()
+        .any(|system_port| !is_selected(system_port))
 }
 
 /// Whether some port may choose an aggregator.
@@ -94,6 +104,16 @@ fn choose_all(aggregators: &Aggregators, system_ports: &mut [SystemPort])
     requires { length system_ports.old ≤ 64 }
     ensures { ChoosesIn aggregators.now system_ports.old system_ports.new }
 {
+    if any_not_selected(system_ports) {
+        choose_some(aggregators, system_ports);
+    }
+}
+
+/// The same where some port is not SELECTED.
+fn choose_some(aggregators: &Aggregators, system_ports: &mut [SystemPort])
+    requires { length system_ports.old ≤ 64 }
+    ensures { ChoosesIn aggregators.now system_ports.old system_ports.new }
+{
     if may_promote(aggregators, system_ports) {
         promote_and_choose(aggregators, system_ports);
     } else if any_eligible(system_ports) {
@@ -123,13 +143,13 @@ fn choose_only(aggregators: &Aggregators, system_ports: &mut [SystemPort])
     choose_each(aggregators, system_ports, port_views.as_mut_slice());
 }
 
-/// Whether some port is in WAITING and its wait_while has expired.
-fn any_waited(system_ports: &[SystemPort]) -> bool
-    ensures { result ≡ list_any (λ s. has_waited (selection_view s).stage) system_ports.now }
+/// Whether some member of an aggregator is in WAITING and its wait_while has expired.
+fn any_member_has_waited(system_ports: &[SystemPort]) -> bool
+    ensures { result ≡ list_any (λ s. is_selected s.port.choice && has_waited (selection_view s).stage) system_ports.now }
 {
     system_ports
         .iter()
-        .any(|system_port| has_waited(system_port))
+        .any(|system_port| member_has_waited(system_port))
 }
 
 /// Steps 3 and 4: Ready is worked out for every aggregator; then each mux machine runs with it.
@@ -138,15 +158,15 @@ fn run_mux(aggregators: &Aggregators, system_ports: &mut [SystemPort])
     ensures { PortsChangeBy (λ p q. RunsToRest (mux_rows (ready_of aggregators.now.keys (views system_ports.old) p.choice)) p q)
         system_ports.old system_ports.new }
 {
-    if any_waited(system_ports) {
+    if any_member_has_waited(system_ports) {
         run_mux_by_ready(aggregators, system_ports);
     } else {
-        // An aggregator can only be Ready if a member has waited long enough.
+        // An aggregator can only be Ready if a member has waited long enough. STANDBY ports stay in WAITING.
         run_mux_not_ready(system_ports);
     }
 }
 
-/// The same where some port has waited.
+/// The same where some member has waited.
 #[inline(never)]
 fn run_mux_by_ready(aggregators: &Aggregators, system_ports: &mut [SystemPort])
     requires { length system_ports.old ≤ 64 }
@@ -204,8 +224,8 @@ fn run_each_periodic(system_ports: &mut [SystemPort])
 
 /// Steps 1 to 5 of settling (profile), which read and change ports only. The cost is linear in the ports, except in two
 /// cases. For each eligible port the views of all ports are searched for an aggregator; a port that finds none is tried
-/// again in each settling. And if some port is in WAITING with wait_while expired, the views are searched once for each
-/// SELECTED port. Step 6, the conversations, is in holding.rt.
+/// again in each settling. And if some SELECTED port is in WAITING with wait_while expired, the views are searched once for
+/// each SELECTED port. Step 6, the conversations, is in holding.rt.
 pub(crate) fn settle_ports(aggregators: &Aggregators, system_ports: &mut [SystemPort])
     requires { length system_ports.old ≤ 64 }
     ensures { (base : SystemState) → aggregators_value base ≡ aggregators.now → base.system_ports ≡ system_ports.old

@@ -1,13 +1,14 @@
-ghost use Rattle.std.specs.Prelude.{◌≡◌, ◌<◌, ◌≤◌, IfSome, length};
+ghost use Rattle.std.specs.Prelude.{◌≡◌, ◌<◌, ◌≤◌, ◌&&◌, IfSome, length};
 ghost use Rattle.std.specs.List.Sorted.{IsStrictlyIncreasing};
 ghost use Rattle.lagsystem.specs.Views.{stage_of, selection_view, views};
 ghost use Rattle.lagsystem.specs.State.{port_index, port_numbers};
 ghost use Rattle.lagsystem.specs.First.{HasJustStarted, setup_of};
+ghost use Rattle.lagtypes.specs.Choices.{is_selected};
 ghost use Rattle.selection.specs.Views.{has_waited, is_eligible};
 
 use crate::config::PortConfig;
 use arrayvec::ArrayVec;
-use lagtypes::{Party, PortId, SystemId};
+use lagtypes::{Choice, Party, PortId, SystemId};
 use portmachines::{MuxState, Port, ReceiveState, Setup};
 use selection::{PortView, Stage};
 
@@ -88,11 +89,21 @@ pub(crate) fn is_eligible(system_port: &SystemPort) -> bool
     selection_view(system_port).is_eligible()
 }
 
-/// Whether a port is in WAITING and wait_while has expired.
-pub(crate) fn has_waited(system_port: &SystemPort) -> bool
-    ensures { result ≡ has_waited (selection_view system_port.now).stage }
+/// Whether a port is SELECTED.
+pub(crate) fn is_selected(system_port: &SystemPort) -> bool
+    ensures { result ≡ is_selected system_port.now.port.choice }
 {
-    selection_view(system_port).has_waited()
+    match system_port.port.choice() {
+        Choice::Selected(_) => true,
+        Choice::Unselected | Choice::Standby(_) => false,
+    }
+}
+
+/// Whether a port is SELECTED, in WAITING, and wait_while has expired.
+pub(crate) fn member_has_waited(system_port: &SystemPort) -> bool
+    ensures { result ≡ (is_selected system_port.now.port.choice && has_waited (selection_view system_port.now).stage) }
+{
+    is_selected(system_port) && selection_view(system_port).has_waited()
 }
 
 /// The start values of a port's machines, from its configuration.

@@ -1,23 +1,17 @@
-use Rattle.std.proofs.Common.{◌∙◌, sym, length}
-use Rattle.std.proofs.lemmas.Bool.{OnFalse_at}
-use Rattle.lagsystem.proofs.Choosing.{none_chosen}
+use Rattle.std.proofs.Common.{◌≡◌, ◌∙◌, Bool, false, length, not, sym}
+use Rattle.std.specs.List.{list_any}
+use Rattle.lagtypes.specs.Choices.{is_selected}
+use Rattle.lagsystem.proofs.Choosing.{none_chosen, none_left_eligible}
 use Rattle.lagsystem.proofs.Limiting.{nothing_promoted}
+use Rattle.lagsystem.proofs.NextLemmas.{none_left_standby}
 use Rattle.lagsystem.proofs.settling.choose_all.Goals as goal
 
-pub returns-then-any_eligible : goal.returns-then-any_eligible
-returns-then-any_eligible c =
-    let system_ports = c.args.system_ports.now in (
-      system_ports,
-      nothing_promoted c.args.aggregators.now (length c.args.aggregators.now.keys) system_ports
-          (OnFalse_at c.if-may_promote.false c.may_promote.ensures),
-      c.choose_only.ensures,
-    )
-
-pub returns-else-any_eligible : goal.returns-else-any_eligible
-returns-else-any_eligible c =
-    let system_ports = c.args.system_ports.now in
-    let aggs = c.args.aggregators.now in (
-      system_ports,
-      nothing_promoted aggs (length aggs.keys) system_ports (OnFalse_at c.if-may_promote.false c.may_promote.ensures),
-      none_chosen aggs (length system_ports) system_ports (sym c.any_eligible.ensures ∙ c.if-any_eligible.false),
+pub returns-else-any_not_selected : goal.returns-else-any_not_selected
+returns-else-any_not_selected c =
+    let l = c.args.system_ports.now in
+    let aggs = c.args.aggregators.now in
+    let none : list_any (λ s. not (is_selected s.port.choice)) l ≡ false = sym c.any_not_selected.ensures ∙ c.if-any_not_selected.false in (
+      l,
+      nothing_promoted aggs (length aggs.keys) l (none_left_standby aggs l none),
+      none_chosen aggs (length l) l (none_left_eligible l none),
     )
