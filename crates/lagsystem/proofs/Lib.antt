@@ -5,6 +5,7 @@ pub mod PromotionLemmas
 pub mod Occupying
 pub mod Limiting
 pub mod NextLemmas
+pub mod MemberCounts
 pub mod ForcingLemmas
 pub mod StateLemmas
 pub mod TableLemmas

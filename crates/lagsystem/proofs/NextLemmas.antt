@@ -1,12 +1,12 @@
 -- What promoting the STANDBY port that comes next does.
-use Rattle.std.proofs.Common.{◌≡◌, ◌∙◌, ℕ, zero, suc, ◌+◌, ◌<◌, ◌≤◌, Bool, true, false, cond, not, List, [], ◌∷◌, ◌&&◌, ⊎_elim, length}
+use Rattle.std.proofs.Common.{◌≡◌, ◌∙◌, ℕ, zero, suc, ◌+◌, ◌<◌, ◌≤◌, Bool, true, false, cond, not, List, [], ◌∷◌, ◌&&◌, ◌||◌, ⊎_elim, length}
 use Rattle.std.proofs.Common.{filter, Option, None, Some, refl, sym}
 use Rattle.std.proofs.Common.{ap, subst, arith, slice_get, slice_set}
 use Rattle.std.specs.List.{list_any}
 use Rattle.std.proofs.lemmas.Bool.{cases_eq, false≢true}
 use Rattle.std.proofs.lemmas.Option.{none-some, same_Some}
 use Rattle.lagtypes.specs.declared.identifiers.AggId.{AggId}
-use Rattle.lagtypes.specs.Choices.{is_selected}
+use Rattle.lagtypes.specs.Choices.{is_selected, is_standby}
 use Rattle.lagtypes.specs.declared.party.Choice.{Choice}
 use Rattle.lagtypes.specs.declared.party.Choice.TheVariants.{Unselected, Selected, Standby}
 use Rattle.lagtypes.proofs.SameLemmas.{itself}
@@ -123,20 +123,32 @@ full_no_room aggs l agg full = and_right (is_aggregator aggs.keys agg) _
 pub same_standby : (a b : AggId) → Standby a ≡ Standby b → a ≡ b
 same_standby a b e = cc
 
+-- without STANDBY ports none comes next
+pub none_stands : (aggs : AggregatorsValue) (l : List SystemPort) → list_any (λ s. is_standby s.port.choice) l ≡ false → (agg : AggId)
+    → next_standby_index aggs (views l) agg ≡ None
+none_stands aggs l h = none_next aggs l (length l) (omega arith)
+    (λ k s agg lt e stands. absurd (false≢true (sym (each l k s h e) ∙ ap is_standby stands)))
+  where
+    each : (l : List SystemPort) (k : ℕ) (s : SystemPort) → list_any (λ s. is_standby s.port.choice) l ≡ false → slice_get l k ≡ Some s
+        → is_standby s.port.choice ≡ false
+    each [] k s e there = absurd (none-some s there)
+    each (x ∷ xs) zero s e there =
+        subst (λ (y : SystemPort). is_standby y.port.choice ≡ false) (same_Some x s there) (or_false _ _ e).0
+    each (x ∷ xs) (suc k) s e there = each xs k s (or_false _ _ e).1 there
+
 -- where each port is SELECTED, none comes next
 pub none_left_standby : (aggs : AggregatorsValue) (l : List SystemPort) → list_any (λ s. not (is_selected s.port.choice)) l ≡ false
     → (agg : AggId) → next_standby_index aggs (views l) agg ≡ None
-none_left_standby aggs l h = none_next aggs l (length l) (omega arith)
-    (λ k s agg lt e stands. absurd (false≢true (ap is_selected (sym stands) ∙ each l k s h e)))
+none_left_standby aggs l h = none_stands aggs l (none_standby l h)
   where
-    selected : (c : Choice) → not (is_selected c) ≡ false → is_selected c ≡ true
-    selected Unselected e = absurd cc
-    selected (Selected agg) e = refl
-    selected (Standby agg) e = absurd cc
+    one : (c : Choice) → not (is_selected c) ≡ false → is_standby c ≡ false
+    one Unselected e = refl
+    one (Selected agg) e = refl
+    one (Standby agg) e = absurd cc
 
-    each : (l : List SystemPort) (k : ℕ) (s : SystemPort) → list_any (λ s. not (is_selected s.port.choice)) l ≡ false → slice_get l k ≡ Some s
-        → is_selected s.port.choice ≡ true
-    each [] k s e there = absurd (none-some s there)
-    each (x ∷ xs) zero s e there =
-        subst (λ (y : SystemPort). is_selected y.port.choice ≡ true) (same_Some x s there) (selected x.port.choice (or_false _ _ e).0)
-    each (x ∷ xs) (suc k) s e there = each xs k s (or_false _ _ e).1 there
+    none_standby : (l : List SystemPort) → list_any (λ s. not (is_selected s.port.choice)) l ≡ false
+        → list_any (λ s. is_standby s.port.choice) l ≡ false
+    none_standby [] e = refl
+    none_standby (x ∷ xs) e =
+        let both = or_false (not (is_selected x.port.choice)) (list_any (λ s. not (is_selected s.port.choice)) xs) e in
+        ap (λ b. b || list_any (λ s. is_standby s.port.choice) xs) (one x.port.choice both.0) ∙ none_standby xs both.1

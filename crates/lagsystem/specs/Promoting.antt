@@ -1,10 +1,16 @@
--- A bound on how many STANDBY ports may still be promoted, by which the loop is shown to end.
-use Rattle.std.specs.Prelude.{ℕ, zero, suc, List, [], ◌∷◌, cond}
+-- How many members each aggregator has, and a bound on how many STANDBY ports may still be promoted, by which a loop is shown
+-- to end (profile).
+use Rattle.std.specs.Prelude.{◌≡◌, ◌<◌, ℕ, zero, suc, List, [], ◌∷◌, cond, filter, get_or, length}
 use Rattle.lagtypes.specs.declared.identifiers.AggId.{AggId}
-use Rattle.selection.specs.Views.{stands_by}
+use Rattle.selection.specs.Views.{has_chosen, stands_by}
 use Rattle.lagsystem.specs.declared.system_ports.SystemPort.{SystemPort}
 
 -- how many ports are STANDBY with this aggregator
 abbrev pub count_standby : AggId → List SystemPort → ℕ
 count_standby agg [] = zero
 count_standby agg (s ∷ ss) = cond (stands_by agg s.port.choice) (suc (count_standby agg ss)) (count_standby agg ss)
+
+-- the counts tell how many members each of the aggregators 1 to 64 has: they have an entry for each number below 65
+pub record CountsMembers (system_ports : List SystemPort) (counts : List ℕ) : Type 0 where
+  pub many : length counts ≡ 65
+  pub each : (agg : AggId) → agg.0 < 65 → get_or counts agg.0 0 ≡ length (filter (λ s. has_chosen agg s.port.choice) system_ports)

@@ -1,74 +1,96 @@
-ghost use Rattle.std.specs.Prelude.{false, ◌≡◌, ◌≤◌, ◌<◌, ◌+◌, IfSome, None, filter, length};
+ghost use Rattle.std.specs.Prelude.{◌≡◌, ◌≤◌, ◌<◌, ◌+◌, ◌==◌, ℕ, None, cond, get_or, length};
+ghost use Rattle.std.specs.List.{list_any};
 ghost use Rattle.std.specs.Bool.{OnFalse, OnTrue};
 ghost use Rattle.lagtypes.specs.declared.identifiers.AggId.{AggId};
-ghost use Rattle.selection.specs.Limits.{has_room, is_below, next_standby_index};
-ghost use Rattle.selection.specs.Views.{has_chosen};
+ghost use Rattle.lagtypes.specs.Choices.{is_standby};
+ghost use Rattle.selection.specs.Limits.{is_below, next_standby_index};
 ghost use Rattle.lagsystem.specs.Settling.{PromotesAll, PromotesFirst, PromotesNext};
-ghost use Rattle.lagsystem.specs.Promoting.{count_standby};
+ghost use Rattle.lagsystem.specs.Promoting.{CountsMembers, count_standby};
 ghost use Rattle.lagsystem.specs.Views.{views};
 
 use crate::system_ports::SystemPort;
 use lagtypes::{AggId, Choice};
 use selection::{Aggregators, PortView};
 
-/// Whether the port is a member of the aggregator.
-fn is_member(system_port: &SystemPort, agg: AggId) -> bool
-    ensures { result ≡ has_chosen agg system_port.now.port.choice }
+/// Aggregators 1 to 64 are counted, each in the entry of its number; entry 0 counts nothing.
+const ENTRIES: usize = 65;
+
+/// Counts one member more of an aggregator.
+fn add(counts: &mut [u8; 65], agg: AggId)
+    requires few { (g : ℕ) → get_or counts.old g 0 < 255 }
+    ensures { (g : ℕ) → g < 65 → get_or counts.new g 0 ≡ get_or counts.old g 0 + cond (agg.0 == g) 1 0 }
 {
-    match system_port.port.choice() {
-        Choice::Selected(given) => given == agg,
-        Choice::Unselected | Choice::Standby(_) => false,
+    let entry = usize::from(agg.0);
+    if entry < ENTRIES {
+        counts[entry] += 1;
     }
 }
 
-/// How many members the aggregator has.
-fn member_count(system_ports: &[SystemPort], agg: AggId) -> usize
-    ensures { result ≡ length (filter (λ s. has_chosen agg s.port.choice) system_ports.now) }
+/// How many members each of the aggregators 1 to 64 has, in the entry of its number.
+fn member_counts(system_ports: &[SystemPort]) -> [u8; 65]
+    requires { length system_ports.now ≤ 64 }
+    ensures { CountsMembers system_ports.now result }
 {
-    system_ports
-        .iter()
-        .filter(|system_port| is_member(system_port, agg))
-        .count()
+    let mut counts = [0; 65];
+    for system_port in system_ports {
+        if let Choice::Selected(agg) = system_port.port.choice() {
+            add(&mut counts, agg);
+        }
+    }
+    counts
 }
 
-/// Whether the aggregator has fewer members than the limit.
-fn is_below_limit(aggregators: &Aggregators, system_ports: &[SystemPort], agg: AggId) -> bool
-    ensures { result ≡ is_below aggregators.now.max_links (length (filter (λ s. has_chosen agg s.port.choice) system_ports.now)) }
+/// Whether the aggregator has fewer members than the limit; true if they are not counted.
+fn may_have_room(counts: &[u8; 65], max_links: Option<u16>, agg: AggId) -> bool
+    ensures counted { OnFalse result (agg.0 < 65) }
+    ensures exact { agg.0 < 65 → result ≡ is_below max_links (get_or counts.now agg.0 0) }
 {
-    match aggregators.max_links() {
-        Some(most) => member_count(system_ports, agg) < usize::from(most),
+    let entry = usize::from(agg.0);
+    match max_links {
+        Some(most) => entry >= ENTRIES || u16::from(counts[entry]) < most,
         None => true,
     }
 }
 
-/// Whether the aggregator may have room. The aggregator `full` has none, and its members are not counted again.
-fn may_have_room(
-    aggregators: &Aggregators,
-    system_ports: &[SystemPort],
-    full: Option<AggId>,
-    agg: AggId,
-) -> bool
-    requires full { IfSome full (λ known. has_room aggregators.now (views system_ports.now) known ≡ false) }
-    ensures { OnFalse result (has_room aggregators.now (views system_ports.now) agg ≡ false) }
+/// Whether the port is STANDBY.
+fn is_standby(system_port: &SystemPort) -> bool
+    ensures { result ≡ is_standby system_port.now.port.choice }
 {
-    match full {
-        Some(known) if known.0 == agg.0 => false,
-        _ => is_below_limit(aggregators, system_ports, agg),
+    match system_port.port.choice() {
+        Choice::Standby(_) => true,
+        Choice::Unselected | Choice::Selected(_) => false,
     }
 }
 
-/// Whether some STANDBY port may be promoted. If not, each aggregator of a STANDBY port has no room. The ports of an
-/// aggregator mostly stand side by side, so the members are counted about once for each aggregator with STANDBY ports.
+/// Whether some port is STANDBY.
+fn any_standby(system_ports: &[SystemPort]) -> bool
+    ensures { result ≡ list_any (λ s. is_standby s.port.choice) system_ports.now }
+{
+    system_ports
+        .iter()
+        .any(|system_port| is_standby(system_port))
+}
+
+/// Whether some STANDBY port may be promoted. If not, each aggregator of a STANDBY port has no room.
 pub(crate) fn may_promote(aggregators: &Aggregators, system_ports: &[SystemPort]) -> bool
+    requires { length system_ports.now ≤ 64 }
     ensures { OnFalse result ((agg : AggId) → next_standby_index aggregators.now (views system_ports.now) agg ≡ None) }
 {
-    let mut full = None;
+    any_standby(system_ports) && some_may_have_room(aggregators, system_ports)
+}
+
+/// The same where some port is STANDBY. The members are counted once, however many aggregators there are.
+fn some_may_have_room(aggregators: &Aggregators, system_ports: &[SystemPort]) -> bool
+    requires { length system_ports.now ≤ 64 }
+    ensures { OnFalse result ((agg : AggId) → next_standby_index aggregators.now (views system_ports.now) agg ≡ None) }
+{
+    let counts = member_counts(system_ports);
+    let max_links = aggregators.max_links();
     for place in 0..system_ports.len() {
         if let Choice::Standby(agg) = system_ports[place].port.choice() {
-            if may_have_room(aggregators, system_ports, full, agg) {
+            if may_have_room(&counts, max_links, agg) {
                 return true;
             }
-            full = Some(agg);
         }
     }
     false

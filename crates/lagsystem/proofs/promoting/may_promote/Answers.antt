@@ -1,38 +1,9 @@
-use Rattle.std.proofs.Common.{◌≡◌, ◌∙◌, ◌+◌, ◌≤◌, false, length, arith, subst, sym}
-use Rattle.std.proofs.lemmas.Bool.{OnFalse_at}
-use Rattle.std.proofs.lemmas.Option.{slice_get-get_or}
-use Rattle.lagtypes.specs.declared.identifiers.AggId.{AggId}
-use Rattle.selection.specs.Limits.{has_room}
-use Rattle.lagsystem.specs.Views.{views}
-use Rattle.lagsystem.proofs.NextLemmas.{no_room_more, none_next, same_standby}
+use Rattle.std.proofs.Common.{◌∙◌, sym}
+use Rattle.std.proofs.lemmas.Bool.{OnFalse_from}
+use Rattle.lagsystem.proofs.NextLemmas.{none_stands}
 use Rattle.lagsystem.proofs.promoting.may_promote.Goals as goal
-use Rattle.lagsystem.proofs.promoting.may_promote.Goals.{in-Standby+else-may_have_room, in_default}
 
-pub loop-place-preserved : goal.loop-place-preserved
-loop-place-preserved c =
-    let aggs = c.args.aggregators.now in
+pub returns-else-any_standby : goal.returns-else-any_standby
+returns-else-any_standby c =
     let l = c.args.system_ports.now in
-    let i = c.loop-place.invariant in
-    let there = slice_get-get_or l c.loop-place.place c.index-system_ports-place.result c.loop-place-test.true in
-    let more : c.loop-place.place + 1 ≤ length l = omega (arith, c.loop-place-test.true) in
-    elim c.match-choice.branch [
-      | in-Standby+else-may_have_room w ↦
-          (let none : has_room aggs (views l) w.in-Standby.agg ≡ false = OnFalse_at w.if-may_have_room.false w.may_have_room.ensures in
-          record {
-            none = no_room_more aggs l c.loop-place.place _ there i.none
-                (λ agg e. subst (λ (a : AggId). has_room aggs (views l) a ≡ false)
-                (same_standby w.in-Standby.agg agg (sym w.in-Standby.is ∙ c.choice.ensures ∙ e)) none);
-            full = rw w.full-is none;
-            within = more;
-          })
-      | in_default w ↦ record {
-        none = no_room_more aggs l c.loop-place.place _ there i.none
-            (λ agg e. absurd (w.in_default.not-Standby agg (c.choice.ensures ∙ e)));
-        full = rw w.full-is i.full;
-        within = more;
-      }
-    ]
-
-pub returns : goal.returns
-returns c = none_next c.args.aggregators.now c.args.system_ports.now c.loop-place.place (omega (arith, c.loop-place-test.false))
-    c.loop-place.invariant.none
+    OnFalse_from c.any_standby.result _ (λ e agg. none_stands c.args.aggregators.now l (sym c.any_standby.ensures ∙ e) agg)
