@@ -225,10 +225,10 @@ enum { NIW_MUX_DETACHED, NIW_MUX_WAITING, NIW_MUX_ATTACHED, NIW_MUX_COLLECTING_D
 enum {
     NIW_PORT_STATUS_DISTRIBUTING = 0,
     NIW_PORT_STATUS_LINK_DOWN = 1,
-    NIW_PORT_STATUS_NO_LACPDU = 2,           /* none came since the link came up, or none in time */
+    NIW_PORT_STATUS_NO_LACPDU = 2,           /* none came since the link came up or the port was configured anew, or none in time */
     NIW_PORT_STATUS_ON_DEFAULTS = 3,         /* so long that the port runs on defaults */
     NIW_PORT_STATUS_OWN_SYSTEM = 4,          /* the partner is this very system */
-    NIW_PORT_STATUS_NO_AGGREGATOR = 5,       /* none has its key and its group */
+    NIW_PORT_STATUS_NO_AGGREGATOR = 5,       /* none has its key, or each that has it has ports of another group */
     NIW_PORT_STATUS_STANDBY = 6,             /* niw_choice tells the aggregator, which has no room for one more link */
     NIW_PORT_STATUS_WAITING = 7,             /* niw_wait_while tells for how many ticks */
     NIW_PORT_STATUS_WAITING_FOR_MEMBERS = 8, /* the others of its aggregator are not ready */
@@ -609,7 +609,7 @@ static inline const char *niw_port_status_text(uint64_t port_status) {
         "no LACPDU came in time",
         "it runs on defaults",
         "the partner is this very system",
-        "no aggregator has its key and its group",
+        "no aggregator has its key, or each that has it has ports of another group",
         "its aggregator has no room for one more link",
         "it waits for wait_while",
         "it waits for other ports of its aggregator",
