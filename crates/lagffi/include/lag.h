@@ -33,7 +33,7 @@ struct niw_system {
 };
 #define NIW_EMPTY {false, NULL}
 
-/* The version of this header: it goes up with each change of what stands here. */
+/* The version of this header: it is to go up with each change of what stands here. */
 #define NIW_VERSION 2
 /* The octets of a frame that the library answers. */
 #define NIW_FRAME 124
@@ -524,7 +524,8 @@ static inline struct niw_number niw_wait_while(struct niw_system *handle, uint16
     return handle ? lagffi_wait_while(handle, port) : niw_null_number();
 }
 
-/* Whether an LACPDU is to be sent on a port; niw_is_due is false where three went in the last eleven ticks. */
+/* Whether an LACPDU is to be sent on a port. It is not due yet where three went in the last eleven ticks; niw_is_due tells of markers
+ * too. */
 static inline struct niw_truth niw_ntt(struct niw_system *handle, uint16_t port) {
     return handle ? lagffi_ntt(handle, port) : niw_null_truth();
 }
@@ -540,7 +541,7 @@ static inline struct niw_number niw_distributing(struct niw_system *handle, uint
     return (handle && numbers) ? lagffi_distributing(handle, agg, numbers, room) : niw_null_number();
 }
 
-/* The conversation of a frame in its aggregator. */
+/* The number of the conversation of a frame, the same in every aggregator. */
 static inline struct niw_number niw_conversation(struct niw_system *handle, const uint8_t *frame, size_t length) {
     return (handle && frame) ? lagffi_conversation(handle, frame, length) : niw_null_number();
 }
