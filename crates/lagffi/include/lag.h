@@ -112,7 +112,7 @@ struct niw_config {
     uint16_t algorithm;     /* how a conversation picks its port: NIW_BY_.. */
 };
 
-/* How a conversation picks its port, in the list of the ports that distribute: the place in it, from 0. */
+/* How a conversation picks its port, in the list of the ports that distribute: the index in it, from 0. */
 enum {
     NIW_BY_NUMBER = 0, /* the number of the conversation, modulo the count of these ports */
     NIW_BY_SUM = 1,    /* that number, its 16th part and its 256th part together, modulo the count */
