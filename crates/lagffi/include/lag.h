@@ -414,14 +414,14 @@ static inline struct niw_number niw_force_port(struct niw_system *handle, uint16
     return handle ? lagffi_force_port(handle, port) : niw_null_number();
 }
 
-/* How many ports there are. `numbers` has NIW_MOST_PORTS places or more, which `room` counts; their numbers are written at its front,
- * ascending. */
+/* How many ports there are. `numbers` has room for NIW_MOST_PORTS numbers or more, which `room` counts; those of the ports are written
+ * at its front, ascending. */
 static inline struct niw_number niw_ports(struct niw_system *handle, uint16_t *numbers, size_t room) {
     return (handle && numbers) ? lagffi_ports(handle, numbers, room) : niw_null_number();
 }
 
-/* What changed: writes what there is to show of each port into `views`, which has NIW_MOST_PORTS places or more, in the order of their
- * numbers, and answers a mask of those that differ from what stood there. Bit 0, of the value 1, tells of the first port. The
+/* What changed: writes what there is to show of each port into `views`, which has room for NIW_MOST_PORTS views or more, in the order
+ * of port numbers, and answers a mask of those that differ from what stood there. Bit 0, of the value 1, tells of the first port. The
  * first time, `views` may hold zeros. */
 static inline struct niw_number niw_views(struct niw_system *handle, struct niw_view *views, size_t room) {
     return (handle && views) ? lagffi_views(handle, views, room) : niw_null_number();
@@ -535,8 +535,8 @@ static inline struct niw_number niw_load(struct niw_system *handle, uint16_t por
     return handle ? lagffi_load(handle, port) : niw_null_number();
 }
 
-/* How many ports distribute in an aggregator; 0 if there is none. `numbers` has NIW_MOST_PORTS places or more; their numbers are
- * written at its front, ascending. */
+/* How many ports distribute in an aggregator; 0 if there is none. `numbers` has room for NIW_MOST_PORTS numbers or more;
+ * those of the ports are written at its front, ascending. */
 static inline struct niw_number niw_distributing(struct niw_system *handle, uint16_t agg, uint16_t *numbers, size_t room) {
     return (handle && numbers) ? lagffi_distributing(handle, agg, numbers, room) : niw_null_number();
 }
