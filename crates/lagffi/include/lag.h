@@ -4,7 +4,7 @@
  * every frame that comes, calls niw_tick every 100 ms, and after each call sends what niw_transmit gives for each port.
  *
  * What the caller owes, and nothing checks:
- * - A handle is NIW_EMPTY before its first call, and only the functions below write it. It is not copied while it is live.
+ * - A handle is NIW_EMPTY before its first call, and only the functions below write it. It is not copied while it holds a system.
  * - A pointer that is not null points to what its type says, and a buffer or frame has as many octets as its length says.
  *   What a call may write overlaps nothing else that the call is given.
  * - Only the thread that made one calls with it, readers too, since each call writes the handle; no signal handler does, and no
