@@ -75,7 +75,7 @@ static void make(struct niw_system *handle, uint8_t who, uint16_t key, uint16_t 
     for (uint8_t i = 1; i <= 2; i++)
         ports[i - 1] = (struct niw_port){i, (uint16_t)(0x2000 + 16 * who + i), {2, 0, 0, 0, who, i}, key, true, true, true};
     CHECK(niw_new(handle, &config, keys, 2, ports, 2).status == NIW_OK);
-    CHECK(niw_new(handle, &config, keys, 2, ports, 2).status == NIW_ALREADY_LIVE);
+    CHECK(niw_new(handle, &config, keys, 2, ports, 2).status == NIW_HAS_SYSTEM);
 }
 
 /* Carries what is due from one system to the other, and answers how many frames that were. */
@@ -383,7 +383,7 @@ static void check_conversation(struct niw_system *one, struct niw_system *other,
     on = niw_offer(one, agg, data, sizeof data);
     CHECK(on.status == NIW_OK && on.number == 1);
     up = niw_receive(other, 1, data, sizeof data, response, sizeof response);
-    CHECK(up.what == NIW_RECEIVED_UP && up.number == niw_choice(other, 1).number);
+    CHECK(up.what == NIW_RECEIVED_HANDED_UP && up.number == niw_choice(other, 1).number);
     doing = niw_conversation_state(one, agg, 4);
     CHECK(doing.what == NIW_CONVERSATION_ON && doing.port == 1 && !doing.prefers && doing.preferred == 0);
     CHECK(niw_load(one, 1).number == 1 && niw_load(one, 2).number == 0 && niw_load(one, 2).status == NIW_OK);

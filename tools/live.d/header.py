@@ -32,8 +32,10 @@ OWN = {"NIW_NULL": 16, "NIW_VERSION": 2, "NIW_SENT_NOTHING": 0, "NIW_SENT_LACPDU
        "NIW_BY_NUMBER": 0, "NIW_BY_SUM": 1, "NIW_REASON_ALGORITHM": 6,
        "NIW_STATE_TEXT_ROOM": 87}
 
+# Variants that have a name of their own in C.
+VARIANTS = {"Received::Up": "HANDED_UP"}
 # Constants that have a name of their own in C.
-CONSTANTS = {"HOLDS_SYSTEM_ALREADY": "NIW_ALREADY_LIVE", "WRONG_BUFFER_LENGTH": "NIW_BUFFER", "FRAME_LENGTH_REFUSED": "NIW_FRAME_LENGTH",
+CONSTANTS = {"HOLDS_SYSTEM_ALREADY": "NIW_HAS_SYSTEM", "WRONG_BUFFER_LENGTH": "NIW_BUFFER", "FRAME_LENGTH_REFUSED": "NIW_FRAME_LENGTH",
              "NO_CONVERSATION": "NIW_NOT_ASSIGNED", "PORT_LIST_LENGTH": "NIW_MOST_PORTS", "CONTROL_FRAME_LENGTH": "NIW_FRAME", "LAST_ALGORITHM": "NIW_BY_FIRST"}
 
 
@@ -191,7 +193,8 @@ def variants(text, told):
         matched = re.search(rf"\b({'|'.join(told)})::(\w+)(?:\([^=]*\)| \{{[^}}]*\}})?\)*\s*$", before)
         number = re.search(r"\b\d+\b", after)
         if matched and number:
-            yield f"NIW_{told[matched[1]]}{snake(matched[2]).upper()}", int(number[0])
+            name = VARIANTS.get(f"{matched[1]}::{matched[2]}", snake(matched[2]).upper())
+            yield f"NIW_{told[matched[1]]}{name}", int(number[0])
 
 
 def numbers_of_sources(text):

@@ -66,7 +66,7 @@ enum {
     NIW_BAD_CONFIG = 11,       /* the configuration is refused */
     NIW_NO_MEMORY = 12,        /* memory was refused; only niw_new answers it, of a configuration that is not refused */
     NIW_NO_SYSTEM = 13,        /* the handle holds no system */
-    NIW_ALREADY_LIVE = 14,             /* niw_new: the handle holds a system already */
+    NIW_HAS_SYSTEM = 14,       /* niw_new: the handle holds a system already */
     NIW_BUFFER = 15,           /* a buffer has less room than the function asks */
     NIW_NULL = 16              /* a pointer is null */
 };
@@ -162,7 +162,7 @@ enum {
     NIW_RECEIVED_TOOK_LACPDU = 3, /* an LACPDU was taken */
     NIW_RECEIVED_RESPOND = 4,     /* a marker came: its answer stands in the buffer, `number` octets, to be sent on the same port */
     NIW_RECEIVED_RELEASED = 5,    /* a marker response came; `number` is how many conversations it released */
-    NIW_RECEIVED_UP = 6           /* a data frame, which is handed up in the aggregator `number` */
+    NIW_RECEIVED_HANDED_UP = 6    /* a data frame, which is handed up in the aggregator `number` */
 };
 
 struct niw_received {
