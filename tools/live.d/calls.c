@@ -94,8 +94,7 @@ static unsigned carry(struct niw_system *from, struct niw_system *to) {
     return sent;
 }
 
-/* The bits of the state octet that tell the state of a machine, and which states were seen. */
-enum { IN_STEP = 0x08, COLLECTS = 0x10, DISTRIBUTES = 0x20, DEFAULTED = 0x40, EXPIRED = 0x80 };
+/* Which states and statuses were seen. */
 static bool mux_seen[NIW_MUX_COLLECTING_DISTRIBUTING + 1], receive_seen[NIW_RECEIVE_CURRENT + 1], status_seen[NIW_PORT_STATUS_PARTNER_NOT_SYNCHRONIZED + 1];
 
 /* The status agrees with what the other readers tell. */
@@ -114,11 +113,12 @@ static void see_states(struct niw_system *lag, uint16_t port) {
     uint64_t bits = niw_state(lag, port).number;
     uint64_t mux = niw_mux_state(lag, port).number, receive = niw_receive_state(lag, port).number;
     bool chosen = niw_choice(lag, port).number != 0;
-    CHECK(chosen == (mux != NIW_MUX_DETACHED) && ((bits & IN_STEP) != 0) == (mux == NIW_MUX_ATTACHED || mux == NIW_MUX_COLLECTING_DISTRIBUTING));
-    CHECK(((bits & COLLECTS) != 0) == (mux == NIW_MUX_COLLECTING_DISTRIBUTING) && !(bits & COLLECTS) == !(bits & DISTRIBUTES));
+    CHECK(chosen == (mux != NIW_MUX_DETACHED) && ((bits & NIW_STATE_SYNCHRONIZATION) != 0) == (mux == NIW_MUX_ATTACHED || mux == NIW_MUX_COLLECTING_DISTRIBUTING));
+    CHECK(((bits & NIW_STATE_COLLECTING) != 0) == (mux == NIW_MUX_COLLECTING_DISTRIBUTING));
+    CHECK(((bits & NIW_STATE_DISTRIBUTING) != 0) == (mux == NIW_MUX_COLLECTING_DISTRIBUTING));
     CHECK(niw_is_up(lag, port).is == (receive != NIW_RECEIVE_PORT_DISABLED));
     if (niw_is_up(lag, port).is)
-        CHECK(receive == (uint64_t)(bits & EXPIRED ? NIW_RECEIVE_EXPIRED : bits & DEFAULTED ? NIW_RECEIVE_DEFAULTED : NIW_RECEIVE_CURRENT));
+        CHECK(receive == (uint64_t)(bits & NIW_STATE_EXPIRED ? NIW_RECEIVE_EXPIRED : bits & NIW_STATE_DEFAULTED ? NIW_RECEIVE_DEFAULTED : NIW_RECEIVE_CURRENT));
     if (mux <= NIW_MUX_COLLECTING_DISTRIBUTING) mux_seen[mux] = true;
     if (receive <= NIW_RECEIVE_CURRENT) receive_seen[receive] = true;
     see_status(lag, port);
@@ -223,10 +223,11 @@ static void check_refused_makes(void) {
     unsigned nth = 0, before = blocks;
     for (uint16_t i = 0; i <= NIW_MOST_PORTS; i++) ports[i].number = (uint16_t)(i + 1);
     made = niw_new(&empty, &config, keys, 1, ports, NIW_MOST_PORTS + 1);
-    CHECK(made.status == NIW_BAD_CONFIG && made.reason == 1 && made.place == 0);
+    CHECK(made.status == NIW_BAD_CONFIG && made.reason == NIW_REASON_PORTS && made.place == 0);
     made = niw_new(&empty, &config, keys, NIW_MOST_PORTS + 1, ports, 1);
-    CHECK(made.status == NIW_BAD_CONFIG && made.reason == 2 && made.place == 0);
-    CHECK(niw_new(&empty, &config, keys, 0, ports, 1).reason == 2 && niw_new(&empty, &config, keys, 1, ports, 0).reason == 1);
+    CHECK(made.status == NIW_BAD_CONFIG && made.reason == NIW_REASON_AGGREGATORS && made.place == 0);
+    CHECK(niw_new(&empty, &config, keys, 0, ports, 1).reason == NIW_REASON_AGGREGATORS);
+    CHECK(niw_new(&empty, &config, keys, 1, ports, 0).reason == NIW_REASON_PORTS);
     do {
         refused = askings + ++nth;
         made = niw_new(&empty, &config, keys, NIW_MOST_PORTS, ports, NIW_MOST_PORTS);
@@ -237,7 +238,8 @@ static void check_refused_makes(void) {
     CHECK(nth > 1 && blocks > before && niw_free(&empty) == NIW_OK && blocks == before);
     ports[4].number = 4;
     made = niw_new(&empty, &config, keys, 1, ports, NIW_MOST_PORTS);
-    CHECK(made.status == NIW_BAD_CONFIG && made.reason == 3 && made.place == 5 && !empty.live && !empty.at && blocks == before);
+    CHECK(made.status == NIW_BAD_CONFIG && made.reason == NIW_REASON_PORT_NUMBER && made.place == 5);
+    CHECK(!empty.live && !empty.at && blocks == before);
 }
 
 /* A limit of links is 0 to 64, an aggregator has 256 or 4096 conversations, and an algorithm is 0 to 2: looked at in this order. */
@@ -255,15 +257,15 @@ static void check_refused_limits(void) {
     for (size_t i = 0; i < sizeof counts / sizeof *counts; i++) {
         config.conversations = counts[i];
         made = niw_new(&empty, &config, &key, 1, &port, 1);
-        CHECK(made.status == NIW_BAD_CONFIG && made.reason == 5 && made.place == 0 && !empty.live);
+        CHECK(made.status == NIW_BAD_CONFIG && made.reason == NIW_REASON_CONVERSATIONS && made.place == 0 && !empty.live);
     }
     for (size_t i = 0; i < sizeof limits / sizeof *limits; i++) {
         config.max_links = limits[i];
         made = niw_new(&empty, &config, &key, 1, &port, 1);
-        CHECK(made.status == NIW_BAD_CONFIG && made.reason == 4 && made.place == 0 && !empty.live);
+        CHECK(made.status == NIW_BAD_CONFIG && made.reason == NIW_REASON_MAX_LINKS && made.place == 0 && !empty.live);
     }
     port.number = 0;
-    CHECK(niw_new(&empty, &config, &key, 1, &port, 1).reason == 3);
+    CHECK(niw_new(&empty, &config, &key, 1, &port, 1).reason == NIW_REASON_PORT_NUMBER);
 }
 
 /* Three ports, each with a flag of its own, and no two numbers alike: each field is seen in its place. */
@@ -280,7 +282,8 @@ static void check_fields(void) {
         {.number = 0x3637, .priority = 0x3839, .mac = {2, 0x3a, 0x3b, 0x3c, 0x3d, 0x3e}, .key = 0x4445, .short_timeout = true}};
     static const struct niw_change changes[2] = {
         {.key = 0x4647, .priority = 0x4849, .aggregatable = true}, {.key = 0x4a4b, .priority = 0x4c4d, .aggregatable = false}};
-    static const uint8_t flags[3] = {4, 1, 2}; /* Aggregation, LACP_Activity, LACP_Timeout */
+    static const uint8_t flags[3] = {NIW_STATE_AGGREGATION, NIW_STATE_ACTIVITY, NIW_STATE_TIMEOUT};
+    const uint64_t every = NIW_STATE_AGGREGATION | NIW_STATE_ACTIVITY | NIW_STATE_TIMEOUT;
     struct niw_system lag = NIW_EMPTY;
     uint8_t frame[NIW_FRAME] = {0};
     uint16_t numbers[NIW_MOST_PORTS] = {0};
@@ -290,7 +293,7 @@ static void check_fields(void) {
         struct niw_actor party = niw_party(&lag, ports[i].number);
         CHECK(numbers[i] == ports[i].number && party.port == ports[i].number && party.port_priority == ports[i].priority);
         CHECK(party.system_priority == 0x1112 && memcmp(party.system_mac, config.mac, 6) == 0 && party.key == ports[i].key);
-        CHECK(party.aggregatable == ports[i].aggregatable && (niw_state(&lag, ports[i].number).number & 7) == flags[i]);
+        CHECK(party.aggregatable == ports[i].aggregatable && (niw_state(&lag, ports[i].number).number & every) == flags[i]);
     }
     CHECK(niw_set_link(&lag, 0x2a2b, true) == NIW_OK);
     for (int tick = 0; tick < 300 && !niw_transmit(&lag, 0x2a2b, frame, sizeof frame).is; tick++) CHECK(niw_tick(&lag) == NIW_OK);
@@ -298,7 +301,8 @@ static void check_fields(void) {
     for (int i = 0; i < 2; i++) {
         CHECK(niw_configure(&lag, 0x3637, &changes[i]).is && niw_party(&lag, 0x3637).key == changes[i].key);
         CHECK(niw_party(&lag, 0x3637).port_priority == changes[i].priority);
-        CHECK(niw_party(&lag, 0x3637).aggregatable == changes[i].aggregatable && (niw_state(&lag, 0x3637).number & 4) == (i ? 0 : 4));
+        CHECK(niw_party(&lag, 0x3637).aggregatable == changes[i].aggregatable);
+        CHECK((niw_state(&lag, 0x3637).number & NIW_STATE_AGGREGATION) == (i ? 0 : NIW_STATE_AGGREGATION));
     }
     CHECK(niw_free(&lag) == NIW_OK && !lag.live && !lag.at);
 }
@@ -307,17 +311,17 @@ static void check_fields(void) {
 static void check_faults(struct niw_system *live) {
     uint8_t frame[NIW_FRAME] = {0x01, 0x80, 0xc2, 0, 0, 2, 2, 0, 0, 0, 0, 9, 0x88, 0x09, 1, 1, 1, 20}, response[NIW_FRAME];
     struct niw_received it = niw_receive(live, 1, frame, NIW_FRAME - 1, response, sizeof response);
-    CHECK(it.status == NIW_OK && it.what == NIW_RECEIVED_IGNORED && it.number == 1);
+    CHECK(it.status == NIW_OK && it.what == NIW_RECEIVED_IGNORED && it.number == NIW_FAULT_SHORT);
     it = niw_receive(live, 1, frame, sizeof frame, response, sizeof response); /* the other lengths are 0 */
-    CHECK(it.what == NIW_RECEIVED_IGNORED && it.number == 3);
+    CHECK(it.what == NIW_RECEIVED_IGNORED && it.number == NIW_FAULT_BAD_LENGTH);
     frame[14] = 3;
     it = niw_receive(live, 1, frame, sizeof frame, response, sizeof response);
-    CHECK(it.what == NIW_RECEIVED_IGNORED && it.number == 2);
+    CHECK(it.what == NIW_RECEIVED_IGNORED && it.number == NIW_FAULT_OTHER_SUBTYPE);
     frame[14] = 2;
     frame[16] = 3;
     frame[17] = 16;
     it = niw_receive(live, 1, frame, sizeof frame, response, sizeof response);
-    CHECK(it.what == NIW_RECEIVED_IGNORED && it.number == 4);
+    CHECK(it.what == NIW_RECEIVED_IGNORED && it.number == NIW_FAULT_MARKER_TLV);
     it = niw_receive(live, 1, frame, 13, response, sizeof response);
     CHECK(it.what == NIW_RECEIVED_DROPPED && it.number == 0);
 }
@@ -356,7 +360,7 @@ static void check_distributing(struct niw_system *one) {
     CHECK(niw_aggregators(one).number == 2 && agg >= 1 && niw_choice(one, 2).number == agg);
     CHECK(niw_distributes(one, 1).is && niw_mux_state(one, 2).number == NIW_MUX_COLLECTING_DISTRIBUTING);
     CHECK(niw_receive_state(one, 2).number == NIW_RECEIVE_CURRENT && !niw_defaulted(one, 2).is);
-    /* active, short, aggregatable, in step, collecting and distributing */
+    /* active, short, aggregatable, synchronized, collecting and distributing */
     CHECK(niw_state(one, 1).number == 0x3f && partner.state == 0x3f);
     CHECK(niw_distributing(one, agg, numbers, NIW_MOST_PORTS).number == 2 && numbers[0] == 1 && numbers[1] == 2);
     CHECK(partner.system_priority == 0x1002 && partner.system_mac[0] == 2 && partner.system_mac[5] == 2 && partner.key == 9);
@@ -525,7 +529,7 @@ static void check_room(void) {
     CHECK(sent.status == NIW_OK && !sent.is && sent.what == NIW_SENT_NOTHING && sent.octets == 0);
     CHECK(niw_ticks(&one, 10) == NIW_OK && niw_due(&one).number == 1);
     sent = niw_transmit(&one, 1, frame, NIW_FRAME - 1);
-    CHECK(sent.status == NIW_BUFFER && !sent.is && sent.what == 0 && sent.octets == 0);
+    CHECK(sent.status == NIW_BUFFER && !sent.is && sent.what == NIW_SENT_NOTHING && sent.octets == 0);
     sent = niw_transmit(&one, 7, frame, sizeof frame);
     CHECK(sent.status == NIW_NO_PORT && !sent.is && memcmp(frame, before, sizeof frame) == 0 && niw_due(&one).number == 1);
     sent = niw_transmit(&one, 1, frame, sizeof frame);

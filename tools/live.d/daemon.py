@@ -67,7 +67,7 @@ class Daemon:
 
     def distributes(self, *names):
         ports = self.ports()
-        return all(ports.get(name, NOTHING)["status"] == "distributing" for name in names)
+        return all(ports.get(name, NOTHING)["status"] == "it distributes" for name in names)
 
     def count(self, name, what):
         return self.port(name)["counters"].get(what, -1)
@@ -111,5 +111,3 @@ class Part:
             if daemon.process.poll() is None:
                 daemon.process.kill()
                 daemon.process.wait()
-
-

@@ -104,7 +104,7 @@ def two_daemons(part):
         partner = daemon.port(name)["partner"]
         named = (partner["system_priority"], partner["system"], partner["key"], partner["port"])
         check(named == (32768, system, key, port), f"{name} names the other's system, key and port", partner)
-        words = f"distributing, aggregator 1, partner 32768,{system} key {key} port {port}"
+        words = f"it distributes, aggregator 1, partner 32768,{system} key {key} port {port}"
         check(within(ENDS, lambda: daemon.last_line(name) == words), "so does its last line, which has a time", daemon.printed())
     follow_link(ours, "b1")
     flap_link(ours, "b1")
@@ -345,14 +345,14 @@ def reasons(part):
     daemon, wire = part.ours("a0"), None
     says = lambda text: lambda: daemon.port("a0")["status"] == text
     check(within(ENDS, says("no LACPDU came in time")), "a link without LACPDUs says so", daemon.text())
-    check(within(ENDS, says("no LACPDU came, and it runs on defaults")), "and then that it runs on defaults", daemon.text())
+    check(within(ENDS, says("it runs on defaults")), "and then that it runs on defaults", daemon.text())
     wire = Wire(THEIRS, "b0")
 
     def sees(system, text):
         wire.send(lacpdu(system, 1))
         return says(text)()
 
-    waits = lambda: sees(STRANGER, "it waits") and 0 < (daemon.port("a0")["wait_while"] or 0) <= 20
+    waits = lambda: sees(STRANGER, "it waits for wait_while") and 0 < (daemon.port("a0")["wait_while"] or 0) <= 20
     check(within(ENDS, waits), "it waits for 2 s once a stranger speaks, and says for how long", daemon.text())
     text = "the partner is not synchronized"
     check(within(ENDS, lambda: sees(STRANGER, text)), "a stranger who does not name it is not synchronized", daemon.text())
@@ -375,7 +375,7 @@ def full_pipe(part):
     full = waits_in(reader)
     check(full > 3500, "which do not fit into its pipe", full)
     os.read(reader, full)
-    told = within(ENDS, lambda: waits_in(reader) and b" port 2 a1: distributing," in os.read(reader, 4096))
+    told = within(ENDS, lambda: waits_in(reader) and b" port 2 a1: it distributes," in os.read(reader, 4096))
     check(told, "what could not be printed is told when somebody reads again")
     os.close(reader)
     follow_link(ours, "b1")
@@ -401,7 +401,7 @@ def options(part):
 def limit(part):
     """An aggregator of one link at most: the other one stands by, and takes over."""
     ours, theirs = part.ours(options=["--max-links", "1"]), part.theirs()
-    stands_by = lambda: ours.distributes("a0") and ours.port("a1")["status"] == "it is STANDBY"
+    stands_by = lambda: ours.distributes("a0") and ours.port("a1")["status"] == "its aggregator has no room for one more link"
     check(within(COMES_UP, stands_by), "with a limit of one link the other one is STANDBY", ours.text())
     check(within(ENDS, lambda: ours.last_line("a1").startswith("it is STANDBY, aggregator 1, ")), "its line says so", ours.printed())
     ip(THEIRS, "link", "set", "b0", "down")

@@ -166,11 +166,11 @@ def check_functions(structs, header, text):
     found = re.findall(r"^((?:struct )?\w+) lagffi_(\w+)\((.*?)\);", header, re.M | re.S)
     yield from unlike("lagffi", exports, {name: prototype(answer, given) for answer, name, given in found})
     inline = re.findall(r"^static inline ((?:struct )?\w+) niw_(?!null_|state_name\(|\w*_text\()(\w+)\((.*?)\) \{(.*?)^\}", header, re.M | re.S)
-    yield from unlike("lag", exports, {name: prototype(answer, given) for answer, name, given, _ in inline})
+    yield from unlike("niw", exports, {name: prototype(answer, given) for answer, name, given, _ in inline})
     for _, name, given, body in inline:
         passed = ", ".join(re.findall(r"(\w+)(?:,|$)", one_line(given)))
         if re.findall(r"lagffi_(\w+\(.*?\))", body) != [f"{name}({passed})"]:
-            yield f"lag {name}: it should pass on ({passed})"
+            yield f"niw_{name}: it should pass on ({passed})"
 
 
 def numbers_of_header(header):
@@ -226,14 +226,16 @@ def texts_of_header(header, name):
 
 
 def check_texts(header):
-    """The texts of what a system refuses are those of the sources, but where these tell a place."""
+    """The texts of what a system refuses are those of the sources, but where these tell a place, and but for the limit of links, of
+    which 0 is none in C."""
     faults = text_of(FAULTS)
-    for enum, name, past in ("SystemFault", "status", {11}), ("BadConfig", "reason", {3}):
+    for enum, name, past in ("SystemFault", "status", {11}), ("BadConfig", "reason", {3, 4}):
         numbers = dict(re.findall(rf"{enum}::(\w+)(?:\([^)]*\))? => (\d+),", faults))
         written = dict(re.findall(rf'{enum}::(\w+)(?:\([^)]*\))? => \{{?\s*f\.write_str\(\s*"([^"]*)"', faults))
         wanted = {numbers[variant]: text for variant, text in written.items()}
         found = {str(number): text for number, text in texts_of_header(header, name).items() if number in range(1, len(numbers) + 1)}
-        yield from unlike(f"text of {name}", wanted, {number: text for number, text in found.items() if int(number) not in past})
+        ours, theirs = ({number: text for number, text in it.items() if int(number) not in past} for it in (wanted, found))
+        yield from unlike(f"text of {name}", ours, theirs)
 
 
 def assertions(structs):

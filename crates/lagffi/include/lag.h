@@ -12,7 +12,7 @@
  * - The program's malloc, realloc and free belong together, and align to 16 octets.
  * - A program that calls `lagffi_` functions itself, without those below, gives them no null pointer.
  *
- * Every function answers a number: NIW_OK, or why it refused. One that refuses changes nothing and writes to no buffer. A null
+ * Every call and reader tells a status: NIW_OK, or why it refused. One that refuses changes nothing and writes to no buffer. A null
  * pointer, a handle with no system, a wrong length and an unknown port are refused so. */
 #ifndef NIW_LAG_H
 #define NIW_LAG_H
@@ -48,7 +48,7 @@ struct niw_system {
 /* The milliseconds of a tick. */
 #define NIW_TICK_MILLISECONDS 100
 
-/* What a function answers. 1 to 12 are the refusals of a system. */
+/* The statuses. 1 to 12 are the refusals of a system. */
 enum {
     NIW_OK = 0,
     NIW_NO_PORT = 1,           /* the system has no port of this number */
@@ -122,9 +122,9 @@ enum {
 /* One port of a configuration. */
 struct niw_port {
     uint16_t number;    /* 1 to 65535 */
-    uint16_t priority;
+    uint16_t priority;  /* the port priority, 0 to 65535 */
     uint8_t mac[6];     /* the source of what the port sends */
-    uint16_t key;
+    uint16_t key;       /* the operational key, 0 to 65535 */
     bool aggregatable;  /* false for a port whose link is individual */
     bool active;        /* LACP_Activity */
     bool short_timeout; /* LACP_Timeout: whether the port asks for short timeouts */
@@ -509,7 +509,7 @@ static inline struct niw_number niw_mux_state(struct niw_system *handle, uint16_
     return handle ? lagffi_mux_state(handle, port) : niw_null_number();
 }
 
-/* Whether a port distributes, and else the first reason why not: NIW_STATUS_.. */
+/* Whether a port distributes, and else the first reason why not: NIW_PORT_STATUS_.. */
 static inline struct niw_number niw_port_status(struct niw_system *handle, uint16_t port) {
     return handle ? lagffi_port_status(handle, port) : niw_null_number();
 }
@@ -596,7 +596,7 @@ static inline const char *niw_reason_text(uint32_t reason) {
         "the configuration has not 1 to 64 ports",
         "the configuration has not 1 to 64 aggregators",
         "a port has the number 0 or one that is not above the number before it",
-        "the limit of links of an aggregator is not 1 to 64",
+        "the limit of links of an aggregator is above 64",
         "the configuration has neither 256 nor 4096 conversations",
         "the distribution algorithm is not 0 to 2"};
     return texts[reason <= NIW_REASON_ALGORITHM ? reason : 0];

@@ -12,8 +12,9 @@
 #include "lagd.h"
 
 #define ROOM 65536
-/* How long the kernel may take for its first answer, in milliseconds. */
+/* How long the kernel may take for an answer at the start, in milliseconds, and how often it is asked then. */
 #define PATIENCE 10000
+#define MOST_ASKED 1000
 
 /* What a message tells of an interface. */
 struct interface {
@@ -45,6 +46,7 @@ static void ask(void) {
     question.mask = RTEXT_FILTER_SKIP_STATS;
     for (uint16_t i = 0; i < link_count; i++) links[i].present = false;
     asking = send(route, &question, sizeof question, 0) == sizeof question;
+    if (!asking && !started) stop(REFUSED, "the kernel takes no question", strerror(errno));
     ask_again = !asking;
     interrupted = false;
 }
@@ -125,8 +127,18 @@ static void take_absent(int index) {
         if (links[i].socket >= 0 && links[i].index == index) lose_link(&links[i]);
 }
 
-/* The answer to the last question is whole: what it did not name is gone. */
-static void end_answer(bool whole) {
+/* What the last message of an answer tells: 0, or an error, below 0. */
+static int error_of(const uint8_t *message, const struct nlmsghdr *head) {
+    int error = 0;
+    if (head->nlmsg_len >= NLMSG_LENGTH(sizeof error)) memcpy(&error, message + NLMSG_HDRLEN, sizeof error);
+    return error;
+}
+
+/* The answer to the last question has ended. What a whole one did not name is gone. One that ends with an error ends the program at
+ * the start; later the kernel is asked again. */
+static void end_answer(int error) {
+    bool whole = error == 0 && !interrupted;
+    if (error < 0 && !started) stop(REFUSED, "the kernel does not tell of interfaces", strerror(-error));
     asking = false;
     ask_again = ask_again || !whole;
     for (uint16_t i = 0; whole && i < link_count; i++)
@@ -138,8 +150,7 @@ static void take_message(const uint8_t *message, const struct nlmsghdr *head) {
     struct ifinfomsg info;
     bool answers = asking && head->nlmsg_seq == asked && head->nlmsg_pid == asker;
     if (answers && (head->nlmsg_flags & NLM_F_DUMP_INTR)) interrupted = true;
-    if (answers && head->nlmsg_type == NLMSG_DONE) end_answer(!interrupted);
-    if (answers && head->nlmsg_type == NLMSG_ERROR) end_answer(false);
+    if (answers && (head->nlmsg_type == NLMSG_DONE || head->nlmsg_type == NLMSG_ERROR)) end_answer(error_of(message, head));
     if (head->nlmsg_len < NLMSG_LENGTH(sizeof info)) return;
     memcpy(&info, message + NLMSG_HDRLEN, sizeof info);
     if (head->nlmsg_type == RTM_NEWLINK && info.ifi_family == AF_UNSPEC) {
@@ -192,6 +203,7 @@ int open_changes(void) {
     asker = address.nl_pid;
     for (ask(); asking || ask_again; watch_changes()) {
         if (poll(&(struct pollfd){route, POLLIN, 0}, 1, PATIENCE) != 1) stop(REFUSED, "no answer", "interfaces");
+        if (asked > MOST_ASKED) stop(REFUSED, "no whole answer", "interfaces");
         take_changes();
     }
     return route;

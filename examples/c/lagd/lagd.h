@@ -12,7 +12,7 @@
 #define VERSION "0.1.0"
 
 /* The status of a port whose interface is missing: one more than those of the library. */
-enum { MISSING = NIW_PORT_STATUS_PARTNER_NOT_SYNCHRONIZED + 1, STATUSES };
+enum { MISSING = NIW_PORT_STATUS_PARTNER_NOT_SYNCHRONIZED + 1 };
 
 /* How the program ends. */
 enum { DONE = 0, REFUSED = 1, WRONG_WORD = 2 };
@@ -37,7 +37,7 @@ enum count {
 
 /* What is printed of a port. */
 struct facts {
-    uint64_t status; /* NIW_STATUS_.., or MISSING */
+    uint64_t status; /* NIW_PORT_STATUS_.., or MISSING */
     uint64_t aggregator;
     bool defaulted;
     struct niw_info partner;
@@ -82,11 +82,9 @@ extern uint16_t link_count;
 extern bool started; /* whether the interfaces that are there were taken up */
 
 /* names.c */
-const char *status_name(uint64_t status);
-const char *receive_name(uint64_t state);
-const char *mux_name(uint64_t state);
+const char *status_text(uint64_t status);
+const char *count_name(enum count count);
 const char *bit_name(unsigned bit);
-const char *count_name(unsigned count);
 const char *link_name(const struct link *link);
 
 /* lines.c */

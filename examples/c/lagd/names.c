@@ -1,20 +1,7 @@
-/* The names of what is counted, and of statuses and states: each stands here once. */
+/* The names of what is counted and of the bits of a state octet, as JSON spells them, and what is said of a port. The texts of
+ * statuses and states are those of lag.h. */
 #define _GNU_SOURCE
 #include "lagd.h"
-
-static const char *const STATUS_NAMES[STATUSES] = {
-    [NIW_PORT_STATUS_DISTRIBUTING] = "distributing",
-    [NIW_PORT_STATUS_LINK_DOWN] = "the link is down",
-    [NIW_PORT_STATUS_NO_LACPDU] = "no LACPDU came in time",
-    [NIW_PORT_STATUS_ON_DEFAULTS] = "no LACPDU came, and it runs on defaults",
-    [NIW_PORT_STATUS_OWN_SYSTEM] = "the partner is this very system",
-    [NIW_PORT_STATUS_NO_AGGREGATOR] = "no aggregator for it",
-    [NIW_PORT_STATUS_STANDBY] = "it is STANDBY",
-    [NIW_PORT_STATUS_WAITING] = "it waits",
-    [NIW_PORT_STATUS_WAITING_FOR_MEMBERS] = "it waits for other members",
-    [NIW_PORT_STATUS_PARTNER_NOT_SYNCHRONIZED] = "the partner is not synchronized",
-    [MISSING] = "the interface is missing",
-};
 
 static const char *const COUNT_NAMES[COUNTS] = {
     [LACPDUS_RECEIVED] = "lacpdus_received",
@@ -29,37 +16,20 @@ static const char *const COUNT_NAMES[COUNTS] = {
     [LOSSES] = "link_losses",
 };
 
-static const char *const RECEIVE_NAMES[] = {"INITIALIZE", "PORT_DISABLED", "EXPIRED", "DEFAULTED", "CURRENT"};
-static const char *const MUX_NAMES[] = {"DETACHED", "WAITING", "ATTACHED", "COLLECTING_DISTRIBUTING"};
-static const char *const BIT_NAMES[] = {"activity", "timeout", "aggregation", "synchronization", "collecting", "distributing",
+static const char *const BIT_NAMES[8] = {"activity", "timeout", "aggregation", "synchronization", "collecting", "distributing",
     "defaulted", "expired"};
 
-/* A name out of a table, or another word where it has none. */
-static const char *name(const char *const *names, size_t count, uint64_t number) {
-    return number < count ? names[number] : "unknown";
+const char *status_text(uint64_t status) {
+    return status == MISSING ? "the interface is missing" : niw_port_status_text(status);
 }
 
-#define NAME(names, number) name(names, sizeof names / sizeof names[0], number)
-
-const char *status_name(uint64_t status) {
-    return NAME(STATUS_NAMES, status);
+const char *count_name(enum count count) {
+    return COUNT_NAMES[count];
 }
 
-const char *receive_name(uint64_t state) {
-    return NAME(RECEIVE_NAMES, state);
-}
-
-const char *mux_name(uint64_t state) {
-    return NAME(MUX_NAMES, state);
-}
-
-/* The name of a bit of a state octet, from 0. */
+/* The name of a bit of a state octet, from 0 to 7. */
 const char *bit_name(unsigned bit) {
-    return NAME(BIT_NAMES, bit);
-}
-
-const char *count_name(unsigned count) {
-    return NAME(COUNT_NAMES, count);
+    return BIT_NAMES[bit];
 }
 
 const char *link_name(const struct link *link) {

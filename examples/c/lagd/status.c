@@ -92,9 +92,9 @@ static struct view view_of(uint16_t port) {
 }
 
 static void add_text_state(uint8_t state) {
-    for (unsigned bit = 0; bit < 8; bit++)
-        if (state >> bit & 1) add(" %s", bit_name(bit));
-    add("\n");
+    char names[NIW_STATE_TEXT_ROOM];
+    (void)niw_state_text(state, names, sizeof names);
+    add("%s%s\n", state ? " " : "", names);
 }
 
 static void add_text_counts(const struct link *link) {
@@ -109,10 +109,10 @@ static void add_text_counts(const struct link *link) {
 static void add_text(uint16_t port) {
     const struct link *link = &links[port - 1];
     struct view view = view_of(port);
-    add("port %u %s: %s\n  address ", port, link->name, status_name(view.status));
+    add("port %u %s: %s\n  address ", port, link->name, status_text(view.status));
     add_mac(link->mac);
     add(", aggregator %" PRIu64 ", receive %s, mux %s, current_while %" PRIu64 ", wait_while %" PRIu64 "\n", view.aggregator,
-        receive_name(view.receive), mux_name(view.mux), view.current_while, view.wait_while);
+        niw_receive_state_text(view.receive), niw_mux_state_text(view.mux), view.current_while, view.wait_while);
     add("  actor key %u, port %u,%u, state", view.own.key, view.own.port_priority, view.own.port);
     add_text_state(view.state);
     add("  partner %u,", view.partner.system_priority);
@@ -146,10 +146,10 @@ static void add_json(uint16_t port) {
     struct view view = view_of(port);
     add("%s{\"port\":%u,\"interface\":", port > 1 ? "," : "", port);
     add_string(link->name);
-    add(",\"link\":\"%s\",\"status\":\"%s\",\"address\":\"", link_name(link), status_name(view.status));
+    add(",\"link\":\"%s\",\"status\":\"%s\",\"address\":\"", link_name(link), status_text(view.status));
     add_mac(link->mac);
-    add("\",\"aggregator\":%" PRIu64 ",\"receive\":\"%s\",\"mux\":\"%s\",", view.aggregator, receive_name(view.receive),
-        mux_name(view.mux));
+    add("\",\"aggregator\":%" PRIu64 ",\"receive\":\"%s\",\"mux\":\"%s\",", view.aggregator, niw_receive_state_text(view.receive),
+        niw_mux_state_text(view.mux));
     add("\"current_while\":%" PRIu64 ",\"wait_while\":%" PRIu64 ",", view.current_while, view.wait_while);
     add("\"actor\":{\"key\":%u,\"port_priority\":%u,\"port\":%u", view.own.key, view.own.port_priority, view.own.port);
     add_json_state(view.state);

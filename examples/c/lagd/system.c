@@ -56,7 +56,7 @@ static struct facts facts_of(uint16_t port) {
     };
 }
 
-/* Why a port does not distribute, or that it does: NIW_STATUS_.., or MISSING. */
+/* Why a port does not distribute, or that it does: NIW_PORT_STATUS_.., or MISSING. */
 uint64_t status_of(uint16_t port) {
     return links[port - 1].socket < 0 ? MISSING : number_of(niw_port_status(&own_system, port), "niw_port_status");
 }
@@ -78,7 +78,7 @@ static bool print_facts(uint16_t port, const struct facts *facts) {
     if (!facts->defaulted)
         snprintf(whose, sizeof whose, "partner %u,%02x:%02x:%02x:%02x:%02x:%02x key %u port %u", partner->system_priority, mac[0],
             mac[1], mac[2], mac[3], mac[4], mac[5], partner->key, partner->port);
-    return print_line("port %u %s: %s, aggregator %" PRIu64 ", %s%s%s", port, links[port - 1].name, status_name(facts->status),
+    return print_line("port %u %s: %s, aggregator %" PRIu64 ", %s%s%s", port, links[port - 1].name, status_text(facts->status),
         facts->aggregator, whose, facts->trouble ? ", " : "", facts->trouble ? strerror(facts->trouble) : "");
 }
 
