@@ -18,7 +18,7 @@ use std::test::Fail;
 type Row = (&'static str, &'static str);
 
 /// Every form of a request, with its answer.
-const FORMS: [Row; 78] = [
+const FORMS: [Row; 82] = [
     (
         "system 24576 020000000011 1234 7 300,700 3:203:020000001103:300:1:1:0 70:270:020000001146:300:1:1:0",
         "ok",
@@ -133,10 +133,20 @@ const FORMS: [Row; 78] = [
     ("force 1 33", "refused 9 not-assigned"),
     ("configure 3 301 203 individual", "ok"),
     ("configure 3 301 203 individual", "unchanged"),
+    ("configure 3 302 204 aggregatable", "ok"),
+    ("link 3 up", "ok"),
+    (
+        "receive 3 0180c20000020200000000778809010101141000020000000077012c004000170700000002146000020000000011012c00cb0003c50000000310003200000000000000000000000000000000000000000000000000000000000000000000000000000000000000000000000000000000000000000000000000000000",
+        "took",
+    ),
+    (
+        "look 3",
+        "port 3: party 24576/02-00-00-00-00-11 key 302 port 204/3 aggregatable; partner 4096/02-00-00-00-00-77 key 300 port 64/23 state 07 active,short,aggregatable; group 4096/02-00-00-00-00-77 key 300 <> 24576/02-00-00-00-00-11 key 302; defaulted false; distributes false; unselected; mux detached",
+    ),
 ];
 
 /// Lines that are refused, with their faults. The readers answer the same before and after.
-const FAULTS: [Row; 42] = [
+const FAULTS: [Row; 45] = [
     ("ports", "fault no-system"),
     ("tick", "fault no-system"),
     ("keep", "fault no-system"),
@@ -150,6 +160,9 @@ const FAULTS: [Row; 42] = [
     ("Tick", "fault word"),
     (" tick", "fault word"),
     ("tick ", "fault number at word 2"),
+    ("ports 1", "fault count"),
+    ("keep 1", "fault count"),
+    ("drive 1", "fault count"),
     ("tick 1 2", "fault count"),
     ("tick 0", "fault number at word 2"),
     ("tick 65536", "fault number at word 2"),
