@@ -45,6 +45,12 @@ def read_tests(crate, name):
     return [tuple(line.split()[1:]) for line in lines if line.startswith("refused-by: ")]
 
 
+def why_no_edit(says, pairs):
+    """Why this is no wrong definition; None if it is one."""
+    makes_wrong = any(file.startswith("specs/") for file, _, _ in pairs)
+    return None if says and makes_wrong else "the edit has no line `says:`, or makes no definition wrong"
+
+
 class Everywhere(str):
     """An old text that is replaced wherever it stands in its file."""
 

@@ -70,8 +70,10 @@ def unpacked(file, folder):
             tar.extractall(folder)
     except (OSError, tarfile.TarError) as why:
         raise Missing(f"{file} cannot be unpacked: {why}") from None
-    (name,) = os.listdir(folder)
-    return os.path.join(folder, name)
+    names = os.listdir(folder)
+    if len(names) != 1:
+        raise Missing(f"{file} has {len(names)} entries at its top: wanted is one folder")
+    return os.path.join(folder, names[0])
 
 
 def clean():
@@ -134,6 +136,6 @@ def tried(file, twice):
         try_manuals(count, root)
     for one, other in twice or []:
         with open(one, "rb") as a, open(other, "rb") as b:
-            count.add(f"{os.path.basename(one)} has equal octets twice", "" if a.read() == b.read() else "they differ")
+            count.add(f"{os.path.basename(one)} is packed twice to equal octets", "" if a.read() == b.read() else "they differ")
     print(f"{count.passed} passed, {count.failed} failed")
     return 1 if count.failed else 0

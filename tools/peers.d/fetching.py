@@ -57,7 +57,9 @@ class Packages:
             if told and told.returncode:
                 raise Skipped(f"apt-get {' '.join(words)[:60]}: {told.stderr.strip()[-200:]}")
         for archive in glob.glob(f"{self.cache}/packages/archives/*.deb"):
-            subprocess.run(["dpkg-deb", "-x", archive, self.root], check=True)
+            told = subprocess.run(["dpkg-deb", "-x", archive, self.root], capture_output=True, text=True)
+            if told.returncode:
+                raise Skipped(f"{os.path.basename(archive)} cannot be unpacked: {told.stderr.strip()[-200:]}")
         open(done, "w", encoding="utf-8").close()
 
     def path(self, name):

@@ -72,15 +72,16 @@ class Testpmd:
             return re.search(r"RTE Version: 'DPDK (\d+\.\d[\d.]*)", log.read())[1]
 
     def start(self):
-        self.pump = Pump()
         words = ["ip", "netns", "exec", THEIRS, "nice", "stdbuf", "-oL", self.packages.path("dpdk-testpmd"), "-v", "-l", "0,1"]
         words += ["--no-huge", "-m", "256", "--no-pci", "--no-telemetry", "--no-shconf", "-d", self.drivers()]
         words += [f"--vdev=net_af_packet{port},iface={name}" for port, name in enumerate(("b0", "b1", "d1"))]
+        # Up to DPDK 23.07 a member of a bond is called a slave.
         words += ["--vdev=net_bonding0,mode=4,slave=net_af_packet0,slave=net_af_packet1"]
         words += ["--", "-i", "--no-lsc-interrupt", "--portmask=0xc", "--total-num-mbufs=4096"]
         with open(f"{self.folder}/log", "a", encoding="utf-8") as log:
             pipes = {"stdin": subprocess.PIPE, "stdout": subprocess.PIPE, "stderr": log}
             self.process = subprocess.Popen(words, env=self.packages.environment(), **pipes)
+        self.pump = Pump()
         self.answer()
         self.ask("start")
 
@@ -113,7 +114,9 @@ class Testpmd:
         self.process.stdin.close()
         self.process.stdout.close()
         self.process = None
-        self.pump.stop()
+        if self.pump:
+            self.pump.stop()
+            self.pump = None
 
     def end(self):
         self.stop()

@@ -112,7 +112,7 @@ def check_frames(name, paths):
     """Each frame of the captures is one that lagtool reads without a refusal."""
     count, refused = 0, []
     for path in paths:
-        text = path.replace(".pcap", ".txt")
+        text = f"{path}.lines"
         with open(text, "w", encoding="utf-8") as out:
             out.writelines(f"{line}\n" for line in lines_of(path))
         told = command(PROGRAM, "check", text)

@@ -11,7 +11,7 @@ import shutil
 import subprocess
 from itertools import takewhile
 
-from edits import RT, apply, copy_crates, read, read_edit, read_tests, write
+from edits import RT, apply, copy_crates, read, read_edit, read_tests, why_no_edit, write
 from repository import below, crates, lines
 
 # How many edits one build has.
@@ -120,7 +120,10 @@ def build(folder, tests_crate, edits):
 
 def verdict(output, number, crate, name, tests_crate):
     """Whether the tests that an edit names refuse it, and what to print."""
-    says, _ = read_edit(crate, name)
+    says, pairs = read_edit(crate, name)
+    why = why_no_edit(says, pairs)
+    if why or {of for of, _ in read_tests(crate, name)} != {tests_crate}:
+        return False, why or f"the edit names tests of more crates than {tests_crate}"
     if not any(line.startswith("test result: ") for line in output):
         return False, "the tests do not build or do not end:\n" + "\n".join(output[-20:])
     for of, test in read_tests(crate, name):

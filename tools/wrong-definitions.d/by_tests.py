@@ -6,7 +6,7 @@ import re
 import subprocess
 from concurrent.futures import ThreadPoolExecutor
 
-from edits import RT, TOP, apply, copy_crates, read, read_edit, restore, write
+from edits import RT, TOP, apply, copy_crates, read, read_edit, restore, why_no_edit, write
 
 # The crates whose tests look at a crate, in the order in which they are asked; the first that refuses is enough.
 # "stored run" is that of lagengine.
@@ -67,8 +67,9 @@ def ask(crates, look, cases):
 
 def try_edit(crates, crate, name, cases):
     says, pairs = read_edit(crate, name)
-    if not says or not any(file.startswith("specs/") for file, _, _ in pairs):
-        return False, "the edit has no line `says:`, or makes no definition wrong"
+    why = why_no_edit(says, pairs)
+    if why:
+        return False, why
     was, fault = apply(os.path.join(crates, crate), pairs)
     if fault:
         return False, fault
