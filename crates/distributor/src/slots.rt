@@ -18,7 +18,7 @@ const CHAINS: u32 = 64;
 /// state modulo 64, so that an event of a port need not look at every slot. A chain is a ring, doubly linked by slot
 /// numbers, that begins and ends at an entry of its own after the slots. A chain has two flags. A flag that is clear says
 /// that none of its conversations is Wanted, or Flushing; then no call walks the chain in search of one. A flag that is set
-/// says that one may be: the next walk that finds none clears it.
+/// says that one may be: a walk in search of a Wanted one that finds none on its port works both out anew.
 #[derive(Drop)]
 pub(crate) struct Slots {
     /// How many slots there are.

@@ -141,7 +141,7 @@ impl ConversationTable {
         u32::try_from(self.next).ok()
     }
 
-    /// The same as `wants_marker_on`. A walk that finds none sees to it that the next call need not walk.
+    /// The same as `wants_marker_on`. A walk that finds none works the flags of its chain out anew.
     fn find_wanted(&mut self, port: u16) -> bool
         ensures found { result ≡ nat_lt 0 (count_conversations (wants_marker port) self.old) }
         ensures same { self.new ≡ self.old }

@@ -19,8 +19,7 @@ pub(crate) fn by_number(conversation: u16, count: usize) -> usize
     distributor::by_number(conversation, count)
 }
 
-/// The distribution algorithm that adds to the number its 16th and its 256th part, so that conversations whose numbers differ
-/// by a multiple of 16 or 256 do not all meet on one port.
+/// The distribution algorithm that adds to the number its 16th and its 256th part.
 pub(crate) fn by_sum(conversation: u16, count: usize) -> usize
     ensures { result ≡ index_by_sum conversation count }
 {

@@ -8,7 +8,7 @@ use Rattle.lagsystem.specs.Calls.{Call, Step}
 use Rattle.lagsystem.specs.First.{IsFirst}
 use Rattle.lagsystem.specs.State.{SystemState}
 
--- if the conversation is Flushing, its marker was sent fewer than 30 ticks ago
+-- if the conversation is Flushing, its age is below 30 ticks
 abbrev pub IsAwaited : Assignment → Type 0
 IsAwaited (Flushing port id preferred age) = age < 30
 IsAwaited (Free preferred) = Unit {0}

@@ -42,7 +42,7 @@ pub fn timers_are_bounded<F: Fn(u16, usize) -> usize>()
 
 ghost use Rattle.lagprogress.specs.Waits.{EachCallKeepsWaits, FirstWaitsAreShort};
 
-/// A conversation that waits for the response to a marker has waited fewer than 30 ticks (3 s): so it is in each first
+/// The age of a conversation that waits for the response to a marker is below 30 ticks (3 s): so it is in each first
 /// state, and each call keeps it, whatever the distribution algorithm returns (6.2.5; profile).
 pub fn waits_are_short<F: Fn(u16, usize) -> usize>()
     ensures first { FirstWaitsAreShort }
@@ -61,7 +61,7 @@ pub fn active_ports_are_heard<F: Fn(u16, usize) -> usize>()
 
 ghost use Rattle.lagprogress.specs.Hearing.{IsNoticed};
 
-/// Silence is noticed: a port whose link stays up, whose parameters are not changed, and that processes no LACPDU is not
+/// Silence is noticed: a port whose link stays up, that no `configure` names, and that processes no LACPDU is not
 /// CURRENT after 900 ticks (90 s), or 30 (3 s) if it has Short Timeout, and it is DEFAULTED after 30 more (6.4.12). The
 /// system is sound, its timers are within their bounds, and its distribution algorithm may return anything.
 pub fn silence_is_noticed<F: Fn(u16, usize) -> usize>()
@@ -71,8 +71,8 @@ pub fn silence_is_noticed<F: Fn(u16, usize) -> usize>()
 ghost use Rattle.lagprogress.specs.Knowing.{IsKnown};
 
 /// What a port heard it knows: a port that processed an LACPDU is CURRENT and has recorded its actor, with its Activity
-/// and its Timeout, for 900 ticks (90 s), or 30 (3 s) if it has Short Timeout, while its link stays up, its parameters
-/// are not changed, and it processes no other LACPDU (6.4.12). The system is sound, and its distribution algorithm may
+/// and its Timeout, for 900 ticks (90 s), or 30 (3 s) if it has Short Timeout, while its link stays up, no `configure`
+/// names it, and it processes no other LACPDU (6.4.12). The system is sound, and its distribution algorithm may
 /// return anything.
 pub fn what_was_heard_is_known<F: Fn(u16, usize) -> usize>()
     ensures { (algorithm : F) → IsKnown (F.post algorithm) }
@@ -81,8 +81,8 @@ pub fn what_was_heard_is_known<F: Fn(u16, usize) -> usize>()
 ghost use Rattle.lagworld.specs.Sound.{both_algorithms};
 ghost use Rattle.lagprogress.specs.Steady.{EachEventIsCalls, EachEventKeepsSteady, StartIsSteady};
 
-/// Each event of a world is a list of calls of each of its two systems, perhaps an empty one; so what the other laws say
-/// of calls holds of events (profile).
+/// Each event of a world is a list of calls of each of its two systems, perhaps an empty one (profile). Which calls they
+/// are it does not say.
 pub fn each_event_is_calls<F: Fn(u16, usize) -> usize>()
     ensures { (one two : F) → EachEventIsCalls (both_algorithms (F.post one) (F.post two)) }
 {}

@@ -33,7 +33,7 @@ pub fn transmit_answers_what_is_due()
     ensures { TransmitsWhatIsDue }
 {}
 
-/// A call of a system has exactly one reply and leads to exactly one state, and so does a list of calls, if the
+/// A call of a system has at most one reply and leads to at most one state, and so does a list of calls, if the
 /// algorithm returns one index for each conversation and count of ports. The states are equal but for the lists that
 /// the states of conversations stand in: of those, what stands for a conversation is equal (profile).
 pub fn each_call_has_one_answer<F: Fn(u16, usize) -> usize>()

@@ -1,11 +1,11 @@
--- Which events take no memory (profile).
+-- Which events are never refused for memory (profile).
 use Rattle.std.specs.Prelude.{◌≡◌, ℕ, false}
 use Rattle.lagtypes.specs.declared.identifiers.AggId.{AggId}
 use Rattle.lagsystem.specs.declared.config.PortChange.{PortChange}
 use Rattle.lagscript.specs.declared.event.Event.TheVariants as event
 use Rattle.lagworld.specs.Events.{may_take_memory}
 
--- nine kinds of events take no memory, whatever they name
+-- nine kinds of events are never refused for memory, whatever they name
 pub record NineTakeNoMemory : Type 0 where
   pub tick : (system count : ℕ) → may_take_memory (event.Tick system count) ≡ false
   pub lose : (cable system : ℕ) → may_take_memory (event.Lose cable system) ≡ false

@@ -48,7 +48,7 @@ pub fn each_world_keeps_the_headline<F: Fn(u16, usize) -> usize>()
 ghost use Rattle.lagsystem.specs.OneAnswer.{IsFunction};
 ghost use Rattle.lagworld.specs.OneReply.{OneHistory, OneReply};
 
-/// An event that acts has exactly one reply and leads to exactly one world, and so does a list of events, if each
+/// An event that acts has at most one reply and leads to at most one world, and so does a list of events, if each
 /// algorithm returns one index for each conversation and count of ports. The worlds are equal; of each system, what
 /// `each_call_has_one_answer` of `lagsystem` says is equal. Whether memory is refused is left open (profile).
 pub fn each_event_has_one_reply<F: Fn(u16, usize) -> usize>()
@@ -62,7 +62,7 @@ ghost use Rattle.std.specs.Prelude.{◌^◌};
 ghost use Rattle.lagworld.specs.Limits.{NineTakeNoMemory};
 
 /// The most events that may act in a world are 2^63, and Tick, Lose, Cut, Join, Sense, Restart, Configure, Move and
-/// Force take no memory (profile).
+/// Force are never refused for memory (profile).
 pub fn events_have_limits()
     ensures most { most_events ≡ 2 ^ 63 }
     ensures memory { NineTakeNoMemory }
