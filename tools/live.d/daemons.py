@@ -401,9 +401,10 @@ def options(part):
 def limit(part):
     """An aggregator of one link at most: the other one stands by, and takes over."""
     ours, theirs = part.ours(options=["--max-links", "1"]), part.theirs()
-    stands_by = lambda: ours.distributes("a0") and ours.port("a1")["status"] == "its aggregator has no room for one more link"
+    full = "its aggregator has no room for one more link"
+    stands_by = lambda: ours.distributes("a0") and ours.port("a1")["status"] == full
     check(within(COMES_UP, stands_by), "with a limit of one link the other one is STANDBY", ours.text())
-    check(within(ENDS, lambda: ours.last_line("a1").startswith("it is STANDBY, aggregator 1, ")), "its line says so", ours.printed())
+    check(within(ENDS, lambda: ours.last_line("a1").startswith(f"{full}, aggregator 1, ")), "its line says so", ours.printed())
     ip(THEIRS, "link", "set", "b0", "down")
     check(within(COMES_UP, lambda: ours.distributes("a1") and theirs.distributes("b1")), "it takes over", ours.text())
     ours.ends("the daemon")

@@ -7,13 +7,14 @@ stand in the header word by word. Sizes and offsets are worked out from the sour
 import os
 import re
 
-TOP = os.path.dirname(os.path.dirname(os.path.dirname(os.path.abspath(__file__))))
-HEADER = f"{TOP}/crates/lagffi/include/lag.h"
-SOURCES = f"{TOP}/crates/lagffi/src"
-FAULTS = f"{TOP}/crates/lagsystem/src/fault.rt"
-WIRE_FAULTS = f"{TOP}/crates/slowpdu/src/fault.rt"
-STATES = f"{TOP}/crates/lagtypes/src/state.rt"
-OFFERS = f"{TOP}/crates/lagsystem/src/offers.rt"
+from repository import CRATES
+
+HEADER = f"{CRATES}/lagffi/include/lag.h"
+SOURCES = f"{CRATES}/lagffi/src"
+FAULTS = f"{CRATES}/lagsystem/src/fault.rt"
+WIRE_FAULTS = f"{CRATES}/slowpdu/src/fault.rt"
+STATES = f"{CRATES}/lagtypes/src/state.rt"
+OFFERS = f"{CRATES}/lagsystem/src/offers.rt"
 # Types of C, and their sizes on x86-64, which are their alignments too.
 TYPES = {"u8": "uint8_t", "u16": "uint16_t", "u32": "uint32_t", "u64": "uint64_t", "usize": "size_t", "bool": "bool", "*mut u8": "void *"}
 SIZES = {"uint8_t": 1, "uint16_t": 2, "uint32_t": 4, "uint64_t": 8, "size_t": 8, "bool": 1, "void *": 8}
@@ -37,6 +38,8 @@ VARIANTS = {"Received::Up": "HANDED_UP"}
 # Constants that have a name of their own in C.
 CONSTANTS = {"HOLDS_SYSTEM_ALREADY": "NIW_HAS_SYSTEM", "WRONG_BUFFER_LENGTH": "NIW_BUFFER", "FRAME_LENGTH_REFUSED": "NIW_FRAME_LENGTH",
              "NO_CONVERSATION": "NIW_NOT_ASSIGNED", "PORT_LIST_LENGTH": "NIW_MOST_PORTS", "CONTROL_FRAME_LENGTH": "NIW_FRAME", "LAST_ALGORITHM": "NIW_BY_FIRST"}
+# A text that is another one in C, where a limit of 0 is none.
+OWN_TEXTS = {("reason", "4"): "the limit of links of an aggregator is above 64"}
 
 
 class Unread(Exception):
@@ -226,16 +229,14 @@ def texts_of_header(header, name):
 
 
 def check_texts(header):
-    """The texts of what a system refuses are those of the sources, but where these tell a place, and but for the limit of links, of
-    which 0 is none in C."""
+    """The texts of what a system refuses are those of the sources, but where these tell a place, and where C has its own."""
     faults = text_of(FAULTS)
-    for enum, name, past in ("SystemFault", "status", {11}), ("BadConfig", "reason", {3, 4}):
+    for enum, name, past in ("SystemFault", "status", {11}), ("BadConfig", "reason", {3}):
         numbers = dict(re.findall(rf"{enum}::(\w+)(?:\([^)]*\))? => (\d+),", faults))
         written = dict(re.findall(rf'{enum}::(\w+)(?:\([^)]*\))? => \{{?\s*f\.write_str\(\s*"([^"]*)"', faults))
-        wanted = {numbers[variant]: text for variant, text in written.items()}
+        wanted = {numbers[variant]: OWN_TEXTS.get((name, numbers[variant]), text) for variant, text in written.items()}
         found = {str(number): text for number, text in texts_of_header(header, name).items() if number in range(1, len(numbers) + 1)}
-        ours, theirs = ({number: text for number, text in it.items() if int(number) not in past} for it in (wanted, found))
-        yield from unlike(f"text of {name}", ours, theirs)
+        yield from unlike(f"text of {name}", wanted, {number: text for number, text in found.items() if int(number) not in past})
 
 
 def assertions(structs):
