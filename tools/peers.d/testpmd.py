@@ -1,9 +1,10 @@
 """DPDK's testpmd: a bonded device of mode 4 (802.3ad) over two packet sockets.
 
 Its LACPDUs go out only where a program sends something. So frames come to it on a third link, twenty each second, which it forwards
-to the bonded device.
+to the bonded device. What DPDK up to 23.07 calls a slave is a member from 23.11 on; what was run is 22.11.
 """
 
+import contextlib
 import os
 import re
 import select
@@ -15,6 +16,8 @@ from checking import Failed, Skipped
 from spaces import THEIRS, ip, packet_socket
 
 STARTS = 30
+# The number of the drivers' folder in DPDK 23.11, pmds-24.0.
+MEMBERS = 24
 PROMPT = b"testpmd> "
 # The bonded device is port 3, after the links and the port that frames come from. A data frame to all, of a type for experiments.
 BONDED, EXPERIMENT = 3, 0x88B5
@@ -72,16 +75,16 @@ class Testpmd:
             return re.search(r"RTE Version: 'DPDK (\d+\.\d[\d.]*)", log.read())[1]
 
     def start(self):
+        self.pump, drivers = Pump(), self.drivers()
+        kind = "member" if int(re.search(r"pmds-(\d+)", drivers)[1]) >= MEMBERS else "slave"
         words = ["ip", "netns", "exec", THEIRS, "nice", "stdbuf", "-oL", self.packages.path("dpdk-testpmd"), "-v", "-l", "0,1"]
-        words += ["--no-huge", "-m", "256", "--no-pci", "--no-telemetry", "--no-shconf", "-d", self.drivers()]
+        words += ["--no-huge", "-m", "256", "--no-pci", "--no-telemetry", "--no-shconf", "-d", drivers]
         words += [f"--vdev=net_af_packet{port},iface={name}" for port, name in enumerate(("b0", "b1", "d1"))]
-        # Up to DPDK 23.07 a member of a bond is called a slave.
-        words += ["--vdev=net_bonding0,mode=4,slave=net_af_packet0,slave=net_af_packet1"]
+        words += [f"--vdev=net_bonding0,mode=4,{kind}=net_af_packet0,{kind}=net_af_packet1"]
         words += ["--", "-i", "--no-lsc-interrupt", "--portmask=0xc", "--total-num-mbufs=4096"]
         with open(f"{self.folder}/log", "a", encoding="utf-8") as log:
             pipes = {"stdin": subprocess.PIPE, "stdout": subprocess.PIPE, "stderr": log}
             self.process = subprocess.Popen(words, env=self.packages.environment(), **pipes)
-        self.pump = Pump()
         self.answer()
         self.ask("start")
 
@@ -103,20 +106,21 @@ class Testpmd:
 
     def carrying(self):
         """The links whose LACP collects and distributes, by what it says of its own side. It calls a link active before that."""
-        states = re.findall(r"Slave Port: (\d)\b.*?port state: ([ A-Z]*)", self.view(), re.S)
+        states = re.findall(r"(?:Slave|Member) Port: (\d)\b.*?port state: ([ A-Z]*)", self.view(), re.S)
         return {f"b{port}" for port, state in states if "COLLECTING DISTRIBUTING" in state}
 
     def stop(self):
+        if self.pump:
+            self.pump.stop()
+            self.pump = None
         if not self.process:
             return
         self.process.kill()
         self.process.wait()
-        self.process.stdin.close()
-        self.process.stdout.close()
+        for pipe in self.process.stdin, self.process.stdout:
+            with contextlib.suppress(BrokenPipeError):
+                pipe.close()
         self.process = None
-        if self.pump:
-            self.pump.stop()
-            self.pump = None
 
     def end(self):
         self.stop()
