@@ -50,19 +50,19 @@ fn name_of(kind: Kind) -> &'static str {
     CALLS.iter().find(|it| it.0 == kind).unwrap().1
 }
 
-fn scenes(ports: u16, width: u16) -> [(String, Scene); 3] {
+fn scenes(ports: u16, conversations: u16) -> [(String, Scene); 3] {
     [
-        ("1".to_string(), together(ports, 1, width)),
-        (width.to_string(), together(ports, width, width)),
-        ("all".to_string(), apart(ports, width, ports, width)),
+        ("1".to_string(), together(ports, 1, conversations)),
+        (conversations.to_string(), together(ports, conversations, conversations)),
+        ("all".to_string(), apart(ports, conversations, ports, conversations)),
     ]
 }
 
 /// A kind of calls in each scene where it can be made: a conversation moves only where two ports share an aggregator.
-fn of_kind(plan: &mut Plan, word: &str, kind: Kind, ports: u16, width: u16) {
-    for (used, scene) in scenes(ports, width) {
+fn of_kind(plan: &mut Plan, word: &str, kind: Kind, ports: u16, conversations: u16) {
+    for (in_use, scene) in scenes(ports, conversations) {
         if scene.partners == 1 || !matches!(kind, Kind::Move | Kind::TickFlushing) {
-            plan.push((format!("{word}\t{}\t{ports}\t{used}", name_of(kind)), scene, kind));
+            plan.push((format!("{word}\t{}\t{ports}\t{in_use}", name_of(kind)), scene, kind));
         }
     }
 }
@@ -97,10 +97,10 @@ fn jobs(word: &str) -> Vec<Named> {
 }
 
 fn print_memory() {
-    for width in [256, 4096] {
+    for conversations in [256, 4096] {
         for ports in PORTS {
-            let (blocks, octets) = heap::making(&together(ports, 0, width));
-            println!("memory\t{ports} ports and aggregators of {width} conversations\t{blocks}\t{octets}");
+            let (blocks, octets) = heap::making(&together(ports, 0, conversations));
+            println!("memory\t{ports} ports and aggregators of {conversations} conversations\t{blocks}\t{octets}");
         }
     }
     let (kinds, allocations) = heap::later();

@@ -9,9 +9,9 @@ pub struct Scene {
     pub aggregators: u16,
     pub partners: u16,
     pub high_first: bool,
+    pub in_use: u16,
+    pub aggregators_in_use: u16,
     pub conversations: u16,
-    pub used: u16,
-    pub width: u16,
     pub limit: u16,
 }
 
@@ -93,23 +93,23 @@ const MOST_MOVES: u32 = 4;
 const MOST: u32 = 1 << 20;
 
 /// All ports in one aggregator, which has so many of its conversations in use.
-pub fn together(ports: u16, conversations: u16, width: u16) -> Scene {
-    Scene { ports, aggregators: ports, partners: 1, conversations, used: 1, width, ..Scene::default() }
+pub fn together(ports: u16, in_use: u16, conversations: u16) -> Scene {
+    Scene { ports, aggregators: ports, partners: 1, in_use, aggregators_in_use: 1, conversations, ..Scene::default() }
 }
 
 /// Each port in an aggregator of its own; of so many of them so many conversations are in use.
-pub fn apart(ports: u16, conversations: u16, used: u16, width: u16) -> Scene {
-    Scene { ports, aggregators: ports, partners: ports, conversations, used, width, ..Scene::default() }
+pub fn apart(ports: u16, in_use: u16, aggregators_in_use: u16, conversations: u16) -> Scene {
+    Scene { ports, aggregators: ports, partners: ports, in_use, aggregators_in_use, conversations, ..Scene::default() }
 }
 
 /// 64 ports and 32 aggregators, each port with a partner of its own, so that half of the ports find none.
 pub fn crowded(high_first: bool) -> Scene {
-    Scene { ports: 64, aggregators: 32, partners: 64, high_first, width: 256, ..Scene::default() }
+    Scene { ports: 64, aggregators: 32, partners: 64, high_first, conversations: 256, ..Scene::default() }
 }
 
 /// 64 ports and 64 aggregators, of which so many partners take one each, in turn; so many members each, or any number.
 pub fn limited(partners: u16, limit: u16) -> Scene {
-    Scene { ports: 64, aggregators: 64, partners, width: 256, limit, ..Scene::default() }
+    Scene { ports: 64, aggregators: 64, partners, conversations: 256, limit, ..Scene::default() }
 }
 
 /// One run, with its time.
@@ -132,7 +132,7 @@ fn calls_of(scene: &Scene, kind: Kind) -> u64 {
         TickFlushing => 58,
         TakeSync | TakeKey | LinkFlips | ConfigureSame | ConfigureKey => 2 * ports,
         Ask | AskAndTransmit => 3 * ports,
-        Offer | ForceAndOffer => u64::from(scene.conversations) * u64::from(scene.used),
+        Offer | ForceAndOffer => u64::from(scene.in_use) * u64::from(scene.aggregators_in_use),
         _ => ports,
     }
 }
