@@ -16,6 +16,8 @@ CRATES = os.path.join(TOP, "crates")
 PROGRAM = os.path.join(CRATES, "lagtool", "out", "lagtool")
 RT = os.environ.get("RT", "rt")
 CC = os.environ.get("CC", "cc")
+# No program in C or C++ here has a warning.
+WARNINGS = ["-Wall", "-Wextra", "-Wpedantic", "-Wconversion", "-Werror"]
 # What a command is for, where it is not here.
 WHY = {RT: "it comes with the Rattle toolchain (README.md), and RT may name it", CC: "a C compiler, which CC may name"}
 
@@ -29,6 +31,19 @@ def want(*names):
     for name in names:
         if not shutil.which(name):
             raise Missing(f"there is no command {name} in PATH" + (f": {WHY[name]}" if name in WHY else ""))
+
+
+def kit():
+    """The folder of the toolchain."""
+    told = subprocess.run([RT, "doc"], stdin=subprocess.DEVNULL, capture_output=True, text=True)
+    if told.returncode or not told.stdout.strip():
+        raise Missing(f"{RT} doc tells no page of the toolchain: {told.stderr.strip()[-400:]}")
+    return os.path.dirname(told.stdout.strip().splitlines()[-1])
+
+
+def runtime():
+    """The C part of the toolchain, with which the C library is linked."""
+    return os.path.join(kit(), "c", "liblibc_c.a")
 
 
 def lines():

@@ -5,7 +5,7 @@ import os
 import shutil
 import subprocess
 
-from repository import CRATES, RT, Missing, below, lines
+from repository import CRATES, RT, Missing, below, lines, runtime
 
 BENCH = os.path.dirname(os.path.abspath(__file__))
 # The library of the calls, and what it names.
@@ -68,14 +68,6 @@ def build_library(cache):
     return f"{folder}/out/lib{NAME}.a"
 
 
-def kit():
-    """The folder of the toolchain."""
-    told = subprocess.run([RT, "doc"], capture_output=True, text=True)
-    if told.returncode or not told.stdout.strip():
-        raise Missing(f"{RT} doc tells no page of the toolchain")
-    return os.path.dirname(told.stdout.strip().splitlines()[-1])
-
-
 def build_harness(cache, library, switch):
     """Builds the harness over the library and, if it is here, Open vSwitch; answers its file."""
     sources, built = f"{BENCH}/harness", f"{cache}/built"
@@ -85,7 +77,7 @@ def build_harness(cache, library, switch):
         ["clang", "-O3", "-DPREFIX=clang_", "-c", f"{sources}/codec.c", "-o", f"{built}/codec_clang.o"],
         ["gcc", "-O2", "-c", f"{sources}/heap.c", "-o", f"{built}/heap.o"],
     ]
-    links = [f"{built}/codec_gcc.o", f"{built}/codec_clang.o", f"{built}/heap.o", library, f"{kit()}/c/liblibc_c.a"]
+    links = [f"{built}/codec_gcc.o", f"{built}/codec_clang.o", f"{built}/heap.o", library, runtime()]
     links += [f"-Wl,--wrap={name}" for name in ("malloc", "realloc", "free")]
     words = ["rustc", "--edition", "2024", "-O", f"{sources}/main.rs", "-o", f"{built}/harness"]
     if switch:

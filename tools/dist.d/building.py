@@ -8,7 +8,7 @@ import subprocess
 from collections import namedtuple
 
 import manual
-from repository import CC, CRATES, RT, TOP, Missing, make_program, say, want
+from repository import CC, CRATES, RT, TOP, WARNINGS, Missing, make_program, runtime, say, want
 
 # A file to install: its path below the prefix, its octets, and whether it is a program; or, as a link, what it points to.
 File = namedtuple("File", "path octets is_program link", defaults=(False, None))
@@ -36,11 +36,6 @@ def printed(*words, **how):
     return ended.stdout
 
 
-def kit():
-    """The folder of the toolchain."""
-    return os.path.dirname(printed(RT, "doc").strip().splitlines()[-1])
-
-
 def engine():
     """The program lagengine, proved and built."""
     say("building lagengine; what is not yet proved is proved first")
@@ -53,11 +48,11 @@ def library(folder):
     say("building the C library; what is not yet proved is proved first")
     printed(RT, "lib", cwd=os.path.join(CRATES, "lagffi"))
     made = os.path.join(folder, "liblag.a")
-    own, runtime = os.path.join(CRATES, "lagffi", "out", "liblagffi.a"), os.path.join(kit(), "c", "liblibc_c.a")
-    script = f"CREATE {made}\nADDLIB {own}\nADDLIB {runtime}\nSAVE\nEND\n"
+    own, more = os.path.join(CRATES, "lagffi", "out", "liblagffi.a"), runtime()
+    script = f"CREATE {made}\nADDLIB {own}\nADDLIB {more}\nSAVE\nEND\n"
     merged = subprocess.run(["ar", "-M"], input=script, capture_output=True, text=True)
     if merged.returncode:
-        raise Missing(f"ar cannot merge {own} and {runtime}: {merged.stderr.strip()}")
+        raise Missing(f"ar cannot merge {own} and {more}: {merged.stderr.strip()}")
     printed("objcopy", "--enable-deterministic-archives", made)
     return made
 
@@ -74,8 +69,7 @@ def daemon(folder, lag):
     """The daemon, linked with that library."""
     made, include = os.path.join(folder, "lagd"), os.path.join(CRATES, "lagffi", "include")
     sources = sorted(os.path.join(DAEMON, it) for it in os.listdir(DAEMON) if it.endswith(".c"))
-    strict = ["-std=c11", "-O2", "-Wall", "-Wextra", "-Wpedantic", "-Wconversion", "-Werror", f"-ffile-prefix-map={TOP}=."]
-    printed(CC, *strict, f"-I{include}", "-o", made, *sources, lag)
+    printed(CC, "-std=c11", "-O2", *WARNINGS, f"-ffile-prefix-map={TOP}=.", f"-I{include}", "-o", made, *sources, lag)
     return made
 
 

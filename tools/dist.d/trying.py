@@ -6,7 +6,7 @@ import subprocess
 import tarfile
 import tempfile
 
-from repository import Missing
+from repository import WARNINGS, Missing, want
 
 # A program over the library: one port whose link comes up, and the LACPDU that it sends within a second.
 PROGRAM = r"""
@@ -42,7 +42,6 @@ int main(void)
 """
 # Destination, source, EtherType, subtype and version of that LACPDU (IEEE 802.1AX-2014, 6.4.2).
 PRINTS = "0180c200000202000000000088090101\n"
-STRICT = ["-Wall", "-Wextra", "-Wpedantic", "-Wconversion", "-Werror"]
 # Runs of the programs: words, standard input, status, and what standard output begins with.
 LACPDU = "0101011480000200000000010001008000013d00000002148000020000000002000100800001" + "3d" + "00" * 3 + "03100000" + "00" * 64
 RUNS = [
@@ -70,10 +69,10 @@ def unpacked(file, folder):
             tar.extractall(folder)
     except (OSError, tarfile.TarError) as why:
         raise Missing(f"{file} cannot be unpacked: {why}") from None
-    names = os.listdir(folder)
-    if len(names) != 1:
-        raise Missing(f"{file} has {len(names)} entries at its top: wanted is one folder")
-    return os.path.join(folder, names[0])
+    found = os.listdir(folder)
+    if len(found) != 1 or not os.path.isdir(os.path.join(folder, found[0])):
+        raise Missing(f"{file} has not one folder that holds all: {', '.join(sorted(found)[:5]) or 'it is empty'}")
+    return os.path.join(folder, found[0])
 
 
 def clean():
@@ -110,7 +109,7 @@ def try_library(count, root):
         with open(source, "w", encoding="utf-8") as it:
             it.write(PROGRAM)
         for kind, libraries in ("the library to load", words), ("the archive", alone):
-            built = ran([compiler, standard, *STRICT, "-o", made, source, *libraries])
+            built = ran([compiler, standard, *WARNINGS, "-o", made, source, *libraries])
             ended = built if built.returncode else ran([made], LD_LIBRARY_PATH=os.path.join(root, "lib"))
             why = ended.stderr[:400] or f"status {ended.returncode}, {ended.stdout!r}"
             count.add(f"{compiler} with {kind}", "" if ended.stdout == PRINTS else why)
@@ -128,6 +127,7 @@ def try_manuals(count, root):
 
 def tried(file, twice):
     """Tries an archive, and pairs of files that have to be equal; prints each verdict, and answers the status."""
+    want("cc", "c++", "pkg-config")
     count = Count()
     with tempfile.TemporaryDirectory() as folder:
         root = unpacked(file, folder)
@@ -136,6 +136,6 @@ def tried(file, twice):
         try_manuals(count, root)
     for one, other in twice or []:
         with open(one, "rb") as a, open(other, "rb") as b:
-            count.add(f"{os.path.basename(one)} is packed twice to equal octets", "" if a.read() == b.read() else "they differ")
+            count.add(f"{os.path.basename(one)} has equal octets, made twice", "" if a.read() == b.read() else "they differ")
     print(f"{count.passed} passed, {count.failed} failed")
     return 1 if count.failed else 0

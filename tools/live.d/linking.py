@@ -5,28 +5,35 @@ import os
 import shutil
 
 from checking import Failed, check, command
-from repository import CC, CRATES, RT, TOP, want
+from repository import CC, CRATES, RT, TOP, WARNINGS, Missing, runtime, want
 
 CRATE = os.path.join(CRATES, "lagffi")
 INCLUDE = f"-I{CRATE}/include"
 DAEMON = os.path.join(TOP, "examples", "c", "lagd")
-WARNINGS = ["-std=c11", "-Wall", "-Wextra", "-Wpedantic", "-Wconversion", "-Werror"]
+STRICT = ["-std=c11", *WARNINGS]
 
 
 def build_library():
     """Builds the library, or takes the one that LIBRARY names; answers what a program in C is linked with. A library that links alone
     wants nothing of the toolchain, which may not be here then."""
     given = os.environ.get("LIBRARY")
-    want(CC) if given else want(RT, CC)
-    told = command(RT, "doc")
-    runtime = os.path.join(os.path.dirname(told.stdout.strip()), "c", "liblibc_c.a")
+    want(CC)
     if given:
-        return [given, *([runtime] if os.path.exists(runtime) else [])]
+        return [given, *beside()]
+    want(RT)
     print("building the library; what is not yet proved is proved first", flush=True)
     built = command(RT, "lib", cwd=CRATE)
-    if built.returncode or told.returncode:
-        raise Failed(f"{RT} lib and {RT} doc build the library", built.stdout + built.stderr + told.stderr)
-    return [f"{CRATE}/out/liblagffi.a", runtime]
+    if built.returncode:
+        raise Failed(f"{RT} lib builds the library", built.stdout + built.stderr)
+    return [f"{CRATE}/out/liblagffi.a", runtime()]
+
+
+def beside():
+    """The C part of the toolchain, where that is here."""
+    try:
+        return [runtime()] if shutil.which(RT) else []
+    except Missing:
+        return []
 
 
 def build(made, sources, libraries, *words):
@@ -43,12 +50,12 @@ def daemon_sources():
 
 def build_daemon(folder, libraries):
     """Builds the daemon; answers its path."""
-    return build(os.path.join(folder, "lagd"), daemon_sources(), libraries, *WARNINGS)
+    return build(os.path.join(folder, "lagd"), daemon_sources(), libraries, *STRICT)
 
 
 def check_warnings():
     """gcc and clang, where they are here, find no fault with the daemon."""
     sources = daemon_sources()
     for compiler in filter(shutil.which, ("gcc", "clang")):
-        read = command(compiler, *WARNINGS, "-O2", INCLUDE, "-fsyntax-only", *sources)
+        read = command(compiler, *STRICT, "-O2", INCLUDE, "-fsyntax-only", *sources)
         check(read.returncode == 0, f"{compiler} has no warning for the {len(sources)} files of the daemon", read.stderr)
