@@ -20,6 +20,7 @@ LOOKS = {
     "lagsystem": ["stored run", "lagtests"],
     "cables": ["cables", "lagtests"],
     "lagscript": ["lagtests", "lagtool"],
+    "lagexplain": ["lagexplain", "lagtool"],
     "lagworld": ["lagtests", "lagtool"],
     "lagengine": ["lagengine", "stored run"],
     "lagline": ["lagline", "lagtool"],

@@ -1,6 +1,8 @@
 use crate::explaining::explain;
+use crate::forms::WordKind;
 use crate::text_places::{Place, place_of};
-use lagscript::read_plan;
+use crate::words::first_wrong;
+use lagscript::{EntryFault, ScriptFault, read_plan};
 use std::alloc::{AllocError, Global};
 use std::test::Fail;
 
@@ -36,7 +38,7 @@ ends = [1, 3]
 type Typo = (&'static str, &'static str, &'static str, &'static str);
 
 /// Mistakes in an entry.
-const ENTRIES: [Typo; 21] = [
+const ENTRIES: [Typo; 27] = [
     (
         "tick 1 10",
         "tic 1 10",
@@ -159,9 +161,45 @@ const ENTRIES: [Typo; 21] = [
     ),
     (
         "tick 1 10",
-        "force 1 1 x",
+        "force 1 0 x",
         "event 3: number",
-        ": event 3 \"force 1 1 x\": word 4 \"x\": wanted is a number, 0 to 65535, in decimal digits (force S AGG CONV)",
+        ": event 3 \"force 1 0 x\": word 4 \"x\": wanted is a number, 0 to 65535, in decimal digits (force S AGG CONV)",
+    ),
+    (
+        "tick 1 10",
+        "tick 3 0",
+        "event 3: system",
+        ": event 3 \"tick 3 0\": word 2 \"3\": wanted is a system, 1 or 2 (tick S N)",
+    ),
+    (
+        "tick 1 10",
+        "lose 2 1",
+        "event 3: cable",
+        ": event 3 \"lose 2 1\": word 2 \"2\": wanted is a cable, 1 to 1 (lose C S)",
+    ),
+    (
+        "tick 1 10",
+        "repeat 1 0",
+        "event 3: system",
+        ": event 3 \"repeat 1 0\": word 3 \"0\": wanted is a system, 1 or 2 (repeat C S)",
+    ),
+    (
+        "tick 1 10",
+        "join 0",
+        "event 3: cable",
+        ": event 3 \"join 0\": word 2 \"0\": wanted is a cable, 1 to 1 (join C)",
+    ),
+    (
+        "tick 1 10",
+        "sense 2 2",
+        "event 3: cable",
+        ": event 3 \"sense 2 2\": word 2 \"2\": wanted is a cable, 1 to 1 (sense C S)",
+    ),
+    (
+        "tick 1 10",
+        "restart 3",
+        "event 3: system",
+        ": event 3 \"restart 3\": word 2 \"3\": wanted is a system, 1 or 2 (restart S)",
     ),
 ];
 
@@ -401,6 +439,24 @@ fn texts_that_are_no_toml(rt: HostRuntime) -> Result<(), Fail> {
         assert!(rt; seen.as_str().starts_with(wanted.as_str()), "{new}: {seen}");
         assert!(rt; seen.len() > wanted.len(), "{new}: {seen}");
     }
+    Ok(())
+}
+
+#[test]
+fn a_word_without_a_kind_is_not_wrong(rt: HostRuntime) -> Result<(), Fail> {
+    let alloc = rt.alloc();
+    let kinds = [WordKind::System, WordKind::Cable];
+    assert_eq!(rt; first_wrong(alloc, 3, &kinds, &["2", "3", "x"])?, None);
+    assert_eq!(rt; first_wrong(alloc, 3, &kinds, &["2", "4", "x"])?, Some(1));
+    assert_eq!(rt; first_wrong(alloc, 3, &kinds, &["3", "4", "x"])?, Some(0));
+    Ok(())
+}
+
+#[test]
+fn there_is_no_entry_at_place_0(rt: HostRuntime) -> Result<(), Fail> {
+    let fault = ScriptFault::Entry(0, EntryFault::Count);
+    let why = explain(rt.alloc(), SCRIPT, fault)?;
+    assert_eq!(rt; why.as_str(), ": ");
     Ok(())
 }
 
