@@ -19,6 +19,11 @@ def write(path, text):
         file.write(text)
 
 
+def unbuilt(folder, names):
+    """What a copy leaves out that keeps what `rt` proved and built."""
+    return [it for it in names if it not in ("rlib", "incremental")] if os.path.basename(folder) == "out" else []
+
+
 def copy_crates(folder, crates, ignore=shutil.ignore_patterns("out")):
     """Copies these crates and those of the repository that they stand on; answers their folder."""
     taken = below(*crates)

@@ -1,7 +1,7 @@
 /* Calls every function of lag.h and checks what it answers: two systems of two ports each, joined port by port, come to
  * distribute; a conversation moves behind a marker, or is forced; under a limit of one link the second port is STANDBY until the first
  * link is down; each refusal has its number, each field its place, and each function refuses each null pointer; niw_new and niw_free
- * alone take and give back memory. It prints one line for each check that fails and then
+ * alone take and give back memory. It prints one line for each check that fails, with its function, and then
  * 'calls: N passed, M failed', and ends with status 1 if one failed. It is linked with --wrap for malloc, realloc and free. */
 #include <stdio.h>
 #include <stdlib.h>
@@ -24,15 +24,15 @@ static const struct {
 
 static unsigned passed, failed;
 
-static void check(bool holds, const char *what) {
+static void check(bool holds, const char *where, const char *what) {
     if (holds) {
         passed++;
         return;
     }
     failed++;
-    printf("calls: failed: %s\n", what);
+    printf("calls: failed: %s: %s\n", where, what);
 }
-#define CHECK(fact) check((fact), #fact)
+#define CHECK(fact) check((fact), __func__, #fact)
 
 /* The library's memory: how many blocks it holds, how often it asked, and which asking is refused, if any. */
 static unsigned blocks, askings, refused;
@@ -211,6 +211,23 @@ static void check_refusals(struct niw_system *live) {
     CHECK(niw_offer(live, 1, frame, 13).status == NIW_FRAME_LENGTH && niw_conversation(live, frame, 13).status == NIW_FRAME_LENGTH);
     CHECK(niw_force(live, 1, 300) == NIW_NOT_ASSIGNED && niw_conversation_state(live, 1, 256).status == NIW_NOT_ASSIGNED);
     CHECK(niw_receive(live, 1, frame, sizeof frame, frame, sizeof frame).what == NIW_RECEIVED_DISABLED);
+}
+
+/* Those of a port that there is not: what stands beside the status is 0. */
+static void check_no_port(struct niw_system *live) {
+    static const uint8_t zero[6] = {0};
+    struct niw_change change = {7, 128, true};
+    struct niw_actor party = niw_party(live, 3);
+    struct niw_truth changed = niw_configure(live, 3, &change);
+    uint8_t frame[NIW_FRAME] = {0}, response[NIW_FRAME];
+    struct niw_received received = niw_receive(live, 3, frame, sizeof frame, response, sizeof response);
+    CHECK(received.status == NIW_NO_PORT && received.what == 0 && received.number == 0);
+    CHECK(changed.status == NIW_NO_PORT && !changed.is && !niw_is_due(live, 3).is && !niw_is_standby(live, 3).is);
+    CHECK(niw_state(live, 3).status == NIW_NO_PORT && niw_receive_state(live, 3).status == NIW_NO_PORT);
+    CHECK(niw_mux_state(live, 3).status == NIW_NO_PORT && niw_choice(live, 3).status == NIW_NO_PORT);
+    CHECK(niw_load(live, 3).number == 0 && niw_distributes(live, 3).status == NIW_NO_PORT);
+    CHECK(party.status == NIW_NO_PORT && party.system_priority == 0 && memcmp(party.system_mac, zero, sizeof zero) == 0);
+    CHECK(party.key == 0 && party.port_priority == 0 && party.port == 0 && !party.aggregatable);
 }
 
 /* Those of a configuration, and of memory: each asking for it is refused in turn. */
@@ -616,10 +633,29 @@ static void check_many_conversations(void) {
     CHECK(niw_free(&many) == NIW_OK && niw_free(&few) == NIW_OK);
 }
 
+/* A port whose partner is its own system, and one whose key no aggregator has, are told apart. */
+static void check_statuses(void) {
+    struct niw_system one = NIW_EMPTY, other = NIW_EMPTY;
+    struct niw_change apart = {8, 0x2051, true};
+    uint8_t frame[NIW_FRAME], response[NIW_FRAME];
+    make(&one, 5, 7, 256, 0);
+    make(&other, 6, 9, 256, 0);
+    CHECK(niw_set_link(&one, 1, true) == NIW_OK && niw_set_link(&one, 2, true) == NIW_OK && niw_set_link(&other, 1, true) == NIW_OK);
+    CHECK(niw_ticks(&one, 10) == NIW_OK && niw_ticks(&other, 10) == NIW_OK && niw_transmit(&one, 1, frame, sizeof frame).is);
+    CHECK(niw_receive(&one, 2, frame, sizeof frame, response, sizeof response).what == NIW_RECEIVED_TOOK_LACPDU);
+    CHECK(niw_port_status(&one, 2).number == NIW_PORT_STATUS_OWN_SYSTEM);
+    CHECK(niw_configure(&one, 1, &apart).is && niw_transmit(&other, 1, frame, sizeof frame).is);
+    CHECK(niw_receive(&one, 1, frame, sizeof frame, response, sizeof response).what == NIW_RECEIVED_TOOK_LACPDU);
+    CHECK(niw_port_status(&one, 1).number == NIW_PORT_STATUS_NO_AGGREGATOR && niw_choice(&one, 1).number == 0);
+    CHECK(niw_free(&one) == NIW_OK && niw_free(&other) == NIW_OK);
+}
+
 /* One link may be a member: the other is STANDBY, in WAITING, and takes its place when the first is down. */
 static void check_limit(void) {
     struct niw_system one = NIW_EMPTY, other = NIW_EMPTY;
     uint16_t numbers[NIW_MOST_PORTS] = {0}, agg;
+    struct niw_view views[NIW_MOST_PORTS];
+    memset(views, 0, sizeof views);
     make(&one, 3, 7, 256, 1);
     make(&other, 4, 9, 256, 1);
     for (uint16_t port = 1; port <= 2; port++)
@@ -630,6 +666,7 @@ static void check_limit(void) {
     CHECK(niw_port_status(&one, 2).number == NIW_PORT_STATUS_STANDBY && niw_port_status(&one, 1).number == NIW_PORT_STATUS_DISTRIBUTING);
     CHECK(niw_distributing(&one, agg, numbers, NIW_MOST_PORTS).number == 1 && numbers[0] == 1);
     CHECK(niw_mux_state(&one, 2).number == NIW_MUX_WAITING && niw_is_standby(&other, 2).is);
+    CHECK(niw_views(&one, views, NIW_MOST_PORTS).number == 3 && is_view_of(&one, &views[0], 1) && is_view_of(&one, &views[1], 2));
     CHECK(niw_set_link(&one, 1, false) == NIW_OK && niw_set_link(&other, 1, false) == NIW_OK);
     CHECK(niw_choice(&one, 1).number == 0 && !niw_is_standby(&one, 1).is && !niw_is_standby(&one, 2).is);
     turn(&one, &other, 20);
@@ -644,13 +681,14 @@ int main(void) {
     struct niw_system one = NIW_EMPTY, other = NIW_EMPTY;
     uint16_t agg;
     unsigned asked;
-    for (size_t i = 0; i < sizeof exports / sizeof *exports; i++) check(exports[i].at != 0, exports[i].name);
+    for (size_t i = 0; i < sizeof exports / sizeof *exports; i++) check(exports[i].at != 0, __func__, exports[i].name);
     CHECK(!one.live && !one.at);
     make(&one, 1, 7, 256, 0);
     make(&other, 2, 9, 256, 0);
     check_null_in_calls(&one);
     check_null_in_readers(&one);
     check_refusals(&one);
+    check_no_port(&one);
     check_refused_makes();
     check_refused_limits();
     check_fields();
@@ -670,6 +708,7 @@ int main(void) {
     CHECK(niw_restart(&one) == NIW_OK && !niw_is_up(&one, 1).is && niw_next_marker(&one).id == FIRST_MARKER);
     CHECK(askings == asked && blocks > 0);
     check_limit();
+    check_statuses();
     check_force_port();
     check_ticks();
     check_masks();

@@ -13,6 +13,10 @@ DAEMON = os.path.join(TOP, "examples", "c", "lagd")
 STRICT = ["-std=c11", *WARNINGS]
 
 
+# How a program counts the memory of the library.
+COUNTED = [f"-Wl,--wrap={name}" for name in ("malloc", "realloc", "free")]
+
+
 def build_library():
     """Builds the library, or takes the one that LIBRARY names; answers what a program in C is linked with. A library that links alone
     wants nothing of the toolchain, which may not be here then."""
@@ -42,6 +46,12 @@ def build(made, sources, libraries, *words):
     if ended.returncode:
         raise Failed(f"{CC} builds {os.path.basename(made)}", ended.stderr)
     return made
+
+
+def build_calls(folder, libraries):
+    """Builds the program that calls each function; answers its path."""
+    words = ["-std=c11", "-Wall", "-Wextra", "-Werror", *COUNTED]
+    return build(os.path.join(folder, "calls"), [f"{TOP}/tools/live.d/calls.c"], libraries, *words)
 
 
 def daemon_sources():

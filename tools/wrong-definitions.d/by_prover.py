@@ -1,13 +1,17 @@
-"""The wrong definitions of the law, which the prover refuses."""
+"""The wrong definitions of the laws of two systems and of progress, which the prover refuses.
+
+What crates kept in out/ is used, and what is not kept is proved first. An edit of lagprogress may make a definition of a crate below
+wrong, with the body that meets it: that crate has to be proved still.
+"""
 
 import os
 import re
 import shutil
 import subprocess
 
-from edits import CASES, RT, apply, copy_crates, read, read_edit, restore, write
+from edits import CASES, RT, apply, copy_crates, read, read_edit, restore, unbuilt, write
 
-CRATE = "lagmodel"
+CRATES = ("lagmodel", "lagprogress")
 
 
 def check(crate):
@@ -38,8 +42,8 @@ def refusals(crate, output):
     return places
 
 
-def try_edit(crate, name):
-    says, pairs = read_edit(CRATE, name)
+def try_edit(crate, of, name):
+    says, pairs = read_edit(of, name)
     was, fault = apply(crate, pairs)
     if fault:
         return False, fault
@@ -47,6 +51,9 @@ def try_edit(crate, name):
         proved, output = check(crate)
         if proved:
             return False, f"PROVED: {says}"
+        below = re.search(r"the library (\w+) did not build", output)
+        if below:
+            return False, f"{below[1]} is not proved any more:\n{output[-2000:]}"
         places = refusals(crate, output)
         if not places:
             return False, "no refusal is printed:\n" + output
@@ -59,10 +66,10 @@ def try_edit(crate, name):
         restore(was)
 
 
-def try_counterexample(crate, name):
+def try_counterexample(crate, of, name):
     """Proves, under the wrong definition, that the law is false. The proof takes the place of the crate's own."""
-    says, pairs = read_edit(CRATE, name)
-    head, _, proof = read(os.path.join(CASES, CRATE, name + ".counterexample")).partition("---\n")
+    says, pairs = read_edit(of, name)
+    head, _, proof = read(os.path.join(CASES, of, name + ".counterexample")).partition("---\n")
     was, fault = apply(crate, pairs)
     if fault:
         return False, fault
@@ -86,16 +93,19 @@ def try_counterexample(crate, name):
         restore(was)
 
 
-def try_all(folder, names):
-    """Tries these edits of the law, one at a time; answers the name of each, whether it passed, and what to print."""
-    if not names:
-        return
-    crate = os.path.join(copy_crates(os.path.join(folder, "law"), [CRATE]), CRATE)
-    proved, output = check(crate)
-    if not proved:
-        yield CRATE, False, "is not proved as it stands:\n" + output
-        return
-    for name in names:
-        yield f"{CRATE}/{name}", *try_edit(crate, name)
-        if os.path.exists(os.path.join(CASES, CRATE, name + ".counterexample")):
-            yield f"{CRATE}/{name}", *try_counterexample(crate, name)
+def try_all(folder, edits):
+    """Tries these edits, one at a time; answers the name of each, whether it passed, and what to print."""
+    for of in CRATES:
+        names = [name for crate, name in edits if crate == of]
+        if not names:
+            continue
+        crate = os.path.join(copy_crates(os.path.join(folder, "law"), [of], unbuilt), of)
+        proved, output = check(crate)
+        if not proved:
+            yield of, False, "is not proved as it stands:\n" + output
+            continue
+        for name in names:
+            yield f"{of}/{name}", *try_edit(crate, of, name)
+            if os.path.exists(os.path.join(CASES, of, name + ".counterexample")):
+                yield f"{of}/{name}", *try_counterexample(crate, of, name)
+        shutil.rmtree(os.path.join(folder, "law"))
