@@ -6,7 +6,9 @@ import shutil
 import subprocess
 
 from collections import namedtuple
+from functools import partial
 
+import completion
 import manual
 from repository import CC, CRATES, RT, TOP, WARNINGS, Missing, make_program, runtime, say, want
 
@@ -108,6 +110,12 @@ def manuals():
     return pages
 
 
+def completions(programs):
+    """For each program the file by which bash completes its words."""
+    files = {os.path.basename(to): file for to, file in programs.items()}
+    return {f"share/bash-completion/completions/{name}": completion.text(name, partial(printed, file)) for name, file in files.items()}
+
+
 def parts():
     """Each file to install."""
     want(RT, CC, "ar", "objcopy", "git")
@@ -124,7 +132,7 @@ def parts():
     check_versions(programs)
     header = os.path.join(CRATES, "lagffi", "include", "lag.h")
     libraries = {"include/lag.h": header, "lib/liblag.a": lag, f"lib/{SONAME}": shared(folder, lag)}
-    texts = {"lib/pkgconfig/lag.pc": pkg_config(), "share/doc/niwhopera/BUILD": verdict(), **manuals()}
+    texts = {"lib/pkgconfig/lag.pc": pkg_config(), "share/doc/niwhopera/BUILD": verdict(), **manuals(), **completions(programs)}
     found = [File(to, text.encode()) for to, text in texts.items()]
     for to, file in {**programs, **libraries, **documents()}.items():
         with open(file, "rb") as it:

@@ -54,6 +54,26 @@ RUNS = [
 ]
 
 
+# The words of a line so far, and what bash makes of the last one.
+COMPLETED = [
+    (["lagtool", "rep"], "replay"),
+    (["lagtool", "--ex"], "--explain"),
+    (["lagtool", "--explain", "che"], "check"),
+    (["lagtool", "check", "--"], "--help"),
+    (["lagengine", "--v"], "--version"),
+    (["lagd", "--json", "--fol"], "--folder"),
+    (["lagd", "--timeout", "l"], "long"),
+    (["lagd", "--folder", "--"], ""),
+]
+# Completes the last word as bash does, by the file that stands first.
+COMPLETE = """
+. "$1"; shift
+[[ $(complete -p "$1") == *" -F _$1 $1" ]] || exit 1
+COMP_WORDS=("$@") COMP_CWORD=$(($# - 1))
+"_$1"; echo "${COMPREPLY[@]}"
+"""
+
+
 class Count:
     def __init__(self):
         self.passed = self.failed = 0
@@ -125,6 +145,18 @@ def try_manuals(count, root):
             count.add(f"groff reads {name}", ended.stderr[:400] or ("" if not ended.returncode else "it fails"))
 
 
+def try_completions(count, root):
+    if not shutil.which("bash"):
+        print("skipped: completion: there is no command bash")
+        return
+    for words, becomes in COMPLETED:
+        file = os.path.join(root, "share", "bash-completion", "completions", words[0])
+        ended = ran(["bash", "--norc", "-c", COMPLETE, "bash", file, *words])
+        right = not ended.returncode and not ended.stderr and ended.stdout == f"{becomes}\n"
+        why = f"status {ended.returncode}, {ended.stdout[:60]!r}, {ended.stderr[:200]!r}"
+        count.add(f"bash completes {' '.join(words)}", "" if right else why)
+
+
 def tried(file, twice):
     """Tries an archive, and pairs of files that have to be equal; prints each verdict, and answers the status."""
     want("cc", "c++", "pkg-config")
@@ -134,6 +166,7 @@ def tried(file, twice):
         try_programs(count, root)
         try_library(count, root)
         try_manuals(count, root)
+        try_completions(count, root)
     for one, other in twice or []:
         with open(one, "rb") as a, open(other, "rb") as b:
             count.add(f"{os.path.basename(one)} has equal octets, made twice", "" if a.read() == b.read() else "they differ")
