@@ -42,15 +42,15 @@ int main(void)
 """
 # Destination, source, EtherType, subtype and version of that LACPDU (IEEE 802.1AX-2014, 6.4.2).
 PRINTS = "0180c200000202000000000088090101\n"
-# Runs of the programs: words, standard input, status, and what standard output begins with.
+# Runs of the programs: words, standard input, status, and what standard output begins with; VERSION is that of the archive.
 LACPDU = "0101011480000200000000010001008000013d00000002148000020000000002000100800001" + "3d" + "00" * 3 + "03100000" + "00" * 64
 RUNS = [
-    (["bin/lagtool", "--version"], "", 0, "lagtool "),
+    (["bin/lagtool", "--version"], "", 0, "lagtool VERSION\n"),
     (["bin/lagtool", "decode", LACPDU], "", 0, "lacpdu\n"),
     (["bin/lagtool", "check", "-"], "02:00\n", 1, "1 not hex\n"),
     (["bin/lagtool", "vectors"], "", 0, "V1 ok\n"),
-    (["bin/lagengine", "--version"], "", 0, "lagengine "),
-    (["sbin/lagd", "--version"], "", 0, "lagd "),
+    (["bin/lagengine", "--version"], "", 0, "lagengine VERSION\n"),
+    (["sbin/lagd", "--version"], "", 0, "lagd VERSION\n"),
 ]
 
 
@@ -110,9 +110,10 @@ def ran(words, given="", **more):
 
 
 def try_programs(count, root):
+    version = os.path.basename(root).split("-")[1]
     for words, given, status, begins in RUNS:
         ended = ran([os.path.join(root, words[0]), *words[1:]], given)
-        right = ended.returncode == status and ended.stdout.startswith(begins)
+        right = ended.returncode == status and ended.stdout.startswith(begins.replace("VERSION", version))
         count.add(" ".join(words)[:60], "" if right else f"status {ended.returncode}, {ended.stdout[:60]!r}, {ended.stderr[:200]!r}")
 
 
