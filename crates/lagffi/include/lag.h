@@ -35,6 +35,8 @@ struct niw_system {
 
 /* The version of this header: it is to go up with each change of what stands here. */
 #define NIW_VERSION 2
+/* The version of the release that the header is of. */
+#define NIW_VERSION_TEXT "0.1.0"
 /* The octets of a frame that the library answers. */
 #define NIW_FRAME 124
 /* The fewest and the most octets of a frame that is offered. */

@@ -9,7 +9,7 @@
 
 #include "lag.h"
 
-#define VERSION "0.1.0"
+#define VERSION NIW_VERSION_TEXT
 
 /* The status of a port whose interface is missing: one more than those of the library. */
 enum { MISSING = NIW_PORT_STATUS_PARTNER_NOT_SYNCHRONIZED + 1 };
