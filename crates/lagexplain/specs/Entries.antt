@@ -1,5 +1,5 @@
 -- Which entry of a script is at fault, and which of its words (profile).
-use Rattle.std.specs.Prelude.{ℕ, ◌+◌, ◌-◌, Bool, true, false, List, [], ◌∷◌, codes, is_err, is_none, nat_lt, slice_get, take}
+use Rattle.std.specs.Prelude.{ℕ, ◌+◌, ◌-◌, Bool, false, List, [], ◌∷◌, codes, is_err, is_none, nat_lt, slice_get, take}
 use Rattle.std.specs.Prelude.{if◌then◌else◌, Option, Some, None, option_and_then}
 use Rattle.std.specs.Str.{bytes_eq}
 use Rattle.toml.specs.Data.{Members, as_str, at, get_member}

@@ -1,3 +1,6 @@
+ghost use Rattle.std.specs.Prelude.{◌≡◌, ◌+◌, ◌<◌, ◌^◌, filter, length, not, reverse, take_while};
+ghost use Rattle.lagexplain.specs.TextPlaces.{begins_character, ends_line};
+
 /// A place in a text.
 #[derive(Clone, Copy, Debug, PartialEq, Eq)]
 pub struct Place {
@@ -7,16 +10,47 @@ pub struct Place {
     pub column: usize,
 }
 
-/// The place right behind these octets of a text in UTF-8.
-pub fn place_of(before: &[u8]) -> Place {
-    let mut place = Place { line: 1, column: 1 };
-    for octet in before {
-        if *octet == b'\n' {
-            place.line = place.line.saturating_add(1);
-            place.column = 1;
-        } else if *octet & 0xc0 != 0x80 {
-            place.column = place.column.saturating_add(1);
-        }
+/// Whether an octet ends a line.
+fn ends_line(octet: u8) -> bool
+    ensures { result ≡ ends_line octet }
+{
+    octet == b'\n'
+}
+
+/// Whether an octet of a text in UTF-8 is the first of a character.
+fn begins_character(octet: u8) -> bool
+    ensures { result ≡ begins_character octet }
+{
+    octet & 0xc0 != 0x80
+}
+
+/// How many lines end in these octets.
+fn line_ends(before: &[u8]) -> usize
+    ensures { result ≡ length (filter (λ o. ends_line o) before.now) }
+{
+    before.iter().filter(|octet| ends_line(**octet)).count()
+}
+
+/// How many characters begin behind the last line end in these octets of a text in UTF-8.
+fn characters_behind(before: &[u8]) -> usize
+    ensures { result ≡ length (filter (λ o. begins_character o) (take_while (λ o. not (ends_line o)) (reverse before.now))) }
+{
+    before
+        .iter()
+        .rev()
+        .take_while(|octet| !ends_line(**octet))
+        .filter(|octet| begins_character(**octet))
+        .count()
+}
+
+/// The place right behind these octets of a text in UTF-8. One line end, or one character in the last line, leads one
+/// further; above the largest `usize` there is no place (profile).
+pub fn place_of(before: &[u8]) -> Place
+    ensures line { length before.now < 2 ^ 32 → result.line ≡ length (filter (λ o. ends_line o) before.now) + 1 }
+    ensures column { length before.now < 2 ^ 32 → result.column ≡ length (filter (λ o. begins_character o) (take_while (λ o. not (ends_line o)) (reverse before.now))) + 1 }
+{
+    Place {
+        line: line_ends(before).saturating_add(1),
+        column: characters_behind(before).saturating_add(1),
     }
-    place
 }
