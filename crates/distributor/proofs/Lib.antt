@@ -5,3 +5,4 @@ pub mod TableLemmas
 pub mod TickLemmas
 pub mod PickLemmas
 pub mod MoveLemmas
+pub mod WaitLemmas

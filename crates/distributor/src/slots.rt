@@ -7,6 +7,8 @@ ghost use Rattle.distributor.specs.Chains.{changed_in_chain, passes, tested_port
 ghost use Rattle.distributor.specs.Conversations.{sum_below};
 ghost use Rattle.distributor.specs.declared.assignment.Assignment.{Assignment};
 
+mod waiting;
+
 use crate::assignment::Assignment;
 use crate::change::Change;
 use std::alloc::{AllocError, Global};

@@ -4,6 +4,7 @@ ghost use Rattle.distributor.specs.Conversations.{IsConversation};
 ghost use Rattle.distributor.specs.Changes.{SetsAssignment, ChangesAssignments, Marks, after_change, wants_marker, awaits_response};
 ghost use Rattle.distributor.specs.Changes.{marker_due};
 ghost use Rattle.distributor.specs.Chains.{names_port, is_flushing};
+ghost use Rattle.distributor.specs.Waiting.{ticks_until_next_wanted};
 
 use crate::assignment::Assignment;
 use crate::change::Change;
@@ -118,6 +119,13 @@ impl ConversationTable {
         ensures { result ≡ count_conversations (names_port port) self.now }
     {
         self.slots.count(ConversationTest::NamesPort(port))
+    }
+
+    /// In how many ticks the next conversation is Wanted again; None if none is Flushing.
+    pub(crate) fn ticks_until_next_wanted(&self) -> Option<u8>
+        ensures { result ≡ ticks_until_next_wanted self.now }
+    {
+        self.slots.ticks_until_next_wanted()
     }
 
     /// Gives every conversation its state after this event: a port stops distributing, a marker is sent, its response

@@ -23,6 +23,7 @@ enum Row {
     Clear,
     State(u16, Assignment),
     Load(u16, u32),
+    NextWanted(Option<u8>),
 }
 
 fn tick<F: Fn(u16, usize) -> usize + Drop>(d: &mut Distributor<F>, count: u16)
@@ -48,6 +49,7 @@ fn play<F: Fn(u16, usize) -> usize + Drop>(d: &mut Distributor<F>, ports: &[u16]
         Row::Response(port, id, _) => return Row::Response(port, id, d.response(port, id)),
         Row::Load(port, _) => return Row::Load(port, d.load(port)),
         Row::State(conv, _) => return Row::State(conv, d.state(AGG, conv)),
+        Row::NextWanted(_) => return Row::NextWanted(d.ticks_until_next_wanted()),
         Row::Ticks(count) => tick(d, count),
         Row::Leave(port) => d.leave(port),
         Row::Down(port) => d.down(port),
@@ -90,6 +92,37 @@ fn a_moved_conversation_waits_for_the_response(rt: HostRuntime) -> Result<(), Fa
         Row::Assign(48, Ok(2)),
     ];
     plays(&rt, rt.alloc(), 1, [1, 2], &rows)?;
+    Ok(())
+}
+
+#[test]
+fn the_next_marker_is_wanted_after_the_soonest_wait(rt: HostRuntime) -> Result<(), Fail> {
+    let rows = [
+        Row::NextWanted(None),
+        Row::Assign(48, Ok(1)),
+        Row::Assign(49, Ok(2)),
+        Row::Move(48, 2, Ok(())),
+        Row::NextWanted(None),
+        Row::Marker(1, Some(7)),
+        Row::NextWanted(Some(30)),
+        Row::Ticks(12),
+        Row::NextWanted(Some(18)),
+        Row::Move(49, 1, Ok(())),
+        Row::Marker(2, Some(8)),
+        Row::NextWanted(Some(18)),
+        Row::Ticks(5),
+        Row::Response(1, 7, 1),
+        Row::NextWanted(Some(25)),
+        Row::Ticks(24),
+        Row::NextWanted(Some(1)),
+        Row::Ticks(1),
+        Row::NextWanted(None),
+        Row::Marker(2, Some(9)),
+        Row::NextWanted(Some(30)),
+        Row::Down(2),
+        Row::NextWanted(None),
+    ];
+    plays(&rt, rt.alloc(), 7, [1, 2], &rows)?;
     Ok(())
 }
 

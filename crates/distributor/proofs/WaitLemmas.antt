@@ -1,0 +1,316 @@
+-- The soonest of many numbers of ticks, and a walk along a chain in search of it.
+use Rattle.std.proofs.Common.{ℕ, zero, suc, ◌+◌, ◌*◌, ◌<◌, ◌≤◌, ◌≡◌, ◌++◌, Bool, true, false, cond, List, [], ◌∷◌, length, Option}
+use Rattle.std.proofs.Common.{None, Some, get_or, nat_le, refl, sym, ap, ◌∙◌, arith, subst, ⊎_elim}
+use Rattle.std.specs.Prelude.{ltb, min, IfSome}
+use Rattle.std.proofs.lemmas.Bool.{cases_eq, eq-eqb, false≢true}
+use Rattle.std.proofs.lemmas.Bool.Decides.{nat_tests}
+use Rattle.std.proofs.lemmas.List.{append_assoc}
+use Rattle.std.proofs.lemmas.Nat.{mod_below}
+use Rattle.distributor.specs.declared.assignment.Assignment.{Assignment}
+use Rattle.distributor.specs.declared.assignment.Assignment.TheVariants.{Free, On, Wanted, Flushing}
+use Rattle.distributor.specs.Conversations.{Table, assignment_of, slot_index}
+use Rattle.distributor.specs.Chains.{chain_of, is_in_chain, is_flagged, occurs, slot_state, IsChained, IsFlagged}
+use Rattle.distributor.specs.Waiting.{is_by, sooner, soonest_below, ticks_until_next_wanted, ticks_until_wanted}
+use Rattle.distributor.proofs.ChainLemmas.{one_other}
+use Rattle.distributor.proofs.TableLemmas.{stated_in}
+use Rattle.distributor.proofs.WalkLemmas.{Walking, after_first, cond_same, split_first, steps, walk_begins, walk_below, walk_next, walk_over}
+use Rattle.distributor.proofs.WalkLemmas.{walk_shorter, walk_split, walk_steps}
+
+le_true : (a b : ℕ) → a ≤ b → nat_le a b ≡ true
+le_true a b h = grind (arith, nat_tests)
+
+le_from : (a b : ℕ) → nat_le a b ≡ true → a ≤ b
+le_from a b h = grind (arith, nat_tests)
+
+-- ---- the order of numbers of ticks
+
+pub sooner_none : (a : Option ℕ) → sooner a None ≡ a
+sooner_none None = refl
+sooner_none (Some n) = refl
+
+min_assoc : (n m k : ℕ) → min (min n m) k ≡ min n (min m k)
+min_assoc n m k = omega arith
+
+pub sooner_assoc : (a b c : Option ℕ) → sooner (sooner a b) c ≡ sooner a (sooner b c)
+sooner_assoc None None None = refl
+sooner_assoc None None (Some k) = refl
+sooner_assoc None (Some m) None = refl
+sooner_assoc None (Some m) (Some k) = refl
+sooner_assoc (Some n) None None = refl
+sooner_assoc (Some n) None (Some k) = refl
+sooner_assoc (Some n) (Some m) None = refl
+sooner_assoc (Some n) (Some m) (Some k) = ap Some (min_assoc n m k)
+
+pub by_left : (a b x : Option ℕ) → is_by a x ≡ true → is_by (sooner a b) x ≡ true
+by_left None None x h = h
+by_left None (Some m) None h = refl
+by_left None (Some m) (Some y) h = absurd (false≢true h)
+by_left (Some n) None x h = h
+by_left (Some n) (Some m) None h = refl
+by_left (Some n) (Some m) (Some y) h = le_true (min n m) y (omega (arith, le_from n y h))
+
+pub by_right : (a b x : Option ℕ) → is_by b x ≡ true → is_by (sooner a b) x ≡ true
+by_right None None x h = h
+by_right None (Some m) x h = h
+by_right (Some n) None None h = refl
+by_right (Some n) None (Some y) h = absurd (false≢true h)
+by_right (Some n) (Some m) None h = refl
+by_right (Some n) (Some m) (Some y) h = le_true (min n m) y (omega (arith, le_from m y h))
+
+pub by_both : (x a b : Option ℕ) → is_by x a ≡ true → is_by x b ≡ true → is_by x (sooner a b) ≡ true
+by_both x None None h k = h
+by_both x None (Some m) h k = k
+by_both x (Some n) None h k = h
+by_both None (Some n) (Some m) h k = absurd (false≢true h)
+by_both (Some y) (Some n) (Some m) h k = le_true y (min n m) (omega (arith, le_from y n h, le_from y m k))
+
+by_none : (x : Option ℕ) → is_by x None ≡ true
+by_none None = refl
+by_none (Some n) = refl
+
+-- what is by the sooner one is by both
+pub by_first : (x a b : Option ℕ) → is_by x (sooner a b) ≡ true → is_by x a ≡ true
+by_first x None b h = by_none x
+by_first x (Some n) None h = h
+by_first None (Some n) (Some m) h = absurd (false≢true h)
+by_first (Some y) (Some n) (Some m) h = le_true y n (omega (arith, le_from y (min n m) h))
+
+pub by_second : (x a b : Option ℕ) → is_by x (sooner a b) ≡ true → is_by x b ≡ true
+by_second x a None h = by_none x
+by_second x None (Some m) h = h
+by_second None (Some n) (Some m) h = absurd (false≢true h)
+by_second (Some y) (Some n) (Some m) h = le_true y m (omega (arith, le_from y (min n m) h))
+
+by_itself : (a : Option ℕ) → is_by a a ≡ true
+by_itself None = refl
+by_itself (Some n) = le_true n n (omega arith)
+
+by_each_other : (a b : Option ℕ) → is_by a b ≡ true → is_by b a ≡ true → a ≡ b
+by_each_other None None h k = refl
+by_each_other None (Some m) h k = absurd (false≢true h)
+by_each_other (Some n) None h k = absurd (false≢true k)
+by_each_other (Some n) (Some m) h k =
+    let e : n ≡ m = omega (arith, le_from n m h, le_from m n k) in
+    ap Some e
+
+-- ---- the soonest of a function
+
+pub same_soonest : (f h : ℕ → Option ℕ) (n : ℕ) → ((k : ℕ) → k < n → f k ≡ h k) → soonest_below f n ≡ soonest_below h n
+unfolding soonest_below
+same_soonest f h zero e = refl
+same_soonest f h (suc n) e = ap (λ x. sooner x (f n)) (same_soonest f h n (λ k lt. e k (omega arith)))
+    ∙ ap (λ x. sooner (soonest_below h n) x) (e n (omega arith))
+
+pub soonest_member : (f : ℕ → Option ℕ) (n k : ℕ) → k < n → is_by (soonest_below f n) (f k) ≡ true
+unfolding soonest_below
+soonest_member f zero k lt = absurd (omega arith)
+soonest_member f (suc n) k lt = ⊎_elim
+    (λ (e : k ≡ n). by_right (soonest_below f n) (f n) (f k)
+    (subst (λ m. is_by (f n) (f m) ≡ true) (sym e) (by_itself (f n))))
+    (λ (a : k ≡ n → ⊥). (let low : k < n = omega (arith, lt, a) in by_left (soonest_below f n) (f n) (f k) (soonest_member f n k low)))
+    (cases_eq k n)
+
+pub soonest_all : (f : ℕ → Option ℕ) (n : ℕ) (x : Option ℕ) → ((k : ℕ) → k < n → is_by x (f k) ≡ true) → is_by x (soonest_below f n) ≡ true
+unfolding soonest_below
+soonest_all f zero x h = by_none x
+soonest_all f (suc n) x h = by_both x (soonest_below f n) (f n) (soonest_all f n x (λ k lt. h k (omega arith))) (h n (omega arith))
+
+-- what is by all, and is one of them, is the soonest
+pub soonest_is : (f : ℕ → Option ℕ) (n : ℕ) (x : Option ℕ) → IfSome x (λ m. (k : ℕ) × (k < n) × (f k ≡ Some m))
+    → ((k : ℕ) → k < n → is_by x (f k) ≡ true) → x ≡ soonest_below f n
+soonest_is f n None taken h = by_each_other None (soonest_below f n) (soonest_all f n None h) (by_none (soonest_below f n))
+soonest_is f n (Some m) taken h = by_each_other (Some m) (soonest_below f n) (soonest_all f n (Some m) h)
+    (subst (λ y. is_by (soonest_below f n) y ≡ true) taken.2 (soonest_member f n taken.0 taken.1))
+
+-- ---- rows of places
+
+soonest_more : (g : ℕ → Option ℕ) (m n : ℕ)
+    → soonest_below g (m + n) ≡ sooner (soonest_below g m) (soonest_below (λ k. g (m + k)) n)
+unfolding soonest_below
+soonest_more g m zero =
+    let e : m + 0 ≡ m = omega arith in
+    ap (soonest_below g) e ∙ sym (sooner_none (soonest_below g m))
+soonest_more g m (suc n) =
+    let e : m + suc n ≡ suc (m + n) = omega arith in
+    ap (soonest_below g) e ∙ ap (λ x. sooner x (g (m + n))) (soonest_more g m n)
+    ∙ sooner_assoc (soonest_below g m) (soonest_below (λ k. g (m + k)) n) (g (m + n))
+
+soonest_rows : (g : ℕ → Option ℕ) (w rows : ℕ)
+    → soonest_below (λ a. soonest_below (λ c. g (a * w + c)) w) rows ≡ soonest_below g (rows * w)
+unfolding soonest_below
+soonest_rows g w zero =
+    let e : 0 ≡ 0 * w = grind arith in
+    ap (soonest_below g) e
+soonest_rows g w (suc rows) =
+    let e : suc rows * w ≡ rows * w + w = suc_times rows w in
+    ap (λ x. sooner x (soonest_below (λ c. g (rows * w + c)) w)) (soonest_rows g w rows)
+    ∙ sym (ap (soonest_below g) e ∙ soonest_more g (rows * w) w)
+  where
+    suc_times : (m n : ℕ) → suc m * n ≡ m * n + n
+    suc_times m n = grind arith
+
+-- the soonest over aggregators and numbers is that over the places
+pub soonest_places : (t : Table)
+    → soonest_below (λ k. ticks_until_wanted (slot_state t.states k)) (t.aggs * t.conversations) ≡ ticks_until_next_wanted t
+soonest_places t =
+    sym (soonest_rows (λ k. ticks_until_wanted (slot_state t.states k)) t.conversations t.aggs)
+    ∙ same_soonest _ _ t.aggs (λ a l. same_soonest _ _ t.conversations (λ c m. ap ticks_until_wanted (at a c m)))
+  where
+    at : (a c : ℕ) → c < t.conversations → slot_state t.states (a * t.conversations + c) ≡ assignment_of t (a + 1) c
+    at a c m =
+        let pos : 0 < a + 1 = omega arith in
+        let here : a * t.conversations + c ≡ slot_index t.conversations (a + 1) c = ap (λ n. n * t.conversations + c) (omega arith) in
+        ap (slot_state t.states) here ∙ sym (stated_in t.conversations t.states (a + 1) c pos m)
+
+-- ---- a walk
+
+-- one of the conversations is Wanted again in so many ticks
+abbrev pub IsTaken : ℕ → List Assignment → Option ℕ → Type 0
+IsTaken count states found = IfSome found (λ ticks. (k : ℕ) × (k < count) × (ticks_until_wanted (slot_state states k) ≡ Some ticks))
+
+taken_here : (count : ℕ) (states : List Assignment) (found : Option ℕ) (k : ℕ) → k < count
+    → found ≡ ticks_until_wanted (slot_state states k) → IsTaken count states found
+taken_here count states None k lt e = tt
+taken_here count states (Some n) k lt e = (k, lt, sym e)
+
+-- the sooner of two that are taken is taken
+pub taken_sooner : (count : ℕ) (states : List Assignment) (a b : Option ℕ) → IsTaken count states a → IsTaken count states b
+    → IsTaken count states (sooner a b)
+taken_sooner count states None None h k = tt
+taken_sooner count states None (Some m) h k = k
+taken_sooner count states (Some n) None h k = h
+taken_sooner count states (Some n) (Some m) h k = ⊎_elim
+    (λ (e : min n m ≡ n). subst (λ x. IsTaken count states (Some x)) (sym e) h)
+    (λ (a : min n m ≡ n → ⊥). (let e : min n m ≡ m = omega (arith, a) in subst (λ x. IsTaken count states (Some x)) (sym e) k))
+    (cases_eq (min n m) n)
+
+-- a walk along a chain has found the soonest of what it has seen
+pub record Seeking (chain count : ℕ) (states : List Assignment) (next prev : List ℕ) (at : ℕ) (found : Option ℕ) : Type 0 where
+  pub walk : Walking chain (λ s. s) count states states next prev at (λ s. true)
+  pub taken : IsTaken count states found
+  pub soonest : (k : ℕ) → occurs k walk.rest ≡ 0 → is_in_chain chain (slot_state states k) ≡ true
+      → is_by found (ticks_until_wanted (slot_state states k)) ≡ true
+
+pub seeking_begins : (chain count : ℕ) (states : List Assignment) (next prev : List ℕ) (h : IsChained count states next prev)
+    → chain < 64 → Seeking chain count states next prev (get_or next (count + chain) 0) None
+seeking_begins chain count states next prev h lt = record {
+  walk = walk_begins chain (λ s. s) count states next prev h lt (λ s. true);
+  taken = tt;
+  soonest = λ k none e. (let one : occurs k (h.chains chain) ≡ 1 = h.homes chain k ∙ ap (λ b. cond b 1 0) e in
+      absurd (omega (arith, none, one)));
+}
+
+module _ (chain count : ℕ) (states : List Assignment) (next prev : List ℕ) (at : ℕ) (found : Option ℕ)
+    (h : Seeking chain count states next prev at found) where
+  pub seeking_ends : at ≡ count + chain → (k : ℕ) → is_in_chain chain (slot_state states k) ≡ true
+      → is_by found (ticks_until_wanted (slot_state states k)) ≡ true
+  seeking_ends e k = h.soonest k
+      (ap (occurs k) (walk_over chain (λ s. s) count states states next prev at (λ s. true) h.walk e))
+
+  module _ (n : at ≡ count + chain → ⊥) where
+    pub seeking_below : at < count
+    seeking_below = walk_below chain (λ s. s) count states states next prev at (λ s. true) h.walk n
+
+    abbrev on_walk : Walking chain (λ s. s) count states states next prev (get_or next at 0) (λ s. true)
+    on_walk = record {
+      chained = h.walk.chained;
+      lt = h.walk.lt;
+      olds_len = h.walk.olds_len;
+      front = h.walk.front ++ at ∷ [];
+      rest = after_first h.walk.rest;
+      split = walk_split chain (λ s. s) count states states next prev at (λ s. true) h.walk n
+          ∙ sym (append_assoc h.walk.front (at ∷ []) (after_first h.walk.rest));
+      here = walk_next chain (λ s. s) count states states next prev at (λ s. true) h.walk n;
+      changed = λ k. sym (ap (cond (ltb 0 (occurs k (after_first h.walk.rest))) (slot_state states k))
+          (cond_same (is_in_chain chain (slot_state states k)) (slot_state states k))
+          ∙ cond_same (ltb 0 (occurs k (after_first h.walk.rest))) (slot_state states k));
+      noted = λ k none e. refl;
+    }
+
+    less : (k : ℕ) → (k ≡ at → ⊥) → occurs k h.walk.rest ≡ occurs k (after_first h.walk.rest)
+    less k m = omega (arith, ap (occurs k) (split_first h.walk.rest at (count + chain) h.walk.here n), one_other k at m)
+
+    pub seeking_on : (here found' : Option ℕ) (place : ℕ) → here ≡ ticks_until_wanted (slot_state states at)
+        → found' ≡ sooner found here → place ≡ get_or next at 0 → Seeking chain count states next prev place found'
+    seeking_on here found' place is e goes = subst (λ x. Seeking chain count states next prev place x) (sym e)
+        (subst (λ a. Seeking chain count states next prev a (sooner found here)) (sym goes) (record {
+          walk = on_walk;
+          taken = taken_sooner count states found here h.taken (taken_here count states here at seeking_below is);
+          soonest = λ k none stands. ⊎_elim
+              (λ (m : k ≡ at). by_right found here (ticks_until_wanted (slot_state states k))
+              (subst (λ x. is_by here x ≡ true) (is ∙ ap (λ j. ticks_until_wanted (slot_state states j)) (sym m)) (by_itself here)))
+              (λ (m : k ≡ at → ⊥). by_left found here (ticks_until_wanted (slot_state states k)) (h.soonest k (less k m ∙ none) stands))
+              (cases_eq k at);
+        }))
+
+    pub seeking_smaller : (place : ℕ) → place ≡ get_or next at 0
+        → steps next (count + chain) count place < steps next (count + chain) count at
+    seeking_smaller place goes =
+        let shorter : steps next (count + chain) count (get_or next at 0) ≡ length (after_first h.walk.rest) =
+        walk_steps chain (λ s. s) count states states next prev (get_or next at 0) (λ s. true) on_walk in
+        omega (
+          arith,
+          ap (steps next (count + chain) count) goes,
+          shorter,
+          walk_shorter chain (λ s. s) count states states next prev at (λ s. true) h.walk n,
+          walk_steps chain (λ s. s) count states states next prev at (λ s. true) h.walk,
+        )
+
+-- ---- chain by chain
+
+-- the soonest of the chains below this one was found
+pub record SeekingChains (chain count : ℕ) (states : List Assignment) (found : Option ℕ) : Type 0 where
+  pub taken : IsTaken count states found
+  pub soonest : (c k : ℕ) → c < chain → is_in_chain c (slot_state states k) ≡ true
+      → is_by found (ticks_until_wanted (slot_state states k)) ≡ true
+
+pub chains_begin : (count : ℕ) (states : List Assignment) → SeekingChains 0 count states None
+chains_begin count states = record { taken = tt; soonest = λ c k lt e. absurd (omega (arith, lt)) }
+
+pub chains_walked : (chain count : ℕ) (states : List Assignment) (found here found' : Option ℕ)
+    → SeekingChains chain count states found → found' ≡ sooner found here → IsTaken count states here
+    → ((k : ℕ) → is_in_chain chain (slot_state states k) ≡ true → is_by here (ticks_until_wanted (slot_state states k)) ≡ true)
+    → SeekingChains (chain + 1) count states found'
+chains_walked chain count states found here found' h e taken soonest = subst (SeekingChains (chain + 1) count states) (sym e) (record {
+  taken = taken_sooner count states found here h.taken taken;
+  soonest = λ c k lt stands. ⊎_elim
+      (λ (m : c ≡ chain). by_right found here (ticks_until_wanted (slot_state states k))
+      (soonest k (sym (ap (λ x. is_in_chain x (slot_state states k)) m) ∙ stands)))
+      (λ (m : c ≡ chain → ⊥). (let low : c < chain = omega (arith, lt, m) in
+      by_left found here (ticks_until_wanted (slot_state states k)) (h.soonest c k low stands)))
+      (cases_eq c chain);
+})
+
+-- where the flag 'Flushing' is clear, nothing is Flushing
+none_waits : (w f : Bool) → f ≡ false → (s : Assignment) → is_flagged w f s ≡ true → ticks_until_wanted s ≡ None
+none_waits w f none (Free preferred) h = refl
+none_waits w f none (On port) h = refl
+none_waits w f none (Wanted port preferred) h = refl
+none_waits w f none (Flushing port id preferred age) h = absurd (false≢true (sym none ∙ h))
+
+pub chains_passed : (chain count : ℕ) (states : List Assignment) (wanted flushing : List Bool) (found : Option ℕ)
+    → SeekingChains chain count states found → IsFlagged states wanted flushing → get_or flushing chain false ≡ false
+    → SeekingChains (chain + 1) count states found
+chains_passed chain count states wanted flushing found h f none = record {
+  taken = h.taken;
+  soonest = λ c k lt stands. ⊎_elim
+      (λ (m : c ≡ chain). (let here : is_in_chain chain (slot_state states k) ≡ true =
+      sym (ap (λ x. is_in_chain x (slot_state states k)) m) ∙ stands in
+      let never = none_waits (get_or wanted chain false) (get_or flushing chain false) none (slot_state states k) (f.flagged chain k here) in
+      ap (is_by found) never ∙ by_none found))
+      (λ (m : c ≡ chain → ⊥). (let low : c < chain = omega (arith, lt, m) in h.soonest c k low stands))
+      (cases_eq c chain);
+}
+
+some_chain : (found : Option ℕ) (s : Assignment)
+    → ((c : ℕ) → c < 64 → is_in_chain c s ≡ true → is_by found (ticks_until_wanted s) ≡ true) → is_by found (ticks_until_wanted s) ≡ true
+some_chain found (Free preferred) h = by_none found
+some_chain found (On port) h = by_none found
+some_chain found (Wanted port preferred) h = by_none found
+some_chain found (Flushing port id preferred age) h = h (chain_of port) (mod_below port 64 (omega arith))
+    (eq-eqb (chain_of port) (chain_of port) refl)
+
+pub chains_end : (count : ℕ) (states : List Assignment) (found : Option ℕ) → SeekingChains 64 count states found
+    → found ≡ soonest_below (λ k. ticks_until_wanted (slot_state states k)) count
+chains_end count states found h = soonest_is (λ k. ticks_until_wanted (slot_state states k)) count found h.taken
+    (λ k lt. some_chain found (slot_state states k) (λ c low. h.soonest c k low))
