@@ -44,3 +44,4 @@ pub mod Seen
 pub mod Distributing
 pub mod Sent
 pub mod Performed
+pub mod WaitingLemmas

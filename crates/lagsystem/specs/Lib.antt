@@ -23,3 +23,4 @@ pub mod PortStatus
 pub mod Due
 pub mod Texts
 pub mod Forcing
+pub mod Waiting

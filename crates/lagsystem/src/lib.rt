@@ -30,6 +30,7 @@ mod system_ports;
 mod system_readers;
 mod tick;
 mod transmit;
+mod waiting;
 
 pub use arrayvec::ArrayVec;
 pub use calls::System;

@@ -1,0 +1,10 @@
+use Rattle.std.proofs.Common.{◌≡◌, drop, map}
+use Rattle.distributor.specs.Waiting.{sooner}
+use Rattle.lagsystem.specs.Inner.{inner_state}
+use Rattle.lagsystem.specs.Waiting.{soonest, ticks_until_due, ticks_until_due_on}
+use Rattle.lagsystem.proofs.inner.Inner.ticks_until_due.Given as goal
+
+abbrev pub invariant-loop-system_port : goal.invariant-loop-system_port
+invariant-loop-system_port g l =
+    sooner l.first (soonest (map (ticks_until_due_on (inner_state l.self)) (drop l.system_port-index l.self.system_ports.items)))
+    ≡ ticks_until_due (inner_state l.self)
