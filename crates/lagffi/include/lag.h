@@ -256,6 +256,12 @@ struct niw_marker {
     uint32_t id; /* the next one, or 0 */
 };
 
+struct niw_wait {
+    uint32_t status;
+    bool ever;      /* whether something ever happens by itself */
+    uint16_t ticks; /* in how many ticks, 0 to 900, or 0 */
+};
+
 /* What there is to show of a port: no timer, and nothing that changes from tick to tick. */
 struct niw_view {
     uint16_t port;
@@ -316,6 +322,7 @@ struct niw_number lagffi_distributing(struct niw_system *handle, uint16_t agg, u
 struct niw_number lagffi_conversation(struct niw_system *handle, const uint8_t *frame, size_t length);
 struct niw_assignment lagffi_conversation_state(struct niw_system *handle, uint16_t agg, uint16_t conv);
 struct niw_marker lagffi_next_marker(struct niw_system *handle);
+struct niw_wait lagffi_ticks_until_due(struct niw_system *handle);
 
 /* The functions to call: they refuse a null pointer, and else pass on. */
 
@@ -561,6 +568,16 @@ static inline struct niw_assignment niw_conversation_state(struct niw_system *ha
 static inline struct niw_marker niw_next_marker(struct niw_system *handle) {
     struct niw_marker refused;
     if (handle) return lagffi_next_marker(handle);
+    memset(&refused, 0, sizeof refused);
+    refused.status = NIW_NULL;
+    return refused;
+}
+
+/* In how many ticks something happens by itself: 0 if a frame is due on some port. Until then a tick only counts timers down, so so
+ * many ticks may be made up at once, by niw_ticks. `ever` is false if nothing happens until the next call. */
+static inline struct niw_wait niw_ticks_until_due(struct niw_system *handle) {
+    struct niw_wait refused;
+    if (handle) return lagffi_ticks_until_due(handle);
     memset(&refused, 0, sizeof refused);
     refused.status = NIW_NULL;
     return refused;

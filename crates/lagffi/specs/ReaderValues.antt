@@ -25,6 +25,7 @@ use Rattle.lagffi.specs.declared.reader_values.LagGroup.{LagGroup}
 use Rattle.lagffi.specs.declared.reader_values.LagInfo.{LagInfo}
 use Rattle.lagffi.specs.declared.reader_values.LagMarker.{LagMarker}
 use Rattle.lagffi.specs.declared.reader_values.LagParty.{LagParty}
+use Rattle.lagffi.specs.declared.reader_values.LagWait.{LagWait}
 use Rattle.lagffi.specs.declared.values.LagNumber.{LagNumber}
 use Rattle.lagffi.specs.declared.values.LagTruth.{LagTruth}
 
@@ -231,3 +232,12 @@ marker_refused why = record { status = why; left = false; id = 0 }
 abbrev pub lag_marker : Option ℕ → LagMarker
 lag_marker (Some id) = record { status = 0; left = true; id = id }
 lag_marker None = record { status = 0; left = false; id = 0 }
+
+-- in how many ticks something happens by itself, refused with this number
+abbrev pub wait_refused : ℕ → LagWait
+wait_refused why = record { status = why; ever = false; ticks = 0 }
+
+-- so many ticks; None for never
+abbrev pub lag_wait : Option ℕ → LagWait
+lag_wait (Some ticks) = record { status = 0; ever = true; ticks = ticks }
+lag_wait None = record { status = 0; ever = false; ticks = 0 }

@@ -2,6 +2,7 @@ ghost use Rattle.std.specs.Prelude.{◌≡◌, Option};
 ghost use Rattle.lagffi.specs.ReaderValues.{lag_assignment_on, assignment_or_refused, lag_assignment, choice_or_no_port, lag_end};
 ghost use Rattle.lagffi.specs.ReaderValues.{group_or_no_port, lag_group, info_or_no_port, lag_info, lag_marker, mux_state_or_no_port};
 ghost use Rattle.lagffi.specs.ReaderValues.{assignment_refused, no_end, group_refused, info_refused, marker_refused, party_refused};
+ghost use Rattle.lagffi.specs.ReaderValues.{lag_wait, wait_refused};
 ghost use Rattle.lagtypes.specs.Choices.{is_standby};
 ghost use Rattle.lagffi.specs.ReaderValues.{choice_number, mux_state_number, port_status_number, receive_state_number};
 ghost use Rattle.lagffi.specs.ReaderValues.{port_status_or_no_port};
@@ -485,6 +486,49 @@ impl LagMarker {
                 status: OK,
                 left: false,
                 id: 0,
+            },
+        }
+    }
+}
+
+/// In how many ticks something happens by itself, or why it is not told.
+#[repr(C)]
+#[derive(Clone, Copy)]
+pub struct LagWait {
+    /// 0, or the number of the refusal.
+    pub status: u32,
+    /// Whether something ever happens by itself.
+    pub ever: bool,
+    /// The number of ticks, or 0.
+    pub ticks: u16,
+}
+
+impl LagWait {
+    /// Refused with this number.
+    pub(crate) fn refused(why: u32) -> LagWait
+        ensures { result ≡ wait_refused why }
+    {
+        LagWait {
+            status: why,
+            ever: false,
+            ticks: 0,
+        }
+    }
+
+    /// So many ticks; None for never.
+    pub(crate) fn of(wait: Option<u16>) -> LagWait
+        ensures { result ≡ lag_wait wait }
+    {
+        match wait {
+            Some(ticks) => LagWait {
+                status: OK,
+                ever: true,
+                ticks,
+            },
+            None => LagWait {
+                status: OK,
+                ever: false,
+                ticks: 0,
             },
         }
     }

@@ -11,6 +11,7 @@ ghost use Rattle.lagsystem.specs.Offers.{has_aggregator};
 ghost use Rattle.lagsystem.specs.PortStatus.{status_of_port};
 ghost use Rattle.lagsystem.specs.Readers.{aggregator_numbered, conversation_count, conversation_in, distributing, group_at};
 ghost use Rattle.lagsystem.specs.State.{port_numbers, port_index, machines_of};
+ghost use Rattle.lagsystem.specs.Waiting.{ticks_until_due};
 ghost use Rattle.lagffi.specs.Asking.{ReadsHeldSystem};
 ghost use Rattle.lagffi.specs.Holding.{held_value};
 ghost use Rattle.lagffi.specs.Lists.{port_list_length, put_first};
@@ -19,12 +20,13 @@ ghost use Rattle.lagffi.specs.Numbers.{truth_or_no_port};
 ghost use Rattle.lagffi.specs.ReaderValues.{assignment_or_refused, choice_or_no_port, group_or_no_port, info_or_no_port, lag_marker};
 ghost use Rattle.lagffi.specs.ReaderValues.{mux_state_or_no_port, assignment_refused, group_refused, info_refused, marker_refused};
 ghost use Rattle.lagffi.specs.ReaderValues.{party_refused, state_or_no_port, party_or_no_port, receive_state_or_no_port};
-ghost use Rattle.lagffi.specs.ReaderValues.{port_status_or_no_port, standby_or_no_port};
+ghost use Rattle.lagffi.specs.ReaderValues.{port_status_or_no_port, standby_or_no_port, lag_wait, wait_refused};
 
 use crate::handle::Lag;
 use crate::reader_values::{
-    LagAssignment, LagGroup, LagInfo, LagMarker, LagParty, choice_or_no_port, mux_state_or_no_port,
-    port_status_or_no_port, receive_state_or_no_port, standby_or_no_port, state_or_no_port,
+    LagAssignment, LagGroup, LagInfo, LagMarker, LagParty, LagWait, choice_or_no_port,
+    mux_state_or_no_port, port_status_or_no_port, receive_state_or_no_port, standby_or_no_port,
+    state_or_no_port,
 };
 use crate::stored::by_number;
 use crate::values::{
@@ -355,6 +357,21 @@ pub extern "C" fn lagffi_next_marker(alloc: Global, lag: &mut Lag) -> LagMarker
     };
     let system = kept.with_algorithm(by_number);
     let answer = LagMarker::of(system.next_marker());
+    lag.put(system.with_algorithm(()), block);
+    answer
+}
+
+/// In how many ticks something happens by itself; `ever` is false if nothing does without a call.
+#[unsafe(no_mangle)]
+pub extern "C" fn lagffi_ticks_until_due(alloc: Global, lag: &mut Lag) -> LagWait
+    ensures { ReadsHeldSystem (held_value lag.old.held.kept) (held_value lag.new.held.kept)
+        (λ s. result ≡ lag_wait (ticks_until_due s)) (result ≡ wait_refused no_system) }
+{
+    let Some((kept, block)) = lag.take(alloc) else {
+        return LagWait::refused(NO_SYSTEM);
+    };
+    let system = kept.with_algorithm(by_number);
+    let answer = LagWait::of(system.ticks_until_due());
     lag.put(system.with_algorithm(()), block);
     answer
 }

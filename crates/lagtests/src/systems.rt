@@ -11,6 +11,7 @@ mod plan;
 mod standby;
 mod statuses;
 mod truncated;
+mod waiting;
 mod wide;
 
 ghost use Rattle.std.specs.Prelude.{◌≡◌, ◌<◌};
@@ -78,6 +79,8 @@ enum Row<'a> {
     Conversing(u16, u16, Option<Assignment>),
     /// `next_marker` returns this.
     Next(Option<u32>),
+    /// `ticks_until_due` returns this.
+    Waits(Option<u16>),
     /// `ports` returns these, and `aggregators` this number.
     Has(&'a [u16], usize),
 }
@@ -312,6 +315,7 @@ fn tells<F: Fn(u16, usize) -> usize + Drop>(
             "row {place}"
         ),
         Row::Next(id) => assert_eq!(rt; system.next_marker(), id, "row {place}"),
+        Row::Waits(ticks) => assert_eq!(rt; system.ticks_until_due(), ticks, "row {place}"),
         Row::Has(ports, aggregators) => {
             assert_eq!(rt; system.ports().as_slice(), ports, "row {place}");
             assert_eq!(rt; system.aggregators(), aggregators, "row {place}");

@@ -1,0 +1,8 @@
+use mathlib.Core.Path.{◌∙◌, ap}
+use Rattle.lagffi.specs.ReaderValues.{lag_wait}
+use Rattle.lagffi.proofs.AskingLemmas.{asked}
+use Rattle.lagffi.proofs.readers.lagffi_ticks_until_due.Goals as goal
+
+pub returns : goal.returns
+returns c = asked _ _ c.in-Some.ensures.taken c.with_algorithm-system.ensures.state c.with_algorithm.ensures.state c.put.ensures
+    (c.of-answer.ensures ∙ ap lag_wait c.ticks_until_due.ensures)

@@ -1,0 +1,144 @@
+use crate::systems::{DATA, Row, config, end, joined, no_partner, plays};
+use std::test::Fail;
+
+/// A port with Short Timeout, whose partner has Long Timeout, comes up: its periodic timer, then wait_while, then
+/// current_while runs out first.
+fn one_comes_up() -> [Row<'static>; 24] {
+    [
+        Row::Waits(None),
+        Row::Link(1, true),
+        // Fast_Periodic_Time
+        Row::Waits(Some(10)),
+        Row::Ticks(9),
+        Row::Waits(Some(1)),
+        Row::Ticks(1),
+        Row::Waits(Some(0)),
+        Row::Sends(1, end(1, 1, 1, 0xc7), no_partner(0x02)),
+        Row::Waits(Some(10)),
+        Row::Takes(1, end(2, 1, 1, 0x05), end(1, 1, 1, 0x07)),
+        // Aggregate_Wait_Time, before 30 ticks of current_while and 300 of periodic_timer
+        Row::Waits(Some(20)),
+        Row::Ticks(19),
+        Row::Waits(Some(1)),
+        Row::Ticks(1),
+        Row::Waits(Some(0)),
+        Row::Sends(1, end(1, 1, 1, 0x0f), end(2, 1, 1, 0x05)),
+        Row::Waits(Some(10)),
+        Row::Takes(1, end(2, 1, 1, 0x05), end(1, 1, 1, 0x0f)),
+        // Short_Timeout_Time
+        Row::Waits(Some(30)),
+        Row::Ticks(29),
+        Row::Waits(Some(1)),
+        // EXPIRED: the partner has Short Timeout, so an LACPDU is due
+        Row::Ticks(1),
+        Row::Waits(Some(0)),
+        Row::Timers(1, 30, 0, true),
+    ]
+}
+
+/// Three LACPDUs are sent; a fourth has to wait until the first of them leaves the window.
+fn three_are_sent() -> [Row<'static>; 20] {
+    let other_view = Row::Takes(1, end(2, 1, 1, 0x05), end(1, 1, 1, 0x0f));
+    let sent = Row::Sends(1, end(1, 1, 1, 0x07), end(2, 1, 1, 0x05));
+    [
+        Row::Link(1, true),
+        other_view,
+        Row::Waits(Some(0)),
+        sent,
+        Row::Waits(Some(20)),
+        Row::Ticks(6),
+        other_view,
+        sent,
+        Row::Ticks(3),
+        other_view,
+        sent,
+        Row::Waits(Some(11)),
+        // their ages are 9, 3 and 0
+        other_view,
+        Row::Waits(Some(2)),
+        Row::Ticks(1),
+        // 10, 4 and 1
+        Row::Waits(Some(1)),
+        Row::Silent(1),
+        Row::Ticks(1),
+        Row::Waits(Some(0)),
+        sent,
+    ]
+}
+
+#[test]
+fn the_first_timer_of_a_port_is_told(rt: HostRuntime) -> Result<(), Fail> {
+    let given = config(rt.alloc(), &[1], 1)?;
+    plays(&rt, rt.alloc(), given, &one_comes_up())?;
+    Ok(())
+}
+
+#[test]
+fn room_in_the_window_is_told(rt: HostRuntime) -> Result<(), Fail> {
+    let given = config(rt.alloc(), &[1], 1)?;
+    plays(&rt, rt.alloc(), given, &three_are_sent())?;
+    Ok(())
+}
+
+/// Two ports of one aggregator distribute, and hear their peer again.
+fn both_distribute() -> [Row<'static>; 15] {
+    [
+        Row::Link(1, true),
+        Row::Link(2, true),
+        Row::Takes(1, end(2, 1, 1, 0x0d), end(1, 1, 1, 0x07)),
+        Row::Takes(2, end(2, 2, 1, 0x0d), end(1, 2, 1, 0x07)),
+        Row::Waits(Some(20)),
+        Row::Ticks(20),
+        Row::Distributing(1, &[1, 2]),
+        Row::Waits(Some(0)),
+        Row::Sends(1, end(1, 1, 1, 0x3f), end(2, 1, 1, 0x0d)),
+        Row::Waits(Some(0)),
+        Row::Sends(2, end(1, 2, 1, 0x3f), end(2, 2, 1, 0x0d)),
+        Row::Waits(Some(10)),
+        Row::Takes(1, end(2, 1, 1, 0x3d), end(1, 1, 1, 0x3f)),
+        Row::Waits(Some(10)),
+        Row::Takes(2, end(2, 2, 1, 0x3d), end(1, 2, 1, 0x3f)),
+    ]
+}
+
+/// A conversation waits for the response to a marker, which never comes. Then both links go down.
+fn a_marker_is_lost() -> [Row<'static>; 25] {
+    [
+        Row::Waits(Some(30)),
+        Row::Offers(1, &DATA, Ok(1)),
+        Row::Waits(Some(30)),
+        Row::Moves(1, 48, 2, Ok(())),
+        Row::Waits(Some(0)),
+        Row::Marks(1, 1),
+        Row::Ticks(12),
+        Row::Takes(1, end(2, 1, 1, 0x3d), end(1, 1, 1, 0x3f)),
+        Row::Takes(2, end(2, 2, 1, 0x3d), end(1, 2, 1, 0x3f)),
+        // at the 30th tick after the marker
+        Row::Waits(Some(18)),
+        Row::Ticks(17),
+        Row::Waits(Some(1)),
+        Row::Ticks(1),
+        Row::Waits(Some(0)),
+        Row::Marks(1, 2),
+        // current_while
+        Row::Waits(Some(12)),
+        Row::Link(1, false),
+        Row::Link(2, false),
+        // Timers go on while the link is down: current_while has 12 ticks left, and periodic_timer 250.
+        Row::Waits(Some(12)),
+        Row::Ticks(12),
+        Row::Waits(Some(238)),
+        Row::Ticks(237),
+        Row::Waits(Some(1)),
+        Row::Ticks(1),
+        Row::Waits(None),
+    ]
+}
+
+#[test]
+fn the_wait_for_a_response_is_told(rt: HostRuntime) -> Result<(), Fail> {
+    let given = config(rt.alloc(), &[1, 2], 1)?;
+    let rows = joined(rt.alloc(), &[&both_distribute(), &a_marker_is_lost()])?;
+    plays(&rt, rt.alloc(), given, &rows)?;
+    Ok(())
+}
