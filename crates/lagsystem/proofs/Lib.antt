@@ -45,3 +45,5 @@ pub mod Distributing
 pub mod Sent
 pub mod Performed
 pub mod WaitingLemmas
+pub mod QuietTicks
+pub mod QuietRuns

@@ -24,3 +24,4 @@ pub mod Due
 pub mod Texts
 pub mod Forcing
 pub mod Waiting
+pub mod Quiet

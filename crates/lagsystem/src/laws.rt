@@ -1,5 +1,6 @@
 ghost use Rattle.lagsystem.specs.SecondSettling.{SecondSettlingIsNothing};
 ghost use Rattle.lagsystem.specs.Due.{TransmitsWhatIsDue};
+ghost use Rattle.lagsystem.specs.Quiet.{QuietUntilDue};
 ghost use Rattle.std.specs.Prelude.{◌≡◌};
 ghost use Rattle.lagsystem.specs.First.{IsFirst};
 ghost use Rattle.lagsystem.specs.State.{SystemState, with_system_ports, with_table};
@@ -31,6 +32,13 @@ pub fn settling_again_is_nothing()
 /// `transmit` returns a frame on a port exactly if `is_due` is true there (profile).
 pub fn transmit_answers_what_is_due()
     ensures { TransmitsWhatIsDue }
+{}
+
+/// While fewer ticks pass than `ticks_until_due` tells, and no other call comes, a tick only counts timers down and ages
+/// up: no frame gets due, the same ports distribute in each aggregator, and each conversation stays in its state; where
+/// `ticks_until_due` tells None, for ever (profile).
+pub fn ticks_only_count_until_due<F: Fn(u16, usize) -> usize>()
+    ensures { (algorithm : F) → QuietUntilDue (F.post algorithm) }
 {}
 
 /// A call of a system has at most one reply and leads to at most one state, and so does a list of calls, if the

@@ -1,0 +1,214 @@
+-- A run of ticks in which nothing is soon.
+use Rattle.std.proofs.Common.{◌≡◌, ◌∙◌, ℕ, zero, suc, ◌+◌, ◌-◌, ◌≤◌, ◌<◌, true, false, List, [], ◌∷◌, map, replicate, Option, Some, None}
+use Rattle.std.proofs.Common.{refl, sym, ap, subst, arith, slice_get, option_map}
+use Rattle.std.specs.Prelude.{is_some}
+use Rattle.std.specs.List.{AllByRecursion}
+use Rattle.std.proofs.lemmas.Bool.{false≢true}
+use Rattle.std.proofs.lemmas.Bool.Decides.{nat_tests}
+use Rattle.std.proofs.lemmas.Option.{none-some, same_Some}
+use Rattle.lagtypes.specs.declared.identifiers.Key.{Key}
+use Rattle.selection.specs.Limits.{AggregatorsValue}
+use Rattle.distributor.specs.Calls.{is_among}
+use Rattle.distributor.specs.Changes.{after_tick}
+use Rattle.distributor.specs.Conversations.{IsConversation, assignment_of}
+use Rattle.distributor.specs.Moves.{model_conversation}
+use Rattle.distributor.specs.Waiting.{is_by, ticks_until_next_wanted}
+use Rattle.distributor.specs.declared.assignment.Assignment.TheVariants.{On}
+use Rattle.distributor.proofs.WaitLemmas.{by_both, by_first, by_second}
+use Rattle.lagsystem.specs.declared.drive.Reply.TheVariants as reply
+use Rattle.lagsystem.specs.declared.system_ports.SystemPort.{SystemPort}
+use Rattle.lagsystem.specs.Calls.{Step, TableRun, Tick}
+use Rattle.lagsystem.specs.Hosts.{would_transmit}
+use Rattle.lagsystem.specs.NothingToSettle.{MuxIsSettled, MuxesAreSettled, PeriodicsAreSettled}
+use Rattle.lagsystem.specs.Occupants.{NoneIsNext}
+use Rattle.lagsystem.specs.Quiet.{IsBeyond, NothingIsDue, OnlyCounted, counted, counted_times}
+use Rattle.lagsystem.specs.Readers.{aggregator_numbered, distributing}
+use Rattle.lagsystem.specs.Settling.{HoldsConversations, Settling}
+use Rattle.lagsystem.specs.Sound.{IsSound}
+use Rattle.lagsystem.specs.State.{SystemState, aggregators_value, port_index, system_port_at}
+use Rattle.lagsystem.specs.Views.{views}
+use Rattle.lagsystem.specs.Waiting.{soonest, ticks_until_due, ticks_until_due_on, ticks_until_expired, ticks_until_frame, ticks_until_room}
+use Rattle.lagsystem.proofs.Keeps.{settling_joined}
+use Rattle.lagsystem.proofs.OneSettling.{SameAfter, settlings_one}
+use Rattle.lagsystem.proofs.Quieting.{paced_runs, still_settles}
+use Rattle.lagsystem.proofs.QuietTicks.{Lasts, PortLasts, Remains, TableTicked, carried_on, counted_distributing, counted_paced}
+use Rattle.lagsystem.proofs.QuietTicks.{counted_ports, counted_view, counted_views, each_lasts, each_remains, frame_not, on_before}
+use Rattle.lagsystem.proofs.QuietTicks.{same_marker, table_lasts, table_remains, waits_on}
+use Rattle.lagsystem.proofs.Rising.{all-get}
+use Rattle.lagsystem.proofs.Skipping.{alike_still, all_among}
+use Rattle.lagsystem.proofs.Sound.{Step-sound}
+
+-- what a tick does in which nothing is soon
+record OneTick (j : ℕ) (old new : SystemState) : Type 0 where
+  pub remains : Remains j (ticks_until_due new)
+  pub ports : new.system_ports ≡ map counted old.system_ports
+  pub table : TableTicked old.table new.table
+
+still_counted : (j : ℕ) (s : SystemState) (keys : List Key) (system_ports xs : List SystemPort) → AllByRecursion (PortLasts j s) xs
+    → AllByRecursion (MuxIsSettled keys system_ports) xs → AllByRecursion (MuxIsSettled keys system_ports) (map counted xs)
+still_counted j s keys system_ports [] l h = tt
+still_counted j s keys system_ports (x ∷ xs) l h =
+    (alike_still keys system_ports x (counted x) (counted_view j s x l.0) h.0.mux h.0, still_counted j s keys system_ports xs l.1 h.1)
+
+one_tick : (gives : ℕ → ℕ → ℕ → Type 0) (j : ℕ) (old new : SystemState) → IsSound old → Lasts j (ticks_until_due old)
+    → Step gives old Tick reply.Tick new → OneTick j old new
+one_tick gives j old new s h step = record {
+  remains = by_both (Some (j + 1)) (ticks_until_next_wanted new.table) (soonest (map (ticks_until_due_on new) new.system_ports))
+      (table_remains j old.table new.table table waits)
+      (subst (λ l. Remains j (soonest (map (ticks_until_due_on new) l))) (sym ports)
+      (each_remains j old new old.system_ports (λ n. ap is_some (same_marker n j old.table new.table table waits)) each));
+  ports = ports;
+  table = table;
+}
+  where
+    mid : SystemState
+    mid = step.0
+
+    waits : Lasts j (ticks_until_next_wanted old.table)
+    waits = by_first (Some (j + 2)) (ticks_until_next_wanted old.table) (soonest (map (ticks_until_due_on old) old.system_ports)) h
+
+    each : AllByRecursion (PortLasts j old) old.system_ports
+    each = each_lasts j old old.system_ports
+        (by_second (Some (j + 2)) (ticks_until_next_wanted old.table) (soonest (map (ticks_until_due_on old) old.system_ports)) h)
+
+    all_counted : mid.system_ports ≡ map counted old.system_ports
+    all_counted = counted_ports j old old.system_ports mid.system_ports each s.rested.0 step.1.0
+
+    seen : views (map counted old.system_ports) ≡ views old.system_ports
+    seen = counted_views j old old.system_ports each
+
+    aggs : aggregators_value mid ≡ aggregators_value old
+    aggs = ap aggregators_value step.1.2
+
+    muxes : MuxesAreSettled mid.keys mid.system_ports
+    muxes = subst (λ l. MuxesAreSettled mid.keys l) (sym all_counted)
+        (subst (λ (a : AggregatorsValue). MuxesAreSettled a.keys (map counted old.system_ports)) (sym aggs)
+        (all_among old.keys old.system_ports (map counted old.system_ports) (map counted old.system_ports) seen
+        (still_counted j old old.keys old.system_ports old.system_ports each s.quiet.0)))
+
+    none : NoneIsNext (aggregators_value mid) (views mid.system_ports)
+    none = subst (λ l. NoneIsNext (aggregators_value mid) (views l)) (sym all_counted)
+        (subst (λ l. NoneIsNext (aggregators_value mid) l) (sym seen)
+        (subst (λ a. NoneIsNext a (views old.system_ports)) (sym aggs) s.promoted))
+
+    paced : PeriodicsAreSettled mid.system_ports
+    paced = subst PeriodicsAreSettled (sym all_counted) (counted_paced j old old.system_ports each s.quiet.1)
+
+    on_distributing : (g k p : ℕ) → assignment_of mid.table g k ≡ On p
+        → is_among (distributing (aggregator_numbered g) mid.system_ports) p ≡ true
+    on_distributing g k p e =
+        ap (λ l. is_among l p) (ap (distributing (aggregator_numbered g)) all_counted
+        ∙ counted_distributing (aggregator_numbered g) old.system_ports)
+        ∙ s.carried g k p (on_before (assignment_of old.table g k) p (sym (step.1.1.states g k) ∙ e))
+
+    holds : HoldsConversations mid mid
+    holds = record {
+      frame = refl;
+      aggs = refl;
+      conversations = refl;
+      first = refl;
+      next = refl;
+      states = λ g k. carried_on (distributing (aggregator_numbered g) mid.system_ports) (assignment_of mid.table g k)
+          (λ p e. on_distributing g k p e);
+    }
+
+    still : Settling mid mid
+    still = settling_joined mid mid mid (still_settles mid mid.system_ports muxes none (paced_runs mid.system_ports paced)) holds
+
+    after : SameAfter mid new
+    after = settlings_one mid mid mid new
+        (refl, record { aggs = refl; conversations = refl; first = refl; next = refl; states = λ g k. refl }) refl still step.2
+
+    ports : new.system_ports ≡ map counted old.system_ports
+    ports = after.0 ∙ all_counted
+
+    table : TableTicked old.table new.table
+    table = record {
+      aggs = after.1.aggs ∙ step.1.1.aggs;
+      conversations = after.1.conversations ∙ step.1.1.conversations;
+      next = after.1.next ∙ step.1.1.next;
+      states = λ g k. after.1.states g k ∙ step.1.1.states g k;
+    }
+
+-- nothing is due
+
+none_due : (k : ℕ) (s : SystemState) (xs : List SystemPort) → is_by (Some (k + 1)) (soonest (map (ticks_until_due_on s) xs)) ≡ true
+    → AllByRecursion (λ x. would_transmit s x ≡ false) xs
+none_due k s [] h = tt
+none_due k s (x ∷ xs) h =
+    let c = Some (k + 1) in
+    let rest = soonest (map (ticks_until_due_on s) xs) in
+    let others =
+    soonest
+    (ticks_until_expired x.port.current_while
+    ∷ ticks_until_expired x.port.periodic_timer
+    ∷ ticks_until_expired x.port.wait_while
+    ∷ ticks_until_room x.port
+    ∷ []) in (
+      frame_not k (would_transmit s x) (by_first c (ticks_until_frame s x) others (by_first c (ticks_until_due_on s x) rest h)),
+      none_due k s xs (by_second c (ticks_until_due_on s x) rest h),
+    )
+
+nothing_due : (k : ℕ) (s : SystemState) → Remains k (ticks_until_due s) → NothingIsDue s
+nothing_due k s h n = at (port_index n s.system_ports)
+  where
+    each : AllByRecursion (λ x. would_transmit s x ≡ false) s.system_ports
+    each = none_due k s s.system_ports
+        (by_second (Some (k + 1)) (ticks_until_next_wanted s.table) (soonest (map (ticks_until_due_on s) s.system_ports)) h)
+
+    found : (i : ℕ) (r : Option SystemPort) → slice_get s.system_ports i ≡ r → option_map (would_transmit s) r ≡ Some true → ⊥
+    found i None e t = none-some true t
+    found i (Some x) e t =
+        false≢true (sym (all-get (λ x. would_transmit s x ≡ false) s.system_ports i x e each) ∙ same_Some (would_transmit s x) true t)
+
+    at : (o : Option ℕ) → option_map (would_transmit s) (system_port_at o s.system_ports) ≡ Some true → ⊥
+    at None t = none-some true t
+    at (Some i) t = found i (slice_get s.system_ports i) refl t
+
+beyond : (m : ℕ) (x : Option ℕ) → IsBeyond m x → Remains m x
+beyond m None h = refl
+beyond m (Some n) h = let l : m + 1 ≤ n = omega (arith, h) in grind (arith, nat_tests)
+
+-- one such tick before m others
+joined : (m : ℕ) (old mid new : SystemState) → Lasts m (ticks_until_due old) → OneTick m old mid → OnlyCounted m mid new
+    → OnlyCounted (suc m) old new
+joined m old mid new lasts one rest = record {
+  due = rest.due;
+  ports = rest.ports ∙ ap (counted_times m) one.ports;
+  distributing = λ agg. rest.distributing agg ∙ ap (distributing agg) one.ports ∙ counted_distributing agg old.system_ports;
+  conversations = λ g k i. rest.conversations g k (
+    i.0,
+    subst (λ n. g ≤ n) (sym one.table.aggs) i.1,
+    subst (λ n. k < n) (sym one.table.conversations) i.2,
+  ) ∙ ap model_conversation (one.table.states g k) ∙ same g k i;
+}
+  where
+    waits : Lasts m (ticks_until_next_wanted old.table)
+    waits = by_first (Some (m + 2)) (ticks_until_next_wanted old.table) (soonest (map (ticks_until_due_on old) old.system_ports)) lasts
+
+    same : (g k : ℕ) → IsConversation old.table g k
+        → model_conversation (after_tick (assignment_of old.table g k)) ≡ model_conversation (assignment_of old.table g k)
+    same g k i =
+        let e : (g - 1) + 1 ≡ g = omega (arith, i.0) in
+        let below : g - 1 < old.table.aggs = omega (arith, i.0, i.1) in
+        subst (λ a. model_conversation (after_tick (assignment_of old.table a k)) ≡ model_conversation (assignment_of old.table a k)) e
+        (waits_on m (assignment_of old.table ((g - 1) + 1) k) (table_lasts m old.table waits (g - 1) k below i.2)).same
+
+run : (gives : ℕ → ℕ → ℕ → Type 0) (m : ℕ) (old new : SystemState) → IsSound old → Remains m (ticks_until_due old)
+    → TableRun gives old (replicate m Tick) (replicate m reply.Tick) new → OnlyCounted m old new
+run gives zero old new s h e = subst (OnlyCounted 0 old) (sym e) (record {
+  due = nothing_due 0 old h;
+  ports = refl;
+  distributing = λ agg. refl;
+  conversations = λ g k i. refl;
+})
+run gives (suc m) old new s h r =
+    let e : suc m + 1 ≡ m + 2 = omega arith in
+    let lasts = subst (λ n. is_by (Some n) (ticks_until_due old) ≡ true) e h in
+    let one = one_tick gives m old r.0 s lasts r.1 in
+    joined m old r.0 new lasts one (run gives m r.0 new (Step-sound gives old Tick reply.Tick r.0 r.1 s) one.remains r.2)
+
+-- until the ticks have passed, a tick only counts
+pub quiet_run : (gives : ℕ → ℕ → ℕ → Type 0) (m : ℕ) (old new : SystemState) → IsSound old → IsBeyond m (ticks_until_due old)
+    → TableRun gives old (replicate m Tick) (replicate m reply.Tick) new → OnlyCounted m old new
+quiet_run gives m old new s h r = run gives m old new s (beyond m (ticks_until_due old) h) r

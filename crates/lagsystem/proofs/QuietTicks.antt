@@ -1,0 +1,403 @@
+-- A tick in which nothing is soon.
+use Rattle.std.proofs.Common.{◌≡◌, ◌∙◌, ℕ, zero, suc, ◌+◌, ◌-◌, ◌==◌, ◌≤◌, ◌<◌, Bool, true, false, cond, not, ◌&&◌, ◌||◌, List, [], ◌∷◌}
+use Rattle.std.proofs.Common.{map, filter, length, Option, Some, None, nat_le, nat_lt, refl, sym, ap, subst, arith, inl, inr, ◌⊎◌}
+use Rattle.std.proofs.Common.{if◌then◌else◌}
+use Rattle.std.specs.Prelude.{ltb, is_some, ◌^◌}
+use Rattle.std.specs.Bool.{IsFalse}
+use Rattle.std.specs.List.{AllByRecursion}
+use Rattle.std.proofs.lemmas.Bool.{cases_Bool, cond-true, cond-false, false≢true, lt-ltb}
+use Rattle.std.proofs.lemmas.Bool.Decides.{nat_tests}
+use Rattle.lagtypes.specs.declared.identifiers.AggId.{AggId}
+use Rattle.portmachines.specs.declared.mux.MuxState.{MuxState}
+use Rattle.portmachines.specs.declared.mux.MuxState.TheVariants.{Detached, Waiting, Attached, CollectingDistributing}
+use Rattle.portmachines.specs.declared.periodic.PeriodicState.TheVariants.{NoPeriodic, Fast, Slow, PeriodicTx}
+use Rattle.portmachines.specs.declared.receive.ReceiveState.TheVariants.{Expired, Current}
+use Rattle.portmachines.specs.Calls.{Tick as PortTick}
+use Rattle.portmachines.specs.Machines.{Machines}
+use Rattle.portmachines.specs.Mux.{set_ntt}
+use Rattle.portmachines.specs.Periodic.{is_silent, partner_short, periodic_row, same_periodic_state, start_periodic}
+use Rattle.portmachines.specs.Receive.{receive_rows, same_receive_state}
+use Rattle.portmachines.specs.Rows.{AtRest, Row, RunsToRest, in_order}
+use Rattle.portmachines.specs.Transmit.{aged, count_down}
+use Rattle.portmachines.proofs.Choices.{one_effect}
+use Rattle.distributor.specs.declared.assignment.Assignment.{Assignment}
+use Rattle.distributor.specs.declared.assignment.Assignment.TheVariants.{Free, On, Wanted, Flushing}
+use Rattle.distributor.specs.Calls.{is_among}
+use Rattle.distributor.specs.Changes.{after_tick, marker_due, wants_marker}
+use Rattle.distributor.specs.Conversations.{Table, assignment_of, count_conversations, sum_below}
+use Rattle.distributor.specs.Moves.{model_conversation}
+use Rattle.distributor.specs.Waiting.{is_by, soonest_below, ticks_until_next_wanted, ticks_until_wanted}
+use Rattle.distributor.proofs.WaitLemmas.{by_both, by_first, by_second, soonest_all}
+use Rattle.distributor.proofs.WalkLemmas.{same_sum}
+use Rattle.selection.specs.declared.view.Stage.{Stage}
+use Rattle.lagsystem.specs.declared.system_ports.SystemPort.{SystemPort}
+use Rattle.lagsystem.specs.Hosts.{would_transmit}
+use Rattle.lagsystem.specs.ModelView.{none_enabled}
+use Rattle.lagsystem.specs.NothingToSettle.{PeriodicIsSettled}
+use Rattle.lagsystem.specs.Quiet.{counted}
+use Rattle.lagsystem.specs.Readers.{distributes_in, distributing}
+use Rattle.lagsystem.specs.Settling.{PortsChangeBy, held_unless_on}
+use Rattle.lagsystem.specs.State.{SystemState}
+use Rattle.lagsystem.specs.Views.{selection_view, stage_of, views}
+use Rattle.lagsystem.specs.Waiting.{soonest, ticks_in_window, ticks_until_due_on, ticks_until_expired, ticks_until_frame, ticks_until_room}
+
+-- ---- numbers of ticks
+
+le_true : (a b : ℕ) → a ≤ b → nat_le a b ≡ true
+le_true a b h = grind (arith, nat_tests)
+
+le_from : (a b : ℕ) → nat_le a b ≡ true → a ≤ b
+le_from a b h = grind (arith, nat_tests)
+
+lt_true : (a b : ℕ) → a < b → nat_lt a b ≡ true
+lt_true a b h = grind (arith, nat_tests)
+
+lt_from : (a b : ℕ) → nat_lt a b ≡ true → a < b
+lt_from a b h = grind (arith, nat_tests)
+
+by_none : (x : Option ℕ) → is_by x None ≡ true
+by_none None = refl
+by_none (Some n) = refl
+
+-- more than j + 1 ticks, and more than j ticks
+abbrev pub Lasts : ℕ → Option ℕ → Type 0
+Lasts j x = is_by (Some (j + 2)) x ≡ true
+
+abbrev pub Remains : ℕ → Option ℕ → Type 0
+Remains j x = is_by (Some (j + 1)) x ≡ true
+
+-- ---- timers
+
+-- a timer has expired, or does not expire soon
+lasting : (j t : ℕ) (b : Bool) → nat_lt 0 t ≡ b → Lasts j (if b then Some t else None) → (t ≡ 0) ⊎ (j + 2 ≤ t)
+lasting j t true e h = inr (le_from (j + 2) t h)
+lasting j t false e h = let z : t ≡ 0 = grind (arith, nat_tests) in inl z
+
+timer_alike : (j t : ℕ) → Lasts j (ticks_until_expired t) → (t - 1 == 0) ≡ (t == 0)
+timer_alike j t h = elim (lasting j t (nat_lt 0 t) refl h) [
+  | inl z ↦ (let e : t - 1 ≡ t = omega (arith, z) in ap (λ n. n == 0) e)
+  | inr l ↦ (let a : (t - 1 == 0) ≡ false = grind (arith, nat_tests) in let b : (t == 0) ≡ false = grind (arith, nat_tests) in a ∙ sym b)
+]
+
+remaining : (j t : ℕ) (b : Bool) → nat_lt 0 t ≡ b → j + 1 ≤ t → Remains j (if b then Some t else None)
+remaining j t true e h = le_true (j + 1) t h
+remaining j t false e h = refl
+
+timer_remains : (j t : ℕ) → Lasts j (ticks_until_expired t) → Remains j (ticks_until_expired (t - 1))
+timer_remains j t h = elim (lasting j t (nat_lt 0 t) refl h) [
+  | inl z ↦ (let e : t - 1 ≡ 0 = omega (arith, z) in subst (λ n. Remains j (ticks_until_expired n)) (sym e) refl)
+  | inr l ↦ remaining j (t - 1) (nat_lt 0 (t - 1)) refl (omega (arith, l))
+]
+
+-- ---- the transmit window
+
+aged_on : (a : ℕ) (more : List ℕ) → a + 1 < 11 → aged (a ∷ more) ≡ (a + 1) ∷ aged more
+aged_on a more h = ap (λ b. cond b ((a + 1) ∷ aged more) (aged more)) (lt_true (a + 1) 11 h)
+
+window_on : (j : ℕ) (ages : List ℕ) → Lasts j (soonest (map ticks_in_window ages))
+    → (length (aged ages) ≡ length ages) × Remains j (soonest (map ticks_in_window (aged ages)))
+window_on j [] h = (refl, refl)
+window_on j (a ∷ more) h =
+    let rest = window_on j more (by_second (Some (j + 2)) (ticks_in_window a) (soonest (map ticks_in_window more)) h) in
+    let here : j + 2 ≤ 11 - a = le_from (j + 2) (11 - a)
+    (by_first (Some (j + 2)) (ticks_in_window a) (soonest (map ticks_in_window more)) h) in
+    let young : a + 1 < 11 = omega (arith, here) in
+    let later : j + 1 ≤ 11 - (a + 1) = omega (arith, here) in
+    let e = aged_on a more young in (
+      ap length e ∙ (λ i. suc (rest.0 i)),
+      subst (λ l. Remains j (soonest (map ticks_in_window l))) (sym e)
+          (by_both (Some (j + 1)) (ticks_in_window (a + 1)) (soonest (map ticks_in_window (aged more)))
+          (le_true (j + 1) (11 - (a + 1)) later) rest.1),
+    )
+
+room_on : (j : ℕ) (p : Machines) (b : Bool) → Lasts j (if b then soonest (map ticks_in_window p.ages) else None)
+    → Remains j (if b then soonest (map ticks_in_window (aged p.ages)) else None)
+room_on j p true h = (window_on j p.ages h).1
+room_on j p false h = refl
+
+room_alike : (j : ℕ) (p : Machines) (b : Bool) → Lasts j (if b then soonest (map ticks_in_window p.ages) else None) → b ≡ true
+    → length (aged p.ages) ≡ length p.ages
+room_alike j p true h e = (window_on j p.ages h).0
+room_alike j p false h e = absurd (false≢true e)
+
+-- ---- one port
+
+not_first : (b c : Bool) → (not b && c) ≡ true → b ≡ false
+not_first true c h = absurd (false≢true h)
+not_first false c h = refl
+
+not_second : (b c : Bool) → (not b && c) ≡ true → c ≡ true
+not_second true c h = absurd (false≢true h)
+not_second false c h = h
+
+pub at_rest : (rows : List Row) (p : Machines) → none_enabled rows p ≡ true → AtRest rows p
+at_rest [] p h = tt
+at_rest (row ∷ rows) p h = (
+  not_first (row.enabled p) (none_enabled rows p) h,
+  at_rest rows p (not_second (row.enabled p) (none_enabled rows p) h),
+)
+
+rests_on : (p : Machines) → (p.current_while - 1 == 0) ≡ (p.current_while == 0) → AtRest receive_rows p → AtRest receive_rows (count_down p)
+rests_on p e h = (
+  h.0,
+  (
+    h.1.0,
+    (
+      h.1.1.0,
+      (
+        subst (λ b. IsFalse (same_receive_state Expired p.receive && b)) (sym e) h.1.1.1.0,
+        (subst (λ b. IsFalse (same_receive_state Current p.receive && b)) (sym e) h.1.1.1.1.0, tt),
+      ),
+    ),
+  ),
+)
+
+only_counts : (p q : Machines) → AtRest receive_rows p → AtRest receive_rows (count_down p) → RunsToRest receive_rows (count_down p) q
+    → q ≡ count_down p
+only_counts p q old rest h = one_effect PortTick p q (count_down p) old h (0, refl, rest)
+
+-- the periodic rows, by whether periodic_timer has expired
+abbrev rows_by : Bool → List Row
+rows_by expired =
+    periodic_row (λ s. not (same_periodic_state NoPeriodic s)) is_silent NoPeriodic (λ p. p)
+    ∷ periodic_row (same_periodic_state NoPeriodic) (λ p. not (is_silent p)) Fast (start_periodic 10)
+    ∷ periodic_row (same_periodic_state Fast) (λ p. expired) PeriodicTx set_ntt
+    ∷ periodic_row (same_periodic_state Fast) (λ p. not (partner_short p)) Slow (start_periodic 300)
+    ∷ periodic_row (same_periodic_state Slow) (λ p. expired || partner_short p) PeriodicTx set_ntt
+    ∷ periodic_row (same_periodic_state PeriodicTx) partner_short Fast (start_periodic 10)
+    ∷ periodic_row (same_periodic_state PeriodicTx) (λ p. not (partner_short p)) Slow (start_periodic 300)
+    ∷ []
+
+paced_on : (x : SystemPort) → (x.port.periodic_timer - 1 == 0) ≡ (x.port.periodic_timer == 0) → PeriodicIsSettled x
+    → PeriodicIsSettled (counted x)
+paced_on x e h = record {
+  rows = subst (λ b. AtRest (in_order (λ p. false) (rows_by b)) x.port) (sym e) h.rows;
+  cleared = ap count_down h.cleared;
+}
+
+stage_on : (m : MuxState) (w : ℕ) → (w - 1 == 0) ≡ (w == 0) → stage_of m (w - 1) ≡ stage_of m w
+stage_on Detached w e = refl
+stage_on Waiting w e = ap Stage.Waiting e
+stage_on Attached w e = refl
+stage_on CollectingDistributing w e = refl
+
+view_on : (x : SystemPort) → (x.port.wait_while - 1 == 0) ≡ (x.port.wait_while == 0) → selection_view (counted x) ≡ selection_view x
+view_on x e = ap (λ (s : Stage). record (selection_view x) { stage = s }) (stage_on x.port.mux x.port.wait_while e)
+
+-- what lasts on a port
+pub record PortLasts (j : ℕ) (s : SystemState) (x : SystemPort) : Type 0 where
+  pub frame : Lasts j (ticks_until_frame s x)
+  pub current_while : Lasts j (ticks_until_expired x.port.current_while)
+  pub periodic_timer : Lasts j (ticks_until_expired x.port.periodic_timer)
+  pub wait_while : Lasts j (ticks_until_expired x.port.wait_while)
+  pub room : Lasts j (ticks_until_room x.port)
+
+pub port_lasts : (j : ℕ) (s : SystemState) (x : SystemPort) → Lasts j (ticks_until_due_on s x) → PortLasts j s x
+port_lasts j s x h =
+    let frame = ticks_until_frame s x in
+    let current = ticks_until_expired x.port.current_while in
+    let periodic = ticks_until_expired x.port.periodic_timer in
+    let wait = ticks_until_expired x.port.wait_while in
+    let room = ticks_until_room x.port in
+    let c = Some (j + 2) in
+    let h1 = by_second c frame (soonest (current ∷ periodic ∷ wait ∷ room ∷ [])) h in
+    let h2 = by_second c current (soonest (periodic ∷ wait ∷ room ∷ [])) h1 in
+    let h3 = by_second c periodic (soonest (wait ∷ room ∷ [])) h2 in
+    let h4 = by_second c wait (soonest (room ∷ [])) h3 in
+    record {
+      frame = by_first c frame (soonest (current ∷ periodic ∷ wait ∷ room ∷ [])) h;
+      current_while = by_first c current (soonest (periodic ∷ wait ∷ room ∷ [])) h1;
+      periodic_timer = by_first c periodic (soonest (wait ∷ room ∷ [])) h2;
+      wait_while = by_first c wait (soonest (room ∷ [])) h3;
+      room = by_first c room None h4;
+    }
+
+-- nothing is due now
+pub frame_not : (k : ℕ) (b : Bool) → is_by (Some (k + 1)) (if b then Some 0 else None) ≡ true → b ≡ false
+frame_not k true h = absurd (omega (arith, le_from (k + 1) 0 h))
+frame_not k false h = refl
+
+not_due : (up ntt few later was now : Bool) → ((up && ntt) ≡ true → later ≡ few) → now ≡ was → (up && ((ntt && few) || was)) ≡ false
+    → (up && ((ntt && later) || now)) ≡ false
+not_due false ntt few later was now e m h = refl
+not_due true false few later was now e m h = m ∙ h
+not_due true true few later was now e m h = (λ i. e refl i || m i) ∙ h
+
+-- with the port's window as it was, and markers wanted as before, no frame gets due
+pub still_not_due : (j : ℕ) (s t : SystemState) (x : SystemPort) → PortLasts j s x
+    → is_some (marker_due t.table x.number) ≡ is_some (marker_due s.table x.number) → would_transmit t (counted x) ≡ false
+still_not_due j s t x h m =
+    let two : j + 2 ≡ (j + 1) + 1 = omega arith in
+    let was = frame_not (j + 1) (would_transmit s x) (subst (λ n. is_by (Some n) (ticks_until_frame s x) ≡ true) two h.frame) in
+    not_due x.port.enabled x.port.ntt (nat_lt (length x.port.ages) 3) (nat_lt (length (aged x.port.ages)) 3)
+    (is_some (marker_due s.table x.number)) (is_some (marker_due t.table x.number))
+    (λ e. ap (λ n. nat_lt n 3) (room_alike j x.port (x.port.enabled && x.port.ntt) h.room e)) m was
+
+frame_remains : (j : ℕ) (b : Bool) → b ≡ false → Remains j (if b then Some 0 else None)
+frame_remains j true e = absurd (false≢true (sym e))
+frame_remains j false e = refl
+
+pub port_remains : (j : ℕ) (s t : SystemState) (x : SystemPort) → PortLasts j s x
+    → is_some (marker_due t.table x.number) ≡ is_some (marker_due s.table x.number) → Remains j (ticks_until_due_on t (counted x))
+port_remains j s t x h m =
+    let c = Some (j + 1) in
+    let current = ticks_until_expired (x.port.current_while - 1) in
+    let periodic = ticks_until_expired (x.port.periodic_timer - 1) in
+    let wait = ticks_until_expired (x.port.wait_while - 1) in
+    let room = ticks_until_room (count_down x.port) in
+    by_both c (ticks_until_frame t (counted x)) (soonest (current ∷ periodic ∷ wait ∷ room ∷ []))
+    (frame_remains j (would_transmit t (counted x)) (still_not_due j s t x h m))
+    (by_both c current (soonest (periodic ∷ wait ∷ room ∷ [])) (timer_remains j x.port.current_while h.current_while)
+    (by_both c periodic (soonest (wait ∷ room ∷ [])) (timer_remains j x.port.periodic_timer h.periodic_timer)
+    (by_both c wait (soonest (room ∷ [])) (timer_remains j x.port.wait_while h.wait_while)
+    (by_both c room None (room_on j x.port (x.port.enabled && x.port.ntt) h.room) refl))))
+
+-- ---- all ports
+
+pub each_lasts : (j : ℕ) (s : SystemState) (xs : List SystemPort) → Lasts j (soonest (map (ticks_until_due_on s) xs))
+    → AllByRecursion (PortLasts j s) xs
+each_lasts j s [] h = tt
+each_lasts j s (x ∷ xs) h =
+    let c = Some (j + 2) in
+    let rest = soonest (map (ticks_until_due_on s) xs) in
+    (port_lasts j s x (by_first c (ticks_until_due_on s x) rest h), each_lasts j s xs (by_second c (ticks_until_due_on s x) rest h))
+
+pub each_remains : (j : ℕ) (s t : SystemState) (xs : List SystemPort)
+    → ((n : ℕ) → is_some (marker_due t.table n) ≡ is_some (marker_due s.table n)) → AllByRecursion (PortLasts j s) xs
+    → Remains j (soonest (map (ticks_until_due_on t) (map counted xs)))
+each_remains j s t [] m h = refl
+each_remains j s t (x ∷ xs) m h =
+    by_both (Some (j + 1)) (ticks_until_due_on t (counted x)) (soonest (map (ticks_until_due_on t) (map counted xs)))
+    (port_remains j s t x h.0 (m x.number)) (each_remains j s t xs m h.1)
+
+pub counted_ports : (j : ℕ) (s : SystemState) (xs ys : List SystemPort) → AllByRecursion (PortLasts j s) xs
+    → AllByRecursion (λ x. none_enabled receive_rows x.port ≡ true) xs
+    → PortsChangeBy (λ p q. RunsToRest receive_rows (count_down p) q) xs ys → ys ≡ map counted xs
+counted_ports j s [] [] l r h = refl
+counted_ports j s [] (y ∷ ys) l r h = absurd h
+counted_ports j s (x ∷ xs) [] l r h = absurd h
+counted_ports j s (x ∷ xs) (y ∷ ys) l r h =
+    let rest = at_rest receive_rows x.port r.0 in
+    let port : y.port ≡ count_down x.port = only_counts x.port y.port rest
+    (rests_on x.port (timer_alike j x.port.current_while l.0.current_while) rest) h.0.1 in
+    let here : y ≡ counted x = h.0.0 ∙ ap (λ (p : Machines). record x { port = p }) port in
+    let more = counted_ports j s xs ys l.1 r.1 h.1 in
+    λ i. here i ∷ more i
+
+pub counted_views : (j : ℕ) (s : SystemState) (xs : List SystemPort) → AllByRecursion (PortLasts j s) xs → views (map counted xs) ≡ views xs
+counted_views j s [] h = refl
+counted_views j s (x ∷ xs) h =
+    let here : selection_view (counted x) ≡ selection_view x = view_on x (timer_alike j x.port.wait_while h.0.wait_while) in
+    let more = counted_views j s xs h.1 in
+    λ i. here i ∷ more i
+
+pub counted_view : (j : ℕ) (s : SystemState) (x : SystemPort) → PortLasts j s x → selection_view (counted x) ≡ selection_view x
+counted_view j s x h = view_on x (timer_alike j x.port.wait_while h.wait_while)
+
+pub counted_paced : (j : ℕ) (s : SystemState) (xs : List SystemPort) → AllByRecursion (PortLasts j s) xs
+    → AllByRecursion PeriodicIsSettled xs → AllByRecursion PeriodicIsSettled (map counted xs)
+counted_paced j s [] l h = tt
+counted_paced j s (x ∷ xs) l h =
+    (paced_on x (timer_alike j x.port.periodic_timer l.0.periodic_timer) h.0, counted_paced j s xs l.1 h.1)
+
+-- the ports that distribute
+through : (b : Bool) (x : SystemPort) (xs : List SystemPort) → map (λ (s : SystemPort). s.number) (cond b (x ∷ xs) xs) ≡ cond b (x.number
+    ∷ map (λ (s : SystemPort). s.number) xs) (map (λ (s : SystemPort). s.number) xs)
+through true x xs = refl
+through false x xs = refl
+
+pub counted_distributing : (agg : AggId) (xs : List SystemPort) → distributing agg (map counted xs) ≡ distributing agg xs
+counted_distributing agg [] = refl
+counted_distributing agg (x ∷ xs) =
+    through (distributes_in agg x) (counted x) (filter (distributes_in agg) (map counted xs))
+    ∙ ap (λ l. cond (distributes_in agg x) (x.number ∷ l) l) (counted_distributing agg xs)
+    ∙ sym (through (distributes_in agg x) x (filter (distributes_in agg) xs))
+
+-- ---- conversations
+
+-- a conversation that is On a port after a tick was On it before
+pub on_before : (a : Assignment) (p : ℕ) → after_tick a ≡ On p → a ≡ On p
+on_before (Free preferred) p h = h
+on_before (On q) p h = h
+on_before (Wanted q preferred) p h = h
+on_before (Flushing q id preferred age) p h = elim (cases_Bool (ltb (age + 1) 30)) [
+  | inl e ↦ absurd (flushing_on (sym (cond-true (ltb (age + 1) 30) (Flushing q id preferred (age + 1)) (Wanted q preferred) e) ∙ h))
+  | inr g ↦ absurd (wanted_on (sym (cond-false (ltb (age + 1) 30) (Flushing q id preferred (age + 1)) (Wanted q preferred) g) ∙ h))
+]
+  where
+    flushing_on : Flushing q id preferred (age + 1) ≡ On p → ⊥
+    flushing_on k = cc
+
+    wanted_on : Wanted q preferred ≡ On p → ⊥
+    wanted_on k = cc
+
+pub carried_on : (ports : List ℕ) (a : Assignment) → ((p : ℕ) → a ≡ On p → is_among ports p ≡ true) → a ≡ held_unless_on ports a
+carried_on ports (Free preferred) k = refl
+carried_on ports (On p) k = sym (ap (λ b. if b then On p else Wanted p None) (k p refl))
+carried_on ports (Wanted p preferred) k = refl
+carried_on ports (Flushing p id preferred age) k = refl
+
+-- a conversation that waits on
+pub record WaitsOn (j : ℕ) (a : Assignment) : Type 0 where
+  pub remains : Remains j (ticks_until_wanted (after_tick a))
+  pub wants : (port : ℕ) → wants_marker port (after_tick a) ≡ wants_marker port a
+  pub same : model_conversation (after_tick a) ≡ model_conversation a
+
+pub waits_on : (j : ℕ) (a : Assignment) → Lasts j (ticks_until_wanted a) → WaitsOn j a
+waits_on j (Free preferred) h = record { remains = refl; wants = λ port. refl; same = refl }
+waits_on j (On q) h = record { remains = refl; wants = λ port. refl; same = refl }
+waits_on j (Wanted q preferred) h = record { remains = refl; wants = λ port. refl; same = refl }
+waits_on j (Flushing q id preferred age) h =
+    let left : j + 2 ≤ 30 - age = le_from (j + 2) (30 - age) h in
+    let young : age + 1 < 30 = omega (arith, left) in
+    let later : j + 1 ≤ 30 - (age + 1) = omega (arith, left) in
+    let e : after_tick (Flushing q id preferred age) ≡ Flushing q id preferred (age + 1) =
+    cond-true (ltb (age + 1) 30) (Flushing q id preferred (age + 1)) (Wanted q preferred) (lt-ltb (age + 1) 30 young) in
+    record {
+      remains = subst (λ x. Remains j (ticks_until_wanted x)) (sym e) (le_true (j + 1) (30 - (age + 1)) later);
+      wants = λ port. ap (wants_marker port) e;
+      same = ap model_conversation e;
+    }
+
+below_lasts : (f : ℕ → Option ℕ) (n : ℕ) (x : Option ℕ) (k : ℕ) → is_by x (soonest_below f n) ≡ true → k < n → is_by x (f k) ≡ true
+unfolding soonest_below
+below_lasts f zero x k h lt = absurd (omega arith)
+below_lasts f (suc n) x k h lt = elim (cases_Bool (nat_lt k n)) [
+  | inl e ↦ below_lasts f n x k (by_first x (soonest_below f n) (f n) h) (lt_from k n e)
+  | inr g ↦ (let last : n ≡ k = grind (arith, nat_tests) in
+      subst (λ i. is_by x (f i) ≡ true) last (by_second x (soonest_below f n) (f n) h))
+]
+
+pub table_lasts : (j : ℕ) (t : Table) → Lasts j (ticks_until_next_wanted t) → (a c : ℕ) → a < t.aggs → c < t.conversations
+    → Lasts j (ticks_until_wanted (assignment_of t (a + 1) c))
+table_lasts j t h a c l m =
+    below_lasts (λ c. ticks_until_wanted (assignment_of t (a + 1) c)) t.conversations (Some (j + 2)) c
+    (below_lasts (λ a. soonest_below (λ c. ticks_until_wanted (assignment_of t (a + 1) c)) t.conversations) t.aggs (Some (j + 2)) a h l) m
+
+-- what a tick makes of a table in which each conversation waits on
+pub record TableTicked (s t : Table) : Type 0 where
+  pub aggs : t.aggs ≡ s.aggs
+  pub conversations : t.conversations ≡ s.conversations
+  pub next : t.next ≡ s.next
+  pub states : (a c : ℕ) → assignment_of t a c ≡ after_tick (assignment_of s a c)
+
+pub table_remains : (j : ℕ) (s t : Table) → TableTicked s t → Lasts j (ticks_until_next_wanted s) → Remains j (ticks_until_next_wanted t)
+table_remains j s t k h =
+    soonest_all (λ a. soonest_below (λ c. ticks_until_wanted (assignment_of t (a + 1) c)) t.conversations) t.aggs (Some (j + 1)) (λ a l.
+    soonest_all (λ c. ticks_until_wanted (assignment_of t (a + 1) c)) t.conversations (Some (j + 1)) (λ c m.
+    (let w = waits_on j (assignment_of s (a + 1) c)
+    (table_lasts j s h a c (subst (λ n. a < n) k.aggs l) (subst (λ n. c < n) k.conversations m)) in
+    subst (λ x. Remains j (ticks_until_wanted x)) (sym (k.states (a + 1) c)) w.remains)))
+
+same_count : (port j : ℕ) (s t : Table) → TableTicked s t → Lasts j (ticks_until_next_wanted s)
+    → count_conversations (wants_marker port) t ≡ count_conversations (wants_marker port) s
+same_count port j s t k h =
+    (λ i. sum_below (λ a. sum_below (λ c. cond (wants_marker port (assignment_of t (a + 1) c)) 1 0) (k.conversations i)) (k.aggs i))
+    ∙ same_sum _ _ s.aggs (λ a l. same_sum _ _ s.conversations (λ c m. ap (λ b. cond b 1 0)
+    (ap (wants_marker port) (k.states (a + 1) c) ∙ (waits_on j (assignment_of s (a + 1) c) (table_lasts j s h a c l m)).wants port)))
+
+-- the same markers are due
+pub same_marker : (port j : ℕ) (s t : Table) → TableTicked s t → Lasts j (ticks_until_next_wanted s) → marker_due t port ≡ marker_due s port
+same_marker port j s t k h =
+    let count = same_count port j s t k h in
+    λ i. cond (ltb 0 (count i)) (cond (ltb (k.next i) (2 ^ 32)) (Some (k.next i)) None) None
