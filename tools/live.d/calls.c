@@ -19,7 +19,7 @@ static const struct {
     EXPORT(is_up), EXPORT(state), EXPORT(receive_state), EXPORT(is_due), EXPORT(party), EXPORT(partner), EXPORT(group),
     EXPORT(defaulted), EXPORT(distributes), EXPORT(choice), EXPORT(is_standby), EXPORT(mux_state), EXPORT(distributing),
     EXPORT(conversation), EXPORT(conversation_state), EXPORT(next_marker), EXPORT(load), EXPORT(force_port), EXPORT(port_status),
-    EXPORT(current_while), EXPORT(wait_while), EXPORT(ntt), EXPORT(ticks), EXPORT(views), EXPORT(due),
+    EXPORT(current_while), EXPORT(wait_while), EXPORT(ntt), EXPORT(ticks), EXPORT(views), EXPORT(due), EXPORT(ticks_until_due),
 };
 
 static unsigned passed, failed;
@@ -487,6 +487,22 @@ static void check_ticks(void) {
     CHECK(niw_free(&one) == NIW_OK && niw_free(&other) == NIW_OK);
 }
 
+/* How long a host may wait: until periodic_timer has expired, and then not at all, until the LACPDU is sent. */
+static void check_waits(void) {
+    struct niw_system one = NIW_EMPTY, empty = NIW_EMPTY;
+    uint8_t frame[NIW_FRAME];
+    CHECK(niw_ticks_until_due(NULL).status == NIW_NULL && !niw_ticks_until_due(NULL).ever);
+    CHECK(niw_ticks_until_due(&empty).status == NIW_NO_SYSTEM && !niw_ticks_until_due(&empty).ever);
+    make(&one, 5, 7, 256, 0);
+    CHECK(niw_ticks_until_due(&one).status == NIW_OK && !niw_ticks_until_due(&one).ever && niw_ticks_until_due(&one).ticks == 0);
+    CHECK(niw_set_link(&one, 1, true) == NIW_OK && niw_ticks_until_due(&one).ever && niw_ticks_until_due(&one).ticks == 10);
+    CHECK(niw_ticks(&one, 7) == NIW_OK && niw_ticks_until_due(&one).ticks == 3 && niw_due(&one).number == 0);
+    CHECK(niw_ticks(&one, 3) == NIW_OK && niw_ticks_until_due(&one).ever && niw_ticks_until_due(&one).ticks == 0);
+    CHECK(niw_due(&one).number == 1 && niw_transmit(&one, 1, frame, sizeof frame).what == NIW_SENT_LACPDU);
+    CHECK(niw_ticks_until_due(&one).ever && niw_ticks_until_due(&one).ticks == 10);
+    CHECK(niw_free(&one) == NIW_OK);
+}
+
 /* A view tells what the readers tell. */
 static bool is_view_of(struct niw_system *lag, const struct niw_view *view, uint16_t port) {
     struct niw_info partner = niw_partner(lag, port);
@@ -711,6 +727,7 @@ int main(void) {
     check_statuses();
     check_force_port();
     check_ticks();
+    check_waits();
     check_masks();
     check_room();
     check_algorithms();
