@@ -1,8 +1,9 @@
 -- The flags of the chains in which a conversation is Wanted or Flushing.
-use Rattle.std.proofs.Common.{ℕ, zero, suc, ◌<◌, ◌≡◌, ◌||◌, Bool, true, false, cond, eqb, List, length, None, get_or, map, set, refl, ap, sym, ◌∙◌, arith}
+use Rattle.std.proofs.Common.{ℕ, zero, suc, ◌<◌, ◌≡◌, ◌||◌, Bool, true, false, cond, eqb, List, length, None, get_or, map, nat_lt, set, refl, ap, sym, ◌∙◌, arith}
 use Rattle.std.proofs.Common.{⊎_elim, inl, inr}
 use Rattle.std.proofs.lemmas.Bool.{cases_Bool, cases_eq, cond-true, cond-false, false≢true, or_right}
 use Rattle.std.proofs.lemmas.List.{ext_get_or, get_or-map, get_or-set_other, get_or-set_same, length-map, length-set}
+use Rattle.std.proofs.lemmas.Bool.Decides.{nat_tests}
 use Rattle.distributor.specs.declared.assignment.Assignment.{Assignment}
 use Rattle.distributor.specs.declared.assignment.Assignment.TheVariants.{Free, On, Wanted, Flushing}
 use Rattle.distributor.specs.declared.change.Change.{Change}
@@ -167,3 +168,15 @@ marked_passed chain port n count states long none =
   where
     change : Assignment → Assignment
     change = changed_in_chain chain (after_change (Mark port n))
+
+-- where one passes, some are counted
+pub some_counted : (p : Assignment → Bool) (states : List Assignment) (count k : ℕ) → k < count → p (slot_state states k) ≡ true
+    → true ≡ nat_lt 0 (sum_below (λ j. bit (p (slot_state states j))) count)
+some_counted p states count k lt e = above (sum_below (λ j. bit (p (slot_state states j))) count)
+    (λ none. false≢true (sym (no_bit (p (slot_state states k)) (none_below (λ j. bit (p (slot_state states j))) count k lt none)) ∙ e))
+  where
+    above : (n : ℕ) → (n ≡ 0 → ⊥) → true ≡ nat_lt 0 n
+    above n h = let lt : 0 < n = omega (arith, h) in grind (arith, nat_tests)
+
+pub none_above : (n : ℕ) → nat_lt 0 n ≡ false → n ≡ 0
+none_above n e = grind (arith, nat_tests)

@@ -147,7 +147,9 @@ impl Slots {
         }
     }
 
-    /// Applies a change to each slot in the chain of this port.
+    /// Applies a change to each slot in the chain of this port. It stands in each caller, as does the walk: there it is known which
+    /// change it is, and the walk need not ask at each slot.
+    #[inline(always)]
     pub(crate) fn change(&mut self, port: u16, change: Change)
         requires chained { AreChained self.old }
         requires flagged { AreFlagged self.old }
@@ -163,6 +165,7 @@ impl Slots {
     }
 
     /// Applies a change to each slot in this chain, and works out the flags of the chain again.
+    #[inline(always)]
     fn change_chain(&mut self, chain: u32, change: Change)
         requires chained { AreChained self.old }
         requires flagged { AreFlagged self.old }
@@ -223,6 +226,22 @@ impl Slots {
         count
     }
 
+    /// Whether the test counts some conversation. The walk ends at the first; a conversation that was set last comes first.
+    fn any_in_chain(&self, test: ConversationTest) -> bool
+        requires chained { AreChained self.now }
+        ensures { result ≡ nat_lt 0 (sum_below (λ k. cond (passes test (slot_state self.now.states.items k)) 1 0) self.now.count) }
+    {
+        let end = self.count + test.chain();
+        let mut at = self.next[end as usize];
+        while at != end {
+            if test.passes(self.states[at as usize]) {
+                return true;
+            }
+            at = self.next[at as usize];
+        }
+        false
+    }
+
     /// Whether some conversation is Wanted on this port. A walk that finds none works out the flags of the chain again.
     pub(crate) fn find_wanted(&mut self, port: u16) -> bool
         requires chained { AreChained self.old }
@@ -237,7 +256,7 @@ impl Slots {
         if !self.may_pass(test) {
             return false;
         }
-        if self.count_chain(test) > 0 {
+        if self.any_in_chain(test) {
             return true;
         }
         // No conversation is Wanted on the port, so this changes no state.

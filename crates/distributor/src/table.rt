@@ -130,6 +130,7 @@ impl ConversationTable {
 
     /// Gives every conversation its state after this event: a port stops distributing, a marker is sent, its response
     /// comes, a link goes down or a tick passes. The next marker identifier stays.
+    #[inline(always)]
     pub(crate) fn change(&mut self, change: Change)
         ensures { ChangesAssignments self.old self.new (after_change change) }
     {

@@ -54,7 +54,7 @@ none_chosen aggs (suc n) system_ports h = subst (λ l. system_ports ≡ after_ch
     (none_chosen aggs n system_ports h) (stays_at aggs system_ports n (slice_get system_ports n) h refl)
 
 -- where each port is SELECTED, none is eligible
-selected_not_eligible : (v : PortView) → not (is_selected v.choice) ≡ false → is_eligible v ≡ false
+pub selected_not_eligible : (v : PortView) → not (is_selected v.choice) ≡ false → is_eligible v ≡ false
 selected_not_eligible v h = chosen v.choice h
   where
     middle : (a b c : Bool) → b ≡ false → ((a && b) && c) ≡ false

@@ -1,6 +1,7 @@
 pub mod Lists
 pub mod SettlingLemmas
 pub mod Choosing
+pub mod FrontLemmas
 pub mod PromotionLemmas
 pub mod Occupying
 pub mod Limiting

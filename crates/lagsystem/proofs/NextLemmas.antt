@@ -136,19 +136,20 @@ none_stands aggs l h = none_next aggs l (length l) (omega arith)
         subst (λ (y : SystemPort). is_standby y.port.choice ≡ false) (same_Some x s there) (or_false _ _ e).0
     each (x ∷ xs) (suc k) s e there = each xs k s (or_false _ _ e).1 there
 
+-- a port that is SELECTED is not STANDBY
+pub selected_not_standby : (c : Choice) → not (is_selected c) ≡ false → is_standby c ≡ false
+selected_not_standby Unselected e = refl
+selected_not_standby (Selected agg) e = refl
+selected_not_standby (Standby agg) e = absurd cc
+
 -- where each port is SELECTED, none comes next
 pub none_left_standby : (aggs : AggregatorsValue) (l : List SystemPort) → list_any (λ s. not (is_selected s.port.choice)) l ≡ false
     → (agg : AggId) → next_standby_index aggs (views l) agg ≡ None
 none_left_standby aggs l h = none_stands aggs l (none_standby l h)
   where
-    one : (c : Choice) → not (is_selected c) ≡ false → is_standby c ≡ false
-    one Unselected e = refl
-    one (Selected agg) e = refl
-    one (Standby agg) e = absurd cc
-
     none_standby : (l : List SystemPort) → list_any (λ s. not (is_selected s.port.choice)) l ≡ false
         → list_any (λ s. is_standby s.port.choice) l ≡ false
     none_standby [] e = refl
     none_standby (x ∷ xs) e =
         let both = or_false (not (is_selected x.port.choice)) (list_any (λ s. not (is_selected s.port.choice)) xs) e in
-        ap (λ b. b || list_any (λ s. is_standby s.port.choice) xs) (one x.port.choice both.0) ∙ none_standby xs both.1
+        ap (λ b. b || list_any (λ s. is_standby s.port.choice) xs) (selected_not_standby x.port.choice both.0) ∙ none_standby xs both.1

@@ -320,8 +320,12 @@ impl<F: Fn(u16, usize) -> usize + Drop> Inner<F> {
             return Err(SystemFault::NoAggregator);
         }
         check_offer(octets)?;
-        let ports = distributing(&self.system_ports, agg);
         let conv = self.number_of_conversation(octets);
+        // A conversation stays on its port, so no port is looked at.
+        if let Assignment::On(port) = self.distributor.state(agg, conv) {
+            return Ok(port);
+        }
+        let ports = distributing(&self.system_ports, agg);
         let port = self.distributor.assign(agg, conv, ports.as_slice())?;
         Ok(port)
     }

@@ -1,8 +1,8 @@
-ghost use Rattle.std.specs.Prelude.{◌≡◌, ◌≤◌, ◌<◌, ◌+◌, ◌==◌, ℕ, None, cond, get_or, length};
+ghost use Rattle.std.specs.Prelude.{◌≡◌, ◌≤◌, ◌<◌, ◌+◌, ◌==◌, ℕ, None, Some, cond, get_or, length, not, position};
 ghost use Rattle.std.specs.List.{list_any};
 ghost use Rattle.std.specs.Bool.{OnFalse, OnTrue};
 ghost use Rattle.lagtypes.specs.declared.identifiers.AggId.{AggId};
-ghost use Rattle.lagtypes.specs.Choices.{is_standby};
+ghost use Rattle.lagtypes.specs.Choices.{is_selected, is_standby};
 ghost use Rattle.selection.specs.Limits.{is_below, next_standby_index};
 ghost use Rattle.lagsystem.specs.Settling.{PromotesAll, PromotesFirst, PromotesNext};
 ghost use Rattle.lagsystem.specs.Promoting.{CountsMembers, count_standby};
@@ -71,22 +71,30 @@ fn any_standby(system_ports: &[SystemPort]) -> bool
         .any(|system_port| is_standby(system_port))
 }
 
-/// Whether some STANDBY port may be promoted. If not, each aggregator of a STANDBY port has no room.
-pub(crate) fn may_promote(aggregators: &Aggregators, system_ports: &[SystemPort]) -> bool
-    requires { length system_ports.now ≤ 64 }
+/// Whether some STANDBY port may be promoted; the first port that is not SELECTED is known. If not, each aggregator of a
+/// STANDBY port has no room.
+pub(crate) fn may_promote(
+    aggregators: &Aggregators,
+    system_ports: &[SystemPort],
+    first: usize,
+) -> bool
+    requires few { length system_ports.now ≤ 64 }
+    requires first { position (λ s. not (is_selected s.port.choice)) system_ports.now ≡ Some first }
     ensures { OnFalse result ((agg : AggId) → next_standby_index aggregators.now (views system_ports.now) agg ≡ None) }
 {
-    any_standby(system_ports) && some_may_have_room(aggregators, system_ports)
+    let rest = &system_ports[first..];
+    any_standby(rest) && some_may_have_room(aggregators, system_ports, first)
 }
 
 /// The same where some port is STANDBY. The members are counted once, however many aggregators there are.
-fn some_may_have_room(aggregators: &Aggregators, system_ports: &[SystemPort]) -> bool
-    requires { length system_ports.now ≤ 64 }
+fn some_may_have_room(aggregators: &Aggregators, system_ports: &[SystemPort], first: usize) -> bool
+    requires few { length system_ports.now ≤ 64 }
+    requires first { position (λ s. not (is_selected s.port.choice)) system_ports.now ≡ Some first }
     ensures { OnFalse result ((agg : AggId) → next_standby_index aggregators.now (views system_ports.now) agg ≡ None) }
 {
     let counts = member_counts(system_ports);
     let max_links = aggregators.max_links();
-    for place in 0..system_ports.len() {
+    for place in first..system_ports.len() {
         if let Choice::Standby(agg) = system_ports[place].port.choice() {
             if may_have_room(&counts, max_links, agg) {
                 return true;

@@ -1,4 +1,4 @@
-ghost use Rattle.std.specs.Prelude.{◌≡◌, ◌≤◌, ◌<◌, ◌&&◌, not, length, false, slice_get};
+ghost use Rattle.std.specs.Prelude.{◌≡◌, ◌≤◌, ◌<◌, ◌&&◌, not, length, false, position, slice_get, None, Some};
 ghost use Rattle.std.specs.List.{list_any};
 ghost use Rattle.lagtypes.specs.Choices.{is_selected};
 ghost use Rattle.portmachines.specs.Rows.{RunsToRest};
@@ -11,7 +11,8 @@ ghost use Rattle.lagsystem.specs.Settling.{ChoosesIn, choice_in};
 ghost use Rattle.lagsystem.specs.State.{SystemState, aggregators_value, with_system_ports};
 
 use crate::promoting::{may_promote, promote_each};
-use crate::system_ports::{SystemPort, is_eligible, is_selected, member_has_waited, views};
+use crate::system_ports::{SystemPort, is_eligible, is_selected, list_views, member_has_waited};
+use arrayvec::ArrayVec;
 use lagtypes::{AggId, Choice};
 use selection::{Aggregators, PortView};
 
@@ -31,13 +32,13 @@ fn run_mux_not_ready(system_ports: &mut [SystemPort])
     }
 }
 
-/// Whether some port is not SELECTED. Where each is, none is promoted and none chooses.
-fn any_not_selected(system_ports: &[SystemPort]) -> bool
-    ensures { result ≡ list_any (λ s. not (is_selected s.port.choice)) system_ports.now }
+/// The index of the first port that is not SELECTED. Where each is, none is promoted and none chooses.
+fn first_not_selected(system_ports: &[SystemPort]) -> Option<usize>
+    ensures { result ≡ position (λ s. not (is_selected s.port.choice)) system_ports.now }
 {
     system_ports
         .iter()
-        .any(|system_port| !is_selected(system_port))
+        .position(|system_port| !is_selected(system_port))
 }
 
 /// Whether some port may choose an aggregator.
@@ -47,6 +48,15 @@ fn any_eligible(system_ports: &[SystemPort]) -> bool
     system_ports
         .iter()
         .any(|system_port| is_eligible(system_port))
+}
+
+/// The same where the first port that is not SELECTED is known: none before it may choose.
+fn any_eligible_from(system_ports: &[SystemPort], first: usize) -> bool
+    requires { position (λ s. not (is_selected s.port.choice)) system_ports.now ≡ Some first }
+    ensures { result ≡ list_any (λ s. is_eligible (selection_view s)) system_ports.now }
+{
+    let rest = &system_ports[first..];
+    any_eligible(rest)
 }
 
 /// What a port becomes that takes the aggregator: SELECTED if that has room, else STANDBY.
@@ -104,19 +114,21 @@ fn choose_all(aggregators: &Aggregators, system_ports: &mut [SystemPort])
     requires { length system_ports.old ≤ 64 }
     ensures { ChoosesIn aggregators.now system_ports.old system_ports.new }
 {
-    if any_not_selected(system_ports) {
-        choose_some(aggregators, system_ports);
+    match first_not_selected(system_ports) {
+        Some(first) => choose_some(aggregators, system_ports, first),
+        None => {}
     }
 }
 
-/// The same where some port is not SELECTED.
-fn choose_some(aggregators: &Aggregators, system_ports: &mut [SystemPort])
-    requires { length system_ports.old ≤ 64 }
+/// The same where the port at this index is the first that is not SELECTED.
+fn choose_some(aggregators: &Aggregators, system_ports: &mut [SystemPort], first: usize)
+    requires few { length system_ports.old ≤ 64 }
+    requires first { position (λ s. not (is_selected s.port.choice)) system_ports.old ≡ Some first }
     ensures { ChoosesIn aggregators.now system_ports.old system_ports.new }
 {
-    if may_promote(aggregators, system_ports) {
+    if may_promote(aggregators, system_ports, first) {
         promote_and_choose(aggregators, system_ports);
-    } else if any_eligible(system_ports) {
+    } else if any_eligible_from(system_ports, first) {
         choose_only(aggregators, system_ports);
     }
 }
@@ -128,7 +140,8 @@ fn promote_and_choose(aggregators: &Aggregators, system_ports: &mut [SystemPort]
     requires { length system_ports.old ≤ 64 }
     ensures { ChoosesIn aggregators.now system_ports.old system_ports.new }
 {
-    let mut port_views = views(system_ports);
+    let mut port_views = ArrayVec::new();
+    list_views(system_ports, &mut port_views);
     promote_each(aggregators, system_ports, port_views.as_mut_slice());
     choose_each(aggregators, system_ports, port_views.as_mut_slice());
 }
@@ -139,7 +152,8 @@ fn choose_only(aggregators: &Aggregators, system_ports: &mut [SystemPort])
     requires { length system_ports.old ≤ 64 }
     ensures { system_ports.new ≡ after_choices aggregators.now (length system_ports.old) system_ports.old }
 {
-    let mut port_views = views(system_ports);
+    let mut port_views = ArrayVec::new();
+    list_views(system_ports, &mut port_views);
     choose_each(aggregators, system_ports, port_views.as_mut_slice());
 }
 
@@ -173,7 +187,8 @@ fn run_mux_by_ready(aggregators: &Aggregators, system_ports: &mut [SystemPort])
     ensures { PortsChangeBy (λ p q. RunsToRest (mux_rows (ready_of aggregators.now.keys (views system_ports.old) p.choice)) p q)
         system_ports.old system_ports.new }
 {
-    let port_views = views(system_ports);
+    let mut port_views = ArrayVec::new();
+    list_views(system_ports, &mut port_views);
     run_each_mux(aggregators, system_ports, port_views.as_slice());
 }
 

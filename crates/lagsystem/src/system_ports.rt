@@ -1,4 +1,4 @@
-ghost use Rattle.std.specs.Prelude.{◌≡◌, ◌<◌, ◌≤◌, ◌&&◌, IfSome, length};
+ghost use Rattle.std.specs.Prelude.{◌≡◌, ◌<◌, ◌≤◌, ◌&&◌, IfSome, [], length};
 ghost use Rattle.std.specs.List.Sorted.{IsStrictlyIncreasing};
 ghost use Rattle.lagsystem.specs.Views.{stage_of, selection_view, views};
 ghost use Rattle.lagsystem.specs.State.{port_index, port_numbers};
@@ -70,16 +70,16 @@ pub(crate) fn selection_view(system_port: &SystemPort) -> PortView
     }
 }
 
-/// What the Selection Logic reads of all ports, in order.
-pub(crate) fn views(system_ports: &[SystemPort]) -> ArrayVec<PortView, 64>
-    requires { length system_ports.now ≤ 64 }
-    ensures { result.items ≡ views system_ports.now }
+/// Lists what the Selection Logic reads of all ports, in order. The caller has the list, which has room for 64 views, and would
+/// be copied if it were returned.
+pub(crate) fn list_views(system_ports: &[SystemPort], found: &mut ArrayVec<PortView, 64>)
+    requires few { length system_ports.now ≤ 64 }
+    requires empty { found.old.items ≡ [] }
+    ensures { found.new.items ≡ views system_ports.now }
 {
-    let mut found = ArrayVec::new();
     for system_port in system_ports {
         found.push(selection_view(system_port));
     }
-    found
 }
 
 /// Whether a port may choose an aggregator now.

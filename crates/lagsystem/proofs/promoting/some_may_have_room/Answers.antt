@@ -1,13 +1,24 @@
-use Rattle.std.proofs.Common.{◌≡◌, ◌∙◌, ◌+◌, ◌<◌, ◌≤◌, false, length, arith, subst, sym}
-use Rattle.std.proofs.lemmas.Bool.{OnFalse_at}
+use Rattle.std.proofs.Common.{◌≡◌, ◌∙◌, ◌+◌, ◌<◌, ◌≤◌, false, length, ap, arith, subst, sym}
+use Rattle.std.proofs.lemmas.Bool.{OnFalse_at, false≢true}
 use Rattle.std.proofs.lemmas.Option.{slice_get-get_or}
 use Rattle.lagtypes.specs.declared.identifiers.AggId.{AggId}
 use Rattle.selection.specs.Limits.{has_room}
+use Rattle.lagtypes.specs.Choices.{is_standby}
 use Rattle.lagsystem.specs.Views.{views}
+use Rattle.lagsystem.proofs.FrontLemmas.{first_not_standby, first_within}
 use Rattle.lagsystem.proofs.NextLemmas.{no_room_more, none_next, same_standby}
 use Rattle.lagsystem.proofs.MemberCounts.{counted_full}
 use Rattle.lagsystem.proofs.promoting.some_may_have_room.Goals as goal
 use Rattle.lagsystem.proofs.promoting.some_may_have_room.Goals.{in-Standby+else-may_have_room, in_default}
+
+pub loop-place-init : goal.loop-place-init
+loop-place-init c =
+    let l = c.args.system_ports.now in
+    let within = first_within l c.args.first c.requires.first in
+    record {
+      none = λ k s agg lt there stands. absurd (false≢true (sym (first_not_standby l c.args.first k s c.requires.first lt there) ∙ ap is_standby stands));
+      within = omega (arith, within);
+    }
 
 pub loop-place-preserved : goal.loop-place-preserved
 loop-place-preserved c =

@@ -4,8 +4,8 @@ use Rattle.lagsystem.proofs.Choosing.{none_chosen}
 use Rattle.lagsystem.proofs.Limiting.{nothing_promoted}
 use Rattle.lagsystem.proofs.settling.choose_some.Goals as goal
 
-pub returns-then-any_eligible : goal.returns-then-any_eligible
-returns-then-any_eligible c =
+pub returns-then-any_eligible_from : goal.returns-then-any_eligible_from
+returns-then-any_eligible_from c =
     let system_ports = c.args.system_ports.now in (
       system_ports,
       nothing_promoted c.args.aggregators.now (length c.args.aggregators.now.keys) system_ports
@@ -13,11 +13,11 @@ returns-then-any_eligible c =
       c.choose_only.ensures,
     )
 
-pub returns-else-any_eligible : goal.returns-else-any_eligible
-returns-else-any_eligible c =
+pub returns-else-any_eligible_from : goal.returns-else-any_eligible_from
+returns-else-any_eligible_from c =
     let system_ports = c.args.system_ports.now in
     let aggs = c.args.aggregators.now in (
       system_ports,
       nothing_promoted aggs (length aggs.keys) system_ports (OnFalse_at c.if-may_promote.false c.may_promote.ensures),
-      none_chosen aggs (length system_ports) system_ports (sym c.any_eligible.ensures ∙ c.if-any_eligible.false),
+      none_chosen aggs (length system_ports) system_ports (sym c.any_eligible_from.ensures ∙ c.if-any_eligible_from.false),
     )

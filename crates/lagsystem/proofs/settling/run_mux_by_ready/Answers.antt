@@ -9,4 +9,4 @@ pub returns : goal.returns
 returns c =
     subst (λ (seen : List PortView). PortsChangeBy (λ p q. RunsToRest (mux_rows (ready_of c.args.aggregators.now.keys seen p.choice)) p q)
     c.args.system_ports.now c.run_each_mux.new.system_ports)
-    (c.as_slice.ensures.value ∙ c.views-port_views.ensures) c.run_each_mux.ensures
+    (c.as_slice.ensures.value ∙ c.list_views.ensures) c.run_each_mux.ensures

@@ -1,9 +1,9 @@
-use Rattle.std.proofs.Common.{ap, nat_lt, ◌≡◌, ◌∙◌, arith}
+use Rattle.std.proofs.Common.{ap, nat_lt, sym, ◌≡◌, ◌∙◌}
 use Rattle.std.proofs.lemmas.Bool.{OnFalse_at}
 use Rattle.distributor.specs.Chains.{slot_state}
 use Rattle.distributor.specs.Changes.{wants_marker}
 use Rattle.distributor.specs.Conversations.{sum_below}
-use Rattle.distributor.proofs.FlagLemmas.{marked_passed, none_counted}
+use Rattle.distributor.proofs.FlagLemmas.{marked_passed, none_above, none_counted}
 use Rattle.distributor.proofs.WalkLemmas.{bit}
 use Rattle.distributor.proofs.slots.Slots.find_wanted.Goals as goal
 
@@ -15,6 +15,6 @@ returns-then-not-may_pass-clause-found c =
 pub returns-clause-states : goal.returns-clause-states
 returns-clause-states c =
     let none : sum_below (λ k. bit (wants_marker c.args.port (slot_state c.args.self.now.states.items k))) c.args.self.now.count ≡ 0 =
-    omega (arith, c.count_chain.ensures, c.if-count_chain-gt0.false) in
+    none_above _ (sym c.any_in_chain.ensures ∙ c.if-any_in_chain.false) in
     c.change_chain.ensures.states
     ∙ marked_passed c.chain.result c.args.port 0 c.args.self.now.count c.args.self.now.states.items c.requires.chained.states_len none

@@ -1,6 +1,6 @@
 use Rattle.std.proofs.Common.{◌≡◌, take}
 use Rattle.lagsystem.specs.Views.{views}
-use Rattle.lagsystem.proofs.system_ports.views.Given as goal
+use Rattle.lagsystem.proofs.system_ports.list_views.Given as goal
 
 abbrev pub invariant-loop-system_port : goal.invariant-loop-system_port
 invariant-loop-system_port l = l.found.items ≡ views (take l.system_port-index l.system_ports)

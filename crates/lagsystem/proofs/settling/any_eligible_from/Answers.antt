@@ -1,0 +1,28 @@
+use Rattle.std.proofs.Common.{◌≡◌, ◌∙◌, ◌-◌, ap, arith, drop, length, take}
+use Rattle.std.specs.List.{list_any}
+use Rattle.std.proofs.lemmas.List.{length-drop, take_all}
+use Rattle.selection.specs.Views.{is_eligible}
+use Rattle.lagsystem.specs.Views.{selection_view}
+use Rattle.lagsystem.proofs.Choosing.{selected_not_eligible}
+use Rattle.lagsystem.proofs.FrontLemmas.{any_from, first_within}
+use Rattle.lagsystem.proofs.settling.any_eligible_from.Goals as goal
+
+pub slice_bounds-rest-end : goal.slice_bounds-rest-end
+slice_bounds-rest-end c = omega (arith, first_within c.args.system_ports.now c.args.first c.requires)
+
+pub slice_bounds-rest-count : goal.slice_bounds-rest-count
+slice_bounds-rest-count c = omega (arith, first_within c.args.system_ports.now c.args.first c.requires)
+
+pub slice_bounds-rest-start : goal.slice_bounds-rest-start
+slice_bounds-rest-start c = omega (arith, first_within c.args.system_ports.now c.args.first c.requires)
+
+pub offset_bounds-system_ports-first : goal.offset_bounds-system_ports-first
+offset_bounds-system_ports-first c = omega (arith, first_within c.args.system_ports.now c.args.first c.requires)
+
+pub returns : goal.returns
+returns c =
+    let l = c.args.system_ports.now in
+    let i = c.args.first in
+    let whole : take (length l - i) (drop i l) ≡ drop i l = take_all (length l - i) (drop i l) (omega (arith, length-drop i l)) in
+    c.any_eligible.ensures ∙ ap (list_any (λ s. is_eligible (selection_view s))) whole
+    ∙ any_from (λ s. is_eligible (selection_view s)) (λ s. selected_not_eligible (selection_view s)) l i c.requires
