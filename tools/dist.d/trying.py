@@ -58,6 +58,7 @@ RUNS = [
 COMPLETED = [
     (["lagtool", "rep"], "replay"),
     (["lagtool", "--ex"], "--explain"),
+    (["lagtool", "--p"], "--progress"),
     (["lagtool", "--explain", "che"], "check"),
     (["lagtool", "check", "--"], "--help"),
     (["lagengine", "--v"], "--version"),

@@ -1,22 +1,31 @@
 -- The options of the program, which stand before its subcommand (profile).
-use Rattle.std.specs.Prelude.{ℕ, ◌+◌, Bool, List, [], ◌∷◌, String, codes, drop, if◌then◌else◌, nat_lt, string_bytes}
+use Rattle.std.specs.Prelude.{ℕ, ◌+◌, ◌||◌, Bool, true, false, List, [], ◌∷◌, String, codes, drop, if◌then◌else◌, string_bytes, take}
 use Rattle.std.specs.Str.{bytes_eq}
 use Rattle.std.specs.declared.alloc.Global.{Global}
 use Rattle.lagline.specs.declared.options.Options.{Options}
 
--- a word that is an option; there is one
+-- a word that is an option; there are two
 abbrev pub is_option : List ℕ → Bool
-is_option word = bytes_eq word (codes "--explain")
+is_option word = bytes_eq word (codes "--explain") || bytes_eq word (codes "--progress")
 
 -- how many of these words are options, up to the first that is none
 abbrev pub count_options : List (String Global) → ℕ
 count_options [] = 0
 count_options (word ∷ words) = if is_option (string_bytes word) then count_options words + 1 else 0
 
--- so many options
-abbrev pub with_options : ℕ → Options
-with_options count = record { explain = nat_lt 0 count; count = count }
+-- one of these words is this option
+abbrev pub has_option : List ℕ → List (String Global) → Bool
+has_option name [] = false
+has_option name (word ∷ words) = if bytes_eq (string_bytes word) name then true else has_option name words
+
+-- the first words, so many, as options
+abbrev pub first_options : ℕ → List (String Global) → Options
+first_options count words = record {
+  explain = has_option (codes "--explain") (take count words);
+  progress = has_option (codes "--progress") (take count words);
+  count = count;
+}
 
 -- the options of a command line: those behind the name of the program, up to the first word that is none
 abbrev pub options_in : List (String Global) → Options
-options_in words = with_options (count_options (drop 1 words))
+options_in words = first_options (count_options (drop 1 words)) (drop 1 words)

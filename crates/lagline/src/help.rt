@@ -6,10 +6,11 @@ pub const VERSION: &str = "0.1.0";
 /// What the program does.
 pub const ABOUT: &str = "Reads and answers LACPDUs and Marker PDUs (IEEE 802.1AX)";
 
-/// The option before the subcommand, and the exit statuses of the program.
+/// The options before the subcommand, and the exit statuses of the program.
 pub const STATUSES: &str = "\
 Before the subcommand, as in lagtool --explain replay SCRIPT:
-  --explain  A second line on standard error says more of a file that cannot be read, or is no script
+  --explain   A second line on standard error says more of a file that cannot be read, or is no script
+  --progress  Standard error shows how far check or replay is
 
 Status 0: the payload is accepted, the frame is answered, no line of the file is a fault, the script
           was run, or no vector failed.

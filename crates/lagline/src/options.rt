@@ -1,11 +1,13 @@
 ghost use Rattle.std.specs.Prelude.{◌≡◌, ◌≤◌, length};
-ghost use Rattle.lagline.specs.Options.{count_options, is_option, options_in};
+ghost use Rattle.lagline.specs.Options.{count_options, has_option, is_option, options_in};
 
 /// The options of the program, which stand before its subcommand (profile).
 #[derive(Clone, Copy, Debug, PartialEq, Eq)]
 pub struct Options {
     /// `--explain`: a second line on standard error says more of a fault.
     pub explain: bool,
+    /// `--progress`: standard error shows how far `check` or `replay` is.
+    pub progress: bool,
     /// How many words they are.
     pub count: usize,
 }
@@ -14,7 +16,19 @@ pub struct Options {
 fn is_option(word: &str) -> bool
     ensures { result ≡ is_option word.now }
 {
-    word == "--explain"
+    word == "--explain" || word == "--progress"
+}
+
+/// Whether one of these words is this option.
+fn has_option(words: &[String], name: &str) -> bool
+    ensures { result ≡ has_option name.now words.now }
+{
+    for word in words {
+        if word.as_str() == name {
+            return true;
+        }
+    }
+    false
 }
 
 /// How many of these words are options, up to the first that is none.
@@ -40,8 +54,10 @@ pub fn read_options(words: &[String]) -> Options
 {
     let rest = if words.is_empty() { words } else { &words[1..] };
     let count = count_options(rest);
+    let options = &rest[..count];
     Options {
-        explain: count > 0,
+        explain: has_option(options, "--explain"),
+        progress: has_option(options, "--progress"),
         count,
     }
 }

@@ -63,18 +63,43 @@ fn options_of(alloc: Global, words: &[&str]) -> Result<Options, AllocError> {
 
 #[test]
 fn options_before_a_subcommand(rt: HostRuntime) -> Result<(), Fail> {
-    let rows: [(&[&str], bool, usize); 7] = [
-        (&[], false, 0),
-        (&["lagtool"], false, 0),
-        (&["lagtool", "replay", "--explain"], false, 0),
-        (&["lagtool", "--explain", "replay", "a"], true, 1),
-        (&["lagtool", "--explain", "--explain"], true, 2),
-        (&["lagtool", "--explains", "replay", "a"], false, 0),
-        (&["--explain", "--help"], false, 0),
+    let rows: [(&[&str], bool, bool, usize); 12] = [
+        (&[], false, false, 0),
+        (&["lagtool"], false, false, 0),
+        (&["lagtool", "replay", "--explain"], false, false, 0),
+        (&["lagtool", "--explain", "replay", "a"], true, false, 1),
+        (&["lagtool", "--explain", "--explain"], true, false, 2),
+        (&["lagtool", "--explains", "replay", "a"], false, false, 0),
+        (&["--explain", "--help"], false, false, 0),
+        (&["lagtool", "--progress", "check", "a"], false, true, 1),
+        (
+            &["lagtool", "--progress", "--explain", "check", "a"],
+            true,
+            true,
+            2,
+        ),
+        (
+            &["lagtool", "--explain", "--progress", "check", "a"],
+            true,
+            true,
+            2,
+        ),
+        (
+            &["lagtool", "--explain", "check", "--progress"],
+            true,
+            false,
+            1,
+        ),
+        (&["--progress", "--progres", "check"], false, false, 0),
     ];
-    for (words, explain, count) in rows {
+    for (words, explain, progress, count) in rows {
         let seen = options_of(rt.alloc(), words)?;
-        assert_eq!(rt; seen, Options { explain, count }, "{words:?}");
+        let wanted = Options {
+            explain,
+            progress,
+            count,
+        };
+        assert_eq!(rt; seen, wanted, "{words:?}");
     }
     Ok(())
 }
@@ -104,6 +129,7 @@ fn help_says_what_words_mean(rt: HostRuntime) -> Result<(), Fail> {
                 "Status 1",
                 "Status 2",
                 "--explain",
+                "--progress",
             ],
         ),
         (

@@ -1,11 +1,11 @@
 -- A script is refused nothing but memory.
-use Rattle.std.proofs.Common.{◌≡◌, ◌+◌, ◌<◌, ◌≤◌, ◌==◌, ℕ, zero, suc, Bool, true, false, List, [], ◌∷◌, Option, Some, None, length, map}
+use Rattle.std.proofs.Common.{◌≡◌, ◌+◌, ◌++◌, ◌<◌, ◌≤◌, ◌==◌, ℕ, zero, suc, Bool, true, false, List, [], ◌∷◌, Option, Some, None, length, map}
 use Rattle.std.proofs.Common.{take, refl, sym, ap, ap₂, ◌∙◌, subst, inl, inr, if◌then◌else◌, arith}
 use Rattle.std.specs.Prelude.{◌&&◌, is_some, nat_le, slice_get}
 use Rattle.std.specs.List.{list_all}
 use Rattle.std.proofs.lemmas.Bool.{true≢false}
 use Rattle.std.proofs.lemmas.Bool.Decides.{nat_tests}
-use Rattle.std.proofs.lemmas.List.{length-map, length-take-le}
+use Rattle.std.proofs.lemmas.List.{length-append, length-map, length-take-le}
 use Rattle.std.proofs.lemmas.Option.{none-some, same_Some, slice_get_within}
 use Rattle.cables.specs.AnyCable.{any_items, any_limit}
 use Rattle.cables.specs.declared.any.AnyCable.{AnyCable}
@@ -125,28 +125,67 @@ not_spent n k e lt = grind (arith, nat_tests)
 -- the next event has no cause to be refused
 next_fine : (gives : Algorithms) (old new : WorldState) (es : List Event) (rs : List Reply) (done : ℕ) (e : Event)
     → WorldRuns gives old (take done es) rs new → done ≤ length es
-    → world_setup new ≡ world_setup old → old.acted ≡ 0 → AllNameExisting (length old.links) es → length es ≤ most_events
+    → world_setup new ≡ world_setup old → AllNameExisting (length old.links) es → old.acted + length es ≤ most_events
     → slice_get es done ≡ Some e → cause new e ≡ None
-next_fine gives old new es rs done e ran within fixed acted named few at =
+next_fine gives old new es rs done e ran within fixed named few at =
     let held = halves (is_cable (length old.links) (cable_named e)) (has_system (system_named e))
     (named_at (names_existing (length old.links)) es done e named at) in
     let more = acted_by gives (take done es) rs old new ran in
     let long = length-take-le done es within in
     let lt = slice_get_within es done e at in
-    let count : new.acted ≡ done = omega (arith, more, long, acted) in
+    let count : new.acted ≡ old.acted + done = omega (arith, more, long) in
     no_cause (has_cable new (cable_named e)) (has_system (system_named e)) (nat_le most_events new.acted)
     (cable_there new (cable_named e) (subst (λ n. is_cable n (cable_named e) ≡ true) (sym (cables_kept old new fixed)) held.0))
     held.1
-    (not_spent new.acted done count (omega (arith, lt, few)))
+    (not_spent new.acted (old.acted + done) count (omega (arith, lt, few)))
 
 -- so a run stops only for lack of memory
-pub stops_for_memory : (gives : Algorithms) (old new : WorldState) (es : List Event) (stop : RunFault)
-    → world_setup new ≡ world_setup old → old.acted ≡ 0
-    → AllNameExisting (length old.links) es → length es ≤ most_events → RunStops gives old es stop new → stop.fault ≡ NoMemory
-stops_for_memory gives old new es stop fixed acted named few s =
+stops_for_memory : (gives : Algorithms) (old new : WorldState) (es : List Event) (stop : RunFault)
+    → world_setup new ≡ world_setup old → AllNameExisting (length old.links) es → old.acted + length es ≤ most_events
+    → RunStops gives old es stop new → stop.fault ≡ NoMemory
+stops_for_memory gives old new es stop fixed named few s =
     elim s.fault [ inl h ↦ h.1 | inr h ↦ by_next (next_of es stop.done) refl h ]
   where
     by_next : (o : Option Event) → next_of es stop.done ≡ o → RefusesNext new o stop.fault → stop.fault ≡ NoMemory
     by_next None at h = absurd h
     by_next (Some e) at h = h.named
-        ∙ ap cause_or_no_memory (next_fine gives old new es s.replies stop.done e s.acted s.within fixed acted named few at)
+        ∙ ap cause_or_no_memory (next_fine gives old new es s.replies stop.done e s.acted s.within fixed named few at)
+
+-- ---- events are played in pieces
+
+-- runs one after the other are one run
+pub runs_joined : (gives : Algorithms) (es fs : List Event) (rs qs : List Reply) (old mid new : WorldState)
+    → WorldRuns gives old es rs mid → WorldRuns gives mid fs qs new → WorldRuns gives old (es ++ fs) (rs ++ qs) new
+runs_joined gives [] fs [] qs old mid new h k = subst (λ j. WorldRuns gives j fs qs new) h k
+runs_joined gives [] fs (r ∷ rs) qs old mid new h k = absurd h
+runs_joined gives (e ∷ es) fs [] qs old mid new h k = absurd h
+runs_joined gives (e ∷ es) fs (r ∷ rs) qs old mid new h k = (h.0, h.1, runs_joined gives es fs rs qs h.0 mid new h.2 k)
+
+named_behind : (p : Event → Bool) (es fs : List Event) → list_all p (es ++ fs) ≡ true → list_all p fs ≡ true
+named_behind p [] fs all = all
+named_behind p (e ∷ es) fs all = named_behind p es fs (halves (p e) (list_all p (es ++ fs)) all).1
+
+named_before : (p : Event → Bool) (es fs : List Event) → list_all p (es ++ fs) ≡ true → list_all p es ≡ true
+named_before p [] fs all = refl
+named_before p (e ∷ es) fs all =
+    let first = halves (p e) (list_all p (es ++ fs)) all in
+    both (p e) (list_all p es) first.0 (named_before p es fs first.1)
+
+-- a piece behind what has been played stops only for lack of memory
+pub piece_stops_for_memory : (gives : Algorithms) (old mid new : WorldState) (all done piece rest : List Event) (rs : List Reply)
+    (stop : RunFault)
+    → WorldRuns gives old done rs mid → all ≡ done ++ (piece ++ rest)
+    → world_setup mid ≡ world_setup old → world_setup new ≡ world_setup mid
+    → old.acted ≡ 0 → AllNameExisting (length old.links) all → length all ≤ most_events → RunStops gives mid piece stop new
+    → stop.fault ≡ NoMemory
+piece_stops_for_memory gives old mid new all done piece rest rs stop ran parts kept fixed acted named few s =
+    let p = names_existing (length old.links) in
+    let behind = named_behind p done (piece ++ rest) (subst (λ es. list_all p es ≡ true) parts named) in
+    let here = named_before p piece rest behind in
+    let more = acted_by gives done rs old mid ran in
+    let long = ap length parts ∙ length-append done (piece ++ rest) in
+    let long_behind = length-append piece rest in
+    stops_for_memory gives mid new piece stop fixed
+    (subst (λ n. list_all (names_existing n) piece ≡ true) (sym (cables_kept old mid kept)) here)
+    (omega (arith, more, acted, few, long, long_behind))
+    s

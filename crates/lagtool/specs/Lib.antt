@@ -1,4 +1,5 @@
 pub mod Texts
+pub mod Signs
 pub mod Sinks
 pub mod Sources
 pub mod Reports

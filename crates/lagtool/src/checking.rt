@@ -2,6 +2,7 @@ ghost use Rattle.std.specs.Prelude.{◌≡◌, false, IfErr, IfOk};
 ghost use Rattle.lagtool.specs.CheckEnds.{Checks, Completes, HasCause, Stops};
 
 use crate::fault::ToolFault;
+use crate::progress::{Unwatched, Watch};
 use crate::scan::Scan;
 use crate::sink::Sink;
 use crate::source::Source;
@@ -9,11 +10,13 @@ use crate::summary::Summary;
 use std::alloc::Global;
 use std::io::{Read, Write};
 
-/// Reads the stream to its end, and writes a verdict for each line and then the counts.
-fn check_all<R: Read, W: Write>(
+/// Reads the stream to its end, and writes a verdict for each line and then the counts. After each read the watch is shown
+/// how many lines have ended.
+fn check_all<R: Read, W: Write, P: Watch>(
     alloc: Global,
     source: &mut Source<R>,
     sink: &mut Sink<W>,
+    watch: &P,
 ) -> Result<Summary, ToolFault>
     requires source { source.old.failed ≡ false }
     requires sink { sink.old.failed ≡ false }
@@ -31,10 +34,25 @@ fn check_all<R: Read, W: Write>(
         }
         scan.feed(alloc, &piece[..n])?;
         scan.write(sink)?;
+        watch.show(scan.lines());
     }
     let summary = scan.finish(alloc)?;
     scan.write(sink)?;
     Ok(summary)
+}
+
+/// Checks as `check` does, and shows the watch how many lines were said (profile).
+pub fn check_watched<R: Read, W: Write, P: Watch>(
+    alloc: Global,
+    source: &mut Source<R>,
+    sink: &mut Sink<W>,
+    watch: &P,
+) -> Result<Summary, ToolFault>
+    requires source { source.old.failed ≡ false }
+    requires sink { sink.old.failed ≡ false }
+    ensures { Checks R.remaining W.contents source.old source.new sink.old sink.new result }
+{
+    check_all(alloc, source, sink, watch)
 }
 
 /// Reads frames in hexadecimal, one a line. Writes for each line its number and what frame it is, and at the end the
@@ -54,5 +72,5 @@ pub fn check<R: Read, W: Write>(
     requires sink { sink.old.failed ≡ false }
     ensures { Checks R.remaining W.contents source.old source.new sink.old sink.new result }
 {
-    check_all(alloc, source, sink)
+    check_watched(alloc, source, sink, &Unwatched)
 }

@@ -16,6 +16,7 @@ mod fault;
 mod flows;
 mod known_texts;
 mod laws;
+mod progress;
 mod replay;
 mod reply;
 mod reply_text;
@@ -33,11 +34,12 @@ mod vectors;
 mod verdict;
 
 use algorithm::by_number;
-use checking::check;
+use checking::check_watched;
 use explaining::{explain_digits, explain_script, explain_unread, explain_utf8};
 use fault::{FaultText, ToolFault};
 use lagline::{Job, LineFault, Options, read_line, read_options};
-use replay::replay;
+use progress::{Progress, Watch};
+use replay::replay_watched;
 use reply::reply;
 use show::show;
 use sink::Sink;
@@ -46,6 +48,7 @@ use std::fmt::Display;
 use std::fs::{File, Files};
 use std::io::{Input, Read};
 use std::process::ExitCode;
+use std::time::Clock;
 use std::{env, fs, io};
 use vectors::vectors;
 
@@ -90,17 +93,18 @@ fn ended(rt: &impl Eprint, file: &str, accepted: Result<bool, ToolFault>) -> Exi
     ExitCode::from(status)
 }
 
-/// Checks a file, or standard input for `-`; returns whether no line is a fault.
-fn check_file<R: Print + Files + Input + AllocGlobal>(
+/// Checks a file, or standard input for `-`; returns whether no line is a fault. The watch is shown how many were said.
+fn check_file<R: Print + Files + Input + AllocGlobal, P: Watch>(
     rt: &R,
     file: &str,
+    watch: &P,
 ) -> Result<bool, ToolFault> {
     let mut sink = Sink::new(io::writer(rt));
     let summary = if file == "-" {
-        check(rt.alloc(), &mut Source::new(rt.reader()), &mut sink)?
+        check_watched(rt.alloc(), &mut Source::new(rt.reader()), &mut sink, watch)?
     } else {
         match File::open(rt, file) {
-            Ok(opened) => check(rt.alloc(), &mut Source::new(opened), &mut sink)?,
+            Ok(opened) => check_watched(rt.alloc(), &mut Source::new(opened), &mut sink, watch)?,
             Err(_) => return Err(ToolFault::Read),
         }
     };
@@ -108,12 +112,14 @@ fn check_file<R: Print + Files + Input + AllocGlobal>(
 }
 
 /// Checks a file, or standard input for `-`; returns the exit status.
-fn status_of_check<R: Print + Eprint + Files + Input + AllocGlobal>(
+fn status_of_check<R: Print + Eprint + Files + Input + Clock + AllocGlobal>(
     rt: &R,
     options: Options,
     file: &str,
 ) -> ExitCode {
-    let checked = check_file(rt, file);
+    let progress = Progress::new(rt, options.progress, "line");
+    let checked = check_file(rt, file, &progress);
+    progress.clear();
     let status = ended(rt, file, checked);
     if options.explain && checked == Err(ToolFault::Read) {
         explain_unread(rt, file);
@@ -140,14 +146,16 @@ fn read_octets<R: Files + Input + AllocGlobal>(rt: &R, file: &str) -> Result<Vec
 }
 
 /// Replays a script, which was read from this file; returns the exit status.
-fn status_of_script<R: Print + Eprint + AllocGlobal>(
+fn status_of_script<R: Print + Eprint + Clock + AllocGlobal>(
     rt: &R,
     options: Options,
     file: &str,
     text: &str,
 ) -> ExitCode {
     let mut sink = Sink::new(io::writer(rt));
-    let replayed = replay(rt.alloc(), text, by_number, by_number, &mut sink);
+    let progress = Progress::new(rt, options.progress, "entry");
+    let replayed = replay_watched(rt.alloc(), text, by_number, by_number, &mut sink, &progress);
+    progress.clear();
     match replayed {
         Ok(()) => ended(rt, file, Ok(true)),
         Err(fault) => {
@@ -163,7 +171,7 @@ fn status_of_script<R: Print + Eprint + AllocGlobal>(
 }
 
 /// Replays the script in a file, or in standard input for `-`; returns the exit status.
-fn status_of_replay<R: Print + Eprint + Files + Input + AllocGlobal>(
+fn status_of_replay<R: Print + Eprint + Files + Input + Clock + AllocGlobal>(
     rt: &R,
     options: Options,
     file: &str,
@@ -217,7 +225,10 @@ fn run_vectors<R: Print + AllocGlobal>(rt: &R) -> Result<bool, ToolFault> {
 }
 
 /// Does what a command line asks for; returns its exit status.
-fn status<R: Print + Eprint + Files + Input + AllocGlobal>(rt: &R, words: &[String]) -> ExitCode {
+fn status<R: Print + Eprint + Files + Input + Clock + AllocGlobal>(
+    rt: &R,
+    words: &[String],
+) -> ExitCode {
     let alloc = rt.alloc();
     let options = read_options(words);
     match read_line(alloc, &words[options.count..]) {

@@ -14,6 +14,7 @@ use crate::directions::all_directions;
 use crate::entry_text::EntryText;
 use crate::fault::ToolFault;
 use crate::flows::{Counts, push_flows};
+use crate::progress::{Unwatched, Watch};
 use crate::reply_text::{AgreementText, ReplyText};
 use crate::running::{make_world, run_events};
 use crate::sink::Sink;
@@ -120,14 +121,15 @@ fn report_of<F: Fn(u16, usize) -> usize + Drop>(
     Ok(text)
 }
 
-/// The report of a script after it was read.
-fn report_of_script<F: Fn(u16, usize) -> usize + Drop>(
+/// The report of a script after it was read; the watch is shown how many of its entries have acted.
+fn report_of_script<F: Fn(u16, usize) -> usize + Drop, P: Watch>(
     alloc: Global,
     config: WorldConfig,
     limits: &[Option<u16>],
     events: &[Event],
     one: F,
     two: F,
+    watch: &P,
 ) -> Result<String, ToolFault>
     requires one { PicksIndexes (F.pre one) (F.post one) }
     requires two { PicksIndexes (F.pre two) (F.post two) }
@@ -148,10 +150,40 @@ fn report_of_script<F: Fn(u16, usize) -> usize + Drop>(
     let Ok(mut world) = make_world(alloc, config, one, two, lines) else {
         return Err(ToolFault::NoMemory);
     };
-    let Ok(replies) = run_events(&mut world, events) else {
+    let Ok(replies) = run_events(alloc, &mut world, events, watch) else {
         return Err(ToolFault::NoMemory);
     };
     Ok(report_of(alloc, &world, counts, events, &replies)?)
+}
+
+/// Runs a script as `replay` does, and shows the watch how many entries have acted; what is shown is taken away before the
+/// report is written (profile).
+pub fn replay_watched<F: Fn(u16, usize) -> usize + Drop, W: Write, P: Watch>(
+    alloc: Global,
+    text: &str,
+    one: F,
+    two: F,
+    sink: &mut Sink<W>,
+    watch: &P,
+) -> Result<(), ToolFault>
+    requires one { PicksIndexes (F.pre one) (F.post one) }
+    requires two { PicksIndexes (F.pre two) (F.post two) }
+    requires sink { sink.old.failed ≡ false }
+    ensures { Replays W.contents (both_algorithms (F.post one) (F.post two)) text.now sink.old sink.new result }
+{
+    let plan = read_plan(alloc, text)?;
+    let report = report_of_script(
+        alloc,
+        plan.config,
+        &plan.limits,
+        &plan.events,
+        one,
+        two,
+        watch,
+    )?;
+    watch.clear();
+    sink.put(report.as_bytes())?;
+    Ok(())
 }
 
 /// Runs a script on two systems with these distribution algorithms. Then writes the entries with their replies, how the
@@ -171,8 +203,5 @@ pub fn replay<F: Fn(u16, usize) -> usize + Drop, W: Write>(
     requires sink { sink.old.failed ≡ false }
     ensures { Replays W.contents (both_algorithms (F.post one) (F.post two)) text.now sink.old sink.new result }
 {
-    let plan = read_plan(alloc, text)?;
-    let report = report_of_script(alloc, plan.config, &plan.limits, &plan.events, one, two)?;
-    sink.put(report.as_bytes())?;
-    Ok(())
+    replay_watched(alloc, text, one, two, sink, &Unwatched)
 }

@@ -8,8 +8,9 @@ ghost use Rattle.lagworld.specs.Sound.{IsSound, IsStart, both_algorithms};
 ghost use Rattle.lagworld.specs.declared.fault.WorldFault.TheVariants.{NoMemory};
 ghost use Rattle.lagtool.specs.Naming.{AllNameExisting};
 
+use crate::progress::Watch;
 use cables::AnyCable;
-use lagworld::{Event, Reply, RunFault, World, WorldConfig, WorldFault};
+use lagworld::{Event, Reply, World, WorldConfig, WorldFault};
 use std::alloc::Global;
 
 /// Makes a world from a configuration that is accepted, and an empty line for each cable. Only memory can be refused:
@@ -34,14 +35,21 @@ pub(crate) fn make_world<F: Fn(u16, usize) -> usize + Drop>(
     World::new(alloc, config, one, two, lines)
 }
 
-/// Plays events from the start of a world; each names a cable and a system that exist. Only memory can be refused:
-/// `World::run` has more faults, and this contract says that none of them comes here.
-pub(crate) fn run_events<F: Fn(u16, usize) -> usize + Drop>(
+/// How many events are played before the watch is shown again how many have acted.
+const AT_ONCE: usize = 16;
+
+/// Plays events from the start of a world, with the replies and the world of one call of `World::run` for them all: it calls
+/// `run` for sixteen at a time, and then shows the watch how many have acted. Each names a cable and a system that exist. Only
+/// memory can be refused: `World::run` has more faults, and this contract says that none of them comes here.
+pub(crate) fn run_events<F: Fn(u16, usize) -> usize + Drop, P: Watch>(
+    alloc: Global,
     world: &mut World<AnyCable, F>,
     events: &[Event],
-) -> Result<Vec<Reply>, RunFault>
+    watch: &P,
+) -> Result<Vec<Reply>, WorldFault>
     requires one { PicksIndexes (F.pre world.old.one) (F.post world.old.one) }
     requires two { PicksIndexes (F.pre world.old.two) (F.post world.old.two) }
+    requires sound { IsSound world.old.state }
     requires acted { world.old.state.acted ≡ 0 }
     requires named { AllNameExisting (length world.old.state.links) events.now }
     requires few { length events.now ≤ most_events }
@@ -49,7 +57,15 @@ pub(crate) fn run_events<F: Fn(u16, usize) -> usize + Drop>(
         world.old.state events.now
         replies.items world.new.state) }
     ensures sound { IsSound world.new.state }
-    ensures stopped { IfErr result (λ stop. stop.fault ≡ NoMemory) }
+    ensures stopped { IfErr result (λ fault. fault ≡ NoMemory) }
 {
-    world.run(events)
+    let mut replies = Vec::new(alloc);
+    for piece in events.chunks(AT_ONCE) {
+        match world.run(piece) {
+            Ok(mut more) => replies.append(&mut more)?,
+            Err(stop) => return Err(stop.fault),
+        }
+        watch.show(replies.len() as u64);
+    }
+    Ok(replies)
 }

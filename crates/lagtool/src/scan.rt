@@ -48,6 +48,13 @@ impl Scan {
         }
     }
 
+    /// How many lines have ended.
+    pub(crate) fn lines(&self) -> u64
+        ensures { result ≡ self.now.lines }
+    {
+        self.lines
+    }
+
     /// Ends the line being read: adds its verdict to the report, and counts it. `AllocError` if memory is refused.
     fn end_line(&mut self, alloc: Global) -> Result<(), AllocError>
         requires { self.old.lines + 1 < 2 ^ 64 }

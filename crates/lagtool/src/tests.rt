@@ -20,6 +20,7 @@ mod replays;
 mod spent;
 mod streams;
 mod texts;
+mod watching;
 mod worlds;
 mod wrong_answers;
 

@@ -4,6 +4,7 @@ use Rattle.distributor.specs.Calls.{PicksIndexes}
 use Rattle.lagworld.specs.Events.{Algorithms, WorldRuns}
 use Rattle.lagworld.specs.Sound.{both_algorithms}
 use Rattle.lagworld.specs.declared.reply.Reply.{Reply}
+use Rattle.lagworld.proofs.Starts.{start_sound}
 use Rattle.lagtool.specs.Naming.{AllNameExisting}
 use Rattle.lagtool.specs.ReplayReport.{empty_link}
 use Rattle.lagtool.specs.ReplaySteps.{replay_report_with_counts}
@@ -28,6 +29,9 @@ pub run_events-requires-clause-two : goal.run_events-requires-clause-two
 run_events-requires-clause-two g c =
     subst (λ f. PicksIndexes (λ conv count. g.F.Fn.pre f (conv, (count, tt))) (λ conv count place. g.F.Fn.post f (conv, (count, tt)) place))
     (sym c.in-Ok-make_world.ensures.algorithm_two) c.requires.two
+
+pub run_events-requires-clause-sound : goal.run_events-requires-clause-sound
+run_events-requires-clause-sound g c = start_sound c.in-Ok-make_world.world.state c.in-Ok-make_world.ensures.start
 
 pub run_events-requires-clause-acted : goal.run_events-requires-clause-acted
 run_events-requires-clause-acted g c = c.in-Ok-make_world.ensures.made.acted

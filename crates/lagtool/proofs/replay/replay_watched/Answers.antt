@@ -5,7 +5,7 @@ use Rattle.lagworld.specs.Sound.{both_algorithms}
 use Rattle.lagtool.specs.Naming.{AllNameExisting}
 use Rattle.lagtool.proofs.NamingLemmas.{plan_few, plan_names}
 use Rattle.lagtool.proofs.StartLemmas.{replayed_is, write_failed}
-use Rattle.lagtool.proofs.replay.replay.Goals as goal
+use Rattle.lagtool.proofs.replay.replay_watched.Goals as goal
 
 pub report_of_script-requires-clause-named : goal.report_of_script-requires-clause-named
 report_of_script-requires-clause-named g c =
