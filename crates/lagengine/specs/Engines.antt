@@ -4,7 +4,7 @@ use Rattle.distributor.specs.Conversations.{next_identifier}
 use Rattle.lagsystem.specs.Calls.{Call, Tick}
 use Rattle.lagsystem.specs.Drives.{Drives, call_of}
 use Rattle.lagsystem.specs.Forcing.{ForcesPort}
-use Rattle.lagsystem.specs.First.{IsFirst, fault_or_no_memory, refusal}
+use Rattle.lagsystem.specs.First.{ConfigValue, IsFirst, fault_or_no_memory, refusal}
 use Rattle.lagsystem.specs.Hosts.{conversation_at}
 use Rattle.lagsystem.specs.Readers.{conversation_in}
 use Rattle.lagsystem.specs.Sound.{CallPromise}
@@ -16,7 +16,7 @@ use Rattle.lagsystem.specs.declared.drive.Reply.{Reply}
 use Rattle.lagsystem.specs.declared.drive.Reply.TheVariants as reply
 use Rattle.lagengine.specs.Lines.{request_in}
 use Rattle.lagengine.specs.Looks.{all_aggregators, all_ports, port_answer, agg_answer}
-use Rattle.lagengine.specs.Requests.{TaskValue, RequestValue, ConfigValue, Start, Work, Make, Ticks, Keep, Drive, ForcePort, Conversation, Ask}
+use Rattle.lagengine.specs.Requests.{TaskValue, RequestValue, Start, Work, Make, Ticks, Keep, Drive, ForcePort, Conversation, Ask}
 use Rattle.lagengine.specs.AnswerValues.{AnswerValue}
 use Rattle.lagengine.specs.AnswerValues as said
 use Rattle.lagengine.specs.declared.engine.Inner.{Inner}
@@ -63,7 +63,7 @@ pub record HasConfig (config : ConfigValue) (s : SystemState) : Type 0 where
   pub max_delay : s.max_delay ≡ config.max_delay
   pub first_marker : s.first_marker ≡ config.first_marker
   pub conversations : s.conversations ≡ config.conversations
-  pub keys : s.keys ≡ config.keys
+  pub keys : s.keys ≡ config.aggregators
   pub max_links : s.max_links ≡ config.max_links
   pub ports : s.ports ≡ config.ports
 
@@ -73,7 +73,7 @@ AnswersFault fault old answer new = (answer ≡ said.Fault fault) × (new ≡ ol
 
 -- the first reason to refuse this configuration; None if it is accepted
 abbrev pub config_refusal : ConfigValue → Option BadConfig
-config_refusal config = refusal config.keys config.ports config.max_links config.conversations
+config_refusal config = refusal config.aggregators config.ports config.max_links config.conversations
 
 -- a new system in its first state, and no stored calls, if the configuration is accepted and memory is granted
 abbrev pub MakesSystem : ConfigValue → EngineState → Type 0

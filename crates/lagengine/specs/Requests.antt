@@ -4,12 +4,10 @@ use Rattle.std.specs.Borrow.{Bor}
 use Rattle.std.specs.Option.{unwrap_or}
 use Rattle.std.specs.Str.{bytes_eq}
 use Rattle.lagtypes.specs.declared.identifiers.AggId.{AggId}
-use Rattle.lagtypes.specs.declared.identifiers.Key.{Key}
-use Rattle.lagtypes.specs.declared.identifiers.SystemId.{SystemId}
 use Rattle.lagsystem.specs.Calls.{Call, Receive, Tick, Set_link, Configure, Restart, Transmit, Offer, Move_conversation, Force}
 use Rattle.lagsystem.specs.Drives.{call_of}
+use Rattle.lagsystem.specs.First.{ConfigValue, config_value}
 use Rattle.lagsystem.specs.declared.config.Config.{Config}
-use Rattle.lagsystem.specs.declared.config.PortConfig.{PortConfig}
 use Rattle.lagengine.specs.Words.{◌>>=◌, SevenFields, each_at_place, number_word, ticks_word, long_number_word, mac_word, link_word, aggregation_word}
 use Rattle.lagengine.specs.Words.{hex_word, keys_word, port_word}
 use Rattle.lagengine.specs.declared.fault.RequestError.{RequestError}
@@ -24,28 +22,6 @@ use Rattle.lagengine.specs.declared.request.Request.{Request}
 use Rattle.lagengine.specs.declared.request.Request.TheVariants as request
 use Rattle.lagengine.specs.declared.request.Task.{Task}
 use Rattle.lagengine.specs.declared.request.Task.TheVariants as task
-
--- a configuration, with lists in the place of its Vecs
-pub record ConfigValue : Type 0 where
-  pub system : SystemId
-  pub max_delay : ℕ
-  pub first_marker : ℕ
-  pub conversations : ℕ
-  pub keys : List Key
-  pub max_links : Option ℕ
-  pub ports : List PortConfig
-
--- the configuration, as a value of the logic
-abbrev pub config_value : Config → ConfigValue
-config_value c = record {
-  system = c.system;
-  max_delay = c.max_delay;
-  first_marker = c.first_marker;
-  conversations = c.conversations;
-  keys = c.aggregators.items;
-  max_links = c.max_links;
-  ports = c.ports.items;
-}
 
 -- a task for a system: make a call, make some ticks, store calls from now on, make the stored calls, force what is held
 -- on a port, or answer a question
@@ -213,7 +189,7 @@ config_in (priority ∷ mac ∷ delay ∷ marker ∷ keys ∷ rest) =
       max_delay = delay;
       first_marker = marker;
       conversations = unwrap_or count.0 256;
-      keys = keys;
+      aggregators = keys;
       max_links = limit.0;
       ports = ports;
     })

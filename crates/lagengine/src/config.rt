@@ -1,5 +1,6 @@
 ghost use Rattle.std.specs.Prelude.{◌≡◌, ◌+◌, ◌≤◌, codes, map};
-ghost use Rattle.lagengine.specs.Requests.{ReadsAs, config_in, config_value, number_and_rest, number_behind, place_behind};
+ghost use Rattle.lagsystem.specs.First.{config_value};
+ghost use Rattle.lagengine.specs.Requests.{ReadsAs, config_in, number_and_rest, number_behind, place_behind};
 ghost use Rattle.lagengine.specs.Requests.{seven_words_octets};
 ghost use Rattle.lagengine.specs.Words.{each, each_at_place, key_word, keys_word, port_fields, port_word, seven_fields};
 

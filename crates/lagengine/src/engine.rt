@@ -1,10 +1,10 @@
 ghost use Rattle.std.specs.Prelude.{◌≡◌, IfOk, None, Ok, OnErr, Some};
 ghost use Rattle.distributor.specs.Calls.{PicksIndexes};
 ghost use Rattle.lagsystem.specs.Drives.{call_of};
-ghost use Rattle.lagsystem.specs.Sound.{CallPromise};
+ghost use Rattle.lagsystem.specs.First.{config_value};
 ghost use Rattle.lagengine.specs.Engines.{DoesTask, DoesTaskIfSystem, AnswersLine, CallsOrKeeps, DoesRequest, DrivesKept, HasAlgorithm};
 ghost use Rattle.lagengine.specs.Engines.{AnswersStart, kept_so_far, engine_state, kept_of, system_state, reader_answer, engine_value};
-ghost use Rattle.lagengine.specs.Requests.{request_value, config_value, task_value};
+ghost use Rattle.lagengine.specs.Requests.{request_value, task_value};
 ghost use Rattle.lagengine.specs.AnswerValues.{answer_value};
 
 use crate::answer::Answer;
@@ -12,7 +12,7 @@ use crate::fault::{RequestError, RequestFault};
 use crate::looks::{agg_answer, all_aggregators, all_ports, port_answer};
 use crate::request::{Question, Request, Task, request_in};
 use crate::ticks::tick_or_keep;
-use lagsystem::{Call, Config, Reply, System};
+use lagsystem::{Call, Config, System};
 use std::alloc::{AllocError, Global};
 use std::marker::Model;
 
@@ -41,33 +41,6 @@ impl<F> Model for Engine<F> {
     ghost view = { λ e. engine_value e.inner };
 
     ghost invariant = { λ e. HasAlgorithm e.inner.algorithm e.inner.system };
-}
-
-/// Makes a call.
-fn make_call<F: Fn(u16, usize) -> usize + Drop>(system: &mut System<F>, call: &Call) -> Reply
-    requires usable { PicksIndexes (F.pre system.old.algorithm) (F.post system.old.algorithm) }
-    ensures answers { CallPromise (F.post system.old.algorithm) system.old.state (call_of call.now) result system.new.state }
-    ensures algorithm { system.new.algorithm ≡ system.old.algorithm }
-{
-    match call {
-        Call::Receive(port, octets) => Reply::Receive(system.receive(*port, octets)),
-        Call::Tick => {
-            system.tick();
-            Reply::Tick
-        }
-        Call::SetLink(port, up) => Reply::SetLink(system.set_link(*port, *up)),
-        Call::Configure(port, change) => Reply::Configure(system.configure(*port, *change)),
-        Call::Restart => {
-            system.restart();
-            Reply::Restart
-        }
-        Call::Transmit(port) => Reply::Transmit(system.transmit(*port)),
-        Call::Offer(agg, octets) => Reply::Offer(system.offer(*agg, octets)),
-        Call::MoveConversation(agg, conv, port) => {
-            Reply::MoveConversation(system.move_conversation(*agg, *conv, *port))
-        }
-        Call::Force(agg, conv) => Reply::Force(system.force(*agg, *conv)),
-    }
 }
 
 /// Answers a question by a reader of the system.
@@ -108,7 +81,7 @@ fn call_or_keep<F: Fn(u16, usize) -> usize + Drop>(
     ensures algorithm { system.new.algorithm ≡ system.old.algorithm }
 {
     match kept {
-        None => Ok(Answer::Reply(make_call(system, &call))),
+        None => Ok(Answer::Reply(system.call(&call))),
         Some(calls) => {
             calls.push(call)?;
             Ok(Answer::Kept)
