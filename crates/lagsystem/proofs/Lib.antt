@@ -32,6 +32,7 @@ pub mod Sound
 pub mod OneFrame
 pub mod OneSettling
 pub mod OneAnswer
+pub mod OneForcing
 pub mod Windows
 pub mod DriveLemmas
 pub mod NoneStays

@@ -20,7 +20,6 @@ use Rattle.portmachines.proofs.Choices.{one_effect}
 use Rattle.distributor.specs.declared.assignment.Assignment.{Assignment}
 use Rattle.distributor.specs.declared.assignment.Assignment.TheVariants.{Free, On, Wanted, Flushing}
 use Rattle.distributor.specs.declared.fault.DistFault.{DistFault}
-use Rattle.distributor.specs.declared.fault.DistFault.TheVariants as dist
 use Rattle.distributor.specs.Calls.{Assigns, PicksPort, force_result, move_result, preferred_among}
 use Rattle.distributor.specs.Changes.{ChangesAssignments, Marks, SetsAssignment, after_down, after_mark, after_release, after_tick}
 use Rattle.distributor.specs.Changes.{awaits_response, marker_due, wants_marker}

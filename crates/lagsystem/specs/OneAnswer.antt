@@ -1,9 +1,11 @@
 -- A call of a system has one answer and one state after it.
-use Rattle.std.specs.Prelude.{◌≡◌, ℕ, List}
+use Rattle.std.specs.Prelude.{◌≡◌, ℕ, List, Result}
 use Rattle.distributor.specs.Conversations.{Table, assignment_of}
 use Rattle.lagsystem.specs.declared.drive.Reply.{Reply}
+use Rattle.lagsystem.specs.declared.fault.SystemFault.{SystemFault}
 use Rattle.lagsystem.specs.Calls.{Call}
 use Rattle.lagsystem.specs.Drives.{Drives}
+use Rattle.lagsystem.specs.Forcing.{ForcesPort}
 use Rattle.lagsystem.specs.Sound.{CallPromise, PortsAgree}
 use Rattle.lagsystem.specs.State.{SystemState, with_table}
 
@@ -37,3 +39,10 @@ OneRun gives =
     (old twin : SystemState) (calls : List Call) (replies others : List Reply) (new last : SystemState)
     → PortsAgree old → SameState old twin → Drives gives old calls replies new → Drives gives twin calls others last
     → (others ≡ replies) × SameState new last
+
+-- so of forcing what is held on a port
+abbrev pub OneForcing : (ℕ → ℕ → ℕ → Type 0) → Type 0
+OneForcing gives =
+    (old twin : SystemState) (port : ℕ) (answer other : Result ℕ SystemFault) (new last : SystemState)
+    → PortsAgree old → SameState old twin → ForcesPort gives port old answer new → ForcesPort gives port twin other last
+    → (other ≡ answer) × SameState new last

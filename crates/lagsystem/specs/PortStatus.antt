@@ -1,5 +1,5 @@
 -- Whether a port distributes, and else the first reason why not (profile).
-use Rattle.std.specs.Prelude.{ℕ, Bool, not, nat_lt, if◌then◌else◌}
+use Rattle.std.specs.Prelude.{not, nat_lt, if◌then◌else◌}
 use Rattle.lagtypes.specs.declared.party.Choice.{Choice}
 use Rattle.lagtypes.specs.declared.party.Choice.TheVariants as choice
 use Rattle.lagtypes.specs.Same.{same_system}

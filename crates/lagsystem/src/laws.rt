@@ -4,7 +4,7 @@ ghost use Rattle.lagsystem.specs.Quiet.{QuietUntilDue};
 ghost use Rattle.std.specs.Prelude.{◌≡◌};
 ghost use Rattle.lagsystem.specs.First.{IsFirst};
 ghost use Rattle.lagsystem.specs.State.{SystemState, with_system_ports, with_table};
-ghost use Rattle.lagsystem.specs.OneAnswer.{IsFunction, OneAnswer, OneRun};
+ghost use Rattle.lagsystem.specs.OneAnswer.{IsFunction, OneAnswer, OneForcing, OneRun};
 ghost use Rattle.lagsystem.specs.Windows.{StartsWithoutAges, WindowFromStart, SystemWindowLaw};
 
 /// The transmit limit: any eleven consecutive ticks since the last start of a system hold at most three LACPDUs of each
@@ -41,10 +41,11 @@ pub fn ticks_only_count_until_due<F: Fn(u16, usize) -> usize>()
     ensures { (algorithm : F) → QuietUntilDue (F.post algorithm) }
 {}
 
-/// A call of a system has at most one reply and leads to at most one state, and so does a list of calls, if the
-/// algorithm returns one index for each conversation and count of ports. The states are equal but for the lists that
+/// A call of a system has at most one reply and leads to at most one state, and so do a list of calls and `force_port`, if
+/// the algorithm returns one index for each conversation and count of ports. The states are equal but for the lists that
 /// the states of conversations stand in: of those, what stands for a conversation is equal (profile).
 pub fn each_call_has_one_answer<F: Fn(u16, usize) -> usize>()
     ensures call { (algorithm : F) → IsFunction (F.post algorithm) → OneAnswer (F.post algorithm) }
     ensures run { (algorithm : F) → IsFunction (F.post algorithm) → OneRun (F.post algorithm) }
+    ensures forcing { (algorithm : F) → IsFunction (F.post algorithm) → OneForcing (F.post algorithm) }
 {}

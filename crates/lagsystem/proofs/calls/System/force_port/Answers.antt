@@ -1,4 +1,4 @@
-use Rattle.std.proofs.Common.{arith, ◌≡◌, ◌∙◌, ◌+◌, ℕ, ap, is_some, length, refl, subst, sym, true}
+use Rattle.std.proofs.Common.{arith, ◌≡◌, ◌∙◌, ◌+◌, ℕ, ap, is_some, length, refl, subst, true}
 use Rattle.lagsystem.specs.Forcing.{ForcesFirst, ForcesIn}
 use Rattle.lagsystem.specs.Readers.{aggregator_numbered}
 use Rattle.lagsystem.specs.State.{SystemValue, port_index}
