@@ -1,6 +1,6 @@
 -- Ports choose one after another, and the list of views stays equal to their views.
 use Rattle.std.proofs.Common.{◌≡◌, ◌∙◌, ℕ, zero, suc, ◌<◌, Bool, true, false, ◌&&◌, ◌||◌, not, List, [], ◌∷◌, length, Option, Some, None, get_or, slice_get}
-use Rattle.std.proofs.Common.{slice_set, refl, subst, ap, arith}
+use Rattle.std.proofs.Common.{slice_set, refl, subst, sym, ap, arith}
 use Rattle.std.specs.List.{list_any}
 use Rattle.std.proofs.lemmas.Option.{same_Some}
 use Rattle.lagtypes.specs.declared.party.Choice.{Choice}
@@ -52,6 +52,15 @@ pub none_chosen : (aggs : AggregatorsValue) (n : ℕ) (system_ports : List Syste
 none_chosen aggs zero system_ports h = refl
 none_chosen aggs (suc n) system_ports h = subst (λ l. system_ports ≡ after_choice_at aggs l n (slice_get l n))
     (none_chosen aggs n system_ports h) (stays_at aggs system_ports n (slice_get system_ports n) h refl)
+
+-- a port that is not UNSELECTED is not eligible
+pub chosen_not_eligible : (v : PortView) → is_unselected v.choice ≡ false → false ≡ is_eligible v
+chosen_not_eligible v h = sym (last ((v.enabled && v.settled) && is_detached v.stage) (is_unselected v.choice)
+    (not (same_system v.partner.system v.party.system)) h)
+  where
+    last : (a b c : Bool) → b ≡ false → ((a && b) && c) ≡ false
+    last true b c e = ap (λ x. x && c) e
+    last false b c e = refl
 
 -- where each port is SELECTED, none is eligible
 pub selected_not_eligible : (v : PortView) → not (is_selected v.choice) ≡ false → is_eligible v ≡ false

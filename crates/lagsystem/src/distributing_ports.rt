@@ -21,7 +21,7 @@ pub(crate) fn distributes_in(system_port: &SystemPort, agg: AggId) -> bool
     ensures { result ≡ distributes_in agg system_port.now }
 {
     match system_port.port.choice() {
-        Choice::Selected(given) => (given == agg) & system_port.port.distributes(),
+        Choice::Selected(given) => given == agg && system_port.port.distributes(),
         Choice::Standby(_) | Choice::Unselected => false,
     }
 }

@@ -120,7 +120,9 @@ fn choose_all(aggregators: &Aggregators, system_ports: &mut [SystemPort])
     }
 }
 
-/// The same where the port at this index is the first that is not SELECTED.
+/// The same where the port at this index is the first that is not SELECTED. It stands alone, so that where each port is
+/// SELECTED the walk over them is short.
+#[inline(never)]
 fn choose_some(aggregators: &Aggregators, system_ports: &mut [SystemPort], first: usize)
     requires few { length system_ports.old ≤ 64 }
     requires first { position (λ s. not (is_selected s.port.choice)) system_ports.old ≡ Some first }

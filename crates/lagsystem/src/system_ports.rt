@@ -3,7 +3,7 @@ ghost use Rattle.std.specs.List.Sorted.{IsStrictlyIncreasing};
 ghost use Rattle.lagsystem.specs.Views.{stage_of, selection_view, views};
 ghost use Rattle.lagsystem.specs.State.{port_index, port_numbers};
 ghost use Rattle.lagsystem.specs.First.{HasJustStarted, setup_of};
-ghost use Rattle.lagtypes.specs.Choices.{is_selected};
+ghost use Rattle.lagtypes.specs.Choices.{is_selected, is_unselected};
 ghost use Rattle.selection.specs.Views.{has_waited, is_eligible};
 
 use crate::config::PortConfig;
@@ -82,11 +82,21 @@ pub(crate) fn list_views(system_ports: &[SystemPort], found: &mut ArrayVec<PortV
     }
 }
 
-/// Whether a port may choose an aggregator now.
+/// Whether a port is UNSELECTED.
+fn is_unselected(system_port: &SystemPort) -> bool
+    ensures { result ≡ is_unselected system_port.now.port.choice }
+{
+    match system_port.port.choice() {
+        Choice::Unselected => true,
+        Choice::Selected(_) | Choice::Standby(_) => false,
+    }
+}
+
+/// Whether a port may choose an aggregator now. What most ports fail that may not is asked first.
 pub(crate) fn is_eligible(system_port: &SystemPort) -> bool
     ensures { result ≡ is_eligible (selection_view system_port.now) }
 {
-    selection_view(system_port).is_eligible()
+    is_unselected(system_port) && selection_view(system_port).is_eligible()
 }
 
 /// Whether a port is SELECTED.
