@@ -1,1 +1,3 @@
+pub mod NameLemmas
+pub mod NearestLemmas
 pub mod PlaceLemmas

@@ -1,8 +1,12 @@
--- What is left of a list of octets is no longer than the list.
-use Rattle.std.proofs.Common.{◌≤◌, ℕ, suc, Bool, true, false, cond, List, [], ◌∷◌, filter, length, reverse, take_while, arith}
+-- What is left of a list of octets is no longer than the list; how a place is told.
+use Rattle.std.proofs.Common.{◌≡◌, ◌≤◌, ◌<◌, ◌++◌, ◌^◌, ◌∙◌, ℕ, suc, Bool, true, false, cond, List, [], ◌∷◌, filter, length, reverse}
+use Rattle.std.proofs.Common.{take, take_while, ap, append_assoc, arith, decimal, subst, sym, Result, Ok, Err, IfOk, String, string_bytes}
+use Rattle.std.specs.declared.alloc.AllocError.{AllocError}
+use Rattle.std.specs.declared.alloc.Global.{Global}
 use Rattle.std.specs.List.{prefix_len}
 use Rattle.std.proofs.lemmas.List.{length-reverse, length-take-le}
 use Rattle.std.proofs.lemmas.List.Sums.{prefix_len-le-length}
+use Rattle.lagexplain.specs.Explanations.{SaysPlace, column_behind, line_behind}
 
 pub few_filtered : (p : ℕ → Bool) (l : List ℕ) → length (filter p l) ≤ length l
 few_filtered p [] = omega arith
@@ -17,3 +21,31 @@ few_taken p l = omega (arith, length-take-le (prefix_len p l) l (prefix_len-le-l
 
 pub few_behind : (p q : ℕ → Bool) (l : List ℕ) → length (filter p (take_while q (reverse l))) ≤ length l
 few_behind p q l = omega (arith, few_filtered p (take_while q (reverse l)), few_taken q (reverse l), length-reverse l)
+
+colons_joined : (a b c : List ℕ) → 58 ∷ (a ++ 58 ∷ (b ++ 58 ∷ 32 ∷ c)) ≡ (58 ∷ (a ++ 58 ∷ (b ++ 58 ∷ 32 ∷ []))) ++ c
+colons_joined a b c = sym (ap (λ t. 58 ∷ t) (append_assoc a (58 ∷ (b ++ 58 ∷ 32 ∷ [])) c
+    ∙ ap (λ t. a ++ 58 ∷ t) (append_assoc b (58 ∷ 32 ∷ []) c)))
+
+-- what is formed of a place and a message tells the place
+pub says_place : (r : Result (String Global) AllocError) (text octets message : List ℕ) (start line column : ℕ)
+    → octets ≡ text → start ≤ length text → length text < 2 ^ 32
+    → (length (take start octets) < 2 ^ 32 → line ≡ line_behind (take start octets))
+    → (length (take start octets) < 2 ^ 32 → column ≡ column_behind (take start octets))
+    → IfOk r (λ why. string_bytes why ≡ 58 ∷ (decimal line ++ 58 ∷ (decimal column ++ 58 ∷ 32 ∷ message)))
+    → IfOk r (λ why. SaysPlace text (string_bytes why))
+says_place (Err refused) text octets message start line column same within small l c e = tt
+says_place (Ok why) text octets message start line column same within small l c e =
+    let fits : start ≤ length octets = omega (arith, ap length same, within) in
+    let few : length (take start octets) < 2 ^ 32 = omega (arith, length-take-le start octets fits, within, small) in
+    let on_line = subst (λ t. line ≡ line_behind (take start t)) same (l few) in
+    let in_column = subst (λ t. column ≡ column_behind (take start t)) same (c few) in (
+      start,
+      within,
+      (
+        message,
+        e
+            ∙ ap (λ n. 58 ∷ (decimal n ++ 58 ∷ (decimal column ++ 58 ∷ 32 ∷ message))) on_line
+            ∙ ap (λ n. 58 ∷ (decimal (line_behind (take start text)) ++ 58 ∷ (decimal n ++ 58 ∷ 32 ∷ message))) in_column
+            ∙ colons_joined (decimal (line_behind (take start text))) (decimal (column_behind (take start text))) message,
+      ),
+    )

@@ -1,2 +1,4 @@
 pub mod Entries
+pub mod Explanations
+pub mod Nearest
 pub mod TextPlaces

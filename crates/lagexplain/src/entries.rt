@@ -136,7 +136,7 @@ pub(crate) fn explain_entry(
     let Some(text) = entry_at(top, place) else {
         return Ok(());
     };
-    write!(out, "event {place} ")?;
+    out.push_str(" ")?;
     quote(out, text)?;
     out.push_str(": ")?;
     let words = words_of(alloc, text)?;

@@ -1,3 +1,7 @@
+ghost use Rattle.std.specs.Prelude.{◌<◌, ◌^◌, IfOk, length, string_bytes};
+ghost use Rattle.toml.specs.Errors.{IsWithin};
+ghost use Rattle.lagexplain.specs.Explanations.{SaysPlace, SaysWhere};
+
 use crate::arrays::{count_at, table_at};
 use crate::cables::explain_ends;
 use crate::entries::explain_entry;
@@ -5,6 +9,7 @@ use crate::keys::{
     CABLE_KEYS, PORT_KEYS, SYSTEM_KEYS, TOP_KEYS, explain_extra_key, port_key, system_key,
 };
 use crate::ports::explain_port_number;
+use crate::subject_text::SubjectText;
 use crate::text_places::place_of;
 use crate::values::explain_value;
 use lagscript::{PortKey, ScriptFault, SystemKey};
@@ -32,7 +37,7 @@ fn explain_system(
     key: SystemKey,
 ) -> Result<(), AllocError> {
     let (name, wanted) = system_key(key);
-    write!(out, "system {system}: ")?;
+    out.push_str(": ")?;
     explain_value(out, system_of(top, system), name, wanted)
 }
 
@@ -45,7 +50,7 @@ fn explain_port(
     key: PortKey,
 ) -> Result<(), AllocError> {
     let (name, wanted) = port_key(key);
-    write!(out, "system {system} port {place}: ")?;
+    out.push_str(": ")?;
     explain_value(out, port_of(top, system, place), name, wanted)
 }
 
@@ -61,10 +66,7 @@ fn explain_count(
         Some(table) => count_at(table, key),
         None => 0,
     };
-    write!(
-        out,
-        "system {system} has {count} {what}: wanted are 1 to 64"
-    )
+    write!(out, " has {count} {what}: wanted are 1 to 64")
 }
 
 /// Says what is wrong with `system`.
@@ -97,26 +99,26 @@ fn explain_table(
     match fault {
         ScriptFault::ExtraKey => explain_extra_key(alloc, out, Some(top), &TOP_KEYS),
         ScriptFault::SystemExtraKey(system) => {
-            write!(out, "system {system}: ")?;
+            out.push_str(": ")?;
             explain_extra_key(alloc, out, system_of(top, system), &SYSTEM_KEYS)
         }
         ScriptFault::PortExtraKey(system, place) => {
-            write!(out, "system {system} port {place}: ")?;
+            out.push_str(": ")?;
             explain_extra_key(alloc, out, port_of(top, system, place), &PORT_KEYS)
         }
         ScriptFault::CableExtraKey(place) => {
-            write!(out, "cable {place}: ")?;
+            out.push_str(": ")?;
             explain_extra_key(alloc, out, table_at(top, "cable", place), &CABLE_KEYS)
         }
         ScriptFault::SystemValue(system, key) => explain_system(out, top, system, key),
         ScriptFault::PortValue(system, place, key) => explain_port(out, top, system, place, key),
         ScriptFault::CableEnds(place) => {
-            write!(out, "cable {place}: ")?;
+            out.push_str(": ")?;
             let wanted = "two numbers, 0 to 65535: a port of system 1, a port of system 2";
             explain_value(out, table_at(top, "cable", place), "ends", wanted)
         }
         ScriptFault::CableLimit(place) => {
-            write!(out, "cable {place}: ")?;
+            out.push_str(": ")?;
             explain_value(
                 out,
                 table_at(top, "cable", place),
@@ -150,7 +152,7 @@ fn explain_whole(
             explain_count(out, top, system, "aggregators", "aggregators")
         }
         ScriptFault::PortNumber(system, place) => {
-            write!(out, "system {system} port {place}: ")?;
+            out.push_str(": ")?;
             explain_port_number(out, system_of(top, system), place)
         }
         ScriptFault::MaxLinks(system) => explain_system(out, top, system, SystemKey::MaxLinks),
@@ -166,28 +168,31 @@ fn explain_whole(
 }
 
 /// Says where a text is no TOML, and why.
-fn explain_toml(out: &mut String, text: &str, error: &toml::de::Error) -> Result<(), AllocError> {
+fn explain_toml(alloc: Global, text: &str, error: &toml::de::Error) -> Result<String, AllocError>
+    requires { IsWithin text.now error.now }
+    ensures { length text.now < 2 ^ 32 → IfOk result (λ why. SaysPlace text.now (string_bytes why)) }
+{
     let start = match error.span() {
         Some(span) => span.start,
         None => 0,
     };
-    let before = text.as_bytes().get(..start).unwrap_or(&[]);
-    let place = place_of(before);
-    write!(out, ":{}:{}: {}", place.line, place.column, error.message())
+    let place = place_of(&text.as_bytes()[..start]);
+    format!(in alloc; ":{}:{}: {}", place.line, place.column, error.message())
 }
 
 /// Says what is wrong with a text that `read_plan` refuses for this fault: what is to stand behind the name of its file.
-/// For `NotToml` that is `:LINE:COLUMN: ` and the message of the crate `toml`, for any other fault `: ` and a sentence.
-/// `AllocError` if memory is refused (profile).
-pub fn explain(alloc: Global, text: &str, fault: ScriptFault) -> Result<String, AllocError> {
-    let mut out = String::new(alloc);
+/// For `NotToml` that is `:LINE:COLUMN: ` and the message of the crate `toml`, for any other fault `: `, what the fault names,
+/// as `system 1 port 2`, and what is wrong with it. `AllocError` if memory is refused (profile).
+pub fn explain(alloc: Global, text: &str, fault: ScriptFault) -> Result<String, AllocError>
+    ensures { length text.now < 2 ^ 32 → IfOk result (λ why. SaysWhere text.now fault (string_bytes why)) }
+{
     match toml::table_from_str(alloc, text) {
         Ok(top) => {
-            out.push_str(": ")?;
-            explain_table(alloc, &mut out, &top, fault)?;
+            let mut why = String::new(alloc);
+            explain_table(alloc, &mut why, &top, fault)?;
+            format!(in alloc; ": {}{why}", SubjectText(fault))
         }
-        Err(error) if error.is_memory() => return Err(AllocError),
-        Err(error) => explain_toml(&mut out, text, &error)?,
+        Err(error) if error.is_memory() => Err(AllocError),
+        Err(error) => explain_toml(alloc, text, &error),
     }
-    Ok(out)
 }

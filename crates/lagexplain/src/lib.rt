@@ -8,8 +8,10 @@ mod entries;
 mod explaining;
 mod forms;
 mod keys;
+mod laws;
 mod names;
 mod ports;
+mod subject_text;
 #[cfg(test)]
 mod tests;
 mod text_places;
@@ -17,4 +19,5 @@ mod values;
 mod words;
 
 pub use explaining::explain;
+pub use laws::events_are_those_of_scripts;
 pub use text_places::{Place, place_of};

@@ -1,27 +1,39 @@
+ghost use Rattle.std.specs.Prelude.{◌≡◌, IfOk, map, option_map};
+ghost use Rattle.lagexplain.specs.Nearest.{FindsNearest, edits_between};
+
 use std::alloc::{AllocError, Global};
 use strsim::osa_distance;
 
-/// The most edits that lead from a word to the name that was meant.
-const MOST_EDITS: usize = 2;
+/// Fewer edits than these lead from a word to the name that was meant.
+const TOO_MANY_EDITS: usize = 3;
 
 /// The most octets of a word that is compared with names.
 const LONGEST_WORD: usize = 40;
+
+/// How many edits lead from a word to a name.
+fn edits_between(alloc: Global, word: &str, name: &str) -> Result<usize, AllocError>
+    ensures { IfOk result (λ edits. edits ≡ edits_between word.now name.now) }
+{
+    osa_distance(alloc, word, name)
+}
 
 /// The name that is nearest to a word, if few edits lead there; the first of several.
 pub(crate) fn nearest<'a>(
     alloc: Global,
     word: &str,
     names: &[&'a str],
-) -> Result<Option<&'a str>, AllocError> {
+) -> Result<Option<&'a str>, AllocError>
+    ensures { IfOk result (λ found. FindsNearest word.now (map (λ n. n.now) names.now) (option_map (λ n. n.now) found)) }
+{
     let mut found = None;
     if word.len() > LONGEST_WORD {
         return Ok(found);
     }
-    let mut most = MOST_EDITS;
+    let mut fewest = TOO_MANY_EDITS;
     for name in names {
-        let edits = osa_distance(alloc, word, *name)?;
-        if edits < most || edits == most && found.is_none() {
-            most = edits;
+        let edits = edits_between(alloc, word, *name)?;
+        if edits < fewest {
+            fewest = edits;
             found = Some(*name);
         }
     }

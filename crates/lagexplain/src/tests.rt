@@ -38,7 +38,7 @@ ends = [1, 3]
 type Typo = (&'static str, &'static str, &'static str, &'static str);
 
 /// Mistakes in an entry.
-const ENTRIES: [Typo; 27] = [
+const ENTRIES: [Typo; 29] = [
     (
         "tick 1 10",
         "tic 1 10",
@@ -56,6 +56,18 @@ const ENTRIES: [Typo; 27] = [
         "Tick 1 10",
         "event 3: word",
         ": event 3 \"Tick 1 10\": no event has this name; did you mean tick?",
+    ),
+    (
+        "tick 1 10",
+        "sensers 1 1",
+        "event 3: word",
+        ": event 3 \"sensers 1 1\": no event has this name; did you mean sense?",
+    ),
+    (
+        "tick 1 10",
+        "sensing 1 1",
+        "event 3: word",
+        ": event 3 \"sensing 1 1\": no event has this name; the names are tick, emit, deliver, lose, repeat, cut, join, sense, restart, configure, offer, move, force",
     ),
     (
         "tick 1 10",
@@ -456,7 +468,7 @@ fn a_word_without_a_kind_is_not_wrong(rt: HostRuntime) -> Result<(), Fail> {
 fn there_is_no_entry_at_place_0(rt: HostRuntime) -> Result<(), Fail> {
     let fault = ScriptFault::Entry(0, EntryFault::Count);
     let why = explain(rt.alloc(), SCRIPT, fault)?;
-    assert_eq!(rt; why.as_str(), ": ");
+    assert_eq!(rt; why.as_str(), ": event 0");
     Ok(())
 }
 

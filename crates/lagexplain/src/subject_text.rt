@@ -1,0 +1,33 @@
+ghost use Rattle.std.specs.Prelude.{Some};
+ghost use Rattle.lagexplain.specs.Explanations.{subject_text};
+
+use lagscript::ScriptFault;
+use std::fmt;
+
+/// What of a script a fault names: a system, a port, a cable or an entry; nothing where it is of the whole (profile).
+#[derive(Clone, Copy)]
+pub(crate) struct SubjectText(pub ScriptFault);
+
+impl fmt::Display for SubjectText {
+    ghost output = { λ t. Some (subject_text t.0) };
+
+    fn fmt<W: fmt::Write>(&self, f: &mut fmt::Formatter<W>) -> fmt::Result {
+        match self.0 {
+            ScriptFault::SystemExtraKey(system)
+            | ScriptFault::SystemValue(system, _)
+            | ScriptFault::Ports(system)
+            | ScriptFault::AggregatorCount(system)
+            | ScriptFault::MaxLinks(system)
+            | ScriptFault::ConversationCount(system) => write!(f, "system {system}"),
+            ScriptFault::PortExtraKey(system, place)
+            | ScriptFault::PortValue(system, place, _)
+            | ScriptFault::PortNumber(system, place) => write!(f, "system {system} port {place}"),
+            ScriptFault::CableExtraKey(place)
+            | ScriptFault::CableEnds(place)
+            | ScriptFault::CableLimit(place)
+            | ScriptFault::CableEnd(place) => write!(f, "cable {place}"),
+            ScriptFault::Entry(place, _) => write!(f, "event {place}"),
+            _ => Ok(()),
+        }
+    }
+}
