@@ -24,6 +24,7 @@ pub data AnswerValue : Type 0 where
   Conversation : Option ℕ → AnswerValue
   ConversationState : Option Assignment → AnswerValue
   NextMarker : Option ℕ → AnswerValue
+  TicksUntilDue : Option ℕ → AnswerValue
   All : List PortAnswer → List AggAnswerValue → AnswerValue
   Fault : RequestFault → AnswerValue
 
@@ -42,5 +43,6 @@ answer_value (answer.Distributing answer) = Distributing (agg_answer_value answe
 answer_value (answer.Conversation conv) = Conversation conv
 answer_value (answer.ConversationState assignment) = ConversationState assignment
 answer_value (answer.NextMarker id) = NextMarker id
+answer_value (answer.TicksUntilDue ticks) = TicksUntilDue ticks
 answer_value (answer.All ports aggs) = All ports.items (map agg_answer_value aggs.items)
 answer_value (answer.Fault fault) = Fault fault

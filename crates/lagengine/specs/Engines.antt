@@ -9,6 +9,7 @@ use Rattle.lagsystem.specs.Hosts.{conversation_at}
 use Rattle.lagsystem.specs.Readers.{conversation_in}
 use Rattle.lagsystem.specs.Sound.{CallPromise}
 use Rattle.lagsystem.specs.State.{SystemState, SystemValue, port_numbers}
+use Rattle.lagsystem.specs.Waiting.{ticks_until_due}
 use Rattle.lagsystem.specs.declared.drive.Call.{Call as Handed}
 use Rattle.lagsystem.specs.declared.fault.BadConfig.{BadConfig}
 use Rattle.lagsystem.specs.declared.fault.SystemFault.{SystemFault}
@@ -123,6 +124,7 @@ reader_answer question.Aggregators s = said.Aggregators (length s.keys)
 reader_answer (question.Distributing agg) s = said.Distributing (agg_answer s agg.0)
 reader_answer (question.ConversationState agg conv) s = said.ConversationState (conversation_at s agg conv)
 reader_answer question.NextMarker s = said.NextMarker (next_identifier s.table)
+reader_answer question.TicksUntilDue s = said.TicksUntilDue (ticks_until_due s)
 reader_answer question.All s = said.All (all_ports s) (all_aggregators s)
 
 -- a task is done with the system

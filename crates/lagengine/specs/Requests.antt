@@ -218,6 +218,7 @@ question_named name =
     else if bytes_eq name (codes "conversation-state") then with_two_words number_word number_word
     (λ g k. Ask (question.ConversationState (agg_id g) k))
     else if bytes_eq name (codes "next-marker") then with_no_words (Ask question.NextMarker)
+    else if bytes_eq name (codes "ticks-until-due") then with_no_words (Ask question.TicksUntilDue)
     else if bytes_eq name (codes "all") then with_no_words (Ask question.All)
     else (λ _. Err fault.Word)
 

@@ -308,6 +308,7 @@ answer_text (said.Distributing t) = agg_answer_text t
 answer_text (said.Conversation conv) = number_text conv
 answer_text (said.ConversationState assignment) = conversation_or_none assignment
 answer_text (said.NextMarker id) = number_text id
+answer_text (said.TicksUntilDue ticks) = number_text ticks
 answer_text (said.All ports aggs) = all_text ports aggs
 answer_text (said.Fault f) = codes "fault " ++ request_fault_text f
 

@@ -39,6 +39,8 @@ pub enum Answer {
     ConversationState(Option<Assignment>),
     /// The identifier of the next marker.
     NextMarker(Option<u32>),
+    /// In how many ticks something happens by itself; None for never.
+    TicksUntilDue(Option<u16>),
     /// What `look` returns for every port, and the ports that distribute in each aggregator.
     All(Vec<PortAnswer>, Vec<AggAnswer>),
     /// Why the line is refused.
@@ -66,6 +68,7 @@ impl fmt::Display for Answer {
             Answer::Conversation(conv) => write!(f, "{}", NumberText(conv.map(u32::from))),
             Answer::ConversationState(doing) => write!(f, "{}", ConversationText(*doing)),
             Answer::NextMarker(id) => write!(f, "{}", NumberText(*id)),
+            Answer::TicksUntilDue(ticks) => write!(f, "{}", NumberText(ticks.map(u32::from))),
             Answer::All(ports, aggs) => write_all(f, ports.as_slice(), aggs.as_slice()),
             Answer::Fault(fault) => write!(f, "fault {fault}"),
         }

@@ -155,6 +155,7 @@ fn question_named(name: &str, words: &[&str]) -> Result<Task, RequestFault>
         "distributing" => distributing(words),
         "conversation-state" => conversation_state(words),
         "next-marker" => task_alone(Task::Ask(Question::NextMarker), words),
+        "ticks-until-due" => task_alone(Task::Ask(Question::TicksUntilDue), words),
         "all" => task_alone(Task::Ask(Question::All), words),
         _ => Err(RequestFault::Word),
     }

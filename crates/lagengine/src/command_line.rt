@@ -27,7 +27,8 @@ Options:
 
 Calls: system, tick [N], restart, link, receive, transmit, offer, move, force, force-port, configure,
 keep, drive. Readers: look, up, due, state, receive-state, load, port-status, current-while, wait-while,
-ntt, ports, aggregators, distributing, conversation, conversation-state, next-marker, all.
+ntt, ports, aggregators, distributing, conversation, conversation-state, next-marker,
+ticks-until-due, all.
 docs/COMMAND.md has the words of each, and the answers.
 
 Status 0: the input ended. Status 2: it could not be read, an answer could not be written, or there is

@@ -60,6 +60,7 @@ fn answer_question<F: Fn(u16, usize) -> usize + Drop>(
             Ok(Answer::ConversationState(system.conversation_state(agg, conv)))
         }
         Question::NextMarker => Ok(Answer::NextMarker(system.next_marker())),
+        Question::TicksUntilDue => Ok(Answer::TicksUntilDue(system.ticks_until_due())),
         Question::All => {
             let ports = all_ports(alloc, system)?;
             let aggs = all_aggregators(alloc, system)?;

@@ -57,6 +57,8 @@ pub enum Question {
     ConversationState(AggId, u16),
     /// The identifier of the next marker.
     NextMarker,
+    /// In how many ticks something happens by itself.
+    TicksUntilDue,
     /// `Look` for every port, and the ports that distribute in each aggregator.
     All,
 }

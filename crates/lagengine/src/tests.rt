@@ -18,7 +18,7 @@ use std::test::Fail;
 type Row = (&'static str, &'static str);
 
 /// Every form of a request, with its answer.
-const FORMS: [Row; 82] = [
+const FORMS: [Row; 86] = [
     (
         "system 24576 020000000011 1234 7 300,700 3:203:020000001103:300:1:1:0 70:270:020000001146:300:1:1:0",
         "ok",
@@ -26,6 +26,7 @@ const FORMS: [Row; 82] = [
     ("ports", "ports: 3 70"),
     ("aggregators", "aggregators: 2"),
     ("next-marker", "7"),
+    ("ticks-until-due", "none"),
     ("up 3", "port 3: up false"),
     ("receive-state 3", "port 3: receive-state port-disabled"),
     ("due 3", "port 3: due false"),
@@ -105,6 +106,7 @@ const FORMS: [Row; 82] = [
     ("move 1 33 3", "ok"),
     ("conversation-state 1 33", "wanted 70 preferred 3"),
     ("due 70", "port 70: due true"),
+    ("ticks-until-due", "0"),
     (
         "transmit 70",
         "marker 0180c200000202000000114688090201011000460200000000110000000700000000000000000000000000000000000000000000000000000000000000000000000000000000000000000000000000000000000000000000000000000000000000000000000000000000000000000000000000000000000000000000",
@@ -114,7 +116,9 @@ const FORMS: [Row; 82] = [
         "flushing 70 id 7 age 0 preferred 3",
     ),
     ("next-marker", "8"),
+    ("ticks-until-due", "30"),
     ("tick", "ok"),
+    ("ticks-until-due", "29"),
     (
         "conversation-state 1 33",
         "flushing 70 id 7 age 1 preferred 3",

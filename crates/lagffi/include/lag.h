@@ -573,8 +573,8 @@ static inline struct niw_marker niw_next_marker(struct niw_system *handle) {
     return refused;
 }
 
-/* In how many ticks something happens by itself: 0 if a frame is due on some port. Until then a tick only counts timers down, so so
- * many ticks may be made up at once, by niw_ticks. `ever` is false if nothing happens until the next call. */
+/* In how many ticks something happens by itself: 0 if a frame is due on some port. Sooner a tick only counts, so a program may sleep
+ * and make the ticks up afterwards, by niw_ticks. `ever` is false if nothing happens without another call. */
 static inline struct niw_wait niw_ticks_until_due(struct niw_system *handle) {
     struct niw_wait refused;
     if (handle) return lagffi_ticks_until_due(handle);
