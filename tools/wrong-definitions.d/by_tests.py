@@ -11,14 +11,14 @@ from edits import RT, TOP, apply, copy_crates, read, read_edit, restore, why_no_
 # The crates whose tests look at a crate, in the order in which they are asked; the first that refuses is enough.
 # "stored run" is that of lagengine.
 LOOKS = {
-    "lagtypes": ["lagtypes", "slowpdu", "lagtool"],
-    "slowpdu": ["slowpdu", "lagtool", "stored run"],
-    "portmachines": ["portmachines", "stored run", "lagtests"],
-    "selection": ["selection", "stored run", "lagtests"],
-    "distributor": ["distributor", "stored run", "lagtests"],
-    "collector": ["collector", "stored run", "lagtests"],
+    "lagtypes": ["basetests", "lagtool"],
+    "slowpdu": ["basetests", "lagtool", "stored run"],
+    "portmachines": ["basetests", "stored run", "lagtests"],
+    "selection": ["basetests", "stored run", "lagtests"],
+    "distributor": ["basetests", "stored run", "lagtests"],
+    "collector": ["basetests", "stored run", "lagtests"],
     "lagsystem": ["stored run", "lagtests"],
-    "cables": ["cables", "lagtests"],
+    "cables": ["basetests", "lagtests"],
     "lagscript": ["lagtests", "lagtool"],
     "lagexplain": ["lagexplain", "lagtool"],
     "lagworld": ["lagtests", "lagtool"],

@@ -11,8 +11,6 @@ mod cable;
 mod item;
 mod list;
 mod ring;
-#[cfg(test)]
-mod tests;
 
 pub use any::AnyCable;
 pub use cable::{Cable, NoMemory};

@@ -14,8 +14,6 @@ mod fault;
 mod laws;
 mod slots;
 mod table;
-#[cfg(test)]
-mod tests;
 
 pub use algorithm::by_number;
 pub use assignment::Assignment;

@@ -10,8 +10,6 @@ mod laws;
 mod memory;
 mod party;
 mod state;
-#[cfg(test)]
-mod tests;
 
 pub use group::{End, Group};
 pub use identifiers::{AggId, Key, MacText, PortId, SystemId};

@@ -1,9 +1,8 @@
 ghost use Rattle.std.specs.Prelude.{◌≡◌};
-ghost use Rattle.lagworld.specs.Events.{cable_named, system_named, first_event_cause, has_system};
+ghost use Rattle.lagworld.specs.Events.{cable_named, system_named, has_system};
 ghost use Rattle.lagworld.specs.Messages.{side_numbered};
 ghost use Rattle.lagworld.specs.Sides.{model_side};
 
-use crate::fault::WorldFault;
 use lagscript::Event;
 
 /// One of the two systems.
@@ -72,21 +71,4 @@ pub(crate) fn has_system(number: Option<u8>) -> bool
         None => true,
         Some(number) => number == 1 || number == 2,
     }
-}
-
-/// The first of three reasons to refuse an event; the arguments say whether the cable exists, whether the system
-/// exists, and whether no more events may act.
-pub(crate) fn first_event_cause(cable: bool, system: bool, spent: bool) -> Option<WorldFault>
-    ensures { result ≡ first_event_cause cable system spent }
-{
-    if !cable {
-        return Some(WorldFault::NoCable);
-    }
-    if !system {
-        return Some(WorldFault::NoSystem);
-    }
-    if spent {
-        return Some(WorldFault::Spent);
-    }
-    None
 }

@@ -1,4 +1,5 @@
 ghost use Rattle.std.specs.Prelude.{◌≡◌};
+ghost use Rattle.lagworld.specs.Events.{first_event_cause};
 ghost use Rattle.lagworld.specs.Faults.{world_fault_number};
 ghost use Rattle.lagworld.specs.declared.fault.WorldFault.TheVariants.{NoMemory as OutOfMemory};
 
@@ -33,6 +34,23 @@ impl WorldFault {
             WorldFault::NoMemory => 5,
             WorldFault::BadConfig(_) => 6,
         }
+    }
+
+    /// The first of three reasons to refuse an event, if there is one. The arguments say whether the cable that it names
+    /// exists, whether its system exists, and whether the most events have acted (profile).
+    pub fn first_of_event(cable: bool, system: bool, spent: bool) -> Option<WorldFault>
+        ensures { result ≡ first_event_cause cable system spent }
+    {
+        if !cable {
+            return Some(WorldFault::NoCable);
+        }
+        if !system {
+            return Some(WorldFault::NoSystem);
+        }
+        if spent {
+            return Some(WorldFault::Spent);
+        }
+        None
     }
 }
 

@@ -9,9 +9,7 @@ ghost use Rattle.lagworld.specs.WorldCalls.{WorldMoves, WorldSenses, WorldTicks,
 ghost use Rattle.lagworld.specs.Messages.{side_numbered};
 ghost use Rattle.lagworld.specs.Sound.{IsSound, both_algorithms};
 
-use crate::causes::{
-    Side, cable_named, first_event_cause, has_system, side_numbered, system_named,
-};
+use crate::causes::{Side, cable_named, has_system, side_numbered, system_named};
 use crate::fault::WorldFault;
 use crate::half::Half;
 use crate::link::{Link, cut_at, join_at, link_status};
@@ -52,7 +50,7 @@ impl<C: Cable, F: Fn(u16, usize) -> usize + Drop> Inner<C, F> {
     {
         let cable = self.has_cable(cable_named(event));
         let system = has_system(system_named(event));
-        first_event_cause(cable, system, self.acted >= MOST_EVENTS)
+        WorldFault::first_of_event(cable, system, self.acted >= MOST_EVENTS)
     }
 
     /// Plays an event, or refuses it.

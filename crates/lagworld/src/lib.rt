@@ -27,8 +27,6 @@ mod reply;
 mod sending;
 mod serials;
 mod start;
-#[cfg(test)]
-mod tests;
 mod world;
 
 pub use agreement::Agreement;

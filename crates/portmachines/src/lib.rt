@@ -10,8 +10,6 @@ mod mux;
 mod periodic;
 mod port;
 mod receive;
-#[cfg(test)]
-mod tests;
 mod transmit;
 
 pub use mux::MuxState;

@@ -14,6 +14,3 @@ mod view;
 pub use aggregators::Aggregators;
 pub use laws::tests_are_equalities;
 pub use view::{PortView, Stage, are_views};
-
-#[cfg(test)]
-mod tests;

@@ -13,8 +13,6 @@ mod frames;
 mod laws;
 mod marker;
 mod pdu;
-#[cfg(test)]
-mod tests;
 
 pub use decoding::decode;
 pub use fault::WireFault;

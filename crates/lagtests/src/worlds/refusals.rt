@@ -418,3 +418,24 @@ fn each_fault_has_its_number(rt: HostRuntime) {
         assert_eq!(rt; fault.number(), number, "{fault:?}");
     }
 }
+
+#[test]
+fn refusals_of_an_event_come_in_order(rt: HostRuntime) {
+    let cases = [
+        (false, false, true, Some(WorldFault::NoCable)),
+        (false, false, false, Some(WorldFault::NoCable)),
+        (false, true, true, Some(WorldFault::NoCable)),
+        (false, true, false, Some(WorldFault::NoCable)),
+        (true, false, true, Some(WorldFault::NoSystem)),
+        (true, false, false, Some(WorldFault::NoSystem)),
+        (true, true, true, Some(WorldFault::Spent)),
+        (true, true, false, None),
+    ];
+    for (cable, system, spent, expected) in &cases {
+        assert_eq!(rt;
+            WorldFault::first_of_event(*cable, *system, *spent),
+            *expected,
+            "cable {cable}, system {system}, spent {spent}"
+        );
+    }
+}

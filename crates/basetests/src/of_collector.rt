@@ -1,4 +1,4 @@
-use crate::{Taken, answer, collect};
+use collector::{Taken, answer, collect};
 use lagtypes::AggId;
 use slowpdu::{Marker, MarkerKind};
 

@@ -1,11 +1,11 @@
 ghost use Rattle.std.specs.Prelude.{◌≡◌, ◌∷◌, []};
 ghost use Rattle.portmachines.specs.Window.{KeepsWindow, within_eleven};
 
-use crate::{
-    MuxState, PeriodicState, Port, ReceiveState, Setup, each_call_has_one_effect, window_holds,
-};
 use bitflags::Flags;
 use lagtypes::{AggId, Choice, Key, Party, PortId, State, SystemId};
+use portmachines::{
+    MuxState, PeriodicState, Port, ReceiveState, Setup, each_call_has_one_effect, window_holds,
+};
 use slowpdu::{Info, Lacpdu};
 use std::process::Abort;
 

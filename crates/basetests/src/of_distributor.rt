@@ -1,7 +1,7 @@
 ghost use Rattle.std.specs.Prelude.{◌≡◌, ◌≤◌, length};
 ghost use Rattle.distributor.specs.Calls.{PicksIndexes};
 
-use crate::{Assignment, DistFault, Distributor, by_number};
+use distributor::{Assignment, DistFault, Distributor, by_number};
 use lagtypes::{AggId, NoMemory};
 use std::alloc::Global;
 use std::process::Abort;

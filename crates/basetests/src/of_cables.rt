@@ -1,4 +1,4 @@
-use crate::{AnyCable, Cable, CableFault, Item, ListCable, RingCable, Stamp};
+use cables::{AnyCable, Cable, CableFault, Item, ListCable, RingCable, Stamp};
 use std::alloc::{AllocError, Global};
 use std::process::Abort;
 use std::test::Fail;

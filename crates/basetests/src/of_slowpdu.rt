@@ -1,11 +1,19 @@
-use crate::encoding::put_octets;
-use crate::{
+ghost use Rattle.std.specs.Prelude.{◌+◌, ◌≤◌, length};
+
+use bitflags::Flags;
+use lagtypes::{Key, Party, PortId, State, SystemId};
+use slowpdu::{
     Info, Kind, Lacpdu, Marker, MarkerKind, Pdu, WireFault, classify, decode, encode_then_decode,
     frame, respond,
 };
-use bitflags::Flags;
-use lagtypes::{Key, Party, PortId, State, SystemId};
 use std::alloc::AllocError;
+
+/// Writes octets into a payload, from this offset on.
+fn put_octets(payload: &mut [u8], offset: usize, octets: &[u8])
+    requires { offset + length octets.now ≤ length payload.old }
+{
+    payload[offset..offset + octets.len()].copy_from_slice(octets);
+}
 
 /// The payload of an LACPDU of system 32768/02-00-00-00-00-01, key 1, port 128/1, state c7; its partner is unknown and
 /// has the state 02.

@@ -1,5 +1,5 @@
-use crate::{Aggregators, PortView, Stage, are_views};
 use lagtypes::{AggId, Choice, Key, NoMemory, Party, PortId, SystemId};
+use selection::{Aggregators, PortView, Stage, are_views};
 use std::alloc::Global;
 use std::test::Fail;
 

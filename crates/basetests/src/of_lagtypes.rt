@@ -1,5 +1,5 @@
-use crate::{AggId, Choice, Group, Key, Party, PortId, State, StateBits, SystemId};
 use bitflags::Flags;
+use lagtypes::{AggId, Choice, Group, Key, Party, PortId, State, StateBits, SystemId};
 use std::alloc::AllocError;
 use std::cmp::Ordering;
 
