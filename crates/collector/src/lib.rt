@@ -9,7 +9,6 @@ ghost use Rattle.collector.specs.Collecting.{IsDataFrame, answer_to};
 ghost use Rattle.collector.specs.declared.Taken.{Taken};
 ghost use Rattle.lagtypes.specs.declared.identifiers.AggId.{AggId};
 
-
 use lagtypes::AggId;
 use slowpdu::{Kind, Marker, classify, respond};
 

@@ -54,7 +54,7 @@ one_first gives one port (suc count) old twin n m new last agrees same h k =
     let before = one_first gives one port count old twin h.1 k.1 h.0 k.0 agrees same h.3 k.3 in
     let agg = aggregator_numbered (suc count) in
     let last_in : ForcesIn gives port agg h.0.conversations k.0 k.2 last =
-        subst (λ c. ForcesIn gives port agg c k.0 k.2 last) (ap (λ (s : SystemState). s.conversations) before.1.others) k.4 in
+    subst (λ c. ForcesIn gives port agg c k.0 k.2 last) (ap (λ (s : SystemState). s.conversations) before.1.others) k.4 in
     let own = one_in gives one port agg h.0.conversations h.0 k.0 h.2 k.2 new last before.2 before.1 h.4 last_in in
     (k.5 ∙ (λ i. before.0 i + own.0 i) ∙ sym h.5, own.1, own.2)
 
@@ -64,7 +64,7 @@ same_index old twin port same = ap (λ (s : SystemState). port_index port s.syst
 pub one_forcing : (gives : ℕ → ℕ → ℕ → Type 0) → IsFunction gives → OneForcing gives
 one_forcing gives one old twin port (Ok n) (Ok m) new last agrees same h k =
     let theirs : ForcesFirst gives port (length old.keys) twin m last =
-        subst (λ c. ForcesFirst gives port c twin m last) (ap (λ (s : SystemState). length s.keys) same.others) k.1 in
+    subst (λ c. ForcesFirst gives port c twin m last) (ap (λ (s : SystemState). length s.keys) same.others) k.1 in
     let r = one_first gives one port (length old.keys) old twin n m new last agrees same h.1 theirs in (ap (λ x. Ok x) r.0, r.1)
 one_forcing gives one old twin port (Ok n) (Err g) new last agrees same h k =
     absurd (true≢false (sym h.0 ∙ ap is_some (sym (same_index old twin port same) ∙ k.cause)))
