@@ -264,6 +264,20 @@ impl Slots {
         false
     }
 
+    /// One tick for each conversation in this chain. It stands alone, so that the walk over the flags is short.
+    #[inline(never)]
+    fn tick_chain(&mut self, chain: u32)
+        requires chained { AreChained self.old }
+        requires flagged { AreFlagged self.old }
+        requires below { chain < 64 }
+        ensures chained { AreChained self.new }
+        ensures flagged { AreFlagged self.new }
+        ensures states { self.new.states.items ≡ map (changed_in_chain chain after_tick) self.old.states.items }
+        ensures count { self.new.count ≡ self.old.count }
+    {
+        self.change_chain(chain, Change::Tick);
+    }
+
     /// One tick for each conversation. Only chains with a flag for Flushing are read.
     pub(crate) fn tick(&mut self)
         requires chained { AreChained self.old }
@@ -275,7 +289,7 @@ impl Slots {
     {
         for chain in 0..CHAINS {
             if self.may_flush[chain as usize] {
-                self.change_chain(chain, Change::Tick);
+                self.tick_chain(chain);
             }
         }
     }

@@ -20,11 +20,11 @@ loop-chain-preserved c =
     elim c.if-index.branch [
       | then-index w ↦
           rw w.self-is record {
-            chained = w.change_chain.ensures.chained;
-            flagged = w.change_chain.ensures.flagged;
+            chained = w.tick_chain.ensures.chained;
+            flagged = w.tick_chain.ensures.flagged;
             ticking = tick_walked c.loop-chain.chain c.args.self.now.states.items c.loop-chain.self.states.items _ i.ticking
-                w.change_chain.ensures.states;
-            count = w.change_chain.ensures.count ∙ i.count;
+                w.tick_chain.ensures.states;
+            count = w.tick_chain.ensures.count ∙ i.count;
             few = few;
           }
       | else-index w ↦
