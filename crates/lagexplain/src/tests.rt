@@ -216,7 +216,7 @@ const ENTRIES: [Typo; 29] = [
 ];
 
 /// Mistakes in a key or a value.
-const TABLES: [Typo; 27] = [
+const TABLES: [Typo; 29] = [
     (
         "[[cable]]",
         "[[cabel]]",
@@ -258,6 +258,18 @@ const TABLES: [Typo; 27] = [
         "mac = \"02:00:00:00:00:01\"",
         "system 1: mac",
         ": system 1: mac = \"02:00:00:00:00:01\": wanted is six two-digit hexadecimal numbers joined by -, as \"02-00-00-00-00-01\"",
+    ),
+    (
+        "mac = \"02-00-00-00-00-01\"",
+        "mac = \"02-00-00-00-00-0g\"",
+        "system 1: mac",
+        ": system 1: mac = \"02-00-00-00-00-0g\": wanted is six two-digit hexadecimal numbers joined by -, as \"02-00-00-00-00-01\"",
+    ),
+    (
+        "mac = \"02-00-00-00-00-02\"",
+        "mac = \"020000000002\"",
+        "system 2: mac",
+        ": system 2: mac = \"020000000002\": wanted is six two-digit hexadecimal numbers joined by -, as \"02-00-00-00-00-01\"",
     ),
     (
         "mac = \"02-00-00-00-00-01\"\n",

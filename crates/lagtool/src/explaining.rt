@@ -1,5 +1,5 @@
-//! The second lines of standard error, which `--explain` asks for. They are shown by tests and by hand; no clause speaks of
-//! them.
+//! The second lines of standard error, which `--explain` asks for. Tests show them; no clause speaks of them, but that of
+//! `lagexplain::explain` of what stands behind the name of a script.
 
 use lagexplain::{explain, place_of};
 use lagworld::ScriptFault;
@@ -22,17 +22,17 @@ fn explain_error(rt: &impl Eprint, file: &str, error: &io::Error) {
     };
 }
 
-/// Says why a file cannot be read.
-pub(crate) fn explain_unread<R: Eprint + Files>(rt: &R, file: &str) {
+/// Says why a file cannot be read, which is asked of these files anew.
+pub(crate) fn explain_unread(rt: &impl Eprint, files: &impl Files, file: &str) {
     if file == "-" {
         let _ = eprintln!(rt; "lagtool: standard input: reading failed");
         return;
     }
-    match fs::metadata(rt, file) {
+    match fs::metadata(files, file) {
         Ok(found) if found.is_dir() => {
             let _ = eprintln!(rt; "lagtool: {file}: is a folder");
         }
-        _ => match File::open(rt, file) {
+        _ => match File::open(files, file) {
             Ok(_) => {
                 let _ = eprintln!(rt; "lagtool: {file}: reading failed");
             }
@@ -65,8 +65,8 @@ pub(crate) fn explain_script<R: Eprint + AllocGlobal>(
     }
 }
 
-/// Says which character of a word is no hexadecimal digit, or that the count of its digits is odd.
-pub(crate) fn explain_digits(rt: &impl Eprint, name: &str, word: &str) {
+/// Says which character of a word is no hexadecimal digit, or that it has another count of digits than is wanted.
+pub(crate) fn explain_digits(rt: &impl Eprint, name: &str, word: &str, wanted: &str) {
     let mut place = 0usize;
     for character in word.chars() {
         place = place.saturating_add(1);
@@ -77,5 +77,5 @@ pub(crate) fn explain_digits(rt: &impl Eprint, name: &str, word: &str) {
             return;
         }
     }
-    let _ = eprintln!(rt; "lagtool: {name}: {place} hexadecimal digits");
+    let _ = eprintln!(rt; "lagtool: {name}: {place} hexadecimal digits: wanted {wanted}");
 }

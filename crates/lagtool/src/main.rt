@@ -122,7 +122,7 @@ fn status_of_check<R: Print + Eprint + Files + Input + Clock + AllocGlobal>(
     progress.clear();
     let status = ended(rt, file, checked);
     if options.explain && checked == Err(ToolFault::Read) {
-        explain_unread(rt, file);
+        explain_unread(rt, rt, file);
     }
     status
 }
@@ -181,7 +181,7 @@ fn status_of_replay<R: Print + Eprint + Files + Input + Clock + AllocGlobal>(
         Err(fault) => {
             let status = ended(rt, file, Err(fault));
             if options.explain && fault == ToolFault::Read {
-                explain_unread(rt, file);
+                explain_unread(rt, rt, file);
             }
             return status;
         }
@@ -209,8 +209,8 @@ fn ended_with_words(
     let status = ended(rt, "", accepted);
     if options.explain {
         match accepted {
-            Err(ToolFault::NotHex) => explain_digits(rt, "HEX", hex),
-            Err(ToolFault::NotMac) => explain_digits(rt, "MAC", mac),
+            Err(ToolFault::NotHex) => explain_digits(rt, "HEX", hex, "is an even number"),
+            Err(ToolFault::NotMac) => explain_digits(rt, "MAC", mac, "are 12"),
             _ => {}
         }
     }

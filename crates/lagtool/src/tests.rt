@@ -13,6 +13,7 @@ use std::test::Fail;
 
 mod checks;
 mod conversations;
+mod explained;
 mod links;
 mod memory;
 mod refusals;

@@ -15,6 +15,7 @@ use std::time::{Clock, Duration};
 
 /// A clock that goes on by so many milliseconds each time that it is read, and a standard error that keeps what it is told,
 /// or takes nothing.
+#[derive(Drop)]
 struct Fake {
     millis: Cell<u64>,
     step: u64,
@@ -22,7 +23,7 @@ struct Fake {
     said: RefCell<String>,
 }
 
-fn fake(alloc: Global, step: u64, fails: bool) -> Fake {
+fn fake_with(alloc: Global, step: u64, fails: bool) -> Fake {
     Fake {
         millis: Cell::new(0),
         step,
@@ -61,7 +62,7 @@ impl Eprint for Fake {
 
 /// What is shown of five entries, where the clock goes on by so much from one to the next.
 fn shown(alloc: Global, step: u64, is_asked: bool) -> String {
-    let fake = fake(alloc, step, false);
+    let fake = fake_with(alloc, step, false);
     let progress = Progress::new(&fake, is_asked, "entry");
     for done in 1..6u64 {
         progress.show(done);
@@ -90,7 +91,7 @@ fn a_watched_replay_writes_the_same(rt: HostRuntime) -> Result<(), Fail> {
     let alloc = rt.alloc();
     let script = format!(in alloc; "{}{}", known_texts::UP, known_texts::ONE_CABLE)?;
     for (is_asked, fails) in [(false, false), (true, false), (true, true)] {
-        let fake = fake(alloc, 100, fails);
+        let fake = fake_with(alloc, 100, fails);
         let progress = Progress::new(&fake, is_asked, "entry");
         let mut sink = Sink::new(Vec::new(alloc));
         replay_watched(
@@ -119,7 +120,7 @@ fn a_watched_check_writes_the_same(rt: HostRuntime) -> Result<(), Fail> {
         (true, false, "\rlagtool: line 2\r\x1b[K"),
         (true, true, ""),
     ] {
-        let fake = fake(alloc, 100, fails);
+        let fake = fake_with(alloc, 100, fails);
         let progress = Progress::new(&fake, is_asked, "line");
         let mut sink = Sink::new(Vec::new(alloc));
         let mut source = Source::new(whole(b"zz\n00\n"));
@@ -129,7 +130,7 @@ fn a_watched_check_writes_the_same(rt: HostRuntime) -> Result<(), Fail> {
         let written = sink.into_inner();
         assert_eq!(rt;
             written.as_slice(),
-            b"1 not hex\n2 runt\nchecked 2 faults 2\n"
+            b"1 not hex\n2 runt\nchecked 2 faults 2\n".as_slice()
         );
         assert_eq!(rt; fake.said.into_inner().as_str(), text);
     }
