@@ -9,3 +9,4 @@ mod Hearing
 mod Knowing
 mod Waits
 mod Halves
+mod Passing

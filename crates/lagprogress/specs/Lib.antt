@@ -6,3 +6,4 @@ pub mod Hearing
 pub mod Knowing
 pub mod Waits
 pub mod Steady
+pub mod Passing

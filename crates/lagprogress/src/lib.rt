@@ -93,3 +93,13 @@ pub fn each_world_is_steady<F: Fn(u16, usize) -> usize>()
     ensures start { StartIsSteady }
     ensures kept { (one two : F) → EachEventKeepsSteady (both_algorithms (F.post one) (F.post two)) }
 {}
+
+ghost use Rattle.lagprogress.specs.Passing.{DeliverProcessesLacpdu, EmitSendsLacpdu};
+
+/// What an end of a cable sends is heard at the other: an Emit event of a port whose LACPDU is due puts just that LACPDU
+/// on its cable, behind what is there, if the cable accepts it; and when it is the first item, a Deliver event of the
+/// cable makes the port at the other end process just that LACPDU, if the link of that port is up (6.4.12, 6.4.16).
+pub fn lacpdus_pass_cables<F: Fn(u16, usize) -> usize>()
+    ensures sent { (one two : F) → EmitSendsLacpdu (both_algorithms (F.post one) (F.post two)) }
+    ensures processed { (one two : F) → DeliverProcessesLacpdu (both_algorithms (F.post one) (F.post two)) }
+{}

@@ -1,0 +1,156 @@
+-- What a system sends is what it carries; and how an LACPDU goes onto a cable and comes off it.
+use Rattle.std.proofs.Common.{◌≡◌, ◌∙◌, ℕ, suc, Bool, true, List, [], ◌∷◌, ◌++◌, Option, Some, None, Result, Ok, Err, refl, sym}
+use Rattle.std.proofs.Common.{subst, ap, drop}
+use Rattle.std.specs.Prelude.{slice_get, slice_set, if◌then◌else◌}
+use Rattle.std.proofs.lemmas.Option.{none-some, same_Some}
+use Rattle.slowpdu.specs.declared.pdu.Lacpdu.{Lacpdu}
+use Rattle.slowpdu.specs.declared.pdu.Marker.{Marker}
+use Rattle.slowpdu.specs.declared.pdu.Pdu.{Pdu}
+use Rattle.slowpdu.specs.declared.pdu.Pdu.TheVariants as pdu
+use Rattle.slowpdu.proofs.LacpduLemmas.{one_reading}
+use Rattle.slowpdu.proofs.MarkerLemmas.{not_both}
+use Rattle.slowpdu.proofs.PduLemmas.{written_pdu}
+use Rattle.portmachines.specs.Transmit.{is_due, pdu_of}
+use Rattle.lagmodel.specs.World.{Side, One, Two, peer}
+use Rattle.lagmodel.proofs.Base.{value_of}
+use Rattle.lagsystem.specs.declared.drive.Reply.TheVariants as answer
+use Rattle.lagsystem.specs.declared.fault.SystemFault.{SystemFault}
+use Rattle.lagsystem.specs.declared.received.Received.{Received}
+use Rattle.lagsystem.specs.declared.received.Received.TheVariants.{TookLacpdu}
+use Rattle.lagsystem.specs.declared.system_ports.SystemPort.{SystemPort}
+use Rattle.lagsystem.specs.Calls.{Carries, IsFrame, OnlyPortChangesBy, ParsesWhere, Performs, ProcessesLacpdu, ReceivesAt}
+use Rattle.lagsystem.specs.Calls.{Step, ThenSettles, Transmit}
+use Rattle.lagsystem.specs.ModelView.{IsSent}
+use Rattle.lagsystem.specs.Sending.{IsLacpduOf, PortTransmits, SendsLacpdu, TransmitsAt, TransmitsIf}
+use Rattle.lagsystem.specs.State.{SystemState, port_index}
+use Rattle.lagsystem.proofs.OneFrame.{effect_one}
+use Rattle.lagsystem.proofs.Sent.{sent_control, sent_payload}
+use Rattle.lagworld.specs.declared.reply.Reply.{Reply}
+use Rattle.lagworld.specs.Events.{Algorithms, AfterReceive, AfterTransmit, DeliversFrom, OnLink, WorldEmits, WorldReceives, side_of, with_link_at}
+use Rattle.lagworld.specs.State.{HalfState, ItemValue, LinkState, WorldState, accepts, change_link, half, link_at, link_index, port_at}
+use Rattle.lagworld.specs.State.{put_on_port, sent_on, towards, with_half, with_towards}
+use Rattle.lagworld.proofs.Sides.{half_there}
+use Rattle.lagprogress.specs.Passing.{DeliverProcessesLacpdu, EmitSendsLacpdu, EndIsUp, IsHeardOn, IsSentOn}
+
+-- what frames carry
+
+pub sent_carries : (octets : List ℕ) (v : Pdu) → IsSent octets v → IsFrame octets (Carries v)
+sent_carries octets v h = (sent_control octets v h, written_pdu (drop 14 octets) v (sent_payload octets v h))
+
+pub lacpdu_is_sent : (d : ℕ) (x : SystemPort) (octets : List ℕ) → IsLacpduOf d x octets → IsSent octets (pdu.Lacpdu (pdu_of x.port d))
+lacpdu_is_sent d x octets h = (x.mac, h.0, h.1, h.2, h.3)
+
+pub carries_one : (octets : List ℕ) (v w : Lacpdu) → IsFrame octets (Carries (pdu.Lacpdu v)) → IsFrame octets (Carries (pdu.Lacpdu w))
+    → w ≡ v
+carries_one octets v w h k = one_reading (drop 14 octets) v w h.1 k.1
+
+pub marker_carries_none : (octets : List ℕ) (v : Lacpdu) (m : Marker) → IsFrame octets (Carries (pdu.Lacpdu v))
+    → IsSent octets (pdu.Marker m) → ⊥
+marker_carries_none octets v m h k = not_both (drop 14 octets) v m h.1 (sent_carries octets (pdu.Marker m) k).1
+
+-- an LACPDU is processed
+
+-- the port at the index processes the LACPDU that the octets carry
+pub receives_lacpdu : (n k : ℕ) (x : SystemPort) (octets : List ℕ) (v : Lacpdu) (old : SystemState) (o : Received) (new : SystemState)
+    → port_index n old.system_ports ≡ Some k → slice_get old.system_ports k ≡ Some x → x.port.enabled ≡ true
+    → IsFrame octets (Carries (pdu.Lacpdu v)) → ReceivesAt (port_index n old.system_ports) octets old o new
+    → (o ≡ TookLacpdu) × ThenSettles (OnlyPortChangesBy (Some k) (ProcessesLacpdu v)) old new
+receives_lacpdu n k x octets v old o new place there up c h =
+    let at = subst (λ i. ReceivesAt i octets old o new) place h in
+    let same : at.0 ≡ x = same_Some at.0 x (sym at.2 ∙ there) in
+    let parsed = subst (λ b. ParsesWhere b at.0 octets at.1) (ap (λ (y : SystemPort). y.port.enabled) same ∙ up) at.3 in
+    let does = effect_one true at.0 octets at.1 _ parsed (Carries (pdu.Lacpdu v), c, refl) in
+    subst (λ f. Performs f at.0.number (Some k) old o new) does at.4
+
+-- sending
+
+sends_flagged : (u d : Bool) (k : ℕ) (x : SystemPort) (old : SystemState) (o : Option (List ℕ)) (new : SystemState) → u ≡ true → d ≡ true
+    → TransmitsIf u d k x old o new → SendsLacpdu k x old o new
+sends_flagged u d k x old o new e f h = subst (λ c. TransmitsIf true c k x old o new) f (subst (λ b. TransmitsIf b d k x old o new) e h)
+
+pub sends_due : (i : Option ℕ) (k : ℕ) (x : SystemPort) (old : SystemState) (o : Option (List ℕ)) (new : SystemState) → i ≡ Some k
+    → slice_get old.system_ports k ≡ Some x → x.port.enabled ≡ true → is_due x.port ≡ true → TransmitsAt i old o new
+    → SendsLacpdu k x old o new
+sends_due i k x old o new place there up due h =
+    let at = subst (λ m. TransmitsAt m old o new) place h in
+    let same : at.0 ≡ x = same_Some at.0 x (sym at.1 ∙ there) in
+    sends_flagged x.port.enabled (is_due x.port) k x old o new up due (subst (λ (y : SystemPort). PortTransmits k y old o new) same at.2)
+
+-- the cable after it
+pub put_there : (s : Side) (p i : ℕ) (item : ItemValue) (l : LinkState) (links : List LinkState) → link_index s p links ≡ Some i
+    → slice_get links i ≡ Some l → accepts s l ≡ true
+    → put_on_port s p item links ≡ slice_set links i (with_towards (peer s) (towards (peer s) l ++ item ∷ []) l)
+put_there s p i item l links e f g =
+    ap (λ o. change_link o (sent_on s item) (link_at o links) links) e ∙ (ap (λ m. change_link (Some i) (sent_on s item) m links) f
+    ∙ ap (λ b. slice_set links i (with_towards (peer s) (if b then towards (peer s) l ++ item ∷ [] else towards (peer s) l) l)) g)
+
+pub peer_there : (s : Side) (h : HalfState) (j : WorldState) → (half (peer s) (with_half s h j)).state ≡ (half (peer s) j).state
+peer_there One h j = refl
+peer_there Two h j = refl
+
+emitted : (gives : Algorithms) (s : Side) (i k : ℕ) (l : LinkState) (x : SystemPort) (a : Result (Option (List ℕ)) SystemFault)
+    (old new : WorldState) (mid : HalfState) (r : Reply) → link_index s (port_at s l) old.links ≡ Some i → slice_get old.links i ≡ Some l
+    → accepts s l ≡ true → EndIsUp s l k x old → is_due x.port ≡ true
+    → Step (gives s) (half s old).state (Transmit (port_at s l)) (answer.Transmit a) mid.state
+    → AfterTransmit s (port_at s l) a (with_half s mid old) r new → IsSentOn s i k l x old new
+emitted gives s i k l x (Err fault) old new mid r cable there accepted end due h after =
+    absurd (none-some k (sym h.cause ∙ end.place))
+emitted gives s i k l x (Ok None) old new mid r cable there accepted end due h after =
+    let sent = sends_due (port_index (port_at s l) (half s old).state.system_ports) k x (half s old).state None mid.state end.place
+    end.there end.up due h in absurd (none-some sent.0 sent.2)
+emitted gives s i k l x (Ok (Some frame)) old new mid r cable there accepted end due h after =
+    let sent = sends_due (port_index (port_at s l) (half s old).state.system_ports) k x (half s old).state (Some frame) mid.state
+    end.place end.there end.up due h in
+    let is : frame ≡ sent.0 = same_Some frame sent.0 sent.2 in
+    record {
+      item = _;
+      lacpdu = subst (IsLacpduOf (half s old).state.max_delay x) (sym is) sent.1;
+      last = ap (λ (j : WorldState). j.links) after.1 ∙ put_there s (port_at s l) i _ l old.links cable there accepted;
+      sender = ap (λ (j : WorldState). (half s j).state) after.1 ∙ (ap (λ (h : HalfState). h.state) (half_there s mid old) ∙ sent.3);
+      peer = ap (λ (j : WorldState). (half (peer s) j).state) after.1 ∙ peer_there s mid old;
+    }
+
+pub emit_sends : (gives : Algorithms) → EmitSendsLacpdu gives
+emit_sends gives n s i k l x r old new is cable there accepted end due h =
+    let v = value_of (side_of n) _ h.0 in
+    let same : v.0 ≡ s = same_Some v.0 s (sym v.1 ∙ is) in
+    let e = subst (λ t. WorldEmits gives t (port_at s l) old r (record new { acted = old.acted })) same v.2 in
+    let sent = emitted gives s i k l x e.0 old (record new { acted = old.acted }) e.1 r cable there accepted end due e.2.answers.step e.3 in
+    record { item = sent.item; lacpdu = sent.lacpdu; last = sent.last; sender = sent.sender; peer = sent.peer }
+
+delivered : (gives : Algorithms) (s : Side) (i k : ℕ) (l : LinkState) (x y : SystemPort) (d : ℕ) (item : ItemValue) (rest : List ItemValue)
+    (r : Reply) (old new : WorldState) → slice_get old.links i ≡ Some l → EndIsUp s l k y old → IsLacpduOf d x item.octets
+    → WorldReceives gives s (port_at s l) item (with_link_at i (with_towards s rest l) old) r new → IsHeardOn s i k l x d rest old new
+delivered gives s i k l x y d item rest r old new there end is (Err fault, mid, h, after) =
+    absurd (none-some k (sym h.answers.step.cause ∙ end.place))
+delivered gives s i k l x y d item rest r old new there end is (Ok o, mid, h, after) =
+    let took = receives_lacpdu (port_at s l) k y item.octets (pdu_of x.port d) (half s old).state o mid.state end.place end.there end.up
+    (sent_carries item.octets (pdu.Lacpdu (pdu_of x.port d)) (lacpdu_is_sent d x item.octets is)) h.answers.step in
+    let j = with_link_at i (with_towards s rest l) old in
+    let next = subst (λ a. AfterReceive s (port_at s l) item (Ok a) (with_half s mid j) r new) took.0 after in
+    record {
+      processed = subst (ThenSettles (OnlyPortChangesBy (Some k) (ProcessesLacpdu (pdu_of x.port d))) (half s old).state)
+          (sym (ap (λ (w : WorldState). (half s w).state) next.1 ∙ (ap (λ (h : HalfState). h.state) (half_there s _ (with_half s mid j))
+          ∙ ap (λ (h : HalfState). h.state) (half_there s mid j)))) took.1;
+      left = ap (λ (w : WorldState). w.links) next.1;
+      peer = ap (λ (w : WorldState). (half (peer s) w).state) next.1 ∙ (peer_there s _ (with_half s mid j) ∙ (peer_there s mid j
+          ∙ same_halves s old));
+    }
+  where
+    same_halves : (s : Side) (old : WorldState) → (half (peer s) (with_link_at i (with_towards s rest l) old)).state
+        ≡ (half (peer s) old).state
+    same_halves One old = refl
+    same_halves Two old = refl
+
+pub deliver_processes : (gives : Algorithms) → DeliverProcessesLacpdu gives
+deliver_processes gives n s i k l x y d item rest r old new is there first end lacpdu h =
+    let v = value_of (side_of n) _ h.0 in
+    let same : v.0 ≡ s = same_Some v.0 s (sym v.1 ∙ is) in
+    let now = record new { acted = old.acted } in
+    let e = subst (λ t. OnLink (suc i) (λ i l. DeliversFrom gives t i l (towards t l) old r now) old.links) same v.2 in
+    let c = value_of (slice_get old.links i) _ e in
+    let it : c.0 ≡ l = same_Some c.0 l (sym c.1 ∙ there) in
+    let d1 = subst (λ m. DeliversFrom gives s i m (towards s m) old r now) it c.2 in
+    let d2 = subst (λ xs. DeliversFrom gives s i l xs old r now) first d1 in
+    let heard = delivered gives s i k l x y d item rest r old now there end lacpdu d2 in
+    record { processed = heard.processed; left = heard.left; peer = heard.peer }
