@@ -72,7 +72,7 @@ silent_settles n most k = record {
 receive_silent : (most k : ℕ) → RowsKeep (Silent most k) receive_rows
 receive_silent most k = (λ p a. a, (λ p a. a, (λ p a. a, (λ p a. a, (λ p a. a, tt)))))
 
-raised : (b ntt : Bool) (S : Type 0) → (ntt ≡ true) ⊎ S → ((if b then ntt else true) ≡ true) ⊎ S
+pub raised : (b ntt : Bool) (S : Type 0) → (ntt ≡ true) ⊎ S → ((if b then ntt else true) ≡ true) ⊎ S
 raised true ntt S h = h
 raised false ntt S h = inl refl
 

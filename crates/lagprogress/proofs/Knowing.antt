@@ -39,11 +39,11 @@ use Rattle.lagprogress.proofs.OnePort.{AtPort, GoesOn, at_number, goes_on, same_
 use Rattle.lagprogress.proofs.Timers.{RowsKeep, runs_keep}
 
 -- the actor is recorded for so many ticks more
-abbrev Recorded : Lacpdu → ℕ → Machines → Type 0
+abbrev pub Recorded : Lacpdu → ℕ → Machines → Type 0
 Recorded v most p = HasRecorded v p × (most ≤ p.current_while)
 
 -- the link is up; and so it is, if there are any
-abbrev Known : Lacpdu → ℕ → ℕ → Machines → Type 0
+abbrev pub Known : Lacpdu → ℕ → ℕ → Machines → Type 0
 Known v most k p = (p.enabled ≡ true) × (1 ≤ most → Recorded v most p)
 
 -- no row of the receive machine is enabled while there are ticks left
@@ -93,15 +93,15 @@ receive_known v most k = (
   ),
 )
 
-receives : (v : Lacpdu) (most k : ℕ) (p q : Machines) → RunsToRest receive_rows p q → Known v most k p → Known v most k q
+pub receives : (v : Lacpdu) (most k : ℕ) (p q : Machines) → RunsToRest receive_rows p q → Known v most k p → Known v most k q
 receives v most k p q h a = times_keep (Known v most k) receive_rows (receive_known v most k) h.0 p q h.1 a
 
 -- settling
 
-mux_known : (v : Lacpdu) (most k : ℕ) (ready : Bool) → RowsKeep (Known v most k) (mux_rows ready)
+pub mux_known : (v : Lacpdu) (most k : ℕ) (ready : Bool) → RowsKeep (Known v most k) (mux_rows ready)
 mux_known v most k ready = (λ p a. a, (λ p a. a, (λ p a. a, (λ p a. a, (λ p a. a, (λ p a. a, tt))))))
 
-periodic_known : (v : Lacpdu) (most k : ℕ) → RowsKeep (Known v most k) periodic_rows
+pub periodic_known : (v : Lacpdu) (most k : ℕ) → RowsKeep (Known v most k) periodic_rows
 periodic_known v most k = (λ p a. a, (λ p a. a, (λ p a. a, (λ p a. a, (λ p a. a, (λ p a. a, (λ p a. a, tt)))))))
 
 known_settles : (v : Lacpdu) (n most k : ℕ) → KeptBySettling (AtPort n (Known v most k))
@@ -113,7 +113,7 @@ known_settles v n most k = record {
 }
 
 -- a tick
-counts : (v : Lacpdu) (most k : ℕ) (p : Machines) → Known v most k p → Known v (most - 1) (k + 1) (count_down p)
+pub counts : (v : Lacpdu) (most k : ℕ) (p : Machines) → Known v most k p → Known v (most - 1) (k + 1) (count_down p)
 counts v most k p a = (a.0, λ l. let b = a.1 (omega (arith, l)) in (b.0, omega (arith, b.1)))
 
 tick_known : (v : Lacpdu) (most k : ℕ) (p q : Machines) → RunsToRest receive_rows (count_down p) q → AtRest periodic_rows p
@@ -151,7 +151,7 @@ decoded : (t : Bool) (info : Info) → bits_of (with_synchronization t info.stat
 }
 decoded t info = encode_then_decode (record (bits_of info.state) { synchronization = t })
 
-recorded : (v : Lacpdu) (p q : Machines) → p.enabled ≡ true → can_receive p ≡ true → ProcessesLacpdu v p q
+pub recorded : (v : Lacpdu) (p q : Machines) → p.enabled ≡ true → can_receive p ≡ true → ProcessesLacpdu v p q
     → (q.enabled ≡ true) × Recorded v (timeout_time q.short) q
 recorded v p q up awake h = elim h [
   | inl f ↦ elim f [
@@ -184,7 +184,7 @@ recorded v p q up awake h = elim h [
     asleep Current true e a k = no (sym k)
     asleep r false e a k = no e
 
-placed : (l : List SystemPort) (i : ℕ) (w t : SystemPort) → slice_get l i ≡ Some w → slice_get (slice_set l i t) i ≡ Some t
+pub placed : (l : List SystemPort) (i : ℕ) (w t : SystemPort) → slice_get l i ≡ Some w → slice_get (slice_set l i t) i ≡ Some t
 placed [] i w t e = absurd (none-some w e)
 placed (y ∷ ys) zero w t e = refl
 placed (y ∷ ys) (suc i) w t e = placed ys i w t e

@@ -10,3 +10,10 @@ mod Knowing
 mod Waits
 mod Halves
 mod Passing
+mod Sounding
+mod OneCable
+mod EndFacts
+mod Linked
+mod Hearkening
+mod OneRound
+mod Progressing

@@ -34,7 +34,7 @@ pub record GoesOn (Is : Call → Reply → Type 0) (P : ℕ → ℕ → Machines
   pub calls : (most k : ℕ) (call : Call) (answer : Reply) → Is call answer → (call ≡ Tick → ⊥)
       → KeptByCall (AtPort n (P most k)) call answer
 
-with_rest : (P : ℕ → Machines → Type 0) (ports : List SystemPort) → OfEach P ports → AllByRecursion PeriodicIsSettled ports
+pub with_rest : (P : ℕ → Machines → Type 0) (ports : List SystemPort) → OfEach P ports → AllByRecursion PeriodicIsSettled ports
     → OfEach (λ m p. P m p × AtRest periodic_rows p) ports
 with_rest P [] a s = tt
 with_rest P (x ∷ xs) a s = ((a.0, s.0.rows), with_rest P xs a.1 s.1)
@@ -144,7 +144,7 @@ same_place xs ys i x y e f g = same_Some y.number x.number (sym (number_at ys i 
     number_at (w ∷ ws) zero z h = ap (λ (v : SystemPort). Some v.number) (same_Some w z h)
     number_at (w ∷ ws) (suc j) z h = number_at ws j z h
 
-same_ports : (gives : ℕ → ℕ → ℕ → Type 0) (old new : SystemState) (calls : List Call) (replies : List Reply)
+pub same_ports : (gives : ℕ → ℕ → ℕ → Type 0) (old new : SystemState) (calls : List Call) (replies : List Reply)
     → TableRun gives old calls replies new → new.ports ≡ old.ports
 same_ports gives old new [] [] h = ap (λ (s : SystemState). s.ports) h
 same_ports gives old new [] (answer ∷ answers) h = absurd h

@@ -7,3 +7,5 @@ pub mod Knowing
 pub mod Waits
 pub mod Steady
 pub mod Passing
+pub mod Rounds
+pub mod Progress

@@ -103,3 +103,13 @@ pub fn lacpdus_pass_cables<F: Fn(u16, usize) -> usize>()
     ensures sent { (one two : F) → EmitSendsLacpdu (both_algorithms (F.post one) (F.post two)) }
     ensures processed { (one two : F) → DeliverProcessesLacpdu (both_algorithms (F.post one) (F.post two)) }
 {}
+
+ghost use Rattle.lagprogress.specs.Progress.{ActiveEndsComeToKnow};
+
+/// The ends of a cable come to know each other: in a world with one cable that is whole and has no limit, with the links
+/// of both of its ports up and both ports active, each of the two has recorded the other as it is, from 321 healthy
+/// rounds (32.1 s) on, whatever was before them. Both systems are sound, and their timers within their bounds, as in each
+/// world that events lead to (6.4.12, 6.4.13).
+pub fn active_ends_come_to_know<F: Fn(u16, usize) -> usize>()
+    ensures { (one two : F) → ActiveEndsComeToKnow (both_algorithms (F.post one) (F.post two)) }
+{}

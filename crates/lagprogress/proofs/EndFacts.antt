@@ -1,0 +1,218 @@
+-- What ticks, receipts and settlings leave of a port at an end of a cable whose other end sends LACPDUs of one kind.
+use Rattle.std.proofs.Common.{◌≡◌, ◌∙◌, ℕ, ◌-◌, ◌≤◌, Bool, true, false, not, ◌||◌, ◌&&◌, ◌⊎◌, inl, inr, refl, sym, subst}
+use Rattle.std.proofs.Common.{arith, Some}
+use Rattle.std.proofs.lemmas.Option.{same_Some}
+use Rattle.std.specs.Prelude.{slice_get}
+use Rattle.lagtypes.specs.declared.party.Choice.{Choice}
+use Rattle.lagtypes.specs.States.{bits_of}
+use Rattle.slowpdu.specs.declared.pdu.Lacpdu.{Lacpdu}
+use Rattle.slowpdu.specs.Parties.{party_of}
+use Rattle.portmachines.specs.Machines.{Machines}
+use Rattle.portmachines.specs.Mux.{mux_rows}
+use Rattle.portmachines.specs.Periodic.{RunsPeriodic, periodic_rows}
+use Rattle.portmachines.specs.Receive.{lacpdu_rows, receive_rows}
+use Rattle.portmachines.specs.Rows.{AtRest, RunsToRest}
+use Rattle.portmachines.specs.Transmit.{count_down}
+use Rattle.lagsystem.specs.declared.system_ports.SystemPort.{SystemPort}
+use Rattle.lagsystem.specs.Calls.{OnlyPortChangesBy, ProcessesLacpdu, ThenSettles}
+use Rattle.lagsystem.specs.ModelView.{can_receive, none_enabled}
+use Rattle.lagsystem.specs.Sound.{IsSound}
+use Rattle.lagsystem.specs.State.{SystemState, port_numbers}
+use Rattle.lagsystem.proofs.Keeps.{keeps_place}
+use Rattle.lagsystem.proofs.Rest.{can_receive_at_rest}
+use Rattle.lagsystem.proofs.Rising.{Rises, all-get, ports_rise}
+use Rattle.lagprogress.specs.Hearing.{timeout_time}
+use Rattle.lagprogress.specs.Knowing.{HasRecorded}
+use Rattle.lagprogress.proofs.EachPort.{KeptBySettling, OfEach, settling_each}
+use Rattle.lagprogress.proofs.Heartbeat.{raised}
+use Rattle.lagprogress.proofs.Hearing.{no}
+use Rattle.lagprogress.proofs.Knowing.{Known, counts, mux_known, periodic_known, placed, receives, recorded}
+use Rattle.lagprogress.proofs.OnePort.{AtPort, at_number}
+use Rattle.lagprogress.proofs.Sounding.{Calm, Sounds, counts_sounds, mux_sounds, periodic_runs}
+use Rattle.lagprogress.proofs.Timers.{RowsKeep, fires_keep, runs_keep}
+
+-- Activity and Timeout of the actor of an LACPDU
+abbrev pub activity : Lacpdu → Bool
+activity v = (bits_of v.actor.state).activity
+
+abbrev pub short_timeout : Lacpdu → Bool
+short_timeout v = (bits_of v.actor.state).timeout
+
+-- the ticks with which current_while starts at the port that sends the LACPDU
+abbrev pub wait_of : Lacpdu → ℕ
+wait_of v = timeout_time (short_timeout v)
+
+-- the LACPDU says of the port what it is
+abbrev pub Says : Lacpdu → Machines → Type 0
+Says v p = (p.party ≡ party_of v.actor) × (p.active ≡ activity v) × (p.short ≡ short_timeout v)
+
+-- both LACPDUs say the same of their actors
+abbrev pub SameActor : Lacpdu → Lacpdu → Type 0
+SameActor v u = (party_of v.actor ≡ party_of u.actor) × (activity v ≡ activity u) × (short_timeout v ≡ short_timeout u)
+
+-- The port is as the first LACPDU says, its link is up, and it has recorded the actor of the second, for so many ticks
+-- more if there are any.
+abbrev pub IsEnd : Lacpdu → Lacpdu → ℕ → Machines → Type 0
+IsEnd v u c p = Says v p × Known u c 0 p
+
+-- what stands beside it and is kept as well; the last number is 0 if nothing is known of the LACPDUs that come
+pub record Along (Y : Machines → Type 0) (v u : Lacpdu) (c d : ℕ) : Type 0 where
+  pub mux : (ready : Bool) (p q : Machines) → RunsToRest (mux_rows ready) p q → Y p → Y q
+  pub periodic : (p q : Machines) → RunsPeriodic p q → IsEnd v u c p → Y p → Y q
+  pub select : (choice : Choice) (p : Machines) → Y p → Y (record p { choice = choice })
+  pub takes : (x : Lacpdu) (p q : Machines) → (1 ≤ d → SameActor x u) → can_receive p ≡ true → ProcessesLacpdu x p q → IsEnd v u c p
+      → Y p → Y q
+
+-- settling
+
+end_mux : (v u : Lacpdu) (c : ℕ) (ready : Bool) → RowsKeep (IsEnd v u c) (mux_rows ready)
+end_mux v u c ready = (λ p a. a, (λ p a. a, (λ p a. a, (λ p a. a, (λ p a. a, (λ p a. a, tt))))))
+
+end_periodic : (v u : Lacpdu) (c : ℕ) → RowsKeep (IsEnd v u c) periodic_rows
+end_periodic v u c = (λ p a. a, (λ p a. a, (λ p a. a, (λ p a. a, (λ p a. a, (λ p a. a, (λ p a. a, tt)))))))
+
+pub end_settles : (Y : Machines → Type 0) (v u : Lacpdu) (c d n : ℕ) → Along Y v u c d → KeptBySettling (AtPort n (λ p. IsEnd v u c p × Y p))
+end_settles Y v u c d n k = record {
+  mux = λ m ready p q h a e. (runs_keep (IsEnd v u c) (mux_rows ready) (end_mux v u c ready) p q h (a e).0, k.mux ready p q h (a e).1);
+  periodic = λ m p q h a e. (
+    subst (IsEnd v u c) (sym h.2) (runs_keep (IsEnd v u c) periodic_rows (end_periodic v u c) p h.0 h.1 (a e).0),
+    k.periodic p q h (a e).0 (a e).1,
+  );
+  select = λ m choice p a e. ((a e).0, k.select choice p (a e).1);
+}
+
+-- a receipt
+
+says_kept : (v x : Lacpdu) (p q : Machines) → ProcessesLacpdu x p q → Says v p → Says v q
+says_kept v x p q h a = elim h [
+  | inl f ↦ fires_keep (Says v) (lacpdu_rows x) (λ p a. a, tt) p q f a
+  | inr r ↦ subst (Says v) (sym r.1) a
+]
+
+same_recorded : (x u : Lacpdu) (p : Machines) → SameActor x u → HasRecorded x p → HasRecorded u p
+same_recorded x u p e r = record {
+  current = r.current;
+  party = r.party ∙ e.0;
+  active = r.active ∙ e.1;
+  short = r.short ∙ e.2;
+  present = r.present;
+  heard = r.heard;
+}
+
+pub takes_known : (v u x : Lacpdu) (p q : Machines) → SameActor x u → can_receive p ≡ true → ProcessesLacpdu x p q → Says v p
+    → p.enabled ≡ true → Known u (wait_of v) 0 q
+takes_known v u x p q e awake h a up =
+    let r = recorded x p q up awake h in
+    let says = says_kept v x p q h a in
+    (r.0, λ _. (same_recorded x u q e r.1.0, subst (λ b. timeout_time b ≤ q.current_while) says.2 r.1.1))
+
+pub takes_end : (v u x : Lacpdu) (c d : ℕ) (p q : Machines) → (1 ≤ d → SameActor x u) → (1 ≤ c → 1 ≤ d) → c ≤ wait_of v
+    → can_receive p ≡ true → ProcessesLacpdu x p q → IsEnd v u c p → IsEnd v u c q
+takes_end v u x c d p q e fits less awake h a = (
+  says_kept v x p q h a.0,
+  (
+    (recorded x p q a.1.0 awake h).0,
+    λ l. let b = (takes_known v u x p q (e (fits l)) awake h a.0 a.1.0).1 (omega (arith, l, less)) in (b.0, omega (arith, less, b.1)),
+  ),
+)
+
+pub less_known : (v u : Lacpdu) (c d : ℕ) (p : Machines) → d ≤ c → IsEnd v u c p → IsEnd v u d p
+less_known v u c d p l a = (a.0, (a.1.0, λ k. let b = a.1.1 (omega (arith, k, l)) in (b.0, omega (arith, l, b.1))))
+
+-- a tick
+pub ticks_end : (v u : Lacpdu) (c : ℕ) (p q : Machines) → RunsToRest receive_rows (count_down p) q → IsEnd v u c p
+    → IsEnd v u (c - 1) q
+ticks_end v u c p q h a = (
+  runs_keep (Says v) receive_rows (λ p a. a, (λ p a. a, (λ p a. a, (λ p a. a, (λ p a. a, tt))))) (count_down p) q h a.0,
+  receives u (c - 1) 1 (count_down p) q h (counts u c 0 p a.1),
+)
+
+-- the port is not kept silent: it is active, or knows that its partner is; and it has recorded Short Timeout, if that is
+-- said
+abbrev pub CanSound : Lacpdu → Lacpdu → Bool → ℕ → Type 0
+CanSound v u fast c = ((activity v ≡ true) ⊎ ((1 ≤ c) × (activity u ≡ true))) × (fast ≡ true → (1 ≤ c) × (short_timeout u ≡ true))
+
+not_silent : (e a b : Bool) → e ≡ true → (a ≡ true) ⊎ (b ≡ true) → (not e || (not a && not b)) ≡ false
+not_silent true true b up h = refl
+not_silent true false true up h = refl
+not_silent true false false up (inl x) = absurd (no x)
+not_silent true false false up (inr x) = absurd (no x)
+not_silent false a b up h = absurd (no up)
+
+pub calm : (v u : Lacpdu) (fast : Bool) (c : ℕ) (p : Machines) → CanSound v u fast c → IsEnd v u c p → Calm fast p
+calm v u fast c p can a = (
+  not_silent p.enabled p.active (bits_of p.partner.state).activity a.1.0 (active can.0),
+  λ f. let g = can.1 f in (a.1.1 g.0).0.short ∙ g.1,
+)
+  where
+    active : (activity v ≡ true) ⊎ ((1 ≤ c) × (activity u ≡ true)) → (p.active ≡ true) ⊎ ((bits_of p.partner.state).activity ≡ true)
+    active (inl e) = inl (a.0.1 ∙ e)
+    active (inr e) = inr ((a.1.1 e.0).0.active ∙ e.1)
+
+-- what may stand beside it
+
+pub nothing_along : (v u : Lacpdu) (c d : ℕ) → Along (λ p. Unit {0}) v u c d
+nothing_along v u c d = record {
+  mux = λ ready p q h y. y;
+  periodic = λ p q h a y. y;
+  select = λ choice p y. y;
+  takes = λ x p q e awake h a y. y;
+}
+
+sounds_takes : (fast : Bool) (most : ℕ) (x : Lacpdu) → RowsKeep (Sounds fast most) (lacpdu_rows x)
+sounds_takes fast most x = (λ p a. (raised _ p.ntt _ a.0, a.1), tt)
+
+pub sounds_along : (v u : Lacpdu) (fast : Bool) (c d most : ℕ) → CanSound v u fast c → Along (Sounds fast most) v u c d
+sounds_along v u fast c d most can = record {
+  mux = λ ready p q h y. runs_keep (Sounds fast most) (mux_rows ready) (mux_sounds fast most ready) p q h y;
+  periodic = λ p q h a y. periodic_runs fast most p q h (calm v u fast c p can a) y;
+  select = λ choice p y. y;
+  takes = λ x p q e awake h a y. elim h [
+    | inl f ↦ fires_keep (Sounds fast most) (lacpdu_rows x) (sounds_takes fast most x) p q f y
+    | inr r ↦ subst (Sounds fast most) (sym r.1) y
+  ];
+}
+
+pub ticks_sounds : (v u : Lacpdu) (fast : Bool) (c most : ℕ) (p q : Machines) → CanSound v u fast c
+    → RunsToRest receive_rows (count_down p) q → AtRest periodic_rows p → IsEnd v u c p → Sounds fast most p → Sounds fast (most - 1) q
+ticks_sounds v u fast c most p q can h rest a y =
+    runs_keep (Sounds fast (most - 1)) receive_rows (λ p a. a, (λ p a. a, (λ p a. a, (λ p a. a, (λ p a. a, tt))))) (count_down p) q h
+    (counts_sounds fast most p rest (calm v u fast c p can a).0 y)
+
+pub known_along : (v u : Lacpdu) (c d : ℕ) → 1 ≤ d → Along (Known u (wait_of v) 0) v u c d
+known_along v u c d there = record {
+  mux = λ ready p q h y. runs_keep (Known u (wait_of v) 0) (mux_rows ready) (mux_known u (wait_of v) 0 ready) p q h y;
+  periodic = λ p q h a y. subst (Known u (wait_of v) 0) (sym h.2)
+      (runs_keep (Known u (wait_of v) 0) periodic_rows (periodic_known u (wait_of v) 0) p h.0 h.1 y);
+  select = λ choice p y. y;
+  takes = λ x p q e awake h a y. takes_known v u x p q (e there) awake h a.0 a.1.0;
+}
+
+pub both_along : (Y Z : Machines → Type 0) (v u : Lacpdu) (c d : ℕ) → Along Y v u c d → Along Z v u c d → Along (λ p. Y p × Z p) v u c d
+both_along Y Z v u c d k l = record {
+  mux = λ ready p q h y. (k.mux ready p q h y.0, l.mux ready p q h y.1);
+  periodic = λ p q h a y. (k.periodic p q h a y.0, l.periodic p q h a y.1);
+  select = λ choice p y. (k.select choice p y.0, l.select choice p y.1);
+  takes = λ x p q e awake h a y. (k.takes x p q e awake h a y.0, l.takes x p q e awake h a y.1);
+}
+
+-- what holds of the port that processed an LACPDU, after the settling
+pub takes_each : (Q : Machines → Type 0) (old new : SystemState) (x : Lacpdu) (k : ℕ) (z : SystemPort) → IsSound old
+    → slice_get old.system_ports k ≡ Some z → ((q : Machines) → can_receive z.port ≡ true → ProcessesLacpdu x z.port q → Q q)
+    → KeptBySettling (AtPort z.number Q) → ThenSettles (OnlyPortChangesBy (Some k) (ProcessesLacpdu x)) old new
+    → OfEach (AtPort z.number Q) new.system_ports
+takes_each Q old new x k z sound at does settles h =
+    let y = h.1.0.0 in
+    let q = h.1.0.1 in
+    let same : z ≡ y = same_Some z y (sym at ∙ h.1.0.2) in
+    let awake = can_receive_at_rest z.port
+    (all-get (λ (c : SystemPort). none_enabled receive_rows c.port ≡ true) old.system_ports k z at sound.rested.0) in
+    let first = does q awake (subst (λ (c : SystemPort). ProcessesLacpdu x c.port q) (sym same) h.1.0.3) in
+    let after : SystemPort = record y { port = q } in
+    let rises : Rises 0 (port_numbers h.0.system_ports) =
+    subst (Rises 0) (sym (keeps_place (ProcessesLacpdu x) (Some k) old h.0 h.1).same) (ports_rise old sound.ports) in
+    let here : slice_get h.0.system_ports k ≡ Some after =
+    subst (λ l. slice_get l k ≡ Some after) (sym h.1.0.4) (placed old.system_ports k y after h.1.0.2) in
+    let each = at_number Q 0 h.0.system_ports k after rises here first in
+    settling_each (AtPort z.number Q) settles h.0 new h.2 (subst (λ (c : SystemPort). OfEach (AtPort c.number Q) h.0.system_ports)
+    (sym same) each)

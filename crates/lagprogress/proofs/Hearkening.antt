@@ -1,0 +1,194 @@
+-- What a Deliver event leaves of a world with one cable.
+use Rattle.std.proofs.Common.{◌≡◌, ◌∙◌, ℕ, ◌≤◌, List, [], ◌∷◌, Some, Result, Ok, Err}
+use Rattle.std.proofs.Common.{◌⊎◌, inl, inr, sym, subst, true}
+use Rattle.std.specs.Prelude.{slice_get}
+use Rattle.std.specs.List.{AllByRecursion}
+use Rattle.std.proofs.lemmas.Option.{none-some}
+use Rattle.slowpdu.specs.declared.pdu.Lacpdu.{Lacpdu}
+use Rattle.slowpdu.specs.declared.pdu.Pdu.TheVariants as pdu
+use Rattle.slowpdu.proofs.LayoutLemmas.{all-append}
+use Rattle.portmachines.specs.Machines.{Machines}
+use Rattle.lagmodel.specs.World.{Side, peer}
+use Rattle.lagsystem.specs.declared.drive.Reply.TheVariants as answer
+use Rattle.lagsystem.specs.declared.fault.SystemFault.{SystemFault}
+use Rattle.lagsystem.specs.declared.received.Received.{Received}
+use Rattle.lagsystem.specs.declared.received.Received.TheVariants as received
+use Rattle.lagsystem.specs.declared.system_ports.SystemPort.{SystemPort}
+use Rattle.lagsystem.specs.Calls.{Carries, IsFrame, Receive}
+use Rattle.lagsystem.specs.Sound.{CallPromise}
+use Rattle.lagsystem.specs.State.{SystemState, port_index}
+use Rattle.lagsystem.proofs.Rising.{all-get, found_place}
+use Rattle.lagscript.specs.declared.event.Event.TheVariants as event
+use Rattle.lagworld.specs.declared.reply.Reply.{Reply}
+use Rattle.lagworld.specs.Events.{Algorithms, WorldSteps}
+use Rattle.lagworld.specs.State.{ItemValue, WorldState, half}
+use Rattle.lagprogress.proofs.EachPort.{OfEach}
+use Rattle.lagprogress.proofs.EndFacts.{Along, IsEnd, SameActor, both_along, end_settles, known_along, takes_each, takes_end, takes_known, wait_of}
+use Rattle.lagprogress.proofs.Halves.{keeps_steady}
+use Rattle.lagprogress.proofs.Knowing.{Known}
+use Rattle.lagprogress.proofs.OneCable.{Arrives, Back, delivers, put}
+use Rattle.lagprogress.proofs.OnePort.{AtPort}
+use Rattle.lagprogress.proofs.Passing.{marker_carries_none}
+use Rattle.lagprogress.proofs.Linked.{Arrived, EndIs, Flying, IsGood, Link, along_if, arrival, each_map, each_side, flying_on, found}
+use Rattle.lagprogress.proofs.Linked.{place_kept, pushed, put_other, put_there}
+
+-- what goes back
+
+back_flying : (s : Side) (a : Result Received SystemFault) (fl now : Side → List ItemValue) → Back s a fl now
+    → (t : Side) → Flying (fl t) → Flying (now t)
+back_flying s (Err fault) fl now h t f = subst (λ (g : Side → List ItemValue). Flying (g t)) (sym h) f
+back_flying s (Ok received.Disabled) fl now h t f = subst (λ (g : Side → List ItemValue). Flying (g t)) (sym h) f
+back_flying s (Ok received.Dropped) fl now h t f = subst (λ (g : Side → List ItemValue). Flying (g t)) (sym h) f
+back_flying s (Ok (received.Ignored fault)) fl now h t f = subst (λ (g : Side → List ItemValue). Flying (g t)) (sym h) f
+back_flying s (Ok received.TookLacpdu) fl now h t f = subst (λ (g : Side → List ItemValue). Flying (g t)) (sym h) f
+back_flying s (Ok (received.Respond frame)) fl now h t f =
+    subst (λ (g : Side → List ItemValue). Flying (g t)) (sym h.2)
+    (pushed (λ u xs. Flying (fl u) → Flying xs) (peer s) h.0 fl (λ g y. flying_on (fl (peer s)) (h.0 ∷ []) (g y)) (λ u y. y) t f)
+back_flying s (Ok (received.Released n)) fl now h t f = subst (λ (g : Side → List ItemValue). Flying (g t)) (sym h) f
+back_flying s (Ok (received.Up agg)) fl now h t f = subst (λ (g : Side → List ItemValue). Flying (g t)) (sym h) f
+
+abbrev AllGood : ℕ → (Side → Lacpdu) → (Side → List ItemValue) → Type 0
+AllGood d w fl = (t : Side) → AllByRecursion (IsGood d (w (peer t))) (fl t)
+
+back_good : (d : ℕ) (w : Side → Lacpdu) (gives : ℕ → ℕ → ℕ → Type 0) (s : Side) (n : ℕ) (octets : List ℕ) (a : Result Received SystemFault)
+    (old new : SystemState) (fl now : Side → List ItemValue) → CallPromise gives old (Receive n octets) (answer.Receive a) new
+    → Back s a fl now → AllGood d w fl → AllGood d w now
+back_good d w gives s n octets (Err fault) old new fl now k h g = subst (AllGood d w) (sym h) g
+back_good d w gives s n octets (Ok received.Disabled) old new fl now k h g = subst (AllGood d w) (sym h) g
+back_good d w gives s n octets (Ok received.Dropped) old new fl now k h g = subst (AllGood d w) (sym h) g
+back_good d w gives s n octets (Ok (received.Ignored fault)) old new fl now k h g = subst (AllGood d w) (sym h) g
+back_good d w gives s n octets (Ok received.TookLacpdu) old new fl now k h g = subst (AllGood d w) (sym h) g
+back_good d w gives s n octets (Ok (received.Respond frame)) old new fl now k h g =
+    let m = k.moves.3 in
+    let one : IsGood d (w (peer (peer s))) h.0 = λ x c l. absurd (marker_carries_none frame x m.0
+    (subst (λ o. IsFrame o (Carries (pdu.Lacpdu x))) h.1 c) m.1) in
+    subst (AllGood d w) (sym h.2)
+    (pushed (λ t xs. AllByRecursion (IsGood d (w (peer t))) xs) (peer s) h.0 fl
+    (λ b. all-append (IsGood d (w (peer (peer s)))) (fl (peer s)) (h.0 ∷ []) b (one, tt)) g)
+back_good d w gives s n octets (Ok (received.Released m)) old new fl now k h g = subst (AllGood d w) (sym h) g
+back_good d w gives s n octets (Ok (received.Up agg)) old new fl now k h g = subst (AllGood d w) (sym h) g
+
+-- the port at the end of system s knows its partner since just now
+abbrev pub Heard : (Side → ℕ) → (Side → Lacpdu) → Side → WorldState → Type 0
+Heard at w s j = OfEach (AtPort (at s) (Known (w (peer s)) (wait_of (w s)) 0)) (half s j).state.system_ports
+
+-- what is known fits the time that it is kept, and what comes
+abbrev pub Fits : ℕ → (Side → Lacpdu) → (Side → ℕ) → Type 0
+Fits d w c = (s : Side) → (c s ≤ wait_of (w s)) × (1 ≤ c s → 1 ≤ d)
+
+-- what a Deliver event leaves; what was on its way still is, or came
+pub record Delivered (d : ℕ) (at : Side → ℕ) (w : Side → Lacpdu) (c : Side → ℕ) (x : Side) (Y : Machines → Type 0)
+    (fl : Side → List ItemValue) (new : WorldState) : Type 0 where
+  pub link : Link d at w c x Y new
+  pub flying : (t : Side) → Flying (fl t) → Flying (link.flying t) ⊎ (1 ≤ d → Heard at w t new)
+
+-- the ports of the system after an arrival
+arrived_ports : (d : ℕ) (at : Side → ℕ) (w : Side → Lacpdu) (c : Side → ℕ) (x : Side) (Y : Machines → Type 0) (s : Side) (k : ℕ)
+    (z : SystemPort) (octets : List ℕ) (old new : WorldState) → Fits d w c → Along Y (w x) (w (peer x)) (c x) d
+    → Link d at w c x Y old → slice_get (half s old).state.system_ports k ≡ Some z → z.number ≡ at s
+    → ((v : Lacpdu) → IsFrame octets (Carries (pdu.Lacpdu v)) → 1 ≤ d → SameActor v (w (peer s)))
+    → Arrived k octets (half s old).state (half s new).state
+    → OfEach (AtPort (at s) (EndIs w c x Y s)) (half s new).state.system_ports
+    × ((((v : Lacpdu) → IsFrame octets (Carries (pdu.Lacpdu v)) → ⊥)) ⊎ (1 ≤ d → Heard at w s new))
+arrived_ports d at w c x Y s k z octets old new fits along l there numbered good (inr h) = (
+  subst (OfEach (AtPort (at s) (EndIs w c x Y s))) (sym h.1) (l.ports s),
+  inl h.0,
+)
+arrived_ports d at w c x Y s k z octets old new fits along l there numbered good (inl h) =
+    let v = h.0 in
+    let P = EndIs w c x Y s in
+    let Late : Machines → Type 0 = λ q. 1 ≤ d → Known (w (peer s)) (wait_of (w s)) 0 q in
+    let Q : Machines → Type 0 = λ q. IsEnd (w s) (w (peer s)) (c s) q × ((s ≡ x → Y q) × Late q) in
+    let was = all-get (λ (y : SystemPort). AtPort (at s) P y.number y.port) (half s old).state.system_ports k z there (l.ports s) numbered in
+    let given = along_if w c d x Y along s in
+    let late : Along Late (w s) (w (peer s)) (c s) d = record {
+      mux = λ ready p q h y e. (known_along (w s) (w (peer s)) (c s) d e).mux ready p q h (y e);
+      periodic = λ p q h a y e. (known_along (w s) (w (peer s)) (c s) d e).periodic p q h a (y e);
+      select = λ choice p y e. y e;
+      takes = λ u p q same awake h a y e. takes_known (w s) (w (peer s)) u p q (same e) awake h a.0 a.1.0;
+    } in
+    let each = takes_each Q (half s old).state (half s new).state v k z (l.steady s).0 there
+    (λ q awake does. (
+      takes_end (w s) (w (peer s)) v (c s) d z.port q (good v h.1) (fits s).1 (fits s).0 awake does was.0,
+      (
+        given.takes v z.port q (good v h.1) awake does was.0 was.1,
+        λ e. takes_known (w s) (w (peer s)) v z.port q (good v h.1 e) awake does was.0.0 was.0.1.0,
+      ),
+    ))
+    (end_settles (λ p. (s ≡ x → Y p) × Late p) (w s) (w (peer s)) (c s) d z.number
+    (both_along (λ p. s ≡ x → Y p) Late (w s) (w (peer s)) (c s) d given late)) h.2 in
+    let there2 = subst (λ n. OfEach (AtPort n Q) (half s new).state.system_ports) numbered each in (
+      each_map (AtPort (at s) Q) (AtPort (at s) P) (λ m p a e. ((a e).0, (a e).1.0)) (half s new).state.system_ports there2,
+      inr (λ e. each_map (AtPort (at s) Q) (AtPort (at s) (Known (w (peer s)) (wait_of (w s)) 0)) (λ m p a f. (a f).1.1 e)
+          (half s new).state.system_ports there2),
+    )
+
+flew : (t : Side) (fl now : Side → List ItemValue) (item : ItemValue) (rest : List ItemValue) (H : Type 0) → fl t ≡ item ∷ rest
+    → ((((v : Lacpdu) → IsFrame item.octets (Carries (pdu.Lacpdu v)) → ⊥)) ⊎ H) → (Flying (put t rest fl t) → Flying (now t))
+    → Flying (fl t) → Flying (now t) ⊎ H
+flew t fl now item rest H first said on f = by_item (subst Flying first f)
+  where
+    by_item : Flying (item ∷ rest) → Flying (now t) ⊎ H
+    by_item (inl v) = elim said [ inl not ↦ absurd (not v.0 v.1) | inr h ↦ inr h ]
+    by_item (inr g) = inl (on (subst Flying (sym (put_there t rest fl)) g))
+
+arrives_link : (gives : Algorithms) (cn n : ℕ) (s : Side) (d : ℕ) (at : Side → ℕ) (w : Side → Lacpdu) (c : Side → ℕ) (x : Side)
+    (Y : Machines → Type 0) (r : Reply) (old new : WorldState) → Fits d w c → Along Y (w x) (w (peer x)) (c x) d
+    → (l : Link d at w c x Y old) → WorldSteps gives old (event.Deliver cn n) r new → Arrives gives s at l.flying old new
+    → Delivered d at w c x Y l.flying new
+arrives_link gives cn n s d at w c x Y r old new fits along l h k =
+    let steady = keeps_steady gives (event.Deliver cn n) r old new h l.steady in
+    let place = l.place s in
+    let it = found (at s) place.0 (half s old).state.system_ports place.1 in
+    let numbered = found_place (at s) (half s old).state.system_ports place.0 it.0 place.1 it.1 in
+    let P = EndIs w c x Y in
+    let up = (all-get (λ (y : SystemPort). AtPort (at s) (P s) y.number y.port) (half s old).state.system_ports place.0 it.0 it.1
+    (l.ports s) numbered).0.1.0 in
+    let good = subst (AllByRecursion (IsGood d (w (peer s)))) k.first (l.good s) in
+    let came = arrived_by k.a place.0 it.0 up place.1 it.1 k.promise in
+    let own = arrived_ports d at w c x Y s place.0 it.0 k.item.octets old new fits along l it.1 numbered good.0 came in
+    let other = subst (λ (y : SystemState). OfEach (AtPort (at (peer s)) (P (peer s))) y.system_ports) (sym k.peers) (l.ports (peer s)) in
+    let less : AllGood d w (put s k.rest l.flying) = each_side (λ t. AllByRecursion (IsGood d (w (peer t))) (put s k.rest l.flying t)) s
+    (subst (AllByRecursion (IsGood d (w (peer s)))) (sym (put_there s k.rest l.flying)) good.1)
+    (subst (AllByRecursion (IsGood d (w (peer (peer s))))) (sym (put_other s k.rest l.flying)) (l.good (peer s))) in
+    let on = back_flying s k.a (put s k.rest l.flying) k.now k.back in
+    record {
+      link = record {
+        steady = steady;
+        flying = k.now;
+        links = k.links;
+        good = back_good d w (gives s) s (at s) k.item.octets k.a (half s old).state (half s new).state (put s k.rest l.flying) k.now
+            k.promise k.back less;
+        place = λ t. ((l.place t).0, place_kept gives (event.Deliver cn n) r old new h l.steady steady t (at t) ∙ (l.place t).1);
+        ports = each_side (λ t. OfEach (AtPort (at t) (P t)) (half t new).state.system_ports) s own.0 other;
+      };
+      flying = each_side (λ t. Flying (l.flying t) → Flying (k.now t) ⊎ (1 ≤ d → Heard at w t new)) s
+          (flew s l.flying k.now k.item k.rest (1 ≤ d → Heard at w s new) k.first own.1 (on s))
+          (λ f. inl (on (peer s) (subst Flying (sym (put_other s k.rest l.flying)) f)));
+    }
+  where
+    arrived_by : (a : Result Received SystemFault) (i : ℕ) (z : SystemPort) → z.port.enabled ≡ true
+        → port_index (at s) (half s old).state.system_ports ≡ Some i → slice_get (half s old).state.system_ports i ≡ Some z
+        → CallPromise (gives s) (half s old).state (Receive (at s) k.item.octets) (answer.Receive a) (half s new).state
+        → Arrived i k.item.octets (half s old).state (half s new).state
+    arrived_by (Err fault) i z up e f p = absurd (none-some i (sym p.step.cause ∙ e))
+    arrived_by (Ok o) i z up e f p = arrival (gives s) (at s) i z k.item.octets o (half s old).state (half s new).state e f up p
+
+pub deliver_link : (gives : Algorithms) (cn n : ℕ) (d : ℕ) (at : Side → ℕ) (w : Side → Lacpdu) (c : Side → ℕ) (x : Side)
+    (Y : Machines → Type 0) (r : Reply) (old new : WorldState) → Fits d w c → Along Y (w x) (w (peer x)) (c x) d
+    → (l : Link d at w c x Y old) → WorldSteps gives old (event.Deliver cn n) r new → Delivered d at w c x Y l.flying new
+deliver_link gives cn n d at w c x Y r old new fits along l h = elim (delivers gives cn n at l.flying r old new l.links h) [
+  | inl k ↦ arrives_link gives cn n k.0 d at w c x Y r old new fits along l h k.1
+  | inr k ↦ (let steady = keeps_steady gives (event.Deliver cn n) r old new h l.steady in
+      record {
+        link = record {
+          steady = steady;
+          flying = l.flying;
+          links = k.links ∙ l.links;
+          good = l.good;
+          place = λ t. ((l.place t).0, place_kept gives (event.Deliver cn n) r old new h l.steady steady t (at t) ∙ (l.place t).1);
+          ports = λ t. subst (λ (y : SystemState). OfEach (AtPort (at t) (EndIs w c x Y t)) y.system_ports) (sym (k.halves t)) (l.ports t);
+        };
+        flying = λ t f. inl f;
+      })
+]

@@ -1,0 +1,332 @@
+-- What Emit and Deliver events, and ticks, leave of a world with one cable.
+use Rattle.std.proofs.Common.{◌≡◌, ◌∙◌, ℕ, zero, suc, ◌+◌, ◌<◌, ◌≤◌, ◌==◌, Bool, true, false, not, cond, List, [], ◌∷◌, ◌++◌, Option, Some, None}
+use Rattle.std.proofs.Common.{Result, Ok, Err, ◌⊎◌, inl, inr, refl, sym, subst, ap, arith, length}
+use Rattle.std.specs.Prelude.{slice_get, nat_lt}
+use Rattle.std.specs.List.{AllByRecursion, position_or_len}
+use Rattle.std.proofs.lemmas.Option.{none-some, same_Some}
+use Rattle.std.proofs.lemmas.List.Quantifiers.{position-Some}
+use Rattle.lagtypes.specs.declared.state.StateBits.{StateBits}
+use Rattle.lagtypes.proofs.StateLemmas.{encode_then_decode}
+use Rattle.slowpdu.specs.declared.pdu.Lacpdu.{Lacpdu}
+use Rattle.slowpdu.specs.declared.pdu.Pdu.TheVariants as pdu
+use Rattle.slowpdu.proofs.LayoutLemmas.{all-append}
+use Rattle.distributor.specs.Changes.{marker_due}
+use Rattle.portmachines.specs.Machines.{Machines}
+use Rattle.portmachines.specs.declared.mux.MuxState.TheVariants.{CollectingDistributing}
+use Rattle.portmachines.specs.Mux.{is_synchronized, same_mux_state}
+use Rattle.portmachines.specs.Transmit.{actor_of, after_sending, is_due, pdu_of}
+use Rattle.lagmodel.specs.World.{Side, One, Two, peer}
+use Rattle.lagsystem.specs.declared.drive.Reply.TheVariants as answer
+use Rattle.lagsystem.specs.declared.fault.SystemFault.{SystemFault}
+use Rattle.lagsystem.specs.declared.received.Received.{Received}
+use Rattle.lagsystem.specs.declared.received.Received.TheVariants as received
+use Rattle.lagsystem.specs.declared.system_ports.SystemPort.{SystemPort}
+use Rattle.lagsystem.specs.Calls.{Carries, IsFrame, OnlyPortChangesBy, ProcessesLacpdu, Receive, ReceivesAt, ThenSettles}
+use Rattle.lagsystem.specs.Calls.{Transmit}
+use Rattle.lagsystem.specs.First.{configured_numbers}
+use Rattle.lagsystem.specs.Sending.{IsLacpduOf, SendsMarkerOf, TransmitsAt, TransmitsIf}
+use Rattle.lagsystem.specs.Sound.{CallPromise}
+use Rattle.lagsystem.specs.State.{SystemState, port_index, port_numbers}
+use Rattle.lagsystem.proofs.Effects.{named}
+use Rattle.lagsystem.proofs.Performed.{processes_or_stays}
+use Rattle.lagsystem.proofs.Rising.{all-get, found_place}
+use Rattle.lagscript.specs.declared.event.Event.{Event}
+use Rattle.lagscript.specs.declared.event.Event.TheVariants as event
+use Rattle.lagworld.specs.declared.reply.Reply.{Reply}
+use Rattle.lagworld.specs.Events.{Algorithms, WorldSteps, side_of}
+use Rattle.lagworld.specs.State.{ItemValue, WorldState, half}
+use Rattle.lagprogress.specs.Steady.{IsSteady}
+use Rattle.lagprogress.proofs.EachPort.{KeptBySettling, OfEach, Step-each}
+use Rattle.lagprogress.proofs.EndFacts.{Along, IsEnd, SameActor, Says, end_settles}
+use Rattle.lagprogress.proofs.Halves.{each_is_calls, keeps_steady}
+use Rattle.lagprogress.proofs.OneCable.{Asks, Went, asks, cable, push, put}
+use Rattle.lagprogress.proofs.OnePort.{AtPort, same_ports}
+use Rattle.lagprogress.proofs.Passing.{carries_one, lacpdu_is_sent, marker_carries_none, receives_lacpdu, sent_carries}
+
+-- the place of a port depends on the numbers alone
+
+lens : (n : ℕ) (xs : List SystemPort)
+    → position_or_len (λ (x : SystemPort). x.number == n) xs ≡ position_or_len (λ m. m == n) (port_numbers xs)
+lens n [] = refl
+lens n (x ∷ xs) = ap (λ k. cond (not (x.number == n)) (1 + k) 0) (lens n xs)
+
+many : (xs : List SystemPort) → length xs ≡ length (port_numbers xs)
+many [] = refl
+many (x ∷ xs) = ap (λ k. suc k) (many xs)
+
+abbrev place_in : ℕ → ℕ → Option ℕ
+place_in i l = cond (nat_lt i l) (Some i) None
+
+index_of : (n : ℕ) (xs : List SystemPort)
+    → port_index n xs ≡ place_in (position_or_len (λ m. m == n) (port_numbers xs)) (length (port_numbers xs))
+index_of n xs = ap (λ i. place_in i (length xs)) (lens n xs) ∙ ap (place_in (position_or_len (λ m. m == n) (port_numbers xs))) (many xs)
+
+same_index : (n : ℕ) (xs ys : List SystemPort) → port_numbers ys ≡ port_numbers xs → port_index n ys ≡ port_index n xs
+same_index n xs ys e =
+    index_of n ys ∙ (ap (λ l. place_in (position_or_len (λ m. m == n) l) (length l)) e ∙ sym (index_of n xs))
+
+pub place_kept : (gives : Algorithms) (e : Event) (r : Reply) (old new : WorldState) → WorldSteps gives old e r new → IsSteady old
+    → IsSteady new → (s : Side) (n : ℕ) → port_index n (half s new).state.system_ports ≡ port_index n (half s old).state.system_ports
+place_kept gives e r old new x a b s n =
+    let g = each_is_calls gives e r old new x s in
+    let ports = same_ports (gives s) (half s old).state (half s new).state g.0 g.1 g.2 in
+    same_index n (half s old).state.system_ports (half s new).state.system_ports
+    ((b s).0.ports.same ∙ (ap configured_numbers ports ∙ sym (a s).0.ports.same))
+
+-- items
+
+-- an item carries no LACPDU but one that says this of its actor
+abbrev pub Good : Lacpdu → ItemValue → Type 0
+Good u item = (x : Lacpdu) → IsFrame item.octets (Carries (pdu.Lacpdu x)) → SameActor x u
+
+-- one of the items is an LACPDU
+abbrev pub Flying : List ItemValue → Type 0
+Flying [] = ⊥
+Flying (item ∷ items) = ((x : Lacpdu) × IsFrame item.octets (Carries (pdu.Lacpdu x))) ⊎ Flying items
+
+pub flying_on : (xs ys : List ItemValue) → Flying xs → Flying (xs ++ ys)
+flying_on [] ys h = absurd h
+flying_on (x ∷ xs) ys (inl h) = inl h
+flying_on (x ∷ xs) ys (inr h) = inr (flying_on xs ys h)
+
+pub flying_last : (xs : List ItemValue) (item : ItemValue) (x : Lacpdu) → IsFrame item.octets (Carries (pdu.Lacpdu x))
+    → Flying (xs ++ item ∷ [])
+flying_last [] item x h = inl (x, h)
+flying_last (y ∷ ys) item x h = inr (flying_last ys item x h)
+
+-- of both sides
+
+pub each_side : (X : Side → Type 0) (s : Side) → X s → X (peer s) → (t : Side) → X t
+each_side X One a b One = a
+each_side X One a b Two = b
+each_side X Two a b One = b
+each_side X Two a b Two = a
+
+pub peer_twice : (s : Side) → peer (peer s) ≡ s
+peer_twice One = refl
+peer_twice Two = refl
+
+pub other_side : (s : Side) → peer s ≡ s → ⊥
+other_side One e = cc
+other_side Two e = cc
+
+pub push_other : (s : Side) (item : ItemValue) (fl : Side → List ItemValue) → push (peer s) item fl s ≡ fl s
+push_other One item fl = refl
+push_other Two item fl = refl
+
+pub push_there : (s : Side) (item : ItemValue) (fl : Side → List ItemValue) → push s item fl s ≡ fl s ++ item ∷ []
+push_there One item fl = refl
+push_there Two item fl = refl
+
+pub put_there : (s : Side) (xs : List ItemValue) (fl : Side → List ItemValue) → put s xs fl s ≡ xs
+put_there One xs fl = refl
+put_there Two xs fl = refl
+
+pub put_other : (s : Side) (xs : List ItemValue) (fl : Side → List ItemValue) → put s xs fl (peer s) ≡ fl (peer s)
+put_other One xs fl = refl
+put_other Two xs fl = refl
+
+-- a property of lists that one more item keeps, at both sides
+pub pushed : (P : Side → List ItemValue → Type 0) (s : Side) (item : ItemValue) (fl : Side → List ItemValue)
+    → (P s (fl s) → P s (fl s ++ item ∷ [])) → ((t : Side) → P t (fl t)) → (t : Side) → P t (push s item fl t)
+pushed P One item fl k a One = k (a One)
+pushed P One item fl k a Two = a Two
+pushed P Two item fl k a One = a One
+pushed P Two item fl k a Two = k (a Two)
+
+-- what the frames of a port say
+
+own_party : (p : Machines) (d : ℕ) (v : Lacpdu) → Says v p → SameActor (pdu_of p d) v
+own_party p d v a =
+    let bits = encode_then_decode (record {
+      activity = p.active;
+      timeout = p.short;
+      aggregation = p.party.aggregatable;
+      synchronization = is_synchronized p.mux;
+      collecting = same_mux_state CollectingDistributing p.mux;
+      distributing = same_mux_state CollectingDistributing p.mux;
+      defaulted = p.defaulted;
+      expired = p.expired;
+    }) in
+    (ap (named (actor_of p)) bits ∙ a.0, ap (λ (b : StateBits). b.activity) bits ∙ a.1, ap (λ (b : StateBits). b.timeout) bits ∙ a.2)
+
+sent_good : (v : Lacpdu) (up due : Bool) (i : ℕ) (z : SystemPort) (old : SystemState) (frame : List ℕ) (new : SystemState)
+    → Says v z.port → TransmitsIf up due i z old (Some frame) new
+    → (x : Lacpdu) → IsFrame frame (Carries (pdu.Lacpdu x)) → SameActor x v
+sent_good v false due i z old frame new a h x c = absurd (none-some frame (sym h.0))
+sent_good v true true i z old frame new a h x c =
+    let is : frame ≡ h.0 = same_Some frame h.0 h.2 in
+    let sent = subst (IsLacpduOf old.max_delay z) (sym is) h.1 in
+    let one : pdu_of z.port old.max_delay ≡ x = carries_one frame x (pdu_of z.port old.max_delay) c
+    (sent_carries frame (pdu.Lacpdu (pdu_of z.port old.max_delay)) (lacpdu_is_sent old.max_delay z frame sent)) in
+    subst (λ y. SameActor y v) one (own_party z.port old.max_delay v a)
+sent_good v true false i z old frame new a h x c = by_marker (marker_due old.table z.number) h
+  where
+    by_marker : (o : Option ℕ) → SendsMarkerOf o z.number z.mac old (Some frame) new → SameActor x v
+    by_marker None k = absurd (none-some frame (sym k.0))
+    by_marker (Some id) k =
+        absurd (marker_carries_none frame x _ c (z.mac, k.0, k.1, k.2, same_Some frame _ k.3))
+
+-- an arrival
+
+is_took : (o : Received) → (o ≡ received.TookLacpdu) ⊎ (o ≡ received.TookLacpdu → ⊥)
+is_took received.Disabled = inr (λ e. cc)
+is_took received.Dropped = inr (λ e. cc)
+is_took (received.Ignored fault) = inr (λ e. cc)
+is_took received.TookLacpdu = inl refl
+is_took (received.Respond frame) = inr (λ e. cc)
+is_took (received.Released n) = inr (λ e. cc)
+is_took (received.Up agg) = inr (λ e. cc)
+
+-- the port processed the LACPDU that came, or what came is none and leaves the ports
+abbrev pub Arrived : ℕ → List ℕ → SystemState → SystemState → Type 0
+Arrived k octets old new =
+    ((x : Lacpdu) × IsFrame octets (Carries (pdu.Lacpdu x)) × ThenSettles (OnlyPortChangesBy (Some k) (ProcessesLacpdu x)) old new)
+    ⊎ (((x : Lacpdu) → IsFrame octets (Carries (pdu.Lacpdu x)) → ⊥) × (new.system_ports ≡ old.system_ports))
+
+pub arrival : (gives : ℕ → ℕ → ℕ → Type 0) (n k : ℕ) (z : SystemPort) (octets : List ℕ) (o : Received) (old new : SystemState)
+    → port_index n old.system_ports ≡ Some k → slice_get old.system_ports k ≡ Some z → z.port.enabled ≡ true
+    → CallPromise gives old (Receive n octets) (answer.Receive (Ok o)) new → Arrived k octets old new
+arrival gives n k z octets o old new place at up h = elim (is_took o) [
+  | inl e ↦ (let m = (subst (λ a. CallPromise gives old (Receive n octets) (answer.Receive (Ok a)) new) e h).moves.3 in
+      inl (m.0, m.1, (receives_lacpdu n k z octets m.0 old o new place at up m.1 h.step).1))
+  | inr not ↦ inr (
+    λ x c. not (receives_lacpdu n k z octets x old o new place at up c h.step).0,
+    ports not h.step,
+  )
+]
+  where
+    ports : (o ≡ received.TookLacpdu → ⊥) → ReceivesAt (port_index n old.system_ports) octets old o new
+        → new.system_ports ≡ old.system_ports
+    ports not s = elim (processes_or_stays s.1 s.0.number (port_index n old.system_ports) old o new s.4) [
+      | inl x ↦ absurd (not x.1)
+      | inr e ↦ e
+    ]
+
+pub found : (n : ℕ) (k : ℕ) (ports : List SystemPort) → port_index n ports ≡ Some k → (z : SystemPort) × (slice_get ports k ≡ Some z)
+found n k [] e = absurd (none-some k e)
+found n k (x ∷ xs) e = at k (x ∷ xs) (position-Some (λ (y : SystemPort). y.number == n) (x ∷ xs) k x e).0
+  where
+    at : (k : ℕ) (ports : List SystemPort) → k < length ports → (z : SystemPort) × (slice_get ports k ≡ Some z)
+    at k [] l = absurd (omega (arith, l))
+    at zero (x ∷ xs) l = (x, refl)
+    at (suc k) (x ∷ xs) l = at k xs (omega (arith, l))
+
+pub each_map : (P Q : ℕ → Machines → Type 0) → ((m : ℕ) (p : Machines) → P m p → Q m p) → (xs : List SystemPort) → OfEach P xs
+    → OfEach Q xs
+each_map P Q k [] a = tt
+each_map P Q k (x ∷ xs) a = (k x.number x.port a.0, each_map P Q k xs a.1)
+
+pub each_both : (P Q : ℕ → Machines → Type 0) → (xs : List SystemPort) → OfEach P xs → OfEach Q xs → OfEach (λ m p. P m p × Q m p) xs
+each_both P Q [] a b = tt
+each_both P Q (x ∷ xs) a b = ((a.0, b.0), each_both P Q xs a.1 b.1)
+
+-- the link
+
+-- an item carries no LACPDU but one that says this of its actor, if the number is not 0
+abbrev pub IsGood : ℕ → Lacpdu → ItemValue → Type 0
+IsGood d u item = (x : Lacpdu) → IsFrame item.octets (Carries (pdu.Lacpdu x)) → 1 ≤ d → SameActor x u
+
+-- so is the port at an end, and one thing more at side x
+abbrev pub EndIs : (Side → Lacpdu) → (Side → ℕ) → Side → (Machines → Type 0) → Side → Machines → Type 0
+EndIs w c x Y s p = IsEnd (w s) (w (peer s)) (c s) p × (s ≡ x → Y p)
+
+pub record Link (d : ℕ) (at : Side → ℕ) (w : Side → Lacpdu) (c : Side → ℕ) (x : Side) (Y : Machines → Type 0) (j : WorldState) : Type 0 where
+  pub steady : IsSteady j
+  pub flying : Side → List ItemValue
+  pub links : j.links ≡ cable at flying ∷ []
+  pub good : (s : Side) → AllByRecursion (IsGood d (w (peer s))) (flying s)
+  pub place : (s : Side) → (k : ℕ) × (port_index (at s) (half s j).state.system_ports ≡ Some k)
+  pub ports : (s : Side) → OfEach (AtPort (at s) (EndIs w c x Y s)) (half s j).state.system_ports
+
+pub along_if : (w : Side → Lacpdu) (c : Side → ℕ) (d : ℕ) (x : Side) (Y : Machines → Type 0) → Along Y (w x) (w (peer x)) (c x) d → (s : Side)
+    → Along (λ p. s ≡ x → Y p) (w s) (w (peer s)) (c s) d
+along_if w c d x Y k s = record {
+  mux = λ ready p q h y e. k.mux ready p q h (y e);
+  periodic = λ p q h a y e. k.periodic p q h (subst (λ t. IsEnd (w t) (w (peer t)) (c t) p) e a) (y e);
+  select = λ choice p y e. k.select choice p (y e);
+  takes = λ z p q same awake h a y e. k.takes z p q (subst (λ t. 1 ≤ d → SameActor z (w (peer t))) e same) awake h
+      (subst (λ t. IsEnd (w t) (w (peer t)) (c t) p) e a) (y e);
+}
+
+pub end_kept : (w : Side → Lacpdu) (c : Side → ℕ) (d : ℕ) (x : Side) (Y : Machines → Type 0) → Along Y (w x) (w (peer x)) (c x) d
+    → (s : Side) (n : ℕ) → KeptBySettling (AtPort n (EndIs w c x Y s))
+end_kept w c d x Y k s n = end_settles (λ p. s ≡ x → Y p) (w s) (w (peer s)) (c s) d n (along_if w c d x Y k s)
+
+-- asking
+
+went_flying : (s : Side) (a : Result (Option (List ℕ)) SystemFault) (fl now : Side → List ItemValue) → Went s a fl now
+    → (t : Side) → Flying (fl t) → Flying (now t)
+went_flying s (Err fault) fl now h t f = subst (λ (g : Side → List ItemValue). Flying (g t)) (sym h) f
+went_flying s (Ok None) fl now h t f = subst (λ (g : Side → List ItemValue). Flying (g t)) (sym h) f
+went_flying s (Ok (Some frame)) fl now h t f =
+    subst (λ (g : Side → List ItemValue). Flying (g t)) (sym h.2)
+    (pushed (λ u xs. Flying (fl u) → Flying xs) (peer s) h.0 fl (λ g y. flying_on (fl (peer s)) (h.0 ∷ []) (g y)) (λ u y. y) t f)
+
+went_good : (d : ℕ) (w : Side → Lacpdu) (s : Side) (a : Result (Option (List ℕ)) SystemFault) (fl now : Side → List ItemValue)
+    → Went s a fl now
+    → ((frame : List ℕ) → a ≡ Ok (Some frame) → (x : Lacpdu) → IsFrame frame (Carries (pdu.Lacpdu x)) → SameActor x (w s))
+    → ((t : Side) → AllByRecursion (IsGood d (w (peer t))) (fl t)) → (t : Side) → AllByRecursion (IsGood d (w (peer t))) (now t)
+went_good d w s (Err fault) fl now h k g =
+    subst (λ (f : Side → List ItemValue). (t : Side) → AllByRecursion (IsGood d (w (peer t))) (f t)) (sym h) g
+went_good d w s (Ok None) fl now h k g =
+    subst (λ (f : Side → List ItemValue). (t : Side) → AllByRecursion (IsGood d (w (peer t))) (f t)) (sym h) g
+went_good d w s (Ok (Some frame)) fl now h k g =
+    let one : IsGood d (w (peer (peer s))) h.0 = λ x c l. subst (λ t. SameActor x (w t)) (sym (peer_twice s))
+    (k frame refl x (subst (λ o. IsFrame o (Carries (pdu.Lacpdu x))) h.1 c)) in
+    subst (λ (f : Side → List ItemValue). (t : Side) → AllByRecursion (IsGood d (w (peer t))) (f t)) (sym h.2)
+    (pushed (λ t xs. AllByRecursion (IsGood d (w (peer t))) xs) (peer s) h.0 fl
+    (λ a. all-append (IsGood d (w (peer (peer s)))) (fl (peer s)) (h.0 ∷ []) a (one, tt)) g)
+
+transmits_good : (v : Lacpdu) (n : ℕ) (o : Option ℕ) (old : SystemState) (frame : List ℕ) (new : SystemState)
+    → port_index n old.system_ports ≡ o → TransmitsAt o old (Some frame) new → OfEach (AtPort n (Says v)) old.system_ports
+    → (x : Lacpdu) → IsFrame frame (Carries (pdu.Lacpdu x)) → SameActor x v
+transmits_good v n None old frame new e h a = absurd h
+transmits_good v n (Some i) old frame new e h a =
+    sent_good v h.0.port.enabled (is_due h.0.port) i h.0 old frame new
+    (all-get (λ (y : SystemPort). AtPort n (Says v) y.number y.port) old.system_ports i h.0 h.1 a
+    (found_place n old.system_ports i h.0 e h.1)) h.2
+
+told_good : (v : Lacpdu) (gives : ℕ → ℕ → ℕ → Type 0) (n : ℕ) (a : Result (Option (List ℕ)) SystemFault) (old new : SystemState)
+    → CallPromise gives old (Transmit n) (answer.Transmit a) new → OfEach (AtPort n (Says v)) old.system_ports
+    → (frame : List ℕ) → a ≡ Ok (Some frame) → (x : Lacpdu) → IsFrame frame (Carries (pdu.Lacpdu x)) → SameActor x v
+told_good v gives n a old new h ports frame e =
+    let k = subst (λ b. CallPromise gives old (Transmit n) (answer.Transmit b) new) e h in
+    transmits_good v n (port_index n old.system_ports) old frame new refl k.step ports
+
+-- what an Emit event of an end leaves
+pub record Emitted (gives : Algorithms) (s : Side) (d : ℕ) (at : Side → ℕ) (w : Side → Lacpdu) (c : Side → ℕ) (x : Side)
+    (Y : Machines → Type 0) (fl : Side → List ItemValue) (old new : WorldState) : Type 0 where
+  pub link : Link d at w c x Y new
+  pub asks : Asks gives s at fl old new
+  pub same : link.flying ≡ asks.now
+  pub flying : (t : Side) → Flying (fl t) → Flying (link.flying t)
+
+pub emit_link : (gives : Algorithms) (n : ℕ) (s : Side) (d : ℕ) (at : Side → ℕ) (w : Side → Lacpdu) (c : Side → ℕ) (x : Side)
+    (Y : Machines → Type 0) (r : Reply) (old new : WorldState) → side_of n ≡ Some s → Along Y (w x) (w (peer x)) (c x) d
+    → (s ≡ x → (p : Machines) → Y p → Y (after_sending p)) → (l : Link d at w c x Y old) → WorldSteps gives old (event.Emit n (at s)) r new
+    → Emitted gives s d at w c x Y l.flying old new
+emit_link gives n s d at w c x Y r old new named along sends l h =
+    let k = asks gives n s at l.flying r old new named l.links h in
+    let steady = keeps_steady gives (event.Emit n (at s)) r old new h l.steady in
+    let own = Step-each (AtPort (at s) (EndIs w c x Y s)) (end_kept w c d x Y along s (at s)) (gives s) (half s old).state
+    (Transmit (at s)) (answer.Transmit k.a) (half s new).state (λ p told a e. ((a e).0, λ f. sends f p ((a e).1 f))) k.promise.step
+    (l.ports s) in
+    let other = subst (λ (y : SystemState). OfEach (AtPort (at (peer s)) (EndIs w c x Y (peer s))) y.system_ports) (sym k.peers)
+    (l.ports (peer s)) in
+    let says = each_map (AtPort (at s) (EndIs w c x Y s)) (AtPort (at s) (Says (w s))) (λ m p a e. (a e).0.0)
+    (half s old).state.system_ports (l.ports s) in
+    record {
+      link = record {
+        steady = steady;
+        flying = k.now;
+        links = k.links;
+        good = went_good d w s k.a l.flying k.now k.went (told_good (w s) (gives s) (at s) k.a (half s old).state
+            (half s new).state k.promise says) l.good;
+        place = λ t. ((l.place t).0, place_kept gives (event.Emit n (at s)) r old new h l.steady steady t (at t) ∙ (l.place t).1);
+        ports = each_side (λ t. OfEach (AtPort (at t) (EndIs w c x Y t)) (half t new).state.system_ports) s own other;
+      };
+      asks = k;
+      same = refl;
+      flying = went_flying s k.a l.flying k.now k.went;
+    }

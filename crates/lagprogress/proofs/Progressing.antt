@@ -1,0 +1,562 @@
+-- How the ends of a cable come to know each other, round by round.
+use Rattle.std.proofs.Common.{◌≡◌, ◌∙◌, ℕ, zero, suc, ◌+◌, ◌-◌, ◌≤◌, Bool, true, false, List, [], ◌∷◌, Option, Some, None}
+use Rattle.std.proofs.Common.{◌⊎◌, inl, inr, refl, sym, subst, ap, arith}
+use Rattle.std.specs.Prelude.{slice_get, option_map}
+use Rattle.std.specs.List.{AllByRecursion}
+use Rattle.std.proofs.lemmas.Bool.{cases_Bool}
+use Rattle.lagtypes.specs.declared.state.StateBits.{StateBits}
+use Rattle.lagtypes.proofs.StateLemmas.{encode_then_decode}
+use Rattle.slowpdu.specs.declared.pdu.Lacpdu.{Lacpdu}
+use Rattle.portmachines.specs.declared.mux.MuxState.TheVariants.{CollectingDistributing}
+use Rattle.portmachines.specs.Machines.{Machines}
+use Rattle.portmachines.specs.Mux.{is_synchronized, same_mux_state}
+use Rattle.portmachines.specs.Transmit.{actor_of, pdu_of}
+use Rattle.lagmodel.specs.World.{Side, One, Two, peer}
+use Rattle.lagsystem.specs.declared.system_ports.SystemPort.{SystemPort}
+use Rattle.lagsystem.specs.NothingToSettle.{PeriodicIsSettled}
+use Rattle.lagsystem.specs.State.{SystemState, machines_of, port_index, system_port_at}
+use Rattle.lagsystem.proofs.Effects.{named}
+use Rattle.lagsystem.proofs.Rising.{all-get, found_place, ports_rise}
+use Rattle.lagworld.specs.Events.{Algorithms}
+use Rattle.lagworld.specs.State.{ItemValue, LinkState, WorldState, half, port_at, towards}
+use Rattle.lagprogress.specs.Hearing.{timeout_time}
+use Rattle.lagprogress.specs.Progress.{ActiveEndsComeToKnow, EndKnows, Knows}
+use Rattle.lagprogress.specs.Rounds.{AtEnd, IsHealthy, IsRound, OfPort, Rounds}
+use Rattle.lagprogress.specs.Steady.{IsSteady}
+use Rattle.lagprogress.specs.Timers.{IsTimed}
+use Rattle.lagprogress.proofs.EachPort.{OfEach}
+use Rattle.lagprogress.proofs.EndFacts.{CanSound, IsEnd, Says, activity, calm, less_known, short_timeout, wait_of}
+use Rattle.lagprogress.proofs.Hearing.{no}
+use Rattle.lagprogress.proofs.Knowing.{Known}
+use Rattle.lagprogress.proofs.Linked.{EndIs, IsGood, Link, each_map, each_side, found, peer_twice}
+use Rattle.lagprogress.proofs.OneCable.{as_cable, cable, towards_there}
+use Rattle.lagprogress.proofs.OnePort.{AtPort, at_number}
+use Rattle.lagprogress.proofs.OneRound.{Nothing, forget, join, round_keeps, round_nears, ticked}
+use Rattle.lagprogress.proofs.Sounding.{Sounds, silence_of, sounds_first}
+
+-- numbers of both sides
+
+-- the first number at this side, the second at its peer
+abbrev pub two : Side → ℕ → ℕ → Side → ℕ
+two One a b One = a
+two One a b Two = b
+two Two a b One = b
+two Two a b Two = a
+
+pub two_there : (s : Side) (a b : ℕ) → two s a b s ≡ a
+two_there One a b = refl
+two_there Two a b = refl
+
+two_other : (s : Side) (a b : ℕ) → two s a b (peer s) ≡ b
+two_other One a b = refl
+two_other Two a b = refl
+
+two_less : (s : Side) (c : Side → ℕ) (a b : ℕ) → a ≤ c s → b ≤ c (peer s) → (u : Side) → two s a b u ≤ c u
+two_less One c a b l m One = l
+two_less One c a b l m Two = m
+two_less Two c a b l m One = m
+two_less Two c a b l m Two = l
+
+module _ (at : Side → ℕ) (w : Side → Lacpdu) where
+  -- the port at an end has Short Timeout recorded, once it knows its partner
+  abbrev mode : Side → Bool
+  mode s = short_timeout (w (peer s))
+
+  abbrev wait : Side → ℕ
+  wait s = wait_of (w s)
+
+  abbrev Linked : (Side → ℕ) → Side → (Machines → Type 0) → WorldState → Type 0
+  Linked c x Y j = Link 1 at w c x Y j
+
+  -- the port at the end of s is so
+  abbrev AtIt : Side → (Machines → Type 0) → WorldState → Type 0
+  AtIt s P j = OfEach (AtPort (at s) P) (half s j).state.system_ports
+
+  lower : (d : ℕ) (c b : Side → ℕ) (x : Side) (Y : Machines → Type 0) (j : WorldState) → ((s : Side) → b s ≤ c s)
+      → Link d at w c x Y j → Link d at w b x Y j
+  lower d c b x Y j less l = record {
+    steady = l.steady;
+    flying = l.flying;
+    links = l.links;
+    good = l.good;
+    place = l.place;
+    ports = λ s. each_map (AtPort (at s) (EndIs w c x Y s)) (AtPort (at s) (EndIs w b x Y s))
+        (λ m p a e. (less_known (w s) (w (peer s)) (c s) (b s) p (less s) (a e).0, (a e).1)) (half s j).state.system_ports (l.ports s);
+  }
+
+  -- what stands beside it
+  beside : (d : ℕ) (c : Side → ℕ) (x : Side) (Y : Machines → Type 0) (j : WorldState) → Link d at w c x Y j → AtIt x Y j
+  beside d c x Y j l = each_map (AtPort (at x) (EndIs w c x Y x)) (AtPort (at x) Y) (λ m p a e. (a e).1 refl)
+      (half x j).state.system_ports (l.ports x)
+
+  -- the end of s knows its partner since just now
+  learns : (d : ℕ) (c : Side → ℕ) (s : Side) (b : ℕ) (j : WorldState) → b ≤ c (peer s)
+      → Link d at w c s (Known (w (peer s)) (wait s) 0) j → Link d at w (two s (wait s) b) s Nothing j
+  learns d c s b j less l = record {
+    steady = l.steady;
+    flying = l.flying;
+    links = l.links;
+    good = l.good;
+    place = l.place;
+    ports = each_side (λ u. OfEach (AtPort (at u) (EndIs w (two s (wait s) b) s Nothing u)) (half u j).state.system_ports) s
+        (each_map (AtPort (at s) (EndIs w c s (Known (w (peer s)) (wait s) 0) s)) (AtPort (at s) (EndIs w (two s (wait s) b) s Nothing s))
+        (λ m p a e. (subst (λ n. IsEnd (w s) (w (peer s)) n p) (sym (two_there s (wait s) b)) ((a e).0.0, (a e).1 refl), λ f. tt))
+        (half s j).state.system_ports (l.ports s))
+        (each_map (AtPort (at (peer s)) (EndIs w c s (Known (w (peer s)) (wait s) 0) (peer s)))
+        (AtPort (at (peer s)) (EndIs w (two s (wait s) b) s Nothing (peer s)))
+        (λ m p a e. (
+          less_known (w (peer s)) (w (peer (peer s))) (c (peer s)) (two s (wait s) b (peer s)) p
+              (subst (λ n. n ≤ c (peer s)) (sym (two_other s (wait s) b)) less) (a e).0,
+          λ f. tt,
+        )) (half (peer s) j).state.system_ports (l.ports (peer s)));
+  }
+
+  all_settled : (n : ℕ) (P : Machines → Type 0) (xs : List SystemPort) → AllByRecursion PeriodicIsSettled xs
+      → AllByRecursion (λ (x : SystemPort). IsTimed x.port) xs → OfEach (AtPort n P) xs
+      → OfEach (λ m p. (m ≡ n → P p) × (PeriodicIsSettled (record { number = 0; mac = []; port = p }) × IsTimed p)) xs
+  all_settled n P [] a b c = tt
+  all_settled n P (x ∷ xs) a b c =
+      ((c.0, (record { rows = a.0.rows; cleared = a.0.cleared }, b.0)), all_settled n P xs a.1 b.1 c.1)
+
+  -- in how many ticks at the latest an end that may sound does
+  sounds_now : (d : ℕ) (c : Side → ℕ) (x : Side) (Y : Machines → Type 0) (s : Side) (fast : Bool) (j : WorldState)
+      → CanSound (w s) (w (peer s)) fast (c s) → Link d at w c x Y j → AtIt s (Sounds fast (silence_of fast)) j
+  sounds_now d c x Y s fast j can l =
+      each_map (λ m p. (m ≡ at s → EndIs w c x Y s p) × (PeriodicIsSettled (record { number = 0; mac = []; port = p }) × IsTimed p))
+      (AtPort (at s) (Sounds fast (silence_of fast)))
+      (λ m p a e. sounds_first fast p a.1.0.rows a.1.1 (calm (w s) (w (peer s)) fast (c s) p can (a.0 e).0))
+      (half s j).state.system_ports
+      (all_settled (at s) (EndIs w c x Y s) (half s j).state.system_ports (l.steady s).0.quiet.1 (l.steady s).1 (l.ports s))
+
+  can_known : (s : Side) (c : ℕ) → 1 ≤ c → (activity (w s) ≡ true) ⊎ (activity (w (peer s)) ≡ true)
+      → CanSound (w s) (w (peer s)) (mode s) c
+  can_known s c l (inl a) = (inl a, λ e. (l, e))
+  can_known s c l (inr a) = (inr (l, a), λ e. (l, e))
+
+  -- Each end sounds in so many ticks, and the other end knows it for longer, or the rounds are still few.
+  record Going (most n : ℕ) (j : WorldState) : Type 0 where
+    known : Side → ℕ
+    next : Side → ℕ
+    link : Linked known One Nothing j
+    fits : (s : Side) → known s ≤ wait s
+    later : (s : Side) → 1 ≤ next s
+    longer : (s : Side) → (next s + 1 ≤ known (peer s)) ⊎ (n + next s ≤ most)
+    sounds : (s : Side) → AtIt s (Sounds (mode s) (next s)) j
+
+  -- what one round makes of one direction
+  record Went (most n : ℕ) (s : Side) (j : WorldState) : Type 0 where
+    next : ℕ
+    known : ℕ
+    fits : known ≤ wait (peer s)
+    later : 1 ≤ next
+    longer : (next + 1 ≤ known) ⊎ (n + next ≤ most)
+    sounds : AtIt s (Sounds (mode s) next) j
+    peer : AtIt (peer s) (IsEnd (w (peer s)) (w (peer (peer s))) known) j
+
+  silence_less : (b : Bool) → silence_of b + 1 ≤ (timeout_time b)
+  silence_less true = omega arith
+  silence_less false = omega arith
+
+  some_silence : (b : Bool) → 1 ≤ silence_of b
+  some_silence true = omega arith
+  some_silence false = omega arith
+
+  ends_of : (c : Side → ℕ) (x : Side) (Y : Machines → Type 0) (s : Side) (j : WorldState) → Linked c x Y j
+      → AtIt s (IsEnd (w s) (w (peer s)) (c s)) j
+  ends_of c x Y s j l = each_map (AtPort (at s) (EndIs w c x Y s)) (AtPort (at s) (IsEnd (w s) (w (peer s)) (c s))) (λ m p a e. (a e).0)
+      (half s j).state.system_ports (l.ports s)
+
+  went : (gives : Algorithms) (most n : ℕ) (old new : WorldState) (g : Going most n old)
+      → ((s : Side) → CanSound (w s) (w (peer s)) (mode s) (g.known s) × CanSound (w s) (w (peer s)) (mode s) (g.known s - 1))
+      → IsRound gives old new → (s : Side) → Went most (n + 1) s new
+  went gives most n old new g can h s = elim (round_nears gives s 1 at w g.known (mode s) (g.next s) old new (omega arith)
+      (λ t. (let l = g.fits t in omega (arith, l), λ _. omega arith)) (can s).1 (can s).0
+      (join 1 at w g.known One s (Sounds (mode s) (g.next s)) old g.link (g.sounds s)) h) [
+        | inl q ↦ record {
+          next = g.next s - 1;
+          known = g.known (peer s) - 1;
+          fits = let l = g.fits (peer s) in omega (arith, l);
+          later = q.0;
+          longer = elim (g.longer s) [
+            | inl l ↦ (let m = q.0 in inl (omega (arith, l, m)))
+            | inr l ↦ (let m = q.0 in inr (omega (arith, l, m)))
+          ];
+          sounds = beside 1 (ticked g.known) s (Sounds (mode s) (g.next s - 1)) new q.1;
+          peer = ends_of (ticked g.known) s (Sounds (mode s) (g.next s - 1)) (peer s) new q.1;
+        }
+        | inr q ↦ (let known = learns 1 (ticked g.known) (peer s) 0 new (omega arith) q in
+            record {
+              next = silence_of (mode s);
+              known = wait (peer s);
+              fits = omega arith;
+              later = some_silence (mode s);
+              longer = inl (silence_less (mode s));
+              sounds = sounds_now 1 (ticked g.known) (peer s) (Known (w (peer (peer s))) (wait (peer s)) 0) s (mode s) new (can s).1 q;
+              peer = subst (λ k. AtIt (peer s) (IsEnd (w (peer s)) (w (peer (peer s))) k) new) (two_there (peer s) (wait (peer s)) 0)
+                  (ends_of (two (peer s) (wait (peer s)) 0) (peer s) Nothing (peer s) new known);
+            })
+      ]
+
+  goes : (gives : Algorithms) (most n : ℕ) (old new : WorldState) (g : Going most n old)
+      → ((s : Side) → CanSound (w s) (w (peer s)) (mode s) (g.known s) × CanSound (w s) (w (peer s)) (mode s) (g.known s - 1))
+      → IsRound gives old new → Going most (n + 1) new
+  goes gives most n old new g can h =
+      let r = went gives most n old new g can h in
+      let base = round_keeps gives One 1 at w g.known old new (λ t. (let l = g.fits t in omega (arith, l), λ _. omega arith)) g.link h in
+      let own : (u : Side) → AtIt u (IsEnd (w u) (w (peer u)) (r (peer u)).known) new =
+      λ u. subst (λ t. AtIt t (IsEnd (w t) (w (peer t)) (r (peer u)).known) new) (peer_twice u) (r (peer u)).peer in
+      record {
+        known = λ u. (r (peer u)).known;
+        next = λ s. (r s).next;
+        link = record {
+          steady = base.steady;
+          flying = base.flying;
+          links = base.links;
+          good = base.good;
+          place = base.place;
+          ports = λ u. each_map (AtPort (at u) (IsEnd (w u) (w (peer u)) (r (peer u)).known))
+              (AtPort (at u) (EndIs w (λ v. (r (peer v)).known) One Nothing u)) (λ m p a e. (a e, λ f. tt))
+              (half u new).state.system_ports (own u);
+        };
+        fits = λ u. subst (λ t. (r (peer u)).known ≤ wait t) (peer_twice u) (r (peer u)).fits;
+        later = λ s. (r s).later;
+        longer = λ s. subst (λ t. ((r s).next + 1 ≤ (r t).known) ⊎ (n + 1 + (r s).next ≤ most)) (sym (peer_twice s)) (r s).longer;
+        sounds = λ s. (r s).sounds;
+      }
+
+  -- the rounds are no longer few
+
+  abbrev Fresh : WorldState → Type 0
+  Fresh j = Going 0 0 j
+
+  known_long : (most n : ℕ) (j : WorldState) (g : Going most n j) → most ≤ n → (s : Side) → g.next s + 1 ≤ g.known (peer s)
+  known_long most n j g l s = elim (g.longer s) [ inl k ↦ k | inr k ↦ (let m = g.later s in absurd (omega (arith, l, k, m))) ]
+
+  knows_peer : (most n : ℕ) (j : WorldState) (g : Going most n j) → most ≤ n → (s : Side) → 2 ≤ g.known s
+  knows_peer most n j g l s =
+      let k = known_long most n j g l (peer s) in
+      let m = g.later (peer s) in
+      subst (λ t. 2 ≤ g.known t) (peer_twice s) (omega (arith, k, m))
+
+  settled : (most n : ℕ) (j : WorldState) → most ≤ n → Going most n j → Fresh j
+  settled most n j l g = record {
+    known = g.known;
+    next = g.next;
+    link = g.link;
+    fits = g.fits;
+    later = g.later;
+    longer = λ s. inl (known_long most n j g l s);
+    sounds = g.sounds;
+  }
+
+  -- both ends know each other, and so they go on
+  module _ (awake : (s : Side) → (activity (w s) ≡ true) ⊎ (activity (w (peer s)) ≡ true)) where
+    stays_fresh : (gives : Algorithms) (old new : WorldState) → IsRound gives old new → Fresh old → Fresh new
+    stays_fresh gives old new h g =
+        settled 0 1 new (omega arith) (goes gives 0 0 old new g
+        (λ s. let l = knows_peer 0 0 old g (omega arith) s in
+        (can_known s (g.known s) (omega (arith, l)) (awake s), can_known s (g.known s - 1) (omega (arith, l)) (awake s))) h)
+
+  -- both ends are active and have Long Timeout
+
+  abbrev Lasts : ℕ → WorldState → Type 0
+  Lasts n j = Going 310 n j
+
+  lasts : (gives : Algorithms) (n : ℕ) (old new : WorldState) → ((s : Side) → activity (w s) ≡ true)
+      → ((s : Side) → mode s ≡ false) → IsRound gives old new → Lasts n old → Lasts (n + 1) new
+  lasts gives n old new active long h g = goes gives 310 n old new g
+      (λ s. ((inl (active s), λ e. absurd (no (sym (long s) ∙ e))), (inl (active s), λ e. absurd (no (sym (long s) ∙ e))))) h
+
+  lasts_first : (j : WorldState) → ((s : Side) → activity (w s) ≡ true) → ((s : Side) → mode s ≡ false)
+      → Linked (λ _. 0) One Nothing j → Lasts 1 j
+  lasts_first j active long l = record {
+    known = λ _. 0;
+    next = λ _. 309;
+    link = l;
+    fits = λ s. omega arith;
+    later = λ s. omega arith;
+    longer = λ s. inr (omega arith);
+    sounds = λ s. subst (λ b. AtIt s (Sounds b 309) j) (sym (long s))
+        (sounds_now 1 (λ _. 0) One Nothing s false j (inl (active s), λ e. absurd (no e)) l);
+  }
+
+  -- The end of s is active and has Short Timeout, or the other end has Long Timeout: first the other end hears it, and then
+  -- it hears the other end.
+
+  abbrev Calls : Side → ℕ → WorldState → Type 0
+  Calls s n j = (k : ℕ) × (1 ≤ k) × (n + k ≤ 310) × Linked (λ _. 0) s (Sounds false k) j
+
+  abbrev Answers : Side → ℕ → WorldState → Type 0
+  Answers s n j = (k : ℕ) × (b : ℕ) × (1 ≤ k) × (n + k ≤ 310 + silence_of (mode (peer s)))
+      × (wait (peer s) + k ≤ b + silence_of (mode (peer s))) × (b ≤ wait (peer s))
+      × Linked (two s 0 b) (peer s) (Sounds (mode (peer s)) k) j
+
+  abbrev Comes : Side → ℕ → WorldState → Type 0
+  Comes s n j = Calls s n j ⊎ (Answers s n j ⊎ Fresh j)
+
+  module _ (s : Side) (active : activity (w s) ≡ true)
+      (room : silence_of (mode s) + silence_of (mode (peer s)) + 2 ≤ wait (peer s)) where
+    able : (b : ℕ) → 1 ≤ b → CanSound (w (peer s)) (w (peer (peer s))) (mode (peer s)) b
+    able b l = can_known (peer s) b l (inr (subst (λ t. activity (w t) ≡ true) (sym (peer_twice s)) active))
+
+    calls : (gives : Algorithms) (n : ℕ) (old new : WorldState) → IsRound gives old new → Calls s n old → Comes s (n + 1) new
+    calls gives n old new h g = elim (round_nears gives s 1 at w (λ _. 0) false g.0 old new (omega arith)
+        (λ t. (omega arith, λ _. omega arith)) (inl active, λ e. absurd (no e)) (inl active, λ e. absurd (no e)) g.3 h) [
+          | inl q ↦ (let l = g.2 in
+              let m = q.0 in
+              inl (g.0 - 1, q.0, omega (arith, l, m), lower 1 (ticked (λ _. 0)) (λ _. 0) s (Sounds false (g.0 - 1)) new (λ _. omega arith) q.1))
+          | inr q ↦ (let known = learns 1 (ticked (λ _. 0)) (peer s) 0 new (omega arith) q in
+              let b = wait (peer s) in
+              let pair = two (peer s) b 0 in
+              let there = two_there (peer s) b 0 in
+              let link = lower 1 pair (two s 0 b) (peer s) Nothing new
+              (two_less s pair 0 b (omega arith) (subst (λ n. b ≤ n) (sym there) (omega arith))) known in
+              let fast = mode (peer s) in
+              let more = some_silence fast in
+              let long = b in
+              inr (inl (
+                silence_of fast,
+                b,
+                some_silence fast,
+                (let l = g.2 in let o = g.1 in omega (arith, l, o)),
+                omega arith,
+                omega arith,
+                join 1 at w (two s 0 b) (peer s) (peer s) (Sounds fast (silence_of fast)) new link
+                    (sounds_now 1 (two s 0 b) (peer s) Nothing (peer s) fast new
+                    (subst (CanSound (w (peer s)) (w (peer (peer s))) fast) (sym (two_other s 0 b)) (able b (omega (arith, room)))) link),
+              )))
+        ]
+
+    some_awake : (u : Side) → (activity (w u) ≡ true) ⊎ (activity (w (peer u)) ≡ true)
+    some_awake = each_side (λ u. (activity (w u) ≡ true) ⊎ (activity (w (peer u)) ≡ true)) s (inl active)
+        (inr (subst (λ t. activity (w t) ≡ true) (sym (peer_twice s)) active))
+
+    meets : (b k : ℕ) (j : WorldState) → 1 ≤ k → wait (peer s) + k ≤ b + silence_of (mode (peer s)) → b ≤ wait (peer s)
+        → Linked (two s (wait s) (b - 1)) s Nothing j → Fresh j
+    meets b k j some enough less l =
+        let c = two s (wait s) (b - 1) in
+        let own : silence_of (mode s) + 1 ≤ c (peer s) =
+        subst (λ n. silence_of (mode s) + 1 ≤ n) (sym (two_other s (wait s) (b - 1))) (omega (arith, room, some, enough)) in
+        let theirs : silence_of (mode (peer s)) + 1 ≤ c (peer (peer s)) =
+        subst (λ t. silence_of (short_timeout (w t)) + 1 ≤ c t) (sym (peer_twice s))
+        (subst (λ n. silence_of (short_timeout (w s)) + 1 ≤ n) (sym (two_there s (wait s) (b - 1))) (silence_less (short_timeout (w s)))) in
+        let longer = each_side (λ u. silence_of (mode u) + 1 ≤ c (peer u)) s own theirs in
+        let big : (u : Side) → 1 ≤ c u = λ u. subst (λ t. 1 ≤ c t) (peer_twice u) (let m = longer (peer u) in omega (arith, m)) in
+        record {
+          known = c;
+          next = λ u. silence_of (mode u);
+          link = forget 1 at w c s One Nothing j l;
+          fits = two_less s wait (wait s) (b - 1) (omega arith) (omega (arith, less));
+          later = λ u. some_silence (mode u);
+          longer = λ u. inl (longer u);
+          sounds = λ u. sounds_now 1 c s Nothing u (mode u) j (can_known u (c u) (big u) (some_awake u)) l;
+        }
+
+    answers : (gives : Algorithms) (n : ℕ) (old new : WorldState) → IsRound gives old new → Answers s n old → Comes s (n + 1) new
+    answers gives n old new h (k, b, some, soon, enough, less, link) = elim (round_nears gives (peer s) 1 at w (two s 0 b)
+        (mode (peer s)) k old new (omega arith)
+        (λ t. (let l = two_less s wait 0 b (omega arith) less t in omega (arith, l), λ _. omega arith))
+        (subst (λ m. CanSound (w (peer s)) (w (peer (peer s))) (mode (peer s)) (m - 1)) (sym (two_other s 0 b))
+        (able (b - 1) (omega (arith, room, some, enough))))
+        (subst (CanSound (w (peer s)) (w (peer (peer s))) (mode (peer s))) (sym (two_other s 0 b))
+        (able b (omega (arith, room, some, enough)))) link h) [
+          | inl q ↦ (let m = q.0 in
+              inr (inl (
+                k - 1,
+                b - 1,
+                m,
+                omega (arith, soon, m),
+                omega (arith, enough, m, room),
+                omega (arith, less),
+                lower 1 (ticked (two s 0 b)) (two s 0 (b - 1)) (peer s) (Sounds (mode (peer s)) (k - 1)) new
+                    (two_less s (ticked (two s 0 b)) 0 (b - 1) (omega arith)
+                    (subst (λ n. b - 1 ≤ n - 1) (sym (two_other s 0 b)) (omega arith))) q.1,
+              )))
+          | inr q ↦ inr (inr (meets b k new some enough less (learns 1 (ticked (two s 0 b)) s (b - 1) new
+              (subst (λ n. b - 1 ≤ n - 1) (sym (two_other s 0 b)) (omega arith))
+              (subst (λ t. Linked (ticked (two s 0 b)) t (Known (w (peer t)) (wait t) 0) new) (peer_twice s) q))))
+        ]
+
+    comes : (gives : Algorithms) (n : ℕ) (old new : WorldState) → IsRound gives old new → Comes s n old → Comes s (n + 1) new
+    comes gives n old new h (inl c) = calls gives n old new h c
+    comes gives n old new h (inr (inl a)) = answers gives n old new h a
+    comes gives n old new h (inr (inr f)) = inr (inr (stays_fresh some_awake gives old new h f))
+
+    comes_first : (j : WorldState) → Linked (λ _. 0) One Nothing j → Comes s 1 j
+    comes_first j l = inl (
+      309,
+      omega arith,
+      omega arith,
+      join 1 at w (λ _. 0) One s (Sounds false 309) j l (sounds_now 1 (λ _. 0) One Nothing s false j (inl active, λ e. absurd (no e)) l),
+    )
+
+    came : (n : ℕ) (j : WorldState) → 310 + silence_of (mode (peer s)) ≤ n → Comes s n j → Fresh j
+    came n j l (inl c) = let k = c.1 in let m = c.2 in absurd (omega (arith, l, k, m))
+    came n j l (inr (inl a)) = let k = a.2 in let m = a.3 in absurd (omega (arith, l, k, m))
+    came n j l (inr (inr f)) = f
+
+-- the rounds
+
+along_rounds : (gives : Algorithms) (S : ℕ → WorldState → Type 0) (start : WorldState)
+    → ((new : WorldState) → IsRound gives start new → S 1 new)
+    → ((n : ℕ) (old new : WorldState) → IsRound gives old new → S n old → S (n + 1) new)
+    → (n : ℕ) (new : WorldState) → 1 ≤ n → Rounds gives n start new → S n new
+along_rounds gives S start first next zero new l h = absurd (omega (arith, l))
+along_rounds gives S start first next (suc zero) new l h = first new (subst (λ j. IsRound gives j new) h.1 h.2)
+along_rounds gives S start first next (suc (suc n)) new l h =
+    subst (λ m. S m new) (omega arith) (next (suc n) h.0 new h.2 (along_rounds gives S start first next (suc n) h.0 (omega arith) h.1))
+
+-- the ports at the ends
+
+-- the port that is meant
+abbrev Found : (Machines → Type 0) → ℕ → SystemState → Type 0
+Found P n s = (k : ℕ) × (z : SystemPort) × (port_index n s.system_ports ≡ Some k) × (slice_get s.system_ports k ≡ Some z) × P z.port
+
+end_of : (P : Machines → Type 0) (n : ℕ) (s : SystemState) → OfPort P (machines_of n s) → Found P n s
+end_of P n s h = by_index (port_index n s.system_ports) refl h
+  where
+    by_slot : (k : ℕ) (o : Option SystemPort) → port_index n s.system_ports ≡ Some k → slice_get s.system_ports k ≡ o
+        → OfPort P (option_map (λ x. x.port) o) → Found P n s
+    by_slot k None e f h = absurd h
+    by_slot k (Some z) e f h = (k, z, e, f, h)
+
+    by_index : (o : Option ℕ) → port_index n s.system_ports ≡ o
+        → OfPort P (option_map (λ x. x.port) (system_port_at o s.system_ports)) → Found P n s
+    by_index None e h = absurd h
+    by_index (Some k) e h = by_slot k (slice_get s.system_ports k) e refl h
+
+machines_there : (n : ℕ) (s : SystemState) (k : ℕ) (z : SystemPort) → port_index n s.system_ports ≡ Some k
+    → slice_get s.system_ports k ≡ Some z → machines_of n s ≡ Some z.port
+machines_there n s k z e f = ap (λ o. option_map (λ (x : SystemPort). x.port) (system_port_at o s.system_ports)) e
+    ∙ ap (option_map (λ (x : SystemPort). x.port)) f
+
+own_says : (p : Machines) → Says (pdu_of p 0) p
+own_says p =
+    let bits = encode_then_decode (record {
+      activity = p.active;
+      timeout = p.short;
+      aggregation = p.party.aggregatable;
+      synchronization = is_synchronized p.mux;
+      collecting = same_mux_state CollectingDistributing p.mux;
+      distributing = same_mux_state CollectingDistributing p.mux;
+      defaulted = p.defaulted;
+      expired = p.expired;
+    }) in
+    (sym (ap (named (actor_of p)) bits), sym (ap (λ (b : StateBits). b.activity) bits), sym (ap (λ (b : StateBits). b.timeout) bits))
+
+-- what the LACPDUs of the port at an end say
+abbrev Ends : LinkState → WorldState → Type 0
+Ends l j = (s : Side) → Found (λ p. p.enabled ≡ true) (port_at s l) (half s j).state
+
+abbrev said_by : (l : LinkState) (j : WorldState) → Ends l j → Side → Lacpdu
+said_by l j e s = pdu_of (e s).1.port 0
+
+all_unknown : (u : Lacpdu) (xs : List ItemValue) → AllByRecursion (IsGood 0 u) xs
+all_unknown u [] = tt
+all_unknown u (x ∷ xs) = (λ v c l. absurd (omega (arith, l)), all_unknown u xs)
+
+starts : (l : LinkState) (j : WorldState) (e : Ends l j) → IsSteady j → IsHealthy l j
+    → Link 0 (λ s. port_at s l) (said_by l j e) (λ _. 0) One Nothing j
+starts l j e steady h = record {
+  steady = steady;
+  flying = λ s. towards s l;
+  links = h.only ∙ ap (λ m. m ∷ []) (as_cable l h.whole h.unlimited);
+  good = λ s. all_unknown (said_by l j e (peer s)) (towards s l);
+  place = λ s. ((e s).0, (e s).2);
+  ports = λ s. (let ports = (half s j).state.system_ports in
+      let z = (e s).1 in
+      let P = EndIs (said_by l j e) (λ _. 0) One Nothing s in
+      subst (λ n. OfEach (AtPort n P) ports) (found_place (port_at s l) ports (e s).0 z (e s).2 (e s).3)
+      (at_number P 0 ports (e s).0 z (ports_rise (half s j).state (steady s).0.ports) (e s).3
+      ((own_says z.port, ((e s).4, λ m. absurd (omega (arith, m)))), λ f. tt)));
+}
+
+-- after the first round nothing is on the cable but what was sent in it
+first_round : (gives : Algorithms) (at : Side → ℕ) (w : Side → Lacpdu) (old new : WorldState)
+    → Link 0 at w (λ _. 0) One Nothing old → IsRound gives old new → Link 1 at w (λ _. 0) One Nothing new
+first_round gives at w old new l h =
+    let k = lower at w 0 (ticked (λ _. 0)) (λ _. 0) One Nothing new (λ s. omega arith)
+    (round_keeps gives One 0 at w (λ _. 0) old new (λ t. (omega arith, λ m. omega (arith, m))) l h) in
+    let empty : (s : Side) → k.flying s ≡ [] = λ s. sym (towards_there s at k.flying)
+    ∙ h.empties s zero (cable at k.flying) (ap (λ ls. slice_get ls zero) k.links) in
+    record {
+      steady = k.steady;
+      flying = k.flying;
+      links = k.links;
+      good = λ s. subst (AllByRecursion (IsGood 1 (w (peer s)))) (sym (empty s)) tt;
+      place = k.place;
+      ports = k.ports;
+    }
+
+-- both ends know each other
+fresh_knows : (l : LinkState) (w : Side → Lacpdu) (j : WorldState) → Fresh (λ s. port_at s l) w j → (s : Side) → EndKnows s l j
+fresh_knows l w j g s =
+    let one = port_of s in
+    let other = port_of (peer s) in
+    let r = (one.2.1.1 (let m = knows_peer (λ s. port_at s l) w 0 0 j g (omega arith) s in omega (arith, m))).0 in
+    let knows : Knows one.0.port other.0.port = record {
+      current = r.current;
+      party = r.party ∙ sym other.2.0.0;
+      active = r.active ∙ sym other.2.0.1;
+      short = r.short ∙ sym other.2.0.2;
+      present = r.present;
+      heard = r.heard;
+    } in
+    subst (OfPort (λ p. AtEnd (λ q. Knows p q) (peer s) l j)) (sym one.1)
+    (subst (OfPort (λ q. Knows one.0.port q)) (sym other.1) knows)
+  where
+    port_of : (u : Side) → (z : SystemPort) × (machines_of (port_at u l) (half u j).state ≡ Some z.port)
+        × IsEnd (w u) (w (peer u)) (g.known u) z.port
+    port_of u =
+        let ports = (half u j).state.system_ports in
+        let place = g.link.place u in
+        let it = found (port_at u l) place.0 ports place.1 in (
+          it.0,
+          machines_there (port_at u l) (half u j).state place.0 it.0 place.1 it.1,
+          all-get (λ (y : SystemPort). AtPort (port_at u l) (IsEnd (w u) (w (peer u)) (g.known u)) y.number y.port) ports place.0 it.0 it.1
+              (ends_of (λ s. port_at s l) w g.known One Nothing u j g.link) (found_place (port_at u l) ports place.0 it.0 place.1 it.1),
+        )
+
+-- both ends are active
+
+room_short : (b : Bool) → silence_of b + silence_of true + 2 ≤ timeout_time b
+room_short true = omega arith
+room_short false = omega arith
+
+meets_short : (gives : Algorithms) (at : Side → ℕ) (w : Side → Lacpdu) (s : Side) (n : ℕ) (old new : WorldState)
+    → activity (w s) ≡ true → short_timeout (w s) ≡ true → 321 ≤ n → Link 0 at w (λ _. 0) One Nothing old → Rounds gives n old new
+    → Fresh at w new
+meets_short gives at w s n old new active short enough l h =
+    let quick : mode at w (peer s) ≡ true = subst (λ t. short_timeout (w t) ≡ true) (sym (peer_twice s)) short in
+    let room = subst (λ b. silence_of (mode at w s) + silence_of b + 2 ≤ wait at w (peer s)) (sym quick) (room_short (mode at w s)) in
+    let late : 310 + silence_of (mode at w (peer s)) ≤ n = subst (λ b. 310 + silence_of b ≤ n) (sym quick) enough in
+    came at w s active room n new late
+    (along_rounds gives (λ m j. Comes at w s m j) old
+    (λ j r. comes_first at w s active room j (first_round gives at w old j l r))
+    (λ m i j r c. comes at w s active room gives m i j r c) n new (omega (arith, enough)) h)
+
+meets_long : (gives : Algorithms) (at : Side → ℕ) (w : Side → Lacpdu) (n : ℕ) (old new : WorldState) → ((s : Side) → activity (w s) ≡ true)
+    → ((s : Side) → mode at w s ≡ false) → 321 ≤ n → Link 0 at w (λ _. 0) One Nothing old → Rounds gives n old new → Fresh at w new
+meets_long gives at w n old new active long enough l h =
+    settled at w 310 n new (omega (arith, enough))
+    (along_rounds gives (λ m j. Lasts at w m j) old (λ j r. lasts_first at w j active long (first_round gives at w old j l r))
+    (λ m i j r c. lasts at w gives m i j active long r c) n new (omega (arith, enough)) h)
+
+active_meet : (gives : Algorithms) (at : Side → ℕ) (w : Side → Lacpdu) (n : ℕ) (old new : WorldState)
+    → ((s : Side) → activity (w s) ≡ true) → 321 ≤ n → Link 0 at w (λ _. 0) One Nothing old → Rounds gives n old new → Fresh at w new
+active_meet gives at w n old new active enough l h = elim (cases_Bool (short_timeout (w One))) [
+  | inl one ↦ meets_short gives at w One n old new (active One) one enough l h
+  | inr one ↦ elim (cases_Bool (short_timeout (w Two))) [
+    | inl two ↦ meets_short gives at w Two n old new (active Two) two enough l h
+    | inr two ↦ meets_long gives at w n old new active
+        (each_side (λ s. mode at w s ≡ false) One two one) enough l h
+  ]
+]
+
+pub active_ends_know : (gives : Algorithms) → ActiveEndsComeToKnow gives
+active_ends_know gives n l old new steady healthy active enough rounds =
+    let e : Ends l old = λ s. end_of (λ p. p.enabled ≡ true) (port_at s l) (half s old).state (healthy.up s) in
+    let w = said_by l old e in
+    let awake : (s : Side) → activity (w s) ≡ true = λ s. sym (own_says (e s).1.port).1
+    ∙ subst (OfPort (λ p. p.active ≡ true)) (machines_there (port_at s l) (half s old).state (e s).0 (e s).1 (e s).2 (e s).3) (active s) in
+    fresh_knows l w new (active_meet gives (λ s. port_at s l) w n old new awake enough (starts l old e steady healthy) rounds)
