@@ -1,4 +1,4 @@
-ghost use Rattle.std.specs.Prelude.{◌≡◌, ◌≤◌, length};
+ghost use Rattle.std.specs.Prelude.{◌≡◌, ◌≤◌, ◌<◌, length};
 ghost use Rattle.distributor.specs.Calls.{PicksIndexes};
 
 use distributor::{Assignment, DistFault, Distributor, by_number};
@@ -6,6 +6,13 @@ use lagtypes::{AggId, NoMemory};
 use std::alloc::Global;
 use std::process::Abort;
 use std::test::Fail;
+
+/// The algorithm of the program. A function of another crate cannot be handed over itself.
+fn by_place(conversation: u16, count: usize) -> usize
+    ensures { 0 < count → result < count }
+{
+    by_number(conversation, count)
+}
 
 const AGG: AggId = AggId(1);
 
@@ -66,7 +73,7 @@ fn plays(
     ports: [u16; 2],
     rows: &[Row],
 ) -> Result<(), NoMemory> {
-    let mut d = Distributor::new(alloc, 1, first, by_number)?;
+    let mut d = Distributor::new(alloc, 1, first, by_place)?;
     for (place, row) in rows.iter().enumerate() {
         assert_eq!(rt; play(&mut d, &ports, *row), *row, "row {place}");
     }
@@ -332,7 +339,7 @@ fn a_link_that_goes_down_frees_what_is_on_it(rt: HostRuntime) -> Result<(), Fail
 /// The last of 64 aggregators with 4096 conversations each.
 #[test]
 fn aggregators_with_4096_conversations_keep_them_apart(rt: HostRuntime) -> Result<(), Fail> {
-    let mut d = Distributor::with_conversations(rt.alloc(), 64, 4096, 7, by_number)?;
+    let mut d = Distributor::with_conversations(rt.alloc(), 64, 4096, 7, by_place)?;
     let free = Assignment::Free { preferred: None };
     let last = AggId(64);
     assert_eq!(rt; d.assign(AGG, 4095, &[1, 2]), Ok(2));
@@ -372,7 +379,7 @@ fn is_beyond<F: Fn(u16, usize) -> usize + Drop>(rt: &impl Abort, d: &mut Distrib
 /// A conversation at or above the count does not exist.
 #[test]
 fn conversations_end_at_256(rt: HostRuntime) -> Result<(), Fail> {
-    let mut d = Distributor::with_conversations(rt.alloc(), 2, 256, 1, by_number)?;
+    let mut d = Distributor::with_conversations(rt.alloc(), 2, 256, 1, by_place)?;
     for conv in [256, 257, 511, 65535] {
         is_beyond(&rt, &mut d, conv);
     }
@@ -384,7 +391,7 @@ fn conversations_end_at_256(rt: HostRuntime) -> Result<(), Fail> {
 
 #[test]
 fn conversations_end_at_4096(rt: HostRuntime) -> Result<(), Fail> {
-    let mut d = Distributor::with_conversations(rt.alloc(), 2, 4096, 1, by_number)?;
+    let mut d = Distributor::with_conversations(rt.alloc(), 2, 4096, 1, by_place)?;
     for conv in [4096, 4097, 8191, 65535] {
         is_beyond(&rt, &mut d, conv);
     }
@@ -396,7 +403,7 @@ fn conversations_end_at_4096(rt: HostRuntime) -> Result<(), Fail> {
 
 #[test]
 fn new_makes_256_conversations(rt: HostRuntime) -> Result<(), Fail> {
-    let mut d = Distributor::new(rt.alloc(), 1, 1, by_number)?;
+    let mut d = Distributor::new(rt.alloc(), 1, 1, by_place)?;
     assert_eq!(rt; d.conversations(), 256);
     assert_eq!(rt; d.assign(AGG, 255, &[1, 2]), Ok(2));
     assert_eq!(rt; d.assign(AGG, 256, &[1, 2]), Err(DistFault::NotAssigned));
@@ -436,7 +443,7 @@ fn tells_ports<F: Fn(u16, usize) -> usize + Drop>(rt: &impl Abort, d: &Distribut
 /// Ports 3 and 67 share a chain.
 #[test]
 fn all_4096_conversations_are_on_their_ports(rt: HostRuntime) -> Result<(), Fail> {
-    let mut d = Distributor::with_conversations(rt.alloc(), 3, 4096, 1, by_number)?;
+    let mut d = Distributor::with_conversations(rt.alloc(), 3, 4096, 1, by_place)?;
     for conv in 0..4096u16 {
         let came = d.assign(AggId(2), conv, &[3, 5, 67]);
         assert_eq!(rt; came, Ok(port_of(conv)), "conversation {conv}");
@@ -454,7 +461,7 @@ fn all_4096_conversations_are_on_their_ports(rt: HostRuntime) -> Result<(), Fail
 
 #[test]
 fn ports_are_picked_by_their_place(rt: HostRuntime) -> Result<(), Fail> {
-    let mut d = Distributor::new(rt.alloc(), 2, 1, by_number)?;
+    let mut d = Distributor::new(rt.alloc(), 2, 1, by_place)?;
     let mut ports = [0; 64];
     for (i, port) in (1000..).zip(ports.iter_mut()) {
         *port = i;
@@ -478,7 +485,7 @@ fn ports_are_picked_by_their_place(rt: HostRuntime) -> Result<(), Fail> {
 
 #[test]
 fn a_port_that_distributes_no_more(rt: HostRuntime) -> Result<(), Fail> {
-    let mut d = Distributor::new(rt.alloc(), 1, 1, by_number)?;
+    let mut d = Distributor::new(rt.alloc(), 1, 1, by_place)?;
     assert_eq!(rt; d.assign(AGG, 48, &[1, 2]), Ok(1));
     // NotDistributing comes before SamePort
     assert_eq!(rt;
