@@ -22,22 +22,23 @@ use Rattle.lagsystem.specs.NothingToSettle.{PeriodicIsSettled}
 use Rattle.lagsystem.specs.Sending.{IsLacpduOf, TransmitsAt, TransmitsIf}
 use Rattle.lagsystem.specs.State.{SystemState, port_index}
 use Rattle.lagsystem.proofs.Rest.{marker_slots, same_slots}
-use Rattle.lagsystem.proofs.Rising.{all-get, found_place}
+use Rattle.lagsystem.proofs.Rising.{all-get, found_place, ports_rise}
 use Rattle.lagscript.specs.declared.event.Event.{Event}
 use Rattle.lagscript.specs.declared.event.Event.TheVariants as event
 use Rattle.lagworld.specs.declared.reply.Reply.{Reply}
 use Rattle.lagworld.specs.Events.{Algorithms, WorldRuns, WorldSteps, side_of}
 use Rattle.lagworld.specs.State.{ItemValue, WorldState, half}
 use Rattle.lagprogress.specs.Rounds.{IsDeliver, IsRound, NothingInFlight, asks_all, ticks_of_both}
+use Rattle.lagprogress.specs.Timers.{IsTimed}
 use Rattle.lagprogress.proofs.EachPort.{OfEach, Tick-each}
-use Rattle.lagprogress.proofs.EndFacts.{Along, CanSound, IsEnd, calm, known_along, nothing_along, sounds_along, ticks_end, ticks_sounds}
+use Rattle.lagprogress.proofs.EndFacts.{Along, CanSound, IsEnd, both_along, calm, known_along, nothing_along, sounds_along, ticks_end, ticks_sounds}
 use Rattle.lagprogress.proofs.EndFacts.{wait_of}
 use Rattle.lagprogress.proofs.Halves.{keeps_steady}
 use Rattle.lagprogress.proofs.Hearkening.{Fits, deliver_link}
 use Rattle.lagprogress.proofs.Hearing.{no}
 use Rattle.lagprogress.proofs.Knowing.{Known}
 use Rattle.lagprogress.proofs.OneCable.{Went, cable, ticks, towards_there}
-use Rattle.lagprogress.proofs.OnePort.{AtPort, with_rest}
+use Rattle.lagprogress.proofs.OnePort.{AtPort, at_number, with_rest}
 use Rattle.lagprogress.proofs.Passing.{lacpdu_is_sent, sends_due, sent_carries}
 use Rattle.lagprogress.proofs.Sounding.{Sounds, now_due}
 use Rattle.lagprogress.proofs.Linked.{EndIs, Flying, Link, each_both, each_map, each_side, emit_link, end_kept, flying_last, found}
@@ -124,12 +125,16 @@ tick_both gives d at w c x Y Z q r old mid new along k h i l =
 
 -- an end is asked whose LACPDU comes nearer
 
--- An LACPDU of the end of s is due in so many ticks, not now; or one is on the cable; or the other end has heard one.
-abbrev pub Midway : ℕ → (Side → ℕ) → (Side → Lacpdu) → (Side → ℕ) → Side → Bool → ℕ → WorldState → Type 0
-Midway d at w c s fast most j =
-    ((1 ≤ most) × Link d at w c s (Sounds fast most) j)
+-- An LACPDU of the end of s is not due now, and Z holds of it; or one is on the cable; or the other end has heard one.
+abbrev pub Midway : ℕ → (Side → ℕ) → (Side → Lacpdu) → (Side → ℕ) → Side → (Machines → Type 0) → WorldState → Type 0
+Midway d at w c s Z j =
+    Link d at w c s Z j
     ⊎ (((l : Link d at w c s Nothing j) × Flying (l.flying (peer s)))
     ⊎ Link d at w c (peer s) (Known (w (peer (peer s))) (wait_of (w (peer s))) 0) j)
+
+-- Z holds of a port of which Y holds and that has no LACPDU due
+abbrev pub Asks : (Machines → Type 0) → (Machines → Type 0) → Lacpdu → Lacpdu → ℕ → Type 0
+Asks Y Z v u c = (p : Machines) → AtRest periodic_rows p → IsTimed p → IsEnd v u c p → Y p → is_due p ≡ false → Z p
 
 not_sent : (u due : Bool) (i : ℕ) (z : SystemPort) (old : SystemState) (o : Option (List ℕ)) (new : SystemState) → due ≡ false
     → TransmitsIf u due i z old o new → new.system_ports ≡ old.system_ports
@@ -162,20 +167,18 @@ flies gives s n k z (Ok (Some frame)) old new fl now place there up due h w =
     (subst Flying (sym (push_there (peer s) w.0 fl))
     (flying_last (fl (peer s)) w.0 v (sent_carries w.0.octets (pdu.Lacpdu v) (lacpdu_is_sent old.max_delay z w.0.octets lacpdu))))
 
-ask_own : (gives : Algorithms) (n : ℕ) (s : Side) (d : ℕ) (at : Side → ℕ) (w : Side → Lacpdu) (c : Side → ℕ) (fast : Bool) (most : ℕ)
-    (r : Reply) (old new : WorldState) → side_of n ≡ Some s → CanSound (w s) (w (peer s)) fast (c s)
-    → Link d at w c s (Sounds fast most) old → WorldSteps gives old (event.Emit n (at s)) r new → Midway d at w c s fast most new
-ask_own gives n s d at w c fast most r old new named can l h =
-    let bare = forget d at w c s s (Sounds fast most) old l in
+ask_own : (gives : Algorithms) (n : ℕ) (s : Side) (d : ℕ) (at : Side → ℕ) (w : Side → Lacpdu) (c : Side → ℕ) (Y Z : Machines → Type 0)
+    (r : Reply) (old new : WorldState) → side_of n ≡ Some s → Asks Y Z (w s) (w (peer s)) (c s)
+    → Link d at w c s Y old → WorldSteps gives old (event.Emit n (at s)) r new → Midway d at w c s Z new
+ask_own gives n s d at w c Y Z r old new named asks l h =
+    let bare = forget d at w c s s Y old l in
     let e = emit_link gives n s d at w c s Nothing r old new named (nothing_along (w s) (w (peer s)) (c s) d) (λ f p y. y) bare h in
     let place = l.place s in
     let st = (half s old).state in
     let it = found (at s) place.0 st.system_ports place.1 in
-    let P = EndIs w c s (Sounds fast most) s in
-    let is = all-get (λ (y : SystemPort). AtPort (at s) P y.number y.port) st.system_ports place.0 it.0 it.1 (l.ports s)
-    (found_place (at s) st.system_ports place.0 it.0 place.1 it.1) in
-    let rest = all-get PeriodicIsSettled st.system_ports place.0 it.0 it.1 (l.steady s).0.quiet.1 in
-    let silent = (calm (w s) (w (peer s)) fast (c s) it.0.port can is.0).0 in
+    let P = EndIs w c s Y s in
+    let numbered = found_place (at s) st.system_ports place.0 it.0 place.1 it.1 in
+    let is = all-get (λ (y : SystemPort). AtPort (at s) P y.number y.port) st.system_ports place.0 it.0 it.1 (l.ports s) numbered in
     elim (cases_Bool (is_due it.0.port)) [
       | inl due ↦ inr (inl (
         e.link,
@@ -185,38 +188,37 @@ ask_own gives n s d at w c fast most r old new named can l h =
       ))
       | inr not ↦ (let same = same_ports_then (gives s) (at s) place.0 it.0 e.asks.a st (half s new).state place.1 it.1 not
           e.asks.promise.step in
-          inl (
-            later most it.0.port rest.rows silent not (is.1 refl),
-            record {
-              steady = e.link.steady;
-              flying = e.link.flying;
-              links = e.link.links;
-              good = e.link.good;
-              place = e.link.place;
-              ports = each_side (λ t. OfEach (AtPort (at t) (EndIs w c s (Sounds fast most) t)) (half t new).state.system_ports) s
-                  (subst (OfEach (AtPort (at s) P)) (sym same) (l.ports s))
-                  (subst (λ (y : SystemState). OfEach (AtPort (at (peer s)) (EndIs w c s (Sounds fast most) (peer s))) y.system_ports)
-                  (sym e.asks.peers) (l.ports (peer s)));
-            },
-          ))
+          let rest = all-get PeriodicIsSettled st.system_ports place.0 it.0 it.1 (l.steady s).0.quiet.1 in
+          let timed = all-get (λ (y : SystemPort). IsTimed y.port) st.system_ports place.0 it.0 it.1 (l.steady s).1 in
+          let now = at_number (EndIs w c s Z s) 0 st.system_ports place.0 it.0 (ports_rise st (l.steady s).0.ports) it.1
+          (is.0, λ f. asks it.0.port rest.rows timed is.0 (is.1 refl) not) in
+          inl (record {
+            steady = e.link.steady;
+            flying = e.link.flying;
+            links = e.link.links;
+            good = e.link.good;
+            place = e.link.place;
+            ports = each_side (λ t. OfEach (AtPort (at t) (EndIs w c s Z t)) (half t new).state.system_ports) s
+                (subst (OfEach (AtPort (at s) (EndIs w c s Z s))) (sym same)
+                (subst (λ n. OfEach (AtPort n (EndIs w c s Z s)) st.system_ports) numbered now))
+                (each_map (AtPort (at (peer s)) (EndIs w c s Y (peer s))) (AtPort (at (peer s)) (EndIs w c s Z (peer s)))
+                (λ m p a f. ((a f).0, λ g. absurd (other_side s g))) (half (peer s) new).state.system_ports
+                (subst (λ (y : SystemState). OfEach (AtPort (at (peer s)) (EndIs w c s Y (peer s))) y.system_ports)
+                (sym e.asks.peers) (l.ports (peer s))));
+          }))
     ]
-  where
-    later : (m : ℕ) (p : Machines) → AtRest periodic_rows p → is_silent p ≡ false → is_due p ≡ false → Sounds fast m p → 1 ≤ m
-    later zero p rest silent not y = absurd (no (sym not ∙ now_due fast p rest silent y))
-    later (suc m) p rest silent not y = omega arith
 
-ask_peer : (gives : Algorithms) (n : ℕ) (s : Side) (d : ℕ) (at : Side → ℕ) (w : Side → Lacpdu) (c : Side → ℕ) (fast : Bool) (most : ℕ)
-    (r : Reply) (old new : WorldState) → side_of n ≡ Some (peer s) → CanSound (w s) (w (peer s)) fast (c s)
-    → Link d at w c s (Sounds fast most) old → WorldSteps gives old (event.Emit n (at (peer s))) r new → Link d at w c s (Sounds fast most) new
-ask_peer gives n s d at w c fast most r old new named can l h =
-    (emit_link gives n (peer s) d at w c s (Sounds fast most) r old new named
-    (sounds_along (w s) (w (peer s)) fast (c s) d most can) (λ e. absurd (other_side s e)) l h).link
+ask_peer : (gives : Algorithms) (n : ℕ) (s : Side) (d : ℕ) (at : Side → ℕ) (w : Side → Lacpdu) (c : Side → ℕ) (Y : Machines → Type 0)
+    (r : Reply) (old new : WorldState) → side_of n ≡ Some (peer s) → Along Y (w s) (w (peer s)) (c s) d
+    → Link d at w c s Y old → WorldSteps gives old (event.Emit n (at (peer s))) r new → Link d at w c s Y new
+ask_peer gives n s d at w c Y r old new named along l h =
+    (emit_link gives n (peer s) d at w c s Y r old new named along (λ e. absurd (other_side s e)) l h).link
 
-ask_later : (gives : Algorithms) (n : ℕ) (u s : Side) (d : ℕ) (at : Side → ℕ) (w : Side → Lacpdu) (c : Side → ℕ) (fast : Bool) (most : ℕ)
+ask_later : (gives : Algorithms) (n : ℕ) (u s : Side) (d : ℕ) (at : Side → ℕ) (w : Side → Lacpdu) (c : Side → ℕ) (Z : Machines → Type 0)
     (r : Reply) (old new : WorldState) → side_of n ≡ Some u → 1 ≤ d
-    → ((1 ≤ most) × Link d at w c s (Sounds fast most) old → Midway d at w c s fast most new)
-    → Midway d at w c s fast most old → WorldSteps gives old (event.Emit n (at u)) r new → Midway d at w c s fast most new
-ask_later gives n u s d at w c fast most r old new named there first m h = elim m [
+    → (Link d at w c s Z old → Midway d at w c s Z new)
+    → Midway d at w c s Z old → WorldSteps gives old (event.Emit n (at u)) r new → Midway d at w c s Z new
+ask_later gives n u s d at w c Z r old new named there first m h = elim m [
   | inl l ↦ first l
   | inr k ↦ elim k [
     | inl l ↦ (let e = emit_link gives n u d at w c s Nothing r old new named (nothing_along (w s) (w (peer s)) (c s) d) (λ f p y. y) l.0 h in
@@ -226,15 +228,11 @@ ask_later gives n u s d at w c fast most r old new named there first m h = elim 
   ]
 ]
 
-deliver_later : (gives : Algorithms) (cn n : ℕ) (s : Side) (d : ℕ) (at : Side → ℕ) (w : Side → Lacpdu) (c : Side → ℕ) (fast : Bool) (most : ℕ)
-    (r : Reply) (old new : WorldState) → 1 ≤ d → Fits d w c → CanSound (w s) (w (peer s)) fast (c s)
-    → Midway d at w c s fast most old → WorldSteps gives old (event.Deliver cn n) r new → Midway d at w c s fast most new
-deliver_later gives cn n s d at w c fast most r old new there fits can m h = elim m [
-  | inl l ↦ inl (
-    l.0,
-    (deliver_link gives cn n d at w c s (Sounds fast most) r old new fits
-        (sounds_along (w s) (w (peer s)) fast (c s) d most can) l.1 h).link,
-  )
+deliver_later : (gives : Algorithms) (cn n : ℕ) (s : Side) (d : ℕ) (at : Side → ℕ) (w : Side → Lacpdu) (c : Side → ℕ) (Z : Machines → Type 0)
+    (r : Reply) (old new : WorldState) → 1 ≤ d → Fits d w c → Along Z (w s) (w (peer s)) (c s) d
+    → Midway d at w c s Z old → WorldSteps gives old (event.Deliver cn n) r new → Midway d at w c s Z new
+deliver_later gives cn n s d at w c Z r old new there fits along m h = elim m [
+  | inl l ↦ inl (deliver_link gives cn n d at w c s Z r old new fits along l h).link
   | inr k ↦ elim k [
     | inl l ↦ (let e = deliver_link gives cn n d at w c s Nothing r old new fits (nothing_along (w s) (w (peer s)) (c s) d) l.0 h in
         elim (e.flying (peer s) l.1) [
@@ -321,15 +319,14 @@ deliver_all gives M k (e ∷ es) (r ∷ rs) old new a h m = deliver_all gives M 
 
 -- the rounds
 
--- what is left of what an LACPDU of the end of s was due, after a round: it is nearer, or the other end has heard one
-abbrev pub Nearer : ℕ → (Side → ℕ) → (Side → Lacpdu) → (Side → ℕ) → Side → Bool → ℕ → WorldState → Type 0
-Nearer d at w c s fast most j =
-    ((1 ≤ most) × Link d at w c s (Sounds fast most) j)
-    ⊎ Link d at w c (peer s) (Known (w (peer (peer s))) (wait_of (w (peer s))) 0) j
+-- what is left after a round: Z holds of the end of s, or the other end has heard an LACPDU of it
+abbrev pub Waits : ℕ → (Side → ℕ) → (Side → Lacpdu) → (Side → ℕ) → Side → (Machines → Type 0) → WorldState → Type 0
+Waits d at w c s Z j =
+    Link d at w c s Z j ⊎ Link d at w c (peer s) (Known (w (peer (peer s))) (wait_of (w (peer s))) 0) j
 
-landed : (d : ℕ) (at : Side → ℕ) (w : Side → Lacpdu) (c : Side → ℕ) (s : Side) (fast : Bool) (most : ℕ) (j : WorldState)
-    → NothingInFlight j → Midway d at w c s fast most j → Nearer d at w c s fast most j
-landed d at w c s fast most j none m = elim m [
+landed : (d : ℕ) (at : Side → ℕ) (w : Side → Lacpdu) (c : Side → ℕ) (s : Side) (Z : Machines → Type 0) (j : WorldState)
+    → NothingInFlight j → Midway d at w c s Z j → Waits d at w c s Z j
+landed d at w c s Z j none m = elim m [
   | inl l ↦ inl l
   | inr k ↦ elim k [
     | inl l ↦ (let empty = none (peer s) zero (cable at l.0.flying) (ap (λ ls. slice_get ls zero) l.0.links) in
@@ -338,41 +335,125 @@ landed d at w c s fast most j none m = elim m [
   ]
 ]
 
+-- what holds of the end of s in a round: X before it, V after its tick, Y then at rest, Z once it is asked and nothing is due
+pub record Passes (X V Y Z : Machines → Type 0) (v u : Lacpdu) (before c d : ℕ) : Type 0 where
+  pub ticks : (p q : Machines) → RunsToRest receive_rows (count_down p) q → AtRest periodic_rows p → IsEnd v u before p → X p → V q
+  pub ticked : Along V v u c d
+  pub rests : (p : Machines) → AtRest periodic_rows p → IsTimed p → IsEnd v u c p → V p → Y p
+  pub waits : Along Y v u c d
+  pub asks : Asks Y Z v u c
+  pub asked : Along Z v u c d
+
+timed_ends : (P : ℕ → Machines → Type 0) (xs : List SystemPort) → AllByRecursion PeriodicIsSettled xs
+    → AllByRecursion (λ (x : SystemPort). IsTimed x.port) xs → OfEach P xs → OfEach (λ m p. P m p × AtRest periodic_rows p × IsTimed p) xs
+timed_ends P [] a b c = tt
+timed_ends P (x ∷ xs) a b c = ((c.0, a.0.rows, b.0), timed_ends P xs a.1 b.1 c.1)
+
+at_rest : (d : ℕ) (at : Side → ℕ) (w : Side → Lacpdu) (c : Side → ℕ) (s : Side) (V Y : Machines → Type 0) (j : WorldState)
+    → ((p : Machines) → AtRest periodic_rows p → IsTimed p → IsEnd (w s) (w (peer s)) (c s) p → V p → Y p)
+    → Link d at w c s V j → Link d at w c s Y j
+at_rest d at w c s V Y j k l = record {
+  steady = l.steady;
+  flying = l.flying;
+  links = l.links;
+  good = l.good;
+  place = l.place;
+  ports = λ t. each_map (λ m p. AtPort (at t) (EndIs w c s V t) m p × AtRest periodic_rows p × IsTimed p) (AtPort (at t) (EndIs w c s Y t))
+      (λ m p a e. (
+        (a.0 e).0,
+        λ f. k p a.1 a.2 (subst (λ t. IsEnd (w t) (w (peer t)) (c t) p) f (a.0 e).0) ((a.0 e).1 f),
+      )) (half t j).state.system_ports
+      (timed_ends (AtPort (at t) (EndIs w c s V t)) (half t j).state.system_ports (l.steady t).0.quiet.1 (l.steady t).1 (l.ports t));
+}
+
+pub round_passes : (gives : Algorithms) (s : Side) (d : ℕ) (at : Side → ℕ) (w : Side → Lacpdu) (c : Side → ℕ) (X V Y Z : Machines → Type 0)
+    (old new : WorldState) → 1 ≤ d → Fits d w (ticked c) → Passes X V Y Z (w s) (w (peer s)) (c s) (ticked c s) d
+    → Link d at w c s X old → IsRound gives old new → Waits d at w (ticked c) s Z new
+round_passes gives s d at w c X V Y Z old new there fits k l h =
+    let u = unroll gives at l.flying old new l.links h in
+    let two = at_rest d at w (ticked c) s V Y u.two k.rests
+    (tick_both gives d at w c s X V u.tick_one.0 u.tick_two.0 old u.one u.two k.ticked k.ticks u.tick_one.1 u.tick_two.1 l) in
+    let six = asked s k u two in
+    landed d at w (ticked c) s Z new h.empties
+    (deliver_all gives (Midway d at w (ticked c) s Z)
+    (λ cn n r i j step mid. deliver_later gives cn n s d at w (ticked c) Z r i j there fits k.asked mid step)
+    u.delivers u.replies u.six new u.arrives u.rest six)
+  where
+    asked : (s : Side) → Passes X V Y Z (w s) (w (peer s)) (c s) (ticked c s) d → (u : Unrolled gives at old new)
+        → Link d at w (ticked c) s Y u.two → Midway d at w (ticked c) s Z u.six
+    asked One k u l =
+        let a = ask_own gives 1 One d at w (ticked c) Y Z u.ask_one.0 u.two u.three refl k.asks l u.ask_one.1 in
+        let b = ask_later gives 1 One One d at w (ticked c) Z u.ask_one_again.0 u.three u.four refl there
+        (λ z. ask_own gives 1 One d at w (ticked c) Z Z u.ask_one_again.0 u.three u.four refl (λ p rest timed e y not. y) z
+        u.ask_one_again.1) a u.ask_one_again.1 in
+        let e = ask_later gives 2 Two One d at w (ticked c) Z u.ask_two.0 u.four u.five refl there
+        (λ z. inl (ask_peer gives 2 One d at w (ticked c) Z u.ask_two.0 u.four u.five refl k.asked z u.ask_two.1)) b u.ask_two.1 in
+        ask_later gives 2 Two One d at w (ticked c) Z u.ask_two_again.0 u.five u.six refl there
+        (λ z. inl (ask_peer gives 2 One d at w (ticked c) Z u.ask_two_again.0 u.five u.six refl k.asked z u.ask_two_again.1))
+        e u.ask_two_again.1
+    asked Two k u l =
+        let a = ask_peer gives 1 Two d at w (ticked c) Y u.ask_one.0 u.two u.three refl k.waits l u.ask_one.1 in
+        let b = ask_peer gives 1 Two d at w (ticked c) Y u.ask_one_again.0 u.three u.four refl k.waits a u.ask_one_again.1 in
+        let e = ask_own gives 2 Two d at w (ticked c) Y Z u.ask_two.0 u.four u.five refl k.asks b u.ask_two.1 in
+        ask_later gives 2 Two Two d at w (ticked c) Z u.ask_two_again.0 u.five u.six refl there
+        (λ z. ask_own gives 2 Two d at w (ticked c) Z Z u.ask_two_again.0 u.five u.six refl (λ p rest timed f y not. y) z
+        u.ask_two_again.1) e u.ask_two_again.1
+
+-- an LACPDU of the end of s is nearer, or the other end has heard one
+abbrev pub Nearer : ℕ → (Side → ℕ) → (Side → Lacpdu) → (Side → ℕ) → Side → Bool → ℕ → WorldState → Type 0
+Nearer d at w c s fast most j =
+    ((1 ≤ most) × Link d at w c s (Sounds fast most) j)
+    ⊎ Link d at w c (peer s) (Known (w (peer (peer s))) (wait_of (w (peer s))) 0) j
+
+pub still_sounds : (fast : Bool) (most : ℕ) (p : Machines) → AtRest periodic_rows p → is_silent p ≡ false → is_due p ≡ false
+    → Sounds fast most p → 1 ≤ most
+still_sounds fast zero p rest silent not y = absurd (no (sym not ∙ now_due fast p rest silent y))
+still_sounds fast (suc m) p rest silent not y = omega arith
+
+-- the port at the end of s
+pub end_port : (d : ℕ) (at : Side → ℕ) (w : Side → Lacpdu) (c : Side → ℕ) (x : Side) (Y : Machines → Type 0) (j : WorldState)
+    → Link d at w c x Y j → (s : Side) → (z : SystemPort) × EndIs w c x Y s z.port
+end_port d at w c x Y j l s =
+    let ports = (half s j).state.system_ports in
+    let place = l.place s in
+    let it = found (at s) place.0 ports place.1 in
+    (it.0, all-get (λ (y : SystemPort). AtPort (at s) (EndIs w c x Y s) y.number y.port) ports place.0 it.0 it.1 (l.ports s)
+        (found_place (at s) ports place.0 it.0 place.1 it.1))
+
+abbrev Later : Bool → ℕ → Machines → Type 0
+Later fast most p = (1 ≤ most) × Sounds fast most p
+
+later_along : (v u : Lacpdu) (fast : Bool) (c d most : ℕ) → CanSound v u fast c → Along (Later fast most) v u c d
+later_along v u fast c d most can = both_along (λ p. 1 ≤ most) (Sounds fast most) v u c d (record {
+  mux = λ ready p q h y. y;
+  periodic = λ p q h a y. y;
+  select = λ choice p y. y;
+  takes = λ x p q e awake h a y. y;
+}) (sounds_along v u fast c d most can)
+
+sounds_pass : (v u : Lacpdu) (fast : Bool) (before c d most : ℕ) → CanSound v u fast before → CanSound v u fast c
+    → Passes (Sounds fast most) (Sounds fast (most - 1)) (Sounds fast (most - 1)) (Later fast (most - 1)) v u before c d
+sounds_pass v u fast before c d most was can = record {
+  ticks = λ p q r rest a y. ticks_sounds v u fast before most p q was r rest a y;
+  ticked = sounds_along v u fast c d (most - 1) can;
+  rests = λ p rest timed a y. y;
+  waits = sounds_along v u fast c d (most - 1) can;
+  asks = λ p rest timed a y not. (still_sounds fast (most - 1) p rest (calm v u fast c p can a).0 not y, y);
+  asked = later_along v u fast c d (most - 1) can;
+}
+
 pub round_nears : (gives : Algorithms) (s : Side) (d : ℕ) (at : Side → ℕ) (w : Side → Lacpdu) (c : Side → ℕ) (fast : Bool) (most : ℕ)
     (old new : WorldState) → 1 ≤ d → Fits d w (ticked c) → CanSound (w s) (w (peer s)) fast (ticked c s) → CanSound (w s) (w (peer s)) fast (c s)
     → Link d at w c s (Sounds fast most) old → IsRound gives old new → Nearer d at w (ticked c) s fast (most - 1) new
-round_nears gives s d at w c fast most old new there fits can was l h =
-    let u = unroll gives at l.flying old new l.links h in
-    let m = most - 1 in
-    let two = tick_both gives d at w c s (Sounds fast most) (Sounds fast m) u.tick_one.0 u.tick_two.0 old u.one u.two
-    (sounds_along (w s) (w (peer s)) fast (ticked c s) d m can)
-    (λ p q r rest a y. ticks_sounds (w s) (w (peer s)) fast (c s) most p q was r rest a y) u.tick_one.1 u.tick_two.1 l in
-    let six = asked s can u two in
-    landed d at w (ticked c) s fast m new h.empties
-    (deliver_all gives (Midway d at w (ticked c) s fast m)
-    (λ cn n r i j step mid. deliver_later gives cn n s d at w (ticked c) fast m r i j there fits can mid step)
-    u.delivers u.replies u.six new u.arrives u.rest six)
-  where
-    asked : (s : Side) → CanSound (w s) (w (peer s)) fast (ticked c s) → (u : Unrolled gives at old new)
-        → Link d at w (ticked c) s (Sounds fast (most - 1)) u.two → Midway d at w (ticked c) s fast (most - 1) u.six
-    asked One can u l =
-        let a = ask_own gives 1 One d at w (ticked c) fast (most - 1) u.ask_one.0 u.two u.three refl can l u.ask_one.1 in
-        let b = ask_later gives 1 One One d at w (ticked c) fast (most - 1) u.ask_one_again.0 u.three u.four refl there
-        (λ k. ask_own gives 1 One d at w (ticked c) fast (most - 1) u.ask_one_again.0 u.three u.four refl can k.1 u.ask_one_again.1)
-        a u.ask_one_again.1 in
-        let e = ask_later gives 2 Two One d at w (ticked c) fast (most - 1) u.ask_two.0 u.four u.five refl there
-        (λ k. inl (k.0, ask_peer gives 2 One d at w (ticked c) fast (most - 1) u.ask_two.0 u.four u.five refl can k.1 u.ask_two.1))
-        b u.ask_two.1 in
-        ask_later gives 2 Two One d at w (ticked c) fast (most - 1) u.ask_two_again.0 u.five u.six refl there
-        (λ k. inl (k.0, ask_peer gives 2 One d at w (ticked c) fast (most - 1) u.ask_two_again.0 u.five u.six refl can k.1 u.ask_two_again.1))
-        e u.ask_two_again.1
-    asked Two can u l =
-        let a = ask_peer gives 1 Two d at w (ticked c) fast (most - 1) u.ask_one.0 u.two u.three refl can l u.ask_one.1 in
-        let b = ask_peer gives 1 Two d at w (ticked c) fast (most - 1) u.ask_one_again.0 u.three u.four refl can a u.ask_one_again.1 in
-        let e = ask_own gives 2 Two d at w (ticked c) fast (most - 1) u.ask_two.0 u.four u.five refl can b u.ask_two.1 in
-        ask_later gives 2 Two Two d at w (ticked c) fast (most - 1) u.ask_two_again.0 u.five u.six refl there
-        (λ k. ask_own gives 2 Two d at w (ticked c) fast (most - 1) u.ask_two_again.0 u.five u.six refl can k.1 u.ask_two_again.1)
-        e u.ask_two_again.1
+round_nears gives s d at w c fast most old new there fits can was l h = elim (round_passes gives s d at w c (Sounds fast most)
+    (Sounds fast (most - 1)) (Sounds fast (most - 1)) (Later fast (most - 1)) old new there fits
+    (sounds_pass (w s) (w (peer s)) fast (c s) (ticked c s) d most was can) l h) [
+  | inl z ↦ inl (
+    ((end_port d at w (ticked c) s (Later fast (most - 1)) new z s).1.1 refl).0,
+    at_rest d at w (ticked c) s (Later fast (most - 1)) (Sounds fast (most - 1)) new (λ p rest timed a y. y.1) z,
+  )
+  | inr k ↦ inr k
+]
 
 -- and with nothing beside it, even if nothing is known of what comes
 pub round_keeps : (gives : Algorithms) (x : Side) (d : ℕ) (at : Side → ℕ) (w : Side → Lacpdu) (c : Side → ℕ) (old new : WorldState)
