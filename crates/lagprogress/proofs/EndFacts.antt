@@ -132,7 +132,7 @@ ticks_end v u c p q h a = (
 abbrev pub CanSound : Lacpdu → Lacpdu → Bool → ℕ → Type 0
 CanSound v u fast c = ((activity v ≡ true) ⊎ ((1 ≤ c) × (activity u ≡ true))) × (fast ≡ true → (1 ≤ c) × (short_timeout u ≡ true))
 
-not_silent : (e a b : Bool) → e ≡ true → (a ≡ true) ⊎ (b ≡ true) → (not e || (not a && not b)) ≡ false
+pub not_silent : (e a b : Bool) → e ≡ true → (a ≡ true) ⊎ (b ≡ true) → (not e || (not a && not b)) ≡ false
 not_silent true true b up h = refl
 not_silent true false true up h = refl
 not_silent true false false up (inl x) = absurd (no x)
@@ -159,7 +159,7 @@ nothing_along v u c d = record {
   takes = λ x p q e awake h a y. y;
 }
 
-sounds_takes : (fast : Bool) (most : ℕ) (x : Lacpdu) → RowsKeep (Sounds fast most) (lacpdu_rows x)
+pub sounds_takes : (fast : Bool) (most : ℕ) (x : Lacpdu) → RowsKeep (Sounds fast most) (lacpdu_rows x)
 sounds_takes fast most x = (λ p a. (raised _ p.ntt _ a.0, a.1), tt)
 
 pub sounds_along : (v u : Lacpdu) (fast : Bool) (c d most : ℕ) → CanSound v u fast c → Along (Sounds fast most) v u c d

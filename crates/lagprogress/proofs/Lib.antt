@@ -17,3 +17,5 @@ mod Linked
 mod Hearkening
 mod OneRound
 mod Progressing
+mod Lapsing
+mod OneActive

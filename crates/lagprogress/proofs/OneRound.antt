@@ -349,7 +349,7 @@ timed_ends : (P : ℕ → Machines → Type 0) (xs : List SystemPort) → AllByR
 timed_ends P [] a b c = tt
 timed_ends P (x ∷ xs) a b c = ((c.0, a.0.rows, b.0), timed_ends P xs a.1 b.1 c.1)
 
-at_rest : (d : ℕ) (at : Side → ℕ) (w : Side → Lacpdu) (c : Side → ℕ) (s : Side) (V Y : Machines → Type 0) (j : WorldState)
+pub at_rest : (d : ℕ) (at : Side → ℕ) (w : Side → Lacpdu) (c : Side → ℕ) (s : Side) (V Y : Machines → Type 0) (j : WorldState)
     → ((p : Machines) → AtRest periodic_rows p → IsTimed p → IsEnd (w s) (w (peer s)) (c s) p → V p → Y p)
     → Link d at w c s V j → Link d at w c s Y j
 at_rest d at w c s V Y j k l = record {
@@ -416,9 +416,11 @@ pub end_port : (d : ℕ) (at : Side → ℕ) (w : Side → Lacpdu) (c : Side →
 end_port d at w c x Y j l s =
     let ports = (half s j).state.system_ports in
     let place = l.place s in
-    let it = found (at s) place.0 ports place.1 in
-    (it.0, all-get (λ (y : SystemPort). AtPort (at s) (EndIs w c x Y s) y.number y.port) ports place.0 it.0 it.1 (l.ports s)
-        (found_place (at s) ports place.0 it.0 place.1 it.1))
+    let it = found (at s) place.0 ports place.1 in (
+      it.0,
+      all-get (λ (y : SystemPort). AtPort (at s) (EndIs w c x Y s) y.number y.port) ports place.0 it.0 it.1 (l.ports s)
+          (found_place (at s) ports place.0 it.0 place.1 it.1),
+    )
 
 abbrev Later : Bool → ℕ → Machines → Type 0
 Later fast most p = (1 ≤ most) × Sounds fast most p
@@ -448,12 +450,12 @@ pub round_nears : (gives : Algorithms) (s : Side) (d : ℕ) (at : Side → ℕ) 
 round_nears gives s d at w c fast most old new there fits can was l h = elim (round_passes gives s d at w c (Sounds fast most)
     (Sounds fast (most - 1)) (Sounds fast (most - 1)) (Later fast (most - 1)) old new there fits
     (sounds_pass (w s) (w (peer s)) fast (c s) (ticked c s) d most was can) l h) [
-  | inl z ↦ inl (
-    ((end_port d at w (ticked c) s (Later fast (most - 1)) new z s).1.1 refl).0,
-    at_rest d at w (ticked c) s (Later fast (most - 1)) (Sounds fast (most - 1)) new (λ p rest timed a y. y.1) z,
-  )
-  | inr k ↦ inr k
-]
+      | inl z ↦ inl (
+        ((end_port d at w (ticked c) s (Later fast (most - 1)) new z s).1.1 refl).0,
+        at_rest d at w (ticked c) s (Later fast (most - 1)) (Sounds fast (most - 1)) new (λ p rest timed a y. y.1) z,
+      )
+      | inr k ↦ inr k
+    ]
 
 -- and with nothing beside it, even if nothing is known of what comes
 pub round_keeps : (gives : Algorithms) (x : Side) (d : ℕ) (at : Side → ℕ) (w : Side → Lacpdu) (c : Side → ℕ) (old new : WorldState)

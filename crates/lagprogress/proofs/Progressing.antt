@@ -59,20 +59,20 @@ two_less Two c a b l m Two = l
 
 module _ (at : Side → ℕ) (w : Side → Lacpdu) where
   -- the port at an end has Short Timeout recorded, once it knows its partner
-  abbrev mode : Side → Bool
+  abbrev pub mode : Side → Bool
   mode s = short_timeout (w (peer s))
 
-  abbrev wait : Side → ℕ
+  abbrev pub wait : Side → ℕ
   wait s = wait_of (w s)
 
-  abbrev Linked : (Side → ℕ) → Side → (Machines → Type 0) → WorldState → Type 0
+  abbrev pub Linked : (Side → ℕ) → Side → (Machines → Type 0) → WorldState → Type 0
   Linked c x Y j = Link 1 at w c x Y j
 
   -- the port at the end of s is so
   abbrev AtIt : Side → (Machines → Type 0) → WorldState → Type 0
   AtIt s P j = OfEach (AtPort (at s) P) (half s j).state.system_ports
 
-  lower : (d : ℕ) (c b : Side → ℕ) (x : Side) (Y : Machines → Type 0) (j : WorldState) → ((s : Side) → b s ≤ c s)
+  pub lower : (d : ℕ) (c b : Side → ℕ) (x : Side) (Y : Machines → Type 0) (j : WorldState) → ((s : Side) → b s ≤ c s)
       → Link d at w c x Y j → Link d at w b x Y j
   lower d c b x Y j less l = record {
     steady = l.steady;
@@ -134,14 +134,14 @@ module _ (at : Side → ℕ) (w : Side → Lacpdu) where
   can_known s c l (inr a) = (inr (l, a), λ e. (l, e))
 
   -- Each end sounds in so many ticks, and the other end knows it for longer, or the rounds are still few.
-  record Going (most n : ℕ) (j : WorldState) : Type 0 where
-    known : Side → ℕ
-    next : Side → ℕ
-    link : Linked known One Nothing j
-    fits : (s : Side) → known s ≤ wait s
-    later : (s : Side) → 1 ≤ next s
-    longer : (s : Side) → (next s + 1 ≤ known (peer s)) ⊎ (n + next s ≤ most)
-    sounds : (s : Side) → AtIt s (Sounds (mode s) (next s)) j
+  pub record Going (most n : ℕ) (j : WorldState) : Type 0 where
+    pub known : Side → ℕ
+    pub next : Side → ℕ
+    pub link : Linked known One Nothing j
+    pub fits : (s : Side) → known s ≤ wait s
+    pub later : (s : Side) → 1 ≤ next s
+    pub longer : (s : Side) → (next s + 1 ≤ known (peer s)) ⊎ (n + next s ≤ most)
+    pub sounds : (s : Side) → AtIt s (Sounds (mode s) (next s)) j
 
   -- what one round makes of one direction
   record Went (most n : ℕ) (s : Side) (j : WorldState) : Type 0 where
@@ -226,7 +226,7 @@ module _ (at : Side → ℕ) (w : Side → Lacpdu) where
 
   -- the rounds are no longer few
 
-  abbrev Fresh : WorldState → Type 0
+  abbrev pub Fresh : WorldState → Type 0
   Fresh j = Going 0 0 j
 
   known_long : (most n : ℕ) (j : WorldState) (g : Going most n j) → most ≤ n → (s : Side) → g.next s + 1 ≤ g.known (peer s)
@@ -238,7 +238,7 @@ module _ (at : Side → ℕ) (w : Side → Lacpdu) where
       let m = g.later (peer s) in
       subst (λ t. 2 ≤ g.known t) (peer_twice s) (omega (arith, k, m))
 
-  settled : (most n : ℕ) (j : WorldState) → most ≤ n → Going most n j → Fresh j
+  pub settled : (most n : ℕ) (j : WorldState) → most ≤ n → Going most n j → Fresh j
   settled most n j l g = record {
     known = g.known;
     next = g.next;
@@ -251,7 +251,7 @@ module _ (at : Side → ℕ) (w : Side → Lacpdu) where
 
   -- both ends know each other, and so they go on
   module _ (awake : (s : Side) → (activity (w s) ≡ true) ⊎ (activity (w (peer s)) ≡ true)) where
-    stays_fresh : (gives : Algorithms) (old new : WorldState) → IsRound gives old new → Fresh old → Fresh new
+    pub stays_fresh : (gives : Algorithms) (old new : WorldState) → IsRound gives old new → Fresh old → Fresh new
     stays_fresh gives old new h g =
         settled 0 1 new (omega arith) (goes gives 0 0 old new g
         (λ s. let l = knows_peer 0 0 old g (omega arith) s in
@@ -283,53 +283,50 @@ module _ (at : Side → ℕ) (w : Side → Lacpdu) where
   -- The end of s is active and has Short Timeout, or the other end has Long Timeout: first the other end hears it, and then
   -- it hears the other end.
 
-  abbrev Calls : Side → ℕ → WorldState → Type 0
+  abbrev pub Calls : Side → ℕ → WorldState → Type 0
   Calls s n j = (k : ℕ) × (1 ≤ k) × (n + k ≤ 310) × Linked (λ _. 0) s (Sounds false k) j
 
-  abbrev Answers : Side → ℕ → WorldState → Type 0
-  Answers s n j = (k : ℕ) × (b : ℕ) × (1 ≤ k) × (n + k ≤ 310 + silence_of (mode (peer s)))
+  pub called : (s : Side) → activity (w s) ≡ true → (j : WorldState) → Linked (λ _. 0) One Nothing j → Calls s 1 j
+  called s active j l = (
+    309,
+    omega arith,
+    omega arith,
+    join 1 at w (λ _. 0) One s (Sounds false 309) j l (sounds_now 1 (λ _. 0) One Nothing s false j (inl active, λ e. absurd (no e)) l),
+  )
+
+  abbrev pub Answers : Side → ℕ → ℕ → WorldState → Type 0
+  Answers s most n j = (k : ℕ) × (b : ℕ) × (1 ≤ k) × (n + k ≤ most + silence_of (mode (peer s)))
       × (wait (peer s) + k ≤ b + silence_of (mode (peer s))) × (b ≤ wait (peer s))
       × Linked (two s 0 b) (peer s) (Sounds (mode (peer s)) k) j
 
-  abbrev Comes : Side → ℕ → WorldState → Type 0
-  Comes s n j = Calls s n j ⊎ (Answers s n j ⊎ Fresh j)
+  abbrev pub Comes : Side → ℕ → WorldState → Type 0
+  Comes s n j = Calls s n j ⊎ (Answers s 310 n j ⊎ Fresh j)
 
-  module _ (s : Side) (active : activity (w s) ≡ true)
+  module _ (s : Side) (awake : (u : Side) → (activity (w u) ≡ true) ⊎ (activity (w (peer u)) ≡ true))
       (room : silence_of (mode s) + silence_of (mode (peer s)) + 2 ≤ wait (peer s)) where
     able : (b : ℕ) → 1 ≤ b → CanSound (w (peer s)) (w (peer (peer s))) (mode (peer s)) b
-    able b l = can_known (peer s) b l (inr (subst (λ t. activity (w t) ≡ true) (sym (peer_twice s)) active))
+    able b l = can_known (peer s) b l (awake (peer s))
 
-    calls : (gives : Algorithms) (n : ℕ) (old new : WorldState) → IsRound gives old new → Calls s n old → Comes s (n + 1) new
-    calls gives n old new h g = elim (round_nears gives s 1 at w (λ _. 0) false g.0 old new (omega arith)
-        (λ t. (omega arith, λ _. omega arith)) (inl active, λ e. absurd (no e)) (inl active, λ e. absurd (no e)) g.3 h) [
-          | inl q ↦ (let l = g.2 in
-              let m = q.0 in
-              inl (g.0 - 1, q.0, omega (arith, l, m), lower 1 (ticked (λ _. 0)) (λ _. 0) s (Sounds false (g.0 - 1)) new (λ _. omega arith) q.1))
-          | inr q ↦ (let known = learns 1 (ticked (λ _. 0)) (peer s) 0 new (omega arith) q in
-              let b = wait (peer s) in
-              let pair = two (peer s) b 0 in
-              let there = two_there (peer s) b 0 in
-              let link = lower 1 pair (two s 0 b) (peer s) Nothing new
-              (two_less s pair 0 b (omega arith) (subst (λ n. b ≤ n) (sym there) (omega arith))) known in
-              let fast = mode (peer s) in
-              let more = some_silence fast in
-              let long = b in
-              inr (inl (
-                silence_of fast,
-                b,
-                some_silence fast,
-                (let l = g.2 in let o = g.1 in omega (arith, l, o)),
-                omega arith,
-                omega arith,
-                join 1 at w (two s 0 b) (peer s) (peer s) (Sounds fast (silence_of fast)) new link
-                    (sounds_now 1 (two s 0 b) (peer s) Nothing (peer s) fast new
-                    (subst (CanSound (w (peer s)) (w (peer (peer s))) fast) (sym (two_other s 0 b)) (able b (omega (arith, room)))) link),
-              )))
-        ]
-
-    some_awake : (u : Side) → (activity (w u) ≡ true) ⊎ (activity (w (peer u)) ≡ true)
-    some_awake = each_side (λ u. (activity (w u) ≡ true) ⊎ (activity (w (peer u)) ≡ true)) s (inl active)
-        (inr (subst (λ t. activity (w t) ≡ true) (sym (peer_twice s)) active))
+    -- the other end has just heard it
+    pub hears : (most n : ℕ) (new : WorldState) → n ≤ most
+        → Linked (ticked (λ _. 0)) (peer s) (Known (w (peer (peer s))) (wait (peer s)) 0) new → Answers s most n new
+    hears most n new l q =
+        let known = learns 1 (ticked (λ _. 0)) (peer s) 0 new (omega arith) q in
+        let b = wait (peer s) in
+        let pair = two (peer s) b 0 in
+        let link = lower 1 pair (two s 0 b) (peer s) Nothing new
+        (two_less s pair 0 b (omega arith) (subst (λ n. b ≤ n) (sym (two_there (peer s) b 0)) (omega arith))) known in
+        let fast = mode (peer s) in (
+          silence_of fast,
+          b,
+          some_silence fast,
+          omega (arith, l),
+          omega arith,
+          omega arith,
+          join 1 at w (two s 0 b) (peer s) (peer s) (Sounds fast (silence_of fast)) new link
+              (sounds_now 1 (two s 0 b) (peer s) Nothing (peer s) fast new
+              (subst (CanSound (w (peer s)) (w (peer (peer s))) fast) (sym (two_other s 0 b)) (able b (omega (arith, room)))) link),
+        )
 
     meets : (b k : ℕ) (j : WorldState) → 1 ≤ k → wait (peer s) + k ≤ b + silence_of (mode (peer s)) → b ≤ wait (peer s)
         → Linked (two s (wait s) (b - 1)) s Nothing j → Fresh j
@@ -349,11 +346,12 @@ module _ (at : Side → ℕ) (w : Side → Lacpdu) where
           fits = two_less s wait (wait s) (b - 1) (omega arith) (omega (arith, less));
           later = λ u. some_silence (mode u);
           longer = λ u. inl (longer u);
-          sounds = λ u. sounds_now 1 c s Nothing u (mode u) j (can_known u (c u) (big u) (some_awake u)) l;
+          sounds = λ u. sounds_now 1 c s Nothing u (mode u) j (can_known u (c u) (big u) (awake u)) l;
         }
 
-    answers : (gives : Algorithms) (n : ℕ) (old new : WorldState) → IsRound gives old new → Answers s n old → Comes s (n + 1) new
-    answers gives n old new h (k, b, some, soon, enough, less, link) = elim (round_nears gives (peer s) 1 at w (two s 0 b)
+    pub answers : (gives : Algorithms) (most n : ℕ) (old new : WorldState) → IsRound gives old new → Answers s most n old
+        → Answers s most (n + 1) new ⊎ Fresh new
+    answers gives most n old new h (k, b, some, soon, enough, less, link) = elim (round_nears gives (peer s) 1 at w (two s 0 b)
         (mode (peer s)) k old new (omega arith)
         (λ t. (let l = two_less s wait 0 b (omega arith) less t in omega (arith, l), λ _. omega arith))
         (subst (λ m. CanSound (w (peer s)) (w (peer (peer s))) (mode (peer s)) (m - 1)) (sym (two_other s 0 b))
@@ -361,7 +359,7 @@ module _ (at : Side → ℕ) (w : Side → Lacpdu) where
         (subst (CanSound (w (peer s)) (w (peer (peer s))) (mode (peer s))) (sym (two_other s 0 b))
         (able b (omega (arith, room, some, enough)))) link h) [
           | inl q ↦ (let m = q.0 in
-              inr (inl (
+              inl (
                 k - 1,
                 b - 1,
                 m,
@@ -371,33 +369,46 @@ module _ (at : Side → ℕ) (w : Side → Lacpdu) where
                 lower 1 (ticked (two s 0 b)) (two s 0 (b - 1)) (peer s) (Sounds (mode (peer s)) (k - 1)) new
                     (two_less s (ticked (two s 0 b)) 0 (b - 1) (omega arith)
                     (subst (λ n. b - 1 ≤ n - 1) (sym (two_other s 0 b)) (omega arith))) q.1,
-              )))
-          | inr q ↦ inr (inr (meets b k new some enough less (learns 1 (ticked (two s 0 b)) s (b - 1) new
+              ))
+          | inr q ↦ inr (meets b k new some enough less (learns 1 (ticked (two s 0 b)) s (b - 1) new
               (subst (λ n. b - 1 ≤ n - 1) (sym (two_other s 0 b)) (omega arith))
-              (subst (λ t. Linked (ticked (two s 0 b)) t (Known (w (peer t)) (wait t) 0) new) (peer_twice s) q))))
+              (subst (λ t. Linked (ticked (two s 0 b)) t (Known (w (peer t)) (wait t) 0) new) (peer_twice s) q)))
         ]
 
-    comes : (gives : Algorithms) (n : ℕ) (old new : WorldState) → IsRound gives old new → Comes s n old → Comes s (n + 1) new
+    pub answered : (most n : ℕ) (j : WorldState) → most + silence_of (mode (peer s)) ≤ n → Answers s most n j → Fresh j
+    answered most n j l a = let k = a.2 in let m = a.3 in absurd (omega (arith, l, k, m))
+
+  module _ (s : Side) (active : activity (w s) ≡ true)
+      (room : silence_of (mode s) + silence_of (mode (peer s)) + 2 ≤ wait (peer s)) where
+    some_awake : (u : Side) → (activity (w u) ≡ true) ⊎ (activity (w (peer u)) ≡ true)
+    some_awake = each_side (λ u. (activity (w u) ≡ true) ⊎ (activity (w (peer u)) ≡ true)) s (inl active)
+        (inr (subst (λ t. activity (w t) ≡ true) (sym (peer_twice s)) active))
+
+    calls : (gives : Algorithms) (n : ℕ) (old new : WorldState) → IsRound gives old new → Calls s n old → Comes s (n + 1) new
+    calls gives n old new h g = elim (round_nears gives s 1 at w (λ _. 0) false g.0 old new (omega arith)
+        (λ t. (omega arith, λ _. omega arith)) (inl active, λ e. absurd (no e)) (inl active, λ e. absurd (no e)) g.3 h) [
+          | inl q ↦ (let l = g.2 in
+              let m = q.0 in
+              inl (g.0 - 1, q.0, omega (arith, l, m), lower 1 (ticked (λ _. 0)) (λ _. 0) s (Sounds false (g.0 - 1)) new (λ _. omega arith) q.1))
+          | inr q ↦ inr (inl (hears s some_awake room 310 (n + 1) new (let l = g.2 in let o = g.1 in omega (arith, l, o)) q))
+        ]
+
+    pub comes : (gives : Algorithms) (n : ℕ) (old new : WorldState) → IsRound gives old new → Comes s n old → Comes s (n + 1) new
     comes gives n old new h (inl c) = calls gives n old new h c
-    comes gives n old new h (inr (inl a)) = answers gives n old new h a
+    comes gives n old new h (inr (inl a)) = inr (answers s some_awake room gives 310 n old new h a)
     comes gives n old new h (inr (inr f)) = inr (inr (stays_fresh some_awake gives old new h f))
 
-    comes_first : (j : WorldState) → Linked (λ _. 0) One Nothing j → Comes s 1 j
-    comes_first j l = inl (
-      309,
-      omega arith,
-      omega arith,
-      join 1 at w (λ _. 0) One s (Sounds false 309) j l (sounds_now 1 (λ _. 0) One Nothing s false j (inl active, λ e. absurd (no e)) l),
-    )
+    pub comes_first : (j : WorldState) → Linked (λ _. 0) One Nothing j → Comes s 1 j
+    comes_first j l = inl (called s active j l)
 
-    came : (n : ℕ) (j : WorldState) → 310 + silence_of (mode (peer s)) ≤ n → Comes s n j → Fresh j
+    pub came : (n : ℕ) (j : WorldState) → 310 + silence_of (mode (peer s)) ≤ n → Comes s n j → Fresh j
     came n j l (inl c) = let k = c.1 in let m = c.2 in absurd (omega (arith, l, k, m))
-    came n j l (inr (inl a)) = let k = a.2 in let m = a.3 in absurd (omega (arith, l, k, m))
+    came n j l (inr (inl a)) = answered s some_awake room 310 n j l a
     came n j l (inr (inr f)) = f
 
 -- the rounds
 
-along_rounds : (gives : Algorithms) (S : ℕ → WorldState → Type 0) (start : WorldState)
+pub along_rounds : (gives : Algorithms) (S : ℕ → WorldState → Type 0) (start : WorldState)
     → ((new : WorldState) → IsRound gives start new → S 1 new)
     → ((n : ℕ) (old new : WorldState) → IsRound gives old new → S n old → S (n + 1) new)
     → (n : ℕ) (new : WorldState) → 1 ≤ n → Rounds gives n start new → S n new
@@ -409,10 +420,10 @@ along_rounds gives S start first next (suc (suc n)) new l h =
 -- the ports at the ends
 
 -- the port that is meant
-abbrev Found : (Machines → Type 0) → ℕ → SystemState → Type 0
+abbrev pub Found : (Machines → Type 0) → ℕ → SystemState → Type 0
 Found P n s = (k : ℕ) × (z : SystemPort) × (port_index n s.system_ports ≡ Some k) × (slice_get s.system_ports k ≡ Some z) × P z.port
 
-end_of : (P : Machines → Type 0) (n : ℕ) (s : SystemState) → OfPort P (machines_of n s) → Found P n s
+pub end_of : (P : Machines → Type 0) (n : ℕ) (s : SystemState) → OfPort P (machines_of n s) → Found P n s
 end_of P n s h = by_index (port_index n s.system_ports) refl h
   where
     by_slot : (k : ℕ) (o : Option SystemPort) → port_index n s.system_ports ≡ Some k → slice_get s.system_ports k ≡ o
@@ -425,12 +436,12 @@ end_of P n s h = by_index (port_index n s.system_ports) refl h
     by_index None e h = absurd h
     by_index (Some k) e h = by_slot k (slice_get s.system_ports k) e refl h
 
-machines_there : (n : ℕ) (s : SystemState) (k : ℕ) (z : SystemPort) → port_index n s.system_ports ≡ Some k
+pub machines_there : (n : ℕ) (s : SystemState) (k : ℕ) (z : SystemPort) → port_index n s.system_ports ≡ Some k
     → slice_get s.system_ports k ≡ Some z → machines_of n s ≡ Some z.port
 machines_there n s k z e f = ap (λ o. option_map (λ (x : SystemPort). x.port) (system_port_at o s.system_ports)) e
     ∙ ap (option_map (λ (x : SystemPort). x.port)) f
 
-own_says : (p : Machines) → Says (pdu_of p 0) p
+pub own_says : (p : Machines) → Says (pdu_of p 0) p
 own_says p =
     let bits = encode_then_decode (record {
       activity = p.active;
@@ -445,17 +456,17 @@ own_says p =
     (sym (ap (named (actor_of p)) bits), sym (ap (λ (b : StateBits). b.activity) bits), sym (ap (λ (b : StateBits). b.timeout) bits))
 
 -- what the LACPDUs of the port at an end say
-abbrev Ends : LinkState → WorldState → Type 0
+abbrev pub Ends : LinkState → WorldState → Type 0
 Ends l j = (s : Side) → Found (λ p. p.enabled ≡ true) (port_at s l) (half s j).state
 
-abbrev said_by : (l : LinkState) (j : WorldState) → Ends l j → Side → Lacpdu
+abbrev pub said_by : (l : LinkState) (j : WorldState) → Ends l j → Side → Lacpdu
 said_by l j e s = pdu_of (e s).1.port 0
 
 all_unknown : (u : Lacpdu) (xs : List ItemValue) → AllByRecursion (IsGood 0 u) xs
 all_unknown u [] = tt
 all_unknown u (x ∷ xs) = (λ v c l. absurd (omega (arith, l)), all_unknown u xs)
 
-starts : (l : LinkState) (j : WorldState) (e : Ends l j) → IsSteady j → IsHealthy l j
+pub starts : (l : LinkState) (j : WorldState) (e : Ends l j) → IsSteady j → IsHealthy l j
     → Link 0 (λ s. port_at s l) (said_by l j e) (λ _. 0) One Nothing j
 starts l j e steady h = record {
   steady = steady;
@@ -472,7 +483,7 @@ starts l j e steady h = record {
 }
 
 -- after the first round nothing is on the cable but what was sent in it
-first_round : (gives : Algorithms) (at : Side → ℕ) (w : Side → Lacpdu) (old new : WorldState)
+pub first_round : (gives : Algorithms) (at : Side → ℕ) (w : Side → Lacpdu) (old new : WorldState)
     → Link 0 at w (λ _. 0) One Nothing old → IsRound gives old new → Link 1 at w (λ _. 0) One Nothing new
 first_round gives at w old new l h =
     let k = lower at w 0 (ticked (λ _. 0)) (λ _. 0) One Nothing new (λ s. omega arith)
@@ -489,7 +500,7 @@ first_round gives at w old new l h =
     }
 
 -- both ends know each other
-fresh_knows : (l : LinkState) (w : Side → Lacpdu) (j : WorldState) → Fresh (λ s. port_at s l) w j → (s : Side) → EndKnows s l j
+pub fresh_knows : (l : LinkState) (w : Side → Lacpdu) (j : WorldState) → Fresh (λ s. port_at s l) w j → (s : Side) → EndKnows s l j
 fresh_knows l w j g s =
     let one = port_of s in
     let other = port_of (peer s) in
@@ -519,11 +530,11 @@ fresh_knows l w j g s =
 
 -- both ends are active
 
-room_short : (b : Bool) → silence_of b + silence_of true + 2 ≤ timeout_time b
+pub room_short : (b : Bool) → silence_of b + silence_of true + 2 ≤ timeout_time b
 room_short true = omega arith
 room_short false = omega arith
 
-meets_short : (gives : Algorithms) (at : Side → ℕ) (w : Side → Lacpdu) (s : Side) (n : ℕ) (old new : WorldState)
+pub meets_short : (gives : Algorithms) (at : Side → ℕ) (w : Side → Lacpdu) (s : Side) (n : ℕ) (old new : WorldState)
     → activity (w s) ≡ true → short_timeout (w s) ≡ true → 321 ≤ n → Link 0 at w (λ _. 0) One Nothing old → Rounds gives n old new
     → Fresh at w new
 meets_short gives at w s n old new active short enough l h =

@@ -27,3 +27,8 @@ EndKnows s l j = AtEnd (λ p. AtEnd (λ q. Knows p q) (peer s) l j) s l j
 abbrev pub ActiveEndsComeToKnow : Algorithms → Type 0
 ActiveEndsComeToKnow gives = (n : ℕ) (l : LinkState) (old new : WorldState) → IsSteady old → IsHealthy l old
     → ((s : Side) → AtEnd (λ p. p.active ≡ true) s l old) → 321 ≤ n → Rounds gives n old new → (s : Side) → EndKnows s l new
+
+-- From 630 on they do, if the end at system a is active.
+abbrev pub EndsComeToKnow : Algorithms → Type 0
+EndsComeToKnow gives = (n : ℕ) (l : LinkState) (old new : WorldState) (a : Side) → IsSteady old → IsHealthy l old
+    → AtEnd (λ p. p.active ≡ true) a l old → 630 ≤ n → Rounds gives n old new → (s : Side) → EndKnows s l new
