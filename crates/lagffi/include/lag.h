@@ -34,7 +34,7 @@ struct niw_system {
 #define NIW_EMPTY {false, NULL}
 
 /* The version of this header: it is to go up with each change of what stands here. */
-#define NIW_VERSION 2
+#define NIW_VERSION 3
 /* The version of the release that the header is of. */
 #define NIW_VERSION_TEXT "0.1.0"
 /* The octets of a frame that the library answers. */
