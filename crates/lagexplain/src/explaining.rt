@@ -182,7 +182,8 @@ fn explain_toml(alloc: Global, text: &str, error: &toml::de::Error) -> Result<St
 
 /// Says what is wrong with a text that `read_plan` refuses for this fault: what is to stand behind the name of its file.
 /// For `NotToml` that is `:LINE:COLUMN: ` and the message of the crate `toml`, for any other fault `: `, what the fault names,
-/// as `system 1 port 2`, and what is wrong with it. `AllocError` if memory is refused (profile).
+/// as `system 1 port 2`, and what is wrong with it. Its contract speaks of what stands first, not of the words behind it, nor that
+/// the fault is at that place. `AllocError` if memory is refused (profile).
 pub fn explain(alloc: Global, text: &str, fault: ScriptFault) -> Result<String, AllocError>
     ensures { length text.now < 2 ^ 32 → IfOk result (λ why. SaysWhere text.now fault (string_bytes why)) }
 {

@@ -17,7 +17,7 @@ fn edits_between(alloc: Global, word: &str, name: &str) -> Result<usize, AllocEr
     osa_distance(alloc, word, name)
 }
 
-/// The name that is nearest to a word, if few edits lead there; the first of several.
+/// The name that is nearest to a word of at most 40 octets, if at most two edits lead there. `AllocError` if memory is refused.
 pub(crate) fn nearest<'a>(
     alloc: Global,
     word: &str,

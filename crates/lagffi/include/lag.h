@@ -59,7 +59,8 @@ enum {
     NIW_SLOW_FRAME = 4,        /* an offered frame is one of the slow protocols, EtherType 0x8809 */
     NIW_HELD = 5,              /* the conversation is wanted or flushing, so its frames are held: until the marker's response comes,
                                   the link of its port goes down, or niw_force or niw_force_port frees it. A link that falls
-                                  silent and stays up holds them for ever: once its port does not distribute, force it */
+                                  silent and stays up holds them for ever: once its port has not distributed for longer
+                                  than frames can take through the network, niw_force_port */
     NIW_NONE_DISTRIBUTING = 6, /* the conversation is free, and no port distributes in the aggregator */
     NIW_NOT_DISTRIBUTING = 7,  /* the port to move to does not distribute in the aggregator */
     NIW_SAME_PORT = 8,         /* the port to move to is the one that the conversation is on */
@@ -259,7 +260,7 @@ struct niw_marker {
 struct niw_wait {
     uint32_t status;
     bool ever;      /* whether something ever happens by itself */
-    uint16_t ticks; /* in how many ticks, 0 to 900, or 0 */
+    uint16_t ticks; /* in how many ticks, 0 to 900; 0 where `ever` is false */
 };
 
 /* What there is to show of a port: no timer, and nothing that changes from tick to tick. */
@@ -372,8 +373,8 @@ static inline uint32_t niw_tick(struct niw_system *handle) {
     return handle ? lagffi_tick(handle) : (uint32_t)NIW_NULL;
 }
 
-/* `count` times 100 ms have passed: as so many niw_tick, with nothing between them. A host that was stopped makes up few, since
- * nothing is sent between them. */
+/* `count` times 100 ms have passed: as so many niw_tick, with nothing between them. Up to niw_ticks_until_due of them let no frame
+ * wait that is due; of more, a host makes up few at once, since nothing is sent between them. */
 static inline uint32_t niw_ticks(struct niw_system *handle, uint32_t count) {
     return handle ? lagffi_ticks(handle, count) : (uint32_t)NIW_NULL;
 }
@@ -573,8 +574,9 @@ static inline struct niw_marker niw_next_marker(struct niw_system *handle) {
     return refused;
 }
 
-/* In how many ticks something happens by itself: 0 if a frame is due on some port. Sooner a tick only counts, so a program may sleep
- * and make the ticks up afterwards, by niw_ticks. `ever` is false if nothing happens without another call. */
+/* In how many ticks something happens by itself: 0 if a frame is due on some port. Until then a tick only counts: a program may
+ * sleep, and make the ticks up by niw_ticks before it hands over a frame or makes another call. `ever` is false if nothing happens
+ * without another call. */
 static inline struct niw_wait niw_ticks_until_due(struct niw_system *handle) {
     struct niw_wait refused;
     if (handle) return lagffi_ticks_until_due(handle);

@@ -71,8 +71,8 @@ fn any_standby(system_ports: &[SystemPort]) -> bool
         .any(|system_port| is_standby(system_port))
 }
 
-/// Whether some STANDBY port may be promoted; the first port that is not SELECTED is known. If not, each aggregator of a
-/// STANDBY port has no room.
+/// False only if no STANDBY port can be promoted: each aggregator of one has no room. The first port that is not SELECTED is
+/// known.
 pub(crate) fn may_promote(
     aggregators: &Aggregators,
     system_ports: &[SystemPort],

@@ -92,7 +92,7 @@ fn is_unselected(system_port: &SystemPort) -> bool
     }
 }
 
-/// Whether a port may choose an aggregator now. What most ports fail that may not is asked first.
+/// Whether a port may choose an aggregator now. UNSELECTED is asked first: it rules out most ports.
 pub(crate) fn is_eligible(system_port: &SystemPort) -> bool
     ensures { result ≡ is_eligible (selection_view system_port.now) }
 {

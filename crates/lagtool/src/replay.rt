@@ -157,7 +157,7 @@ fn report_of_script<F: Fn(u16, usize) -> usize + Drop, P: Watch>(
 }
 
 /// Runs a script as `replay` does, and shows the watch how many entries have acted; what is shown is taken away before the
-/// report is written (profile).
+/// report is written, as tests show (profile).
 pub fn replay_watched<F: Fn(u16, usize) -> usize + Drop, W: Write, P: Watch>(
     alloc: Global,
     text: &str,
