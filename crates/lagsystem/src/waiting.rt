@@ -113,13 +113,12 @@ impl<F: Fn(u16, usize) -> usize + Drop> Inner<F> {
 }
 
 impl<F: Fn(u16, usize) -> usize + Drop> System<F> {
-    /// In how many ticks, 0 to 900 as `lagprogress` bounds the timers, something happens by itself: a host may let so many pass
-    /// at once. 0 if a frame is
-    /// due on some port, as `is_due` tells; else the least of: the ticks that current_while, periodic_timer or wait_while
-    /// of a port has left, where it has not expired; where an LACPDU is to be sent, but three were sent in the last eleven
-    /// ticks, those until the first of them leaves the window; and those until a conversation whose marker got no response is
-    /// Wanted again. None if there is nothing of all this: then nothing happens without another call (6.4.10, 6.4.16;
-    /// profile).
+    /// In how many ticks, 0 to 900 as `lagprogress` bounds the timers, something happens by itself: a host may let so
+    /// many pass at once. 0 if a frame is due on some port, as `is_due` tells; else the least of: the ticks that
+    /// current_while, periodic_timer or wait_while of a port has left, where it has not expired; where an LACPDU is to
+    /// be sent, but three were sent in the last eleven ticks, those until the first of them leaves the window; and those
+    /// until a conversation whose marker got no response is Wanted again. None if there is nothing of all this: then
+    /// nothing happens without another call (6.4.10, 6.4.16; profile).
     pub fn ticks_until_due(&self) -> Option<u16>
         ensures { result ≡ ticks_until_due self.now.state }
     {
