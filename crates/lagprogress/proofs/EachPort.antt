@@ -2,10 +2,20 @@
 use Rattle.std.proofs.Common.{◌≡◌, ◌∙◌, ◌&&◌, ◌==◌, ℕ, Bool, true, false, Option, Some, None, Ok, Err, List, [], ◌∷◌, drop, refl}
 use Rattle.std.proofs.Common.{sym}
 use Rattle.std.proofs.Common.{subst, ap, arith, inl, inr}
-use Rattle.std.specs.Prelude.{slice_get}
+use Rattle.std.specs.Prelude.{slice_get, slice_set, length, not, option_map, if◌then◌else◌, ◌⊎◌}
 use Rattle.std.specs.List.{AllByRecursion}
 use Rattle.std.proofs.lemmas.Bool.Decides.{nat_tests}
+use Rattle.std.proofs.lemmas.Bool.{cases_Bool}
+use Rattle.std.proofs.lemmas.Option.{none-some}
+use Rattle.lagtypes.specs.declared.identifiers.AggId.{AggId}
 use Rattle.lagtypes.specs.declared.party.Choice.{Choice}
+use Rattle.lagtypes.specs.declared.party.Choice.TheVariants.{Unselected, Selected, Standby}
+use Rattle.lagtypes.specs.Choices.{is_selected, is_unselected}
+use Rattle.lagtypes.specs.Same.{same_system}
+use Rattle.selection.specs.Choice.{chosen_aggregator}
+use Rattle.selection.specs.Limits.{AggregatorsValue}
+use Rattle.selection.specs.Views.{is_detached, is_eligible}
+use Rattle.selection.specs.declared.view.PortView.{PortView}
 use Rattle.slowpdu.specs.declared.pdu.Lacpdu.{Lacpdu}
 use Rattle.slowpdu.specs.Frames.{frame_octets}
 use Rattle.slowpdu.specs.Layout.{HoldsNumber, IsAddress, read_field}
@@ -31,12 +41,13 @@ use Rattle.lagsystem.specs.Calls.{ChangesParty, PortAtChangesBy, ProcessesLacpdu
 use Rattle.lagsystem.specs.First.{IsFirst, HasJustStarted, setup_of}
 use Rattle.lagsystem.specs.Offers.{system_force_result, system_move_result}
 use Rattle.lagsystem.specs.Sending.{TransmitsAt, TransmitsIf}
-use Rattle.lagsystem.specs.Settling.{PortsChangeBy, Settling, ready_of, with_choice}
+use Rattle.lagsystem.specs.Settling.{ChoosesIn, PortsChangeBy, PromotesNext, Settling, choice_for, choice_in, ready_of, with_choice}
 use Rattle.lagsystem.specs.State.{SystemState, aggregators_value, port_index, with_system_ports}
-use Rattle.lagsystem.specs.Views.{views}
+use Rattle.lagsystem.specs.Views.{selection_view, views}
 use Rattle.lagsystem.specs.Windows.{reply_has_lacpdu, subtype}
 use Rattle.lagsystem.proofs.Performed.{ProcessesOrStays, processes_or_stays}
-use Rattle.lagsystem.proofs.PromotionLemmas.{KeptByChoices, choosing_keeps}
+use Rattle.lagsystem.proofs.Limiting.{next_stands}
+use Rattle.lagsystem.proofs.PromotionLemmas.{choices_keep, promotions_keep}
 use Rattle.lagsystem.proofs.Rest.{becomes_slots, last_slots, marker_slots, offers_slots, same_slots, zip_all}
 use Rattle.lagsystem.proofs.Rising.{all-get, all-set, found_place}
 
@@ -44,7 +55,7 @@ use Rattle.lagsystem.proofs.Rising.{all-get, all-set, found_place}
 pub record KeptBySettling (P : ℕ → Machines → Type 0) : Type 0 where
   pub mux : (n : ℕ) (ready : Bool) (p q : Machines) → RunsToRest (mux_rows ready) p q → P n p → P n q
   pub periodic : (n : ℕ) (p q : Machines) → RunsPeriodic p q → P n p → P n q
-  pub select : (n : ℕ) (choice : Choice) (p : Machines) → P n p → P n (record p { choice = choice })
+  pub select : (n : ℕ) (choice : Choice) (p : Machines) → is_selected p.choice ≡ false → P n p → P n (record p { choice = choice })
 
 -- what a call itself does keeps P
 abbrev pub KeptByCall : (ℕ → Machines → Type 0) → Call → Reply → Type 0
@@ -74,15 +85,56 @@ zip_kept R P Q k (x ∷ xs) (y ∷ ys) h a = (
       k xs ys h.1 a.1,
 )
 
-given : (P : ℕ → Machines → Type 0) → KeptBySettling P → (s : SystemPort) (o : Option Choice) → P s.number s.port
-    → P (with_choice s o).number (with_choice s o).port
-given P k s None a = a
-given P k s (Some choice) a = k.select s.number choice s.port a
+-- a port that is SELECTED gets no other value of Selected
 
-selects : (P : ℕ → Machines → Type 0) → KeptBySettling P → KeptByChoices (OfEach P)
-selects P k l i s o e a =
+chosen_not_eligible : (v : PortView) → is_selected v.choice ≡ true → is_eligible v ≡ false
+chosen_not_eligible v h = by_choice v.choice h
+  where
+    middle : (a b : Bool) → ((a && false) && b) ≡ false
+    middle true b = refl
+    middle false b = refl
+
+    by_choice : (c : Choice) → is_selected c ≡ true
+        → ((((v.enabled && v.settled) && is_detached v.stage) && is_unselected c) && not (same_system v.partner.system v.party.system)) ≡ false
+    by_choice Unselected e = absurd cc
+    by_choice (Standby agg) e = absurd cc
+    by_choice (Selected agg) e = middle ((v.enabled && v.settled) && is_detached v.stage) (not (same_system v.partner.system v.party.system))
+
+none_for : (aggs : AggregatorsValue) (l : List SystemPort) (s : SystemPort) → is_selected s.port.choice ≡ true → choice_for aggs l s ≡ None
+none_for aggs l s h =
+    ap (λ (b : Bool). option_map (choice_in aggs (views l)) (if b then chosen_aggregator aggs.keys (views l) s.number else None))
+    (chosen_not_eligible (selection_view s) h)
+
+given : (P : ℕ → Machines → Type 0) → KeptBySettling P → (s : SystemPort) (o : Option Choice)
+    → (is_selected s.port.choice ≡ false) ⊎ (o ≡ None) → P s.number s.port → P (with_choice s o).number (with_choice s o).port
+given P k s None h a = a
+given P k s (Some choice) (inl h) a = k.select s.number choice s.port h a
+given P k s (Some choice) (inr h) a = absurd (none-some choice (sym h))
+
+gives_one : (P : ℕ → Machines → Type 0) → KeptBySettling P → (l : List SystemPort) (i : ℕ) (s : SystemPort) (o : Option Choice)
+    → (is_selected s.port.choice ≡ false) ⊎ (o ≡ None) → slice_get l i ≡ Some s → OfEach P l
+    → OfEach P (slice_set l i (with_choice s o))
+gives_one P k l i s o h e a =
     let Q : SystemPort → Type 0 = λ x. P x.number x.port in
-    all-set Q l i (with_choice s o) a (given P k s o (all-get Q l i s e a))
+    all-set Q l i (with_choice s o) a (given P k s o h (all-get Q l i s e a))
+
+promotes_one : (P : ℕ → Machines → Type 0) → KeptBySettling P → (aggs : AggregatorsValue) (agg : AggId) (l m : List SystemPort)
+    → PromotesNext aggs agg l m → OfEach P l → OfEach P m
+promotes_one P k aggs agg l m h a =
+    subst (OfEach P) (sym h.4) (gives_one P k l h.0 h.1 (Some (Selected agg)) (inl (ap is_selected (next_stands aggs agg l m h))) h.3 a)
+
+chooses_one : (P : ℕ → Machines → Type 0) → KeptBySettling P → (aggs : AggregatorsValue) (l : List SystemPort) (i : ℕ) (s : SystemPort)
+    → slice_get l i ≡ Some s → OfEach P l → OfEach P (slice_set l i (with_choice s (choice_for aggs l s)))
+chooses_one P k aggs l i s e a = gives_one P k l i s (choice_for aggs l s) (elim (cases_Bool (is_selected s.port.choice)) [
+  | inl t ↦ inr (none_for aggs l s t)
+  | inr f ↦ inl f
+]) e a
+
+choosing_each : (P : ℕ → Machines → Type 0) → KeptBySettling P → (aggs : AggregatorsValue) (old new : List SystemPort)
+    → ChoosesIn aggs old new → OfEach P old → OfEach P new
+choosing_each P k aggs old new h a =
+    subst (OfEach P) (sym h.2) (choices_keep aggs (OfEach P) (chooses_one P k aggs) (length h.0) h.0
+    (promotions_keep aggs (OfEach P) (promotes_one P k aggs) (length aggs.keys) old h.0 h.1 a))
 
 pub settling_each : (P : ℕ → Machines → Type 0) → KeptBySettling P → (old new : SystemState) → Settling old new
     → OfEach P old.system_ports
@@ -98,7 +150,7 @@ settling_each P k old new h a =
     one.system_ports
     h.1.0 a in
     let a2 : OfEach P two.system_ports =
-    choosing_keeps (OfEach P) (selects P k) (aggregators_value one) one.system_ports two.system_ports h.2.1.0 a1 in
+    choosing_each P k (aggregators_value one) one.system_ports two.system_ports h.2.1.0 a1 in
     let a3 : OfEach P three.system_ports = subst (λ (s : SystemState). OfEach P s.system_ports) (sym h.2.2.1) a2 in
     let a4 : OfEach P four.system_ports = zip_kept (λ p q. RunsToRest (mux_rows (ready p)) p q) P P (λ n p. k.mux n (ready p) p)
     three.system_ports four.system_ports h.2.2.2.1.0 a3 in

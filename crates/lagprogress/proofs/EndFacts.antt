@@ -4,6 +4,7 @@ use Rattle.std.proofs.Common.{arith, Some}
 use Rattle.std.proofs.lemmas.Option.{same_Some}
 use Rattle.std.specs.Prelude.{slice_get}
 use Rattle.lagtypes.specs.declared.party.Choice.{Choice}
+use Rattle.lagtypes.specs.Choices.{is_selected}
 use Rattle.lagtypes.specs.States.{bits_of}
 use Rattle.slowpdu.specs.declared.pdu.Lacpdu.{Lacpdu}
 use Rattle.slowpdu.specs.Parties.{party_of}
@@ -59,7 +60,7 @@ IsEnd v u c p = Says v p × Known u c 0 p
 pub record Along (Y : Machines → Type 0) (v u : Lacpdu) (c d : ℕ) : Type 0 where
   pub mux : (ready : Bool) (p q : Machines) → RunsToRest (mux_rows ready) p q → Y p → Y q
   pub periodic : (p q : Machines) → RunsPeriodic p q → IsEnd v u c p → Y p → Y q
-  pub select : (choice : Choice) (p : Machines) → Y p → Y (record p { choice = choice })
+  pub select : (choice : Choice) (p : Machines) → is_selected p.choice ≡ false → Y p → Y (record p { choice = choice })
   pub takes : (x : Lacpdu) (p q : Machines) → (1 ≤ d → SameActor x u) → can_receive p ≡ true → ProcessesLacpdu x p q → IsEnd v u c p
       → Y p → Y q
 
@@ -78,7 +79,7 @@ end_settles Y v u c d n k = record {
     subst (IsEnd v u c) (sym h.2) (runs_keep (IsEnd v u c) periodic_rows (end_periodic v u c) p h.0 h.1 (a e).0),
     k.periodic p q h (a e).0 (a e).1,
   );
-  select = λ m choice p a e. ((a e).0, k.select choice p (a e).1);
+  select = λ m choice p none a e. ((a e).0, k.select choice p none (a e).1);
 }
 
 -- a receipt
@@ -155,7 +156,7 @@ pub nothing_along : (v u : Lacpdu) (c d : ℕ) → Along (λ p. Unit {0}) v u c 
 nothing_along v u c d = record {
   mux = λ ready p q h y. y;
   periodic = λ p q h a y. y;
-  select = λ choice p y. y;
+  select = λ choice p none y. y;
   takes = λ x p q e awake h a y. y;
 }
 
@@ -166,7 +167,7 @@ pub sounds_along : (v u : Lacpdu) (fast : Bool) (c d most : ℕ) → CanSound v 
 sounds_along v u fast c d most can = record {
   mux = λ ready p q h y. runs_keep (Sounds fast most) (mux_rows ready) (mux_sounds fast most ready) p q h y;
   periodic = λ p q h a y. periodic_runs fast most p q h (calm v u fast c p can a) y;
-  select = λ choice p y. y;
+  select = λ choice p none y. y;
   takes = λ x p q e awake h a y. elim h [
     | inl f ↦ fires_keep (Sounds fast most) (lacpdu_rows x) (sounds_takes fast most x) p q f y
     | inr r ↦ subst (Sounds fast most) (sym r.1) y
@@ -184,7 +185,7 @@ known_along v u c d there = record {
   mux = λ ready p q h y. runs_keep (Known u (wait_of v) 0) (mux_rows ready) (mux_known u (wait_of v) 0 ready) p q h y;
   periodic = λ p q h a y. subst (Known u (wait_of v) 0) (sym h.2)
       (runs_keep (Known u (wait_of v) 0) periodic_rows (periodic_known u (wait_of v) 0) p h.0 h.1 y);
-  select = λ choice p y. y;
+  select = λ choice p none y. y;
   takes = λ x p q e awake h a y. takes_known v u x p q (e there) awake h a.0 a.1.0;
 }
 
@@ -192,7 +193,7 @@ pub both_along : (Y Z : Machines → Type 0) (v u : Lacpdu) (c d : ℕ) → Alon
 both_along Y Z v u c d k l = record {
   mux = λ ready p q h y. (k.mux ready p q h y.0, l.mux ready p q h y.1);
   periodic = λ p q h a y. (k.periodic p q h a y.0, l.periodic p q h a y.1);
-  select = λ choice p y. (k.select choice p y.0, l.select choice p y.1);
+  select = λ choice p none y. (k.select choice p none y.0, l.select choice p none y.1);
   takes = λ x p q e awake h a y. (k.takes x p q e awake h a y.0, l.takes x p q e awake h a y.1);
 }
 

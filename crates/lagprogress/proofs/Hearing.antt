@@ -118,7 +118,7 @@ unheard_settles n most k = record {
   mux = λ m ready p q h a e. runs_keep (Unheard 1 most) (mux_rows ready) (mux_keeps most ready) p q h (a e);
   periodic = λ m p q h a e. subst (Unheard 1 most) (sym h.2) (runs_keep (Unheard 1 most) periodic_rows (periodic_keeps most) p
       h.0 h.1 (a e));
-  select = λ m choice p a e. a e;
+  select = λ m choice p none a e. a e;
 }
 
 -- a tick

@@ -104,7 +104,7 @@ arrived_ports d at w c x Y s k z octets old new fits along l there numbered good
     let late : Along Late (w s) (w (peer s)) (c s) d = record {
       mux = λ ready p q h y e. (known_along (w s) (w (peer s)) (c s) d e).mux ready p q h (y e);
       periodic = λ p q h a y e. (known_along (w s) (w (peer s)) (c s) d e).periodic p q h a (y e);
-      select = λ choice p y e. y e;
+      select = λ choice p none y e. y e;
       takes = λ u p q same awake h a y e. takes_known (w s) (w (peer s)) u p q (same e) awake h a.0 a.1.0;
     } in
     let each = takes_each Q (half s old).state (half s new).state v k z (l.steady s).0 there

@@ -4,6 +4,7 @@ use Rattle.std.proofs.lemmas.Bool.Decides.{nat_tests}
 use Rattle.lagtypes.specs.declared.party.Choice.{Choice}
 use Rattle.lagtypes.specs.declared.state.State.{State}
 use Rattle.lagtypes.specs.declared.state.StateBits.{StateBits}
+use Rattle.lagtypes.specs.Choices.{is_selected}
 use Rattle.lagtypes.specs.States.{bits_of, with_synchronization, with_timeout}
 use Rattle.lagtypes.proofs.StateLemmas.{encode_then_decode}
 use Rattle.slowpdu.specs.declared.pdu.Lacpdu.{Lacpdu}
@@ -38,7 +39,7 @@ Lapsing i p = Lapsed (i + 1) p × Sounds true i p
 record Kept (T : Machines → Type 0) : Type 0 where
   mux : (ready : Bool) (p q : Machines) → RunsToRest (mux_rows ready) p q → T p → T q
   periodic : (p q : Machines) → RunsPeriodic p q → p.enabled ≡ true → T p → T q
-  select : (choice : Choice) (p : Machines) → T p → T (record p { choice = choice })
+  select : (choice : Choice) (p : Machines) → is_selected p.choice ≡ false → T p → T (record p { choice = choice })
   active : (p : Machines) → T p → (bits_of p.partner.state).activity ≡ true
 
 lapsed_mux : (e : ℕ) (ready : Bool) → RowsKeep (Lapsed e) (mux_rows ready)
@@ -51,7 +52,7 @@ lapsed_kept : (e : ℕ) → Kept (Lapsed e)
 lapsed_kept e = record {
   mux = λ ready p q h y. runs_keep (Lapsed e) (mux_rows ready) (lapsed_mux e ready) p q h y;
   periodic = λ p q h up y. subst (Lapsed e) (sym h.2) (runs_keep (Lapsed e) periodic_rows (lapsed_periodic e) p h.0 h.1 y);
-  select = λ choice p y. y;
+  select = λ choice p none y. y;
   active = λ p y. y.1;
 }
 
@@ -62,7 +63,7 @@ lapsing_kept : (i : ℕ) → Kept (Lapsing i)
 lapsing_kept i = record {
   mux = λ ready p q h y. ((lapsed_kept (i + 1)).mux ready p q h y.0, runs_keep (Sounds true i) (mux_rows ready) (mux_sounds true i ready) p q h y.1);
   periodic = λ p q h up y. ((lapsed_kept (i + 1)).periodic p q h up y.0, periodic_runs true i p q h (lapsed_calm (i + 1) p up y.0) y.1);
-  select = λ choice p y. y;
+  select = λ choice p none y. y;
   active = λ p y. y.0.1;
 }
 
@@ -70,7 +71,7 @@ later_kept : (i : ℕ) → Kept (λ p. (1 ≤ i) × Lapsing i p)
 later_kept i = record {
   mux = λ ready p q h y. (y.0, (lapsing_kept i).mux ready p q h y.1);
   periodic = λ p q h up y. (y.0, (lapsing_kept i).periodic p q h up y.1);
-  select = λ choice p y. y;
+  select = λ choice p none y. y;
   active = λ p y. y.1.0.1;
 }
 
@@ -78,7 +79,7 @@ some_kept : (T : ℕ → Machines → Type 0) → ((i : ℕ) → Kept (T i)) →
 some_kept T k = record {
   mux = λ ready p q h y. (y.0, (k y.0).mux ready p q h y.1);
   periodic = λ p q h up y. (y.0, (k y.0).periodic p q h up y.1);
-  select = λ choice p y. (y.0, (k y.0).select choice p y.1);
+  select = λ choice p none y. (y.0, (k y.0).select choice p none y.1);
   active = λ p y. (k y.0).active p y.1;
 }
 
@@ -86,7 +87,7 @@ either_kept : (S T : Machines → Type 0) → Kept S → Kept T → Kept (λ p. 
 either_kept S T k l = record {
   mux = λ ready p q h y. elim y [ inl a ↦ inl (k.mux ready p q h a) | inr a ↦ inr (l.mux ready p q h a) ];
   periodic = λ p q h up y. elim y [ inl a ↦ inl (k.periodic p q h up a) | inr a ↦ inr (l.periodic p q h up a) ];
-  select = λ choice p y. elim y [ inl a ↦ inl (k.select choice p a) | inr a ↦ inr (l.select choice p a) ];
+  select = λ choice p none y. elim y [ inl a ↦ inl (k.select choice p none a) | inr a ↦ inr (l.select choice p none a) ];
   active = λ p y. elim y [ inl a ↦ k.active p a | inr a ↦ l.active p a ];
 }
 
@@ -101,7 +102,7 @@ recorded_kept u on = record {
   mux = λ ready p q h y. runs_keep (Recorded u 1) (mux_rows ready) (recorded_mux u ready) p q h y;
   periodic = λ p q h up y. subst (Recorded u 1) (sym h.2)
       (runs_keep (Recorded u 1) periodic_rows (recorded_periodic u) p h.0 h.1 y);
-  select = λ choice p y. y;
+  select = λ choice p none y. y;
   active = λ p y. y.0.active ∙ on;
 }
 
@@ -131,7 +132,7 @@ phase_along v u T d k on there kept =
         periodic_runs false k p q h (slow_calm (λ r. Recorded u 1 r ⊎ T r) p both a.1.0 y.1) y.0,
         both.periodic p q h a.1.0 y.1,
       );
-      select = λ choice p y. (y.0, both.select choice p y.1);
+      select = λ choice p none y. (y.0, both.select choice p none y.1);
       takes = λ x p q e awake h a y. (
         elim h [
           | inl f ↦ fires_keep (Sounds false k) (lacpdu_rows x) (sounds_takes false k x) p q f y.0
@@ -272,7 +273,7 @@ constant : (A : Type 0) (v u : Lacpdu) (c d : ℕ) → Along (λ p. A) v u c d
 constant A v u c d = record {
   mux = λ ready p q h y. y;
   periodic = λ p q h a y. y;
-  select = λ choice p y. y;
+  select = λ choice p none y. y;
   takes = λ x p q e awake h a y. y;
 }
 

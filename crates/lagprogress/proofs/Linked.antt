@@ -244,7 +244,7 @@ pub along_if : (w : Side → Lacpdu) (c : Side → ℕ) (d : ℕ) (x : Side) (Y 
 along_if w c d x Y k s = record {
   mux = λ ready p q h y e. k.mux ready p q h (y e);
   periodic = λ p q h a y e. k.periodic p q h (subst (λ t. IsEnd (w t) (w (peer t)) (c t) p) e a) (y e);
-  select = λ choice p y e. k.select choice p (y e);
+  select = λ choice p none y e. k.select choice p none (y e);
   takes = λ z p q same awake h a y e. k.takes z p q (subst (λ t. 1 ≤ d → SameActor z (w (peer t))) e same) awake h
       (subst (λ t. IsEnd (w t) (w (peer t)) (c t) p) e a) (y e);
 }

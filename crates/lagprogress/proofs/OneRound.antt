@@ -429,7 +429,7 @@ later_along : (v u : Lacpdu) (fast : Bool) (c d most : ℕ) → CanSound v u fas
 later_along v u fast c d most can = both_along (λ p. 1 ≤ most) (Sounds fast most) v u c d (record {
   mux = λ ready p q h y. y;
   periodic = λ p q h a y. y;
-  select = λ choice p y. y;
+  select = λ choice p none y. y;
   takes = λ x p q e awake h a y. y;
 }) (sounds_along v u fast c d most can)
 
