@@ -1,22 +1,29 @@
 -- What ticks, receipts and settlings leave of a port at an end of a cable whose other end sends LACPDUs of one kind.
 use Rattle.std.proofs.Common.{◌≡◌, ◌∙◌, ℕ, ◌-◌, ◌≤◌, Bool, true, false, not, ◌||◌, ◌&&◌, ◌⊎◌, inl, inr, refl, sym, subst}
-use Rattle.std.proofs.Common.{arith, Some}
+use Rattle.std.proofs.Common.{arith, ap, Some, ◌==◌, if◌then◌else◌}
 use Rattle.std.proofs.lemmas.Option.{same_Some}
 use Rattle.std.specs.Prelude.{slice_get}
 use Rattle.lagtypes.specs.declared.party.Choice.{Choice}
+use Rattle.lagtypes.specs.declared.party.Choice.TheVariants.{Unselected}
+use Rattle.lagtypes.specs.declared.state.StateBits.{StateBits}
 use Rattle.lagtypes.specs.Choices.{is_selected}
+use Rattle.lagtypes.specs.Same.{same_party}
 use Rattle.lagtypes.specs.States.{bits_of}
+use Rattle.lagtypes.proofs.SameLemmas.{party_itself}
 use Rattle.slowpdu.specs.declared.pdu.Lacpdu.{Lacpdu}
 use Rattle.slowpdu.specs.Parties.{party_of}
 use Rattle.portmachines.specs.Machines.{Machines}
-use Rattle.portmachines.specs.Mux.{mux_rows}
+use Rattle.portmachines.specs.declared.mux.MuxState.{MuxState}
+use Rattle.portmachines.specs.declared.mux.MuxState.TheVariants.{Detached, Waiting, Attached, CollectingDistributing}
+use Rattle.portmachines.specs.declared.receive.ReceiveState.TheVariants.{Expired}
+use Rattle.portmachines.specs.Mux.{is_synchronized, mux_rows, partner_synchronized, same_mux_state}
 use Rattle.portmachines.specs.Periodic.{RunsPeriodic, periodic_rows}
-use Rattle.portmachines.specs.Receive.{lacpdu_rows, receive_rows}
+use Rattle.portmachines.specs.Receive.{is_maintained, lacpdu_rows, receive_rows, recorded_synchronization, same_receive_state}
 use Rattle.portmachines.specs.Rows.{AtRest, RunsToRest}
 use Rattle.portmachines.specs.Transmit.{count_down}
 use Rattle.lagsystem.specs.declared.system_ports.SystemPort.{SystemPort}
 use Rattle.lagsystem.specs.Calls.{OnlyPortChangesBy, ProcessesLacpdu, ThenSettles}
-use Rattle.lagsystem.specs.ModelView.{can_receive, none_enabled}
+use Rattle.lagsystem.specs.ModelView.{can_receive, can_receive_in, none_enabled}
 use Rattle.lagsystem.specs.Sound.{IsSound}
 use Rattle.lagsystem.specs.State.{SystemState, port_numbers}
 use Rattle.lagsystem.proofs.Keeps.{keeps_place}
@@ -26,8 +33,8 @@ use Rattle.lagprogress.specs.Hearing.{timeout_time}
 use Rattle.lagprogress.specs.Knowing.{HasRecorded}
 use Rattle.lagprogress.proofs.EachPort.{KeptBySettling, OfEach, settling_each}
 use Rattle.lagprogress.proofs.Heartbeat.{raised}
-use Rattle.lagprogress.proofs.Hearing.{no}
-use Rattle.lagprogress.proofs.Knowing.{Known, counts, mux_known, periodic_known, placed, receives, recorded}
+use Rattle.lagprogress.proofs.Hearing.{EnabledKeep, no, not_down, times_keep}
+use Rattle.lagprogress.proofs.Knowing.{Known, counts, decoded, placed, receive_known, receives, recorded}
 use Rattle.lagprogress.proofs.OnePort.{AtPort, at_number}
 use Rattle.lagprogress.proofs.Sounding.{Calm, Sounds, counts_sounds, mux_sounds, periodic_runs}
 use Rattle.lagprogress.proofs.Timers.{RowsKeep, fires_keep, runs_keep}
@@ -51,35 +58,86 @@ Says v p = (p.party ≡ party_of v.actor) × (p.active ≡ activity v) × (p.sho
 abbrev pub SameActor : Lacpdu → Lacpdu → Type 0
 SameActor v u = (party_of v.actor ≡ party_of u.actor) × (activity v ≡ activity u) × (short_timeout v ≡ short_timeout u)
 
+-- SELECTED, and ATTACHED or COLLECTING_DISTRIBUTING
+abbrev pub Synced : Machines → Type 0
+Synced p = (is_selected p.choice ≡ true) × (is_synchronized p.mux ≡ true)
+
+-- the LACPDU says that its actor is synchronized and knows the partner, the actor of the other
+abbrev pub InSync : Lacpdu → Lacpdu → Type 0
+InSync v x = ((bits_of x.actor.state).synchronization ≡ true) × (party_of x.partner ≡ party_of v.actor)
+    × ((bits_of x.partner.state).activity ≡ activity v)
+
+-- What is known of an LACPDU that comes to a port: by the first number nothing, or what it says of its actor, or also that
+-- it is in sync. Of the others, the first is of the port itself, the second of its partner.
+abbrev pub Suits : ℕ → Lacpdu → Lacpdu → Lacpdu → Type 0
+Suits d v u x = (1 ≤ d → SameActor x u) × (2 ≤ d → InSync v x)
+
 -- The port is as the first LACPDU says, its link is up, and it has recorded the actor of the second, for so many ticks
--- more if there are any.
-abbrev pub IsEnd : Lacpdu → Lacpdu → ℕ → Machines → Type 0
-IsEnd v u c p = Says v p × Known u c 0 p
+-- more if there are any. If the first number is 2, it is synchronized.
+abbrev pub IsEnd : ℕ → Lacpdu → Lacpdu → ℕ → Machines → Type 0
+IsEnd d v u c p = Says v p × Known u c 0 p × (2 ≤ d → Synced p)
 
 -- what stands beside it and is kept as well; the last number is 0 if nothing is known of the LACPDUs that come
 pub record Along (Y : Machines → Type 0) (v u : Lacpdu) (c d : ℕ) : Type 0 where
   pub mux : (ready : Bool) (p q : Machines) → RunsToRest (mux_rows ready) p q → Y p → Y q
-  pub periodic : (p q : Machines) → RunsPeriodic p q → IsEnd v u c p → Y p → Y q
+  pub periodic : (p q : Machines) → RunsPeriodic p q → IsEnd d v u c p → Y p → Y q
   pub select : (choice : Choice) (p : Machines) → is_selected p.choice ≡ false → Y p → Y (record p { choice = choice })
-  pub takes : (x : Lacpdu) (p q : Machines) → (1 ≤ d → SameActor x u) → can_receive p ≡ true → ProcessesLacpdu x p q → IsEnd v u c p
+  pub takes : (x : Lacpdu) (p q : Machines) → Suits d v u x → can_receive p ≡ true → ProcessesLacpdu x p q → IsEnd d v u c p
       → Y p → Y q
 
 -- settling
 
-end_mux : (v u : Lacpdu) (c : ℕ) (ready : Bool) → RowsKeep (IsEnd v u c) (mux_rows ready)
-end_mux v u c ready = (λ p a. a, (λ p a. a, (λ p a. a, (λ p a. a, (λ p a. a, (λ p a. a, tt))))))
+not_attached : (m : MuxState) (g : Bool) (from : MuxState) → is_synchronized from ≡ false → (same_mux_state from m && g) ≡ true
+    → is_synchronized m ≡ true → ⊥
+not_attached Detached g Detached f h e = no e
+not_attached Detached g Waiting f h e = no h
+not_attached Detached g Attached f h e = no h
+not_attached Detached g CollectingDistributing f h e = no h
+not_attached Waiting g Detached f h e = no h
+not_attached Waiting g Waiting f h e = no e
+not_attached Waiting g Attached f h e = no h
+not_attached Waiting g CollectingDistributing f h e = no h
+not_attached Attached g Detached f h e = no h
+not_attached Attached g Waiting f h e = no h
+not_attached Attached g Attached f h e = no (sym f)
+not_attached Attached g CollectingDistributing f h e = no h
+not_attached CollectingDistributing g Detached f h e = no h
+not_attached CollectingDistributing g Waiting f h e = no h
+not_attached CollectingDistributing g Attached f h e = no h
+not_attached CollectingDistributing g CollectingDistributing f h e = no (sym f)
 
-end_periodic : (v u : Lacpdu) (c : ℕ) → RowsKeep (IsEnd v u c) periodic_rows
-end_periodic v u c = (λ p a. a, (λ p a. a, (λ p a. a, (λ p a. a, (λ p a. a, (λ p a. a, (λ p a. a, tt)))))))
+end_mux : (d : ℕ) (v u : Lacpdu) (c : ℕ) (ready : Bool) → EnabledKeep (IsEnd d v u c) (mux_rows ready)
+end_mux d v u c ready = (
+  λ p h a. (a.0, a.1, λ e. absurd (not_attached p.mux _ Detached refl h (a.2 e).1)),
+  (
+    λ p h a. (a.0, a.1, λ e. absurd (not_attached p.mux _ Waiting refl h (a.2 e).1)),
+    (
+      λ p h a. (a.0, a.1, λ e. absurd (not_attached p.mux _ Waiting refl h (a.2 e).1)),
+      (
+        λ p h a. (a.0, a.1, λ e. absurd (not_down _ (is_selected p.choice) h (a.2 e).0)),
+        (λ p h a. (a.0, a.1, λ e. ((a.2 e).0, refl)), (λ p h a. (a.0, a.1, λ e. ((a.2 e).0, refl)), tt)),
+      ),
+    ),
+  ),
+)
 
-pub end_settles : (Y : Machines → Type 0) (v u : Lacpdu) (c d n : ℕ) → Along Y v u c d → KeptBySettling (AtPort n (λ p. IsEnd v u c p × Y p))
+end_periodic : (d : ℕ) (v u : Lacpdu) (c : ℕ) → RowsKeep (IsEnd d v u c) periodic_rows
+end_periodic d v u c = (λ p a. a, (λ p a. a, (λ p a. a, (λ p a. a, (λ p a. a, (λ p a. a, (λ p a. a, tt)))))))
+
+pub end_settles : (Y : Machines → Type 0) (v u : Lacpdu) (c d n : ℕ) → Along Y v u c d → KeptBySettling (AtPort n (λ p. IsEnd d v u c p × Y p))
 end_settles Y v u c d n k = record {
-  mux = λ m ready p q h a e. (runs_keep (IsEnd v u c) (mux_rows ready) (end_mux v u c ready) p q h (a e).0, k.mux ready p q h (a e).1);
+  mux = λ m ready p q h a e. (
+    times_keep (IsEnd d v u c) (mux_rows ready) (end_mux d v u c ready) h.0 p q h.1 (a e).0,
+    k.mux ready p q h (a e).1,
+  );
   periodic = λ m p q h a e. (
-    subst (IsEnd v u c) (sym h.2) (runs_keep (IsEnd v u c) periodic_rows (end_periodic v u c) p h.0 h.1 (a e).0),
+    subst (IsEnd d v u c) (sym h.2) (runs_keep (IsEnd d v u c) periodic_rows (end_periodic d v u c) p h.0 h.1 (a e).0),
     k.periodic p q h (a e).0 (a e).1,
   );
-  select = λ m choice p none a e. ((a e).0, k.select choice p none (a e).1);
+  select = λ m choice p none a e. (
+    ((a e).0.0, (a e).0.1, λ f. absurd (no (sym none ∙ ((a e).0.2 f).0))),
+    k.select choice p none (a e).1,
+  );
 }
 
 -- a receipt
@@ -107,25 +165,57 @@ takes_known v u x p q e awake h a up =
     let says = says_kept v x p q h a in
     (r.0, λ _. (same_recorded x u q e r.1.0, subst (λ b. timeout_time b ≤ q.current_while) says.2 r.1.1))
 
-pub takes_end : (v u x : Lacpdu) (c d : ℕ) (p q : Machines) → (1 ≤ d → SameActor x u) → (1 ≤ c → 1 ≤ d) → c ≤ wait_of v
-    → can_receive p ≡ true → ProcessesLacpdu x p q → IsEnd v u c p → IsEnd v u c q
-takes_end v u x c d p q e fits less awake h a = (
+-- an LACPDU of the partner that is recorded leaves Selected
+keeps_synced : (u x : Lacpdu) (p q : Machines) → SameActor x u → HasRecorded u p → ProcessesLacpdu x p q → Synced p → Synced q
+keeps_synced u x p q e known h a = elim h [
+  | inl f ↦ elim f [
+    | inl g ↦ (let same : same_party (party_of x.actor) (party_of p.partner) ≡ true =
+        subst (λ y. same_party y (party_of p.partner) ≡ true) (known.party ∙ sym e.0) (party_itself (party_of p.partner)) in
+        subst Synced (sym g.1) (subst (λ b. is_selected (if b then p.choice else Unselected) ≡ true) (sym same) a.0, a.1))
+    | inr g ↦ absurd g
+  ]
+  | inr r ↦ subst Synced (sym r.1) a
+]
+
+pub takes_end : (v u x : Lacpdu) (c d : ℕ) (p q : Machines) → Suits d v u x → (1 ≤ c → 1 ≤ d) → (2 ≤ d → 1 ≤ c) → c ≤ wait_of v
+    → can_receive p ≡ true → ProcessesLacpdu x p q → IsEnd d v u c p → IsEnd d v u c q
+takes_end v u x c d p q e fits known less awake h a = (
   says_kept v x p q h a.0,
   (
     (recorded x p q a.1.0 awake h).0,
-    λ l. let b = (takes_known v u x p q (e (fits l)) awake h a.0 a.1.0).1 (omega (arith, l, less)) in (b.0, omega (arith, less, b.1)),
+    λ l. let b = (takes_known v u x p q (e.0 (fits l)) awake h a.0 a.1.0).1 (omega (arith, l, less)) in (b.0, omega (arith, less, b.1)),
+  ),
+  λ f. keeps_synced u x p q (e.0 (omega (arith, f))) (a.1.1 (known f)).0 h (a.2 f),
+)
+
+pub less_known : (n : ℕ) (v u : Lacpdu) (c d : ℕ) (p : Machines) → d ≤ c → IsEnd n v u c p → IsEnd n v u d p
+less_known n v u c d p l a = (a.0, (a.1.0, λ k. let b = a.1.1 (omega (arith, k, l)) in (b.0, omega (arith, l, b.1))), a.2)
+
+-- a tick
+
+-- no row of the receive machine is enabled that changes Selected
+synced_rows : (u : Lacpdu) (c : ℕ) → 1 ≤ c → EnabledKeep (λ p. Known u c 0 p × Synced p) receive_rows
+synced_rows u c l = let k = receive_known u c 0 in (
+  λ p h a. (k.0 p h a.0, a.1),
+  (
+    λ p h a. (k.1.0 p h a.0, a.1),
+    (
+      λ p h a. (k.1.1.0 p h a.0, a.1),
+      (
+        λ p h a. absurd (no (sym (ap (λ b. b && (p.current_while == 0)) (ap (same_receive_state Expired) (a.0.1 l).0.current)) ∙ h)),
+        (λ p h a. (k.1.1.1.1.0 p h a.0, a.1), tt),
+      ),
+    ),
   ),
 )
 
-pub less_known : (v u : Lacpdu) (c d : ℕ) (p : Machines) → d ≤ c → IsEnd v u c p → IsEnd v u d p
-less_known v u c d p l a = (a.0, (a.1.0, λ k. let b = a.1.1 (omega (arith, k, l)) in (b.0, omega (arith, l, b.1))))
-
--- a tick
-pub ticks_end : (v u : Lacpdu) (c : ℕ) (p q : Machines) → RunsToRest receive_rows (count_down p) q → IsEnd v u c p
-    → IsEnd v u (c - 1) q
-ticks_end v u c p q h a = (
+pub ticks_end : (d : ℕ) (v u : Lacpdu) (c : ℕ) (p q : Machines) → (2 ≤ d → 1 ≤ c - 1) → RunsToRest receive_rows (count_down p) q
+    → IsEnd d v u c p → IsEnd d v u (c - 1) q
+ticks_end d v u c p q known h a = (
   runs_keep (Says v) receive_rows (λ p a. a, (λ p a. a, (λ p a. a, (λ p a. a, (λ p a. a, tt))))) (count_down p) q h a.0,
   receives u (c - 1) 1 (count_down p) q h (counts u c 0 p a.1),
+  λ f. (times_keep (λ r. Known u (c - 1) 0 r × Synced r) receive_rows (synced_rows u (c - 1) (known f)) h.0 (count_down p) q h.1
+      (counts u c 0 p a.1, a.2 f)).1,
 )
 
 -- the port is not kept silent: it is active, or knows that its partner is; and it has recorded Short Timeout, if that is
@@ -140,8 +230,8 @@ not_silent true false false up (inl x) = absurd (no x)
 not_silent true false false up (inr x) = absurd (no x)
 not_silent false a b up h = absurd (no up)
 
-pub calm : (v u : Lacpdu) (fast : Bool) (c : ℕ) (p : Machines) → CanSound v u fast c → IsEnd v u c p → Calm fast p
-calm v u fast c p can a = (
+pub calm : (d : ℕ) (v u : Lacpdu) (fast : Bool) (c : ℕ) (p : Machines) → CanSound v u fast c → IsEnd d v u c p → Calm fast p
+calm d v u fast c p can a = (
   not_silent p.enabled p.active (bits_of p.partner.state).activity a.1.0 (active can.0),
   λ f. let g = can.1 f in (a.1.1 g.0).0.short ∙ g.1,
 )
@@ -166,7 +256,7 @@ sounds_takes fast most x = (λ p a. (raised _ p.ntt _ a.0, a.1), tt)
 pub sounds_along : (v u : Lacpdu) (fast : Bool) (c d most : ℕ) → CanSound v u fast c → Along (Sounds fast most) v u c d
 sounds_along v u fast c d most can = record {
   mux = λ ready p q h y. runs_keep (Sounds fast most) (mux_rows ready) (mux_sounds fast most ready) p q h y;
-  periodic = λ p q h a y. periodic_runs fast most p q h (calm v u fast c p can a) y;
+  periodic = λ p q h a y. periodic_runs fast most p q h (calm d v u fast c p can a) y;
   select = λ choice p none y. y;
   takes = λ x p q e awake h a y. elim h [
     | inl f ↦ fires_keep (Sounds fast most) (lacpdu_rows x) (sounds_takes fast most x) p q f y
@@ -174,19 +264,77 @@ sounds_along v u fast c d most can = record {
   ];
 }
 
-pub ticks_sounds : (v u : Lacpdu) (fast : Bool) (c most : ℕ) (p q : Machines) → CanSound v u fast c
-    → RunsToRest receive_rows (count_down p) q → AtRest periodic_rows p → IsEnd v u c p → Sounds fast most p → Sounds fast (most - 1) q
-ticks_sounds v u fast c most p q can h rest a y =
+pub ticks_sounds : (d : ℕ) (v u : Lacpdu) (fast : Bool) (c most : ℕ) (p q : Machines) → CanSound v u fast c
+    → RunsToRest receive_rows (count_down p) q → AtRest periodic_rows p → IsEnd d v u c p → Sounds fast most p → Sounds fast (most - 1) q
+ticks_sounds d v u fast c most p q can h rest a y =
     runs_keep (Sounds fast (most - 1)) receive_rows (λ p a. a, (λ p a. a, (λ p a. a, (λ p a. a, (λ p a. a, tt))))) (count_down p) q h
-    (counts_sounds fast most p rest (calm v u fast c p can a).0 y)
+    (counts_sounds fast most p rest (calm d v u fast c p can a).0 y)
 
-pub known_along : (v u : Lacpdu) (c d : ℕ) → 1 ≤ d → Along (Known u (wait_of v) 0) v u c d
-known_along v u c d there = record {
-  mux = λ ready p q h y. runs_keep (Known u (wait_of v) 0) (mux_rows ready) (mux_known u (wait_of v) 0 ready) p q h y;
-  periodic = λ p q h a y. subst (Known u (wait_of v) 0) (sym h.2)
-      (runs_keep (Known u (wait_of v) 0) periodic_rows (periodic_known u (wait_of v) 0) p h.0 h.1 y);
+-- the partner has just been recorded, and its Synchronization if the first number is 2
+abbrev pub Learnt : ℕ → Lacpdu → ℕ → Machines → Type 0
+Learnt d u most p = Known u most 0 p × (2 ≤ d → partner_synchronized p ≡ true)
+
+all_true : (a b c : Bool) → a ≡ true → b ≡ true → c ≡ true → (a && b && c) ≡ true
+all_true true true true e f g = refl
+all_true true true false e f g = g
+all_true true false c e f g = absurd (no f)
+all_true false b c e f g = absurd (no e)
+
+maintained : (a b c : Bool) → (a ≡ true) ⊎ ((b ≡ true) × (c ≡ true)) → (a || (b && c)) ≡ true
+maintained true b c h = refl
+maintained false b c (inl h) = absurd (no h)
+maintained false true true (inr h) = refl
+maintained false true false (inr h) = h.1
+maintained false false c (inr h) = absurd (no h.0)
+
+first_true : (a b : Bool) → a ≡ true → (a || b) ≡ true
+first_true true b h = refl
+first_true false b h = absurd (no h)
+
+records_sync : (v u x : Lacpdu) (p : Machines) → (activity u ≡ true) ⊎ (activity v ≡ true) → SameActor x u → InSync v x → Says v p
+    → recorded_synchronization x p ≡ true
+records_sync v u x p on e i a = all_true (bits_of x.actor.state).synchronization (is_maintained x p)
+    (same_party (party_of x.partner) p.party || not (bits_of x.actor.state).aggregation) i.0
+    (maintained (activity x) p.active (bits_of x.partner.state).activity (by_activity on))
+    (first_true (same_party (party_of x.partner) p.party) (not (bits_of x.actor.state).aggregation)
+    (subst (λ y. same_party (party_of x.partner) y ≡ true) (i.1 ∙ sym a.0) (party_itself (party_of x.partner))))
+  where
+    by_activity : (activity u ≡ true) ⊎ (activity v ≡ true)
+        → (activity x ≡ true) ⊎ ((p.active ≡ true) × ((bits_of x.partner.state).activity ≡ true))
+    by_activity (inl k) = inl (e.1 ∙ k)
+    by_activity (inr k) = inr (a.1 ∙ k, i.2 ∙ k)
+
+awake_fires : (b c : Bool) → b ≡ true → (if b then c else true) ≡ true → (c && b) ≡ false → ⊥
+awake_fires true true e h f = no (sym f)
+awake_fires true false e h f = no h
+awake_fires false c e h f = no e
+
+takes_sync : (v u x : Lacpdu) (p q : Machines) → (activity u ≡ true) ⊎ (activity v ≡ true) → SameActor x u → InSync v x
+    → can_receive p ≡ true → ProcessesLacpdu x p q → Says v p → p.enabled ≡ true → partner_synchronized q ≡ true
+takes_sync v u x p q on e i awake h a up = elim h [
+  | inl f ↦ elim f [
+    | inl g ↦ subst (λ r. partner_synchronized r ≡ true) (sym g.1)
+        (ap (λ (b : StateBits). b.synchronization) (decoded (recorded_synchronization x p) x.actor) ∙ records_sync v u x p on e i a)
+    | inr g ↦ absurd g
+  ]
+  | inr r ↦ absurd (awake_fires p.enabled (can_receive_in p.receive) up awake r.0.0)
+]
+
+pub takes_learnt : (v u x : Lacpdu) (c d : ℕ) (p q : Machines) → 1 ≤ d → (2 ≤ d → (activity u ≡ true) ⊎ (activity v ≡ true)) → Suits d v u x
+    → can_receive p ≡ true → ProcessesLacpdu x p q → IsEnd d v u c p → Learnt d u (wait_of v) q
+takes_learnt v u x c d p q there on e awake h a = (
+  takes_known v u x p q (e.0 there) awake h a.0 a.1.0,
+  λ f. takes_sync v u x p q (on f) (e.0 there) (e.1 f) awake h a.0 a.1.0,
+)
+
+pub known_along : (v u : Lacpdu) (c d : ℕ) → 1 ≤ d → (2 ≤ d → (activity u ≡ true) ⊎ (activity v ≡ true)) → Along (Learnt d u (wait_of v)) v u c d
+known_along v u c d there on = record {
+  mux = λ ready p q h y. runs_keep (Learnt d u (wait_of v)) (mux_rows ready)
+      (λ p a. a, (λ p a. a, (λ p a. a, (λ p a. a, (λ p a. a, (λ p a. a, tt)))))) p q h y;
+  periodic = λ p q h a y. subst (Learnt d u (wait_of v)) (sym h.2) (runs_keep (Learnt d u (wait_of v)) periodic_rows
+      (λ p a. a, (λ p a. a, (λ p a. a, (λ p a. a, (λ p a. a, (λ p a. a, (λ p a. a, tt))))))) p h.0 h.1 y);
   select = λ choice p none y. y;
-  takes = λ x p q e awake h a y. takes_known v u x p q (e there) awake h a.0 a.1.0;
+  takes = λ x p q e awake h a y. takes_learnt v u x c d p q there on e awake h a;
 }
 
 pub both_along : (Y Z : Machines → Type 0) (v u : Lacpdu) (c d : ℕ) → Along Y v u c d → Along Z v u c d → Along (λ p. Y p × Z p) v u c d

@@ -23,13 +23,13 @@ use Rattle.lagworld.specs.declared.reply.Reply.{Reply}
 use Rattle.lagworld.specs.Events.{Algorithms, WorldSteps}
 use Rattle.lagworld.specs.State.{ItemValue, WorldState, half}
 use Rattle.lagprogress.proofs.EachPort.{OfEach}
-use Rattle.lagprogress.proofs.EndFacts.{Along, IsEnd, SameActor, both_along, end_settles, known_along, takes_each, takes_end, takes_known, wait_of}
+use Rattle.lagprogress.proofs.EndFacts.{Along, IsEnd, Learnt, Suits, both_along, end_settles, known_along, takes_each, takes_end, takes_learnt}
+use Rattle.lagprogress.proofs.EndFacts.{wait_of}
 use Rattle.lagprogress.proofs.Halves.{keeps_steady}
-use Rattle.lagprogress.proofs.Knowing.{Known}
 use Rattle.lagprogress.proofs.OneCable.{Arrives, Back, delivers, put}
 use Rattle.lagprogress.proofs.OnePort.{AtPort}
 use Rattle.lagprogress.proofs.Passing.{marker_carries_none}
-use Rattle.lagprogress.proofs.Linked.{Arrived, EndIs, Flying, IsGood, Link, along_if, arrival, each_map, each_side, flying_on, found}
+use Rattle.lagprogress.proofs.Linked.{Arrived, EndIs, Fits, Flying, IsGood, Link, along_if, arrival, each_map, each_side, flying_on, found}
 use Rattle.lagprogress.proofs.Linked.{place_kept, pushed, put_other, put_there}
 
 -- what goes back
@@ -48,7 +48,7 @@ back_flying s (Ok (received.Released n)) fl now h t f = subst (λ (g : Side → 
 back_flying s (Ok (received.Up agg)) fl now h t f = subst (λ (g : Side → List ItemValue). Flying (g t)) (sym h) f
 
 abbrev AllGood : ℕ → (Side → Lacpdu) → (Side → List ItemValue) → Type 0
-AllGood d w fl = (t : Side) → AllByRecursion (IsGood d (w (peer t))) (fl t)
+AllGood d w fl = (t : Side) → AllByRecursion (IsGood d w t) (fl t)
 
 back_good : (d : ℕ) (w : Side → Lacpdu) (gives : ℕ → ℕ → ℕ → Type 0) (s : Side) (n : ℕ) (octets : List ℕ) (a : Result Received SystemFault)
     (old new : SystemState) (fl now : Side → List ItemValue) → CallPromise gives old (Receive n octets) (answer.Receive a) new
@@ -60,66 +60,62 @@ back_good d w gives s n octets (Ok (received.Ignored fault)) old new fl now k h 
 back_good d w gives s n octets (Ok received.TookLacpdu) old new fl now k h g = subst (AllGood d w) (sym h) g
 back_good d w gives s n octets (Ok (received.Respond frame)) old new fl now k h g =
     let m = k.moves.3 in
-    let one : IsGood d (w (peer (peer s))) h.0 = λ x c l. absurd (marker_carries_none frame x m.0
+    let one : IsGood d w (peer s) h.0 = λ x c. absurd (marker_carries_none frame x m.0
     (subst (λ o. IsFrame o (Carries (pdu.Lacpdu x))) h.1 c) m.1) in
     subst (AllGood d w) (sym h.2)
-    (pushed (λ t xs. AllByRecursion (IsGood d (w (peer t))) xs) (peer s) h.0 fl
-    (λ b. all-append (IsGood d (w (peer (peer s)))) (fl (peer s)) (h.0 ∷ []) b (one, tt)) g)
+    (pushed (λ t xs. AllByRecursion (IsGood d w t) xs) (peer s) h.0 fl
+    (λ b. all-append (IsGood d w (peer s)) (fl (peer s)) (h.0 ∷ []) b (one, tt)) g)
 back_good d w gives s n octets (Ok (received.Released m)) old new fl now k h g = subst (AllGood d w) (sym h) g
 back_good d w gives s n octets (Ok (received.Up agg)) old new fl now k h g = subst (AllGood d w) (sym h) g
 
--- the port at the end of system s knows its partner since just now
-abbrev pub Heard : (Side → ℕ) → (Side → Lacpdu) → Side → WorldState → Type 0
-Heard at w s j = OfEach (AtPort (at s) (Known (w (peer s)) (wait_of (w s)) 0)) (half s j).state.system_ports
-
--- what is known fits the time that it is kept, and what comes
-abbrev pub Fits : ℕ → (Side → Lacpdu) → (Side → ℕ) → Type 0
-Fits d w c = (s : Side) → (c s ≤ wait_of (w s)) × (1 ≤ c s → 1 ≤ d)
+-- the port at the end of system s has just heard its partner
+abbrev pub Heard : ℕ → (Side → ℕ) → (Side → Lacpdu) → Side → WorldState → Type 0
+Heard d at w s j = OfEach (AtPort (at s) (Learnt d (w (peer s)) (wait_of (w s)))) (half s j).state.system_ports
 
 -- what a Deliver event leaves; what was on its way still is, or came
 pub record Delivered (d : ℕ) (at : Side → ℕ) (w : Side → Lacpdu) (c : Side → ℕ) (x : Side) (Y : Machines → Type 0)
     (fl : Side → List ItemValue) (new : WorldState) : Type 0 where
   pub link : Link d at w c x Y new
-  pub flying : (t : Side) → Flying (fl t) → Flying (link.flying t) ⊎ (1 ≤ d → Heard at w t new)
+  pub flying : (t : Side) → Flying (fl t) → Flying (link.flying t) ⊎ (1 ≤ d → Heard d at w t new)
 
 -- the ports of the system after an arrival
 arrived_ports : (d : ℕ) (at : Side → ℕ) (w : Side → Lacpdu) (c : Side → ℕ) (x : Side) (Y : Machines → Type 0) (s : Side) (k : ℕ)
     (z : SystemPort) (octets : List ℕ) (old new : WorldState) → Fits d w c → Along Y (w x) (w (peer x)) (c x) d
     → Link d at w c x Y old → slice_get (half s old).state.system_ports k ≡ Some z → z.number ≡ at s
-    → ((v : Lacpdu) → IsFrame octets (Carries (pdu.Lacpdu v)) → 1 ≤ d → SameActor v (w (peer s)))
+    → ((v : Lacpdu) → IsFrame octets (Carries (pdu.Lacpdu v)) → Suits d (w s) (w (peer s)) v)
     → Arrived k octets (half s old).state (half s new).state
-    → OfEach (AtPort (at s) (EndIs w c x Y s)) (half s new).state.system_ports
-    × ((((v : Lacpdu) → IsFrame octets (Carries (pdu.Lacpdu v)) → ⊥)) ⊎ (1 ≤ d → Heard at w s new))
+    → OfEach (AtPort (at s) (EndIs d w c x Y s)) (half s new).state.system_ports
+    × ((((v : Lacpdu) → IsFrame octets (Carries (pdu.Lacpdu v)) → ⊥)) ⊎ (1 ≤ d → Heard d at w s new))
 arrived_ports d at w c x Y s k z octets old new fits along l there numbered good (inr h) = (
-  subst (OfEach (AtPort (at s) (EndIs w c x Y s))) (sym h.1) (l.ports s),
+  subst (OfEach (AtPort (at s) (EndIs d w c x Y s))) (sym h.1) (l.ports s),
   inl h.0,
 )
 arrived_ports d at w c x Y s k z octets old new fits along l there numbered good (inl h) =
     let v = h.0 in
-    let P = EndIs w c x Y s in
-    let Late : Machines → Type 0 = λ q. 1 ≤ d → Known (w (peer s)) (wait_of (w s)) 0 q in
-    let Q : Machines → Type 0 = λ q. IsEnd (w s) (w (peer s)) (c s) q × ((s ≡ x → Y q) × Late q) in
+    let P = EndIs d w c x Y s in
+    let Late : Machines → Type 0 = λ q. 1 ≤ d → Learnt d (w (peer s)) (wait_of (w s)) q in
+    let Q : Machines → Type 0 = λ q. IsEnd d (w s) (w (peer s)) (c s) q × ((s ≡ x → Y q) × Late q) in
     let was = all-get (λ (y : SystemPort). AtPort (at s) P y.number y.port) (half s old).state.system_ports k z there (l.ports s) numbered in
     let given = along_if w c d x Y along s in
     let late : Along Late (w s) (w (peer s)) (c s) d = record {
-      mux = λ ready p q h y e. (known_along (w s) (w (peer s)) (c s) d e).mux ready p q h (y e);
-      periodic = λ p q h a y e. (known_along (w s) (w (peer s)) (c s) d e).periodic p q h a (y e);
+      mux = λ ready p q h y e. (known_along (w s) (w (peer s)) (c s) d e (fits s).3).mux ready p q h (y e);
+      periodic = λ p q h a y e. (known_along (w s) (w (peer s)) (c s) d e (fits s).3).periodic p q h a (y e);
       select = λ choice p none y e. y e;
-      takes = λ u p q same awake h a y e. takes_known (w s) (w (peer s)) u p q (same e) awake h a.0 a.1.0;
+      takes = λ u p q same awake h a y e. takes_learnt (w s) (w (peer s)) u (c s) d p q e (fits s).3 same awake h a;
     } in
     let each = takes_each Q (half s old).state (half s new).state v k z (l.steady s).0 there
     (λ q awake does. (
-      takes_end (w s) (w (peer s)) v (c s) d z.port q (good v h.1) (fits s).1 (fits s).0 awake does was.0,
+      takes_end (w s) (w (peer s)) v (c s) d z.port q (good v h.1) (fits s).1 (fits s).2 (fits s).0 awake does was.0,
       (
         given.takes v z.port q (good v h.1) awake does was.0 was.1,
-        λ e. takes_known (w s) (w (peer s)) v z.port q (good v h.1 e) awake does was.0.0 was.0.1.0,
+        λ e. takes_learnt (w s) (w (peer s)) v (c s) d z.port q e (fits s).3 (good v h.1) awake does was.0,
       ),
     ))
     (end_settles (λ p. (s ≡ x → Y p) × Late p) (w s) (w (peer s)) (c s) d z.number
     (both_along (λ p. s ≡ x → Y p) Late (w s) (w (peer s)) (c s) d given late)) h.2 in
     let there2 = subst (λ n. OfEach (AtPort n Q) (half s new).state.system_ports) numbered each in (
       each_map (AtPort (at s) Q) (AtPort (at s) P) (λ m p a e. ((a e).0, (a e).1.0)) (half s new).state.system_ports there2,
-      inr (λ e. each_map (AtPort (at s) Q) (AtPort (at s) (Known (w (peer s)) (wait_of (w s)) 0)) (λ m p a f. (a f).1.1 e)
+      inr (λ e. each_map (AtPort (at s) Q) (AtPort (at s) (Learnt d (w (peer s)) (wait_of (w s)))) (λ m p a f. (a f).1.1 e)
           (half s new).state.system_ports there2),
     )
 
@@ -141,16 +137,16 @@ arrives_link gives cn n s d at w c x Y r old new fits along l h k =
     let place = l.place s in
     let it = found (at s) place.0 (half s old).state.system_ports place.1 in
     let numbered = found_place (at s) (half s old).state.system_ports place.0 it.0 place.1 it.1 in
-    let P = EndIs w c x Y in
+    let P = EndIs d w c x Y in
     let up = (all-get (λ (y : SystemPort). AtPort (at s) (P s) y.number y.port) (half s old).state.system_ports place.0 it.0 it.1
     (l.ports s) numbered).0.1.0 in
-    let good = subst (AllByRecursion (IsGood d (w (peer s)))) k.first (l.good s) in
+    let good = subst (AllByRecursion (IsGood d w s)) k.first (l.good s) in
     let came = arrived_by k.a place.0 it.0 up place.1 it.1 k.promise in
     let own = arrived_ports d at w c x Y s place.0 it.0 k.item.octets old new fits along l it.1 numbered good.0 came in
     let other = subst (λ (y : SystemState). OfEach (AtPort (at (peer s)) (P (peer s))) y.system_ports) (sym k.peers) (l.ports (peer s)) in
-    let less : AllGood d w (put s k.rest l.flying) = each_side (λ t. AllByRecursion (IsGood d (w (peer t))) (put s k.rest l.flying t)) s
-    (subst (AllByRecursion (IsGood d (w (peer s)))) (sym (put_there s k.rest l.flying)) good.1)
-    (subst (AllByRecursion (IsGood d (w (peer (peer s))))) (sym (put_other s k.rest l.flying)) (l.good (peer s))) in
+    let less : AllGood d w (put s k.rest l.flying) = each_side (λ t. AllByRecursion (IsGood d w t) (put s k.rest l.flying t)) s
+    (subst (AllByRecursion (IsGood d w s)) (sym (put_there s k.rest l.flying)) good.1)
+    (subst (AllByRecursion (IsGood d w (peer s))) (sym (put_other s k.rest l.flying)) (l.good (peer s))) in
     let on = back_flying s k.a (put s k.rest l.flying) k.now k.back in
     record {
       link = record {
@@ -162,8 +158,8 @@ arrives_link gives cn n s d at w c x Y r old new fits along l h k =
         place = λ t. ((l.place t).0, place_kept gives (event.Deliver cn n) r old new h l.steady steady t (at t) ∙ (l.place t).1);
         ports = each_side (λ t. OfEach (AtPort (at t) (P t)) (half t new).state.system_ports) s own.0 other;
       };
-      flying = each_side (λ t. Flying (l.flying t) → Flying (k.now t) ⊎ (1 ≤ d → Heard at w t new)) s
-          (flew s l.flying k.now k.item k.rest (1 ≤ d → Heard at w s new) k.first own.1 (on s))
+      flying = each_side (λ t. Flying (l.flying t) → Flying (k.now t) ⊎ (1 ≤ d → Heard d at w t new)) s
+          (flew s l.flying k.now k.item k.rest (1 ≤ d → Heard d at w s new) k.first own.1 (on s))
           (λ f. inl (on (peer s) (subst Flying (sym (put_other s k.rest l.flying)) f)));
     }
   where
@@ -187,7 +183,7 @@ deliver_link gives cn n d at w c x Y r old new fits along l h = elim (delivers g
           links = k.links ∙ l.links;
           good = l.good;
           place = λ t. ((l.place t).0, place_kept gives (event.Deliver cn n) r old new h l.steady steady t (at t) ∙ (l.place t).1);
-          ports = λ t. subst (λ (y : SystemState). OfEach (AtPort (at t) (EndIs w c x Y t)) y.system_ports) (sym (k.halves t)) (l.ports t);
+          ports = λ t. subst (λ (y : SystemState). OfEach (AtPort (at t) (EndIs d w c x Y t)) y.system_ports) (sym (k.halves t)) (l.ports t);
         };
         flying = λ t f. inl f;
       })

@@ -78,7 +78,7 @@ not_run_out : (b : Bool) (most n : ℕ) → (b && (n == 0)) ≡ true → 1 ≤ m
 not_run_out true most n h l m = let z : n ≡ 0 = grind (arith, nat_tests) in omega (arith, z, l, m)
 not_run_out false most n h l m = no h
 
-receive_known : (v : Lacpdu) (most k : ℕ) → EnabledKeep (Known v most k) receive_rows
+pub receive_known : (v : Lacpdu) (most k : ℕ) → EnabledKeep (Known v most k) receive_rows
 receive_known v most k = (
   λ p e a. (a.0, λ l. absurd (other_state p.receive _ _ (a.1 l).0.current (not_initialize p.receive) e)),
   (
@@ -145,7 +145,7 @@ starts_with : (short : Bool) → timeout_time short ≤ (if short then 30 else 9
 starts_with true = omega arith
 starts_with false = omega arith
 
-decoded : (t : Bool) (info : Info) → bits_of (with_synchronization t info.state) ≡ record (bits_of info.state) {
+pub decoded : (t : Bool) (info : Info) → bits_of (with_synchronization t info.state) ≡ record (bits_of info.state) {
   synchronization
       = t;
 }

@@ -138,7 +138,7 @@ phase_along v u T d k on there kept =
           | inl f ↦ fires_keep (Sounds false k) (lacpdu_rows x) (sounds_takes false k x) p q f y.0
           | inr r ↦ subst (Sounds false k) (sym r.1) y.0
         ],
-        (let known = takes_known v u x p q (e there) awake h a.0 a.1.0 in
+        (let known = takes_known v u x p q (e.0 there) awake h a.0 a.1.0 in
             let some = some_wait (short_timeout v) in
             let r = known.1 some in
             inl (r.0, omega (arith, some, r.1))),

@@ -37,7 +37,7 @@ use Rattle.lagworld.specs.Events.{Algorithms, WorldSteps, side_of}
 use Rattle.lagworld.specs.State.{ItemValue, WorldState, half}
 use Rattle.lagprogress.specs.Steady.{IsSteady}
 use Rattle.lagprogress.proofs.EachPort.{KeptBySettling, OfEach, Step-each}
-use Rattle.lagprogress.proofs.EndFacts.{Along, IsEnd, SameActor, Says, end_settles}
+use Rattle.lagprogress.proofs.EndFacts.{Along, IsEnd, Suits, activity, end_settles, wait_of}
 use Rattle.lagprogress.proofs.Halves.{each_is_calls, keeps_steady}
 use Rattle.lagprogress.proofs.OneCable.{Asks, Went, asks, cable, push, put}
 use Rattle.lagprogress.proofs.OnePort.{AtPort, same_ports}
@@ -74,10 +74,6 @@ place_kept gives e r old new x a b s n =
     ((b s).0.ports.same ∙ (ap configured_numbers ports ∙ sym (a s).0.ports.same))
 
 -- items
-
--- an item carries no LACPDU but one that says this of its actor
-abbrev pub Good : Lacpdu → ItemValue → Type 0
-Good u item = (x : Lacpdu) → IsFrame item.octets (Carries (pdu.Lacpdu x)) → SameActor x u
 
 -- one of the items is an LACPDU
 abbrev pub Flying : List ItemValue → Type 0
@@ -136,8 +132,8 @@ pushed P Two item fl k a Two = k (a Two)
 
 -- what the frames of a port say
 
-own_party : (p : Machines) (d : ℕ) (v : Lacpdu) → Says v p → SameActor (pdu_of p d) v
-own_party p d v a =
+own_suits : (p : Machines) (dl d : ℕ) (v u : Lacpdu) (c : ℕ) → (2 ≤ d → 1 ≤ c) → IsEnd d v u c p → Suits d u v (pdu_of p dl)
+own_suits p dl d v u c known a =
     let bits = encode_then_decode (record {
       activity = p.active;
       timeout = p.short;
@@ -148,24 +144,35 @@ own_party p d v a =
       defaulted = p.defaulted;
       expired = p.expired;
     }) in
-    (ap (named (actor_of p)) bits ∙ a.0, ap (λ (b : StateBits). b.activity) bits ∙ a.1, ap (λ (b : StateBits). b.timeout) bits ∙ a.2)
+    (
+      λ _. (
+          ap (named (actor_of p)) bits ∙ a.0.0,
+          ap (λ (b : StateBits). b.activity) bits ∙ a.0.1,
+          ap (λ (b : StateBits). b.timeout) bits ∙ a.0.2,
+        ),
+      λ f. (
+          ap (λ (b : StateBits). b.synchronization) bits ∙ (a.2 f).1,
+          (a.1.1 (known f)).0.party,
+          (a.1.1 (known f)).0.active,
+        ),
+    )
 
-sent_good : (v : Lacpdu) (up due : Bool) (i : ℕ) (z : SystemPort) (old : SystemState) (frame : List ℕ) (new : SystemState)
-    → Says v z.port → TransmitsIf up due i z old (Some frame) new
-    → (x : Lacpdu) → IsFrame frame (Carries (pdu.Lacpdu x)) → SameActor x v
-sent_good v false due i z old frame new a h x c = absurd (none-some frame (sym h.0))
-sent_good v true true i z old frame new a h x c =
+sent_good : (d : ℕ) (v u : Lacpdu) (c : ℕ) (up due : Bool) (i : ℕ) (z : SystemPort) (old : SystemState) (frame : List ℕ)
+    (new : SystemState) → (2 ≤ d → 1 ≤ c) → IsEnd d v u c z.port → TransmitsIf up due i z old (Some frame) new
+    → (x : Lacpdu) → IsFrame frame (Carries (pdu.Lacpdu x)) → Suits d u v x
+sent_good d v u c false due i z old frame new known a h x k = absurd (none-some frame (sym h.0))
+sent_good d v u c true true i z old frame new known a h x k =
     let is : frame ≡ h.0 = same_Some frame h.0 h.2 in
     let sent = subst (IsLacpduOf old.max_delay z) (sym is) h.1 in
-    let one : pdu_of z.port old.max_delay ≡ x = carries_one frame x (pdu_of z.port old.max_delay) c
+    let one : pdu_of z.port old.max_delay ≡ x = carries_one frame x (pdu_of z.port old.max_delay) k
     (sent_carries frame (pdu.Lacpdu (pdu_of z.port old.max_delay)) (lacpdu_is_sent old.max_delay z frame sent)) in
-    subst (λ y. SameActor y v) one (own_party z.port old.max_delay v a)
-sent_good v true false i z old frame new a h x c = by_marker (marker_due old.table z.number) h
+    subst (Suits d u v) one (own_suits z.port old.max_delay d v u c known a)
+sent_good d v u c true false i z old frame new known a h x k = by_marker (marker_due old.table z.number) h
   where
-    by_marker : (o : Option ℕ) → SendsMarkerOf o z.number z.mac old (Some frame) new → SameActor x v
-    by_marker None k = absurd (none-some frame (sym k.0))
-    by_marker (Some id) k =
-        absurd (marker_carries_none frame x _ c (z.mac, k.0, k.1, k.2, same_Some frame _ k.3))
+    by_marker : (o : Option ℕ) → SendsMarkerOf o z.number z.mac old (Some frame) new → Suits d u v x
+    by_marker None m = absurd (none-some frame (sym m.0))
+    by_marker (Some id) m =
+        absurd (marker_carries_none frame x _ k (z.mac, m.0, m.1, m.2, same_Some frame _ m.3))
 
 -- an arrival
 
@@ -223,34 +230,39 @@ each_both P Q (x ∷ xs) a b = ((a.0, b.0), each_both P Q xs a.1 b.1)
 
 -- the link
 
--- an item carries no LACPDU but one that says this of its actor, if the number is not 0
-abbrev pub IsGood : ℕ → Lacpdu → ItemValue → Type 0
-IsGood d u item = (x : Lacpdu) → IsFrame item.octets (Carries (pdu.Lacpdu x)) → 1 ≤ d → SameActor x u
+-- an item towards system t carries no LACPDU but one that suits
+abbrev pub IsGood : ℕ → (Side → Lacpdu) → Side → ItemValue → Type 0
+IsGood d w t item = (x : Lacpdu) → IsFrame item.octets (Carries (pdu.Lacpdu x)) → Suits d (w t) (w (peer t)) x
+
+-- what is known fits the time that it is kept, and what comes
+abbrev pub Fits : ℕ → (Side → Lacpdu) → (Side → ℕ) → Type 0
+Fits d w c = (s : Side) → (c s ≤ wait_of (w s)) × (1 ≤ c s → 1 ≤ d) × (2 ≤ d → 1 ≤ c s)
+    × (2 ≤ d → (activity (w (peer s)) ≡ true) ⊎ (activity (w s) ≡ true))
 
 -- so is the port at an end, and one thing more at side x
-abbrev pub EndIs : (Side → Lacpdu) → (Side → ℕ) → Side → (Machines → Type 0) → Side → Machines → Type 0
-EndIs w c x Y s p = IsEnd (w s) (w (peer s)) (c s) p × (s ≡ x → Y p)
+abbrev pub EndIs : ℕ → (Side → Lacpdu) → (Side → ℕ) → Side → (Machines → Type 0) → Side → Machines → Type 0
+EndIs d w c x Y s p = IsEnd d (w s) (w (peer s)) (c s) p × (s ≡ x → Y p)
 
 pub record Link (d : ℕ) (at : Side → ℕ) (w : Side → Lacpdu) (c : Side → ℕ) (x : Side) (Y : Machines → Type 0) (j : WorldState) : Type 0 where
   pub steady : IsSteady j
   pub flying : Side → List ItemValue
   pub links : j.links ≡ cable at flying ∷ []
-  pub good : (s : Side) → AllByRecursion (IsGood d (w (peer s))) (flying s)
+  pub good : (s : Side) → AllByRecursion (IsGood d w s) (flying s)
   pub place : (s : Side) → (k : ℕ) × (port_index (at s) (half s j).state.system_ports ≡ Some k)
-  pub ports : (s : Side) → OfEach (AtPort (at s) (EndIs w c x Y s)) (half s j).state.system_ports
+  pub ports : (s : Side) → OfEach (AtPort (at s) (EndIs d w c x Y s)) (half s j).state.system_ports
 
 pub along_if : (w : Side → Lacpdu) (c : Side → ℕ) (d : ℕ) (x : Side) (Y : Machines → Type 0) → Along Y (w x) (w (peer x)) (c x) d → (s : Side)
     → Along (λ p. s ≡ x → Y p) (w s) (w (peer s)) (c s) d
 along_if w c d x Y k s = record {
   mux = λ ready p q h y e. k.mux ready p q h (y e);
-  periodic = λ p q h a y e. k.periodic p q h (subst (λ t. IsEnd (w t) (w (peer t)) (c t) p) e a) (y e);
+  periodic = λ p q h a y e. k.periodic p q h (subst (λ t. IsEnd d (w t) (w (peer t)) (c t) p) e a) (y e);
   select = λ choice p none y e. k.select choice p none (y e);
-  takes = λ z p q same awake h a y e. k.takes z p q (subst (λ t. 1 ≤ d → SameActor z (w (peer t))) e same) awake h
-      (subst (λ t. IsEnd (w t) (w (peer t)) (c t) p) e a) (y e);
+  takes = λ z p q same awake h a y e. k.takes z p q (subst (λ t. Suits d (w t) (w (peer t)) z) e same) awake h
+      (subst (λ t. IsEnd d (w t) (w (peer t)) (c t) p) e a) (y e);
 }
 
 pub end_kept : (w : Side → Lacpdu) (c : Side → ℕ) (d : ℕ) (x : Side) (Y : Machines → Type 0) → Along Y (w x) (w (peer x)) (c x) d
-    → (s : Side) (n : ℕ) → KeptBySettling (AtPort n (EndIs w c x Y s))
+    → (s : Side) (n : ℕ) → KeptBySettling (AtPort n (EndIs d w c x Y s))
 end_kept w c d x Y k s n = end_settles (λ p. s ≡ x → Y p) (w s) (w (peer s)) (c s) d n (along_if w c d x Y k s)
 
 -- asking
@@ -265,34 +277,36 @@ went_flying s (Ok (Some frame)) fl now h t f =
 
 went_good : (d : ℕ) (w : Side → Lacpdu) (s : Side) (a : Result (Option (List ℕ)) SystemFault) (fl now : Side → List ItemValue)
     → Went s a fl now
-    → ((frame : List ℕ) → a ≡ Ok (Some frame) → (x : Lacpdu) → IsFrame frame (Carries (pdu.Lacpdu x)) → SameActor x (w s))
-    → ((t : Side) → AllByRecursion (IsGood d (w (peer t))) (fl t)) → (t : Side) → AllByRecursion (IsGood d (w (peer t))) (now t)
+    → ((frame : List ℕ) → a ≡ Ok (Some frame) → (x : Lacpdu) → IsFrame frame (Carries (pdu.Lacpdu x))
+    → Suits d (w (peer s)) (w (peer (peer s))) x)
+    → ((t : Side) → AllByRecursion (IsGood d w t) (fl t)) → (t : Side) → AllByRecursion (IsGood d w t) (now t)
 went_good d w s (Err fault) fl now h k g =
-    subst (λ (f : Side → List ItemValue). (t : Side) → AllByRecursion (IsGood d (w (peer t))) (f t)) (sym h) g
+    subst (λ (f : Side → List ItemValue). (t : Side) → AllByRecursion (IsGood d w t) (f t)) (sym h) g
 went_good d w s (Ok None) fl now h k g =
-    subst (λ (f : Side → List ItemValue). (t : Side) → AllByRecursion (IsGood d (w (peer t))) (f t)) (sym h) g
+    subst (λ (f : Side → List ItemValue). (t : Side) → AllByRecursion (IsGood d w t) (f t)) (sym h) g
 went_good d w s (Ok (Some frame)) fl now h k g =
-    let one : IsGood d (w (peer (peer s))) h.0 = λ x c l. subst (λ t. SameActor x (w t)) (sym (peer_twice s))
-    (k frame refl x (subst (λ o. IsFrame o (Carries (pdu.Lacpdu x))) h.1 c)) in
-    subst (λ (f : Side → List ItemValue). (t : Side) → AllByRecursion (IsGood d (w (peer t))) (f t)) (sym h.2)
-    (pushed (λ t xs. AllByRecursion (IsGood d (w (peer t))) xs) (peer s) h.0 fl
-    (λ a. all-append (IsGood d (w (peer (peer s)))) (fl (peer s)) (h.0 ∷ []) a (one, tt)) g)
+    let one : IsGood d w (peer s) h.0 = λ x c. k frame refl x (subst (λ o. IsFrame o (Carries (pdu.Lacpdu x))) h.1 c) in
+    subst (λ (f : Side → List ItemValue). (t : Side) → AllByRecursion (IsGood d w t) (f t)) (sym h.2)
+    (pushed (λ t xs. AllByRecursion (IsGood d w t) xs) (peer s) h.0 fl
+    (λ a. all-append (IsGood d w (peer s)) (fl (peer s)) (h.0 ∷ []) a (one, tt)) g)
 
-transmits_good : (v : Lacpdu) (n : ℕ) (o : Option ℕ) (old : SystemState) (frame : List ℕ) (new : SystemState)
-    → port_index n old.system_ports ≡ o → TransmitsAt o old (Some frame) new → OfEach (AtPort n (Says v)) old.system_ports
-    → (x : Lacpdu) → IsFrame frame (Carries (pdu.Lacpdu x)) → SameActor x v
-transmits_good v n None old frame new e h a = absurd h
-transmits_good v n (Some i) old frame new e h a =
-    sent_good v h.0.port.enabled (is_due h.0.port) i h.0 old frame new
-    (all-get (λ (y : SystemPort). AtPort n (Says v) y.number y.port) old.system_ports i h.0 h.1 a
+transmits_good : (d : ℕ) (v u : Lacpdu) (c n : ℕ) (o : Option ℕ) (old : SystemState) (frame : List ℕ) (new : SystemState)
+    → (2 ≤ d → 1 ≤ c) → port_index n old.system_ports ≡ o → TransmitsAt o old (Some frame) new
+    → OfEach (AtPort n (IsEnd d v u c)) old.system_ports
+    → (x : Lacpdu) → IsFrame frame (Carries (pdu.Lacpdu x)) → Suits d u v x
+transmits_good d v u c n None old frame new known e h a = absurd h
+transmits_good d v u c n (Some i) old frame new known e h a =
+    sent_good d v u c h.0.port.enabled (is_due h.0.port) i h.0 old frame new known
+    (all-get (λ (y : SystemPort). AtPort n (IsEnd d v u c) y.number y.port) old.system_ports i h.0 h.1 a
     (found_place n old.system_ports i h.0 e h.1)) h.2
 
-told_good : (v : Lacpdu) (gives : ℕ → ℕ → ℕ → Type 0) (n : ℕ) (a : Result (Option (List ℕ)) SystemFault) (old new : SystemState)
-    → CallPromise gives old (Transmit n) (answer.Transmit a) new → OfEach (AtPort n (Says v)) old.system_ports
-    → (frame : List ℕ) → a ≡ Ok (Some frame) → (x : Lacpdu) → IsFrame frame (Carries (pdu.Lacpdu x)) → SameActor x v
-told_good v gives n a old new h ports frame e =
+told_good : (d : ℕ) (v u : Lacpdu) (c : ℕ) (gives : ℕ → ℕ → ℕ → Type 0) (n : ℕ) (a : Result (Option (List ℕ)) SystemFault)
+    (old new : SystemState) → (2 ≤ d → 1 ≤ c) → CallPromise gives old (Transmit n) (answer.Transmit a) new
+    → OfEach (AtPort n (IsEnd d v u c)) old.system_ports
+    → (frame : List ℕ) → a ≡ Ok (Some frame) → (x : Lacpdu) → IsFrame frame (Carries (pdu.Lacpdu x)) → Suits d u v x
+told_good d v u c gives n a old new known h ports frame e =
     let k = subst (λ b. CallPromise gives old (Transmit n) (answer.Transmit b) new) e h in
-    transmits_good v n (port_index n old.system_ports) old frame new refl k.step ports
+    transmits_good d v u c n (port_index n old.system_ports) old frame new known refl k.step ports
 
 -- what an Emit event of an end leaves
 pub record Emitted (gives : Algorithms) (s : Side) (d : ℕ) (at : Side → ℕ) (w : Side → Lacpdu) (c : Side → ℕ) (x : Side)
@@ -303,28 +317,29 @@ pub record Emitted (gives : Algorithms) (s : Side) (d : ℕ) (at : Side → ℕ)
   pub flying : (t : Side) → Flying (fl t) → Flying (link.flying t)
 
 pub emit_link : (gives : Algorithms) (n : ℕ) (s : Side) (d : ℕ) (at : Side → ℕ) (w : Side → Lacpdu) (c : Side → ℕ) (x : Side)
-    (Y : Machines → Type 0) (r : Reply) (old new : WorldState) → side_of n ≡ Some s → Along Y (w x) (w (peer x)) (c x) d
+    (Y : Machines → Type 0) (r : Reply) (old new : WorldState) → Fits d w c → side_of n ≡ Some s → Along Y (w x) (w (peer x)) (c x) d
     → (s ≡ x → (p : Machines) → Y p → Y (after_sending p)) → (l : Link d at w c x Y old) → WorldSteps gives old (event.Emit n (at s)) r new
     → Emitted gives s d at w c x Y l.flying old new
-emit_link gives n s d at w c x Y r old new named along sends l h =
-    let k = asks gives n s at l.flying r old new named l.links h in
+emit_link gives n s d at w c x Y r old new fits told along sends l h =
+    let k = asks gives n s at l.flying r old new told l.links h in
     let steady = keeps_steady gives (event.Emit n (at s)) r old new h l.steady in
-    let own = Step-each (AtPort (at s) (EndIs w c x Y s)) (end_kept w c d x Y along s (at s)) (gives s) (half s old).state
+    let own = Step-each (AtPort (at s) (EndIs d w c x Y s)) (end_kept w c d x Y along s (at s)) (gives s) (half s old).state
     (Transmit (at s)) (answer.Transmit k.a) (half s new).state (λ p told a e. ((a e).0, λ f. sends f p ((a e).1 f))) k.promise.step
     (l.ports s) in
-    let other = subst (λ (y : SystemState). OfEach (AtPort (at (peer s)) (EndIs w c x Y (peer s))) y.system_ports) (sym k.peers)
+    let other = subst (λ (y : SystemState). OfEach (AtPort (at (peer s)) (EndIs d w c x Y (peer s))) y.system_ports) (sym k.peers)
     (l.ports (peer s)) in
-    let says = each_map (AtPort (at s) (EndIs w c x Y s)) (AtPort (at s) (Says (w s))) (λ m p a e. (a e).0.0)
+    let says = each_map (AtPort (at s) (EndIs d w c x Y s)) (AtPort (at s) (IsEnd d (w s) (w (peer s)) (c s))) (λ m p a e. (a e).0)
     (half s old).state.system_ports (l.ports s) in
     record {
       link = record {
         steady = steady;
         flying = k.now;
         links = k.links;
-        good = went_good d w s k.a l.flying k.now k.went (told_good (w s) (gives s) (at s) k.a (half s old).state
-            (half s new).state k.promise says) l.good;
+        good = went_good d w s k.a l.flying k.now k.went (λ frame e x carried. subst (λ t. Suits d (w (peer s)) (w t) x)
+              (sym (peer_twice s)) (told_good d (w s) (w (peer s)) (c s) (gives s) (at s) k.a (half s old).state
+              (half s new).state (fits s).2 k.promise says frame e x carried)) l.good;
         place = λ t. ((l.place t).0, place_kept gives (event.Emit n (at s)) r old new h l.steady steady t (at t) ∙ (l.place t).1);
-        ports = each_side (λ t. OfEach (AtPort (at t) (EndIs w c x Y t)) (half t new).state.system_ports) s own other;
+        ports = each_side (λ t. OfEach (AtPort (at t) (EndIs d w c x Y t)) (half t new).state.system_ports) s own other;
       };
       asks = k;
       same = refl;

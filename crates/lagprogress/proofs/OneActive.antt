@@ -7,14 +7,13 @@ use Rattle.lagworld.specs.Events.{Algorithms}
 use Rattle.lagworld.specs.State.{WorldState, half, port_at}
 use Rattle.lagprogress.specs.Progress.{EndsComeToKnow}
 use Rattle.lagprogress.specs.Rounds.{IsRound, OfPort, Rounds}
-use Rattle.lagprogress.proofs.EndFacts.{activity, short_timeout}
+use Rattle.lagprogress.proofs.EndFacts.{Learnt, activity, short_timeout}
 use Rattle.lagprogress.proofs.Hearing.{no}
-use Rattle.lagprogress.proofs.Knowing.{Known}
 use Rattle.lagprogress.proofs.Lapsing.{Lapsed, Lasting, Phase, Tails, begins_lasting, lasting_passes, some_wait}
 use Rattle.lagprogress.proofs.Linked.{Link, each_side, peer_twice}
 use Rattle.lagprogress.proofs.OneRound.{Nothing, at_rest, end_port, round_nears, round_passes, ticked}
 use Rattle.lagprogress.proofs.Progressing.{Answers, Calls, Comes, Ends, Fresh, Linked, along_rounds, answered, answers, called, came, comes, comes_first}
-use Rattle.lagprogress.proofs.Progressing.{end_of, first_round, fresh_knows, hears, lower, machines_there, meets_short, mode, own_says}
+use Rattle.lagprogress.proofs.Progressing.{end_of, first_round, fits_first, fresh_knows, hears, lower, machines_there, meets_short, mode, own_says}
 use Rattle.lagprogress.proofs.Progressing.{room_short, said_by, starts, stays_fresh, wait}
 use Rattle.lagprogress.proofs.Sounding.{Sounds, silence_of}
 
@@ -32,20 +31,20 @@ module _ (at : Side → ℕ) (w : Side → Lacpdu) where
     awake = each_side (λ u. (activity (w u) ≡ true) ⊎ (activity (w (peer u)) ≡ true)) s (inr active) (inl active)
 
     -- the end of s has just heard its partner
-    begins : (n : ℕ) (j : WorldState) → n ≤ 310 → Linked at w (λ _. 0) s (Known (w (peer s)) (wait at w s) 0) j → Lasts s n j
+    begins : (n : ℕ) (j : WorldState) → n ≤ 310 → Linked at w (λ _. 0) s (Learnt 1 (w (peer s)) (wait at w s)) j → Lasts s n j
     begins n j l link = (
       309,
       omega arith,
       omega (arith, l),
-      at_rest 1 at w (λ _. 0) s (Known (w (peer s)) (wait at w s) 0) (Lasting (w (peer s)) 309) j
+      at_rest 1 at w (λ _. 0) s (Learnt 1 (w (peer s)) (wait at w s)) (Lasting (w (peer s)) 309) j
           (λ p rest timed a y. (let some = some_wait (short_timeout (w s)) in
-          let r = y.1 some in
-          begins_lasting (w (peer s)) p active y.0 rest timed (r.0, omega (arith, some, r.1)))) link,
+          let r = y.0.1 some in
+          begins_lasting (w (peer s)) p active y.0.0 rest timed (r.0, omega (arith, some, r.1)))) link,
     )
 
     calls : (gives : Algorithms) (n : ℕ) (old new : WorldState) → IsRound gives old new → Calls at w (peer s) n old → Slowly s (n + 1) new
     calls gives n old new h g = elim (round_nears gives (peer s) 1 at w (λ _. 0) false g.0 old new (omega arith)
-        (λ t. (omega arith, λ _. omega arith)) (inl active, λ e. absurd (no e)) (inl active, λ e. absurd (no e)) g.3 h) [
+        (fits_first at w (ticked (λ _. 0)) (λ t. omega arith)) (inl active, λ e. absurd (no e)) (inl active, λ e. absurd (no e)) g.3 h) [
           | inl q ↦ (let l = g.2 in
               let m = q.0 in
               inl (
@@ -57,15 +56,15 @@ module _ (at : Side → ℕ) (w : Side → Lacpdu) where
           | inr q ↦ (let l = g.2 in
               let m = g.1 in
               inr (inl (begins (n + 1) new (omega (arith, l, m)) (lower at w 1 (ticked (λ _. 0)) (λ _. 0) s
-              (Known (w (peer s)) (wait at w s) 0) new (λ _. omega arith)
-              (subst (λ t. Linked at w (ticked (λ _. 0)) t (Known (w (peer t)) (wait at w t) 0) new) (peer_twice s) q)))))
+              (Learnt 1 (w (peer s)) (wait at w s)) new (λ _. omega arith)
+              (subst (λ t. Linked at w (ticked (λ _. 0)) t (Learnt 1 (w (peer t)) (wait at w t)) new) (peer_twice s) q)))))
         ]
 
     lasts : (gives : Algorithms) (n : ℕ) (old new : WorldState) → IsRound gives old new → Lasts s n old → Slowly s (n + 1) new
     lasts gives n old new h (k, some, soon, link) =
         let u = w (peer s) in
         elim (round_passes gives s 1 at w (λ _. 0) (Lasting u k) (Phase u (λ r. Lapsed 30 r ⊎ Tails r) (k - 1)) (Phase u Tails (k - 1))
-        (Lasting u (k - 1)) old new (omega arith) (λ t. (omega arith, λ _. omega arith))
+        (Lasting u (k - 1)) old new (omega arith) (fits_first at w (ticked (λ _. 0)) (λ t. omega arith))
         (lasting_passes (w s) u 1 k active (omega arith)) link h) [
           | inl q ↦ (let z = (end_port 1 at w (ticked (λ _. 0)) s (Lasting u (k - 1)) new q s).1.1 refl in
               let more = z.0 in
@@ -82,7 +81,7 @@ module _ (at : Side → ℕ) (w : Side → Lacpdu) where
     slowly gives n old new h (inl c) = calls gives n old new h c
     slowly gives n old new h (inr (inl l)) = lasts gives n old new h l
     slowly gives n old new h (inr (inr (inl a))) = inr (inr (answers at w s awake room gives 619 n old new h a))
-    slowly gives n old new h (inr (inr (inr f))) = inr (inr (inr (stays_fresh at w awake gives old new h f)))
+    slowly gives n old new h (inr (inr (inr f))) = inr (inr (inr (stays_fresh at w awake gives 1 old new (omega arith) h f)))
 
     ended : (n : ℕ) (j : WorldState) → 619 + silence_of (mode at w (peer s)) ≤ n → Slowly s n j → Fresh at w j
     ended n j l (inl c) = let k = c.1 in let m = c.2 in absurd (omega (arith, l, k, m))

@@ -31,17 +31,16 @@ use Rattle.lagworld.specs.State.{ItemValue, WorldState, half}
 use Rattle.lagprogress.specs.Rounds.{IsDeliver, IsRound, NothingInFlight, asks_all, ticks_of_both}
 use Rattle.lagprogress.specs.Timers.{IsTimed}
 use Rattle.lagprogress.proofs.EachPort.{OfEach, Tick-each}
-use Rattle.lagprogress.proofs.EndFacts.{Along, CanSound, IsEnd, both_along, calm, known_along, nothing_along, sounds_along, ticks_end, ticks_sounds}
+use Rattle.lagprogress.proofs.EndFacts.{Along, CanSound, IsEnd, Learnt, both_along, calm, known_along, nothing_along, sounds_along, ticks_end, ticks_sounds}
 use Rattle.lagprogress.proofs.EndFacts.{wait_of}
 use Rattle.lagprogress.proofs.Halves.{keeps_steady}
-use Rattle.lagprogress.proofs.Hearkening.{Fits, deliver_link}
+use Rattle.lagprogress.proofs.Hearkening.{deliver_link}
 use Rattle.lagprogress.proofs.Hearing.{no}
-use Rattle.lagprogress.proofs.Knowing.{Known}
 use Rattle.lagprogress.proofs.OneCable.{Went, cable, ticks, towards_there}
 use Rattle.lagprogress.proofs.OnePort.{AtPort, at_number, with_rest}
 use Rattle.lagprogress.proofs.Passing.{lacpdu_is_sent, sends_due, sent_carries}
 use Rattle.lagprogress.proofs.Sounding.{Sounds, now_due}
-use Rattle.lagprogress.proofs.Linked.{EndIs, Flying, Link, each_both, each_map, each_side, emit_link, end_kept, flying_last, found}
+use Rattle.lagprogress.proofs.Linked.{EndIs, Fits, Flying, Link, each_both, each_map, each_side, emit_link, end_kept, flying_last, found}
 use Rattle.lagprogress.proofs.Linked.{other_side, place_kept, push_there}
 
 abbrev pub Nothing : Machines → Type 0
@@ -56,7 +55,7 @@ forget d at w c x y Y j l = record {
   links = l.links;
   good = l.good;
   place = l.place;
-  ports = λ s. each_map (AtPort (at s) (EndIs w c x Y s)) (AtPort (at s) (EndIs w c y Nothing s)) (λ m p a e. ((a e).0, λ f. tt))
+  ports = λ s. each_map (AtPort (at s) (EndIs d w c x Y s)) (AtPort (at s) (EndIs d w c y Nothing s)) (λ m p a e. ((a e).0, λ f. tt))
       (half s j).state.system_ports (l.ports s);
 }
 
@@ -69,11 +68,11 @@ join d at w c x y Y j l h = record {
   links = l.links;
   good = l.good;
   place = l.place;
-  ports = each_side (λ s. OfEach (AtPort (at s) (EndIs w c y Y s)) (half s j).state.system_ports) y
-      (each_map (λ m p. AtPort (at y) (EndIs w c x Nothing y) m p × AtPort (at y) Y m p) (AtPort (at y) (EndIs w c y Y y))
+  ports = each_side (λ s. OfEach (AtPort (at s) (EndIs d w c y Y s)) (half s j).state.system_ports) y
+      (each_map (λ m p. AtPort (at y) (EndIs d w c x Nothing y) m p × AtPort (at y) Y m p) (AtPort (at y) (EndIs d w c y Y y))
       (λ m p a e. ((a.0 e).0, λ f. a.1 e)) (half y j).state.system_ports
-      (each_both (AtPort (at y) (EndIs w c x Nothing y)) (AtPort (at y) Y) (half y j).state.system_ports (l.ports y) h))
-      (each_map (AtPort (at (peer y)) (EndIs w c x Nothing (peer y))) (AtPort (at (peer y)) (EndIs w c y Y (peer y)))
+      (each_both (AtPort (at y) (EndIs d w c x Nothing y)) (AtPort (at y) Y) (half y j).state.system_ports (l.ports y) h))
+      (each_map (AtPort (at (peer y)) (EndIs d w c x Nothing (peer y))) (AtPort (at (peer y)) (EndIs d w c y Y (peer y)))
       (λ m p a e. ((a e).0, λ f. absurd (other_side y f))) (half (peer y) j).state.system_ports (l.ports (peer y)));
 }
 
@@ -84,31 +83,31 @@ abbrev pub ticked : (Side → ℕ) → Side → ℕ
 ticked c s = c s - 1
 
 tick_ports : (d : ℕ) (at : Side → ℕ) (w : Side → Lacpdu) (c : Side → ℕ) (x : Side) (Y Z : Machines → Type 0) (s : Side)
-    (gives : ℕ → ℕ → ℕ → Type 0) (old new : SystemState) → Along Z (w x) (w (peer x)) (ticked c x) d
-    → ((p q : Machines) → RunsToRest receive_rows (count_down p) q → AtRest periodic_rows p → IsEnd (w x) (w (peer x)) (c x) p → Y p → Z q)
+    (gives : ℕ → ℕ → ℕ → Type 0) (old new : SystemState) → (2 ≤ d → 1 ≤ ticked c s) → Along Z (w x) (w (peer x)) (ticked c x) d
+    → ((p q : Machines) → RunsToRest receive_rows (count_down p) q → AtRest periodic_rows p → IsEnd d (w x) (w (peer x)) (c x) p → Y p → Z q)
     → AllByRecursion PeriodicIsSettled old.system_ports → Step gives old Tick answer.Tick new
-    → OfEach (AtPort (at s) (EndIs w c x Y s)) old.system_ports → OfEach (AtPort (at s) (EndIs w (ticked c) x Z s)) new.system_ports
-tick_ports d at w c x Y Z s gives old new along k quiet step ports =
-    Tick-each (λ m p. AtPort (at s) (EndIs w c x Y s) m p × AtRest periodic_rows p) (AtPort (at s) (EndIs w (ticked c) x Z s))
+    → OfEach (AtPort (at s) (EndIs d w c x Y s)) old.system_ports → OfEach (AtPort (at s) (EndIs d w (ticked c) x Z s)) new.system_ports
+tick_ports d at w c x Y Z s gives old new known along k quiet step ports =
+    Tick-each (λ m p. AtPort (at s) (EndIs d w c x Y s) m p × AtRest periodic_rows p) (AtPort (at s) (EndIs d w (ticked c) x Z s))
     (end_kept w (ticked c) d x Z along s (at s))
     (λ m p q h b e. (
-      ticks_end (w s) (w (peer s)) (c s) p q h (b.0 e).0,
-      λ f. k p q h b.1 (subst (λ t. IsEnd (w t) (w (peer t)) (c t) p) f (b.0 e).0) ((b.0 e).1 f),
-    )) gives old answer.Tick new step (with_rest (AtPort (at s) (EndIs w c x Y s)) old.system_ports ports quiet)
+      ticks_end d (w s) (w (peer s)) (c s) p q known h (b.0 e).0,
+      λ f. k p q h b.1 (subst (λ t. IsEnd d (w t) (w (peer t)) (c t) p) f (b.0 e).0) ((b.0 e).1 f),
+    )) gives old answer.Tick new step (with_rest (AtPort (at s) (EndIs d w c x Y s)) old.system_ports ports quiet)
 
 pub tick_both : (gives : Algorithms) (d : ℕ) (at : Side → ℕ) (w : Side → Lacpdu) (c : Side → ℕ) (x : Side) (Y Z : Machines → Type 0)
-    (q r : Reply) (old mid new : WorldState) → Along Z (w x) (w (peer x)) (ticked c x) d
-    → ((p q : Machines) → RunsToRest receive_rows (count_down p) q → AtRest periodic_rows p → IsEnd (w x) (w (peer x)) (c x) p → Y p → Z q)
+    (q r : Reply) (old mid new : WorldState) → Fits d w (ticked c) → Along Z (w x) (w (peer x)) (ticked c x) d
+    → ((p q : Machines) → RunsToRest receive_rows (count_down p) q → AtRest periodic_rows p → IsEnd d (w x) (w (peer x)) (c x) p → Y p → Z q)
     → WorldSteps gives old (event.Tick 1 1) q mid → WorldSteps gives mid (event.Tick 2 1) r new → Link d at w c x Y old
     → Link d at w (ticked c) x Z new
-tick_both gives d at w c x Y Z q r old mid new along k h i l =
+tick_both gives d at w c x Y Z q r old mid new fits along k h i l =
     let one = ticks gives 1 One q old mid refl h in
     let two = ticks gives 2 Two r mid new refl i in
     let steady = keeps_steady gives (event.Tick 1 1) q old mid h l.steady in
     let last = keeps_steady gives (event.Tick 2 1) r mid new i steady in
-    let first = tick_ports d at w c x Y Z One (gives One) old.one.state mid.one.state along k (l.steady One).0.quiet.1 one.step (l.ports One) in
-    let second = tick_ports d at w c x Y Z Two (gives Two) mid.two.state new.two.state along k (steady Two).0.quiet.1 two.step
-    (subst (λ (y : SystemState). OfEach (AtPort (at Two) (EndIs w c x Y Two)) y.system_ports) (sym one.peers) (l.ports Two)) in
+    let first = tick_ports d at w c x Y Z One (gives One) old.one.state mid.one.state (fits One).2 along k (l.steady One).0.quiet.1 one.step (l.ports One) in
+    let second = tick_ports d at w c x Y Z Two (gives Two) mid.two.state new.two.state (fits Two).2 along k (steady Two).0.quiet.1 two.step
+    (subst (λ (y : SystemState). OfEach (AtPort (at Two) (EndIs d w c x Y Two)) y.system_ports) (sym one.peers) (l.ports Two)) in
     record {
       steady = last;
       flying = l.flying;
@@ -119,8 +118,8 @@ tick_both gives d at w c x Y Z q r old mid new along k h i l =
         place_kept gives (event.Tick 2 1) r mid new i steady last t (at t)
             ∙ (place_kept gives (event.Tick 1 1) q old mid h l.steady steady t (at t) ∙ (l.place t).1),
       );
-      ports = each_side (λ t. OfEach (AtPort (at t) (EndIs w (ticked c) x Z t)) (half t new).state.system_ports) One
-          (subst (λ (y : SystemState). OfEach (AtPort (at One) (EndIs w (ticked c) x Z One)) y.system_ports) (sym two.peers) first) second;
+      ports = each_side (λ t. OfEach (AtPort (at t) (EndIs d w (ticked c) x Z t)) (half t new).state.system_ports) One
+          (subst (λ (y : SystemState). OfEach (AtPort (at One) (EndIs d w (ticked c) x Z One)) y.system_ports) (sym two.peers) first) second;
     }
 
 -- an end is asked whose LACPDU comes nearer
@@ -130,11 +129,11 @@ abbrev pub Midway : ℕ → (Side → ℕ) → (Side → Lacpdu) → (Side → �
 Midway d at w c s Z j =
     Link d at w c s Z j
     ⊎ (((l : Link d at w c s Nothing j) × Flying (l.flying (peer s)))
-    ⊎ Link d at w c (peer s) (Known (w (peer (peer s))) (wait_of (w (peer s))) 0) j)
+    ⊎ Link d at w c (peer s) (Learnt d (w (peer (peer s))) (wait_of (w (peer s)))) j)
 
 -- Z holds of a port of which Y holds and that has no LACPDU due
-abbrev pub Asks : (Machines → Type 0) → (Machines → Type 0) → Lacpdu → Lacpdu → ℕ → Type 0
-Asks Y Z v u c = (p : Machines) → AtRest periodic_rows p → IsTimed p → IsEnd v u c p → Y p → is_due p ≡ false → Z p
+abbrev pub Asks : ℕ → (Machines → Type 0) → (Machines → Type 0) → Lacpdu → Lacpdu → ℕ → Type 0
+Asks d Y Z v u c = (p : Machines) → AtRest periodic_rows p → IsTimed p → IsEnd d v u c p → Y p → is_due p ≡ false → Z p
 
 not_sent : (u due : Bool) (i : ℕ) (z : SystemPort) (old : SystemState) (o : Option (List ℕ)) (new : SystemState) → due ≡ false
     → TransmitsIf u due i z old o new → new.system_ports ≡ old.system_ports
@@ -168,15 +167,15 @@ flies gives s n k z (Ok (Some frame)) old new fl now place there up due h w =
     (flying_last (fl (peer s)) w.0 v (sent_carries w.0.octets (pdu.Lacpdu v) (lacpdu_is_sent old.max_delay z w.0.octets lacpdu))))
 
 ask_own : (gives : Algorithms) (n : ℕ) (s : Side) (d : ℕ) (at : Side → ℕ) (w : Side → Lacpdu) (c : Side → ℕ) (Y Z : Machines → Type 0)
-    (r : Reply) (old new : WorldState) → side_of n ≡ Some s → Asks Y Z (w s) (w (peer s)) (c s)
+    (r : Reply) (old new : WorldState) → Fits d w c → side_of n ≡ Some s → Asks d Y Z (w s) (w (peer s)) (c s)
     → Link d at w c s Y old → WorldSteps gives old (event.Emit n (at s)) r new → Midway d at w c s Z new
-ask_own gives n s d at w c Y Z r old new named asks l h =
+ask_own gives n s d at w c Y Z r old new fits named asks l h =
     let bare = forget d at w c s s Y old l in
-    let e = emit_link gives n s d at w c s Nothing r old new named (nothing_along (w s) (w (peer s)) (c s) d) (λ f p y. y) bare h in
+    let e = emit_link gives n s d at w c s Nothing r old new fits named (nothing_along (w s) (w (peer s)) (c s) d) (λ f p y. y) bare h in
     let place = l.place s in
     let st = (half s old).state in
     let it = found (at s) place.0 st.system_ports place.1 in
-    let P = EndIs w c s Y s in
+    let P = EndIs d w c s Y s in
     let numbered = found_place (at s) st.system_ports place.0 it.0 place.1 it.1 in
     let is = all-get (λ (y : SystemPort). AtPort (at s) P y.number y.port) st.system_ports place.0 it.0 it.1 (l.ports s) numbered in
     elim (cases_Bool (is_due it.0.port)) [
@@ -190,7 +189,7 @@ ask_own gives n s d at w c Y Z r old new named asks l h =
           e.asks.promise.step in
           let rest = all-get PeriodicIsSettled st.system_ports place.0 it.0 it.1 (l.steady s).0.quiet.1 in
           let timed = all-get (λ (y : SystemPort). IsTimed y.port) st.system_ports place.0 it.0 it.1 (l.steady s).1 in
-          let now = at_number (EndIs w c s Z s) 0 st.system_ports place.0 it.0 (ports_rise st (l.steady s).0.ports) it.1
+          let now = at_number (EndIs d w c s Z s) 0 st.system_ports place.0 it.0 (ports_rise st (l.steady s).0.ports) it.1
           (is.0, λ f. asks it.0.port rest.rows timed is.0 (is.1 refl) not) in
           inl (record {
             steady = e.link.steady;
@@ -198,33 +197,33 @@ ask_own gives n s d at w c Y Z r old new named asks l h =
             links = e.link.links;
             good = e.link.good;
             place = e.link.place;
-            ports = each_side (λ t. OfEach (AtPort (at t) (EndIs w c s Z t)) (half t new).state.system_ports) s
-                (subst (OfEach (AtPort (at s) (EndIs w c s Z s))) (sym same)
-                (subst (λ n. OfEach (AtPort n (EndIs w c s Z s)) st.system_ports) numbered now))
-                (each_map (AtPort (at (peer s)) (EndIs w c s Y (peer s))) (AtPort (at (peer s)) (EndIs w c s Z (peer s)))
+            ports = each_side (λ t. OfEach (AtPort (at t) (EndIs d w c s Z t)) (half t new).state.system_ports) s
+                (subst (OfEach (AtPort (at s) (EndIs d w c s Z s))) (sym same)
+                (subst (λ n. OfEach (AtPort n (EndIs d w c s Z s)) st.system_ports) numbered now))
+                (each_map (AtPort (at (peer s)) (EndIs d w c s Y (peer s))) (AtPort (at (peer s)) (EndIs d w c s Z (peer s)))
                 (λ m p a f. ((a f).0, λ g. absurd (other_side s g))) (half (peer s) new).state.system_ports
-                (subst (λ (y : SystemState). OfEach (AtPort (at (peer s)) (EndIs w c s Y (peer s))) y.system_ports)
+                (subst (λ (y : SystemState). OfEach (AtPort (at (peer s)) (EndIs d w c s Y (peer s))) y.system_ports)
                 (sym e.asks.peers) (l.ports (peer s))));
           }))
     ]
 
 ask_peer : (gives : Algorithms) (n : ℕ) (s : Side) (d : ℕ) (at : Side → ℕ) (w : Side → Lacpdu) (c : Side → ℕ) (Y : Machines → Type 0)
-    (r : Reply) (old new : WorldState) → side_of n ≡ Some (peer s) → Along Y (w s) (w (peer s)) (c s) d
+    (r : Reply) (old new : WorldState) → Fits d w c → side_of n ≡ Some (peer s) → Along Y (w s) (w (peer s)) (c s) d
     → Link d at w c s Y old → WorldSteps gives old (event.Emit n (at (peer s))) r new → Link d at w c s Y new
-ask_peer gives n s d at w c Y r old new named along l h =
-    (emit_link gives n (peer s) d at w c s Y r old new named along (λ e. absurd (other_side s e)) l h).link
+ask_peer gives n s d at w c Y r old new fits named along l h =
+    (emit_link gives n (peer s) d at w c s Y r old new fits named along (λ e. absurd (other_side s e)) l h).link
 
 ask_later : (gives : Algorithms) (n : ℕ) (u s : Side) (d : ℕ) (at : Side → ℕ) (w : Side → Lacpdu) (c : Side → ℕ) (Z : Machines → Type 0)
-    (r : Reply) (old new : WorldState) → side_of n ≡ Some u → 1 ≤ d
+    (r : Reply) (old new : WorldState) → Fits d w c → side_of n ≡ Some u → 1 ≤ d
     → (Link d at w c s Z old → Midway d at w c s Z new)
     → Midway d at w c s Z old → WorldSteps gives old (event.Emit n (at u)) r new → Midway d at w c s Z new
-ask_later gives n u s d at w c Z r old new named there first m h = elim m [
+ask_later gives n u s d at w c Z r old new fits named there first m h = elim m [
   | inl l ↦ first l
   | inr k ↦ elim k [
-    | inl l ↦ (let e = emit_link gives n u d at w c s Nothing r old new named (nothing_along (w s) (w (peer s)) (c s) d) (λ f p y. y) l.0 h in
+    | inl l ↦ (let e = emit_link gives n u d at w c s Nothing r old new fits named (nothing_along (w s) (w (peer s)) (c s) d) (λ f p y. y) l.0 h in
         inr (inl (e.link, e.flying (peer s) l.1)))
-    | inr l ↦ inr (inr (emit_link gives n u d at w c (peer s) (Known (w (peer (peer s))) (wait_of (w (peer s))) 0) r old new named
-        (known_along (w (peer s)) (w (peer (peer s))) (c (peer s)) d there) (λ f p y. y) l h).link)
+    | inr l ↦ inr (inr (emit_link gives n u d at w c (peer s) (Learnt d (w (peer (peer s))) (wait_of (w (peer s)))) r old new fits named
+        (known_along (w (peer s)) (w (peer (peer s))) (c (peer s)) d there (fits (peer s)).3) (λ f p y. y) l h).link)
   ]
 ]
 
@@ -237,10 +236,10 @@ deliver_later gives cn n s d at w c Z r old new there fits along m h = elim m [
     | inl l ↦ (let e = deliver_link gives cn n d at w c s Nothing r old new fits (nothing_along (w s) (w (peer s)) (c s) d) l.0 h in
         elim (e.flying (peer s) l.1) [
           | inl f ↦ inr (inl (e.link, f))
-          | inr heard ↦ inr (inr (join d at w c s (peer s) (Known (w (peer (peer s))) (wait_of (w (peer s))) 0) new e.link (heard there)))
+          | inr heard ↦ inr (inr (join d at w c s (peer s) (Learnt d (w (peer (peer s))) (wait_of (w (peer s)))) new e.link (heard there)))
         ])
-    | inr l ↦ inr (inr (deliver_link gives cn n d at w c (peer s) (Known (w (peer (peer s))) (wait_of (w (peer s))) 0) r old new fits
-        (known_along (w (peer s)) (w (peer (peer s))) (c (peer s)) d there) l h).link)
+    | inr l ↦ inr (inr (deliver_link gives cn n d at w c (peer s) (Learnt d (w (peer (peer s))) (wait_of (w (peer s)))) r old new fits
+        (known_along (w (peer s)) (w (peer (peer s))) (c (peer s)) d there (fits (peer s)).3) l h).link)
   ]
 ]
 
@@ -322,7 +321,7 @@ deliver_all gives M k (e ∷ es) (r ∷ rs) old new a h m = deliver_all gives M 
 -- what is left after a round: Z holds of the end of s, or the other end has heard an LACPDU of it
 abbrev pub Waits : ℕ → (Side → ℕ) → (Side → Lacpdu) → (Side → ℕ) → Side → (Machines → Type 0) → WorldState → Type 0
 Waits d at w c s Z j =
-    Link d at w c s Z j ⊎ Link d at w c (peer s) (Known (w (peer (peer s))) (wait_of (w (peer s))) 0) j
+    Link d at w c s Z j ⊎ Link d at w c (peer s) (Learnt d (w (peer (peer s))) (wait_of (w (peer s)))) j
 
 landed : (d : ℕ) (at : Side → ℕ) (w : Side → Lacpdu) (c : Side → ℕ) (s : Side) (Z : Machines → Type 0) (j : WorldState)
     → NothingInFlight j → Midway d at w c s Z j → Waits d at w c s Z j
@@ -337,11 +336,11 @@ landed d at w c s Z j none m = elim m [
 
 -- what holds of the end of s in a round: X before it, V after its tick, Y then at rest, Z once it is asked and nothing is due
 pub record Passes (X V Y Z : Machines → Type 0) (v u : Lacpdu) (before c d : ℕ) : Type 0 where
-  pub ticks : (p q : Machines) → RunsToRest receive_rows (count_down p) q → AtRest periodic_rows p → IsEnd v u before p → X p → V q
+  pub ticks : (p q : Machines) → RunsToRest receive_rows (count_down p) q → AtRest periodic_rows p → IsEnd d v u before p → X p → V q
   pub ticked : Along V v u c d
-  pub rests : (p : Machines) → AtRest periodic_rows p → IsTimed p → IsEnd v u c p → V p → Y p
+  pub rests : (p : Machines) → AtRest periodic_rows p → IsTimed p → IsEnd d v u c p → V p → Y p
   pub waits : Along Y v u c d
-  pub asks : Asks Y Z v u c
+  pub asks : Asks d Y Z v u c
   pub asked : Along Z v u c d
 
 timed_ends : (P : ℕ → Machines → Type 0) (xs : List SystemPort) → AllByRecursion PeriodicIsSettled xs
@@ -350,7 +349,7 @@ timed_ends P [] a b c = tt
 timed_ends P (x ∷ xs) a b c = ((c.0, a.0.rows, b.0), timed_ends P xs a.1 b.1 c.1)
 
 pub at_rest : (d : ℕ) (at : Side → ℕ) (w : Side → Lacpdu) (c : Side → ℕ) (s : Side) (V Y : Machines → Type 0) (j : WorldState)
-    → ((p : Machines) → AtRest periodic_rows p → IsTimed p → IsEnd (w s) (w (peer s)) (c s) p → V p → Y p)
+    → ((p : Machines) → AtRest periodic_rows p → IsTimed p → IsEnd d (w s) (w (peer s)) (c s) p → V p → Y p)
     → Link d at w c s V j → Link d at w c s Y j
 at_rest d at w c s V Y j k l = record {
   steady = l.steady;
@@ -358,12 +357,12 @@ at_rest d at w c s V Y j k l = record {
   links = l.links;
   good = l.good;
   place = l.place;
-  ports = λ t. each_map (λ m p. AtPort (at t) (EndIs w c s V t) m p × AtRest periodic_rows p × IsTimed p) (AtPort (at t) (EndIs w c s Y t))
+  ports = λ t. each_map (λ m p. AtPort (at t) (EndIs d w c s V t) m p × AtRest periodic_rows p × IsTimed p) (AtPort (at t) (EndIs d w c s Y t))
       (λ m p a e. (
         (a.0 e).0,
-        λ f. k p a.1 a.2 (subst (λ t. IsEnd (w t) (w (peer t)) (c t) p) f (a.0 e).0) ((a.0 e).1 f),
+        λ f. k p a.1 a.2 (subst (λ t. IsEnd d (w t) (w (peer t)) (c t) p) f (a.0 e).0) ((a.0 e).1 f),
       )) (half t j).state.system_ports
-      (timed_ends (AtPort (at t) (EndIs w c s V t)) (half t j).state.system_ports (l.steady t).0.quiet.1 (l.steady t).1 (l.ports t));
+      (timed_ends (AtPort (at t) (EndIs d w c s V t)) (half t j).state.system_ports (l.steady t).0.quiet.1 (l.steady t).1 (l.ports t));
 }
 
 pub round_passes : (gives : Algorithms) (s : Side) (d : ℕ) (at : Side → ℕ) (w : Side → Lacpdu) (c : Side → ℕ) (X V Y Z : Machines → Type 0)
@@ -372,7 +371,7 @@ pub round_passes : (gives : Algorithms) (s : Side) (d : ℕ) (at : Side → ℕ)
 round_passes gives s d at w c X V Y Z old new there fits k l h =
     let u = unroll gives at l.flying old new l.links h in
     let two = at_rest d at w (ticked c) s V Y u.two k.rests
-    (tick_both gives d at w c s X V u.tick_one.0 u.tick_two.0 old u.one u.two k.ticked k.ticks u.tick_one.1 u.tick_two.1 l) in
+    (tick_both gives d at w c s X V u.tick_one.0 u.tick_two.0 old u.one u.two fits k.ticked k.ticks u.tick_one.1 u.tick_two.1 l) in
     let six = asked s k u two in
     landed d at w (ticked c) s Z new h.empties
     (deliver_all gives (Midway d at w (ticked c) s Z)
@@ -382,28 +381,28 @@ round_passes gives s d at w c X V Y Z old new there fits k l h =
     asked : (s : Side) → Passes X V Y Z (w s) (w (peer s)) (c s) (ticked c s) d → (u : Unrolled gives at old new)
         → Link d at w (ticked c) s Y u.two → Midway d at w (ticked c) s Z u.six
     asked One k u l =
-        let a = ask_own gives 1 One d at w (ticked c) Y Z u.ask_one.0 u.two u.three refl k.asks l u.ask_one.1 in
-        let b = ask_later gives 1 One One d at w (ticked c) Z u.ask_one_again.0 u.three u.four refl there
-        (λ z. ask_own gives 1 One d at w (ticked c) Z Z u.ask_one_again.0 u.three u.four refl (λ p rest timed e y not. y) z
+        let a = ask_own gives 1 One d at w (ticked c) Y Z u.ask_one.0 u.two u.three fits refl k.asks l u.ask_one.1 in
+        let b = ask_later gives 1 One One d at w (ticked c) Z u.ask_one_again.0 u.three u.four fits refl there
+        (λ z. ask_own gives 1 One d at w (ticked c) Z Z u.ask_one_again.0 u.three u.four fits refl (λ p rest timed e y not. y) z
         u.ask_one_again.1) a u.ask_one_again.1 in
-        let e = ask_later gives 2 Two One d at w (ticked c) Z u.ask_two.0 u.four u.five refl there
-        (λ z. inl (ask_peer gives 2 One d at w (ticked c) Z u.ask_two.0 u.four u.five refl k.asked z u.ask_two.1)) b u.ask_two.1 in
-        ask_later gives 2 Two One d at w (ticked c) Z u.ask_two_again.0 u.five u.six refl there
-        (λ z. inl (ask_peer gives 2 One d at w (ticked c) Z u.ask_two_again.0 u.five u.six refl k.asked z u.ask_two_again.1))
+        let e = ask_later gives 2 Two One d at w (ticked c) Z u.ask_two.0 u.four u.five fits refl there
+        (λ z. inl (ask_peer gives 2 One d at w (ticked c) Z u.ask_two.0 u.four u.five fits refl k.asked z u.ask_two.1)) b u.ask_two.1 in
+        ask_later gives 2 Two One d at w (ticked c) Z u.ask_two_again.0 u.five u.six fits refl there
+        (λ z. inl (ask_peer gives 2 One d at w (ticked c) Z u.ask_two_again.0 u.five u.six fits refl k.asked z u.ask_two_again.1))
         e u.ask_two_again.1
     asked Two k u l =
-        let a = ask_peer gives 1 Two d at w (ticked c) Y u.ask_one.0 u.two u.three refl k.waits l u.ask_one.1 in
-        let b = ask_peer gives 1 Two d at w (ticked c) Y u.ask_one_again.0 u.three u.four refl k.waits a u.ask_one_again.1 in
-        let e = ask_own gives 2 Two d at w (ticked c) Y Z u.ask_two.0 u.four u.five refl k.asks b u.ask_two.1 in
-        ask_later gives 2 Two Two d at w (ticked c) Z u.ask_two_again.0 u.five u.six refl there
-        (λ z. ask_own gives 2 Two d at w (ticked c) Z Z u.ask_two_again.0 u.five u.six refl (λ p rest timed f y not. y) z
+        let a = ask_peer gives 1 Two d at w (ticked c) Y u.ask_one.0 u.two u.three fits refl k.waits l u.ask_one.1 in
+        let b = ask_peer gives 1 Two d at w (ticked c) Y u.ask_one_again.0 u.three u.four fits refl k.waits a u.ask_one_again.1 in
+        let e = ask_own gives 2 Two d at w (ticked c) Y Z u.ask_two.0 u.four u.five fits refl k.asks b u.ask_two.1 in
+        ask_later gives 2 Two Two d at w (ticked c) Z u.ask_two_again.0 u.five u.six fits refl there
+        (λ z. ask_own gives 2 Two d at w (ticked c) Z Z u.ask_two_again.0 u.five u.six fits refl (λ p rest timed f y not. y) z
         u.ask_two_again.1) e u.ask_two_again.1
 
 -- an LACPDU of the end of s is nearer, or the other end has heard one
 abbrev pub Nearer : ℕ → (Side → ℕ) → (Side → Lacpdu) → (Side → ℕ) → Side → Bool → ℕ → WorldState → Type 0
 Nearer d at w c s fast most j =
     ((1 ≤ most) × Link d at w c s (Sounds fast most) j)
-    ⊎ Link d at w c (peer s) (Known (w (peer (peer s))) (wait_of (w (peer s))) 0) j
+    ⊎ Link d at w c (peer s) (Learnt d (w (peer (peer s))) (wait_of (w (peer s)))) j
 
 pub still_sounds : (fast : Bool) (most : ℕ) (p : Machines) → AtRest periodic_rows p → is_silent p ≡ false → is_due p ≡ false
     → Sounds fast most p → 1 ≤ most
@@ -412,13 +411,13 @@ still_sounds fast (suc m) p rest silent not y = omega arith
 
 -- the port at the end of s
 pub end_port : (d : ℕ) (at : Side → ℕ) (w : Side → Lacpdu) (c : Side → ℕ) (x : Side) (Y : Machines → Type 0) (j : WorldState)
-    → Link d at w c x Y j → (s : Side) → (z : SystemPort) × EndIs w c x Y s z.port
+    → Link d at w c x Y j → (s : Side) → (z : SystemPort) × EndIs d w c x Y s z.port
 end_port d at w c x Y j l s =
     let ports = (half s j).state.system_ports in
     let place = l.place s in
     let it = found (at s) place.0 ports place.1 in (
       it.0,
-      all-get (λ (y : SystemPort). AtPort (at s) (EndIs w c x Y s) y.number y.port) ports place.0 it.0 it.1 (l.ports s)
+      all-get (λ (y : SystemPort). AtPort (at s) (EndIs d w c x Y s) y.number y.port) ports place.0 it.0 it.1 (l.ports s)
           (found_place (at s) ports place.0 it.0 place.1 it.1),
     )
 
@@ -436,11 +435,11 @@ later_along v u fast c d most can = both_along (λ p. 1 ≤ most) (Sounds fast m
 sounds_pass : (v u : Lacpdu) (fast : Bool) (before c d most : ℕ) → CanSound v u fast before → CanSound v u fast c
     → Passes (Sounds fast most) (Sounds fast (most - 1)) (Sounds fast (most - 1)) (Later fast (most - 1)) v u before c d
 sounds_pass v u fast before c d most was can = record {
-  ticks = λ p q r rest a y. ticks_sounds v u fast before most p q was r rest a y;
+  ticks = λ p q r rest a y. ticks_sounds d v u fast before most p q was r rest a y;
   ticked = sounds_along v u fast c d (most - 1) can;
   rests = λ p rest timed a y. y;
   waits = sounds_along v u fast c d (most - 1) can;
-  asks = λ p rest timed a y not. (still_sounds fast (most - 1) p rest (calm v u fast c p can a).0 not y, y);
+  asks = λ p rest timed a y not. (still_sounds fast (most - 1) p rest (calm d v u fast c p can a).0 not y, y);
   asked = later_along v u fast c d (most - 1) can;
 }
 
@@ -463,13 +462,13 @@ pub round_keeps : (gives : Algorithms) (x : Side) (d : ℕ) (at : Side → ℕ) 
 round_keeps gives x d at w c old new fits l h =
     let u = unroll gives at l.flying old new l.links h in
     let along = nothing_along (w x) (w (peer x)) (ticked c x) d in
-    let two = tick_both gives d at w c x Nothing Nothing u.tick_one.0 u.tick_two.0 old u.one u.two along
+    let two = tick_both gives d at w c x Nothing Nothing u.tick_one.0 u.tick_two.0 old u.one u.two fits along
     (λ p q r rest a y. y) u.tick_one.1 u.tick_two.1 l in
-    let three = (emit_link gives 1 One d at w (ticked c) x Nothing u.ask_one.0 u.two u.three refl along (λ f p y. y) two u.ask_one.1).link in
-    let four = (emit_link gives 1 One d at w (ticked c) x Nothing u.ask_one_again.0 u.three u.four refl along (λ f p y. y) three
+    let three = (emit_link gives 1 One d at w (ticked c) x Nothing u.ask_one.0 u.two u.three fits refl along (λ f p y. y) two u.ask_one.1).link in
+    let four = (emit_link gives 1 One d at w (ticked c) x Nothing u.ask_one_again.0 u.three u.four fits refl along (λ f p y. y) three
     u.ask_one_again.1).link in
-    let five = (emit_link gives 2 Two d at w (ticked c) x Nothing u.ask_two.0 u.four u.five refl along (λ f p y. y) four u.ask_two.1).link in
-    let six = (emit_link gives 2 Two d at w (ticked c) x Nothing u.ask_two_again.0 u.five u.six refl along (λ f p y. y) five
+    let five = (emit_link gives 2 Two d at w (ticked c) x Nothing u.ask_two.0 u.four u.five fits refl along (λ f p y. y) four u.ask_two.1).link in
+    let six = (emit_link gives 2 Two d at w (ticked c) x Nothing u.ask_two_again.0 u.five u.six fits refl along (λ f p y. y) five
     u.ask_two_again.1).link in
     deliver_all gives (Link d at w (ticked c) x Nothing)
     (λ cn n r i j step k. (deliver_link gives cn n d at w (ticked c) x Nothing r i j fits along k step).link)

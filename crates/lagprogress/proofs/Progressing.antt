@@ -21,14 +21,13 @@ use Rattle.lagworld.specs.Events.{Algorithms}
 use Rattle.lagworld.specs.State.{ItemValue, LinkState, WorldState, half, port_at, towards}
 use Rattle.lagprogress.specs.Hearing.{timeout_time}
 use Rattle.lagprogress.specs.Progress.{ActiveEndsComeToKnow, EndKnows, Knows}
-use Rattle.lagprogress.specs.Rounds.{AtEnd, IsHealthy, IsRound, OfPort, Rounds}
+use Rattle.lagprogress.specs.Rounds.{AtEnd, IsHealthy, IsRound, NothingInFlight, OfPort, Rounds}
 use Rattle.lagprogress.specs.Steady.{IsSteady}
 use Rattle.lagprogress.specs.Timers.{IsTimed}
 use Rattle.lagprogress.proofs.EachPort.{OfEach}
-use Rattle.lagprogress.proofs.EndFacts.{CanSound, IsEnd, Says, activity, calm, less_known, short_timeout, wait_of}
+use Rattle.lagprogress.proofs.EndFacts.{CanSound, IsEnd, Learnt, Says, Synced, activity, calm, less_known, short_timeout, wait_of}
 use Rattle.lagprogress.proofs.Hearing.{no}
-use Rattle.lagprogress.proofs.Knowing.{Known}
-use Rattle.lagprogress.proofs.Linked.{EndIs, IsGood, Link, each_map, each_side, found, peer_twice}
+use Rattle.lagprogress.proofs.Linked.{each_both, EndIs, Fits, IsGood, Link, each_map, each_side, found, peer_twice}
 use Rattle.lagprogress.proofs.OneCable.{as_cable, cable, towards_there}
 use Rattle.lagprogress.proofs.OnePort.{AtPort, at_number}
 use Rattle.lagprogress.proofs.OneRound.{Nothing, forget, join, round_keeps, round_nears, ticked}
@@ -80,32 +79,32 @@ module _ (at : Side → ℕ) (w : Side → Lacpdu) where
     links = l.links;
     good = l.good;
     place = l.place;
-    ports = λ s. each_map (AtPort (at s) (EndIs w c x Y s)) (AtPort (at s) (EndIs w b x Y s))
-        (λ m p a e. (less_known (w s) (w (peer s)) (c s) (b s) p (less s) (a e).0, (a e).1)) (half s j).state.system_ports (l.ports s);
+    ports = λ s. each_map (AtPort (at s) (EndIs d w c x Y s)) (AtPort (at s) (EndIs d w b x Y s))
+        (λ m p a e. (less_known d (w s) (w (peer s)) (c s) (b s) p (less s) (a e).0, (a e).1)) (half s j).state.system_ports (l.ports s);
   }
 
   -- what stands beside it
   beside : (d : ℕ) (c : Side → ℕ) (x : Side) (Y : Machines → Type 0) (j : WorldState) → Link d at w c x Y j → AtIt x Y j
-  beside d c x Y j l = each_map (AtPort (at x) (EndIs w c x Y x)) (AtPort (at x) Y) (λ m p a e. (a e).1 refl)
+  beside d c x Y j l = each_map (AtPort (at x) (EndIs d w c x Y x)) (AtPort (at x) Y) (λ m p a e. (a e).1 refl)
       (half x j).state.system_ports (l.ports x)
 
   -- the end of s knows its partner since just now
   learns : (d : ℕ) (c : Side → ℕ) (s : Side) (b : ℕ) (j : WorldState) → b ≤ c (peer s)
-      → Link d at w c s (Known (w (peer s)) (wait s) 0) j → Link d at w (two s (wait s) b) s Nothing j
+      → Link d at w c s (Learnt d (w (peer s)) (wait s)) j → Link d at w (two s (wait s) b) s Nothing j
   learns d c s b j less l = record {
     steady = l.steady;
     flying = l.flying;
     links = l.links;
     good = l.good;
     place = l.place;
-    ports = each_side (λ u. OfEach (AtPort (at u) (EndIs w (two s (wait s) b) s Nothing u)) (half u j).state.system_ports) s
-        (each_map (AtPort (at s) (EndIs w c s (Known (w (peer s)) (wait s) 0) s)) (AtPort (at s) (EndIs w (two s (wait s) b) s Nothing s))
-        (λ m p a e. (subst (λ n. IsEnd (w s) (w (peer s)) n p) (sym (two_there s (wait s) b)) ((a e).0.0, (a e).1 refl), λ f. tt))
+    ports = each_side (λ u. OfEach (AtPort (at u) (EndIs d w (two s (wait s) b) s Nothing u)) (half u j).state.system_ports) s
+        (each_map (AtPort (at s) (EndIs d w c s (Learnt d (w (peer s)) (wait s)) s)) (AtPort (at s) (EndIs d w (two s (wait s) b) s Nothing s))
+        (λ m p a e. (subst (λ n. IsEnd d (w s) (w (peer s)) n p) (sym (two_there s (wait s) b)) ((a e).0.0, ((a e).1 refl).0, (a e).0.2), λ f. tt))
         (half s j).state.system_ports (l.ports s))
-        (each_map (AtPort (at (peer s)) (EndIs w c s (Known (w (peer s)) (wait s) 0) (peer s)))
-        (AtPort (at (peer s)) (EndIs w (two s (wait s) b) s Nothing (peer s)))
+        (each_map (AtPort (at (peer s)) (EndIs d w c s (Learnt d (w (peer s)) (wait s)) (peer s)))
+        (AtPort (at (peer s)) (EndIs d w (two s (wait s) b) s Nothing (peer s)))
         (λ m p a e. (
-          less_known (w (peer s)) (w (peer (peer s))) (c (peer s)) (two s (wait s) b (peer s)) p
+          less_known d (w (peer s)) (w (peer (peer s))) (c (peer s)) (two s (wait s) b (peer s)) p
               (subst (λ n. n ≤ c (peer s)) (sym (two_other s (wait s) b)) less) (a e).0,
           λ f. tt,
         )) (half (peer s) j).state.system_ports (l.ports (peer s)));
@@ -122,11 +121,11 @@ module _ (at : Side → ℕ) (w : Side → Lacpdu) where
   sounds_now : (d : ℕ) (c : Side → ℕ) (x : Side) (Y : Machines → Type 0) (s : Side) (fast : Bool) (j : WorldState)
       → CanSound (w s) (w (peer s)) fast (c s) → Link d at w c x Y j → AtIt s (Sounds fast (silence_of fast)) j
   sounds_now d c x Y s fast j can l =
-      each_map (λ m p. (m ≡ at s → EndIs w c x Y s p) × (PeriodicIsSettled (record { number = 0; mac = []; port = p }) × IsTimed p))
+      each_map (λ m p. (m ≡ at s → EndIs d w c x Y s p) × (PeriodicIsSettled (record { number = 0; mac = []; port = p }) × IsTimed p))
       (AtPort (at s) (Sounds fast (silence_of fast)))
-      (λ m p a e. sounds_first fast p a.1.0.rows a.1.1 (calm (w s) (w (peer s)) fast (c s) p can (a.0 e).0))
+      (λ m p a e. sounds_first fast p a.1.0.rows a.1.1 (calm d (w s) (w (peer s)) fast (c s) p can (a.0 e).0))
       (half s j).state.system_ports
-      (all_settled (at s) (EndIs w c x Y s) (half s j).state.system_ports (l.steady s).0.quiet.1 (l.steady s).1 (l.ports s))
+      (all_settled (at s) (EndIs d w c x Y s) (half s j).state.system_ports (l.steady s).0.quiet.1 (l.steady s).1 (l.ports s))
 
   can_known : (s : Side) (c : ℕ) → 1 ≤ c → (activity (w s) ≡ true) ⊎ (activity (w (peer s)) ≡ true)
       → CanSound (w s) (w (peer s)) (mode s) c
@@ -134,24 +133,24 @@ module _ (at : Side → ℕ) (w : Side → Lacpdu) where
   can_known s c l (inr a) = (inr (l, a), λ e. (l, e))
 
   -- Each end sounds in so many ticks, and the other end knows it for longer, or the rounds are still few.
-  pub record Going (most n : ℕ) (j : WorldState) : Type 0 where
+  pub record Going (d most n : ℕ) (j : WorldState) : Type 0 where
     pub known : Side → ℕ
     pub next : Side → ℕ
-    pub link : Linked known One Nothing j
+    pub link : Link d at w known One Nothing j
     pub fits : (s : Side) → known s ≤ wait s
     pub later : (s : Side) → 1 ≤ next s
     pub longer : (s : Side) → (next s + 1 ≤ known (peer s)) ⊎ (n + next s ≤ most)
     pub sounds : (s : Side) → AtIt s (Sounds (mode s) (next s)) j
 
   -- what one round makes of one direction
-  record Went (most n : ℕ) (s : Side) (j : WorldState) : Type 0 where
+  record Went (d most n : ℕ) (s : Side) (j : WorldState) : Type 0 where
     next : ℕ
     known : ℕ
     fits : known ≤ wait (peer s)
     later : 1 ≤ next
     longer : (next + 1 ≤ known) ⊎ (n + next ≤ most)
     sounds : AtIt s (Sounds (mode s) next) j
-    peer : AtIt (peer s) (IsEnd (w (peer s)) (w (peer (peer s))) known) j
+    peer : AtIt (peer s) (IsEnd d (w (peer s)) (w (peer (peer s))) known) j
 
   silence_less : (b : Bool) → silence_of b + 1 ≤ (timeout_time b)
   silence_less true = omega arith
@@ -161,50 +160,50 @@ module _ (at : Side → ℕ) (w : Side → Lacpdu) where
   some_silence true = omega arith
   some_silence false = omega arith
 
-  ends_of : (c : Side → ℕ) (x : Side) (Y : Machines → Type 0) (s : Side) (j : WorldState) → Linked c x Y j
-      → AtIt s (IsEnd (w s) (w (peer s)) (c s)) j
-  ends_of c x Y s j l = each_map (AtPort (at s) (EndIs w c x Y s)) (AtPort (at s) (IsEnd (w s) (w (peer s)) (c s))) (λ m p a e. (a e).0)
-      (half s j).state.system_ports (l.ports s)
+  ends_of : (d : ℕ) (c : Side → ℕ) (x : Side) (Y : Machines → Type 0) (s : Side) (j : WorldState) → Link d at w c x Y j
+      → AtIt s (IsEnd d (w s) (w (peer s)) (c s)) j
+  ends_of d c x Y s j l = each_map (AtPort (at s) (EndIs d w c x Y s)) (AtPort (at s) (IsEnd d (w s) (w (peer s)) (c s)))
+      (λ m p a e. (a e).0) (half s j).state.system_ports (l.ports s)
 
-  went : (gives : Algorithms) (most n : ℕ) (old new : WorldState) (g : Going most n old)
-      → ((s : Side) → CanSound (w s) (w (peer s)) (mode s) (g.known s) × CanSound (w s) (w (peer s)) (mode s) (g.known s - 1))
-      → IsRound gives old new → (s : Side) → Went most (n + 1) s new
-  went gives most n old new g can h s = elim (round_nears gives s 1 at w g.known (mode s) (g.next s) old new (omega arith)
-      (λ t. (let l = g.fits t in omega (arith, l), λ _. omega arith)) (can s).1 (can s).0
-      (join 1 at w g.known One s (Sounds (mode s) (g.next s)) old g.link (g.sounds s)) h) [
-        | inl q ↦ record {
-          next = g.next s - 1;
-          known = g.known (peer s) - 1;
-          fits = let l = g.fits (peer s) in omega (arith, l);
-          later = q.0;
-          longer = elim (g.longer s) [
-            | inl l ↦ (let m = q.0 in inl (omega (arith, l, m)))
-            | inr l ↦ (let m = q.0 in inr (omega (arith, l, m)))
-          ];
-          sounds = beside 1 (ticked g.known) s (Sounds (mode s) (g.next s - 1)) new q.1;
-          peer = ends_of (ticked g.known) s (Sounds (mode s) (g.next s - 1)) (peer s) new q.1;
-        }
-        | inr q ↦ (let known = learns 1 (ticked g.known) (peer s) 0 new (omega arith) q in
-            record {
-              next = silence_of (mode s);
-              known = wait (peer s);
-              fits = omega arith;
-              later = some_silence (mode s);
-              longer = inl (silence_less (mode s));
-              sounds = sounds_now 1 (ticked g.known) (peer s) (Known (w (peer (peer s))) (wait (peer s)) 0) s (mode s) new (can s).1 q;
-              peer = subst (λ k. AtIt (peer s) (IsEnd (w (peer s)) (w (peer (peer s))) k) new) (two_there (peer s) (wait (peer s)) 0)
-                  (ends_of (two (peer s) (wait (peer s)) 0) (peer s) Nothing (peer s) new known);
-            })
-      ]
+  abbrev Able : ℕ → (Side → ℕ) → Type 0
+  Able d c = (s : Side) → CanSound (w s) (w (peer s)) (mode s) (c s) × CanSound (w s) (w (peer s)) (mode s) (c s - 1)
 
-  goes : (gives : Algorithms) (most n : ℕ) (old new : WorldState) (g : Going most n old)
-      → ((s : Side) → CanSound (w s) (w (peer s)) (mode s) (g.known s) × CanSound (w s) (w (peer s)) (mode s) (g.known s - 1))
-      → IsRound gives old new → Going most (n + 1) new
-  goes gives most n old new g can h =
-      let r = went gives most n old new g can h in
-      let base = round_keeps gives One 1 at w g.known old new (λ t. (let l = g.fits t in omega (arith, l), λ _. omega arith)) g.link h in
-      let own : (u : Side) → AtIt u (IsEnd (w u) (w (peer u)) (r (peer u)).known) new =
-      λ u. subst (λ t. AtIt t (IsEnd (w t) (w (peer t)) (r (peer u)).known) new) (peer_twice u) (r (peer u)).peer in
+  went : (gives : Algorithms) (d most n : ℕ) (old new : WorldState) (g : Going d most n old) → 1 ≤ d → Fits d w (ticked g.known)
+      → Able d g.known → IsRound gives old new → (s : Side) → Went d most (n + 1) s new
+  went gives d most n old new g there fit can h s = elim (round_nears gives s d at w g.known (mode s) (g.next s) old new there
+      fit (can s).1 (can s).0 (join d at w g.known One s (Sounds (mode s) (g.next s)) old g.link (g.sounds s)) h) [
+    | inl q ↦ record {
+      next = g.next s - 1;
+      known = g.known (peer s) - 1;
+      fits = let l = g.fits (peer s) in omega (arith, l);
+      later = q.0;
+      longer = elim (g.longer s) [
+        | inl l ↦ (let m = q.0 in inl (omega (arith, l, m)))
+        | inr l ↦ (let m = q.0 in inr (omega (arith, l, m)))
+      ];
+      sounds = beside d (ticked g.known) s (Sounds (mode s) (g.next s - 1)) new q.1;
+      peer = ends_of d (ticked g.known) s (Sounds (mode s) (g.next s - 1)) (peer s) new q.1;
+    }
+    | inr q ↦ (let known = learns d (ticked g.known) (peer s) 0 new (omega arith) q in
+        record {
+          next = silence_of (mode s);
+          known = wait (peer s);
+          fits = omega arith;
+          later = some_silence (mode s);
+          longer = inl (silence_less (mode s));
+          sounds = sounds_now d (ticked g.known) (peer s) (Learnt d (w (peer (peer s))) (wait (peer s))) s (mode s) new (can s).1 q;
+          peer = subst (λ k. AtIt (peer s) (IsEnd d (w (peer s)) (w (peer (peer s))) k) new) (two_there (peer s) (wait (peer s)) 0)
+              (ends_of d (two (peer s) (wait (peer s)) 0) (peer s) Nothing (peer s) new known);
+        })
+  ]
+
+  goes : (gives : Algorithms) (d most n : ℕ) (old new : WorldState) (g : Going d most n old) → 1 ≤ d → Fits d w (ticked g.known)
+      → Able d g.known → IsRound gives old new → Going d most (n + 1) new
+  goes gives d most n old new g there fit can h =
+      let r = went gives d most n old new g there fit can h in
+      let base = round_keeps gives One d at w g.known old new fit g.link h in
+      let own : (u : Side) → AtIt u (IsEnd d (w u) (w (peer u)) (r (peer u)).known) new =
+      λ u. subst (λ t. AtIt t (IsEnd d (w t) (w (peer t)) (r (peer u)).known) new) (peer_twice u) (r (peer u)).peer in
       record {
         known = λ u. (r (peer u)).known;
         next = λ s. (r s).next;
@@ -214,8 +213,8 @@ module _ (at : Side → ℕ) (w : Side → Lacpdu) where
           links = base.links;
           good = base.good;
           place = base.place;
-          ports = λ u. each_map (AtPort (at u) (IsEnd (w u) (w (peer u)) (r (peer u)).known))
-              (AtPort (at u) (EndIs w (λ v. (r (peer v)).known) One Nothing u)) (λ m p a e. (a e, λ f. tt))
+          ports = λ u. each_map (AtPort (at u) (IsEnd d (w u) (w (peer u)) (r (peer u)).known))
+              (AtPort (at u) (EndIs d w (λ v. (r (peer v)).known) One Nothing u)) (λ m p a e. (a e, λ f. tt))
               (half u new).state.system_ports (own u);
         };
         fits = λ u. subst (λ t. (r (peer u)).known ≤ wait t) (peer_twice u) (r (peer u)).fits;
@@ -226,45 +225,69 @@ module _ (at : Side → ℕ) (w : Side → Lacpdu) where
 
   -- the rounds are no longer few
 
+  abbrev pub FreshAt : ℕ → WorldState → Type 0
+  FreshAt d j = Going d 0 0 j
+
   abbrev pub Fresh : WorldState → Type 0
-  Fresh j = Going 0 0 j
+  Fresh j = FreshAt 1 j
 
-  known_long : (most n : ℕ) (j : WorldState) (g : Going most n j) → most ≤ n → (s : Side) → g.next s + 1 ≤ g.known (peer s)
-  known_long most n j g l s = elim (g.longer s) [ inl k ↦ k | inr k ↦ (let m = g.later s in absurd (omega (arith, l, k, m))) ]
+  known_long : (d most n : ℕ) (j : WorldState) (g : Going d most n j) → most ≤ n → (s : Side) → g.next s + 1 ≤ g.known (peer s)
+  known_long d most n j g l s = elim (g.longer s) [ inl k ↦ k | inr k ↦ (let m = g.later s in absurd (omega (arith, l, k, m))) ]
 
-  knows_peer : (most n : ℕ) (j : WorldState) (g : Going most n j) → most ≤ n → (s : Side) → 2 ≤ g.known s
-  knows_peer most n j g l s =
-      let k = known_long most n j g l (peer s) in
+  pub knows_peer : (d most n : ℕ) (j : WorldState) (g : Going d most n j) → most ≤ n → (s : Side) → 2 ≤ g.known s
+  knows_peer d most n j g l s =
+      let k = known_long d most n j g l (peer s) in
       let m = g.later (peer s) in
       subst (λ t. 2 ≤ g.known t) (peer_twice s) (omega (arith, k, m))
 
-  pub settled : (most n : ℕ) (j : WorldState) → most ≤ n → Going most n j → Fresh j
-  settled most n j l g = record {
+  pub settled : (d most n : ℕ) (j : WorldState) → most ≤ n → Going d most n j → FreshAt d j
+  settled d most n j l g = record {
     known = g.known;
     next = g.next;
     link = g.link;
     fits = g.fits;
     later = g.later;
-    longer = λ s. inl (known_long most n j g l s);
+    longer = λ s. inl (known_long d most n j g l s);
     sounds = g.sounds;
   }
 
+  one_less_two : 2 ≤ 1 → ⊥
+  one_less_two l = omega (arith, l)
+
+  -- nothing is known that does not fit, before anything is known
+  pub fits_first : (c : Side → ℕ) → ((s : Side) → c s ≤ wait s) → Fits 1 w c
+  fits_first c l s = (l s, λ _. omega arith, λ e. absurd (one_less_two e), λ e. absurd (one_less_two e))
+
   -- both ends know each other, and so they go on
   module _ (awake : (s : Side) → (activity (w s) ≡ true) ⊎ (activity (w (peer s)) ≡ true)) where
-    pub stays_fresh : (gives : Algorithms) (old new : WorldState) → IsRound gives old new → Fresh old → Fresh new
-    stays_fresh gives old new h g =
-        settled 0 1 new (omega arith) (goes gives 0 0 old new g
-        (λ s. let l = knows_peer 0 0 old g (omega arith) s in
-        (can_known s (g.known s) (omega (arith, l)) (awake s), can_known s (g.known s - 1) (omega (arith, l)) (awake s))) h)
+    awake_peer : (s : Side) → (activity (w (peer s)) ≡ true) ⊎ (activity (w s) ≡ true)
+    awake_peer s = elim (awake s) [ inl a ↦ inr a | inr a ↦ inl a ]
+
+    pub fits_fresh : (d : ℕ) (j : WorldState) (g : FreshAt d j) → 1 ≤ d → Fits d w (ticked g.known)
+    fits_fresh d j g there s = (
+      (let l = g.fits s in omega (arith, l)),
+      λ _. there,
+      λ _. (let l = knows_peer d 0 0 j g (omega arith) s in omega (arith, l)),
+      λ _. awake_peer s,
+    )
+
+    pub able_fresh : (d : ℕ) (j : WorldState) (g : FreshAt d j) → Able d g.known
+    able_fresh d j g s = let l = knows_peer d 0 0 j g (omega arith) s in
+        (can_known s (g.known s) (omega (arith, l)) (awake s), can_known s (g.known s - 1) (omega (arith, l)) (awake s))
+
+    pub stays_fresh : (gives : Algorithms) (d : ℕ) (old new : WorldState) → 1 ≤ d → IsRound gives old new → FreshAt d old → FreshAt d new
+    stays_fresh gives d old new there h g =
+        settled d 0 1 new (omega arith) (goes gives d 0 0 old new g there (fits_fresh d old g there) (able_fresh d old g) h)
 
   -- both ends are active and have Long Timeout
 
   abbrev Lasts : ℕ → WorldState → Type 0
-  Lasts n j = Going 310 n j
+  Lasts n j = Going 1 310 n j
 
   lasts : (gives : Algorithms) (n : ℕ) (old new : WorldState) → ((s : Side) → activity (w s) ≡ true)
       → ((s : Side) → mode s ≡ false) → IsRound gives old new → Lasts n old → Lasts (n + 1) new
-  lasts gives n old new active long h g = goes gives 310 n old new g
+  lasts gives n old new active long h g = goes gives 1 310 n old new g (omega arith)
+      (fits_first (ticked g.known) (λ t. let l = g.fits t in omega (arith, l)))
       (λ s. ((inl (active s), λ e. absurd (no (sym (long s) ∙ e))), (inl (active s), λ e. absurd (no (sym (long s) ∙ e))))) h
 
   lasts_first : (j : WorldState) → ((s : Side) → activity (w s) ≡ true) → ((s : Side) → mode s ≡ false)
@@ -309,7 +332,7 @@ module _ (at : Side → ℕ) (w : Side → Lacpdu) where
 
     -- the other end has just heard it
     pub hears : (most n : ℕ) (new : WorldState) → n ≤ most
-        → Linked (ticked (λ _. 0)) (peer s) (Known (w (peer (peer s))) (wait (peer s)) 0) new → Answers s most n new
+        → Linked (ticked (λ _. 0)) (peer s) (Learnt 1 (w (peer (peer s))) (wait (peer s))) new → Answers s most n new
     hears most n new l q =
         let known = learns 1 (ticked (λ _. 0)) (peer s) 0 new (omega arith) q in
         let b = wait (peer s) in
@@ -353,7 +376,7 @@ module _ (at : Side → ℕ) (w : Side → Lacpdu) where
         → Answers s most (n + 1) new ⊎ Fresh new
     answers gives most n old new h (k, b, some, soon, enough, less, link) = elim (round_nears gives (peer s) 1 at w (two s 0 b)
         (mode (peer s)) k old new (omega arith)
-        (λ t. (let l = two_less s wait 0 b (omega arith) less t in omega (arith, l), λ _. omega arith))
+        (fits_first (ticked (two s 0 b)) (λ t. let l = two_less s wait 0 b (omega arith) less t in omega (arith, l)))
         (subst (λ m. CanSound (w (peer s)) (w (peer (peer s))) (mode (peer s)) (m - 1)) (sym (two_other s 0 b))
         (able (b - 1) (omega (arith, room, some, enough))))
         (subst (CanSound (w (peer s)) (w (peer (peer s))) (mode (peer s))) (sym (two_other s 0 b))
@@ -372,7 +395,7 @@ module _ (at : Side → ℕ) (w : Side → Lacpdu) where
               ))
           | inr q ↦ inr (meets b k new some enough less (learns 1 (ticked (two s 0 b)) s (b - 1) new
               (subst (λ n. b - 1 ≤ n - 1) (sym (two_other s 0 b)) (omega arith))
-              (subst (λ t. Linked (ticked (two s 0 b)) t (Known (w (peer t)) (wait t) 0) new) (peer_twice s) q)))
+              (subst (λ t. Linked (ticked (two s 0 b)) t (Learnt 1 (w (peer t)) (wait t)) new) (peer_twice s) q)))
         ]
 
     pub answered : (most n : ℕ) (j : WorldState) → most + silence_of (mode (peer s)) ≤ n → Answers s most n j → Fresh j
@@ -386,7 +409,7 @@ module _ (at : Side → ℕ) (w : Side → Lacpdu) where
 
     calls : (gives : Algorithms) (n : ℕ) (old new : WorldState) → IsRound gives old new → Calls s n old → Comes s (n + 1) new
     calls gives n old new h g = elim (round_nears gives s 1 at w (λ _. 0) false g.0 old new (omega arith)
-        (λ t. (omega arith, λ _. omega arith)) (inl active, λ e. absurd (no e)) (inl active, λ e. absurd (no e)) g.3 h) [
+        (fits_first (ticked (λ _. 0)) (λ t. omega arith)) (inl active, λ e. absurd (no e)) (inl active, λ e. absurd (no e)) g.3 h) [
           | inl q ↦ (let l = g.2 in
               let m = q.0 in
               inl (g.0 - 1, q.0, omega (arith, l, m), lower 1 (ticked (λ _. 0)) (λ _. 0) s (Sounds false (g.0 - 1)) new (λ _. omega arith) q.1))
@@ -396,7 +419,7 @@ module _ (at : Side → ℕ) (w : Side → Lacpdu) where
     pub comes : (gives : Algorithms) (n : ℕ) (old new : WorldState) → IsRound gives old new → Comes s n old → Comes s (n + 1) new
     comes gives n old new h (inl c) = calls gives n old new h c
     comes gives n old new h (inr (inl a)) = inr (answers s some_awake room gives 310 n old new h a)
-    comes gives n old new h (inr (inr f)) = inr (inr (stays_fresh some_awake gives old new h f))
+    comes gives n old new h (inr (inr f)) = inr (inr (stays_fresh some_awake gives 1 old new (omega arith) h f))
 
     pub comes_first : (j : WorldState) → Linked (λ _. 0) One Nothing j → Comes s 1 j
     comes_first j l = inl (called s active j l)
@@ -462,9 +485,9 @@ Ends l j = (s : Side) → Found (λ p. p.enabled ≡ true) (port_at s l) (half s
 abbrev pub said_by : (l : LinkState) (j : WorldState) → Ends l j → Side → Lacpdu
 said_by l j e s = pdu_of (e s).1.port 0
 
-all_unknown : (u : Lacpdu) (xs : List ItemValue) → AllByRecursion (IsGood 0 u) xs
-all_unknown u [] = tt
-all_unknown u (x ∷ xs) = (λ v c l. absurd (omega (arith, l)), all_unknown u xs)
+all_unknown : (w : Side → Lacpdu) (s : Side) (xs : List ItemValue) → AllByRecursion (IsGood 0 w s) xs
+all_unknown w s [] = tt
+all_unknown w s (x ∷ xs) = (λ v c. (λ l. absurd (omega (arith, l)), λ l. absurd (omega (arith, l))), all_unknown w s xs)
 
 pub starts : (l : LinkState) (j : WorldState) (e : Ends l j) → IsSteady j → IsHealthy l j
     → Link 0 (λ s. port_at s l) (said_by l j e) (λ _. 0) One Nothing j
@@ -472,39 +495,52 @@ starts l j e steady h = record {
   steady = steady;
   flying = λ s. towards s l;
   links = h.only ∙ ap (λ m. m ∷ []) (as_cable l h.whole h.unlimited);
-  good = λ s. all_unknown (said_by l j e (peer s)) (towards s l);
+  good = λ s. all_unknown (said_by l j e) s (towards s l);
   place = λ s. ((e s).0, (e s).2);
   ports = λ s. (let ports = (half s j).state.system_ports in
       let z = (e s).1 in
-      let P = EndIs (said_by l j e) (λ _. 0) One Nothing s in
+      let P = EndIs 0 (said_by l j e) (λ _. 0) One Nothing s in
       subst (λ n. OfEach (AtPort n P) ports) (found_place (port_at s l) ports (e s).0 z (e s).2 (e s).3)
       (at_number P 0 ports (e s).0 z (ports_rise (half s j).state (steady s).0.ports) (e s).3
-      ((own_says z.port, ((e s).4, λ m. absurd (omega (arith, m)))), λ f. tt)));
+      ((own_says z.port, ((e s).4, λ m. absurd (omega (arith, m))), λ m. absurd (omega (arith, m))), λ f. tt)));
 }
 
--- after the first round nothing is on the cable but what was sent in it
-pub first_round : (gives : Algorithms) (at : Side → ℕ) (w : Side → Lacpdu) (old new : WorldState)
-    → Link 0 at w (λ _. 0) One Nothing old → IsRound gives old new → Link 1 at w (λ _. 0) One Nothing new
-first_round gives at w old new l h =
-    let k = lower at w 0 (ticked (λ _. 0)) (λ _. 0) One Nothing new (λ s. omega arith)
-    (round_keeps gives One 0 at w (λ _. 0) old new (λ t. (omega arith, λ m. omega (arith, m))) l h) in
+-- where nothing is on the cable, nothing on it is unknown
+pub emptied : (at : Side → ℕ) (w : Side → Lacpdu) (d e : ℕ) (c : Side → ℕ) (x : Side) (Y : Machines → Type 0) (j : WorldState)
+    → NothingInFlight j → ((s : Side) → OfEach (AtPort (at s) (λ p. 2 ≤ e → Synced p)) (half s j).state.system_ports)
+    → Link d at w c x Y j → Link e at w c x Y j
+emptied at w d e c x Y j none synced k =
     let empty : (s : Side) → k.flying s ≡ [] = λ s. sym (towards_there s at k.flying)
-    ∙ h.empties s zero (cable at k.flying) (ap (λ ls. slice_get ls zero) k.links) in
+    ∙ none s zero (cable at k.flying) (ap (λ ls. slice_get ls zero) k.links) in
     record {
       steady = k.steady;
       flying = k.flying;
       links = k.links;
-      good = λ s. subst (AllByRecursion (IsGood 1 (w (peer s)))) (sym (empty s)) tt;
+      good = λ s. subst (AllByRecursion (IsGood e w s)) (sym (empty s)) tt;
       place = k.place;
-      ports = k.ports;
+      ports = λ s. each_map (λ m p. AtPort (at s) (EndIs d w c x Y s) m p × AtPort (at s) (λ p. 2 ≤ e → Synced p) m p)
+          (AtPort (at s) (EndIs e w c x Y s)) (λ m p a f. (((a.0 f).0.0, (a.0 f).0.1, a.1 f), (a.0 f).1)) (half s j).state.system_ports
+          (each_both (AtPort (at s) (EndIs d w c x Y s)) (AtPort (at s) (λ p. 2 ≤ e → Synced p)) (half s j).state.system_ports
+          (k.ports s) (synced s));
     }
+
+-- after the first round nothing is on the cable
+pub first_round : (gives : Algorithms) (at : Side → ℕ) (w : Side → Lacpdu) (old new : WorldState)
+    → Link 0 at w (λ _. 0) One Nothing old → IsRound gives old new → Link 1 at w (λ _. 0) One Nothing new
+first_round gives at w old new l h =
+    let k = lower at w 0 (ticked (λ _. 0)) (λ _. 0) One Nothing new (λ s. omega arith)
+    (round_keeps gives One 0 at w (λ _. 0) old new
+    (λ t. (omega arith, λ m. omega (arith, m), λ m. absurd (omega (arith, m)), λ m. absurd (omega (arith, m)))) l h) in
+    emptied at w 0 1 (λ _. 0) One Nothing new h.empties
+    (λ s. each_map (AtPort (at s) (EndIs 0 w (λ _. 0) One Nothing s)) (AtPort (at s) (λ p. 2 ≤ 1 → Synced p))
+    (λ m p a e f. absurd (omega (arith, f))) (half s new).state.system_ports (k.ports s)) k
 
 -- both ends know each other
 pub fresh_knows : (l : LinkState) (w : Side → Lacpdu) (j : WorldState) → Fresh (λ s. port_at s l) w j → (s : Side) → EndKnows s l j
 fresh_knows l w j g s =
     let one = port_of s in
     let other = port_of (peer s) in
-    let r = (one.2.1.1 (let m = knows_peer (λ s. port_at s l) w 0 0 j g (omega arith) s in omega (arith, m))).0 in
+    let r = (one.2.1.1 (let m = knows_peer (λ s. port_at s l) w 1 0 0 j g (omega arith) s in omega (arith, m))).0 in
     let knows : Knows one.0.port other.0.port = record {
       current = r.current;
       party = r.party ∙ sym other.2.0.0;
@@ -517,15 +553,15 @@ fresh_knows l w j g s =
     (subst (OfPort (λ q. Knows one.0.port q)) (sym other.1) knows)
   where
     port_of : (u : Side) → (z : SystemPort) × (machines_of (port_at u l) (half u j).state ≡ Some z.port)
-        × IsEnd (w u) (w (peer u)) (g.known u) z.port
+        × IsEnd 1 (w u) (w (peer u)) (g.known u) z.port
     port_of u =
         let ports = (half u j).state.system_ports in
         let place = g.link.place u in
         let it = found (port_at u l) place.0 ports place.1 in (
           it.0,
           machines_there (port_at u l) (half u j).state place.0 it.0 place.1 it.1,
-          all-get (λ (y : SystemPort). AtPort (port_at u l) (IsEnd (w u) (w (peer u)) (g.known u)) y.number y.port) ports place.0 it.0 it.1
-              (ends_of (λ s. port_at s l) w g.known One Nothing u j g.link) (found_place (port_at u l) ports place.0 it.0 place.1 it.1),
+          all-get (λ (y : SystemPort). AtPort (port_at u l) (IsEnd 1 (w u) (w (peer u)) (g.known u)) y.number y.port) ports place.0 it.0 it.1
+              (ends_of (λ s. port_at s l) w 1 g.known One Nothing u j g.link) (found_place (port_at u l) ports place.0 it.0 place.1 it.1),
         )
 
 -- both ends are active
@@ -549,7 +585,7 @@ meets_short gives at w s n old new active short enough l h =
 meets_long : (gives : Algorithms) (at : Side → ℕ) (w : Side → Lacpdu) (n : ℕ) (old new : WorldState) → ((s : Side) → activity (w s) ≡ true)
     → ((s : Side) → mode at w s ≡ false) → 321 ≤ n → Link 0 at w (λ _. 0) One Nothing old → Rounds gives n old new → Fresh at w new
 meets_long gives at w n old new active long enough l h =
-    settled at w 310 n new (omega (arith, enough))
+    settled at w 1 310 n new (omega (arith, enough))
     (along_rounds gives (λ m j. Lasts at w m j) old (λ j r. lasts_first at w j active long (first_round gives at w old j l r))
     (λ m i j r c. lasts at w gives m i j active long r c) n new (omega (arith, enough)) h)
 
