@@ -30,7 +30,6 @@ use Rattle.portmachines.specs.Receive.{receive_rows}
 use Rattle.portmachines.specs.Rows.{RunsToRest}
 use Rattle.portmachines.specs.Start.{Starts, before_start}
 use Rattle.portmachines.specs.Transmit.{after_sending, count_down, is_due}
-use Rattle.lagsystem.specs.declared.config.PortChange.{PortChange}
 use Rattle.lagsystem.specs.declared.drive.Reply.{Reply}
 use Rattle.lagsystem.specs.declared.drive.Reply.TheVariants as reply
 use Rattle.lagsystem.specs.declared.received.Received.{Received}

@@ -87,7 +87,7 @@ pub record Along (Y : Machines → Type 0) (v u : Lacpdu) (c d : ℕ) : Type 0 w
 
 -- settling
 
-not_attached : (m : MuxState) (g : Bool) (from : MuxState) → is_synchronized from ≡ false → (same_mux_state from m && g) ≡ true
+pub not_attached : (m : MuxState) (g : Bool) (from : MuxState) → is_synchronized from ≡ false → (same_mux_state from m && g) ≡ true
     → is_synchronized m ≡ true → ⊥
 not_attached Detached g Detached f h e = no e
 not_attached Detached g Waiting f h e = no h
@@ -166,7 +166,7 @@ takes_known v u x p q e awake h a up =
     (r.0, λ _. (same_recorded x u q e r.1.0, subst (λ b. timeout_time b ≤ q.current_while) says.2 r.1.1))
 
 -- an LACPDU of the partner that is recorded leaves Selected
-keeps_synced : (u x : Lacpdu) (p q : Machines) → SameActor x u → HasRecorded u p → ProcessesLacpdu x p q → Synced p → Synced q
+pub keeps_synced : (u x : Lacpdu) (p q : Machines) → SameActor x u → HasRecorded u p → ProcessesLacpdu x p q → Synced p → Synced q
 keeps_synced u x p q e known h a = elim h [
   | inl f ↦ elim f [
     | inl g ↦ (let same : same_party (party_of x.actor) (party_of p.partner) ≡ true =
@@ -309,7 +309,7 @@ awake_fires true true e h f = no (sym f)
 awake_fires true false e h f = no h
 awake_fires false c e h f = no e
 
-takes_sync : (v u x : Lacpdu) (p q : Machines) → (activity u ≡ true) ⊎ (activity v ≡ true) → SameActor x u → InSync v x
+pub takes_sync : (v u x : Lacpdu) (p q : Machines) → (activity u ≡ true) ⊎ (activity v ≡ true) → SameActor x u → InSync v x
     → can_receive p ≡ true → ProcessesLacpdu x p q → Says v p → p.enabled ≡ true → partner_synchronized q ≡ true
 takes_sync v u x p q on e i awake h a up = elim h [
   | inl f ↦ elim f [

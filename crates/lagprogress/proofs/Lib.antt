@@ -19,3 +19,5 @@ mod OneRound
 mod Progressing
 mod Lapsing
 mod OneActive
+mod Climbing
+mod ComingUp

@@ -50,7 +50,7 @@ lens : (n : ℕ) (xs : List SystemPort)
 lens n [] = refl
 lens n (x ∷ xs) = ap (λ k. cond (not (x.number == n)) (1 + k) 0) (lens n xs)
 
-many : (xs : List SystemPort) → length xs ≡ length (port_numbers xs)
+pub many : (xs : List SystemPort) → length xs ≡ length (port_numbers xs)
 many [] = refl
 many (x ∷ xs) = ap (λ k. suc k) (many xs)
 
@@ -143,18 +143,17 @@ own_suits p dl d v u c known a =
       distributing = same_mux_state CollectingDistributing p.mux;
       defaulted = p.defaulted;
       expired = p.expired;
-    }) in
-    (
+    }) in (
       λ _. (
-          ap (named (actor_of p)) bits ∙ a.0.0,
-          ap (λ (b : StateBits). b.activity) bits ∙ a.0.1,
-          ap (λ (b : StateBits). b.timeout) bits ∙ a.0.2,
-        ),
+        ap (named (actor_of p)) bits ∙ a.0.0,
+        ap (λ (b : StateBits). b.activity) bits ∙ a.0.1,
+        ap (λ (b : StateBits). b.timeout) bits ∙ a.0.2,
+      ),
       λ f. (
-          ap (λ (b : StateBits). b.synchronization) bits ∙ (a.2 f).1,
-          (a.1.1 (known f)).0.party,
-          (a.1.1 (known f)).0.active,
-        ),
+        ap (λ (b : StateBits). b.synchronization) bits ∙ (a.2 f).1,
+        (a.1.1 (known f)).0.party,
+        (a.1.1 (known f)).0.active,
+      ),
     )
 
 sent_good : (d : ℕ) (v u : Lacpdu) (c : ℕ) (up due : Bool) (i : ℕ) (z : SystemPort) (old : SystemState) (frame : List ℕ)
@@ -336,8 +335,8 @@ emit_link gives n s d at w c x Y r old new fits told along sends l h =
         flying = k.now;
         links = k.links;
         good = went_good d w s k.a l.flying k.now k.went (λ frame e x carried. subst (λ t. Suits d (w (peer s)) (w t) x)
-              (sym (peer_twice s)) (told_good d (w s) (w (peer s)) (c s) (gives s) (at s) k.a (half s old).state
-              (half s new).state (fits s).2 k.promise says frame e x carried)) l.good;
+            (sym (peer_twice s)) (told_good d (w s) (w (peer s)) (c s) (gives s) (at s) k.a (half s old).state
+            (half s new).state (fits s).2 k.promise says frame e x carried)) l.good;
         place = λ t. ((l.place t).0, place_kept gives (event.Emit n (at s)) r old new h l.steady steady t (at t) ∙ (l.place t).1);
         ports = each_side (λ t. OfEach (AtPort (at t) (EndIs d w c x Y t)) (half t new).state.system_ports) s own other;
       };

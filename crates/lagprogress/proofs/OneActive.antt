@@ -89,7 +89,7 @@ module _ (at : Side → ℕ) (w : Side → Lacpdu) where
     ended n j l (inr (inr (inl a))) = answered at w s awake room 619 n j l a
     ended n j l (inr (inr (inr f))) = f
 
-one_meets : (gives : Algorithms) (at : Side → ℕ) (w : Side → Lacpdu) (s : Side) (n : ℕ) (old new : WorldState)
+pub one_meets : (gives : Algorithms) (at : Side → ℕ) (w : Side → Lacpdu) (s : Side) (n : ℕ) (old new : WorldState)
     → activity (w s) ≡ true → 630 ≤ n → Link 0 at w (λ _. 0) One Nothing old → Rounds gives n old new → Fresh at w new
 one_meets gives at w s n old new active enough l h = elim (cases_Bool (short_timeout (w s))) [
   | inl short ↦ meets_short gives at w s n old new active short (omega (arith, enough)) l h

@@ -68,7 +68,7 @@ module _ (at : Side → ℕ) (w : Side → Lacpdu) where
   Linked c x Y j = Link 1 at w c x Y j
 
   -- the port at the end of s is so
-  abbrev AtIt : Side → (Machines → Type 0) → WorldState → Type 0
+  abbrev pub AtIt : Side → (Machines → Type 0) → WorldState → Type 0
   AtIt s P j = OfEach (AtPort (at s) P) (half s j).state.system_ports
 
   pub lower : (d : ℕ) (c b : Side → ℕ) (x : Side) (Y : Machines → Type 0) (j : WorldState) → ((s : Side) → b s ≤ c s)
@@ -84,7 +84,7 @@ module _ (at : Side → ℕ) (w : Side → Lacpdu) where
   }
 
   -- what stands beside it
-  beside : (d : ℕ) (c : Side → ℕ) (x : Side) (Y : Machines → Type 0) (j : WorldState) → Link d at w c x Y j → AtIt x Y j
+  pub beside : (d : ℕ) (c : Side → ℕ) (x : Side) (Y : Machines → Type 0) (j : WorldState) → Link d at w c x Y j → AtIt x Y j
   beside d c x Y j l = each_map (AtPort (at x) (EndIs d w c x Y x)) (AtPort (at x) Y) (λ m p a e. (a e).1 refl)
       (half x j).state.system_ports (l.ports x)
 
@@ -118,7 +118,7 @@ module _ (at : Side → ℕ) (w : Side → Lacpdu) where
       ((c.0, (record { rows = a.0.rows; cleared = a.0.cleared }, b.0)), all_settled n P xs a.1 b.1 c.1)
 
   -- in how many ticks at the latest an end that may sound does
-  sounds_now : (d : ℕ) (c : Side → ℕ) (x : Side) (Y : Machines → Type 0) (s : Side) (fast : Bool) (j : WorldState)
+  pub sounds_now : (d : ℕ) (c : Side → ℕ) (x : Side) (Y : Machines → Type 0) (s : Side) (fast : Bool) (j : WorldState)
       → CanSound (w s) (w (peer s)) fast (c s) → Link d at w c x Y j → AtIt s (Sounds fast (silence_of fast)) j
   sounds_now d c x Y s fast j can l =
       each_map (λ m p. (m ≡ at s → EndIs d w c x Y s p) × (PeriodicIsSettled (record { number = 0; mac = []; port = p }) × IsTimed p))
@@ -156,7 +156,7 @@ module _ (at : Side → ℕ) (w : Side → Lacpdu) where
   silence_less true = omega arith
   silence_less false = omega arith
 
-  some_silence : (b : Bool) → 1 ≤ silence_of b
+  pub some_silence : (b : Bool) → 1 ≤ silence_of b
   some_silence true = omega arith
   some_silence false = omega arith
 
@@ -172,30 +172,30 @@ module _ (at : Side → ℕ) (w : Side → Lacpdu) where
       → Able d g.known → IsRound gives old new → (s : Side) → Went d most (n + 1) s new
   went gives d most n old new g there fit can h s = elim (round_nears gives s d at w g.known (mode s) (g.next s) old new there
       fit (can s).1 (can s).0 (join d at w g.known One s (Sounds (mode s) (g.next s)) old g.link (g.sounds s)) h) [
-    | inl q ↦ record {
-      next = g.next s - 1;
-      known = g.known (peer s) - 1;
-      fits = let l = g.fits (peer s) in omega (arith, l);
-      later = q.0;
-      longer = elim (g.longer s) [
-        | inl l ↦ (let m = q.0 in inl (omega (arith, l, m)))
-        | inr l ↦ (let m = q.0 in inr (omega (arith, l, m)))
-      ];
-      sounds = beside d (ticked g.known) s (Sounds (mode s) (g.next s - 1)) new q.1;
-      peer = ends_of d (ticked g.known) s (Sounds (mode s) (g.next s - 1)) (peer s) new q.1;
-    }
-    | inr q ↦ (let known = learns d (ticked g.known) (peer s) 0 new (omega arith) q in
-        record {
-          next = silence_of (mode s);
-          known = wait (peer s);
-          fits = omega arith;
-          later = some_silence (mode s);
-          longer = inl (silence_less (mode s));
-          sounds = sounds_now d (ticked g.known) (peer s) (Learnt d (w (peer (peer s))) (wait (peer s))) s (mode s) new (can s).1 q;
-          peer = subst (λ k. AtIt (peer s) (IsEnd d (w (peer s)) (w (peer (peer s))) k) new) (two_there (peer s) (wait (peer s)) 0)
-              (ends_of d (two (peer s) (wait (peer s)) 0) (peer s) Nothing (peer s) new known);
-        })
-  ]
+        | inl q ↦ record {
+          next = g.next s - 1;
+          known = g.known (peer s) - 1;
+          fits = let l = g.fits (peer s) in omega (arith, l);
+          later = q.0;
+          longer = elim (g.longer s) [
+            | inl l ↦ (let m = q.0 in inl (omega (arith, l, m)))
+            | inr l ↦ (let m = q.0 in inr (omega (arith, l, m)))
+          ];
+          sounds = beside d (ticked g.known) s (Sounds (mode s) (g.next s - 1)) new q.1;
+          peer = ends_of d (ticked g.known) s (Sounds (mode s) (g.next s - 1)) (peer s) new q.1;
+        }
+        | inr q ↦ (let known = learns d (ticked g.known) (peer s) 0 new (omega arith) q in
+            record {
+              next = silence_of (mode s);
+              known = wait (peer s);
+              fits = omega arith;
+              later = some_silence (mode s);
+              longer = inl (silence_less (mode s));
+              sounds = sounds_now d (ticked g.known) (peer s) (Learnt d (w (peer (peer s))) (wait (peer s))) s (mode s) new (can s).1 q;
+              peer = subst (λ k. AtIt (peer s) (IsEnd d (w (peer s)) (w (peer (peer s))) k) new) (two_there (peer s) (wait (peer s)) 0)
+                  (ends_of d (two (peer s) (wait (peer s)) 0) (peer s) Nothing (peer s) new known);
+            })
+      ]
 
   goes : (gives : Algorithms) (d most n : ℕ) (old new : WorldState) (g : Going d most n old) → 1 ≤ d → Fits d w (ticked g.known)
       → Able d g.known → IsRound gives old new → Going d most (n + 1) new
@@ -589,7 +589,7 @@ meets_long gives at w n old new active long enough l h =
     (along_rounds gives (λ m j. Lasts at w m j) old (λ j r. lasts_first at w j active long (first_round gives at w old j l r))
     (λ m i j r c. lasts at w gives m i j active long r c) n new (omega (arith, enough)) h)
 
-active_meet : (gives : Algorithms) (at : Side → ℕ) (w : Side → Lacpdu) (n : ℕ) (old new : WorldState)
+pub active_meet : (gives : Algorithms) (at : Side → ℕ) (w : Side → Lacpdu) (n : ℕ) (old new : WorldState)
     → ((s : Side) → activity (w s) ≡ true) → 321 ≤ n → Link 0 at w (λ _. 0) One Nothing old → Rounds gives n old new → Fresh at w new
 active_meet gives at w n old new active enough l h = elim (cases_Bool (short_timeout (w One))) [
   | inl one ↦ meets_short gives at w One n old new (active One) one enough l h

@@ -257,7 +257,7 @@ within [] i key e = absurd (none-some key e)
 within (k ∷ ks) zero key e = omega arith
 within (k ∷ ks) (suc i) key e = omega (arith, within ks i key e)
 
-known_number : (keys : List Key) (n : ℕ) (key : Key) → key_of keys n ≡ Some key → (nat_le 1 n && nat_le n (length keys)) ≡ true
+pub known_number : (keys : List Key) (n : ℕ) (key : Key) → key_of keys n ≡ Some key → (nat_le 1 n && nat_le n (length keys)) ≡ true
 known_number keys zero key e = absurd (none-some key e)
 known_number keys (suc n) key e = let l = within keys n key e in grind (arith, nat_tests)
 

@@ -9,3 +9,4 @@ pub mod Steady
 pub mod Passing
 pub mod Rounds
 pub mod Progress
+pub mod ComingUp

@@ -121,3 +121,14 @@ ghost use Rattle.lagprogress.specs.Progress.{EndsComeToKnow};
 pub fn ends_come_to_know<F: Fn(u16, usize) -> usize>()
     ensures { (one two : F) → EndsComeToKnow (both_algorithms (F.post one) (F.post two)) }
 {}
+
+ghost use Rattle.lagprogress.specs.ComingUp.{ActiveLinkComesUp, LinkComesUp};
+
+/// Links come up: in a world with one cable that is whole and has no limit, with the links of both of its ports up, both
+/// ports are SELECTED and distribute from 650 healthy rounds (65 s) on if both are active, from 959 (95.9 s) on if one is,
+/// whatever was before them. Each system has one port, an aggregator with its key, and no limit of links; the two systems
+/// differ; both are sound, and their timers within their bounds, as in each world that events lead to (6.4.12 to 6.4.16).
+pub fn links_come_up<F: Fn(u16, usize) -> usize>()
+    ensures both { (one two : F) → ActiveLinkComesUp (both_algorithms (F.post one) (F.post two)) }
+    ensures one { (one two : F) → LinkComesUp (both_algorithms (F.post one) (F.post two)) }
+{}
