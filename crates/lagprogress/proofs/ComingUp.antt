@@ -1,11 +1,16 @@
 -- How both ends of a cable come to distribute, round by round.
 use Rattle.std.proofs.Common.{◌≡◌, ◌≢◌, ◌∙◌, ℕ, zero, suc, ◌+◌, ◌-◌, ◌≤◌, ◌==◌, Bool, true, false, cond, List, [], ◌∷◌, ◌++◌, ◌⊎◌, inl, inr, refl, sym}
 use Rattle.std.proofs.Common.{subst, ap, arith, Some, None, Option, length}
-use Rattle.std.specs.Prelude.{slice_get, filter}
+use Rattle.std.specs.Prelude.{filter, option_map, slice_get}
 use Rattle.std.proofs.lemmas.Option.{none-some, same_Some}
 use Rattle.lagtypes.specs.declared.identifiers.Key.{Key}
 use Rattle.lagtypes.specs.declared.party.Party.{Party}
 use Rattle.lagtypes.specs.Choices.{is_selected}
+use Rattle.lagtypes.specs.declared.identifiers.AggId.{AggId}
+use Rattle.lagtypes.specs.declared.party.Choice.TheVariants.{Standby}
+use Rattle.selection.specs.Choice.{ports_that_chose}
+use Rattle.selection.specs.Views.{has_chosen}
+use Rattle.lagsystem.specs.Views.{selection_view, views}
 use Rattle.slowpdu.specs.declared.pdu.Lacpdu.{Lacpdu}
 use Rattle.slowpdu.specs.Parties.{party_of}
 use Rattle.portmachines.specs.Machines.{Machines}
@@ -14,20 +19,22 @@ use Rattle.lagsystem.specs.declared.config.PortConfig.{PortConfig}
 use Rattle.lagsystem.specs.declared.drive.Reply.{Reply as Answer}
 use Rattle.lagsystem.specs.declared.system_ports.SystemPort.{SystemPort}
 use Rattle.lagsystem.specs.Calls.{Call, TableRun}
-use Rattle.lagsystem.specs.First.{configured_numbers}
+use Rattle.lagsystem.specs.declared.fault.BadConfig.{BadConfig}
+use Rattle.lagsystem.specs.declared.fault.BadConfig.TheVariants.{MaxLinks, PortNumber}
+use Rattle.lagsystem.specs.First.{configured_numbers, first_bad_port_number, or_first, refusal_of_limits}
 use Rattle.lagsystem.specs.NothingToSettle.{MuxIsSettled}
 use Rattle.lagsystem.specs.Sound.{IsSound}
 use Rattle.lagsystem.specs.State.{SystemState, machines_of, with_system_ports, with_table}
 use Rattle.distributor.specs.Conversations.{Table}
 use Rattle.lagsystem.proofs.Keeps.{Step-frame}
-use Rattle.lagsystem.proofs.Rising.{all-get, found_place, ports_rise}
+use Rattle.lagsystem.proofs.Rising.{all-get, found_place, if_then, ports_rise}
 use Rattle.lagscript.specs.declared.event.Event.{Event}
 use Rattle.lagworld.specs.declared.reply.Reply.{Reply}
 use Rattle.lagworld.specs.Events.{Algorithms, WorldRuns}
 use Rattle.lagworld.specs.State.{LinkState, WorldState, half, port_at}
 use Rattle.lagprogress.specs.ComingUp.{ActiveLinkComesUp, AreApart, Distributes, HasRoom, LinkComesUp}
 use Rattle.lagprogress.specs.Rounds.{AtEnd, IsRound, NothingInFlight, OfPort, Rounds, asks_all, ticks_of_both}
-use Rattle.lagprogress.specs.Selecting.{WantsAggregator, aggregators_with, ports_with}
+use Rattle.lagprogress.specs.Selecting.{StandsByFull, WantsAggregator, aggregators_with, ports_with}
 use Rattle.lagprogress.specs.Steady.{IsSteady}
 use Rattle.lagprogress.specs.Timers.{IsTimed}
 use Rattle.lagprogress.proofs.Climbing.{PartnerInSync, Rising, climbed, distributes_now, partner_along, rising_along, rising_first, round_holds}
@@ -108,21 +115,39 @@ few test x = by_test (test x)
     by_test true = omega arith
     by_test false = omega arith
 
+-- the only port of a system does not stand by: no limit of links is 0
+
+none_chose : (agg given : AggId) (x : SystemPort) → x.port.choice ≡ Standby given → length (ports_that_chose agg (views (x ∷ []))) ≡ 0
+none_chose agg given x e = ap (λ c. length (cond (has_chosen agg c) (selection_view x ∷ []) [])) e
+
+no_zero : (conversations : ℕ) → refusal_of_limits (Some 0) conversations ≡ None → ⊥
+no_zero conversations h = none-some MaxLinks (sym h)
+
+limit_accepted : (s : SystemState) → IsSound s → refusal_of_limits s.max_links s.conversations ≡ None
+limit_accepted s h = last (first_bad_port_number 1 0 (configured_numbers s.ports)) (refusal_of_limits s.max_links s.conversations)
+    (if_then _ _ _ (if_then _ _ _ h.ports.accepted))
+  where
+    last : (o : Option ℕ) (b : Option BadConfig) → or_first (option_map PortNumber o) b ≡ None → b ≡ None
+    last None b e = e
+    last (Some n) b e = absurd (none-some (PortNumber n) (sym e))
+
+never_stands : (s : SystemState) (x : SystemPort) → IsSound s → s.system_ports ≡ x ∷ [] → StandsByFull s x.port → ⊥
+never_stands s x h only (agg, stands, (most, limit, count)) =
+    let zero_links : most ≡ 0 = sym count ∙ (ap (λ l. length (ports_that_chose agg (views l))) only ∙ none_chose agg agg x stands) in
+    no_zero s.conversations (subst (λ o. refusal_of_limits o s.conversations ≡ None) (limit ∙ ap Some zero_links) (limit_accepted s h))
+
 module _ (at : Side → ℕ) (w : Side → Lacpdu) where
-  -- each system has one port and no limit of links, and an aggregator has the port's key
+  -- each system has one port, and an aggregator has the port's key
   abbrev Roomy : WorldState → Type 0
-  Roomy j = (s : Side) → (length (half s j).state.ports ≡ 1) × ((half s j).state.max_links ≡ None)
-      × (1 ≤ aggregators_with (w s).actor.key (half s j).state)
+  Roomy j = (s : Side) → (length (half s j).state.ports ≡ 1) × (1 ≤ aggregators_with (w s).actor.key (half s j).state)
 
   roomy : (gives : Algorithms) (old new : WorldState) → IsRound gives old new → Roomy old → Roomy new
   roomy gives old new h r s =
       let events = ticks_of_both ++ (asks_all old.links ++ h.delivers) in
       let ports = events_keep (List PortConfig) (λ t. t.ports) (λ t a b. refl) gives events h.replies old new h.acts s in
-      let limit = events_keep (Option ℕ) (λ t. t.max_links) (λ t a b. refl) gives events h.replies old new h.acts s in
       let keys = events_keep (List Key) (λ t. t.keys) (λ t a b. refl) gives events h.replies old new h.acts s in (
         ap (λ (l : List PortConfig). length l) ports ∙ (r s).0,
-        limit ∙ (r s).1,
-        subst (λ (ks : List Key). 1 ≤ length (filter (λ k. k.0 == (w s).actor.key.0) ks)) (sym keys) (r s).2,
+        subst (λ (ks : List Key). 1 ≤ length (filter (λ k. k.0 == (w s).actor.key.0) ks)) (sym keys) (r s).1,
       )
 
   -- the port at an end, which is the only one
@@ -175,7 +200,7 @@ module _ (at : Side → ℕ) (w : Side → Lacpdu) where
         let st = (half s j).state in
         let heard = (e.is.1.1 known).0 in
         let own : (party : Party) → e.port.port.party ≡ party → party ≡ party_of (w s).actor → 1 ≤ aggregators_with e.port.port.party.key st =
-        λ party a b. subst (λ (y : Party). 1 ≤ aggregators_with y.key st) (sym (a ∙ b)) (r s).2 in
+        λ party a b. subst (λ (y : Party). 1 ≤ aggregators_with y.key st) (sym (a ∙ b)) (r s).1 in
         let room = own e.port.port.party refl e.is.0.0 in
         let less : ports_with e.port.port.party.key st ≤ 1 =
         subst (λ (ys : List SystemPort). length (filter (λ (x : SystemPort). x.port.party.key.0 == e.port.port.party.key.0) ys) ≤ 1)
@@ -187,7 +212,7 @@ module _ (at : Side → ℕ) (w : Side → Lacpdu) where
         } in
         elim (finds_aggregator st e.index e.port (steady s).0 e.there wants (omega (arith, less, room))) [
           | inl h ↦ h
-          | inr h ↦ absurd (none-some h.2.0 (sym (r s).1 ∙ h.2.1))
+          | inr h ↦ absurd (never_stands st e.port (steady s).0 e.only h)
         ]
 
     -- both ends climb
@@ -331,7 +356,7 @@ module _ (at : Side → ℕ) (w : Side → Lacpdu) where
 
 room_at : (l : LinkState) (j : WorldState) (e : Ends l j) → ((s : Side) → HasRoom (half s j).state)
     → Roomy (λ s. port_at s l) (said_by l j e) j
-room_at l j e room s = ((room s).one, (room s).unlimited, (room s).aggregator (e s).0 (e s).1 (e s).3)
+room_at l j e room s = ((room s).one, (room s).aggregator (e s).0 (e s).1 (e s).3)
 
 apart_at : (l : LinkState) (j : WorldState) (e : Ends l j) → AreApart l j → (s : Side)
     → (said_by l j e (peer s)).actor.system ≢ (said_by l j e s).actor.system

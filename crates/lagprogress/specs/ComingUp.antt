@@ -1,5 +1,5 @@
 -- Links come up: both ends distribute after so many healthy rounds (100 ms each) of a world with one cable (profile).
-use Rattle.std.specs.Prelude.{◌≡◌, ◌≢◌, ◌≤◌, ℕ, true, length, None, Some, slice_get}
+use Rattle.std.specs.Prelude.{◌≡◌, ◌≢◌, ◌≤◌, ℕ, true, length, Some, slice_get}
 use Rattle.portmachines.specs.declared.mux.MuxState.TheVariants.{CollectingDistributing}
 use Rattle.portmachines.specs.Machines.{Machines}
 use Rattle.portmachines.specs.Mux.{selected}
@@ -12,10 +12,9 @@ use Rattle.lagprogress.specs.Rounds.{AtEnd, IsHealthy, Rounds}
 use Rattle.lagprogress.specs.Selecting.{aggregators_with}
 use Rattle.lagprogress.specs.Steady.{IsSteady}
 
--- the system has one port, an aggregator with the port's key, and no limit of links
+-- the system has one port, and an aggregator with the port's key
 pub record HasRoom (s : SystemState) : Type 0 where
   pub one : length s.ports ≡ 1
-  pub unlimited : s.max_links ≡ None
   pub aggregator : (i : ℕ) (x : SystemPort) → slice_get s.system_ports i ≡ Some x → 1 ≤ aggregators_with x.port.party.key s
 
 -- the ports at the ends of the cable are of different systems

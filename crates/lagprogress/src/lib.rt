@@ -1,6 +1,6 @@
-//! How ports make progress: which are SELECTED, how long one is silent, notices silence, and knows what it heard, and how
-//! far timers go. The functions of this crate do nothing when they run: the contract of each is a proved theorem over the
-//! states and calls of `lagsystem`, and over the events of `lagworld`.
+//! How ports make progress: which are SELECTED, how long one is silent, notices silence, and knows what it heard, how far
+//! timers go, and how soon a link comes up. The functions of this crate do nothing when they run: the contract of each is a
+//! proved theorem over the states and calls of `lagsystem`, and over the events of `lagworld`.
 //!
 //! In comments, numbers such as 6.4.13 are sections of IEEE 802.1AX-2014, and "profile" is docs/PROFILE.md.
 #![tactic(auto)]
@@ -126,8 +126,8 @@ ghost use Rattle.lagprogress.specs.ComingUp.{ActiveLinkComesUp, LinkComesUp};
 
 /// Links come up: in a world with one cable that is whole and has no limit, with the links of both of its ports up, both
 /// ports are SELECTED and distribute from 650 healthy rounds (65 s) on if both are active, from 959 (95.9 s) on if one is,
-/// whatever was before them. Each system has one port, an aggregator with its key, and no limit of links; the two systems
-/// differ; both are sound, and their timers within their bounds, as in each world that events lead to (6.4.12 to 6.4.16).
+/// whatever was before them. Each system has one port, and an aggregator with its key; the two systems differ; both are
+/// sound, and their timers within their bounds, as in each world that events lead to (6.4.12 to 6.4.16).
 pub fn links_come_up<F: Fn(u16, usize) -> usize>()
     ensures both { (one two : F) → ActiveLinkComesUp (both_algorithms (F.post one) (F.post two)) }
     ensures one { (one two : F) → LinkComesUp (both_algorithms (F.post one) (F.post two)) }
