@@ -43,7 +43,7 @@ use Rattle.lagprogress.specs.Rounds.{IsRound}
 use Rattle.lagprogress.specs.Timers.{IsTimed}
 use Rattle.lagprogress.proofs.EndFacts.{Along, IsEnd, SameActor, Synced, activity, not_attached, takes_sync}
 use Rattle.lagprogress.proofs.Hearing.{EnabledKeep, no, not_down, times_keep}
-use Rattle.lagprogress.proofs.Hearkening.{deliver_link}
+use Rattle.lagprogress.proofs.Delivering.{deliver_link}
 use Rattle.lagprogress.proofs.Knowing.{Known, counts}
 use Rattle.lagprogress.proofs.Linked.{Fits, Link, emit_link}
 use Rattle.lagprogress.proofs.OneRound.{deliver_all, tick_both, ticked, unroll}

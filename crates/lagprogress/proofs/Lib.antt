@@ -14,7 +14,7 @@ mod Sounding
 mod OneCable
 mod EndFacts
 mod Linked
-mod Hearkening
+mod Delivering
 mod OneRound
 mod Progressing
 mod Lapsing

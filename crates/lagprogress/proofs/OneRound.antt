@@ -34,7 +34,7 @@ use Rattle.lagprogress.proofs.EachPort.{OfEach, Tick-each}
 use Rattle.lagprogress.proofs.EndFacts.{Along, CanSound, IsEnd, Learnt, both_along, calm, known_along, nothing_along, sounds_along, ticks_end, ticks_sounds}
 use Rattle.lagprogress.proofs.EndFacts.{wait_of}
 use Rattle.lagprogress.proofs.Halves.{keeps_steady}
-use Rattle.lagprogress.proofs.Hearkening.{deliver_link}
+use Rattle.lagprogress.proofs.Delivering.{deliver_link}
 use Rattle.lagprogress.proofs.Hearing.{no}
 use Rattle.lagprogress.proofs.OneCable.{Went, cable, ticks, towards_there}
 use Rattle.lagprogress.proofs.OnePort.{AtPort, at_number, with_rest}
