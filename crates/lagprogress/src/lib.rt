@@ -116,8 +116,7 @@ pub fn active_ends_come_to_know<F: Fn(u16, usize) -> usize>()
 
 ghost use Rattle.lagprogress.specs.Progress.{EndsComeToKnow};
 
-/// The same if one of the two ports is active, whatever the other is, from 630 healthy rounds (63 s) on: a passive port
-/// speaks once it has heard its partner, at the latest when it no longer does (6.4.12, 6.4.13).
+/// The same if one of the two ports is active, whatever the other is, from 630 healthy rounds (63 s) on (6.4.12, 6.4.13).
 pub fn ends_come_to_know<F: Fn(u16, usize) -> usize>()
     ensures { (one two : F) → EndsComeToKnow (both_algorithms (F.post one) (F.post two)) }
 {}
