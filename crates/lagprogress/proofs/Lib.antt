@@ -21,3 +21,4 @@ mod Lapsing
 mod OneActive
 mod Climbing
 mod ComingUp
+mod Stamps

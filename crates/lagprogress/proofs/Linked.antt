@@ -175,7 +175,7 @@ sent_good d v u c true false i z old frame new known a h x k = by_marker (marker
 
 -- an arrival
 
-is_took : (o : Received) → (o ≡ received.TookLacpdu) ⊎ (o ≡ received.TookLacpdu → ⊥)
+pub is_took : (o : Received) → (o ≡ received.TookLacpdu) ⊎ (o ≡ received.TookLacpdu → ⊥)
 is_took received.Disabled = inr (λ e. cc)
 is_took received.Dropped = inr (λ e. cc)
 is_took (received.Ignored fault) = inr (λ e. cc)

@@ -17,6 +17,16 @@ use Rattle.lagworld.specs.declared.reply.Reply.{Reply}
 use Rattle.lagworld.specs.Events.{Algorithms, AfterReceive, AfterTransmit, DeliversFrom, OnLink, WorldEmits, WorldReceives}
 use Rattle.lagworld.specs.Events.{WorldSteps, side_of, with_link_at, with_stamp_collected}
 use Rattle.lagworld.specs.HalfCalls.{HalfTicks}
+use Rattle.lagworld.specs.declared.histories.PortHistory.{PortHistory}
+use Rattle.lagworld.specs.Messages.{payload_in, side_numbered, stamp_count}
+use Rattle.slowpdu.specs.declared.pdu.Lacpdu.{Lacpdu}
+use Rattle.slowpdu.specs.declared.pdu.Pdu.TheVariants as pdu
+use Rattle.slowpdu.proofs.LayoutLemmas.{all-append}
+use Rattle.slowpdu.proofs.PduInLemmas.{pdu_read}
+use Rattle.std.specs.List.{AllByRecursion}
+use Rattle.lagsystem.specs.Calls.{Carries, IsFrame}
+use Rattle.lagworld.specs.Events.{set_last_lacpdu, with_collected_in, stamp_for, stamped_in, transmitted_item}
+use Rattle.lagworld.specs.State.{change_count_in, history_at}
 use Rattle.lagworld.specs.State.{HalfState, ItemValue, LinkState, WorldState, accepts, half, limit_towards, link_index, port_at}
 use Rattle.lagworld.specs.State.{put_on_port, towards, with_half, with_towards}
 use Rattle.cables.specs.declared.item.Stamp.{Stamp}
@@ -87,6 +97,26 @@ Went s (Err fault) fl now = now ≡ fl
 Went s (Ok None) fl now = now ≡ fl
 Went s (Ok (Some frame)) fl now = (item : ItemValue) × (item.octets ≡ frame) × (now ≡ push (peer s) item fl)
 
+-- an LACPDU in the item has this number as its stamp
+abbrev pub IsStamped : ℕ → ItemValue → Type 0
+IsStamped n item = (x : Lacpdu) → IsFrame item.octets (Carries (pdu.Lacpdu x)) → stamp_count item.stamp ≡ n
+
+pub push_each : (P : Side → ItemValue → Type 0) (s : Side) (item : ItemValue) (fl : Side → List ItemValue) → P s item
+    → ((t : Side) → AllByRecursion (P t) (fl t)) → (t : Side) → AllByRecursion (P t) (push s item fl t)
+push_each P One item fl h a One = all-append (P One) (fl One) (item ∷ []) (a One) (h, tt)
+push_each P One item fl h a Two = a Two
+push_each P Two item fl h a One = a One
+push_each P Two item fl h a Two = all-append (P Two) (fl Two) (item ∷ []) (a Two) (h, tt)
+
+abbrev Stamping : Side → ℕ → List PortHistory → (Side → List ItemValue) → (Side → List ItemValue) → Type 0
+Stamping s p logs fl now = (m : Side → ℕ) → change_count_in (history_at logs p) ≡ m (peer s)
+    → ((t : Side) → AllByRecursion (IsStamped (m t)) (fl t)) → (t : Side) → AllByRecursion (IsStamped (m t)) (now t)
+
+item_stamped : (s : Side) (p : ℕ) (frame : List ℕ) (h : HalfState) (n : ℕ) → change_count_in (history_at h.histories p) ≡ n
+    → IsStamped n (transmitted_item s p frame h)
+item_stamped s p frame h n e x c =
+    ap (λ v. stamp_count (stamp_for v (change_count_in (history_at h.histories p)))) (pdu_read (payload_in frame) (pdu.Lacpdu x) c.1) ∙ e
+
 -- system s was asked for a frame of its port
 pub record Asks (gives : Algorithms) (s : Side) (at : Side → ℕ) (fl : Side → List ItemValue) (old new : WorldState) : Type 0 where
   pub a : Result (Option (List ℕ)) SystemFault
@@ -95,12 +125,21 @@ pub record Asks (gives : Algorithms) (s : Side) (at : Side → ℕ) (fl : Side �
   pub now : Side → List ItemValue
   pub went : Went s a fl now
   pub links : new.links ≡ cable at now ∷ []
+  pub logs : (t : Side) → (half t new).histories ≡ (half t old).histories
+  pub stamps : Stamping s (at s) (half s old).histories fl now
+
+half_logs : (s : Side) (h : HalfState) (j : WorldState) → h.histories ≡ (half s j).histories
+    → (t : Side) → (half t (with_half s h j)).histories ≡ (half t j).histories
+half_logs One h j e One = e
+half_logs One h j e Two = refl
+half_logs Two h j e One = refl
+half_logs Two h j e Two = e
 
 asked : (gives : Algorithms) (s : Side) (at : Side → ℕ) (fl : Side → List ItemValue) (a : Result (Option (List ℕ)) SystemFault)
-    (old new : WorldState) (mid : HalfState) (r : Reply) → old.links ≡ cable at fl ∷ []
+    (old new : WorldState) (mid : HalfState) (r : Reply) → old.links ≡ cable at fl ∷ [] → mid.histories ≡ (half s old).histories
     → CallPromise (gives s) (half s old).state (Transmit (at s)) (answer.Transmit a) mid.state
     → AfterTransmit s (at s) a (with_half s mid old) r new → Asks gives s at fl old new
-asked gives s at fl (Err fault) old new mid r e h x = record {
+asked gives s at fl (Err fault) old new mid r e log h x = record {
   a = Err fault;
   promise = subst (CallPromise (gives s) (half s old).state (Transmit (at s)) (answer.Transmit (Err fault)))
       (sym (ap (λ (j : WorldState). (half s j).state) x.1 ∙ ap (λ (k : HalfState). k.state) (half_there s mid old))) h;
@@ -108,8 +147,10 @@ asked gives s at fl (Err fault) old new mid r e h x = record {
   now = fl;
   went = refl;
   links = ap (λ (j : WorldState). j.links) x.1 ∙ e;
+  logs = λ t. ap (λ (j : WorldState). (half t j).histories) x.1 ∙ half_logs s mid old log t;
+  stamps = λ m c y. y;
 }
-asked gives s at fl (Ok None) old new mid r e h x = record {
+asked gives s at fl (Ok None) old new mid r e log h x = record {
   a = Ok None;
   promise = subst (CallPromise (gives s) (half s old).state (Transmit (at s)) (answer.Transmit (Ok None)))
       (sym (ap (λ (j : WorldState). (half s j).state) x.1 ∙ ap (λ (k : HalfState). k.state) (half_there s mid old))) h;
@@ -117,8 +158,10 @@ asked gives s at fl (Ok None) old new mid r e h x = record {
   now = fl;
   went = refl;
   links = ap (λ (j : WorldState). j.links) x.1 ∙ e;
+  logs = λ t. ap (λ (j : WorldState). (half t j).histories) x.1 ∙ half_logs s mid old log t;
+  stamps = λ m c y. y;
 }
-asked gives s at fl (Ok (Some frame)) old new mid r e h x = record {
+asked gives s at fl (Ok (Some frame)) old new mid r e log h x = record {
   a = Ok (Some frame);
   promise = subst (CallPromise (gives s) (half s old).state (Transmit (at s)) (answer.Transmit (Ok (Some frame))))
       (sym (ap (λ (j : WorldState). (half s j).state) x.1 ∙ ap (λ (k : HalfState). k.state) (half_there s mid old))) h;
@@ -126,6 +169,11 @@ asked gives s at fl (Ok (Some frame)) old new mid r e h x = record {
   now = push (peer s) _ fl;
   went = (_, refl, refl);
   links = ap (λ (j : WorldState). j.links) x.1 ∙ puts s at fl _ old.links e;
+  logs = λ t. ap (λ (j : WorldState). (half t j).histories) x.1 ∙ half_logs s mid old log t;
+  stamps = λ m c y. push_each (λ t. IsStamped (m t)) (peer s) _ fl
+      (item_stamped s (at s) frame (half s (with_half s mid old)) (m (peer s))
+      (ap (λ (l : List PortHistory). change_count_in (history_at l (at s)))
+      (ap (λ (k : HalfState). k.histories) (half_there s mid old) ∙ log) ∙ c)) y;
 }
 
 pub asks : (gives : Algorithms) (n : ℕ) (s : Side) (at : Side → ℕ) (fl : Side → List ItemValue) (r : Reply) (old new : WorldState)
@@ -135,8 +183,17 @@ asks gives n s at fl r old new named e h =
     let v = value_of (side_of n) _ h.0 in
     let same : v.0 ≡ s = same_Some v.0 s (sym v.1 ∙ named) in
     let w = subst (λ t. WorldEmits gives t (at s) old r now) same v.2 in
-    let k = asked gives s at fl w.0 old now w.1 r e w.2.answers w.3 in
-    record { a = k.a; promise = k.promise; peers = k.peers; now = k.now; went = k.went; links = k.links }
+    let k = asked gives s at fl w.0 old now w.1 r e (ap (λ (m : HalfState). m.histories) w.2.same) w.2.answers w.3 in
+    record {
+      a = k.a;
+      promise = k.promise;
+      peers = k.peers;
+      now = k.now;
+      went = k.went;
+      links = k.links;
+      logs = λ t. k.logs t;
+      stamps = k.stamps;
+    }
 
 -- what became of the cable after an item came off it
 abbrev pub Back : Side → Result Received SystemFault → (Side → List ItemValue) → (Side → List ItemValue) → Type 0
@@ -149,6 +206,11 @@ Back s (Ok (received.Respond frame)) fl now = (item : ItemValue) × (item.octets
 Back s (Ok (received.Released n)) fl now = now ≡ fl
 Back s (Ok (received.Up agg)) fl now = now ≡ fl
 
+-- the histories after an arrival on port p
+abbrev pub logged : Result Received SystemFault → ℕ → ItemValue → List PortHistory → List PortHistory
+logged (Ok received.TookLacpdu) p item logs = set_last_lacpdu p (stamped_in item) logs
+logged _ p item logs = logs
+
 -- the first item towards system s came to its port
 pub record Arrives (gives : Algorithms) (s : Side) (at : Side → ℕ) (fl : Side → List ItemValue) (old new : WorldState) : Type 0 where
   pub item : ItemValue
@@ -160,18 +222,23 @@ pub record Arrives (gives : Algorithms) (s : Side) (at : Side → ℕ) (fl : Sid
   pub now : Side → List ItemValue
   pub back : Back s a (put s rest fl) now
   pub links : new.links ≡ cable at now ∷ []
+  pub log : (half s new).histories ≡ logged a (at s) item (half s old).histories
+  pub peer_log : (half (peer s) new).histories ≡ (half (peer s) old).histories
 
 -- nothing came
 pub record Stays (old new : WorldState) : Type 0 where
   pub halves : (s : Side) → (half s new).state ≡ (half s old).state
+  pub logs : (s : Side) → (half s new).histories ≡ (half s old).histories
   pub links : new.links ≡ old.links
 
 -- the states and the cable after what is done with an answer
-record After (s : Side) (at : Side → ℕ) (a : Result Received SystemFault) (fl : Side → List ItemValue) (j new : WorldState) : Type 0 where
+record After (s : Side) (at : Side → ℕ) (item : ItemValue) (a : Result Received SystemFault) (fl : Side → List ItemValue) (j new : WorldState) : Type 0 where
   halves : (t : Side) → (half t new).state ≡ (half t j).state
   now : Side → List ItemValue
   back : Back s a fl now
   links : new.links ≡ cable at now ∷ []
+  log : (half s new).histories ≡ logged a (at s) item (half s j).histories
+  peer_log : (half (peer s) new).histories ≡ (half (peer s) j).histories
 
 with_half_states : (s : Side) (h : HalfState) (j : WorldState) → h.state ≡ (half s j).state
     → (t : Side) → (half t (with_half s h j)).state ≡ (half t j).state
@@ -184,6 +251,15 @@ collected_states : (st : Stamp) (j : WorldState) (t : Side) → (half t (with_st
 collected_states (stamp.Control count) j t = refl
 collected_states (stamp.Data system agg conv serial) j t = with_half_states _ _ j refl t
 
+peer_logs : (s : Side) (h : HalfState) (j : WorldState) → (half (peer s) (with_half s h j)).histories ≡ (half (peer s) j).histories
+peer_logs One h j = refl
+peer_logs Two h j = refl
+
+collected_logs : (st : Stamp) (j : WorldState) (t : Side) → (half t (with_stamp_collected st j)).histories ≡ (half t j).histories
+collected_logs (stamp.Control count) j t = refl
+collected_logs (stamp.Data system agg conv serial) j t =
+    half_logs (side_numbered system) (with_collected_in agg conv serial (half (side_numbered system) j)) j refl t
+
 collected_links : (st : Stamp) (j : WorldState) → (with_stamp_collected st j).links ≡ j.links
 collected_links (stamp.Control count) j = refl
 collected_links (stamp.Data system agg conv serial) j = refl
@@ -192,34 +268,40 @@ abbrev same_halves : (j new : WorldState) → new ≡ j → (t : Side) → (half
 same_halves j new x t = ap (λ (k : WorldState). (half t k).state) x
 
 after : (s : Side) (at : Side → ℕ) (item : ItemValue) (a : Result Received SystemFault) (fl : Side → List ItemValue) (j new : WorldState)
-    (r : Reply) → j.links ≡ cable at fl ∷ [] → AfterReceive s (at s) item a j r new → After s at a fl j new
+    (r : Reply) → j.links ≡ cable at fl ∷ [] → AfterReceive s (at s) item a j r new → After s at item a fl j new
 after s at item (Err fault) fl j new r e x =
-    record { halves = same_halves j new x.1; now = fl; back = refl; links = ap (λ (k : WorldState). k.links) x.1 ∙ e }
+    record { halves = same_halves j new x.1; now = fl; back = refl; links = ap (λ (k : WorldState). k.links) x.1 ∙ e; log = ap (λ (k : WorldState). (half s k).histories) x.1; peer_log = ap (λ (k : WorldState). (half (peer s) k).histories) x.1 }
 after s at item (Ok received.Disabled) fl j new r e x =
-    record { halves = same_halves j new x.1; now = fl; back = refl; links = ap (λ (k : WorldState). k.links) x.1 ∙ e }
+    record { halves = same_halves j new x.1; now = fl; back = refl; links = ap (λ (k : WorldState). k.links) x.1 ∙ e; log = ap (λ (k : WorldState). (half s k).histories) x.1; peer_log = ap (λ (k : WorldState). (half (peer s) k).histories) x.1 }
 after s at item (Ok received.Dropped) fl j new r e x =
-    record { halves = same_halves j new x.1; now = fl; back = refl; links = ap (λ (k : WorldState). k.links) x.1 ∙ e }
+    record { halves = same_halves j new x.1; now = fl; back = refl; links = ap (λ (k : WorldState). k.links) x.1 ∙ e; log = ap (λ (k : WorldState). (half s k).histories) x.1; peer_log = ap (λ (k : WorldState). (half (peer s) k).histories) x.1 }
 after s at item (Ok (received.Ignored fault)) fl j new r e x =
-    record { halves = same_halves j new x.1; now = fl; back = refl; links = ap (λ (k : WorldState). k.links) x.1 ∙ e }
+    record { halves = same_halves j new x.1; now = fl; back = refl; links = ap (λ (k : WorldState). k.links) x.1 ∙ e; log = ap (λ (k : WorldState). (half s k).histories) x.1; peer_log = ap (λ (k : WorldState). (half (peer s) k).histories) x.1 }
 after s at item (Ok received.TookLacpdu) fl j new r e x = record {
   halves = λ t. same_halves _ new x.1 t ∙ with_half_states s _ j refl t;
   now = fl;
   back = refl;
   links = ap (λ (k : WorldState). k.links) x.1 ∙ e;
+  log = ap (λ (k : WorldState). (half s k).histories) x.1 ∙ ap (λ (k : HalfState). k.histories) (half_there s _ j);
+  peer_log = ap (λ (k : WorldState). (half (peer s) k).histories) x.1 ∙ peer_logs s _ j;
 }
 after s at item (Ok (received.Respond frame)) fl j new r e x = record {
   halves = λ t. same_halves _ new x.1 t;
   now = push (peer s) _ fl;
   back = (_, refl, refl);
   links = ap (λ (k : WorldState). k.links) x.1 ∙ puts s at fl _ j.links e;
+  log = ap (λ (k : WorldState). (half s k).histories) x.1;
+  peer_log = ap (λ (k : WorldState). (half (peer s) k).histories) x.1;
 }
 after s at item (Ok (received.Released n)) fl j new r e x =
-    record { halves = same_halves j new x.1; now = fl; back = refl; links = ap (λ (k : WorldState). k.links) x.1 ∙ e }
+    record { halves = same_halves j new x.1; now = fl; back = refl; links = ap (λ (k : WorldState). k.links) x.1 ∙ e; log = ap (λ (k : WorldState). (half s k).histories) x.1; peer_log = ap (λ (k : WorldState). (half (peer s) k).histories) x.1 }
 after s at item (Ok (received.Up agg)) fl j new r e x = record {
   halves = λ t. same_halves _ new x.1 t ∙ collected_states item.stamp j t;
   now = fl;
   back = refl;
   links = ap (λ (k : WorldState). k.links) x.1 ∙ (collected_links item.stamp j ∙ e);
+  log = ap (λ (k : WorldState). (half s k).histories) x.1 ∙ collected_logs item.stamp j s;
+  peer_log = ap (λ (k : WorldState). (half (peer s) k).histories) x.1 ∙ collected_logs item.stamp j (peer s);
 }
 
 without : (s : Side) (at : Side → ℕ) (fl : Side → List ItemValue) (rest : List ItemValue)
@@ -237,9 +319,9 @@ port_there Two at fl = refl
 
 arrived : (gives : Algorithms) (s : Side) (at : Side → ℕ) (fl : Side → List ItemValue) (item : ItemValue) (rest : List ItemValue)
     (r : Reply) (old j new : WorldState) → j.links ≡ cable at (put s rest fl) ∷ [] → fl s ≡ item ∷ rest
-    → ((t : Side) → (half t j).state ≡ (half t old).state)
+    → ((t : Side) → (half t j).state ≡ (half t old).state) → ((t : Side) → (half t j).histories ≡ (half t old).histories)
     → WorldReceives gives s (at s) item j r new → Arrives gives s at fl old new
-arrived gives s at fl item rest r old j new e first same (a, mid, h, x) =
+arrived gives s at fl item rest r old j new e first same logs (a, mid, h, x) =
     let k = after s at item a (put s rest fl) (with_half s mid j) new r e x in
     record {
       item = item;
@@ -253,22 +335,34 @@ arrived gives s at fl item rest r old j new e first same (a, mid, h, x) =
       now = k.now;
       back = k.back;
       links = k.links;
+      log = k.log ∙ ap (logged a (at s) item) (ap (λ (h : HalfState). h.histories) (half_there s mid j)
+          ∙ (ap (λ (h : HalfState). h.histories) h.same ∙ logs s));
+      peer_log = k.peer_log ∙ (peer_logs s mid j ∙ logs (peer s));
     }
 
 delivered : (gives : Algorithms) (s : Side) (at : Side → ℕ) (fl : Side → List ItemValue) (xs : List ItemValue) (r : Reply)
     (old new : WorldState) → old.links ≡ cable at fl ∷ [] → fl s ≡ xs → DeliversFrom gives s zero (cable at fl) xs old r new
     → Arrives gives s at fl old new ⊎ Stays old new
 delivered gives s at fl [] r old new e first x =
-    inr (record { halves = same_halves old new x.1; links = ap (λ (k : WorldState). k.links) x.1 })
+    inr (record {
+      halves = same_halves old new x.1;
+      logs = λ t. ap (λ (k : WorldState). (half t k).histories) x.1;
+      links = ap (λ (k : WorldState). k.links) x.1;
+    })
 delivered gives s at fl (item ∷ rest) r old new e first x =
     let j = with_link_at zero (with_towards s rest (cable at fl)) old in
     let links = ap (λ ls. slice_set ls zero (with_towards s rest (cable at fl))) e ∙ ap (λ l. l ∷ []) (without s at fl rest) in
-    inl (arrived gives s at fl item rest r old j new links first (kept s)
+    inl (arrived gives s at fl item rest r old j new links first (kept s) (kept_logs s)
     (subst (λ p. WorldReceives gives s p item j r new) (port_there s at fl) x))
   where
     kept : (s : Side) (t : Side) → (half t (with_link_at zero (with_towards s rest (cable at fl)) old)).state ≡ (half t old).state
     kept s One = refl
     kept s Two = refl
+
+    kept_logs : (s : Side) (t : Side) → (half t (with_link_at zero (with_towards s rest (cable at fl)) old)).histories
+        ≡ (half t old).histories
+    kept_logs s One = refl
+    kept_logs s Two = refl
 
 on_one : (gives : Algorithms) (c : ℕ) (s : Side) (at : Side → ℕ) (fl : Side → List ItemValue) (r : Reply) (old new : WorldState)
     → OnLink c (λ i l. DeliversFrom gives s i l (towards s l) old r new) (cable at fl ∷ [])
@@ -300,9 +394,11 @@ delivers gives c n at fl r old new e h =
           now = k.now;
           back = k.back;
           links = k.links;
+          log = k.log;
+          peer_log = k.peer_log;
         },
       )
-      | inr k ↦ inr (record { halves = λ t. k.halves t; links = k.links })
+      | inr k ↦ inr (record { halves = λ t. k.halves t; logs = λ t. k.logs t; links = k.links })
     ]
 
 -- system s ticks once
@@ -310,6 +406,7 @@ pub record Ticked (gives : Algorithms) (s : Side) (old new : WorldState) : Type 
   pub step : Step (gives s) (half s old).state Tick answer.Tick (half s new).state
   pub peers : (half (peer s) new).state ≡ (half (peer s) old).state
   pub links : new.links ≡ old.links
+  pub logs : (t : Side) → (half t new).histories ≡ (half t old).histories
 
 pub ticks : (gives : Algorithms) (n : ℕ) (s : Side) (r : Reply) (old new : WorldState) → side_of n ≡ Some s
     → WorldSteps gives old (event.Tick n 1) r new → Ticked gives s old new
@@ -322,4 +419,6 @@ ticks gives n s r old new named h =
       step = subst (λ (k : HalfState). Step (gives s) k.state Tick answer.Tick (half s now).state) w.0.1 w.0.2.answers.step;
       peers = ap (λ (j : WorldState). (half (peer s) j).state) w.1 ∙ peer_there s (half s now) old;
       links = ap (λ (j : WorldState). j.links) w.1;
+      logs = λ t. ap (λ (j : WorldState). (half t j).histories) w.1 ∙ half_logs s (half s now) old
+          (ap (λ (h : HalfState). h.histories) w.0.2.same ∙ ap (λ (h : HalfState). h.histories) w.0.1) t;
     }

@@ -343,7 +343,7 @@ pub record Passes (X V Y Z : Machines → Type 0) (v u : Lacpdu) (before c d : �
   pub asks : Asks d Y Z v u c
   pub asked : Along Z v u c d
 
-timed_ends : (P : ℕ → Machines → Type 0) (xs : List SystemPort) → AllByRecursion PeriodicIsSettled xs
+pub timed_ends : (P : ℕ → Machines → Type 0) (xs : List SystemPort) → AllByRecursion PeriodicIsSettled xs
     → AllByRecursion (λ (x : SystemPort). IsTimed x.port) xs → OfEach P xs → OfEach (λ m p. P m p × AtRest periodic_rows p × IsTimed p) xs
 timed_ends P [] a b c = tt
 timed_ends P (x ∷ xs) a b c = ((c.0, a.0.rows, b.0), timed_ends P xs a.1 b.1 c.1)

@@ -10,3 +10,4 @@ pub mod Passing
 pub mod Rounds
 pub mod Progress
 pub mod ComingUp
+pub mod Agreeing

@@ -131,3 +131,12 @@ pub fn links_come_up<F: Fn(u16, usize) -> usize>()
     ensures both { (one two : F) → ActiveLinkComesUp (both_algorithms (F.post one) (F.post two)) }
     ensures one { (one two : F) → LinkComesUp (both_algorithms (F.post one) (F.post two)) }
 {}
+
+ghost use Rattle.lagprogress.specs.Agreeing.{ActiveLinkAgrees, LinkAgrees};
+
+/// And then the ends agree: in a sound world as in `links_come_up` the agreement of the cable is `Same`, after as many
+/// healthy rounds (6.3.6; profile).
+pub fn links_agree<F: Fn(u16, usize) -> usize>()
+    ensures both { (one two : F) → ActiveLinkAgrees (both_algorithms (F.post one) (F.post two)) }
+    ensures one { (one two : F) → LinkAgrees (both_algorithms (F.post one) (F.post two)) }
+{}

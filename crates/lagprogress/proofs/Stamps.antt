@@ -1,0 +1,337 @@
+-- What the ends of a cable took last bears the present change counts.
+use Rattle.std.proofs.Common.{◌≡◌, ◌∙◌, ℕ, ◌+◌, ◌≤◌, ◌==◌, Bool, true, false, List, [], ◌∷◌, Some, Result, Ok, Err}
+use Rattle.std.proofs.Common.{◌⊎◌, inl, inr, refl, sym, subst, ap, arith, eqb-true, eqb}
+use Rattle.std.specs.Prelude.{is_some}
+use Rattle.std.specs.List.{AllByRecursion}
+use Rattle.std.proofs.lemmas.Bool.{cases_Bool, true≢false}
+use Rattle.std.proofs.lemmas.Bool.Decides.{nat_tests}
+use Rattle.slowpdu.specs.declared.pdu.Lacpdu.{Lacpdu}
+use Rattle.slowpdu.specs.declared.pdu.Pdu.TheVariants as pdu
+use Rattle.portmachines.specs.declared.receive.ReceiveState.{ReceiveState}
+use Rattle.portmachines.specs.declared.receive.ReceiveState.TheVariants.{Current}
+use Rattle.portmachines.specs.Machines.{Machines}
+use Rattle.portmachines.specs.Mux.{mux_rows}
+use Rattle.portmachines.specs.Periodic.{periodic_rows}
+use Rattle.portmachines.specs.Receive.{receive_rows}
+use Rattle.portmachines.specs.Rows.{AtRest, RunsToRest}
+use Rattle.portmachines.specs.Transmit.{count_down}
+use Rattle.lagmodel.specs.World.{Side, One, Two, peer}
+use Rattle.lagmodel.proofs.Base.{cond_true, cond_false}
+use Rattle.lagsystem.specs.declared.drive.Reply.TheVariants as answer
+use Rattle.lagsystem.specs.declared.fault.SystemFault.{SystemFault}
+use Rattle.lagsystem.specs.declared.received.Received.{Received}
+use Rattle.lagsystem.specs.declared.received.Received.TheVariants as received
+use Rattle.lagsystem.specs.Calls.{Carries, IsFrame, Receive, Step, Tick, Transmit}
+use Rattle.lagsystem.specs.Sound.{CallPromise}
+use Rattle.lagsystem.specs.State.{SystemState, port_index}
+use Rattle.lagsystem.proofs.Performed.{processes_or_stays}
+use Rattle.lagscript.specs.declared.event.Event.TheVariants as event
+use Rattle.lagworld.specs.declared.histories.StampedLacpdu.{StampedLacpdu}
+use Rattle.lagworld.specs.declared.histories.PortHistory.{PortHistory}
+use Rattle.lagworld.specs.declared.reply.Reply.{Reply}
+use Rattle.lagworld.specs.Agreement.{is_stamp}
+use Rattle.lagworld.specs.Events.{Algorithms, WorldSteps, set_last_lacpdu, side_of, stamped_in}
+use Rattle.lagworld.specs.HalfCalls.{set_taken}
+use Rattle.lagworld.specs.Messages.{stamp_count}
+use Rattle.lagworld.specs.State.{ItemValue, WorldState, change_count_in, half, history_at, taken_in}
+use Rattle.lagworld.proofs.Arrives.{count_heard, read_log}
+use Rattle.lagprogress.specs.Hearing.{timeout_time}
+use Rattle.lagprogress.specs.Rounds.{IsRound}
+use Rattle.lagprogress.specs.Steady.{IsSteadySystem}
+use Rattle.lagprogress.specs.Timers.{IsTimed, most_current_while}
+use Rattle.lagprogress.proofs.Climbing.{ticks_still}
+use Rattle.lagprogress.proofs.EachPort.{KeptBySettling, OfEach, Step-each, Tick-each}
+use Rattle.lagprogress.proofs.EndFacts.{IsEnd, short_timeout, wait_of}
+use Rattle.lagprogress.proofs.Halves.{keeps_steady}
+use Rattle.lagprogress.proofs.Lapsing.{some_wait}
+use Rattle.lagprogress.proofs.OneRound.{deliver_all, timed_ends, unroll}
+use Rattle.lagprogress.proofs.Linked.{EndIs, Link, each_side, is_took, peer_twice, put_other, put_there}
+use Rattle.lagprogress.proofs.OneCable.{Arrives, Back, IsStamped, Ticked, asks, cable, delivers, logged, push_each, put, ticks}
+use Rattle.lagprogress.proofs.OnePort.{AtPort}
+use Rattle.lagprogress.proofs.Passing.{marker_carries_none}
+use Rattle.lagprogress.proofs.Timers.{runs_keep}
+
+-- histories
+
+taken_there : (p : ℕ) (lacpdu : StampedLacpdu) (logs : List PortHistory) → is_some (history_at logs p) ≡ true
+    → taken_in (history_at (set_last_lacpdu p lacpdu logs) p) ≡ Some lacpdu
+taken_there p lacpdu [] h = absurd (true≢false (sym h))
+taken_there p lacpdu (x ∷ xs) h = elim (cases_Bool (x.number == p)) [
+  | inl e ↦ (let same : x.number ≡ p = eqb-true x.number p e in
+      let back : eqb p x.number ≡ true = grind (arith, nat_tests) in
+      ap (λ l. taken_in (history_at l p)) (cond_true (x.number == p) (set_taken lacpdu x ∷ xs) (x ∷ set_last_lacpdu p lacpdu xs) e)
+      ∙ ap taken_in (cond_true (eqb p x.number) (Some (set_taken lacpdu x)) (history_at xs p) back))
+  | inr e ↦ (let other : eqb p x.number ≡ false = grind (arith, nat_tests) in
+      ap (λ l. taken_in (history_at l p)) (cond_false (x.number == p) (set_taken lacpdu x ∷ xs) (x ∷ set_last_lacpdu p lacpdu xs) e)
+      ∙ (ap taken_in (cond_false (eqb p x.number) (Some x) (history_at (set_last_lacpdu p lacpdu xs) p) other)
+      ∙ taken_there p lacpdu xs (sym (ap is_some (cond_false (eqb p x.number) (Some x) (history_at xs p) other)) ∙ h)))
+]
+
+counts_stay : (a : Result Received SystemFault) (p : ℕ) (item : ItemValue) (logs : List PortHistory) (q : ℕ)
+    → change_count_in (history_at (logged a p item logs) q) ≡ change_count_in (history_at logs q)
+counts_stay (Ok received.TookLacpdu) p item logs q = count_heard p (stamped_in item) q logs
+counts_stay a p item logs q = refl
+
+still_there : (a : Result Received SystemFault) (p : ℕ) (item : ItemValue) (logs : List PortHistory) (q : ℕ)
+    → is_some (history_at (logged a p item logs) q) ≡ is_some (history_at logs q)
+still_there (Ok received.TookLacpdu) p item logs q = read_log is_some p (stamped_in item) q (λ h. inr refl) logs
+still_there a p item logs q = refl
+
+-- the invariant
+
+pub record Stamped (b : ℕ) (at : Side → ℕ) (k : Side → ℕ) (j : WorldState) : Type 0 where
+  pub flying : Side → List ItemValue
+  pub links : j.links ≡ cable at flying ∷ []
+  pub counts : (s : Side) → change_count_in (history_at (half s j).histories (at s)) ≡ k s
+  pub there : (s : Side) → is_some (history_at (half s j).histories (at s)) ≡ true
+  pub items : 1 ≤ b → (t : Side) → AllByRecursion (IsStamped (k (peer t))) (flying t)
+
+-- the LACPDU that the end of t took last has the present count of its sender as its stamp
+abbrev pub Took : (Side → ℕ) → (Side → ℕ) → Side → WorldState → Type 0
+Took at k t j = is_stamp (k (peer t)) (taken_in (history_at (half t j).histories (at t))) ≡ true
+
+-- current_while of the end of t is less
+abbrev pub Low : (Side → ℕ) → ℕ → Side → WorldState → Type 0
+Low at most t j = OfEach (AtPort (at t) (λ p. p.current_while + 1 ≤ most)) (half t j).state.system_ports
+
+low_settles : (n most : ℕ) → KeptBySettling (AtPort n (λ p. p.current_while + 1 ≤ most))
+low_settles n most = record {
+  mux = λ m ready p q h a e. runs_keep (λ p. p.current_while + 1 ≤ most) (mux_rows ready)
+      (λ p a. a, (λ p a. a, (λ p a. a, (λ p a. a, (λ p a. a, (λ p a. a, tt)))))) p q h (a e);
+  periodic = λ m p q h a e. subst (λ (p : Machines). p.current_while + 1 ≤ most) (sym h.2)
+      (runs_keep (λ p. p.current_while + 1 ≤ most) periodic_rows
+      (λ p a. a, (λ p a. a, (λ p a. a, (λ p a. a, (λ p a. a, (λ p a. a, (λ p a. a, tt))))))) p h.0 h.1 (a e));
+  select = λ m choice p none a e. a e;
+}
+
+-- what an event leaves
+pub record Stamping (b : ℕ) (at k : Side → ℕ) (old new : WorldState) : Type 0 where
+  pub world : Stamped b at k new
+  pub took : 1 ≤ b → (t : Side) → Took at k t old → Took at k t new
+  pub low : 1 ≤ b → (t : Side) (most : ℕ) → Low at most t old → Low at most t new ⊎ Took at k t new
+
+took_same : (at k : Side → ℕ) (t : Side) (old new : WorldState) → (half t new).histories ≡ (half t old).histories → Took at k t old
+    → Took at k t new
+took_same at k t old new e h = subst (λ l. is_stamp (k (peer t)) (taken_in (history_at l (at t))) ≡ true) (sym e) h
+
+pub stamps_emit : (gives : Algorithms) (n : ℕ) (s : Side) (b : ℕ) (at k : Side → ℕ) (r : Reply) (old new : WorldState) → side_of n ≡ Some s
+    → Stamped b at k old → WorldSteps gives old (event.Emit n (at s)) r new → Stamping b at k old new
+stamps_emit gives n s b at k r old new told l h =
+    let a = asks gives n s at l.flying r old new told l.links h in
+    record {
+      world = record {
+        flying = a.now;
+        links = a.links;
+        counts = λ t. ap (λ g. change_count_in (history_at g (at t))) (a.logs t) ∙ l.counts t;
+        there = λ t. ap (λ g. is_some (history_at g (at t))) (a.logs t) ∙ l.there t;
+        items = λ i. a.stamps (λ t. k (peer t)) (subst (λ t. change_count_in (history_at (half s old).histories (at s)) ≡ k t)
+            (sym (peer_twice s)) (l.counts s)) (l.items i);
+      };
+      took = λ i t y. took_same at k t old new (a.logs t) y;
+      low = λ i t most y. inl (each_side (λ t. Low at most t old → Low at most t new) s
+          (λ y. Step-each (AtPort (at s) (λ p. p.current_while + 1 ≤ most)) (low_settles (at s) most) (gives s) (half s old).state
+          (Transmit (at s)) (answer.Transmit a.a) (half s new).state (λ p told a e. a e) a.promise.step y)
+          (λ y. subst (λ (z : SystemState). OfEach (AtPort (at (peer s)) (λ p. p.current_while + 1 ≤ most)) z.system_ports)
+          (sym a.peers) y) t y);
+    }
+
+-- an arrival
+
+back_all : (P : Side → ItemValue → Type 0) (gives : ℕ → ℕ → ℕ → Type 0) (s : Side) (n : ℕ) (octets : List ℕ) (a : Result Received SystemFault)
+    (old new : SystemState) (fl now : Side → List ItemValue)
+    → ((t : Side) (item : ItemValue) → ((x : Lacpdu) → IsFrame item.octets (Carries (pdu.Lacpdu x)) → ⊥) → P t item)
+    → CallPromise gives old (Receive n octets) (answer.Receive a) new → Back s a fl now
+    → ((t : Side) → AllByRecursion (P t) (fl t)) → (t : Side) → AllByRecursion (P t) (now t)
+back_all P gives s n octets (Err fault) old new fl now z k h g = subst (λ (f : Side → List ItemValue). (t : Side) → AllByRecursion (P t) (f t)) (sym h) g
+back_all P gives s n octets (Ok received.Disabled) old new fl now z k h g =
+    subst (λ (f : Side → List ItemValue). (t : Side) → AllByRecursion (P t) (f t)) (sym h) g
+back_all P gives s n octets (Ok received.Dropped) old new fl now z k h g =
+    subst (λ (f : Side → List ItemValue). (t : Side) → AllByRecursion (P t) (f t)) (sym h) g
+back_all P gives s n octets (Ok (received.Ignored fault)) old new fl now z k h g =
+    subst (λ (f : Side → List ItemValue). (t : Side) → AllByRecursion (P t) (f t)) (sym h) g
+back_all P gives s n octets (Ok received.TookLacpdu) old new fl now z k h g =
+    subst (λ (f : Side → List ItemValue). (t : Side) → AllByRecursion (P t) (f t)) (sym h) g
+back_all P gives s n octets (Ok (received.Respond frame)) old new fl now z k h g =
+    let m = k.moves.3 in
+    let one = z (peer s) h.0 (λ x c. marker_carries_none frame x m.0 (subst (λ o. IsFrame o (Carries (pdu.Lacpdu x))) h.1 c) m.1) in
+    subst (λ (f : Side → List ItemValue). (t : Side) → AllByRecursion (P t) (f t)) (sym h.2) (push_each P (peer s) h.0 fl one g)
+back_all P gives s n octets (Ok (received.Released m)) old new fl now z k h g =
+    subst (λ (f : Side → List ItemValue). (t : Side) → AllByRecursion (P t) (f t)) (sym h) g
+back_all P gives s n octets (Ok (received.Up agg)) old new fl now z k h g =
+    subst (λ (f : Side → List ItemValue). (t : Side) → AllByRecursion (P t) (f t)) (sym h) g
+
+came_in : (gives : ℕ → ℕ → ℕ → Type 0) (at k : Side → ℕ) (s : Side) (item : ItemValue) (a : Result Received SystemFault) (old new : WorldState)
+    → is_some (history_at (half s old).histories (at s)) ≡ true → IsStamped (k (peer s)) item
+    → CallPromise gives (half s old).state (Receive (at s) item.octets) (answer.Receive a) (half s new).state
+    → (half s new).histories ≡ logged a (at s) item (half s old).histories
+    → Took at k s new ⊎ ((((half s new).state.system_ports ≡ (half s old).state.system_ports))
+    × ((half s new).histories ≡ (half s old).histories))
+came_in gives at k s item (Err fault) old new there good h log = inr (ap (λ (z : SystemState). z.system_ports) h.step.same, log)
+came_in gives at k s item (Ok o) old new there good h log = elim (is_took o) [
+  | inl e ↦ (let m = (subst (λ x. CallPromise gives (half s old).state (Receive (at s) item.octets) (answer.Receive (Ok x)) (half s new).state)
+      e h).moves.3 in
+      let stamp = good m.0 m.1 in
+      let now = log ∙ ap (λ x. logged (Ok x) (at s) item (half s old).histories) e in
+      inl (ap (λ g. is_stamp (k (peer s)) (taken_in (history_at g (at s)))) now
+      ∙ (ap (is_stamp (k (peer s))) (taken_there (at s) (stamped_in item) (half s old).histories there)
+      ∙ same (stamp_count item.stamp) (k (peer s)) stamp)))
+  | inr not ↦ inr (
+    elim (processes_or_stays h.step.1 h.step.0.number (port_index (at s) (half s old).state.system_ports) (half s old).state o
+        (half s new).state h.step.4) [ inl x ↦ absurd (not x.1) | inr e ↦ e ],
+    log ∙ unlogged o not,
+  )
+]
+  where
+    same : (m n : ℕ) → m ≡ n → (m == n) ≡ true
+    same m n e = grind (arith, nat_tests)
+
+    unlogged : (o : Received) → (o ≡ received.TookLacpdu → ⊥) → logged (Ok o) (at s) item (half s old).histories ≡ (half s old).histories
+    unlogged received.TookLacpdu n = absurd (n refl)
+    unlogged o n = refl
+
+stamps_arrive : (gives : Algorithms) (s : Side) (b : ℕ) (at k : Side → ℕ) (old new : WorldState) (l : Stamped b at k old)
+    → Arrives gives s at l.flying old new → Stamping b at k old new
+stamps_arrive gives s b at k old new l a = record {
+  world = record {
+    flying = a.now;
+    links = a.links;
+    counts = each_side (λ t. change_count_in (history_at (half t new).histories (at t)) ≡ k t) s
+        (ap (λ g. change_count_in (history_at g (at s))) a.log ∙ (counts_stay a.a (at s) a.item (half s old).histories (at s) ∙ l.counts s))
+        (ap (λ g. change_count_in (history_at g (at (peer s)))) a.peer_log ∙ l.counts (peer s));
+    there = each_side (λ t. is_some (history_at (half t new).histories (at t)) ≡ true) s
+        (ap (λ g. is_some (history_at g (at s))) a.log ∙ (still_there a.a (at s) a.item (half s old).histories (at s) ∙ l.there s))
+        (ap (λ g. is_some (history_at g (at (peer s)))) a.peer_log ∙ l.there (peer s));
+    items = λ i. back_all (λ t. IsStamped (k (peer t))) (gives s) s (at s) a.item.octets a.a (half s old).state (half s new).state
+        (put s a.rest l.flying) a.now (λ t item none x c. absurd (none x c)) a.promise a.back
+        (each_side (λ t. AllByRecursion (IsStamped (k (peer t))) (put s a.rest l.flying t)) s
+        (subst (AllByRecursion (IsStamped (k (peer s)))) (sym (put_there s a.rest l.flying)) (first i).1)
+        (subst (AllByRecursion (IsStamped (k (peer (peer s))))) (sym (put_other s a.rest l.flying)) (l.items i (peer s))));
+  };
+  took = λ i t. each_side (λ t. Took at k t old → Took at k t new) s
+      (λ y. elim (own i) [ inl z ↦ z | inr z ↦ took_same at k s old new z.1 y ])
+      (λ y. took_same at k (peer s) old new a.peer_log y) t;
+  low = λ i t most. each_side (λ t. Low at most t old → Low at most t new ⊎ Took at k t new) s
+      (λ y. elim (own i) [ inl z ↦ inr z | inr z ↦ inl (subst (OfEach (AtPort (at s) (λ p. p.current_while + 1 ≤ most))) (sym z.0) y) ])
+      (λ y. inl (subst (λ (z : SystemState). OfEach (AtPort (at (peer s)) (λ p. p.current_while + 1 ≤ most)) z.system_ports)
+      (sym a.peers) y)) t;
+}
+  where
+    first : 1 ≤ b → AllByRecursion (IsStamped (k (peer s))) (a.item ∷ a.rest)
+    first i = subst (AllByRecursion (IsStamped (k (peer s)))) a.first (l.items i s)
+
+    own : 1 ≤ b → Took at k s new ⊎ (((half s new).state.system_ports ≡ (half s old).state.system_ports)
+        × ((half s new).histories ≡ (half s old).histories))
+    own i = came_in (gives s) at k s a.item a.a old new (l.there s) (first i).0 a.promise a.log
+
+pub stamps_deliver : (gives : Algorithms) (cn n b : ℕ) (at k : Side → ℕ) (r : Reply) (old new : WorldState) → Stamped b at k old
+    → WorldSteps gives old (event.Deliver cn n) r new → Stamping b at k old new
+stamps_deliver gives cn n b at k r old new l h = elim (delivers gives cn n at l.flying r old new l.links h) [
+  | inl a ↦ stamps_arrive gives a.0 b at k old new l a.1
+  | inr a ↦ record {
+    world = record {
+      flying = l.flying;
+      links = a.links ∙ l.links;
+      counts = λ t. ap (λ g. change_count_in (history_at g (at t))) (a.logs t) ∙ l.counts t;
+      there = λ t. ap (λ g. is_some (history_at g (at t))) (a.logs t) ∙ l.there t;
+      items = l.items;
+    };
+    took = λ i t y. took_same at k t old new (a.logs t) y;
+    low = λ i t most y. inl (subst (λ (z : SystemState). OfEach (AtPort (at t) (λ p. p.current_while + 1 ≤ most)) z.system_ports)
+        (sym (a.halves t)) y);
+  }
+]
+
+-- ticks
+
+stamps_tick : (gives : Algorithms) (s : Side) (b : ℕ) (at k : Side → ℕ) (old new : WorldState) → Ticked gives s old new → Stamped b at k old
+    → Stamped b at k new
+stamps_tick gives s b at k old new a l = record {
+  flying = l.flying;
+  links = a.links ∙ l.links;
+  counts = λ t. ap (λ g. change_count_in (history_at g (at t))) (a.logs t) ∙ l.counts t;
+  there = λ t. ap (λ g. is_some (history_at g (at t))) (a.logs t) ∙ l.there t;
+  items = l.items;
+}
+
+most_is : (b : Bool) (r : ReceiveState) → r ≡ Current → most_current_while b r ≡ timeout_time b
+most_is b r e = ap (most_current_while b) e ∙ at_current b
+  where
+    at_current : (b : Bool) → most_current_while b Current ≡ timeout_time b
+    at_current true = refl
+    at_current false = refl
+
+low_tick : (d : ℕ) (v u : Lacpdu) (c : ℕ) (p q : Machines) → 2 ≤ c → IsEnd d v u c p → IsTimed p → RunsToRest receive_rows (count_down p) q
+    → q.current_while + 1 ≤ wait_of v
+low_tick d v u c p q l a timed h =
+    let current = (a.1.1 (omega (arith, l))).0.current in
+    let bound : p.current_while ≤ wait_of v =
+    subst (λ n. p.current_while ≤ n) (most_is p.short p.receive current ∙ ap timeout_time a.0.2) timed.0 in
+    let some = some_wait (short_timeout v) in
+    subst (λ (r : Machines). r.current_while + 1 ≤ wait_of v) (sym (ticks_still d v u c p q (omega (arith, l)) a h))
+    (omega (arith, bound, some))
+
+low_ticked : (gives : ℕ → ℕ → ℕ → Type 0) (d : ℕ) (at : Side → ℕ) (w : Side → Lacpdu) (c : Side → ℕ) (x : Side) (Y : Machines → Type 0)
+    (t : Side) (old new : SystemState) → 2 ≤ c t → IsSteadySystem old → OfEach (AtPort (at t) (EndIs d w c x Y t)) old.system_ports
+    → Step gives old Tick answer.Tick new → OfEach (AtPort (at t) (λ p. p.current_while + 1 ≤ wait_of (w t))) new.system_ports
+low_ticked gives d at w c x Y t old new l steady ports step =
+    Tick-each (λ m p. AtPort (at t) (EndIs d w c x Y t) m p × AtRest periodic_rows p × IsTimed p)
+    (AtPort (at t) (λ p. p.current_while + 1 ≤ wait_of (w t))) (low_settles (at t) (wait_of (w t)))
+    (λ m p q h b e. low_tick d (w t) (w (peer t)) (c t) p q l (b.0 e).0 b.2 h)
+    gives old answer.Tick new step
+    (timed_ends (AtPort (at t) (EndIs d w c x Y t)) old.system_ports steady.0.quiet.1 steady.1 ports)
+
+-- a round
+
+abbrev pub Marked : (at k : Side → ℕ) → (Side → Lacpdu) → WorldState → WorldState → Type 0
+Marked at k w old j = Stamped 1 at k j × ((t : Side) → Took at k t old → Took at k t j)
+    × ((t : Side) → Low at (wait_of (w t)) t j ⊎ Took at k t j)
+
+marked_on : (at k : Side → ℕ) (w : Side → Lacpdu) (old i j : WorldState) → Stamping 1 at k i j → Marked at k w old i → Marked at k w old j
+marked_on at k w old i j s m = (
+  s.world,
+  λ t y. s.took (omega arith) t (m.1 t y),
+  λ t. elim (m.2 t) [ inl y ↦ s.low (omega arith) t (wait_of (w t)) y | inr y ↦ inr (s.took (omega arith) t y) ],
+)
+
+-- after a round each end has current_while below its start, or took an LACPDU with the present count
+pub stamp_round : (gives : Algorithms) (d : ℕ) (at k : Side → ℕ) (w : Side → Lacpdu) (c : Side → ℕ) (x : Side) (Y : Machines → Type 0)
+    (old new : WorldState) → ((t : Side) → 2 ≤ c t) → Link d at w c x Y old → Stamped 1 at k old → IsRound gives old new
+    → Marked at k w old new
+stamp_round gives d at k w c x Y old new known l st h =
+    let u = unroll gives at l.flying old new l.links h in
+    let one = ticks gives 1 One u.tick_one.0 old u.one refl u.tick_one.1 in
+    let two = ticks gives 2 Two u.tick_two.0 u.one u.two refl u.tick_two.1 in
+    let steady = keeps_steady gives (event.Tick 1 1) u.tick_one.0 old u.one u.tick_one.1 l.steady in
+    let first = low_ticked (gives One) d at w c x Y One old.one.state u.one.one.state (known One) (l.steady One) (l.ports One) one.step in
+    let second = low_ticked (gives Two) d at w c x Y Two u.one.two.state u.two.two.state (known Two) (steady Two)
+    (subst (λ (y : SystemState). OfEach (AtPort (at Two) (EndIs d w c x Y Two)) y.system_ports) (sym one.peers) (l.ports Two)) two.step in
+    let m2 : Marked at k w old u.two = (
+      stamps_tick gives Two 1 at k u.one u.two two (stamps_tick gives One 1 at k old u.one one st),
+      λ t y. took_same at k t u.one u.two (two.logs t) (took_same at k t old u.one (one.logs t) y),
+      λ t. inl (each_side (λ t. Low at (wait_of (w t)) t u.two) One
+          (subst (λ (y : SystemState). OfEach (AtPort (at One) (λ p. p.current_while + 1 ≤ wait_of (w One))) y.system_ports)
+          (sym two.peers) first) second t),
+    ) in
+    let m3 = marked_on at k w old u.two u.three (stamps_emit gives 1 One 1 at k u.ask_one.0 u.two u.three refl m2.0 u.ask_one.1) m2 in
+    let m4 = marked_on at k w old u.three u.four
+    (stamps_emit gives 1 One 1 at k u.ask_one_again.0 u.three u.four refl m3.0 u.ask_one_again.1) m3 in
+    let m5 = marked_on at k w old u.four u.five (stamps_emit gives 2 Two 1 at k u.ask_two.0 u.four u.five refl m4.0 u.ask_two.1) m4 in
+    let m6 = marked_on at k w old u.five u.six
+    (stamps_emit gives 2 Two 1 at k u.ask_two_again.0 u.five u.six refl m5.0 u.ask_two_again.1) m5 in
+    deliver_all gives (Marked at k w old)
+    (λ cn n r i j step m. marked_on at k w old i j (stamps_deliver gives cn n 1 at k r i j m.0 step) m)
+    u.delivers u.replies u.six new u.arrives u.rest m6
+
+-- the invariant alone
+pub stamped_round : (gives : Algorithms) (b : ℕ) (at k : Side → ℕ) (old new : WorldState) → Stamped b at k old → IsRound gives old new
+    → Stamped b at k new
+stamped_round gives b at k old new l h =
+    let u = unroll gives at l.flying old new l.links h in
+    let m1 = stamps_tick gives One b at k old u.one (ticks gives 1 One u.tick_one.0 old u.one refl u.tick_one.1) l in
+    let m2 = stamps_tick gives Two b at k u.one u.two (ticks gives 2 Two u.tick_two.0 u.one u.two refl u.tick_two.1) m1 in
+    let m3 = (stamps_emit gives 1 One b at k u.ask_one.0 u.two u.three refl m2 u.ask_one.1).world in
+    let m4 = (stamps_emit gives 1 One b at k u.ask_one_again.0 u.three u.four refl m3 u.ask_one_again.1).world in
+    let m5 = (stamps_emit gives 2 Two b at k u.ask_two.0 u.four u.five refl m4 u.ask_two.1).world in
+    let m6 = (stamps_emit gives 2 Two b at k u.ask_two_again.0 u.five u.six refl m5 u.ask_two_again.1).world in
+    deliver_all gives (Stamped b at k) (λ cn n r i j step m. (stamps_deliver gives cn n b at k r i j m step).world)
+    u.delivers u.replies u.six new u.arrives u.rest m6
