@@ -1,6 +1,6 @@
 use Rattle.std.proofs.Common.{[], append-nil, sym}
-use Rattle.lagengine.proofs.SinkLemmas.{breaks_after, on_err, sends_flushed}
-use Rattle.lagengine.proofs.sink.Sink.send.Goals as goal
+use Rattle.lagstreams.proofs.SinkLemmas.{breaks_after, on_err, sends_flushed}
+use Rattle.lagstreams.proofs.sink.Sink.send.Goals as goal
 
 pub returns-in_err-flush-clause-err : goal.returns-in_err-flush-clause-err
 returns-in_err-flush-clause-err g c =

@@ -1,11 +1,14 @@
 ghost use Rattle.std.specs.Prelude.{◌≡◌, ◌≤◌, ◌<◌, ◌^◌, ◌-◌, length, take, false, IfOk, OnErr};
 ghost use Rattle.std.specs.Io.KnownBytes.{IsAtEnd};
-ghost use Rattle.lagengine.specs.Sources.{Fails, Gives};
+ghost use Rattle.lagstreams.specs.Sources.{Fails, Gives};
 
 use std::io::Read;
 use std::marker::Model;
 
-/// A reader that remembers whether it failed, and gives at most 2^64 - 1 octets (profile).
+/// The most octets that a source gives in all.
+const MOST_OCTETS: u64 = u64::MAX - 1;
+
+/// A reader that remembers whether it failed, and gives at most 2^64 - 2 octets (profile).
 #[derive(Drop)]
 pub struct Source<R: Read> {
     inner: R,
@@ -15,11 +18,14 @@ pub struct Source<R: Read> {
 }
 
 impl<R: Read> Model for Source<R> {
-    ghost use Rattle.lagengine.specs.Sources.{SourceState};
+    ghost use Rattle.std.specs.Prelude.{◌<◌, ◌^◌, ◌-◌};
+    ghost use Rattle.lagstreams.specs.Sources.{SourceState};
 
     ghost Value = { SourceState R };
 
     ghost view = { λ s. record { reader = s.inner; failed = s.failed; left = s.left } };
+
+    ghost invariant = { λ s. s.left < 2 ^ 64 - 1 };
 }
 
 /// The source failed.
@@ -31,13 +37,28 @@ impl<R: Read> Source<R> {
     pub fn new(inner: R) -> Self
         ensures reader { result.reader ≡ inner }
         ensures failed { result.failed ≡ false }
-        ensures left { result.left ≡ 2 ^ 64 - 1 }
+        ensures left { result.left ≡ 2 ^ 64 - 2 }
     {
         Source {
             inner,
             failed: false,
-            left: u64::MAX,
+            left: MOST_OCTETS,
         }
+    }
+
+    /// Whether a call of the reader failed, or the reader gave more octets than allowed.
+    pub fn failed(&self) -> bool
+        ensures { result ≡ self.now.failed }
+    {
+        self.failed
+    }
+
+    /// The number of octets that the source may still give is below 2^64 - 1: a fact for proofs. Does nothing when it
+    /// runs.
+    pub fn is_bounded(&self)
+        ensures { self.now.left < 2 ^ 64 - 1 }
+    {
+        let _left = self.left;
     }
 
     /// Reads octets to the beginning of `piece`, which has room for at least one, and returns how many; 0 only at the

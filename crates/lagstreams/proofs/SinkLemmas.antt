@@ -5,7 +5,7 @@ use Rattle.std.proofs.lemmas.List.{take_rest, take_at}
 use Rattle.std.specs.Prelude.{OnErr}
 use Rattle.std.specs.Io.KnownBytes.{Appends, Keeps}
 use Rattle.std.proofs.KnownBytes.{Appends-kept, Appends-nil, Appends-trans}
-use Rattle.lagengine.specs.Sinks.{WritesPart, Flushes, WritesAndFlushes, SinkState, WritesWhole}
+use Rattle.lagstreams.specs.Sinks.{WritesPart, Flushes, WritesAndFlushes, SinkState, WritesWhole}
 
 module _ {W : Type 0} (contents : W → Option (List ℕ)) where
   pub takes_more : (a b c : SinkState W) (xs ys : List ℕ) → WritesWhole contents a b xs → WritesWhole contents b c ys

@@ -1,6 +1,6 @@
 use Rattle.std.proofs.Common.{◌++◌, take}
-use Rattle.lagengine.proofs.SinkLemmas.{breaks_after, more_done, on_err, takes_more}
-use Rattle.lagengine.proofs.sink.Sink.put.Goals as goal
+use Rattle.lagstreams.proofs.SinkLemmas.{breaks_after, more_done, on_err, takes_more}
+use Rattle.lagstreams.proofs.sink.Sink.put.Goals as goal
 
 pub loop-rest-preserved : goal.loop-rest-preserved
 loop-rest-preserved g c =

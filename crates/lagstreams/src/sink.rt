@@ -1,37 +1,40 @@
 ghost use Rattle.std.specs.Prelude.{◌≡◌, ◌≤◌, ◌<◌, length, take, true, false, IfOk, OnOk, OnErr};
 ghost use Rattle.std.specs.Io.KnownBytes.{Keeps};
-ghost use Rattle.lagtool.specs.Sinks.{WritesPart, WritesWhole};
+ghost use Rattle.lagstreams.specs.Sinks.{WritesPart, Flushes, WritesAndFlushes, WritesWhole};
 
 use std::io::Write;
 use std::marker::Model;
 
-/// A writer that remembers whether it failed (profile).
+/// A writer that remembers whether it failed, and whether its octets were flushed (profile).
 #[derive(Drop)]
 pub struct Sink<W: Write> {
     inner: W,
     failed: bool,
+    /// Whether it accepted octets since it was last flushed.
+    unflushed: bool,
 }
 
 impl<W: Write> Model for Sink<W> {
-    ghost use Rattle.lagtool.specs.Sinks.{SinkState};
+    ghost use Rattle.lagstreams.specs.Sinks.{SinkState};
 
     ghost Value = { SinkState W };
 
-    ghost view = { λ s. record { writer = s.inner; failed = s.failed } };
+    ghost view = { λ s. record { writer = s.inner; failed = s.failed; unflushed = s.unflushed } };
 }
 
-/// The sink did not accept all octets.
+/// The sink did not accept all octets, or could not be flushed.
 #[derive(Clone, Copy, Debug, PartialEq, Eq)]
 pub struct WriteFailed;
 
 impl<W: Write> Sink<W> {
     /// A sink that has not failed.
     pub fn new(inner: W) -> Self
-        ensures { result ≡ record { writer = inner; failed = false } }
+        ensures { result ≡ record { writer = inner; failed = false; unflushed = false } }
     {
         Sink {
             inner,
             failed: false,
+            unflushed: false,
         }
     }
 
@@ -46,7 +49,11 @@ impl<W: Write> Sink<W> {
     pub fn into_inner(self) -> W
         ensures { result ≡ self.writer }
     {
-        let Sink { inner, failed: _ } = self;
+        let Sink {
+            inner,
+            failed: _,
+            unflushed: _,
+        } = self;
         inner
     }
 
@@ -55,10 +62,14 @@ impl<W: Write> Sink<W> {
         requires { 0 < length octets.now }
         ensures some { IfOk result (λ n. (0 < n) × (n ≤ length octets.now)) }
         ensures ok { IfOk result (λ n. WritesWhole W.contents self.old self.new (take n octets.now)) }
+        ensures unflushed { OnOk result (self.new.unflushed ≡ true) }
         ensures err { OnErr result (Keeps (W.contents self.old.writer) (W.contents self.new.writer) × (self.new.failed ≡ true)) }
     {
         match self.inner.write(octets) {
-            Ok(n) if n > 0 => Ok(n),
+            Ok(n) if n > 0 => {
+                self.unflushed = true;
+                Ok(n)
+            }
             _ => {
                 self.failed = true;
                 Err(WriteFailed)
@@ -76,6 +87,30 @@ impl<W: Write> Sink<W> {
             let n = self.put_some(rest)?;
             rest = &rest[n..];
         }
+        Ok(())
+    }
+
+    /// Flushes the writer.
+    pub fn flush(&mut self) -> Result<(), WriteFailed>
+        ensures ok { OnOk result (Flushes W.contents self.old self.new) }
+        ensures err { OnErr result (Keeps (W.contents self.old.writer) (W.contents self.new.writer) × (self.new.failed ≡ true)) }
+    {
+        if self.inner.flush().is_err() {
+            self.failed = true;
+            return Err(WriteFailed);
+        }
+        self.unflushed = false;
+        Ok(())
+    }
+
+    /// Writes and flushes all of the octets. After a failure, a beginning of them is written.
+    pub fn send(&mut self, octets: &[u8]) -> Result<(), WriteFailed>
+        ensures ok { OnOk result (WritesAndFlushes W.contents self.old self.new octets.now) }
+        ensures flushed { OnOk result (self.new.unflushed ≡ false) }
+        ensures err { OnErr result (WritesPart W.contents self.old self.new octets.now) }
+    {
+        self.put(octets)?;
+        self.flush()?;
         Ok(())
     }
 }
