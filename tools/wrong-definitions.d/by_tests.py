@@ -9,7 +9,7 @@ from concurrent.futures import ThreadPoolExecutor
 from edits import RT, TOP, apply, copy_crates, read, read_edit, restore, why_no_edit, write
 
 # The crates whose tests look at a crate, in the order in which they are asked; the first that refuses is enough.
-# "stored run" is that of lagengine.
+# A run is one of RUNS.
 LOOKS = {
     "lagtypes": ["basetests", "lagtool"],
     "slowpdu": ["basetests", "lagtool", "stored run"],
@@ -25,15 +25,26 @@ LOOKS = {
     "lagengine": ["lagengine", "stored run"],
     "lagline": ["lagline", "lagtool"],
     "lagtool": ["lagtool"],
+    "example_two_systems": ["run of two systems"],
+    "example_moved_conversation": ["run of a moved conversation"],
 }
-STORED = "lagengine"
-# Neither output of a program may pass 1 MiB under `rt try`, so the stored run is cut where a line makes a new system.
+# Programs whose output is stored, in the file stdout of their crate.
+RUNS = {
+    "stored run": "lagengine",
+    "run of two systems": "example_two_systems",
+    "run of a moved conversation": "example_moved_conversation",
+}
+# Neither output of a program may pass 1 MiB under `rt try`, so a run that reads lines is cut where one makes a new system.
 PIECE = 900_000
 
 
-def cut_stored_run(folder):
-    """Writes the lines of the stored run and their answers as cases of a folder."""
-    crate = os.path.join(TOP, "crates", STORED)
+def cut_run(folder, crate):
+    """Writes the lines that a run of a program reads, and their answers, as cases of a folder; one case if it reads none."""
+    crate = os.path.join(TOP, "crates", crate)
+    if not os.path.isfile(os.path.join(crate, "stdin")):
+        write(os.path.join(folder, "0"), "")
+        write(os.path.join(folder, "0.stdout"), read(os.path.join(crate, "stdout")))
+        return
     lines = read(os.path.join(crate, "stdin")).splitlines(keepends=True)
     answers = read(os.path.join(crate, "stdout")).splitlines(keepends=True)
     pieces, size = [([], [])], 0
@@ -50,15 +61,15 @@ def cut_stored_run(folder):
 
 
 def ask(crates, look, cases):
-    """What the tests of a crate, or the stored run, say: what refused, None where nothing did, or that it does not build."""
-    words = ["--cases", cases] if look == "stored run" else ["--test"]
-    crate = os.path.join(crates, STORED if look == "stored run" else look)
+    """What the tests of a crate, or a run of RUNS, say: what refused, None where nothing did, or that it does not build."""
+    words = ["--cases", os.path.join(cases, look)] if look in RUNS else ["--test"]
+    crate = os.path.join(crates, RUNS.get(look, look))
     run = subprocess.run([RT, "try", *words], cwd=crate, stdout=subprocess.PIPE, stderr=subprocess.STDOUT, text=True)
     refused = re.findall(r"^test (\S+) \.\.\. FAILED$", run.stdout, re.M)
     refused += re.findall(r"^case=\S+ .*output=(?:other|differs|wrong|unexpected).*$", run.stdout, re.M)
     if refused:
         more = f" and {len(refused) - 1} more" if len(refused) > 1 else ""
-        return ("the stored run" if look == "stored run" else f"{look}: {refused[0]}{more}"), None
+        return (f"the {look}" if look in RUNS else f"{look}: {refused[0]}{more}"), None
     if run.returncode == 0:
         return None, None
     if run.returncode == 4:
@@ -90,10 +101,12 @@ def try_all(folder, edits, jobs):
     """Tries these edits, so many at once; answers the name of each, whether it passed, and what to print."""
     if not edits:
         return
-    cases = os.path.join(folder, "stored run")
-    cut_stored_run(cases)
+    cases = os.path.join(folder, "cases")
     looks = sorted({look for crate, _ in edits for look in LOOKS[crate]})
-    wanted = sorted(STORED if look == "stored run" else look for look in looks)
+    for look in looks:
+        if look in RUNS:
+            cut_run(os.path.join(cases, look), RUNS[look])
+    wanted = sorted({RUNS.get(look, look) for look in looks})
     free = queue.Queue()
     for number in range(jobs):
         free.put(copy_crates(os.path.join(folder, f"copy {number}"), wanted))
