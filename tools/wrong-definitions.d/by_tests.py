@@ -22,7 +22,7 @@ LOOKS = {
     "lagscript": ["lagtests", "lagtool"],
     "lagexplain": ["lagexplain", "lagtool"],
     "lagworld": ["lagtests", "lagtool"],
-    "lagengine": ["lagengine", "stored run"],
+    "lagserve": ["servetests", "stored run"],
     "lagline": ["lagline", "lagtool"],
     "lagtool": ["lagtool"],
     "example_two_systems": ["run of two systems"],

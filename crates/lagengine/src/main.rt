@@ -5,64 +5,18 @@
 //! not be written, or a word of the command line is none that the program knows, and standard error says why.
 #![tactic(auto)]
 
-ghost use Rattle.std.specs.Prelude.{◌≡◌, ◌<◌};
-ghost use Rattle.distributor.specs.Calls.{index_by_number};
-ghost use Rattle.lagengine.specs.Serves.{status_of};
-
-mod answer;
-mod call_words;
-mod command_line;
-mod config;
-mod engine;
-mod fact_texts;
-mod fault;
-mod looks;
-mod reply_texts;
-mod request;
-mod serve;
-mod session;
-mod sink;
-mod source;
-mod stopped;
-#[cfg(test)]
-mod tests;
-mod ticks;
-mod words;
-
-use command_line::{Asked, HELP, VERSION, asked_in};
-use serve::serve;
-use sink::Sink;
-use source::Source;
+use lagserve::{Asked, HELP, Stopped, VERSION, asked_in, by_number, serve, status_of};
+use lagstreams::{Sink, Source};
 use std::fmt::Display;
 use std::io::Input;
 use std::process::ExitCode;
 use std::{env, io};
-use stopped::Stopped;
-
-/// The distribution algorithm of the program: the conversation number modulo the count of ports, and 0 if there are
-/// none (profile).
-fn by_number(conversation: u16, count: usize) -> usize
-    ensures place { result ≡ index_by_number conversation count }
-    ensures among { 0 < count → result < count }
-{
-    distributor::by_number(conversation, count)
-}
 
 /// Answers the lines of standard input on standard output.
 fn run<R: Print + Input + AllocGlobal>(rt: &R) -> Result<(), Stopped> {
     let mut source = Source::new(rt.reader());
     let mut sink = Sink::new(io::writer(rt));
     serve(rt.alloc(), by_number, &mut source, &mut sink)
-}
-
-/// The exit status of the program: 0 if the input ended, else 2 (profile).
-fn status_of(ended: &Result<(), Stopped>) -> u8
-    ensures { result ≡ status_of ended.now }
-{
-    match ended {
-        Ok(()) => 0,
-        Err(_) => 2,
-    }
 }
 
 /// Says on standard error why the program does not serve; returns exit status 2.

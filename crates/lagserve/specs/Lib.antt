@@ -1,0 +1,10 @@
+pub mod CommandLines
+pub mod Words
+pub mod Requests
+pub mod Lines
+pub mod Looks
+pub mod AnswerValues
+pub mod Texts
+pub mod Engines
+pub mod Sessions
+pub mod Serves

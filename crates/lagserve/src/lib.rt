@@ -1,0 +1,24 @@
+//! A system that is used through lines of text: requests and answers; what the program `lagengine` serves.
+#![tactic(auto)]
+
+mod algorithm;
+mod answer;
+mod call_words;
+mod command_line;
+mod config;
+mod engine;
+mod fact_texts;
+mod fault;
+mod looks;
+mod reply_texts;
+mod request;
+mod serving;
+mod session;
+mod stopped;
+mod ticks;
+mod words;
+
+pub use algorithm::by_number;
+pub use command_line::{Asked, HELP, VERSION, asked_in};
+pub use serving::serve;
+pub use stopped::{Stopped, status_of};
