@@ -5,12 +5,24 @@
 //! not be written, or a word of the command line is none that the program knows, and standard error says why.
 #![tactic(auto)]
 
-use lagserve::{Asked, HELP, Stopped, VERSION, asked_in, by_number, serve, status_of};
+ghost use Rattle.std.specs.Prelude.{◌≡◌, ◌<◌};
+ghost use Rattle.distributor.specs.Calls.{index_by_number};
+
+use lagserve::{Asked, HELP, Stopped, VERSION, asked_in, serve, status_of};
 use lagstreams::{Sink, Source};
 use std::fmt::Display;
 use std::io::Input;
 use std::process::ExitCode;
 use std::{env, io};
+
+/// The distribution algorithm of the program: the conversation number modulo the count of ports, and 0 if there are
+/// none (profile).
+fn by_number(conversation: u16, count: usize) -> usize
+    ensures place { result ≡ index_by_number conversation count }
+    ensures among { 0 < count → result < count }
+{
+    distributor::by_number(conversation, count)
+}
 
 /// Answers the lines of standard input on standard output.
 fn run<R: Print + Input + AllocGlobal>(rt: &R) -> Result<(), Stopped> {

@@ -11,7 +11,7 @@ use lagsystem::{Assignment, Reply, SystemFault};
 use std::fmt;
 
 /// The answer to a line (profile).
-#[derive(Debug, Drop)]
+#[derive(Drop)]
 pub enum Answer {
     /// A system was made; or from now on, calls are stored for `drive`.
     Done,

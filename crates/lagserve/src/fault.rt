@@ -6,7 +6,7 @@ use std::alloc::{AllocError, AllocFailed};
 use std::fmt;
 
 /// Why a line is refused (profile). Words are counted from 1, the name of the request.
-#[derive(Clone, Copy, Debug, PartialEq, Eq)]
+#[derive(Clone, Copy)]
 pub enum RequestFault {
     /// The line has more than 65,536 octets.
     TooLong,
@@ -62,7 +62,7 @@ impl fmt::Display for RequestFault {
 }
 
 /// Why a line could not be read as a request.
-#[derive(Clone, Copy, Debug, PartialEq, Eq)]
+#[derive(Clone, Copy)]
 pub enum RequestError {
     /// The line is no request, with this fault.
     Fault(RequestFault),

@@ -1,7 +1,6 @@
 //! A system that is used through lines of text: requests and answers; what the program `lagengine` serves.
 #![tactic(auto)]
 
-mod algorithm;
 mod answer;
 mod call_words;
 mod command_line;
@@ -18,7 +17,6 @@ mod stopped;
 mod ticks;
 mod words;
 
-pub use algorithm::by_number;
 pub use command_line::{Asked, HELP, VERSION, asked_in};
 pub use serving::serve;
 pub use stopped::{Stopped, status_of};

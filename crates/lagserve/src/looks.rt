@@ -10,7 +10,7 @@ use lagsystem::{
 use std::alloc::{AllocError, Global};
 
 /// The answer to `look` for a port (profile).
-#[derive(Clone, Copy, Debug, PartialEq, Eq)]
+#[derive(Clone, Copy)]
 pub struct Look {
     pub party: Party,
     pub partner: Info,
@@ -22,7 +22,7 @@ pub struct Look {
 }
 
 /// The answer of a reader for a port (profile).
-#[derive(Clone, Copy, Debug, PartialEq, Eq)]
+#[derive(Clone, Copy)]
 pub enum PortFact {
     /// The port's own parameters, its partner's, their group, Defaulted, whether it distributes, Selected with its
     /// aggregator, and the state of the mux machine.
@@ -48,14 +48,14 @@ pub enum PortFact {
 }
 
 /// The answer for a port; without a value if there is no such port.
-#[derive(Clone, Copy, Debug, PartialEq, Eq)]
+#[derive(Clone, Copy)]
 pub struct PortAnswer {
     pub port: u16,
     pub fact: Option<PortFact>,
 }
 
 /// The ports that distribute in an aggregator (6.2.4; profile).
-#[derive(Debug, Drop)]
+#[derive(Drop)]
 pub struct AggAnswer {
     pub agg: u16,
     pub ports: ArrayVec<u16, 64>,

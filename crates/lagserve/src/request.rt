@@ -17,7 +17,7 @@ use std::alloc::Global;
 pub const LONGEST_LINE: usize = 65_536;
 
 /// A question about one port.
-#[derive(Clone, Copy, Debug, PartialEq, Eq)]
+#[derive(Clone, Copy)]
 pub enum PortQuestion {
     /// The port's own parameters, its partner's, their group, Defaulted, whether it distributes, Selected with its
     /// aggregator, and the state of the mux machine.
@@ -43,7 +43,7 @@ pub enum PortQuestion {
 }
 
 /// A question that a reader of the system answers.
-#[derive(Clone, Copy, Debug, PartialEq, Eq)]
+#[derive(Clone, Copy)]
 pub enum Question {
     /// About the port with this number.
     Port(PortQuestion, u16),
@@ -64,7 +64,7 @@ pub enum Question {
 }
 
 /// A task for a system.
-#[derive(Debug, Drop)]
+#[derive(Drop)]
 pub enum Task {
     /// Make this call.
     Make(Call),
@@ -83,7 +83,7 @@ pub enum Task {
 }
 
 /// What a line asks for (profile).
-#[derive(Debug, Drop)]
+#[derive(Drop)]
 pub enum Request {
     /// Make a new system.
     System(Config),

@@ -1,9 +1,10 @@
 mod ports;
 mod requests;
 
-ghost use Rattle.std.specs.Prelude.{◌≡◌};
+ghost use Rattle.std.specs.Prelude.{◌≡◌, ◌<◌};
+ghost use Rattle.distributor.specs.Calls.{index_by_number};
 
-use lagserve::{Asked, Stopped, asked_in, by_number, serve};
+use lagserve::{Asked, Stopped, asked_in, serve};
 use lagstreams::{Sink, Source};
 use std::alloc::{AllocError, Global};
 use std::io;
@@ -13,6 +14,14 @@ use std::test::Fail;
 
 /// A line, and its answer.
 type Row = (&'static str, &'static str);
+
+/// The conversation number modulo the count of ports, and 0 if there are none (profile).
+fn by_number(conversation: u16, count: usize) -> usize
+    ensures place { result ≡ index_by_number conversation count }
+    ensures among { 0 < count → result < count }
+{
+    distributor::by_number(conversation, count)
+}
 
 /// A reader that gives at most a number of octets in each read, and fails after a number of reads.
 #[derive(Drop)]
