@@ -12,9 +12,6 @@ use std::io::{Read, Write};
 use std::process::Abort;
 use std::test::Fail;
 
-/// A line, and its answer.
-type Row = (&'static str, &'static str);
-
 /// The conversation number modulo the count of ports, and 0 if there are none (profile).
 fn by_number(conversation: u16, count: usize) -> usize
     ensures place { result ≡ index_by_number conversation count }
@@ -103,11 +100,19 @@ fn said(alloc: Global, octets: &[u8]) -> Result<String, AllocError> {
     Ok(outcome.text)
 }
 
+/// A line and its answer: what stands in a row before and behind the arrow.
+fn row_of(row: &str) -> (&str, &str) {
+    match row.split_once(" => ") {
+        Some(both) => both,
+        None => ("", ""),
+    }
+}
+
 /// The lines of the rows, each with a line end.
-fn lines_of(alloc: Global, rows: &[Row]) -> Result<String, AllocError> {
+fn lines_of(alloc: Global, rows: &[&str]) -> Result<String, AllocError> {
     let mut text = String::new(alloc);
-    for (line, _) in rows {
-        text.push_str(line)?;
+    for row in rows {
+        text.push_str(row_of(*row).0)?;
         text.push_str("\n")?;
     }
     Ok(text)
@@ -122,24 +127,25 @@ fn line_at<'a>(lines: &[&'a str], place: usize) -> &'a str {
 }
 
 /// Checks the answer to each row of a session.
-fn check_each(rt: &impl Abort, rows: &[Row], answers: &[&str]) {
+fn check_each(rt: &impl Abort, rows: &[&str], answers: &[&str]) {
     let mut place = 0usize;
-    for (line, wanted) in rows {
+    for row in rows {
         let answer = line_at(answers, place);
-        assert_eq!(rt; answer, *wanted, "row {place}: {line}");
+        assert_eq!(rt; answer, row_of(*row).1, "row {place}: {row}");
         place = place.wrapping_add(1);
     }
 }
 
-/// Checks the answers of a session of these rows.
-fn check(rt: &impl Abort, alloc: Global, rows: &[Row]) -> Result<(), Fail> {
-    let lines = lines_of(alloc, rows)?;
-    let text = said(alloc, lines.as_bytes())?;
-    let answers: Vec<&str> = text.as_str().split('\n').collect(alloc)?;
+/// Checks the answers of a session: rows are lines of `LINE => ANSWER`.
+fn check(rt: &impl Abort, alloc: Global, text: &str) -> Result<(), Fail> {
+    let rows: Vec<&str> = text.split('\n').collect(alloc)?;
+    let lines = lines_of(alloc, rows.as_slice())?;
+    let said = said(alloc, lines.as_bytes())?;
+    let answers: Vec<&str> = said.as_str().split('\n').collect(alloc)?;
     let count = answers.len();
     // The last is what stands behind the last newline.
     assert_eq!(rt; count, rows.len().wrapping_add(1), "lines of answers");
-    check_each(rt, rows, answers.as_slice());
+    check_each(rt, rows.as_slice(), answers.as_slice());
     Ok(())
 }
 
@@ -228,7 +234,7 @@ fn check_outcome(rt: &impl Abort, seen: &Outcome, ended: Result<(), Stopped>, te
 }
 
 /// Texts, and what they are answered.
-const ENDS: [Row; 4] = [
+const ENDS: [(&str, &str); 4] = [
     ("", ""),
     ("\n", "fault word\n"),
     ("tick", "fault no-system\n"),

@@ -1,233 +1,194 @@
-use crate::serving::{Row, check};
+use crate::serving::check;
 use std::test::Fail;
 
 /// Each status, and the timers and NTT of ports on the way to it. Port 3 has Short Timeout; port 400 hears the system itself,
 /// port 402 another peer than ports 3, 9 and 70, and port 401 nobody.
-const STATUSES: [Row; 88] = [
-    (
-        "system 24576 020000000011 1234 7 700,300 max-links 2 3:203:020000001103:300:1:1:1 9:209:020000001109:300:1:1:0 70:270:020000001146:300:1:1:0 400:500:020000001190:300:1:1:0 401:501:020000001191:300:1:1:0 402:502:020000001192:300:1:1:0",
-        "ok",
-    ),
-    ("port-status 3", "port 3: status link-down"),
-    ("current-while 3", "port 3: current-while 0"),
-    ("wait-while 3", "port 3: wait-while 0"),
-    ("ntt 3", "port 3: ntt false"),
-    ("port-status 4", "port 4: none"),
-    ("current-while 4", "port 4: none"),
-    ("wait-while 4", "port 4: none"),
-    ("ntt 4", "port 4: none"),
-    ("link 3 up", "ok"),
-    ("link 9 up", "ok"),
-    ("link 70 up", "ok"),
-    ("link 400 up", "ok"),
-    ("link 401 up", "ok"),
-    ("link 402 up", "ok"),
-    ("port-status 3", "port 3: status no-lacpdu"),
-    ("current-while 3", "port 3: current-while 30"),
-    (
-        "receive 3 0180c20000020200000000778809010101141000020000000077012c004000170500000002146000020000000011012c00cb0003070000000310003200000000000000000000000000000000000000000000000000000000000000000000000000000000000000000000000000000000000000000000000000000000",
-        "took",
-    ),
-    ("port-status 3", "port 3: status waiting 20"),
-    ("current-while 3", "port 3: current-while 30"),
-    ("wait-while 3", "port 3: wait-while 20"),
-    ("ntt 3", "port 3: ntt false"),
-    (
-        "receive 400 0180c20000020200000000778809010101146000020000000011012c025801910d00000002146000020000000011012c01f40190050000000310003200000000000000000000000000000000000000000000000000000000000000000000000000000000000000000000000000000000000000000000000000000000",
-        "took",
-    ),
-    ("port-status 400", "port 400: status own-system"),
-    ("current-while 400", "port 400: current-while 900"),
-    (
-        "receive 402 0180c20000020200000000778809010101141000020000000088012c004000180d00000002146000020000000011012c01f60192050000000310003200000000000000000000000000000000000000000000000000000000000000000000000000000000000000000000000000000000000000000000000000000000",
-        "took",
-    ),
-    ("port-status 402", "port 402: status no-aggregator"),
-    ("tick", "ok"),
-    ("tick", "ok"),
-    ("tick", "ok"),
-    ("tick", "ok"),
-    ("tick", "ok"),
-    ("tick", "ok"),
-    (
-        "receive 9 0180c20000020200000000778809010101141000020000000077012c0040005a0500000002146000020000000011012c00d100090d0000000310003200000000000000000000000000000000000000000000000000000000000000000000000000000000000000000000000000000000000000000000000000000000",
-        "took",
-    ),
-    ("port-status 9", "port 9: status waiting 20"),
-    ("ntt 9", "port 9: ntt true"),
-    (
-        "receive 70 0180c20000020200000000778809010101141000020000000077012c0040005b0500000002146000020000000011012c010e0046050000000310003200000000000000000000000000000000000000000000000000000000000000000000000000000000000000000000000000000000000000000000000000000000",
-        "took",
-    ),
-    ("port-status 70", "port 70: status standby 2"),
-    ("ntt 70", "port 70: ntt false"),
-    ("port-status 3", "port 3: status waiting 14"),
-    ("current-while 3", "port 3: current-while 24"),
-    ("wait-while 3", "port 3: wait-while 14"),
-    ("tick", "ok"),
-    ("tick", "ok"),
-    ("tick", "ok"),
-    ("tick", "ok"),
-    ("tick", "ok"),
-    ("tick", "ok"),
-    ("tick", "ok"),
-    ("tick", "ok"),
-    ("tick", "ok"),
-    ("tick", "ok"),
-    ("tick", "ok"),
-    ("tick", "ok"),
-    ("tick", "ok"),
-    ("tick", "ok"),
-    ("port-status 3", "port 3: status waiting-for-members"),
-    ("current-while 3", "port 3: current-while 10"),
-    ("wait-while 3", "port 3: wait-while 0"),
-    ("ntt 3", "port 3: ntt false"),
-    ("port-status 9", "port 9: status waiting 6"),
-    ("current-while 9", "port 9: current-while 886"),
-    ("wait-while 9", "port 9: wait-while 6"),
-    (
-        "receive 3 0180c20000020200000000778809010101141000020000000077012c004000170500000002146000020000000011012c00cb0003070000000310003200000000000000000000000000000000000000000000000000000000000000000000000000000000000000000000000000000000000000000000000000000000",
-        "took",
-    ),
-    ("tick", "ok"),
-    ("tick", "ok"),
-    ("tick", "ok"),
-    ("tick", "ok"),
-    ("tick", "ok"),
-    ("tick", "ok"),
-    ("port-status 3", "port 3: status partner-not-synchronized"),
-    ("current-while 3", "port 3: current-while 24"),
-    ("ntt 3", "port 3: ntt true"),
-    (
-        "receive 3 0180c20000020200000000778809010101141000020000000077012c004000170d00000002146000020000000011012c00cb00030f0000000310003200000000000000000000000000000000000000000000000000000000000000000000000000000000000000000000000000000000000000000000000000000000",
-        "took",
-    ),
-    ("port-status 3", "port 3: status distributing"),
-    ("port-status 9", "port 9: status partner-not-synchronized"),
-    ("tick", "ok"),
-    ("tick", "ok"),
-    ("tick", "ok"),
-    ("port-status 401", "port 401: status no-lacpdu"),
-    ("current-while 401", "port 401: current-while 1"),
-    ("tick", "ok"),
-    ("port-status 401", "port 401: status on-defaults"),
-    ("current-while 401", "port 401: current-while 0"),
-    ("ntt 401", "port 401: ntt true"),
-    ("port-status 400", "port 400: status own-system"),
-    ("port-status 402", "port 402: status no-aggregator"),
-    ("port-status 70", "port 70: status standby 2"),
-];
+const STATUSES: &str = "\
+system 24576 020000000011 1234 7 700,300 max-links 2 3:203:020000001103:300:1:1:1 9:209:020000001109:300:1:1:0 70:270:020000001146:300:1:1:0 400:500:020000001190:300:1:1:0 401:501:020000001191:300:1:1:0 402:502:020000001192:300:1:1:0 => ok
+port-status 3 => port 3: status link-down
+current-while 3 => port 3: current-while 0
+wait-while 3 => port 3: wait-while 0
+ntt 3 => port 3: ntt false
+port-status 4 => port 4: none
+current-while 4 => port 4: none
+wait-while 4 => port 4: none
+ntt 4 => port 4: none
+link 3 up => ok
+link 9 up => ok
+link 70 up => ok
+link 400 up => ok
+link 401 up => ok
+link 402 up => ok
+port-status 3 => port 3: status no-lacpdu
+current-while 3 => port 3: current-while 30
+receive 3 0180c20000020200000000778809010101141000020000000077012c004000170500000002146000020000000011012c00cb0003070000000310003200000000000000000000000000000000000000000000000000000000000000000000000000000000000000000000000000000000000000000000000000000000 => took
+port-status 3 => port 3: status waiting 20
+current-while 3 => port 3: current-while 30
+wait-while 3 => port 3: wait-while 20
+ntt 3 => port 3: ntt false
+receive 400 0180c20000020200000000778809010101146000020000000011012c025801910d00000002146000020000000011012c01f40190050000000310003200000000000000000000000000000000000000000000000000000000000000000000000000000000000000000000000000000000000000000000000000000000 => took
+port-status 400 => port 400: status own-system
+current-while 400 => port 400: current-while 900
+receive 402 0180c20000020200000000778809010101141000020000000088012c004000180d00000002146000020000000011012c01f60192050000000310003200000000000000000000000000000000000000000000000000000000000000000000000000000000000000000000000000000000000000000000000000000000 => took
+port-status 402 => port 402: status no-aggregator
+tick => ok
+tick => ok
+tick => ok
+tick => ok
+tick => ok
+tick => ok
+receive 9 0180c20000020200000000778809010101141000020000000077012c0040005a0500000002146000020000000011012c00d100090d0000000310003200000000000000000000000000000000000000000000000000000000000000000000000000000000000000000000000000000000000000000000000000000000 => took
+port-status 9 => port 9: status waiting 20
+ntt 9 => port 9: ntt true
+receive 70 0180c20000020200000000778809010101141000020000000077012c0040005b0500000002146000020000000011012c010e0046050000000310003200000000000000000000000000000000000000000000000000000000000000000000000000000000000000000000000000000000000000000000000000000000 => took
+port-status 70 => port 70: status standby 2
+ntt 70 => port 70: ntt false
+port-status 3 => port 3: status waiting 14
+current-while 3 => port 3: current-while 24
+wait-while 3 => port 3: wait-while 14
+tick => ok
+tick => ok
+tick => ok
+tick => ok
+tick => ok
+tick => ok
+tick => ok
+tick => ok
+tick => ok
+tick => ok
+tick => ok
+tick => ok
+tick => ok
+tick => ok
+port-status 3 => port 3: status waiting-for-members
+current-while 3 => port 3: current-while 10
+wait-while 3 => port 3: wait-while 0
+ntt 3 => port 3: ntt false
+port-status 9 => port 9: status waiting 6
+current-while 9 => port 9: current-while 886
+wait-while 9 => port 9: wait-while 6
+receive 3 0180c20000020200000000778809010101141000020000000077012c004000170500000002146000020000000011012c00cb0003070000000310003200000000000000000000000000000000000000000000000000000000000000000000000000000000000000000000000000000000000000000000000000000000 => took
+tick => ok
+tick => ok
+tick => ok
+tick => ok
+tick => ok
+tick => ok
+port-status 3 => port 3: status partner-not-synchronized
+current-while 3 => port 3: current-while 24
+ntt 3 => port 3: ntt true
+receive 3 0180c20000020200000000778809010101141000020000000077012c004000170d00000002146000020000000011012c00cb00030f0000000310003200000000000000000000000000000000000000000000000000000000000000000000000000000000000000000000000000000000000000000000000000000000 => took
+port-status 3 => port 3: status distributing
+port-status 9 => port 9: status partner-not-synchronized
+tick => ok
+tick => ok
+tick => ok
+port-status 401 => port 401: status no-lacpdu
+current-while 401 => port 401: current-while 1
+tick => ok
+port-status 401 => port 401: status on-defaults
+current-while 401 => port 401: current-while 0
+ntt 401 => port 401: ntt true
+port-status 400 => port 400: status own-system
+port-status 402 => port 402: status no-aggregator
+port-status 70 => port 70: status standby 2";
 
 /// What waits on a port is forced at once, even while calls are kept; what is On it stays.
-const FORCED: [Row; 53] = [
-    (
-        "system 24576 020000000011 1234 7 300,700 3:203:020000001103:300:1:1:0 70:270:020000001146:300:1:1:0",
-        "ok",
-    ),
-    ("force-port 3", "forced 0"),
-    ("force-port 4", "refused 1 no-port"),
-    ("link 3 up", "ok"),
-    ("link 70 up", "ok"),
-    (
-        "receive 3 0180c20000020200000000778809010101141000020000000077012c004000170d00000002146000020000000011012c00cb0003050000000310003200000000000000000000000000000000000000000000000000000000000000000000000000000000000000000000000000000000000000000000000000000000",
-        "took",
-    ),
-    (
-        "receive 70 0180c20000020200000000778809010101141000020000000077012c0040005a0d00000002146000020000000011012c010e0046050000000310003200000000000000000000000000000000000000000000000000000000000000000000000000000000000000000000000000000000000000000000000000000000",
-        "took",
-    ),
-    ("tick", "ok"),
-    ("tick", "ok"),
-    ("tick", "ok"),
-    ("tick", "ok"),
-    ("tick", "ok"),
-    ("tick", "ok"),
-    ("tick", "ok"),
-    ("tick", "ok"),
-    ("tick", "ok"),
-    ("tick", "ok"),
-    ("tick", "ok"),
-    ("tick", "ok"),
-    ("tick", "ok"),
-    ("tick", "ok"),
-    ("tick", "ok"),
-    ("tick", "ok"),
-    ("tick", "ok"),
-    ("tick", "ok"),
-    ("tick", "ok"),
-    ("tick", "ok"),
-    ("distributing 1", "aggregator 1: 3 70"),
-    ("offer 1 0200000000310200000000100800", "port 70"),
-    ("offer 1 0200000000330200000000100800", "port 70"),
-    ("offer 1 0200000000350200000000100800", "port 70"),
-    ("offer 1 0200000000300200000000100800", "port 3"),
-    ("load 70", "port 70: load 3"),
-    ("move 1 33 3", "ok"),
-    ("move 1 35 3", "ok"),
-    ("move 1 32 70", "ok"),
-    ("force-port 70", "forced 2"),
-    ("conversation-state 1 33", "free preferred 3"),
-    ("conversation-state 1 35", "free preferred 3"),
-    ("conversation-state 1 37", "on 70"),
-    ("conversation-state 1 32", "wanted 3 preferred 70"),
-    ("load 70", "port 70: load 1"),
-    ("force-port 70", "forced 0"),
-    ("offer 1 0200000000310200000000100800", "port 3"),
-    ("keep", "ok"),
-    ("move 1 37 3", "kept"),
-    ("force-port 3", "forced 1"),
-    ("force-port 70", "forced 0"),
-    ("force-port 71", "refused 1 no-port"),
-    ("conversation-state 1 32", "free preferred 70"),
-    ("drive", "ok;"),
-    ("conversation-state 1 37", "wanted 70 preferred 3"),
-    ("force-port 70", "forced 1"),
-];
+const FORCED: &str = "\
+system 24576 020000000011 1234 7 300,700 3:203:020000001103:300:1:1:0 70:270:020000001146:300:1:1:0 => ok
+force-port 3 => forced 0
+force-port 4 => refused 1 no-port
+link 3 up => ok
+link 70 up => ok
+receive 3 0180c20000020200000000778809010101141000020000000077012c004000170d00000002146000020000000011012c00cb0003050000000310003200000000000000000000000000000000000000000000000000000000000000000000000000000000000000000000000000000000000000000000000000000000 => took
+receive 70 0180c20000020200000000778809010101141000020000000077012c0040005a0d00000002146000020000000011012c010e0046050000000310003200000000000000000000000000000000000000000000000000000000000000000000000000000000000000000000000000000000000000000000000000000000 => took
+tick => ok
+tick => ok
+tick => ok
+tick => ok
+tick => ok
+tick => ok
+tick => ok
+tick => ok
+tick => ok
+tick => ok
+tick => ok
+tick => ok
+tick => ok
+tick => ok
+tick => ok
+tick => ok
+tick => ok
+tick => ok
+tick => ok
+tick => ok
+distributing 1 => aggregator 1: 3 70
+offer 1 0200000000310200000000100800 => port 70
+offer 1 0200000000330200000000100800 => port 70
+offer 1 0200000000350200000000100800 => port 70
+offer 1 0200000000300200000000100800 => port 3
+load 70 => port 70: load 3
+move 1 33 3 => ok
+move 1 35 3 => ok
+move 1 32 70 => ok
+force-port 70 => forced 2
+conversation-state 1 33 => free preferred 3
+conversation-state 1 35 => free preferred 3
+conversation-state 1 37 => on 70
+conversation-state 1 32 => wanted 3 preferred 70
+load 70 => port 70: load 1
+force-port 70 => forced 0
+offer 1 0200000000310200000000100800 => port 3
+keep => ok
+move 1 37 3 => kept
+force-port 3 => forced 1
+force-port 70 => forced 0
+force-port 71 => refused 1 no-port
+conversation-state 1 32 => free preferred 70
+drive => ok;
+conversation-state 1 37 => wanted 70 preferred 3
+force-port 70 => forced 1";
 
 /// Lines that are no such requests.
-const FAULTS: [Row; 26] = [
-    ("force-port 1", "fault no-system"),
-    ("port-status 1", "fault no-system"),
-    ("ntt 1", "fault no-system"),
-    (
-        "system 24576 020000000011 1234 7 300 3:203:020000001103:300:1:1:0",
-        "ok",
-    ),
-    ("force-port", "fault count"),
-    ("force-port 3 3", "fault count"),
-    ("force-port x", "fault number at word 2"),
-    ("force-port 65536", "fault number at word 2"),
-    ("port-status", "fault count"),
-    ("port-status 3 3", "fault count"),
-    ("port-status x", "fault number at word 2"),
-    ("port-status 65536", "fault number at word 2"),
-    ("current-while", "fault count"),
-    ("current-while 3 3", "fault count"),
-    ("current-while x", "fault number at word 2"),
-    ("current-while 65536", "fault number at word 2"),
-    ("wait-while", "fault count"),
-    ("wait-while 3 3", "fault count"),
-    ("wait-while x", "fault number at word 2"),
-    ("wait-while 65536", "fault number at word 2"),
-    ("ntt", "fault count"),
-    ("ntt 3 3", "fault count"),
-    ("ntt x", "fault number at word 2"),
-    ("ntt 65536", "fault number at word 2"),
-    ("force_port 3", "fault word"),
-    ("status 3", "fault word"),
-];
+const FAULTS: &str = "\
+force-port 1 => fault no-system
+port-status 1 => fault no-system
+ntt 1 => fault no-system
+system 24576 020000000011 1234 7 300 3:203:020000001103:300:1:1:0 => ok
+force-port => fault count
+force-port 3 3 => fault count
+force-port x => fault number at word 2
+force-port 65536 => fault number at word 2
+port-status => fault count
+port-status 3 3 => fault count
+port-status x => fault number at word 2
+port-status 65536 => fault number at word 2
+current-while => fault count
+current-while 3 3 => fault count
+current-while x => fault number at word 2
+current-while 65536 => fault number at word 2
+wait-while => fault count
+wait-while 3 3 => fault count
+wait-while x => fault number at word 2
+wait-while 65536 => fault number at word 2
+ntt => fault count
+ntt 3 3 => fault count
+ntt x => fault number at word 2
+ntt 65536 => fault number at word 2
+force_port 3 => fault word
+status 3 => fault word";
 
 #[test]
 fn ports_tell_their_status_and_timers(rt: HostRuntime) -> Result<(), Fail> {
-    check(&rt, rt.alloc(), &STATUSES)
+    check(&rt, rt.alloc(), STATUSES)
 }
 
 #[test]
 fn what_waits_on_a_port_is_forced(rt: HostRuntime) -> Result<(), Fail> {
-    check(&rt, rt.alloc(), &FORCED)
+    check(&rt, rt.alloc(), FORCED)
 }
 
 #[test]
 fn lines_that_name_no_port(rt: HostRuntime) -> Result<(), Fail> {
-    check(&rt, rt.alloc(), &FAULTS)
+    check(&rt, rt.alloc(), FAULTS)
 }
