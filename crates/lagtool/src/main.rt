@@ -4,53 +4,18 @@
 //! error says why.
 #![tactic(auto)]
 
-ghost use Rattle.std.specs.Prelude.{◌≡◌};
-ghost use Rattle.lagtool.specs.Engines.{status_of};
-
-mod algorithm;
-mod checking;
-mod directions;
-mod entry_text;
-mod explaining;
-mod fault;
-mod flows;
-mod known_texts;
-mod laws;
-mod progress;
-mod replay;
-mod reply;
-mod reply_text;
-mod report;
-mod running;
-mod scan;
-mod show;
-mod sink;
-mod source;
-mod summary;
-#[cfg(test)]
-mod tests;
-mod texts;
-mod vectors;
-mod verdict;
-
-use algorithm::by_number;
-use checking::check_watched;
-use explaining::{explain_digits, explain_script, explain_unread, explain_utf8};
-use fault::{FaultText, ToolFault};
+use lagjobs::{
+    FaultText, Progress, ToolFault, Watch, by_number, check_watched, explain_digits,
+    explain_script, explain_unread, explain_utf8, replay_watched, reply, show, status_of, vectors,
+};
 use lagline::{Job, LineFault, Options, read_line, read_options};
-use progress::{Progress, Watch};
-use replay::replay_watched;
-use reply::reply;
-use show::show;
-use sink::Sink;
-use source::Source;
+use lagstreams::{Sink, Source};
 use std::fmt::Display;
 use std::fs::{File, Files};
 use std::io::{Input, Read};
 use std::process::ExitCode;
 use std::time::Clock;
 use std::{env, fs, io};
-use vectors::vectors;
 
 /// Says on standard error why a command line could not be done; returns exit status 2.
 fn could_not_do<D: Display + Drop>(rt: &impl Eprint, why: D) -> ExitCode {
@@ -70,17 +35,6 @@ fn explained(rt: &(impl Print + Eprint), fault: LineFault) -> ExitCode {
             ExitCode::from(2)
         }
         LineFault::NoMemory => could_not_do(rt, ToolFault::NoMemory),
-    }
-}
-
-/// The exit status for the result of a job: 0 accepted, 1 not accepted, 2 it could not be done (profile).
-fn status_of(accepted: &Result<bool, ToolFault>) -> u8
-    ensures { result ≡ status_of accepted.now }
-{
-    match accepted {
-        Ok(true) => 0,
-        Ok(false) => 1,
-        Err(_) => 2,
     }
 }
 

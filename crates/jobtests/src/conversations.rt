@@ -1,0 +1,151 @@
+use crate::refusals::{fault_said, systems_with};
+use crate::replays::{BOTH_UP, BOTH_UP_TEXT, TWO_CABLES, replayed};
+use std::alloc::{AllocError, Global};
+use std::test::Fail;
+
+/// Two frames that are of one conversation among 256 and of two among 4,096.
+const FAR_APART: &str = r#"    "offer 1 1 0200000001200200000000100800",
+    "offer 1 1 0200000000200200000000100800",
+    "move 1 1 304 2",
+    "offer 1 1 0200000001200200000000100800",
+    "offer 1 1 0200000000200200000000100800",
+    "move 1 1 4096 2",
+]
+"#;
+
+const FAR_APART_TEXT: &str = "25 offer 1 1 0200000001200200000000100800 -> port 1 serial 0 sent
+26 offer 1 1 0200000000200200000000100800 -> port 1 serial 0 sent
+27 move 1 1 304 2 -> moved
+28 offer 1 1 0200000001200200000000100800 -> refused 5 held
+29 offer 1 1 0200000000200200000000100800 -> port 1 serial 1 sent
+30 move 1 1 4096 2 -> refused 9 not-assigned
+cable 1 agreement same
+cable 2 agreement same
+flow 1/1/48 sent 2 collected none
+flow 1/1/304 sent 1 collected none
+";
+
+/// The same frames where there are 256.
+const TOGETHER: &str = r#"    "offer 1 1 0200000001200200000000100800",
+    "offer 1 1 0200000000200200000000100800",
+    "move 1 1 304 2",
+]
+"#;
+
+const TOGETHER_TEXT: &str = "25 offer 1 1 0200000001200200000000100800 -> port 1 serial 0 sent
+26 offer 1 1 0200000000200200000000100800 -> port 1 serial 1 sent
+27 move 1 1 304 2 -> refused 9 not-assigned
+cable 1 agreement same
+cable 2 agreement same
+flow 1/1/48 sent 2 collected none
+";
+
+/// A frame whose conversation has only the low 12 bits of its number.
+const LOW_BITS: &str = r#"    "offer 1 1 02000000f1200200000000100800",
+]
+"#;
+
+const LOW_BITS_TEXT: &str = "25 offer 1 1 02000000f1200200000000100800 -> port 1 serial 0 sent
+cable 1 agreement same
+cable 2 agreement same
+flow 1/1/304 sent 1 collected none
+";
+
+/// The last of 4,096 conversations.
+const LAST: &str = r#"    "offer 1 1 020000000fff0200000000000800",
+    "deliver 2 2",
+    "move 1 1 4095 1",
+    "force 1 1 4095",
+]
+"#;
+
+const LAST_TEXT: &str = "25 offer 1 1 020000000fff0200000000000800 -> port 2 serial 0 sent
+26 deliver 2 2 -> up 1
+27 move 1 1 4095 1 -> moved
+28 force 1 1 4095 -> forced
+cable 1 agreement same
+cable 2 agreement same
+flow 1/1/4095 sent 1 collected 0 forced
+";
+
+/// The same frame from both systems.
+const BY_SENDER: &str = r#"    "offer 1 1 0200000001200200000000100800",
+    "offer 2 1 0200000001200200000000100800",
+    "deliver 1 2",
+    "deliver 1 1",
+]
+"#;
+
+const BY_SENDER_TEXT: &str = "25 offer 1 1 0200000001200200000000100800 -> port 1 serial 0 sent
+26 offer 2 1 0200000001200200000000100800 -> port 1 serial 0 sent
+27 deliver 1 2 -> up 1
+28 deliver 1 1 -> up 1
+cable 1 agreement same
+cable 2 agreement same
+flow 1/1/48 sent 1 collected 0
+flow 2/1/304 sent 1 collected 0
+";
+
+const MANY: &str = "conversations = 4096\n";
+
+const FEW: &str = "conversations = 256\n";
+
+/// The report of these events with these keys of the two systems; empty if the script is refused.
+fn report_of(alloc: Global, one: &str, two: &str, events: &str) -> Result<String, AllocError> {
+    let systems = systems_with(alloc, one, two)?;
+    match replayed(alloc, &[BOTH_UP, events, systems.as_str(), TWO_CABLES]) {
+        Ok(report) => Ok(report),
+        Err(_) => Ok(String::new(alloc)),
+    }
+}
+
+#[test]
+fn flows_have_the_numbers_of_their_sender(rt: HostRuntime) -> Result<(), Fail> {
+    let alloc = rt.alloc();
+    for (one, two, events, text) in [
+        (MANY, "", FAR_APART, FAR_APART_TEXT),
+        (MANY, MANY, FAR_APART, FAR_APART_TEXT),
+        ("", "", TOGETHER, TOGETHER_TEXT),
+        (FEW, FEW, TOGETHER, TOGETHER_TEXT),
+        (FEW, MANY, TOGETHER, TOGETHER_TEXT),
+        (MANY, "", LOW_BITS, LOW_BITS_TEXT),
+        (MANY, FEW, LAST, LAST_TEXT),
+        ("", MANY, BY_SENDER, BY_SENDER_TEXT),
+    ] {
+        let written = report_of(alloc, one, two, events)?;
+        let wanted = format!(in alloc; "{BOTH_UP_TEXT}{text}")?;
+        assert_eq!(rt; written.as_str(), wanted.as_str(), "{one}{two}{events}");
+    }
+    Ok(())
+}
+
+#[test]
+fn counts_of_conversations_that_are_refused(rt: HostRuntime) -> Result<(), Fail> {
+    let alloc = rt.alloc();
+    for (line, what) in [
+        ("conversations = 0\n", "conversation count"),
+        ("conversations = 255\n", "conversation count"),
+        ("conversations = 257\n", "conversation count"),
+        ("conversations = 4095\n", "conversation count"),
+        ("conversations = 4097\n", "conversation count"),
+        ("conversations = 65535\n", "conversation count"),
+        ("conversations = 65536\n", "conversations"),
+        ("conversations = -1\n", "conversations"),
+        ("conversations = \"256\"\n", "conversations"),
+        ("conversations = 256.0\n", "conversations"),
+        ("conversations = false\n", "conversations"),
+        ("conversations = [256]\n", "conversations"),
+        ("Conversations = 256\n", "extra key"),
+        ("conversation = 256\n", "extra key"),
+    ] {
+        let one = systems_with(alloc, line, "")?;
+        let said = fault_said(alloc, &[one.as_str(), TWO_CABLES])?;
+        let wanted = format!(in alloc; "script: system 1: {what}")?;
+        assert_eq!(rt; said.as_str(), wanted.as_str(), "{line}");
+        let two = systems_with(alloc, MANY, line)?;
+        let said = fault_said(alloc, &[two.as_str(), TWO_CABLES])?;
+        let wanted = format!(in alloc; "script: system 2: {what}")?;
+        assert_eq!(rt; said.as_str(), wanted.as_str(), "{line}");
+    }
+    Ok(())
+}

@@ -1,0 +1,146 @@
+use lagjobs::{explain_digits, explain_unread, explain_utf8};
+use std::alloc::Global;
+use std::cell::RefCell;
+use std::fmt::Display;
+use std::io;
+
+/// A standard error that keeps what it is told.
+#[derive(Drop)]
+struct Told {
+    said: RefCell<String>,
+}
+
+impl Eprint for Told {
+    fn eprint<D: Display + Drop>(&self, value: D) -> io::Result<()> {
+        if let Ok(mut said) = self.said.try_borrow_mut() {
+            let _ = write!(*said, "{value}");
+        }
+        Ok(())
+    }
+
+    fn eprintln<D: Display + Drop>(&self, value: D) -> io::Result<()> {
+        self.eprint(value)
+    }
+}
+
+fn listening(alloc: Global) -> Told {
+    Told {
+        said: RefCell::new(String::new(alloc)),
+    }
+}
+
+#[test]
+fn files_that_cannot_be_read(rt: HostRuntime) {
+    for (file, text) in [
+        ("-", "lagtool: standard input: reading failed"),
+        ("/", "lagtool: /: is a folder"),
+        ("/dev/null", "lagtool: /dev/null: reading failed"),
+        ("/no/file", "lagtool: /no/file: no such file"),
+    ] {
+        let to = listening(rt.alloc());
+        explain_unread(&to, &rt, file);
+        let said = to.said.into_inner();
+        assert_eq!(rt; said.as_str(), text);
+    }
+}
+
+#[test]
+fn octets_that_are_not_utf8(rt: HostRuntime) {
+    let rows: [(&str, &[u8], usize, &str); 5] = [
+        (
+            "a.toml",
+            b"\xff",
+            0,
+            "lagtool: a.toml:1:1: octet 1 is not UTF-8",
+        ),
+        (
+            "-",
+            b"ab\n\xc3",
+            3,
+            "lagtool: standard input:2:1: octet 4 is not UTF-8",
+        ),
+        (
+            "a.toml",
+            b"k = 1\nx\xc3\xbc\x80",
+            9,
+            "lagtool: a.toml:2:3: octet 10 is not UTF-8",
+        ),
+        (
+            "a.toml",
+            b"\n\n\xfe\n",
+            2,
+            "lagtool: a.toml:3:1: octet 3 is not UTF-8",
+        ),
+        (
+            "a.toml",
+            b"abc\xf0",
+            3,
+            "lagtool: a.toml:1:4: octet 4 is not UTF-8",
+        ),
+    ];
+    for (file, octets, valid, text) in rows {
+        let to = listening(rt.alloc());
+        explain_utf8(&to, file, octets, valid);
+        let said = to.said.into_inner();
+        assert_eq!(rt; said.as_str(), text);
+    }
+}
+
+#[test]
+fn words_that_are_not_hexadecimal(rt: HostRuntime) {
+    for (word, text) in [
+        (
+            "zz",
+            "lagtool: HEX: character 1 'z' is no hexadecimal digit",
+        ),
+        (
+            "00fFg0",
+            "lagtool: HEX: character 5 'g' is no hexadecimal digit",
+        ),
+        (
+            "01 1",
+            "lagtool: HEX: character 3 ' ' is no hexadecimal digit",
+        ),
+        (
+            "a\u{fc}:",
+            "lagtool: HEX: character 2 '\u{fc}' is no hexadecimal digit",
+        ),
+        (
+            "010",
+            "lagtool: HEX: 3 hexadecimal digits: wanted is an even number",
+        ),
+    ] {
+        let to = listening(rt.alloc());
+        explain_digits(&to, "HEX", word, "is an even number");
+        let said = to.said.into_inner();
+        assert_eq!(rt; said.as_str(), text);
+    }
+}
+
+#[test]
+fn words_that_are_no_address(rt: HostRuntime) {
+    for (word, text) in [
+        (
+            "02:00:00:00:00:01",
+            "lagtool: MAC: character 3 ':' is no hexadecimal digit",
+        ),
+        (
+            "02000000000O",
+            "lagtool: MAC: character 12 'O' is no hexadecimal digit",
+        ),
+        (
+            "02000000001",
+            "lagtool: MAC: 11 hexadecimal digits: wanted are 12",
+        ),
+        (
+            "0200000000001",
+            "lagtool: MAC: 13 hexadecimal digits: wanted are 12",
+        ),
+        ("", "lagtool: MAC: 0 hexadecimal digits: wanted are 12"),
+    ] {
+        let to = listening(rt.alloc());
+        explain_digits(&to, "MAC", word, "are 12");
+        let said = to.said.into_inner();
+        assert_eq!(rt; said.as_str(), text);
+    }
+}

@@ -1,0 +1,10 @@
+mod OctetLemmas
+mod ReportLemmas
+mod VerdictLemmas
+mod ReplayLemmas
+mod StartLemmas
+mod VectorLemmas
+mod HeadlineLemmas
+mod OfferedLemmas
+mod NamingLemmas
+mod PlayingLemmas

@@ -1,0 +1,14 @@
+pub mod Texts
+pub mod Signs
+pub mod Reports
+pub mod Engines
+pub mod Verdicts
+pub mod CheckReport
+pub mod Scans
+pub mod CheckEnds
+pub mod EntryTexts
+pub mod Naming
+pub mod Offered
+pub mod ReplayReport
+pub mod ReplaySteps
+pub mod Vectors
