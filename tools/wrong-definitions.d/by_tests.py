@@ -11,20 +11,21 @@ from edits import RT, TOP, apply, copy_crates, read, read_edit, restore, why_no_
 # The crates whose tests look at a crate, in the order in which they are asked; the first that refuses is enough.
 # A run is one of RUNS.
 LOOKS = {
-    "lagtypes": ["basetests", "lagtool"],
-    "slowpdu": ["basetests", "lagtool", "stored run"],
+    "lagtypes": ["basetests", "jobtests"],
+    "slowpdu": ["basetests", "jobtests", "stored run"],
     "portmachines": ["basetests", "stored run", "lagtests"],
     "selection": ["basetests", "stored run", "lagtests"],
     "distributor": ["basetests", "stored run", "lagtests"],
     "collector": ["basetests", "stored run", "lagtests"],
     "lagsystem": ["stored run", "lagtests"],
     "cables": ["basetests", "lagtests"],
-    "lagscript": ["lagtests", "lagtool"],
-    "lagexplain": ["lagexplain", "lagtool"],
-    "lagworld": ["lagtests", "lagtool"],
+    "lagscript": ["lagtests", "jobtests"],
+    "lagexplain": ["lagexplain", "jobtests"],
+    "lagworld": ["lagtests", "jobtests"],
+    "lagline": ["lagline"],
+    "lagstreams": ["jobtests"],
+    "lagjobs": ["jobtests"],
     "lagserve": ["servetests", "stored run"],
-    "lagline": ["lagline", "lagtool"],
-    "lagtool": ["lagtool"],
     "example_two_systems": ["run of two systems"],
     "example_moved_conversation": ["run of a moved conversation"],
 }

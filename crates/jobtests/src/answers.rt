@@ -3,6 +3,7 @@ use crate::slow::sink_of;
 use lagjobs::{ToolFault, reply, show};
 use lagstreams::Sink;
 use std::alloc::Global;
+use std::process::Abort;
 use std::test::Fail;
 
 /// A payload or a frame; whether it is accepted or gets a response; and the text that is printed.
@@ -145,72 +146,104 @@ fn replied(alloc: Global, mac: &str, hex: &str) -> Result<(bool, String), ToolFa
     Ok((answered, written))
 }
 
+/// `decode` prints this text for these digits, and answers whether the payload is accepted.
+fn shows_as(
+    rt: &(impl Abort + AllocGlobal),
+    hex: &str,
+    accepted: bool,
+    text: &str,
+) -> Result<(), Fail> {
+    let (verdict, written) = shown(rt.alloc(), hex)?;
+    assert_eq!(rt; written.as_str(), text, "{hex}");
+    assert_eq!(rt; verdict, accepted, "{hex}");
+    Ok(())
+}
+
+/// The same for lower and upper case.
+fn shows_both(rt: &(impl Abort + AllocGlobal), (pieces, accepted, text): Row) -> Result<(), Fail> {
+    let mut hex = joined(rt.alloc(), pieces)?;
+    shows_as(rt, hex.as_str(), accepted, text)?;
+    hex.make_ascii_uppercase();
+    shows_as(rt, hex.as_str(), accepted, text)
+}
+
 #[test]
 fn payloads_in_both_cases(rt: HostRuntime) -> Result<(), Fail> {
-    for (pieces, accepted, text) in PAYLOADS {
-        let mut hex = joined(rt.alloc(), pieces)?;
-        let (verdict, written) = shown(rt.alloc(), hex.as_str())?;
-        assert_eq!(rt; written.as_str(), text, "{hex}");
-        assert_eq!(rt; verdict, accepted, "{hex}");
-        hex.make_ascii_uppercase();
-        let (verdict, written) = shown(rt.alloc(), hex.as_str())?;
-        assert_eq!(rt; written.as_str(), text, "{hex}");
-        assert_eq!(rt; verdict, accepted, "{hex}");
+    for row in PAYLOADS {
+        shows_both(&rt, row)?;
     }
     Ok(())
 }
 
+/// `respond` with this MAC address prints this text for a frame, and answers whether it gets a response.
+fn replies_with(
+    rt: &(impl Abort + AllocGlobal),
+    (mac, frame): (&str, &str),
+    answered: bool,
+    text: &str,
+) -> Result<(), Fail> {
+    let (verdict, written) = replied(rt.alloc(), mac, frame)?;
+    assert_eq!(rt; written.as_str(), text, "{mac} {frame}");
+    assert_eq!(rt; verdict, answered, "{mac} {frame}");
+    Ok(())
+}
+
+/// The destination address does not matter.
+const MARKER_FRAME: Pieces = &[("0200000000090200000000018809", 1), (MARKER, 1), ("00", 92)];
+
+/// A marker is answered from this MAC address, which is `source` in lower case.
+fn marker_answered(rt: &(impl Abort + AllocGlobal), mac: &str, source: &str) -> Result<(), Fail> {
+    let answer = [
+        (TO_ALL, 1),
+        (source, 1),
+        (SLOW, 1),
+        ("020102100001020000000001ffffffff", 1),
+        ("00", 94),
+        ("\n", 1),
+    ];
+    let frame = joined(rt.alloc(), MARKER_FRAME)?;
+    let text = joined(rt.alloc(), &answer)?;
+    replies_with(rt, (mac, frame.as_str()), true, text.as_str())
+}
+
 #[test]
 fn a_marker_is_answered(rt: HostRuntime) -> Result<(), Fail> {
-    let alloc = rt.alloc();
-    for (mac, source) in [
-        ("020000000002", "020000000002"),
-        ("02ABCDEF0002", "02abcdef0002"),
-    ] {
-        // The destination address does not matter.
-        let marker = [("0200000000090200000000018809", 1), (MARKER, 1), ("00", 92)];
-        let answer = [
-            (TO_ALL, 1),
-            (source, 1),
-            (SLOW, 1),
-            ("020102100001020000000001ffffffff", 1),
-            ("00", 94),
-            ("\n", 1),
-        ];
-        let frame = joined(alloc, &marker)?;
-        let text = joined(alloc, &answer)?;
-        let (answered, written) = replied(alloc, mac, frame.as_str())?;
-        assert_eq!(rt; written.as_str(), text.as_str(), "{mac} {frame}");
-        assert!(rt; answered, "{mac} {frame}");
-    }
-    Ok(())
+    marker_answered(&rt, "020000000002", "020000000002")?;
+    marker_answered(&rt, "02ABCDEF0002", "02abcdef0002")
 }
 
 #[test]
 fn other_frames_are_not_answered(rt: HostRuntime) -> Result<(), Fail> {
     for (pieces, text) in FRAMES {
         let frame = joined(rt.alloc(), pieces)?;
-        let (answered, written) = replied(rt.alloc(), "020000000002", frame.as_str())?;
-        assert_eq!(rt; written.as_str(), text, "{frame}");
-        assert!(rt; !answered, "{frame}");
+        replies_with(&rt, ("020000000002", frame.as_str()), false, text)?;
     }
     Ok(())
 }
 
+/// Neither a payload nor a frame is these digits.
+fn not_hex(rt: &(impl Abort + AllocGlobal), hex: &str) {
+    let said = shown(rt.alloc(), hex);
+    assert_eq!(rt; said, Err(ToolFault::NotHex), "decode {hex}");
+    let said = replied(rt.alloc(), "020000000002", hex);
+    assert_eq!(rt; said, Err(ToolFault::NotHex), "respond {hex}");
+}
+
 #[test]
 fn words_that_are_not_hexadecimal(rt: HostRuntime) {
-    let alloc = rt.alloc();
     for hex in ["0", "010", "zz", "0g", "01 1", "0x01", "é1"] {
-        let said = shown(alloc, hex);
-        assert_eq!(rt; said, Err(ToolFault::NotHex), "decode {hex}");
-        let said = replied(alloc, "020000000002", hex);
-        assert_eq!(rt; said, Err(ToolFault::NotHex), "respond 020000000002 {hex}");
+        not_hex(&rt, hex);
     }
+}
+
+/// The frame is not hexadecimal either, but the address is checked first.
+fn not_mac(rt: &(impl Abort + AllocGlobal), mac: &str) {
+    let said = replied(rt.alloc(), mac, "zz");
+    assert_eq!(rt; said, Err(ToolFault::NotMac), "respond {mac} zz");
 }
 
 #[test]
 fn words_that_are_no_address(rt: HostRuntime) {
-    // The frame is not hexadecimal either, but the address is checked first.
     for mac in [
         "",
         "02000000000",
@@ -218,31 +251,37 @@ fn words_that_are_no_address(rt: HostRuntime) {
         "02000000000002",
         "02000000000g",
     ] {
-        let said = replied(rt.alloc(), mac, "zz");
-        assert_eq!(rt; said, Err(ToolFault::NotMac), "respond {mac} zz");
+        not_mac(&rt, mac);
     }
+}
+
+/// A payload is shown into a sink with room for so many octets.
+fn shown_into(rt: &(impl Abort + AllocGlobal), hex: &str, room: usize, errs: bool) {
+    let text = ACTIVE_SHORT.as_bytes();
+    let fits = room >= text.len();
+    let expected = if fits {
+        Ok(true)
+    } else {
+        Err(ToolFault::Write)
+    };
+    let mut sink = sink_of(rt.alloc(), room, errs);
+    let answer = show(rt.alloc(), hex, &mut sink);
+    assert_eq!(rt; answer, expected, "room for {room} octets");
+    assert_eq!(rt; sink.failed(), !fits, "room for {room} octets");
+    let taken = sink.into_inner().taken;
+    assert_eq!(rt;
+        taken.as_slice(),
+        &text[..room.min(text.len())],
+        "room for {room} octets"
+    );
 }
 
 #[test]
 fn a_sink_that_fails_at_each_octet(rt: HostRuntime) -> Result<(), Fail> {
-    let alloc = rt.alloc();
-    let hex = joined(alloc, LACPDU)?;
-    let text = ACTIVE_SHORT.as_bytes();
-    for room in 0..=text.len() {
-        let fits = room == text.len();
-        let expected = if fits {
-            Ok(true)
-        } else {
-            Err(ToolFault::Write)
-        };
-        for errs in [false, true] {
-            let mut sink = sink_of(alloc, room, errs);
-            let answer = show(alloc, hex.as_str(), &mut sink);
-            assert_eq!(rt; answer, expected, "room for {room} octets");
-            assert_eq!(rt; sink.failed(), !fits, "room for {room} octets");
-            let taken = sink.into_inner().taken;
-            assert_eq!(rt; taken.as_slice(), &text[..room], "room for {room} octets");
-        }
+    let hex = joined(rt.alloc(), LACPDU)?;
+    for room in 0..=ACTIVE_SHORT.len() {
+        shown_into(&rt, hex.as_str(), room, false);
+        shown_into(&rt, hex.as_str(), room, true);
     }
     Ok(())
 }

@@ -88,14 +88,27 @@ fn wanted(alloc: Global, verdicts: &[&str], faults: u64) -> Result<Outcome, Allo
     let mut checked = 0u64;
     for verdict in verdicts {
         checked = checked.wrapping_add(1);
-        text.push_str(format!(in alloc; "{checked} {verdict}\n")?.as_str())?;
+        write!(text, "{checked} {verdict}\n")?;
     }
-    text.push_str(format!(in alloc; "checked {checked} faults {faults}\n")?.as_str())?;
+    write!(text, "checked {checked} faults {faults}\n")?;
     Ok(Outcome {
         answer: Ok(Summary { checked, faults }),
         text,
         failed: (false, false),
     })
+}
+
+/// A check of these octets says this of each line, and counts these faults.
+fn says(
+    rt: &(impl Abort + AllocGlobal),
+    octets: &[u8],
+    verdicts: &[&str],
+    faults: u64,
+) -> Result<(), Fail> {
+    let seen = outcome_of(rt.alloc(), whole(octets))?;
+    let said = wanted(rt.alloc(), verdicts, faults)?;
+    assert_eq!(rt; seen, said);
+    Ok(())
 }
 
 const DATA: &str = "0200000000200200000000100800";
@@ -164,107 +177,122 @@ const LINES: [(Pieces, &str, u64); 14] = [
     (&[("02 ", 14)], "not hex", 1),
 ];
 
-#[test]
-fn each_verdict(rt: HostRuntime) -> Result<(), Fail> {
-    let alloc = rt.alloc();
-    for (pieces, verdict, faults) in LINES {
-        for end in ["\n", "\r\n", "", "\r"] {
-            let mut line = joined(alloc, pieces)?;
-            line.push_str(end)?;
-            let seen = outcome_of(alloc, whole(line.as_bytes()))?;
-            assert_eq!(rt; seen, wanted(alloc, &[verdict], faults)?, "{line}");
-        }
+/// This is said of a line, whatever its end.
+fn says_of(
+    rt: &(impl Abort + AllocGlobal),
+    pieces: Pieces,
+    verdict: &str,
+    faults: u64,
+) -> Result<(), Fail> {
+    for end in ["\n", "\r\n", "", "\r"] {
+        let mut line = joined(rt.alloc(), pieces)?;
+        line.push_str(end)?;
+        says(rt, line.as_bytes(), &[verdict], faults)?;
     }
     Ok(())
 }
 
 #[test]
-fn a_file_of_frames(rt: HostRuntime) -> Result<(), Fail> {
-    let alloc = rt.alloc();
-    let frames = [
-        (TO_ALL, 1),
-        ("020000000002", 1),
-        (SLOW, 1),
-        (RESPONSE, 1),
-        ("00", 94),
-        ("\n00\nzz\n", 1),
-        (DATA, 1),
-        ("\n", 1),
-    ];
-    let file = joined(alloc, &frames)?;
-    let seen = outcome_of(alloc, whole(file.as_bytes()))?;
-    let verdicts = ["marker-response", "runt", "not hex", "data"];
-    assert_eq!(rt; seen, wanted(alloc, &verdicts, 2)?, "{file}");
-    let seen = outcome_of(alloc, whole(b""))?;
-    assert_eq!(rt; seen, wanted(alloc, &[], 0)?, "an empty file");
-    // No line has a digit; one carriage return at the end of a line is dropped.
-    let seen = outcome_of(alloc, whole(b"\n\r\n\r\r\n\r"))?;
-    let verdicts = ["runt", "runt", "not hex", "runt"];
-    assert_eq!(rt; seen, wanted(alloc, &verdicts, 4)?, "empty lines");
+fn each_verdict(rt: HostRuntime) -> Result<(), Fail> {
+    for (pieces, verdict, faults) in LINES {
+        says_of(&rt, pieces, verdict, faults)?;
+    }
     Ok(())
+}
+
+const FRAMES: Pieces = &[
+    (TO_ALL, 1),
+    ("020000000002", 1),
+    (SLOW, 1),
+    (RESPONSE, 1),
+    ("00", 94),
+    ("\n00\nzz\n", 1),
+    (DATA, 1),
+    ("\n", 1),
+];
+
+#[test]
+fn a_file_of_frames(rt: HostRuntime) -> Result<(), Fail> {
+    let file = joined(rt.alloc(), FRAMES)?;
+    let verdicts = ["marker-response", "runt", "not hex", "data"];
+    says(&rt, file.as_bytes(), &verdicts, 2)?;
+    says(&rt, b"", &[], 0)?;
+    // No line has a digit; one carriage return at the end of a line is dropped.
+    let verdicts = ["runt", "runt", "not hex", "runt"];
+    says(&rt, b"\n\r\n\r\r\n\r", &verdicts, 4)
 }
 
 #[test]
 fn a_file_of_a_thousand_lines(rt: HostRuntime) -> Result<(), Fail> {
-    let alloc = rt.alloc();
-    let file = joined(alloc, &[("00\n", 1_000)])?;
-    let seen = outcome_of(alloc, whole(file.as_bytes()))?;
-    assert_eq!(rt;
-        seen,
-        wanted(alloc, &["runt"; 1_000], 1_000)?,
-        "a thousand runts"
-    );
-    Ok(())
+    let file = joined(rt.alloc(), &[("00\n", 1_000)])?;
+    says(&rt, file.as_bytes(), &["runt"; 1_000], 1_000)
 }
 
 /// 64 digits.
 const ZEROS: &str = "0000000000000000000000000000000000000000000000000000000000000000";
 
+/// How many digits a line has after the first 65,472, its end, and what is said of it.
+const LENGTHS: [(usize, &str, &str); 7] = [
+    (62, "\r\n", "data"),
+    (63, "\n", "not hex"),
+    (63, "\r\n", "not hex"),
+    (64, "\n", "data"),
+    (64, "\r\n", "too long"),
+    (65, "\n", "too long"),
+    (66, "\n", "too long"),
+];
+
+/// This is said of a line of so many digits, and a frame behind it is read as one.
+fn says_of_digits(
+    rt: &(impl Abort + AllocGlobal),
+    digits: usize,
+    end: &str,
+    verdict: &str,
+) -> Result<(), Fail> {
+    let pieces = [(ZEROS, 1_023), ("0", digits), (end, 1), (DATA, 1)];
+    let lines = joined(rt.alloc(), &pieces)?;
+    let faults = u64::from(verdict != "data");
+    says(rt, lines.as_bytes(), &[verdict, "data"], faults)
+}
+
 #[test]
 fn a_line_of_each_length_around_the_limit(rt: HostRuntime) -> Result<(), Fail> {
-    let alloc = rt.alloc();
-    // After the first 65,472 digits.
-    let rows = [
-        (62, "\r\n", "data"),
-        (63, "\n", "not hex"),
-        (63, "\r\n", "not hex"),
-        (64, "\n", "data"),
-        (64, "\r\n", "too long"),
-        (65, "\n", "too long"),
-        (66, "\n", "too long"),
-    ];
-    for (digits, end, verdict) in rows {
-        let pieces = [(ZEROS, 1_023), ("0", digits), (end, 1), (DATA, 1)];
-        let lines = joined(alloc, &pieces)?;
-        let seen = outcome_of(alloc, whole(lines.as_bytes()))?;
-        let said = wanted(alloc, &[verdict, "data"], u64::from(verdict != "data"))?;
-        assert_eq!(rt;
-            seen,
-            said,
-            "65,472 and {digits} digits, {end:?}, and a frame"
-        );
+    for (digits, end, verdict) in LENGTHS {
+        says_of_digits(&rt, digits, end, verdict)?;
     }
     Ok(())
 }
 
+/// What is said of the first octets of a frame of this kind.
+fn verdict_on(alloc: Global, n: u64, kind: &str) -> Result<String, AllocError> {
+    let have = n.saturating_sub(14);
+    match n {
+        0..=13 => String::from_str(alloc, "runt"),
+        124 => String::from_str(alloc, kind),
+        _ => format!(in alloc; "refused 1 short have {have}"),
+    }
+}
+
+/// This is said of a line of these digits.
+fn says_of_line(
+    rt: &(impl Abort + AllocGlobal),
+    digits: &[u8],
+    verdict: &str,
+    faults: u64,
+) -> Result<(), Fail> {
+    let mut line = Vec::from_slice(rt.alloc(), digits)?;
+    line.push(b'\n')?;
+    says(rt, line.as_slice(), &[verdict], faults)
+}
+
 /// Each beginning of a frame.
-fn truncated(rt: &impl Abort, alloc: Global, pieces: Pieces, kind: &str) -> Result<(), AllocError> {
-    let frame = joined(alloc, pieces)?;
+fn truncated(rt: &(impl Abort + AllocGlobal), pieces: Pieces, kind: &str) -> Result<(), Fail> {
+    let frame = joined(rt.alloc(), pieces)?;
     for n in 0u64..=124 {
-        let mut line = Vec::new(alloc);
-        for digit in frame.as_bytes().iter().take(n as usize * 2) {
-            line.push(*digit)?;
-        }
-        line.push(b'\n')?;
-        let have = n.saturating_sub(14);
-        let verdict = match n {
-            0..=13 => String::from_str(alloc, "runt")?,
-            124 => String::from_str(alloc, kind)?,
-            _ => format!(in alloc; "refused 1 short have {have}")?,
-        };
-        let seen = outcome_of(alloc, whole(line.as_slice()))?;
-        let said = wanted(alloc, &[verdict.as_str()], u64::from(n < 124))?;
-        assert_eq!(rt; seen, said, "the first {n} octets of {frame}");
+        let count = (n as usize * 2).min(frame.len());
+        let verdict = verdict_on(rt.alloc(), n, kind)?;
+        let faults = u64::from(n < 124);
+        says_of_line(rt, &frame.as_bytes()[..count], verdict.as_str(), faults)?;
     }
     Ok(())
 }
@@ -281,81 +309,93 @@ const ANSWER: Pieces = &[
 #[test]
 fn truncated_frames(rt: HostRuntime) -> Result<(), Fail> {
     let (lacpdu, _, _) = LINES[0];
-    truncated(&rt, rt.alloc(), lacpdu, "lacpdu")?;
-    truncated(&rt, rt.alloc(), ANSWER, "marker-response")?;
-    Ok(())
+    truncated(&rt, lacpdu, "lacpdu")?;
+    truncated(&rt, ANSWER, "marker-response")
 }
 
 pub(crate) const FILE: &[u8] = b"00\nzz\r\n\n0200000000200200000000100800\r\n0";
 
 const VERDICTS: [&str; 5] = ["runt", "not hex", "runt", "data", "not hex"];
 
+/// This is said of the file, whose first read gives so many octets, and each later one so many.
+fn says_of_reads(rt: &(impl Abort + AllocGlobal), first: usize, size: usize) -> Result<(), Fail> {
+    let reader = Piecewise {
+        rest: FILE,
+        first,
+        size,
+        reads: usize::MAX,
+    };
+    let seen = outcome_of(rt.alloc(), reader)?;
+    let said = wanted(rt.alloc(), &VERDICTS, 4)?;
+    assert_eq!(rt; seen, said, "first {first} octets, then {size} a read");
+    Ok(())
+}
+
 #[test]
 fn reads_cut_at_every_place(rt: HostRuntime) -> Result<(), Fail> {
-    let alloc = rt.alloc();
-    let said = wanted(alloc, &VERDICTS, 4)?;
     for first in 1..=FILE.len() {
-        for size in [1, 2, usize::MAX] {
-            let reader = Piecewise {
-                rest: FILE,
-                first,
-                size,
-                reads: usize::MAX,
-            };
-            let seen = outcome_of(alloc, reader)?;
-            assert_eq!(rt; seen, said, "first {first} octets, then {size} a read");
-        }
+        says_of_reads(&rt, first, 1)?;
+        says_of_reads(&rt, first, 2)?;
+        says_of_reads(&rt, first, usize::MAX)?;
     }
+    Ok(())
+}
+
+/// After so many reads the next one fails; these lines were ended by then.
+fn read_fails(rt: &(impl Abort + AllocGlobal), reads: usize, text: &str) -> Result<(), Fail> {
+    let reader = Piecewise {
+        rest: FILE,
+        first: 1,
+        size: 1,
+        reads,
+    };
+    let seen = outcome_of(rt.alloc(), reader)?;
+    let said = Outcome {
+        answer: Err(ToolFault::Read),
+        text: String::from_str(rt.alloc(), text)?,
+        failed: (true, false),
+    };
+    assert_eq!(rt; seen, said, "read {reads} fails");
     Ok(())
 }
 
 #[test]
 fn each_read_fails(rt: HostRuntime) -> Result<(), Fail> {
-    let alloc = rt.alloc();
-    let mut said = Outcome {
-        answer: Err(ToolFault::Read),
-        text: String::new(alloc),
-        failed: (true, false),
-    };
-    let mut verdicts = VERDICTS.iter();
-    let mut line = 0u64;
+    let mut text = String::new(rt.alloc());
+    let mut line = 0usize;
     for reads in 0..=FILE.len() {
-        let reader = Piecewise {
-            rest: FILE,
-            first: 1,
-            size: 1,
-            reads,
-        };
-        assert_eq!(rt; outcome_of(alloc, reader)?, said, "read {reads} fails");
-        if reads < FILE.len() && FILE[reads] == b'\n' {
-            line = line.wrapping_add(1);
-            if let Some(verdict) = verdicts.next() {
-                let text = format!(in alloc; "{line} {verdict}\n")?;
-                said.text.push_str(text.as_str())?;
-            }
+        read_fails(&rt, reads, text.as_str())?;
+        if reads < FILE.len() && FILE[reads] == b'\n' && line < VERDICTS.len() {
+            let verdict = VERDICTS[line];
+            line += 1;
+            write!(text, "{line} {verdict}\n")?;
         }
     }
     Ok(())
 }
 
+/// The writer has room for this text alone.
+fn write_fails(rt: &(impl Abort + AllocGlobal), text: &str, errs: bool) -> Result<(), Fail> {
+    let seen = outcome_into(rt.alloc(), whole(FILE), text.len(), errs)?;
+    let said = Outcome {
+        answer: Err(ToolFault::Write),
+        text: String::from_str(rt.alloc(), text)?,
+        failed: (false, true),
+    };
+    assert_eq!(rt; seen, said);
+    Ok(())
+}
+
 #[test]
 fn each_write_fails_or_takes_nothing(rt: HostRuntime) -> Result<(), Fail> {
-    let alloc = rt.alloc();
-    let said = wanted(alloc, &VERDICTS, 4)?;
-    let mut text = String::new(alloc);
+    let said = wanted(rt.alloc(), &VERDICTS, 4)?;
+    let mut text = String::new(rt.alloc());
     for next in said.text.chars() {
-        for errs in [false, true] {
-            let seen = outcome_into(alloc, whole(FILE), text.len(), errs)?;
-            let broken = Outcome {
-                answer: Err(ToolFault::Write),
-                text: text.clone()?,
-                failed: (false, true),
-            };
-            assert_eq!(rt; seen, broken, "room for {} octets", text.len());
-        }
+        write_fails(&rt, text.as_str(), false)?;
+        write_fails(&rt, text.as_str(), true)?;
         text.push(next)?;
     }
-    let seen = outcome_into(alloc, whole(FILE), text.len(), false)?;
+    let seen = outcome_into(rt.alloc(), whole(FILE), text.len(), false)?;
     assert_eq!(rt; seen, said, "room for all");
     Ok(())
 }

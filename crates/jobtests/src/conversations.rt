@@ -1,6 +1,6 @@
-use crate::refusals::{fault_said, systems_with};
-use crate::replays::{BOTH_UP, BOTH_UP_TEXT, TWO_CABLES, replayed};
-use std::alloc::{AllocError, Global};
+use crate::refusals::{both_refused, systems_with};
+use crate::replays::{BOTH_UP, BOTH_UP_TEXT, TWO_CABLES, reports};
+use std::process::Abort;
 use std::test::Fail;
 
 /// Two frames that are of one conversation among 256 and of two among 4,096.
@@ -90,62 +90,63 @@ const MANY: &str = "conversations = 4096\n";
 
 const FEW: &str = "conversations = 256\n";
 
-/// The report of these events with these keys of the two systems; empty if the script is refused.
-fn report_of(alloc: Global, one: &str, two: &str, events: &str) -> Result<String, AllocError> {
-    let systems = systems_with(alloc, one, two)?;
-    match replayed(alloc, &[BOTH_UP, events, systems.as_str(), TWO_CABLES]) {
-        Ok(report) => Ok(report),
-        Err(_) => Ok(String::new(alloc)),
-    }
+/// The report of these events, with these keys of the two systems, ends in this text.
+fn ends_in(
+    rt: &(impl Abort + AllocGlobal),
+    (one, two): (&str, &str),
+    events: &str,
+    text: &str,
+) -> Result<(), Fail> {
+    let systems = systems_with(rt.alloc(), one, two)?;
+    reports(
+        rt,
+        &[BOTH_UP, events, systems.as_str(), TWO_CABLES],
+        &[BOTH_UP_TEXT, text],
+    )
 }
+
+/// The keys of both systems, more events, and the rest of their report.
+const REPORTS: [(&str, &str, &str, &str); 8] = [
+    (MANY, "", FAR_APART, FAR_APART_TEXT),
+    (MANY, MANY, FAR_APART, FAR_APART_TEXT),
+    ("", "", TOGETHER, TOGETHER_TEXT),
+    (FEW, FEW, TOGETHER, TOGETHER_TEXT),
+    (FEW, MANY, TOGETHER, TOGETHER_TEXT),
+    (MANY, "", LOW_BITS, LOW_BITS_TEXT),
+    (MANY, FEW, LAST, LAST_TEXT),
+    ("", MANY, BY_SENDER, BY_SENDER_TEXT),
+];
 
 #[test]
 fn flows_have_the_numbers_of_their_sender(rt: HostRuntime) -> Result<(), Fail> {
-    let alloc = rt.alloc();
-    for (one, two, events, text) in [
-        (MANY, "", FAR_APART, FAR_APART_TEXT),
-        (MANY, MANY, FAR_APART, FAR_APART_TEXT),
-        ("", "", TOGETHER, TOGETHER_TEXT),
-        (FEW, FEW, TOGETHER, TOGETHER_TEXT),
-        (FEW, MANY, TOGETHER, TOGETHER_TEXT),
-        (MANY, "", LOW_BITS, LOW_BITS_TEXT),
-        (MANY, FEW, LAST, LAST_TEXT),
-        ("", MANY, BY_SENDER, BY_SENDER_TEXT),
-    ] {
-        let written = report_of(alloc, one, two, events)?;
-        let wanted = format!(in alloc; "{BOTH_UP_TEXT}{text}")?;
-        assert_eq!(rt; written.as_str(), wanted.as_str(), "{one}{two}{events}");
+    for (one, two, events, text) in REPORTS {
+        ends_in(&rt, (one, two), events, text)?;
     }
     Ok(())
 }
 
+/// A line that is refused, and for what.
+const REFUSED: [(&str, &str); 14] = [
+    ("conversations = 0\n", "conversation count"),
+    ("conversations = 255\n", "conversation count"),
+    ("conversations = 257\n", "conversation count"),
+    ("conversations = 4095\n", "conversation count"),
+    ("conversations = 4097\n", "conversation count"),
+    ("conversations = 65535\n", "conversation count"),
+    ("conversations = 65536\n", "conversations"),
+    ("conversations = -1\n", "conversations"),
+    ("conversations = \"256\"\n", "conversations"),
+    ("conversations = 256.0\n", "conversations"),
+    ("conversations = false\n", "conversations"),
+    ("conversations = [256]\n", "conversations"),
+    ("Conversations = 256\n", "extra key"),
+    ("conversation = 256\n", "extra key"),
+];
+
 #[test]
 fn counts_of_conversations_that_are_refused(rt: HostRuntime) -> Result<(), Fail> {
-    let alloc = rt.alloc();
-    for (line, what) in [
-        ("conversations = 0\n", "conversation count"),
-        ("conversations = 255\n", "conversation count"),
-        ("conversations = 257\n", "conversation count"),
-        ("conversations = 4095\n", "conversation count"),
-        ("conversations = 4097\n", "conversation count"),
-        ("conversations = 65535\n", "conversation count"),
-        ("conversations = 65536\n", "conversations"),
-        ("conversations = -1\n", "conversations"),
-        ("conversations = \"256\"\n", "conversations"),
-        ("conversations = 256.0\n", "conversations"),
-        ("conversations = false\n", "conversations"),
-        ("conversations = [256]\n", "conversations"),
-        ("Conversations = 256\n", "extra key"),
-        ("conversation = 256\n", "extra key"),
-    ] {
-        let one = systems_with(alloc, line, "")?;
-        let said = fault_said(alloc, &[one.as_str(), TWO_CABLES])?;
-        let wanted = format!(in alloc; "script: system 1: {what}")?;
-        assert_eq!(rt; said.as_str(), wanted.as_str(), "{line}");
-        let two = systems_with(alloc, MANY, line)?;
-        let said = fault_said(alloc, &[two.as_str(), TWO_CABLES])?;
-        let wanted = format!(in alloc; "script: system 2: {what}")?;
-        assert_eq!(rt; said.as_str(), wanted.as_str(), "{line}");
+    for (line, what) in REFUSED {
+        both_refused(&rt, line, MANY, what)?;
     }
     Ok(())
 }

@@ -2,7 +2,9 @@ use lagjobs::{explain_digits, explain_unread, explain_utf8};
 use std::alloc::Global;
 use std::cell::RefCell;
 use std::fmt::Display;
+use std::fs::Files;
 use std::io;
+use std::process::Abort;
 
 /// A standard error that keeps what it is told.
 #[derive(Drop)]
@@ -29,6 +31,26 @@ fn listening(alloc: Global) -> Told {
     }
 }
 
+/// What was told is this text.
+fn wants(rt: &impl Abort, to: Told, text: &str) {
+    let said = to.said.into_inner();
+    assert_eq!(rt; said.as_str(), text);
+}
+
+/// A file that cannot be read is explained so.
+fn unread(rt: &(impl Abort + AllocGlobal + Files), file: &str, text: &str) {
+    let to = listening(rt.alloc());
+    explain_unread(&to, rt, file);
+    wants(rt, to, text);
+}
+
+/// A word is explained so, which `wanted` says of its digits.
+fn digits(rt: &(impl Abort + AllocGlobal), (name, wanted): (&str, &str), word: &str, text: &str) {
+    let to = listening(rt.alloc());
+    explain_digits(&to, name, word, wanted);
+    wants(rt, to, text);
+}
+
 #[test]
 fn files_that_cannot_be_read(rt: HostRuntime) {
     for (file, text) in [
@@ -37,10 +59,7 @@ fn files_that_cannot_be_read(rt: HostRuntime) {
         ("/dev/null", "lagtool: /dev/null: reading failed"),
         ("/no/file", "lagtool: /no/file: no such file"),
     ] {
-        let to = listening(rt.alloc());
-        explain_unread(&to, &rt, file);
-        let said = to.said.into_inner();
-        assert_eq!(rt; said.as_str(), text);
+        unread(&rt, file, text);
     }
 }
 
@@ -81,8 +100,7 @@ fn octets_that_are_not_utf8(rt: HostRuntime) {
     for (file, octets, valid, text) in rows {
         let to = listening(rt.alloc());
         explain_utf8(&to, file, octets, valid);
-        let said = to.said.into_inner();
-        assert_eq!(rt; said.as_str(), text);
+        wants(&rt, to, text);
     }
 }
 
@@ -110,10 +128,7 @@ fn words_that_are_not_hexadecimal(rt: HostRuntime) {
             "lagtool: HEX: 3 hexadecimal digits: wanted is an even number",
         ),
     ] {
-        let to = listening(rt.alloc());
-        explain_digits(&to, "HEX", word, "is an even number");
-        let said = to.said.into_inner();
-        assert_eq!(rt; said.as_str(), text);
+        digits(&rt, ("HEX", "is an even number"), word, text);
     }
 }
 
@@ -138,9 +153,6 @@ fn words_that_are_no_address(rt: HostRuntime) {
         ),
         ("", "lagtool: MAC: 0 hexadecimal digits: wanted are 12"),
     ] {
-        let to = listening(rt.alloc());
-        explain_digits(&to, "MAC", word, "are 12");
-        let said = to.said.into_inner();
-        assert_eq!(rt; said.as_str(), text);
+        digits(&rt, ("MAC", "are 12"), word, text);
     }
 }

@@ -1,3 +1,4 @@
+use crate::telling::told;
 use lagjobs::{FaultText, ToolFault, status_of};
 use lagworld::ScriptFault;
 use std::test::Fail;
@@ -14,20 +15,21 @@ fn statuses(rt: HostRuntime) {
     }
 }
 
+/// A fault, its number, its text, and its message where the file is called `a b`.
+const FAULTS: [(ToolFault, u8, &str, &str); 5] = [
+    (ToolFault::Read, 1, "cannot read", "cannot read a b"),
+    (ToolFault::Write, 2, "cannot write", "cannot write"),
+    (ToolFault::NoMemory, 3, "out of memory", "out of memory"),
+    (ToolFault::NotHex, 5, "not hex", "not hex"),
+    (ToolFault::NotMac, 6, "not a mac", "not a mac"),
+];
+
 #[test]
 fn faults_have_numbers_and_texts(rt: HostRuntime) -> Result<(), Fail> {
-    let alloc = rt.alloc();
-    for (fault, number, text, said) in [
-        (ToolFault::Read, 1, "cannot read", "cannot read a b"),
-        (ToolFault::Write, 2, "cannot write", "cannot write"),
-        (ToolFault::NoMemory, 3, "out of memory", "out of memory"),
-        (ToolFault::NotHex, 5, "not hex", "not hex"),
-        (ToolFault::NotMac, 6, "not a mac", "not a mac"),
-    ] {
-        assert_eq!(rt; fault.number(), number, "{fault}");
-        assert_eq!(rt; format!(in alloc; "{fault}")?.as_str(), text);
-        let named = FaultText { fault, file: "a b" };
-        assert_eq!(rt; format!(in alloc; "{named}")?.as_str(), said);
+    for (fault, number, text, said) in FAULTS {
+        assert_eq!(rt; fault.number(), number);
+        told(&rt, fault, text)?;
+        told(&rt, FaultText { fault, file: "a b" }, said)?;
     }
     Ok(())
 }

@@ -30,6 +30,8 @@ mod spent;
 #[cfg(test)]
 mod streams;
 #[cfg(test)]
+mod telling;
+#[cfg(test)]
 mod texts;
 #[cfg(test)]
 mod watching;

@@ -1,6 +1,7 @@
-use crate::refusals::{fault_said, systems_with};
-use crate::replays::{BOTH_UP, BOTH_UP_TEXT, MOVE, MOVE_TEXT, TWO_CABLES, replayed};
-use crate::worlds::played;
+use crate::refusals::{both_refused, systems_with};
+use crate::replays::{BOTH_UP, BOTH_UP_TEXT, MOVE, MOVE_TEXT, TWO_CABLES, reports};
+use crate::worlds::plays;
+use std::process::Abort;
 use std::test::Fail;
 
 /// Both systems have a limit of one link: port 2 stands by, and takes the place of port 1.
@@ -52,51 +53,47 @@ flow 1/1/48 sent 2 collected 1
 
 #[test]
 fn a_standby_port_takes_the_place_of_one_that_is_down(rt: HostRuntime) -> Result<(), Fail> {
-    let alloc = rt.alloc();
-    let systems = systems_with(alloc, "max_links = 1\n", "max_links = 1\n")?;
-    let (written, wanted) = played(alloc, &[TAKES_ITS_PLACE], &[systems.as_str(), TWO_CABLES])?;
-    assert_eq!(rt; written.as_str(), wanted.as_str());
-    Ok(())
+    let systems = systems_with(rt.alloc(), "max_links = 1\n", "max_links = 1\n")?;
+    plays(&rt, &[TAKES_ITS_PLACE], &[systems.as_str(), TWO_CABLES])
+}
+
+/// A limit of both systems changes nothing.
+fn changes_nothing(rt: &(impl Abort + AllocGlobal), limit: &str) -> Result<(), Fail> {
+    let systems = systems_with(rt.alloc(), limit, limit)?;
+    reports(
+        rt,
+        &[BOTH_UP, MOVE, systems.as_str(), TWO_CABLES],
+        &[BOTH_UP_TEXT, MOVE_TEXT],
+    )
 }
 
 #[test]
 fn a_limit_that_no_port_exceeds_changes_nothing(rt: HostRuntime) -> Result<(), Fail> {
-    let alloc = rt.alloc();
-    let wanted = format!(in alloc; "{BOTH_UP_TEXT}{MOVE_TEXT}")?;
-    for limit in ["max_links = 2\n", "max_links = 64\n"] {
-        let systems = systems_with(alloc, limit, limit)?;
-        let written = replayed(alloc, &[BOTH_UP, MOVE, systems.as_str(), TWO_CABLES])?;
-        assert_eq!(rt; written.as_str(), wanted.as_str(), "{limit}");
-    }
-    Ok(())
+    changes_nothing(&rt, "max_links = 2\n")?;
+    changes_nothing(&rt, "max_links = 64\n")
 }
+
+/// A line that is refused, and for what.
+const REFUSED: [(&str, &str); 13] = [
+    ("max_links = 0\n", "max links"),
+    ("max_links = 65\n", "max links"),
+    ("max_links = 65535\n", "max links"),
+    ("max_links = 65536\n", "max_links"),
+    ("max_links = -1\n", "max_links"),
+    ("max_links = \"1\"\n", "max_links"),
+    ("max_links = 1.0\n", "max_links"),
+    ("max_links = true\n", "max_links"),
+    ("max_links = [1]\n", "max_links"),
+    ("max_links = 0\nconversations = 0\n", "max links"),
+    ("conversations = true\nmax_links = true\n", "max_links"),
+    ("Max_links = 1\n", "extra key"),
+    ("max-links = 1\n", "extra key"),
+];
 
 #[test]
 fn limits_of_links_that_are_refused(rt: HostRuntime) -> Result<(), Fail> {
-    let alloc = rt.alloc();
-    for (line, what) in [
-        ("max_links = 0\n", "max links"),
-        ("max_links = 65\n", "max links"),
-        ("max_links = 65535\n", "max links"),
-        ("max_links = 65536\n", "max_links"),
-        ("max_links = -1\n", "max_links"),
-        ("max_links = \"1\"\n", "max_links"),
-        ("max_links = 1.0\n", "max_links"),
-        ("max_links = true\n", "max_links"),
-        ("max_links = [1]\n", "max_links"),
-        ("max_links = 0\nconversations = 0\n", "max links"),
-        ("conversations = true\nmax_links = true\n", "max_links"),
-        ("Max_links = 1\n", "extra key"),
-        ("max-links = 1\n", "extra key"),
-    ] {
-        let one = systems_with(alloc, line, "")?;
-        let said = fault_said(alloc, &[one.as_str(), TWO_CABLES])?;
-        let wanted = format!(in alloc; "script: system 1: {what}")?;
-        assert_eq!(rt; said.as_str(), wanted.as_str(), "{line}");
-        let two = systems_with(alloc, "max_links = 1\n", line)?;
-        let said = fault_said(alloc, &[two.as_str(), TWO_CABLES])?;
-        let wanted = format!(in alloc; "script: system 2: {what}")?;
-        assert_eq!(rt; said.as_str(), wanted.as_str(), "{line}");
+    for (line, what) in REFUSED {
+        both_refused(&rt, line, "max_links = 1\n", what)?;
     }
     Ok(())
 }

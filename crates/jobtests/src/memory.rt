@@ -1,5 +1,5 @@
 use crate::checks::whole;
-use crate::pieces::{Pieces, joined};
+use crate::pieces::{Pieces, joined, one_text};
 use crate::replays::{BOTH_UP, BOTH_UP_TEXT, MOVE, MOVE_TEXT, TWO_CABLES, TWO_PORTS};
 use lagjobs::{ToolFault, by_number, check, replay};
 use lagstreams::{Sink, Source};
@@ -18,15 +18,14 @@ const CHECKED: &str = "1 marker-response\n2 runt\n3 not hex\n4 data\nchecked 4 f
 
 /// A report is whole; or it is a beginning, and memory was refused. Returns whether it is whole.
 fn ends(rt: &impl Abort, answer: Result<(), ToolFault>, taken: &[u8], report: &str) -> bool {
-    match answer {
-        Ok(()) => assert_eq!(rt; taken, report.as_bytes()),
-        Err(fault) => {
-            assert_eq!(rt; fault, ToolFault::NoMemory);
-            assert!(rt; taken.len() < report.len(), "{taken:?}");
-            assert!(rt; report.as_bytes().starts_with(taken), "{taken:?}");
-        }
+    if answer.is_ok() {
+        assert_eq!(rt; taken, report.as_bytes());
+        return true;
     }
-    answer.is_ok()
+    assert_eq!(rt; answer, Err(ToolFault::NoMemory));
+    let is_beginning = taken.len() < report.len() && report.as_bytes().starts_with(taken);
+    assert!(rt; is_beginning, "{taken:?}");
+    false
 }
 
 /// Checks a file into a sink that takes no memory; returns whether the report is whole.
@@ -43,8 +42,8 @@ fn checks(rt: &impl Abort, alloc: Global) -> Result<bool, ToolFault> {
 
 /// Replays a script in the same way.
 fn replays(rt: &impl Abort, alloc: Global) -> Result<bool, ToolFault> {
-    let script = format!(in alloc; "{BOTH_UP}{MOVE}{TWO_PORTS}{TWO_CABLES}")?;
-    let report = format!(in alloc; "{BOTH_UP_TEXT}{MOVE_TEXT}")?;
+    let script = one_text(alloc, &[BOTH_UP, MOVE, TWO_PORTS, TWO_CABLES])?;
+    let report = one_text(alloc, &[BOTH_UP_TEXT, MOVE_TEXT])?;
     let mut sink = Sink::new(Vec::with_capacity(alloc, 4096)?);
     let answer = replay(alloc, script.as_str(), by_number, by_number, &mut sink);
     Ok(ends(rt, answer, sink.into_inner().as_slice(), report.as_str()))

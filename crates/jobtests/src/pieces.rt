@@ -1,4 +1,4 @@
-//! Texts in hexadecimal, made of pieces.
+//! Texts that are made of pieces.
 
 use std::alloc::{AllocError, Global};
 
@@ -24,4 +24,13 @@ pub(crate) fn joined(alloc: Global, pieces: &[(&str, usize)]) -> Result<String, 
         }
     }
     Ok(text)
+}
+
+/// One text of these.
+pub(crate) fn one_text(alloc: Global, texts: &[&str]) -> Result<String, AllocError> {
+    let mut one = String::new(alloc);
+    for text in texts {
+        one.push_str(*text)?;
+    }
+    Ok(one)
 }

@@ -1,6 +1,8 @@
-use crate::replays::{TWO_PORTS, replayed};
+use crate::replays::{TWO_CABLES, TWO_PORTS, replayed};
+use crate::telling::told;
 use lagjobs::FaultText;
 use std::alloc::{AllocError, Global};
+use std::process::Abort;
 use std::test::Fail;
 
 /// Two ports with Long Timeout.
@@ -30,39 +32,71 @@ pub(crate) fn systems_with(alloc: Global, one: &str, two: &str) -> Result<String
     )
 }
 
-/// The message for a script that is refused; empty if it is played.
-pub(crate) fn fault_said(alloc: Global, pieces: &[&str]) -> Result<String, AllocError> {
-    match replayed(alloc, pieces) {
-        Ok(_) => Ok(String::new(alloc)),
-        Err(fault) => format!(in alloc; "{}", FaultText { fault, file: "a" }),
+/// A script of these pieces is refused with this message.
+pub(crate) fn says(
+    rt: &(impl Abort + AllocGlobal),
+    pieces: &[&str],
+    wanted: &str,
+) -> Result<(), Fail> {
+    match replayed(rt.alloc(), pieces) {
+        Ok(written) => assert_eq!(rt; written.as_str(), wanted),
+        Err(fault) => told(rt, FaultText { fault, file: "a" }, wanted)?,
     }
+    Ok(())
+}
+
+/// Two systems with these keys are refused, this one for this.
+fn refused(
+    rt: &(impl Abort + AllocGlobal),
+    (one, two): (&str, &str),
+    system: u8,
+    what: &str,
+) -> Result<(), Fail> {
+    let systems = systems_with(rt.alloc(), one, two)?;
+    let wanted = format!(in rt.alloc(); "script: system {system}: {what}")?;
+    says(rt, &[systems.as_str(), TWO_CABLES], wanted.as_str())
+}
+
+/// A line is refused for this, of system 1, and of system 2 where system 1 has another line.
+pub(crate) fn both_refused(
+    rt: &(impl Abort + AllocGlobal),
+    line: &str,
+    other: &str,
+    what: &str,
+) -> Result<(), Fail> {
+    refused(rt, (line, ""), 1, what)?;
+    refused(rt, (other, line), 2, what)
+}
+
+/// An entry that is refused, and for what.
+const ENTRIES: [(&str, &str); 13] = [
+    ("lose 2 3", "cable"),
+    ("repeat 2 3", "cable"),
+    ("sense 2 3", "cable"),
+    ("move 3 65536 1 1", "system"),
+    ("force 3 65536 1", "system"),
+    ("offers 1 1 00", "word"),
+    ("link 1 1", "word"),
+    ("configure 1 1 1 128 aggregatables", "kind"),
+    ("configure 1 1 1 128 INDIVIDUAL", "kind"),
+    ("configure 1 1 1 128 aggregatable extra", "count"),
+    ("move 1 1 48 2 2", "count"),
+    ("offer 1 1 0200000000200200000000100800 00", "count"),
+    ("force 1 1 48 1", "count"),
+];
+
+/// An entry is refused for this.
+fn entry_refused(rt: &(impl Abort + AllocGlobal), entry: &str, what: &str) -> Result<(), Fail> {
+    let events = format!(in rt.alloc(); "events = [\"{entry}\"]\n")?;
+    let wanted = format!(in rt.alloc(); "script: event 1: {what}")?;
+    let cable = "[[cable]]\nends = [1, 1]\n";
+    says(rt, &[events.as_str(), TWO_PORTS, cable], wanted.as_str())
 }
 
 #[test]
 fn entries_that_are_refused(rt: HostRuntime) -> Result<(), Fail> {
-    let alloc = rt.alloc();
-    for (entry, what) in [
-        ("lose 2 3", "cable"),
-        ("repeat 2 3", "cable"),
-        ("sense 2 3", "cable"),
-        ("move 3 65536 1 1", "system"),
-        ("force 3 65536 1", "system"),
-        ("offers 1 1 00", "word"),
-        ("link 1 1", "word"),
-        ("configure 1 1 1 128 aggregatables", "kind"),
-        ("configure 1 1 1 128 INDIVIDUAL", "kind"),
-        ("configure 1 1 1 128 aggregatable extra", "count"),
-        ("move 1 1 48 2 2", "count"),
-        ("offer 1 1 0200000000200200000000100800 00", "count"),
-        ("force 1 1 48 1", "count"),
-    ] {
-        let events = format!(in alloc; "events = [\"{entry}\"]\n")?;
-        let said = fault_said(
-            alloc,
-            &[events.as_str(), TWO_PORTS, "[[cable]]\nends = [1, 1]\n"],
-        )?;
-        let wanted = format!(in alloc; "script: event 1: {what}")?;
-        assert_eq!(rt; said.as_str(), wanted.as_str(), "{entry}");
+    for (entry, what) in ENTRIES {
+        entry_refused(&rt, entry, what)?;
     }
     Ok(())
 }
@@ -85,30 +119,14 @@ key = 1
 
 #[test]
 fn systems_that_are_refused(rt: HostRuntime) -> Result<(), Fail> {
-    let alloc = rt.alloc();
-    let said = fault_said(alloc, &[NO_DASH])?;
-    assert_eq!(rt; said.as_str(), "script: system 1: mac");
-    let other_key = systems_with(alloc, "ports = 3\n", "")?;
-    let said = fault_said(alloc, &[other_key.as_str()])?;
-    assert_eq!(rt; said.as_str(), "script: system 1: extra key");
-    Ok(())
+    says(&rt, &[NO_DASH], "script: system 1: mac")?;
+    refused(&rt, ("ports = 3\n", ""), 1, "extra key")
 }
 
 #[test]
 fn ends_of_cables_that_are_refused(rt: HostRuntime) -> Result<(), Fail> {
-    let alloc = rt.alloc();
-    for (cables, said) in [
-        (
-            "cable = [{ends = [1, 1]}, {ends = [2, 2]}, {ends = [1, 3]}]\n",
-            "script: cable 3: end",
-        ),
-        (
-            "cable = [{ends = [7, 7]}, {ends = [8, 8]}]\n",
-            "script: cable 1: end",
-        ),
-    ] {
-        let written = fault_said(alloc, &[cables, THREE_PORTS])?;
-        assert_eq!(rt; written.as_str(), said, "{cables}");
-    }
-    Ok(())
+    let cables = "cable = [{ends = [1, 1]}, {ends = [2, 2]}, {ends = [1, 3]}]\n";
+    says(&rt, &[cables, THREE_PORTS], "script: cable 3: end")?;
+    let cables = "cable = [{ends = [7, 7]}, {ends = [8, 8]}]\n";
+    says(&rt, &[cables, THREE_PORTS], "script: cable 1: end")
 }

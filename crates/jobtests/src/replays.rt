@@ -1,11 +1,14 @@
+use crate::pieces::one_text;
 use crate::slow::sink_of;
+use crate::telling::told;
 use lagjobs::{
-    ALONE, ALONE_TEXT, FaultText, ONE_CABLE, ToolFault, UP, UP_TEXT, by_number, failures, replay,
-    vectors, vectors_text,
+    ALONE, ALONE_TEXT, FaultText, ONE_CABLE, Summary, ToolFault, UP, UP_TEXT, by_number, failures,
+    replay, vectors, vectors_text,
 };
 use lagstreams::Sink;
 use lagworld::{EntryFault, ScriptFault};
-use std::alloc::Global;
+use std::alloc::{AllocError, Global};
+use std::process::Abort;
 use std::test::Fail;
 
 /// Two systems with two ports each, all with Long Timeout.
@@ -165,35 +168,51 @@ flow 1/1/48 sent 4 collected 0 1 2 3
 
 /// What is written for a script with these entries and this configuration.
 pub(crate) fn replayed(alloc: Global, pieces: &[&str]) -> Result<String, ToolFault> {
-    let mut script = String::new(alloc);
-    for piece in pieces {
-        script.push_str(*piece)?;
-    }
+    let script = one_text(alloc, pieces)?;
     let mut sink = Sink::new(Vec::new(alloc));
     replay(alloc, script.as_str(), by_number, by_number, &mut sink)?;
     Ok(String::from_utf8_lossy(alloc, sink.into_inner().as_slice())?)
 }
 
+/// The report of a script of these pieces is this text, in pieces too.
+pub(crate) fn reports(
+    rt: &(impl Abort + AllocGlobal),
+    pieces: &[&str],
+    texts: &[&str],
+) -> Result<(), Fail> {
+    let written = replayed(rt.alloc(), pieces)?;
+    let wanted = one_text(rt.alloc(), texts)?;
+    assert_eq!(rt; written.as_str(), wanted.as_str());
+    Ok(())
+}
+
+/// A script of these pieces is refused with this fault and this message.
+fn refuses(
+    rt: &(impl Abort + AllocGlobal),
+    pieces: &[&str],
+    fault: ScriptFault,
+    said: &str,
+) -> Result<(), Fail> {
+    let fault = ToolFault::Script(fault);
+    assert_eq!(rt; replayed(rt.alloc(), pieces), Err(fault));
+    assert_eq!(rt; fault.number(), 4);
+    told(rt, FaultText { fault, file: "a" }, said)
+}
+
 #[test]
 fn one_cable(rt: HostRuntime) -> Result<(), Fail> {
-    for (events, text) in [(ALONE, ALONE_TEXT), (UP, UP_TEXT)] {
-        for limit in ["", "limit = 8\n"] {
-            let written = replayed(rt.alloc(), &[events, ONE_CABLE, limit])?;
-            assert_eq!(rt; written.as_str(), text, "{events}{limit}");
-        }
+    for limit in ["", "limit = 8\n"] {
+        reports(&rt, &[ALONE, ONE_CABLE, limit], &[ALONE_TEXT])?;
+        reports(&rt, &[UP, ONE_CABLE, limit], &[UP_TEXT])?;
     }
     Ok(())
 }
 
 #[test]
 fn a_conversation_moves(rt: HostRuntime) -> Result<(), Fail> {
-    let alloc = rt.alloc();
-    let text = format!(in alloc; "{BOTH_UP_TEXT}{MOVE_TEXT}")?;
-    for cables in [TWO_CABLES, LIMIT_8] {
-        let written = replayed(alloc, &[BOTH_UP, MOVE, TWO_PORTS, cables])?;
-        assert_eq!(rt; written.as_str(), text.as_str(), "{cables}");
-    }
-    Ok(())
+    let texts = [BOTH_UP_TEXT, MOVE_TEXT];
+    reports(&rt, &[BOTH_UP, MOVE, TWO_PORTS, TWO_CABLES], &texts)?;
+    reports(&rt, &[BOTH_UP, MOVE, TWO_PORTS, LIMIT_8], &texts)
 }
 
 /// Three frames on a cable with room for two.
@@ -252,13 +271,10 @@ flow 1/1/48 sent 3 collected 0 2
 
 #[test]
 fn a_full_cable_loses_what_is_sent(rt: HostRuntime) -> Result<(), Fail> {
-    let alloc = rt.alloc();
-    for (events, cables, text) in [(FULL, LIMIT_2, FULL_TEXT), (NARROW, LIMIT_1, NARROW_TEXT)] {
-        let written = replayed(alloc, &[BOTH_UP, events, TWO_PORTS, cables])?;
-        let wanted = format!(in alloc; "{BOTH_UP_TEXT}{text}")?;
-        assert_eq!(rt; written.as_str(), wanted.as_str(), "{cables}");
-    }
-    Ok(())
+    let texts = [BOTH_UP_TEXT, FULL_TEXT];
+    reports(&rt, &[BOTH_UP, FULL, TWO_PORTS, LIMIT_2], &texts)?;
+    let texts = [BOTH_UP_TEXT, NARROW_TEXT];
+    reports(&rt, &[BOTH_UP, NARROW, TWO_PORTS, LIMIT_1], &texts)
 }
 
 /// Frames of system 2 on a cable with room for one.
@@ -280,11 +296,8 @@ flow 2/1/48 sent 2 collected 0
 
 #[test]
 fn a_limit_is_that_of_both_directions(rt: HostRuntime) -> Result<(), Fail> {
-    let alloc = rt.alloc();
-    let written = replayed(alloc, &[BOTH_UP, BACK, TWO_PORTS, LIMIT_1])?;
-    let wanted = format!(in alloc; "{BOTH_UP_TEXT}{BACK_TEXT}")?;
-    assert_eq!(rt; written.as_str(), wanted.as_str());
-    Ok(())
+    let texts = [BOTH_UP_TEXT, BACK_TEXT];
+    reports(&rt, &[BOTH_UP, BACK, TWO_PORTS, LIMIT_1], &texts)
 }
 
 /// Two systems with an aggregator and a port of each of two keys, and cables of unlike limits.
@@ -347,11 +360,8 @@ flow 2/1/55 sent 2 collected 0
 
 #[test]
 fn flows_of_both_systems(rt: HostRuntime) -> Result<(), Fail> {
-    let alloc = rt.alloc();
-    let written = replayed(alloc, &[BOTH_UP, BOTH_WAYS, TWO_KEYS])?;
-    let text = format!(in alloc; "{BOTH_UP_TEXT}{BOTH_WAYS_TEXT}")?;
-    assert_eq!(rt; written.as_str(), text.as_str());
-    Ok(())
+    let texts = [BOTH_UP_TEXT, BOTH_WAYS_TEXT];
+    reports(&rt, &[BOTH_UP, BOTH_WAYS, TWO_KEYS], &texts)
 }
 
 /// A conversation is forced, and a later frame of it arrives before an earlier one.
@@ -377,11 +387,8 @@ flow 1/1/48 sent 2 collected 1 0 forced
 
 #[test]
 fn a_forced_conversation_overtakes(rt: HostRuntime) -> Result<(), Fail> {
-    let alloc = rt.alloc();
-    let written = replayed(alloc, &[BOTH_UP, FORCE, TWO_PORTS, TWO_CABLES])?;
-    let text = format!(in alloc; "{BOTH_UP_TEXT}{FORCE_TEXT}")?;
-    assert_eq!(rt; written.as_str(), text.as_str());
-    Ok(())
+    let texts = [BOTH_UP_TEXT, FORCE_TEXT];
+    reports(&rt, &[BOTH_UP, FORCE, TWO_PORTS, TWO_CABLES], &texts)
 }
 
 /// An entry with leading zeros and upper-case digits, and each event that is in none of the others.
@@ -420,80 +427,77 @@ cable 1 agreement not-both
 
 #[test]
 fn other_entries(rt: HostRuntime) -> Result<(), Fail> {
-    let written = replayed(rt.alloc(), &[OTHERS, ONE_CABLE])?;
-    assert_eq!(rt; written.as_str(), OTHERS_TEXT);
-    Ok(())
+    reports(&rt, &[OTHERS, ONE_CABLE], &[OTHERS_TEXT])
 }
 
-#[test]
-fn a_thousand_entries(rt: HostRuntime) -> Result<(), Fail> {
-    let alloc = rt.alloc();
+/// A thousand entries, and their report.
+fn a_thousand(alloc: Global) -> Result<(String, String), AllocError> {
     let mut events = String::from_str(alloc, "events = [\n")?;
     let mut text = String::new(alloc);
     for number in 1..=1_000 {
         events.push_str("    \"tick 1 1\",\n")?;
-        text.push_str(format!(in alloc; "{number} tick 1 1 -> ticked\n")?.as_str())?;
+        write!(text, "{number} tick 1 1 -> ticked\n")?;
     }
-    events.push_str("]\n")?;
-    text.push_str("cable 1 agreement not-both\n")?;
-    let written = replayed(alloc, &[events.as_str(), ONE_CABLE])?;
-    assert_eq!(rt; written.as_str(), text.as_str());
-    Ok(())
+    Ok((events, text))
 }
 
 #[test]
+fn a_thousand_entries(rt: HostRuntime) -> Result<(), Fail> {
+    let (events, text) = a_thousand(rt.alloc())?;
+    reports(
+        &rt,
+        &[events.as_str(), "]\n", ONE_CABLE],
+        &[text.as_str(), "cable 1 agreement not-both\n"],
+    )
+}
+
+/// A beginning of a text that is no script, its fault, and its message.
+const NO_SCRIPTS: [(&str, ScriptFault, &str); 3] = [
+    (
+        "events = [\"cut 0\"]\n",
+        ScriptFault::Entry(1, EntryFault::Cable),
+        "script: event 1: cable",
+    ),
+    ("events = [", ScriptFault::NotToml, "script: not toml"),
+    ("other = 1\n", ScriptFault::ExtraKey, "script: extra key"),
+];
+
+#[test]
 fn texts_that_are_no_script(rt: HostRuntime) -> Result<(), Fail> {
-    let alloc = rt.alloc();
-    let cable = ScriptFault::Entry(1, EntryFault::Cable);
-    for (events, fault, said) in [
-        ("events = [\"cut 0\"]\n", cable, "script: event 1: cable"),
-        ("events = [", ScriptFault::NotToml, "script: not toml"),
-        ("other = 1\n", ScriptFault::ExtraKey, "script: extra key"),
-    ] {
-        let written = replayed(alloc, &[events, ONE_CABLE]);
-        let wanted = ToolFault::Script(fault);
-        assert_eq!(rt; written, Err(wanted), "{events}");
-        assert_eq!(rt; wanted.number(), 4);
-        let text = FaultText {
-            fault: wanted,
-            file: "a",
-        };
-        assert_eq!(rt; format!(in alloc; "{text}")?.as_str(), said, "{events}");
+    for (events, fault, said) in NO_SCRIPTS {
+        refuses(&rt, &[events, ONE_CABLE], fault, said)?;
     }
     Ok(())
 }
 
 #[test]
 fn limits_that_are_no_limit(rt: HostRuntime) -> Result<(), Fail> {
-    let alloc = rt.alloc();
+    let fault = ScriptFault::CableLimit(1);
     for limit in ["limit = 0\n", "limit = 65536\n", "limit = \"8\"\n"] {
-        let fault = ToolFault::Script(ScriptFault::CableLimit(1));
-        let written = replayed(alloc, &[ONE_CABLE, limit]);
-        assert_eq!(rt; written, Err(fault), "{limit}");
-        let said = format!(in alloc; "{}", FaultText { fault, file: "a" })?;
-        assert_eq!(rt; said.as_str(), "script: cable 1: limit", "{limit}");
+        refuses(&rt, &[ONE_CABLE, limit], fault, "script: cable 1: limit")?;
     }
-    for limit in ["limit = 1\n", "limit = 65535\n"] {
-        let written = replayed(alloc, &[ONE_CABLE, limit])?;
-        assert_eq!(rt; written.as_str(), "cable 1 agreement not-both\n", "{limit}");
-    }
-    Ok(())
+    let text = "cable 1 agreement not-both\n";
+    reports(&rt, &[ONE_CABLE, "limit = 1\n"], &[text])?;
+    reports(&rt, &[ONE_CABLE, "limit = 65535\n"], &[text])
+}
+
+/// A report goes into a sink with room for this many octets.
+fn report_into(rt: &(impl Abort + AllocGlobal), room: usize, errs: bool) {
+    let text = b"cable 1 agreement not-both\n";
+    let fits = room >= text.len();
+    let expected = if fits { Ok(()) } else { Err(ToolFault::Write) };
+    let mut sink = sink_of(rt.alloc(), room, errs);
+    let answer = replay(rt.alloc(), ONE_CABLE, by_number, by_number, &mut sink);
+    assert_eq!(rt; answer, expected, "room for {room} octets");
+    let taken = sink.into_inner().taken;
+    assert_eq!(rt; taken.as_slice(), &text[..room.min(text.len())]);
 }
 
 #[test]
 fn a_report_into_a_sink_that_fails(rt: HostRuntime) {
-    let alloc = rt.alloc();
-    let text = b"cable 1 agreement not-both\n";
-    for room in 0..=text.len() {
-        let fits = room == text.len();
-        let expected = if fits { Ok(()) } else { Err(ToolFault::Write) };
-        for errs in [false, true] {
-            let mut sink = sink_of(alloc, room, errs);
-            let answer = replay(alloc, ONE_CABLE, by_number, by_number, &mut sink);
-            assert_eq!(rt; answer, expected, "room for {room} octets");
-            let taken = sink.into_inner().taken;
-            assert_eq!(rt; taken.as_slice(), &text[..room], "room for {room} octets");
-        }
+    for room in 0..=27 {
+        report_into(&rt, room, false);
+        report_into(&rt, room, true);
     }
 }
 
@@ -514,8 +518,8 @@ vectors 10 failed 0
 ";
     let mut sink = Sink::new(Vec::new(alloc));
     let summary = vectors(alloc, &mut sink)?;
-    assert_eq!(rt; summary.checked, 10);
-    assert_eq!(rt; summary.faults, 0);
+    let (checked, faults) = (10, 0);
+    assert_eq!(rt; summary, Summary { checked, faults });
     assert_eq!(rt; sink.into_inner().as_slice(), text.as_bytes());
     Ok(())
 }

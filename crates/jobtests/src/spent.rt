@@ -1,4 +1,4 @@
-use crate::replays::{BOTH_UP, BOTH_UP_TEXT, replayed};
+use crate::replays::{BOTH_UP, BOTH_UP_TEXT, reports};
 use std::test::Fail;
 
 /// Two cables between systems with two ports each, all with Long Timeout; system 1 has one marker identifier left.
@@ -74,9 +74,6 @@ flow 1/1/50 sent 2 collected 1
 
 #[test]
 fn no_marker_follows_the_last_identifier(rt: HostRuntime) -> Result<(), Fail> {
-    let alloc = rt.alloc();
-    let written = replayed(alloc, &[BOTH_UP, SPENT, LAST_MARKER])?;
-    let text = format!(in alloc; "{BOTH_UP_TEXT}{SPENT_TEXT}")?;
-    assert_eq!(rt; written.as_str(), text.as_str());
-    Ok(())
+    let texts = [BOTH_UP_TEXT, SPENT_TEXT];
+    reports(&rt, &[BOTH_UP, SPENT, LAST_MARKER], &texts)
 }

@@ -1,7 +1,9 @@
 ghost use Rattle.std.specs.Prelude.{◌≡◌, false};
 
 use crate::checks::{FILE, Piecewise};
+use crate::pieces::one_text;
 use crate::replays::{BOTH_UP, BOTH_UP_TEXT, MOVE, MOVE_TEXT, TWO_CABLES, TWO_PORTS};
+use crate::telling::told;
 use lagjobs::{FaultText, ToolFault, by_number, check, replay};
 use lagstreams::{Sink, Source};
 use std::alloc::{AllocError, Global};
@@ -118,8 +120,8 @@ fn checked(rt: &impl Abort, alloc: Global, before: u32, turn: Turn) -> bool {
 
 /// A script, and its report.
 fn script(alloc: Global) -> Result<(String, String), AllocError> {
-    let text = format!(in alloc; "{BOTH_UP}{MOVE}{TWO_PORTS}{TWO_CABLES}")?;
-    let report = format!(in alloc; "{BOTH_UP_TEXT}{MOVE_TEXT}")?;
+    let text = one_text(alloc, &[BOTH_UP, MOVE, TWO_PORTS, TWO_CABLES])?;
+    let report = one_text(alloc, &[BOTH_UP_TEXT, MOVE_TEXT])?;
     Ok((text, report))
 }
 
@@ -154,14 +156,9 @@ fn one_write_of_a_replay(rt: HostRuntime) -> Result<(), Fail> {
 
 #[test]
 fn a_failed_stream_is_told(rt: HostRuntime) -> Result<(), Fail> {
-    let alloc = rt.alloc();
     let file = "FILE";
-    for (fault, said) in [
-        (ToolFault::Read, "cannot read FILE"),
-        (ToolFault::Write, "cannot write"),
-    ] {
-        let text = FaultText { fault, file };
-        assert_eq!(rt; format!(in alloc; "{text}")?.as_str(), said);
-    }
-    Ok(())
+    let fault = ToolFault::Read;
+    told(&rt, FaultText { fault, file }, "cannot read FILE")?;
+    let fault = ToolFault::Write;
+    told(&rt, FaultText { fault, file }, "cannot write")
 }

@@ -1,3 +1,4 @@
+use crate::telling::told;
 use bitflags::Flags;
 use lagjobs::{AgreementText, EntryText, ReplyText};
 use lagsystem::{BadConfig, PortChange, SystemFault};
@@ -41,37 +42,32 @@ fn entries(alloc: Global) -> Result<[(Event, &'static str); 14], AllocError> {
 
 #[test]
 fn each_event_has_its_entry(rt: HostRuntime) -> Result<(), Fail> {
-    let alloc = rt.alloc();
-    let rows = entries(alloc)?;
+    let rows = entries(rt.alloc())?;
     for (event, text) in rows.iter() {
-        let written = format!(in alloc; "{}", EntryText(event))?;
-        assert_eq!(rt; written.as_str(), *text);
+        told(&rt, EntryText(event), *text)?;
     }
     Ok(())
 }
 
 #[test]
 fn each_reply_to_what_is_sent(rt: HostRuntime) -> Result<(), Fail> {
-    let alloc = rt.alloc();
-    let lacpdu = |octet, kept| Reply::Lacpdu(State::from_bits_retain(octet), kept);
+    let (first, second) = (State::from_bits_retain(0xc5), State::from_bits_retain(0x0d));
     for (reply, text) in [
-        (lacpdu(0xc5, true), "lacpdu c5 sent"),
-        (lacpdu(0x0d, false), "lacpdu 0d lost"),
+        (Reply::Lacpdu(first, true), "lacpdu c5 sent"),
+        (Reply::Lacpdu(second, false), "lacpdu 0d lost"),
         (Reply::Marker(7, true), "marker 7 sent"),
         (Reply::Marker(4294967295, false), "marker 4294967295 lost"),
         (Reply::Nothing, "nothing"),
         (Reply::Port(5, 6, true), "port 5 serial 6 sent"),
         (Reply::Port(7, 8, false), "port 7 serial 8 lost"),
     ] {
-        let written = format!(in alloc; "{}", ReplyText(reply))?;
-        assert_eq!(rt; written.as_str(), text);
+        told(&rt, ReplyText(reply), text)?;
     }
     Ok(())
 }
 
 #[test]
 fn each_reply_to_what_comes(rt: HostRuntime) -> Result<(), Fail> {
-    let alloc = rt.alloc();
     for (reply, text) in [
         (Reply::Took, "took"),
         (Reply::Responded(true), "responded sent"),
@@ -85,15 +81,13 @@ fn each_reply_to_what_comes(rt: HostRuntime) -> Result<(), Fail> {
         (Reply::Lost, "lost"),
         (Reply::NotControl, "not control"),
     ] {
-        let written = format!(in alloc; "{}", ReplyText(reply))?;
-        assert_eq!(rt; written.as_str(), text);
+        told(&rt, ReplyText(reply), text)?;
     }
     Ok(())
 }
 
 #[test]
 fn each_reply_to_other_events(rt: HostRuntime) -> Result<(), Fail> {
-    let alloc = rt.alloc();
     for (reply, text) in [
         (Reply::Ticked, "ticked"),
         (Reply::Cut, "cut"),
@@ -106,15 +100,13 @@ fn each_reply_to_other_events(rt: HostRuntime) -> Result<(), Fail> {
         (Reply::Moved, "moved"),
         (Reply::Forced, "forced"),
     ] {
-        let written = format!(in alloc; "{}", ReplyText(reply))?;
-        assert_eq!(rt; written.as_str(), text);
+        told(&rt, ReplyText(reply), text)?;
     }
     Ok(())
 }
 
 #[test]
 fn each_refusal_has_its_number_and_name(rt: HostRuntime) -> Result<(), Fail> {
-    let alloc = rt.alloc();
     for (fault, text) in [
         (SystemFault::NoPort, "refused 1 no-port"),
         (SystemFault::NoAggregator, "refused 2 no-aggregator"),
@@ -132,15 +124,13 @@ fn each_refusal_has_its_number_and_name(rt: HostRuntime) -> Result<(), Fail> {
         ),
         (SystemFault::NoMemory, "refused 12 no-memory"),
     ] {
-        let written = format!(in alloc; "{}", ReplyText(Reply::Refused(fault)))?;
-        assert_eq!(rt; written.as_str(), text);
+        told(&rt, ReplyText(Reply::Refused(fault)), text)?;
     }
     Ok(())
 }
 
 #[test]
 fn each_agreement_has_its_name(rt: HostRuntime) -> Result<(), Fail> {
-    let alloc = rt.alloc();
     for (agreement, text) in [
         (Agreement::NotBoth, "not-both"),
         (Agreement::Defaults, "defaults"),
@@ -148,8 +138,7 @@ fn each_agreement_has_its_name(rt: HostRuntime) -> Result<(), Fail> {
         (Agreement::Same, "same"),
         (Agreement::Differ, "differ"),
     ] {
-        let written = format!(in alloc; "{}", AgreementText(agreement))?;
-        assert_eq!(rt; written.as_str(), text);
+        told(&rt, AgreementText(agreement), text)?;
     }
     Ok(())
 }

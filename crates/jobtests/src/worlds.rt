@@ -1,6 +1,7 @@
-use crate::replays::{TWO_CABLES, TWO_PORTS, replayed};
-use lagjobs::ToolFault;
+use crate::pieces::one_text;
+use crate::replays::{TWO_CABLES, TWO_PORTS, reports};
 use std::alloc::{AllocError, Global};
+use std::process::Abort;
 use std::test::Fail;
 
 /// Two systems with two ports each, all with Short Timeout.
@@ -107,7 +108,7 @@ fn entries_of(alloc: Global, report: &[&str]) -> Result<String, AllocError> {
     let mut entries = String::from_str(alloc, "events = [\n")?;
     for line in report {
         if let Some((entry, _)) = line.split_once(" -> ") {
-            entries.push_str(format!(in alloc; "    \"{entry}\",\n")?.as_str())?;
+            write!(entries, "    \"{entry}\",\n")?;
         }
     }
     entries.push_str("]\n")?;
@@ -119,32 +120,31 @@ fn numbered(alloc: Global, report: &[&str]) -> Result<String, AllocError> {
     let mut text = String::new(alloc);
     for (index, line) in report.iter().enumerate() {
         let number = index + 1;
-        let line = match line.split_once(" -> ") {
-            Some(_) => format!(in alloc; "{number} {line}\n")?,
-            None => format!(in alloc; "{line}\n")?,
-        };
-        text.push_str(line.as_str())?;
+        match line.split_once(" -> ") {
+            Some(_) => write!(text, "{number} {line}\n")?,
+            None => write!(text, "{line}\n")?,
+        }
     }
     Ok(text)
 }
 
-/// What is written for the entries of a report, and that report.
-pub(crate) fn played(
-    alloc: Global,
+/// The entries of a report, given in pieces, are played by these systems, and that is the report.
+pub(crate) fn plays(
+    rt: &(impl Abort + AllocGlobal),
     pieces: &[&str],
     systems: &[&str],
-) -> Result<(String, String), ToolFault> {
-    let mut joined = String::new(alloc);
-    for piece in pieces {
-        joined.push_str(*piece)?;
-    }
-    let report: Vec<&str> = joined.as_str().trim_end().split('\n').collect(alloc)?;
-    let mut script = entries_of(alloc, report.as_slice())?;
-    for piece in systems {
-        script.push_str(*piece)?;
-    }
-    let written = replayed(alloc, &[script.as_str()])?;
-    Ok((written, numbered(alloc, report.as_slice())?))
+) -> Result<(), Fail> {
+    let alloc = rt.alloc();
+    let whole = one_text(alloc, pieces)?;
+    let report: Vec<&str> = whole.as_str().trim_end().split('\n').collect(alloc)?;
+    let entries = entries_of(alloc, report.as_slice())?;
+    let systems = one_text(alloc, systems)?;
+    let wanted = numbered(alloc, report.as_slice())?;
+    reports(
+        rt,
+        &[entries.as_str(), systems.as_str()],
+        &[wanted.as_str()],
+    )
 }
 
 /// A response to a marker comes to a cable that is full.
@@ -163,13 +163,11 @@ flow 2/1/48 sent 1 collected 0
 
 #[test]
 fn a_response_is_lost_on_a_full_cable(rt: HostRuntime) -> Result<(), Fail> {
-    let (written, wanted) = played(
-        rt.alloc(),
+    plays(
+        &rt,
         &[SHORT_UP, RESPONSE_LOST],
         &[SHORT_PORTS, FIRST_IS_NARROW],
-    )?;
-    assert_eq!(rt; written.as_str(), wanted.as_str());
-    Ok(())
+    )
 }
 
 /// Two conversations leave a port; they wait for one marker.
@@ -190,13 +188,7 @@ flow 1/1/50 sent 1 collected 0
 
 #[test]
 fn one_response_releases_two_conversations(rt: HostRuntime) -> Result<(), Fail> {
-    let (written, wanted) = played(
-        rt.alloc(),
-        &[SHORT_UP, BOTH_RELEASED],
-        &[SHORT_PORTS, TWO_CABLES],
-    )?;
-    assert_eq!(rt; written.as_str(), wanted.as_str());
-    Ok(())
+    plays(&rt, &[SHORT_UP, BOTH_RELEASED], &[SHORT_PORTS, TWO_CABLES])
 }
 
 /// A port gets another priority, and then its own again.
@@ -208,13 +200,7 @@ cable 2 agreement same
 
 #[test]
 fn a_port_gets_another_priority_and_its_own_again(rt: HostRuntime) -> Result<(), Fail> {
-    let (written, wanted) = played(
-        rt.alloc(),
-        &[SHORT_UP, PRIORITY],
-        &[SHORT_PORTS, TWO_CABLES],
-    )?;
-    assert_eq!(rt; written.as_str(), wanted.as_str());
-    Ok(())
+    plays(&rt, &[SHORT_UP, PRIORITY], &[SHORT_PORTS, TWO_CABLES])
 }
 
 /// A frame comes to a port that no longer distributes.
@@ -228,9 +214,7 @@ flow 1/1/48 sent 1 collected none
 
 #[test]
 fn a_dropped_frame_is_not_collected(rt: HostRuntime) -> Result<(), Fail> {
-    let (written, wanted) = played(rt.alloc(), &[SHORT_UP, DROPPED], &[SHORT_PORTS, TWO_CABLES])?;
-    assert_eq!(rt; written.as_str(), wanted.as_str());
-    Ok(())
+    plays(&rt, &[SHORT_UP, DROPPED], &[SHORT_PORTS, TWO_CABLES])
 }
 
 /// System 2 forces a conversation.
@@ -243,13 +227,7 @@ flow 2/1/48 sent 1 collected none forced
 
 #[test]
 fn a_force_of_system_2_is_told_of_system_2(rt: HostRuntime) -> Result<(), Fail> {
-    let (written, wanted) = played(
-        rt.alloc(),
-        &[SHORT_UP, FORCED_BY_2],
-        &[SHORT_PORTS, TWO_CABLES],
-    )?;
-    assert_eq!(rt; written.as_str(), wanted.as_str());
-    Ok(())
+    plays(&rt, &[SHORT_UP, FORCED_BY_2], &[SHORT_PORTS, TWO_CABLES])
 }
 
 /// System 2 moves a conversation behind a marker.
@@ -266,13 +244,7 @@ flow 2/1/48 sent 1 collected 0
 
 #[test]
 fn a_move_of_system_2_is_one_of_system_2(rt: HostRuntime) -> Result<(), Fail> {
-    let (written, wanted) = played(
-        rt.alloc(),
-        &[SHORT_UP, MOVED_BY_2],
-        &[SHORT_PORTS, TWO_CABLES],
-    )?;
-    assert_eq!(rt; written.as_str(), wanted.as_str());
-    Ok(())
+    plays(&rt, &[SHORT_UP, MOVED_BY_2], &[SHORT_PORTS, TWO_CABLES])
 }
 
 /// A port of system 2 changes before anything else.
@@ -285,13 +257,11 @@ cable 2 agreement same
 
 #[test]
 fn what_changed_before_an_lacpdu_is_told_by_it(rt: HostRuntime) -> Result<(), Fail> {
-    let (written, wanted) = played(
-        rt.alloc(),
+    plays(
+        &rt,
         &[CHANGED_BEFORE, SHORT_UP, BOTH_SAME],
         &[SHORT_PORTS, TWO_CABLES],
-    )?;
-    assert_eq!(rt; written.as_str(), wanted.as_str());
-    Ok(())
+    )
 }
 
 /// A conversation that is nowhere cannot be forced.
@@ -307,9 +277,7 @@ flow 1/1/48 sent 1 collected none
 
 #[test]
 fn a_refused_force_is_not_recorded(rt: HostRuntime) -> Result<(), Fail> {
-    let (written, wanted) = played(rt.alloc(), &[FORCE_REFUSED], &[TWO_PORTS, FIRST_PORTS])?;
-    assert_eq!(rt; written.as_str(), wanted.as_str());
-    Ok(())
+    plays(&rt, &[FORCE_REFUSED], &[TWO_PORTS, FIRST_PORTS])
 }
 
 /// A cable is joined that was never cut.
@@ -325,9 +293,7 @@ cable 1 agreement not-both
 
 #[test]
 fn a_whole_cable_that_is_joined_loses_nothing(rt: HostRuntime) -> Result<(), Fail> {
-    let (written, wanted) = played(rt.alloc(), &[JOINED_WHOLE], &[TWO_PORTS, FIRST_PORTS])?;
-    assert_eq!(rt; written.as_str(), wanted.as_str());
-    Ok(())
+    plays(&rt, &[JOINED_WHOLE], &[TWO_PORTS, FIRST_PORTS])
 }
 
 /// The ends of a cable have other port numbers.
@@ -345,7 +311,5 @@ cable 1 agreement not-both
 
 #[test]
 fn a_cable_joins_ports_of_other_numbers(rt: HostRuntime) -> Result<(), Fail> {
-    let (written, wanted) = played(rt.alloc(), &[CROSSED_TEXT], &[TWO_PORTS, CROSSED])?;
-    assert_eq!(rt; written.as_str(), wanted.as_str());
-    Ok(())
+    plays(&rt, &[CROSSED_TEXT], &[TWO_PORTS, CROSSED])
 }

@@ -19,7 +19,7 @@ fn another_verdict_or_text_is_found(rt: HostRuntime) -> Result<(), Fail> {
     ] {
         let sink: Sink<Vec<u8>> = Sink::new(Vec::new(alloc));
         let found = wrote(Ok(verdict), sink, accepted, text)?;
-        assert_eq!(rt; found, same, "{verdict} {accepted} {text}");
+        assert_eq!(rt; found, same);
     }
     Ok(())
 }
@@ -33,11 +33,8 @@ fn another_text_of_a_payload_is_found(rt: HostRuntime) -> Result<(), Fail> {
         (SHORT, false, "refused 1 short have 110\n"),
         (SHORT, true, "refused 1 short have 109\n"),
     ] {
-        assert_eq!(rt;
-            shows(alloc, payload, accepted, text)?,
-            false,
-            "{accepted} {text}"
-        );
+        let found = shows(alloc, payload, accepted, text)?;
+        assert!(rt; !found);
     }
     Ok(())
 }
@@ -51,11 +48,8 @@ fn another_answer_to_a_frame_is_found(rt: HostRuntime) -> Result<(), Fail> {
         (DATA_FRAME, false, "no answer runt\n"),
         (DATA_FRAME, true, "no answer data\n"),
     ] {
-        assert_eq!(rt;
-            replies(alloc, frame, answered, text)?,
-            false,
-            "{answered} {text}"
-        );
+        let found = replies(alloc, frame, answered, text)?;
+        assert!(rt; !found);
     }
     Ok(())
 }
@@ -69,7 +63,8 @@ fn another_report_is_found(rt: HostRuntime) -> Result<(), Fail> {
         (UP, ""),
         ("events = [\"cut 0\"]\n", ""),
     ] {
-        assert_eq!(rt; replays(alloc, events, text)?, false, "{text}");
+        let found = replays(alloc, events, text)?;
+        assert!(rt; !found);
     }
     Ok(())
 }
@@ -83,7 +78,8 @@ fn other_octets_are_found(rt: HostRuntime) -> Result<(), Fail> {
         SHORT,
         MARKER_OF_TYPE_3,
     ] {
-        assert_eq!(rt; encodes(alloc, payload)?, false);
+        let found = encodes(alloc, payload)?;
+        assert!(rt; !found);
     }
     Ok(())
 }
@@ -96,7 +92,8 @@ fn another_fault_of_an_ignored_frame_is_found(rt: HostRuntime) -> Result<(), Fai
         (SUBTYPE_3, WireFault::OtherSubtype(1)),
         (LACPDU, WireFault::OtherSubtype(1)),
     ] {
-        assert_eq!(rt; ignores(alloc, payload, fault)?, false);
+        let found = ignores(alloc, payload, fault)?;
+        assert!(rt; !found);
     }
     Ok(())
 }

@@ -1,0 +1,16 @@
+//! What a value is told as.
+
+use std::fmt::Display;
+use std::process::Abort;
+use std::test::Fail;
+
+/// The text of a value is this one.
+pub(crate) fn told<D: Display + Drop>(
+    rt: &(impl Abort + AllocGlobal),
+    value: D,
+    text: &str,
+) -> Result<(), Fail> {
+    let written = format!(in rt.alloc(); "{value}")?;
+    assert_eq!(rt; written.as_str(), text);
+    Ok(())
+}
