@@ -1,8 +1,9 @@
 """The wrong definitions that name the tests that refuse them: many are tried in one build.
 
 For each edit the crate is copied, with the edit made, and only the named tests are left. Tests that stand in the crate itself
-are copied with it, as a module of it. Else the crate, those between it and the tests, and the module of the tests are copied
-under other names. Beside these copies all stands as it is: there each named test has to pass, and each has to fail in the copy.
+are copied with it, as a module of it. Else the crate, those between it and the tests, and the module of the tests, with the modules
+that it names, are copied under other names. Beside these copies all stands as it is: there each named test has to pass, and each
+has to fail in the copy.
 """
 
 import os
@@ -18,10 +19,21 @@ from repository import below, crates, lines
 MOST = 48
 
 
-def using(crate, folder, module):
-    """The crates that have to be copied with a crate so that a module of the tests meets the copy."""
-    text = "".join(read(path) for path in sources(folder, module))
+def using(crate, folder, modules):
+    """The crates that have to be copied with a crate so that modules of the tests meet the copy."""
+    text = "".join(read(path) for module in modules for path in sources(folder, module))
     return [name for name in below(*crates()) if crate in below(name) and re.search(rf"\b{name}::", text)]
+
+
+def with_named(folder, modules):
+    """These modules of the tests and those that they name, over one or more."""
+    found, left = [], list(modules)
+    while left:
+        module = left.pop(0)
+        if module not in found and os.path.isfile(os.path.join(folder, module + ".rt")):
+            found.append(module)
+            left += re.findall(r"\bcrate::(\w+)::", "".join(read(path) for path in sources(folder, module)))
+    return sorted(found)
 
 
 def sources(folder, module):
@@ -51,8 +63,9 @@ def add_copy(top, tests_crate, number, crate, name, rows):
     """Adds the copies for one edit; answers what is wrong with it, or None."""
     named = [test for of, test in read_tests(crate, name) if of == tests_crate]
     folder = os.path.join(top, tests_crate, "src")
-    for module in sorted({test.split("::")[0] for test in named}):
-        names = using(crate, folder, module)
+    modules = with_named(folder, sorted({test.split("::")[0] for test in named}))
+    names, words = using(crate, folder, modules), "|".join(modules)
+    for module in modules:
         for one in names:
             new = os.path.join(top, f"{one}_{number}")
             if not os.path.isdir(new):
@@ -69,7 +82,7 @@ def add_copy(top, tests_crate, number, crate, name, rows):
         for path in sources(folder, module):
             text = renamed(keep_tests(read(path), place(path, folder), named), names, number)
             target = os.path.join(folder, f"{module}_{number}" + path[len(os.path.join(folder, module)) :])
-            write(target, re.sub(rf"\bcrate::{module}\b", f"crate::{module}_{number}", text))
+            write(target, re.sub(rf"\bcrate::({words})\b", rf"crate::\1_{number}", text))
         root = os.path.join(folder, "lib.rt")
         write(root, read(root) + f"#[cfg(test)]\nmod {module}_{number};\n")
     return None
