@@ -1,15 +1,13 @@
 -- What the lines of octets that arrive in several reads ask for.
-use Rattle.std.proofs.Common.{ℕ, suc, ◌+◌, ◌<◌, ◌≡◌, ◌++◌, ◌==◌, true, false, List, [], ◌∷◌, length, map, take, refl}
+use Rattle.std.proofs.Common.{ℕ, ◌+◌, ◌<◌, ◌≡◌, ◌++◌, ◌==◌, false, List, [], ◌∷◌, length, map, take, refl}
 use Rattle.std.proofs.Common.{sym, ap, ◌∙◌, arith}
 use Rattle.std.proofs.lemmas.List.{length-append, map-append, take-map, take_at}
 use Rattle.std.proofs.lemmas.Bool.{lt-ltb}
-use Rattle.std.specs.Prelude.{Result, Err}
+use Rattle.std.specs.Prelude.{Err}
 use Rattle.lagstreams.specs.Lines.{lines_of, continue_line}
 use Rattle.lagstreams.proofs.LineLemmas.{octet_joined}
 use Rattle.lagserve.specs.Lines.{longest_line, request_in}
-use Rattle.lagserve.specs.Requests.{RequestValue}
 use Rattle.lagserve.specs.Sessions.{requests}
-use Rattle.lagserve.specs.declared.fault.RequestFault.{RequestFault}
 use Rattle.lagserve.specs.declared.fault.RequestFault.TheVariants.{TooLong}
 
 pub requests_both : (a b : List (List ℕ)) → requests (a ++ b) ≡ requests a ++ requests b

@@ -1,16 +1,15 @@
 -- What was read and answered so far, and what `serve` returns.
-use Rattle.std.proofs.Common.{ℕ, ◌+◌, ◌≤◌, ◌≡◌, ◌++◌, true, false, List, [], ◌∷◌, Option, length, take, refl, sym, ap, subst, ◌∙◌}
-use Rattle.std.proofs.Common.{append_assoc, arith}
+use Rattle.std.proofs.Common.{ℕ, ◌+◌, ◌≤◌, ◌≡◌, ◌++◌, false, List, [], ◌∷◌, Option, length, take, refl, sym, ap, subst, ◌∙◌}
+use Rattle.std.proofs.Common.{arith}
 use Rattle.std.proofs.lemmas.List.{append-nil, length-append}
 use Rattle.std.proofs.KnownBytes.{Consumes-nil, Consumes-trans}
 use Rattle.std.specs.Prelude.{⊤, IsErrAnd, Result, Ok, Err}
 use Rattle.std.specs.Io.KnownBytes.{IsAtEnd}
-use Rattle.lagserve.specs.Engines.{EngineState}
 use Rattle.lagstreams.specs.Lines.{line_if_any, ended_lines, lines_of, newline_count, continue_line}
 use Rattle.lagserve.specs.Sessions.{AnswersLines, WritesAllButAnEnd, Feeds, Finishes, StopsAnswering, SessionState, answer_lines}
 use Rattle.lagserve.specs.Sessions.{first_engine_state, first_session, requests}
 use Rattle.lagserve.specs.AnswerValues.{AnswerValue}
-use Rattle.lagserve.specs.Serves.{Completes, HasCause, Serves, Stops, StopsReading, StopsShort, StopsWriting}
+use Rattle.lagserve.specs.Serves.{Completes, HasCause, Serves, Stops}
 use Rattle.lagstreams.specs.Sinks.{WritesAndFlushes, SinkState}
 use Rattle.lagstreams.specs.Sources.{Fails, Gives, SourceState}
 use Rattle.lagserve.specs.declared.stopped.Stopped.{Stopped}

@@ -6,7 +6,7 @@ use Rattle.std.proofs.KnownBytes.{Appends-trans}
 use Rattle.std.specs.Prelude.{IfErr, IsErrAnd, Result, Ok, Err}
 use Rattle.std.specs.Io.KnownBytes.{Appends}
 use Rattle.lagserve.specs.Engines.{AnswersLine, DoesRequest, AnswersFault, EngineState}
-use Rattle.lagstreams.specs.Lines.{line_if_any, lines_of, newline_count, continue_line}
+use Rattle.lagstreams.specs.Lines.{line_if_any, lines_of, continue_line}
 use Rattle.lagserve.specs.Lines.{longest_line, request_in}
 use Rattle.lagserve.specs.AnswerValues.{AnswerValue}
 use Rattle.lagserve.specs.Sessions.{AnswersLines, AnswersSome, WritesAllButAnEnd, Feeds, Finishes, StopsAnswering, ReadsOctets}

@@ -1,5 +1,5 @@
 -- Ticks, one after another.
-use Rattle.std.proofs.Common.{◌≡◌, ◌∙◌, ℕ, zero, suc, ◌+◌, List, [], ◌∷◌, ◌++◌, replicate, arith, ap, refl, subst, sym, append_assoc}
+use Rattle.std.proofs.Common.{◌≡◌, ◌∙◌, ℕ, zero, suc, ◌+◌, List, [], ◌∷◌, ◌++◌, replicate, arith, ap, refl, subst, append_assoc}
 use Rattle.lagsystem.specs.Calls.{Tick}
 use Rattle.lagsystem.specs.Drives.{Drives}
 use Rattle.lagsystem.specs.Sound.{CallPromise}
