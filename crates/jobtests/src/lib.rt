@@ -4,6 +4,8 @@
 #![tactic(auto)]
 
 #[cfg(test)]
+mod algorithm;
+#[cfg(test)]
 mod answers;
 #[cfg(test)]
 mod checks;

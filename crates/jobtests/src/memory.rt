@@ -1,7 +1,8 @@
+use crate::algorithm::by_number;
 use crate::checks::whole;
 use crate::pieces::{Pieces, joined, one_text};
 use crate::replays::{BOTH_UP, BOTH_UP_TEXT, MOVE, MOVE_TEXT, TWO_CABLES, TWO_PORTS};
-use lagjobs::{ToolFault, by_number, check, replay};
+use lagjobs::{ToolFault, check, replay};
 use lagstreams::{Sink, Source};
 use std::alloc::Global;
 use std::process::Abort;

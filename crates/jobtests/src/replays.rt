@@ -1,9 +1,10 @@
+use crate::algorithm::by_number;
 use crate::pieces::one_text;
 use crate::slow::sink_of;
 use crate::telling::told;
 use lagjobs::{
-    ALONE, ALONE_TEXT, FaultText, ONE_CABLE, Summary, ToolFault, UP, UP_TEXT, by_number, failures,
-    replay, vectors, vectors_text,
+    ALONE, ALONE_TEXT, FaultText, ONE_CABLE, Summary, ToolFault, UP, UP_TEXT, failures, replay,
+    vectors, vectors_text,
 };
 use lagstreams::Sink;
 use lagworld::{EntryFault, ScriptFault};

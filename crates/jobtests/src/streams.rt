@@ -1,10 +1,11 @@
 ghost use Rattle.std.specs.Prelude.{◌≡◌, false};
 
+use crate::algorithm::by_number;
 use crate::checks::{FILE, Piecewise};
 use crate::pieces::one_text;
 use crate::replays::{BOTH_UP, BOTH_UP_TEXT, MOVE, MOVE_TEXT, TWO_CABLES, TWO_PORTS};
 use crate::telling::told;
-use lagjobs::{FaultText, ToolFault, by_number, check, replay};
+use lagjobs::{FaultText, ToolFault, check, replay};
 use lagstreams::{Sink, Source};
 use std::alloc::{AllocError, Global};
 use std::io;

@@ -1,5 +1,6 @@
+use crate::algorithm::by_number;
 use crate::checks::whole;
-use lagjobs::{ONE_CABLE, Progress, UP, UP_TEXT, Watch, by_number, check_watched, replay_watched};
+use lagjobs::{ONE_CABLE, Progress, UP, UP_TEXT, Watch, check_watched, replay_watched};
 use lagstreams::{Sink, Source};
 use std::alloc::Global;
 use std::cell::{Cell, RefCell};

@@ -25,7 +25,6 @@ mod summary;
 mod texts;
 mod verdict;
 
-pub use algorithm::by_number;
 pub use checking::{check, check_watched};
 pub use entry_text::EntryText;
 pub use explaining::{explain_digits, explain_script, explain_unread, explain_utf8};

@@ -4,9 +4,12 @@
 //! error says why.
 #![tactic(auto)]
 
+ghost use Rattle.std.specs.Prelude.{◌≡◌, ◌<◌};
+ghost use Rattle.distributor.specs.Calls.{index_by_number};
+
 use lagjobs::{
-    FaultText, Progress, ToolFault, Watch, by_number, check_watched, explain_digits,
-    explain_script, explain_unread, explain_utf8, replay_watched, reply, show, status_of, vectors,
+    FaultText, Progress, ToolFault, Watch, check_watched, explain_digits, explain_script,
+    explain_unread, explain_utf8, replay_watched, reply, show, status_of, vectors,
 };
 use lagline::{Job, LineFault, Options, read_line, read_options};
 use lagstreams::{Sink, Source};
@@ -16,6 +19,15 @@ use std::io::{Input, Read};
 use std::process::ExitCode;
 use std::time::Clock;
 use std::{env, fs, io};
+
+/// The distribution algorithm of the program, for both systems: the conversation number modulo the count of ports, and
+/// 0 if the count is 0 (6.2.4; profile).
+fn by_number(conversation: u16, count: usize) -> usize
+    ensures place { result ≡ index_by_number conversation count }
+    ensures among { 0 < count → result < count }
+{
+    distributor::by_number(conversation, count)
+}
 
 /// Says on standard error why a command line could not be done; returns exit status 2.
 fn could_not_do<D: Display + Drop>(rt: &impl Eprint, why: D) -> ExitCode {
