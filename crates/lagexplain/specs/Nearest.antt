@@ -1,6 +1,5 @@
 -- Which name was meant by a word (profile).
-use Rattle.std.specs.Prelude.{ℕ, ◌≤◌, ◌<◌, All, List, length, Option, Some, None, ◌⊎◌}
-use Rattle.std.specs.List.{Contains}
+use Rattle.std.specs.Prelude.{◌≡◌, ℕ, ◌++◌, ◌≤◌, ◌<◌, All, List, ◌∷◌, length, Option, Some, None, ◌⊎◌}
 use Rattle.std.specs.Str.{chars}
 use Rattle.strsim.specs.Edits.{osa_table}
 
@@ -9,13 +8,16 @@ use Rattle.strsim.specs.Edits.{osa_table}
 abbrev pub edits_between : List ℕ → List ℕ → ℕ
 edits_between word name = (osa_table (chars word) (chars name)).last_row (length (chars name))
 
--- at most two edits lead to the name, which is one of these, and to none of them fewer
+-- At most two edits lead to the name, which is one of these. To none of them lead fewer, and to those before it more.
 pub record IsNearest (word : List ℕ) (names : List (List ℕ)) (name : List ℕ) : Type 0 where
-  pub among : Contains names name
+  pub before : List (List ℕ)
+  pub behind : List (List ℕ)
+  pub among : names ≡ before ++ name ∷ behind
   pub near : edits_between word name ≤ 2
-  pub least : All (λ other. edits_between word name ≤ edits_between word other) names
+  pub first : All (λ other. edits_between word name < edits_between word other) before
+  pub least : All (λ other. edits_between word name ≤ edits_between word other) behind
 
--- the nearest of these names; there is none where more than two edits lead to each, or the word is longer than 40 octets
+-- the first of the nearest of these names; there is none where more than two edits lead to each, or the word is longer than 40 octets
 abbrev pub FindsNearest : List ℕ → List (List ℕ) → Option (List ℕ) → Type 0
 FindsNearest word names (Some name) = (length word ≤ 40) × IsNearest word names name
 FindsNearest word names None = (40 < length word) ⊎ All (λ name. 2 < edits_between word name) names

@@ -17,7 +17,8 @@ fn edits_between(alloc: Global, word: &str, name: &str) -> Result<usize, AllocEr
     osa_distance(alloc, word, name)
 }
 
-/// The name that is nearest to a word of at most 40 octets, if at most two edits lead there. `AllocError` if memory is refused.
+/// The first of the names that are nearest to a word of at most 40 octets, if at most two edits lead there. `AllocError` if memory
+/// is refused.
 pub(crate) fn nearest<'a>(
     alloc: Global,
     word: &str,

@@ -38,7 +38,7 @@ ends = [1, 3]
 type Typo = (&'static str, &'static str, &'static str, &'static str);
 
 /// Mistakes in an entry.
-const ENTRIES: [Typo; 29] = [
+const ENTRIES: [Typo; 30] = [
     (
         "tick 1 10",
         "tic 1 10",
@@ -62,6 +62,12 @@ const ENTRIES: [Typo; 29] = [
         "sensers 1 1",
         "event 3: word",
         ": event 3 \"sensers 1 1\": no event has this name; did you mean sense?",
+    ),
+    (
+        "tick 1 10",
+        "mose 1 1",
+        "event 3: word",
+        ": event 3 \"mose 1 1\": no event has this name; did you mean lose?",
     ),
     (
         "tick 1 10",
@@ -480,7 +486,7 @@ fn a_word_without_a_kind_is_not_wrong(rt: HostRuntime) -> Result<(), Fail> {
 fn there_is_no_entry_at_place_0(rt: HostRuntime) -> Result<(), Fail> {
     let fault = ScriptFault::Entry(0, EntryFault::Count);
     let why = explain(rt.alloc(), SCRIPT, fault)?;
-    assert_eq!(rt; why.as_str(), ": event 0");
+    assert_eq!(rt; why.as_str(), ": event 0 is not there");
     Ok(())
 }
 
