@@ -59,7 +59,7 @@ pub(crate) fn explain_ends(out: &mut String, top: &Table, place: usize) -> Resul
     let Some((first, second)) = ends_of(cable) else {
         return Ok(());
     };
-    write!(out, ": ends = [{first}, {second}]: ")?;
+    write!(out, "ends = [{first}, {second}]: ")?;
     if !explain_end(out, top, place, false, first)? {
         let _ = explain_end(out, top, place, true, second)?;
     }

@@ -134,9 +134,8 @@ pub(crate) fn explain_entry(
     cause: EntryFault,
 ) -> Result<(), AllocError> {
     let Some(text) = entry_at(top, place) else {
-        return Ok(());
+        return out.push_str("is not there");
     };
-    out.push_str(" ")?;
     quote(out, text)?;
     out.push_str(": ")?;
     let words = words_of(alloc, text)?;

@@ -1,6 +1,7 @@
-ghost use Rattle.std.specs.Prelude.{◌<◌, ◌^◌, IfOk, length, string_bytes};
-ghost use Rattle.toml.specs.Errors.{IsWithin};
-ghost use Rattle.lagexplain.specs.Explanations.{SaysPlace, SaysWhere};
+ghost use Rattle.std.specs.Prelude.{◌<◌, ◌^◌, IfOk, IsErr, length, string_bytes, take};
+ghost use Rattle.std.specs.Io.{StartsWith};
+ghost use Rattle.toml.specs.Errors.{IsMemory, IsWithin, span_start};
+ghost use Rattle.lagexplain.specs.Explanations.{SaysWhere, place_text};
 
 use crate::arrays::{count_at, table_at};
 use crate::cables::explain_ends;
@@ -37,7 +38,6 @@ fn explain_system(
     key: SystemKey,
 ) -> Result<(), AllocError> {
     let (name, wanted) = system_key(key);
-    out.push_str(": ")?;
     explain_value(out, system_of(top, system), name, wanted)
 }
 
@@ -50,7 +50,6 @@ fn explain_port(
     key: PortKey,
 ) -> Result<(), AllocError> {
     let (name, wanted) = port_key(key);
-    out.push_str(": ")?;
     explain_value(out, port_of(top, system, place), name, wanted)
 }
 
@@ -66,7 +65,7 @@ fn explain_count(
         Some(table) => count_at(table, key),
         None => 0,
     };
-    write!(out, " has {count} {what}: wanted are 1 to 64")
+    write!(out, "{count} {what}: wanted are 1 to 64")
 }
 
 /// Says what is wrong with `system`.
@@ -99,26 +98,21 @@ fn explain_table(
     match fault {
         ScriptFault::ExtraKey => explain_extra_key(alloc, out, Some(top), &TOP_KEYS),
         ScriptFault::SystemExtraKey(system) => {
-            out.push_str(": ")?;
             explain_extra_key(alloc, out, system_of(top, system), &SYSTEM_KEYS)
         }
         ScriptFault::PortExtraKey(system, place) => {
-            out.push_str(": ")?;
             explain_extra_key(alloc, out, port_of(top, system, place), &PORT_KEYS)
         }
         ScriptFault::CableExtraKey(place) => {
-            out.push_str(": ")?;
             explain_extra_key(alloc, out, table_at(top, "cable", place), &CABLE_KEYS)
         }
         ScriptFault::SystemValue(system, key) => explain_system(out, top, system, key),
         ScriptFault::PortValue(system, place, key) => explain_port(out, top, system, place, key),
         ScriptFault::CableEnds(place) => {
-            out.push_str(": ")?;
             let wanted = "two numbers, 0 to 65535: a port of system 1, a port of system 2";
             explain_value(out, table_at(top, "cable", place), "ends", wanted)
         }
         ScriptFault::CableLimit(place) => {
-            out.push_str(": ")?;
             explain_value(
                 out,
                 table_at(top, "cable", place),
@@ -152,7 +146,6 @@ fn explain_whole(
             explain_count(out, top, system, "aggregators", "aggregators")
         }
         ScriptFault::PortNumber(system, place) => {
-            out.push_str(": ")?;
             explain_port_number(out, system_of(top, system), place)
         }
         ScriptFault::MaxLinks(system) => explain_system(out, top, system, SystemKey::MaxLinks),
@@ -167,16 +160,16 @@ fn explain_whole(
     }
 }
 
-/// Says where a text is no TOML, and why.
+/// Says where a text is no TOML, by the error of its parser, and why. `AllocError` if that error is one of memory.
 fn explain_toml(alloc: Global, text: &str, error: &toml::de::Error) -> Result<String, AllocError>
     requires { IsWithin text.now error.now }
-    ensures { length text.now < 2 ^ 32 → IfOk result (λ why. SaysPlace text.now (string_bytes why)) }
+    ensures memory { IsMemory error.now → IsErr result }
+    ensures place { length text.now < 2 ^ 32 → IfOk result (λ why. StartsWith (string_bytes why) (place_text (take (span_start error.now) text.now))) }
 {
-    let start = match error.span() {
-        Some(span) => span.start,
-        None => 0,
+    let Some(span) = error.span() else {
+        return Err(AllocError);
     };
-    let place = place_of(&text.as_bytes()[..start]);
+    let place = place_of(&text.as_bytes()[..span.start]);
     format!(in alloc; ":{}:{}: {}", place.line, place.column, error.message())
 }
 
@@ -193,7 +186,6 @@ pub fn explain(alloc: Global, text: &str, fault: ScriptFault) -> Result<String, 
             explain_table(alloc, &mut why, &top, fault)?;
             format!(in alloc; ": {}{why}", SubjectText(fault))
         }
-        Err(error) if error.is_memory() => Err(AllocError),
         Err(error) => explain_toml(alloc, text, &error),
     }
 }

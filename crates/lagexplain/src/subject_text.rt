@@ -4,7 +4,8 @@ ghost use Rattle.lagexplain.specs.Explanations.{subject_text};
 use lagscript::ScriptFault;
 use std::fmt;
 
-/// What of a script a fault names: a system, a port, a cable or an entry; nothing where it is of the whole (profile).
+/// What of a script a fault names, and what follows it always: a system, a port, a cable or an entry; nothing where it is of
+/// the whole (profile).
 #[derive(Clone, Copy)]
 pub(crate) struct SubjectText(pub ScriptFault);
 
@@ -15,19 +16,26 @@ impl fmt::Display for SubjectText {
         match self.0 {
             ScriptFault::SystemExtraKey(system)
             | ScriptFault::SystemValue(system, _)
-            | ScriptFault::Ports(system)
-            | ScriptFault::AggregatorCount(system)
             | ScriptFault::MaxLinks(system)
-            | ScriptFault::ConversationCount(system) => write!(f, "system {system}"),
+            | ScriptFault::ConversationCount(system) => write!(f, "system {system}: "),
+            ScriptFault::Ports(system) | ScriptFault::AggregatorCount(system) => {
+                write!(f, "system {system} has ")
+            }
             ScriptFault::PortExtraKey(system, place)
             | ScriptFault::PortValue(system, place, _)
-            | ScriptFault::PortNumber(system, place) => write!(f, "system {system} port {place}"),
+            | ScriptFault::PortNumber(system, place) => write!(f, "system {system} port {place}: "),
             ScriptFault::CableExtraKey(place)
             | ScriptFault::CableEnds(place)
             | ScriptFault::CableLimit(place)
-            | ScriptFault::CableEnd(place) => write!(f, "cable {place}"),
-            ScriptFault::Entry(place, _) => write!(f, "event {place}"),
-            _ => Ok(()),
+            | ScriptFault::CableEnd(place) => write!(f, "cable {place}: "),
+            ScriptFault::Entry(place, _) => write!(f, "event {place} "),
+            ScriptFault::NotToml
+            | ScriptFault::ExtraKey
+            | ScriptFault::Systems
+            | ScriptFault::Cables
+            | ScriptFault::Events
+            | ScriptFault::SameSystem
+            | ScriptFault::NoMemory => Ok(()),
         }
     }
 }

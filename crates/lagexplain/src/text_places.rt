@@ -1,5 +1,5 @@
-ghost use Rattle.std.specs.Prelude.{◌≡◌, ◌+◌, ◌<◌, ◌^◌, filter, length, not, reverse, take_while};
-ghost use Rattle.lagexplain.specs.TextPlaces.{begins_character, ends_line};
+ghost use Rattle.std.specs.Prelude.{◌≡◌, ◌+◌, ◌<◌, ◌^◌, length};
+ghost use Rattle.lagexplain.specs.TextPlaces.{begins_character, characters_behind, column_behind, ends_line, line_behind, line_ends};
 
 /// A place in a text.
 #[derive(Clone, Copy, Debug, PartialEq, Eq)]
@@ -26,14 +26,14 @@ fn begins_character(octet: u8) -> bool
 
 /// How many lines end in these octets.
 fn line_ends(before: &[u8]) -> usize
-    ensures { result ≡ length (filter (λ o. ends_line o) before.now) }
+    ensures { result ≡ line_ends before.now }
 {
     before.iter().filter(|octet| ends_line(**octet)).count()
 }
 
 /// How many characters begin behind the last line end in these octets of a text in UTF-8.
 fn characters_behind(before: &[u8]) -> usize
-    ensures { result ≡ length (filter (λ o. begins_character o) (take_while (λ o. not (ends_line o)) (reverse before.now))) }
+    ensures { result ≡ characters_behind before.now }
 {
     before
         .iter()
@@ -46,8 +46,8 @@ fn characters_behind(before: &[u8]) -> usize
 /// The place right behind these octets of a text in UTF-8. One line end, or one character in the last line, leads one
 /// further; above the largest `usize` there is no place (profile).
 pub fn place_of(before: &[u8]) -> Place
-    ensures line { length before.now < 2 ^ 32 → result.line ≡ length (filter (λ o. ends_line o) before.now) + 1 }
-    ensures column { length before.now < 2 ^ 32 → result.column ≡ length (filter (λ o. begins_character o) (take_while (λ o. not (ends_line o)) (reverse before.now))) + 1 }
+    ensures line { length before.now < 2 ^ 32 → result.line ≡ line_behind before.now }
+    ensures column { length before.now < 2 ^ 32 → result.column ≡ column_behind before.now }
 {
     Place {
         line: line_ends(before).saturating_add(1),
