@@ -48,4 +48,6 @@ pub mod Sent
 pub mod Performed
 pub mod WaitingLemmas
 pub mod QuietTicks
+pub mod QuietLeft
+pub mod Soonest
 pub mod QuietRuns

@@ -11,25 +11,26 @@ use Rattle.selection.specs.Limits.{AggregatorsValue}
 use Rattle.distributor.specs.Calls.{is_among}
 use Rattle.distributor.specs.Changes.{after_tick}
 use Rattle.distributor.specs.Conversations.{IsConversation, assignment_of}
-use Rattle.distributor.specs.Moves.{model_conversation}
-use Rattle.distributor.specs.Waiting.{is_by, ticks_until_next_wanted}
-use Rattle.distributor.specs.declared.assignment.Assignment.TheVariants.{On}
+use Rattle.distributor.specs.Waiting.{is_by, sooner, ticks_until_next_wanted}
+use Rattle.distributor.specs.declared.assignment.Assignment.{Assignment}
+use Rattle.distributor.specs.declared.assignment.Assignment.TheVariants.{Free, On, Wanted, Flushing}
 use Rattle.distributor.proofs.WaitLemmas.{by_both, by_first, by_second}
 use Rattle.lagsystem.specs.declared.drive.Reply.TheVariants as reply
 use Rattle.lagsystem.specs.declared.system_ports.SystemPort.{SystemPort}
-use Rattle.lagsystem.specs.Calls.{Step, TableRun, Tick}
+use Rattle.lagsystem.specs.Calls.{Step, TableRun, Tick, Ticks}
 use Rattle.lagsystem.specs.Hosts.{would_transmit}
 use Rattle.lagsystem.specs.NothingToSettle.{MuxIsSettled, MuxesAreSettled, PeriodicsAreSettled}
 use Rattle.lagsystem.specs.Occupants.{NoneIsNext}
-use Rattle.lagsystem.specs.Quiet.{IsBeyond, NothingIsDue, OnlyCounted, counted, counted_times}
+use Rattle.lagsystem.specs.Quiet.{IsBeyond, NothingIsDue, OnlyCounted, counted, counted_times, fewer, waited}
 use Rattle.lagsystem.specs.Readers.{aggregator_numbered, distributing}
 use Rattle.lagsystem.specs.Settling.{HoldsConversations, Settling}
 use Rattle.lagsystem.specs.Sound.{IsSound}
-use Rattle.lagsystem.specs.State.{SystemState, aggregators_value, port_index, system_port_at}
+use Rattle.lagsystem.specs.State.{SystemState, aggregators_value, port_index, system_port_at, with_system_ports, with_table}
 use Rattle.lagsystem.specs.Views.{views}
 use Rattle.lagsystem.specs.Waiting.{soonest, ticks_until_due, ticks_until_due_on, ticks_until_expired, ticks_until_frame, ticks_until_room}
-use Rattle.lagsystem.proofs.Keeps.{settling_joined}
+use Rattle.lagsystem.proofs.Keeps.{keeps_settled, keeps_tick, settling_joined}
 use Rattle.lagsystem.proofs.OneSettling.{SameAfter, settlings_one}
+use Rattle.lagsystem.proofs.QuietLeft.{each_left, fewer_sooner, fewer_twice, none_fewer, table_left}
 use Rattle.lagsystem.proofs.Quieting.{paced_runs, still_settles}
 use Rattle.lagsystem.proofs.QuietTicks.{Lasts, PortLasts, Remains, TableTicked, carried_on, counted_distributing, counted_paced}
 use Rattle.lagsystem.proofs.QuietTicks.{counted_ports, counted_view, counted_views, each_lasts, each_remains, frame_not, on_before}
@@ -41,8 +42,10 @@ use Rattle.lagsystem.proofs.Sound.{Step-sound}
 -- what a tick does in which nothing is soon
 record OneTick (j : ℕ) (old new : SystemState) : Type 0 where
   pub remains : Remains j (ticks_until_due new)
+  pub frame : new ≡ with_table (with_system_ports old new.system_ports) new.table
   pub ports : new.system_ports ≡ map counted old.system_ports
   pub table : TableTicked old.table new.table
+  pub left : ticks_until_due new ≡ fewer 1 (ticks_until_due old)
 
 still_counted : (j : ℕ) (s : SystemState) (keys : List Key) (system_ports xs : List SystemPort) → AllByRecursion (PortLasts j s) xs
     → AllByRecursion (MuxIsSettled keys system_ports) xs → AllByRecursion (MuxIsSettled keys system_ports) (map counted xs)
@@ -57,8 +60,13 @@ one_tick gives j old new s h step = record {
       (table_remains j old.table new.table table waits)
       (subst (λ l. Remains j (soonest (map (ticks_until_due_on new) l))) (sym ports)
       (each_remains j old new old.system_ports (λ n. ap is_some (same_marker n j old.table new.table table waits)) each));
+  frame = (keeps_settled Ticks old new (λ between own. keeps_tick old between own) step).frame;
   ports = ports;
   table = table;
+  left = (λ i. sooner (table_left j old.table new.table table waits i) (soonest (map (ticks_until_due_on new) (ports i))))
+      ∙ (ap (sooner (fewer 1 (ticks_until_next_wanted old.table)))
+      (each_left j old new old.system_ports (λ n. ap is_some (same_marker n j old.table new.table table waits)) each)
+      ∙ fewer_sooner 1 (ticks_until_next_wanted old.table) (soonest (map (ticks_until_due_on old) old.system_ports)));
 }
   where
     mid : SystemState
@@ -126,6 +134,7 @@ one_tick gives j old new s h step = record {
     table = record {
       aggs = after.1.aggs ∙ step.1.1.aggs;
       conversations = after.1.conversations ∙ step.1.1.conversations;
+      first = after.1.first ∙ step.1.1.first;
       next = after.1.next ∙ step.1.1.next;
       states = λ g k. after.1.states g k ∙ step.1.1.states g k;
     }
@@ -169,38 +178,65 @@ beyond : (m : ℕ) (x : Option ℕ) → IsBeyond m x → Remains m x
 beyond m None h = refl
 beyond m (Some n) h = let l : m + 1 ≤ n = omega (arith, h) in grind (arith, nat_tests)
 
+waited_longer : (m : ℕ) (a : Assignment) → waited m (waited 1 a) ≡ waited (suc m) a
+waited_longer m (Free preferred) = refl
+waited_longer m (On port) = refl
+waited_longer m (Wanted port preferred) = refl
+waited_longer m (Flushing port id preferred age) =
+    let e : (age + 1) + m ≡ age + suc m = omega arith in ap (Flushing port id preferred) e
+
+not_waited : (a : Assignment) → a ≡ waited 0 a
+not_waited (Free preferred) = refl
+not_waited (On port) = refl
+not_waited (Wanted port preferred) = refl
+not_waited (Flushing port id preferred age) = let e : age ≡ age + 0 = omega arith in ap (Flushing port id preferred) e
+
 -- one such tick before m others
 joined : (m : ℕ) (old mid new : SystemState) → Lasts m (ticks_until_due old) → OneTick m old mid → OnlyCounted m mid new
     → OnlyCounted (suc m) old new
 joined m old mid new lasts one rest = record {
   due = rest.due;
+  frame = rest.frame ∙ ap (λ (s : SystemState). with_table (with_system_ports s new.system_ports) new.table) one.frame;
   ports = rest.ports ∙ ap (counted_times m) one.ports;
   distributing = λ agg. rest.distributing agg ∙ ap (distributing agg) one.ports ∙ counted_distributing agg old.system_ports;
+  table = rest.table ∙ (λ i. record {
+    aggs = one.table.aggs i;
+    conversations = one.table.conversations i;
+    first = one.table.first i;
+    next = one.table.next i;
+    states = new.table.states;
+  });
   conversations = λ g k i. rest.conversations g k (
     i.0,
     subst (λ n. g ≤ n) (sym one.table.aggs) i.1,
     subst (λ n. k < n) (sym one.table.conversations) i.2,
-  ) ∙ ap model_conversation (one.table.states g k) ∙ same g k i;
+  ) ∙ (ap (waited m) (one.table.states g k ∙ longer g k i) ∙ waited_longer m (assignment_of old.table g k));
+  left = rest.left ∙ (ap (fewer m) one.left ∙ (fewer_twice m 1 (ticks_until_due old) ∙ ap (λ n. fewer n (ticks_until_due old)) next));
 }
   where
+    next : 1 + m ≡ suc m
+    next = omega arith
+
     waits : Lasts m (ticks_until_next_wanted old.table)
     waits = by_first (Some (m + 2)) (ticks_until_next_wanted old.table) (soonest (map (ticks_until_due_on old) old.system_ports)) lasts
 
-    same : (g k : ℕ) → IsConversation old.table g k
-        → model_conversation (after_tick (assignment_of old.table g k)) ≡ model_conversation (assignment_of old.table g k)
-    same g k i =
+    longer : (g k : ℕ) → IsConversation old.table g k → after_tick (assignment_of old.table g k) ≡ waited 1 (assignment_of old.table g k)
+    longer g k i =
         let e : (g - 1) + 1 ≡ g = omega (arith, i.0) in
         let below : g - 1 < old.table.aggs = omega (arith, i.0, i.1) in
-        subst (λ a. model_conversation (after_tick (assignment_of old.table a k)) ≡ model_conversation (assignment_of old.table a k)) e
-        (waits_on m (assignment_of old.table ((g - 1) + 1) k) (table_lasts m old.table waits (g - 1) k below i.2)).same
+        subst (λ a. after_tick (assignment_of old.table a k) ≡ waited 1 (assignment_of old.table a k)) e
+        (waits_on m (assignment_of old.table ((g - 1) + 1) k) (table_lasts m old.table waits (g - 1) k below i.2)).longer
 
 run : (gives : ℕ → ℕ → ℕ → Type 0) (m : ℕ) (old new : SystemState) → IsSound old → Remains m (ticks_until_due old)
     → TableRun gives old (replicate m Tick) (replicate m reply.Tick) new → OnlyCounted m old new
 run gives zero old new s h e = subst (OnlyCounted 0 old) (sym e) (record {
   due = nothing_due 0 old h;
+  frame = refl;
   ports = refl;
   distributing = λ agg. refl;
-  conversations = λ g k i. refl;
+  table = refl;
+  conversations = λ g k i. not_waited (assignment_of old.table g k);
+  left = none_fewer (ticks_until_due old);
 })
 run gives (suc m) old new s h r =
     let e : suc m + 1 ≡ m + 2 = omega arith in

@@ -25,7 +25,6 @@ use Rattle.distributor.specs.declared.assignment.Assignment.TheVariants.{Free, O
 use Rattle.distributor.specs.Calls.{is_among}
 use Rattle.distributor.specs.Changes.{after_tick, marker_due, wants_marker}
 use Rattle.distributor.specs.Conversations.{Table, assignment_of, count_conversations, sum_below}
-use Rattle.distributor.specs.Moves.{model_conversation}
 use Rattle.distributor.specs.Waiting.{is_by, soonest_below, ticks_until_next_wanted, ticks_until_wanted}
 use Rattle.distributor.proofs.WaitLemmas.{by_both, by_first, by_second, soonest_all}
 use Rattle.distributor.proofs.WalkLemmas.{same_sum}
@@ -34,7 +33,7 @@ use Rattle.lagsystem.specs.declared.system_ports.SystemPort.{SystemPort}
 use Rattle.lagsystem.specs.Hosts.{would_transmit}
 use Rattle.lagsystem.specs.ModelView.{none_enabled}
 use Rattle.lagsystem.specs.NothingToSettle.{PeriodicIsSettled}
-use Rattle.lagsystem.specs.Quiet.{counted}
+use Rattle.lagsystem.specs.Quiet.{counted, waited}
 use Rattle.lagsystem.specs.Readers.{distributes_in, distributing}
 use Rattle.lagsystem.specs.Settling.{PortsChangeBy, held_unless_on}
 use Rattle.lagsystem.specs.State.{SystemState}
@@ -46,10 +45,10 @@ use Rattle.lagsystem.specs.Waiting.{soonest, ticks_in_window, ticks_until_due_on
 le_true : (a b : ℕ) → a ≤ b → nat_le a b ≡ true
 le_true a b h = grind (arith, nat_tests)
 
-le_from : (a b : ℕ) → nat_le a b ≡ true → a ≤ b
+pub le_from : (a b : ℕ) → nat_le a b ≡ true → a ≤ b
 le_from a b h = grind (arith, nat_tests)
 
-lt_true : (a b : ℕ) → a < b → nat_lt a b ≡ true
+pub lt_true : (a b : ℕ) → a < b → nat_lt a b ≡ true
 lt_true a b h = grind (arith, nat_tests)
 
 lt_from : (a b : ℕ) → nat_lt a b ≡ true → a < b
@@ -69,7 +68,7 @@ Remains j x = is_by (Some (j + 1)) x ≡ true
 -- ---- timers
 
 -- a timer has expired, or does not expire soon
-lasting : (j t : ℕ) (b : Bool) → nat_lt 0 t ≡ b → Lasts j (if b then Some t else None) → (t ≡ 0) ⊎ (j + 2 ≤ t)
+pub lasting : (j t : ℕ) (b : Bool) → nat_lt 0 t ≡ b → Lasts j (if b then Some t else None) → (t ≡ 0) ⊎ (j + 2 ≤ t)
 lasting j t true e h = inr (le_from (j + 2) t h)
 lasting j t false e h = let z : t ≡ 0 = grind (arith, nat_tests) in inl z
 
@@ -91,7 +90,7 @@ timer_remains j t h = elim (lasting j t (nat_lt 0 t) refl h) [
 
 -- ---- the transmit window
 
-aged_on : (a : ℕ) (more : List ℕ) → a + 1 < 11 → aged (a ∷ more) ≡ (a + 1) ∷ aged more
+pub aged_on : (a : ℕ) (more : List ℕ) → a + 1 < 11 → aged (a ∷ more) ≡ (a + 1) ∷ aged more
 aged_on a more h = ap (λ b. cond b ((a + 1) ∷ aged more) (aged more)) (lt_true (a + 1) 11 h)
 
 window_on : (j : ℕ) (ages : List ℕ) → Lasts j (soonest (map ticks_in_window ages))
@@ -341,12 +340,12 @@ carried_on ports (Flushing p id preferred age) k = refl
 pub record WaitsOn (j : ℕ) (a : Assignment) : Type 0 where
   pub remains : Remains j (ticks_until_wanted (after_tick a))
   pub wants : (port : ℕ) → wants_marker port (after_tick a) ≡ wants_marker port a
-  pub same : model_conversation (after_tick a) ≡ model_conversation a
+  pub longer : after_tick a ≡ waited 1 a
 
 pub waits_on : (j : ℕ) (a : Assignment) → Lasts j (ticks_until_wanted a) → WaitsOn j a
-waits_on j (Free preferred) h = record { remains = refl; wants = λ port. refl; same = refl }
-waits_on j (On q) h = record { remains = refl; wants = λ port. refl; same = refl }
-waits_on j (Wanted q preferred) h = record { remains = refl; wants = λ port. refl; same = refl }
+waits_on j (Free preferred) h = record { remains = refl; wants = λ port. refl; longer = refl }
+waits_on j (On q) h = record { remains = refl; wants = λ port. refl; longer = refl }
+waits_on j (Wanted q preferred) h = record { remains = refl; wants = λ port. refl; longer = refl }
 waits_on j (Flushing q id preferred age) h =
     let left : j + 2 ≤ 30 - age = le_from (j + 2) (30 - age) h in
     let young : age + 1 < 30 = omega (arith, left) in
@@ -356,7 +355,7 @@ waits_on j (Flushing q id preferred age) h =
     record {
       remains = subst (λ x. Remains j (ticks_until_wanted x)) (sym e) (le_true (j + 1) (30 - (age + 1)) later);
       wants = λ port. ap (wants_marker port) e;
-      same = ap model_conversation e;
+      longer = e;
     }
 
 below_lasts : (f : ℕ → Option ℕ) (n : ℕ) (x : Option ℕ) (k : ℕ) → is_by x (soonest_below f n) ≡ true → k < n → is_by x (f k) ≡ true
@@ -378,6 +377,7 @@ table_lasts j t h a c l m =
 pub record TableTicked (s t : Table) : Type 0 where
   pub aggs : t.aggs ≡ s.aggs
   pub conversations : t.conversations ≡ s.conversations
+  pub first : t.first ≡ s.first
   pub next : t.next ≡ s.next
   pub states : (a c : ℕ) → assignment_of t a c ≡ after_tick (assignment_of s a c)
 

@@ -25,3 +25,4 @@ pub mod Texts
 pub mod Forcing
 pub mod Waiting
 pub mod Quiet
+pub mod Soonest

@@ -1,6 +1,7 @@
 ghost use Rattle.lagsystem.specs.SecondSettling.{SecondSettlingIsNothing};
 ghost use Rattle.lagsystem.specs.Due.{TransmitsWhatIsDue};
 ghost use Rattle.lagsystem.specs.Quiet.{QuietUntilDue};
+ghost use Rattle.lagsystem.specs.Soonest.{TellsTheFirst};
 ghost use Rattle.std.specs.Prelude.{◌≡◌};
 ghost use Rattle.lagsystem.specs.First.{IsFirst};
 ghost use Rattle.lagsystem.specs.State.{SystemState, with_system_ports, with_table};
@@ -35,10 +36,17 @@ pub fn transmit_answers_what_is_due()
 {}
 
 /// While fewer ticks pass than `ticks_until_due` tells, and no other call comes, a tick only counts timers down and ages
-/// up: no frame gets due, the same ports distribute in each aggregator, and each conversation stays in its state; where
-/// `ticks_until_due` tells None, for ever (profile).
+/// up: no frame gets due, the same ports distribute in each aggregator, each conversation stays in its state, nothing else
+/// changes, and `ticks_until_due` tells as many ticks fewer; where it tells None, for ever (profile).
 pub fn ticks_only_count_until_due<F: Fn(u16, usize) -> usize>()
     ensures { (algorithm : F) → QuietUntilDue (F.post algorithm) }
+{}
+
+/// `ticks_until_due` tells the ticks of what happens first in a system by itself: a frame that is due, now; a timer that
+/// expires; an LACPDU that leaves the transmit window while another is to be sent; a conversation that is Wanted again.
+/// Nothing of these is sooner, and where it tells None there is none (6.4.10, 6.4.16; profile).
+pub fn ticks_until_due_tells_the_first()
+    ensures { TellsTheFirst }
 {}
 
 /// A call of a system has at most one reply and leads to at most one state, and so do a list of calls and `force_port`, if

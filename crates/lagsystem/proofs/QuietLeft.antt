@@ -1,0 +1,139 @@
+-- The ticks until something happens are one fewer after a tick in which nothing is soon.
+use Rattle.std.proofs.Common.{◌≡◌, ◌∙◌, ℕ, zero, suc, ◌+◌, ◌-◌, ◌≤◌, ◌<◌, Bool, true, false, List, [], ◌∷◌, map, Option, Some, None}
+use Rattle.std.proofs.Common.{nat_lt, refl, sym, ap, subst, arith, inl, inr, ◌&&◌}
+use Rattle.std.proofs.Common.{if◌then◌else◌}
+use Rattle.std.specs.Prelude.{is_some, min}
+use Rattle.std.specs.List.{AllByRecursion}
+use Rattle.portmachines.specs.Machines.{Machines}
+use Rattle.portmachines.specs.Transmit.{aged}
+use Rattle.distributor.specs.declared.assignment.Assignment.{Assignment}
+use Rattle.distributor.specs.declared.assignment.Assignment.TheVariants.{Free, On, Wanted, Flushing}
+use Rattle.distributor.specs.Changes.{marker_due}
+use Rattle.distributor.specs.Conversations.{Table, assignment_of}
+use Rattle.distributor.specs.Waiting.{is_by, sooner, soonest_below, ticks_until_next_wanted, ticks_until_wanted}
+use Rattle.distributor.proofs.WaitLemmas.{by_first, by_second, same_soonest}
+use Rattle.lagsystem.specs.declared.system_ports.SystemPort.{SystemPort}
+use Rattle.lagsystem.specs.Hosts.{would_transmit}
+use Rattle.lagsystem.specs.Quiet.{counted, fewer, waited}
+use Rattle.lagsystem.specs.State.{SystemState}
+use Rattle.lagsystem.specs.Waiting.{soonest, ticks_in_window, ticks_until_due_on, ticks_until_expired, ticks_until_frame, ticks_until_room}
+use Rattle.lagsystem.proofs.QuietTicks.{Lasts, PortLasts, TableTicked, aged_on, frame_not, lasting, le_from, lt_true, still_not_due}
+use Rattle.lagsystem.proofs.QuietTicks.{table_lasts, waits_on}
+
+-- numbers of ticks
+
+pub fewer_sooner : (m : ℕ) (a b : Option ℕ) → sooner (fewer m a) (fewer m b) ≡ fewer m (sooner a b)
+fewer_sooner m None None = refl
+fewer_sooner m None (Some y) = refl
+fewer_sooner m (Some x) None = refl
+fewer_sooner m (Some x) (Some y) = let e : min (x - m) (y - m) ≡ min x y - m = omega arith in ap Some e
+
+pub fewer_twice : (m n : ℕ) (a : Option ℕ) → fewer m (fewer n a) ≡ fewer (n + m) a
+fewer_twice m n None = refl
+fewer_twice m n (Some x) = let e : (x - n) - m ≡ x - (n + m) = omega arith in ap Some e
+
+pub none_fewer : (a : Option ℕ) → a ≡ fewer 0 a
+none_fewer None = refl
+none_fewer (Some x) = let e : x ≡ x - 0 = omega arith in ap Some e
+
+fewer_soonest : (m : ℕ) (xs : List (Option ℕ)) → soonest (map (fewer m) xs) ≡ fewer m (soonest xs)
+fewer_soonest m [] = refl
+fewer_soonest m (x ∷ xs) = ap (sooner (fewer m x)) (fewer_soonest m xs) ∙ fewer_sooner m x (soonest xs)
+
+-- timers
+
+running : (t : ℕ) → 0 < t → ticks_until_expired t ≡ Some t
+running t l = ap (λ b. if b then Some t else None) (lt_true 0 t l)
+
+timer_left : (j t : ℕ) → Lasts j (ticks_until_expired t) → ticks_until_expired (t - 1) ≡ fewer 1 (ticks_until_expired t)
+timer_left j t h = elim (lasting j t (nat_lt 0 t) refl h) [
+  | inl z ↦ (let e : t - 1 ≡ 0 = omega (arith, z) in ap ticks_until_expired e ∙ sym (ap (λ n. fewer 1 (ticks_until_expired n)) z))
+  | inr l ↦ running (t - 1) (omega (arith, l)) ∙ sym (ap (fewer 1) (running t (omega (arith, l))))
+]
+
+-- the transmit window
+
+window_left : (j : ℕ) (ages : List ℕ) → Lasts j (soonest (map ticks_in_window ages))
+    → soonest (map ticks_in_window (aged ages)) ≡ fewer 1 (soonest (map ticks_in_window ages))
+window_left j [] h = refl
+window_left j (a ∷ more) h =
+    let rest = window_left j more (by_second (Some (j + 2)) (ticks_in_window a) (soonest (map ticks_in_window more)) h) in
+    let here : j + 2 ≤ 11 - a = le_from (j + 2) (11 - a)
+    (by_first (Some (j + 2)) (ticks_in_window a) (soonest (map ticks_in_window more)) h) in
+    let young : a + 1 < 11 = omega (arith, here) in
+    let one : 11 - (a + 1) ≡ (11 - a) - 1 = omega arith in
+    ap (λ l. soonest (map ticks_in_window l)) (aged_on a more young)
+    ∙ ((λ i. sooner (Some (one i)) (rest i)) ∙ fewer_sooner 1 (ticks_in_window a) (soonest (map ticks_in_window more)))
+
+room_left : (j : ℕ) (p : Machines) (b : Bool) → Lasts j (if b then soonest (map ticks_in_window p.ages) else None)
+    → (if b then soonest (map ticks_in_window (aged p.ages)) else None) ≡ fewer 1 (if b then soonest (map ticks_in_window p.ages) else None)
+room_left j p true h = window_left j p.ages h
+room_left j p false h = refl
+
+-- ports
+
+abbrev now_if : Bool → Option ℕ
+now_if b = if b then Some 0 else None
+
+no_frame : (b : Bool) → b ≡ false → now_if b ≡ None
+no_frame b e = ap now_if e
+
+frame_left : (j : ℕ) (s t : SystemState) (x : SystemPort) → PortLasts j s x
+    → is_some (marker_due t.table x.number) ≡ is_some (marker_due s.table x.number)
+    → ticks_until_frame t (counted x) ≡ fewer 1 (ticks_until_frame s x)
+frame_left j s t x h m =
+    let two : j + 2 ≡ (j + 1) + 1 = omega arith in
+    let was = frame_not (j + 1) (would_transmit s x) (subst (λ n. is_by (Some n) (ticks_until_frame s x) ≡ true) two h.frame) in
+    no_frame (would_transmit t (counted x)) (still_not_due j s t x h m) ∙ sym (ap (fewer 1) (no_frame (would_transmit s x) was))
+
+port_left : (j : ℕ) (s t : SystemState) (x : SystemPort) → PortLasts j s x
+    → is_some (marker_due t.table x.number) ≡ is_some (marker_due s.table x.number)
+    → ticks_until_due_on t (counted x) ≡ fewer 1 (ticks_until_due_on s x)
+port_left j s t x h m =
+    let frame = frame_left j s t x h m in
+    let current = timer_left j x.port.current_while h.current_while in
+    let periodic = timer_left j x.port.periodic_timer h.periodic_timer in
+    let wait = timer_left j x.port.wait_while h.wait_while in
+    let room = room_left j x.port (x.port.enabled && x.port.ntt) h.room in
+    (λ i. soonest (frame i ∷ current i ∷ periodic i ∷ wait i ∷ room i ∷ []))
+    ∙ fewer_soonest 1
+    (ticks_until_frame s x
+    ∷ ticks_until_expired x.port.current_while
+    ∷ ticks_until_expired x.port.periodic_timer
+    ∷ ticks_until_expired x.port.wait_while
+    ∷ ticks_until_room x.port
+    ∷ [])
+
+pub each_left : (j : ℕ) (s t : SystemState) (xs : List SystemPort)
+    → ((n : ℕ) → is_some (marker_due t.table n) ≡ is_some (marker_due s.table n)) → AllByRecursion (PortLasts j s) xs
+    → soonest (map (ticks_until_due_on t) (map counted xs)) ≡ fewer 1 (soonest (map (ticks_until_due_on s) xs))
+each_left j s t [] m h = refl
+each_left j s t (x ∷ xs) m h =
+    let here = port_left j s t x h.0 (m x.number) in
+    let more = each_left j s t xs m h.1 in
+    (λ i. sooner (here i) (more i)) ∙ fewer_sooner 1 (ticks_until_due_on s x) (soonest (map (ticks_until_due_on s) xs))
+
+-- conversations
+
+wait_left : (a : Assignment) → ticks_until_wanted (waited 1 a) ≡ fewer 1 (ticks_until_wanted a)
+wait_left (Free preferred) = refl
+wait_left (On port) = refl
+wait_left (Wanted port preferred) = refl
+wait_left (Flushing port id preferred age) = let e : 30 - (age + 1) ≡ (30 - age) - 1 = omega arith in ap Some e
+
+below_left : (f : ℕ → Option ℕ) (n : ℕ) → soonest_below (λ k. fewer 1 (f k)) n ≡ fewer 1 (soonest_below f n)
+unfolding soonest_below
+below_left f zero = refl
+below_left f (suc n) = ap (λ x. sooner x (fewer 1 (f n))) (below_left f n) ∙ fewer_sooner 1 (soonest_below f n) (f n)
+
+pub table_left : (j : ℕ) (s t : Table) → TableTicked s t → Lasts j (ticks_until_next_wanted s)
+    → ticks_until_next_wanted t ≡ fewer 1 (ticks_until_next_wanted s)
+table_left j s t k h =
+    (λ i. soonest_below (λ a. soonest_below (λ c. ticks_until_wanted (assignment_of t (a + 1) c)) (k.conversations i)) (k.aggs i))
+    ∙ (same_soonest (λ a. soonest_below (λ c. ticks_until_wanted (assignment_of t (a + 1) c)) s.conversations)
+    (λ a. fewer 1 (soonest_below (λ c. ticks_until_wanted (assignment_of s (a + 1) c)) s.conversations)) s.aggs
+    (λ a l. same_soonest (λ c. ticks_until_wanted (assignment_of t (a + 1) c)) (λ c. fewer 1 (ticks_until_wanted (assignment_of s (a + 1) c)))
+    s.conversations (λ c m. ap ticks_until_wanted (k.states (a + 1) c ∙ (waits_on j (assignment_of s (a + 1) c) (table_lasts j s h a c l m)).longer)
+    ∙ wait_left (assignment_of s (a + 1) c))
+    ∙ below_left (λ c. ticks_until_wanted (assignment_of s (a + 1) c)) s.conversations)
+    ∙ below_left (λ a. soonest_below (λ c. ticks_until_wanted (assignment_of s (a + 1) c)) s.conversations) s.aggs)
