@@ -22,3 +22,5 @@ mod OneActive
 mod Climbing
 mod ComingUp
 mod Stamps
+mod Played
+mod Reaching

@@ -8,6 +8,7 @@ pub mod Waits
 pub mod Steady
 pub mod Passing
 pub mod Rounds
+pub mod Played
 pub mod Progress
 pub mod ComingUp
 pub mod Agreeing

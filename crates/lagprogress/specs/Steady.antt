@@ -1,5 +1,5 @@
 -- What holds of both systems of each world that events lead to (profile).
-use Rattle.std.specs.Prelude.{ℕ, List}
+use Rattle.std.specs.Prelude.{ℕ, ◌≤◌, List}
 use Rattle.lagmodel.specs.World.{Side}
 use Rattle.lagsystem.specs.declared.config.Config.{Config}
 use Rattle.lagsystem.specs.declared.drive.Reply.{Reply as Answer}
@@ -8,9 +8,9 @@ use Rattle.lagsystem.specs.Sound.{IsSound}
 use Rattle.lagsystem.specs.State.{SystemState}
 use Rattle.lagscript.specs.declared.event.Event.{Event}
 use Rattle.lagworld.specs.declared.reply.Reply.{Reply}
-use Rattle.lagworld.specs.Events.{Algorithms, WorldSteps}
+use Rattle.lagworld.specs.Events.{Algorithms, WorldRuns, WorldSteps, most_events}
 use Rattle.lagworld.specs.Making.{AreFirst}
-use Rattle.lagworld.specs.Sound.{IsStart}
+use Rattle.lagworld.specs.Sound.{IsSound as IsSoundWorld, IsStart}
 use Rattle.lagworld.specs.State.{WorldState, half}
 use Rattle.lagprogress.specs.Timers.{PortsAreTimed}
 
@@ -30,6 +30,16 @@ StartIsSteady = (configs : List Config) (j : WorldState) → IsStart j → AreFi
 abbrev pub EachEventKeepsSteady : Algorithms → Type 0
 EachEventKeepsSteady gives = (e : Event) (r : Reply) (old new : WorldState) → WorldSteps gives old e r new → IsSteady old
     → IsSteady new
+
+-- and so does each list of events
+abbrev pub EachRunKeepsSteady : Algorithms → Type 0
+EachRunKeepsSteady gives = (es : List Event) (rs : List Reply) (old new : WorldState) → WorldRuns gives old es rs new → IsSteady old
+    → IsSteady new
+
+-- so each world that events lead to from a start is so, and sound, if no more events acted than may
+abbrev pub EachReachedIsSteady : Algorithms → Type 0
+EachReachedIsSteady gives = (configs : List Config) (es : List Event) (rs : List Reply) (start new : WorldState) → IsStart start
+    → AreFirst configs start → WorldRuns gives start es rs new → new.acted ≤ most_events → IsSoundWorld new × IsSteady new
 
 -- some calls lead from one state of a system to another
 abbrev pub GoesByCalls : (ℕ → ℕ → ℕ → Type 0) → SystemState → SystemState → Type 0

@@ -1,11 +1,16 @@
 //! How ports make progress: which are SELECTED, how long one is silent, notices silence, and knows what it heard, how far
-//! timers go, and how soon a link comes up. The functions of this crate do nothing when they run: the contract of each is a
-//! proved theorem over the states and calls of `lagsystem`, and over the events of `lagworld`.
+//! timers go, and how soon a link comes up. The functions of this crate but two do nothing when they run: the contract of each
+//! is a proved theorem over the states and calls of `lagsystem`, and over the events of `lagworld`. `play_round` and
+//! `play_rounds` play healthy rounds, so there are such.
 //!
 //! In comments, numbers such as 6.4.13 are sections of IEEE 802.1AX-2014, and "profile" is docs/PROFILE.md.
 #![tactic(auto)]
 
+mod playing;
+
 ghost use Rattle.lagprogress.specs.Silence.{SilenceEnds};
+
+pub use playing::{play_round, play_rounds};
 
 /// An active port whose link is up is not silent for long: no run of the periodic machine raises the bound on the ticks
 /// until NTT is true; each tick lowers it by one; and at 0 NTT is true (6.4.13).
@@ -80,6 +85,7 @@ pub fn what_was_heard_is_known<F: Fn(u16, usize) -> usize>()
 
 ghost use Rattle.lagworld.specs.Sound.{both_algorithms};
 ghost use Rattle.lagprogress.specs.Steady.{EachEventIsCalls, EachEventKeepsSteady, StartIsSteady};
+ghost use Rattle.lagprogress.specs.Steady.{EachReachedIsSteady, EachRunKeepsSteady};
 
 /// Each event of a world is a list of calls of each of its two systems, perhaps an empty one (profile). Which calls they
 /// are it does not say.
@@ -87,11 +93,14 @@ pub fn each_event_is_calls<F: Fn(u16, usize) -> usize>()
     ensures { (one two : F) → EachEventIsCalls (both_algorithms (F.post one) (F.post two)) }
 {}
 
-/// Both systems of a world are sound, and their timers within their bounds: at the start, and after each event, whatever
-/// the distribution algorithms return (6.4.4; profile).
+/// Both systems of a world are sound, and their timers within their bounds: at the start, after each event and after any
+/// events, whatever the distribution algorithms return. So what `links_come_up` and `links_agree` want of both systems, and
+/// of the world, holds of each world that events lead to from a start (6.4.4; profile).
 pub fn each_world_is_steady<F: Fn(u16, usize) -> usize>()
     ensures start { StartIsSteady }
     ensures kept { (one two : F) → EachEventKeepsSteady (both_algorithms (F.post one) (F.post two)) }
+    ensures run { (one two : F) → EachRunKeepsSteady (both_algorithms (F.post one) (F.post two)) }
+    ensures reached { (one two : F) → EachReachedIsSteady (both_algorithms (F.post one) (F.post two)) }
 {}
 
 ghost use Rattle.lagprogress.specs.Passing.{DeliverProcessesLacpdu, EmitSendsLacpdu};
