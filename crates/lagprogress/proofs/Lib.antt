@@ -8,6 +8,7 @@ mod Heartbeat
 mod Hearing
 mod Knowing
 mod Waits
+mod Told
 mod Halves
 mod Passing
 mod Sounding

@@ -5,6 +5,7 @@ pub mod Heartbeat
 pub mod Hearing
 pub mod Knowing
 pub mod Waits
+pub mod Told
 pub mod Steady
 pub mod Passing
 pub mod Rounds
