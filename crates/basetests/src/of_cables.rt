@@ -23,66 +23,85 @@ fn data(alloc: Global) -> Result<Item, AllocError> {
     Ok(Item { bytes, stamp })
 }
 
-/// Makes each call of a cable: puts items with the stamps from 0 up to `tries` on, takes off those that the cable
-/// accepted, then sends a data frame through it, and clears another.
+/// `push` of the control frame with this count: whether the cable accepts it, or hands it back.
+fn pushes<C: Cable>(rt: &impl Abort, alloc: Global, cable: &mut C, count: u64, accepts: bool) {
+    let item = control(alloc, count);
+    let wanted = if accepts { Ok(()) } else { Err(item) };
+    let answer = cable.push(control(alloc, count));
+    assert_eq!(rt; answer, wanted, "push of item {count}");
+}
+
+/// The first item is the control frame with this count, and is taken off.
+fn pops<C: Cable>(rt: &impl Abort, alloc: Global, cable: &mut C, count: u64) {
+    let first = control(alloc, count);
+    assert_eq!(rt; cable.front(), Some(&first), "front of item {count}");
+    assert_eq!(rt; cable.pop(), Some(first), "pop of item {count}");
+}
+
+fn is_empty<C: Cable>(rt: &impl Abort, cable: &mut C) {
+    assert_eq!(rt; cable.front(), None, "front of an empty cable");
+    assert_eq!(rt; cable.pop(), None, "pop of an empty cable");
+}
+
+/// How many items are on the cable, and how many it can hold.
+fn holds<C: Cable>(rt: &impl Abort, cable: &C, len: u64, limit: Option<u16>) {
+    assert_eq!(rt; cable.len() as u64, len, "limit {limit:?}: len");
+    assert_eq!(rt; cable.limit(), limit.map(usize::from), "limit");
+}
+
+/// Puts items with the stamps from 0 up to `tries` on; the cable accepts this many.
+fn fills<C: Cable>(
+    rt: &impl Abort,
+    alloc: Global,
+    cable: &mut C,
+    kept: u64,
+    tries: u64,
+) -> Result<(), AllocError> {
+    for count in 0..tries {
+        cable.reserve_one()?;
+        pushes(rt, alloc, cable, count, count < kept);
+    }
+    Ok(())
+}
+
+/// Sends a data frame through a cable, and leaves another on it.
+fn takes_data<C: Cable>(rt: &impl Abort, alloc: Global, cable: &mut C) -> Result<(), AllocError> {
+    assert_eq!(rt; cable.push(data(alloc)?), Ok(()), "push of a data frame");
+    assert_eq!(rt; cable.pop(), Some(data(alloc)?), "pop of a data frame");
+    assert_eq!(rt; cable.push(data(alloc)?), Ok(()), "push before clear");
+    Ok(())
+}
+
+/// Makes each call of a cable: puts items on, takes off those that the cable accepted, then sends a data frame through it,
+/// and clears another.
 fn carries<C: Cable>(
     rt: &impl Abort,
     alloc: Global,
     mut cable: C,
     limit: Option<u16>,
     tries: u64,
-) -> Result<(), Fail> {
-    assert_eq!(rt;
-        cable.limit(),
-        limit.map(usize::from),
-        "limit of a new cable"
-    );
+) -> Result<(), AllocError> {
     let kept = limit.map_or(tries, u64::from);
-    for count in 0..tries {
-        cable.reserve_one()?;
-        let item = control(alloc, count);
-        let wanted = if count < kept { Ok(()) } else { Err(item) };
-        let answer = cable.push(control(alloc, count));
-        assert_eq!(rt; answer, wanted, "limit {limit:?}: push of item {count}");
-    }
-    assert_eq!(rt; cable.len() as u64, kept, "limit {limit:?}: len");
+    holds(rt, &cable, 0, limit);
+    fills(rt, alloc, &mut cable, kept, tries)?;
+    holds(rt, &cable, kept, limit);
     for count in 0..kept {
-        let first = control(alloc, count);
-        assert_eq!(rt;
-            cable.front(),
-            Some(&first),
-            "limit {limit:?}: front of item {count}"
-        );
-        assert_eq!(rt;
-            cable.pop(),
-            Some(first),
-            "limit {limit:?}: pop of item {count}"
-        );
+        pops(rt, alloc, &mut cable, count);
     }
-    assert_eq!(rt;
-        cable.front(),
-        None,
-        "limit {limit:?}: front of an empty cable"
-    );
-    assert_eq!(rt; cable.pop(), None, "limit {limit:?}: pop of an empty cable");
-    assert_eq!(rt;
-        cable.push(data(alloc)?),
-        Ok(()),
-        "limit {limit:?}: push of a data frame"
-    );
-    assert_eq!(rt;
-        cable.pop(),
-        Some(data(alloc)?),
-        "limit {limit:?}: pop of a data frame"
-    );
-    assert_eq!(rt;
-        cable.push(data(alloc)?),
-        Ok(()),
-        "limit {limit:?}: push before clear"
-    );
+    is_empty(rt, &mut cable);
+    takes_data(rt, alloc, &mut cable)?;
     cable.clear();
-    assert_eq!(rt; cable.len(), 0, "limit {limit:?}: len after clear");
-    assert_eq!(rt; cable.limit(), limit.map(usize::from), "limit after clear");
+    holds(rt, &cable, 0, limit);
+    Ok(())
+}
+
+/// Both kinds of a cable with this limit.
+fn rings_carry(rt: &impl Abort, alloc: Global, limit: u16) -> Result<(), CableFault> {
+    let tries = u64::from(limit) + 2;
+    let ring = RingCable::new(alloc, limit)?;
+    carries(rt, alloc, ring, Some(limit), tries)?;
+    let either = AnyCable::Ring(RingCable::new(alloc, limit)?);
+    carries(rt, alloc, either, Some(limit), tries)?;
     Ok(())
 }
 
@@ -93,11 +112,7 @@ fn each_kind_is_filled_to_its_limit_and_past_it(rt: HostRuntime) -> Result<(), F
     let either = AnyCable::List(ListCable::new(alloc));
     carries(&rt, alloc, either, None, 65_537)?;
     for limit in [1, 2, 65_535] {
-        let tries = u64::from(limit) + 2;
-        let ring = RingCable::new(alloc, limit)?;
-        carries(&rt, alloc, ring, Some(limit), tries)?;
-        let either = AnyCable::Ring(RingCable::new(alloc, limit)?);
-        carries(&rt, alloc, either, Some(limit), tries)?;
+        rings_carry(&rt, alloc, limit)?;
     }
     Ok(())
 }
@@ -108,48 +123,80 @@ fn a_limit_of_0_is_refused(rt: HostRuntime) {
     assert_eq!(rt; refused, Some(CableFault::Limit), "new with limit 0");
 }
 
-#[test]
-fn faults_have_numbers_and_texts(rt: HostRuntime) -> Result<(), Fail> {
-    let rows = [
-        (CableFault::Limit, 1, "the limit is 0"),
-        (CableFault::NoMemory, 2, "out of memory"),
-    ];
-    for (fault, number, text) in rows {
-        assert_eq!(rt; fault.number(), number, "number of {fault:?}");
-        let printed = format!(in rt.alloc(); "{fault}")?;
-        assert_eq!(rt; printed.as_str(), text, "text of {fault:?}");
-    }
+/// A fault has this number, and prints this text.
+fn tells(
+    rt: &impl Abort,
+    alloc: Global,
+    fault: CableFault,
+    number: u8,
+    text: &str,
+) -> Result<(), AllocError> {
+    assert_eq!(rt; fault.number(), number, "number of {fault:?}");
+    let printed = format!(in alloc; "{fault}")?;
+    assert_eq!(rt; printed.as_str(), text, "text of {fault:?}");
     Ok(())
 }
 
 #[test]
-fn a_ring_serves_long_after_it_first_was_full(rt: HostRuntime) -> Result<(), Fail> {
+fn faults_have_numbers_and_texts(rt: HostRuntime) -> Result<(), AllocError> {
+    tells(&rt, rt.alloc(), CableFault::Limit, 1, "the limit is 0")?;
+    tells(&rt, rt.alloc(), CableFault::NoMemory, 2, "out of memory")
+}
+
+/// A ring of three places is full: an item comes back, the first one leaves, and the item goes on.
+fn turns(rt: &impl Abort, alloc: Global, ring: &mut RingCable, first: u64) {
+    let count = first.saturating_add(3);
+    pushes(rt, alloc, ring, count, false);
+    pops(rt, alloc, ring, first);
+    pushes(rt, alloc, ring, count, true);
+    holds(rt, ring, 3, Some(3));
+}
+
+#[test]
+fn a_ring_serves_long_after_it_first_was_full(rt: HostRuntime) -> Result<(), CableFault> {
     let alloc = rt.alloc();
     let mut cable = RingCable::new(alloc, 3)?;
     for count in 0..3 {
-        assert_eq!(rt;
-            cable.push(control(alloc, count)),
-            Ok(()),
-            "push of item {count}"
-        );
+        pushes(&rt, alloc, &mut cable, count, true);
     }
-    for count in 3..10_000u64 {
-        let back = cable.push(control(alloc, count));
-        assert_eq!(rt;
-            back,
-            Err(control(alloc, count)),
-            "push of item {count}, full"
-        );
-        let first = control(alloc, count - 3);
-        assert_eq!(rt; cable.pop(), Some(first), "pop before item {count}");
-        assert_eq!(rt;
-            cable.push(control(alloc, count)),
-            Ok(()),
-            "push of item {count}"
-        );
-        assert_eq!(rt; cable.len(), 3, "len with item {count}");
+    for first in 0..9_997 {
+        turns(&rt, alloc, &mut cable, first);
     }
     Ok(())
+}
+
+/// An item that was refused came back, and the list is as long as before.
+fn came_back(rt: &impl Abort, list: &ListCable, back: Item, wanted: Item, before: usize) {
+    assert_eq!(rt; back, wanted, "push");
+    assert_eq!(rt; list.len(), before, "len after a refused push");
+}
+
+/// Reserves a place in a list and puts an item there; if memory is refused, the list stays as it is.
+fn grows(rt: &impl Abort, alloc: Global, list: &mut ListCable, count: u64) {
+    let before = list.len();
+    let reserved = list.reserve_one().is_ok();
+    assert_eq!(rt;
+        list.len(),
+        before,
+        "len after reserve_one for item {count}"
+    );
+    match list.push(control(alloc, count)) {
+        Ok(()) => assert!(rt; list.len() > before, "len after push of item {count}"),
+        Err(back) => {
+            assert!(rt;
+                !reserved,
+                "item {count} came back though a place was reserved"
+            );
+            came_back(rt, list, back, control(alloc, count), before);
+        }
+    }
+}
+
+fn fills_ring(rt: &impl Abort, alloc: Global, ring: &mut RingCable) {
+    for count in 0..100 {
+        assert!(rt; ring.reserve_one().is_ok(), "reserve_one for item {count}");
+        pushes(rt, alloc, ring, count, true);
+    }
 }
 
 /// Passes whichever allocation is refused.
@@ -158,40 +205,10 @@ fn refused_memory_leaves_the_items(rt: HostRuntime) {
     let alloc = rt.alloc();
     let mut list = ListCable::new(alloc);
     for count in 0..100 {
-        let before = list.len();
-        let reserved = list.reserve_one().is_ok();
-        assert_eq!(rt;
-            list.len(),
-            before,
-            "len after reserve_one for item {count}"
-        );
-        match list.push(control(alloc, count)) {
-            Ok(()) => assert!(rt; list.len() > before, "len after push of item {count}"),
-            Err(back) => {
-                assert!(rt;
-                    !reserved,
-                    "item {count} came back though a place was reserved"
-                );
-                assert_eq!(rt; back, control(alloc, count), "push of item {count}");
-                assert_eq!(rt;
-                    list.len(),
-                    before,
-                    "len after a refused push of item {count}"
-                );
-            }
-        }
+        grows(&rt, alloc, &mut list, count);
     }
     match RingCable::new(alloc, 100) {
-        Ok(mut ring) => {
-            for count in 0..100 {
-                assert!(rt; ring.reserve_one().is_ok(), "reserve_one for item {count}");
-                assert_eq!(rt;
-                    ring.push(control(alloc, count)),
-                    Ok(()),
-                    "push of item {count}"
-                );
-            }
-        }
+        Ok(mut ring) => fills_ring(&rt, alloc, &mut ring),
         Err(fault) => assert_eq!(rt; fault, CableFault::NoMemory, "new with limit 100"),
     }
 }

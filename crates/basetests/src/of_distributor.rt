@@ -3,9 +3,8 @@ ghost use Rattle.distributor.specs.Calls.{PicksIndexes};
 
 use distributor::{Assignment, DistFault, Distributor, by_number};
 use lagtypes::{AggId, NoMemory};
-use std::alloc::Global;
+use std::alloc::{AllocError, Global};
 use std::process::Abort;
-use std::test::Fail;
 
 /// The algorithm of the program. A function of another crate cannot be handed over itself.
 fn by_place(conversation: u16, count: usize) -> usize
@@ -16,7 +15,21 @@ fn by_place(conversation: u16, count: usize) -> usize
 
 const AGG: AggId = AggId(1);
 
-/// A call on aggregator 1, with its expected result.
+/// What a reader of a distributor returns.
+#[derive(Clone, Copy, Debug, PartialEq, Eq)]
+enum Fact {
+    State(u16, Assignment),
+    Preferred(u16, Option<u16>),
+    IsConversation(u16, bool),
+    /// This many conversations of the aggregator are On this port.
+    CountOn(u16, u16),
+    Load(u16, u32),
+    Conversations(u16),
+    NextMarker(Option<u32>),
+    NextWanted(Option<u8>),
+}
+
+/// A call on an aggregator, with its expected result.
 #[derive(Clone, Copy, Debug, PartialEq, Eq)]
 enum Row {
     Assign(u16, Result<u16, DistFault>),
@@ -28,9 +41,7 @@ enum Row {
     Leave(u16),
     Down(u16),
     Clear,
-    State(u16, Assignment),
-    Load(u16, u32),
-    NextWanted(Option<u8>),
+    Is(Fact),
 }
 
 fn tick<F: Fn(u16, usize) -> usize + Drop>(d: &mut Distributor<F>, count: u16)
@@ -41,31 +52,59 @@ fn tick<F: Fn(u16, usize) -> usize + Drop>(d: &mut Distributor<F>, count: u16)
     }
 }
 
-/// Makes the call of a row while these ports distribute, and returns the row with the actual result in the place of the
-/// expected one.
-fn play<F: Fn(u16, usize) -> usize + Drop>(d: &mut Distributor<F>, ports: &[u16], row: Row) -> Row
+/// How many conversations of the aggregator are On the port.
+fn count_on<F: Fn(u16, usize) -> usize + Drop>(d: &Distributor<F>, agg: AggId, port: u16) -> u16 {
+    let mut count = 0u16;
+    for conv in 0..4096u16 {
+        if d.state(agg, conv) == Assignment::On(port) {
+            count = count.saturating_add(1);
+        }
+    }
+    count
+}
+
+/// What the reader that a fact names returns.
+fn read<F: Fn(u16, usize) -> usize + Drop>(d: &Distributor<F>, agg: AggId, fact: Fact) -> Fact {
+    match fact {
+        Fact::State(conv, _) => Fact::State(conv, d.state(agg, conv)),
+        Fact::Preferred(conv, _) => Fact::Preferred(conv, d.preferred(agg, conv)),
+        Fact::IsConversation(conv, _) => Fact::IsConversation(conv, d.is_conversation(agg, conv)),
+        Fact::CountOn(port, _) => Fact::CountOn(port, count_on(d, agg, port)),
+        Fact::Load(port, _) => Fact::Load(port, d.load(port)),
+        Fact::Conversations(_) => Fact::Conversations(d.conversations()),
+        Fact::NextMarker(_) => Fact::NextMarker(d.next_marker()),
+        Fact::NextWanted(_) => Fact::NextWanted(d.ticks_until_next_wanted()),
+    }
+}
+
+/// Makes the call of a row on an aggregator while these ports distribute in it, and returns the row with the actual result
+/// in the place of the expected one.
+fn play<F: Fn(u16, usize) -> usize + Drop>(
+    d: &mut Distributor<F>,
+    agg: AggId,
+    ports: &[u16],
+    row: Row,
+) -> Row
     requires usable { PicksIndexes (F.pre d.old.algorithm) (F.post d.old.algorithm) }
     requires few { length ports.now ≤ 64 }
     ensures algorithm { d.new.algorithm ≡ d.old.algorithm }
 {
     match row {
-        Row::Assign(conv, _) => return Row::Assign(conv, d.assign(AGG, conv, ports)),
-        Row::Move(conv, to, _) => return Row::Move(conv, to, d.move_to(AGG, conv, to, ports)),
-        Row::Force(conv, _) => return Row::Force(conv, d.force(AGG, conv)),
+        Row::Assign(conv, _) => return Row::Assign(conv, d.assign(agg, conv, ports)),
+        Row::Move(conv, to, _) => return Row::Move(conv, to, d.move_to(agg, conv, to, ports)),
+        Row::Force(conv, _) => return Row::Force(conv, d.force(agg, conv)),
         Row::Marker(port, _) => return Row::Marker(port, d.marker_for(port)),
         Row::Response(port, id, _) => return Row::Response(port, id, d.response(port, id)),
-        Row::Load(port, _) => return Row::Load(port, d.load(port)),
-        Row::State(conv, _) => return Row::State(conv, d.state(AGG, conv)),
-        Row::NextWanted(_) => return Row::NextWanted(d.ticks_until_next_wanted()),
         Row::Ticks(count) => tick(d, count),
         Row::Leave(port) => d.leave(port),
         Row::Down(port) => d.down(port),
         Row::Clear => d.clear(),
+        Row::Is(fact) => return Row::Is(read(d, agg, fact)),
     }
     row
 }
 
-/// Plays the rows on a new distributor; these two ports distribute.
+/// Plays the rows on aggregator 1 of a new distributor; these two ports distribute.
 fn plays(
     rt: &impl Abort,
     alloc: Global,
@@ -75,13 +114,49 @@ fn plays(
 ) -> Result<(), NoMemory> {
     let mut d = Distributor::new(alloc, 1, first, by_place)?;
     for (place, row) in rows.iter().enumerate() {
-        assert_eq!(rt; play(&mut d, &ports, *row), *row, "row {place}");
+        assert_eq!(rt; play(&mut d, AGG, &ports, *row), *row, "row {place}");
+    }
+    Ok(())
+}
+
+/// An aggregator, the ports that distribute in it, and a call.
+type Put<'a> = (u16, &'a [u16], Row);
+
+/// How many conversations each aggregator has, and by which call.
+#[derive(Clone, Copy)]
+enum Count {
+    ByNew,
+    With256,
+    With4096,
+}
+
+/// Plays the rows on a new distributor with this many aggregators.
+fn plays_apart(
+    rt: &impl Abort,
+    alloc: Global,
+    aggregators: u16,
+    count: Count,
+    first: u32,
+    rows: &[Put<'_>],
+) -> Result<(), NoMemory> {
+    let mut d = match count {
+        Count::ByNew => Distributor::new(alloc, aggregators, first, by_place)?,
+        Count::With256 => {
+            Distributor::with_conversations(alloc, aggregators, 256, first, by_place)?
+        }
+        Count::With4096 => {
+            Distributor::with_conversations(alloc, aggregators, 4096, first, by_place)?
+        }
+    };
+    for (agg, ports, row) in rows {
+        assert!(rt; ports.len() <= 64, "{row:?}");
+        assert_eq!(rt; play(&mut d, AggId(*agg), *ports, *row), *row, "{row:?}");
     }
     Ok(())
 }
 
 #[test]
-fn a_moved_conversation_waits_for_the_response(rt: HostRuntime) -> Result<(), Fail> {
+fn a_moved_conversation_waits_for_the_response(rt: HostRuntime) -> Result<(), NoMemory> {
     let rows = [
         Row::Assign(48, Ok(1)),
         Row::Assign(49, Ok(2)),
@@ -98,65 +173,62 @@ fn a_moved_conversation_waits_for_the_response(rt: HostRuntime) -> Result<(), Fa
         Row::Response(1, 2, 1),
         Row::Assign(48, Ok(2)),
     ];
-    plays(&rt, rt.alloc(), 1, [1, 2], &rows)?;
-    Ok(())
+    plays(&rt, rt.alloc(), 1, [1, 2], &rows)
 }
 
 #[test]
-fn the_next_marker_is_wanted_after_the_soonest_wait(rt: HostRuntime) -> Result<(), Fail> {
+fn the_next_marker_is_wanted_after_the_soonest_wait(rt: HostRuntime) -> Result<(), NoMemory> {
     let rows = [
-        Row::NextWanted(None),
+        Row::Is(Fact::NextWanted(None)),
         Row::Assign(48, Ok(1)),
         Row::Assign(49, Ok(2)),
         Row::Move(48, 2, Ok(())),
-        Row::NextWanted(None),
+        Row::Is(Fact::NextWanted(None)),
         Row::Marker(1, Some(7)),
-        Row::NextWanted(Some(30)),
+        Row::Is(Fact::NextWanted(Some(30))),
         Row::Ticks(12),
-        Row::NextWanted(Some(18)),
+        Row::Is(Fact::NextWanted(Some(18))),
         Row::Move(49, 1, Ok(())),
         Row::Marker(2, Some(8)),
-        Row::NextWanted(Some(18)),
+        Row::Is(Fact::NextWanted(Some(18))),
         Row::Ticks(5),
         Row::Response(1, 7, 1),
-        Row::NextWanted(Some(25)),
+        Row::Is(Fact::NextWanted(Some(25))),
         Row::Ticks(24),
-        Row::NextWanted(Some(1)),
+        Row::Is(Fact::NextWanted(Some(1))),
         Row::Ticks(1),
-        Row::NextWanted(None),
+        Row::Is(Fact::NextWanted(None)),
         Row::Marker(2, Some(9)),
-        Row::NextWanted(Some(30)),
+        Row::Is(Fact::NextWanted(Some(30))),
         Row::Down(2),
-        Row::NextWanted(None),
+        Row::Is(Fact::NextWanted(None)),
     ];
-    plays(&rt, rt.alloc(), 7, [1, 2], &rows)?;
-    Ok(())
+    plays(&rt, rt.alloc(), 7, [1, 2], &rows)
 }
 
 #[test]
-fn ports_are_counted(rt: HostRuntime) -> Result<(), Fail> {
+fn ports_are_counted(rt: HostRuntime) -> Result<(), NoMemory> {
     let rows = [
         Row::Assign(48, Ok(1)),
         Row::Assign(49, Ok(2)),
         Row::Assign(50, Ok(1)),
-        Row::Load(1, 2),
-        Row::Load(2, 1),
-        Row::Load(65, 0),
+        Row::Is(Fact::Load(1, 2)),
+        Row::Is(Fact::Load(2, 1)),
+        Row::Is(Fact::Load(65, 0)),
         Row::Move(48, 2, Ok(())),
         Row::Marker(1, Some(1)),
-        Row::Load(1, 2),
+        Row::Is(Fact::Load(1, 2)),
         Row::Response(1, 1, 1),
-        Row::Load(1, 1),
+        Row::Is(Fact::Load(1, 1)),
         Row::Down(1),
-        Row::Load(1, 0),
-        Row::Load(2, 1),
+        Row::Is(Fact::Load(1, 0)),
+        Row::Is(Fact::Load(2, 1)),
     ];
-    plays(&rt, rt.alloc(), 1, [1, 2], &rows)?;
-    Ok(())
+    plays(&rt, rt.alloc(), 1, [1, 2], &rows)
 }
 
 #[test]
-fn ports_of_one_chain_stay_apart(rt: HostRuntime) -> Result<(), Fail> {
+fn ports_of_one_chain_stay_apart(rt: HostRuntime) -> Result<(), NoMemory> {
     let wanted = |preferred: Option<u16>| Assignment::Wanted { port: 1, preferred };
     let flushing = |age: u8| Assignment::Flushing {
         port: 1,
@@ -169,52 +241,51 @@ fn ports_of_one_chain_stay_apart(rt: HostRuntime) -> Result<(), Fail> {
         Row::Assign(1, Ok(65)),
         Row::Assign(2, Ok(1)),
         Row::Assign(3, Ok(65)),
-        Row::Load(1, 2),
-        Row::Load(65, 2),
+        Row::Is(Fact::Load(1, 2)),
+        Row::Is(Fact::Load(65, 2)),
         Row::Move(0, 65, Ok(())),
-        Row::State(0, wanted(Some(65))),
+        Row::Is(Fact::State(0, wanted(Some(65)))),
         Row::Marker(65, None),
         Row::Marker(1, Some(1)),
-        Row::State(1, Assignment::On(65)),
-        Row::State(2, Assignment::On(1)),
-        Row::State(0, flushing(0)),
+        Row::Is(Fact::State(1, Assignment::On(65))),
+        Row::Is(Fact::State(2, Assignment::On(1))),
+        Row::Is(Fact::State(0, flushing(0))),
         // what is On port 65 becomes Wanted, and what is On port 1 does not (both are in chain 1)
         Row::Leave(65),
-        Row::State(2, Assignment::On(1)),
+        Row::Is(Fact::State(2, Assignment::On(1))),
         Row::Ticks(1),
-        Row::State(0, flushing(1)),
+        Row::Is(Fact::State(0, flushing(1))),
         Row::Response(65, 1, 0),
         Row::Marker(65, Some(2)),
         Row::Response(1, 2, 0),
-        Row::Load(1, 2),
-        Row::Load(65, 2),
+        Row::Is(Fact::Load(1, 2)),
+        Row::Is(Fact::Load(65, 2)),
         Row::Ticks(28),
-        Row::State(0, flushing(29)),
+        Row::Is(Fact::State(0, flushing(29))),
         Row::Ticks(1),
-        Row::State(0, wanted(Some(65))),
+        Row::Is(Fact::State(0, wanted(Some(65)))),
         Row::Response(65, 2, 2),
-        Row::State(0, wanted(Some(65))),
+        Row::Is(Fact::State(0, wanted(Some(65)))),
         Row::Assign(1, Ok(65)),
         Row::Down(65),
-        Row::Load(65, 0),
-        Row::Load(1, 2),
+        Row::Is(Fact::Load(65, 0)),
+        Row::Is(Fact::Load(1, 2)),
         Row::Force(2, Ok(())),
-        Row::Load(1, 1),
+        Row::Is(Fact::Load(1, 1)),
         Row::Assign(3, Ok(65)),
         Row::Down(1),
-        Row::Load(1, 0),
-        Row::Load(65, 1),
+        Row::Is(Fact::Load(1, 0)),
+        Row::Is(Fact::Load(65, 1)),
         Row::Assign(0, Ok(65)),
-        Row::Load(65, 2),
+        Row::Is(Fact::Load(65, 2)),
         Row::Clear,
-        Row::Load(65, 0),
+        Row::Is(Fact::Load(65, 0)),
     ];
-    plays(&rt, rt.alloc(), 1, [1, 65], &rows)?;
-    Ok(())
+    plays(&rt, rt.alloc(), 1, [1, 65], &rows)
 }
 
 #[test]
-fn a_chain_keeps_the_neighbours_of_one_that_leaves(rt: HostRuntime) -> Result<(), Fail> {
+fn a_chain_keeps_the_neighbours_of_one_that_leaves(rt: HostRuntime) -> Result<(), NoMemory> {
     let rows = [
         Row::Assign(0, Ok(1)),
         Row::Assign(2, Ok(1)),
@@ -222,30 +293,29 @@ fn a_chain_keeps_the_neighbours_of_one_that_leaves(rt: HostRuntime) -> Result<()
         Row::Assign(6, Ok(1)),
         // from the middle of the chain, then from each end
         Row::Force(2, Ok(())),
-        Row::Load(1, 3),
+        Row::Is(Fact::Load(1, 3)),
         Row::Force(6, Ok(())),
-        Row::Load(1, 2),
+        Row::Is(Fact::Load(1, 2)),
         Row::Force(0, Ok(())),
-        Row::Load(1, 1),
+        Row::Is(Fact::Load(1, 1)),
         Row::Leave(1),
-        Row::State(
+        Row::Is(Fact::State(
             4,
             Assignment::Wanted {
                 port: 1,
                 preferred: None,
             },
-        ),
-        Row::State(2, Assignment::Free { preferred: None }),
+        )),
+        Row::Is(Fact::State(2, Assignment::Free { preferred: None })),
         Row::Marker(1, Some(1)),
         Row::Response(1, 1, 1),
-        Row::Load(1, 0),
+        Row::Is(Fact::Load(1, 0)),
     ];
-    plays(&rt, rt.alloc(), 1, [1, 2], &rows)?;
-    Ok(())
+    plays(&rt, rt.alloc(), 1, [1, 2], &rows)
 }
 
 #[test]
-fn identifiers_end_at_the_greatest(rt: HostRuntime) -> Result<(), Fail> {
+fn identifiers_end_at_the_greatest(rt: HostRuntime) -> Result<(), NoMemory> {
     let rows = [
         Row::Assign(48, Ok(1)),
         Row::Assign(50, Ok(1)),
@@ -257,12 +327,11 @@ fn identifiers_end_at_the_greatest(rt: HostRuntime) -> Result<(), Fail> {
         Row::Leave(1),
         Row::Marker(1, None),
     ];
-    plays(&rt, rt.alloc(), 4294967295, [1, 2], &rows)?;
-    Ok(())
+    plays(&rt, rt.alloc(), 4294967295, [1, 2], &rows)
 }
 
 #[test]
-fn refusals_come_in_order(rt: HostRuntime) -> Result<(), Fail> {
+fn refusals_come_in_order(rt: HostRuntime) -> Result<(), NoMemory> {
     let rows = [
         // no such conversation, or a free one, whatever the port is
         Row::Assign(256, Err(DistFault::NotAssigned)),
@@ -282,46 +351,44 @@ fn refusals_come_in_order(rt: HostRuntime) -> Result<(), Fail> {
         Row::Move(50, 1, Err(DistFault::SamePort)),
         Row::Move(50, 2, Err(DistFault::MarkersSpent)),
     ];
-    plays(&rt, rt.alloc(), 4294967295, [1, 2], &rows)?;
-    Ok(())
+    plays(&rt, rt.alloc(), 4294967295, [1, 2], &rows)
 }
 
 #[test]
-fn preferences_are_kept_and_used_once(rt: HostRuntime) -> Result<(), Fail> {
+fn preferences_are_kept_and_used_once(rt: HostRuntime) -> Result<(), NoMemory> {
     let free = |preferred: Option<u16>| Assignment::Free { preferred };
     let rows = [
         // `down` keeps the preferred port, which is used once
         Row::Assign(48, Ok(1)),
         Row::Move(48, 2, Ok(())),
         Row::Down(1),
-        Row::State(48, free(Some(2))),
+        Row::Is(Fact::State(48, free(Some(2)))),
         Row::Assign(48, Ok(2)),
-        Row::State(48, Assignment::On(2)),
+        Row::Is(Fact::State(48, Assignment::On(2))),
         Row::Force(48, Ok(())),
-        Row::State(48, free(None)),
+        Row::Is(Fact::State(48, free(None))),
         // `force` keeps the preferred port of a conversation that waits
         Row::Assign(48, Ok(1)),
         Row::Move(48, 2, Ok(())),
         Row::Marker(1, Some(7)),
         Row::Force(48, Ok(())),
-        Row::State(48, free(Some(2))),
+        Row::Is(Fact::State(48, free(Some(2)))),
         Row::Response(1, 7, 0),
         // a port that only stops distributing frees nothing
         Row::Assign(50, Ok(1)),
         Row::Leave(1),
         Row::Assign(50, Err(DistFault::Held)),
         Row::Clear,
-        Row::State(48, free(None)),
+        Row::Is(Fact::State(48, free(None))),
         Row::Assign(50, Ok(1)),
         Row::Leave(1),
         Row::Marker(1, Some(7)),
     ];
-    plays(&rt, rt.alloc(), 7, [1, 2], &rows)?;
-    Ok(())
+    plays(&rt, rt.alloc(), 7, [1, 2], &rows)
 }
 
 #[test]
-fn a_link_that_goes_down_frees_what_is_on_it(rt: HostRuntime) -> Result<(), Fail> {
+fn a_link_that_goes_down_frees_what_is_on_it(rt: HostRuntime) -> Result<(), NoMemory> {
     let free = |preferred: Option<u16>| Assignment::Free { preferred };
     let rows = [
         Row::Assign(48, Ok(1)),
@@ -329,85 +396,102 @@ fn a_link_that_goes_down_frees_what_is_on_it(rt: HostRuntime) -> Result<(), Fail
         Row::Move(50, 2, Ok(())),
         Row::Marker(1, Some(7)),
         Row::Down(1),
-        Row::State(48, free(None)),
-        Row::State(50, free(Some(2))),
+        Row::Is(Fact::State(48, free(None))),
+        Row::Is(Fact::State(50, free(Some(2)))),
     ];
-    plays(&rt, rt.alloc(), 7, [1, 2], &rows)?;
-    Ok(())
+    plays(&rt, rt.alloc(), 7, [1, 2], &rows)
 }
+
+const FREE: Assignment = Assignment::Free { preferred: None };
 
 /// The last of 64 aggregators with 4096 conversations each.
 #[test]
-fn aggregators_with_4096_conversations_keep_them_apart(rt: HostRuntime) -> Result<(), Fail> {
-    let mut d = Distributor::with_conversations(rt.alloc(), 64, 4096, 7, by_place)?;
-    let free = Assignment::Free { preferred: None };
-    let last = AggId(64);
-    assert_eq!(rt; d.assign(AGG, 4095, &[1, 2]), Ok(2));
-    assert_eq!(rt; d.assign(AGG, 304, &[1, 2]), Ok(1));
-    assert_eq!(rt; d.assign(last, 4095, &[3]), Ok(3));
-    // neither the numbers modulo 256 nor the next aggregator
-    assert_eq!(rt;
-        (d.state(AGG, 48), d.state(AGG, 255), d.state(AggId(2), 0)),
-        (free, free, free)
-    );
-    assert_eq!(rt; (d.load(1), d.load(2), d.load(3)), (1, 1, 1));
-    // a move behind a marker, in the last slot
-    assert_eq!(rt; d.move_to(last, 4095, 4, &[3, 4]), Ok(()));
-    assert_eq!(rt; (d.marker_for(3), d.response(3, 7)), (Some(7), 1));
-    assert_eq!(rt; d.assign(last, 4095, &[3, 4]), Ok(4));
-    assert_eq!(rt; d.state(AGG, 4095), Assignment::On(2));
-    d.clear();
-    assert_eq!(rt; (d.load(2), d.state(last, 4095)), (0, free));
-    assert_eq!(rt; (d.conversations(), d.next_marker()), (4096, Some(7)));
-    Ok(())
+fn aggregators_with_4096_conversations_keep_them_apart(rt: HostRuntime) -> Result<(), NoMemory> {
+    let rows: [Put<'_>; 19] = [
+        (1, &[1, 2], Row::Assign(4095, Ok(2))),
+        (1, &[1, 2], Row::Assign(304, Ok(1))),
+        (64, &[3], Row::Assign(4095, Ok(3))),
+        // neither the numbers modulo 256 nor the next aggregator
+        (1, &[], Row::Is(Fact::State(48, FREE))),
+        (1, &[], Row::Is(Fact::State(255, FREE))),
+        (2, &[], Row::Is(Fact::State(0, FREE))),
+        (1, &[], Row::Is(Fact::Load(1, 1))),
+        (1, &[], Row::Is(Fact::Load(2, 1))),
+        (1, &[], Row::Is(Fact::Load(3, 1))),
+        // a move behind a marker, in the last slot
+        (64, &[3, 4], Row::Move(4095, 4, Ok(()))),
+        (64, &[3, 4], Row::Marker(3, Some(7))),
+        (64, &[3, 4], Row::Response(3, 7, 1)),
+        (64, &[3, 4], Row::Assign(4095, Ok(4))),
+        (1, &[], Row::Is(Fact::State(4095, Assignment::On(2)))),
+        (1, &[], Row::Clear),
+        (1, &[], Row::Is(Fact::Load(2, 0))),
+        (64, &[], Row::Is(Fact::State(4095, FREE))),
+        (1, &[], Row::Is(Fact::Conversations(4096))),
+        (1, &[], Row::Is(Fact::NextMarker(Some(7)))),
+    ];
+    plays_apart(&rt, rt.alloc(), 64, Count::With4096, 7, &rows)
 }
 
 /// There is no conversation with this number.
-fn is_beyond<F: Fn(u16, usize) -> usize + Drop>(rt: &impl Abort, d: &mut Distributor<F>, conv: u16)
-    requires usable { PicksIndexes (F.pre d.old.algorithm) (F.post d.old.algorithm) }
-    ensures algorithm { d.new.algorithm ≡ d.old.algorithm }
-{
+fn beyond<'a>(conv: u16) -> [Put<'a>; 5] {
     let none = DistFault::NotAssigned;
-    assert!(rt; !d.is_conversation(AGG, conv), "{conv}");
-    assert_eq!(rt; d.assign(AGG, conv, &[1]), Err(none), "{conv}");
-    assert_eq!(rt; d.move_to(AGG, conv, 1, &[1]), Err(none), "{conv}");
-    assert_eq!(rt; d.force(AGG, conv), Err(none), "{conv}");
-    let free = Assignment::Free { preferred: None };
-    assert_eq!(rt; d.state(AGG, conv), free, "{conv}");
+    [
+        (1, &[], Row::Is(Fact::IsConversation(conv, false))),
+        (1, &[1], Row::Assign(conv, Err(none))),
+        (1, &[1], Row::Move(conv, 1, Err(none))),
+        (1, &[], Row::Force(conv, Err(none))),
+        (1, &[], Row::Is(Fact::State(conv, FREE))),
+    ]
+}
+
+/// Rows for numbers that no conversation has, and then these.
+fn behind<'a>(
+    alloc: Global,
+    numbers: [u16; 4],
+    rows: &[Put<'a>],
+) -> Result<Vec<Put<'a>>, NoMemory> {
+    let mut all = Vec::new(alloc);
+    for conv in numbers {
+        all.extend_from_slice(&beyond(conv))?;
+    }
+    all.extend_from_slice(rows)?;
+    Ok(all)
 }
 
 /// A conversation at or above the count does not exist.
 #[test]
-fn conversations_end_at_256(rt: HostRuntime) -> Result<(), Fail> {
-    let mut d = Distributor::with_conversations(rt.alloc(), 2, 256, 1, by_place)?;
-    for conv in [256, 257, 511, 65535] {
-        is_beyond(&rt, &mut d, conv);
-    }
-    assert_eq!(rt; d.assign(AggId(2), 255, &[1]), Ok(1));
-    assert_eq!(rt; d.assign(AggId(3), 0, &[1]), Err(DistFault::NotAssigned));
-    assert_eq!(rt; (d.conversations(), d.load(1)), (256, 1));
-    Ok(())
+fn conversations_end_at_256(rt: HostRuntime) -> Result<(), NoMemory> {
+    let rows: [Put<'_>; 4] = [
+        (2, &[1], Row::Assign(255, Ok(1))),
+        (3, &[1], Row::Assign(0, Err(DistFault::NotAssigned))),
+        (1, &[], Row::Is(Fact::Conversations(256))),
+        (1, &[], Row::Is(Fact::Load(1, 1))),
+    ];
+    let rows = behind(rt.alloc(), [256, 257, 511, 65535], &rows)?;
+    plays_apart(&rt, rt.alloc(), 2, Count::With256, 1, &rows)
 }
 
 #[test]
-fn conversations_end_at_4096(rt: HostRuntime) -> Result<(), Fail> {
-    let mut d = Distributor::with_conversations(rt.alloc(), 2, 4096, 1, by_place)?;
-    for conv in [4096, 4097, 8191, 65535] {
-        is_beyond(&rt, &mut d, conv);
-    }
-    assert_eq!(rt; d.assign(AggId(2), 4095, &[1]), Ok(1));
-    assert_eq!(rt; d.assign(AggId(3), 0, &[1]), Err(DistFault::NotAssigned));
-    assert_eq!(rt; (d.conversations(), d.load(1)), (4096, 1));
-    Ok(())
+fn conversations_end_at_4096(rt: HostRuntime) -> Result<(), NoMemory> {
+    let rows: [Put<'_>; 4] = [
+        (2, &[1], Row::Assign(4095, Ok(1))),
+        (3, &[1], Row::Assign(0, Err(DistFault::NotAssigned))),
+        (1, &[], Row::Is(Fact::Conversations(4096))),
+        (1, &[], Row::Is(Fact::Load(1, 1))),
+    ];
+    let rows = behind(rt.alloc(), [4096, 4097, 8191, 65535], &rows)?;
+    plays_apart(&rt, rt.alloc(), 2, Count::With4096, 1, &rows)
 }
 
 #[test]
-fn new_makes_256_conversations(rt: HostRuntime) -> Result<(), Fail> {
-    let mut d = Distributor::new(rt.alloc(), 1, 1, by_place)?;
-    assert_eq!(rt; d.conversations(), 256);
-    assert_eq!(rt; d.assign(AGG, 255, &[1, 2]), Ok(2));
-    assert_eq!(rt; d.assign(AGG, 256, &[1, 2]), Err(DistFault::NotAssigned));
-    Ok(())
+fn new_makes_256_conversations(rt: HostRuntime) -> Result<(), NoMemory> {
+    let rows: [Put<'_>; 3] = [
+        (1, &[], Row::Is(Fact::Conversations(256))),
+        (1, &[1, 2], Row::Assign(255, Ok(2))),
+        (1, &[1, 2], Row::Assign(256, Err(DistFault::NotAssigned))),
+    ];
+    plays_apart(&rt, rt.alloc(), 1, Count::ByNew, 1, &rows)
 }
 
 /// The port of ports 3, 5 and 67 at the index that is the conversation's number modulo 3.
@@ -419,134 +503,161 @@ fn port_of(conv: u16) -> u16 {
     }
 }
 
-/// How many conversations of the aggregator are On the port.
-fn count_on<F: Fn(u16, usize) -> usize + Drop>(d: &Distributor<F>, agg: AggId, port: u16) -> u16 {
-    let mut count = 0u16;
-    for conv in 0..4096u16 {
-        if d.state(agg, conv) == Assignment::On(port) {
-            count = count.saturating_add(1);
-        }
-    }
-    count
-}
+/// The conversations of aggregator 2 are on these ports, and those of the others on none. Then one port leaves, and the
+/// link of another goes down.
+const ALL_ON: [Put<'static>; 24] = [
+    (2, &[], Row::Is(Fact::CountOn(3, 1366))),
+    (2, &[], Row::Is(Fact::Load(3, 1366))),
+    (1, &[], Row::Is(Fact::CountOn(3, 0))),
+    (3, &[], Row::Is(Fact::CountOn(3, 0))),
+    (2, &[], Row::Is(Fact::CountOn(5, 1365))),
+    (2, &[], Row::Is(Fact::Load(5, 1365))),
+    (1, &[], Row::Is(Fact::CountOn(5, 0))),
+    (3, &[], Row::Is(Fact::CountOn(5, 0))),
+    (2, &[], Row::Is(Fact::CountOn(67, 1365))),
+    (2, &[], Row::Is(Fact::Load(67, 1365))),
+    (1, &[], Row::Is(Fact::CountOn(67, 0))),
+    (3, &[], Row::Is(Fact::CountOn(67, 0))),
+    (2, &[], Row::Leave(67)),
+    (2, &[], Row::Is(Fact::CountOn(67, 0))),
+    (2, &[], Row::Is(Fact::Load(67, 1365))),
+    (2, &[], Row::Marker(67, Some(1))),
+    (2, &[], Row::Marker(3, None)),
+    (2, &[], Row::Response(67, 1, 1365)),
+    (2, &[], Row::Down(3)),
+    (2, &[], Row::Is(Fact::Load(3, 0))),
+    (2, &[], Row::Is(Fact::Load(5, 1365))),
+    (2, &[], Row::Is(Fact::Load(67, 0))),
+    (2, &[], Row::Is(Fact::CountOn(5, 1365))),
+    (2, &[], Row::Is(Fact::CountOn(3, 0))),
+];
 
-/// The conversations of aggregator 2 are on these ports, this many on each, and those of the others on none.
-fn tells_ports<F: Fn(u16, usize) -> usize + Drop>(rt: &impl Abort, d: &Distributor<F>) {
-    for (port, on) in [(3, 1366), (5, 1365), (67, 1365)] {
-        assert_eq!(rt; count_on(d, AggId(2), port), on, "on port {port}");
-        assert_eq!(rt; d.load(port), u32::from(on), "load of port {port}");
-        assert_eq!(rt; count_on(d, AGG, port), 0, "aggregator 1, port {port}");
-        assert_eq!(rt; count_on(d, AggId(3), port), 0, "aggregator 3, port {port}");
+/// Each conversation of aggregator 2 goes on its port, and then the rows above.
+fn all_assigned(alloc: Global) -> Result<Vec<Put<'static>>, NoMemory> {
+    let ports: &[u16] = &[3, 5, 67];
+    let mut rows = Vec::new(alloc);
+    for conv in 0..4096u16 {
+        rows.push((2u16, ports, Row::Assign(conv, Ok(port_of(conv)))))?;
     }
+    rows.extend_from_slice(&ALL_ON)?;
+    Ok(rows)
 }
 
 /// Ports 3 and 67 share a chain.
 #[test]
-fn all_4096_conversations_are_on_their_ports(rt: HostRuntime) -> Result<(), Fail> {
-    let mut d = Distributor::with_conversations(rt.alloc(), 3, 4096, 1, by_place)?;
-    for conv in 0..4096u16 {
-        let came = d.assign(AggId(2), conv, &[3, 5, 67]);
-        assert_eq!(rt; came, Ok(port_of(conv)), "conversation {conv}");
-    }
-    tells_ports(&rt, &d);
-    d.leave(67);
-    assert_eq!(rt; (count_on(&d, AggId(2), 67), d.load(67)), (0, 1365));
-    assert_eq!(rt; (d.marker_for(67), d.marker_for(3)), (Some(1), None));
-    assert_eq!(rt; d.response(67, 1), 1365);
-    d.down(3);
-    assert_eq!(rt; (d.load(3), d.load(5), d.load(67)), (0, 1365, 0));
-    assert_eq!(rt; count_on(&d, AggId(2), 5), 1365);
-    Ok(())
+fn all_4096_conversations_are_on_their_ports(rt: HostRuntime) -> Result<(), NoMemory> {
+    let rows = all_assigned(rt.alloc())?;
+    plays_apart(&rt, rt.alloc(), 3, Count::With4096, 1, &rows)
 }
 
-#[test]
-fn ports_are_picked_by_their_place(rt: HostRuntime) -> Result<(), Fail> {
-    let mut d = Distributor::new(rt.alloc(), 2, 1, by_place)?;
+/// 64 ports with the numbers from 1000 on.
+fn many_ports() -> [u16; 64] {
     let mut ports = [0; 64];
     for (i, port) in (1000..).zip(ports.iter_mut()) {
         *port = i;
     }
-    assert_eq!(rt; d.assign(AggId(2), 255, &ports), Ok(1063));
-    assert_eq!(rt; d.assign(AggId(2), 64, &ports), Ok(1000));
-    assert_eq!(rt; d.assign(AggId(2), 0, &ports), Ok(1000));
-    // no other conversation has changed, in either aggregator
-    let free = Assignment::Free { preferred: None };
-    assert_eq!(rt; (d.state(AGG, 255), d.state(AGG, 64)), (free, free));
-    assert_eq!(rt; (d.state(AggId(2), 1), d.load(1000)), (free, 2));
-    assert_eq!(rt; d.load(1063), 1);
-    assert_eq!(rt; d.assign(AGG, 64, &[]), Err(DistFault::NoneDistributing));
-    assert_eq!(rt; d.assign(AggId(3), 64, &ports), Err(DistFault::NotAssigned));
-    assert_eq!(rt; d.move_to(AggId(2), 64, 1001, &ports), Ok(()));
-    assert_eq!(rt; d.preferred(AggId(2), 64), Some(1001));
-    assert_eq!(rt; d.next_marker(), Some(1));
-    assert!(rt; d.is_conversation(AggId(2), 255) && !d.is_conversation(AggId(0), 0));
-    Ok(())
+    ports
 }
 
 #[test]
-fn a_port_that_distributes_no_more(rt: HostRuntime) -> Result<(), Fail> {
-    let mut d = Distributor::new(rt.alloc(), 1, 1, by_place)?;
-    assert_eq!(rt; d.assign(AGG, 48, &[1, 2]), Ok(1));
-    // NotDistributing comes before SamePort
-    assert_eq!(rt;
-        d.move_to(AGG, 48, 1, &[2]),
-        Err(DistFault::NotDistributing)
-    );
-    assert_eq!(rt; d.move_to(AGG, 48, 2, &[1, 2]), Ok(()));
-    assert_eq!(rt; d.force(AGG, 48), Ok(()));
-    // the free conversation prefers port 2, which does not distribute
-    assert_eq!(rt; d.preferred(AGG, 48), Some(2));
-    assert_eq!(rt; d.assign(AGG, 48, &[3, 4, 5]), Ok(3));
-    Ok(())
+fn ports_are_picked_by_their_place(rt: HostRuntime) -> Result<(), NoMemory> {
+    let ports = many_ports();
+    let rows: [Put<'_>; 15] = [
+        (2, &ports, Row::Assign(255, Ok(1063))),
+        (2, &ports, Row::Assign(64, Ok(1000))),
+        (2, &ports, Row::Assign(0, Ok(1000))),
+        // no other conversation has changed, in either aggregator
+        (1, &[], Row::Is(Fact::State(255, FREE))),
+        (1, &[], Row::Is(Fact::State(64, FREE))),
+        (2, &[], Row::Is(Fact::State(1, FREE))),
+        (1, &[], Row::Is(Fact::Load(1000, 2))),
+        (1, &[], Row::Is(Fact::Load(1063, 1))),
+        (1, &[], Row::Assign(64, Err(DistFault::NoneDistributing))),
+        (3, &ports, Row::Assign(64, Err(DistFault::NotAssigned))),
+        (2, &ports, Row::Move(64, 1001, Ok(()))),
+        (2, &[], Row::Is(Fact::Preferred(64, Some(1001)))),
+        (1, &[], Row::Is(Fact::NextMarker(Some(1)))),
+        (2, &[], Row::Is(Fact::IsConversation(255, true))),
+        (0, &[], Row::Is(Fact::IsConversation(0, false))),
+    ];
+    plays_apart(&rt, rt.alloc(), 2, Count::ByNew, 1, &rows)
 }
+
+#[test]
+fn a_port_that_distributes_no_more(rt: HostRuntime) -> Result<(), NoMemory> {
+    let rows: [Put<'_>; 6] = [
+        (1, &[1, 2], Row::Assign(48, Ok(1))),
+        // NotDistributing comes before SamePort
+        (1, &[2], Row::Move(48, 1, Err(DistFault::NotDistributing))),
+        (1, &[1, 2], Row::Move(48, 2, Ok(()))),
+        (1, &[], Row::Force(48, Ok(()))),
+        // the free conversation prefers port 2, which does not distribute
+        (1, &[], Row::Is(Fact::Preferred(48, Some(2)))),
+        (1, &[3, 4, 5], Row::Assign(48, Ok(3))),
+    ];
+    plays_apart(&rt, rt.alloc(), 1, Count::ByNew, 1, &rows)
+}
+
+/// A conversation's number among this many ports, and its place.
+const PLACES: [(u16, usize, usize); 6] = [
+    (48, 2, 0),
+    (49, 2, 1),
+    (50, 3, 2),
+    (255, 64, 63),
+    (64, 64, 0),
+    (48, 0, 0),
+];
 
 #[test]
 fn places_are_numbers_modulo_the_count(rt: HostRuntime) {
-    for (conv, count, place) in [
-        (48, 2, 0),
-        (49, 2, 1),
-        (50, 3, 2),
-        (255, 64, 63),
-        (64, 64, 0),
-        (48, 0, 0),
-    ] {
-        assert_eq!(rt;
-            by_number(conv, count),
-            place,
-            "conversation {conv} among {count}"
-        );
+    for (conv, count, place) in PLACES {
+        assert_eq!(rt; by_number(conv, count), place, "{conv} among {count}");
     }
 }
 
+/// The faults, in the order of their numbers, from 1 on.
+const FAULTS: [(DistFault, &str); 6] = [
+    (DistFault::Held, "the conversation is Wanted or Flushing"),
+    (
+        DistFault::NoneDistributing,
+        "the conversation is Free, and no port distributes in its aggregator",
+    ),
+    (
+        DistFault::NotDistributing,
+        "the port to move to does not distribute in the aggregator",
+    ),
+    (
+        DistFault::SamePort,
+        "the port to move to is the one that the conversation is on",
+    ),
+    (
+        DistFault::NotAssigned,
+        "there is no such conversation, or the one that is to be moved or forced is Free",
+    ),
+    (
+        DistFault::MarkersSpent,
+        "no identifier is left, since 4294967295 was sent",
+    ),
+];
+
+/// A fault has this number, and prints this text.
+fn tells(
+    rt: &impl Abort,
+    alloc: Global,
+    fault: DistFault,
+    number: u8,
+    text: &str,
+) -> Result<(), AllocError> {
+    assert_eq!(rt; fault.number(), number, "{fault:?}");
+    let printed = format!(in alloc; "{fault}")?;
+    assert_eq!(rt; printed.as_str(), text);
+    Ok(())
+}
+
 #[test]
-fn refusals_have_numbers_and_texts(rt: HostRuntime) -> Result<(), Fail> {
-    let faults = [
-        (DistFault::Held, "the conversation is Wanted or Flushing"),
-        (
-            DistFault::NoneDistributing,
-            "the conversation is Free, and no port distributes in its aggregator",
-        ),
-        (
-            DistFault::NotDistributing,
-            "the port to move to does not distribute in the aggregator",
-        ),
-        (
-            DistFault::SamePort,
-            "the port to move to is the one that the conversation is on",
-        ),
-        (
-            DistFault::NotAssigned,
-            "there is no such conversation, or the one that is to be moved or forced is Free",
-        ),
-        (
-            DistFault::MarkersSpent,
-            "no identifier is left, since 4294967295 was sent",
-        ),
-    ];
-    for (number, (fault, text)) in (1..).zip(faults) {
-        assert_eq!(rt; fault.number(), number, "{fault:?}");
-        let printed = format!(in rt.alloc(); "{fault}")?;
-        assert_eq!(rt; printed.as_str(), text);
+fn refusals_have_numbers_and_texts(rt: HostRuntime) -> Result<(), AllocError> {
+    for (number, (fault, text)) in (1..).zip(FAULTS) {
+        tells(&rt, rt.alloc(), fault, number, text)?;
     }
     Ok(())
 }

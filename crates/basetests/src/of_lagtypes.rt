@@ -1,7 +1,9 @@
+use crate::comparing::{holds, same, same_in_row};
 use bitflags::Flags;
 use lagtypes::{AggId, Choice, Group, Key, Party, PortId, State, StateBits, SystemId};
-use std::alloc::AllocError;
+use std::alloc::{AllocError, Global};
 use std::cmp::Ordering;
+use std::process::Abort;
 
 fn system(last: u8) -> SystemId {
     SystemId {
@@ -38,51 +40,78 @@ fn distinct() -> Party {
     }
 }
 
-#[test]
-fn groups_print_the_lower_end_first(rt: HostRuntime) -> Result<(), AllocError> {
-    let alone = "0/00-00-00-00-00-00 key 0 port 0/0 <> 32768/02-00-00-00-00-01 key 1 port 128/1";
-    let shared = "32768/02-00-00-00-00-01 key 1 <> 32768/02-00-00-00-00-02 key 1";
-    let defaults = Party::default();
-    let apart =
-        "4660/12-34-56-78-9a-bc key 3 port 200/7 <> 32768/02-00-00-00-00-02 key 1 port 128/1";
-    let by_key = "4660/12-34-56-78-9a-bc key 3 <> 4660/12-34-56-78-9a-bc key 4";
-    let by_port =
-        "4660/12-34-56-78-9a-bc key 3 port 200/7 <> 4660/12-34-56-78-9a-bc key 3 port 201/6";
-    let next_key = Party {
+/// The group of two parties prints this text.
+fn prints(
+    rt: &impl Abort,
+    alloc: Global,
+    one: Party,
+    other: Party,
+    text: &str,
+) -> Result<(), AllocError> {
+    let group = Group::of(&one, &other);
+    let printed = format!(in alloc; "{group}")?;
+    same(rt, "text of a group", &printed.as_str(), &text);
+    Ok(())
+}
+
+/// The group of two parties prints this text, in whatever order they stand.
+fn prints_both_ways(
+    rt: &impl Abort,
+    alloc: Global,
+    one: Party,
+    other: Party,
+    text: &str,
+) -> Result<(), AllocError> {
+    prints(rt, alloc, one, other, text)?;
+    prints(rt, alloc, other, one, text)
+}
+
+/// The same party with another key.
+fn next_key() -> Party {
+    Party {
         key: Key(4),
         ..distinct()
-    };
-    let next_port = Party {
+    }
+}
+
+/// The same party with another port, which is Individual.
+fn next_port() -> Party {
+    Party {
         port: PortId {
             priority: 201,
             number: 6,
         },
         aggregatable: false,
         ..distinct()
-    };
-    let rows = [
-        (party(2, false), distinct(), apart),
-        (next_key, distinct(), by_key),
-        (next_port, distinct(), by_port),
-        (party(1, true), defaults, alone),
-        (defaults, party(1, true), alone),
-        (party(1, true), party(2, true), shared),
-        (party(2, true), party(1, true), shared),
-    ];
-    for (place, (one, other, text)) in rows.into_iter().enumerate() {
-        let group = Group::of(&one, &other);
-        let printed = format!(in rt.alloc(); "{group}")?;
-        assert_eq!(rt; printed.as_str(), text, "row {place}: text of a group");
     }
-    Ok(())
+}
+
+#[test]
+fn groups_print_the_lower_end_first(rt: HostRuntime) -> Result<(), AllocError> {
+    let alloc = rt.alloc();
+    let alone = "0/00-00-00-00-00-00 key 0 port 0/0 <> 32768/02-00-00-00-00-01 key 1 port 128/1";
+    let shared = "32768/02-00-00-00-00-01 key 1 <> 32768/02-00-00-00-00-02 key 1";
+    let apart =
+        "4660/12-34-56-78-9a-bc key 3 port 200/7 <> 32768/02-00-00-00-00-02 key 1 port 128/1";
+    let by_key = "4660/12-34-56-78-9a-bc key 3 <> 4660/12-34-56-78-9a-bc key 4";
+    let by_port =
+        "4660/12-34-56-78-9a-bc key 3 port 200/7 <> 4660/12-34-56-78-9a-bc key 3 port 201/6";
+    prints(&rt, alloc, party(2, false), distinct(), apart)?;
+    prints(&rt, alloc, next_key(), distinct(), by_key)?;
+    prints(&rt, alloc, next_port(), distinct(), by_port)?;
+    prints_both_ways(&rt, alloc, party(1, true), Party::default(), alone)?;
+    prints_both_ways(&rt, alloc, party(1, true), party(2, true), shared)
 }
 
 #[test]
 fn groups_are_unordered_pairs(rt: HostRuntime) {
     let group = Group::of(&party(1, true), &party(2, true));
-    assert!(rt; group == Group::of(&party(2, true), &party(1, true)));
-    assert!(rt; group != Group::of(&party(1, true), &party(2, false)));
-    assert!(rt; group.lower().is_below(&group.upper()));
+    let turned = Group::of(&party(2, true), &party(1, true));
+    let alone = Group::of(&party(1, true), &party(2, false));
+    holds(&rt, "the order does not count", group == turned);
+    holds(&rt, "Aggregation counts", group != alone);
+    let below = group.lower().is_below(&group.upper());
+    holds(&rt, "the lower end is below the upper one", below);
 }
 
 #[test]
@@ -109,9 +138,23 @@ fn parties_match_by_all_six_parameters(rt: HostRuntime) {
         (port_number, false),
         (aggregatable, false),
     ];
-    for (place, (other, want)) in rows.into_iter().enumerate() {
-        assert_eq!(rt; party.matches(&other), want, "row {place}: matches");
+    for (place, (other, want)) in rows.iter().enumerate() {
+        same_in_row(&rt, place, &party.matches(other), want);
     }
+}
+
+/// The first port identifier is below the second one.
+fn is_below(rt: &impl Abort, (a, m): (u16, u16), (b, n): (u16, u16)) {
+    let below = PortId {
+        priority: a,
+        number: m,
+    };
+    let above = PortId {
+        priority: b,
+        number: n,
+    };
+    holds(rt, "below", below.is_below(&above));
+    holds(rt, "above", above.cmp(&below) == Ordering::Greater);
 }
 
 #[test]
@@ -120,50 +163,41 @@ fn identifiers_compare_by_priority_first(rt: HostRuntime) {
         priority: 1,
         mac: [255, 0, 0, 0, 0, 0],
     };
-    assert!(rt; low.is_below(&system(1)));
-    assert!(rt; system(1).is_below(&system(2)));
-    let ports = [(1, 9), (128, 1), (128, 2)];
-    for pair in ports.windows(2) {
-        if let [(a, m), (b, n)] = pair {
-            let below = PortId {
-                priority: *a,
-                number: *m,
-            };
-            let above = PortId {
-                priority: *b,
-                number: *n,
-            };
-            assert!(rt; below.is_below(&above));
-            assert!(rt; above.cmp(&below) == Ordering::Greater);
-        }
-    }
+    holds(&rt, "by priority", low.is_below(&system(1)));
+    holds(&rt, "by address", system(1).is_below(&system(2)));
+    is_below(&rt, (1, 9), (128, 1));
+    is_below(&rt, (128, 1), (128, 2));
+}
+
+/// Octets, and what a state with these bits prints.
+const STATES: [(u8, &str); 11] = [
+    (0xc7, "c7 active,short,aggregatable,defaulted,expired"),
+    (0x02, "02 short"),
+    (0x00, "00 none"),
+    (0x38, "38 synchronized,collecting,distributing"),
+    (0x01, "01 active"),
+    (0x04, "04 aggregatable"),
+    (0x08, "08 synchronized"),
+    (0x10, "10 collecting"),
+    (0x20, "20 distributing"),
+    (0x40, "40 defaulted"),
+    (0x80, "80 expired"),
+];
+
+/// A state with these bits prints this text, and its names written again give the bits.
+fn prints_state(rt: &impl Abort, alloc: Global, octet: u8, text: &str) -> Result<(), AllocError> {
+    let state = State::from_bits_retain(octet);
+    let printed = format!(in alloc; "{state}")?;
+    same(rt, text, &printed.as_str(), &text);
+    let again = State::from(state.named());
+    same(rt, text, &again.bits(), &octet);
+    Ok(())
 }
 
 #[test]
 fn states_print_the_names_of_their_bits(rt: HostRuntime) -> Result<(), AllocError> {
-    let rows = [
-        (0xc7, "c7 active,short,aggregatable,defaulted,expired"),
-        (0x02, "02 short"),
-        (0x00, "00 none"),
-        (0x38, "38 synchronized,collecting,distributing"),
-        (0x01, "01 active"),
-        (0x04, "04 aggregatable"),
-        (0x08, "08 synchronized"),
-        (0x10, "10 collecting"),
-        (0x20, "20 distributing"),
-        (0x40, "40 defaulted"),
-        (0x80, "80 expired"),
-    ];
-    for (octet, text) in rows {
-        let state = State::from_bits_retain(octet);
-        let printed = format!(in rt.alloc(); "{state}")?;
-        assert_eq!(rt; printed.as_str(), text, "text of {octet:#04x}");
-        let again = State::from(state.named());
-        assert_eq!(rt;
-            again.bits(),
-            octet,
-            "the names of {octet:#04x} written again"
-        );
+    for (octet, text) in &STATES {
+        prints_state(&rt, rt.alloc(), *octet, *text)?;
     }
     Ok(())
 }
@@ -184,16 +218,14 @@ fn read(state: State) -> [bool; 8] {
 
 #[test]
 fn each_reader_has_its_bit(rt: HostRuntime) {
-    for (place, octet) in [0x01, 0x02, 0x04, 0x08, 0x10, 0x20, 0x40, 0x80]
-        .into_iter()
-        .enumerate()
-    {
+    let bits = [0x01, 0x02, 0x04, 0x08, 0x10, 0x20, 0x40, 0x80];
+    for (place, octet) in bits.iter().enumerate() {
         let mut wanted = [false; 8];
         if let Some(bit) = wanted.get_mut(place) {
             *bit = true;
         }
-        let state = State::from_bits_retain(octet);
-        assert_eq!(rt; read(state), wanted, "the readers of {octet:#04x}");
+        let state = State::from_bits_retain(*octet);
+        same_in_row(&rt, place, &read(state), &wanted);
     }
 }
 
@@ -205,20 +237,22 @@ fn states_are_read_and_written_by_name(rt: HostRuntime) {
         expired: true,
         ..StateBits::default()
     });
-    assert_eq!(rt; state.bits(), 0x85);
-    assert!(rt; state.is_active() && state.is_aggregatable() && state.is_expired());
-    assert!(rt; !state.is_short() && !state.is_synchronized() && !state.is_defaulted());
-    assert!(rt; !state.is_collecting() && !state.is_distributing());
-    assert_eq!(rt; state.with_synchronization(true).bits(), 0x8d);
-    assert_eq!(rt; state.with_timeout(true).with_timeout(false).bits(), 0x85);
+    same(&rt, "bits", &state.bits(), &0x85);
+    let wanted = [true, false, true, false, false, false, false, true];
+    same(&rt, "readers", &read(state), &wanted);
+    let synchronized = state.with_synchronization(true);
+    same(&rt, "synchronized", &synchronized.bits(), &0x8d);
+    let long_again = state.with_timeout(true).with_timeout(false);
+    same(&rt, "with_timeout", &long_again.bits(), &0x85);
 }
 
 #[test]
 fn numbers_print_as_decimal(rt: HostRuntime) -> Result<(), AllocError> {
     let key = format!(in rt.alloc(); "{}", Key(65535))?;
-    assert_eq!(rt; key.as_str(), "65535");
+    same(&rt, "a key", &key.as_str(), &"65535");
     let aggregator = format!(in rt.alloc(); "{}", AggId(1))?;
-    assert_eq!(rt; aggregator.as_str(), "1");
-    assert!(rt; Choice::default() != Choice::Selected(AggId(1)));
+    same(&rt, "an aggregator", &aggregator.as_str(), &"1");
+    let first = Choice::Selected(AggId(1));
+    holds(&rt, "not SELECTED at first", Choice::default() != first);
     Ok(())
 }

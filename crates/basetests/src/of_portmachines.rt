@@ -9,26 +9,62 @@ use portmachines::{
 use slowpdu::{Info, Lacpdu};
 use std::process::Abort;
 
+/// What a reader of a port returns.
+#[derive(Clone, Copy, Debug, PartialEq, Eq)]
+enum Fact {
+    /// Actor_State.
+    State(u8),
+    /// Bits 3 to 5 of Actor_State.
+    Carries(u8),
+    Receive(ReceiveState),
+    PeriodicIn(PeriodicState),
+    MuxIn(MuxState),
+    Ntt(bool),
+    Enabled(bool),
+    Defaulted(bool),
+    Waited(bool),
+    Distributes(bool),
+    Chosen(Choice),
+    OwnParty(Party),
+    Partner(Info),
+    /// The state of the partner.
+    PartnerState(u8),
+    CurrentWhile(u16),
+    PeriodicTimer(u16),
+    WaitWhile(u8),
+    /// How many LACPDUs are in the window, and the ages of the first and of the last.
+    Ages(usize, Option<u8>, Option<u8>),
+}
+
 /// A call of a port, or several, with the expected result; or an expected value of a variable.
 #[derive(Clone, Copy, Debug, PartialEq, Eq)]
 enum Step {
     Link(bool),
     Periodic,
+    /// `tick`, once.
+    Tick,
     /// `tick` and `periodic`, this many times.
     Run(u16),
     /// `tick` and `periodic`, this many times; each time `transmit(0)` returns None.
     Quiet(u16),
     /// The port gets an LACPDU of system 2 with this Actor_State and a Partner that is all zero.
     Take(u8),
+    /// The same, with this Partner.
+    Told(u8, Info),
+    /// The port gets an LACPDU with this Actor and Partner, and a CollectorMaxDelay of 27.
+    Heard(Info, Info),
     Select(Choice),
+    Reinit(Party),
     /// `mux` with this Ready returns this number of rows.
     Mux(bool, u8),
+    /// Whether the rows that `mux` fires with this Ready set NTT to true, after it was false.
+    Asks(bool, bool),
     /// `transmit(0)` returns an LACPDU with this Actor_State, or None.
     Sends(Option<u8>),
-    /// The expected Actor_State.
-    State(u8),
-    Receive(ReceiveState),
-    PeriodicIn(PeriodicState),
+    /// `transmit` with this delay returns this LACPDU.
+    SendsAll(u16, Lacpdu),
+    /// A reader returns this.
+    Is(Fact),
 }
 
 fn end(system: u8, state: u8) -> Info {
@@ -89,288 +125,305 @@ fn quiet(port: &mut Port, ticks: u16) -> u16 {
     ticks
 }
 
+/// Whether the mux rows that fire set NTT to true, after it was false.
+fn asks(port: &mut Port, ready: bool) -> bool {
+    run(port, 11);
+    let _sent = port.transmit(0);
+    let before = port.ntt();
+    let _fired = port.mux(ready);
+    port.ntt() && !before
+}
+
+/// What the reader that a fact names returns.
+fn read(port: &Port, fact: Fact) -> Fact {
+    match fact {
+        Fact::State(_) => Fact::State(port.state().bits()),
+        Fact::Carries(_) => Fact::Carries(port.state().bits() & 0x38),
+        Fact::Receive(_) => Fact::Receive(port.receive_state()),
+        Fact::PeriodicIn(_) => Fact::PeriodicIn(port.periodic_state()),
+        Fact::MuxIn(_) => Fact::MuxIn(port.mux_state()),
+        Fact::Ntt(_) => Fact::Ntt(port.ntt()),
+        Fact::Enabled(_) => Fact::Enabled(port.is_enabled()),
+        Fact::Defaulted(_) => Fact::Defaulted(port.is_defaulted()),
+        Fact::Waited(_) => Fact::Waited(port.has_waited()),
+        Fact::Distributes(_) => Fact::Distributes(port.distributes()),
+        Fact::Chosen(_) => Fact::Chosen(port.choice()),
+        Fact::OwnParty(_) => Fact::OwnParty(port.party()),
+        Fact::Partner(_) => Fact::Partner(port.partner()),
+        Fact::PartnerState(_) => Fact::PartnerState(port.partner().state.bits()),
+        Fact::CurrentWhile(_) => Fact::CurrentWhile(port.current_while()),
+        Fact::PeriodicTimer(_) => Fact::PeriodicTimer(port.periodic_timer()),
+        Fact::WaitWhile(_) => Fact::WaitWhile(port.wait_while()),
+        Fact::Ages(_, _, _) => ages(port),
+    }
+}
+
+fn ages(port: &Port) -> Fact {
+    let ages = port.ages();
+    let all = ages.as_slice();
+    Fact::Ages(all.len(), all.first().copied(), all.last().copied())
+}
+
 /// Does a step, and returns it with the actual result in the place of the expected one.
 fn done(port: &mut Port, step: Step) -> Step {
     match step {
         Step::Link(enabled) => port.set_link(enabled),
         Step::Periodic => port.periodic(),
+        Step::Tick => port.tick(),
         Step::Run(ticks) => run(port, ticks),
         Step::Quiet(ticks) => return Step::Quiet(quiet(port, ticks)),
-        Step::Take(state) => port.take(&Lacpdu {
-            actor: end(2, state),
-            partner: zero(0),
-            max_delay: 0,
+        Step::Take(state) => port.take(&saying(state, zero(0))),
+        Step::Told(state, partner) => port.take(&saying(state, partner)),
+        Step::Heard(actor, partner) => port.take(&Lacpdu {
+            actor,
+            partner,
+            max_delay: 27,
         }),
         Step::Select(choice) => port.select(choice),
+        Step::Reinit(party) => port.reinit(party),
         Step::Mux(ready, _) => return Step::Mux(ready, port.mux(ready)),
+        Step::Asks(ready, _) => return Step::Asks(ready, asks(port, ready)),
         Step::Sends(_) => {
             return Step::Sends(port.transmit(0).map(|pdu| pdu.actor.state.bits()));
         }
-        Step::State(_) => return Step::State(port.state().bits()),
-        Step::Receive(_) => return Step::Receive(port.receive_state()),
-        Step::PeriodicIn(_) => return Step::PeriodicIn(port.periodic_state()),
+        Step::SendsAll(delay, _) => {
+            return match port.transmit(delay) {
+                Some(pdu) => Step::SendsAll(delay, pdu),
+                None => Step::Sends(None),
+            };
+        }
+        Step::Is(fact) => return Step::Is(read(port, fact)),
     }
     step
 }
 
 fn walk(rt: &impl Abort, mut port: Port, steps: &[Step]) {
     for (place, step) in steps.iter().enumerate() {
-        assert_eq!(rt; done(&mut port, *step), *step, "step {place}");
+        assert_eq!(rt; done(&mut port, *step), *step, "step {place} of {steps:?}");
     }
 }
 
 #[test]
 fn an_active_port_alone(rt: HostRuntime) {
-    walk(
-        &rt,
-        port(true, true),
-        &[
-            Step::Periodic,
-            Step::Link(true),
-            Step::Periodic,
-            Step::Run(9),
-            Step::Sends(None),
-            Step::Run(1),
-            Step::Sends(Some(0xc7)),
-            Step::Run(20),
-            Step::Receive(ReceiveState::Defaulted),
-            Step::State(0x47),
-            Step::Select(Choice::Selected(AggId(1))),
-            Step::Mux(true, 3),
-            Step::State(0x7f),
-            Step::Select(Choice::Unselected),
-            Step::Mux(false, 2),
-            Step::Mux(false, 0),
-            Step::State(0x47),
-        ],
-    );
+    let steps = [
+        Step::Periodic,
+        Step::Link(true),
+        Step::Periodic,
+        Step::Run(9),
+        Step::Sends(None),
+        Step::Run(1),
+        Step::Sends(Some(0xc7)),
+        Step::Run(20),
+        Step::Is(Fact::Receive(ReceiveState::Defaulted)),
+        Step::Is(Fact::State(0x47)),
+        Step::Select(Choice::Selected(AggId(1))),
+        Step::Mux(true, 3),
+        Step::Is(Fact::State(0x7f)),
+        Step::Select(Choice::Unselected),
+        Step::Mux(false, 2),
+        Step::Mux(false, 0),
+        Step::Is(Fact::State(0x47)),
+    ];
+    walk(&rt, port(true, true), &steps);
 }
 
 #[test]
 fn a_passive_port_waits_for_a_partner(rt: HostRuntime) {
-    walk(
-        &rt,
-        port(false, true),
-        &[
-            Step::Link(true),
-            Step::Periodic,
-            Step::Run(10),
-            Step::PeriodicIn(PeriodicState::NoPeriodic),
-            Step::Sends(None),
-            Step::Take(0x07),
-            Step::Periodic,
-            Step::PeriodicIn(PeriodicState::Fast),
-            Step::Sends(Some(0x06)),
-        ],
-    );
+    let steps = [
+        Step::Link(true),
+        Step::Periodic,
+        Step::Run(10),
+        Step::Is(Fact::PeriodicIn(PeriodicState::NoPeriodic)),
+        Step::Sends(None),
+        Step::Take(0x07),
+        Step::Periodic,
+        Step::Is(Fact::PeriodicIn(PeriodicState::Fast)),
+        Step::Sends(Some(0x06)),
+    ];
+    walk(&rt, port(false, true), &steps);
 }
 
 #[test]
 fn long_timeouts(rt: HostRuntime) {
-    walk(
-        &rt,
-        port(true, false),
-        &[
-            Step::Take(0x05),
-            Step::Receive(ReceiveState::PortDisabled),
-            Step::Link(true),
-            Step::Take(0x05),
-            Step::Periodic,
-            Step::PeriodicIn(PeriodicState::Slow),
-            Step::Sends(Some(0x05)),
-            Step::Quiet(299),
-            Step::Run(1),
-            Step::Sends(Some(0x05)),
-            Step::Run(599),
-            Step::Receive(ReceiveState::Current),
-            Step::State(0x05),
-            Step::Run(1),
-            Step::Receive(ReceiveState::Expired),
-            Step::State(0x85),
-            Step::Run(29),
-            Step::Receive(ReceiveState::Expired),
-            Step::Run(1),
-            Step::Receive(ReceiveState::Defaulted),
-            Step::State(0x45),
-        ],
-    );
+    let steps = [
+        Step::Take(0x05),
+        Step::Is(Fact::Receive(ReceiveState::PortDisabled)),
+        Step::Link(true),
+        Step::Take(0x05),
+        Step::Periodic,
+        Step::Is(Fact::PeriodicIn(PeriodicState::Slow)),
+        Step::Sends(Some(0x05)),
+        Step::Quiet(299),
+        Step::Run(1),
+        Step::Sends(Some(0x05)),
+        Step::Run(599),
+        Step::Is(Fact::Receive(ReceiveState::Current)),
+        Step::Is(Fact::State(0x05)),
+        Step::Run(1),
+        Step::Is(Fact::Receive(ReceiveState::Expired)),
+        Step::Is(Fact::State(0x85)),
+        Step::Run(29),
+        Step::Is(Fact::Receive(ReceiveState::Expired)),
+        Step::Run(1),
+        Step::Is(Fact::Receive(ReceiveState::Defaulted)),
+        Step::Is(Fact::State(0x45)),
+    ];
+    walk(&rt, port(true, false), &steps);
 }
 
 #[test]
 fn a_full_window(rt: HostRuntime) {
-    walk(
-        &rt,
-        port(true, true),
-        &[
-            Step::Periodic,
-            Step::Link(true),
-            Step::Take(0x07),
-            Step::Sends(Some(0x07)),
-            Step::Take(0x07),
-            Step::Sends(Some(0x07)),
-            Step::Take(0x07),
-            Step::Sends(Some(0x07)),
-            Step::Take(0x07),
-            Step::Sends(None),
-            Step::Quiet(10),
-            Step::Run(1),
-            Step::Sends(Some(0x07)),
-        ],
-    );
+    let steps = [
+        Step::Periodic,
+        Step::Link(true),
+        Step::Take(0x07),
+        Step::Sends(Some(0x07)),
+        Step::Take(0x07),
+        Step::Sends(Some(0x07)),
+        Step::Take(0x07),
+        Step::Sends(Some(0x07)),
+        Step::Take(0x07),
+        Step::Sends(None),
+        Step::Quiet(10),
+        Step::Run(1),
+        Step::Sends(Some(0x07)),
+    ];
+    walk(&rt, port(true, true), &steps);
 }
 
 #[test]
 fn attached_is_synchronized_and_passes_no_frames(rt: HostRuntime) {
-    walk(
-        &rt,
-        port(true, true),
-        &[
-            Step::Link(true),
-            Step::Take(0x07),
-            Step::Select(Choice::Selected(AggId(1))),
-            Step::Mux(true, 2),
-            Step::State(0x0f),
-            Step::Select(Choice::Unselected),
-            Step::Mux(true, 1),
-            Step::State(0x07),
-        ],
-    );
+    let steps = [
+        Step::Link(true),
+        Step::Take(0x07),
+        Step::Select(Choice::Selected(AggId(1))),
+        Step::Mux(true, 2),
+        Step::Is(Fact::State(0x0f)),
+        Step::Select(Choice::Unselected),
+        Step::Mux(true, 1),
+        Step::Is(Fact::State(0x07)),
+    ];
+    walk(&rt, port(true, true), &steps);
 }
 
 #[test]
 fn a_new_port(rt: HostRuntime) {
-    let mut port = port(true, true);
-    assert!(rt; port.ntt(), "ntt after new");
-    assert!(rt; !port.is_enabled(), "is_enabled after new");
-    assert!(rt; port.is_defaulted(), "is_defaulted after new");
-    assert!(rt; port.has_waited(), "has_waited after new");
-    assert_eq!(rt; port.partner(), zero(0), "partner after new");
-    assert_eq!(rt;
-        port.receive_state(),
-        ReceiveState::PortDisabled,
-        "receive_state after new"
-    );
-    assert_eq!(rt; port.mux_state(), MuxState::Detached, "mux_state after new");
-    assert_eq!(rt;
-        port.periodic_state(),
-        PeriodicState::NoPeriodic,
-        "periodic_state after new"
-    );
-    assert_eq!(rt; timers(&port), (0, 0, 0), "timers after new");
-    assert!(rt; port.ages().as_slice().is_empty(), "ages after new");
-    port.periodic();
-    assert!(rt; !port.ntt(), "ntt after periodic");
-    port.take(&saying(0x07, end(1, 0x06)));
-    assert!(rt; !port.ntt(), "ntt after an LACPDU while the link is down");
-    assert_eq!(rt; port.partner(), zero(0), "partner after that LACPDU");
+    let steps = [
+        Step::Is(Fact::Ntt(true)),
+        Step::Is(Fact::Enabled(false)),
+        Step::Is(Fact::Defaulted(true)),
+        Step::Is(Fact::Waited(true)),
+        Step::Is(Fact::Partner(zero(0))),
+        Step::Is(Fact::Receive(ReceiveState::PortDisabled)),
+        Step::Is(Fact::MuxIn(MuxState::Detached)),
+        Step::Is(Fact::PeriodicIn(PeriodicState::NoPeriodic)),
+        Step::Is(Fact::CurrentWhile(0)),
+        Step::Is(Fact::PeriodicTimer(0)),
+        Step::Is(Fact::WaitWhile(0)),
+        Step::Is(Fact::Ages(0, None, None)),
+        Step::Periodic,
+        Step::Is(Fact::Ntt(false)),
+        // an LACPDU while the link is down
+        Step::Told(0x07, end(1, 0x06)),
+        Step::Is(Fact::Ntt(false)),
+        Step::Is(Fact::Partner(zero(0))),
+    ];
+    walk(&rt, port(true, true), &steps);
 }
 
 /// A port whose link came up ten ticks ago.
 fn port_after_a_second() -> Port {
-    let mut port = port(true, true);
-    port.periodic();
-    port.set_link(true);
-    port.periodic();
+    let mut port = quiet_port(true, true);
     run(&mut port, 10);
     port
 }
 
+const SELECTED: Choice = Choice::Selected(AggId(1));
+
 #[test]
 fn the_readers_of_a_port(rt: HostRuntime) {
-    let mut port = port_after_a_second();
     let due = Lacpdu {
         actor: end(1, 0xc7),
         partner: zero(2),
         max_delay: 0,
     };
-    assert_eq!(rt; port.transmit(0), Some(due), "transmit after ten ticks");
-    run(&mut port, 2);
-    assert_eq!(rt;
-        port.ages().as_slice(),
-        [2].as_slice(),
-        "ages two ticks later"
-    );
-    port.select(Choice::Selected(AggId(1)));
-    assert_eq!(rt; port.mux(false), 1, "mux of a port that is selected");
-    assert!(rt; !port.ntt(), "ntt in WAITING");
-    assert_eq!(rt; port.state().bits(), 0xc7, "state in WAITING");
-    assert_eq!(rt;
-        port.choice(),
-        Choice::Selected(AggId(1)),
-        "choice after select"
-    );
+    let steps = [
+        Step::SendsAll(0, due),
+        Step::Run(2),
+        Step::Is(Fact::Ages(1, Some(2), Some(2))),
+        Step::Select(SELECTED),
+        Step::Mux(false, 1),
+        // in WAITING
+        Step::Is(Fact::Ntt(false)),
+        Step::Is(Fact::State(0xc7)),
+        Step::Is(Fact::Chosen(SELECTED)),
+    ];
+    walk(&rt, port_after_a_second(), &steps);
 }
 
 #[test]
 fn another_party_starts_the_machines_again(rt: HostRuntime) {
-    let mut port = port_after_a_second();
-    assert!(rt; port.transmit(0).is_some(), "transmit after ten ticks");
-    run(&mut port, 2);
-    port.select(Choice::Selected(AggId(1)));
-    assert_eq!(rt; port.mux(false), 1, "mux of a port that is selected");
-    port.reinit(party(2));
-    assert_eq!(rt; port.party(), party(2), "party after reinit");
-    assert_eq!(rt; port.choice(), Choice::Unselected, "choice after reinit");
-    assert_eq!(rt;
-        port.receive_state(),
-        ReceiveState::Expired,
-        "receive_state after reinit"
-    );
-    assert_eq!(rt; port.ages().as_slice(), [2].as_slice(), "ages after reinit");
-    assert!(rt; port.is_enabled(), "is_enabled after reinit");
-    assert_eq!(rt;
-        port.mux_state(),
-        MuxState::Detached,
-        "mux_state after reinit"
-    );
-    assert!(rt; !port.distributes(), "distributes after reinit");
-}
-
-/// The ticks left of current_while, periodic_timer and wait_while.
-fn timers(port: &Port) -> (u16, u16, u8) {
-    (
-        port.current_while(),
-        port.periodic_timer(),
-        port.wait_while(),
-    )
+    let steps = [
+        Step::Sends(Some(0xc7)),
+        Step::Run(2),
+        Step::Select(SELECTED),
+        Step::Mux(false, 1),
+        Step::Reinit(party(2)),
+        Step::Is(Fact::OwnParty(party(2))),
+        Step::Is(Fact::Chosen(Choice::Unselected)),
+        Step::Is(Fact::Receive(ReceiveState::Expired)),
+        Step::Is(Fact::Ages(1, Some(2), Some(2))),
+        Step::Is(Fact::Enabled(true)),
+        Step::Is(Fact::MuxIn(MuxState::Detached)),
+        Step::Is(Fact::Distributes(false)),
+    ];
+    walk(&rt, port_after_a_second(), &steps);
 }
 
 #[test]
 fn each_timer_counts_by_itself(rt: HostRuntime) {
-    let mut port = quiet_port(true, true);
-    port.select(Choice::Selected(AggId(1)));
-    assert_eq!(rt; port.mux(false), 1, "mux of a port that is selected");
-    assert_eq!(rt; timers(&port), (30, 10, 20), "when they start");
-    port.set_link(true);
-    assert_eq!(rt; timers(&port), (30, 10, 20), "the link is up as before");
-    port.tick();
-    assert_eq!(rt; timers(&port), (29, 9, 19), "a tick later");
-    run(&mut port, 29);
-    assert_eq!(rt; timers(&port), (0, 300, 0), "30 ticks later, on defaults");
-    assert_eq!(rt; port.partner(), zero(0x08), "partner on defaults");
+    let steps = [
+        Step::Select(SELECTED),
+        Step::Mux(false, 1),
+        Step::Is(Fact::CurrentWhile(30)),
+        Step::Is(Fact::PeriodicTimer(10)),
+        Step::Is(Fact::WaitWhile(20)),
+        // the link is up as before
+        Step::Link(true),
+        Step::Is(Fact::CurrentWhile(30)),
+        Step::Is(Fact::PeriodicTimer(10)),
+        Step::Is(Fact::WaitWhile(20)),
+        Step::Tick,
+        Step::Is(Fact::CurrentWhile(29)),
+        Step::Is(Fact::PeriodicTimer(9)),
+        Step::Is(Fact::WaitWhile(19)),
+        // on defaults
+        Step::Run(29),
+        Step::Is(Fact::CurrentWhile(0)),
+        Step::Is(Fact::PeriodicTimer(300)),
+        Step::Is(Fact::WaitWhile(0)),
+        Step::Is(Fact::Partner(zero(0x08))),
+    ];
+    walk(&rt, quiet_port(true, true), &steps);
 }
 
-#[test]
-fn each_field_of_an_lacpdu_has_its_source(rt: HostRuntime) {
-    let own = Party {
-        system: SystemId {
-            priority: 4113,
-            mac: [2, 3, 4, 5, 6, 7],
-        },
-        key: Key(8),
-        port: PortId {
-            priority: 9,
-            number: 10,
-        },
-        aggregatable: false,
-    };
-    let mut port = Port::new(Setup {
-        party: own,
-        active: true,
-        short: false,
-    });
-    port.set_link(true);
-    let theirs = Info {
+/// A party in which no two parameters are equal.
+const DISTINCT: Party = Party {
+    system: SystemId {
+        priority: 4113,
+        mac: [2, 3, 4, 5, 6, 7],
+    },
+    key: Key(8),
+    port: PortId {
+        priority: 9,
+        number: 10,
+    },
+    aggregatable: false,
+};
+
+/// What the peer of that party says of itself.
+fn distinct_peer() -> Info {
+    Info {
         system: SystemId {
             priority: 8225,
             mac: [0x12, 0x13, 0x14, 0x15, 0x16, 0x17],
@@ -381,25 +434,34 @@ fn each_field_of_an_lacpdu_has_its_source(rt: HostRuntime) {
             number: 26,
         },
         state: State::from_bits_retain(0x06),
-    };
-    port.take(&saying(0x07, zero(0)));
-    port.take(&Lacpdu {
-        actor: theirs,
-        partner: zero(0),
-        max_delay: 27,
+    }
+}
+
+#[test]
+fn each_field_of_an_lacpdu_has_its_source(rt: HostRuntime) {
+    let port = Port::new(Setup {
+        party: DISTINCT,
+        active: true,
+        short: false,
     });
-    port.periodic();
     let due = Lacpdu {
         actor: Info {
-            system: own.system,
-            key: own.key,
-            port: own.port,
+            system: DISTINCT.system,
+            key: DISTINCT.key,
+            port: DISTINCT.port,
             state: State::from_bits_retain(0x01),
         },
-        partner: theirs,
+        partner: distinct_peer(),
         max_delay: 28,
     };
-    assert_eq!(rt; port.transmit(28), Some(due), "transmit");
+    let steps = [
+        Step::Link(true),
+        Step::Take(0x07),
+        Step::Heard(distinct_peer(), zero(0)),
+        Step::Periodic,
+        Step::SendsAll(28, due),
+    ];
+    walk(&rt, port, &steps);
 }
 
 #[test]
@@ -441,139 +503,151 @@ fn what_is_told_of_the_port_is_compared(rt: HostRuntime) {
         (end(1, 0x03), true),
         (other_key, true),
     ];
-    for (place, (told, ntt)) in rows.into_iter().enumerate() {
-        let mut port = quiet_port(true, true);
-        port.take(&saying(0x07, told));
-        assert_eq!(rt; port.ntt(), ntt, "row {place}: ntt after {told:?} was told");
+    for (told, ntt) in &rows {
+        let steps = [Step::Told(0x07, *told), Step::Is(Fact::Ntt(*ntt))];
+        walk(&rt, quiet_port(true, true), &steps);
     }
+}
+
+/// A port that is active or not records this state of a partner that says the first octet of itself and this of the port.
+fn records(rt: &impl Abort, active: bool, actor: u8, told: Info, recorded: u8) {
+    let steps = [
+        Step::Told(actor, told),
+        Step::Is(Fact::PartnerState(recorded)),
+    ];
+    walk(rt, quiet_port(active, true), &steps);
 }
 
 #[test]
 fn what_is_recorded_of_synchronization(rt: HostRuntime) {
-    let rows = [
-        // the partner is active, and names the port
-        (true, 0x0d, end(1, 0x07), 0x0d),
-        // it names another port
-        (true, 0x0d, zero(0x01), 0x05),
-        // on an Individual link it need not name the port
-        (true, 0x09, zero(0x01), 0x09),
-        // it is passive: both the port and the LACPDU's Partner information have to be active
-        (true, 0x0c, end(1, 0x07), 0x0c),
-        (true, 0x0c, end(1, 0x06), 0x04),
-        (false, 0x0c, end(1, 0x07), 0x04),
-        // it is active: the port need not be
-        (false, 0x0d, end(1, 0x06), 0x0d),
-        // every bit but Synchronization is recorded as it came
-        (true, 0xff, end(1, 0x07), 0xff),
-        (true, 0xf5, end(1, 0x07), 0xf5),
-    ];
-    for (place, (active, actor, told, recorded)) in rows.into_iter().enumerate() {
-        let mut port = quiet_port(active, true);
-        port.take(&saying(actor, told));
-        let state = port.partner().state.bits();
-        assert_eq!(rt;
-            state,
-            recorded,
-            "row {place}: partner's state after {actor:#04x}"
-        );
-    }
+    // the partner is active, and names the port
+    records(&rt, true, 0x0d, end(1, 0x07), 0x0d);
+    // it names another port
+    records(&rt, true, 0x0d, zero(0x01), 0x05);
+    // on an Individual link it need not name the port
+    records(&rt, true, 0x09, zero(0x01), 0x09);
+    // it is passive: both the port and the LACPDU's Partner information have to be active
+    records(&rt, true, 0x0c, end(1, 0x07), 0x0c);
+    records(&rt, true, 0x0c, end(1, 0x06), 0x04);
+    records(&rt, false, 0x0c, end(1, 0x07), 0x04);
+    // it is active: the port need not be
+    records(&rt, false, 0x0d, end(1, 0x06), 0x0d);
+    // every bit but Synchronization is recorded as it came
+    records(&rt, true, 0xff, end(1, 0x07), 0xff);
+    records(&rt, true, 0xf5, end(1, 0x07), 0xf5);
 }
 
 #[test]
 fn timers_by_whose_timeout(rt: HostRuntime) {
-    for (short, actor, ticks) in [(true, 0x05, 30), (false, 0x07, 900)] {
-        let mut port = quiet_port(true, short);
-        port.take(&saying(actor, end(1, 0x07)));
-        assert_eq!(rt; port.current_while(), ticks, "short {short}: current_while");
-    }
-    let mut port = quiet_port(true, true);
-    port.take(&saying(0x05, end(1, 0x07)));
-    port.periodic();
-    assert_eq!(rt;
-        port.periodic_state(),
-        PeriodicState::Slow,
-        "of a long partner"
+    let known = end(1, 0x07);
+    walk(
+        &rt,
+        quiet_port(true, true),
+        &[Step::Told(0x05, known), Step::Is(Fact::CurrentWhile(30))],
     );
-    port.take(&saying(0x07, end(1, 0x07)));
-    port.periodic();
-    assert_eq!(rt;
-        port.periodic_state(),
-        PeriodicState::Fast,
-        "of a short partner"
+    walk(
+        &rt,
+        quiet_port(true, false),
+        &[Step::Told(0x07, known), Step::Is(Fact::CurrentWhile(900))],
     );
-    assert_eq!(rt; port.periodic_timer(), 10, "periodic_timer in FAST");
-}
-
-/// Whether the mux rows that fire set NTT to true, after it was false.
-fn asks(port: &mut Port, ready: bool) -> bool {
-    run(port, 11);
-    let _sent = port.transmit(0);
-    let before = port.ntt();
-    let _fired = port.mux(ready);
-    port.ntt() && !before
+    let steps = [
+        Step::Told(0x05, known),
+        Step::Periodic,
+        Step::Is(Fact::PeriodicIn(PeriodicState::Slow)),
+        Step::Told(0x07, known),
+        Step::Periodic,
+        Step::Is(Fact::PeriodicIn(PeriodicState::Fast)),
+        Step::Is(Fact::PeriodicTimer(10)),
+    ];
+    walk(&rt, quiet_port(true, true), &steps);
 }
 
 #[test]
 fn each_mux_row_but_the_first_asks(rt: HostRuntime) {
+    let steps = [
+        Step::Told(0x05, end(1, 0x07)),
+        Step::Select(SELECTED),
+        // to WAITING
+        Step::Asks(false, false),
+        Step::Select(Choice::Unselected),
+        // from WAITING to DETACHED
+        Step::Asks(false, true),
+        Step::Select(SELECTED),
+        // to ATTACHED
+        Step::Asks(true, true),
+        Step::Select(Choice::Unselected),
+        // from ATTACHED to DETACHED
+        Step::Asks(false, true),
+    ];
+    walk(&rt, quiet_port(true, true), &steps);
+}
+
+const STANDBY: Choice = Choice::Standby(AggId(1));
+
+/// A port that is in this state becomes STANDBY: this many rows fire, and it comes to WAITING.
+fn becomes_standby(rt: &impl Abort, port: Port, from: MuxState, rows: u8) {
+    let steps = [
+        Step::Is(Fact::MuxIn(from)),
+        Step::Select(STANDBY),
+        Step::Mux(true, rows),
+        Step::Is(Fact::MuxIn(MuxState::Waiting)),
+        Step::Is(Fact::Carries(0)),
+        Step::Is(Fact::Chosen(STANDBY)),
+    ];
+    walk(rt, port, &steps);
+}
+
+/// A port that has heard this Actor_State.
+fn hearing_port(state: u8) -> Port {
     let mut port = quiet_port(true, true);
-    port.take(&saying(0x05, end(1, 0x07)));
-    port.select(Choice::Selected(AggId(1)));
-    assert!(rt; !asks(&mut port, false), "to WAITING");
-    port.select(Choice::Unselected);
-    assert!(rt; asks(&mut port, false), "from WAITING to DETACHED");
-    port.select(Choice::Selected(AggId(1)));
-    assert!(rt; asks(&mut port, true), "to ATTACHED");
-    port.select(Choice::Unselected);
-    assert!(rt; asks(&mut port, false), "from ATTACHED to DETACHED");
+    port.take(&saying(state, end(1, 0x07)));
+    port
+}
+
+/// The same, SELECTED, and `mux` was called with this Ready.
+fn selected_port(state: u8, ready: bool) -> Port {
+    let mut port = hearing_port(state);
+    port.select(SELECTED);
+    let _fired = port.mux(ready);
+    port
 }
 
 /// From each state: how many rows fire, and where they lead.
 #[test]
 fn a_port_on_standby_waits(rt: HostRuntime) {
-    let standby = Choice::Standby(AggId(1));
-    let rows = [
-        (MuxState::Detached, 1),
-        (MuxState::Waiting, 0),
-        (MuxState::Attached, 2),
-        (MuxState::CollectingDistributing, 3),
-    ];
-    for (from, want) in rows {
-        let mut port = quiet_port(true, true);
-        let synchronized = matches!(from, MuxState::CollectingDistributing);
-        port.take(&saying(if synchronized { 0x0f } else { 0x07 }, end(1, 0x07)));
-        if !matches!(from, MuxState::Detached) {
-            port.select(Choice::Selected(AggId(1)));
-            let _fired = port.mux(!matches!(from, MuxState::Waiting));
-        }
-        assert_eq!(rt; port.mux_state(), from, "before it is STANDBY");
-        port.select(standby);
-        assert_eq!(rt; port.mux(true), want, "rows that fire from {from:?}");
-        assert_eq!(rt; port.mux_state(), MuxState::Waiting, "from {from:?}");
-        assert_eq!(rt; port.state().bits() & 0x38, 0, "state, from {from:?}");
-        assert_eq!(rt; port.choice(), standby, "choice, from {from:?}");
-    }
+    becomes_standby(&rt, hearing_port(0x07), MuxState::Detached, 1);
+    let waiting = selected_port(0x07, false);
+    becomes_standby(&rt, waiting, MuxState::Waiting, 0);
+    let attached = selected_port(0x07, true);
+    becomes_standby(&rt, attached, MuxState::Attached, 2);
+    let distributing = selected_port(0x0f, true);
+    becomes_standby(&rt, distributing, MuxState::CollectingDistributing, 3);
 }
 
 /// A STANDBY port waits for wait_while as a SELECTED one does, and stays in WAITING until it is SELECTED.
 #[test]
 fn a_port_on_standby_is_promoted(rt: HostRuntime) {
-    let mut port = quiet_port(true, true);
-    port.take(&saying(0x07, end(1, 0x07)));
-    port.select(Choice::Standby(AggId(1)));
-    assert_eq!(rt; port.mux(false), 1, "rows to WAITING");
-    assert_eq!(rt; port.wait_while(), 20, "wait_while");
-    run(&mut port, 20);
-    assert_eq!(rt; port.has_waited(), true, "after 20 ticks");
-    assert_eq!(rt; port.mux(true), 0, "rows that fire while it is STANDBY");
-    port.select(Choice::Selected(AggId(1)));
-    assert_eq!(rt; port.mux(false), 0, "rows that fire while it is not Ready");
-    assert_eq!(rt; port.mux(true), 1, "rows to ATTACHED");
-    assert_eq!(rt; port.mux_state(), MuxState::Attached);
-    port.select(Choice::Standby(AggId(1)));
-    assert!(rt; asks(&mut port, true), "from ATTACHED by way of DETACHED");
-    port.select(Choice::Unselected);
-    assert_eq!(rt; port.mux(true), 1, "rows to DETACHED");
-    assert_eq!(rt; port.mux_state(), MuxState::Detached);
+    let steps = [
+        Step::Select(STANDBY),
+        Step::Mux(false, 1),
+        Step::Is(Fact::WaitWhile(20)),
+        Step::Run(20),
+        Step::Is(Fact::Waited(true)),
+        // no row fires while it is STANDBY
+        Step::Mux(true, 0),
+        Step::Select(SELECTED),
+        // nor while it is not Ready
+        Step::Mux(false, 0),
+        Step::Mux(true, 1),
+        Step::Is(Fact::MuxIn(MuxState::Attached)),
+        Step::Select(STANDBY),
+        // by way of DETACHED
+        Step::Asks(true, true),
+        Step::Select(Choice::Unselected),
+        Step::Mux(true, 1),
+        Step::Is(Fact::MuxIn(MuxState::Detached)),
+    ];
+    walk(&rt, hearing_port(0x07), &steps);
 }
 
 /// The information six times, each time with another one of its six parameters changed.
@@ -590,116 +664,102 @@ fn with_one_changed(end: Info) -> [Info; 6] {
 
 #[test]
 fn each_parameter_of_the_port_is_compared(rt: HostRuntime) {
-    for (place, told) in with_one_changed(end(1, 0x07)).into_iter().enumerate() {
-        let mut port = quiet_port(true, true);
-        port.take(&saying(0x0d, told));
-        assert!(rt; port.ntt(), "row {place}: ntt after {told:?} was told");
-        let state = port.partner().state.bits();
-        assert_eq!(rt;
-            state,
-            0x05,
-            "row {place}: partner's state after {told:?} was told"
-        );
+    for told in &with_one_changed(end(1, 0x07)) {
+        let steps = [
+            Step::Told(0x0d, *told),
+            Step::Is(Fact::Ntt(true)),
+            Step::Is(Fact::PartnerState(0x05)),
+        ];
+        walk(&rt, quiet_port(true, true), &steps);
     }
+}
+
+/// A SELECTED port stays so while its partner says the same of itself, and becomes UNSELECTED when it says this.
+fn notices(rt: &impl Abort, actor: Info) {
+    let steps = [
+        Step::Select(SELECTED),
+        Step::Told(0x3f, end(1, 0x07)),
+        Step::Is(Fact::Chosen(SELECTED)),
+        Step::Heard(actor, end(1, 0x07)),
+        Step::Is(Fact::Chosen(Choice::Unselected)),
+        Step::Is(Fact::Partner(actor)),
+    ];
+    walk(rt, hearing_port(0x07), &steps);
 }
 
 #[test]
 fn each_parameter_of_the_partner_is_compared(rt: HostRuntime) {
-    for (place, actor) in with_one_changed(end(2, 0x07)).into_iter().enumerate() {
-        let mut port = quiet_port(true, true);
-        port.take(&saying(0x07, end(1, 0x07)));
-        port.select(Choice::Selected(AggId(1)));
-        port.take(&saying(0x3f, end(1, 0x07)));
-        assert_eq!(rt;
-            port.choice(),
-            Choice::Selected(AggId(1)),
-            "row {place}: choice after the same party"
-        );
-        port.take(&Lacpdu {
-            actor,
-            partner: end(1, 0x07),
-            max_delay: 0,
-        });
-        assert_eq!(rt;
-            port.choice(),
-            Choice::Unselected,
-            "row {place}: choice after {actor:?}"
-        );
-        assert_eq!(rt; port.partner(), actor, "row {place}: partner");
+    for actor in &with_one_changed(end(2, 0x07)) {
+        notices(&rt, *actor);
     }
 }
 
 #[test]
 fn what_is_asked_stays_asked(rt: HostRuntime) {
-    let mut port = quiet_port(true, true);
-    port.take(&saying(0x07, end(1, 0x06)));
-    port.take(&saying(0x07, end(1, 0x07)));
-    assert!(rt; port.ntt(), "ntt after the second LACPDU");
+    let steps = [
+        Step::Told(0x07, end(1, 0x06)),
+        Step::Told(0x07, end(1, 0x07)),
+        Step::Is(Fact::Ntt(true)),
+    ];
+    walk(&rt, quiet_port(true, true), &steps);
 }
 
 #[test]
 fn a_start_while_the_link_is_down(rt: HostRuntime) {
-    let mut port = quiet_port(true, true);
-    port.take(&saying(0x0d, end(1, 0x07)));
-    run(&mut port, 30);
-    assert_eq!(rt; port.state().bits(), 0x87, "state in EXPIRED");
-    assert_eq!(rt; port.partner(), end(2, 0x07), "partner in EXPIRED");
-    port.set_link(false);
     let mut other = party(8);
     other.port.priority = 9;
     other.aggregatable = false;
-    port.reinit(other);
-    assert_eq!(rt; port.party(), other, "party after reinit");
-    assert_eq!(rt; port.state().bits(), 0x43, "state after reinit");
-    assert_eq!(rt; port.partner(), zero(0), "partner after reinit");
-    assert_eq!(rt; port.periodic_timer(), 10, "periodic_timer after reinit");
+    let steps = [
+        // in EXPIRED
+        Step::Run(30),
+        Step::Is(Fact::State(0x87)),
+        Step::Is(Fact::Partner(end(2, 0x07))),
+        Step::Link(false),
+        Step::Reinit(other),
+        Step::Is(Fact::OwnParty(other)),
+        Step::Is(Fact::State(0x43)),
+        Step::Is(Fact::Partner(zero(0))),
+        Step::Is(Fact::PeriodicTimer(10)),
+    ];
+    walk(&rt, hearing_port(0x0d), &steps);
 }
 
-/// The port is SELECTED, and its link goes down.
-fn goes_down(port: &mut Port) {
-    port.select(Choice::Selected(AggId(1)));
-    port.periodic();
-    port.set_link(false);
-    port.periodic();
+/// A port hears this Actor_State, and this many ticks later it is SELECTED and its link goes down; then the partner has
+/// this recorded state.
+fn goes_down(rt: &impl Abort, actor: u8, ticks: u16, recorded: u8) {
+    let steps = [
+        Step::Run(ticks),
+        Step::Select(SELECTED),
+        Step::Periodic,
+        Step::Link(false),
+        Step::Periodic,
+        Step::Is(Fact::PartnerState(recorded)),
+        Step::Is(Fact::Receive(ReceiveState::PortDisabled)),
+        Step::Is(Fact::PeriodicIn(PeriodicState::NoPeriodic)),
+        Step::Is(Fact::Chosen(SELECTED)),
+    ];
+    walk(rt, hearing_port(actor), &steps);
 }
 
 #[test]
 fn a_link_that_goes_down(rt: HostRuntime) {
-    // Actor_State of the LACPDU, the ticks since then, and the recorded state of the partner
-    let rows = [
-        (0x0d, 0, 0x05),
-        (0x0f, 0, 0x07),
-        (0x0f, 30, 0x07),
-        (0x0f, 60, 0x00),
-    ];
-    for (place, (actor, ticks, recorded)) in rows.into_iter().enumerate() {
-        let mut port = quiet_port(true, true);
-        port.take(&saying(actor, end(1, 0x07)));
-        run(&mut port, ticks);
-        goes_down(&mut port);
-        let state = port.partner().state.bits();
-        assert_eq!(rt; state, recorded, "row {place}: partner's state");
-        assert_eq!(rt;
-            (port.receive_state(), port.periodic_state(), port.choice()),
-            (
-                ReceiveState::PortDisabled,
-                PeriodicState::NoPeriodic,
-                Choice::Selected(AggId(1))
-            ),
-            "row {place}: states and choice"
-        );
-    }
+    goes_down(&rt, 0x0d, 0, 0x05);
+    goes_down(&rt, 0x0f, 0, 0x07);
+    goes_down(&rt, 0x0f, 30, 0x07);
+    goes_down(&rt, 0x0f, 60, 0x00);
 }
 
 #[test]
 fn ages_stand_in_their_order(rt: HostRuntime) {
-    let mut port = quiet_port(true, true);
-    port.take(&saying(0x07, zero(0)));
-    assert!(rt; port.transmit(0).is_some(), "the first transmit");
-    run(&mut port, 3);
-    port.take(&saying(0x07, zero(0)));
-    assert!(rt; port.transmit(0).is_some(), "the second transmit");
-    assert_eq!(rt; port.ages().as_slice(), [3, 0].as_slice(), "ages");
+    let steps = [
+        Step::Take(0x07),
+        Step::Sends(Some(0x07)),
+        Step::Run(3),
+        Step::Take(0x07),
+        Step::Sends(Some(0x07)),
+        Step::Is(Fact::Ages(2, Some(3), Some(0))),
+    ];
+    walk(&rt, quiet_port(true, true), &steps);
 }
 
 /// Eleven ticks that begin with tick 0 end with tick 10.

@@ -1,7 +1,8 @@
+use crate::comparing::{same, same_in_row};
 use lagtypes::{AggId, Choice, Key, NoMemory, Party, PortId, SystemId};
 use selection::{Aggregators, PortView, Stage, are_views};
 use std::alloc::Global;
-use std::test::Fail;
+use std::process::Abort;
 
 const A: u8 = 0xa;
 
@@ -144,7 +145,7 @@ fn same_individual_own() -> [PortView; 3] {
 }
 
 #[test]
-fn chooses_by_key_and_group(rt: HostRuntime) -> Result<(), Fail> {
+fn chooses_by_key_and_group(rt: HostRuntime) -> Result<(), NoMemory> {
     let aggregators = aggregators(rt.alloc())?;
     let rows = [
         (views(), 1, 1),
@@ -159,13 +160,9 @@ fn chooses_by_key_and_group(rt: HostRuntime) -> Result<(), Fail> {
         (same_individual(), 2, 2),
         (same_individual_own(), 2, 2),
     ];
-    for (place, (views, port, want)) in rows.into_iter().enumerate() {
-        let chosen = aggregators.choose(&views, port);
-        assert_eq!(rt;
-            chosen,
-            Some(AggId(want)),
-            "row {place}: choose for port {port}"
-        );
+    for (place, (views, port, want)) in rows.iter().enumerate() {
+        let chosen = aggregators.choose(views, *port);
+        same_in_row(&rt, place, &chosen, &Some(AggId(*want)));
     }
     Ok(())
 }
@@ -179,21 +176,29 @@ fn many_keys(alloc: Global, place: usize) -> Result<Vec<Key>, NoMemory> {
     Ok(keys)
 }
 
-/// The highest number of an aggregator is 65535.
-#[test]
-fn keys_beyond_the_last_number_are_left_out(rt: HostRuntime) -> Result<(), Fail> {
-    for (place, want) in [(65_534, Some(AggId(65_535))), (65_535, None)] {
-        let keys = many_keys(rt.alloc(), place)?;
-        let aggregators = Aggregators::new(rt.alloc(), &keys)?;
-        assert_eq!(rt; aggregators.count(), 65_535, "the key at {place}: count");
-        let chosen = aggregators.choose(&views(), 1);
-        assert_eq!(rt; chosen, want, "the key at {place}: choose");
-    }
+/// With the key of the ports at this index, port 1 chooses this aggregator.
+fn chooses_with(
+    rt: &impl Abort,
+    alloc: Global,
+    place: usize,
+    want: Option<AggId>,
+) -> Result<(), NoMemory> {
+    let keys = many_keys(alloc, place)?;
+    let aggregators = Aggregators::new(alloc, &keys)?;
+    same(rt, "count", &aggregators.count(), &65_535);
+    same(rt, "choose", &aggregators.choose(&views(), 1), &want);
     Ok(())
 }
 
+/// The highest number of an aggregator is 65535.
 #[test]
-fn chooses_none(rt: HostRuntime) -> Result<(), Fail> {
+fn keys_beyond_the_last_number_are_left_out(rt: HostRuntime) -> Result<(), NoMemory> {
+    chooses_with(&rt, rt.alloc(), 65_534, Some(AggId(65_535)))?;
+    chooses_with(&rt, rt.alloc(), 65_535, None)
+}
+
+#[test]
+fn chooses_none(rt: HostRuntime) -> Result<(), NoMemory> {
     let aggregators = aggregators(rt.alloc())?;
     let rows = [
         (both_taken(), 2),
@@ -202,9 +207,9 @@ fn chooses_none(rt: HostRuntime) -> Result<(), Fail> {
         (first_selected(), 4),
         (views(), 0),
     ];
-    for (place, (views, port)) in rows.into_iter().enumerate() {
-        let chosen = aggregators.choose(&views, port);
-        assert_eq!(rt; chosen, None, "row {place}: choose for port {port}");
+    for (place, (views, port)) in rows.iter().enumerate() {
+        let chosen = aggregators.choose(views, *port);
+        same_in_row(&rt, place, &chosen, &None);
     }
     Ok(())
 }
@@ -241,8 +246,8 @@ fn tells_which_port_is_eligible(rt: HostRuntime) {
         (view(1, A), false),
         (other_priority, true),
     ];
-    for (place, (view, want)) in rows.into_iter().enumerate() {
-        assert_eq!(rt; view.is_eligible(), want, "row {place}: is_eligible");
+    for (place, (view, want)) in rows.iter().enumerate() {
+        same_in_row(&rt, place, &view.is_eligible(), want);
     }
 }
 
@@ -254,17 +259,15 @@ fn tells_which_port_has_waited(rt: HostRuntime) {
         (Stage::Waiting { expired: true }, true),
         (Stage::Joined, false),
     ];
-    for (stage, want) in rows {
-        let view = PortView {
-            stage,
-            ..view(1, B)
-        };
-        assert_eq!(rt; view.has_waited(), want, "has_waited in {stage:?}");
+    for (place, (stage, want)) in rows.iter().enumerate() {
+        let mut view = view(1, B);
+        view.stage = *stage;
+        same_in_row(&rt, place, &view.has_waited(), want);
     }
 }
 
 #[test]
-fn is_ready_where_all_that_wait_have_waited(rt: HostRuntime) -> Result<(), Fail> {
+fn is_ready_where_all_that_wait_have_waited(rt: HostRuntime) -> Result<(), NoMemory> {
     let aggregators = aggregators(rt.alloc())?;
     let waited = Stage::Waiting { expired: true };
     let waits = Stage::Waiting { expired: false };
@@ -279,9 +282,9 @@ fn is_ready_where_all_that_wait_have_waited(rt: HostRuntime) -> Result<(), Fail>
         (members(4, waited, waited), 4, false),
         (members(3, waited, waited), 3, true),
     ];
-    for (place, (views, agg, want)) in rows.into_iter().enumerate() {
-        let ready = aggregators.ready(&views, AggId(agg));
-        assert_eq!(rt; ready, want, "row {place}: ready of aggregator {agg}");
+    for (place, (views, agg, want)) in rows.iter().enumerate() {
+        let ready = aggregators.ready(views, AggId(*agg));
+        same_in_row(&rt, place, &ready, want);
     }
     Ok(())
 }
@@ -342,11 +345,25 @@ fn one_standby_each() -> [PortView; 3] {
     views
 }
 
-/// For a limit and an aggregator: whether that has room, and the STANDBY port that comes next, by its index and number.
+/// Views, a limit and an aggregator: whether that has room, and the STANDBY port that comes next, by its index and number.
+type Room = ([PortView; 3], Option<u16>, u16, bool, Option<(usize, u16)>);
+
+fn tells_room(rt: &impl Abort, alloc: Global, place: usize, row: &Room) -> Result<(), NoMemory> {
+    let (views, limit, agg, room, next) = row;
+    let aggregators = Aggregators::with_limit(alloc, &[Key(1), Key(1), Key(2)], *limit)?;
+    let agg = AggId(*agg);
+    let index = aggregators.next_standby_index(views, agg);
+    let number = aggregators.next_standby(views, agg);
+    same_in_row(rt, place, &aggregators.max_links(), limit);
+    same_in_row(rt, place, &aggregators.room(views, agg), room);
+    same_in_row(rt, place, &index, &next.map(|(index, _)| index));
+    same_in_row(rt, place, &number, &next.map(|(_, number)| number));
+    Ok(())
+}
+
 #[test]
-fn tells_room_and_the_next_standby_port(rt: HostRuntime) -> Result<(), Fail> {
-    let keys = [Key(1), Key(1), Key(2)];
-    let rows = [
+fn tells_room_and_the_next_standby_port(rt: HostRuntime) -> Result<(), NoMemory> {
+    let rows: [Room; 18] = [
         (all_standby(1), Some(1), 1, true, Some((1, 7))),
         (all_standby(1), Some(0), 1, false, None),
         (all_standby(1), Some(1), 2, true, None),
@@ -366,28 +383,17 @@ fn tells_room_and_the_next_standby_port(rt: HostRuntime) -> Result<(), Fail> {
         (one_standby_each(), Some(1), 3, true, Some((0, 5))),
         (views(), Some(1), 1, true, None),
     ];
-    for (place, (views, limit, agg, room, next)) in rows.into_iter().enumerate() {
-        let aggregators = Aggregators::with_limit(rt.alloc(), &keys, limit)?;
-        assert_eq!(rt; aggregators.max_links(), limit, "row {place}: max_links");
-        let agg = AggId(agg);
-        assert_eq!(rt; aggregators.room(&views, agg), room, "row {place}: room");
-        let index = aggregators.next_standby_index(&views, agg);
-        let number = aggregators.next_standby(&views, agg);
-        assert_eq!(rt; index, next.map(|(index, _)| index), "row {place}: index");
-        assert_eq!(rt;
-            number,
-            next.map(|(_, number)| number),
-            "row {place}: number"
-        );
+    for (place, row) in rows.iter().enumerate() {
+        tells_room(&rt, rt.alloc(), place, row)?;
     }
     Ok(())
 }
 
 #[test]
-fn new_makes_aggregators_without_a_limit(rt: HostRuntime) -> Result<(), Fail> {
+fn new_makes_aggregators_without_a_limit(rt: HostRuntime) -> Result<(), NoMemory> {
     let aggregators = aggregators(rt.alloc())?;
-    assert_eq!(rt; aggregators.max_links(), None);
-    assert_eq!(rt; aggregators.count(), 3);
+    same(&rt, "max_links", &aggregators.max_links(), &None);
+    same(&rt, "count", &aggregators.count(), &3);
     Ok(())
 }
 
@@ -419,9 +425,24 @@ fn individual_beside_standby() -> [PortView; 3] {
     views
 }
 
+/// What a port of these views chooses with this limit.
+fn chooses_under(
+    rt: &impl Abort,
+    alloc: Global,
+    limit: Option<u16>,
+    rows: &[([PortView; 3], u16, u16)],
+) -> Result<(), NoMemory> {
+    let aggregators = Aggregators::with_limit(alloc, &[Key(1), Key(1), Key(2)], limit)?;
+    for (place, (views, port, want)) in rows.iter().enumerate() {
+        let chosen = aggregators.choose(views, *port);
+        same_in_row(rt, place, &chosen, &Some(AggId(*want)));
+    }
+    Ok(())
+}
+
 /// What a port chooses does not depend on the limit.
 #[test]
-fn a_standby_port_occupies_its_aggregator(rt: HostRuntime) -> Result<(), Fail> {
+fn a_standby_port_occupies_its_aggregator(rt: HostRuntime) -> Result<(), NoMemory> {
     let rows = [
         (first_standby(), 2, 1),
         (first_standby(), 3, 2),
@@ -430,63 +451,57 @@ fn a_standby_port_occupies_its_aggregator(rt: HostRuntime) -> Result<(), Fail> {
         (individual_beside_standby(), 2, 2),
         (first_selected(), 2, 1),
     ];
-    for limit in [None, Some(1)] {
-        let aggregators = Aggregators::with_limit(rt.alloc(), &[Key(1), Key(1), Key(2)], limit)?;
-        for (place, (views, port, want)) in rows.into_iter().enumerate() {
-            let chosen = aggregators.choose(&views, port);
-            assert_eq!(rt; chosen, Some(AggId(want)), "row {place}, limit {limit:?}");
-        }
-    }
-    Ok(())
+    chooses_under(&rt, rt.alloc(), None, &rows)?;
+    chooses_under(&rt, rt.alloc(), Some(1), &rows)
 }
 
 #[test]
-fn a_standby_port_is_no_member(rt: HostRuntime) -> Result<(), Fail> {
+fn a_standby_port_is_no_member(rt: HostRuntime) -> Result<(), NoMemory> {
     let aggregators = aggregators(rt.alloc())?;
     let views = member_and_standby();
-    assert!(rt; are_views(&views), "are_views");
+    assert!(rt; are_views(&views));
     let found = aggregators.members(&views, AggId(1));
     let want: &[u16] = &[1];
-    assert_eq!(rt; found.as_slice(), want, "members");
+    same(&rt, "members", &found.as_slice(), &want);
     Ok(())
 }
 
 #[test]
-fn ready_looks_at_no_standby_port(rt: HostRuntime) -> Result<(), Fail> {
+fn ready_looks_at_no_standby_port(rt: HostRuntime) -> Result<(), NoMemory> {
     let aggregators = aggregators(rt.alloc())?;
     let waited = Stage::Waiting { expired: true };
     let mut views = members(1, waited, Stage::Waiting { expired: false });
-    assert!(rt; !aggregators.ready(&views, AggId(1)), "as a member");
+    let as_member = aggregators.ready(&views, AggId(1));
+    same(&rt, "as a member", &as_member, &false);
     views[1].choice = standby(1);
-    assert!(rt; aggregators.ready(&views, AggId(1)), "as a STANDBY port");
+    let as_standby = aggregators.ready(&views, AggId(1));
+    same(&rt, "as a STANDBY port", &as_standby, &true);
     views[0].choice = standby(1);
-    assert!(rt;
-        !aggregators.ready(&views, AggId(1)),
-        "with STANDBY ports alone"
-    );
+    let alone = aggregators.ready(&views, AggId(1));
+    same(&rt, "with STANDBY ports alone", &alone, &false);
     Ok(())
 }
 
+/// Ports 5 and 9 are members of the first aggregator; the second one has these members.
+fn lists(rt: &impl Abort, aggregators: &Aggregators, given: u16, asked: u16, want: &[u16]) {
+    let mut views = members(given, Stage::Joined, Stage::Joined);
+    views[0].number = 5;
+    views[1].number = 9;
+    views[2].number = 11;
+    assert!(rt; are_views(&views));
+    let found = aggregators.members(&views, AggId(asked));
+    same(rt, "members", &found.as_slice(), &want);
+}
+
 #[test]
-fn lists_members(rt: HostRuntime) -> Result<(), Fail> {
+fn lists_members(rt: HostRuntime) -> Result<(), NoMemory> {
     let aggregators = aggregators(rt.alloc())?;
-    let rows: [(u16, u16, &[u16]); 6] = [
-        (1, 1, &[5, 9]),
-        (2, 2, &[5, 9]),
-        (1, 2, &[]),
-        (0, 0, &[]),
-        (4, 4, &[]),
-        (3, 3, &[5, 9]),
-    ];
-    for (given, asked, want) in rows {
-        let mut views = members(given, Stage::Joined, Stage::Joined);
-        views[0].number = 5;
-        views[1].number = 9;
-        views[2].number = 11;
-        assert!(rt; are_views(&views), "are_views of 5, 9, 11");
-        let found = aggregators.members(&views, AggId(asked));
-        assert_eq!(rt; found.as_slice(), want, "members of {asked}, given {given}");
-    }
+    lists(&rt, &aggregators, 1, 1, &[5, 9]);
+    lists(&rt, &aggregators, 2, 2, &[5, 9]);
+    lists(&rt, &aggregators, 1, 2, &[]);
+    lists(&rt, &aggregators, 0, 0, &[]);
+    lists(&rt, &aggregators, 4, 4, &[]);
+    lists(&rt, &aggregators, 3, 3, &[5, 9]);
     Ok(())
 }
 
@@ -511,7 +526,7 @@ fn tells_what_can_be_views(rt: HostRuntime) {
         (&[view(2, B), view(2, C)], false),
         (&[view(2, B), view(1, C)], false),
     ];
-    for (place, (views, want)) in rows.into_iter().enumerate() {
-        assert_eq!(rt; are_views(views), want, "row {place}: are_views");
+    for (place, (views, want)) in rows.iter().enumerate() {
+        same_in_row(&rt, place, &are_views(*views), want);
     }
 }

@@ -1,12 +1,14 @@
 ghost use Rattle.std.specs.Prelude.{◌+◌, ◌≤◌, length};
 
+use crate::comparing::{same, same_in_row};
 use bitflags::Flags;
 use lagtypes::{Key, Party, PortId, State, SystemId};
 use slowpdu::{
     Info, Kind, Lacpdu, Marker, MarkerKind, Pdu, WireFault, classify, decode, encode_then_decode,
     frame, respond,
 };
-use std::alloc::AllocError;
+use std::alloc::{AllocError, Global};
+use std::process::Abort;
 
 /// Writes octets into a payload, from this offset on.
 fn put_octets(payload: &mut [u8], offset: usize, octets: &[u8])
@@ -118,33 +120,48 @@ fn payloads_are_read_whatever_the_other_octets_are(rt: HostRuntime) {
         (&padded_marker(), Pdu::Marker(marker())),
         (&marker_of_version_2(), Pdu::Marker(marker())),
     ];
-    for (place, (payload, pdu)) in rows.into_iter().enumerate() {
-        assert_eq!(rt; decode(payload), Ok(pdu), "row {place}: decode");
+    for (place, (payload, pdu)) in rows.iter().enumerate() {
+        same_in_row(&rt, place, &decode(*payload), &Ok(*pdu));
     }
 }
 
 /// More octets than any length field has room for.
 const MANY: usize = 70_000;
 
+/// These octets, and ones behind them.
+fn padded(alloc: Global, octets: &[u8]) -> Result<Vec<u8>, AllocError> {
+    let mut all = Vec::new(alloc);
+    all.extend_from_slice(octets)?;
+    all.resize(MANY, 0xff)?;
+    Ok(all)
+}
+
 #[test]
 fn nothing_is_too_long(rt: HostRuntime) -> Result<(), AllocError> {
-    let mut payload = Vec::new(rt.alloc());
-    payload.extend_from_slice(&lacpdu_payload())?;
-    payload.resize(MANY, 0xff)?;
-    assert_eq!(rt; decode(&payload), Ok(Pdu::Lacpdu(lacpdu())), "decode");
-    let mut control = Vec::new(rt.alloc());
-    control.extend_from_slice(&frame([2, 0, 0, 0, 0, 3], &marker_payload()))?;
-    control.resize(MANY, 0xff)?;
+    let payload = padded(rt.alloc(), &lacpdu_payload())?;
+    same(&rt, "decode", &decode(&payload), &Ok(Pdu::Lacpdu(lacpdu())));
+    let control = padded(rt.alloc(), &frame([2, 0, 0, 0, 0, 3], &marker_payload()))?;
     let behind = control.as_slice().get(14..).unwrap_or(&[]);
-    assert_eq!(rt;
-        classify(&control),
-        Kind::Control(behind),
-        "classify of a control frame"
+    same(
+        &rt,
+        "a control frame",
+        &classify(&control),
+        &Kind::Control(behind),
     );
-    let mut data = Vec::new(rt.alloc());
-    data.resize(MANY, 0xff)?;
-    assert_eq!(rt; classify(&data), Kind::Data, "classify of a data frame");
+    let data = padded(rt.alloc(), &[])?;
+    same(&rt, "a data frame", &classify(&data), &Kind::Data);
     Ok(())
+}
+
+/// The payload with two octets changed.
+fn changed(payload: [u8; 110], changes: [(usize, u8); 2]) -> [u8; 110] {
+    let mut all = payload;
+    for (at, octet) in &changes {
+        if let Some(there) = all.get_mut(*at) {
+            *there = *octet;
+        }
+    }
+    all
 }
 
 #[test]
@@ -160,85 +177,76 @@ fn payloads_are_refused_for_the_first_cause(rt: HostRuntime) {
         (marker, [(2, 3), (3, 15)], bad_length(3, 15), 3),
         (marker, [(2, 3), (2, 3)], WireFault::MarkerTlv(3), 4),
     ];
-    for (place, (payload, changes, fault, number)) in rows.into_iter().enumerate() {
-        let mut changed = payload;
-        for (at, octet) in changes {
-            if let Some(octet_there) = changed.get_mut(at) {
-                *octet_there = octet;
-            }
-        }
-        assert_eq!(rt;
-            decode(&changed),
-            Err(fault),
-            "row {place}: decode with {changes:?}"
-        );
-        assert_eq!(rt; fault.number(), number, "row {place}: number");
+    for (place, (payload, changes, fault, number)) in rows.iter().enumerate() {
+        let answer = decode(&changed(*payload, *changes));
+        same_in_row(&rt, place, &answer, &Err(*fault));
+        same_in_row(&rt, place, &fault.number(), number);
     }
+}
+
+/// This many of the first octets are refused as too few.
+fn is_short(rt: &impl Abort, payload: &[u8], have: usize) {
+    let short = WireFault::Short { have };
+    same(rt, "decode", &decode(first(payload, have)), &Err(short));
+    same(rt, "number", &short.number(), &1);
 }
 
 #[test]
 fn payloads_of_fewer_octets_are_short(rt: HostRuntime) {
-    for have in [0, 109] {
-        let short = WireFault::Short { have };
-        let answer = decode(first(&lacpdu_payload(), have));
-        assert_eq!(rt; answer, Err(short), "decode of {have} octets");
-        assert_eq!(rt; short.number(), 1, "number");
-    }
+    is_short(&rt, &lacpdu_payload(), 0);
+    is_short(&rt, &lacpdu_payload(), 109);
 }
 
 #[test]
 fn a_short_payload_is_short_whatever_stands_there(rt: HostRuntime) {
     let mut bad_length = lacpdu_payload();
     put_octets(&mut bad_length, 3, &[19]);
-    for payload in [[3; 110], bad_length] {
-        let answer = decode(first(&payload, 109));
-        assert_eq!(rt;
-            answer,
-            Err(WireFault::Short { have: 109 }),
-            "decode of 109 octets"
-        );
-    }
+    is_short(&rt, &[3; 110], 109);
+    is_short(&rt, &bad_length, 109);
 }
+
+/// Refusals, and what they print.
+const REFUSALS: [(WireFault, &str); 4] = [
+    (WireFault::Short { have: 109 }, "fewer than 110 octets: 109"),
+    (
+        WireFault::OtherSubtype(3),
+        "octet 0 names neither LACP (1) nor the Marker protocol (2): 3",
+    ),
+    (
+        WireFault::BadLength { at: 43, found: 15 },
+        "the length field at 43 is wrong: 15",
+    ),
+    (
+        WireFault::MarkerTlv(255),
+        "octet 2 of a Marker PDU is neither 1 nor 2: 255",
+    ),
+];
 
 #[test]
 fn refusals_say_what_stands_there(rt: HostRuntime) -> Result<(), AllocError> {
-    let rows = [
-        (WireFault::Short { have: 109 }, "fewer than 110 octets: 109"),
-        (
-            WireFault::OtherSubtype(3),
-            "octet 0 names neither LACP (1) nor the Marker protocol (2): 3",
-        ),
-        (
-            WireFault::BadLength { at: 43, found: 15 },
-            "the length field at 43 is wrong: 15",
-        ),
-        (
-            WireFault::MarkerTlv(255),
-            "octet 2 of a Marker PDU is neither 1 nor 2: 255",
-        ),
-    ];
-    for (fault, text) in rows {
+    for (fault, text) in &REFUSALS {
         let printed = format!(in rt.alloc(); "{fault}")?;
-        assert_eq!(rt; printed.as_str(), text, "{fault:?}");
+        same(&rt, "text", &printed.as_str(), text);
     }
     Ok(())
 }
 
 #[test]
 fn pdus_are_written_as_they_are_read(rt: HostRuntime) {
-    assert_eq!(rt; lacpdu().encode(), lacpdu_payload(), "encode of the LACPDU");
-    assert_eq!(rt; marker().encode(), marker_payload(), "encode of the marker");
-    for pdu in [Pdu::Lacpdu(lacpdu()), Pdu::Marker(marker())] {
-        assert_eq!(rt; encode_then_decode(&pdu), Ok(pdu), "read_back");
-    }
+    same(&rt, "the LACPDU", &lacpdu().encode(), &lacpdu_payload());
+    same(&rt, "the marker", &marker().encode(), &marker_payload());
+    let read = Pdu::Lacpdu(lacpdu());
+    same(&rt, "read back", &encode_then_decode(&read), &Ok(read));
+    let read = Pdu::Marker(marker());
+    same(&rt, "read back", &encode_then_decode(&read), &Ok(read));
 }
 
 #[test]
 fn parties_are_what_an_end_names(rt: HostRuntime) {
     let rows = [(0x1e, true), (0x04, true), (0xfb, false), (0x00, false)];
-    for (octet, aggregatable) in rows {
+    for (place, (octet, aggregatable)) in rows.iter().enumerate() {
         let end = Info {
-            state: State::from_bits_retain(octet),
+            state: State::from_bits_retain(*octet),
             ..each_field(0x10)
         };
         let party = Party {
@@ -251,9 +259,9 @@ fn parties_are_what_an_end_names(rt: HostRuntime) {
                 priority: 0x1a1b,
                 number: 0x1c1d,
             },
-            aggregatable,
+            aggregatable: *aggregatable,
         };
-        assert_eq!(rt; end.party(), party, "party of an end of state {octet:#04x}");
+        same_in_row(&rt, place, &end.party(), &party);
     }
 }
 
@@ -263,8 +271,21 @@ fn markers_are_answered_once(rt: HostRuntime) {
         kind: MarkerKind::Response,
         ..marker()
     };
-    assert_eq!(rt; respond(&marker()), Some(response), "respond to a marker");
-    assert_eq!(rt; respond(&response), None, "respond to a response");
+    same(&rt, "to a marker", &respond(&marker()), &Some(response));
+    same(&rt, "to a response", &respond(&response), &None);
+}
+
+/// The frame with another octet at this place.
+fn with(frame: [u8; 124], place: usize, octet: u8) -> [u8; 124] {
+    let mut changed = frame;
+    if let Some(there) = changed.get_mut(place) {
+        *there = octet;
+    }
+    changed
+}
+
+fn is_of_kind(rt: &impl Abort, octets: &[u8], kind: Kind<'_>) {
+    same(rt, "classify", &classify(octets), &kind);
 }
 
 #[test]
@@ -272,27 +293,16 @@ fn frames_are_told_apart_by_their_type(rt: HostRuntime) {
     let payload = marker_payload();
     let sent = frame([2, 0, 0, 0, 0, 3], &payload);
     let header = [0x01, 0x80, 0xc2, 0, 0, 2, 2, 0, 0, 0, 0, 3, 0x88, 0x09];
-    assert_eq!(rt; sent[..14], header[..], "the header of a frame");
-    assert_eq!(rt; sent[14..], payload[..], "the payload of a frame");
-    let with = |place: usize, octet: u8| {
-        let mut changed = sent;
-        if let Some(there) = changed.get_mut(place) {
-            *there = octet;
-        }
-        changed
-    };
-    let rows: [(&[u8], Kind); 7] = [
-        (&sent, Kind::Control(&payload)),
-        (&sent[..14], Kind::Control(&[])),
-        (&sent[..13], Kind::TooShort),
-        (&with(0, 2), Kind::Control(&payload)),
-        (&with(12, 8), Kind::Data),
-        (&with(12, 0x87), Kind::Data),
-        (&with(13, 0xcc), Kind::Data),
-    ];
-    for (place, (octets, kind)) in rows.into_iter().enumerate() {
-        assert_eq!(rt; classify(octets), kind, "row {place}: classify");
-    }
+    let (front, rest) = (&sent[..14], &sent[14..]);
+    same(&rt, "the header", &front, &header.as_slice());
+    same(&rt, "the payload", &rest, &payload.as_slice());
+    is_of_kind(&rt, &sent, Kind::Control(&payload));
+    is_of_kind(&rt, front, Kind::Control(&[]));
+    is_of_kind(&rt, &sent[..13], Kind::TooShort);
+    is_of_kind(&rt, &with(sent, 0, 2), Kind::Control(&payload));
+    is_of_kind(&rt, &with(sent, 12, 8), Kind::Data);
+    is_of_kind(&rt, &with(sent, 12, 0x87), Kind::Data);
+    is_of_kind(&rt, &with(sent, 13, 0xcc), Kind::Data);
 }
 
 /// An LACPDU in which no two fields are equal.
@@ -340,8 +350,8 @@ fn each_field_has_its_place(rt: HostRuntime) {
         partner: each_field(0x20),
         max_delay: 0x3031,
     };
-    assert_eq!(rt; decode(&payload), Ok(Pdu::Lacpdu(said)), "decode");
-    assert_eq!(rt; said.encode(), payload, "encode");
+    same(&rt, "decode", &decode(&payload), &Ok(Pdu::Lacpdu(said)));
+    same(&rt, "encode", &said.encode(), &payload);
 }
 
 /// A response in which no two fields are equal.
@@ -359,6 +369,6 @@ fn each_field_of_a_marker_has_its_place(rt: HostRuntime) {
         system: [0x42, 0x43, 0x44, 0x45, 0x46, 0x47],
         id: 0x4849_4a4b,
     };
-    assert_eq!(rt; decode(&payload), Ok(Pdu::Marker(said)), "decode");
-    assert_eq!(rt; said.encode(), payload, "encode");
+    same(&rt, "decode", &decode(&payload), &Ok(Pdu::Marker(said)));
+    same(&rt, "encode", &said.encode(), &payload);
 }
