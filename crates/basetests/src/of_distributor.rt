@@ -6,7 +6,7 @@ use lagtypes::{AggId, NoMemory};
 use std::alloc::{AllocError, Global};
 use std::process::Abort;
 
-/// The algorithm of the program. A function of another crate cannot be handed over itself.
+/// The algorithm of the programs. A function of another crate cannot be handed over itself.
 fn by_place(conversation: u16, count: usize) -> usize
     ensures { 0 < count → result < count }
 {

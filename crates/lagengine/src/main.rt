@@ -16,7 +16,7 @@ use std::process::ExitCode;
 use std::{env, io};
 
 /// The distribution algorithm of the program: the conversation number modulo the count of ports, and 0 if there are
-/// none (profile).
+/// none (profile). A function of another crate cannot be handed over itself.
 fn by_number(conversation: u16, count: usize) -> usize
     ensures place { result ≡ index_by_number conversation count }
     ensures among { 0 < count → result < count }

@@ -4,8 +4,8 @@ ghost use Rattle.lagexplain.specs.Explanations.{subject_text};
 use lagscript::ScriptFault;
 use std::fmt;
 
-/// What of a script a fault names, and what follows it always: a system, a port, a cable or an entry; nothing where it is of
-/// the whole (profile).
+/// The beginning of an explanation: the system, port, cable or entry of a script that a fault names, and behind it `: `,
+/// ` has ` or a space; nothing where the fault is of the whole (profile).
 #[derive(Clone, Copy)]
 pub(crate) struct SubjectText(pub ScriptFault);
 

@@ -40,7 +40,7 @@ fn check_all<R: Read, W: Write, P: Watch>(
     Ok(summary)
 }
 
-/// Checks as `check` does, and shows the watch how many lines were said, as tests show (profile).
+/// Checks as `check` does, and shows the watch how many lines have ended, as tests show (profile).
 pub fn check_watched<R: Read, W: Write, P: Watch>(
     alloc: Global,
     source: &mut Source<R>,

@@ -11,7 +11,7 @@ use std::fmt;
 /// Why the program could not do what a command line asks for (profile).
 #[derive(Clone, Copy, Debug, PartialEq, Eq)]
 pub enum ToolFault {
-    /// The file cannot be opened, or reading it failed.
+    /// The file cannot be opened, reading it failed, it has more than 2^64 - 2 octets, or it is a script and not UTF-8.
     Read,
     /// Standard output failed, or accepted none of the octets of a write.
     Write,

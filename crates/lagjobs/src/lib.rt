@@ -1,5 +1,8 @@
 //! The jobs of the program `lagtool`, over any reader and writer: `decode`, `respond`, `check`, `replay` and `vectors`, what
-//! they print and how they end.
+//! they print and how they end. `show` is the job `decode`, `reply` the job `respond`. The names in capitals, and the
+//! functions of the same file as `vectors`, are its ten vectors: payloads, frames and scripts with the texts that come of them.
+//!
+//! In comments, numbers such as 6.2.4 are sections of IEEE 802.1AX-2014, and "profile" is docs/PROFILE.md.
 #![tactic(auto)]
 
 mod algorithm;

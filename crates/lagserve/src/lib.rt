@@ -1,4 +1,6 @@
 //! A system that is used through lines of text: requests and answers; what the program `lagengine` serves.
+//!
+//! In comments, numbers such as 6.2.4 are sections of IEEE 802.1AX-2014, and "profile" is docs/PROFILE.md.
 #![tactic(auto)]
 
 mod answer;

@@ -77,7 +77,8 @@ impl<W: Write> Sink<W> {
         }
     }
 
-    /// Writes all of the octets; after a failure, a beginning of them is written.
+    /// Writes all of the octets. `WriteFailed` if a call of the writer failed, or it accepted none of the octets of a write;
+    /// then a beginning of them is written.
     pub fn put(&mut self, octets: &[u8]) -> Result<(), WriteFailed>
         ensures ok { OnOk result (WritesWhole W.contents self.old self.new octets.now) }
         ensures err { OnErr result (WritesPart W.contents self.old self.new octets.now) }
@@ -90,7 +91,7 @@ impl<W: Write> Sink<W> {
         Ok(())
     }
 
-    /// Flushes the writer.
+    /// Flushes the writer. `WriteFailed` if that failed.
     pub fn flush(&mut self) -> Result<(), WriteFailed>
         ensures ok { OnOk result (Flushes W.contents self.old self.new) }
         ensures err { OnErr result (Keeps (W.contents self.old.writer) (W.contents self.new.writer) × (self.new.failed ≡ true)) }
@@ -103,7 +104,7 @@ impl<W: Write> Sink<W> {
         Ok(())
     }
 
-    /// Writes and flushes all of the octets. After a failure, a beginning of them is written.
+    /// Writes and flushes all of the octets. `WriteFailed` as for `put` and `flush`; then a beginning of them is written.
     pub fn send(&mut self, octets: &[u8]) -> Result<(), WriteFailed>
         ensures ok { OnOk result (WritesAndFlushes W.contents self.old self.new octets.now) }
         ensures flushed { OnOk result (self.new.unflushed ≡ false) }

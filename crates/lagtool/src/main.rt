@@ -21,7 +21,7 @@ use std::time::Clock;
 use std::{env, fs, io};
 
 /// The distribution algorithm of the program, for both systems: the conversation number modulo the count of ports, and
-/// 0 if the count is 0 (6.2.4; profile).
+/// 0 if the count is 0 (6.2.4; profile). A function of another crate cannot be handed over itself.
 fn by_number(conversation: u16, count: usize) -> usize
     ensures place { result ≡ index_by_number conversation count }
     ensures among { 0 < count → result < count }
@@ -59,7 +59,7 @@ fn ended(rt: &impl Eprint, file: &str, accepted: Result<bool, ToolFault>) -> Exi
     ExitCode::from(status)
 }
 
-/// Checks a file, or standard input for `-`; returns whether no line is a fault. The watch is shown how many were said.
+/// Checks a file, or standard input for `-`; returns whether no line is a fault. The watch is shown how many have ended.
 fn check_file<R: Print + Files + Input + AllocGlobal, P: Watch>(
     rt: &R,
     file: &str,

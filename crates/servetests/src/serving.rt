@@ -12,7 +12,7 @@ use std::io::{Read, Write};
 use std::process::Abort;
 use std::test::Fail;
 
-/// The conversation number modulo the count of ports, and 0 if there are none (profile).
+/// The algorithm of `lagengine`. A function of another crate cannot be handed over itself.
 fn by_number(conversation: u16, count: usize) -> usize
     ensures place { result ≡ index_by_number conversation count }
     ensures among { 0 < count → result < count }
