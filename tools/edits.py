@@ -2,6 +2,7 @@
 
 import os
 import shutil
+from itertools import takewhile
 
 from repository import CRATES, RT, TOOLS, TOP, below, lines
 
@@ -101,3 +102,8 @@ def apply(folder, pairs):
 def restore(was):
     for path, text in was.items():
         write(path, text)
+
+
+def is_cut_off(output, at):
+    """Whether the test that has this line of the output ended at its time limit: that is no refusal."""
+    return any("time limit" in line for line in takewhile(lambda it: it.startswith(" "), output[at + 1 :]))

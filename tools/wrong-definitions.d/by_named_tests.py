@@ -10,13 +10,14 @@ import os
 import re
 import shutil
 import subprocess
-from itertools import takewhile
 
-from edits import RT, apply, copy_crates, read, read_edit, read_tests, why_no_edit, write
+from edits import RT, apply, copy_crates, is_cut_off, read, read_edit, read_tests, why_no_edit, write
 from repository import below, crates, lines
 
 # How many edits one build has.
 MOST = 48
+# The number of the first copy without an edit.
+AS_IT_IS = 1000
 
 
 def using(crate, folder, modules):
@@ -59,41 +60,58 @@ def place(path, folder):
     return (os.path.relpath(path, folder) if folder else path)[: -len(".rt")].replace(os.sep, "::")
 
 
-def add_copy(top, tests_crate, number, crate, name, rows):
-    """Adds the copies for one edit; answers what is wrong with it, or None."""
-    named = [test for of, test in read_tests(crate, name) if of == tests_crate]
-    folder = os.path.join(top, tests_crate, "src")
-    modules = with_named(folder, sorted({test.split("::")[0] for test in named}))
-    names, words = using(crate, folder, modules), "|".join(modules)
+def named_by(tests_crate, crate, name):
+    """The tests of a crate that an edit names."""
+    return [test for of, test in read_tests(crate, name) if of == tests_crate]
+
+
+def add_crates(top, number, crate, pairs, names, rows):
+    """Copies these crates under other names, and makes the replacements in the one; answers what is wrong with them, or None."""
+    for one in names:
+        new = os.path.join(top, f"{one}_{number}")
+        shutil.copytree(os.path.join(top, one), new)
+        if one == crate:
+            _, fault = apply(new, pairs)
+            if fault:
+                return fault
+        for path in sources(new, "src")[1:]:
+            write(path, renamed(read(path), names, number))
+        rows[f"{one}_{number}"] = [f"{it}_{number}" if it in names else it for it in lines()[one].partition(":")[2].split()]
+    return None
+
+
+def add_modules(folder, number, modules, names, named):
+    """Copies these modules of the tests under other names, without the tests that are not named."""
+    words = "|".join(modules)
     for module in modules:
-        for one in names:
-            new = os.path.join(top, f"{one}_{number}")
-            if not os.path.isdir(new):
-                shutil.copytree(os.path.join(top, one), new)
-                if one == crate:
-                    _, fault = apply(new, read_edit(crate, name)[1])
-                    if fault:
-                        return fault
-                for path in sources(new, "src")[1:]:
-                    write(path, renamed(read(path), names, number))
-                uses = [f"{it}_{number}" if it in names else it for it in lines()[one].partition(":")[2].split()]
-                rows[f"{one}_{number}"] = uses
-        rows[tests_crate] += [f"{one}_{number}" for one in names if f"{one}_{number}" not in rows[tests_crate]]
         for path in sources(folder, module):
             text = renamed(keep_tests(read(path), place(path, folder), named), names, number)
             target = os.path.join(folder, f"{module}_{number}" + path[len(os.path.join(folder, module)) :])
             write(target, re.sub(rf"\bcrate::({words})\b", rf"crate::\1_{number}", text))
         root = os.path.join(folder, "lib.rt")
         write(root, read(root) + f"#[cfg(test)]\nmod {module}_{number};\n")
+
+
+def add_copy(top, tests_crate, number, crate, named, pairs, rows):
+    """Adds the copies for these tests and replacements; answers what is wrong with them, or None."""
+    if any(file.startswith("..") for file, _, _ in pairs):
+        return "an edit that names tests changes files of its own crate alone"
+    folder = os.path.join(top, tests_crate, "src")
+    modules = with_named(folder, sorted({test.split("::")[0] for test in named}))
+    names = using(crate, folder, modules)
+    fault = add_crates(top, number, crate, pairs, names, rows)
+    if fault:
+        return fault
+    rows[tests_crate] += [f"{one}_{number}" for one in names]
+    add_modules(folder, number, modules, names, named)
     return None
 
 
-def add_own_copy(top, number, crate, name):
-    """Adds a copy of a crate with its own tests, as a module of it; answers what is wrong with the edit, or None."""
-    named = [test for _, test in read_tests(crate, name)]
+def add_own_copy(top, number, crate, named, pairs):
+    """Adds a copy of a crate with its own tests, as a module of it; answers what is wrong with the replacements, or None."""
     folder, copy = os.path.join(top, crate, "src"), os.path.join(top, f"{crate}_{number}")
     shutil.copytree(os.path.join(top, "as it was"), copy)
-    _, fault = apply(copy, read_edit(crate, name)[1])
+    _, fault = apply(copy, pairs)
     if fault:
         return fault
     root = next(file for file in ("lib.rt", "main.rt") if os.path.isfile(os.path.join(folder, file)))
@@ -109,6 +127,19 @@ def add_own_copy(top, number, crate, name):
     return None
 
 
+def changed(tests_crate, edits):
+    """For each edit its number, its crate, the tests that it names, and its replacements."""
+    return [(number, of, named_by(tests_crate, of, name), read_edit(of, name)[1]) for number, (of, name) in edits]
+
+
+def unchanged(tests_crate, edits):
+    """The same for a copy of each crate without a replacement, in which each named test has to pass."""
+    named = {}
+    for _, (of, name) in edits:
+        named.setdefault(of, set()).update(named_by(tests_crate, of, name))
+    return [(AS_IT_IS + place, of, sorted(named[of]), []) for place, of in enumerate(sorted(named))]
+
+
 def build(folder, tests_crate, edits):
     """Makes the crates for these edits; answers the folder of the tests, and what is wrong with edits, by number."""
     shutil.rmtree(folder, ignore_errors=True)
@@ -118,9 +149,13 @@ def build(folder, tests_crate, edits):
     files = sources(os.path.join(top, tests_crate), "src")[1:]
     wrong = {}
     shutil.copytree(os.path.join(top, tests_crate), os.path.join(top, "as it was"))
-    for number, (crate, name) in edits:
+    for number, crate, named, pairs in [*changed(tests_crate, edits), *unchanged(tests_crate, edits)]:
         of_itself = crate == tests_crate
-        fault = add_own_copy(top, number, crate, name) if of_itself else add_copy(top, tests_crate, number, crate, name, rows)
+        fault = (
+            add_own_copy(top, number, crate, named, pairs)
+            if of_itself
+            else add_copy(top, tests_crate, number, crate, named, pairs, rows)
+        )
         if fault:
             wrong[number] = fault
     shutil.rmtree(os.path.join(top, "as it was"))
@@ -131,7 +166,13 @@ def build(folder, tests_crate, edits):
     return os.path.join(top, tests_crate), wrong
 
 
-def verdict(output, number, crate, name, tests_crate):
+def copied(tests_crate, number, crate, test):
+    """The name of a test in a copy."""
+    module, _, rest = test.partition("::")
+    return f"copy_{number}::{test}" if tests_crate == crate else f"{module}_{number}::{rest}"
+
+
+def verdict(output, number, as_it_is, crate, name, tests_crate):
     """Whether the tests that an edit names refuse it, and what to print."""
     says, pairs = read_edit(crate, name)
     why = why_no_edit(says, pairs)
@@ -139,15 +180,14 @@ def verdict(output, number, crate, name, tests_crate):
         return False, why or f"the edit names tests of more crates than {tests_crate}"
     if not any(line.startswith("test result: ") for line in output):
         return False, "the tests do not build or do not end:\n" + "\n".join(output[-20:])
-    for of, test in read_tests(crate, name):
-        module, _, rest = test.partition("::")
-        copied = f"copy_{number}::{test}" if of == crate else f"{module}_{number}::{rest}"
-        if f"test {test} ... ok" not in output:
-            return False, f"{of} {test} does not pass as it stands"
-        failed = f"test {copied} ... FAILED"
+    for _, test in read_tests(crate, name):
+        for name_as_it_is in (test, copied(tests_crate, as_it_is, crate, test)):
+            if f"test {name_as_it_is} ... ok" not in output:
+                return False, f"{tests_crate} {name_as_it_is} does not pass without an edit"
+        failed = f"test {copied(tests_crate, number, crate, test)} ... FAILED"
         if failed not in output:
             return False, f"{test} does not refuse: {says}"
-        if any("time limit" in line for line in takewhile(lambda it: it.startswith(" "), output[output.index(failed) + 1 :])):
+        if is_cut_off(output, output.index(failed)):
             return False, f"{test} does not end: {says}"
     return True, f"refused by {tests_crate}: {', '.join(test for _, test in read_tests(crate, name))}: {says}"
 
@@ -164,7 +204,9 @@ def try_batch(folder, tests_crate, batch):
             numbers = {int(it) for it in re.findall(r"_(\d+)(?:/src)?(?:/\S+|\.rt\S*): error", ended.stdout)}
             wrong = {number: "does not build:\n" + ended.stdout[-2000:] for number in numbers if number <= len(batch)}
         if not wrong:
-            yield from ((f"{of}/{name}", *verdict(output, number, of, name, tests_crate)) for number, (of, name) in left)
+            as_it_is = {of: number for number, of, _, _ in unchanged(tests_crate, left)}
+            for number, (of, name) in left:
+                yield f"{of}/{name}", *verdict(output, number, as_it_is[of], of, name, tests_crate)
             return
         yield from ((f"{of}/{name}", False, wrong[number]) for number, (of, name) in left if number in wrong)
         left = [it for it in left if it[0] not in wrong]

@@ -82,7 +82,7 @@ def try_counterexample(crate, of, name):
         write(os.path.join(crate, "src", "lib.rt"), "//! A law that is false.\n#![tactic(auto)]\n\n" + uses + "\n" + body)
         write(os.path.join(crate, "proofs", "Lib.antt"), "pub mod Counterexample\n")
         write(os.path.join(crate, "proofs", "Counterexample.antt"), proof)
-        answer = "use Rattle.lagmodel.proofs.Counterexample.{refuted}\nuse Rattle.lagmodel.proofs.refuted.Goals as goal\n\n"
+        answer = f"use Rattle.{of}.proofs.Counterexample.{{refuted}}\nuse Rattle.{of}.proofs.refuted.Goals as goal\n\n"
         write(os.path.join(crate, "proofs", "refuted", "Answers.antt"), answer + "pub returns : goal.returns\nreturns c = refuted\n")
         proved, output = check(crate)
         return proved, f"refuted, {says}: the law is false of it" if proved else "the counterexample is not proved:\n" + output

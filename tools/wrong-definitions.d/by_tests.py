@@ -6,7 +6,7 @@ import re
 import subprocess
 from concurrent.futures import ThreadPoolExecutor
 
-from edits import RT, TOP, apply, copy_crates, read, read_edit, restore, why_no_edit, write
+from edits import RT, TOP, apply, copy_crates, is_cut_off, read, read_edit, restore, why_no_edit, write
 
 # The crates whose tests look at a crate, in the order in which they are asked; the first that refuses is enough.
 # A run is one of RUNS.
@@ -23,7 +23,7 @@ LOOKS = {
     "lagexplain": ["lagexplain", "jobtests"],
     "lagworld": ["lagtests", "jobtests"],
     "lagline": ["lagline"],
-    "lagstreams": ["jobtests"],
+    "lagstreams": ["jobtests", "servetests", "stored run"],
     "lagjobs": ["jobtests"],
     "lagserve": ["servetests", "stored run"],
     "example_two_systems": ["run of two systems"],
@@ -66,11 +66,16 @@ def ask(crates, look, cases):
     words = ["--cases", os.path.join(cases, look)] if look in RUNS else ["--test"]
     crate = os.path.join(crates, RUNS.get(look, look))
     run = subprocess.run([RT, "try", *words], cwd=crate, stdout=subprocess.PIPE, stderr=subprocess.STDOUT, text=True)
-    refused = re.findall(r"^test (\S+) \.\.\. FAILED$", run.stdout, re.M)
+    output = run.stdout.splitlines()
+    failed = {at: it[1] for at, it in enumerate(re.match(r"test (\S+) \.\.\. FAILED$", line) for line in output) if it}
+    endless = [test for at, test in failed.items() if is_cut_off(output, at)]
+    refused = [test for test in failed.values() if test not in endless]
     refused += re.findall(r"^case=\S+ .*output=(?:other|differs|wrong|unexpected).*$", run.stdout, re.M)
     if refused:
         more = f" and {len(refused) - 1} more" if len(refused) > 1 else ""
         return (f"the {look}" if look in RUNS else f"{look}: {refused[0]}{more}"), None
+    if endless:
+        return None, f"{endless[0]} does not end"
     if run.returncode == 0:
         return None, None
     if run.returncode == 4:

@@ -1,11 +1,7 @@
 -- How many ticks `ticks_until_due` of a system tells (profile).
-use Rattle.std.specs.Prelude.{◌≡◌, ◌≤◌, ℕ, true, Some, replicate, slice_get}
-use Rattle.lagsystem.specs.declared.drive.Reply.TheVariants as reply
+use Rattle.std.specs.Prelude.{◌≡◌, ◌≤◌, ℕ, true, Some, slice_get}
 use Rattle.lagsystem.specs.declared.system_ports.SystemPort.{SystemPort}
-use Rattle.lagsystem.specs.Calls.{TableRun, Tick}
 use Rattle.lagsystem.specs.Hosts.{would_transmit}
-use Rattle.lagsystem.specs.Quiet.{OnlyCounted}
-use Rattle.lagsystem.specs.Sound.{IsSound}
 use Rattle.lagsystem.specs.State.{SystemState}
 use Rattle.lagsystem.specs.Waiting.{ticks_until_due}
 use Rattle.lagprogress.specs.Timers.{PortsAreTimed}
@@ -17,12 +13,7 @@ SomeFrameIsDue s = (i : ℕ) × (x : SystemPort) × (slice_get s.system_ports i 
 
 -- In each state whose timers and waits are within their bounds, at most 900 ticks are told, and none exactly where a frame
 -- is due.
-pub record IsBounded : Type 0 where
+pub record TellsAtMost900 : Type 0 where
   pub most : (s : SystemState) (n : ℕ) → PortsAreTimed s → WaitsAreShort s → ticks_until_due s ≡ Some n → n ≤ 900
-  pub due : (s : SystemState) → PortsAreTimed s → WaitsAreShort s → ticks_until_due s ≡ Some 0 → SomeFrameIsDue s
-  pub now : (s : SystemState) → SomeFrameIsDue s → ticks_until_due s ≡ Some 0
-
--- When as many ticks alone have passed as were told, they have not only counted.
-abbrev pub EndsCounting : (ℕ → ℕ → ℕ → Type 0) → Type 0
-EndsCounting gives = (n : ℕ) (old new : SystemState) → IsSound old → PortsAreTimed old → WaitsAreShort old → ticks_until_due old ≡ Some n
-    → TableRun gives old (replicate n Tick) (replicate n reply.Tick) new → OnlyCounted n old new → ⊥
+  pub only_if_due : (s : SystemState) → PortsAreTimed s → WaitsAreShort s → ticks_until_due s ≡ Some 0 → SomeFrameIsDue s
+  pub if_due : (s : SystemState) → SomeFrameIsDue s → ticks_until_due s ≡ Some 0

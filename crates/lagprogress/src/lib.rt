@@ -54,15 +54,12 @@ pub fn waits_are_short<F: Fn(u16, usize) -> usize>()
     ensures kept { (algorithm : F) → EachCallKeepsWaits (F.post algorithm) }
 {}
 
-ghost use Rattle.lagprogress.specs.Told.{EndsCounting, IsBounded};
+ghost use Rattle.lagprogress.specs.Told.{TellsAtMost900};
 
-/// `ticks_until_due` tells at most 900 ticks (90 s), and 0 exactly where a frame is due. When just as many ticks have passed
-/// as it told, without another call, they have not only counted, as `ticks_only_count_until_due` of `lagsystem` says of
-/// fewer. The system is sound, its timers and waits are within their bounds, and its distribution algorithm may return
-/// anything (6.4.4; profile).
-pub fn ticks_until_due_are_bounded<F: Fn(u16, usize) -> usize>()
-    ensures bounded { IsBounded }
-    ensures ends { (algorithm : F) → EndsCounting (F.post algorithm) }
+/// `ticks_until_due` tells at most 900 ticks (90 s), and 0 exactly where a frame is due. The timers and waits of the system
+/// are within their bounds (6.4.4; profile).
+pub fn ticks_until_due_are_bounded()
+    ensures { TellsAtMost900 }
 {}
 
 ghost use Rattle.lagprogress.specs.Heartbeat.{IsHeard};
