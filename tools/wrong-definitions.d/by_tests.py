@@ -1,4 +1,4 @@
-"""The wrong definitions that name no test: each is tried by all tests of the crates above."""
+"""The wrong definitions that name no test: each is tried by the tests and runs that LOOKS names."""
 
 import os
 import queue

@@ -1,7 +1,7 @@
 //! How ports make progress: which are SELECTED, how long one is silent, notices silence, and knows what it heard, how far
 //! timers go, and how soon a link comes up. The functions of this crate but two do nothing when they run: the contract of each
 //! is a proved theorem over the states and calls of `lagsystem`, and over the events of `lagworld`. `play_round` and
-//! `play_rounds` play healthy rounds, so there are such.
+//! `play_rounds` play healthy rounds.
 //!
 //! In comments, numbers such as 6.4.13 are sections of IEEE 802.1AX-2014, and "profile" is docs/PROFILE.md.
 #![tactic(auto)]
@@ -102,8 +102,9 @@ pub fn each_event_is_calls<F: Fn(u16, usize) -> usize>()
 {}
 
 /// Both systems of a world are sound, and their timers within their bounds: at the start, after each event and after any
-/// events, whatever the distribution algorithms return. So what `links_come_up` and `links_agree` want of both systems, and
-/// of the world, holds of each world that events lead to from a start (6.4.4; profile).
+/// events, whatever the distribution algorithms return. So each world that at most 2^63 events lead to from a start is
+/// sound, and both its systems are sound with their timers within their bounds, as `links_come_up` and `links_agree` want it
+/// (6.4.4; profile).
 pub fn each_world_is_steady<F: Fn(u16, usize) -> usize>()
     ensures start { StartIsSteady }
     ensures kept { (one two : F) → EachEventKeepsSteady (both_algorithms (F.post one) (F.post two)) }

@@ -34,8 +34,8 @@ fn deliver_all<C: Cable, F: Fn(u16, usize) -> usize + Drop>(
 
 /// Plays one healthy round of a world whose only cable joins port `one` of system 1 and port `two` of system 2: both
 /// systems tick, both ends are asked twice, since an LACPDU goes before a marker, and what is on the cable is delivered until
-/// nothing is. So there are rounds as `links_come_up` wants them, from every state that a world can be in. Of a world with
-/// other cables nothing is promised. `NoMemory` if memory was refused, `Spent` if 2^63 events have acted; then a part of the
+/// nothing is. Where it is not refused, this is a round as `links_come_up` wants it, from whatever state the world was in.
+/// Of a world with other cables nothing is promised. `NoMemory` if memory was refused, `Spent` if 2^63 events have acted; then a part of the
 /// round may have been played (profile).
 pub fn play_round<C: Cable, F: Fn(u16, usize) -> usize + Drop>(
     world: &mut World<C, F>,
