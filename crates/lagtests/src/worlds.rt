@@ -8,7 +8,6 @@ mod memory;
 mod planned;
 mod refusals;
 mod restarts;
-mod rounds;
 mod scripted;
 mod standby;
 mod starts;
