@@ -1,4 +1,5 @@
-use lagjobs::{explain_digits, explain_unread, explain_utf8};
+use lagjobs::{explain_digits, explain_script, explain_unread, explain_utf8};
+use lagworld::{EntryFault, ScriptFault};
 use std::alloc::Global;
 use std::cell::RefCell;
 use std::fmt::Display;
@@ -6,10 +7,19 @@ use std::fs::Files;
 use std::io;
 use std::process::Abort;
 
-/// A standard error that keeps what it is told.
+/// A standard error that keeps what it is told, beside memory.
 #[derive(Drop)]
 struct Told {
     said: RefCell<String>,
+    memory: Global,
+}
+
+impl Alloc for Told {
+    type A = Global;
+
+    fn alloc(&self) -> Global {
+        self.memory
+    }
 }
 
 impl Eprint for Told {
@@ -28,6 +38,7 @@ impl Eprint for Told {
 fn listening(alloc: Global) -> Told {
     Told {
         said: RefCell::new(String::new(alloc)),
+        memory: alloc,
     }
 }
 
@@ -155,4 +166,31 @@ fn words_that_are_no_address(rt: HostRuntime) {
     ] {
         digits(&rt, ("MAC", "are 12"), word, text);
     }
+}
+
+/// A script whose third entry names no event.
+const NO_EVENT: &str = "events = [\"tick 1 1\", \"tick 2 1\", \"tic 1 10\"]\n";
+
+/// A script that is refused so is explained so.
+fn script(rt: &(impl Abort + AllocGlobal), file: &str, fault: ScriptFault, text: &str) {
+    let to = listening(rt.alloc());
+    explain_script(&to, file, NO_EVENT, fault);
+    wants(rt, to, text);
+}
+
+#[test]
+fn scripts_that_are_refused(rt: HostRuntime) {
+    let fault = ScriptFault::Entry(3, EntryFault::Word);
+    script(
+        &rt,
+        "lag.toml",
+        fault,
+        "lagtool: lag.toml: event 3 \"tic 1 10\": no event has this name; did you mean tick?",
+    );
+    script(
+        &rt,
+        "-",
+        fault,
+        "lagtool: standard input: event 3 \"tic 1 10\": no event has this name; did you mean tick?",
+    );
 }

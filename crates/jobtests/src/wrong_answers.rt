@@ -19,7 +19,7 @@ fn another_verdict_or_text_is_found(rt: HostRuntime) -> Result<(), Fail> {
     ] {
         let sink: Sink<Vec<u8>> = Sink::new(Vec::new(alloc));
         let found = wrote(Ok(verdict), sink, accepted, text)?;
-        assert_eq!(rt; found, same);
+        assert_eq!(rt; found, same, "{verdict} for {accepted}, {text:?}");
     }
     Ok(())
 }
@@ -34,7 +34,7 @@ fn another_text_of_a_payload_is_found(rt: HostRuntime) -> Result<(), Fail> {
         (SHORT, true, "refused 1 short have 109\n"),
     ] {
         let found = shows(alloc, payload, accepted, text)?;
-        assert!(rt; !found);
+        assert!(rt; !found, "{accepted}, {text}");
     }
     Ok(())
 }
@@ -49,7 +49,7 @@ fn another_answer_to_a_frame_is_found(rt: HostRuntime) -> Result<(), Fail> {
         (DATA_FRAME, true, "no answer data\n"),
     ] {
         let found = replies(alloc, frame, answered, text)?;
-        assert!(rt; !found);
+        assert!(rt; !found, "{answered}, {text}");
     }
     Ok(())
 }
@@ -64,7 +64,7 @@ fn another_report_is_found(rt: HostRuntime) -> Result<(), Fail> {
         ("events = [\"cut 0\"]\n", ""),
     ] {
         let found = replays(alloc, events, text)?;
-        assert!(rt; !found);
+        assert!(rt; !found, "{events}");
     }
     Ok(())
 }
@@ -79,7 +79,7 @@ fn other_octets_are_found(rt: HostRuntime) -> Result<(), Fail> {
         MARKER_OF_TYPE_3,
     ] {
         let found = encodes(alloc, payload)?;
-        assert!(rt; !found);
+        assert!(rt; !found, "{payload:?}");
     }
     Ok(())
 }
@@ -93,7 +93,7 @@ fn another_fault_of_an_ignored_frame_is_found(rt: HostRuntime) -> Result<(), Fai
         (LACPDU, WireFault::OtherSubtype(1)),
     ] {
         let found = ignores(alloc, payload, fault)?;
-        assert!(rt; !found);
+        assert!(rt; !found, "{fault:?}");
     }
     Ok(())
 }

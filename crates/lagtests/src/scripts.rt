@@ -1,9 +1,10 @@
 mod limits;
 mod reading;
 
+use crate::comparing::same;
 use lagscript::read_script;
 use std::alloc::{AllocError, Global};
-use std::test::Fail;
+use std::process::Abort;
 
 /// The text around the rows of a test: what is before and after each, and how the texts of their faults begin.
 #[derive(Clone, Copy)]
@@ -87,30 +88,57 @@ pub(crate) fn outcome(alloc: Global, text: &str) -> Result<String, AllocError> {
     }
 }
 
-/// The first row with another outcome: its index, its text, the outcome and the expected one.
-pub(crate) fn first_other(
+/// The text of a row between the others of its frame.
+fn framed(alloc: Global, frame: &Frame, given: &str, text: &str) -> Result<String, AllocError> {
+    let (before, behind) = (frame.before, frame.behind);
+    format!(in alloc; "{before}{given}{text}{behind}")
+}
+
+/// A text in a frame has this outcome.
+fn has_outcome(
+    rt: &impl Abort,
+    alloc: Global,
+    frame: &Frame,
+    given: &str,
+    row: &(&str, &str),
+) -> Result<(), AllocError> {
+    let (text, fault) = row;
+    let came = outcome(alloc, framed(alloc, frame, given, *text)?.as_str())?;
+    let start = if *fault == "read" { "" } else { frame.fault };
+    let wanted = format!(in alloc; "{start}{fault}")?;
+    same(rt, *text, &came.as_str(), &wanted.as_str());
+    Ok(())
+}
+
+/// Each row has its outcome.
+pub(crate) fn have_outcomes(
+    rt: &impl Abort,
     alloc: Global,
     frame: &Frame,
     given: &str,
     rows: &[(&str, &str)],
-) -> Result<Option<String>, AllocError> {
-    let (before, behind) = (frame.before, frame.behind);
-    for (place, (text, fault)) in rows.iter().enumerate() {
-        let came = outcome(
-            alloc,
-            format!(in alloc; "{before}{given}{text}{behind}")?.as_str(),
-        )?;
-        let start = if *fault == "read" { "" } else { frame.fault };
-        let wanted = format!(in alloc; "{start}{fault}")?;
-        if came.as_str() != wanted.as_str() {
-            return Ok(Some(format!(in alloc; "row {place}, {text}: {came}, wanted {wanted}")?));
-        }
+) -> Result<(), AllocError> {
+    for row in rows {
+        has_outcome(rt, alloc, frame, given, row)?;
     }
-    Ok(None)
+    Ok(())
+}
+
+/// Each row has its outcome in either frame.
+pub(crate) fn have_outcomes_in(
+    rt: &impl Abort,
+    alloc: Global,
+    frames: [&Frame; 2],
+    given: &str,
+    rows: &[(&str, &str)],
+) -> Result<(), AllocError> {
+    let [first, second] = frames;
+    have_outcomes(rt, alloc, first, given, rows)?;
+    have_outcomes(rt, alloc, second, given, rows)
 }
 
 #[test]
-fn tops_are_refused(rt: HostRuntime) -> Result<(), Fail> {
+fn tops_are_refused(rt: HostRuntime) -> Result<(), AllocError> {
     let rows = [
         ("x =", "not toml"),
         ("system = [{}, {}", "not toml"),
@@ -129,12 +157,11 @@ fn tops_are_refused(rt: HostRuntime) -> Result<(), Fail> {
         ("cable = 1\nsystem = [{}, {}]", "system 1: mac"),
         ("system = [{a = 1}, {a = 1}]", "system 1: extra key"),
     ];
-    assert_eq!(rt; first_other(rt.alloc(), &TOP, "", &rows)?, None);
-    Ok(())
+    have_outcomes(&rt, rt.alloc(), &TOP, "", &rows)
 }
 
 #[test]
-fn systems_are_refused(rt: HostRuntime) -> Result<(), Fail> {
+fn systems_are_refused(rt: HostRuntime) -> Result<(), AllocError> {
     let rows = [
         ("", ": mac"),
         ("a = 1", ": extra key"),
@@ -160,14 +187,11 @@ fn systems_are_refused(rt: HostRuntime) -> Result<(), Fail> {
         ("mac = \" 02-00-00-00-00-01\"", ": mac"),
         ("max_delay = 65536", ": mac"),
     ];
-    let alloc = rt.alloc();
-    assert_eq!(rt; first_other(alloc, &SYSTEM_1, "", &rows)?, None);
-    assert_eq!(rt; first_other(alloc, &SYSTEM_2, "", &rows)?, None);
-    Ok(())
+    have_outcomes_in(&rt, rt.alloc(), [&SYSTEM_1, &SYSTEM_2], "", &rows)
 }
 
 #[test]
-fn later_keys_of_systems_are_refused(rt: HostRuntime) -> Result<(), Fail> {
+fn later_keys_of_systems_are_refused(rt: HostRuntime) -> Result<(), AllocError> {
     let rows = [
         ("max_delay = -1", ": max_delay"),
         ("max_delay = 65536", ": max_delay"),
@@ -211,15 +235,14 @@ fn later_keys_of_systems_are_refused(rt: HostRuntime) -> Result<(), Fail> {
             ": port number 3",
         ),
     ];
-    let alloc = rt.alloc();
-    assert_eq!(rt; first_other(alloc, &SYSTEM_1, MAC, &rows)?, None);
-    assert_eq!(rt; first_other(alloc, &SYSTEM_2, MAC, &rows)?, None);
-    Ok(())
+    have_outcomes_in(&rt, rt.alloc(), [&SYSTEM_1, &SYSTEM_2], MAC, &rows)
 }
 
 /// The keys between the aggregators and the ports of a system.
 #[test]
-fn limits_of_links_and_counts_of_conversations_are_refused(rt: HostRuntime) -> Result<(), Fail> {
+fn limits_of_links_and_counts_of_conversations_are_refused(
+    rt: HostRuntime,
+) -> Result<(), AllocError> {
     let rows = [
         ("max_links = -1", ": max_links"),
         ("max_links = 65536", ": max_links"),
@@ -232,14 +255,11 @@ fn limits_of_links_and_counts_of_conversations_are_refused(rt: HostRuntime) -> R
         ("max_links = 0, conversations = 257", ": port"),
         ("max_link = 1, conversations = true", ": extra key"),
     ];
-    let alloc = rt.alloc();
-    assert_eq!(rt; first_other(alloc, &SYSTEM_1, AGGREGATORS, &rows)?, None);
-    assert_eq!(rt; first_other(alloc, &SYSTEM_2, AGGREGATORS, &rows)?, None);
-    Ok(())
+    have_outcomes_in(&rt, rt.alloc(), [&SYSTEM_1, &SYSTEM_2], AGGREGATORS, &rows)
 }
 
 #[test]
-fn other_limits_of_links_and_counts_are_refused(rt: HostRuntime) -> Result<(), Fail> {
+fn other_limits_of_links_and_counts_are_refused(rt: HostRuntime) -> Result<(), AllocError> {
     let rows = [
         ("max_links = 0", ": max links"),
         ("max_links = 65", ": max links"),
@@ -258,13 +278,17 @@ fn other_limits_of_links_and_counts_are_refused(rt: HostRuntime) -> Result<(), F
     ];
     let alloc = rt.alloc();
     let given = format!(in alloc; "{AGGREGATORS}port = [{{number = 1, key = 1}}], ")?;
-    assert_eq!(rt; first_other(alloc, &SYSTEM_1, given.as_str(), &rows)?, None);
-    assert_eq!(rt; first_other(alloc, &SYSTEM_2, given.as_str(), &rows)?, None);
-    Ok(())
+    have_outcomes_in(
+        &rt,
+        rt.alloc(),
+        [&SYSTEM_1, &SYSTEM_2],
+        given.as_str(),
+        &rows,
+    )
 }
 
 #[test]
-fn ports_are_refused(rt: HostRuntime) -> Result<(), Fail> {
+fn ports_are_refused(rt: HostRuntime) -> Result<(), AllocError> {
     let rows = [
         ("a = 1", ": extra key"),
         ("", ": number"),
@@ -291,14 +315,12 @@ fn ports_are_refused(rt: HostRuntime) -> Result<(), Fail> {
         ("number = 2, key = 1, short = 0", ": short"),
     ];
     let alloc = rt.alloc();
-    assert_eq!(rt; first_other(alloc, &PORT_1_OF_1, "", &rows)?, None);
-    assert_eq!(rt; first_other(alloc, &PORT_2_OF_1, "", &rows)?, None);
-    assert_eq!(rt; first_other(alloc, &PORT_1_OF_2, "", &rows)?, None);
-    Ok(())
+    have_outcomes(&rt, rt.alloc(), &PORT_1_OF_1, "", &rows)?;
+    have_outcomes_in(&rt, rt.alloc(), [&PORT_2_OF_1, &PORT_1_OF_2], "", &rows)
 }
 
 #[test]
-fn cables_are_refused(rt: HostRuntime) -> Result<(), Fail> {
+fn cables_are_refused(rt: HostRuntime) -> Result<(), AllocError> {
     let rows = [
         ("a = 1", ": extra key"),
         ("ends = [1, 1], a = 1", ": extra key"),
@@ -315,20 +337,18 @@ fn cables_are_refused(rt: HostRuntime) -> Result<(), Fail> {
         ("ends = [65535, 1]", ": end"),
     ];
     let alloc = rt.alloc();
-    assert_eq!(rt; first_other(alloc, &CABLE_1, "", &rows)?, None);
-    assert_eq!(rt; first_other(alloc, &CABLE_2, "", &rows)?, None);
+    have_outcomes_in(&rt, rt.alloc(), [&CABLE_1, &CABLE_2], "", &rows)?;
     let taken = [
         ("ends = [2, 1]", "read"),
         ("ends = [1, 1]", ": end"),
         ("ends = [2, 65535]", ": end"),
         ("ends = [1, 65535]", ": end"),
     ];
-    assert_eq!(rt; first_other(alloc, &CABLE_2, "", &taken)?, None);
-    Ok(())
+    have_outcomes(&rt, rt.alloc(), &CABLE_2, "", &taken)
 }
 
 #[test]
-fn entries_are_refused(rt: HostRuntime) -> Result<(), Fail> {
+fn entries_are_refused(rt: HostRuntime) -> Result<(), AllocError> {
     let rows = [
         ("", ": word"),
         ("Tick 1 1", ": word"),
@@ -360,14 +380,11 @@ fn entries_are_refused(rt: HostRuntime) -> Result<(), Fail> {
         ("emit 3 x", ": system"),
         ("emit 2 65536", ": number"),
     ];
-    let alloc = rt.alloc();
-    assert_eq!(rt; first_other(alloc, &ENTRY_1, "", &rows)?, None);
-    assert_eq!(rt; first_other(alloc, &ENTRY_2, "", &rows)?, None);
-    Ok(())
+    have_outcomes_in(&rt, rt.alloc(), [&ENTRY_1, &ENTRY_2], "", &rows)
 }
 
 #[test]
-fn entries_of_cables_are_refused(rt: HostRuntime) -> Result<(), Fail> {
+fn entries_of_cables_are_refused(rt: HostRuntime) -> Result<(), AllocError> {
     let rows = [
         ("deliver 1", ": count"),
         ("deliver 2 3", ": cable"),
@@ -398,14 +415,11 @@ fn entries_of_cables_are_refused(rt: HostRuntime) -> Result<(), Fail> {
         ("sense 1 3", ": system"),
         ("sense 1", ": count"),
     ];
-    let alloc = rt.alloc();
-    assert_eq!(rt; first_other(alloc, &ENTRY_1, "", &rows)?, None);
-    assert_eq!(rt; first_other(alloc, &ENTRY_2, "", &rows)?, None);
-    Ok(())
+    have_outcomes_in(&rt, rt.alloc(), [&ENTRY_1, &ENTRY_2], "", &rows)
 }
 
 #[test]
-fn entries_of_systems_are_refused(rt: HostRuntime) -> Result<(), Fail> {
+fn entries_of_systems_are_refused(rt: HostRuntime) -> Result<(), AllocError> {
     let rows = [
         ("restart", ": count"),
         ("restart 3", ": system"),
@@ -442,15 +456,11 @@ fn entries_of_systems_are_refused(rt: HostRuntime) -> Result<(), Fail> {
         ("force 1 65536 1", ": number"),
         ("force 1 1 65536", ": number"),
     ];
-    let alloc = rt.alloc();
-    assert_eq!(rt; first_other(alloc, &ENTRY_1, "", &rows)?, None);
-    assert_eq!(rt; first_other(alloc, &ENTRY_2, "", &rows)?, None);
-    Ok(())
+    have_outcomes_in(&rt, rt.alloc(), [&ENTRY_1, &ENTRY_2], "", &rows)
 }
 
 #[test]
-fn smallest_and_greatest_are_read(rt: HostRuntime) -> Result<(), Fail> {
-    let alloc = rt.alloc();
+fn smallest_and_greatest_are_read(rt: HostRuntime) -> Result<(), AllocError> {
     let systems = [
         (
             "priority = 0, max_delay = 0, first_marker = 0, port = [{number = 1, key = 1}]",
@@ -461,8 +471,13 @@ fn smallest_and_greatest_are_read(rt: HostRuntime) -> Result<(), Fail> {
             "read",
         ),
     ];
-    assert_eq!(rt; first_other(alloc, &SYSTEM_1, AGGREGATORS, &systems)?, None);
-    assert_eq!(rt; first_other(alloc, &SYSTEM_2, AGGREGATORS, &systems)?, None);
+    have_outcomes_in(
+        &rt,
+        rt.alloc(),
+        [&SYSTEM_1, &SYSTEM_2],
+        AGGREGATORS,
+        &systems,
+    )?;
     let keys = [
         (
             "aggregators = [0, 65535], port = [{number = 1, key = 0}]",
@@ -473,12 +488,12 @@ fn smallest_and_greatest_are_read(rt: HostRuntime) -> Result<(), Fail> {
             "read",
         ),
     ];
-    assert_eq!(rt; first_other(alloc, &SYSTEM_1, MAC, &keys)?, None);
+    have_outcomes(&rt, rt.alloc(), &SYSTEM_1, MAC, &keys)?;
     let ports = [
         ("number = 2, priority = 0, key = 0", "read"),
         ("number = 65535, priority = 65535, key = 65535", "read"),
     ];
-    assert_eq!(rt; first_other(alloc, &PORT_2_OF_1, "", &ports)?, None);
+    have_outcomes(&rt, rt.alloc(), &PORT_2_OF_1, "", &ports)?;
     let entries = [
         ("tick 1 1", "read"),
         ("tick 2 65535", "read"),
@@ -491,7 +506,5 @@ fn smallest_and_greatest_are_read(rt: HostRuntime) -> Result<(), Fail> {
         ("move 1 65535 65535 65535", "read"),
         ("force 1 65535 65535", "read"),
     ];
-    assert_eq!(rt; first_other(alloc, &ENTRY_1, "", &entries)?, None);
-    assert_eq!(rt; first_other(alloc, &ENTRY_2, "", &entries)?, None);
-    Ok(())
+    have_outcomes_in(&rt, rt.alloc(), [&ENTRY_1, &ENTRY_2], "", &entries)
 }

@@ -16,11 +16,12 @@ mod wide;
 
 ghost use Rattle.std.specs.Prelude.{◌≡◌, ◌<◌};
 
+use crate::comparing::same_in_row;
 use crate::systems::plan::plan_of;
 use bitflags::Flags;
 use lagsystem::{
     AggId, Assignment, Choice, Config, Group, Info, Key, MuxState, NoMemory, Party, PortConfig,
-    PortId, PortStatus, ReceiveState, Received, Reply, State, System, SystemFault, SystemId,
+    PortId, PortStatus, ReceiveState, Received, State, System, SystemFault, SystemId,
 };
 use slowpdu::{Lacpdu, Marker, MarkerKind};
 use std::alloc::Global;
@@ -30,7 +31,7 @@ use std::process::Abort;
 const DATA: [u8; 14] = [2, 0, 0, 0, 0, 0x20, 2, 0, 0, 0, 0, 0x10, 8, 0];
 
 /// A call, or several, with the expected result; or what the readers are expected to return.
-#[derive(Clone, Copy, Debug)]
+#[derive(Clone, Copy)]
 enum Row<'a> {
     Link(u16, bool),
     Ticks(u16),
@@ -264,7 +265,32 @@ fn config(alloc: Global, numbers: &[u16], count: usize) -> Result<Config, NoMemo
     })
 }
 
-/// Compares what the readers return with what a row expects.
+/// Compares the choice, the timers or the status of a port with what a row expects.
+fn tells_port<F: Fn(u16, usize) -> usize + Drop>(
+    rt: &impl Abort,
+    system: &System<F>,
+    place: usize,
+    row: Row<'_>,
+) {
+    match row {
+        Row::Shows(port, seen) => same_in_row(rt, place, &look(system, port), &seen),
+        Row::Chosen(port, choice) => same_in_row(rt, place, &system.choice(port), &Some(choice)),
+        Row::Status(port, status) => {
+            same_in_row(rt, place, &system.port_status(port), &Some(status));
+        }
+        Row::Timers(port, current_while, wait_while, ntt) => {
+            same_in_row(rt, place, &system.current_while(port), &Some(current_while));
+            same_in_row(rt, place, &system.wait_while(port), &Some(wait_while));
+            same_in_row(rt, place, &system.ntt(port), &Some(ntt));
+        }
+        Row::Mux(port, state) => same_in_row(rt, place, &system.mux_state(port), &Some(state)),
+        Row::Defaulted(port, is) => same_in_row(rt, place, &system.defaulted(port), &Some(is)),
+        Row::Due(port, is) => same_in_row(rt, place, &system.is_due(port), &Some(is)),
+        _ => {}
+    }
+}
+
+/// Compares what the readers of a system return with what a row expects.
 fn tells<F: Fn(u16, usize) -> usize + Drop>(
     rt: &impl Abort,
     system: &System<F>,
@@ -272,63 +298,28 @@ fn tells<F: Fn(u16, usize) -> usize + Drop>(
     row: Row<'_>,
 ) {
     match row {
-        Row::Shows(port, seen) => assert_eq!(rt; look(system, port), seen, "row {place}"),
-        Row::Chosen(port, choice) => assert_eq!(rt;
-            look(system, port).choice,
-            Some(choice),
-            "row {place}"
-        ),
-        Row::Status(port, status) => assert_eq!(rt;
-            system.port_status(port),
-            Some(status),
-            "row {place}"
-        ),
-        Row::Timers(port, current_while, wait_while, ntt) => {
-            let timers = (system.current_while(port), system.wait_while(port));
-            assert_eq!(rt;
-                timers,
-                (Some(current_while), Some(wait_while)),
-                "row {place}"
+        Row::Distributing(agg, ports) => {
+            same_in_row(
+                rt,
+                place,
+                &system.distributing(AggId(agg)).as_slice(),
+                &ports,
             );
-            assert_eq!(rt; system.ntt(port), Some(ntt), "row {place}");
         }
-        Row::Mux(port, state) => assert_eq!(rt; look(system, port).mux, Some(state), "row {place}"),
-        Row::Defaulted(port, is) => assert_eq!(rt;
-            look(system, port).defaulted,
-            Some(is),
-            "row {place}"
-        ),
-        Row::Due(port, is) => assert_eq!(rt; look(system, port).due, Some(is), "row {place}"),
-        Row::Distributing(agg, ports) => assert_eq!(rt;
-            system.distributing(AggId(agg)).as_slice(),
-            ports,
-            "row {place}"
-        ),
-        Row::Conversation(octets, conv) => assert_eq!(rt;
-            system.conversation(octets),
-            conv,
-            "row {place}"
-        ),
-        Row::Conversing(agg, conv, state) => assert_eq!(rt;
-            system.conversation_state(AggId(agg), conv),
-            state,
-            "row {place}"
-        ),
-        Row::Next(id) => assert_eq!(rt; system.next_marker(), id, "row {place}"),
-        Row::Waits(ticks) => assert_eq!(rt; system.ticks_until_due(), ticks, "row {place}"),
+        Row::Conversation(octets, conv) => {
+            same_in_row(rt, place, &system.conversation(octets), &conv);
+        }
+        Row::Conversing(agg, conv, state) => {
+            let found = system.conversation_state(AggId(agg), conv);
+            same_in_row(rt, place, &found, &state);
+        }
+        Row::Next(id) => same_in_row(rt, place, &system.next_marker(), &id),
+        Row::Waits(ticks) => same_in_row(rt, place, &system.ticks_until_due(), &ticks),
         Row::Has(ports, aggregators) => {
-            assert_eq!(rt; system.ports().as_slice(), ports, "row {place}");
-            assert_eq!(rt; system.aggregators(), aggregators, "row {place}");
+            same_in_row(rt, place, &system.ports().as_slice(), &ports);
+            same_in_row(rt, place, &system.aggregators(), &aggregators);
         }
-        _ => {}
-    }
-}
-
-/// Compares the replies to the calls of a row with the expected ones.
-fn compare(rt: &impl Abort, place: usize, row: Row<'_>, replies: &[Reply], wanted: &[Reply]) {
-    assert_eq!(rt; replies.len(), wanted.len(), "row {place}");
-    for (reply, want) in replies.iter().zip(wanted) {
-        assert_eq!(rt; *reply, *want, "row {place}: {row:?}");
+        _ => tells_port(rt, system, place, row),
     }
 }
 
@@ -342,7 +333,7 @@ fn forces_port<F: Fn(u16, usize) -> usize + Drop>(
     ensures { system.new.algorithm ≡ system.old.algorithm }
 {
     if let Row::ForcesPort(port, answer) = row {
-        assert_eq!(rt; system.force_port(port), answer, "row {place}");
+        same_in_row(rt, place, &system.force_port(port), &answer);
     }
 }
 
@@ -367,12 +358,35 @@ fn plays(
         let plan = plan_of(alloc, *row)?;
         let before = look(&system, kept_port(*row));
         let replies = system.drive(alloc, &plan.calls)?;
-        compare(rt, place, *row, &replies, &plan.replies);
+        same_in_row(rt, place, &replies.as_slice(), &plan.replies.as_slice());
         forces_port(rt, &mut system, place, *row);
-        assert_eq!(rt; look(&system, kept_port(*row)), before, "row {place}");
+        same_in_row(rt, place, &look(&system, kept_port(*row)), &before);
         tells(rt, &system, place, *row);
     }
     Ok(())
+}
+
+/// Plays lists of rows, one after another.
+fn plays_lists(
+    rt: &impl Abort,
+    alloc: Global,
+    given: Config,
+    lists: &[&[Row<'_>]],
+) -> Result<(), SystemFault> {
+    let rows = joined(alloc, lists)?;
+    plays(rt, alloc, given, &rows)
+}
+
+/// Plays lists of rows on system 1 with these ports, and this many aggregators.
+fn plays_with(
+    rt: &impl Abort,
+    alloc: Global,
+    numbers: &[u16],
+    count: usize,
+    lists: &[&[Row<'_>]],
+) -> Result<(), SystemFault> {
+    let given = config(alloc, numbers, count)?;
+    plays_lists(rt, alloc, given, lists)
 }
 
 /// Lists of rows, one after another.

@@ -12,6 +12,7 @@ mod scripted;
 mod standby;
 mod starts;
 
+use crate::comparing::{same, same_in_row};
 use crate::worlds::given::{Setting, lines, modulo, world_config};
 use bitflags::Flags;
 use cables::AnyCable;
@@ -32,7 +33,7 @@ const F50: [u8; 14] = [2, 0, 0, 0, 0, 0x22, 2, 0, 0, 0, 0, 0x10, 8, 0];
 
 /// An event, with the octets of an offered frame. The values have the order of `Event`; a tick is 100 ms. `Configure` and
 /// `Prefer` are one event.
-#[derive(Clone, Copy, Debug)]
+#[derive(Clone, Copy)]
 enum Entry {
     Tick(u8, u16),
     Emit(u8, u16),
@@ -150,23 +151,17 @@ fn events(alloc: Global, entries: &[(Entry, Want)]) -> Result<Vec<Event>, NoMemo
 }
 
 /// Compares the reply to the event at this place, counted from 1, with the expected one.
-fn compare(
-    rt: &impl Abort,
-    place: usize,
-    entry: Entry,
-    came: Result<Reply, WorldFault>,
-    want: Want,
-) {
-    assert_eq!(rt; came, Ok(reply(want)), "event {place}: {entry:?}");
+fn compare(rt: &impl Abort, place: usize, came: Result<Reply, WorldFault>, want: Want) {
+    same_in_row(rt, place, &came, &Ok(reply(want)));
 }
 
 /// Compares the replies to entries that come after this many others.
 fn compare_all(rt: &impl Abort, before: usize, entries: &[(Entry, Want)], came: &[Reply]) {
-    assert_eq!(rt; came.len(), entries.len(), "behind event {before}");
+    same_in_row(rt, before, &came.len(), &entries.len());
     let mut place = before;
-    for ((entry, want), came) in entries.iter().zip(came) {
+    for ((_, want), came) in entries.iter().zip(came) {
         place = place.saturating_add(1);
-        compare(rt, place, *entry, Ok(*came), *want);
+        compare(rt, place, Ok(*came), *want);
     }
 }
 
@@ -180,11 +175,11 @@ fn compare_run(
     match came {
         Ok(replies) => compare_all(rt, before, entries, &replies),
         Err(stop) => {
-            if let Some((entry, want)) = entries.get(stop.done) {
+            if let Some((_, want)) = entries.get(stop.done) {
                 let place = before.saturating_add(stop.done).saturating_add(1);
-                compare(rt, place, *entry, Err(stop.fault), *want);
+                compare(rt, place, Err(stop.fault), *want);
             }
-            assert!(rt; false, "behind event {before}: {stop:?}");
+            same_in_row(rt, before, &Some(stop), &None);
         }
     }
 }
@@ -202,26 +197,11 @@ fn is_from_zero(serials: &[u64]) -> bool {
 
 /// Compares what a conversation sent and collected with what a row expects.
 fn compare_flow(rt: &impl Abort, told: Flow, sent: &[u64], collected: &[u64], forced: bool) {
-    let (system, conv) = (told.system, told.conv);
-    assert_eq!(rt;
-        sent.len(),
-        told.sent,
-        "sent: system {system}, conversation {conv}"
-    );
-    assert!(rt;
-        is_from_zero(sent),
-        "sent: system {system}, conversation {conv}: {sent:?}"
-    );
-    assert_eq!(rt;
-        collected,
-        told.collected,
-        "collected: system {system}, conversation {conv}"
-    );
-    assert_eq!(rt;
-        forced,
-        told.forced,
-        "forced: system {system}, conversation {conv}"
-    );
+    let place = usize::from(told.conv);
+    same_in_row(rt, place, &sent.len(), &told.sent);
+    same(rt, "sent from 0 on", &is_from_zero(sent), &true);
+    same_in_row(rt, place, &collected, &told.collected);
+    same_in_row(rt, place, &forced, &told.forced);
 }
 
 /// Compares what the readers return with what a row expects.
@@ -231,11 +211,8 @@ fn tells<F: Fn(u16, usize) -> usize + Drop>(
     row: &Row,
 ) {
     for (cable, wanted) in row.agreements {
-        assert_eq!(rt;
-            world.agreement(*cable),
-            Some(*wanted),
-            "agreement of cable {cable}"
-        );
+        let agreement = world.agreement(*cable);
+        same_in_row(rt, usize::from(*cable), &agreement, &Some(*wanted));
     }
     for told in row.flows {
         let sent = world.sent(told.system, AggId(1), told.conv);
@@ -255,7 +232,7 @@ fn steps(rt: &impl Abort, alloc: Global, row: &Row, limit: Option<u16>) -> Resul
     for (entry, want) in &entries {
         let came = world.step(&event(alloc, *entry)?);
         place = place.saturating_add(1);
-        compare(rt, place, *entry, came, *want);
+        compare(rt, place, came, *want);
     }
     tells(rt, &world, row);
     Ok(())

@@ -1,10 +1,11 @@
-use crate::scripts::{CABLE_1, CABLE_2, first_other};
+use crate::comparing::same;
+use crate::scripts::{CABLE_1, CABLE_2, have_outcomes, have_outcomes_in};
 use lagscript::{ScriptFault, read_plan, read_script};
 use std::alloc::{AllocError, Global};
-use std::test::Fail;
+use std::process::Abort;
 
 #[test]
-fn limits_are_refused(rt: HostRuntime) -> Result<(), Fail> {
+fn limits_are_refused(rt: HostRuntime) -> Result<(), AllocError> {
     let rows = [
         ("limit = 1", ": ends"),
         ("limit = 0", ": ends"),
@@ -24,15 +25,13 @@ fn limits_are_refused(rt: HostRuntime) -> Result<(), Fail> {
         ("ends = [0, 1], limit = 8", ": end"),
     ];
     let alloc = rt.alloc();
-    assert_eq!(rt; first_other(alloc, &CABLE_1, "", &rows)?, None);
-    assert_eq!(rt; first_other(alloc, &CABLE_2, "", &rows)?, None);
+    have_outcomes_in(&rt, rt.alloc(), [&CABLE_1, &CABLE_2], "", &rows)?;
     let good = [
         ("ends = [2, 1], limit = 1", "read"),
         ("ends = [2, 1], limit = 65535", "read"),
         ("limit = 8, ends = [2, 1]", "read"),
     ];
-    assert_eq!(rt; first_other(alloc, &CABLE_2, "", &good)?, None);
-    Ok(())
+    have_outcomes(&rt, rt.alloc(), &CABLE_2, "", &good)
 }
 
 /// Three ports in each system, and three cables between them.
@@ -57,7 +56,7 @@ fn read_as(alloc: Global, cables: &str, events: &str) -> Result<String, AllocErr
 }
 
 #[test]
-fn limits_are_read_one_a_cable(rt: HostRuntime) -> Result<(), Fail> {
+fn limits_are_read_one_a_cable(rt: HostRuntime) -> Result<(), AllocError> {
     let rows = [
         ("", "", "[] [] [], [] []"),
         (
@@ -113,24 +112,24 @@ fn limits_are_read_one_a_cable(rt: HostRuntime) -> Result<(), Fail> {
         ),
     ];
     let alloc = rt.alloc();
-    for (cables, events, wanted) in rows {
-        let came = read_as(alloc, cables, events)?;
-        assert_eq!(rt; came.as_str(), wanted, "{cables}");
+    for (cables, events, wanted) in &rows {
+        let came = read_as(alloc, *cables, *events)?;
+        same(&rt, *cables, &came.as_str(), wanted);
     }
     Ok(())
+}
+
+/// Both readers refuse a text for this fault.
+fn both_refuse(rt: &impl Abort, alloc: Global, text: &str, fault: ScriptFault) {
+    same(rt, text, &read_plan(alloc, text).err(), &Some(fault));
+    same(rt, text, &read_script(alloc, text).err(), &Some(fault));
 }
 
 #[test]
 fn both_readers_refuse_alike(rt: HostRuntime) {
     let alloc = rt.alloc();
-    let rows = [
-        ("x =", ScriptFault::NotToml),
-        ("x = 1", ScriptFault::ExtraKey),
-        ("limit = 8", ScriptFault::ExtraKey),
-        ("", ScriptFault::Systems),
-    ];
-    for (text, fault) in rows {
-        assert_eq!(rt; read_plan(alloc, text).err(), Some(fault), "{text}");
-        assert_eq!(rt; read_script(alloc, text).err(), Some(fault), "{text}");
-    }
+    both_refuse(&rt, alloc, "x =", ScriptFault::NotToml);
+    both_refuse(&rt, alloc, "x = 1", ScriptFault::ExtraKey);
+    both_refuse(&rt, alloc, "limit = 8", ScriptFault::ExtraKey);
+    both_refuse(&rt, alloc, "", ScriptFault::Systems);
 }

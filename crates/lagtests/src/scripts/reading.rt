@@ -1,7 +1,8 @@
-use crate::scripts::{ENTRY_1, Frame, MAC, SYSTEM_1, first_other, outcome};
-use lagscript::read_script;
+use crate::comparing::same;
+use crate::scripts::{ENTRY_1, Frame, MAC, SYSTEM_1, have_outcomes, outcome};
+use lagscript::{ScriptFault, read_script};
 use std::alloc::{AllocError, Global};
-use std::test::Fail;
+use std::process::Abort;
 
 /// Two systems without a fault, after the text of a row.
 const SYSTEMS: Frame = Frame {
@@ -84,10 +85,12 @@ fn read_as(alloc: Global, text: &str) -> Result<String, AllocError> {
 }
 
 #[test]
-fn configurations_are_read(rt: HostRuntime) -> Result<(), Fail> {
+fn configurations_are_read(rt: HostRuntime) -> Result<(), AllocError> {
     let alloc = rt.alloc();
-    assert_eq!(rt; read_as(alloc, TWO_CABLES)?.as_str(), TWO_CABLES_READ);
-    assert_eq!(rt; read_as(alloc, FULL)?.as_str(), FULL_READ);
+    let two = read_as(alloc, TWO_CABLES)?;
+    same(&rt, "two cables", &two.as_str(), &TWO_CABLES_READ);
+    let full = read_as(alloc, FULL)?;
+    same(&rt, "all keys", &full.as_str(), &FULL_READ);
     Ok(())
 }
 
@@ -95,49 +98,49 @@ fn configurations_are_read(rt: HostRuntime) -> Result<(), Fail> {
 const FLAGS: &str =
     "system = [{mac = \"02-00-00-00-00-01\", aggregators = [1], port = [{number = 1, key = 1, aggregatable = false}, {number = 2, key = 1, active = false}, {number = 3, key = 1, short = false}]}, {mac = \"02-00-00-00-00-02\", aggregators = [1], port = [{number = 1, key = 1}]}]";
 
-#[test]
-fn flags_of_ports_are_read_by_their_names(rt: HostRuntime) -> Result<(), Fail> {
-    let (config, _) = read_script(rt.alloc(), FLAGS)?;
+/// The flags of the ports of the first system.
+fn flags(alloc: Global, text: &str) -> Result<Vec<(bool, bool, bool)>, ScriptFault> {
+    let (config, _) = read_script(alloc, text)?;
     let [first, _] = &config.systems;
-    let wanted = [
+    let mut all = Vec::new(alloc);
+    for port in &first.ports {
+        all.push((port.aggregatable, port.active, port.short))?;
+    }
+    Ok(all)
+}
+
+#[test]
+fn flags_of_ports_are_read_by_their_names(rt: HostRuntime) -> Result<(), ScriptFault> {
+    let wanted: &[(bool, bool, bool)] = &[
         (false, true, true),
         (true, false, true),
         (true, true, false),
     ];
-    assert_eq!(rt; first.ports.len(), wanted.len());
-    for (port, flags) in first.ports.iter().zip(wanted) {
-        let read = (port.aggregatable, port.active, port.short);
-        assert_eq!(rt; read, flags, "port {}", port.number);
-    }
+    let read = flags(rt.alloc(), FLAGS)?;
+    same(&rt, "the flags of three ports", &read.as_slice(), &wanted);
     Ok(())
 }
 
 /// The events of a script with this entry and one more tick, or the text of the fault.
 fn entry_as(alloc: Global, entry: &str) -> Result<String, AllocError> {
     let (before, behind) = (ENTRY_1.before, ENTRY_1.behind);
-    match read_script(
-        alloc,
-        format!(in alloc; "{before}{entry}{behind}")?.as_str(),
-    ) {
+    let text = format!(in alloc; "{before}{entry}{behind}")?;
+    match read_script(alloc, text.as_str()) {
         Ok((_, events)) => format!(in alloc; "{events:?}"),
         Err(fault) => format!(in alloc; "{fault}"),
     }
 }
 
-/// The first row that is read as another event: its index, its entry, the outcome and the expected one.
-fn first_other_entry(alloc: Global, rows: &[(&str, &str)]) -> Result<Option<String>, AllocError> {
-    for (place, (entry, event)) in rows.iter().enumerate() {
-        let came = entry_as(alloc, *entry)?;
-        let wanted = format!(in alloc; "[{event}, Tick(1, 1)]")?;
-        if came.as_str() != wanted.as_str() {
-            return Ok(Some(format!(in alloc; "row {place}, {entry}: {came}, wanted {wanted}")?));
-        }
-    }
-    Ok(None)
+/// An entry is read as this event.
+fn is_read(rt: &impl Abort, alloc: Global, entry: &str, event: &str) -> Result<(), AllocError> {
+    let came = entry_as(alloc, entry)?;
+    let wanted = format!(in alloc; "[{event}, Tick(1, 1)]")?;
+    same(rt, entry, &came.as_str(), &wanted.as_str());
+    Ok(())
 }
 
 #[test]
-fn entries_are_read(rt: HostRuntime) -> Result<(), Fail> {
+fn entries_are_read(rt: HostRuntime) -> Result<(), AllocError> {
     let rows = [
         ("tick 2 3", "Tick(2, 3)"),
         ("tick 01 0010", "Tick(1, 10)"),
@@ -162,12 +165,14 @@ fn entries_are_read(rt: HostRuntime) -> Result<(), Fail> {
         ("move 1 2 3 4", "Move(1, AggId(2), 3, 4)"),
         ("force 2 3 4", "Force(2, AggId(3), 4)"),
     ];
-    assert_eq!(rt; first_other_entry(rt.alloc(), &rows)?, None);
+    for (entry, event) in &rows {
+        is_read(&rt, rt.alloc(), *entry, *event)?;
+    }
     Ok(())
 }
 
 #[test]
-fn faults_come_in_order(rt: HostRuntime) -> Result<(), Fail> {
+fn faults_come_in_order(rt: HostRuntime) -> Result<(), AllocError> {
     let rows = [
         ("", "read"),
         ("cable = []\nevents = []", "read"),
@@ -190,8 +195,7 @@ fn faults_come_in_order(rt: HostRuntime) -> Result<(), Fail> {
         ),
         ("cable = [{ends = [1, 1]}, {ends = [1, 1]}]", "cable 2: end"),
     ];
-    let alloc = rt.alloc();
-    assert_eq!(rt; first_other(alloc, &SYSTEMS, "", &rows)?, None);
+    have_outcomes(&rt, rt.alloc(), &SYSTEMS, "", &rows)?;
     let rows = [
         ("", "two systems with one identifier"),
         (
@@ -200,8 +204,7 @@ fn faults_come_in_order(rt: HostRuntime) -> Result<(), Fail> {
         ),
         ("events = [\"\"]", "event 1: word"),
     ];
-    assert_eq!(rt; first_other(alloc, &EQUAL_SYSTEMS, "", &rows)?, None);
-    Ok(())
+    have_outcomes(&rt, rt.alloc(), &EQUAL_SYSTEMS, "", &rows)
 }
 
 /// This text, repeated this many times, between two others.
@@ -234,23 +237,32 @@ fn with_aggregators(alloc: Global, count: usize) -> Result<String, AllocError> {
     )
 }
 
-/// The outcome of reading this many events with this text.
-fn with_events(alloc: Global, text: &str, count: usize) -> Result<String, AllocError> {
-    let end = format!(in alloc; "]{}", SYSTEMS.behind)?;
-    outcome(
-        alloc,
-        repeated(alloc, "events = [", text, count, end.as_str())?.as_str(),
-    )
+/// A text has this outcome.
+fn comes_to(rt: &impl Abort, alloc: Global, text: &str, wanted: &str) -> Result<(), AllocError> {
+    let came = outcome(alloc, text)?;
+    same(rt, "outcome", &came.as_str(), &wanted);
+    Ok(())
+}
+
+/// This text, repeated this many times between two others, has this outcome.
+fn repeated_comes_to(
+    rt: &impl Abort,
+    alloc: Global,
+    (before, text, behind): (&str, &str, &str),
+    count: usize,
+    wanted: &str,
+) -> Result<(), AllocError> {
+    let all = repeated(alloc, before, text, count, behind)?;
+    comes_to(rt, alloc, all.as_str(), wanted)
 }
 
 #[test]
-fn aggregators_have_a_limit(rt: HostRuntime) -> Result<(), Fail> {
+fn aggregators_have_a_limit(rt: HostRuntime) -> Result<(), AllocError> {
     let alloc = rt.alloc();
-    assert_eq!(rt; with_aggregators(alloc, 64)?.as_str(), "read");
-    assert_eq!(rt;
-        with_aggregators(alloc, 65)?.as_str(),
-        "system 1: aggregator count"
-    );
+    let most = with_aggregators(alloc, 64)?;
+    same(&rt, "64", &most.as_str(), &"read");
+    let more = with_aggregators(alloc, 65)?;
+    same(&rt, "65", &more.as_str(), &"system 1: aggregator count");
     Ok(())
 }
 
@@ -258,56 +270,59 @@ fn aggregators_have_a_limit(rt: HostRuntime) -> Result<(), Fail> {
 /// which takes too long beside other proofs.
 const EVENTS: usize = 10_000;
 
+/// The outcome of reading this many events with this text.
+fn events_come_to(
+    rt: &impl Abort,
+    alloc: Global,
+    text: &str,
+    count: usize,
+    wanted: &str,
+) -> Result<(), AllocError> {
+    let end = format!(in alloc; "]{}", SYSTEMS.behind)?;
+    repeated_comes_to(rt, alloc, ("events = [", text, end.as_str()), count, wanted)
+}
+
 /// The count of the events is looked at before the first of them.
 #[test]
-fn events_have_a_limit(rt: HostRuntime) -> Result<(), Fail> {
+fn events_have_a_limit(rt: HostRuntime) -> Result<(), AllocError> {
     let alloc = rt.alloc();
     let tick = "\"tick 1 1\",";
-    assert_eq!(rt; with_events(alloc, tick, EVENTS)?.as_str(), "read");
     let empty = "\"\",";
-    assert_eq!(rt;
-        with_events(alloc, empty, 100_000)?.as_str(),
-        "event 1: word"
-    );
-    assert_eq!(rt; with_events(alloc, empty, 100_001)?.as_str(), "events");
-    Ok(())
+    events_come_to(&rt, alloc, tick, EVENTS, "read")?;
+    events_come_to(&rt, alloc, empty, 100_000, "event 1: word")?;
+    events_come_to(&rt, alloc, empty, 100_001, "events")
 }
 
 #[test]
-fn a_megabyte_of_brackets_is_no_toml(rt: HostRuntime) -> Result<(), Fail> {
+fn a_megabyte_of_brackets_is_no_toml(rt: HostRuntime) -> Result<(), AllocError> {
     let alloc = rt.alloc();
-    let brackets = repeated(alloc, "events = ", "[", 1 << 20, "")?;
-    assert_eq!(rt; outcome(alloc, brackets.as_str())?.as_str(), "not toml");
-    let tables = repeated(alloc, "system = ", "{a=", 1 << 20, "")?;
-    assert_eq!(rt; outcome(alloc, tables.as_str())?.as_str(), "not toml");
-    Ok(())
+    let brackets = ("events = ", "[", "");
+    repeated_comes_to(&rt, alloc, brackets, 1 << 20, "not toml")?;
+    let tables = ("system = ", "{a=", "");
+    repeated_comes_to(&rt, alloc, tables, 1 << 20, "not toml")
 }
 
 #[test]
-fn long_words_end_with_a_fault(rt: HostRuntime) -> Result<(), Fail> {
+fn long_words_end_with_a_fault(rt: HostRuntime) -> Result<(), AllocError> {
     let alloc = rt.alloc();
-    let key = repeated(alloc, "", "k", 1 << 16, " = 1")?;
-    assert_eq!(rt; outcome(alloc, key.as_str())?.as_str(), "extra key");
+    repeated_comes_to(&rt, alloc, ("", "k", " = 1"), 1 << 16, "extra key")?;
     let end = format!(in alloc; "\"]{}", SYSTEMS.behind)?;
-    let entry = repeated(alloc, "events = [\"tick 1 ", "1", 1 << 16, end.as_str())?;
-    assert_eq!(rt; outcome(alloc, entry.as_str())?.as_str(), "event 1: number");
-    let zeros = repeated(alloc, "events = [\"tick 1 ", "0", 1 << 16, end.as_str())?;
-    assert_eq!(rt; outcome(alloc, zeros.as_str())?.as_str(), "event 1: number");
-    let spaces = repeated(alloc, "events = [\"tick", " ", 1 << 16, end.as_str())?;
-    assert_eq!(rt; outcome(alloc, spaces.as_str())?.as_str(), "event 1: count");
-    Ok(())
+    let entry = ("events = [\"tick 1 ", "1", end.as_str());
+    repeated_comes_to(&rt, alloc, entry, 1 << 16, "event 1: number")?;
+    let zeros = ("events = [\"tick 1 ", "0", end.as_str());
+    repeated_comes_to(&rt, alloc, zeros, 1 << 16, "event 1: number")?;
+    let spaces = ("events = [\"tick", " ", end.as_str());
+    repeated_comes_to(&rt, alloc, spaces, 1 << 16, "event 1: count")
 }
 
 #[test]
-fn hostile_texts_end_with_a_fault(rt: HostRuntime) -> Result<(), Fail> {
+fn hostile_texts_end_with_a_fault(rt: HostRuntime) -> Result<(), AllocError> {
     let alloc = rt.alloc();
-    let headers = repeated(alloc, "", "[[system]]\n", 1000, "")?;
-    assert_eq!(rt; outcome(alloc, headers.as_str())?.as_str(), "system");
+    repeated_comes_to(&rt, alloc, ("", "[[system]]\n", ""), 1000, "system")?;
     let marked = format!(in alloc; "\u{feff}{TWO_CABLES}")?;
-    assert_eq!(rt; outcome(alloc, marked.as_str())?.as_str(), "read");
+    comes_to(&rt, alloc, marked.as_str(), "read")?;
     let marked_twice = format!(in alloc; "\u{feff}\u{feff}{TWO_CABLES}")?;
-    assert_eq!(rt; outcome(alloc, marked_twice.as_str())?.as_str(), "not toml");
-    assert_eq!(rt; outcome(alloc, "a.b.c.d.e.f = 1")?.as_str(), "extra key");
-    assert_eq!(rt; outcome(alloc, "\0")?.as_str(), "not toml");
-    Ok(())
+    comes_to(&rt, alloc, marked_twice.as_str(), "not toml")?;
+    comes_to(&rt, alloc, "a.b.c.d.e.f = 1", "extra key")?;
+    comes_to(&rt, alloc, "\0", "not toml")
 }

@@ -1,11 +1,13 @@
+use crate::comparing::{same, same_in_row};
 use crate::systems::{Row, config, end, lacpdu, mac, modulo, no_partner, plays};
 use bitflags::Flags;
 use lagsystem::{
-    BadConfig, Choice, Key, PortChange, PortConfig, Received, State, System, SystemFault,
+    BadConfig, Choice, Config, Key, NoMemory, PortChange, PortConfig, Received, State, System,
+    SystemFault,
 };
 use slowpdu::{Lacpdu, frame};
 use std::alloc::{AllocError, Global};
-use std::test::Fail;
+use std::process::Abort;
 
 /// Writes the numbers from 1 on.
 fn number_all(numbers: &mut [u16]) {
@@ -22,17 +24,36 @@ pub(crate) fn most_numbers() -> [u16; 64] {
 }
 
 #[test]
-fn the_most_ports_and_aggregators(rt: HostRuntime) -> Result<(), Fail> {
+fn the_most_ports_and_aggregators(rt: HostRuntime) -> Result<(), SystemFault> {
     let most = most_numbers();
     let given = config(rt.alloc(), &most, 64)?;
     let rows = [Row::Chosen(64, Choice::Unselected), Row::Has(&most, 64)];
     assert_eq!(rt; given.refusal(), None);
-    plays(&rt, rt.alloc(), given, &rows)?;
+    plays(&rt, rt.alloc(), given, &rows)
+}
+
+/// A configuration is refused for this reason, by `refusal` and by `new`.
+fn is_refused(rt: &impl Abort, alloc: Global, given: Config, reason: BadConfig) {
+    same(rt, "refusal", &given.refusal(), &Some(reason));
+    let refused = plays(rt, alloc, given, &[]).err();
+    same(rt, "new", &refused, &Some(SystemFault::BadConfig(reason)));
+}
+
+/// Ports with these numbers and this many aggregators are refused for this reason.
+fn refuses(
+    rt: &impl Abort,
+    alloc: Global,
+    numbers: &[u16],
+    keys: usize,
+    reason: BadConfig,
+) -> Result<(), SystemFault> {
+    let given = config(alloc, numbers, keys)?;
+    is_refused(rt, alloc, given, reason);
     Ok(())
 }
 
 #[test]
-fn configurations_are_refused_in_order(rt: HostRuntime) -> Result<(), Fail> {
+fn configurations_are_refused_in_order(rt: HostRuntime) -> Result<(), SystemFault> {
     let mut many = [0; 65];
     number_all(&mut many);
     let rows: [(&[u16], usize, BadConfig); 8] = [
@@ -45,60 +66,59 @@ fn configurations_are_refused_in_order(rt: HostRuntime) -> Result<(), Fail> {
         (&[1, 3, 2], 64, BadConfig::PortNumber(3)),
         (&[65535, 1], 1, BadConfig::PortNumber(2)),
     ];
-    for (numbers, keys, reason) in rows {
-        let given = config(rt.alloc(), numbers, keys)?;
-        assert_eq!(rt; given.refusal(), Some(reason));
-        let refused = plays(&rt, rt.alloc(), given, &[]).err();
-        assert_eq!(rt; refused, Some(SystemFault::BadConfig(reason)));
+    for (numbers, keys, reason) in &rows {
+        refuses(&rt, rt.alloc(), *numbers, *keys, *reason)?;
+    }
+    Ok(())
+}
+
+/// Ports with these numbers and two aggregators, with this limit of links and this many conversations.
+fn counted(
+    alloc: Global,
+    numbers: &[u16],
+    limit: Option<u16>,
+    conversations: u16,
+) -> Result<Config, NoMemory> {
+    let mut given = config(alloc, numbers, 2)?;
+    given.max_links = limit;
+    given.conversations = conversations;
+    Ok(given)
+}
+
+#[test]
+fn other_counts_of_conversations_are_refused_last(rt: HostRuntime) -> Result<(), SystemFault> {
+    for conversations in &[0, 1, 255, 257, 4095, 4097, 65535] {
+        let given = counted(rt.alloc(), &[1, 2], None, *conversations)?;
+        is_refused(&rt, rt.alloc(), given, BadConfig::Conversations);
     }
     Ok(())
 }
 
 #[test]
-fn other_counts_of_conversations_are_refused_last(rt: HostRuntime) -> Result<(), Fail> {
-    for conversations in [0, 1, 255, 257, 4095, 4097, 65535] {
-        let mut given = config(rt.alloc(), &[1, 2], 2)?;
-        given.conversations = conversations;
-        assert_eq!(rt; given.refusal(), Some(BadConfig::Conversations));
-        let refused = plays(&rt, rt.alloc(), given, &[]).err();
-        let reason = SystemFault::BadConfig(BadConfig::Conversations);
-        assert_eq!(rt; refused, Some(reason));
+fn other_limits_of_links_are_refused(rt: HostRuntime) -> Result<(), SystemFault> {
+    for limit in &[0, 65, 65535] {
+        let given = counted(rt.alloc(), &[1, 2], Some(*limit), 256)?;
+        is_refused(&rt, rt.alloc(), given, BadConfig::MaxLinks);
     }
-    Ok(())
-}
-
-#[test]
-fn other_limits_of_links_are_refused(rt: HostRuntime) -> Result<(), Fail> {
-    for limit in [0, 65, 65535] {
-        let mut given = config(rt.alloc(), &[1, 2], 2)?;
-        given.max_links = Some(limit);
-        assert_eq!(rt; given.refusal(), Some(BadConfig::MaxLinks), "{limit}");
-        let refused = plays(&rt, rt.alloc(), given, &[]).err();
-        let reason = SystemFault::BadConfig(BadConfig::MaxLinks);
-        assert_eq!(rt; refused, Some(reason), "{limit}");
-    }
-    for limit in [1, 64] {
-        let mut given = config(rt.alloc(), &[1, 2], 2)?;
-        given.max_links = Some(limit);
-        assert_eq!(rt; given.refusal(), None, "{limit}");
+    for limit in &[1, 64] {
+        let given = counted(rt.alloc(), &[1, 2], Some(*limit), 256)?;
+        same(&rt, "refusal", &given.refusal(), &None);
     }
     Ok(())
 }
 
 /// A configuration in which the limit and the count are refused too is refused for the first reason.
 #[test]
-fn limits_and_counts_are_refused_last(rt: HostRuntime) -> Result<(), Fail> {
+fn limits_and_counts_are_refused_last(rt: HostRuntime) -> Result<(), SystemFault> {
     let rows: [(&[u16], u16, u16, Option<BadConfig>); 4] = [
         (&[1, 1], 0, 0, Some(BadConfig::PortNumber(2))),
         (&[1, 2], 65, 257, Some(BadConfig::MaxLinks)),
         (&[1, 2], 3, 257, Some(BadConfig::Conversations)),
         (&[1, 2], 3, 4096, None),
     ];
-    for (numbers, limit, conversations, reason) in rows {
-        let mut given = config(rt.alloc(), numbers, 2)?;
-        given.max_links = Some(limit);
-        given.conversations = conversations;
-        assert_eq!(rt; given.refusal(), reason, "limit {limit}");
+    for (place, (numbers, limit, conversations, reason)) in rows.iter().enumerate() {
+        let given = counted(rt.alloc(), *numbers, Some(*limit), *conversations)?;
+        same_in_row(&rt, place, &given.refusal(), reason);
     }
     Ok(())
 }
@@ -124,66 +144,88 @@ const REASONS: [(BadConfig, &str); 5] = [
     ),
 ];
 
-/// Whether a reason, and the fault that it is the reason of, print this text.
-fn prints(alloc: Global, reason: BadConfig, text: &str) -> Result<bool, AllocError> {
+/// A reason has this number; and it, and the fault that it is the reason of, print this text.
+fn tells_reason(
+    rt: &impl Abort,
+    alloc: Global,
+    reason: BadConfig,
+    number: u8,
+    text: &str,
+) -> Result<(), AllocError> {
+    same(rt, text, &reason.number(), &number);
     let alone = format!(in alloc; "{reason}")?;
-    let fault = format!(in alloc; "{}", SystemFault::BadConfig(reason))?;
-    Ok(alone.as_str() == text && fault.as_str() == text)
+    same(rt, "the reason", &alone.as_str(), &text);
+    prints(rt, alloc, SystemFault::BadConfig(reason), text)
 }
 
-#[test]
-fn reasons_have_numbers_and_texts(rt: HostRuntime) -> Result<(), Fail> {
-    for (number, (reason, text)) in (1..).zip(REASONS) {
-        assert_eq!(rt; reason.number(), number);
-        assert!(rt; prints(rt.alloc(), reason, text)?, "{text}");
-    }
+fn prints(
+    rt: &impl Abort,
+    alloc: Global,
+    fault: SystemFault,
+    text: &str,
+) -> Result<(), AllocError> {
+    let printed = format!(in alloc; "{fault}")?;
+    same(rt, "the fault", &printed.as_str(), &text);
     Ok(())
 }
 
 #[test]
-fn refusals_have_numbers_and_texts(rt: HostRuntime) -> Result<(), Fail> {
-    let faults = [
-        (SystemFault::NoPort, "the system has no port of this number"),
-        (
-            SystemFault::NoAggregator,
-            "the system has no such aggregator",
-        ),
-        (
-            SystemFault::FrameLength,
-            "an offered frame has not 14 to 1518 octets",
-        ),
-        (
-            SystemFault::SlowFrame,
-            "an offered frame is one of the slow protocols",
-        ),
-        (SystemFault::Held, "the conversation is Wanted or Flushing"),
-        (
-            SystemFault::NoneDistributing,
-            "the conversation is free, and no port distributes in the aggregator",
-        ),
-        (
-            SystemFault::NotDistributing,
-            "the port to move to does not distribute in the aggregator",
-        ),
-        (
-            SystemFault::SamePort,
-            "the port to move to is the one that the conversation is on",
-        ),
-        (
-            SystemFault::NotAssigned,
-            "the conversation is free, or there is no such conversation",
-        ),
-        (SystemFault::MarkersSpent, "no marker identifier is left"),
-        (
-            SystemFault::BadConfig(BadConfig::Ports),
-            "the configuration has not 1 to 64 ports",
-        ),
-        (SystemFault::NoMemory, "out of memory"),
-    ];
-    for (number, (fault, text)) in (1..).zip(faults) {
-        assert_eq!(rt; fault.number(), number);
-        let printed = format!(in rt.alloc(); "{fault}")?;
-        assert_eq!(rt; printed.as_str(), text);
+fn reasons_have_numbers_and_texts(rt: HostRuntime) -> Result<(), AllocError> {
+    let mut number = 0u8;
+    for (reason, text) in &REASONS {
+        number = number.saturating_add(1);
+        tells_reason(&rt, rt.alloc(), *reason, number, *text)?;
+    }
+    Ok(())
+}
+
+/// The faults of a system, in the order of their numbers, from 1 on.
+const FAULTS: [(SystemFault, &str); 12] = [
+    (SystemFault::NoPort, "the system has no port of this number"),
+    (
+        SystemFault::NoAggregator,
+        "the system has no such aggregator",
+    ),
+    (
+        SystemFault::FrameLength,
+        "an offered frame has not 14 to 1518 octets",
+    ),
+    (
+        SystemFault::SlowFrame,
+        "an offered frame is one of the slow protocols",
+    ),
+    (SystemFault::Held, "the conversation is Wanted or Flushing"),
+    (
+        SystemFault::NoneDistributing,
+        "the conversation is free, and no port distributes in the aggregator",
+    ),
+    (
+        SystemFault::NotDistributing,
+        "the port to move to does not distribute in the aggregator",
+    ),
+    (
+        SystemFault::SamePort,
+        "the port to move to is the one that the conversation is on",
+    ),
+    (
+        SystemFault::NotAssigned,
+        "the conversation is free, or there is no such conversation",
+    ),
+    (SystemFault::MarkersSpent, "no marker identifier is left"),
+    (
+        SystemFault::BadConfig(BadConfig::Ports),
+        "the configuration has not 1 to 64 ports",
+    ),
+    (SystemFault::NoMemory, "out of memory"),
+];
+
+#[test]
+fn refusals_have_numbers_and_texts(rt: HostRuntime) -> Result<(), AllocError> {
+    let mut number = 0u8;
+    for (fault, text) in &FAULTS {
+        number = number.saturating_add(1);
+        same(&rt, *text, &fault.number(), &number);
+        prints(&rt, rt.alloc(), *fault, *text)?;
     }
     Ok(())
 }
@@ -191,7 +233,7 @@ fn refusals_have_numbers_and_texts(rt: HostRuntime) -> Result<(), Fail> {
 /// A passive, Individual port with Long Timeout, another priority and another address, in a system with a
 /// CollectorMaxDelay.
 #[test]
-fn a_port_is_as_it_is_configured(rt: HostRuntime) -> Result<(), Fail> {
+fn a_port_is_as_it_is_configured(rt: HostRuntime) -> Result<(), SystemFault> {
     let mut given = config(rt.alloc(), &[1], 1)?;
     given.max_delay = 7;
     let port = PortConfig {
@@ -208,24 +250,34 @@ fn a_port_is_as_it_is_configured(rt: HostRuntime) -> Result<(), Fail> {
     let mut own = end(1, 1, 1, 0x00);
     own.port.priority = 9;
     let mut system = System::new(rt.alloc(), given, modulo)?;
-    assert_eq!(rt; system.party(1), Some(own.party()));
-    assert_eq!(rt; system.set_link(1, true), Ok(()));
+    same(&rt, "party", &system.party(1), &Some(own.party()));
+    same(&rt, "set_link", &system.set_link(1, true), &Ok(()));
     let heard = frame(mac(9), &lacpdu(theirs, no_partner(0)));
-    assert_eq!(rt; system.receive(1, &heard), Ok(Received::TookLacpdu));
+    same(
+        &rt,
+        "receive",
+        &system.receive(1, &heard),
+        &Ok(Received::TookLacpdu),
+    );
     let due = Lacpdu {
         actor: own,
         partner: theirs,
         max_delay: 7,
     };
-    assert_eq!(rt; system.transmit(1), Ok(Some(frame(mac(1), &due.encode()))));
+    same(
+        &rt,
+        "transmit",
+        &system.transmit(1),
+        &Ok(Some(frame(mac(1), &due.encode()))),
+    );
     let change = PortChange {
         key: Key(1),
         priority: 10,
         aggregatable: true,
     };
-    assert_eq!(rt; system.configure(1, change), Ok(true));
+    same(&rt, "configure", &system.configure(1, change), &Ok(true));
     own.port.priority = 10;
     own.state = State::from_bits_retain(0x04);
-    assert_eq!(rt; system.party(1), Some(own.party()));
+    same(&rt, "party", &system.party(1), &Some(own.party()));
     Ok(())
 }

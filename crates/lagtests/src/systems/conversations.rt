@@ -1,7 +1,6 @@
-use crate::systems::{DATA, Row, config, end, joined, marker, plays};
+use crate::systems::{DATA, Row, config, end, joined, marker, plays, plays_lists, plays_with};
 use lagsystem::{Assignment, Received, SystemFault};
 use slowpdu::{Marker, MarkerKind};
-use std::test::Fail;
 
 /// A data frame of conversation 49.
 const NEXT: [u8; 14] = [2, 0, 0, 0, 0, 0x21, 2, 0, 0, 0, 0, 0x10, 8, 0];
@@ -67,11 +66,8 @@ pub(crate) fn leaving() -> [Row<'static>; 14] {
 }
 
 #[test]
-fn a_conversation_leaves_a_port_behind_its_marker(rt: HostRuntime) -> Result<(), Fail> {
-    let given = config(rt.alloc(), &[1, 2], 2)?;
-    let rows = joined(rt.alloc(), &[&coming_up(), &leaving()])?;
-    plays(&rt, rt.alloc(), given, &rows)?;
-    Ok(())
+fn a_conversation_leaves_a_port_behind_its_marker(rt: HostRuntime) -> Result<(), SystemFault> {
+    plays_with(&rt, rt.alloc(), &[1, 2], 2, &[&coming_up(), &leaving()])
 }
 
 /// A frame of the slow protocols.
@@ -86,7 +82,7 @@ fn long_and_slow() -> [u8; 1519] {
 }
 
 #[test]
-fn offers_are_refused_in_order(rt: HostRuntime) -> Result<(), Fail> {
+fn offers_are_refused_in_order(rt: HostRuntime) -> Result<(), SystemFault> {
     let long = long_and_slow();
     let rows = [
         Row::Offers(0, &[0; 13], Err(SystemFault::NoAggregator)),
@@ -98,13 +94,11 @@ fn offers_are_refused_in_order(rt: HostRuntime) -> Result<(), Fail> {
         Row::Offers(1, &DATA, Err(SystemFault::NoneDistributing)),
         Row::Offers(2, &[0; 1518], Err(SystemFault::NoneDistributing)),
     ];
-    let given = config(rt.alloc(), &[1, 2], 2)?;
-    plays(&rt, rt.alloc(), given, &rows)?;
-    Ok(())
+    plays_with(&rt, rt.alloc(), &[1, 2], 2, &[&rows])
 }
 
 #[test]
-fn moves_are_refused_in_order(rt: HostRuntime) -> Result<(), Fail> {
+fn moves_are_refused_in_order(rt: HostRuntime) -> Result<(), SystemFault> {
     // the link of port 3 stays down
     let rows = [
         Row::Offers(1, &DATA, Ok(1)),
@@ -132,14 +126,11 @@ fn moves_are_refused_in_order(rt: HostRuntime) -> Result<(), Fail> {
         Row::Silent(1),
         Row::Offers(1, &DATA, Ok(2)),
     ];
-    let given = config(rt.alloc(), &[1, 2, 3], 2)?;
-    let rows = joined(rt.alloc(), &[&coming_up(), &rows])?;
-    plays(&rt, rt.alloc(), given, &rows)?;
-    Ok(())
+    plays_with(&rt, rt.alloc(), &[1, 2, 3], 2, &[&coming_up(), &rows])
 }
 
 #[test]
-fn responses_that_are_not_for_the_port(rt: HostRuntime) -> Result<(), Fail> {
+fn responses_that_are_not_for_the_port(rt: HostRuntime) -> Result<(), SystemFault> {
     let rows = [
         Row::Offers(1, &DATA, Ok(1)),
         Row::Moves(1, 48, 2, Ok(())),
@@ -155,14 +146,11 @@ fn responses_that_are_not_for_the_port(rt: HostRuntime) -> Result<(), Fail> {
         Row::Releases(1, response(1, 1), 0),
         Row::Offers(1, &DATA, Ok(2)),
     ];
-    let given = config(rt.alloc(), &[1, 2], 2)?;
-    let rows = joined(rt.alloc(), &[&coming_up(), &rows])?;
-    plays(&rt, rt.alloc(), given, &rows)?;
-    Ok(())
+    plays_with(&rt, rt.alloc(), &[1, 2], 2, &[&coming_up(), &rows])
 }
 
 #[test]
-fn a_link_that_goes_down_frees_its_conversations(rt: HostRuntime) -> Result<(), Fail> {
+fn a_link_that_goes_down_frees_its_conversations(rt: HostRuntime) -> Result<(), SystemFault> {
     let rows = [
         Row::Offers(1, &DATA, Ok(1)),
         Row::Moves(1, 48, 2, Ok(())),
@@ -171,14 +159,11 @@ fn a_link_that_goes_down_frees_its_conversations(rt: HostRuntime) -> Result<(), 
         Row::Hears(1, &DATA, Received::Disabled),
         Row::Offers(1, &DATA, Ok(2)),
     ];
-    let given = config(rt.alloc(), &[1, 2], 2)?;
-    let rows = joined(rt.alloc(), &[&coming_up(), &rows])?;
-    plays(&rt, rt.alloc(), given, &rows)?;
-    Ok(())
+    plays_with(&rt, rt.alloc(), &[1, 2], 2, &[&coming_up(), &rows])
 }
 
 #[test]
-fn identifiers_end_and_a_restart_begins_anew(rt: HostRuntime) -> Result<(), Fail> {
+fn identifiers_end_and_a_restart_begins_anew(rt: HostRuntime) -> Result<(), SystemFault> {
     let mut given = config(rt.alloc(), &[1, 2], 2)?;
     given.first_marker = 4294967295;
     let up = coming_up();
@@ -202,13 +187,11 @@ fn identifiers_end_and_a_restart_begins_anew(rt: HostRuntime) -> Result<(), Fail
         Row::Forces(1, 48, Err(SystemFault::NotAssigned)),
         Row::Forces(1, 50, Err(SystemFault::NotAssigned)),
     ];
-    let rows = joined(rt.alloc(), &[&up, &rows, &up, &rows])?;
-    plays(&rt, rt.alloc(), given, &rows)?;
-    Ok(())
+    plays_lists(&rt, rt.alloc(), given, &[&up, &rows, &up, &rows])
 }
 
 #[test]
-fn a_marker_without_a_response_is_sent_again(rt: HostRuntime) -> Result<(), Fail> {
+fn a_marker_without_a_response_is_sent_again(rt: HostRuntime) -> Result<(), SystemFault> {
     let rows = [
         Row::Offers(1, &DATA, Ok(1)),
         Row::Moves(1, 48, 2, Ok(())),
@@ -226,10 +209,7 @@ fn a_marker_without_a_response_is_sent_again(rt: HostRuntime) -> Result<(), Fail
         Row::Offers(1, &DATA, Ok(2)),
         Row::Distributing(1, &[1, 2]),
     ];
-    let given = config(rt.alloc(), &[1, 2], 2)?;
-    let rows = joined(rt.alloc(), &[&coming_up(), &rows])?;
-    plays(&rt, rt.alloc(), given, &rows)?;
-    Ok(())
+    plays_with(&rt, rt.alloc(), &[1, 2], 2, &[&coming_up(), &rows])
 }
 
 /// Conversation 48 of aggregator 1 is in this state.
@@ -248,7 +228,7 @@ fn flushing(age: u8) -> Row<'static> {
 }
 
 #[test]
-fn what_a_host_sees(rt: HostRuntime) -> Result<(), Fail> {
+fn what_a_host_sees(rt: HostRuntime) -> Result<(), SystemFault> {
     let preferred = Some(2);
     let rows = [
         Row::Has(&[1, 2], 2),
@@ -273,14 +253,11 @@ fn what_a_host_sees(rt: HostRuntime) -> Result<(), Fail> {
         Row::Releases(1, response(1, 1), 1),
         conversing(Assignment::Free { preferred }),
     ];
-    let given = config(rt.alloc(), &[1, 2], 2)?;
-    let rows = joined(rt.alloc(), &[&coming_up(), &rows])?;
-    plays(&rt, rt.alloc(), given, &rows)?;
-    Ok(())
+    plays_with(&rt, rt.alloc(), &[1, 2], 2, &[&coming_up(), &rows])
 }
 
 #[test]
-fn the_last_conversation_moves_and_is_forced(rt: HostRuntime) -> Result<(), Fail> {
+fn the_last_conversation_moves_and_is_forced(rt: HostRuntime) -> Result<(), SystemFault> {
     let mut given = config(rt.alloc(), &[1, 2], 2)?;
     given.first_marker = 7;
     let rows = [
@@ -298,13 +275,13 @@ fn the_last_conversation_moves_and_is_forced(rt: HostRuntime) -> Result<(), Fail
         Row::Conversing(1, 255, Some(Assignment::Free { preferred: None })),
         Row::Offers(1, &LAST, Ok(2)),
     ];
-    let rows = joined(rt.alloc(), &[&coming_up(), &rows])?;
-    plays(&rt, rt.alloc(), given, &rows)?;
-    Ok(())
+    plays_lists(&rt, rt.alloc(), given, &[&coming_up(), &rows])
 }
 
 #[test]
-fn four_more_bits_count_if_there_are_4096_conversations(rt: HostRuntime) -> Result<(), Fail> {
+fn four_more_bits_count_if_there_are_4096_conversations(
+    rt: HostRuntime,
+) -> Result<(), SystemFault> {
     let mut given = config(rt.alloc(), &[1, 2], 2)?;
     given.conversations = 4096;
     let rows = [
@@ -331,6 +308,5 @@ fn four_more_bits_count_if_there_are_4096_conversations(rt: HostRuntime) -> Resu
         rt.alloc(),
         given,
         &[Row::Conversation(&WIDE, Some(48))],
-    )?;
-    Ok(())
+    )
 }

@@ -1,30 +1,56 @@
+ghost use Rattle.distributor.specs.Calls.{PicksIndexes};
+
+use crate::comparing::same;
 use crate::systems::conversations::{coming_up, leaving};
-use crate::systems::plan::plan_of_all;
+use crate::systems::plan::{Plan, plan_of_all};
 use crate::systems::{DATA, PortFacts, Row, config, end, joined, look, marker, modulo};
 use lagsystem::{AggId, Received, System, SystemFault};
 use slowpdu::MarkerKind;
 use std::alloc::Global;
-use std::test::Fail;
+use std::process::Abort;
 
 fn looks<F: Fn(u16, usize) -> usize + Drop>(system: &System<F>) -> [PortFacts; 2] {
     [look(system, 1), look(system, 2)]
 }
 
-/// Drives a system with the calls of all rows at once; returns whether the replies are the expected ones. If memory for
-/// the replies is refused, the system must not have changed.
-pub(crate) fn drives(alloc: Global, rows: &[Row<'_>]) -> Result<bool, SystemFault> {
-    let mut driven = System::new(alloc, config(alloc, &[1, 2], 2)?, modulo)?;
-    let plan = plan_of_all(alloc, rows)?;
-    let before = looks(&driven);
+/// Makes the calls of a plan at once; returns whether the replies are the expected ones. If memory for the replies is
+/// refused, the system must not have changed.
+fn follows<F: Fn(u16, usize) -> usize + Drop>(
+    alloc: Global,
+    driven: &mut System<F>,
+    plan: &Plan,
+) -> Result<bool, SystemFault>
+    requires { PicksIndexes (F.pre driven.old.algorithm) (F.post driven.old.algorithm) }
+{
+    let before = looks(driven);
     match driven.drive(alloc, &plan.calls) {
         Ok(replies) => Ok(replies.as_slice() == plan.replies.as_slice()),
-        Err(_) if looks(&driven) != before => Ok(false),
+        Err(_) if looks(driven) != before => Ok(false),
         Err(refused) => Err(SystemFault::from(refused)),
     }
 }
 
+/// The same, with the calls of all rows on a new system.
+pub(crate) fn drives(alloc: Global, rows: &[Row<'_>]) -> Result<bool, SystemFault> {
+    let mut driven = System::new(alloc, config(alloc, &[1, 2], 2)?, modulo)?;
+    let plan = plan_of_all(alloc, rows)?;
+    follows(alloc, &mut driven, &plan)
+}
+
+/// Drives a new system with the calls of lists of rows, which must give the expected replies.
+fn is_driven(rt: &impl Abort, alloc: Global, lists: &[&[Row<'_>]]) -> Result<(), SystemFault> {
+    let rows = joined(alloc, lists)?;
+    same(
+        rt,
+        "the replies are the expected ones",
+        &drives(alloc, &rows)?,
+        &true,
+    );
+    Ok(())
+}
+
 #[test]
-fn every_kind_of_call(rt: HostRuntime) -> Result<(), Fail> {
+fn every_kind_of_call(rt: HostRuntime) -> Result<(), SystemFault> {
     let theirs = end(2, 1, 1, 0x0d);
     let rows = [
         Row::Link(1, true),
@@ -45,26 +71,21 @@ fn every_kind_of_call(rt: HostRuntime) -> Result<(), Fail> {
         Row::Restart,
         Row::Silent(1),
     ];
-    assert_eq!(rt; drives(rt.alloc(), &rows)?, true);
-    Ok(())
+    is_driven(&rt, rt.alloc(), &[&rows])
 }
 
 #[test]
-fn a_conversation_leaves_a_port(rt: HostRuntime) -> Result<(), Fail> {
-    let rows = joined(rt.alloc(), &[&coming_up(), &leaving()])?;
-    assert_eq!(rt; drives(rt.alloc(), &rows)?, true);
-    Ok(())
+fn a_conversation_leaves_a_port(rt: HostRuntime) -> Result<(), SystemFault> {
+    is_driven(&rt, rt.alloc(), &[&coming_up(), &leaving()])
 }
 
 #[test]
-fn no_call_has_no_reply(rt: HostRuntime) -> Result<(), Fail> {
-    assert_eq!(rt; drives(rt.alloc(), &[])?, true);
-    Ok(())
+fn no_call_has_no_reply(rt: HostRuntime) -> Result<(), SystemFault> {
+    is_driven(&rt, rt.alloc(), &[])
 }
 
 #[test]
-fn a_thousand_calls(rt: HostRuntime) -> Result<(), Fail> {
+fn a_thousand_calls(rt: HostRuntime) -> Result<(), SystemFault> {
     let rows = [Row::Link(1, true), Row::Ticks(1000), Row::Silent(2)];
-    assert_eq!(rt; drives(rt.alloc(), &rows)?, true);
-    Ok(())
+    is_driven(&rt, rt.alloc(), &[&rows])
 }

@@ -1,7 +1,6 @@
 use crate::systems::{DATA, Row, config, end, joined, plays};
 use lagsystem::{Assignment, Config, NoMemory, SystemFault};
 use std::alloc::Global;
-use std::test::Fail;
 
 /// A data frame of conversation 0.
 const FIRST: [u8; 14] = [2, 0, 0, 0, 0, 0x10, 2, 0, 0, 0, 0, 0x10, 8, 0];
@@ -193,8 +192,7 @@ fn every_row(alloc: Global) -> Result<Vec<Row<'static>>, NoMemory> {
 }
 
 #[test]
-fn what_waits_on_a_port_is_forced(rt: HostRuntime) -> Result<(), Fail> {
+fn what_waits_on_a_port_is_forced(rt: HostRuntime) -> Result<(), SystemFault> {
     let given = three_ports(rt.alloc())?;
-    plays(&rt, rt.alloc(), given, &every_row(rt.alloc())?)?;
-    Ok(())
+    plays(&rt, rt.alloc(), given, &every_row(rt.alloc())?)
 }

@@ -1,13 +1,13 @@
 use crate::systems::{
-    DATA, NOTHING, PortFacts, Row, config, end, lacpdu, mac, no_partner, plays,
+    DATA, NOTHING, PortFacts, Row, config, end, lacpdu, mac, no_partner, plays, plays_with,
     port_without_partner,
 };
 use bitflags::Flags;
 use lagsystem::{
-    AggId, Choice, Group, MuxState, PortStatus, ReceiveState, Received, State, WireFault,
+    AggId, Choice, Group, MuxState, PortStatus, ReceiveState, Received, State, SystemFault,
+    WireFault,
 };
 use slowpdu::frame;
-use std::test::Fail;
 
 /// These octets, followed by zeros.
 fn padded(head: &[u8]) -> [u8; 124] {
@@ -35,7 +35,7 @@ pub(crate) fn response_frame() -> [u8; 124] {
 }
 
 #[test]
-fn three_answers_then_the_window_then_a_restart(rt: HostRuntime) -> Result<(), Fail> {
+fn three_answers_then_the_window_then_a_restart(rt: HostRuntime) -> Result<(), SystemFault> {
     let theirs = end(2, 1, 1, 0x07);
     let takes = Row::Takes(1, theirs, no_partner(0));
     let answers = Row::Sends(1, end(1, 1, 1, 0x07), theirs);
@@ -62,9 +62,7 @@ fn three_answers_then_the_window_then_a_restart(rt: HostRuntime) -> Result<(), F
         Row::Ticks(10),
         Row::Sends(1, end(1, 1, 1, 0xc7), no_partner(0x02)),
     ];
-    let given = config(rt.alloc(), &[1], 1)?;
-    plays(&rt, rt.alloc(), given, &rows)?;
-    Ok(())
+    plays_with(&rt, rt.alloc(), &[1], 1, &[&rows])
 }
 
 /// Two ports come up in aggregator 1; then the partner of port 1 has another key.
@@ -90,14 +88,12 @@ pub(crate) fn other_key() -> [Row<'static>; 16] {
 }
 
 #[test]
-fn another_key_of_the_partner(rt: HostRuntime) -> Result<(), Fail> {
-    let given = config(rt.alloc(), &[1, 2], 2)?;
-    plays(&rt, rt.alloc(), given, &other_key())?;
-    Ok(())
+fn another_key_of_the_partner(rt: HostRuntime) -> Result<(), SystemFault> {
+    plays_with(&rt, rt.alloc(), &[1, 2], 2, &[&other_key()])
 }
 
 #[test]
-fn an_lacpdu_of_the_own_system(rt: HostRuntime) -> Result<(), Fail> {
+fn an_lacpdu_of_the_own_system(rt: HostRuntime) -> Result<(), SystemFault> {
     let rows = [
         Row::Link(1, true),
         Row::Takes(1, end(1, 1, 1, 0x07), no_partner(0)),
@@ -113,13 +109,11 @@ fn an_lacpdu_of_the_own_system(rt: HostRuntime) -> Result<(), Fail> {
         Row::Ticks(1),
         Row::Distributing(1, &[1]),
     ];
-    let given = config(rt.alloc(), &[1], 1)?;
-    plays(&rt, rt.alloc(), given, &rows)?;
-    Ok(())
+    plays_with(&rt, rt.alloc(), &[1], 1, &[&rows])
 }
 
 #[test]
-fn frames_that_change_nothing(rt: HostRuntime) -> Result<(), Fail> {
+fn frames_that_change_nothing(rt: HostRuntime) -> Result<(), SystemFault> {
     let mut other = lacpdu(end(1, 1, 1, 0xc7), no_partner(0x02));
     other[0] = 3;
     let other = frame(mac(1), &other);
@@ -132,13 +126,11 @@ fn frames_that_change_nothing(rt: HostRuntime) -> Result<(), Fail> {
         Row::Keeps(2, &marker, Received::Respond(response)),
         Row::Keeps(2, &response, Received::Released(0)),
     ];
-    let given = config(rt.alloc(), &[2], 1)?;
-    plays(&rt, rt.alloc(), given, &rows)?;
-    Ok(())
+    plays_with(&rt, rt.alloc(), &[2], 1, &[&rows])
 }
 
 #[test]
-fn a_port_is_given_another_key(rt: HostRuntime) -> Result<(), Fail> {
+fn a_port_is_given_another_key(rt: HostRuntime) -> Result<(), SystemFault> {
     let theirs = end(2, 1, 1, 0x07);
     let party = end(1, 1, 1, 0x04).party();
     let chosen = PortFacts {
@@ -181,13 +173,11 @@ fn a_port_is_given_another_key(rt: HostRuntime) -> Result<(), Fail> {
         Row::Shows(1, again),
         Row::Sends(1, end(1, 1, 2, 0xc7), no_partner(0x02)),
     ];
-    let given = config(rt.alloc(), &[1], 1)?;
-    plays(&rt, rt.alloc(), given, &rows)?;
-    Ok(())
+    plays_with(&rt, rt.alloc(), &[1], 1, &[&rows])
 }
 
 #[test]
-fn a_port_that_is_not_there(rt: HostRuntime) -> Result<(), Fail> {
+fn a_port_that_is_not_there(rt: HostRuntime) -> Result<(), SystemFault> {
     let rows = [
         Row::Unknown(0),
         Row::Unknown(2),
@@ -198,14 +188,12 @@ fn a_port_that_is_not_there(rt: HostRuntime) -> Result<(), Fail> {
         Row::Has(&[1, 3], 1),
         Row::Distributing(2, &[]),
     ];
-    let given = config(rt.alloc(), &[1, 3], 1)?;
-    plays(&rt, rt.alloc(), given, &rows)?;
-    Ok(())
+    plays_with(&rt, rt.alloc(), &[1, 3], 1, &[&rows])
 }
 
 /// A passive port without a partner: its periodic machine stays in NO_PERIODIC, in which NTT is clear.
 #[test]
-fn a_port_in_no_periodic_sends_nothing(rt: HostRuntime) -> Result<(), Fail> {
+fn a_port_in_no_periodic_sends_nothing(rt: HostRuntime) -> Result<(), SystemFault> {
     let mut given = config(rt.alloc(), &[1], 1)?;
     for port in given.ports.iter_mut() {
         port.active = false;
@@ -219,6 +207,5 @@ fn a_port_in_no_periodic_sends_nothing(rt: HostRuntime) -> Result<(), Fail> {
         Row::Due(1, false),
         Row::Quiet(1, 20),
     ];
-    plays(&rt, rt.alloc(), given, &rows)?;
-    Ok(())
+    plays(&rt, rt.alloc(), given, &rows)
 }

@@ -1,10 +1,10 @@
 ghost use Rattle.std.specs.Prelude.{◌<◌};
 
+use crate::comparing::{same, same_in_row};
 use crate::systems::{config, end, lacpdu, mac, marker, modulo, no_partner};
 use lagsystem::{AggId, Info, Key, Received, System, SystemFault, SystemId};
 use slowpdu::{MarkerKind, frame};
 use std::process::Abort;
-use std::test::Fail;
 
 /// How many frames come. tools/long-tests plays ten times as many, which takes too long beside other proofs.
 const FRAMES: u32 = 1_000;
@@ -231,13 +231,9 @@ fn one_partner<F: Fn(u16, usize) -> usize + Drop>(
     let mut named = None;
     for port in ports.as_slice() {
         let partner = partner_of(system, *port);
-        assert!(rt; partner.is_some(), "frame {place}: port {port}");
+        same_in_row(rt, place as usize, &partner.is_some(), &true);
         if named.is_some() {
-            assert_eq!(rt;
-                partner,
-                named,
-                "frame {place}: port {port} of aggregator {agg}"
-            );
+            same_in_row(rt, place as usize, &partner, &named);
         }
         named = partner;
     }
@@ -281,10 +277,7 @@ impl Clock {
     fn sends(&mut self, rt: &impl Abort, port: u16, place: u32) -> bool {
         let now = self.now;
         let mut sends = if port == 1 { self.first } else { self.second };
-        assert!(rt;
-            !sends.is_full(now),
-            "frame {place}: port {port} in tick {now}"
-        );
+        same_in_row(rt, place as usize, &sends.is_full(now), &false);
         sends.add(now);
         if port == 1 {
             self.first = sends;
@@ -304,10 +297,10 @@ fn is_lacpdu(answer: Result<Option<[u8; 124]>, SystemFault>) -> bool {
 }
 
 #[test]
-fn hostile_frames_keep_the_laws(rt: HostRuntime) -> Result<(), Fail> {
+fn hostile_frames_keep_the_laws(rt: HostRuntime) -> Result<(), SystemFault> {
     let mut system = System::new(rt.alloc(), config(rt.alloc(), &[1, 2], 2)?, modulo)?;
-    assert_eq!(rt; system.set_link(1, true), Ok(()));
-    assert_eq!(rt; system.set_link(2, true), Ok(()));
+    same(&rt, "link 1", &system.set_link(1, true), &Ok(()));
+    same(&rt, "link 2", &system.set_link(2, true), &Ok(()));
     let mut draw = Congruence { number: 1 };
     let mut peers = Peers {
         first: (2, 1),

@@ -1,10 +1,10 @@
+use crate::comparing::{same, same_in_row};
 use crate::systems::configurations::most_numbers;
 use crate::systems::{config, end, lacpdu, mac, modulo};
 use lagsystem::{AggId, Choice, Config, Info, NoMemory, PortId, Received, System, SystemFault};
 use slowpdu::frame;
 use std::alloc::Global;
 use std::process::Abort;
-use std::test::Fail;
 
 /// The priority of a port: the higher its number, the lower its port identifier.
 fn priority(port: u16) -> u16 {
@@ -31,9 +31,9 @@ fn comes_up<F: Fn(u16, usize) -> usize + Drop>(rt: &impl Abort, system: &mut Sys
         ..end(1, port, 1, 0x07)
     };
     let told = frame(mac(9), &lacpdu(end(2, port, 1, 0x0d), ours));
-    assert_eq!(rt; system.set_link(port, true), Ok(()), "port {port}");
+    same(rt, "set_link", &system.set_link(port, true), &Ok(()));
     let came = system.receive(port, &told);
-    assert_eq!(rt; came, Ok(Received::TookLacpdu), "port {port}");
+    same(rt, "receive", &came, &Ok(Received::TookLacpdu));
 }
 
 /// This port is the only member, the ports from 2 on below the other number are STANDBY, and the rest are UNSELECTED.
@@ -51,15 +51,11 @@ fn has_one_member<F: Fn(u16, usize) -> usize + Drop>(
         } else {
             Choice::Unselected
         };
-        assert_eq!(rt;
-            system.choice(port),
-            Some(wanted),
-            "port {port}, member {member}"
-        );
+        same_in_row(rt, usize::from(port), &system.choice(port), &Some(wanted));
     }
     let ports = system.distributing(AggId(1));
-    assert_eq!(rt; ports.len(), 1, "member {member}");
-    assert_eq!(rt; ports.first().copied(), Some(member), "member {member}");
+    let wanted: &[u16] = &[member];
+    same(rt, "distributing", &ports.as_slice(), &wanted);
 }
 
 /// The link of the member goes down, and this port is the next one.
@@ -69,7 +65,7 @@ fn goes_down<F: Fn(u16, usize) -> usize + Drop>(
     member: u16,
     next: u16,
 ) {
-    assert_eq!(rt; system.set_link(member, false), Ok(()), "port {member}");
+    same(rt, "set_link", &system.set_link(member, false), &Ok(()));
     has_one_member(rt, system, next, next);
 }
 
@@ -89,13 +85,12 @@ fn one_after_another(rt: &impl Abort, alloc: Global) -> Result<(), SystemFault> 
         goes_down(rt, &mut system, member, next);
         member = next;
     }
-    assert_eq!(rt; system.set_link(2, false), Ok(()));
-    assert_eq!(rt; system.distributing(AggId(1)).len(), 0);
+    same(rt, "set_link", &system.set_link(2, false), &Ok(()));
+    same(rt, "none", &system.distributing(AggId(1)).len(), &0);
     Ok(())
 }
 
 #[test]
-fn of_64_ports_one_at_a_time_is_a_link(rt: HostRuntime) -> Result<(), Fail> {
-    one_after_another(&rt, rt.alloc())?;
-    Ok(())
+fn of_64_ports_one_at_a_time_is_a_link(rt: HostRuntime) -> Result<(), SystemFault> {
+    one_after_another(&rt, rt.alloc())
 }

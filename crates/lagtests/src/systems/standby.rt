@@ -1,13 +1,14 @@
-use crate::systems::{DATA, PortFacts, Row, config, end, joined, mac, marker, no_partner, plays};
+use crate::systems::{
+    DATA, PortFacts, Row, config, end, joined, mac, marker, no_partner, plays, plays_lists,
+};
 use bitflags::Flags;
 use lagsystem::{
-    AggId, Choice, Config, Group, Info, Key, MuxState, NoMemory, PortId, PortStatus, ReceiveState,
+    AggId, Choice, Config, Group, Info, MuxState, NoMemory, PortId, PortStatus, ReceiveState,
     Received, State, SystemFault,
 };
 use slowpdu::{MarkerKind, frame};
 use std::alloc::Global;
 use std::process::Abort;
-use std::test::Fail;
 
 const SELECTED: Choice = Choice::Selected(AggId(1));
 
@@ -88,18 +89,16 @@ fn third_promoted() -> [Row<'static>; 4] {
     ]
 }
 
-/// Plays rows after port 1 of three has become the one link of the only aggregator.
+/// Plays lists of rows after port 1 of three has become the one link of the only aggregator.
 fn plays_after_one(
     rt: &impl Abort,
     alloc: Global,
-    rows: &[Row<'static>],
+    lists: &[&[Row<'static>]],
 ) -> Result<(), SystemFault> {
     let given = limited(alloc, &[1, 2, 3], 1, 1)?;
-    let mut all = Vec::new(alloc);
-    all.extend_from_slice(&three_up())?;
-    all.extend_from_slice(&one_of_three())?;
-    all.extend_from_slice(rows)?;
-    plays(rt, alloc, given, &all)
+    let mut rows = joined(alloc, &[&three_up(), &one_of_three()])?;
+    rows.append(&mut joined(alloc, lists)?)?;
+    plays(rt, alloc, given, &rows)
 }
 
 /// What the readers return for port 2 while it is STANDBY.
@@ -125,7 +124,7 @@ fn second_on_standby() -> PortFacts {
 }
 
 #[test]
-fn a_standby_port_carries_no_frames(rt: HostRuntime) -> Result<(), Fail> {
+fn a_standby_port_carries_no_frames(rt: HostRuntime) -> Result<(), SystemFault> {
     let rows = [
         Row::Shows(2, second_on_standby()),
         Row::Sends(1, ours(1, 0x3f), theirs(1)),
@@ -135,12 +134,11 @@ fn a_standby_port_carries_no_frames(rt: HostRuntime) -> Result<(), Fail> {
         Row::Hears(1, &DATA, Received::Up(AggId(1))),
         Row::Hears(2, &DATA, Received::Dropped),
     ];
-    plays_after_one(&rt, rt.alloc(), &rows)?;
-    Ok(())
+    plays_after_one(&rt, rt.alloc(), &[&rows])
 }
 
 #[test]
-fn a_standby_port_answers_markers(rt: HostRuntime) -> Result<(), Fail> {
+fn a_standby_port_answers_markers(rt: HostRuntime) -> Result<(), SystemFault> {
     let asked = frame(mac(9), &marker(MarkerKind::Information, 5, 7, 77).encode());
     let answer = frame(mac(2), &marker(MarkerKind::Response, 5, 7, 77).encode());
     let rows = [
@@ -152,13 +150,12 @@ fn a_standby_port_answers_markers(rt: HostRuntime) -> Result<(), Fail> {
         Row::Hears(2, &asked, Received::Respond(answer)),
     ];
     let given = limited(rt.alloc(), &[1, 2], 1, 1)?;
-    plays(&rt, rt.alloc(), given, &rows)?;
-    Ok(())
+    plays(&rt, rt.alloc(), given, &rows)
 }
 
 /// A member is not made STANDBY, though a port with a lower port identifier is. Port 1 comes back as the last.
 #[test]
-fn a_standby_port_follows_a_link_that_goes_down(rt: HostRuntime) -> Result<(), Fail> {
+fn a_standby_port_follows_a_link_that_goes_down(rt: HostRuntime) -> Result<(), SystemFault> {
     let down = [
         Row::Offers(1, &DATA, Ok(1)),
         Row::Link(1, false),
@@ -182,30 +179,28 @@ fn a_standby_port_follows_a_link_that_goes_down(rt: HostRuntime) -> Result<(), F
         Row::Distributing(1, &[1]),
     ];
     let third = third_promoted();
-    let rows = joined(rt.alloc(), &[&down, &third, &back, &third, &second, &first])?;
-    plays_after_one(&rt, rt.alloc(), &rows)?;
-    Ok(())
+    plays_after_one(
+        &rt,
+        rt.alloc(),
+        &[&down, &third, &back, &third, &second, &first],
+    )
 }
 
 #[test]
-fn a_standby_port_follows_a_member_that_leaves(rt: HostRuntime) -> Result<(), Fail> {
+fn a_standby_port_follows_a_member_that_leaves(rt: HostRuntime) -> Result<(), SystemFault> {
     let out = Row::Chosen(1, Choice::Unselected);
     let configured = [Row::Configures(1, 2, true), out];
-    let rows = joined(rt.alloc(), &[&configured, &third_promoted()])?;
-    plays_after_one(&rt, rt.alloc(), &rows)?;
+    plays_after_one(&rt, rt.alloc(), &[&configured, &third_promoted()])?;
     let other_key = [Row::Takes(1, end(2, 1, 2, 0x0d), ours(1, 0x3f)), out];
-    let rows = joined(rt.alloc(), &[&other_key, &third_promoted()])?;
-    plays_after_one(&rt, rt.alloc(), &rows)?;
+    plays_after_one(&rt, rt.alloc(), &[&other_key, &third_promoted()])?;
     let own_system = [Row::Takes(1, end(1, 9, 1, 0x0d), ours(1, 0x3f)), out];
-    let rows = joined(rt.alloc(), &[&own_system, &third_promoted()])?;
-    plays_after_one(&rt, rt.alloc(), &rows)?;
-    Ok(())
+    plays_after_one(&rt, rt.alloc(), &[&own_system, &third_promoted()])
 }
 
 /// The group of the port stays the same, but its partner has another port identifier: it leaves and chooses again, after
 /// the port that was STANDBY.
 #[test]
-fn standby_ports_come_before_ports_that_choose(rt: HostRuntime) -> Result<(), Fail> {
+fn standby_ports_come_before_ports_that_choose(rt: HostRuntime) -> Result<(), SystemFault> {
     let mut renamed = theirs(1);
     renamed.port.priority = 127;
     let rows = [
@@ -213,14 +208,12 @@ fn standby_ports_come_before_ports_that_choose(rt: HostRuntime) -> Result<(), Fa
         Row::Chosen(1, STANDBY),
         Row::Mux(1, MuxState::Waiting),
     ];
-    let rows = joined(rt.alloc(), &[&rows, &third_promoted()])?;
-    plays_after_one(&rt, rt.alloc(), &rows)?;
-    Ok(())
+    plays_after_one(&rt, rt.alloc(), &[&rows, &third_promoted()])
 }
 
 /// Port 1 hears nothing more; it is EXPIRED after 30 ticks, DEFAULTED after 60.
 #[test]
-fn a_standby_port_follows_a_member_that_hears_nothing(rt: HostRuntime) -> Result<(), Fail> {
+fn a_standby_port_follows_a_member_that_hears_nothing(rt: HostRuntime) -> Result<(), SystemFault> {
     let rows = [
         hears(2),
         hears(3),
@@ -241,14 +234,12 @@ fn a_standby_port_follows_a_member_that_hears_nothing(rt: HostRuntime) -> Result
         Row::Defaulted(1, true),
         Row::Chosen(1, Choice::Unselected),
     ];
-    let rows = joined(rt.alloc(), &[&rows, &third_promoted()])?;
-    plays_after_one(&rt, rt.alloc(), &rows)?;
-    Ok(())
+    plays_after_one(&rt, rt.alloc(), &[&rows, &third_promoted()])
 }
 
 /// A peer that restarts has forgotten the port, but says the same of itself: the port stays a member.
 #[test]
-fn a_member_stays_while_its_peer_restarts(rt: HostRuntime) -> Result<(), Fail> {
+fn a_member_stays_while_its_peer_restarts(rt: HostRuntime) -> Result<(), SystemFault> {
     let rows = [
         Row::Takes(1, end(2, 1, 1, 0x45), no_partner(0x08)),
         Row::Chosen(1, SELECTED),
@@ -258,13 +249,11 @@ fn a_member_stays_while_its_peer_restarts(rt: HostRuntime) -> Result<(), Fail> {
         Row::Distributing(1, &[]),
         hears(1),
     ];
-    let rows = joined(rt.alloc(), &[&rows, &one_of_three()])?;
-    plays_after_one(&rt, rt.alloc(), &rows)?;
-    Ok(())
+    plays_after_one(&rt, rt.alloc(), &[&rows, &one_of_three()])
 }
 
 #[test]
-fn a_restart_keeps_the_limit(rt: HostRuntime) -> Result<(), Fail> {
+fn a_restart_keeps_the_limit(rt: HostRuntime) -> Result<(), SystemFault> {
     let none = Choice::Unselected;
     let rows = [
         Row::Restart,
@@ -272,9 +261,7 @@ fn a_restart_keeps_the_limit(rt: HostRuntime) -> Result<(), Fail> {
         Row::Chosen(2, none),
         Row::Chosen(3, none),
     ];
-    let rows = joined(rt.alloc(), &[&rows, &three_up(), &one_of_three()])?;
-    plays_after_one(&rt, rt.alloc(), &rows)?;
-    Ok(())
+    plays_after_one(&rt, rt.alloc(), &[&rows, &three_up(), &one_of_three()])
 }
 
 /// Ports 1 to 4 come up, and an LACPDU of system 2 comes on each.
@@ -293,7 +280,7 @@ fn four_up() -> [Row<'static>; 8] {
 
 /// Two members leave in one tick, the 60th, and both STANDBY ports follow.
 #[test]
-fn two_standby_ports_follow_at_once(rt: HostRuntime) -> Result<(), Fail> {
+fn two_standby_ports_follow_at_once(rt: HostRuntime) -> Result<(), SystemFault> {
     let given = limited(rt.alloc(), &[1, 2, 3, 4], 1, 2)?;
     let rows = [
         Row::Ticks(20),
@@ -313,9 +300,7 @@ fn two_standby_ports_follow_at_once(rt: HostRuntime) -> Result<(), Fail> {
         Row::Chosen(2, Choice::Unselected),
         Row::Distributing(1, &[3, 4]),
     ];
-    let rows = joined(rt.alloc(), &[&four_up(), &rows])?;
-    plays(&rt, rt.alloc(), given, &rows)?;
-    Ok(())
+    plays_lists(&rt, rt.alloc(), given, &[&four_up(), &rows])
 }
 
 /// An LACPDU of system 3 comes on a port.
@@ -343,7 +328,7 @@ fn five_up() -> [Row<'static>; 13] {
 }
 
 #[test]
-fn two_aggregators_have_standby_ports(rt: HostRuntime) -> Result<(), Fail> {
+fn two_aggregators_have_standby_ports(rt: HostRuntime) -> Result<(), SystemFault> {
     let given = limited(rt.alloc(), &[1, 2, 3, 4, 5], 2, 1)?;
     let other = Choice::Standby(AggId(2));
     let rows = [
@@ -364,14 +349,12 @@ fn two_aggregators_have_standby_ports(rt: HostRuntime) -> Result<(), Fail> {
         Row::Distributing(1, &[2]),
         Row::Distributing(2, &[]),
     ];
-    let rows = joined(rt.alloc(), &[&five_up(), &rows])?;
-    plays(&rt, rt.alloc(), given, &rows)?;
-    Ok(())
+    plays_lists(&rt, rt.alloc(), given, &[&five_up(), &rows])
 }
 
 /// Ready looks at members alone; a port that becomes one waits until its own wait_while has expired.
 #[test]
-fn a_member_does_not_wait_for_standby_ports(rt: HostRuntime) -> Result<(), Fail> {
+fn a_member_does_not_wait_for_standby_ports(rt: HostRuntime) -> Result<(), SystemFault> {
     let given = limited(rt.alloc(), &[1, 2], 1, 1)?;
     let rows = [
         Row::Link(1, true),
@@ -391,14 +374,15 @@ fn a_member_does_not_wait_for_standby_ports(rt: HostRuntime) -> Result<(), Fail>
         Row::Ticks(1),
         Row::Distributing(1, &[2]),
     ];
-    plays(&rt, rt.alloc(), given, &rows)?;
-    Ok(())
+    plays(&rt, rt.alloc(), given, &rows)
 }
 
 /// Without a limit Selected stays as it is while the link is down; with one the port becomes UNSELECTED at once, even if
 /// there is room.
 #[test]
-fn a_link_that_goes_down_leaves_selected_without_a_limit(rt: HostRuntime) -> Result<(), Fail> {
+fn a_link_that_goes_down_leaves_selected_without_a_limit(
+    rt: HostRuntime,
+) -> Result<(), SystemFault> {
     let up = [Row::Link(1, true), hears(1), Row::Ticks(20)];
     let stays = [
         Row::Link(1, false),
@@ -412,13 +396,7 @@ fn a_link_that_goes_down_leaves_selected_without_a_limit(rt: HostRuntime) -> Res
     ];
     let mut given = limited(rt.alloc(), &[1], 1, 1)?;
     given.max_links = None;
-    plays(&rt, rt.alloc(), given, &joined(rt.alloc(), &[&up, &stays])?)?;
+    plays_lists(&rt, rt.alloc(), given, &[&up, &stays])?;
     let given = limited(rt.alloc(), &[1], 1, 64)?;
-    plays(
-        &rt,
-        rt.alloc(),
-        given,
-        &joined(rt.alloc(), &[&up, &leaves])?,
-    )?;
-    Ok(())
+    plays_lists(&rt, rt.alloc(), given, &[&up, &leaves])
 }

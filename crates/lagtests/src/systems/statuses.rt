@@ -1,6 +1,5 @@
-use crate::systems::{Row, config, end, joined, plays};
-use lagsystem::{AggId, PortStatus};
-use std::test::Fail;
+use crate::systems::{Row, config, end, plays, plays_lists, plays_with};
+use lagsystem::{AggId, PortStatus, SystemFault};
 
 /// A port that hears nobody runs on defaults after 30 ticks, waits for 20 more, and distributes then.
 const ALONE: [Row<'static>; 25] = [
@@ -33,10 +32,8 @@ const ALONE: [Row<'static>; 25] = [
 ];
 
 #[test]
-fn a_port_without_a_peer_tells_why(rt: HostRuntime) -> Result<(), Fail> {
-    let given = config(rt.alloc(), &[1], 1)?;
-    plays(&rt, rt.alloc(), given, &ALONE)?;
-    Ok(())
+fn a_port_without_a_peer_tells_why(rt: HostRuntime) -> Result<(), SystemFault> {
+    plays_with(&rt, rt.alloc(), &[1], 1, &[&ALONE])
 }
 
 /// Two ports of one group, of which the second hears its peer 6 ticks later. Its peer takes it for synchronized, so it asks
@@ -91,11 +88,8 @@ fn both_attach() -> [Row<'static>; 19] {
 }
 
 #[test]
-fn ports_with_a_peer_tell_why(rt: HostRuntime) -> Result<(), Fail> {
-    let given = config(rt.alloc(), &[1, 2], 1)?;
-    let rows = joined(rt.alloc(), &[&both_wait(), &both_attach()])?;
-    plays(&rt, rt.alloc(), given, &rows)?;
-    Ok(())
+fn ports_with_a_peer_tell_why(rt: HostRuntime) -> Result<(), SystemFault> {
+    plays_with(&rt, rt.alloc(), &[1, 2], 1, &[&both_wait(), &both_attach()])
 }
 
 /// Ports 1 to 5 come up. Ports 2 and 3 have the same peer, and port 5 has the system itself as its peer.
@@ -137,17 +131,15 @@ const THREE_OUT: [Row<'static>; 18] = [
 ];
 
 #[test]
-fn ports_that_are_no_links_tell_why(rt: HostRuntime) -> Result<(), Fail> {
+fn ports_that_are_no_links_tell_why(rt: HostRuntime) -> Result<(), SystemFault> {
     let mut given = config(rt.alloc(), &[1, 2, 3, 4, 5], 2)?;
     given.max_links = Some(1);
-    let rows = joined(rt.alloc(), &[&five_peers(), &THREE_OUT])?;
-    plays(&rt, rt.alloc(), given, &rows)?;
-    Ok(())
+    plays_lists(&rt, rt.alloc(), given, &[&five_peers(), &THREE_OUT])
 }
 
 /// Long_Timeout_Time is 900 ticks.
 #[test]
-fn a_long_timeout_runs_for_900_ticks(rt: HostRuntime) -> Result<(), Fail> {
+fn a_long_timeout_runs_for_900_ticks(rt: HostRuntime) -> Result<(), SystemFault> {
     let mut given = config(rt.alloc(), &[1], 1)?;
     for port in given.ports.iter_mut() {
         port.short = false;
@@ -160,6 +152,5 @@ fn a_long_timeout_runs_for_900_ticks(rt: HostRuntime) -> Result<(), Fail> {
         Row::Timers(1, 897, 17, false),
         Row::Status(1, PortStatus::Waiting(17)),
     ];
-    plays(&rt, rt.alloc(), given, &rows)?;
-    Ok(())
+    plays(&rt, rt.alloc(), given, &rows)
 }

@@ -1,10 +1,11 @@
+use crate::comparing::{same, same_in_row};
 use crate::systems::conversations::coming_up;
 use crate::systems::frames::response_frame;
-use crate::systems::plan::plan_of_all;
+use crate::systems::plan::{Plan, plan_of_all};
 use crate::systems::{DATA, PortFacts, Row, config, joined, look, modulo};
 use lagsystem::{AggId, Assignment, NoMemory, Received, System, SystemFault, WireFault};
 use std::alloc::Global;
-use std::test::Fail;
+use std::process::Abort;
 
 /// What all readers return for a system with ports 1 and 2 and aggregators 1 and 2.
 #[derive(Debug, PartialEq, Drop)]
@@ -60,29 +61,56 @@ fn answer_to(count: usize) -> Received {
     }
 }
 
-/// The response that a conversation waits for frees it; no shorter beginning of that frame changes anything.
-#[test]
-fn a_response_cut_at_every_length(rt: HostRuntime) -> Result<(), Fail> {
-    let alloc = rt.alloc();
-    let mut given = config(alloc, &[1, 2], 2)?;
-    given.first_marker = 4_294_967_295;
-    let mut system = System::new(alloc, given, modulo)?;
-    let waiting = [
+/// Two ports come up, and a conversation waits for the response to the last marker.
+fn waiting(alloc: Global) -> Result<Plan, NoMemory> {
+    let rows = [
         Row::Offers(1, &DATA, Ok(1)),
         Row::Moves(1, 48, 2, Ok(())),
         Row::Marks(1, 4_294_967_295),
     ];
-    let plan = plan_of_all(alloc, &joined(alloc, &[&coming_up(), &waiting])?)?;
+    plan_of_all(alloc, &joined(alloc, &[&coming_up(), &rows])?)
+}
+
+/// A beginning of the response changes nothing that the readers return.
+fn changes_nothing<F: Fn(u16, usize) -> usize + Drop>(
+    rt: &impl Abort,
+    alloc: Global,
+    system: &mut System<F>,
+    octets: &[u8],
+    before: &Told,
+) -> Result<(), NoMemory> {
+    let came = system.receive(1, octets);
+    same_in_row(rt, octets.len(), &came, &Ok(answer_to(octets.len())));
+    let after = all_told(alloc, system)?;
+    same_in_row(rt, octets.len(), &after, before);
+    Ok(())
+}
+
+/// The response that a conversation waits for frees it; no shorter beginning of that frame changes anything.
+#[test]
+fn a_response_cut_at_every_length(rt: HostRuntime) -> Result<(), SystemFault> {
+    let alloc = rt.alloc();
+    let mut given = config(alloc, &[1, 2], 2)?;
+    given.first_marker = 4_294_967_295;
+    let mut system = System::new(alloc, given, modulo)?;
+    let plan = waiting(alloc)?;
     let replies = system.drive(alloc, &plan.calls)?;
-    assert_eq!(rt; replies.as_slice(), plan.replies.as_slice());
+    same(
+        &rt,
+        "replies",
+        &replies.as_slice(),
+        &plan.replies.as_slice(),
+    );
     let before = all_told(alloc, &system)?;
     let frame = response_frame();
     for count in 0..124 {
-        let came = system.receive(1, &frame[..count]);
-        assert_eq!(rt; came, Ok(answer_to(count)), "the first {count} octets");
-        let after = all_told(alloc, &system)?;
-        assert_eq!(rt; after, before, "behind the first {count} octets");
+        changes_nothing(&rt, alloc, &mut system, &frame[..count], &before)?;
     }
-    assert_eq!(rt; system.receive(1, &frame), Ok(Received::Released(1)));
+    same(
+        &rt,
+        "whole",
+        &system.receive(1, &frame),
+        &Ok(Received::Released(1)),
+    );
     Ok(())
 }

@@ -1,5 +1,5 @@
-use crate::systems::{DATA, Row, config, end, joined, no_partner, plays};
-use std::test::Fail;
+use crate::systems::{DATA, Row, end, no_partner, plays_with};
+use lagsystem::SystemFault;
 
 /// A port with Short Timeout, whose partner has Long Timeout, comes up: its periodic timer, then wait_while, then
 /// current_while runs out first.
@@ -67,17 +67,13 @@ fn three_are_sent() -> [Row<'static>; 20] {
 }
 
 #[test]
-fn the_first_timer_of_a_port_is_told(rt: HostRuntime) -> Result<(), Fail> {
-    let given = config(rt.alloc(), &[1], 1)?;
-    plays(&rt, rt.alloc(), given, &one_comes_up())?;
-    Ok(())
+fn the_first_timer_of_a_port_is_told(rt: HostRuntime) -> Result<(), SystemFault> {
+    plays_with(&rt, rt.alloc(), &[1], 1, &[&one_comes_up()])
 }
 
 #[test]
-fn room_in_the_window_is_told(rt: HostRuntime) -> Result<(), Fail> {
-    let given = config(rt.alloc(), &[1], 1)?;
-    plays(&rt, rt.alloc(), given, &three_are_sent())?;
-    Ok(())
+fn room_in_the_window_is_told(rt: HostRuntime) -> Result<(), SystemFault> {
+    plays_with(&rt, rt.alloc(), &[1], 1, &[&three_are_sent()])
 }
 
 /// Two ports of one aggregator distribute, and hear their peer again.
@@ -136,9 +132,12 @@ fn a_marker_is_lost() -> [Row<'static>; 25] {
 }
 
 #[test]
-fn the_wait_for_a_response_is_told(rt: HostRuntime) -> Result<(), Fail> {
-    let given = config(rt.alloc(), &[1, 2], 1)?;
-    let rows = joined(rt.alloc(), &[&both_distribute(), &a_marker_is_lost()])?;
-    plays(&rt, rt.alloc(), given, &rows)?;
-    Ok(())
+fn the_wait_for_a_response_is_told(rt: HostRuntime) -> Result<(), SystemFault> {
+    plays_with(
+        &rt,
+        rt.alloc(),
+        &[1, 2],
+        1,
+        &[&both_distribute(), &a_marker_is_lost()],
+    )
 }

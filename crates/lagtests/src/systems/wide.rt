@@ -2,7 +2,6 @@ use crate::systems::{Row, config, end, plays};
 use lagsystem::{Assignment, NoMemory, SystemFault};
 use std::alloc::Global;
 use std::process::Abort;
-use std::test::Fail;
 
 /// A data frame of this conversation of 4096, both of whose addresses count.
 fn frame_of(conv: u16) -> [u8; 14] {
@@ -72,7 +71,6 @@ fn offers_all(rt: &impl Abort, alloc: Global) -> Result<(), SystemFault> {
 }
 
 #[test]
-fn each_of_4096_conversations_goes_on_its_port(rt: HostRuntime) -> Result<(), Fail> {
-    offers_all(&rt, rt.alloc())?;
-    Ok(())
+fn each_of_4096_conversations_goes_on_its_port(rt: HostRuntime) -> Result<(), SystemFault> {
+    offers_all(&rt, rt.alloc())
 }

@@ -3,8 +3,7 @@ use crate::worlds::Want::{Is, Lacpdu};
 use crate::worlds::given::ONE;
 use crate::worlds::starts::{LINK_UP, NONE_DISTRIBUTING, ONE_CABLE, TICKED, TOOK};
 use crate::worlds::{Entry, F48, Flow, Row, Want, plays, runs, steps};
-use lagworld::{Agreement, Reply};
-use std::test::Fail;
+use lagworld::{Agreement, Reply, WorldFault};
 
 const ALONE: [(Entry, Want); 12] = [
     (Sense(1, 1), LINK_UP),
@@ -36,9 +35,8 @@ const ALONE_ROW: Row = Row {
 };
 
 #[test]
-fn a_port_on_defaults_carries_data_after_50_ticks(rt: HostRuntime) -> Result<(), Fail> {
-    plays(&rt, rt.alloc(), &ALONE_ROW)?;
-    Ok(())
+fn a_port_on_defaults_carries_data_after_50_ticks(rt: HostRuntime) -> Result<(), WorldFault> {
+    plays(&rt, rt.alloc(), &ALONE_ROW)
 }
 
 pub(crate) const ONE_CABLE_ROW: Row = Row {
@@ -50,14 +48,13 @@ pub(crate) const ONE_CABLE_ROW: Row = Row {
 };
 
 #[test]
-fn two_ends_agree_event_by_event(rt: HostRuntime) -> Result<(), Fail> {
+fn two_ends_agree_event_by_event(rt: HostRuntime) -> Result<(), WorldFault> {
     steps(&rt, rt.alloc(), &ONE_CABLE_ROW, None)?;
-    steps(&rt, rt.alloc(), &ONE_CABLE_ROW, Some(8))?;
-    Ok(())
+    steps(&rt, rt.alloc(), &ONE_CABLE_ROW, Some(8))
 }
 
 #[test]
-fn two_ends_agree_in_one_run_and_in_two(rt: HostRuntime) -> Result<(), Fail> {
+fn two_ends_agree_in_one_run_and_in_two(rt: HostRuntime) -> Result<(), WorldFault> {
     for cut in [0, 7] {
         for limit in [None, Some(8)] {
             runs(&rt, rt.alloc(), &ONE_CABLE_ROW, limit, cut)?;
@@ -82,9 +79,8 @@ const CHANGED_ROW: Row = Row {
 };
 
 #[test]
-fn equal_values_are_not_enough_to_agree(rt: HostRuntime) -> Result<(), Fail> {
-    plays(&rt, rt.alloc(), &CHANGED_ROW)?;
-    Ok(())
+fn equal_values_are_not_enough_to_agree(rt: HostRuntime) -> Result<(), WorldFault> {
+    plays(&rt, rt.alloc(), &CHANGED_ROW)
 }
 
 const DEFAULTS_ROW: Row = Row {
@@ -101,9 +97,8 @@ const DEFAULTS_ROW: Row = Row {
 };
 
 #[test]
-fn both_ends_on_defaults(rt: HostRuntime) -> Result<(), Fail> {
-    plays(&rt, rt.alloc(), &DEFAULTS_ROW)?;
-    Ok(())
+fn both_ends_on_defaults(rt: HostRuntime) -> Result<(), WorldFault> {
+    plays(&rt, rt.alloc(), &DEFAULTS_ROW)
 }
 
 /// One cable comes up, and each LACPDU is received twice.
@@ -145,7 +140,6 @@ const REPEATED_ROW: Row = Row {
 };
 
 #[test]
-fn repeated_lacpdus_change_no_reply(rt: HostRuntime) -> Result<(), Fail> {
-    plays(&rt, rt.alloc(), &REPEATED_ROW)?;
-    Ok(())
+fn repeated_lacpdus_change_no_reply(rt: HostRuntime) -> Result<(), WorldFault> {
+    plays(&rt, rt.alloc(), &REPEATED_ROW)
 }

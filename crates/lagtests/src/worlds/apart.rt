@@ -1,3 +1,4 @@
+use crate::comparing::{same, same_in_row};
 use crate::worlds::Entry::{Deliver, Emit, Force, Join, Lose, Offer, Repeat, Sense, Tick};
 use crate::worlds::Want::{Is, Lacpdu};
 use crate::worlds::both_systems::BACK;
@@ -11,7 +12,6 @@ use lagtypes::{AggId, Key, NoMemory, SystemId};
 use lagworld::{Agreement, Event, Reply, World, WorldFault};
 use std::alloc::Global;
 use std::process::Abort;
-use std::test::Fail;
 
 /// Conversation 48 is forced while it has no port.
 const FORCED_EARLY_ROW: Row = Row {
@@ -37,9 +37,8 @@ const FORCED_EARLY_ROW: Row = Row {
 };
 
 #[test]
-fn a_force_that_is_refused_does_not_count(rt: HostRuntime) -> Result<(), Fail> {
-    plays(&rt, rt.alloc(), &FORCED_EARLY_ROW)?;
-    Ok(())
+fn a_force_that_is_refused_does_not_count(rt: HostRuntime) -> Result<(), WorldFault> {
+    plays(&rt, rt.alloc(), &FORCED_EARLY_ROW)
 }
 
 /// A cable that is whole is joined once more while an LACPDU is on it.
@@ -61,9 +60,8 @@ const JOINED_ROW: Row = Row {
 };
 
 #[test]
-fn a_cable_that_is_joined_keeps_what_is_on_it(rt: HostRuntime) -> Result<(), Fail> {
-    plays(&rt, rt.alloc(), &JOINED_ROW)?;
-    Ok(())
+fn a_cable_that_is_joined_keeps_what_is_on_it(rt: HostRuntime) -> Result<(), WorldFault> {
+    plays(&rt, rt.alloc(), &JOINED_ROW)
 }
 
 /// Nothing is on a cable, and 0 ticks are none.
@@ -89,9 +87,8 @@ const NOTHING_ROW: Row = Row {
 };
 
 #[test]
-fn nothing_is_no_event_of_a_cable(rt: HostRuntime) -> Result<(), Fail> {
-    plays(&rt, rt.alloc(), &NOTHING_ROW)?;
-    Ok(())
+fn nothing_is_no_event_of_a_cable(rt: HostRuntime) -> Result<(), WorldFault> {
+    plays(&rt, rt.alloc(), &NOTHING_ROW)
 }
 
 /// A frame of conversation 255, the last: octet 5 and octet 11 give 0x20 xor 0xdf (profile).
@@ -117,9 +114,8 @@ const LAST_ROW: Row = Row {
 };
 
 #[test]
-fn the_last_conversation_is_counted(rt: HostRuntime) -> Result<(), Fail> {
-    plays(&rt, rt.alloc(), &LAST_ROW)?;
-    Ok(())
+fn the_last_conversation_is_counted(rt: HostRuntime) -> Result<(), WorldFault> {
+    plays(&rt, rt.alloc(), &LAST_ROW)
 }
 
 /// Cable 1 joins port 1 of system 1 and port 2 of system 2.
@@ -151,16 +147,20 @@ fn crosses(rt: &impl Abort, alloc: Global) -> Result<(), WorldFault> {
     let lines = lines(alloc, 1, None)?;
     let mut world = World::new(alloc, config, modulo, modulo, lines)?;
     compare_run(rt, 0, &CROSSED, world.run(&events(alloc, &CROSSED)?));
-    assert_eq!(rt; world.agreement(1), Some(Agreement::NotBoth));
+    same(
+        rt,
+        "agreement",
+        &world.agreement(1),
+        &Some(Agreement::NotBoth),
+    );
     compare_run(rt, 9, &CROSSED_UP, world.run(&events(alloc, &CROSSED_UP)?));
-    assert_eq!(rt; world.agreement(1), Some(Agreement::Same));
+    same(rt, "agreement", &world.agreement(1), &Some(Agreement::Same));
     Ok(())
 }
 
 #[test]
-fn a_cable_joins_ports_of_unequal_numbers(rt: HostRuntime) -> Result<(), Fail> {
-    crosses(&rt, rt.alloc())?;
-    Ok(())
+fn a_cable_joins_ports_of_unequal_numbers(rt: HostRuntime) -> Result<(), WorldFault> {
+    crosses(&rt, rt.alloc())
 }
 
 /// The direction of a cable to system 1 holds one frame, that to system 2 two.
@@ -194,9 +194,8 @@ fn fills(rt: &impl Abort, alloc: Global) -> Result<(), WorldFault> {
 }
 
 #[test]
-fn the_first_direction_leads_to_system_1(rt: HostRuntime) -> Result<(), Fail> {
-    fills(&rt, rt.alloc())?;
-    Ok(())
+fn the_first_direction_leads_to_system_1(rt: HostRuntime) -> Result<(), WorldFault> {
+    fills(&rt, rt.alloc())
 }
 
 /// A port with Long Timeout whose key is its number.
@@ -257,23 +256,11 @@ fn two_apart(alloc: Global) -> Result<WorldConfig, NoMemory> {
 
 /// Compares what a world tells of the flows of two systems.
 fn compare_told<F: Fn(u16, usize) -> usize + Drop>(rt: &impl Abort, world: &World<AnyCable, F>) {
-    for (system, agg, sent, collected, forced) in TOLD {
-        let agg = AggId(agg);
-        assert_eq!(rt;
-            world.sent(system, agg, 48),
-            sent,
-            "system {system}, {agg:?}"
-        );
-        assert_eq!(rt;
-            world.collected(system, agg, 48),
-            collected,
-            "system {system}, {agg:?}"
-        );
-        assert_eq!(rt;
-            world.forced(system, agg, 48),
-            forced,
-            "system {system}, {agg:?}"
-        );
+    for (place, (system, agg, sent, collected, forced)) in TOLD.iter().enumerate() {
+        let agg = AggId(*agg);
+        same_in_row(rt, place, &world.sent(*system, agg, 48), sent);
+        same_in_row(rt, place, &world.collected(*system, agg, 48), collected);
+        same_in_row(rt, place, &world.forced(*system, agg, 48), forced);
     }
 }
 
@@ -293,9 +280,8 @@ fn carries_apart(rt: &impl Abort, alloc: Global) -> Result<(), WorldFault> {
 }
 
 #[test]
-fn each_aggregator_has_its_conversations(rt: HostRuntime) -> Result<(), Fail> {
-    carries_apart(&rt, rt.alloc())?;
-    Ok(())
+fn each_aggregator_has_its_conversations(rt: HostRuntime) -> Result<(), WorldFault> {
+    carries_apart(&rt, rt.alloc())
 }
 
 /// A port with values that no other test has.
@@ -328,16 +314,16 @@ fn keeps_its_values(rt: &impl Abort, alloc: Global) -> Result<(), WorldFault> {
     let config = odd(alloc)?;
     let lines = lines(alloc, 1, None)?;
     let mut world = World::new(alloc, config, modulo, modulo, lines)?;
-    assert!(rt; world.run(&events(alloc, &ONE_CABLE)?).is_ok());
-    assert_eq!(rt; world.agreement(1), Some(Agreement::Same));
+    let ran = world.run(&events(alloc, &ONE_CABLE)?).is_ok();
+    same(rt, "run", &ran, &true);
+    same(rt, "agreement", &world.agreement(1), &Some(Agreement::Same));
     let came = world.step(&Event::Configure(1, 1, ODD));
-    assert_eq!(rt; came, Ok(Reply::Configured(false)));
-    assert_eq!(rt; world.agreement(1), Some(Agreement::Same));
+    same(rt, "configure", &came, &Ok(Reply::Configured(false)));
+    same(rt, "agreement", &world.agreement(1), &Some(Agreement::Same));
     Ok(())
 }
 
 #[test]
-fn the_values_of_a_configuration_are_no_change(rt: HostRuntime) -> Result<(), Fail> {
-    keeps_its_values(&rt, rt.alloc())?;
-    Ok(())
+fn the_values_of_a_configuration_are_no_change(rt: HostRuntime) -> Result<(), WorldFault> {
+    keeps_its_values(&rt, rt.alloc())
 }

@@ -1,3 +1,4 @@
+use crate::comparing::same_in_row;
 use crate::worlds::Entry::{
     Configure, Deliver, Emit, Force, Move, Offer, Prefer, Restart, Sense, Tick,
 };
@@ -10,7 +11,6 @@ use crate::worlds::{Entry, F48, F50, Flow, Row, Want, events, plays, runs};
 use lagworld::{Agreement, Reply, World, WorldFault};
 use std::alloc::Global;
 use std::process::Abort;
-use std::test::Fail;
 
 /// Two cables between ports with Short Timeout.
 const SHORT: Setting = Setting { short: true, ..TWO };
@@ -127,9 +127,8 @@ const DROPPED_ROW: Row = Row {
 };
 
 #[test]
-fn a_dropped_frame_is_not_collected(rt: HostRuntime) -> Result<(), Fail> {
-    plays(&rt, rt.alloc(), &DROPPED_ROW)?;
-    Ok(())
+fn a_dropped_frame_is_not_collected(rt: HostRuntime) -> Result<(), WorldFault> {
+    plays(&rt, rt.alloc(), &DROPPED_ROW)
 }
 
 const MOVES_BACK_ROW: Row = Row {
@@ -148,9 +147,8 @@ const MOVES_BACK_ROW: Row = Row {
 };
 
 #[test]
-fn a_conversation_of_system_2_moves(rt: HostRuntime) -> Result<(), Fail> {
-    plays(&rt, rt.alloc(), &MOVES_BACK_ROW)?;
-    Ok(())
+fn a_conversation_of_system_2_moves(rt: HostRuntime) -> Result<(), WorldFault> {
+    plays(&rt, rt.alloc(), &MOVES_BACK_ROW)
 }
 
 const PRIORITY_ROW: Row = Row {
@@ -162,9 +160,8 @@ const PRIORITY_ROW: Row = Row {
 };
 
 #[test]
-fn another_priority_is_a_change(rt: HostRuntime) -> Result<(), Fail> {
-    plays(&rt, rt.alloc(), &PRIORITY_ROW)?;
-    Ok(())
+fn another_priority_is_a_change(rt: HostRuntime) -> Result<(), WorldFault> {
+    plays(&rt, rt.alloc(), &PRIORITY_ROW)
 }
 
 const BOTH_RELEASED_ROW: Row = Row {
@@ -186,9 +183,8 @@ const BOTH_RELEASED_ROW: Row = Row {
 };
 
 #[test]
-fn one_response_releases_two_conversations(rt: HostRuntime) -> Result<(), Fail> {
-    plays(&rt, rt.alloc(), &BOTH_RELEASED_ROW)?;
-    Ok(())
+fn one_response_releases_two_conversations(rt: HostRuntime) -> Result<(), WorldFault> {
+    plays(&rt, rt.alloc(), &BOTH_RELEASED_ROW)
 }
 
 const RESPONSE_LOST_ROW: Row = Row {
@@ -208,9 +204,8 @@ const RESPONSE_LOST_ROW: Row = Row {
 };
 
 #[test]
-fn a_full_cable_hands_back_a_response(rt: HostRuntime) -> Result<(), Fail> {
-    runs(&rt, rt.alloc(), &RESPONSE_LOST_ROW, Some(1), 0)?;
-    Ok(())
+fn a_full_cable_hands_back_a_response(rt: HostRuntime) -> Result<(), WorldFault> {
+    runs(&rt, rt.alloc(), &RESPONSE_LOST_ROW, Some(1), 0)
 }
 
 /// An LACPDU of either system says which change of its port it knows of.
@@ -223,9 +218,8 @@ const STAMPED_ROW: Row = Row {
 };
 
 #[test]
-fn an_lacpdu_has_the_change_count_of_its_own_port(rt: HostRuntime) -> Result<(), Fail> {
-    plays(&rt, rt.alloc(), &STAMPED_ROW)?;
-    Ok(())
+fn an_lacpdu_has_the_change_count_of_its_own_port(rt: HostRuntime) -> Result<(), WorldFault> {
+    plays(&rt, rt.alloc(), &STAMPED_ROW)
 }
 
 const RESTARTED_ROW: Row = Row {
@@ -243,9 +237,8 @@ const RESTARTED_ROW: Row = Row {
 };
 
 #[test]
-fn a_restart_of_system_2_empties_the_cables(rt: HostRuntime) -> Result<(), Fail> {
-    plays(&rt, rt.alloc(), &RESTARTED_ROW)?;
-    Ok(())
+fn a_restart_of_system_2_empties_the_cables(rt: HostRuntime) -> Result<(), WorldFault> {
+    plays(&rt, rt.alloc(), &RESTARTED_ROW)
 }
 
 const FORCED_TWICE_ROW: Row = Row {
@@ -266,9 +259,8 @@ const FORCED_TWICE_ROW: Row = Row {
 };
 
 #[test]
-fn a_conversation_stays_forced(rt: HostRuntime) -> Result<(), Fail> {
-    plays(&rt, rt.alloc(), &FORCED_TWICE_ROW)?;
-    Ok(())
+fn a_conversation_stays_forced(rt: HostRuntime) -> Result<(), WorldFault> {
+    plays(&rt, rt.alloc(), &FORCED_TWICE_ROW)
 }
 
 /// Port 1 of system 1 gets another priority, and its own again.
@@ -314,11 +306,10 @@ const CHANGED_BACK_ROW: Row = Row {
 };
 
 #[test]
-fn each_value_of_each_system_counts_as_a_change(rt: HostRuntime) -> Result<(), Fail> {
+fn each_value_of_each_system_counts_as_a_change(rt: HostRuntime) -> Result<(), WorldFault> {
     plays(&rt, rt.alloc(), &PRIORITY_CHANGED_ROW)?;
     plays(&rt, rt.alloc(), &AGGREGATION_CHANGED_ROW)?;
-    plays(&rt, rt.alloc(), &CHANGED_BACK_ROW)?;
-    Ok(())
+    plays(&rt, rt.alloc(), &CHANGED_BACK_ROW)
 }
 
 /// Port 1 of system 1 is changed and agrees again as soon as its LACPDUs were received; the same values once more are no
@@ -335,15 +326,14 @@ fn agrees_again(rt: &impl Abort, alloc: Global) -> Result<(), WorldFault> {
     let config = world_config(alloc, SHORT)?;
     let lines = lines(alloc, 2, None)?;
     let mut world = World::new(alloc, config, modulo, modulo, lines)?;
-    for (place, (events, wanted)) in steps.into_iter().enumerate() {
-        assert!(rt; world.run(events).is_ok(), "part {place}");
-        assert_eq!(rt; world.agreement(1), Some(wanted), "part {place}");
+    for (place, (events, wanted)) in steps.iter().enumerate() {
+        same_in_row(rt, place, &world.run(*events).is_ok(), &true);
+        same_in_row(rt, place, &world.agreement(1), &Some(*wanted));
     }
     Ok(())
 }
 
 #[test]
-fn a_changed_port_agrees_again(rt: HostRuntime) -> Result<(), Fail> {
-    agrees_again(&rt, rt.alloc())?;
-    Ok(())
+fn a_changed_port_agrees_again(rt: HostRuntime) -> Result<(), WorldFault> {
+    agrees_again(&rt, rt.alloc())
 }

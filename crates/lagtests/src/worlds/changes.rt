@@ -6,8 +6,7 @@ use crate::worlds::starts::{
 };
 use crate::worlds::{Entry, F48, F49, F50, Flow, Row, Want, plays};
 use lagsystem::SystemFault;
-use lagworld::{Agreement, Reply};
-use std::test::Fail;
+use lagworld::{Agreement, Reply, WorldFault};
 
 const TOLD_OF_CUT: [(Entry, Want); 6] = [
     (Offer(1, 1, &F48), Is(Reply::Port(1, 0, true))),
@@ -33,9 +32,10 @@ const TOLD_OF_CUT_ROW: Row = Row {
 };
 
 #[test]
-fn a_port_that_is_told_of_the_cut_frees_its_conversations(rt: HostRuntime) -> Result<(), Fail> {
-    plays(&rt, rt.alloc(), &TOLD_OF_CUT_ROW)?;
-    Ok(())
+fn a_port_that_is_told_of_the_cut_frees_its_conversations(
+    rt: HostRuntime,
+) -> Result<(), WorldFault> {
+    plays(&rt, rt.alloc(), &TOLD_OF_CUT_ROW)
 }
 
 /// A frame of conversation 48 of system 2.
@@ -74,9 +74,8 @@ const RESTARTED_ROW: Row = Row {
 };
 
 #[test]
-fn a_restart_empties_the_cables(rt: HostRuntime) -> Result<(), Fail> {
-    plays(&rt, rt.alloc(), &RESTARTED_ROW)?;
-    Ok(())
+fn a_restart_empties_the_cables(rt: HostRuntime) -> Result<(), WorldFault> {
+    plays(&rt, rt.alloc(), &RESTARTED_ROW)
 }
 
 const CONFIGURED: [(Entry, Want); 9] = [
@@ -115,9 +114,8 @@ const CONFIGURED_ROW: Row = Row {
 };
 
 #[test]
-fn a_configure_holds_the_conversations_of_its_port(rt: HostRuntime) -> Result<(), Fail> {
-    plays(&rt, rt.alloc(), &CONFIGURED_ROW)?;
-    Ok(())
+fn a_configure_holds_the_conversations_of_its_port(rt: HostRuntime) -> Result<(), WorldFault> {
+    plays(&rt, rt.alloc(), &CONFIGURED_ROW)
 }
 
 /// Two cables between ports with Long Timeout, and one marker identifier left.
@@ -171,7 +169,6 @@ const SPENT_ROW: Row = Row {
 };
 
 #[test]
-fn no_marker_follows_the_last_identifier(rt: HostRuntime) -> Result<(), Fail> {
-    plays(&rt, rt.alloc(), &SPENT_ROW)?;
-    Ok(())
+fn no_marker_follows_the_last_identifier(rt: HostRuntime) -> Result<(), WorldFault> {
+    plays(&rt, rt.alloc(), &SPENT_ROW)
 }

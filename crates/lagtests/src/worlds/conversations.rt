@@ -4,8 +4,7 @@ use crate::worlds::given::{Setting, TWO};
 use crate::worlds::starts::{COMING_UP, HELD, MOVED, TICKED, TOOK, UP_1};
 use crate::worlds::{Entry, F48, Flow, Row, Want, plays, runs, steps};
 use lagsystem::SystemFault;
-use lagworld::{Agreement, Reply};
-use std::test::Fail;
+use lagworld::{Agreement, Reply, WorldFault};
 
 pub(crate) const MOVES: [(Entry, Want); 16] = [
     (Offer(1, 1, &F48), Is(Reply::Port(1, 0, true))),
@@ -41,7 +40,7 @@ pub(crate) const MOVES_ROW: Row = Row {
 };
 
 #[test]
-fn a_conversation_moves_behind_a_marker(rt: HostRuntime) -> Result<(), Fail> {
+fn a_conversation_moves_behind_a_marker(rt: HostRuntime) -> Result<(), WorldFault> {
     for cut in 0..41 {
         runs(&rt, rt.alloc(), &MOVES_ROW, None, cut)?;
     }
@@ -49,9 +48,8 @@ fn a_conversation_moves_behind_a_marker(rt: HostRuntime) -> Result<(), Fail> {
 }
 
 #[test]
-fn a_conversation_moves_event_by_event(rt: HostRuntime) -> Result<(), Fail> {
-    steps(&rt, rt.alloc(), &MOVES_ROW, Some(8))?;
-    Ok(())
+fn a_conversation_moves_event_by_event(rt: HostRuntime) -> Result<(), WorldFault> {
+    steps(&rt, rt.alloc(), &MOVES_ROW, Some(8))
 }
 
 const LATE: [(Entry, Want); 16] = [
@@ -88,9 +86,8 @@ const LATE_ROW: Row = Row {
 };
 
 #[test]
-fn a_late_response_releases_nothing(rt: HostRuntime) -> Result<(), Fail> {
-    plays(&rt, rt.alloc(), &LATE_ROW)?;
-    Ok(())
+fn a_late_response_releases_nothing(rt: HostRuntime) -> Result<(), WorldFault> {
+    plays(&rt, rt.alloc(), &LATE_ROW)
 }
 
 const LOST: [(Entry, Want); 15] = [
@@ -126,9 +123,8 @@ const LOST_ROW: Row = Row {
 };
 
 #[test]
-fn a_cut_loses_what_is_on_the_cable(rt: HostRuntime) -> Result<(), Fail> {
-    plays(&rt, rt.alloc(), &LOST_ROW)?;
-    Ok(())
+fn a_cut_loses_what_is_on_the_cable(rt: HostRuntime) -> Result<(), WorldFault> {
+    plays(&rt, rt.alloc(), &LOST_ROW)
 }
 
 const FORCED: [(Entry, Want); 6] = [
@@ -155,9 +151,8 @@ const FORCED_ROW: Row = Row {
 };
 
 #[test]
-fn a_forced_conversation_may_overtake(rt: HostRuntime) -> Result<(), Fail> {
-    plays(&rt, rt.alloc(), &FORCED_ROW)?;
-    Ok(())
+fn a_forced_conversation_may_overtake(rt: HostRuntime) -> Result<(), WorldFault> {
+    plays(&rt, rt.alloc(), &FORCED_ROW)
 }
 
 const DATA: [(Entry, Want); 7] = [
@@ -185,9 +180,8 @@ const DATA_ROW: Row = Row {
 };
 
 #[test]
-fn no_data_frame_is_repeated(rt: HostRuntime) -> Result<(), Fail> {
-    plays(&rt, rt.alloc(), &DATA_ROW)?;
-    Ok(())
+fn no_data_frame_is_repeated(rt: HostRuntime) -> Result<(), WorldFault> {
+    plays(&rt, rt.alloc(), &DATA_ROW)
 }
 
 const FULL: [(Entry, Want); 6] = [
@@ -214,9 +208,8 @@ pub(crate) const FULL_ROW: Row = Row {
 };
 
 #[test]
-fn what_a_full_cable_hands_back_is_lost(rt: HostRuntime) -> Result<(), Fail> {
-    runs(&rt, rt.alloc(), &FULL_ROW, Some(2), 0)?;
-    Ok(())
+fn what_a_full_cable_hands_back_is_lost(rt: HostRuntime) -> Result<(), WorldFault> {
+    runs(&rt, rt.alloc(), &FULL_ROW, Some(2), 0)
 }
 
 const NARROW: [(Entry, Want); 12] = [
@@ -249,9 +242,8 @@ pub(crate) const NARROW_ROW: Row = Row {
 };
 
 #[test]
-fn a_full_cable_hands_back_a_marker(rt: HostRuntime) -> Result<(), Fail> {
-    runs(&rt, rt.alloc(), &NARROW_ROW, Some(1), 0)?;
-    Ok(())
+fn a_full_cable_hands_back_a_marker(rt: HostRuntime) -> Result<(), WorldFault> {
+    runs(&rt, rt.alloc(), &NARROW_ROW, Some(1), 0)
 }
 
 /// A data frame of conversation 304 if there are 4096 of them, and of conversation 48 if there are 256.
@@ -362,14 +354,14 @@ const OWN_COUNT_ROW: Row = Row {
 };
 
 #[test]
-fn two_frames_are_one_conversation_of_256_or_two_of_4096(rt: HostRuntime) -> Result<(), Fail> {
+fn two_frames_are_one_conversation_of_256_or_two_of_4096(
+    rt: HostRuntime,
+) -> Result<(), WorldFault> {
     plays(&rt, rt.alloc(), &APART_ROW)?;
-    plays(&rt, rt.alloc(), &TOGETHER_ROW)?;
-    Ok(())
+    plays(&rt, rt.alloc(), &TOGETHER_ROW)
 }
 
 #[test]
-fn each_system_numbers_frames_by_its_own_count(rt: HostRuntime) -> Result<(), Fail> {
-    plays(&rt, rt.alloc(), &OWN_COUNT_ROW)?;
-    Ok(())
+fn each_system_numbers_frames_by_its_own_count(rt: HostRuntime) -> Result<(), WorldFault> {
+    plays(&rt, rt.alloc(), &OWN_COUNT_ROW)
 }

@@ -1,3 +1,4 @@
+use crate::comparing::same;
 use crate::systems::look;
 use crate::worlds::conversations::MOVES_ROW;
 use crate::worlds::given::{lines, modulo, world_config};
@@ -15,15 +16,30 @@ fn same_system<F: Fn(u16, usize) -> usize + Drop>(
     one: &System<F>,
     other: &System<F>,
 ) {
-    for port in [1, 2] {
-        assert_eq!(rt; look(one, port), look(other, port), "port {port}");
-    }
-    let agg = AggId(1);
-    assert_eq!(rt;
-        one.conversation_state(agg, 48),
-        other.conversation_state(agg, 48)
+    same(rt, "port 1", &look(one, 1), &look(other, 1));
+    same(rt, "port 2", &look(one, 2), &look(other, 2));
+    let states = (
+        one.conversation_state(AggId(1), 48),
+        other.conversation_state(AggId(1), 48),
     );
-    assert_eq!(rt; one.next_marker(), other.next_marker());
+    same(rt, "conversation_state", &states.0, &states.1);
+    same(rt, "next_marker", &one.next_marker(), &other.next_marker());
+}
+
+/// Compares the agreements and conversation 48 of system 1 in two worlds with two cables.
+fn same_flows<F: Fn(u16, usize) -> usize + Drop>(
+    rt: &impl Abort,
+    one: &World<AnyCable, F>,
+    other: &World<AnyCable, F>,
+) {
+    let agg = AggId(1);
+    same(rt, "cable 1", &one.agreement(1), &other.agreement(1));
+    same(rt, "cable 2", &one.agreement(2), &other.agreement(2));
+    same(rt, "sent", &one.sent(1, agg, 48), &other.sent(1, agg, 48));
+    let collected = (one.collected(1, agg, 48), other.collected(1, agg, 48));
+    same(rt, "collected", &collected.0, &collected.1);
+    let forced = (one.forced(1, agg, 48), other.forced(1, agg, 48));
+    same(rt, "forced", &forced.0, &forced.1);
 }
 
 /// Compares what the readers return for two worlds with two cables.
@@ -32,21 +48,11 @@ fn same_world<F: Fn(u16, usize) -> usize + Drop>(
     one: &World<AnyCable, F>,
     other: &World<AnyCable, F>,
 ) {
-    for cable in [1, 2] {
-        assert_eq!(rt;
-            one.agreement(cable),
-            other.agreement(cable),
-            "cable {cable}"
-        );
-    }
-    let agg = AggId(1);
-    assert_eq!(rt; one.sent(1, agg, 48), other.sent(1, agg, 48));
-    assert_eq!(rt; one.collected(1, agg, 48), other.collected(1, agg, 48));
-    assert_eq!(rt; one.forced(1, agg, 48), other.forced(1, agg, 48));
-    for number in [1, 2] {
+    same_flows(rt, one, other);
+    for number in 1..=2 {
         match (one.system(number), other.system(number)) {
             (Some(one), Some(other)) => same_system(rt, one, other),
-            _ => assert!(rt; false, "system {number}"),
+            _ => same(rt, "both systems are there", &false, &true),
         }
     }
 }
@@ -62,7 +68,7 @@ fn resumes(rt: &impl Abort, alloc: Global, row: &Row) -> Result<(), WorldFault> 
     match world.run(&events) {
         Ok(replies) => compare_all(rt, 0, &entries, &replies),
         Err(stop) => {
-            assert_eq!(rt; stop.fault, WorldFault::NoMemory);
+            same(rt, "fault", &stop.fault, &WorldFault::NoMemory);
             let done = stop.done.min(events.len()).min(entries.len());
             let config = world_config(alloc, row.setting)?;
             let ends = lines(alloc, config.cables.len(), None)?;

@@ -1,3 +1,4 @@
+use crate::comparing::{same, same_in_row};
 use crate::worlds::Entry::{
     Configure, Cut, Deliver, Emit, Force, Join, Lose, Move, Offer, Repeat, Restart, Sense, Tick,
 };
@@ -13,11 +14,10 @@ use lagtypes::AggId;
 use lagworld::{Agreement, BadWorld, Event, Reply, RunFault, World, WorldFault};
 use std::alloc::Global;
 use std::process::Abort;
-use std::test::Fail;
 
 /// System 1 and the system with this number, with these ports, the cables between them and this many lines; and why no
 /// world can be made of them.
-#[derive(Clone, Copy, Debug)]
+#[derive(Clone, Copy)]
 struct Given {
     first: &'static [u16],
     second: &'static [u16],
@@ -110,18 +110,16 @@ fn refusal(alloc: Global, given: Given) -> Result<Option<WorldFault>, WorldFault
     }
 }
 
-fn refuses(rt: &impl Abort, alloc: Global, place: usize) -> Result<(), WorldFault> {
-    assert!(rt; place < GIVEN.len());
-    let given = GIVEN[place];
+fn refuses(rt: &impl Abort, alloc: Global, place: usize, given: &Given) -> Result<(), WorldFault> {
     let wanted = Some(WorldFault::BadConfig(given.reason));
-    assert_eq!(rt; refusal(alloc, given)?, wanted, "{given:?}");
+    same_in_row(rt, place, &refusal(alloc, *given)?, &wanted);
     Ok(())
 }
 
 #[test]
-fn every_reason_to_make_no_world(rt: HostRuntime) -> Result<(), Fail> {
-    for place in 0..7 {
-        refuses(&rt, rt.alloc(), place)?;
+fn every_reason_to_make_no_world(rt: HostRuntime) -> Result<(), WorldFault> {
+    for (place, given) in GIVEN.iter().enumerate() {
+        refuses(&rt, rt.alloc(), place, given)?;
     }
     Ok(())
 }
@@ -160,22 +158,23 @@ fn line_refusal(alloc: Global, full: (bool, bool)) -> Result<Option<WorldFault>,
     }
 }
 
-fn line_refused(rt: &impl Abort, alloc: Global) -> Result<(), WorldFault> {
-    let wanted = Some(WorldFault::BadConfig(BadWorld::Lines));
-    for (full, wanted) in [
-        ((false, false), None),
-        ((true, false), wanted),
-        ((false, true), wanted),
-    ] {
-        assert_eq!(rt; line_refusal(alloc, full)?, wanted, "{full:?}");
-    }
+/// With the items of this line a world is refused for this.
+fn is_refused(
+    rt: &impl Abort,
+    alloc: Global,
+    full: (bool, bool),
+    wanted: Option<WorldFault>,
+) -> Result<(), WorldFault> {
+    same(rt, "new", &line_refusal(alloc, full)?, &wanted);
     Ok(())
 }
 
 #[test]
-fn a_line_with_an_item_is_refused(rt: HostRuntime) -> Result<(), Fail> {
-    line_refused(&rt, rt.alloc())?;
-    Ok(())
+fn a_line_with_an_item_is_refused(rt: HostRuntime) -> Result<(), WorldFault> {
+    let wanted = Some(WorldFault::BadConfig(BadWorld::Lines));
+    is_refused(&rt, rt.alloc(), (false, false), None)?;
+    is_refused(&rt, rt.alloc(), (true, false), wanted)?;
+    is_refused(&rt, rt.alloc(), (false, true), wanted)
 }
 
 const NOT_THERE: [(Entry, WorldFault); 17] = [
@@ -198,26 +197,21 @@ const NOT_THERE: [(Entry, WorldFault); 17] = [
     (Force(3, 1, 48), WorldFault::NoSystem),
 ];
 
-fn stopped(rt: &impl Abort, entry: Entry, came: Result<Reply, WorldFault>, fault: WorldFault) {
-    assert_eq!(rt; came, Err(fault), "{entry:?}");
-}
-
 /// Plays each event by `step` in one world; each names a system or a cable that does not exist.
 fn not_there(rt: &impl Abort, alloc: Global) -> Result<(), WorldFault> {
     let config = world_config(alloc, ONE)?;
     let lines = lines(alloc, 1, None)?;
     let mut world = World::new(alloc, config, modulo, modulo, lines)?;
-    for (entry, fault) in &NOT_THERE {
+    for (place, (entry, fault)) in NOT_THERE.iter().enumerate() {
         let came = world.step(&event(alloc, *entry)?);
-        stopped(rt, *entry, came, *fault);
+        same_in_row(rt, place, &came, &Err(*fault));
     }
     Ok(())
 }
 
 #[test]
-fn events_of_what_does_not_exist(rt: HostRuntime) -> Result<(), Fail> {
-    not_there(&rt, rt.alloc())?;
-    Ok(())
+fn events_of_what_does_not_exist(rt: HostRuntime) -> Result<(), WorldFault> {
+    not_there(&rt, rt.alloc())
 }
 
 /// The third event names a cable that does not exist.
@@ -237,15 +231,15 @@ fn stops(rt: &impl Abort, alloc: Global) -> Result<(), WorldFault> {
         done: 2,
         fault: WorldFault::NoCable,
     };
-    assert_eq!(rt; world.run(&events).err(), Some(stop));
-    assert_eq!(rt; world.step(&Event::Sense(1, 1)), Ok(Reply::Sensed(false)));
+    same(rt, "run", &world.run(&events).err(), &Some(stop));
+    let sensed = world.step(&Event::Sense(1, 1));
+    same(rt, "step", &sensed, &Ok(Reply::Sensed(false)));
     Ok(())
 }
 
 #[test]
-fn a_run_stops_at_the_first_fault(rt: HostRuntime) -> Result<(), Fail> {
-    stops(&rt, rt.alloc())?;
-    Ok(())
+fn a_run_stops_at_the_first_fault(rt: HostRuntime) -> Result<(), WorldFault> {
+    stops(&rt, rt.alloc())
 }
 
 /// The first 13 octets of `F48`.
@@ -303,9 +297,8 @@ const REFUSED_ROW: Row = Row {
 };
 
 #[test]
-fn refusals_of_a_system_are_replies(rt: HostRuntime) -> Result<(), Fail> {
-    plays(&rt, rt.alloc(), &REFUSED_ROW)?;
-    Ok(())
+fn refusals_of_a_system_are_replies(rt: HostRuntime) -> Result<(), WorldFault> {
+    plays(&rt, rt.alloc(), &REFUSED_ROW)
 }
 
 /// Triples of system, aggregator and conversation, in each of which one does not exist.
@@ -367,15 +360,16 @@ fn tells_no_flow<F: Fn(u16, usize) -> usize + Drop>(
     let sent = world.sent(system, AggId(agg), conv).len();
     let collected = world.collected(system, AggId(agg), conv).len();
     let forced = world.forced(system, AggId(agg), conv);
-    assert_eq!(rt; sent, 0, "sent: {flow:?}");
-    assert_eq!(rt; collected, 0, "collected: {flow:?}");
-    assert_eq!(rt; forced, false, "forced: {flow:?}");
+    same(rt, "sent", &sent, &0);
+    same(rt, "collected", &collected, &0);
+    same(rt, "forced", &forced, &false);
 }
 
 /// Checks which systems a world has.
 fn tells_systems<F: Fn(u16, usize) -> usize + Drop>(rt: &impl Abort, world: &World<AnyCable, F>) {
-    for (number, there) in [(0, false), (1, true), (2, true), (3, false)] {
-        assert_eq!(rt; world.system(number).is_some(), there, "system {number}");
+    for (place, there) in [false, true, true, false].iter().enumerate() {
+        let number = place as u8;
+        same_in_row(rt, place, &world.system(number).is_some(), there);
     }
 }
 
@@ -388,20 +382,18 @@ fn nothing_told(rt: &impl Abort, alloc: Global) -> Result<(), WorldFault> {
     let mut world = World::new(alloc, config, modulo, modulo, lines)?;
     compare_run(rt, 0, &entries, world.run(&events));
     tells(rt, &world, &FORCED_ROW);
-    for cable in [0, 3] {
-        assert_eq!(rt; world.agreement(cable), None, "agreement of cable {cable}");
-    }
-    for flow in NO_FLOWS {
-        tells_no_flow(rt, &world, flow);
+    same(rt, "cable 0", &world.agreement(0), &None);
+    same(rt, "cable 3", &world.agreement(3), &None);
+    for flow in &NO_FLOWS {
+        tells_no_flow(rt, &world, *flow);
     }
     tells_systems(rt, &world);
     Ok(())
 }
 
 #[test]
-fn readers_of_what_does_not_exist(rt: HostRuntime) -> Result<(), Fail> {
-    nothing_told(&rt, rt.alloc())?;
-    Ok(())
+fn readers_of_what_does_not_exist(rt: HostRuntime) -> Result<(), WorldFault> {
+    nothing_told(&rt, rt.alloc())
 }
 
 const NUMBERS: [(WorldFault, u8); 5] = [
@@ -414,8 +406,8 @@ const NUMBERS: [(WorldFault, u8); 5] = [
 
 #[test]
 fn each_fault_has_its_number(rt: HostRuntime) {
-    for (fault, number) in NUMBERS {
-        assert_eq!(rt; fault.number(), number, "{fault:?}");
+    for (place, (fault, number)) in NUMBERS.iter().enumerate() {
+        same_in_row(&rt, place, &fault.number(), number);
     }
 }
 
@@ -431,11 +423,8 @@ fn refusals_of_an_event_come_in_order(rt: HostRuntime) {
         (true, true, true, Some(WorldFault::Spent)),
         (true, true, false, None),
     ];
-    for (cable, system, spent, expected) in &cases {
-        assert_eq!(rt;
-            WorldFault::first_of_event(*cable, *system, *spent),
-            *expected,
-            "cable {cable}, system {system}, spent {spent}"
-        );
+    for (place, (cable, system, spent, expected)) in cases.iter().enumerate() {
+        let first = WorldFault::first_of_event(*cable, *system, *spent);
+        same_in_row(&rt, place, &first, expected);
     }
 }

@@ -1,13 +1,13 @@
+use crate::comparing::same_in_row;
 use crate::worlds::conversations::MOVES;
+use crate::worlds::event;
 use crate::worlds::given::{TWO, lines, modulo, world_config};
 use crate::worlds::starts::COMING_UP;
-use crate::worlds::{Entry, event};
 use cables::AnyCable;
 use lagtypes::{AggId, NoMemory};
 use lagworld::{Agreement, Event, World, WorldFault};
 use std::alloc::Global;
 use std::process::Abort;
-use std::test::Fail;
 
 /// The events in which a conversation moves, and a restart of this system before the event at this index, or after the
 /// last.
@@ -45,23 +45,14 @@ fn is_subsequence(part: &[u64], whole: &[u64]) -> bool {
 fn keeps<F: Fn(u16, usize) -> usize + Drop>(
     rt: &impl Abort,
     world: &World<AnyCable, F>,
-    restart: (u8, usize),
     place: usize,
 ) {
-    for cable in [1, 2] {
-        let agreement = world.agreement(cable);
-        assert_ne!(rt;
-            agreement,
-            Some(Agreement::Differ),
-            "restart {restart:?}, event {place}, cable {cable}"
-        );
-    }
+    let differ = Some(Agreement::Differ);
+    same_in_row(rt, place, &(world.agreement(1) == differ), &false);
+    same_in_row(rt, place, &(world.agreement(2) == differ), &false);
     let sent = world.sent(1, AggId(1), 48);
     let collected = world.collected(1, AggId(1), 48);
-    assert!(rt;
-        is_subsequence(collected, sent),
-        "restart {restart:?}, event {place}: {collected:?} of {sent:?}"
-    );
+    same_in_row(rt, place, &is_subsequence(collected, sent), &true);
 }
 
 /// Restarts this system before the event of the move at this index.
@@ -72,13 +63,13 @@ fn restarts(rt: &impl Abort, alloc: Global, system: u8, place: usize) -> Result<
     let events = with_restart(alloc, system, place)?;
     for (at, event) in events.iter().enumerate() {
         world.step(event)?;
-        keeps(rt, &world, (system, place), at);
+        keeps(rt, &world, at);
     }
     Ok(())
 }
 
 #[test]
-fn a_restart_at_each_place_of_a_move(rt: HostRuntime) -> Result<(), Fail> {
+fn a_restart_at_each_place_of_a_move(rt: HostRuntime) -> Result<(), WorldFault> {
     for place in 0..=16 {
         restarts(&rt, rt.alloc(), 1, place)?;
         restarts(&rt, rt.alloc(), 2, place)?;

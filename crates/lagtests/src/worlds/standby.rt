@@ -1,3 +1,4 @@
+use crate::comparing::same_in_row;
 use crate::worlds::Entry::{Cut, Deliver, Emit, Join, Offer, Sense, Tick};
 use crate::worlds::Want::{Is, Lacpdu};
 use crate::worlds::given::{Limits, Setting, TWO, lines, modulo, world_config};
@@ -9,7 +10,6 @@ use lagtypes::AggId;
 use lagworld::{Agreement, Reply, World, WorldFault};
 use std::alloc::Global;
 use std::process::Abort;
-use std::test::Fail;
 
 const SELECTED: Choice = Choice::Selected(AggId(1));
 
@@ -171,12 +171,12 @@ fn chosen<F: Fn(u16, usize) -> usize + Drop>(
     wanted: Choices,
 ) {
     let ports = [(1, 1), (1, 2), (2, 1), (2, 2)];
-    for ((system, port), wanted) in ports.into_iter().zip(wanted) {
-        let choice = match world.system(system) {
-            Some(found) => found.choice(port),
+    for (place, ((system, port), wanted)) in ports.iter().zip(&wanted).enumerate() {
+        let choice = match world.system(*system) {
+            Some(found) => found.choice(*port),
             None => None,
         };
-        assert_eq!(rt; choice, Some(wanted), "port {port} of system {system}");
+        same_in_row(rt, place, &choice, &Some(*wanted));
     }
 }
 
@@ -194,17 +194,15 @@ fn leads_to(rt: &impl Abort, alloc: Global, row: &Row, wanted: Choices) -> Resul
 }
 
 #[test]
-fn a_standby_cable_takes_over_and_the_first_comes_back(rt: HostRuntime) -> Result<(), Fail> {
+fn a_standby_cable_takes_over_and_the_first_comes_back(rt: HostRuntime) -> Result<(), WorldFault> {
     let ports = [Choice::Unselected, SELECTED, STANDBY, SELECTED];
-    leads_to(&rt, rt.alloc(), &BOTH_ROW, ports)?;
-    Ok(())
+    leads_to(&rt, rt.alloc(), &BOTH_ROW, ports)
 }
 
 #[test]
-fn the_limit_is_that_of_its_own_system(rt: HostRuntime) -> Result<(), Fail> {
+fn the_limit_is_that_of_its_own_system(rt: HostRuntime) -> Result<(), WorldFault> {
     let first = [Choice::Unselected, SELECTED, SELECTED, SELECTED];
     leads_to(&rt, rt.alloc(), &FIRST_ROW, first)?;
     let second = [SELECTED, SELECTED, SELECTED, STANDBY];
-    leads_to(&rt, rt.alloc(), &SECOND_ROW, second)?;
-    Ok(())
+    leads_to(&rt, rt.alloc(), &SECOND_ROW, second)
 }
