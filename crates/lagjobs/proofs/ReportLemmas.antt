@@ -16,7 +16,8 @@ use Rattle.lagjobs.specs.CheckReport.{verdict_line, check_report, check_report_f
 use Rattle.lagjobs.specs.Scans.{ReadsOctets, ScanState, summary_after, to_write_after, unwritten}
 use Rattle.lagstreams.specs.Sinks.{AppendsPart, SinkState, WritesWhole}
 use Rattle.lagstreams.specs.Sources.{Fails, Gives, SourceState}
-use Rattle.lagjobs.specs.Verdicts.{hex_verdict, is_fault, line_verdict, verdict_text, without_return}
+use Rattle.lagjobs.specs.Verdicts.{hex_verdict, is_fault, line_verdict, verdict_text}
+use Rattle.lagstreams.specs.Lines.{without_return}
 use Rattle.lagjobs.specs.declared.fault.ToolFault.{ToolFault}
 use Rattle.lagjobs.specs.declared.fault.ToolFault.TheVariants.{NoMemory, Read, Write}
 use Rattle.lagjobs.specs.declared.summary.Summary.{Summary}

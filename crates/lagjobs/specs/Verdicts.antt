@@ -1,5 +1,5 @@
 -- The verdict of `check` on a line (profile).
-use Rattle.std.specs.Prelude.{ℕ, ◌-◌, ◌==◌, ◌&&◌, Bool, true, false, List, length, drop, take, slice_index, slice_index_or, nat_lt}
+use Rattle.std.specs.Prelude.{ℕ, ◌==◌, ◌&&◌, Bool, true, false, List, length, drop, slice_index, nat_lt}
 use Rattle.std.specs.Prelude.{if◌then◌else◌, codes, Option, Some, None, Result, Ok, Err}
 use Rattle.hex.specs.Hex.{decode_of}
 use Rattle.hex.specs.declared.error.FromHexError.{FromHexError}
@@ -7,6 +7,7 @@ use Rattle.slowpdu.specs.Faults.{fault_of}
 use Rattle.slowpdu.specs.declared.fault.WireFault.{WireFault}
 use Rattle.slowpdu.specs.declared.pdu.MarkerKind.{MarkerKind}
 use Rattle.slowpdu.specs.declared.pdu.MarkerKind.TheVariants.{Information, Response}
+use Rattle.lagstreams.specs.Lines.{longest_line, without_return}
 use Rattle.lagjobs.specs.Texts.{refusal_text}
 use Rattle.lagjobs.specs.declared.verdict.Verdict.{Verdict}
 use Rattle.lagjobs.specs.declared.verdict.Verdict.TheVariants.{Lacpdu, Marker, MarkerResponse, Data, Runt, Refused, NotHex, TooLong}
@@ -43,14 +44,6 @@ frame_verdict octets =
 abbrev pub hex_verdict : Result (List ℕ) FromHexError → Verdict
 hex_verdict (Ok octets) = frame_verdict octets
 hex_verdict (Err e) = NotHex
-
--- the line without one carriage return at its end
-abbrev pub without_return : List ℕ → List ℕ
-without_return line = if slice_index_or line (length line - 1) 0 == 13 then take (length line - 1) line else line
-
--- the length of the longest line, including a carriage return
-abbrev pub longest_line : ℕ
-longest_line = 65536
 
 -- the verdict on a line
 abbrev pub line_verdict : List ℕ → Verdict

@@ -5,8 +5,8 @@ ghost use Rattle.lagjobs.specs.Scans.{ReadsOctets, summary_after, unwritten};
 ghost use Rattle.lagstreams.specs.Sinks.{WritesPart, WritesWhole};
 
 use crate::summary::Summary;
-use crate::verdict::{LONGEST_LINE, line_verdict};
-use lagstreams::{Sink, WriteFailed};
+use crate::verdict::line_verdict;
+use lagstreams::{LONGEST_LINE, Sink, WriteFailed};
 use memchr::memchr;
 use std::alloc::{AllocError, Global};
 use std::io::Write;

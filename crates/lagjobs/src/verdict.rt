@@ -1,15 +1,14 @@
 ghost use Rattle.std.specs.Prelude.{◌≡◌, ◌≤◌, Some, IfOk, length};
-ghost use Rattle.lagjobs.specs.Verdicts.{frame_verdict, is_fault, kind_verdict, line_verdict, longest_line, payload_verdict};
-ghost use Rattle.lagjobs.specs.Verdicts.{verdict_text, without_return};
+ghost use Rattle.lagjobs.specs.Verdicts.{frame_verdict, is_fault, kind_verdict, line_verdict, payload_verdict};
+ghost use Rattle.lagjobs.specs.Verdicts.{verdict_text};
+ghost use Rattle.lagstreams.specs.Lines.{longest_line, without_return};
 
 use crate::texts::RefusalText;
 use hex::FromHexError;
+use lagstreams::{LONGEST_LINE, without_return};
 use slowpdu::{Kind, MarkerKind, Pdu, WireFault, classify, decode};
 use std::alloc::{AllocError, Global};
 use std::fmt;
-
-/// The most octets of a line, including a carriage return (profile).
-pub const LONGEST_LINE: usize = 65_536;
 
 /// The verdict of `check` on a line (profile).
 #[derive(Clone, Copy, Debug, PartialEq, Eq)]
@@ -90,18 +89,6 @@ fn frame_verdict(octets: &[u8]) -> Verdict
         Kind::TooShort => Verdict::Runt,
         Kind::Data => Verdict::Data,
         Kind::Control(payload) => payload_verdict(payload),
-    }
-}
-
-/// The line without one carriage return at its end.
-fn without_return(line: &[u8]) -> &[u8]
-    ensures { result.now ≡ without_return line.now }
-{
-    let len = line.len();
-    if len > 0 && line[len - 1] == b'\r' {
-        &line[..len - 1]
-    } else {
-        line
     }
 }
 

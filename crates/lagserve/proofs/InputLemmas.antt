@@ -4,9 +4,9 @@ use Rattle.std.proofs.Common.{sym, ap, ◌∙◌, arith}
 use Rattle.std.proofs.lemmas.List.{length-append, map-append, take-map, take_at}
 use Rattle.std.proofs.lemmas.Bool.{lt-ltb}
 use Rattle.std.specs.Prelude.{Err}
-use Rattle.lagstreams.specs.Lines.{lines_of, continue_line}
+use Rattle.lagstreams.specs.Lines.{lines_of, continue_line, longest_line}
 use Rattle.lagstreams.proofs.LineLemmas.{octet_joined}
-use Rattle.lagserve.specs.Lines.{longest_line, request_in}
+use Rattle.lagserve.specs.Lines.{request_in}
 use Rattle.lagserve.specs.Sessions.{requests}
 use Rattle.lagserve.specs.declared.fault.RequestFault.TheVariants.{TooLong}
 

@@ -6,8 +6,8 @@ use Rattle.std.proofs.KnownBytes.{Appends-trans}
 use Rattle.std.specs.Prelude.{IfErr, IsErrAnd, Result, Ok, Err}
 use Rattle.std.specs.Io.KnownBytes.{Appends}
 use Rattle.lagserve.specs.Engines.{AnswersLine, DoesRequest, AnswersFault, EngineState}
-use Rattle.lagstreams.specs.Lines.{line_if_any, lines_of, continue_line}
-use Rattle.lagserve.specs.Lines.{longest_line, request_in}
+use Rattle.lagstreams.specs.Lines.{line_if_any, lines_of, continue_line, longest_line}
+use Rattle.lagserve.specs.Lines.{request_in}
 use Rattle.lagserve.specs.AnswerValues.{AnswerValue}
 use Rattle.lagserve.specs.Sessions.{AnswersLines, AnswersSome, WritesAllButAnEnd, Feeds, Finishes, StopsAnswering, ReadsOctets}
 use Rattle.lagserve.specs.Sessions.{SessionState, WritesAnswer, FailsToAnswer, answer_line, answer_lines, requests}

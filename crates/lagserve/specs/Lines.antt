@@ -1,14 +1,11 @@
 -- What a line asks for (profile).
-use Rattle.std.specs.Prelude.{ℕ, ◌-◌, ◌==◌, List, [], ◌∷◌, length, take, slice_index_or, nat_lt, if◌then◌else◌, Result, Err}
+use Rattle.std.specs.Prelude.{ℕ, List, [], ◌∷◌, length, nat_lt, if◌then◌else◌, Result, Err}
 use Rattle.std.specs.Str.{is_utf8}
+use Rattle.lagstreams.specs.Lines.{longest_line, without_return}
 use Rattle.lagserve.specs.Requests.{RequestValue, request_named}
 use Rattle.lagserve.specs.Words.{parts}
 use Rattle.lagserve.specs.declared.fault.RequestFault.{RequestFault}
 use Rattle.lagserve.specs.declared.fault.RequestFault.TheVariants.{TooLong, NotText, Word}
-
--- the length of the longest line before its newline, a carriage return counted
-abbrev pub longest_line : ℕ
-longest_line = 65536
 
 -- the request of the words of a line; Word if there is none
 abbrev pub request_of_words : List (List ℕ) → Result RequestValue RequestFault
@@ -18,10 +15,6 @@ request_of_words (name ∷ ws) = request_named name ws
 -- the request of a line that is UTF-8: its words are cut at every single space
 abbrev pub request_of_text : List ℕ → Result RequestValue RequestFault
 request_of_text text = request_of_words (parts 32 text)
-
--- the line without one carriage return at its end
-abbrev pub without_return : List ℕ → List ℕ
-without_return line = if slice_index_or line (length line - 1) 0 == 13 then take (length line - 1) line else line
 
 -- the request of a line that is not too long, without a carriage return at its end; or the first fault
 abbrev pub request_of_octets : List ℕ → Result RequestValue RequestFault

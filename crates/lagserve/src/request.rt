@@ -1,5 +1,6 @@
 ghost use Rattle.std.specs.Prelude.{◌≡◌, map};
-ghost use Rattle.lagserve.specs.Lines.{longest_line, request_in, request_of_octets, request_of_text, without_return};
+ghost use Rattle.lagserve.specs.Lines.{request_in, request_of_octets, request_of_text};
+ghost use Rattle.lagstreams.specs.Lines.{longest_line, without_return};
 ghost use Rattle.lagserve.specs.Requests.{ReadsAs, request_value, no_words, with_no_words, with_one_word, request_named, task_named};
 ghost use Rattle.lagserve.specs.Requests.{task_value, with_two_words};
 ghost use Rattle.lagserve.specs.Requests as asked;
@@ -10,11 +11,9 @@ use crate::call_words::call_named;
 use crate::config::system;
 use crate::fault::{RequestError, RequestFault};
 use crate::words::{number, octets, words_of};
+use lagstreams::{LONGEST_LINE, without_return};
 use lagsystem::{AggId, Call, Config};
 use std::alloc::Global;
-
-/// The most octets of a line before its newline, a carriage return counted (profile).
-pub const LONGEST_LINE: usize = 65_536;
 
 /// A question about one port.
 #[derive(Clone, Copy)]
@@ -193,18 +192,6 @@ fn request_of_text(alloc: Global, text: &str) -> Result<Request, RequestError>
     match words.as_slice() {
         [name, words @ ..] => request_named(alloc, name, words),
         [] => Err(RequestError::Fault(RequestFault::Word)),
-    }
-}
-
-/// The line without one carriage return at its end.
-fn without_return(line: &[u8]) -> &[u8]
-    ensures { result.now ≡ without_return line.now }
-{
-    let len = line.len();
-    if len > 0 && line[len - 1] == b'\r' {
-        &line[..len - 1]
-    } else {
-        line
     }
 }
 

@@ -8,9 +8,8 @@ ghost use Rattle.lagserve.specs.Sessions.{session_of};
 
 use crate::answer::Answer;
 use crate::engine::Engine;
-use crate::request::LONGEST_LINE;
 use crate::stopped::Stopped;
-use lagstreams::Sink;
+use lagstreams::{LONGEST_LINE, Sink};
 use std::alloc::{AllocError, Global};
 use std::io::Write;
 

@@ -1,5 +1,5 @@
 -- The lines of everything that is read, whatever the size of each read (profile).
-use Rattle.std.specs.Prelude.{ℕ, suc, ◌++◌, ◌==◌, List, [], ◌∷◌, if◌then◌else◌, take}
+use Rattle.std.specs.Prelude.{ℕ, suc, ◌-◌, ◌++◌, ◌==◌, List, [], ◌∷◌, if◌then◌else◌, length, slice_index_or, take}
 
 -- a list of this one line; empty if the line has no octets
 abbrev pub line_if_any : List ℕ → List (List ℕ)
@@ -24,3 +24,11 @@ newline_count (b ∷ bs) = if b == 10 then suc (newline_count bs) else newline_c
 -- the lines that a newline ends: the first lines, as many as there are newlines
 abbrev pub ended_lines : List ℕ → List (List ℕ)
 ended_lines octets = take (newline_count octets) (lines_of octets)
+
+-- the length of the longest line before its newline, a carriage return counted
+abbrev pub longest_line : ℕ
+longest_line = 65536
+
+-- the line without one carriage return at its end
+abbrev pub without_return : List ℕ → List ℕ
+without_return line = if slice_index_or line (length line - 1) 0 == 13 then take (length line - 1) line else line

@@ -2,8 +2,10 @@
 //! `lagengine` stand on. In comments, "profile" is docs/PROFILE.md.
 #![tactic(auto)]
 
+mod line;
 mod sink;
 mod source;
 
+pub use line::{LONGEST_LINE, without_return};
 pub use sink::{Sink, WriteFailed};
 pub use source::{ReadFailed, Source};

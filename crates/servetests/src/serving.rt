@@ -47,6 +47,8 @@ impl Read for Given<'_> {
 struct Taken {
     octets: Vec<u8>,
     room: usize,
+    /// How many octets it had accepted at each flush.
+    flushed: Vec<usize>,
 }
 
 impl Write for Taken {
@@ -61,6 +63,7 @@ impl Write for Taken {
     }
 
     fn flush(&mut self) -> io::Result<()> {
+        self.flushed.push(self.octets.len())?;
         Ok(())
     }
 }
@@ -70,6 +73,8 @@ impl Write for Taken {
 struct Outcome {
     ended: Result<(), Stopped>,
     text: String,
+    /// How many octets were written at each flush.
+    flushed: Vec<usize>,
 }
 
 /// The outcome for the octets of this reader, with room for this many octets of answers.
@@ -78,11 +83,16 @@ fn outcome_of(alloc: Global, input: Given<'_>, room: usize) -> Result<Outcome, A
     let mut sink = Sink::new(Taken {
         octets: Vec::new(alloc),
         room,
+        flushed: Vec::new(alloc),
     });
     let ended = serve(alloc, by_number, &mut source, &mut sink);
     let out = sink.into_inner();
     let text = String::from_utf8_lossy(alloc, out.octets.as_slice())?;
-    Ok(Outcome { ended, text })
+    Ok(Outcome {
+        ended,
+        text,
+        flushed: out.flushed,
+    })
 }
 
 /// A reader of these octets, this many in each read, that does not fail.
@@ -255,6 +265,14 @@ fn the_end_of_the_input(rt: HostRuntime) -> Result<(), Fail> {
     check_ends(&rt, rt.alloc(), 1)?;
     check_ends(&rt, rt.alloc(), 3)?;
     check_ends(&rt, rt.alloc(), 4096)?;
+    Ok(())
+}
+
+#[test]
+fn each_answer_is_flushed(rt: HostRuntime) -> Result<(), Fail> {
+    let outcome = outcome_of(rt.alloc(), reader_of(b"tick\n\n", 4096), usize::MAX)?;
+    check_outcome(&rt, &outcome, Ok(()), "fault no-system\nfault word\n");
+    assert_eq!(rt; outcome.flushed.as_slice(), [16, 27].as_slice());
     Ok(())
 }
 

@@ -1,6 +1,6 @@
 use Rattle.std.proofs.Common.{ℕ, List, ◌<◌, ◌∷◌, [], arith, length, refl}
 use Rattle.lagstreams.specs.Lines.{lines_of, continue_line}
-use Rattle.lagserve.specs.Lines.{longest_line}
+use Rattle.lagstreams.specs.Lines.{longest_line}
 use Rattle.lagserve.specs.Sessions.{StopsAnswering, SessionState, session_of}
 use Rattle.lagserve.specs.declared.stopped.Stopped.TheVariants.{NoMemory}
 use Rattle.lagstreams.proofs.LineLemmas.{is_newline, newline_joined, not_newline}
