@@ -13,7 +13,7 @@ use Rattle.lagsystem.specs.declared.fault.SystemFault.{SystemFault}
 use Rattle.lagsystem.specs.declared.received.Received.{Received}
 use Rattle.lagsystem.specs.declared.received.Received.TheVariants as received
 use Rattle.lagsystem.specs.Calls.{Call, Receive, Tick, Set_link, Configure, Restart, Transmit, Offer, Move_conversation, Force}
-use Rattle.lagsystem.specs.Calls.{Step, TableRun}
+use Rattle.lagsystem.specs.Calls.{TableRun}
 use Rattle.lagsystem.specs.First.{IsFirst}
 use Rattle.lagsystem.specs.State.{SystemState}
 use Rattle.lagsystem.proofs.Sound.{Step-sound, first_sound}

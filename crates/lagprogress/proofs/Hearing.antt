@@ -1,27 +1,25 @@
 -- A port that processes no LACPDU comes nearer to EXPIRED and DEFAULTED with each tick.
-use Rattle.std.proofs.Common.{◌≡◌, ◌≢◌, ◌∙◌, ◌==◌, ◌&&◌, ℕ, zero, suc, ◌+◌, ◌-◌, ◌≤◌, Bool, true, false, not, List, [], ◌∷◌, refl}
+use Rattle.std.proofs.Common.{◌≡◌, ◌∙◌, ◌==◌, ◌&&◌, ℕ, zero, suc, ◌+◌, ◌-◌, ◌≤◌, Bool, true, false, not, List, [], ◌∷◌, refl}
 use Rattle.std.proofs.Common.{sym}
-use Rattle.std.proofs.Common.{subst, ap, arith, inl, inr, Ok}
+use Rattle.std.proofs.Common.{subst, ap, arith, inl, inr}
 use Rattle.std.specs.Prelude.{IsTrue, if◌then◌else◌}
 use Rattle.std.proofs.lemmas.Bool.Decides.{nat_tests}
 use Rattle.portmachines.specs.declared.receive.ReceiveState.{ReceiveState}
 use Rattle.portmachines.specs.declared.receive.ReceiveState.TheVariants.{Initialize, PortDisabled, Expired, Defaulted, Current}
 use Rattle.portmachines.specs.Machines.{Machines}
 use Rattle.portmachines.specs.Mux.{mux_rows}
-use Rattle.portmachines.specs.Periodic.{RunsPeriodic, periodic_rows}
+use Rattle.portmachines.specs.Periodic.{periodic_rows}
 use Rattle.portmachines.specs.Receive.{receive_rows, same_receive_state}
 use Rattle.portmachines.specs.Rows.{AtRest, Fires, FiresTimes, Row, RunsToRest}
 use Rattle.portmachines.specs.Transmit.{count_down}
 use Rattle.lagsystem.specs.declared.drive.Reply.{Reply}
-use Rattle.lagsystem.specs.declared.drive.Reply.TheVariants as reply
-use Rattle.lagsystem.specs.declared.received.Received.TheVariants.{TookLacpdu}
 use Rattle.lagsystem.specs.declared.system_ports.SystemPort.{SystemPort}
 use Rattle.lagsystem.specs.Calls.{Call, Tick, Set_link, Receive, Configure, Restart, Transmit, Offer, Move_conversation, Force}
 use Rattle.lagsystem.specs.Calls.{choice_with_link}
 use Rattle.lagsystem.specs.ModelView.{can_receive_in, none_enabled}
 use Rattle.lagsystem.proofs.Rest.{can_receive_at_rest}
 use Rattle.lagsystem.proofs.Rising.{all-get}
-use Rattle.lagprogress.specs.Hearing.{IsNoticed, LeavesUnheard, processed_on, starts_again, timeout_time}
+use Rattle.lagprogress.specs.Hearing.{IsNoticed, LeavesUnheard, processed_on, timeout_time}
 use Rattle.lagprogress.specs.Heartbeat.{tick_count}
 use Rattle.lagprogress.specs.Timers.{IsTimed, most_current_while}
 use Rattle.lagprogress.proofs.EachPort.{KeptByCall, KeptBySettling}

@@ -1,6 +1,6 @@
 -- A port that is active, whose link stays up and that sends nothing comes nearer to its next LACPDU with each tick.
 use Rattle.std.proofs.Common.{◌≡◌, ◌∙◌, ◌==◌, ◌&&◌, ℕ, zero, suc, ◌+◌, ◌-◌, ◌<◌, ◌≤◌, Bool, true, false, not, cond, ◌⊎◌, inl, inr}
-use Rattle.std.proofs.Common.{Option, Some, None, List, [], ◌∷◌, length, refl, sym, subst, ap, arith, if◌then◌else◌}
+use Rattle.std.proofs.Common.{List, [], ◌∷◌, length, refl, sym, subst, ap, arith, if◌then◌else◌}
 use Rattle.std.specs.Prelude.{◌||◌, nat_lt}
 use Rattle.std.specs.List.{AllByRecursion}
 use Rattle.std.proofs.lemmas.Bool.Decides.{nat_tests}
@@ -13,7 +13,7 @@ use Rattle.portmachines.specs.Periodic.{RunsPeriodic, partner_short, periodic_ro
 use Rattle.portmachines.specs.Receive.{lacpdu_rows, receive_rows, start_receive}
 use Rattle.portmachines.specs.Rows.{AtRest, RunsToRest}
 use Rattle.portmachines.specs.Start.{Starts}
-use Rattle.portmachines.specs.Transmit.{aged, after_sending, count_down, is_due}
+use Rattle.portmachines.specs.Transmit.{aged, count_down}
 use Rattle.portmachines.proofs.Windows.{periodic-ages}
 use Rattle.lagsystem.specs.declared.drive.Reply.{Reply}
 use Rattle.lagsystem.specs.declared.system_ports.SystemPort.{SystemPort}

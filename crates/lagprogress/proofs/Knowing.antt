@@ -1,5 +1,5 @@
 -- A port keeps what it recorded of an LACPDU while current_while has ticks left.
-use Rattle.std.proofs.Common.{◌≡◌, ◌∙◌, ◌==◌, ◌&&◌, ℕ, zero, suc, ◌+◌, ◌-◌, ◌≤◌, ◌<◌, Bool, true, false, not, List, [], ◌∷◌, Some}
+use Rattle.std.proofs.Common.{◌≡◌, ◌∙◌, ◌==◌, ◌&&◌, ℕ, zero, suc, ◌+◌, ◌-◌, ◌≤◌, Bool, true, false, List, [], ◌∷◌, Some}
 use Rattle.std.proofs.Common.{refl, sym}
 use Rattle.std.proofs.Common.{subst, ap, arith, inl, inr, if◌then◌else◌}
 use Rattle.std.specs.Prelude.{slice_get, slice_set}
@@ -10,14 +10,13 @@ use Rattle.lagtypes.specs.declared.state.StateBits.{StateBits}
 use Rattle.lagtypes.proofs.StateLemmas.{encode_then_decode}
 use Rattle.slowpdu.specs.declared.pdu.Info.{Info}
 use Rattle.slowpdu.specs.declared.pdu.Lacpdu.{Lacpdu}
-use Rattle.slowpdu.specs.Parties.{party_of}
 use Rattle.portmachines.specs.declared.receive.ReceiveState.{ReceiveState}
 use Rattle.portmachines.specs.declared.receive.ReceiveState.TheVariants.{Initialize, PortDisabled, Expired, Defaulted, Current}
 use Rattle.portmachines.specs.Machines.{Machines}
 use Rattle.portmachines.specs.Mux.{mux_rows}
 use Rattle.portmachines.specs.Periodic.{periodic_rows}
-use Rattle.portmachines.specs.Receive.{lacpdu_rows, receive_rows, recorded_synchronization, same_receive_state}
-use Rattle.portmachines.specs.Rows.{AtRest, Fires, RunsToRest}
+use Rattle.portmachines.specs.Receive.{receive_rows, recorded_synchronization, same_receive_state}
+use Rattle.portmachines.specs.Rows.{AtRest, RunsToRest}
 use Rattle.portmachines.specs.Transmit.{count_down}
 use Rattle.lagsystem.specs.declared.drive.Reply.{Reply}
 use Rattle.lagsystem.specs.declared.system_ports.SystemPort.{SystemPort}
@@ -31,8 +30,7 @@ use Rattle.lagsystem.proofs.Effects.{named}
 use Rattle.lagsystem.proofs.Keeps.{keeps_place, keeps_settled}
 use Rattle.lagsystem.proofs.Rising.{Rises, all-get, ports_rise}
 use Rattle.lagprogress.specs.Hearing.{LeavesUnheard, processed_on, timeout_time}
-use Rattle.lagprogress.specs.Heartbeat.{tick_count}
-use Rattle.lagprogress.specs.Knowing.{HasRecorded, IsKnown, IsRecorded}
+use Rattle.lagprogress.specs.Knowing.{HasRecorded, IsKnown}
 use Rattle.lagprogress.proofs.EachPort.{KeptByCall, KeptBySettling, settling_each}
 use Rattle.lagprogress.proofs.Hearing.{EnabledKeep, both, is_number, no, not_down, stays_up, times_keep}
 use Rattle.lagprogress.proofs.OnePort.{AtPort, GoesOn, at_number, goes_on, same_place}

@@ -1,8 +1,7 @@
 -- Healthy rounds that are played.
 use Rattle.std.proofs.Common.{◌≡◌, ◌∙◌, ℕ, zero, suc, ◌+◌, ◌≤◌, Bool, true, false, List, [], ◌∷◌, ◌++◌, length, map, get_or}
 use Rattle.std.proofs.Common.{Some, Result, Ok, Err, inl, inr, refl, sym, subst, ap, arith, nat_le}
-use Rattle.std.specs.Prelude.{IfErr, IfOk, IsErrAnd, is_some, slice_get}
-use Rattle.std.specs.List.{AllByRecursion}
+use Rattle.std.specs.Prelude.{IfErr, IfOk, IsErrAnd, is_some, slice_get, take}
 use Rattle.std.proofs.lemmas.Bool.{false≢true}
 use Rattle.std.proofs.lemmas.Bool.Decides.{nat_tests}
 use Rattle.std.proofs.lemmas.Option.{none-some, same_Some}
@@ -23,7 +22,8 @@ use Rattle.lagworld.specs.Events.{cause_or_no_memory, first_event_cause, most_ev
 use Rattle.lagworld.specs.ModelWorld.{link_ends, world_setup}
 use Rattle.lagworld.specs.Sound.{RefusesNext, RunStops, both_algorithms, next_of}
 use Rattle.lagworld.specs.State.{ItemValue, LinkState, WorldState, towards}
-use Rattle.lagprogress.specs.Played.{AllArrives, HasOneCable, IsOutOfMemoryOrSpent}
+use Rattle.lagprogress.specs.Played.{AllArrives, Delivers, HasOneCable, IsOutOfMemoryOrSpent, PlaysPart, PlaysParts}
+use Rattle.lagprogress.specs.Played.{asks_of_round}
 use Rattle.lagprogress.specs.Rounds.{IsDeliver, IsRound, NothingInFlight, Rounds, asks_all, ticks_of_both}
 
 -- one cable
@@ -34,13 +34,6 @@ pub one_link : (e : Ends) (links : List LinkState) → map link_ends links ≡ e
 one_link e [] h = absurd (omega (arith, ap length h))
 one_link e (l ∷ []) h = (l, refl, ap (λ xs. get_or xs 0 e) h)
 one_link e (l ∷ m ∷ rest) h = absurd (omega (arith, ap length h))
-
--- what a list of Deliver events leads to
-pub record Delivers (gives : Algorithms) (old new : WorldState) : Type 0 where
-  pub delivers : List Event
-  pub replies : List Reply
-  pub arrives : AllByRecursion IsDeliver delivers
-  pub acts : WorldRuns gives old delivers replies new
 
 pub none_yet : (gives : Algorithms) (old : WorldState) → Delivers gives old old
 none_yet gives old = record { delivers = []; replies = []; arrives = tt; acts = refl }
@@ -157,23 +150,12 @@ if_err P Q (Err e) k h = k e h
 
 -- a round
 
--- the events of a round before the cable is emptied
-abbrev pub asked : ℕ → ℕ → List Event
-asked one two =
-    event.Tick 1 1
-    ∷ event.Tick 2 1
-    ∷ event.Emit 1 one
-    ∷ event.Emit 1 one
-    ∷ event.Emit 2 two
-    ∷ event.Emit 2 two
-    ∷ []
-
 pub round_played : (gives : Algorithms) (one two : ℕ) (replies : List Reply) (old mid new : WorldState) → HasOneCable one two old
-    → WorldRuns gives old (asked one two) replies mid → AllArrives gives mid new → IsRound gives old new
+    → WorldRuns gives old (asks_of_round one two) replies mid → AllArrives gives mid new → IsRound gives old new
 round_played gives one two replies old mid new h x a =
     let k = one_link (record { one = one; two = two }) old.links h in
-    let all = runs_append gives (asked one two) a.delivers replies a.replies old mid new x a.acts in
-    let named = subst (λ (e : Ends). WorldRuns gives old (asked e.one e.two ++ a.delivers) (replies ++ a.replies) new) (sym k.2) all in
+    let all = runs_append gives (asks_of_round one two) a.delivers replies a.replies old mid new x a.acts in
+    let named = subst (λ (e : Ends). WorldRuns gives old (asks_of_round e.one e.two ++ a.delivers) (replies ++ a.replies) new) (sym k.2) all in
     record {
       delivers = a.delivers;
       replies = replies ++ a.replies;
@@ -182,6 +164,38 @@ round_played gives one two replies old mid new h x a =
           named;
       empties = a.empties;
     }
+
+-- whatever cables there are
+
+-- the first events of a round alone
+pub only_asked : (gives : Algorithms) (one two n : ℕ) (replies : List Reply) (old new : WorldState)
+    → WorldRuns gives old (take n (asks_of_round one two)) replies new → PlaysPart gives one two old new
+only_asked gives one two n replies old new h = record {
+  asked = n;
+  delivers = [];
+  replies = replies ++ [];
+  arrives = tt;
+  behind_all = inl refl;
+  acts = runs_append gives (take n (asks_of_round one two)) [] replies [] old new new h refl;
+}
+
+-- all of them, and then Deliver events
+pub then_delivered : (gives : Algorithms) (one two : ℕ) (replies : List Reply) (old mid new : WorldState)
+    → WorldRuns gives old (asks_of_round one two) replies mid → Delivers gives mid new → PlaysPart gives one two old new
+then_delivered gives one two replies old mid new h d = record {
+  asked = length (asks_of_round one two);
+  delivers = d.delivers;
+  replies = replies ++ d.replies;
+  arrives = d.arrives;
+  behind_all = inr refl;
+  acts = runs_append gives (asks_of_round one two) d.delivers replies d.replies old mid new h d.acts;
+}
+
+pub one_part_more : (gives : Algorithms) (one two n : ℕ) (old mid new : WorldState) → PlaysParts gives one two n old mid
+    → PlaysPart gives one two mid new → PlaysParts gives one two (n + 1) old new
+one_part_more gives one two n old mid new h x =
+    let e : suc n ≡ n + 1 = omega arith in
+    subst (λ k. PlaysParts gives one two k old new) e (mid, h, x)
 
 -- refusals
 
@@ -195,7 +209,7 @@ pub refused_event : (fault : WorldFault) (j : WorldState)
     → fault ≡ cause_or_no_memory (first_event_cause true true (nat_le most_events j.acted)) → IsOutOfMemoryOrSpent fault j
 refused_event fault j h = spent_or_not fault j (nat_le most_events j.acted) refl h
 
-refused_next : (fault : WorldFault) (one two n : ℕ) (j : WorldState) → RefusesNext j (next_of (asked one two) n) fault
+refused_next : (fault : WorldFault) (one two n : ℕ) (j : WorldState) → RefusesNext j (next_of (asks_of_round one two) n) fault
     → IsOutOfMemoryOrSpent fault j
 refused_next fault one two zero j h = refused_event fault j h.named
 refused_next fault one two (suc zero) j h = refused_event fault j h.named
@@ -206,7 +220,7 @@ refused_next fault one two (suc (suc (suc (suc (suc zero))))) j h = refused_even
 refused_next fault one two (suc (suc (suc (suc (suc (suc n)))))) j h = absurd h
 
 pub refused_asking : (gives : Algorithms) (one two : ℕ) (stop : RunFault) (old new : WorldState)
-    → RunStops gives old (asked one two) stop new → IsOutOfMemoryOrSpent stop.fault new
+    → RunStops gives old (asks_of_round one two) stop new → IsOutOfMemoryOrSpent stop.fault new
 refused_asking gives one two stop old new h = elim h.fault [
   | inl none ↦ inl none.1
   | inr next ↦ refused_next stop.fault one two stop.done new next

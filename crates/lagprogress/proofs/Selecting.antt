@@ -1,7 +1,7 @@
 -- Where each aggregator of a key has an occupant, there are fewer of them than ports of that key.
-use Rattle.std.proofs.Common.{◌≡◌, ◌≢◌, ◌∙◌, ℕ, zero, suc, ◌+◌, ◌≤◌, ◌⊎◌, Bool, true, false, cond, not, ◌&&◌, ◌||◌, List, [], ◌∷◌}
+use Rattle.std.proofs.Common.{◌≡◌, ◌∙◌, ℕ, zero, suc, ◌+◌, ◌≤◌, ◌⊎◌, Bool, true, false, cond, not, ◌&&◌, ◌||◌, List, [], ◌∷◌}
 use Rattle.std.proofs.Common.{Option, Some, None, inl, inr, refl, sym, subst, ap, arith, if◌then◌else◌}
-use Rattle.std.specs.Prelude.{◌==◌, nat_le, nat_lt, find, length, option_map, slice_get}
+use Rattle.std.specs.Prelude.{◌==◌, nat_le, find, length, option_map, slice_get}
 use Rattle.std.specs.List.{enumerate_from, list_any}
 use Rattle.std.proofs.lemmas.Bool.{and_parts, cases_Bool, eqb-true}
 use Rattle.std.proofs.lemmas.Bool.Decides.{nat_tests}

@@ -1,8 +1,7 @@
 -- What happens to a port leaves no timer above the ticks that it can start with.
-use Rattle.std.proofs.Common.{◌≡◌, ℕ, zero, suc, ◌+◌, ◌-◌, ◌<◌, ◌≤◌, Bool, true, false, cond, List, [], ◌∷◌, ◌++◌, ◌⊎◌, inl, inr}
-use Rattle.std.proofs.Common.{Option}
-use Rattle.std.proofs.Common.{Some, None, refl, sym, subst, arith, if◌then◌else◌}
-use Rattle.std.specs.Prelude.{filter, map, nat_lt}
+use Rattle.std.proofs.Common.{◌≡◌, ℕ, zero, suc, ◌+◌, ◌<◌, ◌≤◌, Bool, true, false, cond, List, [], ◌∷◌, ◌++◌, inl, inr}
+use Rattle.std.proofs.Common.{refl, sym, subst, arith, if◌then◌else◌}
+use Rattle.std.specs.Prelude.{nat_lt}
 use Rattle.std.specs.List.{AllByRecursion}
 use Rattle.std.proofs.lemmas.Bool.Decides.{nat_tests}
 use Rattle.slowpdu.specs.declared.pdu.Lacpdu.{Lacpdu}
@@ -13,11 +12,11 @@ use Rattle.portmachines.specs.declared.periodic.PeriodicState.{PeriodicState}
 use Rattle.portmachines.specs.declared.periodic.PeriodicState.TheVariants.{NoPeriodic, Fast, Slow, PeriodicTx}
 use Rattle.portmachines.specs.Machines.{Machines}
 use Rattle.portmachines.specs.Mux.{mux_rows}
-use Rattle.portmachines.specs.Periodic.{RunsPeriodic, periodic_rows}
+use Rattle.portmachines.specs.Periodic.{periodic_rows}
 use Rattle.portmachines.specs.Receive.{lacpdu_rows, receive_rows, start_receive}
 use Rattle.portmachines.specs.Rows.{Fires, FiresTimes, Row, RunsToRest}
 use Rattle.portmachines.specs.Start.{Starts, before_start}
-use Rattle.portmachines.specs.Transmit.{after_sending, aged, count_down}
+use Rattle.portmachines.specs.Transmit.{aged, count_down}
 use Rattle.lagsystem.specs.declared.drive.Reply.{Reply}
 use Rattle.lagsystem.specs.Calls.{Call, Tick, Set_link, Receive, Configure, Restart, Transmit, Offer, Move_conversation, Force}
 use Rattle.lagsystem.specs.Calls.{ProcessesLacpdu, changed_party, choice_with_link}

@@ -1,25 +1,23 @@
 -- No call leaves a conversation waiting for a response for 30 ticks.
-use Rattle.std.proofs.Common.{◌≡◌, ◌∙◌, ℕ, ◌+◌, ◌<◌, Bool, true, false, cond, ◌&&◌, ◌⊎◌, eqb, ltb, Option, Some, None, Result, Ok, Err, List}
-use Rattle.std.proofs.Common.{length, refl, sym, subst, ap, arith, inl, inr, if◌then◌else◌}
+use Rattle.std.proofs.Common.{◌≡◌, ◌∙◌, ℕ, ◌+◌, ◌<◌, Bool, true, false, cond, ◌&&◌, eqb, ltb, Option, Some, None, Result, Ok, Err, List}
+use Rattle.std.proofs.Common.{length, refl, sym, subst, ap, arith, inl, inr}
 use Rattle.std.specs.Prelude.{is_none}
 use Rattle.std.proofs.lemmas.Bool.{ltb-true}
 use Rattle.lagtypes.specs.declared.identifiers.AggId.{AggId}
 use Rattle.distributor.specs.declared.assignment.Assignment.{Assignment}
 use Rattle.distributor.specs.declared.assignment.Assignment.TheVariants.{Free, On, Wanted, Flushing}
-use Rattle.distributor.specs.declared.fault.DistFault.{DistFault}
 use Rattle.distributor.specs.declared.fault.DistFault.TheVariants as dist
 use Rattle.distributor.specs.Calls.{force_result, is_among, move_result}
-use Rattle.distributor.specs.Changes.{ChangesAssignments, SetsAssignment, after_down, after_mark, after_release, after_tick, marker_due}
+use Rattle.distributor.specs.Changes.{SetsAssignment, after_down, after_mark, after_release, after_tick, marker_due}
 use Rattle.distributor.specs.Conversations.{Table, assignment_of, next_identifier}
 use Rattle.distributor.proofs.TableLemmas.{first_free}
 use Rattle.portmachines.specs.Transmit.{is_due}
 use Rattle.lagsystem.specs.declared.drive.Reply.{Reply}
 use Rattle.lagsystem.specs.declared.drive.Reply.TheVariants as reply
 use Rattle.lagsystem.specs.declared.fault.SystemFault.{SystemFault}
-use Rattle.lagsystem.specs.declared.received.Received.{Received}
 use Rattle.lagsystem.specs.declared.system_ports.SystemPort.{SystemPort}
 use Rattle.lagsystem.specs.Calls.{Call, Tick, Set_link, Receive, Configure, Restart, Transmit, Offer, Move_conversation, Force}
-use Rattle.lagsystem.specs.Calls.{FreesIfDown, Step, ThenSettles}
+use Rattle.lagsystem.specs.Calls.{FreesIfDown, Step}
 use Rattle.lagsystem.specs.First.{IsFirst}
 use Rattle.lagsystem.specs.Offers.{GivesOrRefuses, Offers, system_force_result, system_move_result}
 use Rattle.lagsystem.specs.Readers.{aggregator_numbered, distributing}

@@ -8,6 +8,7 @@ mod memory;
 mod planned;
 mod refusals;
 mod restarts;
+mod rounds;
 mod scripted;
 mod standby;
 mod starts;

@@ -4,7 +4,8 @@ use Rattle.lagmodel.specs.World.{One, Two}
 use Rattle.lagscript.specs.declared.event.Event.TheVariants as event
 use Rattle.lagworld.specs.Events.{Algorithms, WorldSteps}
 use Rattle.lagworld.specs.Sound.{both_algorithms}
-use Rattle.lagprogress.proofs.Played.{all_arrived, none_yet, on_fault, refused_delivery, same_algorithms, two_more}
+use Rattle.lagprogress.specs.Played.{Delivers}
+use Rattle.lagprogress.proofs.Played.{all_arrived, none_yet, on_fault, one_more, refused_delivery, same_algorithms, two_more}
 use Rattle.lagprogress.proofs.playing.deliver_all.Goals as goal
 
 pub loop-first-init : goal.loop-first-init
@@ -65,6 +66,38 @@ returns-in-Empty-Empty-clause-arrived g c =
     (λ f conv count place. g.F.Fn.post f (conv, (count, tt)) place) (c.step.ensures.algorithm_one ∙ c.loop-first.invariant.one)
     (c.step.ensures.algorithm_two ∙ c.loop-first.invariant.two) c.in_ok-second.ensures.steps)
     c.in-Empty-Empty.is-0 c.in-Empty-Empty.is-1
+
+pub returns-in_err-first-clause-delivered : goal.returns-in_err-first-clause-delivered
+returns-in_err-first-clause-delivered g c =
+    let gives : Algorithms = both_algorithms (λ conv count place. g.F.Fn.post c.args.world.now.one (conv, (count, tt)) place)
+    (λ conv count place. g.F.Fn.post c.args.world.now.two (conv, (count, tt)) place) in
+    subst (Delivers gives c.args.world.now.state) (sym c.in_err-first.ensures.unchanged) c.loop-first.invariant.came
+
+pub returns-in_err-second-clause-delivered : goal.returns-in_err-second-clause-delivered
+returns-in_err-second-clause-delivered g c =
+    let gives : Algorithms = both_algorithms (λ conv count place. g.F.Fn.post c.args.world.now.one (conv, (count, tt)) place)
+    (λ conv count place. g.F.Fn.post c.args.world.now.two (conv, (count, tt)) place) in
+    subst (Delivers gives c.args.world.now.state) (sym c.in_err-second.ensures.unchanged)
+    (one_more gives 1 1 c.in_ok-first.first c.args.world.now.state c.loop-first.world.state c.step.new.self.state c.loop-first.invariant.came
+    (same_algorithms (λ a. WorldSteps a c.loop-first.world.state (event.Deliver 1 1) c.in_ok-first.first c.step.new.self.state)
+    c.args.world.now.one c.args.world.now.two c.loop-first.world.one c.loop-first.world.two
+    (λ f conv count place. g.F.Fn.post f (conv, (count, tt)) place) c.loop-first.invariant.one c.loop-first.invariant.two
+    c.in_ok-first.ensures.steps))
+
+pub returns-in-Empty-Empty-clause-delivered : goal.returns-in-Empty-Empty-clause-delivered
+returns-in-Empty-Empty-clause-delivered g c =
+    let gives : Algorithms = both_algorithms (λ conv count place. g.F.Fn.post c.args.world.now.one (conv, (count, tt)) place)
+    (λ conv count place. g.F.Fn.post c.args.world.now.two (conv, (count, tt)) place) in
+    two_more gives c.in_ok-first.first c.in_ok-second.second c.args.world.now.state c.loop-first.world.state c.step.new.self.state
+    c.step-in-loop-first.new.self.state c.loop-first.invariant.came
+    (same_algorithms (λ a. WorldSteps a c.loop-first.world.state (event.Deliver 1 1) c.in_ok-first.first c.step.new.self.state)
+    c.args.world.now.one c.args.world.now.two c.loop-first.world.one c.loop-first.world.two
+    (λ f conv count place. g.F.Fn.post f (conv, (count, tt)) place) c.loop-first.invariant.one c.loop-first.invariant.two
+    c.in_ok-first.ensures.steps)
+    (same_algorithms (λ a. WorldSteps a c.step.new.self.state (event.Deliver 1 2) c.in_ok-second.second c.step-in-loop-first.new.self.state)
+    c.args.world.now.one c.args.world.now.two c.step.new.self.one c.step.new.self.two
+    (λ f conv count place. g.F.Fn.post f (conv, (count, tt)) place) (c.step.ensures.algorithm_one ∙ c.loop-first.invariant.one)
+    (c.step.ensures.algorithm_two ∙ c.loop-first.invariant.two) c.in_ok-second.ensures.steps)
 
 pub loop-first-preserved-in-Ticked-1 : goal.loop-first-preserved-in-Ticked-1
 loop-first-preserved-in-Ticked-1 g c =

@@ -2,7 +2,7 @@ use Rattle.std.proofs.Common.{◌≡◌, ◌-◌}
 use Rattle.lagworld.specs.Events.{most_events}
 use Rattle.lagworld.specs.ModelWorld.{world_setup}
 use Rattle.lagworld.specs.Sound.{both_algorithms}
-use Rattle.lagprogress.proofs.Played.{Delivers}
+use Rattle.lagprogress.specs.Played.{Delivers}
 use Rattle.lagprogress.proofs.playing.deliver_all.Given as goal
 
 abbrev pub invariant-loop-first : goal.invariant-loop-first

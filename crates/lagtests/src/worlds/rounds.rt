@@ -1,0 +1,72 @@
+use crate::worlds::Entry::{Cut, Emit, Join, Sense, Tick};
+use crate::worlds::Want::Lacpdu;
+use crate::worlds::given::{ONE, Setting, TWO, lines, modulo, world_config};
+use crate::worlds::starts::{LINK_DOWN, LINK_UP, ONE_CABLE, TICKED};
+use crate::worlds::{Entry, Want, events};
+use lagprogress::play_rounds;
+use lagworld::{Agreement, Reply, World, WorldFault};
+use std::alloc::Global;
+use std::process::Abort;
+use std::test::Fail;
+
+/// One cable between ports with Long Timeout.
+const LONG: Setting = Setting {
+    two_cables: false,
+    ..TWO
+};
+
+/// Both links are up, and nothing was sent.
+const STARTED: [(Entry, Want); 2] = [(Sense(1, 1), LINK_UP), (Sense(1, 2), LINK_UP)];
+
+/// After that both ends run on defaults, and an LACPDU is on the cable.
+const ON_DEFAULTS: [(Entry, Want); 5] = [
+    (Sense(1, 1), LINK_UP),
+    (Sense(1, 2), LINK_UP),
+    (Tick(1, 60), TICKED),
+    (Tick(2, 60), TICKED),
+    (Emit(1, 1), Lacpdu(0x47)),
+];
+
+/// The cable is cut, of which system 1 alone is told, and is whole again.
+const MENDED: [(Entry, Want); 4] = [
+    (Cut(1), Want::Is(Reply::Cut)),
+    (Sense(1, 1), LINK_DOWN),
+    (Join(1), Want::Is(Reply::Joined)),
+    (Sense(1, 1), LINK_UP),
+];
+
+/// Both ends distribute and agree after so many healthy rounds, whatever was before them. The replies to that are not looked at.
+/// The number is no constant here: the prover would unfold each of these rounds.
+fn comes_up(
+    rt: &impl Abort,
+    alloc: Global,
+    setting: Setting,
+    before: [&[(Entry, Want)]; 2],
+    rounds: u16,
+) -> Result<(), WorldFault> {
+    let config = world_config(alloc, setting)?;
+    let lines = lines(alloc, 1, None)?;
+    let mut world = World::new(alloc, config, modulo, modulo, lines)?;
+    for entries in before {
+        let events = events(alloc, entries)?;
+        assert!(rt; world.run(&events).is_ok(), "before the rounds");
+    }
+    assert_eq!(rt; play_rounds(&mut world, 1, 1, rounds), Ok(()), "the rounds");
+    assert_eq!(rt; world.agreement(1), Some(Agreement::Same), "the cable");
+    for number in [1, 2] {
+        let distributes = match world.system(number) {
+            Some(system) => system.distributes(1),
+            None => None,
+        };
+        assert_eq!(rt; distributes, Some(true), "system {number}");
+    }
+    Ok(())
+}
+
+#[test]
+fn a_link_comes_up_in_650_healthy_rounds(rt: HostRuntime) -> Result<(), Fail> {
+    comes_up(&rt, rt.alloc(), LONG, [&STARTED, &[]], 650)?;
+    comes_up(&rt, rt.alloc(), ONE, [&ON_DEFAULTS, &[]], 650)?;
+    comes_up(&rt, rt.alloc(), ONE, [&ONE_CABLE, &MENDED], 650)?;
+    Ok(())
+}
