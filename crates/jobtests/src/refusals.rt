@@ -101,7 +101,7 @@ fn entries_that_are_refused(rt: HostRuntime) -> Result<(), Fail> {
     Ok(())
 }
 
-/// Two systems with two ports each; the third dash of the first MAC address is another letter.
+/// Two systems with one port each; the third dash of the first MAC address is another letter.
 const NO_DASH: &str = r#"
 [[system]]
 mac = "02-00-00x00-00-01"

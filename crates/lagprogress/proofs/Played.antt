@@ -1,7 +1,7 @@
 -- Healthy rounds that are played.
 use Rattle.std.proofs.Common.{◌≡◌, ◌∙◌, ℕ, zero, suc, ◌+◌, ◌≤◌, Bool, true, false, List, [], ◌∷◌, ◌++◌, length, map, get_or}
 use Rattle.std.proofs.Common.{Some, Result, Ok, Err, inl, inr, refl, sym, subst, ap, arith, nat_le}
-use Rattle.std.specs.Prelude.{IfErr, IfOk, IsErrAnd, is_some, slice_get, take}
+use Rattle.std.specs.Prelude.{IfErr, IfOk, IsErrAnd, is_some, slice_get}
 use Rattle.std.proofs.lemmas.Bool.{false≢true}
 use Rattle.std.proofs.lemmas.Bool.Decides.{nat_tests}
 use Rattle.std.proofs.lemmas.Option.{none-some, same_Some}
@@ -22,8 +22,8 @@ use Rattle.lagworld.specs.Events.{cause_or_no_memory, first_event_cause, most_ev
 use Rattle.lagworld.specs.ModelWorld.{link_ends, world_setup}
 use Rattle.lagworld.specs.Sound.{RefusesNext, RunStops, both_algorithms, next_of}
 use Rattle.lagworld.specs.State.{ItemValue, LinkState, WorldState, towards}
-use Rattle.lagprogress.specs.Played.{AllArrives, Delivers, HasOneCable, IsOutOfMemoryOrSpent, PlaysPart, PlaysParts}
-use Rattle.lagprogress.specs.Played.{asks_of_round}
+use Rattle.lagprogress.specs.Played.{AllArrives, Delivers, HasOneCable, IsOutOfMemoryOrSpent, PlaysAll, PlaysTimes}
+use Rattle.lagprogress.specs.Played.{events_before_delivery}
 use Rattle.lagprogress.specs.Rounds.{IsDeliver, IsRound, NothingInFlight, Rounds, asks_all, ticks_of_both}
 
 -- one cable
@@ -151,11 +151,11 @@ if_err P Q (Err e) k h = k e h
 -- a round
 
 pub round_played : (gives : Algorithms) (one two : ℕ) (replies : List Reply) (old mid new : WorldState) → HasOneCable one two old
-    → WorldRuns gives old (asks_of_round one two) replies mid → AllArrives gives mid new → IsRound gives old new
+    → WorldRuns gives old (events_before_delivery one two) replies mid → AllArrives gives mid new → IsRound gives old new
 round_played gives one two replies old mid new h x a =
     let k = one_link (record { one = one; two = two }) old.links h in
-    let all = runs_append gives (asks_of_round one two) a.delivers replies a.replies old mid new x a.acts in
-    let named = subst (λ (e : Ends). WorldRuns gives old (asks_of_round e.one e.two ++ a.delivers) (replies ++ a.replies) new) (sym k.2) all in
+    let all = runs_append gives (events_before_delivery one two) a.delivers replies a.replies old mid new x a.acts in
+    let named = subst (λ (e : Ends). WorldRuns gives old (events_before_delivery e.one e.two ++ a.delivers) (replies ++ a.replies) new) (sym k.2) all in
     record {
       delivers = a.delivers;
       replies = replies ++ a.replies;
@@ -167,35 +167,29 @@ round_played gives one two replies old mid new h x a =
 
 -- whatever cables there are
 
--- the first events of a round alone
-pub only_asked : (gives : Algorithms) (one two n : ℕ) (replies : List Reply) (old new : WorldState)
-    → WorldRuns gives old (take n (asks_of_round one two)) replies new → PlaysPart gives one two old new
-only_asked gives one two n replies old new h = record {
-  asked = n;
-  delivers = [];
-  replies = replies ++ [];
-  arrives = tt;
-  behind_all = inl refl;
-  acts = runs_append gives (take n (asks_of_round one two)) [] replies [] old new new h refl;
-}
-
--- all of them, and then Deliver events
 pub then_delivered : (gives : Algorithms) (one two : ℕ) (replies : List Reply) (old mid new : WorldState)
-    → WorldRuns gives old (asks_of_round one two) replies mid → Delivers gives mid new → PlaysPart gives one two old new
+    → WorldRuns gives old (events_before_delivery one two) replies mid → Delivers gives mid new → PlaysAll gives one two old new
 then_delivered gives one two replies old mid new h d = record {
-  asked = length (asks_of_round one two);
   delivers = d.delivers;
   replies = replies ++ d.replies;
   arrives = d.arrives;
-  behind_all = inr refl;
-  acts = runs_append gives (asks_of_round one two) d.delivers replies d.replies old mid new h d.acts;
+  acts = runs_append gives (events_before_delivery one two) d.delivers replies d.replies old mid new h d.acts;
 }
 
-pub one_part_more : (gives : Algorithms) (one two n : ℕ) (old mid new : WorldState) → PlaysParts gives one two n old mid
-    → PlaysPart gives one two mid new → PlaysParts gives one two (n + 1) old new
-one_part_more gives one two n old mid new h x =
+pub one_time_more : (gives : Algorithms) (one two n : ℕ) (old mid new : WorldState) → PlaysTimes gives one two n old mid
+    → PlaysAll gives one two mid new → PlaysTimes gives one two (n + 1) old new
+one_time_more gives one two n old mid new h x =
     let e : suc n ≡ n + 1 = omega arith in
-    subst (λ k. PlaysParts gives one two k old new) e (mid, h, x)
+    subst (λ k. PlaysTimes gives one two k old new) e (mid, h, x)
+
+-- what holds of both answers holds of the one that came
+pub of_ok : {T E : Type 0} (P : Type 0) (r : Result T E) → P → IfOk r (λ x. P)
+of_ok P (Ok x) h = h
+of_ok P (Err e) h = tt
+
+pub of_err : {T E : Type 0} (P : Type 0) (r : Result T E) → P → IfErr r (λ x. P)
+of_err P (Ok x) h = tt
+of_err P (Err e) h = h
 
 -- refusals
 
@@ -209,7 +203,7 @@ pub refused_event : (fault : WorldFault) (j : WorldState)
     → fault ≡ cause_or_no_memory (first_event_cause true true (nat_le most_events j.acted)) → IsOutOfMemoryOrSpent fault j
 refused_event fault j h = spent_or_not fault j (nat_le most_events j.acted) refl h
 
-refused_next : (fault : WorldFault) (one two n : ℕ) (j : WorldState) → RefusesNext j (next_of (asks_of_round one two) n) fault
+refused_next : (fault : WorldFault) (one two n : ℕ) (j : WorldState) → RefusesNext j (next_of (events_before_delivery one two) n) fault
     → IsOutOfMemoryOrSpent fault j
 refused_next fault one two zero j h = refused_event fault j h.named
 refused_next fault one two (suc zero) j h = refused_event fault j h.named
@@ -220,7 +214,7 @@ refused_next fault one two (suc (suc (suc (suc (suc zero))))) j h = refused_even
 refused_next fault one two (suc (suc (suc (suc (suc (suc n)))))) j h = absurd h
 
 pub refused_asking : (gives : Algorithms) (one two : ℕ) (stop : RunFault) (old new : WorldState)
-    → RunStops gives old (asks_of_round one two) stop new → IsOutOfMemoryOrSpent stop.fault new
+    → RunStops gives old (events_before_delivery one two) stop new → IsOutOfMemoryOrSpent stop.fault new
 refused_asking gives one two stop old new h = elim h.fault [
   | inl none ↦ inl none.1
   | inr next ↦ refused_next stop.fault one two stop.done new next

@@ -1,5 +1,5 @@
 -- What is said of healthy rounds that are played (profile).
-use Rattle.std.specs.Prelude.{◌≡◌, ◌≤◌, ◌⊎◌, ℕ, zero, suc, List, [], ◌∷◌, ◌++◌, length, take}
+use Rattle.std.specs.Prelude.{◌≡◌, ◌≤◌, ◌⊎◌, ◌<◌, ℕ, zero, suc, List, [], ◌∷◌, ◌++◌, take}
 use Rattle.std.specs.List.{AllByRecursion}
 use Rattle.lagscript.specs.declared.event.Event.{Event}
 use Rattle.lagscript.specs.declared.event.Event.TheVariants as event
@@ -34,27 +34,38 @@ pub record AllArrives (gives : Algorithms) (old new : WorldState) : Type 0 where
 abbrev pub IsOutOfMemoryOrSpent : WorldFault → WorldState → Type 0
 IsOutOfMemoryOrSpent fault j = (fault ≡ NoMemory) ⊎ ((fault ≡ Spent) × (most_events ≤ j.acted))
 
--- the events of a round before its Deliver events: both systems tick, and port `one` of system 1 and port `two` of system 2 are
--- asked twice
-abbrev pub asks_of_round : ℕ → ℕ → List Event
-asks_of_round one two =
+-- the six events that `play_round` plays before it delivers: both systems tick, and port `one` of system 1 and port `two` of
+-- system 2 are asked twice; in a world whose only cable joins these ports they begin a round
+abbrev pub events_before_delivery : ℕ → ℕ → List Event
+events_before_delivery one two =
     ticks_of_both ++ (event.Emit 1 one ∷ event.Emit 1 one ∷ event.Emit 2 two ∷ event.Emit 2 two ∷ [])
 
--- The first part of a round, or all of it: its first `asked` events, and behind all six of these Deliver events, lead from one
--- world to the other.
-pub record PlaysPart (gives : Algorithms) (one two : ℕ) (old new : WorldState) : Type 0 where
-  pub asked : ℕ
+-- All six act, and then Deliver events.
+pub record PlaysAll (gives : Algorithms) (one two : ℕ) (old new : WorldState) : Type 0 where
   pub delivers : List Event
   pub replies : List Reply
   pub arrives : AllByRecursion IsDeliver delivers
-  pub behind_all : (delivers ≡ []) ⊎ (asked ≡ length (asks_of_round one two))
-  pub acts : WorldRuns gives old (take asked (asks_of_round one two) ++ delivers) replies new
+  pub acts : WorldRuns gives old (events_before_delivery one two ++ delivers) replies new
 
--- so many rounds, or parts of rounds, lead from one world to the other
-abbrev pub PlaysParts : Algorithms → ℕ → ℕ → ℕ → WorldState → WorldState → Type 0
-PlaysParts gives one two zero old new = new ≡ old
-PlaysParts gives one two (suc n) old new = (mid : WorldState) × PlaysParts gives one two n old mid × PlaysPart gives one two mid new
+-- The first `count` of the six act, and no other event.
+pub record PlaysFirst (gives : Algorithms) (one two : ℕ) (old new : WorldState) : Type 0 where
+  pub count : ℕ
+  pub replies : List Reply
+  pub acts : WorldRuns gives old (take count (events_before_delivery one two)) replies new
 
--- at most so many
-abbrev pub PlaysAtMost : Algorithms → ℕ → ℕ → ℕ → WorldState → WorldState → Type 0
-PlaysAtMost gives one two most old new = (n : ℕ) × (n ≤ most) × PlaysParts gives one two n old new
+-- the first of the six events, or all six and then Deliver events
+abbrev pub PlaysPart : Algorithms → ℕ → ℕ → WorldState → WorldState → Type 0
+PlaysPart gives one two old new = PlaysFirst gives one two old new ⊎ PlaysAll gives one two old new
+
+-- this so many times in turn, each time all six and then Deliver events
+abbrev pub PlaysTimes : Algorithms → ℕ → ℕ → ℕ → WorldState → WorldState → Type 0
+PlaysTimes gives one two zero old new = new ≡ old
+PlaysTimes gives one two (suc n) old new = (mid : WorldState) × PlaysTimes gives one two n old mid × PlaysAll gives one two mid new
+
+-- it stopped in the round after `done` of them, which are fewer than `count`
+pub record StopsInRound (gives : Algorithms) (one two count : ℕ) (old new : WorldState) : Type 0 where
+  pub done : ℕ
+  pub mid : WorldState
+  pub within : done < count
+  pub before : PlaysTimes gives one two done old mid
+  pub last : PlaysPart gives one two mid new

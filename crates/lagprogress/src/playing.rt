@@ -2,7 +2,8 @@ ghost use Rattle.std.specs.Prelude.{◌≡◌, ℕ, IfErr, IfOk};
 ghost use Rattle.distributor.specs.Calls.{PicksIndexes};
 ghost use Rattle.lagworld.specs.ModelWorld.{world_setup};
 ghost use Rattle.lagworld.specs.Sound.{both_algorithms};
-ghost use Rattle.lagprogress.specs.Played.{AllArrives, Delivers, HasOneCable, IsOutOfMemoryOrSpent, PlaysAtMost, PlaysPart};
+ghost use Rattle.lagprogress.specs.Played.{AllArrives, Delivers, HasOneCable, IsOutOfMemoryOrSpent, PlaysAll, PlaysPart};
+ghost use Rattle.lagprogress.specs.Played.{PlaysTimes, StopsInRound};
 ghost use Rattle.lagprogress.specs.Rounds.{IsRound, Rounds};
 
 use cables::Cable;
@@ -36,8 +37,9 @@ fn deliver_all<C: Cable, F: Fn(u16, usize) -> usize + Drop>(
 /// Plays one healthy round of a world whose only cable joins port `one` of system 1 and port `two` of system 2: both
 /// systems tick, both ends are asked twice, since an LACPDU goes before a marker, and what is on the cable is delivered until
 /// nothing is. Where it is not refused, this is a round as `links_come_up` wants it, from whatever state the world was in.
-/// `NoMemory` if memory was refused, `Spent` if 2^63 events have acted; then the first events of the round have been played.
-/// So it is in a world with other cables, too, of which nothing else is promised (profile).
+/// `NoMemory` if memory was refused, `Spent` if 2^63 events have acted; then the first events of the round have been played, and
+/// no other. In a world with other cables these events are played, or the first of them, and no other; nothing else is promised
+/// there (profile).
 pub fn play_round<C: Cable, F: Fn(u16, usize) -> usize + Drop>(
     world: &mut World<C, F>,
     one: u16,
@@ -48,7 +50,10 @@ pub fn play_round<C: Cable, F: Fn(u16, usize) -> usize + Drop>(
     ensures round { IfOk result (λ done. HasOneCable one two world.old.state
         → IsRound (both_algorithms (F.post world.old.one) (F.post world.old.two)) world.old.state world.new.state) }
     ensures refused { IfErr result (λ fault. HasOneCable one two world.old.state → IsOutOfMemoryOrSpent fault world.new.state) }
-    ensures part { PlaysPart (both_algorithms (F.post world.old.one) (F.post world.old.two)) one two world.old.state world.new.state }
+    ensures all { IfOk result (λ done. PlaysAll (both_algorithms (F.post world.old.one) (F.post world.old.two)) one two world.old.state
+        world.new.state) }
+    ensures part { IfErr result (λ fault. PlaysPart (both_algorithms (F.post world.old.one) (F.post world.old.two)) one two
+        world.old.state world.new.state) }
     ensures fixed { world_setup world.new.state ≡ world_setup world.old.state }
     ensures algorithm_one { world.new.one ≡ world.old.one }
     ensures algorithm_two { world.new.two ≡ world.old.two }
@@ -67,7 +72,7 @@ pub fn play_round<C: Cable, F: Fn(u16, usize) -> usize + Drop>(
     }
 }
 
-/// Plays so many healthy rounds, as `play_round` plays one.
+/// Plays so many healthy rounds, as `play_round` plays one, and stops in the first that is refused.
 pub fn play_rounds<C: Cable, F: Fn(u16, usize) -> usize + Drop>(
     world: &mut World<C, F>,
     one: u16,
@@ -79,8 +84,10 @@ pub fn play_rounds<C: Cable, F: Fn(u16, usize) -> usize + Drop>(
     ensures rounds { IfOk result (λ done. HasOneCable one two world.old.state
         → Rounds (both_algorithms (F.post world.old.one) (F.post world.old.two)) count world.old.state world.new.state) }
     ensures refused { IfErr result (λ fault. HasOneCable one two world.old.state → IsOutOfMemoryOrSpent fault world.new.state) }
-    ensures parts { PlaysAtMost (both_algorithms (F.post world.old.one) (F.post world.old.two)) one two count world.old.state
-        world.new.state }
+    ensures all { IfOk result (λ done. PlaysTimes (both_algorithms (F.post world.old.one) (F.post world.old.two)) one two count
+        world.old.state world.new.state) }
+    ensures stopped { IfErr result (λ fault. StopsInRound (both_algorithms (F.post world.old.one) (F.post world.old.two)) one two
+        count world.old.state world.new.state) }
     ensures fixed { world_setup world.new.state ≡ world_setup world.old.state }
     ensures algorithm_one { world.new.one ≡ world.old.one }
     ensures algorithm_two { world.new.two ≡ world.old.two }

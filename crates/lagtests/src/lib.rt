@@ -1,6 +1,5 @@
-//! Tests of `lagsystem`, `lagscript`, `lagworld` and `lagprogress`: they make public calls, and compare the results with
-//! values from IEEE 802.1AX-2014 and docs/PROFILE.md. They are a crate of their own, so that those four need not be proved
-//! again together with their tests.
+//! Tests of `lagsystem` and `lagscript`: they make public calls, and compare the results with values from IEEE 802.1AX-2014 and
+//! docs/PROFILE.md. They are a crate of their own, so that those two need not be proved again together with their tests.
 #![tactic(auto)]
 
 #[cfg(test)]
@@ -9,5 +8,3 @@ mod comparing;
 mod scripts;
 #[cfg(test)]
 mod systems;
-#[cfg(test)]
-mod worlds;

@@ -1,10 +1,10 @@
-use Rattle.std.proofs.Common.{◌∙◌, ◌+◌, arith, subst, sym}
+use Rattle.std.proofs.Common.{◌∙◌, arith, subst, sym}
 use Rattle.distributor.specs.Calls.{PicksIndexes}
 use Rattle.lagworld.specs.Events.{Algorithms}
 use Rattle.lagworld.specs.Sound.{both_algorithms}
-use Rattle.lagprogress.specs.Played.{PlaysPart}
+use Rattle.lagprogress.specs.Played.{PlaysAll, PlaysPart, StopsInRound}
 use Rattle.lagprogress.specs.Rounds.{IsRound}
-use Rattle.lagprogress.proofs.Played.{ends_stay, one_part_more, round_more, same_algorithms}
+use Rattle.lagprogress.proofs.Played.{ends_stay, of_err, one_time_more, round_more, same_algorithms}
 use Rattle.lagprogress.proofs.playing.play_rounds.Goals as goal
 
 pub play_round-requires-clause-one : goal.play_round-requires-clause-one
@@ -30,26 +30,29 @@ loop-done-preserved g c =
           (same_algorithms (λ a. IsRound a mid new) c.args.world.now.one c.args.world.now.two c.loop-done.world.one c.loop-done.world.two
           (λ f conv count place. g.F.Fn.post f (conv, (count, tt)) place) c.loop-done.invariant.one c.loop-done.invariant.two
           (c.in_ok-play_round.ensures.round (ends_stay c.args.one c.args.two old mid c.loop-done.invariant.fixed h)));
-      parts = one_part_more gives c.args.one c.args.two c.loop-done.done old mid new c.loop-done.invariant.parts
-          (same_algorithms (λ a. PlaysPart a c.args.one c.args.two mid new) c.args.world.now.one c.args.world.now.two c.loop-done.world.one
+      times = one_time_more gives c.args.one c.args.two c.loop-done.done old mid new c.loop-done.invariant.times
+          (same_algorithms (λ a. PlaysAll a c.args.one c.args.two mid new) c.args.world.now.one c.args.world.now.two c.loop-done.world.one
           c.loop-done.world.two (λ f conv count place. g.F.Fn.post f (conv, (count, tt)) place) c.loop-done.invariant.one
-          c.loop-done.invariant.two c.play_round.ensures.part);
+          c.loop-done.invariant.two c.in_ok-play_round.ensures.all);
       fixed = c.play_round.ensures.fixed ∙ c.loop-done.invariant.fixed;
       one = c.play_round.ensures.algorithm_one ∙ c.loop-done.invariant.one;
       two = c.play_round.ensures.algorithm_two ∙ c.loop-done.invariant.two;
     }
 
-pub returns-in_err-play_round-clause-parts : goal.returns-in_err-play_round-clause-parts
-returns-in_err-play_round-clause-parts g c =
+pub returns-in_err-play_round-clause-stopped : goal.returns-in_err-play_round-clause-stopped
+returns-in_err-play_round-clause-stopped g c =
     let gives : Algorithms = both_algorithms (λ conv count place. g.F.Fn.post c.args.world.now.one (conv, (count, tt)) place)
     (λ conv count place. g.F.Fn.post c.args.world.now.two (conv, (count, tt)) place) in
     let old = c.args.world.now.state in
     let mid = c.loop-done.world.state in
-    let new = c.play_round.new.world.state in (
-      c.loop-done.done + 1,
-      omega (arith, c.loop-done-test.true),
-      one_part_more gives c.args.one c.args.two c.loop-done.done old mid new c.loop-done.invariant.parts
-          (same_algorithms (λ a. PlaysPart a c.args.one c.args.two mid new) c.args.world.now.one c.args.world.now.two c.loop-done.world.one
-          c.loop-done.world.two (λ f conv count place. g.F.Fn.post f (conv, (count, tt)) place) c.loop-done.invariant.one
-          c.loop-done.invariant.two c.play_round.ensures.part),
-    )
+    let new = c.play_round.new.world.state in
+    of_err (StopsInRound gives c.args.one c.args.two c.args.count old new) _
+    (record {
+      done = c.loop-done.done;
+      mid = mid;
+      within = c.loop-done-test.true;
+      before = c.loop-done.invariant.times;
+      last = same_algorithms (λ a. PlaysPart a c.args.one c.args.two mid new) c.args.world.now.one c.args.world.now.two
+          c.loop-done.world.one c.loop-done.world.two (λ f conv count place. g.F.Fn.post f (conv, (count, tt)) place)
+          c.loop-done.invariant.one c.loop-done.invariant.two c.in_err-play_round.ensures.part;
+    })

@@ -1,7 +1,7 @@
 use Rattle.std.proofs.Common.{◌≡◌, ◌≤◌, ◌-◌}
 use Rattle.lagworld.specs.ModelWorld.{world_setup}
 use Rattle.lagworld.specs.Sound.{both_algorithms}
-use Rattle.lagprogress.specs.Played.{HasOneCable, PlaysParts}
+use Rattle.lagprogress.specs.Played.{HasOneCable, PlaysTimes}
 use Rattle.lagprogress.specs.Rounds.{Rounds}
 use Rattle.lagprogress.proofs.playing.play_rounds.Given as goal
 
@@ -11,7 +11,7 @@ invariant-loop-done g l = record {
   played : HasOneCable l.fn.one l.fn.two l.fn.world.state
       → Rounds (both_algorithms (λ conv count place. g.F.Fn.post l.fn.world.one (conv, (count, tt)) place)
       (λ conv count place. g.F.Fn.post l.fn.world.two (conv, (count, tt)) place)) l.done l.fn.world.state l.world.state;
-  parts : PlaysParts (both_algorithms (λ conv count place. g.F.Fn.post l.fn.world.one (conv, (count, tt)) place)
+  times : PlaysTimes (both_algorithms (λ conv count place. g.F.Fn.post l.fn.world.one (conv, (count, tt)) place)
       (λ conv count place. g.F.Fn.post l.fn.world.two (conv, (count, tt)) place)) l.fn.one l.fn.two l.done l.fn.world.state l.world.state;
   fixed : world_setup l.world.state ≡ world_setup l.fn.world.state;
   one : l.world.one ≡ l.fn.world.one;

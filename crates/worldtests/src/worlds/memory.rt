@@ -1,5 +1,4 @@
 use crate::comparing::same;
-use crate::systems::look;
 use crate::worlds::conversations::MOVES_ROW;
 use crate::worlds::given::{lines, modulo, world_config};
 use crate::worlds::{Row, compare_all, compare_run, entries, events, tells};
@@ -10,14 +9,83 @@ use lagworld::{World, WorldFault};
 use std::alloc::Global;
 use std::process::Abort;
 
+/// Compares what the readers return for a port of two systems.
+fn same_port<F: Fn(u16, usize) -> usize + Drop>(
+    rt: &impl Abort,
+    one: &System<F>,
+    other: &System<F>,
+    port: u16,
+) {
+    same(rt, "party", &one.party(port), &other.party(port));
+    same(rt, "partner", &one.partner(port), &other.partner(port));
+    same(rt, "group", &one.group(port), &other.group(port));
+    same(
+        rt,
+        "defaulted",
+        &one.defaulted(port),
+        &other.defaulted(port),
+    );
+    same(
+        rt,
+        "distributes",
+        &one.distributes(port),
+        &other.distributes(port),
+    );
+    same(rt, "choice", &one.choice(port), &other.choice(port));
+    same(rt, "state", &one.state(port), &other.state(port));
+    same(
+        rt,
+        "port_status",
+        &one.port_status(port),
+        &other.port_status(port),
+    );
+    same_machines(rt, one, other, port);
+}
+
+/// Compares what the readers return for the machines of a port.
+fn same_machines<F: Fn(u16, usize) -> usize + Drop>(
+    rt: &impl Abort,
+    one: &System<F>,
+    other: &System<F>,
+    port: u16,
+) {
+    same(
+        rt,
+        "mux_state",
+        &one.mux_state(port),
+        &other.mux_state(port),
+    );
+    same(
+        rt,
+        "receive_state",
+        &one.receive_state(port),
+        &other.receive_state(port),
+    );
+    same(rt, "is_up", &one.is_up(port), &other.is_up(port));
+    same(rt, "is_due", &one.is_due(port), &other.is_due(port));
+    same(
+        rt,
+        "current_while",
+        &one.current_while(port),
+        &other.current_while(port),
+    );
+    same(
+        rt,
+        "wait_while",
+        &one.wait_while(port),
+        &other.wait_while(port),
+    );
+    same(rt, "ntt", &one.ntt(port), &other.ntt(port));
+}
+
 /// Compares what the readers return for two systems with ports 1 and 2.
 fn same_system<F: Fn(u16, usize) -> usize + Drop>(
     rt: &impl Abort,
     one: &System<F>,
     other: &System<F>,
 ) {
-    same(rt, "port 1", &look(one, 1), &look(other, 1));
-    same(rt, "port 2", &look(one, 2), &look(other, 2));
+    same_port(rt, one, other, 1);
+    same_port(rt, one, other, 2);
     let states = (
         one.conversation_state(AggId(1), 48),
         other.conversation_state(AggId(1), 48),
