@@ -51,3 +51,6 @@ pub mod QuietTicks
 pub mod QuietLeft
 pub mod Soonest
 pub mod QuietRuns
+mod StatusLemmas
+mod StatusReasons
+mod Forced

@@ -94,4 +94,5 @@ answers gives old call reply new h s = record {
   agrees = agrees new (Step-sound gives old call reply new h s);
   configured = ap model_setup (Step-frame gives old call reply new h);
   conversations = ap (λ (s : SystemState). s.conversations) (Step-frame gives old call reply new h);
+  max_links = ap (λ (s : SystemState). s.max_links) (Step-frame gives old call reply new h);
 }

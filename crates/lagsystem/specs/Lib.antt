@@ -20,6 +20,7 @@ pub mod NothingToSettle
 pub mod SecondSettling
 pub mod Hosts
 pub mod PortStatus
+pub mod StatusMeaning
 pub mod Due
 pub mod Texts
 pub mod Forcing

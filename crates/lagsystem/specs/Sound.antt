@@ -69,7 +69,8 @@ pub record PortsAgree (s : SystemState) : Type 0 where
   pub distribute : DistributeAsMuxDoes s.system_ports
 
 -- What every call promises. It is a `Step`; the model allows it, with the visible acts that its reply has; each port
--- keeps its transmit limit; the ports agree after it (`PortsAgree`); and the configuration stays.
+-- keeps its transmit limit; the ports agree after it (`PortsAgree`); and the configuration stays, with the count of
+-- conversations and the limit of links.
 pub record CallPromise (gives : ℕ → ℕ → ℕ → Type 0) (old : SystemState) (call : Call) (reply : Reply) (new : SystemState) : Type 0 where
   pub step : Step gives old call reply new
   pub moves : JoinedByLawfulMoves old call reply new
@@ -77,3 +78,4 @@ pub record CallPromise (gives : ℕ → ℕ → ℕ → Type 0) (old : SystemSta
   pub agrees : PortsAgree new
   pub configured : model_setup new ≡ model_setup old
   pub conversations : new.conversations ≡ old.conversations
+  pub max_links : new.max_links ≡ old.max_links

@@ -1,6 +1,6 @@
-ghost use Rattle.std.specs.Prelude.{◌≡◌, ◌<◌, ◌≤◌, true};
+ghost use Rattle.std.specs.Prelude.{◌≡◌, ◌<◌, ◌≤◌, IfOk, true};
 ghost use Rattle.distributor.specs.Calls.{PicksIndexes};
-ghost use Rattle.lagsystem.specs.Forcing.{ForcesIfHeld, ForcesIn, ForcesPort, is_held_on};
+ghost use Rattle.lagsystem.specs.Forcing.{ForcesIfHeld, ForcesIn, ForcesPort, FreesHeld, NoneIsHeldOn, count_held_on, is_held_on};
 ghost use Rattle.lagsystem.specs.Offers.{has_aggregator};
 
 use crate::calls::System;
@@ -21,10 +21,14 @@ fn is_held_on(state: Assignment, port: u16) -> bool
 
 impl<F: Fn(u16, usize) -> usize + Drop> System<F> {
     /// Forces each conversation that is held on a port, Wanted or Flushing there, exactly as `force` of each would, by
-    /// aggregator and number ascending; returns how many. Frames of these conversations may be reordered. `NoPort` if there
-    /// is no such port (profile).
+    /// aggregator and number ascending; returns how many were held. Each of them is free afterwards, and prefers the port that
+    /// it was to move to; nothing else changes. Frames of these conversations may be reordered. `NoPort` if there is no such
+    /// port (profile).
     pub fn force_port(&mut self, port: u16) -> Result<u32, SystemFault>
         ensures forced { ForcesPort (F.post self.old.algorithm) port self.old.state result self.new.state }
+        ensures frees { IfOk result (λ count. FreesHeld port self.old.state self.new.state) }
+        ensures none { IfOk result (λ count. NoneIsHeldOn port self.new.state) }
+        ensures counts { IfOk result (λ count. count ≡ count_held_on port self.old.state) }
         ensures algorithm { self.new.algorithm ≡ self.old.algorithm }
     {
         self.inner.port_index(port)?;

@@ -186,8 +186,9 @@ impl<F: Fn(u16, usize) -> usize + Drop> Inner<F> {
         }
     }
 
-    /// Processes an LACPDU on the port at this index, and settles. If the port looks the same to others afterwards,
-    /// only the periodic machine of this port has anything to do, so nothing else is run.
+    /// Processes an LACPDU on the port at this index, and settles. Where `process_lacpdu_at` answers true, a settling can
+    /// change nothing but by the periodic machine of this port, so that alone is run: the result is the same, and the contract
+    /// does not say which of the two ways is taken.
     fn process_lacpdu(&mut self, place: usize, pdu: &Lacpdu)
         requires sound { IsSound (inner_state self.old) }
         requires within { place < length self.old.system_ports.items }

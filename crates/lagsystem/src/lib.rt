@@ -40,9 +40,9 @@ pub use drive::{Call, Reply};
 pub use fault::{BadConfig, SystemFault};
 pub use lagtypes::{AggId, Choice, Group, Key, NoMemory, Party, PortId, State, SystemId};
 pub use laws::{
-    each_call_has_one_answer, first_state_is_one, settling_again_is_nothing,
-    ticks_only_count_until_due, ticks_until_due_tells_the_first, transmit_answers_what_is_due,
-    window_holds,
+    by_number_is_a_function, each_call_has_one_answer, first_state_is_one,
+    settling_again_is_nothing, ticks_only_count_until_due, ticks_until_due_tells_the_first,
+    transmit_answers_what_is_due, window_holds,
 };
 pub use port_status::PortStatus;
 pub use portmachines::{MuxState, ReceiveState};

@@ -7,29 +7,32 @@ use crate::calls::System;
 use lagtypes::{AggId, Choice};
 use portmachines::{MuxState, Port, ReceiveState};
 
-/// Whether a port distributes, and else the first reason why not, in the order in which they stand here (profile).
+/// Whether a port distributes, and else the first reason why not, in the order in which they stand here (profile). The
+/// clauses of `port_status_says_why` prove what each says.
 #[derive(Clone, Copy, Debug, PartialEq, Eq)]
 pub enum PortStatus {
-    /// The port distributes: its mux machine is in COLLECTING_DISTRIBUTING (6.4.15).
+    /// The mux machine is in COLLECTING_DISTRIBUTING, the port is SELECTED, and its partner is synchronized (6.4.15).
     Distributing,
     /// The link of the port is down (6.4.7, port_enabled).
     LinkDown,
-    /// The receive machine is EXPIRED: no LACPDU came since the link came up or the port was configured anew, or
-    /// current_while expired since the last one (6.4.12).
+    /// The link is up, and the receive machine is EXPIRED (6.4.12).
     NoLacpdu,
-    /// The receive machine is DEFAULTED: the port runs on defaults (6.4.12).
+    /// The link is up, and the receive machine is DEFAULTED: the port runs on defaults (6.4.12).
     OnDefaults,
-    /// The partner is this very system, so the port is never eligible (profile).
+    /// The link is up, the receive machine is CURRENT, as in all that follow, and the partner is this very system, so the port
+    /// is not eligible (profile).
     OwnSystem,
-    /// The port is UNSELECTED: no aggregator has its key, or each has ports of another group (6.4.8, 6.4.14).
+    /// The port is eligible and UNSELECTED: each aggregator that has its key has an occupant, and one of another group, or the
+    /// link of the port is Individual (6.4.8, 6.4.14).
     NoAggregator,
-    /// The port is STANDBY: this aggregator has no room for one more link (6.4.8; profile).
+    /// The port is STANDBY: this aggregator has as many members as the limit of links (6.4.8; profile).
     Standby(AggId),
-    /// wait_while runs; it has this many ticks left, 1 to 20 (6.4.10).
+    /// The port is SELECTED and in WAITING. wait_while runs; it has this many ticks left (6.4.10).
     Waiting(u8),
-    /// wait_while has expired, and the port waits for other members of its aggregator (6.4.14, Ready).
+    /// The port is SELECTED and in WAITING. wait_while has expired, but that of another member of its aggregator, in WAITING
+    /// too, runs (6.4.14, Ready).
     WaitingForMembers,
-    /// The mux machine is in ATTACHED: the partner does not say that it is synchronized (6.4.15).
+    /// The port is SELECTED and in ATTACHED: its recorded partner is not synchronized (6.4.15).
     PartnerNotSynchronized,
 }
 

@@ -1,4 +1,4 @@
-use crate::systems::{DATA, Row, config, end, joined, plays};
+use crate::systems::{DATA, Row, config, end, joined, plays, plays_lists};
 use lagsystem::{Assignment, Config, NoMemory, SystemFault};
 use std::alloc::Global;
 
@@ -16,6 +16,9 @@ const LAST_BUT_ONE: [u8; 14] = [2, 0, 0, 0, 0, 0xa4, 2, 0, 0, 0, 0, 0x5a, 8, 0];
 
 /// A data frame of conversation 255.
 const LAST: [u8; 14] = [2, 0, 0, 0, 0, 0xa5, 2, 0, 0, 0, 0, 0x5a, 8, 0];
+
+/// A data frame of conversation 304, if there are 4096 of them.
+const WIDE: [u8; 14] = [2, 0, 0, 0, 1, 0x20, 2, 0, 0, 0, 0, 0x10, 8, 0];
 
 /// System 1 with ports 1, 2 and 3, which have Long Timeout, and two aggregators.
 fn three_ports(alloc: Global) -> Result<Config, NoMemory> {
@@ -195,4 +198,22 @@ fn every_row(alloc: Global) -> Result<Vec<Row<'static>>, NoMemory> {
 fn what_waits_on_a_port_is_forced(rt: HostRuntime) -> Result<(), SystemFault> {
     let given = three_ports(rt.alloc())?;
     plays(&rt, rt.alloc(), given, &every_row(rt.alloc())?)
+}
+
+/// The conversation has a number above those of 256 conversations.
+#[test]
+fn a_conversation_above_255_is_forced(rt: HostRuntime) -> Result<(), SystemFault> {
+    let mut given = three_ports(rt.alloc())?;
+    given.conversations = 4096;
+    let rows = [
+        Row::Offers(1, &WIDE, Ok(1)),
+        Row::ForcesPort(1, Ok(0)),
+        Row::Moves(1, 304, 2, Ok(())),
+        wanted(1, 304, 1, Some(2)),
+        Row::ForcesPort(2, Ok(0)),
+        Row::ForcesPort(1, Ok(1)),
+        free(1, 304, Some(2)),
+        Row::Offers(1, &WIDE, Ok(2)),
+    ];
+    plays_lists(&rt, rt.alloc(), given, &[&all_up(), &rows])
 }

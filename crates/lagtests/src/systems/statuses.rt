@@ -1,5 +1,5 @@
 use crate::systems::{Row, config, end, plays, plays_lists, plays_with};
-use lagsystem::{AggId, PortStatus, SystemFault};
+use lagsystem::{AggId, Choice, PortStatus, SystemFault};
 
 /// A port that hears nobody runs on defaults after 30 ticks, waits for 20 more, and distributes then.
 const ALONE: [Row<'static>; 25] = [
@@ -135,6 +135,25 @@ fn ports_that_are_no_links_tell_why(rt: HostRuntime) -> Result<(), SystemFault> 
     let mut given = config(rt.alloc(), &[1, 2, 3, 4, 5], 2)?;
     given.max_links = Some(1);
     plays_lists(&rt, rt.alloc(), given, &[&five_peers(), &THREE_OUT])
+}
+
+/// The peer of the first port has the MAC address of the system and a higher priority: it is another system. That of the second
+/// is the system itself, under another key.
+#[test]
+fn a_system_is_its_priority_and_address(rt: HostRuntime) -> Result<(), SystemFault> {
+    let mut other = end(1, 9, 6, 0x05);
+    other.system.priority = 32767;
+    let rows = [
+        Row::Link(1, true),
+        Row::Link(2, true),
+        Row::Takes(1, other, end(1, 1, 1, 0x07)),
+        Row::Status(1, PortStatus::Waiting(20)),
+        Row::Chosen(1, Choice::Selected(AggId(1))),
+        Row::Takes(2, end(1, 8, 7, 0x05), end(1, 2, 1, 0x07)),
+        Row::Status(2, PortStatus::OwnSystem),
+        Row::Chosen(2, Choice::Unselected),
+    ];
+    plays_with(&rt, rt.alloc(), &[1, 2], 2, &[&rows])
 }
 
 /// Long_Timeout_Time is 900 ticks.

@@ -1,7 +1,9 @@
 use Rattle.std.proofs.Common.{arith, ◌≡◌, ◌∙◌, ◌+◌, ℕ, ap, is_some, length, refl, subst, true}
 use Rattle.lagsystem.specs.Forcing.{ForcesFirst, ForcesIn}
 use Rattle.lagsystem.specs.Readers.{aggregator_numbered}
+use Rattle.lagsystem.specs.Sound.{IsSound}
 use Rattle.lagsystem.specs.State.{SystemValue, port_index}
+use Rattle.lagsystem.proofs.Forced.{counts_held, frees_held, none_is_held}
 use Rattle.lagsystem.proofs.ForcingLemmas.{one_aggregator_more}
 use Rattle.lagsystem.proofs.calls.System.force_port.Goals as goal
 
@@ -33,3 +35,21 @@ returns-clause-forced g c =
       subst (λ k. ForcesFirst gives c.args.port k c.args.self.now.state c.loop-before.forced c.loop-before.self.state) all
           c.loop-before.invariant.forced,
     )
+
+pub returns-clause-frees : goal.returns-clause-frees
+returns-clause-frees g c =
+    frees_held (λ conv count place. g.F.Fn.post c.args.self.now.algorithm (conv, (count, tt)) place) c.args.port c.args.self.now.state
+    c.loop-before.forced c.loop-before.self.state
+    (subst (λ (v : SystemValue g.row.F.Denot). IsSound v.state) c.self.view_is c.self.invariant) (returns-clause-forced g c)
+
+pub returns-clause-none : goal.returns-clause-none
+returns-clause-none g c =
+    none_is_held (λ conv count place. g.F.Fn.post c.args.self.now.algorithm (conv, (count, tt)) place) c.args.port c.args.self.now.state
+    c.loop-before.forced c.loop-before.self.state
+    (subst (λ (v : SystemValue g.row.F.Denot). IsSound v.state) c.self.view_is c.self.invariant) (returns-clause-forced g c)
+
+pub returns-clause-counts : goal.returns-clause-counts
+returns-clause-counts g c =
+    counts_held (λ conv count place. g.F.Fn.post c.args.self.now.algorithm (conv, (count, tt)) place) c.args.port c.args.self.now.state
+    c.loop-before.forced c.loop-before.self.state
+    (subst (λ (v : SystemValue g.row.F.Denot). IsSound v.state) c.self.view_is c.self.invariant) (returns-clause-forced g c)

@@ -1,0 +1,374 @@
+-- Why the Selection Logic finds no aggregator or no room for a port, and for what a SELECTED port waits.
+use Rattle.std.proofs.Common.{◌≡◌, ◌∙◌, ℕ, zero, suc, ◌+◌, ◌<◌, ◌≤◌, Bool, true, false, cond, not, ◌&&◌, ◌||◌, List, [], ◌∷◌, ◌⊎◌, inl, inr}
+use Rattle.std.proofs.Common.{Option, Some, None, filter, length, refl, sym, subst, ap, arith, if◌then◌else◌}
+use Rattle.std.specs.Prelude.{◌==◌, find, nat_le, nat_lt, option_map, slice_get}
+use Rattle.std.specs.List.{enumerate_from, list_all, list_any}
+use Rattle.std.proofs.lemmas.Bool.{eqb-true, true≢false}
+use Rattle.std.proofs.lemmas.Bool.Decides.{nat_tests}
+use Rattle.std.proofs.lemmas.Option.{none-some, same_Some}
+use Rattle.lagtypes.specs.declared.identifiers.AggId.{AggId}
+use Rattle.lagtypes.specs.declared.identifiers.Key.{Key}
+use Rattle.lagtypes.specs.declared.party.Choice.{Choice}
+use Rattle.lagtypes.specs.declared.party.Choice.TheVariants.{Unselected, Selected, Standby}
+use Rattle.lagtypes.specs.Choices.{is_selected, is_unselected}
+use Rattle.lagtypes.specs.Same.{same_system}
+use Rattle.lagtypes.proofs.SameLemmas.{itself}
+use Rattle.portmachines.specs.declared.mux.MuxState.{MuxState}
+use Rattle.portmachines.specs.declared.mux.MuxState.TheVariants.{Detached, Waiting, Attached, CollectingDistributing}
+use Rattle.portmachines.specs.declared.receive.ReceiveState.TheVariants.{Current, Defaulted}
+use Rattle.portmachines.specs.Mux.{partner_synchronized, same_mux_state, selected}
+use Rattle.portmachines.specs.Receive.{same_receive_state}
+use Rattle.selection.specs.declared.view.PortView.{PortView}
+use Rattle.selection.specs.Choice.{aggregator_of_entry, chosen_aggregator, chosen_if_eligible, has_no_occupant, has_occupant, is_aggregator, lowest}
+use Rattle.selection.specs.Choice.{occupants_share_group, or_else, ports_that_chose}
+use Rattle.selection.specs.Limits.{has_room, is_below}
+use Rattle.selection.specs.Ready.{is_ready}
+use Rattle.selection.specs.Views.{has_chosen, has_waited, is_detached, is_detached_or_waiting, is_eligible, stands_by}
+use Rattle.selection.proofs.LimitLemmas.{NoneStandsBy, none_is_next}
+use Rattle.lagsystem.specs.declared.port_status.PortStatus.{PortStatus}
+use Rattle.lagsystem.specs.declared.port_status.PortStatus.TheVariants as status
+use Rattle.lagsystem.specs.declared.system_ports.SystemPort.{SystemPort}
+use Rattle.lagsystem.specs.ModelView.{key_of}
+use Rattle.lagsystem.specs.NothingToSettle.{MuxIsSettled}
+use Rattle.lagsystem.specs.Occupants.{WithinLimit, occupied}
+use Rattle.lagsystem.specs.PortStatus.{status_by_choice}
+use Rattle.lagsystem.specs.Readers.{aggregator_numbered}
+use Rattle.lagsystem.specs.Settling.{ready_of}
+use Rattle.lagsystem.specs.Sound.{IsSound}
+use Rattle.lagsystem.specs.State.{SystemState, aggregators_value}
+use Rattle.lagsystem.specs.StatusMeaning.{FindsNoAggregator, FindsNoRoom, Says, Waits, WaitsForMember, WaitsForPartner}
+use Rattle.lagsystem.specs.Views.{selection_view, stage_of, views}
+use Rattle.lagsystem.proofs.NoneLeft.{takes_is}
+use Rattle.lagsystem.proofs.Rising.{all-get, ports_rise}
+use Rattle.lagsystem.proofs.StatusLemmas.{by_mux, heard_at, other, standby_is, unselected_is}
+
+-- what no aggregator passes
+
+passed : (b : Bool) (x : ℕ × Key) (o : Option (ℕ × Key)) → cond b (Some x) o ≡ None → (b ≡ false) × (o ≡ None)
+passed true x o h = absurd cc
+passed false x o h = (refl, h)
+
+fails : (a b : Bool) → a ≡ true → (a && b) ≡ false → b ≡ false
+fails true b e h = h
+fails false b e h = absurd (true≢false (sym e))
+
+none_from : (first : ℕ) (keys : List Key) (key : Key) (test : AggId → Bool)
+    → find (λ (row : ℕ × Key). (row.1.0 == key.0) && test (aggregator_of_entry row)) (enumerate_from first keys) ≡ None
+    → (j : ℕ) → slice_get keys j ≡ Some key → test (aggregator_numbered (first + j)) ≡ false
+none_from first [] key test h j e = absurd (none-some key e)
+none_from first (k ∷ ks) key test h zero e =
+    let both = passed ((k.0 == key.0) && test (aggregator_numbered first)) (first, k)
+    (find (λ (row : ℕ × Key). (row.1.0 == key.0) && test (aggregator_of_entry row)) (enumerate_from (first + 1) ks)) h in
+    let same : (k.0 == key.0) ≡ true = ap (λ (y : Key). y.0 == key.0) (same_Some k key e) ∙ itself key.0 in
+    let here : first ≡ first + 0 = omega arith in
+    subst (λ n. test (aggregator_numbered n) ≡ false) here (fails (k.0 == key.0) (test (aggregator_numbered first)) same both.0)
+none_from first (k ∷ ks) key test h (suc j) e =
+    let both = passed ((k.0 == key.0) && test (aggregator_numbered first)) (first, k)
+    (find (λ (row : ℕ × Key). (row.1.0 == key.0) && test (aggregator_of_entry row)) (enumerate_from (first + 1) ks)) h in
+    let next : (first + 1) + j ≡ first + suc j = omega arith in
+    subst (λ n. test (aggregator_numbered n) ≡ false) next (none_from (first + 1) ks key test both.1 j e)
+
+no_entry : (o : Option (ℕ × Key)) → option_map aggregator_of_entry o ≡ None → o ≡ None
+no_entry None h = refl
+no_entry (Some row) h = absurd cc
+
+none_passes : (keys : List Key) (key : Key) (test : AggId → Bool) → lowest keys key test ≡ None → (g : ℕ) → key_of keys g ≡ Some key
+    → test (aggregator_numbered g) ≡ false
+none_passes keys key test h zero e = absurd (none-some key e)
+none_passes keys key test h (suc g) e =
+    let next : 1 + g ≡ suc g = omega arith in
+    subst (λ n. test (aggregator_numbered n) ≡ false) next (none_from 1 keys key test (no_entry _ h) g e)
+
+first_none : (a b : Option AggId) → or_else a b ≡ None → (a ≡ None) × (b ≡ None)
+first_none None b h = (refl, h)
+first_none (Some agg) b h = absurd cc
+
+-- a port that is UNSELECTED and hears its partner is eligible
+
+detached_at : (m : MuxState) (ticks : ℕ) (c : Choice) (z : Bool) → c ≡ Unselected → (same_mux_state Waiting m && is_unselected c) ≡ false
+    → (same_mux_state Attached m && not (is_selected c)) ≡ false
+    → (same_mux_state CollectingDistributing m && (not (is_selected c) || z)) ≡ false → is_detached (stage_of m ticks) ≡ true
+detached_at Detached ticks c z u a b d = refl
+detached_at Waiting ticks c z u a b d = absurd (true≢false (sym (ap is_unselected u) ∙ a))
+detached_at Attached ticks c z u a b d = absurd (true≢false (sym (ap (λ c. not (is_selected c)) u) ∙ b))
+detached_at CollectingDistributing ticks c z u a b d = absurd (true≢false (sym (ap (λ c. not (is_selected c) || z) u) ∙ d))
+
+all_five : (a b c d e : Bool) → a ≡ true → b ≡ true → c ≡ true → d ≡ true → e ≡ false → ((((a && b) && c) && d) && not e) ≡ true
+all_five a b c d e f g h i j = rw (f, g, h, i, j) refl
+
+settled_at : (s : SystemState) (i : ℕ) (x : SystemPort) → IsSound s → slice_get s.system_ports i ≡ Some x
+    → MuxIsSettled s.keys s.system_ports x
+settled_at s i x h at = all-get (MuxIsSettled s.keys s.system_ports) s.system_ports i x at h.quiet.0
+
+is_chosen : (b : Bool) (o : Option AggId) → b ≡ true → (if b then (if b then o else None) else None) ≡ None → o ≡ None
+is_chosen true o e h = h
+is_chosen false o e h = absurd (true≢false (sym e))
+
+none_if : (b : Bool) (o : Option AggId) → b ≡ true → (if b then o else None) ≡ None → o ≡ None
+none_if true o e h = h
+none_if false o e h = absurd (true≢false (sym e))
+
+not_false : (b : Bool) → not b ≡ false → b ≡ true
+not_false true h = refl
+not_false false h = absurd (true≢false h)
+
+pub finds_no_aggregator : Says status.NoAggregator FindsNoAggregator
+finds_no_aggregator s i x h at e =
+    let p = x.port in
+    let v = selection_view x in
+    let seen = views s.system_ports in
+    let l = heard_at s i x status.NoAggregator h at e refl in
+    let o = other (same_system p.partner.system p.party.system) (status_by_choice p p.choice) status.NoAggregator l.status refl in
+    let free = unselected_is p p.choice o.1 in
+    let settled = settled_at s i x h at in
+    let may : is_eligible v ≡ true =
+    all_five p.enabled (same_receive_state Current p.receive || same_receive_state Defaulted p.receive)
+    (is_detached (stage_of p.mux p.wait_while)) (is_unselected p.choice) (same_system p.partner.system p.party.system) l.hears.0
+    (ap (λ r. same_receive_state Current r || same_receive_state Defaulted r) l.hears.1)
+    (detached_at p.mux p.wait_while p.choice _ free settled.mux.1.0 settled.mux.1.1.1.0 settled.mux.1.1.1.1.1.0) (ap is_unselected free) o.0 in
+    let nothing : chosen_if_eligible s.keys seen v ≡ None = is_chosen (is_eligible v) (chosen_if_eligible s.keys seen v) may
+    (sym (takes_is s.keys s.system_ports i x (ports_rise s h.ports) at) ∙ settled.apart) in
+    let both = first_none (lowest s.keys p.party.key (occupants_share_group seen v)) (lowest s.keys p.party.key (has_no_occupant seen)) nothing in
+    record {
+      hears = l.hears;
+      eligible = may;
+      none = none_if (is_eligible v) (chosen_aggregator s.keys seen x.number) may settled.apart;
+      occupied = λ agg key. not_false (has_occupant seen agg) (none_passes s.keys p.party.key (has_no_occupant seen) both.1 agg.0 key);
+      closed = λ agg key. none_passes s.keys p.party.key (occupants_share_group seen v) both.0 agg.0 key;
+    }
+
+-- a STANDBY port finds no room
+
+within : (keys : List Key) (i : ℕ) (key : Key) → slice_get keys i ≡ Some key → (suc i) ≤ length keys
+within [] i key e = absurd (none-some key e)
+within (k ∷ ks) zero key e = omega arith
+within (k ∷ ks) (suc i) key e = omega (arith, within ks i key e)
+
+known_number : (keys : List Key) (n : ℕ) (key : Key) → key_of keys n ≡ Some key → (nat_le 1 n && nat_le n (length keys)) ≡ true
+known_number keys zero key e = absurd (none-some key e)
+known_number keys (suc n) key e = let l = within keys n key e in grind (arith, nat_tests)
+
+stood_by : (agg : AggId) (ports : List SystemPort) (i : ℕ) (x : SystemPort) → slice_get ports i ≡ Some x → NoneStandsBy agg (views ports)
+    → stands_by agg x.port.choice ≡ false
+stood_by agg [] i x e h = absurd (none-some x e)
+stood_by agg (y ∷ ys) zero x e h = ap (λ (z : SystemPort). stands_by agg z.port.choice) (sym (same_Some y x e)) ∙ h.0
+stood_by agg (y ∷ ys) (suc i) x e h = stood_by agg ys i x e h.1
+
+full_of : (max_links : Option ℕ) (known : Bool) (n : ℕ) → known ≡ true → (known && is_below max_links n) ≡ false
+    → ((most : ℕ) → max_links ≡ Some most → n ≤ most) → (most : ℕ) × (max_links ≡ Some most) × (n ≡ most)
+full_of None true n k h w = absurd cc
+full_of None false n k h w = absurd cc
+full_of (Some most) true n k h w = (most, refl, (let l = w most refl in grind (arith, nat_tests)))
+full_of (Some most) false n k h w = absurd cc
+
+at_most : (max_links : Option ℕ) (agg : AggId) (ports : List SystemPort) → WithinLimit max_links (views ports) → (most : ℕ)
+    → max_links ≡ Some most → length (ports_that_chose agg (views ports)) ≤ most
+at_most None agg ports w most e = absurd (none-some most e)
+at_most (Some limit) agg ports w most e = subst (λ n. length (ports_that_chose agg (views ports)) ≤ n) (same_Some limit most e) (w agg)
+
+pub finds_no_room : (agg : AggId) → Says (status.Standby agg) (FindsNoRoom agg)
+finds_no_room agg s i x h at e =
+    let p = x.port in
+    let l = heard_at s i x (status.Standby agg) h at e refl in
+    let o = other (same_system p.partner.system p.party.system) (status_by_choice p p.choice) (status.Standby agg) l.status refl in
+    let stands = standby_is p p.choice agg o.1 in
+    let known : is_aggregator s.keys agg ≡ true =
+    known_number s.keys agg.0 p.party.key (h.occupants.key i agg.0 x at (ap occupied stands)) in
+    let room : has_room (aggregators_value s) (views s.system_ports) agg ≡ false =
+    elim (none_is_next (aggregators_value s) (views s.system_ports) agg (h.promoted agg)) [
+      | inl r ↦ r
+      | inr n ↦ absurd (true≢false (sym (ap (stands_by agg) stands ∙ itself agg.0) ∙ stood_by agg s.system_ports i x at n))
+    ] in
+    let full = full_of s.max_links (is_aggregator s.keys agg) (length (ports_that_chose agg (views s.system_ports))) known room
+    (at_most s.max_links agg s.system_ports h.limited) in
+    record { hears = l.hears; chosen = stands; most = full.0; limit = full.1; full = full.2 }
+
+-- a SELECTED port waits
+
+abbrev ticks_of : PortStatus → Option ℕ
+ticks_of (status.Waiting ticks) = Some ticks
+ticks_of _ = None
+
+attached_of : (a b : Bool) (ticks : ℕ)
+    → (if a then status.PartnerNotSynchronized else (if b then status.Waiting ticks else status.WaitingForMembers)) ≡ status.PartnerNotSynchronized
+    → a ≡ true
+attached_of true b ticks h = refl
+attached_of false true ticks h = absurd cc
+attached_of false false ticks h = absurd cc
+
+waiting_of : (a b : Bool) (ticks left : ℕ)
+    → (if a then status.PartnerNotSynchronized else (if b then status.Waiting ticks else status.WaitingForMembers)) ≡ status.Waiting left
+    → (a ≡ false) × (b ≡ true) × (ticks ≡ left)
+waiting_of true b ticks left h = absurd cc
+waiting_of false true ticks left h = (refl, refl, same_Some ticks left (ap ticks_of h))
+waiting_of false false ticks left h = absurd cc
+
+waited_of : (a b : Bool) (ticks : ℕ)
+    → (if a then status.PartnerNotSynchronized else (if b then status.Waiting ticks else status.WaitingForMembers)) ≡ status.WaitingForMembers
+    → (a ≡ false) × (b ≡ false)
+waited_of true b ticks h = absurd cc
+waited_of false true ticks h = absurd cc
+waited_of false false ticks h = (refl, refl)
+
+mux_attached : (m : MuxState) → same_mux_state Attached m ≡ true → m ≡ Attached
+mux_attached Attached h = refl
+mux_attached Detached h = absurd (true≢false (sym h))
+mux_attached Waiting h = absurd (true≢false (sym h))
+mux_attached CollectingDistributing h = absurd (true≢false (sym h))
+
+mux_waiting : (m : MuxState) (c : Choice) (agg : AggId) → c ≡ Selected agg → same_mux_state CollectingDistributing m ≡ false
+    → same_mux_state Attached m ≡ false → (same_mux_state Detached m && not (is_unselected c)) ≡ false → m ≡ Waiting
+mux_waiting Waiting c agg e d a h = refl
+mux_waiting Detached c agg e d a h = absurd (true≢false (sym (ap (λ c. not (is_unselected c)) e) ∙ h))
+mux_waiting Attached c agg e d a h = absurd (true≢false a)
+mux_waiting CollectingDistributing c agg e d a h = absurd (true≢false d)
+
+third_false : (a b c : Bool) → a ≡ true → b ≡ true → (a && (b && c)) ≡ false → c ≡ false
+third_false a b c e f h = fails b c f (fails a (b && c) e h)
+
+above : (n : ℕ) → nat_lt 0 n ≡ true → 0 < n
+above n h = grind (arith, nat_tests)
+
+not_above : (n : ℕ) → nat_lt 0 n ≡ false → n ≡ 0
+not_above n h = grind (arith, nat_tests)
+
+pub waits_for_partner : Says status.PartnerNotSynchronized WaitsForPartner
+waits_for_partner s i x h at e =
+    let p = x.port in
+    let l = heard_at s i x status.PartnerNotSynchronized h at e refl in
+    let g = by_mux p status.PartnerNotSynchronized l.status refl in
+    let there = attached_of (same_mux_state Attached p.mux) (nat_lt 0 p.wait_while) p.wait_while g.status in
+    let settled = settled_at s i x h at in
+    record {
+      hears = l.hears;
+      chosen = ap is_selected g.chosen;
+      mux = mux_attached p.mux there;
+      apart = third_false (same_mux_state Attached p.mux) (selected p) (partner_synchronized p) there (ap is_selected g.chosen)
+          settled.mux.1.1.1.1.0;
+    }
+
+pub waits : (ticks : ℕ) → Says (status.Waiting ticks) (Waits ticks)
+waits ticks s i x h at e =
+    let p = x.port in
+    let l = heard_at s i x (status.Waiting ticks) h at e refl in
+    let g = by_mux p (status.Waiting ticks) l.status refl in
+    let w = waiting_of (same_mux_state Attached p.mux) (nat_lt 0 p.wait_while) p.wait_while ticks g.status in
+    let settled = settled_at s i x h at in
+    record {
+      hears = l.hears;
+      agg = g.agg;
+      waits = record {
+        chosen = g.chosen;
+        mux = mux_waiting p.mux p.choice g.agg g.chosen l.idle w.0 settled.mux.0;
+        wait_while = w.2;
+      };
+      runs = subst (λ n. 0 < n) w.2 (above p.wait_while w.1);
+    }
+
+-- an aggregator that is not Ready has a member that waits
+
+abbrev still : PortView → Bool
+still v = is_detached_or_waiting v.stage
+
+abbrev has_waited_in : List PortView → Bool
+has_waited_in seen = list_all (λ v. has_waited v.stage) (filter still seen)
+
+one_of : (b d w : Bool) (v : PortView) (rest : List PortView) → still v ≡ d → has_waited v.stage ≡ w
+    → has_waited_in (cond b (v ∷ rest) rest) ≡ false → ((b ≡ true) × (d ≡ true) × (w ≡ false)) ⊎ (has_waited_in rest ≡ false)
+one_of false d w v rest e f h = inr h
+one_of true false w v rest e f h =
+    inr (sym (ap (λ x. list_all (λ v. has_waited v.stage) (cond x (v ∷ filter still rest) (filter still rest))) e) ∙ h)
+one_of true true false v rest e f h = inl (refl, refl, refl)
+one_of true true true v rest e f h =
+    inr (sym (ap (λ x. x && has_waited_in rest) f)
+    ∙ (sym (ap (λ x. list_all (λ v. has_waited v.stage) (cond x (v ∷ filter still rest) (filter still rest))) e) ∙ h))
+
+-- a member at this index that is in DETACHED or WAITING, and has not waited
+record HasNotWaited (agg : AggId) (ports : List SystemPort) : Type 0 where
+  index : ℕ
+  port : SystemPort
+  there : slice_get ports index ≡ Some port
+  member : has_chosen agg port.port.choice ≡ true
+  stays : is_detached_or_waiting (stage_of port.port.mux port.port.wait_while) ≡ true
+  early : has_waited (stage_of port.port.mux port.port.wait_while) ≡ false
+
+one_has_not : (agg : AggId) (ports : List SystemPort) → has_waited_in (ports_that_chose agg (views ports)) ≡ false → HasNotWaited agg ports
+one_has_not agg [] h = absurd (true≢false h)
+one_has_not agg (y ∷ ys) h =
+    let v = selection_view y in
+    elim (one_of (has_chosen agg y.port.choice) (still v) (has_waited v.stage) v (ports_that_chose agg (views ys)) refl refl h) [
+      | inl o ↦ record { index = 0; port = y; there = refl; member = o.0; stays = o.1; early = o.2 }
+      | inr r ↦ (let o = one_has_not agg ys r in
+          record { index = suc o.index; port = o.port; there = o.there; member = o.member; stays = o.stays; early = o.early })
+    ]
+
+any_of : (b d : Bool) (v : PortView) (rest : List PortView) → still v ≡ d → (b ≡ true) × (d ≡ true) ⊎ (list_any still rest ≡ true)
+    → list_any still (cond b (v ∷ rest) rest) ≡ true
+any_of b d v rest e (inl o) = rw (o.0, e, o.1) refl
+any_of false d v rest e (inr r) = r
+any_of true true v rest e (inr r) = ap (λ x. x || list_any still rest) e
+any_of true false v rest e (inr r) = ap (λ x. x || list_any still rest) e ∙ r
+
+any_here : (agg : AggId) (ports : List SystemPort) (i : ℕ) (x : SystemPort) → slice_get ports i ≡ Some x
+    → has_chosen agg x.port.choice ≡ true → is_detached_or_waiting (stage_of x.port.mux x.port.wait_while) ≡ true
+    → list_any still (ports_that_chose agg (views ports)) ≡ true
+any_here agg [] i x at m w = absurd (none-some x at)
+any_here agg (y ∷ ys) zero x at m w =
+    let same = sym (same_Some y x at) in
+    any_of (has_chosen agg y.port.choice) (still (selection_view y)) (selection_view y) (ports_that_chose agg (views ys)) refl
+    (inl (ap (λ (z : SystemPort). has_chosen agg z.port.choice) (sym same) ∙ m, ap (λ (z : SystemPort). still (selection_view z)) (sym same) ∙ w))
+any_here agg (y ∷ ys) (suc i) x at m w =
+    any_of (has_chosen agg y.port.choice) (still (selection_view y)) (selection_view y) (ports_that_chose agg (views ys)) refl
+    (inr (any_here agg ys i x at m w))
+
+given_is : (agg : AggId) (c : Choice) → has_chosen agg c ≡ true → c ≡ Selected agg
+given_is agg Unselected h = absurd (true≢false (sym h))
+given_is agg (Standby given) h = absurd (true≢false (sym h))
+given_is agg (Selected given) h = let e = eqb-true given.0 agg.0 h in λ i. Selected (record { 0 = e i })
+
+still_waits : (m : MuxState) (ticks : ℕ) (c : Choice) (agg : AggId) → c ≡ Selected agg → is_detached_or_waiting (stage_of m ticks) ≡ true
+    → has_waited (stage_of m ticks) ≡ false → (same_mux_state Detached m && not (is_unselected c)) ≡ false → (m ≡ Waiting) × (0 < ticks)
+still_waits Waiting zero c agg e s w h = absurd (true≢false w)
+still_waits Waiting (suc n) c agg e s w h = (refl, omega arith)
+still_waits Detached ticks c agg e s w h = absurd (true≢false (sym (ap (λ c. not (is_unselected c)) e) ∙ h))
+still_waits Attached ticks c agg e s w h = absurd (true≢false (sym s))
+still_waits CollectingDistributing ticks c agg e s w h = absurd (true≢false (sym s))
+
+stays_at : (m : MuxState) (ticks : ℕ) → m ≡ Waiting → is_detached_or_waiting (stage_of m ticks) ≡ true
+stays_at m ticks e = ap (λ x. is_detached_or_waiting (stage_of x ticks)) e
+
+not_all : (known any all : Bool) (seen : List PortView) → known ≡ true → list_any still seen ≡ true
+    → (list_any still (if known then seen else []) && has_waited_in (if known then seen else [])) ≡ false → has_waited_in seen ≡ false
+not_all true any all seen k e h = fails (list_any still seen) (has_waited_in seen) e h
+not_all false any all seen k e h = absurd (true≢false (sym k))
+
+pub waits_for_member : Says status.WaitingForMembers WaitsForMember
+waits_for_member s i x h at e =
+    let p = x.port in
+    let l = heard_at s i x status.WaitingForMembers h at e refl in
+    let g = by_mux p status.WaitingForMembers l.status refl in
+    let w = waited_of (same_mux_state Attached p.mux) (nat_lt 0 p.wait_while) p.wait_while g.status in
+    let settled = settled_at s i x h at in
+    let agg = g.agg in
+    let waiting = mux_waiting p.mux p.choice agg g.chosen l.idle w.0 settled.mux.0 in
+    let known : is_aggregator s.keys agg ≡ true =
+    known_number s.keys agg.0 p.party.key (h.occupants.key i agg.0 x at (ap occupied g.chosen)) in
+    let unready : is_ready s.keys (views s.system_ports) agg ≡ false =
+    sym (ap (ready_of s.keys (views s.system_ports)) g.chosen) ∙ settled.unready in
+    let any = any_here agg s.system_ports i x at (ap (has_chosen agg) g.chosen ∙ itself agg.0) (stays_at p.mux p.wait_while waiting) in
+    let o = one_has_not agg s.system_ports
+    (not_all (is_aggregator s.keys agg) true true (ports_that_chose agg (views s.system_ports)) known any unready) in
+    let there = settled_at s o.index o.port h o.there in
+    let chosen = given_is agg o.port.port.choice o.member in
+    let runs = still_waits o.port.port.mux o.port.port.wait_while o.port.port.choice agg chosen o.stays o.early there.mux.0 in
+    record {
+      hears = l.hears;
+      agg = agg;
+      waited = record { chosen = g.chosen; mux = waiting; wait_while = not_above p.wait_while w.1 };
+      index = o.index;
+      other = o.port;
+      there = o.there;
+      ticks = o.port.port.wait_while;
+      waits = record { chosen = chosen; mux = runs.0; wait_while = refl };
+      runs = runs.1;
+    }
