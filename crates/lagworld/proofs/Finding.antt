@@ -1,9 +1,12 @@
--- The record of a conversation is at its index.
-use Rattle.std.proofs.Common.{◌≡◌, ◌<◌, ◌≤◌, ℕ, suc, Some, None, List, length, map, get_or, ap, refl, ◌∙◌, subst, sym}
-use Rattle.std.specs.Prelude.{option_map, slice_get}
+-- The record of a conversation is at its index, and so are the ports that a cable joins.
+use Rattle.std.proofs.Common.{◌≡◌, ◌<◌, ◌≤◌, ◌+◌, ℕ, suc, Bool, false, IsSomeAnd, Option, Some, None, List, length, map, get_or, ap, arith, refl, ◌∙◌}
+use Rattle.std.proofs.Common.{subst, sym}
+use Rattle.std.specs.Prelude.{is_some, option_map, slice_get}
+use Rattle.std.proofs.lemmas.Bool.{true≢false}
 use Rattle.std.proofs.lemmas.List.{length-map}
 use Rattle.std.proofs.lemmas.Option.{slice_get-map, slice_get_past, slice_get_read}
-use Rattle.lagworld.specs.State.{FlowValue, flow_at, flow_in_aggregator}
+use Rattle.lagworld.specs.Readers.{ends_of_cable, ports_joined}
+use Rattle.lagworld.specs.State.{FlowValue, LinkState, WorldState, flow_at, flow_in_aggregator}
 
 module _ {R X : Type 0} (v : X → FlowValue) (items : R → List X) where
   row_there : (rows : List R) (i k : ℕ) (row : R) → i < length rows → row ≡ get_or rows i row
@@ -23,3 +26,22 @@ module _ {R X : Type 0} (v : X → FlowValue) (items : R → List X) where
   flow_past rows g i k row e l r m =
       subst (λ g. flow_at (map (λ r. map v (items r)) rows) g k ≡ None) (sym e) (row_there rows i k row l r
       ∙ slice_get_past (map v (items row)) k (rw length-map m))
+
+-- the ports that a cable joins
+abbrev pub pair : ℕ → ℕ → ℕ × ℕ
+pair a b = (a, b)
+
+pub ends_there : (j : WorldState) (c i one two : ℕ) (whole : Bool) → c ≡ i + 1
+    → IsSomeAnd (slice_get j.links i) (λ l. (one ≡ l.one) × (two ≡ l.two) × (whole ≡ l.whole)) → Some (pair one two) ≡ ends_of_cable c j
+ends_there j c i one two whole e h =
+    let next : i + 1 ≡ suc i = omega arith in
+    subst (λ k. Some (pair one two) ≡ ends_of_cable k j) (sym (e ∙ next)) (of_line (slice_get j.links i) h)
+  where
+    of_line : (o : Option LinkState) → IsSomeAnd o (λ l. (one ≡ l.one) × (two ≡ l.two) × (whole ≡ l.whole))
+        → Some (pair one two) ≡ option_map ports_joined o
+    of_line None h = absurd h
+    of_line (Some l) h = λ k. Some (pair (h.0 k) (h.1 k))
+
+pub no_ends : (o : Option LinkState) → is_some o ≡ false → option_map ports_joined o ≡ None
+no_ends None h = refl
+no_ends (Some l) h = absurd (true≢false h)

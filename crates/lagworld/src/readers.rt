@@ -1,15 +1,16 @@
-ghost use Rattle.std.specs.Prelude.{◌≡◌, ◌≢◌, None, Some, MatchOption, map};
+ghost use Rattle.std.specs.Prelude.{◌≡◌, ◌≢◌, None, Some, MatchOption, length, map};
 ghost use Rattle.lagworld.specs.declared.agreement.Agreement.TheVariants.{Differ};
 ghost use Rattle.lagworld.specs.Agreement.{agreement_at};
 ghost use Rattle.lagworld.specs.Events.{side_of};
 ghost use Rattle.lagworld.specs.WorldCalls.{world_state};
 ghost use Rattle.lagworld.specs.Inner.{flow_value};
-ghost use Rattle.lagworld.specs.Readers.{flow_of_system, system_at};
+ghost use Rattle.lagworld.specs.Readers.{ends_of_cable, flow_of_system, system_at};
 ghost use Rattle.lagworld.specs.State.{collected_in, forced_in, sent_in, flow_at};
 
 use crate::agreement::Agreement;
 use crate::histories::Flow;
 use crate::inner::Inner;
+use crate::link::link_status;
 use crate::world::World;
 use cables::Cable;
 use lagsystem::System;
@@ -49,9 +50,34 @@ impl<C: Cable, F: Fn(u16, usize) -> usize + Drop> Inner<C, F> {
         }
         None
     }
+
+    /// The ports that a cable joins.
+    fn ends(&self, cable: u16) -> Option<(u16, u16)>
+        ensures { result ≡ ends_of_cable cable (world_state C.items C.limit self.now) }
+    {
+        if !self.has_cable(Some(cable)) {
+            return None;
+        }
+        let status = link_status(&self.links, self.link_index_of(cable));
+        Some((status.one, status.two))
+    }
 }
 
 impl<C: Cable, F: Fn(u16, usize) -> usize + Drop> World<C, F> {
+    /// How many cables there are. Their numbers are 1 to this (profile).
+    pub fn cables(&self) -> usize
+        ensures { result ≡ length self.now.state.links }
+    {
+        self.inner.links.len()
+    }
+
+    /// The ports that a cable joins, first that of system 1; None if there is no such cable (profile).
+    pub fn ends(&self, cable: u16) -> Option<(u16, u16)>
+        ensures { result ≡ ends_of_cable cable self.now.state }
+    {
+        self.inner.ends(cable)
+    }
+
     /// How the two ends of a cable stand to each other; None if there is no such cable. It is never `Differ` (6.3.6;
     /// profile).
     pub fn agreement(&self, cable: u16) -> Option<Agreement>
