@@ -1,7 +1,11 @@
 -- How the mux machine of a SELECTED port climbs, and what a round keeps of what holds of one end.
-use Rattle.std.proofs.Common.{◌≡◌, ◌∙◌, ℕ, zero, suc, ◌-◌, ◌≤◌, ◌==◌, ◌&&◌, Bool, true, false, not, List, [], ◌∷◌, ◌⊎◌, inl, inr, refl, sym}
+use Rattle.std.proofs.lemmas.Option.{none-some, same_Some}
+use Rattle.lagprogress.proofs.EachPort.{KeptBySettling}
+use Rattle.selection.specs.declared.view.PortView.{PortView}
+use Rattle.std.specs.List.{AllByRecursion, list_all, list_any}
+use Rattle.std.proofs.Common.{◌≡◌, ◌∙◌, ℕ, zero, suc, ◌-◌, ◌≤◌, ◌==◌, ◌&&◌, Bool, true, false, not, List, [], ◌∷◌, ◌⊎◌, inl, inr, refl, sym, cond, ◌||◌}
 use Rattle.std.proofs.Common.{subst, ap, arith, Some}
-use Rattle.std.specs.Prelude.{slice_get, if◌then◌else◌}
+use Rattle.std.specs.Prelude.{slice_get, if◌then◌else◌, filter}
 use Rattle.std.proofs.lemmas.Bool.Decides.{nat_tests}
 use Rattle.lagtypes.specs.declared.identifiers.AggId.{AggId}
 use Rattle.lagtypes.specs.declared.identifiers.Key.{Key}
@@ -19,60 +23,32 @@ use Rattle.portmachines.specs.declared.receive.ReceiveState.TheVariants.{Initial
 use Rattle.portmachines.specs.Machines.{Machines}
 use Rattle.portmachines.specs.Mux.{is_synchronized, mux_rows, partner_synchronized, same_mux_state}
 use Rattle.portmachines.specs.Periodic.{periodic_rows}
-use Rattle.portmachines.specs.Receive.{receive_rows, same_receive_state}
+use Rattle.portmachines.specs.Receive.{receive_rows, same_receive_state, default_partner, lacpdu_rows}
 use Rattle.portmachines.specs.Rows.{AtRest, RunsToRest}
-use Rattle.portmachines.specs.Transmit.{after_sending, count_down}
-use Rattle.selection.specs.Choice.{is_aggregator}
+use Rattle.portmachines.specs.Transmit.{count_down}
+use Rattle.selection.specs.Choice.{is_aggregator, ports_that_chose}
 use Rattle.selection.specs.Ready.{is_ready}
-use Rattle.selection.specs.Views.{has_chosen}
-use Rattle.selection.specs.declared.view.Stage.TheVariants as stage
-use Rattle.lagmodel.specs.World.{Side, One, Two, peer}
+use Rattle.selection.specs.Views.{has_chosen, is_detached_or_waiting, has_waited}
 use Rattle.lagsystem.specs.declared.system_ports.SystemPort.{SystemPort}
 use Rattle.lagsystem.specs.Calls.{ProcessesLacpdu}
 use Rattle.lagsystem.specs.Settling.{ready_of}
 use Rattle.lagsystem.specs.Sound.{IsSound}
 use Rattle.lagsystem.specs.State.{SystemState}
-use Rattle.lagsystem.specs.Views.{stage_of, views}
+use Rattle.lagsystem.specs.Views.{stage_of, views, selection_view}
 use Rattle.lagsystem.specs.NothingToSettle.{MuxIsSettled}
 use Rattle.lagsystem.specs.Occupants.{occupied}
 use Rattle.lagsystem.proofs.Rising.{all-get}
-use Rattle.lagworld.specs.Events.{Algorithms}
-use Rattle.lagworld.specs.State.{WorldState}
 use Rattle.lagprogress.specs.Knowing.{HasRecorded}
-use Rattle.lagprogress.specs.Rounds.{IsRound}
 use Rattle.lagprogress.specs.Timers.{IsTimed}
 use Rattle.lagprogress.proofs.EndFacts.{Along, IsEnd, SameActor, Synced, activity, not_attached, takes_sync}
 use Rattle.lagprogress.proofs.Hearing.{EnabledKeep, no, not_down, times_keep}
-use Rattle.lagprogress.proofs.Delivering.{deliver_link}
 use Rattle.lagprogress.proofs.Knowing.{Known, counts}
-use Rattle.lagprogress.proofs.Linked.{Fits, Link, emit_link}
-use Rattle.lagprogress.proofs.OneRound.{deliver_all, tick_both, ticked, unroll}
 use Rattle.lagprogress.proofs.Selecting.{known_number}
-use Rattle.lagprogress.proofs.Timers.{runs_keep}
-
--- a round with something beside it that each event keeps
-
-pub round_holds : (gives : Algorithms) (x : Side) (d : ℕ) (at : Side → ℕ) (w : Side → Lacpdu) (c : Side → ℕ) (Y Z : Machines → Type 0)
-    (old new : WorldState) → Fits d w (ticked c) → Along Z (w x) (w (peer x)) (ticked c x) d
-    → ((p q : Machines) → RunsToRest receive_rows (count_down p) q → AtRest periodic_rows p → IsEnd d (w x) (w (peer x)) (c x) p → Y p → Z q)
-    → ((p : Machines) → Z p → Z (after_sending p))
-    → Link d at w c x Y old → IsRound gives old new → Link d at w (ticked c) x Z new
-round_holds gives x d at w c Y Z old new fits along k sends l h =
-    let u = unroll gives at l.flying old new l.links h in
-    let two = tick_both gives d at w c x Y Z u.tick_one.0 u.tick_two.0 old u.one u.two fits along k u.tick_one.1 u.tick_two.1 l in
-    let three = (emit_link gives 1 One d at w (ticked c) x Z u.ask_one.0 u.two u.three fits refl along (λ f p y. sends p y) two u.ask_one.1).link in
-    let four = (emit_link gives 1 One d at w (ticked c) x Z u.ask_one_again.0 u.three u.four fits refl along (λ f p y. sends p y) three
-    u.ask_one_again.1).link in
-    let five = (emit_link gives 2 Two d at w (ticked c) x Z u.ask_two.0 u.four u.five fits refl along (λ f p y. sends p y) four u.ask_two.1).link in
-    let six = (emit_link gives 2 Two d at w (ticked c) x Z u.ask_two_again.0 u.five u.six fits refl along (λ f p y. sends p y) five
-    u.ask_two_again.1).link in
-    deliver_all gives (Link d at w (ticked c) x Z)
-    (λ cn n r i j step k. (deliver_link gives cn n d at w (ticked c) x Z r i j fits along k step).link)
-    u.delivers u.replies u.six new u.arrives u.rest six
+use Rattle.lagprogress.proofs.Timers.{runs_keep, fires_keep}
 
 -- while current_while has ticks left the receive machine stays
 
-state_not : (s : ReceiveState) (r : ReceiveState) (b : Bool) → same_receive_state s r ≡ false → (same_receive_state s r && b) ≡ true → ⊥
+pub state_not : (s : ReceiveState) (r : ReceiveState) (b : Bool) → same_receive_state s r ≡ false → (same_receive_state s r && b) ≡ true → ⊥
 state_not s r b e h = no (sym (ap (λ c. c && b) e) ∙ h)
 
 still_rows : (u : Lacpdu) (c : ℕ) (o : Machines) → 1 ≤ c → EnabledKeep (λ r. Known u c 0 r × (r ≡ o)) receive_rows
@@ -138,7 +114,7 @@ rising_rows t ready = (
   ),
 )
 
-keeps_selected : (u x : Lacpdu) (p q : Machines) → SameActor x u → HasRecorded u p → ProcessesLacpdu x p q
+pub keeps_selected : (u x : Lacpdu) (p q : Machines) → SameActor x u → HasRecorded u p → ProcessesLacpdu x p q
     → (q.choice ≡ p.choice) × (q.mux ≡ p.mux) × (q.wait_while ≡ p.wait_while)
 keeps_selected u x p q e known h = elim h [
   | inl f ↦ elim f [
@@ -195,36 +171,185 @@ pub rising_first : (p : Machines) → AtRest (mux_rows false) p → IsTimed p �
 rising_first p rest timed h =
     (h, climbs p.mux true (is_unselected p.choice) false p.wait_while (not_unselected p.choice h) rest.0 timed.2)
 
--- the only port of its system is Ready at once
+-- a port that may be SELECTED
 
-alone_ready : (keys : List Key) (x : SystemPort) (agg : AggId) → is_aggregator keys agg ≡ true → has_chosen agg x.port.choice ≡ true
-    → stage_of x.port.mux x.port.wait_while ≡ stage.Waiting true → is_ready keys (views (x ∷ [])) agg ≡ true
-alone_ready keys x agg e f g = rw (e, f, g) refl
+-- in ATTACHED or beyond, or in WAITING for so many ticks at the most
+abbrev pub HasRisen : ℕ → MuxState → ℕ → Type 0
+HasRisen t m n = (is_synchronized m ≡ true) ⊎ ((m ≡ Waiting) × (n ≤ t))
 
-waited : (m : MuxState) (n : ℕ) → m ≡ Waiting → n ≤ 0 → stage_of m n ≡ stage.Waiting true
-waited m zero e l = ap (λ x. stage_of x 0) e
-waited m (suc n) e l = absurd (omega (arith, l))
+-- so it is if it is SELECTED
+abbrev pub Ripe : ℕ → Machines → Type 0
+Ripe t p = is_selected p.choice ≡ true → HasRisen t p.mux p.wait_while
 
-never_waits : (s : SystemState) (x : SystemPort) (c : Choice) → x.port.choice ≡ c → IsSound s → s.system_ports ≡ x ∷ []
-    → slice_get s.system_ports 0 ≡ Some x → is_selected c ≡ true → x.port.mux ≡ Waiting → x.port.wait_while ≤ 0 → ⊥
-never_waits s x Unselected e h only at sel m w = no sel
-never_waits s x (Standby agg) e h only at sel m w = no sel
-never_waits s x (Selected agg) e h only at sel m w =
-    let key = h.occupants.key 0 agg.0 x at (ap occupied e) in
+-- each port that waits in an aggregator has waited
+
+waited : (n : ℕ) → n ≤ 0 → (n == 0) ≡ true
+waited zero l = refl
+waited (suc n) l = absurd (omega (arith, l))
+
+risen_waits : (m : MuxState) (n : ℕ) → HasRisen 0 m n → is_detached_or_waiting (stage_of m n) ≡ true → has_waited (stage_of m n) ≡ true
+risen_waits Detached n h e = absurd (elim h [ inl s ↦ no s | inr w ↦ not_waiting Detached true Detached refl refl w.0 ])
+risen_waits Waiting n h e = elim h [ inl s ↦ absurd (no s) | inr w ↦ waited n w.1 ]
+risen_waits Attached n h e = absurd (no e)
+risen_waits CollectingDistributing n h e = absurd (no e)
+
+member_selected : (agg : AggId) (c : Choice) → has_chosen agg c ≡ true → is_selected c ≡ true
+member_selected agg Unselected h = h
+member_selected agg (Selected given) h = refl
+member_selected agg (Standby given) h = h
+
+abbrev Lags : PortView → Bool
+Lags v = is_detached_or_waiting v.stage
+
+abbrev Waited : PortView → Bool
+Waited v = has_waited v.stage
+
+both_true : (a b : Bool) → a ≡ true → b ≡ true → (a && b) ≡ true
+both_true true b e f = f
+both_true false b e f = absurd (no e)
+
+either_true : (a b : Bool) → (a ≡ true) ⊎ (b ≡ true) → (a || b) ≡ true
+either_true true b h = refl
+either_true false b (inl e) = absurd (no e)
+either_true false b (inr f) = f
+
+one_waited : (v : PortView) (xs : List PortView) → (Lags v ≡ true → Waited v ≡ true) → list_all Waited (filter Lags xs) ≡ true
+    → list_all Waited (filter Lags (v ∷ xs)) ≡ true
+one_waited v xs k rest = by_test (Lags v) k
+  where
+    by_test : (b : Bool) → (b ≡ true → Waited v ≡ true) → list_all Waited (cond b (v ∷ filter Lags xs) (filter Lags xs)) ≡ true
+    by_test true k = both_true (Waited v) (list_all Waited (filter Lags xs)) (k refl) rest
+    by_test false k = rest
+
+member_waited : (c : Bool) (v : PortView) (xs : List PortView) → (c ≡ true → Lags v ≡ true → Waited v ≡ true)
+    → list_all Waited (filter Lags xs) ≡ true → list_all Waited (filter Lags (cond c (v ∷ xs) xs)) ≡ true
+member_waited true v xs k rest = one_waited v xs (k refl) rest
+member_waited false v xs k rest = rest
+
+all_waited : (agg : AggId) (ports : List SystemPort) → AllByRecursion (λ (y : SystemPort). Ripe 0 y.port) ports
+    → list_all Waited (filter Lags (ports_that_chose agg (views ports))) ≡ true
+all_waited agg [] a = refl
+all_waited agg (y ∷ ys) a = member_waited (has_chosen agg y.port.choice) (selection_view y) (ports_that_chose agg (views ys))
+    (λ c d. risen_waits y.port.mux y.port.wait_while (a.0 (member_selected agg y.port.choice c)) d) (all_waited agg ys a.1)
+
+some_lags : (agg : AggId) (ports : List SystemPort) (i : ℕ) (x : SystemPort) → slice_get ports i ≡ Some x
+    → has_chosen agg x.port.choice ≡ true → Lags (selection_view x) ≡ true → list_any Lags (ports_that_chose agg (views ports)) ≡ true
+some_lags agg [] i x e c d = absurd (none-some x e)
+some_lags agg (y ∷ ys) zero x e c d =
+    let same : y ≡ x = same_Some y x e in
+    subst (λ b. list_any Lags (cond b (selection_view y ∷ ports_that_chose agg (views ys)) (ports_that_chose agg (views ys))) ≡ true)
+    (sym (ap (λ (z : SystemPort). has_chosen agg z.port.choice) same ∙ c))
+    (either_true (Lags (selection_view y)) (list_any Lags (ports_that_chose agg (views ys)))
+    (inl (ap (λ (z : SystemPort). Lags (selection_view z)) same ∙ d)))
+some_lags agg (y ∷ ys) (suc i) x e c d = by_test (has_chosen agg y.port.choice) (some_lags agg ys i x e c d)
+  where
+    by_test : (b : Bool) → list_any Lags (ports_that_chose agg (views ys)) ≡ true
+        → list_any Lags (cond b (selection_view y ∷ ports_that_chose agg (views ys)) (ports_that_chose agg (views ys))) ≡ true
+    by_test true k = either_true (Lags (selection_view y)) (list_any Lags (ports_that_chose agg (views ys))) (inr k)
+    by_test false k = k
+
+-- so the aggregator is Ready
+all_ready : (keys : List Key) (ports : List SystemPort) (agg : AggId) → is_aggregator keys agg ≡ true
+    → list_any Lags (ports_that_chose agg (views ports)) ≡ true
+    → list_all Waited (filter Lags (ports_that_chose agg (views ports))) ≡ true → is_ready keys (views ports) agg ≡ true
+all_ready keys ports agg known some all =
+    let ps = ports_that_chose agg (views ports) in
+    ap (λ (b : Bool). list_any Lags (if b then ps else []) && list_all Waited (filter Lags (if b then ps else []))) known
+    ∙ both_true (list_any Lags ps) (list_all Waited (filter Lags ps)) some all
+
+never_waits : (s : SystemState) (i : ℕ) (x : SystemPort) (c : Choice) → x.port.choice ≡ c → IsSound s → slice_get s.system_ports i ≡ Some x
+    → AllByRecursion (λ (y : SystemPort). Ripe 0 y.port) s.system_ports → is_selected c ≡ true → x.port.mux ≡ Waiting → ⊥
+never_waits s i x Unselected e h at ripe sel m = no sel
+never_waits s i x (Standby agg) e h at ripe sel m = no sel
+never_waits s i x (Selected agg) e h at ripe sel m =
+    let key = h.occupants.key i agg.0 x at (ap occupied e) in
     let known : is_aggregator s.keys agg ≡ true = known_number s.keys agg.0 x.port.party.key key in
-    let settled = all-get (MuxIsSettled s.keys s.system_ports) s.system_ports 0 x at h.quiet.0 in
-    let unready : is_ready s.keys (views (x ∷ [])) agg ≡ false =
-    sym (ap (λ l. is_ready s.keys (views l) agg) only) ∙ (sym (ap (ready_of s.keys (views s.system_ports)) e) ∙ settled.unready) in
-    no (sym unready ∙ alone_ready s.keys x agg known (ap (has_chosen agg) e ∙ itself agg.0) (waited x.port.mux x.port.wait_while m w))
+    let settled = all-get (MuxIsSettled s.keys s.system_ports) s.system_ports i x at h.quiet.0 in
+    let unready : is_ready s.keys (views s.system_ports) agg ≡ false =
+    sym (ap (ready_of s.keys (views s.system_ports)) e) ∙ settled.unready in
+    let lags : Lags (selection_view x) ≡ true = ap (λ n. is_detached_or_waiting (stage_of n x.port.wait_while)) m in
+    no (sym unready ∙ all_ready s.keys s.system_ports agg known
+    (some_lags agg s.system_ports i x at (ap (has_chosen agg) e ∙ itself agg.0) lags) (all_waited agg s.system_ports ripe))
 
-pub climbed : (s : SystemState) (x : SystemPort) → IsSound s → s.system_ports ≡ x ∷ [] → Rising 0 x.port → Synced x.port
-climbed s x h only y = (
+-- a SELECTED port does not wait, where no member of its aggregator has ticks of wait_while left
+pub climbed : (s : SystemState) (i : ℕ) (x : SystemPort) → IsSound s → slice_get s.system_ports i ≡ Some x
+    → AllByRecursion (λ (y : SystemPort). Ripe 0 y.port) s.system_ports → Rising 0 x.port → Synced x.port
+climbed s i x h at ripe y = (
   y.0,
   elim y.1 [
     | inl sync ↦ sync
-    | inr w ↦ absurd (never_waits s x x.port.choice refl h only (ap (λ l. slice_get l 0) only) y.0 w.0 w.1)
+    | inr w ↦ absurd (never_waits s i x x.port.choice refl h at ripe y.0 w.0)
   ],
 )
+
+-- a port whose link is down
+
+-- it does not stand by, and it has risen if it is SELECTED
+abbrev pub Dormant : ℕ → Choice → MuxState → ℕ → Type 0
+Dormant t c m n = ((agg : AggId) → c ≡ Standby agg → ⊥) × (is_selected c ≡ true → HasRisen t m n)
+
+-- so is the port if its link is down
+abbrev pub Down : ℕ → ℕ → Machines → Type 0
+Down t k p = p.enabled ≡ false → Dormant t p.choice p.mux p.wait_while
+
+unselects : (t : ℕ) (b : Bool) (c : Choice) (m : MuxState) (n : ℕ) → Dormant t c m n → Dormant t (if b then c else Unselected) m n
+unselects t true c m n a = a
+unselects t false c m n a = (λ agg e. cc, λ e. absurd (no e))
+
+down_mux : (t k : ℕ) (ready : Bool) → EnabledKeep (Down t k) (mux_rows ready)
+down_mux t k ready =
+    let rows = rising_rows t ready in (
+      λ p h a e. ((a e).0, λ s. (rows.0 p h (s, (a e).1 s)).1),
+      (
+        λ p h a e. ((a e).0, λ s. (rows.1.0 p h (s, (a e).1 s)).1),
+        (
+          λ p h a e. ((a e).0, λ s. (rows.1.1.0 p h (s, (a e).1 s)).1),
+          (
+            λ p h a e. ((a e).0, λ s. (rows.1.1.1.0 p h (s, (a e).1 s)).1),
+            (
+              λ p h a e. ((a e).0, λ s. (rows.1.1.1.1.0 p h (s, (a e).1 s)).1),
+              (λ p h a e. ((a e).0, λ s. (rows.1.1.1.1.1.0 p h (s, (a e).1 s)).1), tt),
+            ),
+          ),
+        ),
+      ),
+    )
+
+pub down_settles : (t : ℕ) → KeptBySettling (Down t)
+down_settles t = record {
+  mux = λ k ready p q h a. times_keep (Down t k) (mux_rows ready) (down_mux t k ready) h.0 p q h.1 a;
+  periodic = λ k p q h a. subst (Down t k) (sym h.2) (runs_keep (Down t k) periodic_rows
+      (λ p a. a, (λ p a. a, (λ p a. a, (λ p a. a, (λ p a. a, (λ p a. a, (λ p a. a, tt))))))) p h.0 h.1 a);
+  select = λ k choice p none may a e. absurd (elim may.0 [ inl up ↦ no (sym e ∙ up) | inr s ↦ (a e).0 s.0 s.1 ]);
+}
+
+pub down_takes : (t k : ℕ) (x : Lacpdu) (p q : Machines) → ProcessesLacpdu x p q → Down t k p → Down t k q
+down_takes t k x p q h a = elim h [
+  | inl f ↦ fires_keep (Down t k) (lacpdu_rows x)
+      (λ p a e. unselects t (same_party (party_of x.actor) (party_of p.partner)) p.choice p.mux p.wait_while (a e), tt) p q f a
+  | inr r ↦ subst (Down t k) (sym r.1) a
+]
+
+pub down_ticks : (t k : ℕ) (p q : Machines) → RunsToRest receive_rows (count_down p) q → Down t k p → Down (t - 1) k q
+down_ticks t k p q h a = runs_keep (Down (t - 1) k) receive_rows (
+  λ p a. a,
+  (
+    λ p a. a,
+    (
+      λ p a. a,
+      (
+        λ p a e. unselects (t - 1) (same_party (party_of default_partner) (party_of p.partner)) p.choice p.mux p.wait_while (a e),
+        (λ p a. a, tt),
+      ),
+    ),
+  ),
+) (count_down p) q h (λ e. (
+  (a e).0,
+  λ s. elim ((a e).1 s) [
+    | inl y ↦ inl y
+    | inr w ↦ (let l = w.1 in inr (w.0, omega (arith, l)))
+  ],
+))
 
 -- the partner stays synchronized
 
@@ -244,6 +369,23 @@ partner_along v u c d there on = record {
 pub ticks_partner : (d : ℕ) (v u : Lacpdu) (c : ℕ) (p q : Machines) → 1 ≤ c - 1 → RunsToRest receive_rows (count_down p) q
     → IsEnd d v u c p → PartnerInSync p → PartnerInSync q
 ticks_partner d v u c p q l h a y = subst PartnerInSync (sym (ticks_still d v u c p q l a h)) y
+
+-- Selected stays what it is
+
+pub choice_along : (v u : Lacpdu) (c d : ℕ) (choice : Choice) → is_selected choice ≡ true → 1 ≤ d → 1 ≤ c
+    → Along (λ p. p.choice ≡ choice) v u c d
+choice_along v u c d choice chosen there known = record {
+  mux = λ ready p q h y. runs_keep (λ p. p.choice ≡ choice) (mux_rows ready)
+      (λ p a. a, (λ p a. a, (λ p a. a, (λ p a. a, (λ p a. a, (λ p a. a, tt)))))) p q h y;
+  periodic = λ p q h a y. subst (λ (r : Machines). r.choice ≡ choice) (sym h.2) (runs_keep (λ p. p.choice ≡ choice) periodic_rows
+      (λ p a. a, (λ p a. a, (λ p a. a, (λ p a. a, (λ p a. a, (λ p a. a, (λ p a. a, tt))))))) p h.0 h.1 y);
+  select = λ other p none y. absurd (no (sym none ∙ (ap is_selected y ∙ chosen)));
+  takes = λ x p q e awake h a y. (keeps_selected u x p q (e.0 there) (a.1.1 known).0 h).0 ∙ y;
+}
+
+pub ticks_choice : (d : ℕ) (v u : Lacpdu) (c : ℕ) (p q : Machines) (choice : Choice) → 1 ≤ c - 1 → RunsToRest receive_rows (count_down p) q
+    → IsEnd d v u c p → p.choice ≡ choice → q.choice ≡ choice
+ticks_choice d v u c p q choice l h a y = subst (λ (r : Machines). r.choice ≡ choice) (sym (ticks_still d v u c p q l a h)) y
 
 distributing_now : (m : MuxState) (sel sync : Bool) → is_synchronized m ≡ true → sel ≡ true → sync ≡ true
     → (same_mux_state Attached m && (sel && sync)) ≡ false → m ≡ CollectingDistributing

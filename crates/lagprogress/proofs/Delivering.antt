@@ -1,5 +1,5 @@
--- What a Deliver event leaves of a world with one cable.
-use Rattle.std.proofs.Common.{◌≡◌, ◌∙◌, ℕ, ◌≤◌, List, [], ◌∷◌, Some, Result, Ok, Err}
+-- What a Deliver event leaves of a cable and its ends.
+use Rattle.std.proofs.Common.{refl, ◌≡◌, ◌∙◌, ℕ, ◌≤◌, List, [], ◌∷◌, Some, Result, Ok, Err}
 use Rattle.std.proofs.Common.{◌⊎◌, inl, inr, sym, subst, true}
 use Rattle.std.specs.Prelude.{slice_get}
 use Rattle.std.specs.List.{AllByRecursion}
@@ -26,10 +26,11 @@ use Rattle.lagprogress.proofs.EachPort.{OfEach}
 use Rattle.lagprogress.proofs.EndFacts.{Along, IsEnd, Learnt, Suits, both_along, end_settles, known_along, takes_each, takes_end, takes_learnt}
 use Rattle.lagprogress.proofs.EndFacts.{wait_of}
 use Rattle.lagprogress.proofs.Halves.{keeps_steady}
-use Rattle.lagprogress.proofs.OneCable.{Arrives, Back, delivers, put}
+use Rattle.lagprogress.proofs.OneCable.{Arrives, Back, delivers, put, Beside}
 use Rattle.lagprogress.proofs.OnePort.{AtPort}
 use Rattle.lagprogress.proofs.Passing.{marker_carries_none}
 use Rattle.lagprogress.proofs.Linked.{Arrived, EndIs, Fits, Flying, IsGood, Link, along_if, arrival, each_map, each_side, flying_on, found}
+use Rattle.lagprogress.proofs.Linked.{beside_link}
 use Rattle.lagprogress.proofs.Linked.{place_kept, pushed, put_other, put_there}
 
 -- what goes back
@@ -152,6 +153,7 @@ arrives_link gives cn n s d at w c x Y r old new fits along l h k =
       link = record {
         steady = steady;
         flying = k.now;
+        index = k.index;
         links = k.links;
         good = back_good d w (gives s) s (at s) k.item.octets k.a (half s old).state (half s new).state (put s k.rest l.flying) k.now
             k.promise k.back less;
@@ -170,21 +172,25 @@ arrives_link gives cn n s d at w c x Y r old new fits along l h k =
     arrived_by (Err fault) i z up e f p = absurd (none-some i (sym p.step.cause ∙ e))
     arrived_by (Ok o) i z up e f p = arrival (gives s) (at s) i z k.item.octets o (half s old).state (half s new).state e f up p
 
+-- the first item towards an end came, or the event left the cable to itself; then these items are on their way
+abbrev pub Moved : Algorithms → (Side → ℕ) → (Side → List ItemValue) → WorldState → WorldState → (Side → List ItemValue) → Type 0
+Moved gives at fl old new now =
+    ((s : Side) × (k : Arrives gives s at fl old new) × (now ≡ k.now)) ⊎ (Beside gives at fl old new × (now ≡ fl))
+
+pub deliver_moves : (gives : Algorithms) (cn n : ℕ) (d : ℕ) (at : Side → ℕ) (w : Side → Lacpdu) (c : Side → ℕ) (x : Side)
+    (Y : Machines → Type 0) (r : Reply) (old new : WorldState) → Fits d w c → Along Y (w x) (w (peer x)) (c x) d
+    → (l : Link d at w c x Y old) → WorldSteps gives old (event.Deliver cn n) r new
+    → (m : Delivered d at w c x Y l.flying new) × Moved gives at l.flying old new m.link.flying
+unfolding arrives_link
+deliver_moves gives cn n d at w c x Y r old new fits along l h = elim (delivers gives cn n l.index at l.flying r old new l.links h) [
+  | inl k ↦ (arrives_link gives cn n k.0 d at w c x Y r old new fits along l h k.1, inl (k.0, k.1, refl))
+  | inr b ↦ (let k = beside_link gives (event.Deliver cn n) d at w c x Y r old new along l h b in (
+    record { link = k.link; flying = λ t f. inl (subst (λ (g : Side → List ItemValue). Flying (g t)) (sym k.same) f) },
+    inr (b, k.same),
+  ))
+]
+
 pub deliver_link : (gives : Algorithms) (cn n : ℕ) (d : ℕ) (at : Side → ℕ) (w : Side → Lacpdu) (c : Side → ℕ) (x : Side)
     (Y : Machines → Type 0) (r : Reply) (old new : WorldState) → Fits d w c → Along Y (w x) (w (peer x)) (c x) d
     → (l : Link d at w c x Y old) → WorldSteps gives old (event.Deliver cn n) r new → Delivered d at w c x Y l.flying new
-deliver_link gives cn n d at w c x Y r old new fits along l h = elim (delivers gives cn n at l.flying r old new l.links h) [
-  | inl k ↦ arrives_link gives cn n k.0 d at w c x Y r old new fits along l h k.1
-  | inr k ↦ (let steady = keeps_steady gives (event.Deliver cn n) r old new h l.steady in
-      record {
-        link = record {
-          steady = steady;
-          flying = l.flying;
-          links = k.links ∙ l.links;
-          good = l.good;
-          place = λ t. ((l.place t).0, place_kept gives (event.Deliver cn n) r old new h l.steady steady t (at t) ∙ (l.place t).1);
-          ports = λ t. subst (λ (y : SystemState). OfEach (AtPort (at t) (EndIs d w c x Y t)) y.system_ports) (sym (k.halves t)) (l.ports t);
-        };
-        flying = λ t f. inl f;
-      })
-]
+deliver_link gives cn n d at w c x Y r old new fits along l h = (deliver_moves gives cn n d at w c x Y r old new fits along l h).0

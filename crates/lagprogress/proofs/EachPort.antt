@@ -2,7 +2,7 @@
 use Rattle.std.proofs.Common.{◌≡◌, ◌∙◌, ◌&&◌, ◌==◌, ℕ, Bool, true, false, Option, Some, None, Ok, Err, List, [], ◌∷◌, drop, refl}
 use Rattle.std.proofs.Common.{sym}
 use Rattle.std.proofs.Common.{subst, ap, arith, inl, inr}
-use Rattle.std.specs.Prelude.{slice_get, slice_set, length, not, option_map, if◌then◌else◌, ◌⊎◌}
+use Rattle.std.specs.Prelude.{slice_get, slice_set, length, not, option_map, if◌then◌else◌, ◌⊎◌, ◌||◌}
 use Rattle.std.specs.List.{AllByRecursion}
 use Rattle.std.proofs.lemmas.Bool.Decides.{nat_tests}
 use Rattle.std.proofs.lemmas.Bool.{cases_Bool}
@@ -24,7 +24,9 @@ use Rattle.slowpdu.proofs.WritingLemmas.{framed_payload}
 use Rattle.distributor.specs.Changes.{marker_due}
 use Rattle.portmachines.specs.declared.port.Setup.{Setup}
 use Rattle.portmachines.specs.Machines.{Machines}
-use Rattle.portmachines.specs.Mux.{mux_rows}
+use Rattle.portmachines.specs.declared.mux.MuxState.{MuxState}
+use Rattle.portmachines.specs.declared.mux.MuxState.TheVariants.{Detached, Waiting, Attached, CollectingDistributing}
+use Rattle.portmachines.specs.Mux.{is_synchronized, mux_rows, partner_synchronized, same_mux_state}
 use Rattle.portmachines.specs.Periodic.{RunsPeriodic}
 use Rattle.portmachines.specs.Receive.{receive_rows}
 use Rattle.portmachines.specs.Rows.{RunsToRest}
@@ -50,11 +52,16 @@ use Rattle.lagsystem.proofs.PromotionLemmas.{choices_keep, promotions_keep}
 use Rattle.lagsystem.proofs.Rest.{becomes_slots, last_slots, marker_slots, offers_slots, same_slots, zip_all}
 use Rattle.lagsystem.proofs.Rising.{all-get, all-set, found_place}
 
+-- Selected of the port may get another value: its link is up, or it is STANDBY; and it is not synchronized
+abbrev pub MayBeGiven : Machines → Type 0
+MayBeGiven p = ((p.enabled ≡ true) ⊎ ((agg : AggId) × (p.choice ≡ Standby agg))) × (is_synchronized p.mux ≡ false)
+
 -- what settling does to the machines of a port keeps P; the number is the port's
 pub record KeptBySettling (P : ℕ → Machines → Type 0) : Type 0 where
   pub mux : (n : ℕ) (ready : Bool) (p q : Machines) → RunsToRest (mux_rows ready) p q → P n p → P n q
   pub periodic : (n : ℕ) (p q : Machines) → RunsPeriodic p q → P n p → P n q
-  pub select : (n : ℕ) (choice : Choice) (p : Machines) → is_selected p.choice ≡ false → P n p → P n (record p { choice = choice })
+  pub select : (n : ℕ) (choice : Choice) (p : Machines) → is_selected p.choice ≡ false → MayBeGiven p → P n p
+      → P n (record p { choice = choice })
 
 -- what a call itself does keeps P
 abbrev pub KeptByCall : (ℕ → Machines → Type 0) → Call → Reply → Type 0
@@ -73,7 +80,7 @@ KeptByCall P (Force agg conv) answer = Unit {0}
 abbrev pub OfEach : (ℕ → Machines → Type 0) → List SystemPort → Type 0
 OfEach P ports = AllByRecursion (λ (x : SystemPort). P x.number x.port) ports
 
-zip_kept : (R : Machines → Machines → Type 0) (P Q : ℕ → Machines → Type 0) → ((n : ℕ) (p q : Machines) → R p q → P n p → Q n q)
+pub zip_kept : (R : Machines → Machines → Type 0) (P Q : ℕ → Machines → Type 0) → ((n : ℕ) (p q : Machines) → R p q → P n p → Q n q)
     → (xs ys : List SystemPort) → PortsChangeBy R xs ys → OfEach P xs → OfEach Q ys
 zip_kept R P Q k [] [] h a = tt
 zip_kept R P Q k [] (y ∷ ys) h a = absurd h
@@ -104,36 +111,88 @@ none_for aggs l s h =
     ap (λ (b : Bool). option_map (choice_in aggs (views l)) (if b then chosen_aggregator aggs.keys (views l) s.number else None))
     (chosen_not_eligible (selection_view s) h)
 
-given : (P : ℕ → Machines → Type 0) → KeptBySettling P → (s : SystemPort) (o : Option Choice)
-    → (is_selected s.port.choice ≡ false) ⊎ (o ≡ None) → P s.number s.port → P (with_choice s o).number (with_choice s o).port
+-- a port whose link is down gets none
+down_none : (aggs : AggregatorsValue) (l : List SystemPort) (s : SystemPort) → s.port.enabled ≡ false → choice_for aggs l s ≡ None
+down_none aggs l s h =
+    ap (λ (b : Bool). option_map (choice_in aggs (views l)) (if b then chosen_aggregator aggs.keys (views l) s.number else None)) down
+  where
+    down : is_eligible (selection_view s) ≡ false
+    down = ap (λ (b : Bool). (((b && (selection_view s).settled) && is_detached (selection_view s).stage) && is_unselected s.port.choice)
+        && not (same_system (selection_view s).partner.system s.port.party.system)) h
+
+-- what another value of Selected keeps
+abbrev Selects : (ℕ → Machines → Type 0) → Type 0
+Selects P = (n : ℕ) (choice : Choice) (p : Machines) → is_selected p.choice ≡ false → MayBeGiven p → P n p → P n (record p { choice = choice })
+
+-- the port is not synchronized, if it is not SELECTED, and P holds
+abbrev AtRestAnd : (ℕ → Machines → Type 0) → ℕ → Machines → Type 0
+AtRestAnd P n p = P n p × (is_selected p.choice ≡ false → is_synchronized p.mux ≡ false)
+
+unsynchronized : (m : MuxState) (sel b : Bool) → sel ≡ false → (same_mux_state Attached m && not sel) ≡ false
+    → (same_mux_state CollectingDistributing m && (not sel || b)) ≡ false → is_synchronized m ≡ false
+unsynchronized Detached sel b e f g = refl
+unsynchronized Waiting sel b e f g = refl
+unsynchronized Attached true b e f g = absurd (let x = e in cc)
+unsynchronized Attached false b e f g = absurd (let x = f in cc)
+unsynchronized CollectingDistributing true b e f g = absurd (let x = e in cc)
+unsynchronized CollectingDistributing false b e f g = absurd (let x = g in cc)
+
+mux_rested : (P : ℕ → Machines → Type 0) → KeptBySettling P → (n : ℕ) (p q : Machines) → RunsToRest (mux_rows false) p q → P n p
+    → AtRestAnd P n q
+mux_rested P k n p q h a = (
+  k.mux n false p q h a,
+  λ e. unsynchronized q.mux (is_selected q.choice) (not (partner_synchronized q)) e h.2.1.1.1.0 h.2.1.1.1.1.1.0,
+)
+
+rest_selects : (P : ℕ → Machines → Type 0) → KeptBySettling P → Selects (AtRestAnd P)
+rest_selects P k n choice p none may a = (k.select n choice p none may a.0, λ e. may.1)
+
+firsts : (P : ℕ → Machines → Type 0) (xs : List SystemPort) → OfEach (AtRestAnd P) xs → OfEach P xs
+firsts P [] a = tt
+firsts P (x ∷ xs) a = (a.0.0, firsts P xs a.1)
+
+given : (P : ℕ → Machines → Type 0) → Selects P → (s : SystemPort) (o : Option Choice)
+    → ((is_selected s.port.choice ≡ false) × MayBeGiven s.port) ⊎ (o ≡ None) → P s.number s.port → P (with_choice s o).number (with_choice s o).port
 given P k s None h a = a
-given P k s (Some choice) (inl h) a = k.select s.number choice s.port h a
+given P k s (Some choice) (inl h) a = k s.number choice s.port h.0 h.1 a
 given P k s (Some choice) (inr h) a = absurd (none-some choice (sym h))
 
-gives_one : (P : ℕ → Machines → Type 0) → KeptBySettling P → (l : List SystemPort) (i : ℕ) (s : SystemPort) (o : Option Choice)
-    → (is_selected s.port.choice ≡ false) ⊎ (o ≡ None) → slice_get l i ≡ Some s → OfEach P l
+gives_one : (P : ℕ → Machines → Type 0) → Selects P → (l : List SystemPort) (i : ℕ) (s : SystemPort) (o : Option Choice)
+    → ((is_selected s.port.choice ≡ false) × MayBeGiven s.port) ⊎ (o ≡ None) → slice_get l i ≡ Some s → OfEach P l
     → OfEach P (slice_set l i (with_choice s o))
 gives_one P k l i s o h e a =
     let Q : SystemPort → Type 0 = λ x. P x.number x.port in
     all-set Q l i (with_choice s o) a (given P k s o h (all-get Q l i s e a))
 
+-- the port at the place is not synchronized, if it is not SELECTED
+rest_at : (P : ℕ → Machines → Type 0) (l : List SystemPort) (i : ℕ) (s : SystemPort) → slice_get l i ≡ Some s → OfEach (AtRestAnd P) l
+    → is_selected s.port.choice ≡ false → is_synchronized s.port.mux ≡ false
+rest_at P l i s e a = (all-get (λ (x : SystemPort). AtRestAnd P x.number x.port) l i s e a).1
+
 promotes_one : (P : ℕ → Machines → Type 0) → KeptBySettling P → (aggs : AggregatorsValue) (agg : AggId) (l m : List SystemPort)
-    → PromotesNext aggs agg l m → OfEach P l → OfEach P m
+    → PromotesNext aggs agg l m → OfEach (AtRestAnd P) l → OfEach (AtRestAnd P) m
 promotes_one P k aggs agg l m h a =
-    subst (OfEach P) (sym h.4) (gives_one P k l h.0 h.1 (Some (Selected agg)) (inl (ap is_selected (next_stands aggs agg l m h))) h.3 a)
+    let stands = next_stands aggs agg l m h in
+    let none = ap is_selected stands in
+    subst (OfEach (AtRestAnd P)) (sym h.4) (gives_one (AtRestAnd P) (rest_selects P k) l h.0 h.1 (Some (Selected agg))
+    (inl (none, (inr (agg, stands), rest_at P l h.0 h.1 h.3 a none))) h.3 a)
 
 chooses_one : (P : ℕ → Machines → Type 0) → KeptBySettling P → (aggs : AggregatorsValue) (l : List SystemPort) (i : ℕ) (s : SystemPort)
-    → slice_get l i ≡ Some s → OfEach P l → OfEach P (slice_set l i (with_choice s (choice_for aggs l s)))
-chooses_one P k aggs l i s e a = gives_one P k l i s (choice_for aggs l s) (elim (cases_Bool (is_selected s.port.choice)) [
-  | inl t ↦ inr (none_for aggs l s t)
-  | inr f ↦ inl f
-]) e a
+    → slice_get l i ≡ Some s → OfEach (AtRestAnd P) l → OfEach (AtRestAnd P) (slice_set l i (with_choice s (choice_for aggs l s)))
+chooses_one P k aggs l i s e a =
+    gives_one (AtRestAnd P) (rest_selects P k) l i s (choice_for aggs l s) (elim (cases_Bool (is_selected s.port.choice)) [
+      | inl t ↦ inr (none_for aggs l s t)
+      | inr f ↦ elim (cases_Bool s.port.enabled) [
+        | inl up ↦ inl (f, (inl up, rest_at P l i s e a f))
+        | inr down ↦ inr (down_none aggs l s down)
+      ]
+    ]) e a
 
 choosing_each : (P : ℕ → Machines → Type 0) → KeptBySettling P → (aggs : AggregatorsValue) (old new : List SystemPort)
-    → ChoosesIn aggs old new → OfEach P old → OfEach P new
+    → ChoosesIn aggs old new → OfEach (AtRestAnd P) old → OfEach (AtRestAnd P) new
 choosing_each P k aggs old new h a =
-    subst (OfEach P) (sym h.2) (choices_keep aggs (OfEach P) (chooses_one P k aggs) (length h.0) h.0
-    (promotions_keep aggs (OfEach P) (promotes_one P k aggs) (length aggs.keys) old h.0 h.1 a))
+    subst (OfEach (AtRestAnd P)) (sym h.2) (choices_keep aggs (OfEach (AtRestAnd P)) (chooses_one P k aggs) (length h.0) h.0
+    (promotions_keep aggs (OfEach (AtRestAnd P)) (promotes_one P k aggs) (length aggs.keys) old h.0 h.1 a))
 
 pub settling_each : (P : ℕ → Machines → Type 0) → KeptBySettling P → (old new : SystemState) → Settling old new
     → OfEach P old.system_ports
@@ -145,11 +204,10 @@ settling_each P k old new h a =
     let four = h.2.2.2.0 in
     let five = h.2.2.2.2.0 in
     let ready = λ (p : Machines). ready_of three.keys (views three.system_ports) p.choice in
-    let a1 : OfEach P one.system_ports = zip_kept (RunsToRest (mux_rows false)) P P (λ n. k.mux n false) old.system_ports
-    one.system_ports
-    h.1.0 a in
-    let a2 : OfEach P two.system_ports =
-    choosing_each P k (aggregators_value one) one.system_ports two.system_ports h.2.1.0 a1 in
+    let a1 : OfEach (AtRestAnd P) one.system_ports =
+    zip_kept (RunsToRest (mux_rows false)) P (AtRestAnd P) (mux_rested P k) old.system_ports one.system_ports h.1.0 a in
+    let a2 : OfEach P two.system_ports = firsts P two.system_ports
+    (choosing_each P k (aggregators_value one) one.system_ports two.system_ports h.2.1.0 a1) in
     let a3 : OfEach P three.system_ports = subst (λ (s : SystemState). OfEach P s.system_ports) (sym h.2.2.1) a2 in
     let a4 : OfEach P four.system_ports = zip_kept (λ p q. RunsToRest (mux_rows (ready p)) p q) P P (λ n p. k.mux n (ready p) p)
     three.system_ports four.system_ports h.2.2.2.1.0 a3 in
@@ -157,7 +215,7 @@ settling_each P k old new h a =
     a4 in
     subst (OfEach P) (sym (last_slots old new h)) a5
 
-place_each : (P : ℕ → Machines → Type 0) (R : Machines → Machines → Type 0) (n : ℕ) → ((p q : Machines) → R p q → P n p → P n q)
+pub place_each : (P : ℕ → Machines → Type 0) (R : Machines → Machines → Type 0) (n : ℕ) → ((p q : Machines) → R p q → P n p → P n q)
     → (o : Option ℕ) (old new : List SystemPort) → port_index n old ≡ o → PortAtChangesBy R o old new → OfEach P old → OfEach P new
 place_each P R n k None old new e h a = absurd h
 place_each P R n k (Some i) old new e h a =
@@ -200,7 +258,7 @@ sends_each P n true true i x old answer new k at e h a =
 sends_each P n true false i x old answer new k at e h a =
     same_each P old new (marker_slots (marker_due old.table x.number) x.number x.mac old answer new h) a
 
-transmits_each : (P : ℕ → Machines → Type 0) (n : ℕ) (o : Option ℕ) (old : SystemState) (answer : Option (List ℕ)) (new :
+pub transmits_each : (P : ℕ → Machines → Type 0) (n : ℕ) (o : Option ℕ) (old : SystemState) (answer : Option (List ℕ)) (new :
     SystemState)
     → KeptByCall P (Transmit n) (reply.Transmit (Ok answer)) → port_index n old.system_ports ≡ o
     → TransmitsAt o old answer new → OfEach P old.system_ports → OfEach P new.system_ports

@@ -134,7 +134,7 @@ end_settles Y v u c d n k = record {
     subst (IsEnd d v u c) (sym h.2) (runs_keep (IsEnd d v u c) periodic_rows (end_periodic d v u c) p h.0 h.1 (a e).0),
     k.periodic p q h (a e).0 (a e).1,
   );
-  select = λ m choice p none a e. (
+  select = λ m choice p none may a e. (
     ((a e).0.0, (a e).0.1, λ f. absurd (no (sym none ∙ ((a e).0.2 f).0))),
     k.select choice p none (a e).1,
   );
@@ -274,20 +274,20 @@ ticks_sounds d v u fast c most p q can h rest a y =
 abbrev pub Learnt : ℕ → Lacpdu → ℕ → Machines → Type 0
 Learnt d u most p = Known u most 0 p × (2 ≤ d → partner_synchronized p ≡ true)
 
-all_true : (a b c : Bool) → a ≡ true → b ≡ true → c ≡ true → (a && b && c) ≡ true
+pub all_true : (a b c : Bool) → a ≡ true → b ≡ true → c ≡ true → (a && b && c) ≡ true
 all_true true true true e f g = refl
 all_true true true false e f g = g
 all_true true false c e f g = absurd (no f)
 all_true false b c e f g = absurd (no e)
 
-maintained : (a b c : Bool) → (a ≡ true) ⊎ ((b ≡ true) × (c ≡ true)) → (a || (b && c)) ≡ true
+pub maintained : (a b c : Bool) → (a ≡ true) ⊎ ((b ≡ true) × (c ≡ true)) → (a || (b && c)) ≡ true
 maintained true b c h = refl
 maintained false b c (inl h) = absurd (no h)
 maintained false true true (inr h) = refl
 maintained false true false (inr h) = h.1
 maintained false false c (inr h) = absurd (no h.0)
 
-first_true : (a b : Bool) → a ≡ true → (a || b) ≡ true
+pub first_true : (a b : Bool) → a ≡ true → (a || b) ≡ true
 first_true true b h = refl
 first_true false b h = absurd (no h)
 
@@ -304,7 +304,7 @@ records_sync v u x p on e i a = all_true (bits_of x.actor.state).synchronization
     by_activity (inl k) = inl (e.1 ∙ k)
     by_activity (inr k) = inr (a.1 ∙ k, i.2 ∙ k)
 
-awake_fires : (b c : Bool) → b ≡ true → (if b then c else true) ≡ true → (c && b) ≡ false → ⊥
+pub awake_fires : (b c : Bool) → b ≡ true → (if b then c else true) ≡ true → (c && b) ≡ false → ⊥
 awake_fires true true e h f = no (sym f)
 awake_fires true false e h f = no h
 awake_fires false c e h f = no e

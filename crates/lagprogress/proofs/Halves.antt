@@ -242,7 +242,7 @@ pub keeps_steady : (gives : Algorithms) (e : Event) (r : Reply) (old new : World
 keeps_steady gives e r old new x k s =
     let g = each_is_calls gives e r old new x s in run_steady (gives s) (half s old).state (half s new).state g.0 g.1 g.2 (k s)
 
-both_first : (configs : List Config) (j : WorldState) → AreFirst configs j → (s : Side) → IsFirst (half s j).state
+pub both_first : (configs : List Config) (j : WorldState) → AreFirst configs j → (s : Side) → IsFirst (half s j).state
 both_first [] j h s = absurd h
 both_first (a ∷ []) j h s = absurd h
 both_first (a ∷ b ∷ []) j h One = h.0.first

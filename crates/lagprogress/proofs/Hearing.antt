@@ -27,7 +27,7 @@ use Rattle.lagprogress.proofs.OnePort.{AtPort, GoesOn, goes_on}
 use Rattle.lagprogress.proofs.Timers.{RowsKeep, runs_keep}
 
 -- DEFAULTED comes in so many ticks at the latest, and not before so many have gone
-abbrev Within : ℕ → ℕ → ReceiveState → ℕ → Type 0
+abbrev pub Within : ℕ → ℕ → ReceiveState → ℕ → Type 0
 Within least most Current n = (n + 30 ≤ most) × (30 + least ≤ most)
 Within least most Expired n = (n ≤ most) × (least ≤ most)
 Within least most Defaulted n = Unit {0}
@@ -35,10 +35,10 @@ Within least most Initialize n = ⊥
 Within least most PortDisabled n = ⊥
 
 -- the link is up, and so it is of the port
-abbrev Unheard : ℕ → ℕ → Machines → Type 0
+abbrev pub Unheard : ℕ → ℕ → Machines → Type 0
 Unheard least most p = (p.enabled ≡ true) × Within least most p.receive p.current_while
 
-abbrev UnheardFor : ℕ → ℕ → Machines → Type 0
+abbrev pub UnheardFor : ℕ → ℕ → Machines → Type 0
 UnheardFor most k p = Unheard 1 most p
 
 -- rows that are enabled
@@ -100,35 +100,35 @@ receive_keeps least most = (
   ),
 )
 
-receives : (least most : ℕ) (p q : Machines) → RunsToRest receive_rows p q → Unheard least most p → Unheard least most q
+pub receives : (least most : ℕ) (p q : Machines) → RunsToRest receive_rows p q → Unheard least most p → Unheard least most q
 receives least most p q h a = times_keep (Unheard least most) receive_rows (receive_keeps least most) h.0 p q h.1 a
 
 -- settling
 
-mux_keeps : (most : ℕ) (ready : Bool) → RowsKeep (Unheard 1 most) (mux_rows ready)
+pub mux_keeps : (most : ℕ) (ready : Bool) → RowsKeep (Unheard 1 most) (mux_rows ready)
 mux_keeps most ready = (λ p a. a, (λ p a. a, (λ p a. a, (λ p a. a, (λ p a. a, (λ p a. a, tt))))))
 
-periodic_keeps : (most : ℕ) → RowsKeep (Unheard 1 most) periodic_rows
+pub periodic_keeps : (most : ℕ) → RowsKeep (Unheard 1 most) periodic_rows
 periodic_keeps most = (λ p a. a, (λ p a. a, (λ p a. a, (λ p a. a, (λ p a. a, (λ p a. a, (λ p a. a, tt)))))))
 
-unheard_settles : (n most k : ℕ) → KeptBySettling (AtPort n (UnheardFor most k))
+pub unheard_settles : (n most k : ℕ) → KeptBySettling (AtPort n (UnheardFor most k))
 unheard_settles n most k = record {
   mux = λ m ready p q h a e. runs_keep (Unheard 1 most) (mux_rows ready) (mux_keeps most ready) p q h (a e);
   periodic = λ m p q h a e. subst (Unheard 1 most) (sym h.2) (runs_keep (Unheard 1 most) periodic_rows (periodic_keeps most) p
       h.0 h.1 (a e));
-  select = λ m choice p none a e. a e;
+  select = λ m choice p none may a e. a e;
 }
 
 -- a tick
 
-counts : (most n : ℕ) (r : ReceiveState) → Within 1 most r n → Within 0 (most - 1) r (n - 1)
+pub counts : (most n : ℕ) (r : ReceiveState) → Within 1 most r n → Within 0 (most - 1) r (n - 1)
 counts most n Initialize w = w
 counts most n PortDisabled w = w
 counts most n Expired w = (omega (arith, w.0), omega arith)
 counts most n Defaulted w = tt
 counts most n Current w = (omega (arith, w.0, w.1), omega (arith, w.1))
 
-rested : (most n : ℕ) (r : ReceiveState) → (same_receive_state Expired r && (n == 0)) ≡ false
+pub rested : (most n : ℕ) (r : ReceiveState) → (same_receive_state Expired r && (n == 0)) ≡ false
     → (same_receive_state Current r && (n == 0)) ≡ false
     → Within 0 most r n → Within 1 most r n
 rested most n Initialize e f w = w
@@ -178,7 +178,7 @@ unheard_goes_on n = record { settles = unheard_settles n; ticks = tick_unheard; 
 
 -- where it begins and ends
 
-begins : (r : ReceiveState) (short : Bool) (n : ℕ) → can_receive_in r ≡ true → n ≤ most_current_while short r
+pub begins : (r : ReceiveState) (short : Bool) (n : ℕ) → can_receive_in r ≡ true → n ≤ most_current_while short r
     → Within 1 (timeout_time short + 30) r n
 begins Initialize short n c l = absurd (no c)
 begins PortDisabled short n c l = absurd (no c)
@@ -188,7 +188,7 @@ begins Defaulted short n c l = tt
 begins Current true n c l = (omega (arith, l), omega arith)
 begins Current false n c l = (omega (arith, l), omega arith)
 
-when_up : (up : Bool) (b : Bool) → up ≡ true → (if up then b else true) ≡ true → b ≡ true
+pub when_up : (up : Bool) (b : Bool) → up ≡ true → (if up then b else true) ≡ true → b ≡ true
 when_up true b e h = h
 when_up false b e h = absurd (no e)
 
@@ -198,7 +198,7 @@ not_current most n r l w e = late (subst (λ s. Within 1 most s n) e w)
     late : Within 1 most Current n → ⊥
     late v = omega (arith, v.1, l)
 
-is_defaulted : (most n : ℕ) (r : ReceiveState) → most ≡ 0 → Within 1 most r n → r ≡ Defaulted
+pub is_defaulted : (most n : ℕ) (r : ReceiveState) → most ≡ 0 → Within 1 most r n → r ≡ Defaulted
 is_defaulted most n Initialize l w = absurd w
 is_defaulted most n PortDisabled l w = absurd w
 is_defaulted most n Expired l w = absurd (omega (arith, w.1, l))

@@ -64,7 +64,7 @@ silent_settles : (n most k : ℕ) → KeptBySettling (SilentAt n most k)
 silent_settles n most k = record {
   mux = λ m ready p q h a e. runs_keep (Silent most k) (mux_rows ready) (mux_silent most k ready) p q h (a e);
   periodic = λ m p q h a e. periodic_silent most k p q h (a e);
-  select = λ m choice p none a e. a e;
+  select = λ m choice p none may a e. a e;
 }
 
 -- the calls

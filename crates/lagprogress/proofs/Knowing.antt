@@ -107,7 +107,7 @@ known_settles v n most k = record {
   mux = λ m ready p q h a e. runs_keep (Known v most k) (mux_rows ready) (mux_known v most k ready) p q h (a e);
   periodic = λ m p q h a e. subst (Known v most k) (sym h.2) (runs_keep (Known v most k) periodic_rows (periodic_known v most k)
       p h.0 h.1 (a e));
-  select = λ m choice p none a e. a e;
+  select = λ m choice p none may a e. a e;
 }
 
 -- a tick
@@ -202,7 +202,7 @@ begins_settles v n short = record {
   mux = λ m ready p q h a e. runs_keep (Begins v short) (mux_rows ready) (mux_begins v short ready) p q h (a e);
   periodic = λ m p q h a e. subst (Begins v short) (sym h.2) (runs_keep (Begins v short) periodic_rows (periodic_begins v short)
       p h.0 h.1 (a e));
-  select = λ m choice p none a e. a e;
+  select = λ m choice p none may a e. a e;
 }
 
 begins : (old mid : SystemState) (v : Lacpdu) (i : ℕ) (w x : SystemPort) → IsSound old → slice_get old.system_ports i ≡ Some w

@@ -3,6 +3,8 @@ use Rattle.std.proofs.Common.{◌≡◌, ◌∙◌, ℕ, zero, suc, ◌+◌, ◌
 use Rattle.std.proofs.Common.{Result, Ok, Err, ◌⊎◌, inl, inr, refl, sym, subst, ap, arith, length}
 use Rattle.std.specs.Prelude.{slice_get, nat_lt}
 use Rattle.std.specs.List.{AllByRecursion, position_or_len}
+use Rattle.std.proofs.lemmas.Bool.{cases_Bool}
+use Rattle.std.proofs.lemmas.Bool.Decides.{nat_tests}
 use Rattle.std.proofs.lemmas.Option.{none-some, same_Some}
 use Rattle.std.proofs.lemmas.List.Quantifiers.{position-Some}
 use Rattle.lagtypes.specs.declared.state.StateBits.{StateBits}
@@ -39,7 +41,7 @@ use Rattle.lagprogress.specs.Steady.{IsSteady}
 use Rattle.lagprogress.proofs.EachPort.{KeptBySettling, OfEach, Step-each}
 use Rattle.lagprogress.proofs.EndFacts.{Along, IsEnd, Suits, activity, end_settles, wait_of}
 use Rattle.lagprogress.proofs.Halves.{each_is_calls, keeps_steady}
-use Rattle.lagprogress.proofs.OneCable.{Asks, Went, asks, cable, push, put}
+use Rattle.lagprogress.proofs.OneCable.{Asks, Beside, Elsewhere, OnCable, Went, asks, emits, emits_beside, push, put}
 use Rattle.lagprogress.proofs.OnePort.{AtPort, same_ports}
 use Rattle.lagprogress.proofs.Passing.{carries_one, lacpdu_is_sent, marker_carries_none, receives_lacpdu, sent_carries}
 
@@ -245,7 +247,8 @@ EndIs d w c x Y s p = IsEnd d (w s) (w (peer s)) (c s) p × (s ≡ x → Y p)
 pub record Link (d : ℕ) (at : Side → ℕ) (w : Side → Lacpdu) (c : Side → ℕ) (x : Side) (Y : Machines → Type 0) (j : WorldState) : Type 0 where
   pub steady : IsSteady j
   pub flying : Side → List ItemValue
-  pub links : j.links ≡ cable at flying ∷ []
+  pub index : ℕ
+  pub links : OnCable index at flying j.links
   pub good : (s : Side) → AllByRecursion (IsGood d w s) (flying s)
   pub place : (s : Side) → (k : ℕ) × (port_index (at s) (half s j).state.system_ports ≡ Some k)
   pub ports : (s : Side) → OfEach (AtPort (at s) (EndIs d w c x Y s)) (half s j).state.system_ports
@@ -320,7 +323,7 @@ pub emit_link : (gives : Algorithms) (n : ℕ) (s : Side) (d : ℕ) (at : Side �
     → (s ≡ x → (p : Machines) → Y p → Y (after_sending p)) → (l : Link d at w c x Y old) → WorldSteps gives old (event.Emit n (at s)) r new
     → Emitted gives s d at w c x Y l.flying old new
 emit_link gives n s d at w c x Y r old new fits told along sends l h =
-    let k = asks gives n s at l.flying r old new told l.links h in
+    let k = asks gives n s l.index at l.flying r old new told l.links h in
     let steady = keeps_steady gives (event.Emit n (at s)) r old new h l.steady in
     let own = Step-each (AtPort (at s) (EndIs d w c x Y s)) (end_kept w c d x Y along s (at s)) (gives s) (half s old).state
     (Transmit (at s)) (answer.Transmit k.a) (half s new).state (λ p told a e. ((a e).0, λ f. sends f p ((a e).1 f))) k.promise.step
@@ -333,6 +336,7 @@ emit_link gives n s d at w c x Y r old new fits told along sends l h =
       link = record {
         steady = steady;
         flying = k.now;
+        index = k.index;
         links = k.links;
         good = went_good d w s k.a l.flying k.now k.went (λ frame e x carried. subst (λ t. Suits d (w (peer s)) (w t) x)
             (sym (peer_twice s)) (told_good d (w s) (w (peer s)) (c s) (gives s) (at s) k.a (half s old).state
@@ -344,3 +348,68 @@ emit_link gives n s d at w c x Y r old new fits told along sends l h =
       same = refl;
       flying = went_flying s k.a l.flying k.now k.went;
     }
+
+-- what leaves the cable to itself
+
+-- a call of another port leaves what holds of this one
+pub elsewhere_each : (P : Machines → Type 0) (gives : ℕ → ℕ → ℕ → Type 0) (n : ℕ) (old new : SystemState) → KeptBySettling (AtPort n P)
+    → Elsewhere gives n old new → OfEach (AtPort n P) old.system_ports → OfEach (AtPort n P) new.system_ports
+elsewhere_each P gives n old new k (inl e) a = subst (λ (s : SystemState). OfEach (AtPort n P) s.system_ports) (sym e) a
+elsewhere_each P gives n old new k (inr (p, Transmit m, answer, other, is, step)) a =
+    Step-each (AtPort n P) k gives old (Transmit m) answer new (λ q told h e. absurd (other (sym is ∙ e))) step a
+elsewhere_each P gives n old new k (inr (p, Receive m octets, answer, other, is, step)) a =
+    Step-each (AtPort n P) k gives old (Receive m octets) answer new (λ v q r took does h e. absurd (other (sym is ∙ e))) step a
+elsewhere_each P gives n old new k (inr (p, call, answer, other, is, step)) a = absurd is
+
+-- what it leaves of the cable, with the same items
+pub record Left (d : ℕ) (at : Side → ℕ) (w : Side → Lacpdu) (c : Side → ℕ) (x : Side) (Y : Machines → Type 0) (fl : Side → List ItemValue)
+    (new : WorldState) : Type 0 where
+  pub link : Link d at w c x Y new
+  pub same : link.flying ≡ fl
+
+pub beside_link : (gives : Algorithms) (e : Event) (d : ℕ) (at : Side → ℕ) (w : Side → Lacpdu) (c : Side → ℕ) (x : Side)
+    (Y : Machines → Type 0) (r : Reply) (old new : WorldState) → Along Y (w x) (w (peer x)) (c x) d → (l : Link d at w c x Y old)
+    → WorldSteps gives old e r new → Beside gives at l.flying old new → Left d at w c x Y l.flying new
+beside_link gives e d at w c x Y r old new along l h b =
+    let steady = keeps_steady gives e r old new h l.steady in
+    record {
+      link = record {
+        steady = steady;
+        flying = l.flying;
+        index = b.index;
+        links = b.links;
+        good = l.good;
+        place = λ t. ((l.place t).0, place_kept gives e r old new h l.steady steady t (at t) ∙ (l.place t).1);
+        ports = λ t. elsewhere_each (EndIs d w c x Y t) (gives t) (at t) (half t old).state (half t new).state
+            (end_kept w c d x Y along t (at t)) (b.calls t) (l.ports t);
+      };
+      same = refl;
+    }
+
+-- an Emit event asks an end of the cable, or leaves the cable to itself
+pub asked_which : (gives : Algorithms) (n p i : ℕ) (at : Side → ℕ) (fl : Side → List ItemValue) (r : Reply) (old new : WorldState)
+    → OnCable i at fl old.links → WorldSteps gives old (event.Emit n p) r new
+    → ((s : Side) × (side_of n ≡ Some s) × (p ≡ at s)) ⊎ Beside gives at fl old new
+asked_which gives n p i at fl r old new c h =
+    let m = emits gives n p r old new h in
+    elim (cases_Bool (at m.0 == p)) [
+      | inl t ↦ (let same : p ≡ at m.0 = grind (arith, nat_tests) in inl (m.0, m.1, same))
+      | inr f ↦ (let other : at m.0 ≡ p → ⊥ = grind (arith, nat_tests) in
+          inr (emits_beside gives m.0 p i at fl old new c other m.2))
+    ]
+
+-- what any Emit event leaves; what was on its way still is
+pub record AfterAsk (d : ℕ) (at : Side → ℕ) (w : Side → Lacpdu) (c : Side → ℕ) (x : Side) (Y : Machines → Type 0) (fl : Side → List ItemValue)
+    (new : WorldState) : Type 0 where
+  pub link : Link d at w c x Y new
+  pub flying : (t : Side) → Flying (fl t) → Flying (link.flying t)
+
+pub emit_any : (gives : Algorithms) (n p : ℕ) (d : ℕ) (at : Side → ℕ) (w : Side → Lacpdu) (c : Side → ℕ) (x : Side) (Y : Machines → Type 0)
+    (r : Reply) (old new : WorldState) → Fits d w c → Along Y (w x) (w (peer x)) (c x) d → ((q : Machines) → Y q → Y (after_sending q))
+    → (l : Link d at w c x Y old) → WorldSteps gives old (event.Emit n p) r new → AfterAsk d at w c x Y l.flying new
+emit_any gives n p d at w c x Y r old new fits along sends l h = elim (asked_which gives n p l.index at l.flying r old new l.links h) [
+  | inl (s, told, is) ↦ (let e = emit_link gives n s d at w c x Y r old new fits told along (λ f. sends) l
+      (subst (λ q. WorldSteps gives old (event.Emit n q) r new) is h) in record { link = e.link; flying = e.flying })
+  | inr b ↦ (let e = beside_link gives (event.Emit n p) d at w c x Y r old new along l h b in
+      record { link = e.link; flying = λ t f. subst (λ (g : Side → List ItemValue). Flying (g t)) (sym e.same) f })
+]

@@ -1,26 +1,29 @@
 -- How the ends of a cable come to know each other if one of them is active.
-use Rattle.std.proofs.Common.{◌≡◌, ◌∙◌, ℕ, ◌+◌, ◌-◌, ◌≤◌, true, false, ◌⊎◌, inl, inr, refl, sym, subst, arith}
+use Rattle.lagprogress.specs.Bundle.{EndsOfEachKnow}
+use Rattle.std.proofs.Common.{◌≡◌, ◌∙◌, ℕ, ◌+◌, ◌-◌, ◌≤◌, true, false, ◌⊎◌, inl, inr, refl, sym, subst, arith, zero}
 use Rattle.std.proofs.lemmas.Bool.{cases_Bool}
 use Rattle.slowpdu.specs.declared.pdu.Lacpdu.{Lacpdu}
 use Rattle.lagmodel.specs.World.{Side, One, peer}
 use Rattle.lagworld.specs.Events.{Algorithms}
 use Rattle.lagworld.specs.State.{WorldState, half, port_at}
 use Rattle.lagprogress.specs.Progress.{EndsComeToKnow}
-use Rattle.lagprogress.specs.Rounds.{IsRound, OfPort, Rounds}
+use Rattle.lagprogress.specs.Rounds.{IsRound, NothingInFlight, OfPort, Rounds}
 use Rattle.lagprogress.proofs.EndFacts.{Learnt, activity, short_timeout}
 use Rattle.lagprogress.proofs.Hearing.{no}
 use Rattle.lagprogress.proofs.Lapsing.{Lapsed, Lasting, Phase, Tails, begins_lasting, lasting_passes, some_wait}
 use Rattle.lagprogress.proofs.Linked.{Link, each_side, peer_twice}
-use Rattle.lagprogress.proofs.OneRound.{Nothing, at_rest, end_port, round_nears, round_passes, ticked}
-use Rattle.lagprogress.proofs.Progressing.{Answers, Calls, Comes, Ends, Fresh, Linked, along_rounds, answered, answers, called, came, comes, comes_first}
+use Rattle.lagprogress.proofs.OneRound.{Nothing, at_rest, end_port, round_nears, round_passes, ticked, forget}
+use Rattle.lagprogress.proofs.Progressing.{Answers, Calls, Comes, Ends, Fresh, Linked, along_rounds, answered, answers, called, came, comes, comes_first, only_cabling, only_cable, beside}
 use Rattle.lagprogress.proofs.Progressing.{end_of, first_round, fits_first, fresh_knows, hears, lower, machines_there, meets_short, mode, own_says}
 use Rattle.lagprogress.proofs.Progressing.{room_short, said_by, starts, stays_fresh, wait}
 use Rattle.lagprogress.proofs.Sounding.{Sounds, silence_of}
+use Rattle.lagprogress.proofs.Telling.{told_heard}
 
 module _ (at : Side → ℕ) (w : Side → Lacpdu) where
   -- The end of s hears its partner, which is active; then it sounds, since it goes to EXPIRED if it hears nothing more.
   abbrev Lasts : Side → ℕ → WorldState → Type 0
   Lasts s n j = (k : ℕ) × (1 ≤ k) × (n + k ≤ 619) × Linked at w (λ _. 0) s (Lasting (w (peer s)) k) j
+      × NothingInFlight j
 
   abbrev Slowly : Side → ℕ → WorldState → Type 0
   Slowly s n j = Calls at w (peer s) n j ⊎ (Lasts s n j ⊎ (Answers at w s 619 n j ⊎ Fresh at w j))
@@ -31,8 +34,9 @@ module _ (at : Side → ℕ) (w : Side → Lacpdu) where
     awake = each_side (λ u. (activity (w u) ≡ true) ⊎ (activity (w (peer u)) ≡ true)) s (inr active) (inl active)
 
     -- the end of s has just heard its partner
-    begins : (n : ℕ) (j : WorldState) → n ≤ 310 → Linked at w (λ _. 0) s (Learnt 1 (w (peer s)) (wait at w s)) j → Lasts s n j
-    begins n j l link = (
+    begins : (n : ℕ) (j : WorldState) → n ≤ 310 → Linked at w (λ _. 0) s (Learnt 1 (w (peer s)) (wait at w s)) j
+        → NothingInFlight j → Lasts s n j
+    begins n j l link none = (
       309,
       omega arith,
       omega (arith, l),
@@ -40,6 +44,7 @@ module _ (at : Side → ℕ) (w : Side → Lacpdu) where
           (λ p rest timed a y. (let some = some_wait (short_timeout (w s)) in
           let r = y.0.1 some in
           begins_lasting (w (peer s)) p active y.0.0 rest timed (r.0, omega (arith, some, r.1)))) link,
+      none,
     )
 
     calls : (gives : Algorithms) (n : ℕ) (old new : WorldState) → IsRound gives old new → Calls at w (peer s) n old → Slowly s (n + 1) new
@@ -52,16 +57,17 @@ module _ (at : Side → ℕ) (w : Side → Lacpdu) where
                 q.0,
                 omega (arith, l, m),
                 lower at w 1 (ticked (λ _. 0)) (λ _. 0) (peer s) (Sounds false (g.0 - 1)) new (λ _. omega arith) q.1,
+                h.empties,
               ))
           | inr q ↦ (let l = g.2 in
               let m = g.1 in
               inr (inl (begins (n + 1) new (omega (arith, l, m)) (lower at w 1 (ticked (λ _. 0)) (λ _. 0) s
               (Learnt 1 (w (peer s)) (wait at w s)) new (λ _. omega arith)
-              (subst (λ t. Linked at w (ticked (λ _. 0)) t (Learnt 1 (w (peer t)) (wait at w t)) new) (peer_twice s) q)))))
+              (subst (λ t. Linked at w (ticked (λ _. 0)) t (Learnt 1 (w (peer t)) (wait at w t)) new) (peer_twice s) q)) h.empties)))
         ]
 
     lasts : (gives : Algorithms) (n : ℕ) (old new : WorldState) → IsRound gives old new → Lasts s n old → Slowly s (n + 1) new
-    lasts gives n old new h (k, some, soon, link) =
+    lasts gives n old new h (k, some, soon, link, none) =
         let u = w (peer s) in
         elim (round_passes gives s 1 at w (λ _. 0) (Lasting u k) (Phase u (λ r. Lapsed 30 r ⊎ Tails r) (k - 1)) (Phase u Tails (k - 1))
         (Lasting u (k - 1)) old new (omega arith) (fits_first at w (ticked (λ _. 0)) (λ t. omega arith))
@@ -73,8 +79,12 @@ module _ (at : Side → ℕ) (w : Side → Lacpdu) where
                 more,
                 omega (arith, soon, some),
                 lower at w 1 (ticked (λ _. 0)) (λ _. 0) s (Lasting u (k - 1)) new (λ _. omega arith) q,
+                h.empties,
               )))
-          | inr q ↦ inr (inr (inl (hears at w s awake room 619 (n + 1) new (omega (arith, soon, some)) q)))
+          | inr q ↦ inr (inr (inl (hears at w s awake room 619 (n + 1) new (omega (arith, soon, some)) q
+              (λ on. told_heard gives 1 at w (λ _. 0) s false old new (omega arith) (fits_first at w (ticked (λ _. 0)) (λ t. omega arith))
+              (inl on, λ e. absurd (no e)) (forget 1 at w (λ _. 0) s One (Lasting u k) old link) none h
+              (beside at w 1 (ticked (λ _. 0)) (peer s) (Learnt 1 (w (peer (peer s))) (wait at w (peer s))) new q)) h.empties)))
         ]
 
     slowly : (gives : Algorithms) (n : ℕ) (old new : WorldState) → IsRound gives old new → Slowly s n old → Slowly s (n + 1) new
@@ -85,7 +95,7 @@ module _ (at : Side → ℕ) (w : Side → Lacpdu) where
 
     ended : (n : ℕ) (j : WorldState) → 619 + silence_of (mode at w (peer s)) ≤ n → Slowly s n j → Fresh at w j
     ended n j l (inl c) = let k = c.1 in let m = c.2 in absurd (omega (arith, l, k, m))
-    ended n j l (inr (inl (k, some, soon, link))) = absurd (omega (arith, l, some, soon))
+    ended n j l (inr (inl (k, some, soon, link, none))) = absurd (omega (arith, l, some, soon))
     ended n j l (inr (inr (inl a))) = answered at w s awake room 619 n j l a
     ended n j l (inr (inr (inr f))) = f
 
@@ -100,7 +110,7 @@ one_meets gives at w s n old new active enough l h = elim (cases_Bool (short_tim
         rw (wide, slow) (omega arith) in
         came at w s active room n new (subst (λ b. 310 + silence_of b ≤ n) (sym slow) (omega (arith, enough)))
         (along_rounds gives (λ m j. Comes at w s m j) old
-        (λ j r. comes_first at w s active room j (first_round gives at w old j l r))
+        (λ j r. comes_first at w s active room j (first_round gives at w old j l r) r.empties)
         (λ m i j r c. comes at w s active room gives m i j r c) n new (omega (arith, enough)) h))
   ]
 ]
@@ -111,13 +121,17 @@ one_meets gives at w s n old new active enough l h = elim (cases_Bool (short_tim
         let room = subst (λ b. silence_of (mode at w u) + silence_of b + 2 ≤ wait at w (peer u)) (sym quick) (room_short (mode at w u)) in
         ended at w u on room n new (subst (λ b. 619 + silence_of b ≤ n) (sym quick) enough)
         (along_rounds gives (λ m j. Slowly at w u m j) old
-        (λ j r. inl (called at w (peer u) on j (first_round gives at w old j l r)))
+        (λ j r. inl (called at w (peer u) on j (first_round gives at w old j l r) r.empties))
         (λ m i j r c. slowly at w u on room gives m i j r c) n new (omega (arith, enough)) h)
 
-pub ends_know : (gives : Algorithms) → EndsComeToKnow gives
-ends_know gives n l old new a steady healthy active enough rounds =
+pub ends_of_each_know : (gives : Algorithms) → EndsOfEachKnow gives
+ends_of_each_know gives n i l old new cabling steady healthy (a, active) enough rounds =
     let e : Ends l old = λ s. end_of (λ p. p.enabled ≡ true) (port_at s l) (half s old).state (healthy.up s) in
     let w = said_by l old e in
     let awake : activity (w a) ≡ true = sym (own_says (e a).1.port).1
     ∙ subst (OfPort (λ p. p.active ≡ true)) (machines_there (port_at a l) (half a old).state (e a).0 (e a).1 (e a).2 (e a).3) active in
-    fresh_knows l w new (one_meets gives (λ s. port_at s l) w a n old new awake enough (starts l old e steady healthy) rounds)
+    fresh_knows l w new (one_meets gives (λ s. port_at s l) w a n old new awake enough (starts i l old e steady cabling healthy) rounds)
+
+pub ends_know : (gives : Algorithms) → EndsComeToKnow gives
+ends_know gives n l old new a steady healthy active enough rounds =
+    ends_of_each_know gives n zero l old new (only_cabling l old healthy) steady (only_cable l old healthy) (a, active) enough rounds

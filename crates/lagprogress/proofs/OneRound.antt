@@ -1,4 +1,4 @@
--- What a healthy round leaves of a world with one cable: an LACPDU of an end is nearer by a tick, or was heard.
+-- What a healthy round leaves of a cable: an LACPDU of an end is nearer by a tick, or was heard.
 use Rattle.std.proofs.Common.{◌≡◌, ◌∙◌, ℕ, zero, suc, ◌-◌, ◌≤◌, Bool, true, false, List, [], ◌∷◌, ◌++◌, Option, Some, None}
 use Rattle.std.proofs.Common.{Result, Ok, Err, ◌⊎◌, inl, inr, refl, sym, subst, ap, arith}
 use Rattle.std.specs.Prelude.{slice_get}
@@ -12,7 +12,7 @@ use Rattle.portmachines.specs.Machines.{Machines}
 use Rattle.portmachines.specs.Periodic.{is_silent, periodic_rows}
 use Rattle.portmachines.specs.Receive.{receive_rows}
 use Rattle.portmachines.specs.Rows.{AtRest, RunsToRest}
-use Rattle.portmachines.specs.Transmit.{count_down, is_due, pdu_of}
+use Rattle.portmachines.specs.Transmit.{after_sending, count_down, is_due, pdu_of}
 use Rattle.lagmodel.specs.World.{Side, One, Two, peer}
 use Rattle.lagsystem.specs.declared.drive.Reply.TheVariants as answer
 use Rattle.lagsystem.specs.declared.fault.SystemFault.{SystemFault}
@@ -27,8 +27,8 @@ use Rattle.lagscript.specs.declared.event.Event.{Event}
 use Rattle.lagscript.specs.declared.event.Event.TheVariants as event
 use Rattle.lagworld.specs.declared.reply.Reply.{Reply}
 use Rattle.lagworld.specs.Events.{Algorithms, WorldRuns, WorldSteps, side_of}
-use Rattle.lagworld.specs.State.{ItemValue, WorldState, half}
-use Rattle.lagprogress.specs.Rounds.{IsDeliver, IsRound, NothingInFlight, asks_all, ticks_of_both}
+use Rattle.lagworld.specs.State.{ItemValue, LinkState, WorldState, half, port_at}
+use Rattle.lagprogress.specs.Rounds.{IsDeliver, IsRound, NothingInFlight, asks_all, asks_ends}
 use Rattle.lagprogress.specs.Timers.{IsTimed}
 use Rattle.lagprogress.proofs.EachPort.{OfEach, Tick-each}
 use Rattle.lagprogress.proofs.EndFacts.{Along, CanSound, IsEnd, Learnt, both_along, calm, known_along, nothing_along, sounds_along, ticks_end, ticks_sounds}
@@ -36,12 +36,12 @@ use Rattle.lagprogress.proofs.EndFacts.{wait_of}
 use Rattle.lagprogress.proofs.Halves.{keeps_steady}
 use Rattle.lagprogress.proofs.Delivering.{deliver_link}
 use Rattle.lagprogress.proofs.Hearing.{no}
-use Rattle.lagprogress.proofs.OneCable.{Went, cable, ticks, towards_there}
+use Rattle.lagprogress.proofs.OneCable.{OnCable, Went, cable, port_there, ticks, towards_there}
 use Rattle.lagprogress.proofs.OnePort.{AtPort, at_number, with_rest}
 use Rattle.lagprogress.proofs.Passing.{lacpdu_is_sent, sends_due, sent_carries}
 use Rattle.lagprogress.proofs.Sounding.{Sounds, now_due}
 use Rattle.lagprogress.proofs.Linked.{EndIs, Fits, Flying, Link, each_both, each_map, each_side, emit_link, end_kept, flying_last, found}
-use Rattle.lagprogress.proofs.Linked.{other_side, place_kept, push_there}
+use Rattle.lagprogress.proofs.Linked.{asked_which, beside_link, emit_any, other_side, place_kept, push_there}
 
 abbrev pub Nothing : Machines → Type 0
 Nothing p = Unit {0}
@@ -52,6 +52,7 @@ pub forget : (d : ℕ) (at : Side → ℕ) (w : Side → Lacpdu) (c : Side → �
 forget d at w c x y Y j l = record {
   steady = l.steady;
   flying = l.flying;
+  index = l.index;
   links = l.links;
   good = l.good;
   place = l.place;
@@ -65,6 +66,7 @@ pub join : (d : ℕ) (at : Side → ℕ) (w : Side → Lacpdu) (c : Side → ℕ
 join d at w c x y Y j l h = record {
   steady = l.steady;
   flying = l.flying;
+  index = l.index;
   links = l.links;
   good = l.good;
   place = l.place;
@@ -111,7 +113,8 @@ tick_both gives d at w c x Y Z q r old mid new fits along k h i l =
     record {
       steady = last;
       flying = l.flying;
-      links = two.links ∙ (one.links ∙ l.links);
+      index = l.index;
+      links = subst (OnCable l.index at l.flying) (sym (two.links ∙ one.links)) l.links;
       good = l.good;
       place = λ t. (
         (l.place t).0,
@@ -141,7 +144,7 @@ not_sent false due i z old o new e h = same_slots old new h.1
 not_sent true true i z old o new e h = absurd (no (sym e))
 not_sent true false i z old o new e h = marker_slots (marker_due old.table z.number) z.number z.mac old o new h
 
-same_ports_then : (gives : ℕ → ℕ → ℕ → Type 0) (n k : ℕ) (z : SystemPort) (a : Result (Option (List ℕ)) SystemFault) (old new : SystemState)
+pub same_ports_then : (gives : ℕ → ℕ → ℕ → Type 0) (n k : ℕ) (z : SystemPort) (a : Result (Option (List ℕ)) SystemFault) (old new : SystemState)
     → port_index n old.system_ports ≡ Some k → slice_get old.system_ports k ≡ Some z → is_due z.port ≡ false
     → Step gives old (Transmit n) (answer.Transmit a) new → new.system_ports ≡ old.system_ports
 same_ports_then gives n k z (Err fault) old new place there due h = same_slots old new h.same
@@ -194,6 +197,7 @@ ask_own gives n s d at w c Y Z r old new fits named asks l h =
           inl (record {
             steady = e.link.steady;
             flying = e.link.flying;
+            index = e.link.index;
             links = e.link.links;
             good = e.link.good;
             place = e.link.place;
@@ -213,19 +217,66 @@ ask_peer : (gives : Algorithms) (n : ℕ) (s : Side) (d : ℕ) (at : Side → �
 ask_peer gives n s d at w c Y r old new fits named along l h =
     (emit_link gives n (peer s) d at w c s Y r old new fits named along (λ e. absurd (other_side s e)) l h).link
 
-ask_later : (gives : Algorithms) (n : ℕ) (u s : Side) (d : ℕ) (at : Side → ℕ) (w : Side → Lacpdu) (c : Side → ℕ) (Z : Machines → Type 0)
-    (r : Reply) (old new : WorldState) → Fits d w c → side_of n ≡ Some u → 1 ≤ d
-    → (Link d at w c s Z old → Midway d at w c s Z new)
-    → Midway d at w c s Z old → WorldSteps gives old (event.Emit n (at u)) r new → Midway d at w c s Z new
-ask_later gives n u s d at w c Z r old new fits named there first m h = elim m [
-  | inl l ↦ first l
+pub one_of_both : (s t : Side) → (t ≡ s) ⊎ (t ≡ peer s)
+one_of_both s t = each_side (λ t. (t ≡ s) ⊎ (t ≡ peer s)) s (inl refl) (inr refl) t
+
+-- any Emit event leaves what is midway
+ask_any : (gives : Algorithms) (n p : ℕ) (s : Side) (d : ℕ) (at : Side → ℕ) (w : Side → Lacpdu) (c : Side → ℕ) (Z : Machines → Type 0)
+    (r : Reply) (old new : WorldState) → Fits d w c → 1 ≤ d → Along Z (w s) (w (peer s)) (c s) d
+    → Midway d at w c s Z old → WorldSteps gives old (event.Emit n p) r new → Midway d at w c s Z new
+ask_any gives n p s d at w c Z r old new fits there along m h = elim m [
+  | inl l ↦ elim (asked_which gives n p l.index at l.flying r old new l.links h) [
+    | inl (t, named, is) ↦ asked t named l (subst (λ q. WorldSteps gives old (event.Emit n q) r new) is h)
+    | inr b ↦ inl (beside_link gives (event.Emit n p) d at w c s Z r old new along l h b).link
+  ]
   | inr k ↦ elim k [
-    | inl l ↦ (let e = emit_link gives n u d at w c s Nothing r old new fits named (nothing_along (w s) (w (peer s)) (c s) d) (λ f p y. y) l.0 h in
+    | inl l ↦ (let e = emit_any gives n p d at w c s Nothing r old new fits (nothing_along (w s) (w (peer s)) (c s) d) (λ q y. y) l.0 h in
         inr (inl (e.link, e.flying (peer s) l.1)))
-    | inr l ↦ inr (inr (emit_link gives n u d at w c (peer s) (Learnt d (w (peer (peer s))) (wait_of (w (peer s)))) r old new fits named
-        (known_along (w (peer s)) (w (peer (peer s))) (c (peer s)) d there (fits (peer s)).3) (λ f p y. y) l h).link)
+    | inr l ↦ inr (inr (emit_any gives n p d at w c (peer s) (Learnt d (w (peer (peer s))) (wait_of (w (peer s)))) r old new fits
+        (known_along (w (peer s)) (w (peer (peer s))) (c (peer s)) d there (fits (peer s)).3) (λ q y. y) l h).link)
   ]
 ]
+  where
+    asked : (t : Side) → side_of n ≡ Some t → Link d at w c s Z old → WorldSteps gives old (event.Emit n (at t)) r new → Midway d at w c s Z new
+    asked t named l h = elim (one_of_both s t) [
+      | inl e ↦ ask_own gives n s d at w c Z Z r old new fits (subst (λ u. side_of n ≡ Some u) e named) (λ p rest timed a y not. y) l
+          (subst (λ u. WorldSteps gives old (event.Emit n (at u)) r new) e h)
+      | inr e ↦ inl (ask_peer gives n s d at w c Z r old new fits (subst (λ u. side_of n ≡ Some u) e named) along l
+          (subst (λ u. WorldSteps gives old (event.Emit n (at u)) r new) e h))
+    ]
+
+-- the end of s was not asked yet, or it was
+abbrev Before : ℕ → (Side → ℕ) → (Side → Lacpdu) → (Side → ℕ) → Side → (Machines → Type 0) → (Machines → Type 0) → WorldState → Type 0
+Before d at w c s Y Z j = Link d at w c s Y j ⊎ Midway d at w c s Z j
+
+ask_before : (gives : Algorithms) (n p : ℕ) (s : Side) (d : ℕ) (at : Side → ℕ) (w : Side → Lacpdu) (c : Side → ℕ) (Y Z : Machines → Type 0)
+    (r : Reply) (old new : WorldState) → Fits d w c → 1 ≤ d → Along Y (w s) (w (peer s)) (c s) d → Asks d Y Z (w s) (w (peer s)) (c s)
+    → Along Z (w s) (w (peer s)) (c s) d → Before d at w c s Y Z old → WorldSteps gives old (event.Emit n p) r new
+    → Before d at w c s Y Z new
+ask_before gives n p s d at w c Y Z r old new fits there waits asks along (inr m) h =
+    inr (ask_any gives n p s d at w c Z r old new fits there along m h)
+ask_before gives n p s d at w c Y Z r old new fits there waits asks along (inl l) h =
+    elim (asked_which gives n p l.index at l.flying r old new l.links h) [
+      | inl (t, named, is) ↦ asked t named (subst (λ q. WorldSteps gives old (event.Emit n q) r new) is h)
+      | inr b ↦ inl (beside_link gives (event.Emit n p) d at w c s Y r old new waits l h b).link
+    ]
+  where
+    asked : (t : Side) → side_of n ≡ Some t → WorldSteps gives old (event.Emit n (at t)) r new → Before d at w c s Y Z new
+    asked t named h = elim (one_of_both s t) [
+      | inl e ↦ inr (ask_own gives n s d at w c Y Z r old new fits (subst (λ u. side_of n ≡ Some u) e named) asks l
+          (subst (λ u. WorldSteps gives old (event.Emit n (at u)) r new) e h))
+      | inr e ↦ inl (ask_peer gives n s d at w c Y r old new fits (subst (λ u. side_of n ≡ Some u) e named) waits l
+          (subst (λ u. WorldSteps gives old (event.Emit n (at u)) r new) e h))
+    ]
+
+-- the end of s itself is asked
+ask_now : (gives : Algorithms) (n : ℕ) (s : Side) (d : ℕ) (at : Side → ℕ) (w : Side → Lacpdu) (c : Side → ℕ) (Y Z : Machines → Type 0)
+    (r : Reply) (old new : WorldState) → Fits d w c → 1 ≤ d → side_of n ≡ Some s → Asks d Y Z (w s) (w (peer s)) (c s)
+    → Along Z (w s) (w (peer s)) (c s) d → Before d at w c s Y Z old → WorldSteps gives old (event.Emit n (at s)) r new
+    → Midway d at w c s Z new
+ask_now gives n s d at w c Y Z r old new fits there named asks along (inl l) h = ask_own gives n s d at w c Y Z r old new fits named asks l h
+ask_now gives n s d at w c Y Z r old new fits there named asks along (inr m) h =
+    ask_any gives n (at s) s d at w c Z r old new fits there along m h
 
 deliver_later : (gives : Algorithms) (cn n : ℕ) (s : Side) (d : ℕ) (at : Side → ℕ) (w : Side → Lacpdu) (c : Side → ℕ) (Z : Machines → Type 0)
     (r : Reply) (old new : WorldState) → 1 ≤ d → Fits d w c → Along Z (w s) (w (peer s)) (c s) d
@@ -245,61 +296,119 @@ deliver_later gives cn n s d at w c Z r old new there fits along m h = elim m [
 
 -- the events of a round
 
-abbrev Acted : Algorithms → Event → WorldState → WorldState → Type 0
+abbrev pub Acted : Algorithms → Event → WorldState → WorldState → Type 0
 Acted gives e old new = (r : Reply) × WorldSteps gives old e r new
 
-first_acts : (gives : Algorithms) (e : Event) (es : List Event) (rs : List Reply) (old new : WorldState)
+pub first_acts : (gives : Algorithms) (e : Event) (es : List Event) (rs : List Reply) (old new : WorldState)
     → WorldRuns gives old (e ∷ es) rs new → (mid : WorldState) × (rest : List Reply) × Acted gives e old mid × WorldRuns gives mid es rest new
 first_acts gives e es [] old new h = absurd h
 first_acts gives e es (r ∷ rs) old new h = (h.0, rs, (r, h.1), h.2)
 
-pub record Unrolled (gives : Algorithms) (at : Side → ℕ) (old new : WorldState) : Type 0 where
+pub runs_apart : (gives : Algorithms) (es fs : List Event) (rs : List Reply) (old new : WorldState) → WorldRuns gives old (es ++ fs) rs new
+    → (mid : WorldState) × (firsts : List Reply) × (rest : List Reply) × WorldRuns gives old es firsts mid × WorldRuns gives mid fs rest new
+runs_apart gives [] fs rs old new h = (old, [], rs, refl, h)
+runs_apart gives (e ∷ es) fs [] old new h = absurd h
+runs_apart gives (e ∷ es) fs (r ∷ rs) old new h =
+    let k = runs_apart gives es fs rs h.0 new h.2 in (k.0, r ∷ k.1, k.2, (h.0, h.1, k.3), k.4)
+
+-- the event is that a port is asked for a frame
+abbrev pub IsAsk : Event → Type 0
+IsAsk (event.Emit n p) = Unit {0}
+IsAsk _ = ⊥
+
+pub record Unrolled (gives : Algorithms) (old new : WorldState) : Type 0 where
   pub one : WorldState
   pub two : WorldState
-  pub three : WorldState
-  pub four : WorldState
-  pub five : WorldState
   pub six : WorldState
+  pub asked : List Reply
   pub delivers : List Event
   pub replies : List Reply
   pub arrives : AllByRecursion IsDeliver delivers
   pub tick_one : Acted gives (event.Tick 1 1) old one
   pub tick_two : Acted gives (event.Tick 2 1) one two
-  pub ask_one : Acted gives (event.Emit 1 (at One)) two three
-  pub ask_one_again : Acted gives (event.Emit 1 (at One)) three four
-  pub ask_two : Acted gives (event.Emit 2 (at Two)) four five
-  pub ask_two_again : Acted gives (event.Emit 2 (at Two)) five six
+  pub asks : WorldRuns gives two (asks_all old.links) asked six
   pub rest : WorldRuns gives six delivers replies new
 
-pub unroll : (gives : Algorithms) (at : Side → ℕ) (fl : Side → List ItemValue) (old new : WorldState) → old.links ≡ cable at fl ∷ []
-    → IsRound gives old new → Unrolled gives at old new
-unroll gives at fl old new e h =
-    let acts = subst (λ ls. WorldRuns gives old (ticks_of_both ++ (asks_all ls ++ h.delivers)) h.replies new) e h.acts in
-    let e1 = event.Emit 1 (at One) in
-    let e2 = event.Emit 2 (at Two) in
-    let a = first_acts gives (event.Tick 1 1) (event.Tick 2 1 ∷ e1 ∷ e1 ∷ e2 ∷ e2 ∷ h.delivers) h.replies old new acts in
-    let b = first_acts gives (event.Tick 2 1) (e1 ∷ e1 ∷ e2 ∷ e2 ∷ h.delivers) a.1 a.0 new a.3 in
-    let c = first_acts gives e1 (e1 ∷ e2 ∷ e2 ∷ h.delivers) b.1 b.0 new b.3 in
-    let d = first_acts gives e1 (e2 ∷ e2 ∷ h.delivers) c.1 c.0 new c.3 in
-    let f = first_acts gives e2 (e2 ∷ h.delivers) d.1 d.0 new d.3 in
-    let g = first_acts gives e2 h.delivers f.1 f.0 new f.3 in
+pub unroll : (gives : Algorithms) (old new : WorldState) → IsRound gives old new → Unrolled gives old new
+unroll gives old new h =
+    let a = first_acts gives (event.Tick 1 1) (event.Tick 2 1 ∷ (asks_all old.links ++ h.delivers)) h.replies old new h.acts in
+    let b = first_acts gives (event.Tick 2 1) (asks_all old.links ++ h.delivers) a.1 a.0 new a.3 in
+    let c = runs_apart gives (asks_all old.links) h.delivers b.1 b.0 new b.3 in
     record {
       one = a.0;
       two = b.0;
-      three = c.0;
-      four = d.0;
-      five = f.0;
-      six = g.0;
+      six = c.0;
+      asked = c.1;
       delivers = h.delivers;
-      replies = g.1;
+      replies = c.2;
       arrives = h.arrives;
       tick_one = a.2;
       tick_two = b.2;
-      ask_one = c.2;
-      ask_one_again = d.2;
-      ask_two = f.2;
-      ask_two_again = g.2;
-      rest = g.3;
+      asks = c.3;
+      rest = c.4;
+    }
+
+-- what each event that asks keeps, a list of them keeps
+pub ask_all : (gives : Algorithms) (M : WorldState → Type 0)
+    → ((n p : ℕ) (r : Reply) (old new : WorldState) → WorldSteps gives old (event.Emit n p) r new → M old → M new)
+    → (es : List Event) (rs : List Reply) (old new : WorldState) → AllByRecursion IsAsk es → WorldRuns gives old es rs new
+    → M old → M new
+ask_all gives M k [] [] old new a h m = subst M (sym h) m
+ask_all gives M k [] (r ∷ rs) old new a h m = absurd h
+ask_all gives M k (e ∷ es) [] old new a h m = absurd h
+ask_all gives M k (e ∷ es) (r ∷ rs) old new a h m = ask_all gives M k es rs h.0 new a.1 h.2 (one e a.0 h.1)
+  where
+    one : (e : Event) → IsAsk e → WorldSteps gives old e r h.0 → M h.0
+    one (event.Emit n p) d step = k n p r old h.0 step m
+    one e d step = absurd d
+
+pub all_ask : (links : List LinkState) → AllByRecursion IsAsk (asks_all links)
+all_ask [] = tt
+all_ask (l ∷ links) = (tt, (tt, (tt, (tt, all_ask links))))
+
+-- among the events that ask the ends of all cables, one asks this port of system s
+record AsksIt (s : Side) (p : ℕ) (events : List Event) : Type 0 where
+  number : ℕ
+  named : side_of number ≡ Some s
+  before : List Event
+  later : List Event
+  is : events ≡ before ++ (event.Emit number p ∷ later)
+  firsts : AllByRecursion IsAsk before
+  lasts : AllByRecursion IsAsk later
+
+asks_it : (s : Side) (i : ℕ) (links : List LinkState) (l : LinkState) → slice_get links i ≡ Some l → AsksIt s (port_at s l) (asks_all links)
+asks_it s i [] l e = absurd (none-some l e)
+asks_it s zero (m ∷ links) l e = subst (λ k. AsksIt s (port_at s k) (asks_all (m ∷ links))) (same_Some m l e) (first s)
+  where
+    first : (s : Side) → AsksIt s (port_at s m) (asks_all (m ∷ links))
+    first One = record {
+      number = 1;
+      named = refl;
+      before = [];
+      later = event.Emit 1 m.one ∷ event.Emit 2 m.two ∷ event.Emit 2 m.two ∷ asks_all links;
+      is = refl;
+      firsts = tt;
+      lasts = (tt, (tt, (tt, all_ask links)));
+    }
+    first Two = record {
+      number = 2;
+      named = refl;
+      before = event.Emit 1 m.one ∷ event.Emit 1 m.one ∷ [];
+      later = event.Emit 2 m.two ∷ asks_all links;
+      is = refl;
+      firsts = (tt, (tt, tt));
+      lasts = (tt, all_ask links);
+    }
+asks_it s (suc i) (m ∷ links) l e =
+    let k = asks_it s i links l e in
+    record {
+      number = k.number;
+      named = k.named;
+      before = asks_ends m ++ k.before;
+      later = k.later;
+      is = ap (λ es. asks_ends m ++ es) k.is;
+      firsts = (tt, (tt, (tt, (tt, k.firsts))));
+      lasts = k.lasts;
     }
 
 -- what each Deliver event keeps, a list of them keeps
@@ -328,7 +437,7 @@ landed : (d : ℕ) (at : Side → ℕ) (w : Side → Lacpdu) (c : Side → ℕ) 
 landed d at w c s Z j none m = elim m [
   | inl l ↦ inl l
   | inr k ↦ elim k [
-    | inl l ↦ (let empty = none (peer s) zero (cable at l.0.flying) (ap (λ ls. slice_get ls zero) l.0.links) in
+    | inl l ↦ (let empty = none (peer s) l.0.index (cable at l.0.flying) l.0.links.there in
         absurd (subst Flying (sym (towards_there (peer s) at l.0.flying) ∙ empty) l.1))
     | inr l ↦ inr l
   ]
@@ -354,6 +463,7 @@ pub at_rest : (d : ℕ) (at : Side → ℕ) (w : Side → Lacpdu) (c : Side → 
 at_rest d at w c s V Y j k l = record {
   steady = l.steady;
   flying = l.flying;
+  index = l.index;
   links = l.links;
   good = l.good;
   place = l.place;
@@ -369,34 +479,25 @@ pub round_passes : (gives : Algorithms) (s : Side) (d : ℕ) (at : Side → ℕ)
     (old new : WorldState) → 1 ≤ d → Fits d w (ticked c) → Passes X V Y Z (w s) (w (peer s)) (c s) (ticked c s) d
     → Link d at w c s X old → IsRound gives old new → Waits d at w (ticked c) s Z new
 round_passes gives s d at w c X V Y Z old new there fits k l h =
-    let u = unroll gives at l.flying old new l.links h in
+    let u = unroll gives old new h in
     let two = at_rest d at w (ticked c) s V Y u.two k.rests
     (tick_both gives d at w c s X V u.tick_one.0 u.tick_two.0 old u.one u.two fits k.ticked k.ticks u.tick_one.1 u.tick_two.1 l) in
-    let six = asked s k u two in
+    let o : AsksIt s (at s) (asks_all old.links) = subst (λ p. AsksIt s p (asks_all old.links)) (port_there s at l.flying)
+    (asks_it s l.index old.links (cable at l.flying) l.links.there) in
+    let a = runs_apart gives o.before (event.Emit o.number (at s) ∷ o.later) u.asked u.two u.six
+    (subst (λ es. WorldRuns gives u.two es u.asked u.six) o.is u.asks) in
+    let b = first_acts gives (event.Emit o.number (at s)) o.later a.2 a.0 u.six a.4 in
+    let first = ask_all gives (Before d at w (ticked c) s Y Z)
+    (λ n p r i j step m. ask_before gives n p s d at w (ticked c) Y Z r i j fits there k.waits k.asks k.asked m step)
+    o.before a.1 u.two a.0 o.firsts a.3 (inl two) in
+    let now = ask_now gives o.number s d at w (ticked c) Y Z b.2.0 a.0 b.0 fits there o.named k.asks k.asked first b.2.1 in
+    let six = ask_all gives (Midway d at w (ticked c) s Z)
+    (λ n p r i j step m. ask_any gives n p s d at w (ticked c) Z r i j fits there k.asked m step)
+    o.later b.1 b.0 u.six o.lasts b.3 now in
     landed d at w (ticked c) s Z new h.empties
     (deliver_all gives (Midway d at w (ticked c) s Z)
     (λ cn n r i j step mid. deliver_later gives cn n s d at w (ticked c) Z r i j there fits k.asked mid step)
     u.delivers u.replies u.six new u.arrives u.rest six)
-  where
-    asked : (s : Side) → Passes X V Y Z (w s) (w (peer s)) (c s) (ticked c s) d → (u : Unrolled gives at old new)
-        → Link d at w (ticked c) s Y u.two → Midway d at w (ticked c) s Z u.six
-    asked One k u l =
-        let a = ask_own gives 1 One d at w (ticked c) Y Z u.ask_one.0 u.two u.three fits refl k.asks l u.ask_one.1 in
-        let b = ask_later gives 1 One One d at w (ticked c) Z u.ask_one_again.0 u.three u.four fits refl there
-        (λ z. ask_own gives 1 One d at w (ticked c) Z Z u.ask_one_again.0 u.three u.four fits refl (λ p rest timed e y not. y) z
-        u.ask_one_again.1) a u.ask_one_again.1 in
-        let e = ask_later gives 2 Two One d at w (ticked c) Z u.ask_two.0 u.four u.five fits refl there
-        (λ z. inl (ask_peer gives 2 One d at w (ticked c) Z u.ask_two.0 u.four u.five fits refl k.asked z u.ask_two.1)) b u.ask_two.1 in
-        ask_later gives 2 Two One d at w (ticked c) Z u.ask_two_again.0 u.five u.six fits refl there
-        (λ z. inl (ask_peer gives 2 One d at w (ticked c) Z u.ask_two_again.0 u.five u.six fits refl k.asked z u.ask_two_again.1))
-        e u.ask_two_again.1
-    asked Two k u l =
-        let a = ask_peer gives 1 Two d at w (ticked c) Y u.ask_one.0 u.two u.three fits refl k.waits l u.ask_one.1 in
-        let b = ask_peer gives 1 Two d at w (ticked c) Y u.ask_one_again.0 u.three u.four fits refl k.waits a u.ask_one_again.1 in
-        let e = ask_own gives 2 Two d at w (ticked c) Y Z u.ask_two.0 u.four u.five fits refl k.asks b u.ask_two.1 in
-        ask_later gives 2 Two Two d at w (ticked c) Z u.ask_two_again.0 u.five u.six fits refl there
-        (λ z. ask_own gives 2 Two d at w (ticked c) Z Z u.ask_two_again.0 u.five u.six fits refl (λ p rest timed f y not. y) z
-        u.ask_two_again.1) e u.ask_two_again.1
 
 -- an LACPDU of the end of s is nearer, or the other end has heard one
 abbrev pub Nearer : ℕ → (Side → ℕ) → (Side → Lacpdu) → (Side → ℕ) → Side → Bool → ℕ → WorldState → Type 0
@@ -456,20 +557,24 @@ round_nears gives s d at w c fast most old new there fits can was l h = elim (ro
       | inr k ↦ inr k
     ]
 
+-- a round with something beside it that each event keeps
+pub round_holds : (gives : Algorithms) (x : Side) (d : ℕ) (at : Side → ℕ) (w : Side → Lacpdu) (c : Side → ℕ) (Y Z : Machines → Type 0)
+    (old new : WorldState) → Fits d w (ticked c) → Along Z (w x) (w (peer x)) (ticked c x) d
+    → ((p q : Machines) → RunsToRest receive_rows (count_down p) q → AtRest periodic_rows p → IsEnd d (w x) (w (peer x)) (c x) p → Y p → Z q)
+    → ((p : Machines) → Z p → Z (after_sending p))
+    → Link d at w c x Y old → IsRound gives old new → Link d at w (ticked c) x Z new
+round_holds gives x d at w c Y Z old new fits along k sends l h =
+    let u = unroll gives old new h in
+    let two = tick_both gives d at w c x Y Z u.tick_one.0 u.tick_two.0 old u.one u.two fits along k u.tick_one.1 u.tick_two.1 l in
+    let six = ask_all gives (Link d at w (ticked c) x Z)
+    (λ n p r i j step m. (emit_any gives n p d at w (ticked c) x Z r i j fits along sends m step).link)
+    (asks_all old.links) u.asked u.two u.six (all_ask old.links) u.asks two in
+    deliver_all gives (Link d at w (ticked c) x Z)
+    (λ cn n r i j step m. (deliver_link gives cn n d at w (ticked c) x Z r i j fits along m step).link)
+    u.delivers u.replies u.six new u.arrives u.rest six
+
 -- and with nothing beside it, even if nothing is known of what comes
 pub round_keeps : (gives : Algorithms) (x : Side) (d : ℕ) (at : Side → ℕ) (w : Side → Lacpdu) (c : Side → ℕ) (old new : WorldState)
     → Fits d w (ticked c) → Link d at w c x Nothing old → IsRound gives old new → Link d at w (ticked c) x Nothing new
-round_keeps gives x d at w c old new fits l h =
-    let u = unroll gives at l.flying old new l.links h in
-    let along = nothing_along (w x) (w (peer x)) (ticked c x) d in
-    let two = tick_both gives d at w c x Nothing Nothing u.tick_one.0 u.tick_two.0 old u.one u.two fits along
-    (λ p q r rest a y. y) u.tick_one.1 u.tick_two.1 l in
-    let three = (emit_link gives 1 One d at w (ticked c) x Nothing u.ask_one.0 u.two u.three fits refl along (λ f p y. y) two u.ask_one.1).link in
-    let four = (emit_link gives 1 One d at w (ticked c) x Nothing u.ask_one_again.0 u.three u.four fits refl along (λ f p y. y) three
-    u.ask_one_again.1).link in
-    let five = (emit_link gives 2 Two d at w (ticked c) x Nothing u.ask_two.0 u.four u.five fits refl along (λ f p y. y) four u.ask_two.1).link in
-    let six = (emit_link gives 2 Two d at w (ticked c) x Nothing u.ask_two_again.0 u.five u.six fits refl along (λ f p y. y) five
-    u.ask_two_again.1).link in
-    deliver_all gives (Link d at w (ticked c) x Nothing)
-    (λ cn n r i j step k. (deliver_link gives cn n d at w (ticked c) x Nothing r i j fits along k step).link)
-    u.delivers u.replies u.six new u.arrives u.rest six
+round_keeps gives x d at w c old new fits l h = round_holds gives x d at w c Nothing Nothing old new fits
+    (nothing_along (w x) (w (peer x)) (ticked c x) d) (λ p q r rest a y. y) (λ p y. y) l h

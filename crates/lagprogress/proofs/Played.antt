@@ -1,10 +1,12 @@
 -- Healthy rounds that are played.
-use Rattle.std.proofs.Common.{◌≡◌, ◌∙◌, ℕ, zero, suc, ◌+◌, ◌≤◌, Bool, true, false, List, [], ◌∷◌, ◌++◌, length, map, get_or}
-use Rattle.std.proofs.Common.{Some, Result, Ok, Err, inl, inr, refl, sym, subst, ap, arith, nat_le}
-use Rattle.std.specs.Prelude.{IfErr, IfOk, IsErrAnd, is_some, slice_get}
+use Rattle.std.proofs.Common.{◌≡◌, ◌∙◌, ℕ, zero, suc, ◌+◌, ◌≤◌, ◌<◌, Bool, true, false, List, [], ◌∷◌, ◌++◌, length, map, drop, take}
+use Rattle.std.proofs.Common.{Option, Some, None, Result, Ok, Err, inl, inr, refl, sym, subst, ap, arith, nat_le}
+use Rattle.std.specs.Prelude.{◌⊎◌, ◌&&◌, IfErr, IsErrAnd, IfOk, is_some, option_map, slice_get}
+use Rattle.std.specs.List.{AllByRecursion}
 use Rattle.std.proofs.lemmas.Bool.{false≢true}
 use Rattle.std.proofs.lemmas.Bool.Decides.{nat_tests}
-use Rattle.std.proofs.lemmas.Option.{none-some, same_Some}
+use Rattle.std.proofs.lemmas.List.{append_assoc, length-map, take-append-drop, take_all}
+use Rattle.std.proofs.lemmas.Option.{none-some, same_Some, slice_get-map, slice_get_within}
 use Rattle.slowpdu.proofs.LayoutLemmas.{all-append}
 use Rattle.lagmodel.specs.World.{Ends, Side, One, Two, WorldSetup}
 use Rattle.lagmodel.proofs.Base.{value_of}
@@ -15,46 +17,267 @@ use Rattle.lagscript.specs.declared.event.Event.{Event}
 use Rattle.lagscript.specs.declared.event.Event.TheVariants as event
 use Rattle.lagworld.specs.declared.fault.RunFault.{RunFault}
 use Rattle.lagworld.specs.declared.fault.WorldFault.{WorldFault}
+use Rattle.lagworld.specs.declared.fault.WorldFault.TheVariants.{NoCable}
 use Rattle.lagworld.specs.declared.reply.Reply.{Reply}
 use Rattle.lagworld.specs.declared.reply.Reply.TheVariants as reply
 use Rattle.lagworld.specs.Events.{AfterReceive, Algorithms, DeliversFrom, OnLink, WorldRuns, WorldSteps, cause}
-use Rattle.lagworld.specs.Events.{cause_or_no_memory, first_event_cause, most_events, side_of}
+use Rattle.lagworld.specs.Events.{cause_or_no_memory, first_event_cause, has_cable, most_events, side_of}
 use Rattle.lagworld.specs.ModelWorld.{link_ends, world_setup}
+use Rattle.lagworld.specs.Readers.{ends_of_cable}
 use Rattle.lagworld.specs.Sound.{RefusesNext, RunStops, both_algorithms, next_of}
-use Rattle.lagworld.specs.State.{ItemValue, LinkState, WorldState, towards}
-use Rattle.lagprogress.specs.Played.{AllArrives, Delivers, HasOneCable, IsOutOfMemoryOrSpent, PlaysAll, PlaysTimes}
-use Rattle.lagprogress.specs.Played.{events_before_delivery}
-use Rattle.lagprogress.specs.Rounds.{IsDeliver, IsRound, NothingInFlight, Rounds, asks_all, ticks_of_both}
+use Rattle.lagworld.specs.State.{ItemValue, LinkState, WorldState, element_numbered, towards}
+use Rattle.lagprogress.specs.Played.{Delivers, IsOutOfMemoryOrSpent, IsRefused, NamesNoCable, PlaysPart, RunsAll, RunsPart}
+use Rattle.lagprogress.specs.Played.{found_nothing, most_cables}
+use Rattle.lagprogress.specs.Rounds.{IsDeliver, IsRound, NothingInFlight, Rounds, asks_all, asks_ends, ticks_of_both}
 
--- one cable
+-- what holds of algorithms holds of the same ones
+pub same_algorithms : {F : Type 0} (Q : Algorithms → Type 0) (a b f h : F) (post : F → ℕ → ℕ → ℕ → Type 0) → f ≡ a → h ≡ b
+    → Q (both_algorithms (post f) (post h)) → Q (both_algorithms (post a) (post b))
+same_algorithms Q a b f h post p q x =
+    subst (λ k. Q (both_algorithms (post k) (post b))) p (subst (λ k. Q (both_algorithms (post f) (post k))) q x)
 
--- the only cable of a world, with its ends
-pub one_link : (e : Ends) (links : List LinkState) → map link_ends links ≡ e ∷ []
-    → (l : LinkState) × (links ≡ l ∷ []) × (link_ends l ≡ e)
-one_link e [] h = absurd (omega (arith, ap length h))
-one_link e (l ∷ []) h = (l, refl, ap (λ xs. get_or xs 0 e) h)
-one_link e (l ∷ m ∷ rest) h = absurd (omega (arith, ap length h))
+-- what holds of both answers holds of the one that came
+pub of_ok : {T E : Type 0} (P : Type 0) (r : Result T E) → P → IfOk r (λ x. P)
+of_ok P (Ok x) h = h
+of_ok P (Err e) h = tt
 
-pub none_yet : (gives : Algorithms) (old : WorldState) → Delivers gives old old
-none_yet gives old = record { delivers = []; replies = []; arrives = tt; acts = refl }
+pub of_err : {T E : Type 0} (P : Type 0) (r : Result T E) → P → IfErr r (λ x. P)
+of_err P (Ok x) h = tt
+of_err P (Err e) h = h
 
-runs_append : (gives : Algorithms) (es fs : List Event) (rs qs : List Reply) (old mid new : WorldState)
+pub if_ok : {T E : Type 0} (P Q : T → Type 0) (r : Result T E) → ((x : T) → P x → Q x) → IfOk r P → IfOk r Q
+if_ok P Q (Ok x) k h = k x h
+if_ok P Q (Err e) k h = tt
+
+pub if_err : {T E : Type 0} (P Q : E → Type 0) (r : Result T E) → ((e : E) → P e → Q e) → IfErr r P → IfErr r Q
+if_err P Q (Ok x) k h = tt
+if_err P Q (Err e) k h = k e h
+
+-- of an answer that is known
+pub was_ok : {T E : Type 0} (P : E → Type 0) (r : Result T E) (x : T) → r ≡ Ok x → IfErr r P
+was_ok P r x e = subst (λ k. IfErr k P) (sym e) tt
+
+pub was_err : {T E : Type 0} (P : E → Type 0) (r : Result T E) (x : E) → r ≡ Err x → P x → IfErr r P
+was_err P r x e h = subst (λ k. IfErr k P) (sym e) h
+
+-- lists of events
+
+pub runs_append : (gives : Algorithms) (es fs : List Event) (rs qs : List Reply) (old mid new : WorldState)
     → WorldRuns gives old es rs mid → WorldRuns gives mid fs qs new → WorldRuns gives old (es ++ fs) (rs ++ qs) new
 runs_append gives [] fs [] qs old mid new h x = subst (λ j. WorldRuns gives j fs qs new) h x
 runs_append gives [] fs (r ∷ rs) qs old mid new h x = absurd h
 runs_append gives (e ∷ es) fs [] qs old mid new h x = absurd h
 runs_append gives (e ∷ es) fs (r ∷ rs) qs old mid new h x = (h.0, h.1, runs_append gives es fs rs qs h.0 mid new h.2 x)
 
-pub one_more : (gives : Algorithms) (c n : ℕ) (r : Reply) (old mid new : WorldState) → Delivers gives old mid
-    → WorldSteps gives mid (event.Deliver c n) r new → Delivers gives old new
-one_more gives c n r old mid new h x = record {
-  delivers = h.delivers ++ event.Deliver c n ∷ [];
-  replies = h.replies ++ r ∷ [];
-  arrives = all-append IsDeliver h.delivers (event.Deliver c n ∷ []) h.arrives (tt, tt);
-  acts = runs_append gives h.delivers (event.Deliver c n ∷ []) h.replies (r ∷ []) old mid new h.acts (new, x, refl);
+pub runs_none : (gives : Algorithms) (j : WorldState) → RunsAll gives [] j j
+runs_none gives j = record { replies = []; acts = refl }
+
+pub runs_both : (gives : Algorithms) (es fs : List Event) (old mid new : WorldState) → RunsAll gives es old mid → RunsAll gives fs mid new
+    → RunsAll gives (es ++ fs) old new
+runs_both gives es fs old mid new a b = record {
+  replies = a.replies ++ b.replies;
+  acts = runs_append gives es fs a.replies b.replies old mid new a.acts b.acts;
 }
 
--- nothing came off the cable
+-- a part of the second list, behind the whole first one
+pub part_behind : (gives : Algorithms) (es fs : List Event) (old mid new : WorldState) → RunsAll gives es old mid → RunsPart gives fs mid new
+    → RunsPart gives (es ++ fs) old new
+part_behind gives es fs old mid new a p = record {
+  first = es ++ p.first;
+  rest = p.rest;
+  parts = append_assoc es p.first p.rest ∙ ap (λ xs. es ++ xs) p.parts;
+  acts = runs_both gives es p.first old mid new a p.acts;
+}
+
+-- a part of the first list is a part of both
+pub part_before : (gives : Algorithms) (es fs : List Event) (old new : WorldState) → RunsPart gives es old new
+    → RunsPart gives (es ++ fs) old new
+part_before gives es fs old new p = record {
+  first = p.first;
+  rest = p.rest ++ fs;
+  parts = sym (append_assoc p.first p.rest fs) ∙ ap (λ xs. xs ++ fs) p.parts;
+  acts = p.acts;
+}
+
+pub stopped_part : (gives : Algorithms) (es : List Event) (stop : RunFault) (old new : WorldState) → RunStops gives old es stop new
+    → RunsPart gives es old new
+stopped_part gives es stop old new h = record {
+  first = take stop.done es;
+  rest = drop stop.done es;
+  parts = take-append-drop stop.done es;
+  acts = record { replies = h.replies; acts = h.acted };
+}
+
+-- refusals
+
+spent_or_not : (fault : WorldFault) (j : WorldState) (spent : Bool) → nat_le most_events j.acted ≡ spent
+    → fault ≡ cause_or_no_memory (first_event_cause true true spent) → IsOutOfMemoryOrSpent fault j
+spent_or_not fault j true e h = let l : most_events ≤ j.acted = grind (arith, nat_tests) in inr (h, l)
+spent_or_not fault j false e h = inl h
+
+-- an event whose cable and system exist
+refused_event : (fault : WorldFault) (j : WorldState) (cable system : Bool) → cable ≡ true → system ≡ true
+    → fault ≡ cause_or_no_memory (first_event_cause cable system (nat_le most_events j.acted)) → IsOutOfMemoryOrSpent fault j
+refused_event fault j cable system c s h =
+    spent_or_not fault j (nat_le most_events j.acted) refl
+    (h ∙ (λ i. cause_or_no_memory (first_event_cause (c i) (s i) (nat_le most_events j.acted))))
+
+refused_next : (fault : WorldFault) (es : List Event) (n : ℕ) (j : WorldState) → AllByRecursion NamesNoCable es
+    → RefusesNext j (next_of es n) fault → IsOutOfMemoryOrSpent fault j
+refused_next fault [] n j all h = absurd h
+refused_next fault (e ∷ es) zero j all h = refused_event fault j _ _ (ap (has_cable j) all.0.0) all.0.1 h.named
+refused_next fault (e ∷ es) (suc n) j all h = refused_next fault es n j all.1 h
+
+pub refused_run : (gives : Algorithms) (es : List Event) (stop : RunFault) (old new : WorldState) → RunStops gives old es stop new
+    → AllByRecursion NamesNoCable es → IsOutOfMemoryOrSpent stop.fault new
+refused_run gives es stop old new h all = elim h.fault [
+  | inl none ↦ inl none.1
+  | inr next ↦ refused_next stop.fault es stop.done new all next
+]
+
+some_within : {X : Type 0} (xs : List X) (i : ℕ) → i < length xs → is_some (slice_get xs i) ≡ true
+some_within [] i h = absurd (omega (arith, h))
+some_within (x ∷ xs) zero h = refl
+some_within (x ∷ xs) (suc i) h = some_within xs i (omega (arith, h))
+
+-- worlds with the same setup have as many cables
+pub as_many : (a b : WorldState) → world_setup a ≡ world_setup b → length a.links ≡ length b.links
+as_many a b e = sym (length-map a.links link_ends) ∙ (ap (λ (x : WorldSetup). length x.cables) e ∙ length-map b.links link_ends)
+
+-- a Deliver event of a cable that exists
+pub refused_delivery : (fault : WorldFault) (n i : ℕ) (s : Side) (start old new : WorldState) → side_of n ≡ Some s
+    → i < length start.links → world_setup old ≡ world_setup start → fault ≡ cause_or_no_memory (cause old (event.Deliver (i + 1) n))
+    → new ≡ old → IsOutOfMemoryOrSpent fault new
+refused_delivery fault n i s start old new named within fixed f same =
+    let next : i + 1 ≡ suc i = omega arith in
+    let inside : i < length old.links = omega (arith, within, as_many old start fixed) in
+    let there : is_some (element_numbered old.links (i + 1)) ≡ true =
+    ap (λ c. is_some (element_numbered old.links c)) next ∙ some_within old.links i inside in
+    subst (IsOutOfMemoryOrSpent fault) (sym same) (refused_event fault old _ _ there (ap is_some named) f)
+
+-- asking
+
+abbrev pub asks_pair : ℕ × ℕ → List Event
+asks_pair p = event.Emit 1 p.0 ∷ event.Emit 1 p.0 ∷ event.Emit 2 p.1 ∷ event.Emit 2 p.1 ∷ []
+
+abbrev ports : LinkState → ℕ × ℕ
+ports l = (l.one, l.two)
+
+abbrev ports_of : Ends → ℕ × ℕ
+ports_of e = (e.one, e.two)
+
+ends_first : (o : Option LinkState) → option_map ports o ≡ option_map ports_of (option_map link_ends o)
+ends_first None = refl
+ends_first (Some l) = refl
+
+ports_by_ends : (xs : List LinkState) (n : ℕ) → option_map ports (slice_get xs n) ≡ option_map ports_of (slice_get (map link_ends xs) n)
+ports_by_ends xs n = ends_first (slice_get xs n) ∙ ap (option_map ports_of) (sym (slice_get-map link_ends xs n))
+
+-- the cable at an index joins the same ports in a world with the same setup
+ports_stay : (a b : WorldState) (n : ℕ) → world_setup a ≡ world_setup b
+    → option_map ports (slice_get a.links n) ≡ option_map ports (slice_get b.links n)
+ports_stay a b n e =
+    ports_by_ends a.links n ∙ (ap (λ (x : WorldSetup). option_map ports_of (slice_get x.cables n)) e ∙ sym (ports_by_ends b.links n))
+
+asked_there : (o : Option LinkState) (one two : ℕ) → option_map ports o ≡ Some (one, two)
+    → (l : LinkState) × (o ≡ Some l) × (asks_ends l ≡ asks_pair (one, two))
+asked_there None one two h = absurd (none-some (one, two) h)
+asked_there (Some l) one two h = (l, refl, ap asks_pair (same_Some (ports l) (one, two) h))
+
+-- the cable at the next index of the first world, from the ports that its number joins
+cable_at : (n one two : ℕ) (old mid : WorldState) → world_setup mid ≡ world_setup old → Some (one, two) ≡ ends_of_cable (n + 1) mid
+    → (l : LinkState) × (slice_get old.links n ≡ Some l) × (asks_ends l ≡ asks_pair (one, two))
+cable_at n one two old mid fixed h =
+    let next : n + 1 ≡ suc n = omega arith in
+    asked_there (slice_get old.links n) one two
+    (sym (ports_stay mid old n fixed) ∙ sym (h ∙ ap (λ c. ends_of_cable c mid) next))
+
+asks_next : (n : ℕ) (links : List LinkState) (l : LinkState) → slice_get links n ≡ Some l
+    → asks_all (take n links) ++ asks_ends l ≡ asks_all (take (suc n) links)
+asks_next n [] l h = absurd (none-some l h)
+asks_next zero (x ∷ links) l h = ap asks_ends (sym (same_Some x l h))
+asks_next (suc n) (x ∷ links) l h = ap (λ es. asks_ends x ++ es) (asks_next n links l h)
+
+asks_split : (n : ℕ) (links : List LinkState) (l : LinkState) → slice_get links n ≡ Some l
+    → asks_all (take n links) ++ (asks_ends l ++ asks_all (drop (suc n) links)) ≡ asks_all links
+asks_split n [] l h = absurd (none-some l h)
+asks_split zero (x ∷ links) l h = ap (λ m. asks_ends m ++ asks_all links) (sym (same_Some x l h))
+asks_split (suc n) (x ∷ links) l h = ap (λ es. asks_ends x ++ es) (asks_split n links l h)
+
+-- one cable more is asked
+pub asks_more : (gives : Algorithms) (n one two : ℕ) (old mid new : WorldState) → RunsAll gives (asks_all (take n old.links)) old mid
+    → world_setup mid ≡ world_setup old → Some (one, two) ≡ ends_of_cable (n + 1) mid → RunsAll gives (asks_pair (one, two)) mid new
+    → RunsAll gives (asks_all (take (n + 1) old.links)) old new
+asks_more gives n one two old mid new a fixed h b =
+    let k = cable_at n one two old mid fixed h in
+    let next : suc n ≡ n + 1 = omega arith in
+    subst (λ es. RunsAll gives es old new)
+    (ap (λ es. asks_all (take n old.links) ++ es) (sym k.2) ∙ (asks_next n old.links k.0 k.1 ∙ ap (λ m. asks_all (take m old.links)) next))
+    (runs_both gives (asks_all (take n old.links)) (asks_pair (one, two)) old mid new a b)
+
+-- it is refused
+pub asks_part : (gives : Algorithms) (n one two : ℕ) (old mid new : WorldState) → RunsAll gives (asks_all (take n old.links)) old mid
+    → world_setup mid ≡ world_setup old → Some (one, two) ≡ ends_of_cable (n + 1) mid → RunsPart gives (asks_pair (one, two)) mid new
+    → RunsPart gives (asks_all old.links) old new
+asks_part gives n one two old mid new a fixed h b =
+    let k = cable_at n one two old mid fixed h in
+    let rest = asks_all (drop (suc n) old.links) in
+    subst (λ es. RunsPart gives es old new)
+    (ap (λ es. asks_all (take n old.links) ++ (es ++ rest)) (sym k.2) ∙ asks_split n old.links k.0 k.1)
+    (part_behind gives (asks_all (take n old.links)) (asks_pair (one, two) ++ rest) old mid new a
+    (part_before gives (asks_pair (one, two)) rest mid new b))
+
+-- there is a cable at each index below their number
+pub no_cable : (n : ℕ) (old mid : WorldState) → world_setup mid ≡ world_setup old → n < length old.links
+    → None ≡ ends_of_cable (n + 1) mid → ⊥
+no_cable n old mid fixed within h =
+    let next : n + 1 ≡ suc n = omega arith in
+    let inside : n < length mid.links = omega (arith, within, as_many mid old fixed) in
+    none (slice_get mid.links n) (some_within mid.links n inside) (sym (h ∙ ap (λ c. ends_of_cable c mid) next))
+  where
+    none : (o : Option LinkState) → is_some o ≡ true → option_map ports o ≡ None → ⊥
+    none None e f = false≢true e
+    none (Some l) e f = none-some (ports l) (sym f)
+
+-- all are asked
+pub all_asked : (gives : Algorithms) (n : ℕ) (old new : WorldState) → length old.links ≤ n → RunsAll gives (asks_all (take n old.links)) old new
+    → RunsAll gives (asks_all old.links) old new
+all_asked gives n old new h a = subst (λ ls. RunsAll gives (asks_all ls) old new) (take_all n old.links h) a
+
+pub nothing_asked : (gives : Algorithms) (j : WorldState) → RunsAll gives (asks_all (take 0 j.links)) j j
+nothing_asked gives j = runs_none gives j
+
+abbrev asks_by_ends : List Ends → List Event
+asks_by_ends [] = []
+asks_by_ends (e ∷ es) = asks_pair (ports_of e) ++ asks_by_ends es
+
+all_by_ends : (links : List LinkState) → asks_all links ≡ asks_by_ends (map link_ends links)
+all_by_ends [] = refl
+all_by_ends (l ∷ links) = ap (λ es. asks_ends l ++ es) (all_by_ends links)
+
+-- the asks are the same in a world with the same setup
+asks_stay : (a b : WorldState) → world_setup a ≡ world_setup b → asks_all a.links ≡ asks_all b.links
+asks_stay a b e = all_by_ends a.links ∙ (ap (λ (x : WorldSetup). asks_by_ends x.cables) e ∙ sym (all_by_ends b.links))
+
+-- delivering
+
+pub none_yet : (gives : Algorithms) (j : WorldState) → Delivers gives j j
+none_yet gives j = record { delivers = []; arrives = tt; acts = runs_none gives j }
+
+pub delivers_both : (gives : Algorithms) (old mid new : WorldState) → Delivers gives old mid → Delivers gives mid new → Delivers gives old new
+delivers_both gives old mid new a b = record {
+  delivers = a.delivers ++ b.delivers;
+  arrives = all-append IsDeliver a.delivers b.delivers a.arrives b.arrives;
+  acts = runs_both gives a.delivers b.delivers old mid new a.acts b.acts;
+}
+
+pub one_more : (gives : Algorithms) (c n : ℕ) (r : Reply) (old mid new : WorldState) → Delivers gives old mid
+    → WorldSteps gives mid (event.Deliver c n) r new → Delivers gives old new
+one_more gives c n r old mid new h x = delivers_both gives old mid new h (record {
+  delivers = event.Deliver c n ∷ [];
+  arrives = (tt, tt);
+  acts = record { replies = r ∷ []; acts = (new, x, refl) };
+})
 
 abbrev is_empty : Reply → Bool
 is_empty reply.Empty = true
@@ -79,169 +302,136 @@ was_empty : (gives : Algorithms) (s : Side) (i : ℕ) (l : LinkState) (xs : List
 was_empty gives s i l [] old new h = (refl, h.1)
 was_empty gives s i l (item ∷ rest) old new h = absurd (none_back s _ item h.0 _ new h.3)
 
--- a Deliver event of cable 1 with the reply Empty: nothing is on the cable towards that system, and no cable changed
-pub nothing_came : (gives : Algorithms) (n : ℕ) (s : Side) (l : LinkState) (old new : WorldState) → side_of n ≡ Some s
-    → old.links ≡ l ∷ [] → WorldSteps gives old (event.Deliver 1 n) reply.Empty new → (towards s l ≡ []) × (new.links ≡ old.links)
-nothing_came gives n s l old new named e h =
+-- a Deliver event with the reply Empty: nothing is on the cable towards that system, and no cable changed
+nothing_came : (gives : Algorithms) (n i : ℕ) (s : Side) (old new : WorldState) → side_of n ≡ Some s
+    → WorldSteps gives old (event.Deliver (i + 1) n) reply.Empty new
+    → ((l : LinkState) → slice_get old.links i ≡ Some l → towards s l ≡ []) × (new.links ≡ old.links)
+nothing_came gives n i s old new named h =
     let now = record new { acted = old.acted } in
+    let next : i + 1 ≡ suc i = omega arith in
     let v = value_of (side_of n) _ h.0 in
     let same : v.0 ≡ s = same_Some v.0 s (sym v.1 ∙ named) in
-    let on = subst (λ t. OnLink 1 (λ i m. DeliversFrom gives t i m (towards t m) old reply.Empty now) old.links) same v.2 in
-    let only = subst (λ ls. OnLink 1 (λ i m. DeliversFrom gives s i m (towards s m) old reply.Empty now) ls) e on in
-    let k = was_empty gives s 0 l (towards s l) old now only in (
-      k.0,
+    let on = subst (λ t. OnLink (i + 1) (λ k m. DeliversFrom gives t k m (towards t m) old reply.Empty now) old.links) same v.2 in
+    let at = subst (λ c. OnLink c (λ k m. DeliversFrom gives s k m (towards s m) old reply.Empty now) old.links) next on in
+    let w = value_of (slice_get old.links i) _ at in
+    let k = was_empty gives s i w.0 (towards s w.0) old now w.2 in (
+      λ l f. subst (λ m. towards s m ≡ []) (same_Some w.0 l (sym w.1 ∙ f)) k.0,
       ap (λ (j : WorldState). j.links) k.1,
     )
 
--- both directions of the only cable are empty
-pub both_empty : (gives : Algorithms) (one two : ℕ) (old mid new : WorldState) → HasOneCable one two old
-    → WorldSteps gives old (event.Deliver 1 1) reply.Empty mid → WorldSteps gives mid (event.Deliver 1 2) reply.Empty new
-    → NothingInFlight new
-both_empty gives one two old mid new h x y =
-    let k = one_link (record { one = one; two = two }) old.links h in
-    let first = nothing_came gives 1 One k.0 old mid refl k.1 x in
-    let second = nothing_came gives 2 Two k.0 mid new refl (first.1 ∙ k.1) y in
-    nowhere k.0 (second.1 ∙ (first.1 ∙ k.1)) first.0 second.0
-  where
-    nowhere : (l : LinkState) → new.links ≡ l ∷ [] → towards One l ≡ [] → towards Two l ≡ [] → NothingInFlight new
-    nowhere l e a b s zero m f =
-        let same : l ≡ m = same_Some l m (sym (ap (λ ls. slice_get ls zero) e) ∙ f) in
-        subst (λ t. towards s t ≡ []) same (at s)
-      where
-        at : (s : Side) → towards s l ≡ []
-        at One = a
-        at Two = b
-    nowhere l e a b s (suc i) m f = absurd (none-some m (sym (ap (λ ls. slice_get ls (suc i)) e) ∙ f))
+is_nothing : (r : Reply) → found_nothing r ≡ true → r ≡ reply.Empty
+is_nothing reply.Empty h = refl
+is_nothing r h = absurd (false≢true h)
 
--- a Deliver event in each direction
-pub two_more : (gives : Algorithms) (q r : Reply) (start old mid new : WorldState) → Delivers gives start old
-    → WorldSteps gives old (event.Deliver 1 1) q mid → WorldSteps gives mid (event.Deliver 1 2) r new → Delivers gives start new
-two_more gives q r start old mid new h x y = one_more gives 1 2 r start mid new (one_more gives 1 1 q start old mid h x) y
+-- no cable changed, and nothing is on those before this index
+pub record IsQuiet (n : ℕ) (old new : WorldState) : Type 0 where
+  pub same : new.links ≡ old.links
+  pub before : (s : Side) (i : ℕ) (l : LinkState) → i < n → slice_get old.links i ≡ Some l → towards s l ≡ []
 
--- and both had the reply Empty
-pub all_arrived : (gives : Algorithms) (one two : ℕ) (q r : Reply) (start old mid new : WorldState) → HasOneCable one two start
-    → world_setup old ≡ world_setup start → Delivers gives start old → WorldSteps gives old (event.Deliver 1 1) q mid
-    → WorldSteps gives mid (event.Deliver 1 2) r new → q ≡ reply.Empty → r ≡ reply.Empty → AllArrives gives start new
-all_arrived gives one two q r start old mid new h fixed came x y first second =
-    let all = two_more gives q r start old mid new came x y in
+pub quiet_first : (j : WorldState) → IsQuiet 0 j j
+quiet_first j = record { same = refl; before = λ s i l h f. absurd (omega (arith, h)) }
+
+below_or_same : (i n : ℕ) → i < n + 1 → (i < n) ⊎ (i ≡ n)
+below_or_same zero zero h = inr refl
+below_or_same zero (suc n) h = inl (omega arith)
+below_or_same (suc i) zero h = absurd (omega (arith, h))
+below_or_same (suc i) (suc n) h = elim (below_or_same i n (omega (arith, h))) [
+  | inl less ↦ inl (omega (arith, less))
+  | inr same ↦ inr (ap suc same)
+]
+
+-- nor on the next one, in either direction
+pub quiet_next : (gives : Algorithms) (n : ℕ) (q r : Reply) (start old mid new : WorldState) → IsQuiet n start old
+    → WorldSteps gives old (event.Deliver (n + 1) 1) q mid → WorldSteps gives mid (event.Deliver (n + 1) 2) r new
+    → found_nothing q ≡ true → found_nothing r ≡ true → IsQuiet (n + 1) start new
+quiet_next gives n q r start old mid new h x y first second =
+    let a = nothing_came gives 1 n One old mid refl (subst (λ k. WorldSteps gives old (event.Deliver (n + 1) 1) k mid) (is_nothing q first) x) in
+    let b = nothing_came gives 2 n Two mid new refl (subst (λ k. WorldSteps gives mid (event.Deliver (n + 1) 2) k new) (is_nothing r second) y) in
     record {
-      delivers = all.delivers;
-      replies = all.replies;
-      arrives = all.arrives;
-      acts = all.acts;
-      empties = both_empty gives one two old mid new (ap (λ (s : WorldSetup). s.cables) fixed ∙ h)
-          (subst (λ a. WorldSteps gives old (event.Deliver 1 1) a mid) first x)
-          (subst (λ a. WorldSteps gives mid (event.Deliver 1 2) a new) second y);
+      same = b.1 ∙ (a.1 ∙ h.same);
+      before = λ s i l within f. elim (below_or_same i n within) [
+        | inl less ↦ h.before s i l less f
+        | inr same ↦ either s l (subst (λ k. slice_get start.links k ≡ Some l) same f) (λ m k. a.0 m (ap (λ ls. slice_get ls n) h.same ∙ k))
+            (λ m k. b.0 m (ap (λ ls. slice_get ls n) (a.1 ∙ h.same) ∙ k))
+      ];
     }
+  where
+    either : (s : Side) (l : LinkState) → slice_get start.links n ≡ Some l
+        → ((m : LinkState) → slice_get start.links n ≡ Some m → towards One m ≡ [])
+        → ((m : LinkState) → slice_get start.links n ≡ Some m → towards Two m ≡ []) → towards s l ≡ []
+    either One l f one two = one l f
+    either Two l f one two = two l f
 
--- what holds of algorithms holds of the same ones
-pub same_algorithms : {F : Type 0} (Q : Algorithms → Type 0) (a b f h : F) (post : F → ℕ → ℕ → ℕ → Type 0) → f ≡ a → h ≡ b
-    → Q (both_algorithms (post f) (post h)) → Q (both_algorithms (post a) (post b))
-same_algorithms Q a b f h post p q x =
-    subst (λ k. Q (both_algorithms (post k) (post b))) p (subst (λ k. Q (both_algorithms (post f) (post k))) q x)
-
-pub if_ok : {T E : Type 0} (P Q : T → Type 0) (r : Result T E) → ((x : T) → P x → Q x) → IfOk r P → IfOk r Q
-if_ok P Q (Ok x) k h = k x h
-if_ok P Q (Err e) k h = tt
-
-pub if_err : {T E : Type 0} (P Q : E → Type 0) (r : Result T E) → ((e : E) → P e → Q e) → IfErr r P → IfErr r Q
-if_err P Q (Ok x) k h = tt
-if_err P Q (Err e) k h = k e h
+pub nothing_left : (n : ℕ) (old new : WorldState) → length old.links ≤ n → IsQuiet n old new → NothingInFlight new
+nothing_left n old new h q s i l f =
+    let g : slice_get old.links i ≡ Some l = ap (λ ls. slice_get ls i) (sym q.same) ∙ f in
+    let within : i < length old.links = slice_get_within old.links i l g in
+    q.before s i l (omega (arith, h, within)) g
 
 -- a round
 
-pub round_played : (gives : Algorithms) (one two : ℕ) (replies : List Reply) (old mid new : WorldState) → HasOneCable one two old
-    → WorldRuns gives old (events_before_delivery one two) replies mid → AllArrives gives mid new → IsRound gives old new
-round_played gives one two replies old mid new h x a =
-    let k = one_link (record { one = one; two = two }) old.links h in
-    let all = runs_append gives (events_before_delivery one two) a.delivers replies a.replies old mid new x a.acts in
-    let named = subst (λ (e : Ends). WorldRuns gives old (events_before_delivery e.one e.two ++ a.delivers) (replies ++ a.replies) new) (sym k.2) all in
-    record {
-      delivers = a.delivers;
-      replies = replies ++ a.replies;
-      arrives = a.arrives;
-      acts = subst (λ ls. WorldRuns gives old (ticks_of_both ++ (asks_all ls ++ a.delivers)) (replies ++ a.replies) new) (sym k.1)
-          named;
-      empties = a.empties;
-    }
+pub round_played : (gives : Algorithms) (old ticked asked new : WorldState) → world_setup ticked ≡ world_setup old
+    → RunsAll gives ticks_of_both old ticked → RunsAll gives (asks_all ticked.links) ticked asked → Delivers gives asked new
+    → NothingInFlight new → IsRound gives old new
+round_played gives old ticked asked new fixed a b d empty =
+    let asks = subst (λ es. RunsAll gives es ticked asked) (asks_stay ticked old fixed) b in
+    let all = runs_both gives ticks_of_both (asks_all old.links ++ d.delivers) old ticked new a
+    (runs_both gives (asks_all old.links) d.delivers ticked asked new asks d.acts) in
+    record { delivers = d.delivers; replies = all.replies; arrives = d.arrives; acts = all.acts; empties = empty }
 
--- whatever cables there are
+pub stops_delivering : (gives : Algorithms) (old ticked asked new : WorldState) → world_setup ticked ≡ world_setup old
+    → RunsAll gives ticks_of_both old ticked → RunsAll gives (asks_all ticked.links) ticked asked → Delivers gives asked new
+    → PlaysPart gives old new
+stops_delivering gives old ticked asked new fixed a b d = inr (record {
+  asked = asked;
+  asks = runs_both gives ticks_of_both (asks_all old.links) old ticked asked a
+      (subst (λ es. RunsAll gives es ticked asked) (asks_stay ticked old fixed) b);
+  delivers = d;
+})
 
-pub then_delivered : (gives : Algorithms) (one two : ℕ) (replies : List Reply) (old mid new : WorldState)
-    → WorldRuns gives old (events_before_delivery one two) replies mid → Delivers gives mid new → PlaysAll gives one two old new
-then_delivered gives one two replies old mid new h d = record {
-  delivers = d.delivers;
-  replies = replies ++ d.replies;
-  arrives = d.arrives;
-  acts = runs_append gives (events_before_delivery one two) d.delivers replies d.replies old mid new h d.acts;
-}
+pub stops_asking : (gives : Algorithms) (old ticked new : WorldState) → world_setup ticked ≡ world_setup old
+    → RunsAll gives ticks_of_both old ticked → RunsPart gives (asks_all ticked.links) ticked new → PlaysPart gives old new
+stops_asking gives old ticked new fixed a b = inl (part_behind gives ticks_of_both (asks_all old.links) old ticked new a
+    (subst (λ es. RunsPart gives es ticked new) (asks_stay ticked old fixed) b))
 
-pub one_time_more : (gives : Algorithms) (one two n : ℕ) (old mid new : WorldState) → PlaysTimes gives one two n old mid
-    → PlaysAll gives one two mid new → PlaysTimes gives one two (n + 1) old new
-one_time_more gives one two n old mid new h x =
-    let e : suc n ≡ n + 1 = omega arith in
-    subst (λ k. PlaysTimes gives one two k old new) e (mid, h, x)
-
--- what holds of both answers holds of the one that came
-pub of_ok : {T E : Type 0} (P : Type 0) (r : Result T E) → P → IfOk r (λ x. P)
-of_ok P (Ok x) h = h
-of_ok P (Err e) h = tt
-
-pub of_err : {T E : Type 0} (P : Type 0) (r : Result T E) → P → IfErr r (λ x. P)
-of_err P (Ok x) h = tt
-of_err P (Err e) h = h
-
--- refusals
-
-spent_or_not : (fault : WorldFault) (j : WorldState) (spent : Bool) → nat_le most_events j.acted ≡ spent
-    → fault ≡ cause_or_no_memory (first_event_cause true true spent) → IsOutOfMemoryOrSpent fault j
-spent_or_not fault j true e h = let l : most_events ≤ j.acted = grind (arith, nat_tests) in inr (h, l)
-spent_or_not fault j false e h = inl h
-
--- an event that names no cable, and a system that exists
-pub refused_event : (fault : WorldFault) (j : WorldState)
-    → fault ≡ cause_or_no_memory (first_event_cause true true (nat_le most_events j.acted)) → IsOutOfMemoryOrSpent fault j
-refused_event fault j h = spent_or_not fault j (nat_le most_events j.acted) refl h
-
-refused_next : (fault : WorldFault) (one two n : ℕ) (j : WorldState) → RefusesNext j (next_of (events_before_delivery one two) n) fault
-    → IsOutOfMemoryOrSpent fault j
-refused_next fault one two zero j h = refused_event fault j h.named
-refused_next fault one two (suc zero) j h = refused_event fault j h.named
-refused_next fault one two (suc (suc zero)) j h = refused_event fault j h.named
-refused_next fault one two (suc (suc (suc zero))) j h = refused_event fault j h.named
-refused_next fault one two (suc (suc (suc (suc zero)))) j h = refused_event fault j h.named
-refused_next fault one two (suc (suc (suc (suc (suc zero))))) j h = refused_event fault j h.named
-refused_next fault one two (suc (suc (suc (suc (suc (suc n)))))) j h = absurd h
-
-pub refused_asking : (gives : Algorithms) (one two : ℕ) (stop : RunFault) (old new : WorldState)
-    → RunStops gives old (events_before_delivery one two) stop new → IsOutOfMemoryOrSpent stop.fault new
-refused_asking gives one two stop old new h = elim h.fault [
-  | inl none ↦ inl none.1
-  | inr next ↦ refused_next stop.fault one two stop.done new next
-]
-
-pub ends_stay : (one two : ℕ) (old new : WorldState) → world_setup new ≡ world_setup old → HasOneCable one two old → HasOneCable one two new
-ends_stay one two old new same h = ap (λ (x : WorldSetup). x.cables) same ∙ h
-
--- a Deliver event of the only cable
-pub refused_delivery : (fault : WorldFault) (one two n : ℕ) (s : Side) (start old new : WorldState) → side_of n ≡ Some s
-    → HasOneCable one two start → world_setup old ≡ world_setup start → fault ≡ cause_or_no_memory (cause old (event.Deliver 1 n))
-    → new ≡ old → IsOutOfMemoryOrSpent fault new
-refused_delivery fault one two n s start old new named h fixed f same =
-    let k = one_link (record { one = one; two = two }) old.links (ends_stay one two start old fixed h) in
-    let there : is_some (slice_get old.links 0) ≡ true = ap (λ ls. is_some (slice_get ls 0)) k.1 in
-    let known : is_some (side_of n) ≡ true = ap is_some named in
-    subst (IsOutOfMemoryOrSpent fault) (sym same) (refused_event fault old
-    (f ∙ (λ i. cause_or_no_memory (first_event_cause (there i) (known i) (nat_le most_events old.acted)))))
-
-pub on_fault : {T : Type 0} (start new : WorldState) (why : WorldFault) (r : Result T WorldFault) → IsErrAnd r (λ e. e ≡ why)
-    → ((one two : ℕ) → HasOneCable one two start → IsOutOfMemoryOrSpent why new)
-    → IfErr r (λ fault. (one two : ℕ) → HasOneCable one two start → IsOutOfMemoryOrSpent fault new)
-on_fault start new why (Ok x) e h = tt
-on_fault start new why (Err x) e h = λ one two k. subst (λ f. IsOutOfMemoryOrSpent f new) (sym e) (h one two k)
+pub stops_ticking : (gives : Algorithms) (old new : WorldState) → RunsPart gives ticks_of_both old new → PlaysPart gives old new
+stops_ticking gives old new a = inl (part_before gives ticks_of_both (asks_all old.links) old new a)
 
 -- rounds
 
 pub round_more : (gives : Algorithms) (n : ℕ) (old mid new : WorldState) → Rounds gives n old mid → IsRound gives mid new
     → Rounds gives (n + 1) old new
 round_more gives n old mid new h x = let e : suc n ≡ n + 1 = omega arith in subst (λ k. Rounds gives k old new) e (mid, h, x)
+
+-- what a call answers that was refused with this fault
+pub on_fault : {T : Type 0} (j : WorldState) (why : WorldFault) (r : Result T WorldFault) → IsErrAnd r (λ e. e ≡ why)
+    → IsOutOfMemoryOrSpent why j → IfErr r (λ fault. IsOutOfMemoryOrSpent fault j)
+on_fault j why (Ok x) e h = tt
+on_fault j why (Err x) e h = subst (λ f. IsOutOfMemoryOrSpent f j) (sym e) h
+
+-- all three hold
+pub all_hold : (a b c r : Bool) → r ≡ ((a && b) && c) → r ≡ true → (a ≡ true) × (b ≡ true) × (c ≡ true)
+all_hold true true true r e h = (refl, refl, refl)
+all_hold true true false r e h = absurd (false≢true (sym e ∙ h))
+all_hold true false c r e h = absurd (false≢true (sym e ∙ h))
+all_hold false b c r e h = absurd (false≢true (sym e ∙ h))
+
+pub quiet_more : (gives : Algorithms) (n : ℕ) (q r : Reply) (empty now : Bool) (start old mid new : WorldState)
+    → (empty ≡ true → IsQuiet n start old) → WorldSteps gives old (event.Deliver (n + 1) 1) q mid
+    → WorldSteps gives mid (event.Deliver (n + 1) 2) r new → now ≡ ((empty && found_nothing q) && found_nothing r) → now ≡ true
+    → IsQuiet (n + 1) start new
+quiet_more gives n q r empty now start old mid new h x y e all =
+    let k = all_hold empty (found_nothing q) (found_nothing r) now e all in
+    quiet_next gives n q r start old mid new (h k.0) x y k.1 k.2
+
+pub on_err : {T : Type 0} (P : WorldFault → Type 0) (why : WorldFault) (r : Result T WorldFault) → IsErrAnd r (λ e. e ≡ why) → P why → IfErr r P
+on_err P why (Ok x) e h = tt
+on_err P why (Err x) e h = subst P (sym e) h
+
+over_most : (n m : ℕ) → n ≡ m → (n < 65536 → ⊥) → most_cables < m
+unfolding most_cables
+over_most n m e h = omega (arith, e, h)
+
+-- there are more cables than events can name
+pub too_many : (n : ℕ) (j : WorldState) → n ≡ length j.links → (n < 65536 → ⊥) → IsRefused NoCable j j
+too_many n j e h = inr (refl, over_most n (length j.links) e h, refl)

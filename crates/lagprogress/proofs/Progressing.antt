@@ -1,5 +1,6 @@
 -- How the ends of a cable come to know each other, round by round.
-use Rattle.std.proofs.Common.{◌≡◌, ◌∙◌, ℕ, zero, suc, ◌+◌, ◌-◌, ◌≤◌, Bool, true, false, List, [], ◌∷◌, Option, Some, None}
+use Rattle.std.proofs.lemmas.Option.{none-some}
+use Rattle.std.proofs.Common.{◌≡◌, ◌∙◌, ℕ, zero, suc, ◌+◌, ◌-◌, ◌≤◌, Bool, true, false, List, [], ◌∷◌, Option, Some, None, map}
 use Rattle.std.proofs.Common.{◌⊎◌, inl, inr, refl, sym, subst, ap, arith}
 use Rattle.std.specs.Prelude.{slice_get, option_map}
 use Rattle.std.specs.List.{AllByRecursion}
@@ -11,7 +12,7 @@ use Rattle.portmachines.specs.declared.mux.MuxState.TheVariants.{CollectingDistr
 use Rattle.portmachines.specs.Machines.{Machines}
 use Rattle.portmachines.specs.Mux.{is_synchronized, same_mux_state}
 use Rattle.portmachines.specs.Transmit.{actor_of, pdu_of}
-use Rattle.lagmodel.specs.World.{Side, One, Two, peer}
+use Rattle.lagmodel.specs.World.{Side, One, Two, peer, IsCabling, end_at}
 use Rattle.lagsystem.specs.declared.system_ports.SystemPort.{SystemPort}
 use Rattle.lagsystem.specs.NothingToSettle.{PeriodicIsSettled}
 use Rattle.lagsystem.specs.State.{SystemState, machines_of, port_index, system_port_at}
@@ -21,17 +22,20 @@ use Rattle.lagworld.specs.Events.{Algorithms}
 use Rattle.lagworld.specs.State.{ItemValue, LinkState, WorldState, half, port_at, towards}
 use Rattle.lagprogress.specs.Hearing.{timeout_time}
 use Rattle.lagprogress.specs.Progress.{ActiveEndsComeToKnow, EndKnows, Knows}
-use Rattle.lagprogress.specs.Rounds.{AtEnd, IsHealthy, IsRound, NothingInFlight, OfPort, Rounds}
+use Rattle.lagprogress.specs.Rounds.{AtEnd, IsHealthy, IsHealthyAt, IsRound, NothingInFlight, OfPort, Rounds}
+use Rattle.lagworld.specs.ModelWorld.{link_ends, world_setup}
+use Rattle.lagprogress.specs.Bundle.{ActiveEndsOfEachKnow}
 use Rattle.lagprogress.specs.Steady.{IsSteady}
 use Rattle.lagprogress.specs.Timers.{IsTimed}
 use Rattle.lagprogress.proofs.EachPort.{OfEach}
 use Rattle.lagprogress.proofs.EndFacts.{CanSound, IsEnd, Learnt, Says, Synced, activity, calm, less_known, short_timeout, wait_of}
 use Rattle.lagprogress.proofs.Hearing.{no}
 use Rattle.lagprogress.proofs.Linked.{each_both, EndIs, Fits, IsGood, Link, each_map, each_side, found, peer_twice}
-use Rattle.lagprogress.proofs.OneCable.{as_cable, cable, towards_there}
+use Rattle.lagprogress.proofs.OneCable.{OnCable, as_cable, cable, towards_there}
 use Rattle.lagprogress.proofs.OnePort.{AtPort, at_number}
 use Rattle.lagprogress.proofs.OneRound.{Nothing, forget, join, round_keeps, round_nears, ticked}
 use Rattle.lagprogress.proofs.Sounding.{Sounds, silence_of, sounds_first}
+use Rattle.lagprogress.proofs.Telling.{Told, told_heard, told_kept}
 
 -- numbers of both sides
 
@@ -76,6 +80,7 @@ module _ (at : Side → ℕ) (w : Side → Lacpdu) where
   lower d c b x Y j less l = record {
     steady = l.steady;
     flying = l.flying;
+    index = l.index;
     links = l.links;
     good = l.good;
     place = l.place;
@@ -94,6 +99,7 @@ module _ (at : Side → ℕ) (w : Side → Lacpdu) where
   learns d c s b j less l = record {
     steady = l.steady;
     flying = l.flying;
+    index = l.index;
     links = l.links;
     good = l.good;
     place = l.place;
@@ -141,6 +147,8 @@ module _ (at : Side → ℕ) (w : Side → Lacpdu) where
     pub later : (s : Side) → 1 ≤ next s
     pub longer : (s : Side) → (next s + 1 ≤ known (peer s)) ⊎ (n + next s ≤ most)
     pub sounds : (s : Side) → AtIt s (Sounds (mode s) (next s)) j
+    pub empty : NothingInFlight j
+    pub told : (s : Side) → activity (w s) ≡ true → 1 ≤ known (peer s) → Told at w s j
 
   -- what one round makes of one direction
   record Went (d most n : ℕ) (s : Side) (j : WorldState) : Type 0 where
@@ -150,6 +158,7 @@ module _ (at : Side → ℕ) (w : Side → Lacpdu) where
     later : 1 ≤ next
     longer : (next + 1 ≤ known) ⊎ (n + next ≤ most)
     sounds : AtIt s (Sounds (mode s) next) j
+    told : activity (w s) ≡ true → 1 ≤ known → Told at w s j
     peer : AtIt (peer s) (IsEnd d (w (peer s)) (w (peer (peer s))) known) j
 
   silence_less : (b : Bool) → silence_of b + 1 ≤ (timeout_time b)
@@ -182,6 +191,8 @@ module _ (at : Side → ℕ) (w : Side → Lacpdu) where
             | inr l ↦ (let m = q.0 in inr (omega (arith, l, m)))
           ];
           sounds = beside d (ticked g.known) s (Sounds (mode s) (g.next s - 1)) new q.1;
+          told = λ on k. told_kept gives d at w g.known s false old new there fit (inl on, λ e. absurd (no e)) g.link g.empty h
+              (omega (arith, k)) (g.told s on (omega (arith, k)));
           peer = ends_of d (ticked g.known) s (Sounds (mode s) (g.next s - 1)) (peer s) new q.1;
         }
         | inr q ↦ (let known = learns d (ticked g.known) (peer s) 0 new (omega arith) q in
@@ -192,6 +203,8 @@ module _ (at : Side → ℕ) (w : Side → Lacpdu) where
               later = some_silence (mode s);
               longer = inl (silence_less (mode s));
               sounds = sounds_now d (ticked g.known) (peer s) (Learnt d (w (peer (peer s))) (wait (peer s))) s (mode s) new (can s).1 q;
+              told = λ on k. told_heard gives d at w g.known s false old new there fit (inl on, λ e. absurd (no e)) g.link g.empty h
+                  (beside d (ticked g.known) (peer s) (Learnt d (w (peer (peer s))) (wait (peer s))) new q);
               peer = subst (λ k. AtIt (peer s) (IsEnd d (w (peer s)) (w (peer (peer s))) k) new) (two_there (peer s) (wait (peer s)) 0)
                   (ends_of d (two (peer s) (wait (peer s)) 0) (peer s) Nothing (peer s) new known);
             })
@@ -210,6 +223,7 @@ module _ (at : Side → ℕ) (w : Side → Lacpdu) where
         link = record {
           steady = base.steady;
           flying = base.flying;
+          index = base.index;
           links = base.links;
           good = base.good;
           place = base.place;
@@ -221,6 +235,8 @@ module _ (at : Side → ℕ) (w : Side → Lacpdu) where
         later = λ s. (r s).later;
         longer = λ s. subst (λ t. ((r s).next + 1 ≤ (r t).known) ⊎ (n + 1 + (r s).next ≤ most)) (sym (peer_twice s)) (r s).longer;
         sounds = λ s. (r s).sounds;
+        empty = h.empties;
+        told = λ s on k. (r s).told on (subst (λ t. 1 ≤ (r t).known) (peer_twice s) k);
       }
 
   -- the rounds are no longer few
@@ -249,6 +265,8 @@ module _ (at : Side → ℕ) (w : Side → Lacpdu) where
     later = g.later;
     longer = λ s. inl (known_long d most n j g l s);
     sounds = g.sounds;
+    empty = g.empty;
+    told = g.told;
   }
 
   one_less_two : 2 ≤ 1 → ⊥
@@ -291,8 +309,8 @@ module _ (at : Side → ℕ) (w : Side → Lacpdu) where
       (λ s. ((inl (active s), λ e. absurd (no (sym (long s) ∙ e))), (inl (active s), λ e. absurd (no (sym (long s) ∙ e))))) h
 
   lasts_first : (j : WorldState) → ((s : Side) → activity (w s) ≡ true) → ((s : Side) → mode s ≡ false)
-      → Linked (λ _. 0) One Nothing j → Lasts 1 j
-  lasts_first j active long l = record {
+      → Linked (λ _. 0) One Nothing j → NothingInFlight j → Lasts 1 j
+  lasts_first j active long l none = record {
     known = λ _. 0;
     next = λ _. 309;
     link = l;
@@ -301,26 +319,29 @@ module _ (at : Side → ℕ) (w : Side → Lacpdu) where
     longer = λ s. inr (omega arith);
     sounds = λ s. subst (λ b. AtIt s (Sounds b 309) j) (sym (long s))
         (sounds_now 1 (λ _. 0) One Nothing s false j (inl (active s), λ e. absurd (no e)) l);
+    empty = none;
+    told = λ s on k. absurd (omega (arith, k));
   }
 
   -- The end of s is active and has Short Timeout, or the other end has Long Timeout: first the other end hears it, and then
   -- it hears the other end.
 
   abbrev pub Calls : Side → ℕ → WorldState → Type 0
-  Calls s n j = (k : ℕ) × (1 ≤ k) × (n + k ≤ 310) × Linked (λ _. 0) s (Sounds false k) j
+  Calls s n j = (k : ℕ) × (1 ≤ k) × (n + k ≤ 310) × Linked (λ _. 0) s (Sounds false k) j × NothingInFlight j
 
-  pub called : (s : Side) → activity (w s) ≡ true → (j : WorldState) → Linked (λ _. 0) One Nothing j → Calls s 1 j
-  called s active j l = (
+  pub called : (s : Side) → activity (w s) ≡ true → (j : WorldState) → Linked (λ _. 0) One Nothing j → NothingInFlight j → Calls s 1 j
+  called s active j l none = (
     309,
     omega arith,
     omega arith,
     join 1 at w (λ _. 0) One s (Sounds false 309) j l (sounds_now 1 (λ _. 0) One Nothing s false j (inl active, λ e. absurd (no e)) l),
+    none,
   )
 
   abbrev pub Answers : Side → ℕ → ℕ → WorldState → Type 0
   Answers s most n j = (k : ℕ) × (b : ℕ) × (1 ≤ k) × (n + k ≤ most + silence_of (mode (peer s)))
       × (wait (peer s) + k ≤ b + silence_of (mode (peer s))) × (b ≤ wait (peer s))
-      × Linked (two s 0 b) (peer s) (Sounds (mode (peer s)) k) j
+      × Linked (two s 0 b) (peer s) (Sounds (mode (peer s)) k) j × (activity (w s) ≡ true → Told at w s j) × NothingInFlight j
 
   abbrev pub Comes : Side → ℕ → WorldState → Type 0
   Comes s n j = Calls s n j ⊎ (Answers s 310 n j ⊎ Fresh j)
@@ -332,8 +353,9 @@ module _ (at : Side → ℕ) (w : Side → Lacpdu) where
 
     -- the other end has just heard it
     pub hears : (most n : ℕ) (new : WorldState) → n ≤ most
-        → Linked (ticked (λ _. 0)) (peer s) (Learnt 1 (w (peer (peer s))) (wait (peer s))) new → Answers s most n new
-    hears most n new l q =
+        → Linked (ticked (λ _. 0)) (peer s) (Learnt 1 (w (peer (peer s))) (wait (peer s))) new → (activity (w s) ≡ true → Told at w s new)
+        → NothingInFlight new → Answers s most n new
+    hears most n new l q told none =
         let known = learns 1 (ticked (λ _. 0)) (peer s) 0 new (omega arith) q in
         let b = wait (peer s) in
         let pair = two (peer s) b 0 in
@@ -349,11 +371,13 @@ module _ (at : Side → ℕ) (w : Side → Lacpdu) where
           join 1 at w (two s 0 b) (peer s) (peer s) (Sounds fast (silence_of fast)) new link
               (sounds_now 1 (two s 0 b) (peer s) Nothing (peer s) fast new
               (subst (CanSound (w (peer s)) (w (peer (peer s))) fast) (sym (two_other s 0 b)) (able b (omega (arith, room)))) link),
+          told,
+          none,
         )
 
     meets : (b k : ℕ) (j : WorldState) → 1 ≤ k → wait (peer s) + k ≤ b + silence_of (mode (peer s)) → b ≤ wait (peer s)
-        → Linked (two s (wait s) (b - 1)) s Nothing j → Fresh j
-    meets b k j some enough less l =
+        → Linked (two s (wait s) (b - 1)) s Nothing j → ((u : Side) → activity (w u) ≡ true → Told at w u j) → NothingInFlight j → Fresh j
+    meets b k j some enough less l told none =
         let c = two s (wait s) (b - 1) in
         let own : silence_of (mode s) + 1 ≤ c (peer s) =
         subst (λ n. silence_of (mode s) + 1 ≤ n) (sym (two_other s (wait s) (b - 1))) (omega (arith, room, some, enough)) in
@@ -370,13 +394,14 @@ module _ (at : Side → ℕ) (w : Side → Lacpdu) where
           later = λ u. some_silence (mode u);
           longer = λ u. inl (longer u);
           sounds = λ u. sounds_now 1 c s Nothing u (mode u) j (can_known u (c u) (big u) (awake u)) l;
+          empty = none;
+          told = λ u on k. told u on;
         }
 
     pub answers : (gives : Algorithms) (most n : ℕ) (old new : WorldState) → IsRound gives old new → Answers s most n old
         → Answers s most (n + 1) new ⊎ Fresh new
-    answers gives most n old new h (k, b, some, soon, enough, less, link) = elim (round_nears gives (peer s) 1 at w (two s 0 b)
-        (mode (peer s)) k old new (omega arith)
-        (fits_first (ticked (two s 0 b)) (λ t. let l = two_less s wait 0 b (omega arith) less t in omega (arith, l)))
+    answers gives most n old new h (k, b, some, soon, enough, less, link, told, none) = elim (round_nears gives (peer s) 1 at w (two s 0 b)
+        (mode (peer s)) k old new (omega arith) fit
         (subst (λ m. CanSound (w (peer s)) (w (peer (peer s))) (mode (peer s)) (m - 1)) (sym (two_other s 0 b))
         (able (b - 1) (omega (arith, room, some, enough))))
         (subst (CanSound (w (peer s)) (w (peer (peer s))) (mode (peer s))) (sym (two_other s 0 b))
@@ -392,11 +417,26 @@ module _ (at : Side → ℕ) (w : Side → Lacpdu) where
                 lower 1 (ticked (two s 0 b)) (two s 0 (b - 1)) (peer s) (Sounds (mode (peer s)) (k - 1)) new
                     (two_less s (ticked (two s 0 b)) 0 (b - 1) (omega arith)
                     (subst (λ n. b - 1 ≤ n - 1) (sym (two_other s 0 b)) (omega arith))) q.1,
+                still,
+                h.empties,
               ))
           | inr q ↦ inr (meets b k new some enough less (learns 1 (ticked (two s 0 b)) s (b - 1) new
               (subst (λ n. b - 1 ≤ n - 1) (sym (two_other s 0 b)) (omega arith))
-              (subst (λ t. Linked (ticked (two s 0 b)) t (Learnt 1 (w (peer t)) (wait t)) new) (peer_twice s) q)))
+              (subst (λ t. Linked (ticked (two s 0 b)) t (Learnt 1 (w (peer t)) (wait t)) new) (peer_twice s) q))
+              (each_side (λ u. activity (w u) ≡ true → Told at w u new) s still
+              (λ on. told_heard gives 1 at w (two s 0 b) (peer s) false old new (omega arith) fit (inl on, λ e. absurd (no e)) bare none h
+              (beside 1 (ticked (two s 0 b)) (peer (peer s)) (Learnt 1 (w (peer (peer (peer s)))) (wait (peer (peer s)))) new q))) h.empties)
         ]
+      where
+        fit : Fits 1 w (ticked (two s 0 b))
+        fit = fits_first (ticked (two s 0 b)) (λ t. let l = two_less s wait 0 b (omega arith) less t in omega (arith, l))
+
+        bare : Link 1 at w (two s 0 b) One Nothing old
+        bare = forget 1 at w (two s 0 b) (peer s) One (Sounds (mode (peer s)) k) old link
+
+        still : activity (w s) ≡ true → Told at w s new
+        still on = told_kept gives 1 at w (two s 0 b) s false old new (omega arith) fit (inl on, λ e. absurd (no e)) bare none h
+            (subst (λ m. 2 ≤ m) (sym (two_other s 0 b)) (omega (arith, room, some, enough))) (told on)
 
     pub answered : (most n : ℕ) (j : WorldState) → most + silence_of (mode (peer s)) ≤ n → Answers s most n j → Fresh j
     answered most n j l a = let k = a.2 in let m = a.3 in absurd (omega (arith, l, k, m))
@@ -412,8 +452,17 @@ module _ (at : Side → ℕ) (w : Side → Lacpdu) where
         (fits_first (ticked (λ _. 0)) (λ t. omega arith)) (inl active, λ e. absurd (no e)) (inl active, λ e. absurd (no e)) g.3 h) [
           | inl q ↦ (let l = g.2 in
               let m = q.0 in
-              inl (g.0 - 1, q.0, omega (arith, l, m), lower 1 (ticked (λ _. 0)) (λ _. 0) s (Sounds false (g.0 - 1)) new (λ _. omega arith) q.1))
-          | inr q ↦ inr (inl (hears s some_awake room 310 (n + 1) new (let l = g.2 in let o = g.1 in omega (arith, l, o)) q))
+              inl (
+                g.0 - 1,
+                q.0,
+                omega (arith, l, m),
+                lower 1 (ticked (λ _. 0)) (λ _. 0) s (Sounds false (g.0 - 1)) new (λ _. omega arith) q.1,
+                h.empties,
+              ))
+          | inr q ↦ inr (inl (hears s some_awake room 310 (n + 1) new (let l = g.2 in let o = g.1 in omega (arith, l, o)) q
+              (λ on. told_heard gives 1 at w (λ _. 0) s false old new (omega arith) (fits_first (ticked (λ _. 0)) (λ t. omega arith))
+              (inl on, λ e. absurd (no e)) (forget 1 at w (λ _. 0) s One (Sounds false g.0) old g.3) g.4 h
+              (beside 1 (ticked (λ _. 0)) (peer s) (Learnt 1 (w (peer (peer s))) (wait (peer s))) new q)) h.empties))
         ]
 
     pub comes : (gives : Algorithms) (n : ℕ) (old new : WorldState) → IsRound gives old new → Comes s n old → Comes s (n + 1) new
@@ -421,8 +470,8 @@ module _ (at : Side → ℕ) (w : Side → Lacpdu) where
     comes gives n old new h (inr (inl a)) = inr (answers s some_awake room gives 310 n old new h a)
     comes gives n old new h (inr (inr f)) = inr (inr (stays_fresh some_awake gives 1 old new (omega arith) h f))
 
-    pub comes_first : (j : WorldState) → Linked (λ _. 0) One Nothing j → Comes s 1 j
-    comes_first j l = inl (called s active j l)
+    pub comes_first : (j : WorldState) → Linked (λ _. 0) One Nothing j → NothingInFlight j → Comes s 1 j
+    comes_first j l none = inl (called s active j l none)
 
     pub came : (n : ℕ) (j : WorldState) → 310 + silence_of (mode (peer s)) ≤ n → Comes s n j → Fresh j
     came n j l (inl c) = let k = c.1 in let m = c.2 in absurd (omega (arith, l, k, m))
@@ -489,12 +538,33 @@ all_unknown : (w : Side → Lacpdu) (s : Side) (xs : List ItemValue) → AllByRe
 all_unknown w s [] = tt
 all_unknown w s (x ∷ xs) = (λ v c. (λ l. absurd (omega (arith, l)), λ l. absurd (omega (arith, l))), all_unknown w s xs)
 
-pub starts : (l : LinkState) (j : WorldState) (e : Ends l j) → IsSteady j → IsHealthy l j
+-- a healthy cable, and what is on it
+pub healthy_cable : (i : ℕ) (l : LinkState) (j : WorldState) → IsCabling (world_setup j).cables → IsHealthyAt i l j
+    → OnCable i (λ s. port_at s l) (λ s. towards s l) j.links
+healthy_cable i l j cabling h = record { there = h.there ∙ ap (λ m. Some m) (as_cable l h.whole h.unlimited); cabling = cabling }
+
+-- the only cable of a world
+pub only_cable : (l : LinkState) (j : WorldState) → IsHealthy l j → IsHealthyAt zero l j
+only_cable l j h =
+    record { there = ap (λ ls. slice_get ls zero) h.only; whole = h.whole; unlimited = h.unlimited; up = h.up }
+
+pub only_cabling : (l : LinkState) (j : WorldState) → IsHealthy l j → IsCabling (world_setup j).cables
+only_cabling l j h = subst (λ ls. IsCabling (map link_ends ls)) (sym h.only) one
+  where
+    one : (s : Side) (c d p : ℕ) → end_at (map link_ends (l ∷ [])) s c ≡ Some p → end_at (map link_ends (l ∷ [])) s d ≡ Some p → c ≡ d
+    one s zero d p e f = absurd (none-some p e)
+    one s (suc zero) zero p e f = absurd (none-some p f)
+    one s (suc zero) (suc zero) p e f = refl
+    one s (suc zero) (suc (suc d)) p e f = absurd (none-some p f)
+    one s (suc (suc c)) d p e f = absurd (none-some p e)
+
+pub starts : (i : ℕ) (l : LinkState) (j : WorldState) (e : Ends l j) → IsSteady j → IsCabling (world_setup j).cables → IsHealthyAt i l j
     → Link 0 (λ s. port_at s l) (said_by l j e) (λ _. 0) One Nothing j
-starts l j e steady h = record {
+starts i l j e steady cabling h = record {
   steady = steady;
   flying = λ s. towards s l;
-  links = h.only ∙ ap (λ m. m ∷ []) (as_cable l h.whole h.unlimited);
+  index = i;
+  links = healthy_cable i l j cabling h;
   good = λ s. all_unknown (said_by l j e) s (towards s l);
   place = λ s. ((e s).0, (e s).2);
   ports = λ s. (let ports = (half s j).state.system_ports in
@@ -511,10 +581,11 @@ pub emptied : (at : Side → ℕ) (w : Side → Lacpdu) (d e : ℕ) (c : Side �
     → Link d at w c x Y j → Link e at w c x Y j
 emptied at w d e c x Y j none synced k =
     let empty : (s : Side) → k.flying s ≡ [] = λ s. sym (towards_there s at k.flying)
-    ∙ none s zero (cable at k.flying) (ap (λ ls. slice_get ls zero) k.links) in
+    ∙ none s k.index (cable at k.flying) k.links.there in
     record {
       steady = k.steady;
       flying = k.flying;
+      index = k.index;
       links = k.links;
       good = λ s. subst (AllByRecursion (IsGood e w s)) (sym (empty s)) tt;
       place = k.place;
@@ -579,14 +650,14 @@ meets_short gives at w s n old new active short enough l h =
     let late : 310 + silence_of (mode at w (peer s)) ≤ n = subst (λ b. 310 + silence_of b ≤ n) (sym quick) enough in
     came at w s active room n new late
     (along_rounds gives (λ m j. Comes at w s m j) old
-    (λ j r. comes_first at w s active room j (first_round gives at w old j l r))
+    (λ j r. comes_first at w s active room j (first_round gives at w old j l r) r.empties)
     (λ m i j r c. comes at w s active room gives m i j r c) n new (omega (arith, enough)) h)
 
 meets_long : (gives : Algorithms) (at : Side → ℕ) (w : Side → Lacpdu) (n : ℕ) (old new : WorldState) → ((s : Side) → activity (w s) ≡ true)
     → ((s : Side) → mode at w s ≡ false) → 321 ≤ n → Link 0 at w (λ _. 0) One Nothing old → Rounds gives n old new → Fresh at w new
 meets_long gives at w n old new active long enough l h =
     settled at w 1 310 n new (omega (arith, enough))
-    (along_rounds gives (λ m j. Lasts at w m j) old (λ j r. lasts_first at w j active long (first_round gives at w old j l r))
+    (along_rounds gives (λ m j. Lasts at w m j) old (λ j r. lasts_first at w j active long (first_round gives at w old j l r) r.empties)
     (λ m i j r c. lasts at w gives m i j active long r c) n new (omega (arith, enough)) h)
 
 pub active_meet : (gives : Algorithms) (at : Side → ℕ) (w : Side → Lacpdu) (n : ℕ) (old new : WorldState)
@@ -600,10 +671,14 @@ active_meet gives at w n old new active enough l h = elim (cases_Bool (short_tim
   ]
 ]
 
-pub active_ends_know : (gives : Algorithms) → ActiveEndsComeToKnow gives
-active_ends_know gives n l old new steady healthy active enough rounds =
+pub active_ends_of_each_know : (gives : Algorithms) → ActiveEndsOfEachKnow gives
+active_ends_of_each_know gives n i l old new cabling steady healthy active enough rounds =
     let e : Ends l old = λ s. end_of (λ p. p.enabled ≡ true) (port_at s l) (half s old).state (healthy.up s) in
     let w = said_by l old e in
     let awake : (s : Side) → activity (w s) ≡ true = λ s. sym (own_says (e s).1.port).1
     ∙ subst (OfPort (λ p. p.active ≡ true)) (machines_there (port_at s l) (half s old).state (e s).0 (e s).1 (e s).2 (e s).3) (active s) in
-    fresh_knows l w new (active_meet gives (λ s. port_at s l) w n old new awake enough (starts l old e steady healthy) rounds)
+    fresh_knows l w new (active_meet gives (λ s. port_at s l) w n old new awake enough (starts i l old e steady cabling healthy) rounds)
+
+pub active_ends_know : (gives : Algorithms) → ActiveEndsComeToKnow gives
+active_ends_know gives n l old new steady healthy active enough rounds =
+    active_ends_of_each_know gives n zero l old new (only_cabling l old healthy) steady (only_cable l old healthy) active enough rounds

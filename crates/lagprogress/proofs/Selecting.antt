@@ -167,7 +167,7 @@ is_known r h = elim h [ inl e ↦ rw e refl | inr e ↦ rw e refl ]
 all_five : (a b c d e : Bool) → a ≡ true → b ≡ true → c ≡ true → d ≡ true → e ≡ false → ((((a && b) && c) && d) && not e) ≡ true
 all_five a b c d e f g h i j = rw (f, g, h, i, j) refl
 
-eligible : (s : SystemState) (i : ℕ) (x : SystemPort) → IsSound s → slice_get s.system_ports i ≡ Some x → WantsAggregator x.port
+pub eligible : (s : SystemState) (i : ℕ) (x : SystemPort) → IsSound s → slice_get s.system_ports i ≡ Some x → WantsAggregator x.port
     → is_unselected x.port.choice ≡ true → is_eligible (selection_view x) ≡ true
 eligible s i x h e w u =
     let settled = all-get (MuxIsSettled s.keys s.system_ports) s.system_ports i x e h.quiet.0 in
@@ -179,7 +179,7 @@ eligible s i x h e w u =
 
 -- what it finds
 
-when_is : (b : Bool) (o : Option AggId) → b ≡ true → (if b then (if b then o else None) else None) ≡ None → o ≡ None
+pub when_is : (b : Bool) (o : Option AggId) → b ≡ true → (if b then (if b then o else None) else None) ≡ None → o ≡ None
 when_is true o e h = h
 when_is false o e h = absurd cc
 
@@ -240,13 +240,13 @@ never_unselected s i x h e w many u =
 
 -- a STANDBY port waits for room
 
-clash : {A : Type 0} (b : Bool) → b ≡ true → b ≡ false → A
+pub clash : {A : Type 0} (b : Bool) → b ≡ true → b ≡ false → A
 clash b t f = let e : true ≡ false = sym t ∙ f in absurd cc
 
-stands : (agg : AggId) (c : Choice) → c ≡ Standby agg → stands_by agg c ≡ true
+pub stands : (agg : AggId) (c : Choice) → c ≡ Standby agg → stands_by agg c ≡ true
 stands agg c e = rw e (itself agg.0)
 
-seen_stands : (agg : AggId) (ports : List SystemPort) (i : ℕ) (x : SystemPort) → slice_get ports i ≡ Some x
+pub seen_stands : (agg : AggId) (ports : List SystemPort) (i : ℕ) (x : SystemPort) → slice_get ports i ≡ Some x
     → NoneStandsBy agg (views ports) → stands_by agg x.port.choice ≡ false
 seen_stands agg [] i x e h = absurd (none-some x e)
 seen_stands agg (y ∷ ys) zero x e h = ap (λ (z : SystemPort). stands_by agg z.port.choice) (sym (same_Some y x e)) ∙ h.0

@@ -164,7 +164,7 @@ periodic_sounds fast most = ordered (CalmSounds fast most) (λ p. false) periodi
 
 -- what a periodic machine at rest that is not kept silent shows: its timer has not expired, and it is in FAST if the
 -- partner has Short Timeout, else in SLOW
-abbrev Resting : PeriodicState → Bool → Bool → Type 0
+abbrev pub Resting : PeriodicState → Bool → Bool → Type 0
 Resting NoPeriodic expired short = ⊥
 Resting PeriodicTx expired short = ⊥
 Resting Fast expired short = (expired ≡ false) × (short ≡ true)
@@ -200,7 +200,7 @@ rest_tx true expired short e h k = no (sym e)
 rest_tx false expired true e h k = no (sym h)
 rest_tx false expired false e h k = no (sym k)
 
-rests : (st : PeriodicState) (p : Machines) → AtRest periodic_rows (record p { periodic = st }) → is_silent p ≡ false
+pub rests : (st : PeriodicState) (p : Machines) → AtRest periodic_rows (record p { periodic = st }) → is_silent p ≡ false
     → Resting st (timer_expired p) (partner_short p)
 rests NoPeriodic p r e = rest_none (is_silent p) e r.1.0
 rests Fast p r e = rest_fast (is_silent p) (timer_expired p) (partner_short p) e r.1.1.0 r.1.1.1.0
@@ -208,7 +208,7 @@ rests Slow p r e = rest_slow (is_silent p) (timer_expired p) (partner_short p) e
 rests PeriodicTx p r e = rest_tx (is_silent p) (timer_expired p) (partner_short p) e r.1.1.1.1.1.0 r.1.1.1.1.1.1.0
 
 -- the machine runs
-unclear : (st : PeriodicState) (expired short b : Bool) → Resting st expired short → (not (same_periodic_state NoPeriodic st) && b) ≡ b
+pub unclear : (st : PeriodicState) (expired short b : Bool) → Resting st expired short → (not (same_periodic_state NoPeriodic st) && b) ≡ b
 unclear NoPeriodic expired short b h = absurd h
 unclear Fast expired short b h = refl
 unclear Slow expired short b h = refl
@@ -294,7 +294,7 @@ begins_in Fast false short expired n r c l = omega (arith, l)
 begins_in Slow true short expired n r c l = clash short (c refl) r.1
 begins_in Slow false short expired n r c l = omega (arith, l)
 
-all_leave : (fast : Bool) (ages : List ℕ) → AllByRecursion (λ a. a < 11) ages → AllByRecursion (Leaves (silence_of fast)) ages
+pub all_leave : (fast : Bool) (ages : List ℕ) → AllByRecursion (λ a. a < 11) ages → AllByRecursion (Leaves (silence_of fast)) ages
 all_leave fast [] h = tt
 all_leave true (a ∷ ages) h = ((omega arith, h.0), all_leave true ages h.1)
 all_leave false (a ∷ ages) h = ((omega arith, h.0), all_leave false ages h.1)

@@ -36,7 +36,7 @@ use Rattle.lagworld.specs.Messages.{stamp_count}
 use Rattle.lagworld.specs.State.{ItemValue, WorldState, change_count_in, half, history_at, taken_in}
 use Rattle.lagworld.proofs.Arrives.{count_heard, read_log}
 use Rattle.lagprogress.specs.Hearing.{timeout_time}
-use Rattle.lagprogress.specs.Rounds.{IsRound}
+use Rattle.lagprogress.specs.Rounds.{IsRound, asks_all}
 use Rattle.lagprogress.specs.Steady.{IsSteadySystem}
 use Rattle.lagprogress.specs.Timers.{IsTimed, most_current_while}
 use Rattle.lagprogress.proofs.Climbing.{ticks_still}
@@ -44,9 +44,9 @@ use Rattle.lagprogress.proofs.EachPort.{KeptBySettling, OfEach, Step-each, Tick-
 use Rattle.lagprogress.proofs.EndFacts.{IsEnd, short_timeout, wait_of}
 use Rattle.lagprogress.proofs.Halves.{keeps_steady}
 use Rattle.lagprogress.proofs.Lapsing.{some_wait}
-use Rattle.lagprogress.proofs.OneRound.{deliver_all, timed_ends, unroll}
-use Rattle.lagprogress.proofs.Linked.{EndIs, Link, each_side, is_took, peer_twice, put_other, put_there}
-use Rattle.lagprogress.proofs.OneCable.{Arrives, Back, IsStamped, Ticked, asks, cable, delivers, logged, push_each, put, ticks}
+use Rattle.lagprogress.proofs.OneRound.{all_ask, ask_all, deliver_all, timed_ends, unroll}
+use Rattle.lagprogress.proofs.Linked.{EndIs, Link, asked_which, each_side, elsewhere_each, is_took, peer_twice, put_other, put_there}
+use Rattle.lagprogress.proofs.OneCable.{Arrives, Back, Beside, IsStamped, OnCable, Ticked, asks, delivers, logged, push_each, put, ticks}
 use Rattle.lagprogress.proofs.OnePort.{AtPort}
 use Rattle.lagprogress.proofs.Passing.{marker_carries_none}
 use Rattle.lagprogress.proofs.Timers.{runs_keep}
@@ -81,7 +81,8 @@ still_there a p item logs q = refl
 
 pub record Stamped (b : ℕ) (at : Side → ℕ) (k : Side → ℕ) (j : WorldState) : Type 0 where
   pub flying : Side → List ItemValue
-  pub links : j.links ≡ cable at flying ∷ []
+  pub index : ℕ
+  pub links : OnCable index at flying j.links
   pub counts : (s : Side) → change_count_in (history_at (half s j).histories (at s)) ≡ k s
   pub there : (s : Side) → is_some (history_at (half s j).histories (at s)) ≡ true
   pub items : 1 ≤ b → (t : Side) → AllByRecursion (IsStamped (k (peer t))) (flying t)
@@ -101,7 +102,7 @@ low_settles n most = record {
   periodic = λ m p q h a e. subst (λ (p : Machines). p.current_while + 1 ≤ most) (sym h.2)
       (runs_keep (λ p. p.current_while + 1 ≤ most) periodic_rows
       (λ p a. a, (λ p a. a, (λ p a. a, (λ p a. a, (λ p a. a, (λ p a. a, (λ p a. a, tt))))))) p h.0 h.1 (a e));
-  select = λ m choice p none a e. a e;
+  select = λ m choice p none may a e. a e;
 }
 
 -- what an event leaves
@@ -117,10 +118,11 @@ took_same at k t old new e h = subst (λ l. is_stamp (k (peer t)) (taken_in (his
 pub stamps_emit : (gives : Algorithms) (n : ℕ) (s : Side) (b : ℕ) (at k : Side → ℕ) (r : Reply) (old new : WorldState) → side_of n ≡ Some s
     → Stamped b at k old → WorldSteps gives old (event.Emit n (at s)) r new → Stamping b at k old new
 stamps_emit gives n s b at k r old new told l h =
-    let a = asks gives n s at l.flying r old new told l.links h in
+    let a = asks gives n s l.index at l.flying r old new told l.links h in
     record {
       world = record {
         flying = a.now;
+        index = a.index;
         links = a.links;
         counts = λ t. ap (λ g. change_count_in (history_at g (at t))) (a.logs t) ∙ l.counts t;
         there = λ t. ap (λ g. is_some (history_at g (at t))) (a.logs t) ∙ l.there t;
@@ -134,6 +136,31 @@ stamps_emit gives n s b at k r old new told l h =
           (λ y. subst (λ (z : SystemState). OfEach (AtPort (at (peer s)) (λ p. p.current_while + 1 ≤ most)) z.system_ports)
           (sym a.peers) y) t y);
     }
+
+-- the event leaves the cable to itself
+stamps_beside : (gives : Algorithms) (b : ℕ) (at k : Side → ℕ) (old new : WorldState) (l : Stamped b at k old)
+    → Beside gives at l.flying old new → Stamping b at k old new
+stamps_beside gives b at k old new l m = record {
+  world = record {
+    flying = l.flying;
+    index = m.index;
+    links = m.links;
+    counts = λ t. ap change_count_in (m.logs t) ∙ l.counts t;
+    there = λ t. ap is_some (m.logs t) ∙ l.there t;
+    items = l.items;
+  };
+  took = λ i t y. subst (λ o. is_stamp (k (peer t)) (taken_in o) ≡ true) (sym (m.logs t)) y;
+  low = λ i t most y. inl (elsewhere_each (λ p. p.current_while + 1 ≤ most) (gives t) (at t) (half t old).state (half t new).state
+      (low_settles (at t) most) (m.calls t) y);
+}
+
+-- any port is asked
+pub stamps_ask : (gives : Algorithms) (n p b : ℕ) (at k : Side → ℕ) (r : Reply) (old new : WorldState) → Stamped b at k old
+    → WorldSteps gives old (event.Emit n p) r new → Stamping b at k old new
+stamps_ask gives n p b at k r old new l h = elim (asked_which gives n p l.index at l.flying r old new l.links h) [
+  | inl (s, told, is) ↦ stamps_emit gives n s b at k r old new told l (subst (λ q. WorldSteps gives old (event.Emit n q) r new) is h)
+  | inr m ↦ stamps_beside gives b at k old new l m
+]
 
 -- an arrival
 
@@ -194,6 +221,7 @@ stamps_arrive : (gives : Algorithms) (s : Side) (b : ℕ) (at k : Side → ℕ) 
 stamps_arrive gives s b at k old new l a = record {
   world = record {
     flying = a.now;
+    index = a.index;
     links = a.links;
     counts = each_side (λ t. change_count_in (history_at (half t new).histories (at t)) ≡ k t) s
         (ap (λ g. change_count_in (history_at g (at s))) a.log ∙ (counts_stay a.a (at s) a.item (half s old).histories (at s) ∙ l.counts s))
@@ -225,20 +253,9 @@ stamps_arrive gives s b at k old new l a = record {
 
 pub stamps_deliver : (gives : Algorithms) (cn n b : ℕ) (at k : Side → ℕ) (r : Reply) (old new : WorldState) → Stamped b at k old
     → WorldSteps gives old (event.Deliver cn n) r new → Stamping b at k old new
-stamps_deliver gives cn n b at k r old new l h = elim (delivers gives cn n at l.flying r old new l.links h) [
+stamps_deliver gives cn n b at k r old new l h = elim (delivers gives cn n l.index at l.flying r old new l.links h) [
   | inl a ↦ stamps_arrive gives a.0 b at k old new l a.1
-  | inr a ↦ record {
-    world = record {
-      flying = l.flying;
-      links = a.links ∙ l.links;
-      counts = λ t. ap (λ g. change_count_in (history_at g (at t))) (a.logs t) ∙ l.counts t;
-      there = λ t. ap (λ g. is_some (history_at g (at t))) (a.logs t) ∙ l.there t;
-      items = l.items;
-    };
-    took = λ i t y. took_same at k t old new (a.logs t) y;
-    low = λ i t most y. inl (subst (λ (z : SystemState). OfEach (AtPort (at t) (λ p. p.current_while + 1 ≤ most)) z.system_ports)
-        (sym (a.halves t)) y);
-  }
+  | inr m ↦ stamps_beside gives b at k old new l m
 ]
 
 -- ticks
@@ -247,13 +264,14 @@ stamps_tick : (gives : Algorithms) (s : Side) (b : ℕ) (at k : Side → ℕ) (o
     → Stamped b at k new
 stamps_tick gives s b at k old new a l = record {
   flying = l.flying;
-  links = a.links ∙ l.links;
+  index = l.index;
+  links = subst (OnCable l.index at l.flying) (sym a.links) l.links;
   counts = λ t. ap (λ g. change_count_in (history_at g (at t))) (a.logs t) ∙ l.counts t;
   there = λ t. ap (λ g. is_some (history_at g (at t))) (a.logs t) ∙ l.there t;
   items = l.items;
 }
 
-most_is : (b : Bool) (r : ReceiveState) → r ≡ Current → most_current_while b r ≡ timeout_time b
+pub most_is : (b : Bool) (r : ReceiveState) → r ≡ Current → most_current_while b r ≡ timeout_time b
 most_is b r e = ap (most_current_while b) e ∙ at_current b
   where
     at_current : (b : Bool) → most_current_while b Current ≡ timeout_time b
@@ -298,7 +316,7 @@ pub stamp_round : (gives : Algorithms) (d : ℕ) (at k : Side → ℕ) (w : Side
     (old new : WorldState) → ((t : Side) → 2 ≤ c t) → Link d at w c x Y old → Stamped 1 at k old → IsRound gives old new
     → Marked at k w old new
 stamp_round gives d at k w c x Y old new known l st h =
-    let u = unroll gives at l.flying old new l.links h in
+    let u = unroll gives old new h in
     let one = ticks gives 1 One u.tick_one.0 old u.one refl u.tick_one.1 in
     let two = ticks gives 2 Two u.tick_two.0 u.one u.two refl u.tick_two.1 in
     let steady = keeps_steady gives (event.Tick 1 1) u.tick_one.0 old u.one u.tick_one.1 l.steady in
@@ -312,12 +330,9 @@ stamp_round gives d at k w c x Y old new known l st h =
           (subst (λ (y : SystemState). OfEach (AtPort (at One) (λ p. p.current_while + 1 ≤ wait_of (w One))) y.system_ports)
           (sym two.peers) first) second t),
     ) in
-    let m3 = marked_on at k w old u.two u.three (stamps_emit gives 1 One 1 at k u.ask_one.0 u.two u.three refl m2.0 u.ask_one.1) m2 in
-    let m4 = marked_on at k w old u.three u.four
-    (stamps_emit gives 1 One 1 at k u.ask_one_again.0 u.three u.four refl m3.0 u.ask_one_again.1) m3 in
-    let m5 = marked_on at k w old u.four u.five (stamps_emit gives 2 Two 1 at k u.ask_two.0 u.four u.five refl m4.0 u.ask_two.1) m4 in
-    let m6 = marked_on at k w old u.five u.six
-    (stamps_emit gives 2 Two 1 at k u.ask_two_again.0 u.five u.six refl m5.0 u.ask_two_again.1) m5 in
+    let m6 = ask_all gives (Marked at k w old)
+    (λ n p r i j step m. marked_on at k w old i j (stamps_ask gives n p 1 at k r i j m.0 step) m)
+    (asks_all old.links) u.asked u.two u.six (all_ask old.links) u.asks m2 in
     deliver_all gives (Marked at k w old)
     (λ cn n r i j step m. marked_on at k w old i j (stamps_deliver gives cn n 1 at k r i j m.0 step) m)
     u.delivers u.replies u.six new u.arrives u.rest m6
@@ -326,12 +341,10 @@ stamp_round gives d at k w c x Y old new known l st h =
 pub stamped_round : (gives : Algorithms) (b : ℕ) (at k : Side → ℕ) (old new : WorldState) → Stamped b at k old → IsRound gives old new
     → Stamped b at k new
 stamped_round gives b at k old new l h =
-    let u = unroll gives at l.flying old new l.links h in
+    let u = unroll gives old new h in
     let m1 = stamps_tick gives One b at k old u.one (ticks gives 1 One u.tick_one.0 old u.one refl u.tick_one.1) l in
     let m2 = stamps_tick gives Two b at k u.one u.two (ticks gives 2 Two u.tick_two.0 u.one u.two refl u.tick_two.1) m1 in
-    let m3 = (stamps_emit gives 1 One b at k u.ask_one.0 u.two u.three refl m2 u.ask_one.1).world in
-    let m4 = (stamps_emit gives 1 One b at k u.ask_one_again.0 u.three u.four refl m3 u.ask_one_again.1).world in
-    let m5 = (stamps_emit gives 2 Two b at k u.ask_two.0 u.four u.five refl m4 u.ask_two.1).world in
-    let m6 = (stamps_emit gives 2 Two b at k u.ask_two_again.0 u.five u.six refl m5 u.ask_two_again.1).world in
+    let m6 = ask_all gives (Stamped b at k) (λ n p r i j step m. (stamps_ask gives n p b at k r i j m step).world)
+    (asks_all old.links) u.asked u.two u.six (all_ask old.links) u.asks m2 in
     deliver_all gives (Stamped b at k) (λ cn n r i j step m. (stamps_deliver gives cn n b at k r i j m step).world)
     u.delivers u.replies u.six new u.arrives u.rest m6

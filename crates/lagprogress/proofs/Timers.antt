@@ -183,7 +183,7 @@ pub timed_settles : KeptBySettling TimedAt
 timed_settles = record {
   mux = λ n ready p q h a. runs_keep IsTimed (mux_rows ready) (mux_keeps ready) p q h a;
   periodic = λ n p q h a. subst IsTimed (sym h.2) (runs_keep IsTimed periodic_rows periodic_keeps p h.0 h.1 a);
-  select = λ n choice p none a. a;
+  select = λ n choice p none may a. a;
 }
 
 pub timed_starts : (n : ℕ) (u : Setup) (q : Machines) → Starts (before_start u) q → TimedAt n q

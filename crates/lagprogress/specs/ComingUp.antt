@@ -25,11 +25,11 @@ AreApart l j = AtEnd (λ p. AtEnd (λ q. q.party.system ≢ p.party.system) Two 
 abbrev pub Distributes : Machines → Type 0
 Distributes p = (p.mux ≡ CollectingDistributing) × (selected p ≡ true)
 
--- From 650 healthy rounds on, whatever was before them, both ends of the cable distribute, if both are active.
+-- From 352 healthy rounds on, whatever was before them, both ends of the cable distribute, if both are active.
 abbrev pub ActiveLinkComesUp : Algorithms → Type 0
 ActiveLinkComesUp gives = (n : ℕ) (l : LinkState) (old new : WorldState) → IsSteady old → IsHealthy l old
     → ((s : Side) → HasRoom (half s old).state) → AreApart l old → ((s : Side) → AtEnd (λ p. p.active ≡ true) s l old)
-    → 650 ≤ n → Rounds gives n old new → (s : Side) → AtEnd Distributes s l new
+    → 352 ≤ n → Rounds gives n old new → (s : Side) → AtEnd Distributes s l new
 
 -- From 959 on they do, if the end at system a is active.
 abbrev pub LinkComesUp : Algorithms → Type 0

@@ -1,71 +1,111 @@
--- What is said of healthy rounds that are played (profile).
-use Rattle.std.specs.Prelude.{◌≡◌, ◌≤◌, ◌⊎◌, ◌<◌, ℕ, zero, suc, List, [], ◌∷◌, ◌++◌, take}
+-- Healthy rounds that are played, whole or in part, and what they lead to (profile).
+use Rattle.std.specs.Prelude.{◌≡◌, ◌≤◌, ◌⊎◌, ◌<◌, ◌++◌, ℕ, suc, Bool, false, true, List, None, Some, length, Option}
 use Rattle.std.specs.List.{AllByRecursion}
+use Rattle.cables.specs.declared.item.Item.{Item}
+use Rattle.lagmodel.specs.World.{Side}
+use Rattle.lagscript.specs.declared.config.WorldConfig.{WorldConfig}
 use Rattle.lagscript.specs.declared.event.Event.{Event}
-use Rattle.lagscript.specs.declared.event.Event.TheVariants as event
+use Rattle.lagworld.specs.declared.agreement.Agreement.TheVariants.{Same}
 use Rattle.lagworld.specs.declared.fault.WorldFault.{WorldFault}
-use Rattle.lagworld.specs.declared.fault.WorldFault.TheVariants.{NoMemory, Spent}
+use Rattle.lagworld.specs.declared.fault.WorldFault.TheVariants.{NoCable, NoMemory, Spent}
 use Rattle.lagworld.specs.declared.reply.Reply.{Reply}
-use Rattle.lagworld.specs.Events.{Algorithms, WorldRuns, most_events}
-use Rattle.lagworld.specs.ModelWorld.{world_setup}
-use Rattle.lagworld.specs.State.{WorldState}
-use Rattle.lagprogress.specs.Rounds.{IsDeliver, NothingInFlight, ticks_of_both}
+use Rattle.lagworld.specs.declared.reply.Reply.TheVariants as reply
+use Rattle.lagworld.specs.Agreement.{agreement_at}
+use Rattle.lagworld.specs.Events.{Algorithms, WorldRuns, cable_named, has_system, most_events, system_named}
+use Rattle.lagworld.specs.Making.{IsMade, refusal_with}
+use Rattle.lagworld.specs.Sound.{IsStart}
+use Rattle.lagworld.specs.State.{LinkState, WorldState, half}
+use Rattle.lagprogress.specs.Bundle.{AllHeard, EnoughAggregators, EnoughLinks}
+use Rattle.lagprogress.specs.ComingUp.{Distributes}
+use Rattle.lagprogress.specs.Rounds.{AtEnd, IsDeliver, IsHealthyAt, Rounds, asks_all, ticks_of_both}
 
--- the world has one cable, between these ports of system 1 and system 2
-abbrev pub HasOneCable : ℕ → ℕ → WorldState → Type 0
-HasOneCable one two j = (world_setup j).cables ≡ record { one = one; two = two } ∷ []
+-- all of these events act
+pub record RunsAll (gives : Algorithms) (es : List Event) (old new : WorldState) : Type 0 where
+  pub replies : List Reply
+  pub acts : WorldRuns gives old es replies new
+
+-- the first of these events act, and no other
+pub record RunsPart (gives : Algorithms) (es : List Event) (old new : WorldState) : Type 0 where
+  pub first : List Event
+  pub rest : List Event
+  pub parts : first ++ rest ≡ es
+  pub acts : RunsAll gives first old new
 
 -- Deliver events and no others lead from one world to the other
 pub record Delivers (gives : Algorithms) (old new : WorldState) : Type 0 where
   pub delivers : List Event
-  pub replies : List Reply
   pub arrives : AllByRecursion IsDeliver delivers
-  pub acts : WorldRuns gives old delivers replies new
+  pub acts : RunsAll gives delivers old new
 
--- the end of a round: all that is on the cables arrives
-pub record AllArrives (gives : Algorithms) (old new : WorldState) : Type 0 where
-  pub delivers : List Event
-  pub replies : List Reply
-  pub arrives : AllByRecursion IsDeliver delivers
-  pub acts : WorldRuns gives old delivers replies new
-  pub empties : NothingInFlight new
+-- a Deliver event with this reply found nothing on its cable
+abbrev pub found_nothing : Reply → Bool
+found_nothing reply.Empty = true
+found_nothing r = false
+
+-- the event names no cable, and no system that does not exist
+abbrev pub NamesNoCable : Event → Type 0
+NamesNoCable e = (cable_named e ≡ None) × (has_system (system_named e) ≡ true)
 
 -- memory was refused, or no more events may act
 abbrev pub IsOutOfMemoryOrSpent : WorldFault → WorldState → Type 0
 IsOutOfMemoryOrSpent fault j = (fault ≡ NoMemory) ⊎ ((fault ≡ Spent) × (most_events ≤ j.acted))
 
--- the six events that `play_round` plays before it delivers: both systems tick, and port `one` of system 1 and port `two` of
--- system 2 are asked twice; in a world whose only cable joins these ports they begin a round
-abbrev pub events_before_delivery : ℕ → ℕ → List Event
-events_before_delivery one two =
-    ticks_of_both ++ (event.Emit 1 one ∷ event.Emit 1 one ∷ event.Emit 2 two ∷ event.Emit 2 two ∷ [])
+-- the most cables that events can name
+unfoldable pub most_cables : ℕ
+most_cables = 65535
 
--- All six act, and then Deliver events.
-pub record PlaysAll (gives : Algorithms) (one two : ℕ) (old new : WorldState) : Type 0 where
-  pub delivers : List Event
-  pub replies : List Reply
-  pub arrives : AllByRecursion IsDeliver delivers
-  pub acts : WorldRuns gives old (events_before_delivery one two ++ delivers) replies new
+-- a round is refused: it began, or there are cables that no event can name
+abbrev pub IsRefused : WorldFault → WorldState → WorldState → Type 0
+IsRefused fault old new = IsOutOfMemoryOrSpent fault new ⊎ ((fault ≡ NoCable) × (most_cables < length old.links) × (new ≡ old))
 
--- The first `count` of the six act, and no other event.
-pub record PlaysFirst (gives : Algorithms) (one two : ℕ) (old new : WorldState) : Type 0 where
-  pub count : ℕ
-  pub replies : List Reply
-  pub acts : WorldRuns gives old (take count (events_before_delivery one two)) replies new
+-- the events of a round before anything is delivered
+abbrev pub events_before_delivery : WorldState → List Event
+events_before_delivery j = ticks_of_both ++ asks_all j.links
 
--- the first of the six events, or all six and then Deliver events
-abbrev pub PlaysPart : Algorithms → ℕ → ℕ → WorldState → WorldState → Type 0
-PlaysPart gives one two old new = PlaysFirst gives one two old new ⊎ PlaysAll gives one two old new
+-- all of these act, and then Deliver events
+pub record StopsDelivering (gives : Algorithms) (old new : WorldState) : Type 0 where
+  pub asked : WorldState
+  pub asks : RunsAll gives (events_before_delivery old) old asked
+  pub delivers : Delivers gives asked new
 
--- this so many times in turn, each time all six and then Deliver events
-abbrev pub PlaysTimes : Algorithms → ℕ → ℕ → ℕ → WorldState → WorldState → Type 0
-PlaysTimes gives one two zero old new = new ≡ old
-PlaysTimes gives one two (suc n) old new = (mid : WorldState) × PlaysTimes gives one two n old mid × PlaysAll gives one two mid new
+-- a part of a round: the first of these events, or all of them and then Deliver events
+abbrev pub PlaysPart : Algorithms → WorldState → WorldState → Type 0
+PlaysPart gives old new = RunsPart gives (events_before_delivery old) old new ⊎ StopsDelivering gives old new
 
--- it stopped in the round after `done` of them, which are fewer than `count`
-pub record StopsInRound (gives : Algorithms) (one two count : ℕ) (old new : WorldState) : Type 0 where
+-- the round after `done` of them, which are fewer than `count`, is refused with this fault
+pub record StopsInRound (gives : Algorithms) (fault : WorldFault) (count : ℕ) (old new : WorldState) : Type 0 where
   pub done : ℕ
   pub mid : WorldState
   pub within : done < count
-  pub before : PlaysTimes gives one two done old mid
-  pub last : PlaysPart gives one two mid new
+  pub before : Rounds gives done old mid
+  pub last : PlaysPart gives mid new
+  pub refused : IsRefused fault mid new
+
+-- Events lead to the world from one that `World::new` made, as its contract says.
+pub record IsReached {C : Type 0} (items : C → List Item) (limit : C → Option ℕ) (gives : Algorithms) (j : WorldState) : Type 0 where
+  pub config : WorldConfig
+  pub lines : List (C × C)
+  pub start : WorldState
+  pub events : List Event
+  pub replies : List Reply
+  pub accepted : refusal_with items config lines ≡ None
+  pub made : IsMade items limit config lines start
+  pub starts : IsStart start
+  pub runs : WorldRuns gives start events replies j
+  pub few : j.acted ≤ most_events
+
+-- each port whose link is up ends a healthy cable, of which this holds, and each system has enough aggregators and links
+pub record IsReady (Holds : LinkState → WorldState → Type 0) (j : WorldState) : Type 0 where
+  pub heard : AllHeard Holds j
+  pub aggregators : (s : Side) → EnoughAggregators (half s j).state
+  pub links : (s : Side) → EnoughLinks (half s j).state
+
+-- both ends of each cable that is healthy in the old world distribute in the new one, and agree
+abbrev pub EachAgrees : WorldState → WorldState → Type 0
+EachAgrees old new = (i : ℕ) (l : LinkState) → IsHealthyAt i l old
+    → ((s : Side) → AtEnd Distributes s l new) × (agreement_at new (suc i) ≡ Some Same)
+
+module _ {C : Type 0} (items : C → List Item) (limit : C → Option ℕ) where
+  -- So it is after at least so many rounds, if the old world was reached from one that was made, and is ready.
+  abbrev pub LeadsToAgreement : (LinkState → WorldState → Type 0) → ℕ → Algorithms → ℕ → WorldState → WorldState → Type 0
+  LeadsToAgreement Holds least gives count old new = IsReached items limit gives old → IsReady Holds old → least ≤ count → EachAgrees old new

@@ -62,3 +62,10 @@ pub record IsHealthy (l : LinkState) (j : WorldState) : Type 0 where
   pub whole : l.whole ≡ true
   pub unlimited : (s : Side) → limit_towards s l ≡ None
   pub up : (s : Side) → AtEnd (λ p. p.enabled ≡ true) s l j
+
+-- the cable at index i of the world is whole and has no limit, and the links of the ports at both of its ends are up
+pub record IsHealthyAt (i : ℕ) (l : LinkState) (j : WorldState) : Type 0 where
+  pub there : slice_get j.links i ≡ Some l
+  pub whole : l.whole ≡ true
+  pub unlimited : (s : Side) → limit_towards s l ≡ None
+  pub up : (s : Side) → AtEnd (λ p. p.enabled ≡ true) s l j

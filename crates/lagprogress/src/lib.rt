@@ -6,10 +6,18 @@
 //! In comments, numbers such as 6.4.13 are sections of IEEE 802.1AX-2014, and "profile" is docs/PROFILE.md.
 #![tactic(auto)]
 
+mod arriving;
+mod cut_off;
+mod limits;
 mod playing;
 
 ghost use Rattle.lagprogress.specs.Silence.{SilenceEnds};
 
+pub use arriving::{
+    disabled_ports_have_unsynchronized_partners, each_frame_arrives, frames_pass_cables,
+};
+pub use cut_off::cut_off_ports_are_defaulted;
+pub use limits::{down_ports_are_unselected, each_limited_link_agrees};
 pub use playing::{play_round, play_rounds};
 
 /// An active port whose link is up is not silent for long: no run of the periodic machine raises the bound on the ticks
@@ -142,7 +150,7 @@ pub fn ends_come_to_know<F: Fn(u16, usize) -> usize>()
 ghost use Rattle.lagprogress.specs.ComingUp.{ActiveLinkComesUp, LinkComesUp};
 
 /// Links come up: in a world with one cable that is whole and has no limit, with the links of both of its ports up, both
-/// ports are SELECTED and distribute from 650 healthy rounds (65 s) on if both are active, from 959 (95.9 s) on if one is,
+/// ports are SELECTED and distribute from 352 healthy rounds (35.2 s) on if both are active, from 959 (95.9 s) on if one is,
 /// whatever was before them. Each system has one port, and an aggregator with its key; the two systems differ; both are
 /// sound, and their timers within their bounds, as in each world that events lead to (6.4.12 to 6.4.16).
 pub fn links_come_up<F: Fn(u16, usize) -> usize>()
@@ -152,9 +160,86 @@ pub fn links_come_up<F: Fn(u16, usize) -> usize>()
 
 ghost use Rattle.lagprogress.specs.Agreeing.{ActiveLinkAgrees, LinkAgrees};
 
-/// And then the ends agree: in a sound world as in `links_come_up` the agreement of the cable is `Same`, after as many
-/// healthy rounds (6.3.6; profile).
+/// And then the ends agree: in a sound world as in `links_come_up` the agreement of the cable is `Same`, from 650
+/// healthy rounds (65 s) on if both ends are active, from 959 (95.9 s) on if one is (6.3.6; profile).
 pub fn links_agree<F: Fn(u16, usize) -> usize>()
     ensures both { (one two : F) → ActiveLinkAgrees (both_algorithms (F.post one) (F.post two)) }
     ensures one { (one two : F) → LinkAgrees (both_algorithms (F.post one) (F.post two)) }
+{}
+
+ghost use Rattle.lagprogress.specs.Bundle.{ActiveEndsOfEachKnow, EndsOfEachKnow};
+
+/// Of any number of cables, the ends of each healthy one come to know each other: from 321 healthy rounds (32.1 s) on if both
+/// are active, from 630 (63 s) on if one is, whatever was before them, whatever the other cables are, and whatever other
+/// ports and aggregators the systems have. A cable is healthy that is whole and has no limit, with the links of both of its
+/// ports up; no port has two cables; both systems are sound, and their timers within their bounds (6.4.12, 6.4.13).
+pub fn ends_of_each_cable_come_to_know<F: Fn(u16, usize) -> usize>()
+    ensures both { (one two : F) → ActiveEndsOfEachKnow (both_algorithms (F.post one) (F.post two)) }
+    ensures one { (one two : F) → EndsOfEachKnow (both_algorithms (F.post one) (F.post two)) }
+{}
+
+ghost use Rattle.lagprogress.specs.Bundle.{BothAreActive, OneIsActive, ReachedIsApart, ReachedIsBundle};
+
+/// A world that at most 2^63 events lead to from a start of two systems whose configurations are accepted is sound, and a
+/// bundle as `each_link_comes_up`, `each_link_agrees` and `held_conversations_are_freed` want it, if each port whose link is up
+/// ends a healthy cable with both ends active, or one, and each system has enough aggregators and links. Its two systems differ
+/// in any case (profile).
+pub fn reached_worlds_are_bundles<F: Fn(u16, usize) -> usize>()
+    ensures apart { (one two : F) → ReachedIsApart (both_algorithms (F.post one) (F.post two)) }
+    ensures both { (one two : F) → ReachedIsBundle BothAreActive (both_algorithms (F.post one) (F.post two)) }
+    ensures one { (one two : F) → ReachedIsBundle OneIsActive (both_algorithms (F.post one) (F.post two)) }
+{}
+
+ghost use Rattle.lagprogress.specs.Bundle.{EachActiveLinkComesUp, EachLinkComesUp};
+
+/// The links of a bundle come up: both ends of each healthy cable are SELECTED and distribute from 352 healthy rounds
+/// (35.2 s) on if both ends of each are active, from 959 (95.9 s) on if one end of each is, whatever was before them. Each port whose
+/// link is up ends a healthy cable; each system has as many aggregators of a port's key as ports of that key, and a limit of
+/// links, if it has one, is no less; the two systems differ, both are sound, and their timers are within their bounds. Other
+/// cables may be cut, or end at ports whose links are down (6.4.12 to 6.4.16).
+pub fn each_link_comes_up<F: Fn(u16, usize) -> usize>()
+    ensures both { (one two : F) → EachActiveLinkComesUp (both_algorithms (F.post one) (F.post two)) }
+    ensures one { (one two : F) → EachLinkComesUp (both_algorithms (F.post one) (F.post two)) }
+{}
+
+ghost use Rattle.lagprogress.specs.Bundle.{EachActiveLinkAgrees, EachLinkAgrees};
+
+/// And then the ends agree: in a sound world as in `each_link_comes_up` the agreement of each healthy cable is `Same`, from 650
+/// healthy rounds (65 s) on if both ends of each are active, from 959 (95.9 s) on if one is (6.3.6; profile).
+pub fn each_link_agrees<F: Fn(u16, usize) -> usize>()
+    ensures both { (one two : F) → EachActiveLinkAgrees (both_algorithms (F.post one) (F.post two)) }
+    ensures one { (one two : F) → EachLinkAgrees (both_algorithms (F.post one) (F.post two)) }
+{}
+
+ghost use Rattle.lagprogress.specs.Bundle.{ActiveSelectedPairsAgree, ActiveSelectedPairsComeUp, SelectedPairsAgree, SelectedPairsComeUp};
+
+/// However few aggregators and links the systems have: if each port whose link is up ends a healthy cable, and both ends of one
+/// are SELECTED after 352 healthy rounds or more if both ends of each are active, after 959 if one is, then both distribute. In a
+/// sound world the agreement of that cable is `Same`, if they are SELECTED after 650 or 959, whatever was before the rounds (6.3.6, 6.4.12 to 6.4.16; profile).
+pub fn selected_pairs_agree<F: Fn(u16, usize) -> usize>()
+    ensures up_both { (one two : F) → ActiveSelectedPairsComeUp (both_algorithms (F.post one) (F.post two)) }
+    ensures up_one { (one two : F) → SelectedPairsComeUp (both_algorithms (F.post one) (F.post two)) }
+    ensures both { (one two : F) → ActiveSelectedPairsAgree (both_algorithms (F.post one) (F.post two)) }
+    ensures one { (one two : F) → SelectedPairsAgree (both_algorithms (F.post one) (F.post two)) }
+{}
+
+ghost use Rattle.lagprogress.specs.Freed.{NoneIsHeldOnActiveEnds, NoneIsHeldOnEnds, NoneIsHeldWhereActive, NothingIsHeld};
+
+/// Conversations that are held in a bundle as in `each_link_comes_up` are freed: from 382 healthy rounds (38.2 s) on if both ends
+/// of each healthy cable are active, from 989 (98.9 s) on if one is, no conversation is Wanted or Flushing on an end of a
+/// healthy cable, whatever was before them, if an identifier for a marker is left in the end. And none is at all in a system
+/// in which each port that carried a conversation, or held one, had its link up (6.2.5; profile).
+pub fn held_conversations_are_freed<F: Fn(u16, usize) -> usize>()
+    ensures ends_both { (one two : F) → NoneIsHeldOnActiveEnds (both_algorithms (F.post one) (F.post two)) }
+    ensures ends_one { (one two : F) → NoneIsHeldOnEnds (both_algorithms (F.post one) (F.post two)) }
+    ensures all_both { (one two : F) → NoneIsHeldWhereActive (both_algorithms (F.post one) (F.post two)) }
+    ensures all_one { (one two : F) → NothingIsHeld (both_algorithms (F.post one) (F.post two)) }
+{}
+
+ghost use Rattle.lagprogress.specs.Freed.{EachReachedHasCarriersUp};
+
+/// The link of each port that carries a conversation, or on which one is held, is up, in both systems of each world that
+/// events lead to from a start, as `held_conversations_are_freed` wants it (6.4.12, 6.4.15; profile).
+pub fn carriers_are_up<F: Fn(u16, usize) -> usize>()
+    ensures { (one two : F) → EachReachedHasCarriersUp (both_algorithms (F.post one) (F.post two)) }
 {}

@@ -1,100 +1,191 @@
-ghost use Rattle.std.specs.Prelude.{◌≡◌, ℕ, IfErr, IfOk};
+ghost use Rattle.std.specs.Prelude.{◌≡◌, ◌<◌, ◌≤◌, ◌&&◌, false, IfErr, IfOk, length, true};
+ghost use Rattle.std.specs.List.{AllByRecursion};
 ghost use Rattle.distributor.specs.Calls.{PicksIndexes};
+ghost use Rattle.lagworld.specs.Events.{most_events};
 ghost use Rattle.lagworld.specs.ModelWorld.{world_setup};
 ghost use Rattle.lagworld.specs.Sound.{both_algorithms};
-ghost use Rattle.lagprogress.specs.Played.{AllArrives, Delivers, HasOneCable, IsOutOfMemoryOrSpent, PlaysAll, PlaysPart};
-ghost use Rattle.lagprogress.specs.Played.{PlaysTimes, StopsInRound};
-ghost use Rattle.lagprogress.specs.Rounds.{IsRound, Rounds};
+ghost use Rattle.lagprogress.specs.Bundle.{BothAreActive, OneIsActive};
+ghost use Rattle.lagprogress.specs.Played.{Delivers, IsOutOfMemoryOrSpent, IsRefused, LeadsToAgreement, NamesNoCable, PlaysPart};
+ghost use Rattle.lagprogress.specs.Played.{RunsAll, RunsPart, StopsInRound, found_nothing};
+ghost use Rattle.lagprogress.specs.Rounds.{IsRound, NothingInFlight, Rounds, asks_all};
 
 use cables::Cable;
 use lagworld::{Event, Reply, World, WorldFault};
 
-/// Delivers what is on cable 1 until nothing is on it.
-fn deliver_all<C: Cable, F: Fn(u16, usize) -> usize + Drop>(
+/// Plays these events; the replies are dropped.
+fn play<C: Cable, F: Fn(u16, usize) -> usize + Drop>(
     world: &mut World<C, F>,
+    events: &[Event],
 ) -> Result<(), WorldFault>
     requires one { PicksIndexes (F.pre world.old.one) (F.post world.old.one) }
     requires two { PicksIndexes (F.pre world.old.two) (F.post world.old.two) }
-    ensures arrived { IfOk result (λ done. (one two : ℕ) → HasOneCable one two world.old.state
-        → AllArrives (both_algorithms (F.post world.old.one) (F.post world.old.two)) world.old.state world.new.state) }
-    ensures refused { IfErr result (λ fault. (one two : ℕ) → HasOneCable one two world.old.state
-        → IsOutOfMemoryOrSpent fault world.new.state) }
-    ensures delivered { Delivers (both_algorithms (F.post world.old.one) (F.post world.old.two)) world.old.state world.new.state }
+    ensures all { IfOk result (λ done. RunsAll (both_algorithms (F.post world.old.one) (F.post world.old.two)) events.now world.old.state
+        world.new.state) }
+    ensures part { IfErr result (λ fault. RunsPart (both_algorithms (F.post world.old.one) (F.post world.old.two)) events.now
+        world.old.state world.new.state) }
+    ensures refused { IfErr result (λ fault. AllByRecursion NamesNoCable events.now → IsOutOfMemoryOrSpent fault world.new.state) }
+    ensures fixed { world_setup world.new.state ≡ world_setup world.old.state }
+    ensures algorithm_one { world.new.one ≡ world.old.one }
+    ensures algorithm_two { world.new.two ≡ world.old.two }
+{
+    match world.run(events) {
+        Ok(_) => Ok(()),
+        Err(stop) => Err(stop.fault),
+    }
+}
+
+/// Asks both ends of each of `count` cables twice for what they have to send.
+fn ask_all<C: Cable, F: Fn(u16, usize) -> usize + Drop>(
+    world: &mut World<C, F>,
+    count: u16,
+) -> Result<(), WorldFault>
+    requires one { PicksIndexes (F.pre world.old.one) (F.post world.old.one) }
+    requires two { PicksIndexes (F.pre world.old.two) (F.post world.old.two) }
+    requires counted { count ≡ length world.old.state.links }
+    ensures all { IfOk result (λ done. RunsAll (both_algorithms (F.post world.old.one) (F.post world.old.two))
+        (asks_all world.old.state.links) world.old.state world.new.state) }
+    ensures part { IfErr result (λ fault. RunsPart (both_algorithms (F.post world.old.one) (F.post world.old.two))
+        (asks_all world.old.state.links) world.old.state world.new.state) }
+    ensures refused { IfErr result (λ fault. IsOutOfMemoryOrSpent fault world.new.state) }
+    ensures fixed { world_setup world.new.state ≡ world_setup world.old.state }
+    ensures algorithm_one { world.new.one ≡ world.old.one }
+    ensures algorithm_two { world.new.two ≡ world.old.two }
+{
+    let mut asked = 0;
+    while asked < count {
+        // There is one, since there are `count`.
+        let Some((one, two)) = world.ends(asked + 1) else {
+            return Err(WorldFault::NoCable);
+        };
+        let asks = [
+            Event::Emit(1, one),
+            Event::Emit(1, one),
+            Event::Emit(2, two),
+            Event::Emit(2, two),
+        ];
+        play(world, &asks)?;
+        asked += 1;
+    }
+    Ok(())
+}
+
+/// Whether a Deliver event found nothing on its cable.
+fn found_nothing(reply: Reply) -> bool
+    ensures { result ≡ found_nothing reply }
+{
+    match reply {
+        Reply::Empty => true,
+        _ => false,
+    }
+}
+
+/// Whether nothing was found so far, and by the next two Deliver events neither.
+fn all_empty(so_far: bool, first: Reply, second: Reply) -> bool
+    ensures { result ≡ ((so_far && found_nothing first) && found_nothing second) }
+{
+    so_far && found_nothing(first) && found_nothing(second)
+}
+
+/// Delivers the first item in each direction of each of `count` cables. Whether there was none.
+fn deliver_each<C: Cable, F: Fn(u16, usize) -> usize + Drop>(
+    world: &mut World<C, F>,
+    count: u16,
+) -> Result<bool, WorldFault>
+    requires one { PicksIndexes (F.pre world.old.one) (F.post world.old.one) }
+    requires two { PicksIndexes (F.pre world.old.two) (F.post world.old.two) }
+    requires counted { count ≡ length world.old.state.links }
+    ensures delivers { Delivers (both_algorithms (F.post world.old.one) (F.post world.old.two)) world.old.state world.new.state }
+    ensures empties { IfOk result (λ empty. empty ≡ true → NothingInFlight world.new.state) }
+    ensures acted { IfOk result (λ empty. empty ≡ false → world.old.state.acted < world.new.state.acted) }
+    ensures few { IfOk result (λ empty. empty ≡ false → world.new.state.acted ≤ most_events) }
+    ensures refused { IfErr result (λ fault. IsOutOfMemoryOrSpent fault world.new.state) }
+    ensures fixed { world_setup world.new.state ≡ world_setup world.old.state }
+    ensures algorithm_one { world.new.one ≡ world.old.one }
+    ensures algorithm_two { world.new.two ≡ world.old.two }
+{
+    let mut empty = true;
+    let mut seen = 0;
+    while seen < count {
+        let first = world.step(&Event::Deliver(seen + 1, 1))?;
+        let second = world.step(&Event::Deliver(seen + 1, 2))?;
+        empty = all_empty(empty, first, second);
+        seen += 1;
+    }
+    Ok(empty)
+}
+
+/// Delivers what is on each of `count` cables until nothing is on any.
+fn deliver_all<C: Cable, F: Fn(u16, usize) -> usize + Drop>(
+    world: &mut World<C, F>,
+    count: u16,
+) -> Result<(), WorldFault>
+    requires one { PicksIndexes (F.pre world.old.one) (F.post world.old.one) }
+    requires two { PicksIndexes (F.pre world.old.two) (F.post world.old.two) }
+    requires counted { count ≡ length world.old.state.links }
+    ensures delivers { Delivers (both_algorithms (F.post world.old.one) (F.post world.old.two)) world.old.state world.new.state }
+    ensures empties { IfOk result (λ done. NothingInFlight world.new.state) }
+    ensures refused { IfErr result (λ fault. IsOutOfMemoryOrSpent fault world.new.state) }
     ensures fixed { world_setup world.new.state ≡ world_setup world.old.state }
     ensures algorithm_one { world.new.one ≡ world.old.one }
     ensures algorithm_two { world.new.two ≡ world.old.two }
 {
     loop {
-        let first = world.step(&Event::Deliver(1, 1))?;
-        let second = world.step(&Event::Deliver(1, 2))?;
-        match (first, second) {
-            (Reply::Empty, Reply::Empty) => return Ok(()),
-            _ => {}
+        if deliver_each(world, count)? {
+            return Ok(());
         }
     }
 }
 
-/// Plays one healthy round of a world whose only cable joins port `one` of system 1 and port `two` of system 2: both
-/// systems tick, both ends are asked twice, since an LACPDU goes before a marker, and what is on the cable is delivered until
-/// nothing is. Where it is not refused, this is a round as `links_come_up` wants it, from whatever state the world was in.
-/// `NoMemory` if memory was refused, `Spent` if 2^63 events have acted; then the first events of the round have been played, and
-/// no other. In a world with other cables these events are played, or the first of them, and no other; nothing else is promised
-/// there (profile).
+/// Plays one healthy round of a world: both systems tick, both ends of each cable are asked twice, since an LACPDU goes before a
+/// marker, and what is on the cables is delivered until nothing is. Where it is not refused, this is a round as `each_link_agrees`
+/// wants it, from whatever state the world was in. `NoMemory` if memory was refused, `Spent` if 2^63 events have acted; then the
+/// first events of the round have been played, and no other. `NoCable`, before any event, if there are more than 65,535 cables,
+/// since no event can name the others (profile).
 pub fn play_round<C: Cable, F: Fn(u16, usize) -> usize + Drop>(
     world: &mut World<C, F>,
-    one: u16,
-    two: u16,
 ) -> Result<(), WorldFault>
     requires one { PicksIndexes (F.pre world.old.one) (F.post world.old.one) }
     requires two { PicksIndexes (F.pre world.old.two) (F.post world.old.two) }
-    ensures round { IfOk result (λ done. HasOneCable one two world.old.state
-        → IsRound (both_algorithms (F.post world.old.one) (F.post world.old.two)) world.old.state world.new.state) }
-    ensures refused { IfErr result (λ fault. HasOneCable one two world.old.state → IsOutOfMemoryOrSpent fault world.new.state) }
-    ensures all { IfOk result (λ done. PlaysAll (both_algorithms (F.post world.old.one) (F.post world.old.two)) one two world.old.state
+    ensures round { IfOk result (λ done. IsRound (both_algorithms (F.post world.old.one) (F.post world.old.two)) world.old.state
         world.new.state) }
-    ensures part { IfErr result (λ fault. PlaysPart (both_algorithms (F.post world.old.one) (F.post world.old.two)) one two
-        world.old.state world.new.state) }
+    ensures part { IfErr result (λ fault. PlaysPart (both_algorithms (F.post world.old.one) (F.post world.old.two)) world.old.state
+        world.new.state) }
+    ensures refused { IfErr result (λ fault. IsRefused fault world.old.state world.new.state) }
     ensures fixed { world_setup world.new.state ≡ world_setup world.old.state }
     ensures algorithm_one { world.new.one ≡ world.old.one }
     ensures algorithm_two { world.new.two ≡ world.old.two }
 {
-    let asked = [
-        Event::Tick(1, 1),
-        Event::Tick(2, 1),
-        Event::Emit(1, one),
-        Event::Emit(1, one),
-        Event::Emit(2, two),
-        Event::Emit(2, two),
-    ];
-    match world.run(&asked) {
-        Ok(_) => deliver_all(world),
-        Err(stop) => Err(stop.fault),
-    }
+    let Ok(count) = u16::try_from(world.cables()) else {
+        return Err(WorldFault::NoCable);
+    };
+    let ticks = [Event::Tick(1, 1), Event::Tick(2, 1)];
+    play(world, &ticks)?;
+    ask_all(world, count)?;
+    deliver_all(world, count)
 }
 
 /// Plays so many healthy rounds, as `play_round` plays one, and stops in the first that is refused.
 pub fn play_rounds<C: Cable, F: Fn(u16, usize) -> usize + Drop>(
     world: &mut World<C, F>,
-    one: u16,
-    two: u16,
     count: u16,
 ) -> Result<(), WorldFault>
     requires one { PicksIndexes (F.pre world.old.one) (F.post world.old.one) }
     requires two { PicksIndexes (F.pre world.old.two) (F.post world.old.two) }
-    ensures rounds { IfOk result (λ done. HasOneCable one two world.old.state
-        → Rounds (both_algorithms (F.post world.old.one) (F.post world.old.two)) count world.old.state world.new.state) }
-    ensures refused { IfErr result (λ fault. HasOneCable one two world.old.state → IsOutOfMemoryOrSpent fault world.new.state) }
-    ensures all { IfOk result (λ done. PlaysTimes (both_algorithms (F.post world.old.one) (F.post world.old.two)) one two count
+    ensures rounds { IfOk result (λ done. Rounds (both_algorithms (F.post world.old.one) (F.post world.old.two)) count world.old.state
+        world.new.state) }
+    ensures agrees_both { IfOk result (λ done. LeadsToAgreement C.items C.limit BothAreActive 650
+        (both_algorithms (F.post world.old.one) (F.post world.old.two)) count world.old.state world.new.state) }
+    ensures agrees_one { IfOk result (λ done. LeadsToAgreement C.items C.limit OneIsActive 959
+        (both_algorithms (F.post world.old.one) (F.post world.old.two)) count world.old.state world.new.state) }
+    ensures stopped { IfErr result (λ fault. StopsInRound (both_algorithms (F.post world.old.one) (F.post world.old.two)) fault count
         world.old.state world.new.state) }
-    ensures stopped { IfErr result (λ fault. StopsInRound (both_algorithms (F.post world.old.one) (F.post world.old.two)) one two
-        count world.old.state world.new.state) }
     ensures fixed { world_setup world.new.state ≡ world_setup world.old.state }
     ensures algorithm_one { world.new.one ≡ world.old.one }
     ensures algorithm_two { world.new.two ≡ world.old.two }
 {
     let mut done = 0;
     while done < count {
-        play_round(world, one, two)?;
+        play_round(world)?;
         done += 1;
     }
     Ok(())

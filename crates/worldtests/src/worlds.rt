@@ -1,6 +1,7 @@
 mod agreements;
 mod apart;
 mod both_systems;
+mod bundles;
 mod changes;
 mod conversations;
 mod given;

@@ -1,5 +1,5 @@
 use Rattle.lagworld.specs.Sound.{both_algorithms}
-use Rattle.lagprogress.proofs.ComingUp.{active_link_agrees, link_agrees}
+use Rattle.lagprogress.proofs.Bundling.{active_link_agrees, link_agrees}
 use Rattle.lagprogress.proofs.links_agree.Goals as goal
 
 pub returns-clause-both : goal.returns-clause-both

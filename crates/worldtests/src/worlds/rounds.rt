@@ -51,7 +51,7 @@ fn comes_up(
         let events = events(alloc, entries)?;
         assert!(rt; world.run(&events).is_ok(), "before the rounds");
     }
-    assert_eq!(rt; play_rounds(&mut world, 1, 1, rounds), Ok(()), "the rounds");
+    assert_eq!(rt; play_rounds(&mut world, rounds), Ok(()), "the rounds");
     assert_eq!(rt; world.agreement(1), Some(Agreement::Same), "the cable");
     for number in [1, 2] {
         let distributes = match world.system(number) {
@@ -68,5 +68,12 @@ fn a_link_comes_up_in_650_healthy_rounds(rt: HostRuntime) -> Result<(), Fail> {
     comes_up(&rt, rt.alloc(), LONG, [&STARTED, &[]], 650)?;
     comes_up(&rt, rt.alloc(), ONE, [&ON_DEFAULTS, &[]], 650)?;
     comes_up(&rt, rt.alloc(), ONE, [&ONE_CABLE, &MENDED], 650)?;
+    Ok(())
+}
+
+#[test]
+fn a_link_stays_up_in_more_healthy_rounds(rt: HostRuntime) -> Result<(), Fail> {
+    comes_up(&rt, rt.alloc(), LONG, [&STARTED, &[]], 651)?;
+    comes_up(&rt, rt.alloc(), ONE, [&ONE_CABLE, &MENDED], 960)?;
     Ok(())
 }

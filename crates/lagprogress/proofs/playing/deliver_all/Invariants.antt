@@ -5,14 +5,14 @@ use Rattle.lagworld.specs.Sound.{both_algorithms}
 use Rattle.lagprogress.specs.Played.{Delivers}
 use Rattle.lagprogress.proofs.playing.deliver_all.Given as goal
 
-abbrev pub invariant-loop-first : goal.invariant-loop-first
-invariant-loop-first g l = record {
-  came : Delivers (both_algorithms (λ conv count place. g.F.Fn.post l.fn.world.one (conv, (count, tt)) place)
+abbrev pub invariant-loop : goal.invariant-loop
+invariant-loop g l = record {
+  delivers : Delivers (both_algorithms (λ conv count place. g.F.Fn.post l.fn.world.one (conv, (count, tt)) place)
       (λ conv count place. g.F.Fn.post l.fn.world.two (conv, (count, tt)) place)) l.fn.world.state l.world.state;
   fixed : world_setup l.world.state ≡ world_setup l.fn.world.state;
   one : l.world.one ≡ l.fn.world.one;
   two : l.world.two ≡ l.fn.world.two;
 }
 
-abbrev pub decreases-loop-first : goal.decreases-loop-first
-decreases-loop-first g l = most_events - l.world.state.acted
+abbrev pub decreases-loop : goal.decreases-loop
+decreases-loop g l = most_events - l.world.state.acted

@@ -1,10 +1,11 @@
-use Rattle.std.proofs.Common.{◌∙◌, arith, subst, sym}
+use Rattle.std.proofs.Common.{◌∙◌, ◌≡◌, arith, subst, sym}
 use Rattle.distributor.specs.Calls.{PicksIndexes}
 use Rattle.lagworld.specs.Events.{Algorithms}
 use Rattle.lagworld.specs.Sound.{both_algorithms}
-use Rattle.lagprogress.specs.Played.{PlaysAll, PlaysPart, StopsInRound}
-use Rattle.lagprogress.specs.Rounds.{IsRound}
-use Rattle.lagprogress.proofs.Played.{ends_stay, of_err, one_time_more, round_more, same_algorithms}
+use Rattle.lagprogress.specs.Played.{PlaysPart, StopsInRound}
+use Rattle.lagprogress.specs.Rounds.{IsRound, Rounds}
+use Rattle.lagprogress.proofs.MadeWorlds.{active_lead, one_leads}
+use Rattle.lagprogress.proofs.Played.{on_err, round_more, same_algorithms}
 use Rattle.lagprogress.proofs.playing.play_rounds.Goals as goal
 
 pub play_round-requires-clause-one : goal.play_round-requires-clause-one
@@ -26,14 +27,9 @@ loop-done-preserved g c =
     let new = c.play_round.new.world.state in
     record {
       within = omega (arith, c.loop-done-test.true);
-      played = λ h. round_more gives c.loop-done.done old mid new (c.loop-done.invariant.played h)
+      played = round_more gives c.loop-done.done old mid new c.loop-done.invariant.played
           (same_algorithms (λ a. IsRound a mid new) c.args.world.now.one c.args.world.now.two c.loop-done.world.one c.loop-done.world.two
-          (λ f conv count place. g.F.Fn.post f (conv, (count, tt)) place) c.loop-done.invariant.one c.loop-done.invariant.two
-          (c.in_ok-play_round.ensures.round (ends_stay c.args.one c.args.two old mid c.loop-done.invariant.fixed h)));
-      times = one_time_more gives c.args.one c.args.two c.loop-done.done old mid new c.loop-done.invariant.times
-          (same_algorithms (λ a. PlaysAll a c.args.one c.args.two mid new) c.args.world.now.one c.args.world.now.two c.loop-done.world.one
-          c.loop-done.world.two (λ f conv count place. g.F.Fn.post f (conv, (count, tt)) place) c.loop-done.invariant.one
-          c.loop-done.invariant.two c.in_ok-play_round.ensures.all);
+          (λ f conv count place. g.F.Fn.post f (conv, (count, tt)) place) c.loop-done.invariant.one c.loop-done.invariant.two c.in_ok-play_round.ensures.round);
       fixed = c.play_round.ensures.fixed ∙ c.loop-done.invariant.fixed;
       one = c.play_round.ensures.algorithm_one ∙ c.loop-done.invariant.one;
       two = c.play_round.ensures.algorithm_two ∙ c.loop-done.invariant.two;
@@ -46,13 +42,34 @@ returns-in_err-play_round-clause-stopped g c =
     let old = c.args.world.now.state in
     let mid = c.loop-done.world.state in
     let new = c.play_round.new.world.state in
-    of_err (StopsInRound gives c.args.one c.args.two c.args.count old new) _
+    on_err (λ fault. StopsInRound gives fault c.args.count old new) c.in_err-play_round.field-0.0 c.from_residual.result
+    c.from_residual.ensures.1
     (record {
       done = c.loop-done.done;
       mid = mid;
       within = c.loop-done-test.true;
-      before = c.loop-done.invariant.times;
-      last = same_algorithms (λ a. PlaysPart a c.args.one c.args.two mid new) c.args.world.now.one c.args.world.now.two
-          c.loop-done.world.one c.loop-done.world.two (λ f conv count place. g.F.Fn.post f (conv, (count, tt)) place)
-          c.loop-done.invariant.one c.loop-done.invariant.two c.in_err-play_round.ensures.part;
+      before = c.loop-done.invariant.played;
+      last = (same_algorithms (λ a. PlaysPart a mid new) c.args.world.now.one c.args.world.now.two c.loop-done.world.one c.loop-done.world.two
+          (λ f conv count place. g.F.Fn.post f (conv, (count, tt)) place) c.loop-done.invariant.one c.loop-done.invariant.two c.in_err-play_round.ensures.part);
+      refused = c.in_err-play_round.ensures.refused;
     })
+
+pub returns-clause-agrees_both : goal.returns-clause-agrees_both
+returns-clause-agrees_both g c =
+    let gives : Algorithms = both_algorithms (λ conv count place. g.F.Fn.post c.args.world.now.one (conv, (count, tt)) place)
+    (λ conv count place. g.F.Fn.post c.args.world.now.two (conv, (count, tt)) place) in
+    let old = c.args.world.now.state in
+    let new = c.loop-done.world.state in
+    let all : c.loop-done.done ≡ c.args.count = omega (arith, c.loop-done-test.false, c.loop-done.invariant.within) in
+    active_lead g.C.Cable.items g.C.Cable.limit gives c.args.count old new
+    (subst (λ n. Rounds gives n old new) all c.loop-done.invariant.played)
+
+pub returns-clause-agrees_one : goal.returns-clause-agrees_one
+returns-clause-agrees_one g c =
+    let gives : Algorithms = both_algorithms (λ conv count place. g.F.Fn.post c.args.world.now.one (conv, (count, tt)) place)
+    (λ conv count place. g.F.Fn.post c.args.world.now.two (conv, (count, tt)) place) in
+    let old = c.args.world.now.state in
+    let new = c.loop-done.world.state in
+    let all : c.loop-done.done ≡ c.args.count = omega (arith, c.loop-done-test.false, c.loop-done.invariant.within) in
+    one_leads g.C.Cable.items g.C.Cable.limit gives c.args.count old new
+    (subst (λ n. Rounds gives n old new) all c.loop-done.invariant.played)

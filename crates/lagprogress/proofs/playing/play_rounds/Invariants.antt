@@ -1,18 +1,14 @@
 use Rattle.std.proofs.Common.{◌≡◌, ◌≤◌, ◌-◌}
 use Rattle.lagworld.specs.ModelWorld.{world_setup}
 use Rattle.lagworld.specs.Sound.{both_algorithms}
-use Rattle.lagprogress.specs.Played.{HasOneCable, PlaysTimes}
 use Rattle.lagprogress.specs.Rounds.{Rounds}
 use Rattle.lagprogress.proofs.playing.play_rounds.Given as goal
 
 abbrev pub invariant-loop-done : goal.invariant-loop-done
 invariant-loop-done g l = record {
   within : l.done ≤ l.fn.count;
-  played : HasOneCable l.fn.one l.fn.two l.fn.world.state
-      → Rounds (both_algorithms (λ conv count place. g.F.Fn.post l.fn.world.one (conv, (count, tt)) place)
+  played : Rounds (both_algorithms (λ conv count place. g.F.Fn.post l.fn.world.one (conv, (count, tt)) place)
       (λ conv count place. g.F.Fn.post l.fn.world.two (conv, (count, tt)) place)) l.done l.fn.world.state l.world.state;
-  times : PlaysTimes (both_algorithms (λ conv count place. g.F.Fn.post l.fn.world.one (conv, (count, tt)) place)
-      (λ conv count place. g.F.Fn.post l.fn.world.two (conv, (count, tt)) place)) l.fn.one l.fn.two l.done l.fn.world.state l.world.state;
   fixed : world_setup l.world.state ≡ world_setup l.fn.world.state;
   one : l.world.one ≡ l.fn.world.one;
   two : l.world.two ≡ l.fn.world.two;

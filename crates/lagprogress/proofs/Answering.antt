@@ -1,0 +1,285 @@
+-- What each event of a round leaves of the conversations that are held on a port whose cable is healthy.
+use Rattle.lagsystem.specs.Calls.{IsFrame, Carries}
+use Rattle.slowpdu.specs.declared.pdu.MarkerKind.TheVariants.{Information}
+use Rattle.slowpdu.specs.Markers.{WritesMarker}
+use Rattle.slowpdu.specs.Frames.{frame_octets}
+use Rattle.slowpdu.specs.Layout.{IsAddress}
+use Rattle.std.proofs.Common.{◌≡◌, ◌∙◌, ℕ, zero, suc, ◌+◌, ◌-◌, ◌≤◌, ◌<◌, ◌==◌, ◌&&◌, ◌||◌, Bool, true, false, cond, eqb, ltb, List, [], ◌∷◌, ◌⊎◌, inl, inr, refl, sym, map, filter}
+use Rattle.std.proofs.Common.{subst, ap, arith, Some, None, Option, Ok, Err, Result}
+use Rattle.std.specs.Prelude.{slice_get, IsSome}
+use Rattle.std.specs.List.{list_any}
+use Rattle.std.proofs.lemmas.Bool.{cases_Bool}
+use Rattle.std.proofs.lemmas.Bool.Decides.{nat_tests}
+use Rattle.std.proofs.lemmas.Option.{none-some, same_Some}
+use Rattle.lagtypes.specs.declared.identifiers.AggId.{AggId}
+use Rattle.lagtypes.specs.declared.party.Choice.{Choice}
+use Rattle.slowpdu.specs.declared.pdu.Lacpdu.{Lacpdu}
+use Rattle.slowpdu.specs.declared.pdu.Pdu.TheVariants as pdu
+use Rattle.distributor.specs.declared.assignment.Assignment.{Assignment}
+use Rattle.distributor.specs.declared.assignment.Assignment.TheVariants.{Free, On, Wanted, Flushing}
+use Rattle.distributor.specs.Calls.{is_among}
+use Rattle.distributor.specs.Changes.{after_mark, marker_due, wants_marker}
+use Rattle.distributor.specs.Conversations.{Table, assignment_of, count_conversations, next_identifier, sum_below}
+use Rattle.portmachines.specs.declared.mux.MuxState.TheVariants.{CollectingDistributing}
+use Rattle.portmachines.specs.Machines.{Machines}
+use Rattle.portmachines.specs.Mux.{same_mux_state}
+use Rattle.selection.specs.Views.{has_chosen}
+use Rattle.lagmodel.specs.World.{Side, peer}
+use Rattle.lagsystem.specs.declared.fault.SystemFault.{SystemFault}
+use Rattle.lagsystem.specs.declared.system_ports.SystemPort.{SystemPort}
+use Rattle.lagsystem.specs.NothingToSettle.{MuxIsSettled}
+use Rattle.lagsystem.specs.Readers.{aggregator_numbered, distributes_in, distributing}
+use Rattle.lagsystem.specs.Sending.{SendsMarkerOf, TransmitsIf, own_marker}
+use Rattle.lagsystem.specs.Settling.{Settling}
+use Rattle.lagsystem.specs.State.{SystemState}
+use Rattle.lagsystem.proofs.Keeps.{ports_table, settling_parts}
+use Rattle.lagsystem.proofs.Rising.{all-get}
+use Rattle.lagworld.specs.State.{ItemValue, WorldState, half}
+use Rattle.lagprogress.proofs.Climbing.{PartnerInSync, distributes_now}
+use Rattle.lagprogress.proofs.ComingUp.{end_here, end_with}
+use Rattle.lagprogress.proofs.Hearing.{no}
+use Rattle.lagprogress.proofs.Holding.{Fine, Flights, Has, IsMarker, answering, asking, fine_map, has_last, has_on, marked_here, settled_fine, is_port}
+use Rattle.lagprogress.proofs.Linked.{Link, push_there, pushed}
+use Rattle.lagprogress.proofs.OneCable.{Went}
+use Rattle.lagprogress.proofs.OnePort.{AtPort}
+use Rattle.lagprogress.proofs.Passing.{sent_carries}
+use Rattle.lagprogress.proofs.Progressing.{beside}
+
+-- the ports that distribute
+
+both_parts : (a b : Bool) → (a && b) ≡ true → (a ≡ true) × (b ≡ true)
+both_parts true b h = (refl, h)
+both_parts false b h = absurd (no h)
+
+both_true : (a b : Bool) → a ≡ true → b ≡ true → (a && b) ≡ true
+both_true true b e f = f
+both_true false b e f = absurd (no e)
+
+-- a port that is among those that distribute
+abbrev pub Distributor : AggId → List SystemPort → ℕ → Type 0
+Distributor agg ports p = (k : ℕ) × (x : SystemPort) × (slice_get ports k ≡ Some x) × (x.number ≡ p) × (distributes_in agg x ≡ true)
+
+one_later : (agg : AggId) (y : SystemPort) (ys : List SystemPort) (p : ℕ) → Distributor agg ys p → Distributor agg (y ∷ ys) p
+one_later agg y ys p r = (suc r.0, r.1, r.2, r.3, r.4)
+
+pub among_port : (agg : AggId) (ports : List SystemPort) (p : ℕ) → is_among (distributing agg ports) p ≡ true → Distributor agg ports p
+among_port agg [] p h = absurd (no h)
+among_port agg (y ∷ ys) p h = by_test (λ e. one_later agg y ys p (among_port agg ys p e)) (distributes_in agg y) refl h
+  where
+    here : (is_among (distributing agg ys) p ≡ true → Distributor agg (y ∷ ys) p) → (b : Bool) → eqb y.number p ≡ b
+        → (b || is_among (distributing agg ys) p) ≡ true → distributes_in agg y ≡ true → Distributor agg (y ∷ ys) p
+    here later true e g d = (zero, y, refl, is_port y.number p e, d)
+    here later false e g d = later g
+
+    by_test : (is_among (distributing agg ys) p ≡ true → Distributor agg (y ∷ ys) p) → (b : Bool) → distributes_in agg y ≡ b
+        → list_any (λ q. eqb q p) (map (λ (s : SystemPort). s.number) (cond b (y ∷ filter (distributes_in agg) ys) (filter (distributes_in agg) ys))) ≡ true
+        → Distributor agg (y ∷ ys) p
+    by_test later true d g = here later (eqb y.number p) refl g d
+    by_test later false d g = later g
+
+-- and the other way round
+port_among : (agg : AggId) (ports : List SystemPort) (p k : ℕ) (x : SystemPort) → slice_get ports k ≡ Some x → x.number ≡ p
+    → distributes_in agg x ≡ true → is_among (distributing agg ports) p ≡ true
+port_among agg [] p k x e n d = absurd (none-some x e)
+port_among agg (y ∷ ys) p zero x e n d =
+    let same : y ≡ x = same_Some y x e in
+    subst (λ b. list_any (λ q. eqb q p) (map (λ (s : SystemPort). s.number) (cond b (y ∷ filter (distributes_in agg) ys)
+    (filter (distributes_in agg) ys))) ≡ true) (sym (ap (distributes_in agg) same ∙ d))
+    (first (eqb y.number p) (is_it y.number (ap (λ (z : SystemPort). z.number) same ∙ n)))
+  where
+    is_it : (q : ℕ) → q ≡ p → eqb q p ≡ true
+    is_it q f = grind (arith, nat_tests)
+
+    first : (b : Bool) → b ≡ true → (b || is_among (distributing agg ys) p) ≡ true
+    first true f = refl
+    first false f = absurd (no f)
+port_among agg (y ∷ ys) p (suc k) x e n d = by_test (distributes_in agg y) (port_among agg ys p k x e n d)
+  where
+    second : (b : Bool) → is_among (distributing agg ys) p ≡ true → (b || is_among (distributing agg ys) p) ≡ true
+    second true g = refl
+    second false g = g
+
+    by_test : (b : Bool) → is_among (distributing agg ys) p ≡ true
+        → list_any (λ q. eqb q p) (map (λ (s : SystemPort). s.number) (cond b (y ∷ filter (distributes_in agg) ys) (filter (distributes_in agg) ys))) ≡ true
+    by_test true g = second (eqb y.number p) g
+    by_test false g = g
+
+-- existing conversations
+
+-- so it is with each conversation of so many aggregators, of so many each
+abbrev pub Each : ℕ → ℕ → (Assignment → Type 0) → Table → Type 0
+Each aggs count P t = (g k : ℕ) → 0 < g → g ≤ aggs → k < count → P (assignment_of t g k)
+
+pub each_by : (aggs count : ℕ) (P Q : Assignment → Type 0) (f : Assignment → Assignment) (old new : Table)
+    → ((g k : ℕ) → assignment_of new g k ≡ f (assignment_of old g k)) → ((a : Assignment) → P a → Q (f a)) → Each aggs count P old
+    → Each aggs count Q new
+each_by aggs count P Q f old new h k e g c l m n = subst Q (sym (h g c)) (k (assignment_of old g c) (e g c l m n))
+
+none_below : (f : ℕ → ℕ) (n k : ℕ) → k < n → sum_below f n ≡ 0 → f k ≡ 0
+unfolding sum_below
+none_below f zero k lt e = absurd (omega (arith, lt))
+none_below f (suc n) k lt e = elim (cases_Bool (k == n)) [
+  | inl t ↦ (let same : k ≡ n = grind (arith, nat_tests) in ap f same ∙ omega (arith, e))
+  | inr t ↦ (let other : k ≡ n → ⊥ = grind (arith, nat_tests) in none_below f n k (omega (arith, lt, other)) (omega (arith, e)))
+]
+
+no_bit : (b : Bool) (n : ℕ) → n ≡ cond b 1 0 → n ≡ 0 → b ≡ false
+no_bit true n f e = absurd (omega (arith, f, e))
+no_bit false n f e = refl
+
+-- if none is counted, no conversation is Wanted on the port
+none_wanted : (p : ℕ) (t : Table) → count_conversations (wants_marker p) t ≡ 0 → (g k : ℕ) → 0 < g → g ≤ t.aggs → k < t.conversations
+    → wants_marker p (assignment_of t g k) ≡ false
+none_wanted p t none g k l m n =
+    let row = none_below (λ a. sum_below (λ c. cond (wants_marker p (assignment_of t (a + 1) c)) 1 0) t.conversations) t.aggs (g - 1)
+    (omega (arith, l, m)) none in
+    let bit = none_below (λ c. cond (wants_marker p (assignment_of t (g - 1 + 1) c)) 1 0) t.conversations k n row in
+    let here : g - 1 + 1 ≡ g = omega (arith, l) in
+    subst (λ x. wants_marker p (assignment_of t x k) ≡ false) here (no_bit (wants_marker p (assignment_of t (g - 1 + 1) k)) _ refl bit)
+
+not_wanted : (p m : ℕ) (W : Type 0) (F : ℕ → Type 0) (a : Assignment) → wants_marker p a ≡ false → Fine p m W F a → Fine p m ⊥ F a
+not_wanted p m W F (Free preferred) e h = tt
+not_wanted p m W F (On q) e h = tt
+not_wanted p m W F (Flushing q id preferred age) e h = h
+not_wanted p m W F (Wanted q preferred) e h = λ f. apart f
+  where
+    apart : q ≡ p → ⊥
+    apart f = grind (arith, nat_tests)
+
+module _ (at : Side → ℕ) (w : Side → Lacpdu) (s : Side) (mac : List ℕ) (aggs count : ℕ) where
+  -- what is known of the conversations of the port at the end of s
+  abbrev pub AllFine : ℕ → Type 0 → (ℕ → Type 0) → Table → Type 0
+  AllFine m W F t = Each aggs count (Fine (at s) m W F) t
+
+  pub all_map : (m : ℕ) (W V : Type 0) (F G : ℕ → Type 0) (t : Table) → (W → V) → ((id : ℕ) → F id → G id) → AllFine m W F t → AllFine m V G t
+  all_map m W V F G t k f h g c l n o = fine_map (at s) m W V F G k f (assignment_of t g c) (h g c l n o)
+
+  -- what goes out leaves what is on its way
+  pub went_has : (u t : Side) (P : ItemValue → Type 0) (a : Result (Option (List ℕ)) SystemFault) (fl now : Side → List ItemValue) → Went u a fl now
+      → Has P (fl t) → Has P (now t)
+  went_has u t P (Err fault) fl now h f = subst (λ (g : Side → List ItemValue). Has P (g t)) (sym h) f
+  went_has u t P (Ok None) fl now h f = subst (λ (g : Side → List ItemValue). Has P (g t)) (sym h) f
+  went_has u t P (Ok (Some frame)) fl now h f = subst (λ (g : Side → List ItemValue). Has P (g t)) (sym h.2)
+      (pushed (λ v xs. Has P (fl v) → Has P xs) (peer u) h.0 fl (λ g y. has_on P (fl (peer u)) (h.0 ∷ []) (g y)) (λ v y. y) t f)
+
+  pub went_flights : (u : Side) (a : Result (Option (List ℕ)) SystemFault) (fl now : Side → List ItemValue) → Went u a fl now → (id : ℕ)
+      → Flights s (at s) mac fl id → Flights s (at s) mac now id
+  went_flights u a fl now h id f = elim f [
+    | inl y ↦ inl (went_has u (peer s) (IsMarker (asking (at s) mac id)) a fl now h y)
+    | inr y ↦ inr (went_has u s (IsMarker (answering (at s) mac id)) a fl now h y)
+  ]
+
+  -- the marker that the port sends is on its way
+  marker_flies : (z : SystemPort) (old : SystemState) (id : ℕ) (payload : List ℕ) (fl now : Side → List ItemValue)
+      → IsAddress z.mac → WritesMarker payload (own_marker old z.number id) → z.number ≡ at s → old.system.mac ≡ mac
+      → Went s (Ok (Some (frame_octets z.mac payload))) fl now → Flights s (at s) mac now id
+  marker_flies z old id payload fl now address writes number own h =
+      let carries = sent_carries (frame_octets z.mac payload) (pdu.Marker (own_marker old z.number id)) (z.mac, payload, address, writes, refl) in
+      let same : own_marker old z.number id ≡ asking (at s) mac id =
+      ap (λ n. record { kind = Information; port = n; system = old.system.mac; id = id }) number
+      ∙ ap (λ o. record { kind = Information; port = at s; system = o; id = id }) own in
+      let is : IsMarker (asking (at s) mac id) h.0 = subst (λ o. IsFrame o (Carries (pdu.Marker (asking (at s) mac id)))) (sym h.1)
+      (subst (λ m. IsFrame (frame_octets z.mac payload) (Carries (pdu.Marker m))) same carries) in
+      inl (subst (λ (g : Side → List ItemValue). Has (IsMarker (asking (at s) mac id)) (g (peer s))) (sym h.2)
+      (subst (Has (IsMarker (asking (at s) mac id))) (sym (push_there (peer s) h.0 fl))
+      (has_last (IsMarker (asking (at s) mac id)) (fl (peer s)) h.0 is)))
+
+  -- the port is asked
+  sends_marker : (o : Option ℕ) (z : SystemPort) (old : SystemState) (a : Option (List ℕ)) (new : SystemState) (fl now : Side → List ItemValue)
+      (m : ℕ) (W : Type 0) → z.number ≡ at s → old.system.mac ≡ mac → SendsMarkerOf o z.number z.mac old a new → Went s (Ok a) fl now
+      → AllFine m W (Flights s (at s) mac fl) old.table
+      → ((o ≡ None) × (new ≡ old)) ⊎ AllFine m ⊥ (Flights s (at s) mac now) new.table
+  sends_marker None z old a new fl now m W number own h went fine = inl (refl, h.1)
+  sends_marker (Some id) z old a new fl now m W number own h went fine =
+      let gone = subst (λ b. Went s (Ok b) fl now) h.3 went in
+      let flies = marker_flies z old id h.0 fl now h.1 h.2 number own gone in
+      inr (each_by aggs count (Fine (at s) m W (Flights s (at s) mac fl)) (Fine (at s) m ⊥ (Flights s (at s) mac now)) (after_mark (at s) id)
+      old.table new.table (λ g k. h.4.states g k ∙ ap (λ n. after_mark n id (assignment_of old.table g k)) number)
+      (λ b f. marked_here (at s) m id W (Flights s (at s) mac fl) (Flights s (at s) mac now) flies
+      (went_flights s (Ok (Some (frame_octets z.mac h.0))) fl now gone) b f) fine)
+
+  pub sends_fine : (up due : Bool) (i : ℕ) (z : SystemPort) (old : SystemState) (a : Option (List ℕ)) (new : SystemState)
+      (fl now : Side → List ItemValue) (m : ℕ) (W : Type 0) → z.number ≡ at s → old.system.mac ≡ mac → TransmitsIf up due i z old a new
+      → Went s (Ok a) fl now → AllFine m W (Flights s (at s) mac fl) old.table → AllFine m W (Flights s (at s) mac now) new.table
+  sends_fine false due i z old a new fl now m W number own h went fine =
+      subst (AllFine m W (Flights s (at s) mac now)) (sym (ap (λ (t : SystemState). t.table) h.1))
+      (all_map m W W (Flights s (at s) mac fl) (Flights s (at s) mac now) old.table (λ x. x) (went_flights s (Ok a) fl now went) fine)
+  sends_fine true true i z old a new fl now m W number own h went fine =
+      subst (AllFine m W (Flights s (at s) mac now)) (sym (ap (λ (t : SystemState). t.table) h.3))
+      (all_map m W W (Flights s (at s) mac fl) (Flights s (at s) mac now) old.table (λ x. x) (went_flights s (Ok a) fl now went) fine)
+  sends_fine true false i z old a new fl now m W number own h went fine =
+      elim (sends_marker (marker_due old.table z.number) z old a new fl now m W number own h went fine) [
+        | inl n ↦ subst (AllFine m W (Flights s (at s) mac now)) (sym (ap (λ (t : SystemState). t.table) n.1))
+            (all_map m W W (Flights s (at s) mac fl) (Flights s (at s) mac now) old.table (λ x. x) (went_flights s (Ok a) fl now went) fine)
+        | inr f ↦ all_map m ⊥ W (Flights s (at s) mac now) (Flights s (at s) mac now) new.table (λ x. absurd x) (λ id y. y) f
+      ]
+
+  -- no marker is due: no conversation is Wanted there, if an identifier is left
+  none_due : (t : Table) → IsSome (next_identifier t) → marker_due t (at s) ≡ None → count_conversations (wants_marker (at s)) t ≡ 0
+  none_due t left e = by_test (ltb 0 (count_conversations (wants_marker (at s)) t)) refl (next_identifier t) left e
+    where
+      by_test : (b : Bool) → ltb 0 (count_conversations (wants_marker (at s)) t) ≡ b → (o : Option ℕ) → IsSome o → cond b o None ≡ None
+          → count_conversations (wants_marker (at s)) t ≡ 0
+      by_test true f (Some id) l e = absurd (none-some id (sym e))
+      by_test true f None l e = absurd (no l)
+      by_test false f o l e = is_none (count_conversations (wants_marker (at s)) t) f
+        where
+          is_none : (n : ℕ) → ltb 0 n ≡ false → n ≡ 0
+          is_none n g = grind (arith, nat_tests)
+
+  -- a port at which no LACPDU is due sends the marker
+  pub marks_now : (due : Bool) (i : ℕ) (z : SystemPort) (old : SystemState) (a : Option (List ℕ)) (new : SystemState)
+      (fl now : Side → List ItemValue) (m : ℕ) (W : Type 0) → z.number ≡ at s → old.system.mac ≡ mac → old.table.aggs ≡ aggs
+      → old.table.conversations ≡ count → IsSome (next_identifier old.table) → due ≡ false → TransmitsIf true due i z old a new
+      → Went s (Ok a) fl now → AllFine m W (Flights s (at s) mac fl) old.table → AllFine m ⊥ (Flights s (at s) mac now) new.table
+  marks_now true i z old a new fl now m W number own rows cols left e h went fine = absurd (no (sym e))
+  marks_now false i z old a new fl now m W number own rows cols left e h went fine =
+      elim (sends_marker (marker_due old.table z.number) z old a new fl now m W number own h went fine) [
+        | inl n ↦ (let none = none_due old.table left (sym (ap (marker_due old.table) number) ∙ n.0) in
+            subst (AllFine m ⊥ (Flights s (at s) mac now)) (sym (ap (λ (t : SystemState). t.table) n.1))
+            (λ g k l o q. not_wanted (at s) m W (Flights s (at s) mac now) (assignment_of old.table g k)
+            (none_wanted (at s) old.table none g k l (subst (λ x. g ≤ x) (sym rows) o) (subst (λ x. k < x) (sym cols) q))
+            (fine_map (at s) m W W (Flights s (at s) mac fl) (Flights s (at s) mac now) (λ x. x) (went_flights s (Ok a) fl now went)
+            (assignment_of old.table g k) (fine g k l o q))))
+        | inr f ↦ f
+      ]
+
+  -- a settling
+
+  pub settles_all : (m : ℕ) (W : Type 0) (F : ℕ → Type 0) (old new : SystemState) → Settling old new
+      → ((g k : ℕ) → assignment_of old.table g k ≡ On (at s) → is_among (distributing (aggregator_numbered g) new.system_ports) (at s) ≡ true)
+      → AllFine m W F old.table → AllFine m W F new.table
+  settles_all m W F old new h stays fine =
+      let q = settling_parts old new h in
+      let table = ports_table old q.0 q.1 in
+      let ports : new.system_ports ≡ q.0.system_ports = ap (λ (t : SystemState). t.system_ports) q.2.frame in
+      λ g k l n o. subst (Fine (at s) m W F) (sym (q.2.states g k))
+      (settled_fine (at s) m W F (distributing (aggregator_numbered g) q.0.system_ports) (assignment_of q.0.table g k)
+      (λ e. subst (λ xs. is_among (distributing (aggregator_numbered g) xs) (at s) ≡ true) ports
+      (stays g k (sym (ap (λ t. assignment_of t g k) table) ∙ e)))
+      (subst (λ t. Fine (at s) m W F (assignment_of t g k)) (sym table) (fine g k l n o)))
+
+  -- the port distributes in its aggregator, and goes on so
+  module _ (c : Choice) where
+    abbrev pub Steady : Machines → Type 0
+    Steady p = PartnerInSync p × (p.choice ≡ c)
+
+    pub stays_on : (one two : Side → ℕ) (old new : WorldState) → Link 2 at w one s Steady old → Link 2 at w two s Steady new → (g k : ℕ)
+        → assignment_of (half s old).state.table g k ≡ On (at s)
+        → is_among (distributing (aggregator_numbered g) (half s new).state.system_ports) (at s) ≡ true
+    stays_on one two old new a b g k e =
+        let agg = aggregator_numbered g in
+        let was = (half s old).state in
+        let st = (half s new).state in
+        let x = among_port agg was.system_ports (at s) ((a.steady s).0.carried g k (at s) e) in
+        let own = all-get (λ (y : SystemPort). AtPort (at s) Steady y.number y.port) was.system_ports x.0 x.1 x.2
+        (beside at w 2 one s Steady old a) x.3 in
+        let chose : has_chosen agg c ≡ true = sym (ap (has_chosen agg) own.1)
+        ∙ (both_parts (has_chosen agg x.1.port.choice) (same_mux_state CollectingDistributing x.1.port.mux) x.4).0 in
+        let z = end_here at w 2 two s Steady new b s in
+        let now = end_with at w 2 two s new z Steady (beside at w 2 two s Steady new b) in
+        let mux = (all-get (MuxIsSettled st.keys st.system_ports) st.system_ports z.index z.port z.there (b.steady s).0.quiet.0).mux in
+        let up = distributes_now z.port.port mux (z.is.2 (omega arith)) now.0 in
+        port_among agg st.system_ports (at s) z.index z.port z.there z.number
+        (both_true (has_chosen agg z.port.port.choice) (same_mux_state CollectingDistributing z.port.port.mux)
+        (ap (has_chosen agg) now.1 ∙ chose) (ap (same_mux_state CollectingDistributing) up))

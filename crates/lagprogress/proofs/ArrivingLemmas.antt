@@ -1,0 +1,202 @@
+-- How a data frame gets a port, and how it is handed up at the other end of its cable.
+use Rattle.std.proofs.Common.{◌≡◌, ◌∙◌, ℕ, suc, ◌&&◌, Bool, true, false, cond, List, [], ◌∷◌, Some, None}
+use Rattle.std.proofs.Common.{Result, Ok, Err, refl, sym, subst, ap, arith, length}
+use Rattle.std.specs.Prelude.{slice_get, nat_le, MatchOption}
+use Rattle.std.proofs.lemmas.Bool.{true≢false}
+use Rattle.std.proofs.lemmas.Bool.Decides.{nat_tests}
+use Rattle.std.proofs.lemmas.Option.{none-some, same_Some}
+use Rattle.lagtypes.specs.declared.identifiers.AggId.{AggId}
+use Rattle.distributor.specs.declared.assignment.Assignment.{Assignment}
+use Rattle.distributor.specs.declared.assignment.Assignment.TheVariants.{Free, On, Wanted, Flushing}
+use Rattle.distributor.specs.declared.fault.DistFault.{DistFault}
+use Rattle.distributor.specs.Calls.{Assigns, MaySend, PicksPort, is_among}
+use Rattle.lagmodel.specs.World.{Side, One, Two}
+use Rattle.lagmodel.proofs.Base.{value_of}
+use Rattle.lagsystem.specs.declared.drive.Reply.TheVariants as answer
+use Rattle.lagsystem.specs.declared.fault.SystemFault.{SystemFault}
+use Rattle.lagsystem.specs.declared.fault.SystemFault.TheVariants.{NoPort, NoAggregator, FrameLength, SlowFrame, Held, NoneDistributing}
+use Rattle.lagsystem.specs.declared.fault.SystemFault.TheVariants.{NotDistributing, SamePort, NotAssigned, MarkersSpent, BadConfig, NoMemory}
+use Rattle.lagsystem.specs.declared.received.Received.{Received}
+use Rattle.lagsystem.specs.declared.received.Received.TheVariants.{Up}
+use Rattle.lagsystem.specs.declared.system_ports.SystemPort.{SystemPort}
+use Rattle.lagsystem.specs.Calls.{Data_frame, IsFrame, Offer, ParsesWhere, Performs, ReceivesAt, Step, up_or_dropped}
+use Rattle.lagsystem.specs.Offers.{AssignsPort, MayBeOffered, RefusesOffer, assignment_of_frame, longest_frame}
+use Rattle.lagsystem.specs.Readers.{collecting, distributing, number_of_conversation}
+use Rattle.lagsystem.specs.Sound.{IsSound}
+use Rattle.lagsystem.specs.State.{SystemState, port_index}
+use Rattle.lagsystem.proofs.Conversing.{assigned_may}
+use Rattle.lagsystem.proofs.OneFrame.{effect_one}
+use Rattle.lagworld.specs.declared.reply.Reply.{Reply}
+use Rattle.lagworld.specs.Events.{Algorithms, AfterOffer, AfterReceive, DeliversFrom, OnLink, WorldOffers, WorldReceives, side_of}
+use Rattle.lagworld.specs.Events.{offered_item, with_frame_counted, with_link_at}
+use Rattle.lagworld.specs.State.{HalfState, ItemValue, LinkState, WorldState, half, port_at, towards, with_half, with_towards}
+use Rattle.lagworld.proofs.Sides.{half_there}
+use Rattle.lagprogress.specs.Arriving.{DeliverHandsUp, GetsPort, IsHandedUp, OfferGetsPort, TakesFrame}
+use Rattle.lagprogress.specs.Freed.{held_on}
+use Rattle.lagprogress.specs.Passing.{EndIsUp}
+use Rattle.lagprogress.proofs.OneCable.{collected_links, collected_states, with_half_states}
+
+-- the answer to an offer
+
+both : (a b : Bool) → (a && b) ≡ true → (a ≡ true) × (b ≡ true)
+both true b h = (refl, h)
+both false b h = absurd (true≢false (sym h))
+
+pub is_data : (octets : List ℕ) → MayBeOffered octets → IsFrame octets Data_frame
+is_data octets h =
+    let test = (both (nat_le 14 (length octets)) (nat_le (length octets) longest_frame) h.0).0 in (grind (arith, nat_tests), h.1)
+
+abbrev refused : DistFault → Result ℕ DistFault
+refused cause = Err cause
+
+no_fault : (p : ℕ) (cause : DistFault) → refused cause ≡ Ok p → ⊥
+no_fault p cause e = cc
+
+picks : (gives : ℕ → ℕ → ℕ → Type 0) (conv p : ℕ) (ports : List ℕ) (cause : DistFault) → is_among ports p ≡ true
+    → PicksPort gives conv ports (Err cause) → ⊥
+picks gives conv p [] cause e h = true≢false (sym e)
+picks gives conv p (q ∷ ports) cause e h = no_fault h.1 cause h.4
+
+-- the distributor has a port for a conversation that is not held
+assigns : (gives : ℕ → ℕ → ℕ → Type 0) (conv p : ℕ) (ports : List ℕ) (a : Assignment) (cause : DistFault) → is_among ports p ≡ true
+    → held_on a ≡ None → Assigns gives conv ports a (Err cause) → ⊥
+assigns gives conv p ports (Free None) cause e free h = picks gives conv p ports cause e h
+assigns gives conv p ports (Free (Some q)) cause e free h = by_test (is_among ports q) h
+  where
+    by_test : (b : Bool) → MatchOption (cond b (Some q) None) (PicksPort gives conv ports (Err cause)) (λ q. refused cause ≡ Ok q) → ⊥
+    by_test true m = no_fault q cause m
+    by_test false m = picks gives conv p ports cause e m
+assigns gives conv p ports (On q) cause e free h = no_fault q cause h
+assigns gives conv p ports (Wanted q preferred) cause e free h = none-some q (sym free)
+assigns gives conv p ports (Flushing q id preferred age) cause e free h = none-some q (sym free)
+
+not_caused : (gives : ℕ → ℕ → ℕ → Type 0) (agg : AggId) (octets : List ℕ) (s : SystemState) (cause : DistFault) → TakesFrame agg octets s
+    → AssignsPort gives s agg octets (Err cause) → ⊥
+not_caused gives agg octets s cause t h = assigns gives (number_of_conversation s octets) t.distributor.0 (distributing agg s.system_ports)
+    (assignment_of_frame s agg octets) cause t.distributor.1 t.free h
+
+not_refused : (gives : ℕ → ℕ → ℕ → Type 0) (agg : AggId) (octets : List ℕ) (s : SystemState) (fault : SystemFault) → TakesFrame agg octets s
+    → RefusesOffer gives s agg octets fault → ⊥
+not_refused gives agg octets s NoAggregator t h = true≢false (sym t.may.0 ∙ h)
+not_refused gives agg octets s FrameLength t h = true≢false (sym t.may.1.0 ∙ h.1)
+not_refused gives agg octets s SlowFrame t h = t.may.1.1 h.1.1
+not_refused gives agg octets s NoPort t h = not_caused gives agg octets s h.0 t h.2
+not_refused gives agg octets s Held t h = not_caused gives agg octets s h.0 t h.2
+not_refused gives agg octets s NoneDistributing t h = not_caused gives agg octets s h.0 t h.2
+not_refused gives agg octets s NotDistributing t h = not_caused gives agg octets s h.0 t h.2
+not_refused gives agg octets s SamePort t h = not_caused gives agg octets s h.0 t h.2
+not_refused gives agg octets s NotAssigned t h = not_caused gives agg octets s h.0 t h.2
+not_refused gives agg octets s MarkersSpent t h = not_caused gives agg octets s h.0 t h.2
+not_refused gives agg octets s (BadConfig reason) t h = not_caused gives agg octets s h.0 t h.2
+not_refused gives agg octets s NoMemory t h = not_caused gives agg octets s h.0 t h.2
+
+-- the port that it gives distributes
+given : (ports : List ℕ) (a : Assignment) (port : ℕ) → ((p : ℕ) → a ≡ On p → is_among ports p ≡ true) → MaySend ports a port
+    → is_among ports port ≡ true
+given ports (Free preferred) port on h = h
+given ports (On p) port on h = subst (λ q. is_among ports q ≡ true) (sym h) (on p refl)
+given ports (Wanted p preferred) port on h = absurd h
+given ports (Flushing p id preferred age) port on h = absurd h
+
+-- what the world does with it
+
+same_ports : (s t : Side) (h k : HalfState) (j : WorldState) → h.state.system_ports ≡ (half s j).state.system_ports
+    → k.state.system_ports ≡ h.state.system_ports
+    → (half t (with_half s k (with_half s h j))).state.system_ports ≡ (half t j).state.system_ports
+same_ports One One h k j e f = f ∙ e
+same_ports One Two h k j e f = refl
+same_ports Two One h k j e f = refl
+same_ports Two Two h k j e f = f ∙ e
+
+offered : (gives : Algorithms) (s : Side) (agg : AggId) (octets : List ℕ) (a : Result ℕ SystemFault) (old new : WorldState) (mid : HalfState)
+    (r : Reply) → IsSound (half s old).state → TakesFrame agg octets (half s old).state
+    → Step (gives s) (half s old).state (Offer agg octets) (answer.Offer a) mid.state → AfterOffer s agg octets a (with_half s mid old) r new
+    → GetsPort s agg octets old r new
+offered gives s agg octets (Err fault) old new mid r sound takes h after =
+    absurd (not_refused (gives s) agg octets (half s old).state fault takes h.0)
+offered gives s agg octets (Ok port) old new mid r sound takes h after =
+    let st = (half s old).state in
+    let conv = number_of_conversation st octets in
+    let ports = distributing agg st.system_ports in
+    let j = with_half s mid old in
+    record {
+      port = port;
+      serial = _;
+      item = offered_item s port agg octets (half s j);
+      distributes = given ports (assignment_of_frame st agg octets) port (λ p e. sound.carried agg.0 conv p e)
+          (assigned_may (gives s) conv ports (assignment_of_frame st agg octets) port h.1);
+      replied = after.1;
+      frame = refl;
+      sent = ap (λ (w : WorldState). w.links) after.2;
+      same = λ t. ap (λ (w : WorldState). (half t w).state.system_ports) after.2
+          ∙ same_ports s t mid (with_frame_counted agg octets (half s j)) old
+          (ap (λ (z : SystemState). z.system_ports) h.2.1) (ap (λ (k : HalfState). k.state.system_ports) (half_there s mid old));
+    }
+
+pub offer_gets_port : (gives : Algorithms) → OfferGetsPort gives
+offer_gets_port gives n s agg octets r old new named sound takes h =
+    let v = value_of (side_of n) _ h.0 in
+    let same : v.0 ≡ s = same_Some v.0 s (sym v.1 ∙ named) in
+    let now = record new { acted = old.acted } in
+    let e = subst (λ t. WorldOffers gives t agg octets.items old r now) same v.2 in
+    let g = offered gives s agg octets.items e.0 old now e.1 r sound takes e.2.answers.step e.3 in
+    record {
+      port = g.port;
+      serial = g.serial;
+      item = g.item;
+      distributes = g.distributes;
+      replied = g.replied;
+      frame = g.frame;
+      sent = g.sent;
+      same = λ t. g.same t;
+    }
+
+-- a data frame comes off its cable
+
+receives_data : (n k : ℕ) (x : SystemPort) (octets : List ℕ) (agg : AggId) (old : SystemState) (o : Received) (new : SystemState)
+    → port_index n old.system_ports ≡ Some k → slice_get old.system_ports k ≡ Some x → x.port.enabled ≡ true
+    → IsFrame octets Data_frame → collecting x.port ≡ Some agg → ReceivesAt (port_index n old.system_ports) octets old o new
+    → (o ≡ Up agg) × (new ≡ old)
+receives_data n k x octets agg old o new place there up plain collects h =
+    let at = subst (λ i. ReceivesAt i octets old o new) place h in
+    let same : at.0 ≡ x = same_Some at.0 x (sym at.2 ∙ there) in
+    let parsed = subst (λ b. ParsesWhere b at.0 octets at.1) (ap (λ (y : SystemPort). y.port.enabled) same ∙ up) at.3 in
+    let does = effect_one true at.0 octets at.1 _ parsed (Data_frame, plain, refl) in
+    let p = subst (λ f. Performs f at.0.number (Some k) old o new) does at.4 in (
+      p.0 ∙ ap up_or_dropped (ap (λ (y : SystemPort). collecting y.port) same ∙ collects),
+      p.1,
+    )
+
+handed : (gives : Algorithms) (s : Side) (i k : ℕ) (l : LinkState) (x : SystemPort) (agg : AggId) (item : ItemValue) (rest : List ItemValue)
+    (r : Reply) (old new : WorldState) → EndIsUp s l k x old → IsFrame item.octets Data_frame → collecting x.port ≡ Some agg
+    → WorldReceives gives s (port_at s l) item (with_link_at i (with_towards s rest l) old) r new → IsHandedUp s i l agg rest old r new
+handed gives s i k l x agg item rest r old new end plain collects (Err fault, mid, h, after) =
+    absurd (none-some k (sym h.answers.step.cause ∙ end.place))
+handed gives s i k l x agg item rest r old new end plain collects (Ok o, mid, h, after) =
+    let took = receives_data (port_at s l) k x item.octets agg (half s old).state o mid.state end.place end.there end.up plain collects
+    h.answers.step in
+    let j = with_link_at i (with_towards s rest l) old in
+    let next = subst (λ a. AfterReceive s (port_at s l) item (Ok a) (with_half s mid j) r new) took.0 after in
+    record {
+      up = next.0;
+      left = ap (λ (w : WorldState). w.links) next.1 ∙ collected_links item.stamp (with_half s mid j);
+      same = λ t. ap (λ (w : WorldState). (half t w).state) next.1 ∙ (collected_states item.stamp (with_half s mid j) t
+          ∙ (with_half_states s mid j took.1 t ∙ kept t));
+    }
+  where
+    kept : (t : Side) → (half t (with_link_at i (with_towards s rest l) old)).state ≡ (half t old).state
+    kept One = refl
+    kept Two = refl
+
+pub deliver_hands_up : (gives : Algorithms) → DeliverHandsUp gives
+deliver_hands_up gives n s i k l x agg item rest r old new is there first end plain collects h =
+    let v = value_of (side_of n) _ h.0 in
+    let same : v.0 ≡ s = same_Some v.0 s (sym v.1 ∙ is) in
+    let now = record new { acted = old.acted } in
+    let e = subst (λ t. OnLink (suc i) (λ i l. DeliversFrom gives t i l (towards t l) old r now) old.links) same v.2 in
+    let c = value_of (slice_get old.links i) _ e in
+    let it : c.0 ≡ l = same_Some c.0 l (sym c.1 ∙ there) in
+    let d1 = subst (λ m. DeliversFrom gives s i m (towards s m) old r now) it c.2 in
+    let d2 = subst (λ xs. DeliversFrom gives s i l xs old r now) first d1 in
+    let up = handed gives s i k l x agg item rest r old now end plain collects d2 in
+    record { up = up.up; left = up.left; same = λ t. up.same t }

@@ -1,0 +1,597 @@
+-- How the links of a bundle come up and agree.
+use Rattle.lagsystem.specs.declared.fault.BadConfig.{BadConfig}
+use Rattle.std.proofs.lemmas.Bool.Decides.{nat_tests}
+use Rattle.std.proofs.Common.{◌≡◌, ◌≢◌, ◌∙◌, ℕ, zero, suc, ◌+◌, ◌-◌, ◌≤◌, ◌==◌, Bool, true, false, cond, List, [], ◌∷◌, ◌++◌, ◌⊎◌, inl, inr, refl, sym}
+use Rattle.std.proofs.Common.{subst, ap, arith, Some, None, Option, length, map}
+use Rattle.std.specs.Prelude.{filter, slice_get, IsSome, is_some, option_map}
+use Rattle.std.specs.List.{AllByRecursion}
+use Rattle.std.proofs.lemmas.Bool.{cases_Bool}
+use Rattle.std.proofs.lemmas.Option.{none-some, same_Some, slice_get_cases, slice_get_within}
+use Rattle.lagtypes.specs.declared.identifiers.AggId.{AggId}
+use Rattle.lagtypes.specs.declared.identifiers.Key.{Key}
+use Rattle.lagtypes.specs.declared.party.Choice.{Choice}
+use Rattle.lagtypes.specs.declared.party.Choice.TheVariants.{Unselected, Selected, Standby}
+use Rattle.lagtypes.specs.declared.party.Party.{Party}
+use Rattle.lagtypes.specs.Choices.{is_selected}
+use Rattle.lagtypes.proofs.SameLemmas.{itself}
+use Rattle.selection.specs.Choice.{ports_that_chose}
+use Rattle.selection.specs.Views.{has_chosen}
+use Rattle.slowpdu.specs.declared.pdu.Lacpdu.{Lacpdu}
+use Rattle.portmachines.specs.Machines.{Machines}
+use Rattle.portmachines.specs.Mux.{mux_rows}
+use Rattle.portmachines.specs.Periodic.{periodic_rows}
+use Rattle.portmachines.specs.Receive.{lacpdu_rows, receive_rows}
+use Rattle.portmachines.specs.Rows.{RunsToRest}
+use Rattle.portmachines.specs.Transmit.{count_down}
+use Rattle.distributor.specs.Conversations.{Table}
+use Rattle.lagmodel.specs.World.{Side, One, Two, end_at, peer}
+use Rattle.lagmodel.proofs.Uses.{find_at}
+use Rattle.lagsystem.specs.declared.config.PortConfig.{PortConfig}
+use Rattle.lagsystem.specs.declared.system_ports.SystemPort.{SystemPort}
+use Rattle.lagsystem.specs.declared.fault.BadConfig.TheVariants.{MaxLinks, PortNumber}
+use Rattle.lagsystem.specs.First.{configured_numbers, first_bad_port_number, or_first, refusal_of_limits}
+use Rattle.lagsystem.specs.ModelView.{model_port_of, number_of_port}
+use Rattle.lagsystem.specs.NothingToSettle.{MuxIsSettled}
+use Rattle.lagsystem.specs.Occupants.{occupied}
+use Rattle.lagsystem.specs.Sound.{IsSound}
+use Rattle.lagsystem.specs.State.{SystemState, port_numbers, with_system_ports, with_table}
+use Rattle.lagsystem.specs.Views.{views, selection_view}
+use Rattle.lagsystem.proofs.Rising.{all-get, are_numbered, found_place, ports_rise, if_then}
+use Rattle.lagworld.specs.declared.agreement.Agreement.TheVariants.{Same}
+use Rattle.lagworld.specs.Agreement.{agreement_at}
+use Rattle.lagworld.specs.Events.{Algorithms}
+use Rattle.lagworld.specs.ModelWorld.{link_ends}
+use Rattle.lagworld.specs.Sound.{IsSound as IsWorldSound}
+use Rattle.lagworld.specs.State.{LinkState, WorldState, change_count_in, half, history_at, port_at, towards}
+use Rattle.lagworld.proofs.Cables.{end_is}
+use Rattle.lagprogress.specs.Agreeing.{ActiveLinkAgrees, LinkAgrees}
+use Rattle.lagprogress.specs.Bundle.{AllHeard, BothAreActive, EachActiveLinkAgrees, EachActiveLinkComesUp, EachLinkAgrees, EachLinkComesUp}
+use Rattle.lagprogress.specs.Bundle.{EnoughAggregators, EnoughLinks, IsBundle, OneIsActive, SystemsDiffer}
+use Rattle.lagprogress.specs.ComingUp.{ActiveLinkComesUp, AreApart, Distributes, HasRoom, LinkComesUp}
+use Rattle.lagprogress.specs.Rounds.{AtEnd, IsHealthy, IsHealthyAt, Rounds, asks_all, ticks_of_both}
+use Rattle.lagprogress.specs.Selecting.{WantsAggregator, aggregators_with, ports_with}
+use Rattle.lagprogress.specs.Steady.{IsSteady}
+use Rattle.lagprogress.specs.Timers.{IsTimed}
+use Rattle.lagprogress.proofs.Climbing.{Down, Ripe, Rising, climbed, down_settles, down_takes, down_ticks, rising_first}
+use Rattle.lagprogress.proofs.ComingUp.{Brisk, Climbs, EndPort, Up, active_at, agrees_now, apart_at, at_end, awake_at, climbs_first, climbs_on, comes_up}
+use Rattle.lagprogress.proofs.ComingUp.{end_here, end_with, events_keep, splits, up_now, zero_on}
+use Rattle.lagprogress.proofs.Counting.{count, count_more_of, count_same, counted}
+use Rattle.lagprogress.proofs.EachPort.{OfEach}
+use Rattle.lagprogress.proofs.EachRound.{EachAt, RoundKeeps, round_each, rounds_join, rounds_steady, same_index}
+use Rattle.lagprogress.proofs.EndFacts.{Synced, activity}
+use Rattle.lagprogress.proofs.Hearing.{no}
+use Rattle.lagprogress.proofs.Linked.{many}
+use Rattle.lagprogress.proofs.OneActive.{one_meets}
+use Rattle.lagprogress.proofs.OnePort.{AtPort, at_number, same_place}
+use Rattle.lagprogress.proofs.OneRound.{Nothing}
+use Rattle.lagprogress.proofs.Progressing.{AtIt, Ends, Fresh, active_meet, end_of, healthy_cable, knows_peer, only_cable}
+use Rattle.lagprogress.proofs.Progressing.{only_cabling, said_by, starts}
+use Rattle.lagprogress.proofs.Selecting.{finds_aggregator, waits_for_room}
+use Rattle.lagprogress.proofs.Stamps.{Stamped, stamped_round}
+use Rattle.lagprogress.proofs.Timers.{fires_keep, runs_keep}
+
+-- what stays of each port
+
+-- the port has the same own parameters, and its link is up as before
+abbrev pub Alike : Machines → Machines → Type 0
+Alike x p = (p.party ≡ x.party) × (p.enabled ≡ x.enabled)
+
+pub alike_keeps : (n : ℕ) (x : Machines) → RoundKeeps (AtPort n (Alike x))
+alike_keeps n x = record {
+  settles = record {
+    mux = λ m ready p q h a e. runs_keep (Alike x) (mux_rows ready)
+        (λ p a. a, (λ p a. a, (λ p a. a, (λ p a. a, (λ p a. a, (λ p a. a, tt)))))) p q h (a e);
+    periodic = λ m p q h a e. subst (Alike x) (sym h.2) (runs_keep (Alike x) periodic_rows
+        (λ p a. a, (λ p a. a, (λ p a. a, (λ p a. a, (λ p a. a, (λ p a. a, (λ p a. a, tt))))))) p h.0 h.1 (a e));
+    select = λ m choice p none may a e. a e;
+  };
+  sends = λ m p a e. a e;
+  takes = λ m v p q h a e. elim h [
+    | inl f ↦ fires_keep (Alike x) (lacpdu_rows v) (λ p a. a, tt) p q f (a e)
+    | inr r ↦ subst (Alike x) (sym r.1) (a e)
+  ];
+}
+
+pub alike_ticks : (n : ℕ) (x : Machines) (m : ℕ) (p q : Machines) → RunsToRest receive_rows (count_down p) q → AtPort n (Alike x) m p
+    → AtPort n (Alike x) m q
+alike_ticks n x m p q h a e =
+    runs_keep (Alike x) receive_rows (λ p a. a, (λ p a. a, (λ p a. a, (λ p a. a, (λ p a. a, tt))))) (count_down p) q h (a e)
+
+pub rounds_alike : (gives : Algorithms) (n : ℕ) (old new : WorldState) → IsSteady old → Rounds gives n old new → (s : Side) (k : ℕ)
+    (x : SystemPort) → slice_get (half s old).state.system_ports k ≡ Some x → EachAt (AtPort x.number (Alike x.port)) s new
+rounds_alike gives n old new steady h s k x there =
+    let st = (half s old).state in
+    zero_on gives (λ m j. EachAt (AtPort x.number (Alike x.port)) s j) old
+    (at_number (Alike x.port) 0 st.system_ports k x (ports_rise st (steady s).0.ports) there (refl, refl))
+    (λ m i j q a. round_each (AtPort x.number (Alike x.port)) (AtPort x.number (Alike x.port)) (alike_keeps x.number x.port)
+    (alike_ticks x.number x.port) s gives i j q a) n new h
+
+module _ (X : Type 0) (g : SystemState → X)
+    (kept : (s : SystemState) (ports : List SystemPort) (t : Table) → g (with_table (with_system_ports s ports) t) ≡ g s) where
+  pub rounds_keep : (gives : Algorithms) (n : ℕ) (old new : WorldState) → Rounds gives n old new → (s : Side)
+      → g (half s new).state ≡ g (half s old).state
+  rounds_keep gives n old new h = zero_on gives (λ m j. (s : Side) → g (half s j).state ≡ g (half s old).state) old (λ s. refl)
+      (λ m i j q a s. events_keep X g kept gives (ticks_of_both ++ (asks_all i.links ++ q.delivers)) q.replies i j q.acts s ∙ a s) n new h
+
+-- the system is as it was, but for its machines and its table
+pub record IsAsBefore (s : Side) (old new : WorldState) : Type 0 where
+  pub keys : (half s new).state.keys ≡ (half s old).state.keys
+  pub limit : (half s new).state.max_links ≡ (half s old).state.max_links
+  pub numbers : port_numbers (half s new).state.system_ports ≡ port_numbers (half s old).state.system_ports
+  pub alike : (k : ℕ) (x y : SystemPort) → slice_get (half s old).state.system_ports k ≡ Some x
+      → slice_get (half s new).state.system_ports k ≡ Some y → Alike x.port y.port
+
+pub as_before : (gives : Algorithms) (n : ℕ) (old new : WorldState) → IsSteady old → Rounds gives n old new → (s : Side) → IsAsBefore s old new
+as_before gives n old new steady h s =
+    let now = rounds_steady gives n old new steady h in
+    let ports = rounds_keep (List PortConfig) (λ t. t.ports) (λ t a b. refl) gives n old new h s in
+    let numbers : port_numbers (half s new).state.system_ports ≡ port_numbers (half s old).state.system_ports =
+    (now s).0.ports.same ∙ (ap configured_numbers ports ∙ sym (steady s).0.ports.same) in
+    record {
+      keys = rounds_keep (List Key) (λ t. t.keys) (λ t a b. refl) gives n old new h s;
+      limit = rounds_keep (Option ℕ) (λ t. t.max_links) (λ t a b. refl) gives n old new h s;
+      numbers = numbers;
+      alike = λ k x y e f. all-get (λ (z : SystemPort). AtPort x.number (Alike x.port) z.number z.port) (half s new).state.system_ports k y f
+          (rounds_alike gives n old new steady h s k x e)
+          (same_place (half s old).state.system_ports (half s new).state.system_ports k x y numbers e f);
+    }
+
+-- the port that stood at the place
+pub old_port : (xs ys : List SystemPort) (k : ℕ) (y : SystemPort) → port_numbers ys ≡ port_numbers xs → slice_get ys k ≡ Some y
+    → (x : SystemPort) × (slice_get xs k ≡ Some x) × (y.number ≡ x.number)
+old_port xs ys k y numbers f =
+    let within = slice_get_within ys k y f in
+    let one = many xs in
+    let two = many ys in
+    let both = ap (λ (ns : List ℕ). length ns) numbers in
+    elim (slice_get_cases xs k).1 [
+      | inl c ↦ (c.0, c.2, same_place xs ys k c.0 y numbers c.2 f)
+      | inr p ↦ (let past = p.0 in absurd (omega (arith, within, one, two, both, past)))
+    ]
+
+same_ports_with : (s : Side) (old new : WorldState) → IsAsBefore s old new → (key : Key)
+    → ports_with key (half s new).state ≡ ports_with key (half s old).state
+same_ports_with s old new b key =
+    let test : SystemPort → Bool = λ x. x.port.party.key.0 == key.0 in
+    let xs = (half s old).state.system_ports in
+    let ys = (half s new).state.system_ports in
+    let lengths : length ys ≡ length xs = many ys ∙ (ap (λ (ns : List ℕ). length ns) b.numbers ∙ sym (many xs)) in
+    counted test ys ∙ (count_same test xs ys lengths
+    (λ j x y e f. ap (λ (q : Party). q.key.0 == key.0) (b.alike j x y e f).0) ∙ sym (counted test xs))
+
+same_aggregators_with : (s : Side) (old new : WorldState) → IsAsBefore s old new → (key : Key)
+    → aggregators_with key (half s new).state ≡ aggregators_with key (half s old).state
+same_aggregators_with s old new b key = ap (λ (ks : List Key). length (filter (λ (k : Key). k.0 == key.0) ks)) b.keys
+
+pub still_aggregators : (s : Side) (old new : WorldState) → IsAsBefore s old new → EnoughAggregators (half s old).state
+    → EnoughAggregators (half s new).state
+still_aggregators s old new b enough k y there up =
+    let x = old_port (half s old).state.system_ports (half s new).state.system_ports k y b.numbers there in
+    subst (λ (q : Party). ports_with q.key (half s new).state ≤ aggregators_with q.key (half s new).state)
+    (sym (b.alike k x.0 y x.1 there).0)
+    (subst (λ n. n ≤ aggregators_with x.0.port.party.key (half s new).state) (sym (same_ports_with s old new b x.0.port.party.key))
+    (subst (λ n. ports_with x.0.port.party.key (half s old).state ≤ n) (sym (same_aggregators_with s old new b x.0.port.party.key))
+    (enough k x.0 x.1 (sym (b.alike k x.0 y x.1 there).1 ∙ up))))
+
+pub still_links : (s : Side) (old new : WorldState) → IsAsBefore s old new → EnoughLinks (half s old).state → EnoughLinks (half s new).state
+still_links s old new b enough k most y there limit =
+    let x = old_port (half s old).state.system_ports (half s new).state.system_ports k y b.numbers there in
+    subst (λ (q : Party). ports_with q.key (half s new).state ≤ most) (sym (b.alike k x.0 y x.1 there).0)
+    (subst (λ n. n ≤ most) (sym (same_ports_with s old new b x.0.port.party.key)) (enough k most x.0 x.1 (sym b.limit ∙ limit)))
+
+-- no port stands by
+
+members_counted : (agg : AggId) (ports : List SystemPort)
+    → length (ports_that_chose agg (views ports)) ≡ count (λ (y : SystemPort). has_chosen agg y.port.choice) ports
+members_counted agg [] = refl
+members_counted agg (y ∷ ys) = by_test (has_chosen agg y.port.choice) (members_counted agg ys)
+  where
+    by_test : (b : Bool) → length (ports_that_chose agg (views ys)) ≡ count (λ (y : SystemPort). has_chosen agg y.port.choice) ys
+        → length (cond b (selection_view y ∷ ports_that_chose agg (views ys)) (ports_that_chose agg (views ys)))
+        ≡ cond b (suc (count (λ (y : SystemPort). has_chosen agg y.port.choice) ys)) (count (λ (y : SystemPort). has_chosen agg y.port.choice) ys)
+    by_test true e = ap (λ n. suc n) e
+    by_test false e = e
+
+chose_occupies : (agg : AggId) (c : Choice) → has_chosen agg c ≡ true → occupied c ≡ Some agg.0
+chose_occupies agg Unselected h = absurd (no h)
+chose_occupies agg (Selected given) h = ap (λ (n : ℕ). Some n) (grind (arith, nat_tests))
+chose_occupies agg (Standby given) h = absurd (no h)
+
+pub never_stands : (s : SystemState) (i : ℕ) (x : SystemPort) (agg : AggId) → IsSound s → EnoughLinks s → slice_get s.system_ports i ≡ Some x
+    → x.port.choice ≡ Standby agg → ⊥
+never_stands s i x agg h enough there stands =
+    let full = waits_for_room s i x agg h there stands in
+    let key = x.port.party.key in
+    let one : SystemPort → Bool = λ y. has_chosen agg y.port.choice in
+    let other : SystemPort → Bool = λ y. y.port.party.key.0 == key.0 in
+    let its = h.occupants.key i agg.0 x there (ap occupied stands) in
+    let more : count one s.system_ports + 1 ≤ count other s.system_ports = count_more_of one other s.system_ports
+    (λ j y e c. (let same : y.port.party.key ≡ key = same_Some y.port.party.key key
+    (sym (h.occupants.key j agg.0 y e (chose_occupies agg y.port.choice c)) ∙ its) in
+    ap (λ (q : Key). q.0 == key.0) same ∙ itself key.0)) i x there (ap (has_chosen agg) stands) (itself key.0) in
+    let most : ports_with key s ≤ full.0 = enough i full.0 x there full.1 in
+    let members : count one s.system_ports ≡ full.0 = sym (members_counted agg s.system_ports) ∙ full.2 in
+    let ports : ports_with key s ≡ count other s.system_ports = counted other s.system_ports in
+    too_many (ports_with key s) (count one s.system_ports) (count other s.system_ports) full.0 more most members ports
+  where
+    too_many : (p m o f : ℕ) → m + 1 ≤ o → p ≤ f → m ≡ f → p ≡ o → ⊥
+    too_many p m o f a b c d = omega (arith, a, b, c, d)
+
+-- a port that knows its partner is SELECTED
+
+is_chosen : (at : Side → ℕ) (w : Side → Lacpdu) (c : Side → ℕ) (s : Side) (j : WorldState) → IsSteady j
+    → EnoughAggregators (half s j).state → EnoughLinks (half s j).state → ((w (peer s)).actor.system ≢ (w s).actor.system) → 1 ≤ c s
+    → (e : EndPort at w 1 c s j) → is_selected e.port.port.choice ≡ true
+is_chosen at w c s j steady aggregators links apart known e =
+    let st = (half s j).state in
+    let heard = (e.is.1.1 known).0 in
+    let wants : WantsAggregator e.port.port = record {
+      up = e.is.1.0;
+      known = inl heard.current;
+      apart = λ h. apart (sym (ap (λ (y : Party). y.system) heard.party) ∙ (h ∙ ap (λ (y : Party). y.system) e.is.0.0));
+    } in
+    elim (finds_aggregator st e.index e.port (steady s).0 e.there wants (aggregators e.index e.port e.there e.is.1.0)) [
+      | inl h ↦ h
+      | inr h ↦ absurd (never_stands st e.index e.port h.0 (steady s).0 links e.there h.1)
+    ]
+
+-- the ports of a system name it
+
+pub own_system : (s : SystemState) (k : ℕ) (x : SystemPort) → IsSound s → slice_get s.system_ports k ≡ Some x → x.port.party.system ≡ s.system
+own_system s k x h there =
+    let found = find_at number_of_port s.system_ports k x (are_numbered 0 s.system_ports (ports_rise s h.ports)) there in
+    h.members.own x.number (model_port_of x) (ap (option_map model_port_of) found)
+
+-- each place of a list
+
+pub all_by_place : (P : SystemPort → Type 0) (xs : List SystemPort) → ((k : ℕ) (x : SystemPort) → slice_get xs k ≡ Some x → P x)
+    → AllByRecursion P xs
+all_by_place P [] h = tt
+all_by_place P (x ∷ xs) h = (h zero x refl, all_by_place P xs (λ k y e. h (suc k) y e))
+
+-- ports whose links are down
+
+down_keeps : (t : ℕ) → RoundKeeps (Down t)
+down_keeps t = record {
+  settles = down_settles t;
+  sends = λ n p a e. a e;
+  takes = λ n v p q h a. down_takes t n v p q h a;
+}
+
+down_first : (s : SystemState) → IsSound s → AllByRecursion (λ (x : SystemPort). IsTimed x.port) s.system_ports → EnoughLinks s
+    → OfEach (Down 20) s.system_ports
+down_first s h timed enough = all_by_place (λ x. Down 20 x.number x.port) s.system_ports
+    (λ k x there e. (
+      λ agg stands. never_stands s k x agg h enough there stands,
+      λ chosen. (rising_first x.port (all-get (MuxIsSettled s.keys s.system_ports) s.system_ports k x there h.quiet.0).mux
+          (all-get (λ (y : SystemPort). IsTimed y.port) s.system_ports k x there timed) chosen).1,
+    ))
+
+down_rounds : (gives : Algorithms) (n : ℕ) (old new : WorldState) → IsSteady old → (s : Side) → EnoughLinks (half s old).state
+    → Rounds gives n old new → EachAt (Down (20 - n)) s new
+down_rounds gives n old new steady s enough h = zero_on gives (λ m j. EachAt (Down (20 - m)) s j) old
+    (subst (λ t. EachAt (Down t) s old) (omega arith) (down_first (half s old).state (steady s).0 (steady s).1 enough))
+    (λ m i j q a. subst (λ t. EachAt (Down t) s j) (omega arith)
+    (round_each (Down (20 - m)) (Down (20 - m - 1)) (down_keeps (20 - m - 1)) (λ k p r run b. down_ticks (20 - m) k p r run b) s gives i j q a))
+    n new h
+
+-- a bundle
+
+pub ends_at : (i : ℕ) (l : LinkState) (j : WorldState) → IsHealthyAt i l j → Ends l j
+ends_at i l j h s = end_of (λ p. p.enabled ≡ true) (port_at s l) (half s j).state (h.up s)
+
+module _ (Holds : LinkState → WorldState → Type 0) (first : ℕ) (gives : Algorithms) (old : WorldState) (b : IsBundle Holds old)
+    (meets : (i : ℕ) (l : LinkState) (h : IsHealthyAt i l old) → Holds l old → (mid : WorldState) → Rounds gives first old mid
+    → Fresh (λ s. port_at s l) (said_by l old (ends_at i l old h)) mid)
+    (wakes : (i : ℕ) (l : LinkState) (h : IsHealthyAt i l old) → Holds l old → (s : Side)
+    → (activity (said_by l old (ends_at i l old h) s) ≡ true) ⊎ (activity (said_by l old (ends_at i l old h) (peer s)) ≡ true)) where
+  -- of each healthy cable it holds
+  pub holds : (i : ℕ) (l : LinkState) → IsHealthyAt i l old → Holds l old
+  holds i l h =
+      let e = ends_at i l old h One in
+      let it = b.heard One e.0 e.1 e.3 e.4 in
+      let joins : port_at One it.link ≡ port_at One l = it.joins ∙ found_place (port_at One l) (half One old).state.system_ports e.0 e.1 e.2 e.3 in
+      let here : end_at (map link_ends old.links) One (suc it.index) ≡ Some (port_at One l) =
+      end_is One old.links it.index it.link it.healthy.there ∙ ap (λ (n : ℕ). Some n) joins in
+      let place : suc it.index ≡ suc i = b.cabling One (suc it.index) (suc i) (port_at One l) here (end_is One old.links i l h.there) in
+      let same : it.index ≡ i = omega (arith, place) in
+      subst (λ m. Holds m old) (same_Some it.link l (sym it.healthy.there ∙ (ap (slice_get old.links) same ∙ h.there))) it.holds
+
+  systems : (i : ℕ) (l : LinkState) (h : IsHealthyAt i l old) → (s : Side)
+      → (said_by l old (ends_at i l old h) (peer s)).actor.system ≢ (said_by l old (ends_at i l old h) s).actor.system
+  systems i l h =
+      let e = ends_at i l old h in
+      let own : (s : Side) → (e s).1.port.party.system ≡ (half s old).state.system =
+      λ s. own_system (half s old).state (e s).0 (e s).1 (b.steady s).0 (e s).3 in
+      apart_by e own
+    where
+      apart_by : (e : Ends l old) → ((s : Side) → (e s).1.port.party.system ≡ (half s old).state.system) → (s : Side)
+          → (said_by l old e (peer s)).actor.system ≢ (said_by l old e s).actor.system
+      apart_by e own One same = b.differ (sym (own One) ∙ (sym same ∙ own Two))
+      apart_by e own Two same = b.differ (sym (own One) ∙ (same ∙ own Two))
+
+  module _ (mid top : WorldState) (h : Rounds gives first old mid) (more : Rounds gives 20 mid top) where
+    middle : IsSteady mid
+    middle = rounds_steady gives first old mid b.steady h
+
+    above : IsSteady top
+    above = rounds_steady gives 20 mid top middle more
+
+    -- both ends of each healthy cable are SELECTED
+    chosen : (i : ℕ) (l : LinkState) (y : IsHealthyAt i l old) → (s : Side)
+        → AtIt (λ t. port_at t l) (said_by l old (ends_at i l old y)) s (λ p. is_selected p.choice ≡ true) mid
+    chosen i l y s =
+        let at : Side → ℕ = λ t. port_at t l in
+        let w = said_by l old (ends_at i l old y) in
+        let g = meets i l y (holds i l y) mid h in
+        let e = end_here at w 1 g.known One Nothing mid g.link s in
+        let k = as_before gives first old mid b.steady h s in
+        at_end at w 1 g.known s mid e middle (λ p. is_selected p.choice ≡ true)
+        (is_chosen at w g.known s mid middle (still_aggregators s old mid k (b.aggregators s)) (still_links s old mid k (b.links s))
+        (systems i l y s) (let m = knows_peer at w 1 0 0 mid g (omega arith) s in omega (arith, m)) e)
+
+    climb : (i : ℕ) (l : LinkState) (y : IsHealthyAt i l old)
+        → Climbs (λ t. port_at t l) (said_by l old (ends_at i l old y)) (wakes i l y (holds i l y)) (λ _. 0) 0 20 top
+    climb i l y =
+        let at : Side → ℕ = λ t. port_at t l in
+        let w = said_by l old (ends_at i l old y) in
+        let awake = wakes i l y (holds i l y) in
+        zero_on gives (Climbs at w awake (λ _. 0) 0) mid
+        (climbs_first at w awake (λ _. 0) 0 mid (meets i l y (holds i l y) mid h) (chosen i l y))
+        (climbs_on at w awake (λ _. 0) 0 gives) 20 top more
+
+    -- and have risen, as the SELECTED ports have whose links are down
+    ripe : (s : Side) → AllByRecursion (λ (y : SystemPort). Ripe 0 y.port) (half s top).state.system_ports
+    ripe s = all_by_place (λ y. Ripe 0 y.port) (half s top).state.system_ports each
+      where
+        both : IsAsBefore s mid top
+        both = as_before gives 20 mid top middle more s
+
+        start : IsAsBefore s old mid
+        start = as_before gives first old mid b.steady h s
+
+        down : EachAt (Down 0) s top
+        down = subst (λ t. EachAt (Down t) s top) (omega arith)
+            (down_rounds gives 20 mid top middle s (still_links s old mid start (b.links s)) more)
+
+        each : (k : ℕ) (y : SystemPort) → slice_get (half s top).state.system_ports k ≡ Some y → Ripe 0 y.port
+        each k y there =
+            let x = old_port (half s mid).state.system_ports (half s top).state.system_ports k y both.numbers there in
+            let z = old_port (half s old).state.system_ports (half s mid).state.system_ports k x.0 start.numbers x.1 in
+            let enabled : y.port.enabled ≡ z.0.port.enabled = (both.alike k x.0 y x.1 there).1 ∙ (start.alike k z.0 x.0 z.1 x.1).1 in
+            elim (cases_Bool z.0.port.enabled) [
+              | inl up ↦ (let it = b.heard s k z.0 z.1 up in
+                  let c = climb it.index it.link it.healthy in
+                  let number : y.number ≡ port_at s it.link = x.2 ∙ (z.2 ∙ sym it.joins) in
+                  λ _. (all-get (λ (q : SystemPort). AtPort (port_at s it.link) (Rising 0) q.number q.port) (half s top).state.system_ports k y there
+                  (subst (λ t. EachAt (AtPort (port_at s it.link) (Rising t)) s top) (omega arith) (c.rising s)) number).1)
+              | inr gone ↦ (all-get (λ (q : SystemPort). Down 0 q.number q.port) (half s top).state.system_ports k y there down
+                  (enabled ∙ gone)).1
+            ]
+
+    ready : (i : ℕ) (l : LinkState) (y : IsHealthyAt i l old) → (s : Side)
+        → AtIt (λ t. port_at t l) (said_by l old (ends_at i l old y)) s (Rising 0) top
+        → AtIt (λ t. port_at t l) (said_by l old (ends_at i l old y)) s Synced top
+    ready i l y s a =
+        let at : Side → ℕ = λ t. port_at t l in
+        let w = said_by l old (ends_at i l old y) in
+        let g = (climb i l y).fresh in
+        let e = end_here at w 1 g.known One Nothing top g.link s in
+        at_end at w 1 g.known s top e above Synced
+        (climbed (half s top).state e.index e.port (above s).0 e.there (ripe s) (end_with at w 1 g.known s top e (Rising 0) a))
+
+  pub ups : (i : ℕ) (l : LinkState) (y : IsHealthyAt i l old) (k : Side → ℕ) (c most n : ℕ) (new : WorldState)
+      → Brisk (λ s. port_at s l) (said_by l old (ends_at i l old y)) (wakes i l y (holds i l y)) k c most
+      → (1 ≤ c → Stamped 0 (λ s. port_at s l) k old) → first + 20 + most ≤ n → Rounds gives n old new
+      → Up (λ s. port_at s l) (said_by l old (ends_at i l old y)) (wakes i l y (holds i l y)) k c most new
+  ups i l y k c most n new brisk st enough h =
+      let at : Side → ℕ = λ s. port_at s l in
+      let w = said_by l old (ends_at i l old y) in
+      let m = n - first in
+      let cut = splits gives m first n old new (omega (arith, enough)) h in
+      let up = splits gives (m - 20) 20 m cut.0 new (omega (arith, enough)) cut.2 in
+      comes_up at w (wakes i l y (holds i l y)) k c most gives (m - 20) cut.0 up.0 new (meets i l y (holds i l y) cut.0 cut.1)
+      (chosen cut.0 up.0 cut.1 up.1 i l y) (ready cut.0 up.0 cut.1 up.1 i l y)
+      (λ j. zero_on gives (λ m j. Stamped 0 at k j) old (st j) (λ m i j q z. stamped_round gives 0 at k i j z q) first cut.0 cut.1)
+      brisk (omega (arith, enough)) up.1 up.2
+
+  none_yet : 1 ≤ 0 → ⊥
+  none_yet l = omega (arith, l)
+
+  pub distribute : (i : ℕ) (l : LinkState) (y : IsHealthyAt i l old) (most : ℕ)
+      → Brisk (λ s. port_at s l) (said_by l old (ends_at i l old y)) (wakes i l y (holds i l y)) (λ _. 0) 0 most → (n : ℕ) (new : WorldState) → first + 20 + most ≤ n → Rounds gives n old new
+      → (s : Side) → AtEnd Distributes s l new
+  distribute i l y most brisk n new enough h =
+      let up = ups i l y (λ _. 0) 0 most n new brisk (λ c. absurd (none_yet c)) enough h in
+      up_now (λ s. port_at s l) (said_by l old (ends_at i l old y)) (wakes i l y (holds i l y)) (λ _. 0) 0 most up.0 new up.1 up.2
+
+  pub agree : IsWorldSound old → (i : ℕ) (l : LinkState) (y : IsHealthyAt i l old) (most : ℕ)
+      → ((k : Side → ℕ) → Brisk (λ s. port_at s l) (said_by l old (ends_at i l old y)) (wakes i l y (holds i l y)) k 1 most) → (n : ℕ) (new : WorldState) → first + 20 + most ≤ n
+      → Rounds gives n old new → agreement_at new (suc i) ≡ Some Same
+  agree sound i l y most brisk n new enough h =
+      let at : Side → ℕ = λ s. port_at s l in
+      let w = said_by l old (ends_at i l old y) in
+      let k : Side → ℕ = λ s. change_count_in (history_at (half s old).histories (port_at s l)) in
+      agrees_now at w (wakes i l y (holds i l y)) k most i new
+      (λ x fl c. same_index i x l fl old new y.there (rounds_join gives n old new h) c)
+      (ups i l y k 1 most n new (brisk k) (λ _. stamped) enough h)
+    where
+      some_is : {X : Type 0} (o : Option X) → IsSome o → is_some o ≡ true
+      some_is None h = absurd (let e = h in cc)
+      some_is (Some x) h = refl
+
+      stamped : Stamped 0 (λ s. port_at s l) (λ s. change_count_in (history_at (half s old).histories (port_at s l))) old
+      stamped = record {
+        flying = λ s. towards s l;
+        index = i;
+        links = healthy_cable i l old b.cabling y;
+        counts = λ s. refl;
+        there = λ s. some_is (history_at (half s old).histories (port_at s l)) (sound.ends s i l y.there);
+        items = λ j. absurd (omega (arith, j));
+      }
+
+-- the laws of a bundle
+
+pub one_wakes : (old : WorldState) (i : ℕ) (l : LinkState) (h : IsHealthyAt i l old) → OneIsActive l old → (s : Side)
+    → (activity (said_by l old (ends_at i l old h) s) ≡ true) ⊎ (activity (said_by l old (ends_at i l old h) (peer s)) ≡ true)
+one_wakes old i l h a = awake_at (said_by l old (ends_at i l old h)) a.0 (active_at l old (ends_at i l old h) a.0 a.1)
+
+pub one_meet : (gives : Algorithms) (old : WorldState) → IsBundle OneIsActive old → (i : ℕ) (l : LinkState) (h : IsHealthyAt i l old)
+    → OneIsActive l old → (mid : WorldState) → Rounds gives 630 old mid → Fresh (λ s. port_at s l) (said_by l old (ends_at i l old h)) mid
+one_meet gives old b i l h a mid r = one_meets gives (λ s. port_at s l) (said_by l old (ends_at i l old h)) a.0 630 old mid
+    (active_at l old (ends_at i l old h) a.0 a.1) (omega arith) (starts i l old (ends_at i l old h) b.steady b.cabling h) r
+
+pub both_wake : (old : WorldState) (i : ℕ) (l : LinkState) (h : IsHealthyAt i l old) → BothAreActive l old → (s : Side)
+    → (activity (said_by l old (ends_at i l old h) s) ≡ true) ⊎ (activity (said_by l old (ends_at i l old h) (peer s)) ≡ true)
+both_wake old i l h a s = inl (active_at l old (ends_at i l old h) s (a s))
+
+pub both_meet : (gives : Algorithms) (old : WorldState) → IsBundle BothAreActive old → (i : ℕ) (l : LinkState) (h : IsHealthyAt i l old)
+    → BothAreActive l old → (mid : WorldState) → Rounds gives 321 old mid → Fresh (λ s. port_at s l) (said_by l old (ends_at i l old h)) mid
+both_meet gives old b i l h a mid r = active_meet gives (λ s. port_at s l) (said_by l old (ends_at i l old h)) 321 old mid
+    (λ s. active_at l old (ends_at i l old h) s (a s)) (omega arith) (starts i l old (ends_at i l old h) b.steady b.cabling h) r
+
+pub both_on : (old : WorldState) (i : ℕ) (l : LinkState) (h : IsHealthyAt i l old) → BothAreActive l old → (s : Side)
+    → activity (said_by l old (ends_at i l old h) s) ≡ true
+both_on old i l h a s = active_at l old (ends_at i l old h) s (a s)
+
+pub zero_none : 1 ≤ 0 → ⊥
+zero_none l = omega (arith, l)
+
+pub each_link_comes_up : (gives : Algorithms) → EachLinkComesUp gives
+each_link_comes_up gives n i l old new b y enough h =
+    distribute OneIsActive 630 gives old b (one_meet gives old b) (one_wakes old) i l y 309 (inr (omega arith)) n new (omega (arith, enough)) h
+
+pub each_active_link_comes_up : (gives : Algorithms) → EachActiveLinkComesUp gives
+each_active_link_comes_up gives n i l old new b y enough h =
+    distribute BothAreActive 321 gives old b (both_meet gives old b) (both_wake old) i l y 11
+    (inl (both_on old i l y (holds BothAreActive 321 gives old b (both_meet gives old b) (both_wake old) i l y), zero_none, omega arith)) n new
+    (omega (arith, enough)) h
+
+pub each_link_agrees : (gives : Algorithms) → EachLinkAgrees gives
+each_link_agrees gives n i l old new sound b y enough h =
+    agree OneIsActive 630 gives old b (one_meet gives old b) (one_wakes old) sound i l y 309 (λ k. inr (omega arith)) n new
+    (omega (arith, enough)) h
+
+pub each_active_link_agrees : (gives : Algorithms) → EachActiveLinkAgrees gives
+each_active_link_agrees gives n i l old new sound b y enough h =
+    agree BothAreActive 321 gives old b (both_meet gives old b) (both_wake old) sound i l y 309 (λ k. inr (omega arith)) n new
+    (omega (arith, enough)) h
+
+-- a world with one cable, and one port in each system
+
+no_zero : (conversations : ℕ) → refusal_of_limits (Some 0) conversations ≡ None → ⊥
+no_zero conversations h = none-some MaxLinks (sym h)
+
+limit_accepted : (s : SystemState) → IsSound s → refusal_of_limits s.max_links s.conversations ≡ None
+limit_accepted s h = last (first_bad_port_number 1 0 (configured_numbers s.ports)) (refusal_of_limits s.max_links s.conversations)
+    (if_then _ _ _ (if_then _ _ _ h.ports.accepted))
+  where
+    last : (o : Option ℕ) (b : Option BadConfig) → or_first (option_map PortNumber o) b ≡ None → b ≡ None
+    last None b e = e
+    last (Some n) b e = absurd (none-some (PortNumber n) (sym e))
+
+some_most : (s : SystemState) (most : ℕ) → IsSound s → s.max_links ≡ Some most → 1 ≤ most
+some_most s zero h e = absurd (no_zero s.conversations (subst (λ o. refusal_of_limits o s.conversations ≡ None) e (limit_accepted s h)))
+some_most s (suc most) h e = omega arith
+
+one_of : (s : SystemState) (xs : List SystemPort) → s.system_ports ≡ xs → length xs ≡ 1 → (x : SystemPort) × (s.system_ports ≡ x ∷ [])
+one_of s [] e l = absurd (omega (arith, l))
+one_of s (x ∷ []) e l = (x, e)
+one_of s (x ∷ (y ∷ ys)) e l = absurd (omega (arith, l))
+
+one_port : (s : SystemState) → IsSound s → length s.ports ≡ 1 → (x : SystemPort) × (s.system_ports ≡ x ∷ [])
+one_port s h l = one_of s s.system_ports refl
+    (many s.system_ports ∙ (ap (λ (ns : List ℕ). length ns) h.ports.same ∙ (numbered s.ports ∙ l)))
+  where
+    numbered : (cs : List PortConfig) → length (configured_numbers cs) ≡ length cs
+    numbered [] = refl
+    numbered (c ∷ cs) = ap (λ n. suc n) (numbered cs)
+
+only_one : (x z : SystemPort) (k : ℕ) → slice_get (x ∷ []) k ≡ Some z → z ≡ x
+only_one x z zero e = sym (same_Some x z e)
+only_one x z (suc k) e = absurd (none-some z e)
+
+few : (test : SystemPort → Bool) (x : SystemPort) → length (filter test (x ∷ [])) ≤ 1
+few test x = by_test (test x)
+  where
+    by_test : (b : Bool) → length (cond b (x ∷ []) []) ≤ 1
+    by_test true = omega arith
+    by_test false = omega arith
+
+few_ports : (s : SystemState) → IsSound s → HasRoom s → (key : Key) → ports_with key s ≤ 1
+few_ports s h room key =
+    let one = one_port s h room.one in
+    subst (λ (ys : List SystemPort). length (filter (λ (x : SystemPort). x.port.party.key.0 == key.0) ys) ≤ 1) (sym one.1)
+    (few (λ (x : SystemPort). x.port.party.key.0 == key.0) one.0)
+
+room_aggregators : (s : SystemState) → IsSound s → HasRoom s → EnoughAggregators s
+room_aggregators s h room k x there up =
+    let few = few_ports s h room x.port.party.key in
+    let some = room.aggregator k x there in
+    at_most (ports_with x.port.party.key s) (aggregators_with x.port.party.key s) few some
+  where
+    at_most : (m n : ℕ) → m ≤ 1 → 1 ≤ n → m ≤ n
+    at_most m n a b = omega (arith, a, b)
+
+room_links : (s : SystemState) → IsSound s → HasRoom s → EnoughLinks s
+room_links s h room k most x there limit =
+    let few = few_ports s h room x.port.party.key in
+    let some = some_most s most h limit in
+    at_most (ports_with x.port.party.key s) most few some
+  where
+    at_most : (m n : ℕ) → m ≤ 1 → 1 ≤ n → m ≤ n
+    at_most m n a b = omega (arith, a, b)
+
+-- its only port is that at the end of the cable
+only_heard : (Holds : LinkState → WorldState → Type 0) (l : LinkState) (j : WorldState) → IsSteady j → IsHealthy l j
+    → ((s : Side) → HasRoom (half s j).state) → Holds l j → AllHeard Holds j
+only_heard Holds l j steady h room it s k x there up =
+    let st = (half s j).state in
+    let e = ends_at zero l j (only_cable l j h) s in
+    let one = one_port st (steady s).0 (room s).one in
+    let same : x ≡ one.0 = only_one one.0 x k (subst (λ ys. slice_get ys k ≡ Some x) one.1 there) in
+    let end : e.1 ≡ one.0 = only_one one.0 e.1 e.0 (subst (λ ys. slice_get ys e.0 ≡ Some e.1) one.1 e.3) in
+    record {
+      index = zero;
+      link = l;
+      healthy = only_cable l j h;
+      joins = sym (found_place (port_at s l) st.system_ports e.0 e.1 e.2 e.3) ∙ ap (λ (z : SystemPort). z.number) (end ∙ sym same);
+      holds = it;
+    }
+
+only_differ : (l : LinkState) (j : WorldState) → IsSteady j → IsHealthy l j → AreApart l j → SystemsDiffer j
+only_differ l j steady h apart same =
+    let e = ends_at zero l j (only_cable l j h) in
+    let own : (s : Side) → (e s).1.port.party.system ≡ (half s j).state.system = λ s. own_system (half s j).state (e s).0 (e s).1 (steady s).0 (e s).3 in
+    apart_at l j e apart One (own Two ∙ (sym same ∙ sym (own One)))
+
+only_bundle : (Holds : LinkState → WorldState → Type 0) (l : LinkState) (j : WorldState) → IsSteady j → IsHealthy l j
+    → ((s : Side) → HasRoom (half s j).state) → AreApart l j → Holds l j → IsBundle Holds j
+only_bundle Holds l j steady h room apart it = record {
+  steady = steady;
+  cabling = only_cabling l j h;
+  differ = only_differ l j steady h apart;
+  heard = only_heard Holds l j steady h room it;
+  aggregators = λ s. room_aggregators (half s j).state (steady s).0 (room s);
+  links = λ s. room_links (half s j).state (steady s).0 (room s);
+}
+
+pub link_comes_up : (gives : Algorithms) → LinkComesUp gives
+link_comes_up gives n l old new a steady healthy room apart active enough h =
+    each_link_comes_up gives n zero l old new (only_bundle OneIsActive l old steady healthy room apart (a, active)) (only_cable l old healthy)
+    enough h
+
+pub active_link_comes_up : (gives : Algorithms) → ActiveLinkComesUp gives
+active_link_comes_up gives n l old new steady healthy room apart active enough h =
+    each_active_link_comes_up gives n zero l old new (only_bundle BothAreActive l old steady healthy room apart active)
+    (only_cable l old healthy) enough h
+
+pub link_agrees : (gives : Algorithms) → LinkAgrees gives
+link_agrees gives n l old new a sound steady healthy room apart active enough h =
+    each_link_agrees gives n zero l old new sound (only_bundle OneIsActive l old steady healthy room apart (a, active)) (only_cable l old healthy)
+    enough h
+
+pub active_link_agrees : (gives : Algorithms) → ActiveLinkAgrees gives
+active_link_agrees gives n l old new sound steady healthy room apart active enough h =
+    each_active_link_agrees gives n zero l old new sound (only_bundle BothAreActive l old steady healthy room apart active)
+    (only_cable l old healthy) enough h

@@ -1,0 +1,405 @@
+-- The link of each port that carries a conversation, or on which one is held, is up.
+use Rattle.lagsystem.proofs.Sound.{Step-sound, first_sound}
+use Rattle.std.proofs.Common.{◌≡◌, ◌∙◌, ℕ, ◌==◌, ◌&&◌, ◌||◌, Bool, true, false, not, cond, eqb, List, [], ◌∷◌, ◌⊎◌, inl, inr, refl, sym}
+use Rattle.std.proofs.Common.{subst, ap, arith, Some, None, Option, Ok, Err, Result, length}
+use Rattle.std.specs.Prelude.{is_none}
+use Rattle.std.proofs.lemmas.Bool.Decides.{nat_tests}
+use Rattle.std.proofs.lemmas.Option.{none-some, same_Some, slice_get_cases, slice_get_within}
+use Rattle.lagtypes.specs.declared.identifiers.AggId.{AggId}
+use Rattle.lagtypes.specs.declared.state.State.{State}
+use Rattle.lagtypes.specs.declared.state.StateBits.{StateBits}
+use Rattle.lagtypes.specs.States.{bits_of, with_synchronization}
+use Rattle.lagtypes.proofs.StateLemmas.{encode_then_decode}
+use Rattle.distributor.specs.declared.assignment.Assignment.{Assignment}
+use Rattle.distributor.specs.declared.assignment.Assignment.TheVariants.{Free, On, Wanted, Flushing}
+use Rattle.distributor.specs.declared.fault.DistFault.TheVariants as dist
+use Rattle.distributor.specs.Calls.{force_result, is_among, move_result}
+use Rattle.distributor.specs.Changes.{SetsAssignment, after_down}
+use Rattle.distributor.specs.Conversations.{Table, assignment_of, next_identifier}
+use Rattle.distributor.proofs.TableLemmas.{first_free}
+use Rattle.portmachines.specs.declared.mux.MuxState.TheVariants.{CollectingDistributing}
+use Rattle.portmachines.specs.declared.port.Setup.{Setup}
+use Rattle.portmachines.specs.declared.receive.ReceiveState.{ReceiveState}
+use Rattle.portmachines.specs.declared.receive.ReceiveState.TheVariants.{Initialize, PortDisabled, Expired, Defaulted, Current}
+use Rattle.portmachines.specs.Machines.{Machines}
+use Rattle.portmachines.specs.Mux.{mux_rows, partner_synchronized, same_mux_state, selected}
+use Rattle.portmachines.specs.Periodic.{periodic_rows}
+use Rattle.portmachines.specs.Receive.{lacpdu_rows, receive_rows, same_receive_state, start_receive}
+use Rattle.portmachines.specs.Start.{Starts, before_start}
+use Rattle.portmachines.specs.Transmit.{count_down}
+use Rattle.selection.specs.Views.{has_chosen}
+use Rattle.lagmodel.specs.World.{Side}
+use Rattle.lagsystem.specs.declared.drive.Reply.{Reply as Answer}
+use Rattle.lagsystem.specs.declared.drive.Reply.TheVariants as reply
+use Rattle.lagsystem.specs.declared.fault.SystemFault.{SystemFault}
+use Rattle.lagsystem.specs.declared.system_ports.SystemPort.{SystemPort}
+use Rattle.lagsystem.specs.Calls.{Call, Tick, Set_link, Receive, Configure, Restart, Transmit, Offer, Move_conversation, Force}
+use Rattle.lagsystem.specs.Calls.{FreesIfDown, Step, TableRun, choice_with_link, changed_party}
+use Rattle.lagsystem.specs.First.{IsFirst, configured_numbers}
+use Rattle.lagsystem.specs.ModelView.{none_enabled}
+use Rattle.lagsystem.specs.NothingToSettle.{MuxIsSettled}
+use Rattle.lagsystem.specs.Offers.{GivesOrRefuses, Offers, system_force_result, system_move_result}
+use Rattle.lagsystem.specs.Readers.{aggregator_numbered, distributing}
+use Rattle.lagsystem.specs.Sound.{IsSound}
+use Rattle.lagsystem.specs.State.{SystemState, port_numbers}
+use Rattle.lagsystem.proofs.Keeps.{Step-frame}
+use Rattle.lagsystem.proofs.Rest.{rests}
+use Rattle.lagsystem.proofs.Rising.{all-get, ports_rise}
+use Rattle.lagsystem.proofs.Steps.{forced_to, moved_to}
+use Rattle.lagscript.specs.declared.event.Event.{Event}
+use Rattle.lagworld.specs.declared.reply.Reply.{Reply}
+use Rattle.lagworld.specs.Events.{Algorithms, WorldRuns}
+use Rattle.lagworld.specs.State.{WorldState, half}
+use Rattle.lagprogress.specs.Freed.{EachReachedHasCarriersUp, HasPortUp, carrier_of, held_on}
+use Rattle.lagprogress.specs.Heartbeat.{takes_down}
+use Rattle.lagprogress.proofs.Answering.{among_port}
+use Rattle.lagprogress.proofs.EachPort.{KeptByCall, KeptBySettling, OfEach, Step-each, first_each}
+use Rattle.lagprogress.proofs.Freeing.{Stays, TableStays, asks_stay, comes_stay, held_carries, settles_stay, table_same, table_through, ticks_stay}
+use Rattle.lagprogress.proofs.Halves.{both_first, each_is_calls}
+use Rattle.lagprogress.proofs.Hearing.{no}
+use Rattle.lagprogress.proofs.Linked.{many}
+use Rattle.lagprogress.proofs.OnePort.{AtPort, at_number, same_place}
+use Rattle.lagprogress.proofs.Timers.{RowsKeep, fires_keep, runs_keep}
+
+-- the partner of a port in PORT_DISABLED is not synchronized
+
+abbrev pub Lapses : Machines → Type 0
+Lapses p = p.receive ≡ PortDisabled → partner_synchronized p ≡ false
+
+abbrev pub LapsesAt : ℕ → Machines → Type 0
+LapsesAt n p = Lapses p
+
+not_synchronized : (st : State) → (bits_of (with_synchronization false st)).synchronization ≡ false
+not_synchronized st = ap (λ (b : StateBits). b.synchronization) (encode_then_decode (record (bits_of st) { synchronization = false }))
+
+pub receive_lapses : RowsKeep Lapses receive_rows
+receive_lapses = (
+  λ p a e. not_synchronized p.partner.state,
+  (λ p a e. not_synchronized p.partner.state, (λ p a e. absurd cc, (λ p a e. absurd cc, (λ p a e. absurd cc, tt)))),
+)
+
+lapse_starts : (p q : Machines) → Starts p q → Lapses q
+lapse_starts p q h = subst Lapses (sym h.2) (runs_keep Lapses receive_rows receive_lapses (start_receive p) h.0 h.1 (λ e. absurd cc))
+
+pub lapse_settles : KeptBySettling LapsesAt
+lapse_settles = record {
+  mux = λ n ready p q h a. runs_keep Lapses (mux_rows ready)
+      (λ p a. a, (λ p a. a, (λ p a. a, (λ p a. a, (λ p a. a, (λ p a. a, tt)))))) p q h a;
+  periodic = λ n p q h a. subst Lapses (sym h.2) (runs_keep Lapses periodic_rows
+      (λ p a. a, (λ p a. a, (λ p a. a, (λ p a. a, (λ p a. a, (λ p a. a, (λ p a. a, tt))))))) p h.0 h.1 a);
+  select = λ n choice p none may a. a;
+}
+
+pub lapse_first : (n : ℕ) (u : Setup) (q : Machines) → Starts (before_start u) q → LapsesAt n q
+lapse_first n u q h = lapse_starts (before_start u) q h
+
+pub lapse_kept : (call : Call) (answer : Answer) → KeptByCall LapsesAt call answer
+lapse_kept Tick answer = λ n p q h a. runs_keep Lapses receive_rows receive_lapses (count_down p) q h a
+lapse_kept (Set_link n up) answer = λ max_links p q h a. runs_keep Lapses receive_rows receive_lapses
+    (record p { enabled = up; choice = choice_with_link max_links up p.choice }) q h a
+lapse_kept (Receive n octets) answer = λ v p q t h a. elim h [
+  | inl f ↦ fires_keep Lapses (lacpdu_rows v) (λ p a e. absurd cc, tt) p q f a
+  | inr r ↦ subst Lapses (sym r.1) a
+]
+lapse_kept (Configure n change) answer = λ p q h a. lapse_starts (record p { party = changed_party change p.party }) q h.1
+lapse_kept Restart answer = lapse_first
+lapse_kept (Transmit n) answer = λ p e a. a
+lapse_kept (Offer agg octets) answer = tt
+lapse_kept (Move_conversation agg conv port) answer = tt
+lapse_kept (Force agg conv) answer = tt
+
+-- so a port that distributes has its link up
+
+is_disabled : (r : ReceiveState) → same_receive_state PortDisabled r ≡ true → r ≡ PortDisabled
+is_disabled Initialize h = absurd (no h)
+is_disabled PortDisabled h = refl
+is_disabled Expired h = absurd (no h)
+is_disabled Defaulted h = absurd (no h)
+is_disabled Current h = absurd (no h)
+
+must_be_up : (e d sync chosen m : Bool) → (not d && not e) ≡ false → (d ≡ true → sync ≡ false) → m ≡ true
+    → (m && (not chosen || not sync)) ≡ false → e ≡ true
+must_be_up true d sync chosen m r l i j = refl
+must_be_up false false sync chosen m r l i j = absurd (no (sym r))
+must_be_up false true true chosen m r l i j = absurd (no (sym (l refl)))
+must_be_up false true false true true r l i j = absurd (no (sym j))
+must_be_up false true false false true r l i j = absurd (no (sym j))
+must_be_up false true false chosen false r l i j = absurd (no i)
+
+pub distributes_up : (s : SystemState) (agg : AggId) (p : ℕ) → IsSound s → OfEach LapsesAt s.system_ports
+    → is_among (distributing agg s.system_ports) p ≡ true → HasPortUp p s
+distributes_up s agg p h lapses e =
+    let d = among_port agg s.system_ports p e in
+    let x = d.1 in
+    let mux = (all-get (MuxIsSettled s.keys s.system_ports) s.system_ports d.0 x d.2 h.quiet.0).mux in
+    let rest = rests receive_rows x.port (all-get (λ (c : SystemPort). none_enabled receive_rows c.port ≡ true) s.system_ports d.0 x d.2 h.rested.0) in
+    let lapse = all-get (λ (c : SystemPort). Lapses c.port) s.system_ports d.0 x d.2 lapses in (
+      d.0,
+      x,
+      d.2,
+      d.3,
+      must_be_up x.port.enabled (same_receive_state PortDisabled x.port.receive) (partner_synchronized x.port)
+          (selected x.port) (same_mux_state CollectingDistributing x.port.mux) rest.1.0 (λ f. lapse (is_disabled x.port.receive f))
+          (second (has_chosen agg x.port.choice) (same_mux_state CollectingDistributing x.port.mux) d.4) mux.1.1.1.1.1.0,
+    )
+  where
+    second : (a b : Bool) → (a && b) ≡ true → b ≡ true
+    second true b f = f
+    second false b f = absurd (no f)
+
+-- a call that does not take a link down leaves it up
+
+abbrev Up : Machines → Type 0
+Up q = q.enabled ≡ true
+
+up_settles : (p : ℕ) → KeptBySettling (AtPort p Up)
+up_settles p = record {
+  mux = λ n ready q r h a e. runs_keep Up (mux_rows ready)
+      (λ p a. a, (λ p a. a, (λ p a. a, (λ p a. a, (λ p a. a, (λ p a. a, tt)))))) q r h (a e);
+  periodic = λ n q r h a e. subst Up (sym h.2) (runs_keep Up periodic_rows
+      (λ p a. a, (λ p a. a, (λ p a. a, (λ p a. a, (λ p a. a, (λ p a. a, (λ p a. a, tt))))))) q h.0 h.1 (a e));
+  select = λ n choice q none may a e. a e;
+}
+
+receive_up : RowsKeep Up receive_rows
+receive_up = (λ p a. a, (λ p a. a, (λ p a. a, (λ p a. a, (λ p a. a, tt)))))
+
+up_starts : (p q : Machines) → Starts p q → Up p → Up q
+up_starts p q h a = subst Up (sym h.2) (runs_keep Up receive_rows receive_up (start_receive p) h.0 h.1 a)
+
+set_up : (m p : ℕ) (up : Bool) → ((m == p) && not up) ≡ false → m ≡ p → up ≡ true
+set_up m p true h e = refl
+set_up m p false h e = let same : (m == p) ≡ true = grind (arith, nat_tests) in absurd (no (sym h ∙ ap (λ b. b && true) same))
+
+up_kept : (p : ℕ) (call : Call) (answer : Answer) → takes_down p call ≡ false → KeptByCall (AtPort p Up) call answer
+up_kept p Tick answer t = λ n q r h a e. runs_keep Up receive_rows receive_up (count_down q) r h (a e)
+up_kept p (Set_link n up) answer t = λ max_links q r h a e. runs_keep Up receive_rows receive_up
+    (record q { enabled = up; choice = choice_with_link max_links up q.choice }) r h (set_up n p up t e)
+up_kept p (Receive n octets) answer t = λ v q r took h a e. elim h [
+  | inl f ↦ fires_keep Up (lacpdu_rows v) (λ p a. a, tt) q r f (a e)
+  | inr x ↦ subst Up (sym x.1) (a e)
+]
+up_kept p (Configure n change) answer t = λ q r h a e. up_starts (record q { party = changed_party change q.party }) r h.1 (a e)
+up_kept p Restart answer t = absurd (no (sym t))
+up_kept p (Transmit n) answer t = λ q told a e. a e
+up_kept p (Offer agg octets) answer t = tt
+up_kept p (Move_conversation agg conv port) answer t = tt
+up_kept p (Force agg conv) answer t = tt
+
+still_up : (gives : ℕ → ℕ → ℕ → Type 0) (p : ℕ) (old new : SystemState) (call : Call) (answer : Answer) → IsSound old → IsSound new
+    → Step gives old call answer new → takes_down p call ≡ false → HasPortUp p old → HasPortUp p new
+still_up gives p old new call answer was now h t (k, x, there, number, up) =
+    let each = Step-each (AtPort p Up) (up_settles p) gives old call answer new (up_kept p call answer t) h
+    (subst (λ n. OfEach (AtPort n Up) old.system_ports) number (at_number Up 0 old.system_ports k x (ports_rise old was.ports) there up)) in
+    let ports : new.ports ≡ old.ports = ap (λ (s : SystemState). s.ports) (Step-frame gives old call answer new h) in
+    let numbers : port_numbers new.system_ports ≡ port_numbers old.system_ports =
+    now.ports.same ∙ (ap configured_numbers ports ∙ sym was.ports.same) in
+    let within = slice_get_within old.system_ports k x there in
+    let one = many old.system_ports in
+    let two = many new.system_ports in
+    let both = ap (λ (ns : List ℕ). length ns) numbers in
+    elim (slice_get_cases new.system_ports k).1 [
+      | inl c ↦ (let n = same_place old.system_ports new.system_ports k x c.0 numbers there c.2 ∙ number in
+          (k, c.0, c.2, n, all-get (λ (y : SystemPort). AtPort p Up y.number y.port) new.system_ports k c.0 c.2 each n))
+      | inr c ↦ (let past = c.0 in absurd (omega (arith, within, one, two, both, past)))
+    ]
+
+-- what is held was carried before, on a port that is not taken down
+
+abbrev HeldBefore : Call → Table → Table → Type 0
+HeldBefore call t u = (g k p : ℕ) → held_on (assignment_of u g k) ≡ Some p
+    → (carrier_of (assignment_of t g k) ≡ Some p) × (takes_down p call ≡ false)
+
+carried_before : (a b : Assignment) (p : ℕ) → Stays a b → carrier_of b ≡ Some p → carrier_of a ≡ Some p
+carried_before a b p (inl e) h = absurd (none-some p (sym e ∙ h))
+carried_before a b p (inr e) h = sym e ∙ h
+
+by_stays : (call : Call) (t u : Table) → ((p : ℕ) → takes_down p call ≡ false) → TableStays t u → HeldBefore call t u
+by_stays call t u leaves h g k p e =
+    (carried_before (assignment_of t g k) (assignment_of u g k) p (h g k) (held_carries (assignment_of u g k) p e), leaves p)
+
+downed_before : (n p : ℕ) (a : Assignment) → carrier_of (after_down n a) ≡ Some p → (carrier_of a ≡ Some p) × (eqb p n ≡ false)
+downed_before n p (Free preferred) h = absurd (none-some p h)
+downed_before n p (On q) h = by_test (eqb q n) refl h
+  where
+    by_test : (b : Bool) → eqb q n ≡ b → carrier_of (cond b (Free None) (On q)) ≡ Some p → (Some q ≡ Some p) × (eqb p n ≡ false)
+    by_test true e f = absurd (none-some p f)
+    by_test false e f = (f, ap (λ x. eqb x n) (sym (same_Some q p f)) ∙ e)
+downed_before n p (Wanted q preferred) h = by_test (eqb q n) refl h
+  where
+    by_test : (b : Bool) → eqb q n ≡ b → carrier_of (cond b (Free preferred) (Wanted q preferred)) ≡ Some p → (Some q ≡ Some p) × (eqb p n ≡ false)
+    by_test true e f = absurd (none-some p f)
+    by_test false e f = (f, ap (λ x. eqb x n) (sym (same_Some q p f)) ∙ e)
+downed_before n p (Flushing q id preferred age) h = by_test (eqb q n) refl h
+  where
+    by_test : (b : Bool) → eqb q n ≡ b → carrier_of (cond b (Free preferred) (Flushing q id preferred age)) ≡ Some p
+        → (Some q ≡ Some p) × (eqb p n ≡ false)
+    by_test true e f = absurd (none-some p f)
+    by_test false e f = (f, ap (λ x. eqb x n) (sym (same_Some q p f)) ∙ e)
+
+linked_before : (n : ℕ) (up : Bool) (old mid new : SystemState) → FreesIfDown up n old.table mid.table → TableStays mid.table new.table
+    → HeldBefore (Set_link n up) old.table new.table
+linked_before n true old mid new h k g c p e =
+    let carried = carried_before (assignment_of mid.table g c) (assignment_of new.table g c) p (k g c) (held_carries (assignment_of new.table g c) p e) in
+    (ap (λ t. carrier_of (assignment_of t g c)) (sym h) ∙ carried, never (n == p))
+  where
+    never : (b : Bool) → (b && false) ≡ false
+    never true = refl
+    never false = refl
+linked_before n false old mid new h k g c p e =
+    let carried = carried_before (assignment_of mid.table g c) (assignment_of new.table g c) p (k g c) (held_carries (assignment_of new.table g c) p e) in
+    let d = downed_before n p (assignment_of old.table g c) (ap carrier_of (sym (h.states g c)) ∙ carried) in
+    (d.0, other d.1)
+  where
+    other : eqb p n ≡ false → ((n == p) && true) ≡ false
+    other f = grind (arith, nat_tests)
+
+moved_stays : (next : Option ℕ) (ports : List ℕ) (to : ℕ) (a s : Assignment) → move_result next ports to a ≡ Ok s → Stays a s
+moved_stays next ports to (Free preferred) s h = absurd cc
+moved_stays next ports to (Wanted p preferred) s h = absurd cc
+moved_stays next ports to (Flushing p n preferred age) s h = absurd cc
+moved_stays next ports to (On p) s h = checked (is_among ports to) (eqb p to) (is_none next) h
+  where
+    checked : (x y z : Bool)
+        → cond x (cond y (Err dist.SamePort) (cond z (Err dist.MarkersSpent) (Ok (Wanted p (Some to))))) (Err dist.NotDistributing) ≡ Ok s
+        → Stays (On p) s
+    checked false y z e = absurd cc
+    checked true true z e = absurd cc
+    checked true false true e = absurd cc
+    checked true false false e = let is : Wanted p (Some to) ≡ s = cc in inr (ap carrier_of (sym is))
+
+forced_stays : (a s : Assignment) → force_result a ≡ Ok s → Stays a s
+forced_stays (Free preferred) s h = absurd cc
+forced_stays (On p) s h = let is : Free None ≡ s = cc in inl (ap carrier_of (sym is))
+forced_stays (Wanted p preferred) s h = let is : Free preferred ≡ s = cc in inl (ap carrier_of (sym is))
+forced_stays (Flushing p n preferred age) s h = let is : Free preferred ≡ s = cc in inl (ap carrier_of (sym is))
+
+sets_stay : (agg conv : ℕ) (state : Assignment) (old new : Table) → SetsAssignment old new agg conv state
+    → Stays (assignment_of old agg conv) state → TableStays old new
+sets_stay agg conv state old new h k g c = subst (Stays (assignment_of old g c)) (sym (h.states g c))
+    (by_test (eqb agg g && eqb conv c) refl)
+  where
+    here : (eqb agg g && eqb conv c) ≡ true → (agg ≡ g) × (conv ≡ c)
+    here e = (grind (arith, nat_tests), grind (arith, nat_tests))
+
+    by_test : (b : Bool) → (eqb agg g && eqb conv c) ≡ b → Stays (assignment_of old g c) (cond b state (assignment_of old g c))
+    by_test true e = let same = here e in
+        subst (λ x. Stays (assignment_of old g x) state) same.1 (subst (λ x. Stays (assignment_of old x conv) state) same.0 k)
+    by_test false e = inr refl
+
+gives_stays : (agg : AggId) (conv : ℕ) (what : Result Assignment SystemFault) (old : SystemState) (answer : Result Unit SystemFault)
+    (new : SystemState) → ((s : Assignment) → what ≡ Ok s → Stays (assignment_of old.table agg.0 conv) s)
+    → GivesOrRefuses agg conv what old answer new → TableStays old.table new.table
+gives_stays agg conv (Ok s) old answer new k h = sets_stay agg.0 conv s old.table new.table h.1.0 (k s refl)
+gives_stays agg conv (Err fault) old answer new k h = table_same old new (ap (λ (s : SystemState). s.table) h.1)
+
+offered_before : (gives : ℕ → ℕ → ℕ → Type 0) (agg : AggId) (octets : List ℕ) (old : SystemState) (answer : Result ℕ SystemFault)
+    (new : SystemState) → Offers gives agg octets old answer new → HeldBefore (Offer agg octets) old.table new.table
+offered_before gives agg octets old (Err fault) new h =
+    by_stays (Offer agg octets) old.table new.table (λ p. refl) (table_same old new (ap (λ (s : SystemState). s.table) h.1))
+offered_before gives agg octets old (Ok port) new h =
+    λ g k p e. (by_test g k p _ (ap held_on (sym (h.2.0.states g k)) ∙ e), refl)
+  where
+    by_test : (g k p : ℕ) (b : Bool) → held_on (cond b (On port) (assignment_of old.table g k)) ≡ Some p
+        → carrier_of (assignment_of old.table g k) ≡ Some p
+    by_test g k p true f = absurd (none-some p f)
+    by_test g k p false f = held_carries (assignment_of old.table g k) p f
+
+first_is_free : (s : SystemState) → IsFirst s → (g k : ℕ) → assignment_of s.table g k ≡ Free None
+first_is_free s h g k = ap (λ (t : Table). assignment_of t g k) h.3 ∙ first_free (length s.keys) s.conversations s.first_marker g k
+
+held_before : (gives : ℕ → ℕ → ℕ → Type 0) (old new : SystemState) (call : Call) (answer : Answer) → Step gives old call answer new
+    → (new ≡ old) ⊎ HeldBefore call old.table new.table
+held_before gives old new Tick reply.Tick h = inr (
+    by_stays Tick old.table new.table (λ p. refl) (ticks_stay gives old new h))
+held_before gives old new (Set_link n up) (reply.SetLink (Ok done)) h = inr (
+    linked_before n up old h.0 new h.1.1 (settles_stay h.0 new h.2))
+held_before gives old new (Set_link n up) (reply.SetLink (Err fault)) h = inl h.same
+held_before gives old new (Receive n octets) (reply.Receive a) h = inr (
+    by_stays (Receive n octets) old.table new.table (λ p. refl) (comes_stay gives n octets a old new h))
+held_before gives old new (Configure n change) (reply.Configure (Ok true)) h = inr (
+    by_stays (Configure n change) old.table new.table (λ p. refl) (table_through old.table h.0.table new.table
+    (table_same old h.0 (ap (λ (s : SystemState). s.table) h.1.1)) (settles_stay h.0 new h.2)))
+held_before gives old new (Configure n change) (reply.Configure (Ok false)) h = inr (
+    by_stays (Configure n change) old.table new.table (λ p. refl) (table_same old new (ap (λ (s : SystemState). s.table) h.1)))
+held_before gives old new (Configure n change) (reply.Configure (Err fault)) h = inr (
+    by_stays (Configure n change) old.table new.table (λ p. refl) (table_same old new (ap (λ (s : SystemState). s.table) h.same)))
+held_before gives old new Restart reply.Restart h = inr (
+    λ g k p e. absurd (none-some p (sym (ap held_on (first_is_free new h.1 g k)) ∙ e)))
+held_before gives old new (Transmit n) (reply.Transmit a) h = inr (
+    by_stays (Transmit n) old.table new.table (λ p. refl) (asks_stay gives n a old new h))
+held_before gives old new (Offer agg octets) (reply.Offer answer) h = inr (
+    offered_before gives agg octets old answer new h)
+held_before gives old new (Move_conversation agg conv port) (reply.MoveConversation answer) h = inr (
+    by_stays (Move_conversation agg conv port) old.table new.table (λ p. refl)
+    (gives_stays agg conv (system_move_result old agg conv port) old answer new
+    (λ s x. moved_stays (next_identifier old.table) (distributing agg old.system_ports) port (assignment_of old.table agg.0 conv) s
+    (moved_to agg conv port old s x)) h))
+held_before gives old new (Force agg conv) (reply.Force answer) h = inr (
+    by_stays (Force agg conv) old.table new.table (λ p. refl)
+    (gives_stays agg conv (system_force_result old agg conv) old answer new
+    (λ s x. forced_stays (assignment_of old.table agg.0 conv) s (forced_to agg conv old s x)) h))
+held_before gives old new call answer h = absurd h
+
+-- the invariant
+
+abbrev Carries : SystemState → Type 0
+Carries s = (g k p : ℕ) → carrier_of (assignment_of s.table g k) ≡ Some p → HasPortUp p s
+
+abbrev Keeps : SystemState → Type 0
+Keeps s = IsSound s × OfEach LapsesAt s.system_ports × Carries s
+
+carrier_cases : (a : Assignment) (p : ℕ) → carrier_of a ≡ Some p → (held_on a ≡ Some p) ⊎ (a ≡ On p)
+carrier_cases (Free preferred) p e = absurd (none-some p e)
+carrier_cases (On q) p e = inr (ap (λ (n : ℕ). On n) (same_Some q p e))
+carrier_cases (Wanted q preferred) p e = inl e
+carrier_cases (Flushing q id preferred age) p e = inl e
+
+call_keeps : (gives : ℕ → ℕ → ℕ → Type 0) (old new : SystemState) (call : Call) (answer : Answer) → Step gives old call answer new → Keeps old
+    → Keeps new
+call_keeps gives old new call answer h k = (
+  sound,
+  lapses,
+  elim (held_before gives old new call answer h) [
+    | inl e ↦ subst Carries (sym e) k.2
+    | inr hb ↦ λ g c p e. elim (carrier_cases (assignment_of new.table g c) p e) [
+      | inl f ↦ (let was = hb g c p f in still_up gives p old new call answer k.0 sound h was.1 (k.2 g c p was.0))
+      | inr f ↦ distributes_up new (aggregator_numbered g) p sound lapses (sound.carried g c p f)
+    ]
+  ],
+)
+  where
+    sound : IsSound new
+    sound = Step-sound gives old call answer new h k.0
+
+    lapses : OfEach LapsesAt new.system_ports
+    lapses = Step-each LapsesAt lapse_settles gives old call answer new (lapse_kept call answer) h k.1
+
+calls_keep : (gives : ℕ → ℕ → ℕ → Type 0) (old new : SystemState) (calls : List Call) (answers : List Answer)
+    → TableRun gives old calls answers new → Keeps old → Keeps new
+calls_keep gives old new [] [] h k = subst Keeps (sym h) k
+calls_keep gives old new [] (a ∷ answers) h k = absurd h
+calls_keep gives old new (call ∷ calls) [] h k = absurd h
+calls_keep gives old new (call ∷ calls) (a ∷ answers) h k =
+    calls_keep gives h.0 new calls answers h.2 (call_keeps gives old h.0 call a h.1 k)
+
+events_keep : (gives : Algorithms) (es : List Event) (rs : List Reply) (old new : WorldState) → WorldRuns gives old es rs new → (s : Side)
+    → Keeps (half s old).state → Keeps (half s new).state
+events_keep gives [] [] old new h s k = subst (λ (j : WorldState). Keeps (half s j).state) (sym h) k
+events_keep gives [] (r ∷ rs) old new h s k = absurd h
+events_keep gives (e ∷ es) [] old new h s k = absurd h
+events_keep gives (e ∷ es) (r ∷ rs) old new h s k =
+    let c = each_is_calls gives e r old h.0 h.1 s in
+    events_keep gives es rs h.0 new h.2 s (calls_keep (gives s) (half s old).state (half s h.0).state c.0 c.1 c.2 k)
+
+pub each_reached_has_carriers_up : (gives : Algorithms) → EachReachedHasCarriersUp gives
+each_reached_has_carriers_up gives configs es rs start new i h runs s =
+    let first = both_first configs start h s in
+    let st = (half s start).state in
+    let begins : Keeps st = (
+      first_sound st (i.kept s).agrees.ports first,
+      first_each LapsesAt lapse_settles lapse_first st first,
+      λ g k p e. absurd (none-some p (sym (ap carrier_of (first_is_free st first g k)) ∙ e)),
+    ) in
+    let end = events_keep gives es rs start new runs s begins in
+    λ g k p is e. end.2 g k p e

@@ -1,0 +1,231 @@
+-- Selected stays what it is in a bundle, once each end knows its partner.
+use Rattle.lagprogress.proofs.Knowing.{recorded}
+use Rattle.lagsystem.specs.ModelView.{can_receive, can_receive_in}
+use Rattle.std.proofs.Common.{◌≡◌, ◌∙◌, ℕ, zero, suc, ◌==◌, ◌&&◌, ◌||◌, Bool, true, false, not, List, [], ◌∷◌, ◌⊎◌, Some, refl, sym, subst, ap, inl, inr}
+use Rattle.std.specs.Prelude.{slice_get, slice_set, if◌then◌else◌}
+use Rattle.std.specs.List.{AllByRecursion}
+use Rattle.std.proofs.lemmas.Option.{none-some, same_Some}
+use Rattle.lagtypes.specs.declared.party.Choice.{Choice}
+use Rattle.lagtypes.specs.declared.party.Party.{Party}
+use Rattle.lagtypes.specs.Choices.{is_unselected}
+use Rattle.lagtypes.specs.Same.{same_system}
+use Rattle.lagtypes.proofs.SameLemmas.{system-itself}
+use Rattle.slowpdu.specs.declared.pdu.Lacpdu.{Lacpdu}
+use Rattle.slowpdu.specs.Parties.{party_of}
+use Rattle.portmachines.specs.declared.receive.ReceiveState.{ReceiveState}
+use Rattle.portmachines.specs.declared.receive.ReceiveState.TheVariants.{Initialize, PortDisabled, Expired, Defaulted, Current}
+use Rattle.portmachines.specs.Machines.{Machines}
+use Rattle.portmachines.specs.Mux.{mux_rows}
+use Rattle.portmachines.specs.Periodic.{RunsPeriodic, periodic_rows}
+use Rattle.portmachines.specs.Receive.{receive_rows, same_receive_state, lacpdu_rows}
+use Rattle.portmachines.specs.Rows.{AtRest, RunsToRest}
+use Rattle.portmachines.specs.Transmit.{count_down}
+use Rattle.selection.specs.Views.{is_detached, is_eligible}
+use Rattle.lagsystem.specs.declared.system_ports.SystemPort.{SystemPort}
+use Rattle.lagsystem.specs.Calls.{ProcessesLacpdu}
+use Rattle.lagsystem.specs.Settling.{PortsChangeBy, Settling, ready_of, ChoosesIn}
+use Rattle.lagsystem.specs.Sound.{IsSound}
+use Rattle.lagsystem.specs.State.{SystemState, aggregators_value}
+use Rattle.lagsystem.specs.Views.{selection_view, views}
+use Rattle.lagsystem.proofs.Rest.{last_slots}
+use Rattle.lagprogress.specs.Knowing.{HasRecorded}
+use Rattle.lagprogress.specs.Selecting.{WantsAggregator}
+use Rattle.lagprogress.proofs.Bundling.{all_by_place}
+use Rattle.lagprogress.proofs.Climbing.{keeps_selected}
+use Rattle.lagprogress.proofs.EachPort.{OfEach, zip_kept}
+use Rattle.lagprogress.proofs.EndFacts.{SameActor}
+use Rattle.lagprogress.proofs.Hearing.{EnabledKeep, no, times_keep}
+use Rattle.lagprogress.proofs.OnePort.{AtPort}
+use Rattle.lagprogress.proofs.Selecting.{eligible}
+use Rattle.lagprogress.proofs.Staying.{SameSeen, nothing_chosen}
+use Rattle.lagprogress.proofs.Timers.{runs_keep, fires_keep}
+
+-- the machines are as they were, in what the Selection Logic reads of them but for the mux machine
+abbrev pub AsRead : Machines → Machines → Type 0
+AsRead x y = (y.party ≡ x.party) × (party_of y.partner ≡ party_of x.partner) × (y.choice ≡ x.choice) × (y.enabled ≡ x.enabled)
+    × (y.receive ≡ x.receive)
+
+pub as_read : (x : Machines) → AsRead x x
+as_read x = (refl, refl, refl, refl, refl)
+
+-- so it is with each port of a list
+abbrev pub AllAsRead : List SystemPort → List SystemPort → Type 0
+AllAsRead [] [] = Unit {0}
+AllAsRead (x ∷ xs) (y ∷ ys) = ((y.number ≡ x.number) × AsRead x.port y.port) × AllAsRead xs ys
+AllAsRead [] (y ∷ ys) = ⊥
+AllAsRead (x ∷ xs) [] = ⊥
+
+pub all_as_read : (xs : List SystemPort) → AllAsRead xs xs
+all_as_read [] = tt
+all_as_read (x ∷ xs) = ((refl, as_read x.port), all_as_read xs)
+
+pub one_as_read : (xs : List SystemPort) (i : ℕ) (x : SystemPort) (p : Machines) → slice_get xs i ≡ Some x → AsRead x.port p
+    → AllAsRead xs (slice_set xs i (record x { port = p }))
+one_as_read [] i x p e h = absurd (none-some x e)
+one_as_read (y ∷ ys) zero x p e h =
+    let same : x ≡ y = sym (same_Some y x e) in
+    ((ap (λ (z : SystemPort). z.number) same, subst (λ (z : SystemPort). AsRead z.port p) same h), all_as_read ys)
+one_as_read (y ∷ ys) (suc i) x p e h = ((refl, as_read y.port), one_as_read ys i x p e h)
+
+pub zip_as_read : (R : Machines → Machines → Type 0) (xs ys : List SystemPort)
+    → AllByRecursion (λ (x : SystemPort). (q : Machines) → R x.port q → AsRead x.port q) xs → PortsChangeBy R xs ys → AllAsRead xs ys
+zip_as_read R [] [] k h = tt
+zip_as_read R [] (y ∷ ys) k h = absurd h
+zip_as_read R (x ∷ xs) [] k h = absurd h
+zip_as_read R (x ∷ xs) (y ∷ ys) k h = ((ap (λ (z : SystemPort). z.number) h.0.0, k.0 y.port h.0.1), zip_as_read R xs ys k.1 h.1)
+
+-- a port at rest that wants an aggregator and is UNSELECTED is eligible
+abbrev Able : SystemPort → Type 0
+Able x = WantsAggregator x.port → is_unselected x.port.choice ≡ true → is_eligible (selection_view x) ≡ true
+
+known_state : (r : ReceiveState) → (same_receive_state Current r || same_receive_state Defaulted r) ≡ true → (r ≡ Current) ⊎ (r ≡ Defaulted)
+known_state Initialize h = absurd (no h)
+known_state PortDisabled h = absurd (no h)
+known_state Expired h = absurd (no h)
+known_state Defaulted h = inr refl
+known_state Current h = inl refl
+
+five_parts : (a b c d e : Bool) → ((((a && b) && c) && d) && not e) ≡ true → (a ≡ true) × (b ≡ true) × (d ≡ true) × (e ≡ false)
+five_parts true true true true false h = (refl, refl, refl, refl)
+five_parts true true true true true h = absurd (no h)
+five_parts true true true false e h = absurd (no h)
+five_parts true true false d e h = absurd (no h)
+five_parts true false c d e h = absurd (no h)
+five_parts false b c d e h = absurd (no h)
+
+eligible_before : (x z : SystemPort) → Able x → AsRead x.port z.port → is_eligible (selection_view z) ≡ true
+    → is_eligible (selection_view x) ≡ true
+eligible_before x z able a h =
+    let p = five_parts z.port.enabled (same_receive_state Current z.port.receive || same_receive_state Defaulted z.port.receive)
+    (is_detached (selection_view z).stage) (is_unselected z.port.choice) (same_system z.port.partner.system z.port.party.system) h in
+    able (record {
+      up = sym a.3 ∙ p.0;
+      known = subst (λ r. (r ≡ Current) ⊎ (r ≡ Defaulted)) a.4 (known_state z.port.receive p.1);
+      apart = λ e. no (sym p.3 ∙ (ap (λ (q : Party). same_system q.system z.port.party.system) a.1
+          ∙ (ap (λ (q : Party). same_system x.port.partner.system q.system) a.0
+          ∙ (ap (λ y. same_system y x.port.party.system) e ∙ system-itself x.port.party.system))));
+    }) (sym (ap is_unselected a.2) ∙ p.2)
+
+-- step 1 of a settling
+one_seen : (xs ys zs : List SystemPort) → AllByRecursion Able xs → AllAsRead xs ys → PortsChangeBy (RunsToRest (mux_rows false)) ys zs
+    → SameSeen xs zs
+one_seen [] [] [] k a h = tt
+one_seen [] [] (z ∷ zs) k a h = absurd h
+one_seen [] (y ∷ ys) zs k a h = absurd a
+one_seen (x ∷ xs) [] zs k a h = absurd a
+one_seen (x ∷ xs) (y ∷ ys) [] k a h = absurd h
+one_seen (x ∷ xs) (y ∷ ys) (z ∷ zs) k a h =
+    let b = runs_keep (AsRead x.port) (mux_rows false) (λ p a. a, (λ p a. a, (λ p a. a, (λ p a. a, (λ p a. a, (λ p a. a, tt)))))) y.port z.port
+    h.0.1 a.0.1 in (
+      record {
+        number = ap (λ (q : SystemPort). q.number) h.0.0 ∙ a.0.0;
+        party = b.0;
+        partner = b.1;
+        choice = b.2;
+        eligible = eligible_before x z k.0 b;
+      },
+      one_seen xs ys zs k.1 a.1 h.1,
+    )
+
+-- the port with this number has this value of Selected
+abbrev pub Chose : ℕ → Choice → ℕ → Machines → Type 0
+Chose n c = AtPort n (λ p. p.choice ≡ c)
+
+seen_choice : (n : ℕ) (c : Choice) (xs ys : List SystemPort) → SameSeen xs ys → OfEach (Chose n c) xs → OfEach (Chose n c) ys
+seen_choice n c [] [] h a = tt
+seen_choice n c [] (y ∷ ys) h a = absurd h
+seen_choice n c (x ∷ xs) [] h a = absurd h
+seen_choice n c (x ∷ xs) (y ∷ ys) h a = (λ e. h.0.choice ∙ a.0 (sym h.0.number ∙ e), seen_choice n c xs ys h.1 a.1)
+
+-- a settling that begins so
+pub settles_choice : (s mid new : SystemState) → IsSound s → AllAsRead s.system_ports mid.system_ports
+    → aggregators_value mid ≡ aggregators_value s → Settling mid new → (n : ℕ) (c : Choice) → OfEach (Chose n c) s.system_ports
+    → OfEach (Chose n c) new.system_ports
+settles_choice s mid new h read aggs k n c a =
+    let one = k.0 in
+    let two = k.2.0 in
+    let three = k.2.2.0 in
+    let four = k.2.2.2.0 in
+    let five = k.2.2.2.2.0 in
+    let able = all_by_place Able s.system_ports (λ i x e. eligible s i x h e) in
+    let first = one_seen s.system_ports mid.system_ports one.system_ports able read k.1.0 in
+    let second = nothing_chosen s one.system_ports two.system_ports h first
+    (subst (λ g. ChoosesIn g one.system_ports two.system_ports) (ap aggregators_value k.1.1 ∙ aggs) k.2.1.0) in
+    let a2 = seen_choice n c s.system_ports two.system_ports second a in
+    let a3 : OfEach (Chose n c) three.system_ports = subst (λ (t : SystemState). OfEach (Chose n c) t.system_ports) (sym k.2.2.1) a2 in
+    let ready = λ (p : Machines). ready_of three.keys (views three.system_ports) p.choice in
+    let a4 : OfEach (Chose n c) four.system_ports = zip_kept (λ p q. RunsToRest (mux_rows (ready p)) p q) (Chose n c) (Chose n c)
+    (λ m p q r b e. runs_keep (λ p. p.choice ≡ c) (mux_rows (ready p))
+    (λ p a. a, (λ p a. a, (λ p a. a, (λ p a. a, (λ p a. a, (λ p a. a, tt)))))) p q r (b e))
+    three.system_ports four.system_ports k.2.2.2.1.0 a3 in
+    let a5 : OfEach (Chose n c) five.system_ports = zip_kept RunsPeriodic (Chose n c) (Chose n c)
+    (λ m p q r b e. subst (λ (t : Machines). t.choice ≡ c) (sym r.2) (runs_keep (λ p. p.choice ≡ c) periodic_rows
+    (λ p a. a, (λ p a. a, (λ p a. a, (λ p a. a, (λ p a. a, (λ p a. a, (λ p a. a, tt))))))) p r.0 r.1 (b e)))
+    four.system_ports five.system_ports k.2.2.2.2.1.0 a4 in
+    subst (OfEach (Chose n c)) (sym (last_slots mid new k)) a5
+
+-- what changes the machines before it
+
+-- an LACPDU of the partner that is recorded
+pub takes_as_read : (u x : Lacpdu) (p q : Machines) → p.enabled ≡ true → SameActor x u → HasRecorded u p → ProcessesLacpdu x p q → AsRead p q
+takes_as_read u x p q up e known h =
+    let awake : can_receive p ≡ true = ap (λ b. if b then can_receive_in p.receive else true) up ∙ ap can_receive_in known.current in
+    let r = (recorded x p q up awake h).1.0 in
+    let fixed : (q.party ≡ p.party) × (q.enabled ≡ p.enabled) = elim h [
+      | inl f ↦ fires_keep (λ r. (r.party ≡ p.party) × (r.enabled ≡ p.enabled)) (lacpdu_rows x) (λ r a. a, tt) p q f (refl, refl)
+      | inr s ↦ (ap (λ (r : Machines). r.party) s.1, ap (λ (r : Machines). r.enabled) s.1)
+    ] in
+    (fixed.0, r.party ∙ (e.0 ∙ sym known.party), (keeps_selected u x p q e known h).0, fixed.1, r.current ∙ sym known.current)
+
+-- an LACPDU at a port whose link is down
+pub down_as_read : (x : Lacpdu) (p q : Machines) → p.enabled ≡ false → ProcessesLacpdu x p q → AsRead p q
+down_as_read x p q down h = elim h [
+  | inl f ↦ elim f [
+    | inl g ↦ absurd (awake _ p.enabled down g.0)
+    | inr g ↦ absurd g
+  ]
+  | inr r ↦ subst (AsRead p) (sym r.1) (as_read p)
+]
+  where
+    awake : (a e : Bool) → e ≡ false → (a && e) ≡ true → ⊥
+    awake true e f g = no (sym f ∙ g)
+    awake false e f g = no g
+
+-- a tick leaves the receive machine of a port whose link is down
+pub down_still : (p q : Machines) → p.enabled ≡ false → AtRest receive_rows p → RunsToRest receive_rows (count_down p) q → q ≡ count_down p
+down_still p q down rest h = times_keep (λ r. r ≡ count_down p) receive_rows rows h.0 (count_down p) q h.1 refl
+  where
+    disabled : (r : ReceiveState) (e : Bool) → e ≡ false → (not (same_receive_state PortDisabled r) && not e) ≡ false → r ≡ PortDisabled
+    disabled Initialize e f g = absurd (no (sym g ∙ ap not f))
+    disabled PortDisabled e f g = refl
+    disabled Expired e f g = absurd (no (sym g ∙ ap not f))
+    disabled Defaulted e f g = absurd (no (sym g ∙ ap not f))
+    disabled Current e f g = absurd (no (sym g ∙ ap not f))
+
+    is : p.receive ≡ PortDisabled
+    is = disabled p.receive p.enabled down rest.1.0
+
+    at : (r : Machines) → r ≡ count_down p → r.receive ≡ PortDisabled
+    at r a = ap (λ (t : Machines). t.receive) a ∙ is
+
+    never : (f : ReceiveState → Bool) (r : ReceiveState) (b : Bool) → f PortDisabled ≡ false → r ≡ PortDisabled → (f r && b) ≡ true → ⊥
+    never f r b e g h = no (sym (ap (λ c. c && b) (ap f g ∙ e)) ∙ h)
+
+    second : (a e : Bool) → e ≡ false → (a && e) ≡ true → ⊥
+    second true e f g = no (sym f ∙ g)
+    second false e f g = no g
+
+    rows : EnabledKeep (λ r. r ≡ count_down p) receive_rows
+    rows = (
+      λ r h a. absurd (never (same_receive_state Initialize) r.receive true refl (at r a) h),
+      (
+        λ r h a. absurd (never (λ t. not (same_receive_state PortDisabled t)) r.receive (not r.enabled) refl (at r a) h),
+        (
+          λ r h a. absurd (second (same_receive_state PortDisabled r.receive) r.enabled (ap (λ (t : Machines). t.enabled) a ∙ down) h),
+          (
+            λ r h a. absurd (never (same_receive_state Expired) r.receive (r.current_while == 0) refl (at r a) h),
+            (λ r h a. absurd (never (same_receive_state Current) r.receive (r.current_while == 0) refl (at r a) h), tt),
+          ),
+        ),
+      ),
+    )

@@ -1,0 +1,268 @@
+-- How the conversations that are held on a port of a healthy cable are freed, round by round.
+use Rattle.lagworld.specs.Events.{Algorithms}
+use Rattle.std.proofs.Common.{◌≡◌, ◌∙◌, ℕ, ◌+◌, ◌==◌, ◌&&◌, Bool, true, false, cond, eqb, ltb, List, [], ◌∷◌, ◌⊎◌, inl, inr, refl, sym}
+use Rattle.std.proofs.Common.{subst, ap, arith, Some, None, Option, Ok, Err, Result}
+use Rattle.std.specs.Prelude.{slice_get}
+use Rattle.std.proofs.lemmas.Bool.{cases_Bool}
+use Rattle.std.proofs.lemmas.Bool.Decides.{nat_tests}
+use Rattle.std.proofs.lemmas.Option.{none-some, same_Some}
+use Rattle.std.proofs.lemmas.Slice.Eq.{bytes_eq-Decides}
+use Rattle.std.specs.Str.{bytes_eq}
+use Rattle.slowpdu.specs.declared.pdu.Lacpdu.{Lacpdu}
+use Rattle.slowpdu.specs.declared.pdu.Pdu.TheVariants as pdu
+use Rattle.slowpdu.specs.Frames.{frame_octets}
+use Rattle.distributor.specs.declared.assignment.Assignment.{Assignment}
+use Rattle.distributor.specs.declared.assignment.Assignment.TheVariants.{Free, On, Wanted, Flushing}
+use Rattle.distributor.specs.Calls.{is_among}
+use Rattle.distributor.specs.Changes.{after_mark, after_release, after_tick, marker_due}
+use Rattle.distributor.specs.Conversations.{Table, assignment_of}
+use Rattle.portmachines.specs.Transmit.{is_due}
+use Rattle.lagmodel.specs.World.{Side, peer}
+use Rattle.lagsystem.specs.declared.drive.Reply.TheVariants as answer
+use Rattle.lagsystem.specs.declared.fault.SystemFault.{SystemFault}
+use Rattle.lagsystem.specs.declared.received.Received.{Received}
+use Rattle.lagsystem.specs.declared.received.Received.TheVariants as received
+use Rattle.lagsystem.specs.declared.system_ports.SystemPort.{SystemPort}
+use Rattle.lagsystem.specs.Calls.{Carries, GivesEffect, IsFrame, ParsesWhere, Performs, Receive, ReceivesAt, Releases}
+use Rattle.lagsystem.specs.Calls.{Transmit, is_own_response}
+use Rattle.lagsystem.specs.Readers.{aggregator_numbered, distributing}
+use Rattle.lagsystem.specs.Sending.{SendsMarkerOf, TransmitsAt, TransmitsIf}
+use Rattle.lagsystem.specs.Settling.{Settling}
+use Rattle.lagsystem.specs.Sound.{CallPromise}
+use Rattle.lagsystem.specs.State.{SystemState, port_index}
+use Rattle.lagsystem.proofs.OneFrame.{effect_one}
+use Rattle.lagsystem.proofs.Keeps.{ports_table, settling_parts}
+use Rattle.lagsystem.proofs.Performed.{TableChanges, table_changes}
+use Rattle.lagsystem.proofs.Rising.{found_place}
+use Rattle.lagworld.specs.State.{ItemValue, WorldState, half}
+use Rattle.lagprogress.proofs.Answering.{AllFine, each_by, settles_all}
+use Rattle.lagprogress.proofs.Hearing.{no}
+use Rattle.lagprogress.proofs.Holding.{Fine, Flights, Has, IsMarker, answering, asking, frame_is, has_last, has_on, marked_beside}
+use Rattle.lagprogress.proofs.Holding.{is_port, not_port, released_beside, settled_fine}
+use Rattle.lagprogress.proofs.Linked.{peer_twice, push_there, pushed, put_other, put_there}
+use Rattle.lagprogress.proofs.OneCable.{Arrives, Back, Elsewhere, put}
+use Rattle.lagprogress.proofs.Passing.{sent_carries}
+
+-- what goes back leaves what is on its way
+back_has : (u t : Side) (P : ItemValue → Type 0) (a : Result Received SystemFault) (fl now : Side → List ItemValue) → Back u a fl now
+    → Has P (fl t) → Has P (now t)
+back_has u t P (Err fault) fl now h f = subst (λ (g : Side → List ItemValue). Has P (g t)) (sym h) f
+back_has u t P (Ok received.Disabled) fl now h f = subst (λ (g : Side → List ItemValue). Has P (g t)) (sym h) f
+back_has u t P (Ok received.Dropped) fl now h f = subst (λ (g : Side → List ItemValue). Has P (g t)) (sym h) f
+back_has u t P (Ok (received.Ignored fault)) fl now h f = subst (λ (g : Side → List ItemValue). Has P (g t)) (sym h) f
+back_has u t P (Ok received.TookLacpdu) fl now h f = subst (λ (g : Side → List ItemValue). Has P (g t)) (sym h) f
+back_has u t P (Ok (received.Respond frame)) fl now h f = subst (λ (g : Side → List ItemValue). Has P (g t)) (sym h.2)
+    (pushed (λ v xs. Has P (fl v) → Has P xs) (peer u) h.0 fl (λ g y. has_on P (fl (peer u)) (h.0 ∷ []) (g y)) (λ v y. y) t f)
+back_has u t P (Ok (received.Released n)) fl now h f = subst (λ (g : Side → List ItemValue). Has P (g t)) (sym h) f
+back_has u t P (Ok (received.Up agg)) fl now h f = subst (λ (g : Side → List ItemValue). Has P (g t)) (sym h) f
+
+pub after_tick_on : (p : ℕ) (a : Assignment) → after_tick a ≡ On p → a ≡ On p
+after_tick_on p (Free preferred) e = e
+after_tick_on p (On q) e = e
+after_tick_on p (Wanted q preferred) e = e
+after_tick_on p (Flushing q n preferred age) e = by_test (ltb (age + 1) 30) e
+  where
+    by_test : (b : Bool) → cond b (Flushing q n preferred (age + 1)) (Wanted q preferred) ≡ On p → Flushing q n preferred age ≡ On p
+    by_test true f = absurd cc
+    by_test false f = absurd cc
+
+module _ (at : Side → ℕ) (w : Side → Lacpdu) (s : Side) (mac : List ℕ) (aggs count : ℕ) where
+  abbrev Fines : ℕ → Type 0 → (ℕ → Type 0) → Table → Type 0
+  Fines m W F t = AllFine at w s mac aggs count m W F t
+
+  -- the response to a marker of the port
+  abbrev IsResponse : List ℕ → ℕ → Type 0
+  IsResponse octets id = IsFrame octets (Carries (pdu.Marker (answering (at s) mac id)))
+
+  -- what On is leaves a state of the system as it is
+  abbrev Stays : SystemState → SystemState → Type 0
+  Stays old new = (g k : ℕ) → assignment_of old.table g k ≡ On (at s)
+      → is_among (distributing (aggregator_numbered g) new.system_ports) (at s) ≡ true
+
+  fines_same : (m : ℕ) (W : Type 0) (F : ℕ → Type 0) (old new : SystemState) → new ≡ old → Fines m W F old.table → Fines m W F new.table
+  fines_same m W F old new e = subst (λ (t : SystemState). Fines m W F t.table) (sym e)
+
+  settled_from : (m : ℕ) (W : Type 0) (F : ℕ → Type 0) (old mid new : SystemState) → mid.table ≡ old.table → Settling mid new → Stays old new
+      → Fines m W F old.table → Fines m W F new.table
+  settled_from m W F old mid new e h stays fine = settles_all at w s mac aggs count m W F mid new h
+      (λ g k f. stays g k (sym (ap (λ t. assignment_of t g k) e) ∙ f)) (subst (Fines m W F) (sym e) fine)
+
+  own_response : (old : SystemState) (port id : ℕ) → port ≡ at s → old.system.mac ≡ mac → is_own_response old port (answering (at s) mac id) ≡ true
+  own_response old port id number own =
+      let bytes : bytes_eq mac old.system.mac ≡ true = (bytes_eq-Decides mac old.system.mac).1 (sym own) in
+      let same : (at s == port) ≡ true = grind (arith, nat_tests) in
+      both (at s == port) (bytes_eq mac old.system.mac) same bytes
+    where
+      both : (a b : Bool) → a ≡ true → b ≡ true → (a && b) ≡ true
+      both true b e f = f
+      both false b e f = absurd (no e)
+
+  -- one conversation: its response came, or what is known of it goes on
+  one_fine : (octets : List ℕ) (m : ℕ) (W : Type 0) (F G : ℕ → Type 0) (a b : Assignment)
+      → ((id : ℕ) → F id → IsResponse octets id ⊎ G id) → ((id : ℕ) → IsResponse octets id → b ≡ after_release (at s) id a)
+      → (Fine (at s) m W G a → Fine (at s) m W G b) → Fine (at s) m W F a → Fine (at s) m W G b
+  one_fine octets m W F G (Free preferred) b split comes goes h = goes h
+  one_fine octets m W F G (On q) b split comes goes h = goes h
+  one_fine octets m W F G (Wanted q preferred) b split comes goes h = goes h
+  one_fine octets m W F G (Flushing q id preferred age) b split comes goes h = elim (cases_Bool (eqb q (at s))) [
+    | inl t ↦ (let same = is_port q (at s) t in elim (h same) [
+      | inl y ↦ goes (λ _. inl y)
+      | inr f ↦ elim (split id f) [
+        | inl r ↦ subst (Fine (at s) m W G) (sym (comes id r ∙ freed same)) tt
+        | inr y ↦ goes (λ _. inr y)
+      ]
+    ])
+    | inr t ↦ goes (λ e. absurd (not_port q (at s) t e))
+  ]
+    where
+      passes : q ≡ at s → (eqb q (at s) && eqb id id) ≡ true
+      passes e = grind (arith, nat_tests)
+
+      freed : q ≡ at s → cond (eqb q (at s) && eqb id id) (Free preferred) (Flushing q id preferred age) ≡ Free preferred
+      freed e = ap (λ b. cond b (Free preferred) (Flushing q id preferred age)) (passes e)
+
+  -- what an item that came to the port asked for
+  changes_fine : (index : Option ℕ) (old new : SystemState) (octets : List ℕ) (m : ℕ) (W : Type 0) (F G : ℕ → Type 0)
+      → ((id : ℕ) → F id → IsResponse octets id ⊎ G id)
+      → ((id : ℕ) → IsResponse octets id → (g k : ℕ) → assignment_of new.table g k ≡ after_release (at s) id (assignment_of old.table g k))
+      → Stays old new → TableChanges index old new → Fines m W F old.table → Fines m W G new.table
+  changes_fine index old new octets m W F G split comes stays c fine g k l n o =
+      one_fine octets m W F G (assignment_of old.table g k) (assignment_of new.table g k) split (λ id r. comes id r g k) (goes c) (fine g k l n o)
+    where
+      goes : TableChanges index old new → Fine (at s) m W G (assignment_of old.table g k) → Fine (at s) m W G (assignment_of new.table g k)
+      goes (inl x) h =
+          let q = settling_parts x.1.0 new x.1.2 in
+          let table : q.0.table ≡ old.table = ports_table x.1.0 q.0 q.1 ∙ ap (λ (t : SystemState). t.table) x.1.1.1 in
+          let ports : new.system_ports ≡ q.0.system_ports = ap (λ (t : SystemState). t.system_ports) q.2.frame in
+          subst (Fine (at s) m W G) (sym (q.2.states g k))
+          (settled_fine (at s) m W G (distributing (aggregator_numbered g) q.0.system_ports) (assignment_of q.0.table g k)
+          (λ e. subst (λ xs. is_among (distributing (aggregator_numbered g) xs) (at s) ≡ true) ports
+          (stays g k (sym (ap (λ t. assignment_of t g k) table) ∙ e)))
+          (subst (λ t. Fine (at s) m W G (assignment_of t g k)) (sym table) h))
+      goes (inr (inl z)) h = subst (Fine (at s) m W G) (sym (z.2.states g k)) (released_beside (at s) m z.0 z.1 W G (assignment_of old.table g k) h)
+      goes (inr (inr e)) h = subst (λ t. Fine (at s) m W G (assignment_of t g k)) (sym e) h
+
+  -- an item comes to the port at the end of s
+  pub comes_fine : (gives : Algorithms) (fl : Side → List ItemValue) (old new : WorldState) (i : ℕ) (z : SystemPort) (m : ℕ) (W : Type 0)
+      → port_index (at s) (half s old).state.system_ports ≡ Some i → slice_get (half s old).state.system_ports i ≡ Some z
+      → z.port.enabled ≡ true → (half s old).state.system.mac ≡ mac → (k : Arrives gives s at fl old new) → Stays (half s old).state (half s new).state
+      → Fines m W (Flights s (at s) mac fl) (half s old).state.table → Fines m W (Flights s (at s) mac k.now) (half s new).state.table
+  comes_fine gives fl old new i z m W place there up own k stays fine = by_answer k.a k.promise (split k.back)
+    where
+      st : SystemState
+      st = (half s old).state
+
+      split : Back s k.a (put s k.rest fl) k.now → (id : ℕ) → Flights s (at s) mac fl id
+          → IsResponse k.item.octets id ⊎ Flights s (at s) mac k.now id
+      split back id (inl y) = inr (inl (back_has s (peer s) (IsMarker (asking (at s) mac id)) k.a (put s k.rest fl) k.now back
+          (subst (Has (IsMarker (asking (at s) mac id))) (sym (put_other s k.rest fl)) y)))
+      split back id (inr y) = elim (subst (Has (IsMarker (answering (at s) mac id))) k.first y) [
+        | inl r ↦ inl r
+        | inr r ↦ inr (inr (back_has s s (IsMarker (answering (at s) mac id)) k.a (put s k.rest fl) k.now back
+            (subst (Has (IsMarker (answering (at s) mac id))) (sym (put_there s k.rest fl)) r)))
+      ]
+
+      by_answer : (a : Result Received SystemFault) → CallPromise (gives s) (half s old).state (Receive (at s) k.item.octets) (answer.Receive a) (half s new).state
+          → ((id : ℕ) → Flights s (at s) mac fl id → IsResponse k.item.octets id ⊎ Flights s (at s) mac k.now id)
+          → Fines m W (Flights s (at s) mac k.now) (half s new).state.table
+      by_answer (Err fault) h split = absurd (none-some i (sym h.step.cause ∙ place))
+      by_answer (Ok o) h split =
+          let r = subst (λ x. ReceivesAt x k.item.octets (half s old).state o (half s new).state) place h.step in
+          let same : r.0 ≡ z = same_Some r.0 z (sym r.2 ∙ there) in
+          let number : r.0.number ≡ at s = ap (λ (y : SystemPort). y.number) same
+          ∙ found_place (at s) (half s old).state.system_ports i z place there in
+          let parsed = subst (λ b. ParsesWhere b r.0 k.item.octets r.1) (ap (λ (y : SystemPort). y.port.enabled) same ∙ up) r.3 in
+          changes_fine (Some i) (half s old).state (half s new).state k.item.octets m W (Flights s (at s) mac fl)
+          (Flights s (at s) mac k.now) split
+          (λ id c. (let does = effect_one true r.0 k.item.octets r.1 _ parsed (Carries (pdu.Marker (answering (at s) mac id)), c, refl) in
+          let done = subst (λ f. Performs f r.0.number (Some i) (half s old).state o (half s new).state) does r.4 in
+          let own = subst (λ b. Releases b r.0.number (answering (at s) mac id) (half s old).state o (half s new).state)
+          (own_response (half s old).state r.0.number id number own) done in
+          λ g c. own.1.states g c ∙ ap (λ n. after_release n id (assignment_of (half s old).state.table g c)) number))
+          stays (table_changes r.1 r.0.number (Some i) (half s old).state o (half s new).state r.4) fine
+
+  -- an item comes to the other end, which answers a marker
+  pub peer_answers : (gives : Algorithms) (fl : Side → List ItemValue) (old new : WorldState) (i : ℕ) (z : SystemPort)
+      → port_index (at (peer s)) (half (peer s) old).state.system_ports ≡ Some i
+      → slice_get (half (peer s) old).state.system_ports i ≡ Some z → z.port.enabled ≡ true → (k : Arrives gives (peer s) at fl old new) → (id : ℕ)
+      → Flights s (at s) mac fl id → Flights s (at s) mac k.now id
+  peer_answers gives fl old new i z place there up k id (inr y) =
+      inr (back_has (peer s) s (IsMarker (answering (at s) mac id)) k.a (put (peer s) k.rest fl) k.now k.back
+      (subst (Has (IsMarker (answering (at s) mac id)))
+      (sym (subst (λ t. put (peer s) k.rest fl t ≡ fl t) (peer_twice s) (put_other (peer s) k.rest fl))) y))
+  peer_answers gives fl old new i z place there up k id (inl y) =
+      elim (subst (Has (IsMarker (asking (at s) mac id))) k.first y) [
+        | inl r ↦ inr (by_answer k.a k.promise k.back r)
+        | inr r ↦ inl (back_has (peer s) (peer s) (IsMarker (asking (at s) mac id)) k.a (put (peer s) k.rest fl) k.now k.back
+            (subst (Has (IsMarker (asking (at s) mac id))) (sym (put_there (peer s) k.rest fl)) r))
+      ]
+    where
+      responds : (o : Received) (frame : List ℕ) → o ≡ received.Respond frame → IsFrame frame (Carries (pdu.Marker (answering (at s) mac id)))
+          → Back (peer s) (Ok o) (put (peer s) k.rest fl) k.now → Has (IsMarker (answering (at s) mac id)) (k.now s)
+      responds o frame e c back =
+          let b = subst (λ (x : Received). Back (peer s) (Ok x) (put (peer s) k.rest fl) k.now) e back in
+          let is : IsMarker (answering (at s) mac id) b.0 =
+          subst (λ x. IsFrame x (Carries (pdu.Marker (answering (at s) mac id)))) (sym b.1) c in
+          let last : Has (IsMarker (answering (at s) mac id)) (k.now (peer (peer s))) =
+          subst (λ (g : Side → List ItemValue). Has (IsMarker (answering (at s) mac id)) (g (peer (peer s)))) (sym b.2)
+          (subst (Has (IsMarker (answering (at s) mac id))) (sym (push_there (peer (peer s)) b.0 (put (peer s) k.rest fl)))
+          (has_last (IsMarker (answering (at s) mac id)) (put (peer s) k.rest fl (peer (peer s))) b.0 is)) in
+          subst (λ t. Has (IsMarker (answering (at s) mac id)) (k.now t)) (peer_twice s) last
+
+      by_answer : (a : Result Received SystemFault)
+          → CallPromise (gives (peer s)) (half (peer s) old).state (Receive (at (peer s)) k.item.octets) (answer.Receive a) (half (peer s) new).state
+          → Back (peer s) a (put (peer s) k.rest fl) k.now → IsMarker (asking (at s) mac id) k.item
+          → Has (IsMarker (answering (at s) mac id)) (k.now s)
+      by_answer (Err fault) h back c = absurd (none-some i (sym h.step.cause ∙ place))
+      by_answer (Ok o) h back c =
+          let r = subst (λ x. ReceivesAt x k.item.octets (half (peer s) old).state o (half (peer s) new).state) place h.step in
+          let same : r.0 ≡ z = same_Some r.0 z (sym r.2 ∙ there) in
+          let parsed = subst (λ b. ParsesWhere b r.0 k.item.octets r.1) (ap (λ (y : SystemPort). y.port.enabled) same ∙ up) r.3 in
+          let frame = frame_is k.item.octets (pdu.Marker (asking (at s) mac id)) parsed.0 c parsed.1 in
+          let gives = subst (λ f. GivesEffect r.0 f r.1) frame parsed.2 in
+          let done = subst (λ f. Performs f r.0.number (Some i) (half (peer s) old).state o (half (peer s) new).state) gives.3 r.4 in
+          responds o (frame_octets r.0.mac gives.0) done.0
+          (sent_carries (frame_octets r.0.mac gives.0) (pdu.Marker (answering (at s) mac id)) (r.0.mac, gives.0, gives.1, gives.2, refl)) back
+
+  -- another port is asked, or something comes to it
+
+  other_marks : (o : Option ℕ) (port : ℕ) (z : List ℕ) (old : SystemState) (a : Option (List ℕ)) (new : SystemState) (m : ℕ) (W : Type 0)
+      (F : ℕ → Type 0) → (port ≡ at s → ⊥) → SendsMarkerOf o port z old a new → Fines m W F old.table → Fines m W F new.table
+  other_marks None port z old a new m W F other h fine = fines_same m W F old new h.1 fine
+  other_marks (Some id) port z old a new m W F other h fine =
+      each_by aggs count (Fine (at s) m W F) (Fine (at s) m W F) (after_mark port id) old.table new.table h.4.states
+      (λ b f. marked_beside (at s) m port id W F other b f) fine
+
+  other_sends : (up due : Bool) (i : ℕ) (z : SystemPort) (old : SystemState) (a : Option (List ℕ)) (new : SystemState) (m : ℕ) (W : Type 0)
+      (F : ℕ → Type 0) → (z.number ≡ at s → ⊥) → TransmitsIf up due i z old a new → Fines m W F old.table → Fines m W F new.table
+  other_sends false due i z old a new m W F other h fine = fines_same m W F old new h.1 fine
+  other_sends true true i z old a new m W F other h fine =
+      subst (Fines m W F) (sym (ap (λ (t : SystemState). t.table) h.3)) fine
+  other_sends true false i z old a new m W F other h fine = other_marks (marker_due old.table z.number) z.number z.mac old a new m W F other h fine
+
+  other_transmits : (n : ℕ) (o : Option ℕ) (old : SystemState) (a : Option (List ℕ)) (new : SystemState) (m : ℕ) (W : Type 0) (F : ℕ → Type 0)
+      → port_index n old.system_ports ≡ o → (n ≡ at s → ⊥) → TransmitsAt o old a new → Fines m W F old.table → Fines m W F new.table
+  other_transmits n None old a new m W F e other h fine = absurd h
+  other_transmits n (Some i) old a new m W F e other h fine = other_sends h.0.port.enabled (is_due h.0.port) i h.0 old a new m W F
+      (λ f. other (sym (found_place n old.system_ports i h.0 e h.1) ∙ f)) h.2 fine
+
+  pub elsewhere_fine : (gives : ℕ → ℕ → ℕ → Type 0) (old new : SystemState) (m : ℕ) (W : Type 0) (F : ℕ → Type 0)
+      → Elsewhere gives (at s) old new → Stays old new → Fines m W F old.table → Fines m W F new.table
+  elsewhere_fine gives old new m W F (inl e) stays fine = fines_same m W F old new e fine
+  elsewhere_fine gives old new m W F (inr (p, Transmit n, answer.Transmit (Ok a), other, is, step)) stays fine =
+      other_transmits n (port_index n old.system_ports) old a new m W F refl (λ e. other (sym is ∙ e)) step fine
+  elsewhere_fine gives old new m W F (inr (p, Transmit n, answer.Transmit (Err fault), other, is, step)) stays fine =
+      fines_same m W F old new step.same fine
+  elsewhere_fine gives old new m W F (inr (p, Transmit n, a, other, is, step)) stays fine = absurd step
+  elsewhere_fine gives old new m W F (inr (p, Receive n octets, answer.Receive (Ok o), other, is, step)) stays fine =
+      changed (table_changes step.1 step.0.number (port_index n old.system_ports) old o new step.4)
+    where
+      changed : TableChanges (port_index n old.system_ports) old new → Fines m W F new.table
+      changed (inl x) = settled_from m W F old x.1.0 new (ap (λ (t : SystemState). t.table) x.1.1.1) x.1.2 stays fine
+      changed (inr (inl z)) = each_by aggs count (Fine (at s) m W F) (Fine (at s) m W F) (after_release z.0 z.1) old.table new.table z.2.states
+          (λ b f. released_beside (at s) m z.0 z.1 W F b f) fine
+      changed (inr (inr e)) = subst (Fines m W F) (sym e) fine
+  elsewhere_fine gives old new m W F (inr (p, Receive n octets, answer.Receive (Err fault), other, is, step)) stays fine =
+      fines_same m W F old new step.same fine
+  elsewhere_fine gives old new m W F (inr (p, Receive n octets, a, other, is, step)) stays fine = absurd step
+  elsewhere_fine gives old new m W F (inr (p, call, a, other, is, step)) stays fine = absurd is

@@ -1,0 +1,298 @@
+-- Selected stays what it is in the rounds of a world in which each end of a healthy cable knows its partner.
+use Rattle.std.proofs.Common.{◌≡◌, ◌∙◌, ℕ, ◌≤◌, true, List, ◌⊎◌, Option, Some, None, Ok, Err, Result, refl, sym, subst, ap, arith, inl, inr}
+use Rattle.std.specs.Prelude.{slice_get}
+use Rattle.std.specs.List.{AllByRecursion}
+use Rattle.std.proofs.lemmas.Bool.{cases_Bool}
+use Rattle.std.proofs.lemmas.Option.{none-some, same_Some}
+use Rattle.lagtypes.specs.declared.party.Choice.{Choice}
+use Rattle.slowpdu.specs.declared.pdu.Pdu.TheVariants as pdu
+use Rattle.slowpdu.specs.declared.pdu.Lacpdu.{Lacpdu}
+use Rattle.portmachines.specs.Machines.{Machines}
+use Rattle.portmachines.specs.Receive.{receive_rows}
+use Rattle.portmachines.specs.Rows.{RunsToRest}
+use Rattle.portmachines.specs.Transmit.{count_down}
+use Rattle.lagmodel.specs.World.{Side, One, Two, peer}
+use Rattle.lagsystem.specs.declared.config.PortConfig.{PortConfig}
+use Rattle.lagsystem.specs.declared.drive.Reply.TheVariants as answer
+use Rattle.lagsystem.specs.declared.fault.SystemFault.{SystemFault}
+use Rattle.lagsystem.specs.declared.received.Received.{Received}
+use Rattle.lagsystem.specs.declared.system_ports.SystemPort.{SystemPort}
+use Rattle.lagsystem.specs.Calls.{OnlyPortChangesBy, ProcessesLacpdu, Receive, ReceivesAt, Step, ThenSettles, Tick, Transmit, IsFrame, Carries}
+use Rattle.lagsystem.specs.First.{configured_numbers}
+use Rattle.lagsystem.specs.ModelView.{none_enabled}
+use Rattle.lagsystem.specs.Sound.{CallPromise}
+use Rattle.lagsystem.specs.State.{SystemState, aggregators_value, port_index, port_numbers}
+use Rattle.lagsystem.proofs.Performed.{processes_or_stays}
+use Rattle.lagsystem.proofs.Rest.{rests}
+use Rattle.lagsystem.proofs.Rising.{all-get, found_place}
+use Rattle.lagscript.specs.declared.event.Event.{Event}
+use Rattle.lagscript.specs.declared.event.Event.TheVariants as event
+use Rattle.lagworld.specs.declared.reply.Reply.{Reply}
+use Rattle.lagworld.specs.Events.{Algorithms, WorldSteps}
+use Rattle.lagworld.specs.State.{LinkState, WorldState, half, port_at, towards}
+use Rattle.lagprogress.specs.Bundle.{AllHeard}
+use Rattle.lagprogress.specs.Rounds.{IsHealthyAt, IsRound, asks_all, Rounds}
+use Rattle.lagprogress.specs.Steady.{IsSteady}
+use Rattle.lagprogress.proofs.Bundling.{Alike, alike_keeps, alike_ticks, all_by_place, ends_at, old_port}
+use Rattle.lagprogress.proofs.Choosing.{AllAsRead, AsRead, Chose, down_as_read, down_still, one_as_read, settles_choice, takes_as_read, zip_as_read}
+use Rattle.lagprogress.proofs.Climbing.{ticks_still}
+use Rattle.lagprogress.proofs.ComingUp.{calls_keep, zero_on}
+use Rattle.lagprogress.proofs.Delivering.{deliver_link}
+use Rattle.lagprogress.proofs.EachPort.{OfEach, transmits_each}
+use Rattle.lagprogress.proofs.EachRound.{EachAt, asks_each, delivers_each, ticks_each}
+use Rattle.lagprogress.proofs.EndFacts.{nothing_along, activity}
+use Rattle.lagprogress.proofs.Halves.{each_is_calls, keeps_steady}
+use Rattle.lagprogress.proofs.Linked.{EndIs, Fits, IsGood, Link, arrival, each_side, emit_any}
+use Rattle.lagprogress.proofs.OneCable.{Comes, alone, cable, came_off, emits, ticks, towards_there}
+use Rattle.lagprogress.proofs.OnePort.{AtPort}
+use Rattle.lagprogress.proofs.OneRound.{Nothing, Unrolled, all_ask, ask_all, deliver_all, tick_both, ticked, unroll}
+use Rattle.lagprogress.proofs.Progressing.{Fresh, fits_fresh, knows_peer, said_by, stays_fresh}
+
+both_tick : (gives : Algorithms) (t : Side) (old new : WorldState) (u : Unrolled gives old new)
+    → Step (gives t) (half t old).state Tick answer.Tick (half t u.two).state
+both_tick gives t old new u =
+    let one = ticks gives 1 One u.tick_one.0 old u.one refl u.tick_one.1 in
+    let two = ticks gives 2 Two u.tick_two.0 u.one u.two refl u.tick_two.1 in
+    each_side (λ t. Step (gives t) (half t old).state Tick answer.Tick (half t u.two).state) One
+    (subst (λ z. Step (gives One) old.one.state Tick answer.Tick z) (sym two.peers) one.step)
+    (subst (λ z. Step (gives Two) z Tick answer.Tick u.two.two.state) one.peers two.step) t
+
+-- a port that is asked
+
+asked_choice : (gives : ℕ → ℕ → ℕ → Type 0) (q : ℕ) (a : Result (Option (List ℕ)) SystemFault) (old new : SystemState) (n : ℕ) (c : Choice)
+    → Step gives old (Transmit q) (answer.Transmit a) new → OfEach (Chose n c) old.system_ports → OfEach (Chose n c) new.system_ports
+asked_choice gives q (Err fault) old new n c h a = subst (λ (s : SystemState). OfEach (Chose n c) s.system_ports) (sym h.same) a
+asked_choice gives q (Ok o) old new n c h a =
+    transmits_each (Chose n c) q (port_index q old.system_ports) old o new (λ p told b e. b e) refl h a
+
+module _ (Holds : LinkState → WorldState → Type 0) (gives : Algorithms) (old : WorldState) (heard : AllHeard Holds old)
+    (wakes : (i : ℕ) (l : LinkState) (h : IsHealthyAt i l old) → (s : Side)
+    → (activity (said_by l old (ends_at i l old h) s) ≡ true) ⊎ (activity (said_by l old (ends_at i l old h) (peer s)) ≡ true)) where
+  -- of each healthy cable
+  abbrev pub OfCables : ((i : ℕ) (l : LinkState) → IsHealthyAt i l old → Type 0) → Type 0
+  OfCables X = (i : ℕ) (l : LinkState) (y : IsHealthyAt i l old) → X i l y
+
+  abbrev pub AllFresh : WorldState → Type 0
+  AllFresh j = OfCables (λ i l y. Fresh (λ t. port_at t l) (said_by l old (ends_at i l old y)) j)
+
+  abbrev Known : Type 0
+  Known = OfCables (λ i l y. Side → ℕ)
+
+  abbrev AllLinked : Known → WorldState → Type 0
+  AllLinked kn j = OfCables (λ i l y. Link 1 (λ t. port_at t l) (said_by l old (ends_at i l old y)) (kn i l y) One Nothing j)
+
+  abbrev AllFit : Known → Type 0
+  AllFit kn = OfCables (λ i l y. Fits 1 (said_by l old (ends_at i l old y)) (kn i l y) × ((t : Side) → 1 ≤ kn i l y t))
+
+  -- what stays of both systems
+  pub record Stands (j : WorldState) : Type 0 where
+    pub steady : IsSteady j
+    pub config : (t : Side) → (half t j).state.ports ≡ (half t old).state.ports
+    pub alike : (t : Side) (k : ℕ) (x : SystemPort) → slice_get (half t old).state.system_ports k ≡ Some x
+        → EachAt (AtPort x.number (Alike x.port)) t j
+
+  -- each port has this value of Selected
+  abbrev pub AllChose : WorldState → WorldState → Type 0
+  AllChose start j = (t : Side) (k : ℕ) (x : SystemPort) → slice_get (half t start).state.system_ports k ≡ Some x
+      → EachAt (Chose x.number x.port.choice) t j
+
+  config_kept : (e : Event) (r : Reply) (i j : WorldState) → WorldSteps gives i e r j → ((t : Side) → (half t i).state.ports ≡ (half t old).state.ports)
+      → (t : Side) → (half t j).state.ports ≡ (half t old).state.ports
+  config_kept e r i j h s t =
+      let c = each_is_calls gives e r i j h t in
+      calls_keep (List PortConfig) (λ x. x.ports) (λ x a b. refl) (gives t) (half t i).state (half t j).state c.0 c.1 c.2 ∙ s t
+
+  -- a port whose link is up ends a healthy cable
+  pub record OnCableOf (t : Side) (j : WorldState) (number : ℕ) : Type 0 where
+    pub index : ℕ
+    pub link : LinkState
+    pub healthy : IsHealthyAt index link old
+    pub joins : port_at t link ≡ number
+
+  pub on_cable : (t : Side) (j : WorldState) (k : ℕ) (z : SystemPort) → IsSteady old → Stands j → slice_get (half t j).state.system_ports k ≡ Some z
+      → z.port.enabled ≡ true → OnCableOf t j z.number
+  on_cable t j k z start s there up =
+      let numbers : port_numbers (half t j).state.system_ports ≡ port_numbers (half t old).state.system_ports =
+      (s.steady t).0.ports.same ∙ (ap configured_numbers (s.config t) ∙ sym (start t).0.ports.same) in
+      let x = old_port (half t old).state.system_ports (half t j).state.system_ports k z numbers there in
+      let like = all-get (λ (y : SystemPort). AtPort x.0.number (Alike x.0.port) y.number y.port) (half t j).state.system_ports k z there
+      (s.alike t k x.0 x.1) x.2 in
+      let it = heard t k x.0 x.1 (sym like.1 ∙ up) in
+      record { index = it.index; link = it.link; healthy = it.healthy; joins = it.joins ∙ sym x.2 }
+
+  module _ (start : IsSteady old) where
+    -- an item comes to a port
+    came_choice : (kn : Known) (t : Side) (i j : WorldState) (k : ℕ) (l : LinkState) (n : ℕ) (c : Choice) → AllFit kn → AllLinked kn i → Stands i
+        → slice_get i.links k ≡ Some l → Comes gives t k l i j → OfEach (Chose n c) (half t i).state.system_ports
+        → OfEach (Chose n c) (half t j).state.system_ports
+    came_choice kn t i j k l n c fits links s cabled m a = by_answer m.a m.promise
+      where
+        st : SystemState
+        st = (half t i).state
+
+        same : (half t j).state.system_ports ≡ (half t i).state.system_ports → OfEach (Chose n c) (half t j).state.system_ports
+        same e = subst (OfEach (Chose n c)) (sym e) a
+
+        took : (kk : ℕ) (z : SystemPort) (v : Lacpdu) → slice_get (half t i).state.system_ports kk ≡ Some z
+            → ((p : Machines) → ProcessesLacpdu v z.port p → AsRead z.port p)
+            → ThenSettles (OnlyPortChangesBy (Some kk) (ProcessesLacpdu v)) (half t i).state (half t j).state
+            → OfEach (Chose n c) (half t j).state.system_ports
+        took kk z v there read h =
+            let y = h.1.0 in
+            let is : y.0 ≡ z = same_Some y.0 z (sym y.2 ∙ there) in
+            let one = subst (λ (x : SystemPort). AsRead x.port y.1) (sym is)
+            (read y.1 (subst (λ (x : SystemPort). ProcessesLacpdu v x.port y.1) is y.3)) in
+            settles_choice (half t i).state h.0 (half t j).state (s.steady t).0
+            (subst (AllAsRead (half t i).state.system_ports) (sym y.4) (one_as_read (half t i).state.system_ports kk y.0 y.1 y.2 one))
+            (ap aggregators_value h.1.1) h.2 n c a
+
+        up_read : (kk : ℕ) (z : SystemPort) (v : Lacpdu) → slice_get (half t i).state.system_ports kk ≡ Some z → z.number ≡ port_at t l
+            → z.port.enabled ≡ true → IsFrame m.item.octets (Carries (pdu.Lacpdu v)) → (p : Machines) → ProcessesLacpdu v z.port p
+            → AsRead z.port p
+        up_read kk z v there number up carried p does =
+            let o = on_cable t i kk z start s there up in
+            let at : Side → ℕ = λ u. port_at u o.link in
+            let w = said_by o.link old (ends_at o.index o.link old o.healthy) in
+            let link = links o.index o.link o.healthy in
+            let fit = fits o.index o.link o.healthy in
+            let end = (all-get (λ (y : SystemPort). AtPort (at t) (EndIs 1 w (kn o.index o.link o.healthy) One Nothing t) y.number y.port)
+            (half t i).state.system_ports kk z there (link.ports t) (sym o.joins)).0 in
+            let place = alone t link.index k at link.flying i.links l link.links cabled (sym number ∙ sym o.joins) in
+            let is : l ≡ cable at link.flying = same_Some l (cable at link.flying)
+            (sym cabled ∙ (ap (slice_get i.links) place ∙ link.links.there)) in
+            let first = sym (ap (towards t) is ∙ towards_there t at link.flying) ∙ m.first in
+            let good = subst (AllByRecursion (IsGood 1 w t)) first (link.good t) in
+            takes_as_read (w (peer t)) v z.port p up ((good.0 v carried).0 (omega arith)) (end.1.1 (fit.1 t)).0 does
+
+        by_index : (o : Received) (x : Option ℕ) → port_index (port_at t l) (half t i).state.system_ports ≡ x
+            → CallPromise (gives t) (half t i).state (Receive (port_at t l) m.item.octets) (answer.Receive (Ok o)) (half t j).state
+            → ReceivesAt x m.item.octets (half t i).state o (half t j).state → OfEach (Chose n c) (half t j).state.system_ports
+        by_index o None e p r = absurd (none-some r.0 r.2)
+        by_index o (Some kk) e p r =
+            let number = found_place (port_at t l) (half t i).state.system_ports kk r.0 e r.2 in
+            elim (cases_Bool r.0.port.enabled) [
+              | inl up ↦ elim (arrival (gives t) (port_at t l) kk r.0 m.item.octets o (half t i).state (half t j).state e r.2 up p) [
+                | inl x ↦ took kk r.0 x.0 r.2 (up_read kk r.0 x.0 r.2 number up x.1) x.2
+                | inr x ↦ same x.1
+              ]
+              | inr down ↦ elim (processes_or_stays r.1 r.0.number (Some kk) (half t i).state o (half t j).state r.4) [
+                | inl x ↦ took kk r.0 x.0 r.2 (λ p does. down_as_read x.0 r.0.port p down does) x.2
+                | inr x ↦ same x
+              ]
+            ]
+
+        by_answer : (a : Result Received SystemFault)
+            → CallPromise (gives t) (half t i).state (Receive (port_at t l) m.item.octets) (answer.Receive a) (half t j).state
+            → OfEach (Chose n c) (half t j).state.system_ports
+        by_answer (Err fault) p = same (ap (λ (x : SystemState). x.system_ports) p.step.same)
+        by_answer (Ok o) p = by_index o (port_index (port_at t l) (half t i).state.system_ports) refl p p.step
+
+    -- within a round
+    record Mid (kn : Known) (from j : WorldState) : Type 0 where
+      links : AllLinked kn j
+      stands : Stands j
+      chose : AllChose from j
+
+    asked : (kn : Known) (from : WorldState) (n p : ℕ) (r : Reply) (i j : WorldState) → AllFit kn → WorldSteps gives i (event.Emit n p) r j
+        → Mid kn from i → Mid kn from j
+    asked kn from n p r i j fits h d = record {
+      links = λ x l y. (emit_any gives n p 1 (λ t. port_at t l) (said_by l old (ends_at x l old y)) (kn x l y) One Nothing r i j (fits x l y).0
+          (nothing_along (said_by l old (ends_at x l old y) One) (said_by l old (ends_at x l old y) (peer One)) (kn x l y One) 1) (λ q y. y)
+          (d.links x l y) h).link;
+      stands = record {
+        steady = keeps_steady gives (event.Emit n p) r i j h d.stands.steady;
+        config = config_kept (event.Emit n p) r i j h d.stands.config;
+        alike = λ t k x e. asks_each (AtPort x.number (Alike x.port)) (alike_keeps x.number x.port) t gives n p r i j h (d.stands.alike t k x e);
+      };
+      chose = λ t k x e. (let m = emits gives n p r i j h in
+          each_side (λ u. EachAt (Chose x.number x.port.choice) u i → EachAt (Chose x.number x.port.choice) u j) m.0
+          (λ a. asked_choice (gives m.0) p m.2.a (half m.0 i).state (half m.0 j).state x.number x.port.choice m.2.promise.step a)
+          (λ a. subst (λ (z : SystemState). OfEach (Chose x.number x.port.choice) z.system_ports) (sym m.2.peers) a) t (d.chose t k x e));
+    }
+
+    delivered : (kn : Known) (from : WorldState) (cn n : ℕ) (r : Reply) (i j : WorldState) → AllFit kn
+        → WorldSteps gives i (event.Deliver cn n) r j → Mid kn from i → Mid kn from j
+    delivered kn from cn n r i j fits h d = record {
+      links = λ x l y. (deliver_link gives cn n 1 (λ t. port_at t l) (said_by l old (ends_at x l old y)) (kn x l y) One Nothing r i j (fits x l y).0
+          (nothing_along (said_by l old (ends_at x l old y) One) (said_by l old (ends_at x l old y) (peer One)) (kn x l y One) 1)
+          (d.links x l y) h).link;
+      stands = record {
+        steady = keeps_steady gives (event.Deliver cn n) r i j h d.stands.steady;
+        config = config_kept (event.Deliver cn n) r i j h d.stands.config;
+        alike = λ t k x e. delivers_each (AtPort x.number (Alike x.port)) (alike_keeps x.number x.port) t gives cn n r i j h (d.stands.alike t k x e);
+      };
+      chose = λ t k x e. elim (came_off gives cn n r i j h) [
+        | inl m ↦ each_side (λ u. EachAt (Chose x.number x.port.choice) u i → EachAt (Chose x.number x.port.choice) u j) m.side
+            (λ a. came_choice kn m.side i j m.index m.link x.number x.port.choice fits d.links d.stands m.there m.comes a)
+            (λ a. subst (λ (z : SystemState). OfEach (Chose x.number x.port.choice) z.system_ports) (sym m.comes.peers) a) t (d.chose t k x e)
+        | inr m ↦ subst (λ (z : SystemState). OfEach (Chose x.number x.port.choice) z.system_ports) (sym (m.halves t)) (d.chose t k x e)
+      ];
+    }
+
+    -- a tick
+    tick_choice : (i j : WorldState) (u : Unrolled gives i j) (t : Side) (n : ℕ) (c : Choice) → AllFresh i → Stands i
+        → OfEach (Chose n c) (half t i).state.system_ports → OfEach (Chose n c) (half t u.two).state.system_ports
+    tick_choice i j u t n c fresh s a =
+        let h = both_tick gives t i j u in
+        settles_choice (half t i).state h.0 (half t u.two).state (s.steady t).0
+        (zip_as_read (λ p q. RunsToRest receive_rows (count_down p) q) (half t i).state.system_ports h.0.system_ports
+        (all_by_place (λ x. (q : Machines) → RunsToRest receive_rows (count_down x.port) q → AsRead x.port q) (half t i).state.system_ports read)
+        h.1.0) (ap aggregators_value h.1.2) h.2 n c a
+      where
+        counted : (p q : Machines) → q ≡ count_down p → AsRead p q
+        counted p q e = subst (AsRead p) (sym e) (refl, refl, refl, refl, refl)
+
+        read : (k : ℕ) (x : SystemPort) → slice_get (half t i).state.system_ports k ≡ Some x → (q : Machines)
+            → RunsToRest receive_rows (count_down x.port) q → AsRead x.port q
+        read k x there q run = elim (cases_Bool x.port.enabled) [
+          | inl up ↦ (let o = on_cable t i k x start s there up in
+              let at : Side → ℕ = λ u. port_at u o.link in
+              let w = said_by o.link old (ends_at o.index o.link old o.healthy) in
+              let g = fresh o.index o.link o.healthy in
+              let l = knows_peer at w 1 0 0 i g (omega arith) t in
+              let end = (all-get (λ (y : SystemPort). AtPort (at t) (EndIs 1 w g.known One Nothing t) y.number y.port)
+              (half t i).state.system_ports k x there (g.link.ports t) (sym o.joins)).0 in
+              counted x.port q (ticks_still 1 (w t) (w (peer t)) (g.known t) x.port q (omega (arith, l)) end run))
+          | inr down ↦ counted x.port q (down_still x.port q down (rests receive_rows x.port
+              (all-get (λ (y : SystemPort). none_enabled receive_rows y.port ≡ true) (half t i).state.system_ports k x there (s.steady t).0.rested.0)) run)
+        ]
+
+    pub choice_round : (from i j : WorldState) → IsRound gives i j → AllFresh i → Stands i → AllChose from i
+        → Stands j × AllChose from j
+    choice_round from i j h fresh s chose =
+        let u = unroll gives i j h in
+        let kn : Known = λ x l y. ticked (fresh x l y).known in
+        let fits : AllFit kn = λ x l y. (
+          fits_fresh (λ t. port_at t l) (said_by l old (ends_at x l old y)) (wakes x l y) 1 i (fresh x l y) (omega arith),
+          λ t. (let m = knows_peer (λ t. port_at t l) (said_by l old (ends_at x l old y)) 1 0 0 i (fresh x l y) (omega arith) t in omega (arith, m)),
+        ) in
+        let first = keeps_steady gives (event.Tick 1 1) u.tick_one.0 i u.one u.tick_one.1 s.steady in
+        let two : Mid kn from u.two = record {
+          links = λ x l y. (let w = said_by l old (ends_at x l old y) in
+              let g = fresh x l y in
+              tick_both gives 1 (λ t. port_at t l) w g.known One Nothing Nothing u.tick_one.0 u.tick_two.0 i u.one u.two (fits x l y).0
+              (nothing_along (w One) (w (peer One)) (kn x l y One) 1) (λ p q run rest a z. z) u.tick_one.1 u.tick_two.1 g.link);
+          stands = record {
+            steady = keeps_steady gives (event.Tick 2 1) u.tick_two.0 u.one u.two u.tick_two.1 first;
+            config = config_kept (event.Tick 2 1) u.tick_two.0 u.one u.two u.tick_two.1
+                (config_kept (event.Tick 1 1) u.tick_one.0 i u.one u.tick_one.1 s.config);
+            alike = λ t k x e. ticks_each (AtPort x.number (Alike x.port)) (AtPort x.number (Alike x.port)) (alike_keeps x.number x.port)
+                (alike_ticks x.number x.port) t gives i j u (s.alike t k x e);
+          };
+          chose = λ t k x e. tick_choice i j u t x.number x.port.choice fresh s (chose t k x e);
+        } in
+        let six = ask_all gives (Mid kn from) (λ n p r a b step d. asked kn from n p r a b fits step d)
+        (asks_all i.links) u.asked u.two u.six (all_ask i.links) u.asks two in
+        let end = deliver_all gives (Mid kn from) (λ cn n r a b step d. delivered kn from cn n r a b fits step d)
+        u.delivers u.replies u.six j u.arrives u.rest six in
+        (end.stands, end.chose)
+
+    -- so many rounds
+    pub choice_rounds : (n : ℕ) (from j : WorldState) → AllFresh from → Stands from → AllChose from from → Rounds gives n from j
+        → AllFresh j × Stands j × AllChose from j
+    choice_rounds n from j fresh s chose h = zero_on gives (λ m k. AllFresh k × Stands k × AllChose from k) from (fresh, s, chose)
+        (λ m a b q d. (let e = choice_round from a b q d.0 d.1 d.2 in (
+          λ x l y. stays_fresh (λ t. port_at t l) (said_by l old (ends_at x l old y)) (wakes x l y) gives 1 a b (omega arith) q (d.0 x l y),
+          e.0,
+          e.1,
+        ))) n j h

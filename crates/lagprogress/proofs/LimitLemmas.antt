@@ -1,0 +1,334 @@
+-- How the links of a bundle agree where one system has a limit of links.
+use Rattle.std.proofs.Common.{◌≡◌, ◌∙◌, ℕ, suc, Bool, true, false, List, [], ◌∷◌, Option, Some, None, ◌⊎◌, inl, inr, refl, sym, subst, ap, arith, map}
+use Rattle.std.proofs.Common.{Ok, Err}
+use Rattle.std.specs.Prelude.{IsSome, if◌then◌else◌, slice_get}
+use Rattle.std.proofs.lemmas.Bool.{cases_Bool}
+use Rattle.std.proofs.lemmas.Option.{same_Some}
+use Rattle.lagtypes.specs.declared.identifiers.AggId.{AggId}
+use Rattle.lagtypes.specs.declared.identifiers.SystemId.{SystemId}
+use Rattle.lagtypes.specs.declared.party.Choice.{Choice}
+use Rattle.lagtypes.specs.declared.party.Choice.TheVariants.{Selected, Standby, Unselected}
+use Rattle.lagtypes.specs.declared.party.Party.{Party}
+use Rattle.lagtypes.specs.Choices.{is_selected}
+use Rattle.lagtypes.specs.Same.{same_party}
+use Rattle.slowpdu.specs.declared.pdu.Lacpdu.{Lacpdu}
+use Rattle.slowpdu.specs.Parties.{party_of}
+use Rattle.selection.specs.Views.{has_chosen}
+use Rattle.portmachines.specs.declared.port.Setup.{Setup}
+use Rattle.portmachines.specs.Machines.{Machines}
+use Rattle.portmachines.specs.Mux.{mux_rows, selected}
+use Rattle.portmachines.specs.Periodic.{periodic_rows}
+use Rattle.portmachines.specs.Receive.{default_partner, lacpdu_rows, receive_rows, start_receive}
+use Rattle.portmachines.specs.Rows.{RunsToRest}
+use Rattle.portmachines.specs.Start.{Starts, before_start}
+use Rattle.portmachines.specs.Transmit.{count_down}
+use Rattle.lagmodel.specs.World.{IsCabling, Side, One, Two, end_at, peer}
+use Rattle.lagsystem.specs.declared.drive.Reply.{Reply as Answer}
+use Rattle.lagsystem.specs.declared.drive.Reply.TheVariants as reply
+use Rattle.lagsystem.specs.declared.system_ports.SystemPort.{SystemPort}
+use Rattle.lagsystem.specs.Calls.{Call, Configure, ProcessesLacpdu, Force, Move_conversation, Offer, Receive, Restart, Set_link, SetsPortEnabled, Step, TableRun, Tick}
+use Rattle.lagsystem.specs.Calls.{Transmit, changed_party, choice_with_link}
+use Rattle.lagsystem.specs.State.{SystemState, port_index}
+use Rattle.lagsystem.proofs.Keeps.{Step-frame}
+use Rattle.lagsystem.proofs.Rising.{all-get, found_place, ports_rise}
+use Rattle.lagscript.specs.declared.event.Event.{Event}
+use Rattle.lagworld.specs.declared.reply.Reply.{Reply}
+use Rattle.lagworld.specs.declared.agreement.Agreement.TheVariants.{Same}
+use Rattle.lagworld.specs.Agreement.{agreement_at}
+use Rattle.lagworld.specs.Events.{Algorithms, WorldRuns}
+use Rattle.lagworld.specs.ModelWorld.{link_ends, world_setup}
+use Rattle.lagworld.specs.Sound.{IsSound as IsWorldSound}
+use Rattle.lagworld.specs.State.{LinkState, WorldState, half, port_at}
+use Rattle.lagworld.proofs.Cables.{end_is}
+use Rattle.lagprogress.specs.Bundle.{AllHeard, BothAreActive, OneIsActive}
+use Rattle.lagprogress.specs.Limited.{CarriesOnAll, DownAreUnselected, EachActiveLimitedLinkAgrees, EachLimitedLinkAgrees}
+use Rattle.lagprogress.specs.Limited.{EachReachedHasDownUnselected, EndsAgreed, IsLimitedBundle, StandsByOthers}
+use Rattle.lagprogress.specs.Progress.{EndKnows, Knows}
+use Rattle.lagprogress.specs.Rounds.{AtEnd, IsHealthyAt, OfPort, Rounds}
+use Rattle.lagprogress.specs.Selecting.{StandsByFull, WantsAggregator}
+use Rattle.lagprogress.proofs.Bundling.{all_by_place, as_before, ends_at, never_stands, old_port, own_system, rounds_alike, rounds_keep, still_aggregators}
+use Rattle.lagprogress.proofs.Bundling.{still_links, Alike}
+use Rattle.lagprogress.proofs.ComingUp.{zero_on}
+use Rattle.lagprogress.proofs.EachPort.{KeptBySettling, OfEach, Step-each, first_each, place_each, settling_each}
+use Rattle.lagprogress.proofs.EachRound.{EachAt, RoundKeeps, round_each, rounds_join, rounds_steady}
+use Rattle.lagprogress.proofs.Halves.{both_first, each_is_calls}
+use Rattle.lagprogress.proofs.Hearing.{no}
+use Rattle.lagprogress.proofs.Linked.{each_side}
+use Rattle.lagprogress.proofs.OneActive.{ends_of_each_know}
+use Rattle.lagprogress.proofs.OnePort.{AtPort, at_number}
+use Rattle.lagprogress.proofs.Pairing.{active_selected_pairs_agree, selected_pairs_agree}
+use Rattle.lagprogress.proofs.Progressing.{active_ends_of_each_know, end_of, machines_there}
+use Rattle.lagprogress.proofs.Selecting.{finds_aggregator}
+use Rattle.lagprogress.proofs.Timers.{RowsKeep, fires_keep, runs_keep}
+
+-- a port whose link is down stays UNSELECTED
+
+abbrev Idle : Machines → Type 0
+Idle p = p.enabled ≡ false → p.choice ≡ Unselected
+
+abbrev IdleAt : ℕ → Machines → Type 0
+IdleAt n p = Idle p
+
+chooses_none : (b : Bool) (c : Choice) → c ≡ Unselected → (if b then c else Unselected) ≡ Unselected
+chooses_none true c e = e
+chooses_none false c e = refl
+
+receive_idle : RowsKeep Idle receive_rows
+receive_idle = (
+  λ p a. a,
+  (
+    λ p a. a,
+    (
+      λ p a. a,
+      (λ p a e. chooses_none (same_party (party_of default_partner) (party_of p.partner)) p.choice (a e), (λ p a. a, tt)),
+    ),
+  ),
+)
+
+idle_settles : KeptBySettling IdleAt
+idle_settles = record {
+  mux = λ n ready p q h a. runs_keep Idle (mux_rows ready)
+      (λ p a. a, (λ p a. a, (λ p a. a, (λ p a. a, (λ p a. a, (λ p a. a, tt)))))) p q h a;
+  periodic = λ n p q h a. subst Idle (sym h.2) (runs_keep Idle periodic_rows
+      (λ p a. a, (λ p a. a, (λ p a. a, (λ p a. a, (λ p a. a, (λ p a. a, (λ p a. a, tt))))))) p h.0 h.1 a);
+  select = λ n choice p none may a e. absurd (elim may.0 [
+    | inl up ↦ no (sym e ∙ up)
+    | inr s ↦ standing s.0 (sym s.1 ∙ a e)
+  ]);
+}
+  where
+    standing : (agg : AggId) → Standby agg ≡ Unselected → ⊥
+    standing agg e = cc
+
+idle_takes : (v : Lacpdu) (p q : Machines) → ProcessesLacpdu v p q → Idle p → Idle q
+idle_takes v p q h a = elim h [
+  | inl f ↦ fires_keep Idle (lacpdu_rows v)
+      (λ p a e. chooses_none (same_party (party_of v.actor) (party_of p.partner)) p.choice (a e), tt) p q f a
+  | inr r ↦ subst Idle (sym r.1) a
+]
+
+idle_ticks : (n : ℕ) (p q : Machines) → RunsToRest receive_rows (count_down p) q → IdleAt n p → IdleAt n q
+idle_ticks n p q h a = runs_keep Idle receive_rows receive_idle (count_down p) q h a
+
+idle_starts : (p q : Machines) → Starts p q → Idle p → Idle q
+idle_starts p q h a = subst Idle (sym h.2) (runs_keep Idle receive_rows receive_idle (start_receive p) h.0 h.1 (λ e. refl))
+
+idle_first : (n : ℕ) (u : Setup) (q : Machines) → Starts (before_start u) q → IdleAt n q
+idle_first n u q h = idle_starts (before_start u) q h (λ e. refl)
+
+idle_round : RoundKeeps IdleAt
+idle_round = record { settles = idle_settles; sends = λ n p a. a; takes = λ n v p q h a. idle_takes v p q h a }
+
+still_down : (gives : Algorithms) (n : ℕ) (old new : WorldState) (s : Side) → Rounds gives n old new → DownAreUnselected (half s old).state
+    → DownAreUnselected (half s new).state
+still_down gives n old new s h a k x there =
+    let first : EachAt IdleAt s old = all_by_place (λ x. Idle x.port) (half s old).state.system_ports a in
+    let last = zero_on gives (λ m j. EachAt IdleAt s j) old first
+    (λ m i j q b. round_each IdleAt IdleAt idle_round idle_ticks s gives i j q b) n new h in
+    all-get (λ (y : SystemPort). Idle y.port) (half s new).state.system_ports k x there last
+
+-- so it is in each system with a limit
+
+abbrev Limits : SystemState → Type 0
+Limits s = IsSome s.max_links → OfEach IdleAt s.system_ports
+
+links_idle : (most : Option ℕ) (up : Bool) (p q : Machines) → IsSome most → SetsPortEnabled most up p q → Idle p → Idle q
+links_idle None up p q some h a = absurd (let e = some in cc)
+links_idle (Some most) true p q some h a = runs_keep Idle receive_rows receive_idle
+    (record p { enabled = true; choice = choice_with_link (Some most) true p.choice }) q h (λ e. absurd (no (sym e)))
+links_idle (Some most) false p q some h a = runs_keep Idle receive_rows receive_idle
+    (record p { enabled = false; choice = choice_with_link (Some most) false p.choice }) q h (λ e. refl)
+
+call_idle : (gives : ℕ → ℕ → ℕ → Type 0) (old new : SystemState) (call : Call) (answer : Answer) → Step gives old call answer new
+    → IsSome old.max_links → OfEach IdleAt old.system_ports → OfEach IdleAt new.system_ports
+call_idle gives old new Tick answer h some a = Step-each IdleAt idle_settles gives old Tick answer new idle_ticks h a
+call_idle gives old new (Set_link n up) (reply.SetLink (Ok done)) h some a = settling_each IdleAt idle_settles h.0 new h.2
+    (place_each IdleAt (SetsPortEnabled old.max_links up) n (λ p q k b. links_idle old.max_links up p q some k b)
+    (port_index n old.system_ports) old.system_ports h.0.system_ports refl h.1.0 a)
+call_idle gives old new (Set_link n up) (reply.SetLink (Err fault)) h some a =
+    subst (λ (s : SystemState). OfEach IdleAt s.system_ports) (sym h.same) a
+call_idle gives old new (Receive n octets) answer h some a = Step-each IdleAt idle_settles gives old (Receive n octets) answer new
+    (λ v p q t d b. idle_takes v p q d b) h a
+call_idle gives old new (Configure n change) answer h some a = Step-each IdleAt idle_settles gives old (Configure n change) answer new
+    (λ p q d b. idle_starts (record p { party = changed_party change p.party }) q d.1 b) h a
+call_idle gives old new Restart answer h some a = Step-each IdleAt idle_settles gives old Restart answer new idle_first h a
+call_idle gives old new (Transmit n) answer h some a = Step-each IdleAt idle_settles gives old (Transmit n) answer new (λ p e b. b) h a
+call_idle gives old new (Offer agg octets) answer h some a = Step-each IdleAt idle_settles gives old (Offer agg octets) answer new tt h a
+call_idle gives old new (Move_conversation agg conv port) answer h some a =
+    Step-each IdleAt idle_settles gives old (Move_conversation agg conv port) answer new tt h a
+call_idle gives old new (Force agg conv) answer h some a = Step-each IdleAt idle_settles gives old (Force agg conv) answer new tt h a
+call_idle gives old new call answer h some a = absurd h
+
+call_limits : (gives : ℕ → ℕ → ℕ → Type 0) (old new : SystemState) (call : Call) (answer : Answer) → Step gives old call answer new → Limits old
+    → Limits new
+call_limits gives old new call answer h a some =
+    let was = subst (λ (o : Option ℕ). IsSome o) (ap (λ (s : SystemState). s.max_links) (Step-frame gives old call answer new h)) some in
+    call_idle gives old new call answer h was (a was)
+
+calls_limits : (gives : ℕ → ℕ → ℕ → Type 0) (old new : SystemState) (calls : List Call) (answers : List Answer)
+    → TableRun gives old calls answers new → Limits old → Limits new
+calls_limits gives old new [] [] h a = subst Limits (sym h) a
+calls_limits gives old new [] (r ∷ answers) h a = absurd h
+calls_limits gives old new (call ∷ calls) [] h a = absurd h
+calls_limits gives old new (call ∷ calls) (r ∷ answers) h a =
+    calls_limits gives h.0 new calls answers h.2 (call_limits gives old h.0 call r h.1 a)
+
+events_limits : (gives : Algorithms) (es : List Event) (rs : List Reply) (old new : WorldState) → WorldRuns gives old es rs new → (s : Side)
+    → Limits (half s old).state → Limits (half s new).state
+events_limits gives [] [] old new h s a = subst (λ (j : WorldState). Limits (half s j).state) (sym h) a
+events_limits gives [] (r ∷ rs) old new h s a = absurd h
+events_limits gives (e ∷ es) [] old new h s a = absurd h
+events_limits gives (e ∷ es) (r ∷ rs) old new h s a =
+    let c = each_is_calls gives e r old h.0 h.1 s in
+    events_limits gives es rs h.0 new h.2 s (calls_limits (gives s) (half s old).state (half s h.0).state c.0 c.1 c.2 a)
+
+pub each_reached_has_down_unselected : (gives : Algorithms) → EachReachedHasDownUnselected gives
+each_reached_has_down_unselected gives configs es rs start new s i h runs some k x there =
+    let st = (half s start).state in
+    let first : Limits st = λ o. first_each IdleAt idle_settles idle_first st (both_first configs start h s) in
+    all-get (λ (y : SystemPort). Idle y.port) (half s new).state.system_ports k x there (events_limits gives es rs start new runs s first some)
+
+-- of each healthy cable it holds
+
+heard_holds : (Holds : LinkState → WorldState → Type 0) (old : WorldState) → IsCabling (world_setup old).cables → AllHeard Holds old
+    → (i : ℕ) (l : LinkState) → IsHealthyAt i l old → Holds l old
+heard_holds Holds old cabling heard i l h =
+    let e = ends_at i l old h One in
+    let it = heard One e.0 e.1 e.3 e.4 in
+    let joins : port_at One it.link ≡ port_at One l = it.joins ∙ found_place (port_at One l) (half One old).state.system_ports e.0 e.1 e.2 e.3 in
+    let here : end_at (map link_ends old.links) One (suc it.index) ≡ Some (port_at One l) =
+    end_is One old.links it.index it.link it.healthy.there ∙ ap (λ (n : ℕ). Some n) joins in
+    let place : suc it.index ≡ suc i = cabling One (suc it.index) (suc i) (port_at One l) here (end_is One old.links i l h.there) in
+    let same : it.index ≡ i = omega (arith, place) in
+    subst (λ m. Holds m old) (same_Some it.link l (sym it.healthy.there ∙ (ap (slice_get old.links) same ∙ h.there))) it.holds
+
+-- after the rounds
+
+module _ (Holds : LinkState → WorldState → Type 0) (t : Side) (gives : Algorithms) (n : ℕ) (old new : WorldState) (sound : IsWorldSound old)
+    (b : IsLimitedBundle Holds t old) (h : Rounds gives n old new)
+    (knows : (i : ℕ) (l : LinkState) → IsHealthyAt i l old → (s : Side) → EndKnows s l new)
+    (pairs : (i : ℕ) (l : LinkState) → IsHealthyAt i l old → ((s : Side) → AtEnd (λ p. selected p ≡ true) s l new)
+    → agreement_at new (suc i) ≡ Some Same) where
+  -- the port at an end, which knows its partner
+  record Known (s : Side) (l : LinkState) : Type 0 where
+    place : ℕ
+    port : SystemPort
+    index : port_index (port_at s l) (half s new).state.system_ports ≡ Some place
+    there : slice_get (half s new).state.system_ports place ≡ Some port
+    wants : WantsAggregator port.port
+
+  known : (i : ℕ) (l : LinkState) → IsHealthyAt i l old → (s : Side) → Known s l
+  known i l y s =
+      let st = (half s new).state in
+      let now = rounds_steady gives n old new b.steady h in
+      let e = end_of (λ p. AtEnd (λ q. Knows p q) (peer s) l new) (port_at s l) st (knows i l y s) in
+      let f = end_of (λ q. Knows e.1.port q) (port_at (peer s) l) (half (peer s) new).state e.4 in
+      let was = ends_at i l old y s in
+      let number = found_place (port_at s l) st.system_ports e.0 e.1 e.2 e.3 in
+      let before = found_place (port_at s l) (half s old).state.system_ports was.0 was.1 was.2 was.3 in
+      let like = all-get (λ (z : SystemPort). AtPort was.1.number (Alike was.1.port) z.number z.port) st.system_ports e.0 e.1 e.3
+      (rounds_alike gives n old new b.steady h s was.0 was.1 was.3) (number ∙ sym before) in
+      let own : e.1.port.party.system ≡ st.system = own_system st e.0 e.1 (now s).0 e.3 in
+      let other : f.1.port.party.system ≡ (half (peer s) new).state.system = own_system (half (peer s) new).state f.0 f.1 (now (peer s)).0 f.3 in
+      let kept = rounds_keep SystemId (λ z. z.system) (λ z ports table. refl) gives n old new h in
+      record {
+        place = e.0;
+        port = e.1;
+        index = e.2;
+        there = e.3;
+        wants = record {
+          up = like.1 ∙ was.4;
+          known = inl f.4.current;
+          apart = λ same. apart s (sym (kept (peer s)) ∙ (sym other ∙ (sym (ap (λ (y : Party). y.system) f.4.party) ∙ (same ∙ (own ∙ kept s)))));
+        };
+      }
+    where
+      apart : (s : Side) → (half (peer s) old).state.system ≡ (half s old).state.system → ⊥
+      apart One e = b.differ (sym e)
+      apart Two e = b.differ e
+
+  -- each end is SELECTED, or stands by
+  abbrev Chooses : Side → LinkState → Type 0
+  Chooses s l = AtEnd (λ p. selected p ≡ true) s l new ⊎ AtEnd (StandsByFull (half s new).state) s l new
+
+  chooses : (i : ℕ) (l : LinkState) → IsHealthyAt i l old → (s : Side) → Chooses s l
+  chooses i l y s =
+      let st = (half s new).state in
+      let now = rounds_steady gives n old new b.steady h in
+      let e = known i l y s in
+      let found = machines_there (port_at s l) st e.place e.port e.index e.there in
+      let enough = still_aggregators s old new (as_before gives n old new b.steady h s) (b.aggregators s) in
+      elim (finds_aggregator st e.place e.port (now s).0 e.there e.wants (enough e.place e.port e.there e.wants.up)) [
+        | inl k ↦ inl (subst (OfPort (λ p. selected p ≡ true)) (sym found) k)
+        | inr k ↦ inr (subst (OfPort (StandsByFull st)) (sym found) k)
+      ]
+
+  -- the end without a limit is SELECTED
+  chosen : (i : ℕ) (l : LinkState) → IsHealthyAt i l old → AtEnd (λ p. selected p ≡ true) (peer t) l new
+  chosen i l y = elim (chooses i l y (peer t)) [
+    | inl k ↦ k
+    | inr k ↦ (let st = (half (peer t) new).state in
+        let now = rounds_steady gives n old new b.steady h in
+        let e = end_of (StandsByFull st) (port_at (peer t) l) st k in
+        absurd (never_stands st e.0 e.1 e.4.0 (now (peer t)).0
+        (still_links (peer t) old new (as_before gives n old new b.steady h (peer t)) b.links) e.3 e.4.1))
+  ]
+
+  -- both are, so the ends agree
+  same : (i : ℕ) (l : LinkState) → IsHealthyAt i l old → AtEnd (λ p. selected p ≡ true) t l new → agreement_at new (suc i) ≡ Some Same
+  same i l y k = pairs i l y (each_side (λ s. AtEnd (λ p. selected p ≡ true) s l new) t k (chosen i l y))
+
+  -- so each member of an aggregator agrees
+  member : (agg : AggId) (k : ℕ) (x : SystemPort) → slice_get (half t new).state.system_ports k ≡ Some x → has_chosen agg x.port.choice ≡ true
+      → EndsAgreed t x.number new
+  member agg k x there chose =
+      let st = (half t new).state in
+      let like = as_before gives n old new b.steady h t in
+      let now = rounds_steady gives n old new b.steady h t in
+      let z = old_port (half t old).state.system_ports st.system_ports k x like.numbers there in
+      let sel : selected x.port ≡ true = is_chosen x.port.choice chose in
+      elim (cases_Bool x.port.enabled) [
+        | inl up ↦ (let it = b.heard t k z.0 z.1 (sym (like.alike k z.0 x z.1 there).1 ∙ up) in
+            let e = known it.index it.link it.healthy t in
+            let number : e.port.number ≡ x.number = found_place (port_at t it.link) st.system_ports e.place e.port e.index e.there
+            ∙ (it.joins ∙ sym z.2) in
+            record {
+              index = it.index;
+              joins = subst (λ es. end_at es t (suc it.index) ≡ Some x.number) (sym (rounds_join gives n old new h))
+                  (end_is t old.links it.index it.link it.healthy.there ∙ ap (λ (m : ℕ). Some m) (it.joins ∙ sym z.2));
+              same = same it.index it.link it.healthy (subst (OfPort (λ p. selected p ≡ true))
+                  (sym (machines_there (port_at t it.link) st e.place e.port e.index e.there))
+                  (all-get (λ (y : SystemPort). y.number ≡ x.number → selected y.port ≡ true) st.system_ports e.place e.port e.there
+                  (at_number (λ p. selected p ≡ true) 0 st.system_ports k x (ports_rise st now.0.ports) there sel) number));
+            })
+        | inr down ↦ absurd (no (sym (ap is_selected (still_down gives n old new t h b.down k x there down)) ∙ sel))
+      ]
+    where
+      is_chosen : (c : Choice) → has_chosen agg c ≡ true → is_selected c ≡ true
+      is_chosen Unselected e = e
+      is_chosen (Selected given) e = refl
+      is_chosen (Standby given) e = e
+
+  pub limited : (i : ℕ) (l : LinkState) → IsHealthyAt i l old → (agreement_at new (suc i) ≡ Some Same) ⊎ StandsByOthers t l new
+  limited i l y = elim (chooses i l y t) [
+    | inl k ↦ inl (same i l y k)
+    | inr k ↦ (let st = (half t new).state in
+        let e = end_of (StandsByFull st) (port_at t l) st k in
+        inr (subst (OfPort (λ p. (agg : AggId) × (p.choice ≡ Standby agg) × CarriesOnAll t agg new))
+        (sym (machines_there (port_at t l) st e.0 e.1 e.2 e.3))
+        (e.4.0, e.4.1, record { full = e.4.2; members = λ k x there chose. member e.4.0 k x there chose })))
+  ]
+
+pub each_limited_link_agrees : (gives : Algorithms) → EachLimitedLinkAgrees gives
+each_limited_link_agrees gives n i l t old new sound b y enough h =
+    limited OneIsActive t gives n old new sound b h
+    (λ k m z s. ends_of_each_know gives n k m old new sound.cabling b.steady z (heard_holds OneIsActive old sound.cabling b.heard k m z)
+    (omega (arith, enough)) h s)
+    (λ k m z both. selected_pairs_agree gives n k m old new sound b.steady b.heard z enough h both) i l y
+
+pub each_active_limited_link_agrees : (gives : Algorithms) → EachActiveLimitedLinkAgrees gives
+each_active_limited_link_agrees gives n i l t old new sound b y enough h =
+    limited BothAreActive t gives n old new sound b h
+    (λ k m z s. active_ends_of_each_know gives n k m old new sound.cabling b.steady z (heard_holds BothAreActive old sound.cabling b.heard k m z)
+    (omega (arith, enough)) h s)
+    (λ k m z both. active_selected_pairs_agree gives n k m old new sound b.steady b.heard z enough h both) i l y

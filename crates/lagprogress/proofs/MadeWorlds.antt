@@ -1,0 +1,90 @@
+-- A world that events lead to from one that was made is a bundle, if its links are up as it wants them.
+use Rattle.lagscript.specs.declared.config.BadWorld.TheVariants.{SameSystem}
+use Rattle.std.proofs.Common.{◌≡◌, ◌∙◌, arith, Bool, true, false, List, [], ◌∷◌, Option, Some, None, ℕ, sym, ap, map, refl}
+use Rattle.std.specs.Prelude.{if◌then◌else◌}
+use Rattle.std.proofs.lemmas.Option.{none-some}
+use Rattle.cables.specs.declared.item.Item.{Item}
+use Rattle.lagtypes.specs.declared.identifiers.SystemId.{SystemId}
+use Rattle.lagtypes.specs.Same.{same_system}
+use Rattle.lagtypes.proofs.SameLemmas.{system-itself}
+use Rattle.lagmodel.specs.World.{Side, One, Two}
+use Rattle.lagsystem.specs.declared.config.Config.{Config}
+use Rattle.lagsystem.specs.First.{or_first, config_value}
+use Rattle.lagscript.specs.Configs.{refusal_of_all}
+use Rattle.lagworld.specs.Events.{Algorithms}
+use Rattle.lagworld.specs.Making.{AreFirst}
+use Rattle.lagworld.specs.Sound.{IsSound}
+use Rattle.lagworld.specs.State.{LinkState, WorldState, half}
+use Rattle.lagprogress.specs.Bundle.{BothAreActive, IsBundle, OneIsActive, ReachedIsApart, ReachedIsBundle, SystemsDiffer}
+use Rattle.lagprogress.specs.Played.{IsReached, IsReady, LeadsToAgreement}
+use Rattle.lagprogress.specs.Rounds.{Rounds}
+use Rattle.lagprogress.proofs.Bundling.{each_active_link_agrees, each_active_link_comes_up, each_link_agrees, each_link_comes_up}
+use Rattle.lagprogress.proofs.ComingUp.{events_keep}
+use Rattle.lagprogress.proofs.Hearing.{no}
+use Rattle.lagprogress.proofs.Reaching.{reached_steady}
+
+first_none : {X : Type 0} (a b : Option X) → or_first a b ≡ None → a ≡ None
+first_none None b e = refl
+first_none (Some x) b e = e
+
+other_none : {X : Type 0} (a b : Option X) → or_first a b ≡ None → b ≡ None
+other_none None b e = e
+other_none (Some x) b e = absurd (none-some x (sym e))
+
+when_none : {X : Type 0} (b : Bool) (x : X) → (if b then Some x else None) ≡ None → b ≡ false
+when_none true x e = absurd (none-some x (sym e))
+when_none false x e = refl
+
+start_differs : (configs : List Config) (cables : List (ℕ × ℕ)) (j : WorldState) → refusal_of_all (map config_value configs) cables ≡ None
+    → AreFirst configs j → SystemsDiffer j
+start_differs [] cables j h f = absurd f
+start_differs (a ∷ []) cables j h f = absurd f
+start_differs (a ∷ b ∷ c ∷ rest) cables j h f = absurd f
+start_differs (a ∷ b ∷ []) cables j h f = λ same.
+    (let apart : same_system a.system b.system ≡ false = when_none (same_system a.system b.system) SameSystem
+    (first_none _ _ (other_none _ _ (other_none _ _ h))) in
+    let one : a.system ≡ b.system = sym f.0.configured.system ∙ (same ∙ f.1.configured.system) in
+    no (sym apart ∙ (ap (λ x. same_system x b.system) one ∙ system-itself b.system)))
+
+pub reached_apart : (gives : Algorithms) → ReachedIsApart gives
+reached_apart gives config es rs start new accepted first runs =
+    let fixed : (s : Side) → (half s new).state.system ≡ (half s start).state.system =
+    events_keep SystemId (λ t. t.system) (λ t a b. refl) gives es rs start new runs in
+    λ same. start_differs config.systems config.cables.items start accepted first (sym (fixed One) ∙ (same ∙ fixed Two))
+
+pub reached_is_bundle : (Holds : LinkState → WorldState → Type 0) (gives : Algorithms) → ReachedIsBundle Holds gives
+reached_is_bundle Holds gives config es rs start new accepted i first runs few heard aggregators links =
+    let both = reached_steady gives config.systems es rs start new i first runs few in (
+      both.0,
+      record {
+        steady = both.1;
+        cabling = both.0.cabling;
+        differ = reached_apart gives config es rs start new accepted first runs;
+        heard = heard;
+        aggregators = aggregators;
+        links = links;
+      },
+    )
+
+-- as the contract of `World::new` says it
+module _ {C : Type 0} (items : C → List Item) (limit : C → Option ℕ) where
+  is_bundle : (Holds : LinkState → WorldState → Type 0) (gives : Algorithms) (j : WorldState) → IsReached items limit gives j → IsReady Holds j
+      → IsSound j × IsBundle Holds j
+  is_bundle Holds gives j r ready = reached_is_bundle Holds gives r.config r.events r.replies r.start j (first_none _ _ r.accepted) r.starts
+      r.made.systems r.runs r.few ready.heard ready.aggregators ready.links
+
+  pub active_lead : (gives : Algorithms) (n : ℕ) (old new : WorldState) → Rounds gives n old new
+      → LeadsToAgreement items limit BothAreActive 650 gives n old new
+  active_lead gives n old new h r ready enough i l healthy =
+      let both = is_bundle BothAreActive gives old r ready in (
+        each_active_link_comes_up gives n i l old new both.1 healthy (omega (arith, enough)) h,
+        each_active_link_agrees gives n i l old new both.0 both.1 healthy (omega (arith, enough)) h,
+      )
+
+  pub one_leads : (gives : Algorithms) (n : ℕ) (old new : WorldState) → Rounds gives n old new
+      → LeadsToAgreement items limit OneIsActive 959 gives n old new
+  one_leads gives n old new h r ready enough i l healthy =
+      let both = is_bundle OneIsActive gives old r ready in (
+        each_link_comes_up gives n i l old new both.1 healthy (omega (arith, enough)) h,
+        each_link_agrees gives n i l old new both.0 both.1 healthy (omega (arith, enough)) h,
+      )

@@ -1,0 +1,203 @@
+-- A frame that a bundle is offered after its links came up arrives within one round.
+use Rattle.std.proofs.Common.{◌≡◌, ◌∙◌, ℕ, zero, suc, ◌+◌, ◌≤◌, true, List, [], ◌∷◌, ◌++◌, Some, ◌⊎◌, inl, inr, refl, sym, subst, ap, arith, map}
+use Rattle.std.specs.Prelude.{slice_get}
+use Rattle.std.specs.Global.{Vec}
+use Rattle.lagtypes.specs.declared.identifiers.AggId.{AggId}
+use Rattle.slowpdu.specs.declared.pdu.Lacpdu.{Lacpdu}
+use Rattle.portmachines.specs.Machines.{Machines}
+use Rattle.portmachines.specs.Receive.{lacpdu_rows, receive_rows}
+use Rattle.portmachines.specs.Transmit.{count_down}
+use Rattle.lagmodel.specs.World.{Side, One, peer}
+use Rattle.lagsystem.specs.declared.drive.Reply.{Reply as Answer}
+use Rattle.lagsystem.specs.declared.system_ports.SystemPort.{SystemPort}
+use Rattle.lagsystem.specs.Calls.{Call, Data_frame, IsFrame, TableRun}
+use Rattle.lagsystem.specs.State.{SystemState}
+use Rattle.lagsystem.proofs.Rising.{all-get}
+use Rattle.lagscript.specs.declared.event.Event.{Event}
+use Rattle.lagscript.specs.declared.event.Event.TheVariants as event
+use Rattle.lagworld.specs.declared.reply.Reply.{Reply}
+use Rattle.lagworld.specs.declared.reply.Reply.TheVariants as reply
+use Rattle.lagworld.specs.Events.{Algorithms, WorldRuns, WorldSteps, side_of}
+use Rattle.lagworld.specs.ModelWorld.{link_ends}
+use Rattle.lagworld.specs.State.{ItemValue, LinkState, WorldState, accepts_at, half, is_accepted, link_at, port_at, put_on_port}
+use Rattle.lagworld.proofs.Cables.{put_ends}
+use Rattle.lagprogress.specs.Arriving.{Arrives, DisabledAreUnsynchronized, EachActiveFrameArrives, EachFrameArrives, EachReachedHasUnsynchronized}
+use Rattle.lagprogress.specs.Arriving.{GetsPort, TakesFrame}
+use Rattle.lagprogress.specs.Bundle.{BothAreActive, IsBundle, OneIsActive}
+use Rattle.lagprogress.specs.Rounds.{IsHealthyAt, IsRound, NothingInFlight, Rounds}
+use Rattle.lagprogress.proofs.ArrivingLemmas.{is_data, offer_gets_port}
+use Rattle.lagprogress.proofs.Bundling.{all_by_place, as_before, both_meet, both_wake, ends_at, holds, old_port, one_meet, one_wakes, ups, both_on, zero_none}
+use Rattle.lagprogress.proofs.Carrying.{Lapses, LapsesAt, distributes_up, lapse_first, lapse_kept, lapse_settles, receive_lapses}
+use Rattle.lagprogress.proofs.Climbing.{PartnerInSync}
+use Rattle.lagprogress.proofs.ComingUp.{told, zero_on, Brisk}
+use Rattle.lagprogress.proofs.EachPort.{OfEach, Step-each, first_each}
+use Rattle.lagprogress.proofs.EachRound.{EachAt, RoundKeeps, round_each, rounds_join, rounds_steady, same_index}
+use Rattle.lagprogress.proofs.EndFacts.{activity}
+use Rattle.lagprogress.proofs.FlyingLemmas.{OnItsWay, in_round}
+use Rattle.lagprogress.proofs.Halves.{both_first, each_is_calls, keeps_steady}
+use Rattle.lagprogress.proofs.Linked.{EndIs, IsGood, Link, place_kept, push_there}
+use Rattle.lagprogress.proofs.OneCable.{OnCable, cable, placed, port_there, push, push_each, puts, takes_all, towards_there}
+use Rattle.lagprogress.proofs.OnePort.{AtPort}
+use Rattle.lagprogress.proofs.OneRound.{join}
+use Rattle.lagprogress.proofs.Progressing.{Fresh, fits_fresh, knows_peer, said_by}
+use Rattle.lagprogress.proofs.Timers.{fires_keep, runs_keep}
+
+-- the partner of a port in PORT_DISABLED is not synchronized
+
+unsynchronized : (s : SystemState) → DisabledAreUnsynchronized s → OfEach LapsesAt s.system_ports
+unsynchronized s h = all_by_place (λ x. Lapses x.port) s.system_ports h
+
+lapse_round : RoundKeeps LapsesAt
+lapse_round = record {
+  settles = lapse_settles;
+  sends = λ n p a. a;
+  takes = λ n v p q h a. elim h [
+    | inl f ↦ fires_keep Lapses (lacpdu_rows v) (λ p a e. absurd cc, tt) p q f a
+    | inr r ↦ subst Lapses (sym r.1) a
+  ];
+}
+
+lapses_on : (gives : Algorithms) (n : ℕ) (old new : WorldState) (s : Side) → Rounds gives n old new → EachAt LapsesAt s old → EachAt LapsesAt s new
+lapses_on gives n old new s h a = zero_on gives (λ m j. EachAt LapsesAt s j) old a
+    (λ m i j q b. round_each LapsesAt LapsesAt lapse_round
+    (λ k p r run c. runs_keep Lapses receive_rows receive_lapses (count_down p) r run c) s gives i j q b) n new h
+
+calls_lapse : (gives : ℕ → ℕ → ℕ → Type 0) (old new : SystemState) (calls : List Call) (answers : List Answer)
+    → TableRun gives old calls answers new → OfEach LapsesAt old.system_ports → OfEach LapsesAt new.system_ports
+calls_lapse gives old new [] [] h a = subst (λ (s : SystemState). OfEach LapsesAt s.system_ports) (sym h) a
+calls_lapse gives old new [] (r ∷ answers) h a = absurd h
+calls_lapse gives old new (call ∷ calls) [] h a = absurd h
+calls_lapse gives old new (call ∷ calls) (r ∷ answers) h a = calls_lapse gives h.0 new calls answers h.2
+    (Step-each LapsesAt lapse_settles gives old call r h.0 (lapse_kept call r) h.1 a)
+
+events_lapse : (gives : Algorithms) (es : List Event) (rs : List Reply) (old new : WorldState) → WorldRuns gives old es rs new → (s : Side)
+    → EachAt LapsesAt s old → EachAt LapsesAt s new
+events_lapse gives [] [] old new h s a = subst (λ (j : WorldState). EachAt LapsesAt s j) (sym h) a
+events_lapse gives [] (r ∷ rs) old new h s a = absurd h
+events_lapse gives (e ∷ es) [] old new h s a = absurd h
+events_lapse gives (e ∷ es) (r ∷ rs) old new h s a =
+    let c = each_is_calls gives e r old h.0 h.1 s in
+    events_lapse gives es rs h.0 new h.2 s (calls_lapse (gives s) (half s old).state (half s h.0).state c.0 c.1 c.2 a)
+
+pub each_reached_has_unsynchronized : (gives : Algorithms) → EachReachedHasUnsynchronized gives
+each_reached_has_unsynchronized gives configs es rs start new s i h runs =
+    let st = (half s start).state in
+    let first = first_each LapsesAt lapse_settles lapse_first st (both_first configs start h s) in
+    λ k x there. all-get (λ (y : SystemPort). Lapses y.port) (half s new).state.system_ports k x there (events_lapse gives es rs start new runs s first)
+
+-- the cable after an offer
+
+offer_link : (gives : Algorithms) (n : ℕ) (s : Side) (d : ℕ) (at : Side → ℕ) (w : Side → Lacpdu) (c : Side → ℕ) (x : Side)
+    (Y : Machines → Type 0) (agg : AggId) (octets : Vec ℕ) (r : Reply) (old new : WorldState) → (g : GetsPort s agg octets.items old r new)
+    → g.port ≡ at s → IsFrame g.item.octets Data_frame → WorldSteps gives old (event.Offer n agg octets) r new → (l : Link d at w c x Y old)
+    → (k : Link d at w c x Y new) × (k.flying ≡ push (peer s) g.item l.flying)
+offer_link gives n s d at w c x Y agg octets r old new g port plain h l =
+    let steady = keeps_steady gives (event.Offer n agg octets) r old new h l.steady in
+    let good : IsGood d w (peer s) g.item = λ v c. absurd (plain.1 c.0.1) in (
+      record {
+        steady = steady;
+        flying = push (peer s) g.item l.flying;
+        index = l.index;
+        links = subst (OnCable l.index at (push (peer s) g.item l.flying)) (sym (g.sent ∙ ap (λ p. put_on_port s p g.item old.links) port))
+            (puts s l.index at l.flying g.item old.links l.links);
+        good = push_each (λ t. IsGood d w t) (peer s) g.item l.flying good l.good;
+        place = λ t. ((l.place t).0, place_kept gives (event.Offer n agg octets) r old new h l.steady steady t (at t) ∙ (l.place t).1);
+        ports = λ t. subst (OfEach (AtPort (at t) (EndIs d w c x Y t))) (sym (g.same t)) (l.ports t);
+      },
+      refl,
+    )
+
+accepted : (s : Side) (p i : ℕ) (at : Side → ℕ) (fl : Side → List ItemValue) (links : List LinkState) → OnCable i at fl links → at s ≡ p
+    → is_accepted s p links ≡ true
+accepted s p i at fl links c e = ap (λ q. is_accepted s q links) (sym e) ∙ (ap (λ o. accepts_at s (link_at o links)) (placed s i at fl links c)
+    ∙ (ap (accepts_at s) c.there ∙ takes_all s at fl))
+
+-- after a round nothing flies
+none_flies : (gives : Algorithms) (n : ℕ) (old new : WorldState) → 1 ≤ n → Rounds gives n old new → NothingInFlight new
+none_flies gives zero old new l h = absurd (omega (arith, l))
+none_flies gives (suc n) old new l h = h.2.empties
+
+module _ (Holds : LinkState → WorldState → Type 0) (first : ℕ) (gives : Algorithms) (old : WorldState) (b : IsBundle Holds old)
+    (meets : (i : ℕ) (l : LinkState) (h : IsHealthyAt i l old) → Holds l old → (mid : WorldState) → Rounds gives first old mid
+    → Fresh (λ s. port_at s l) (said_by l old (ends_at i l old h)) mid)
+    (wakes : (i : ℕ) (l : LinkState) (h : IsHealthyAt i l old) → Holds l old → (s : Side)
+    → (activity (said_by l old (ends_at i l old h) s) ≡ true) ⊎ (activity (said_by l old (ends_at i l old h) (peer s)) ≡ true)) where
+  -- the healthy cable of a port that is up
+  record Carrier (s : Side) (port : ℕ) : Type 0 where
+    index : ℕ
+    link : LinkState
+    healthy : IsHealthyAt index link old
+    joins : port_at s link ≡ port
+
+  carrier : (n : ℕ) (s : Side) (agg : AggId) (octets : List ℕ) (r : Reply) (mid sent : WorldState) → DisabledAreUnsynchronized (half s old).state
+      → Rounds gives n old mid → (g : GetsPort s agg octets mid r sent) → Carrier s g.port
+  carrier n s agg octets r mid sent quiet h g =
+      let st = (half s mid).state in
+      let now = rounds_steady gives n old mid b.steady h in
+      let up = distributes_up st agg g.port (now s).0 (lapses_on gives n old mid s h (unsynchronized (half s old).state quiet)) g.distributes in
+      let like = as_before gives n old mid b.steady h s in
+      let x = old_port (half s old).state.system_ports st.system_ports up.0 up.1 like.numbers up.2 in
+      let it = b.heard s up.0 x.0 x.1 (sym (like.alike up.0 x.0 up.1 x.1 up.2).1 ∙ up.4) in
+      record { index = it.index; link = it.link; healthy = it.healthy; joins = it.joins ∙ (sym x.2 ∙ up.3) }
+
+  none_yet : 1 ≤ 0 → ⊥
+  none_yet l = omega (arith, l)
+
+  pub frame_arrives : (most n number : ℕ) (s : Side) (agg : AggId) (octets : Vec ℕ) (r : Reply) (mid sent new : WorldState)
+      → ((i : ℕ) (l : LinkState) (y : IsHealthyAt i l old)
+      → Brisk (λ t. port_at t l) (said_by l old (ends_at i l old y)) (wakes i l y (holds Holds first gives old b meets wakes i l y)) (λ _. 0) 0 most)
+      → DisabledAreUnsynchronized (half s old).state → 1 ≤ n → first + 20 + most ≤ n → Rounds gives n old mid
+      → side_of number ≡ Some s → TakesFrame agg octets.items (half s mid).state
+      → WorldSteps gives mid (event.Offer number agg octets) r sent → (q : IsRound gives sent new)
+      → Arrives gives s agg octets.items mid r sent new q
+  frame_arrives most n number s agg octets r mid sent new brisk quiet some enough h named takes step q =
+      let now = rounds_steady gives n old mid b.steady h in
+      let g = offer_gets_port gives number s agg octets r mid sent named (now s).0 takes step in
+      let it = carrier n s agg octets.items r mid sent quiet h g in
+      let i = it.index in
+      let l = it.link in
+      let y = it.healthy in
+      let at : Side → ℕ = λ t. port_at t l in
+      let w = said_by l old (ends_at i l old y) in
+      let awake = wakes i l y (holds Holds first gives old b meets wakes i l y) in
+      let top = ups Holds first gives old b meets wakes i l y (λ _. 0) 0 most n mid (brisk i l y) (λ c. absurd (none_yet c)) enough h in
+      let fresh = top.2.fresh in
+      let heard = (told at w awake (λ _. 0) 0 most top.0 mid top.1 top.2 (peer s)).0 in
+      let start = join 2 at w fresh.known One (peer s) PartnerInSync mid fresh.link heard in
+      let plain = subst (λ o. IsFrame o Data_frame) (sym g.frame) (is_data octets.items takes.may.1) in
+      let o = offer_link gives number s 2 at w fresh.known (peer s) PartnerInSync agg octets r mid sent g (sym it.joins) plain step start in
+      let fl : Side → List ItemValue = push (peer s) g.item start.flying in
+      let on : OnCable o.0.index at fl sent.links = subst (λ f. OnCable o.0.index at f sent.links) o.1 o.0.links in
+      let empty = sym (towards_there (peer s) at start.flying)
+      ∙ none_flies gives n old mid some h (peer s) start.index (cable at start.flying) start.links.there in
+      let alone : fl (peer s) ≡ g.item ∷ [] = push_there (peer s) g.item start.flying ∙ ap (λ xs. xs ++ g.item ∷ []) empty in
+      let joins : map link_ends sent.links ≡ map link_ends old.links =
+      ap (map link_ends) g.sent ∙ (put_ends s g.port g.item mid.links ∙ rounds_join gives n old mid h) in
+      let same : o.0.index ≡ i = same_index i o.0.index l fl old sent y.there joins on in
+      let way : OnItsWay s l g.item old sent = record { index = o.0.index; flying = fl; links = on; first = ([], alone); joins = joins } in
+      record {
+        port = g.port;
+        serial = g.serial;
+        distributes = g.distributes;
+        replied = g.replied ∙ ap (reply.Port g.port g.serial) (accepted s g.port start.index at start.flying mid.links start.links it.joins);
+        index = i;
+        link = cable at fl;
+        there = subst (λ k. slice_get sent.links k ≡ Some (cable at fl)) same on.there;
+        joins = port_there s at fl ∙ it.joins;
+        item = g.item;
+        frame = g.frame;
+        flies = towards_there (peer s) at fl ∙ alone;
+        up = in_round gives s i l w fresh.known g.item old awake y.there (fits_fresh at w awake 2 mid fresh (omega arith))
+            (λ t. knows_peer at w 2 0 0 mid fresh (omega arith) t) plain sent new q o.0 way;
+      }
+
+pub each_frame_arrives : (gives : Algorithms) → EachFrameArrives gives
+each_frame_arrives gives n number s agg octets r old mid sent new b quiet enough h named takes step q =
+    frame_arrives OneIsActive 630 gives old b (one_meet gives old b) (one_wakes old) 309 n number s agg octets r mid sent new
+    (λ i l y. inr (omega arith)) quiet (omega (arith, enough)) (omega (arith, enough)) h named takes step q
+
+pub each_active_frame_arrives : (gives : Algorithms) → EachActiveFrameArrives gives
+each_active_frame_arrives gives n number s agg octets r old mid sent new b quiet enough h named takes step q =
+    frame_arrives BothAreActive 321 gives old b (both_meet gives old b) (both_wake old) 11 n number s agg octets r mid sent new
+    (λ i l y. inl (both_on old i l y (holds BothAreActive 321 gives old b (both_meet gives old b) (both_wake old) i l y), zero_none, omega arith))
+    quiet (omega (arith, enough)) (omega (arith, enough)) h named takes step q

@@ -1,0 +1,278 @@
+-- Cables of which both ends are SELECTED agree, however few aggregators and links there are.
+use Rattle.std.proofs.Common.{◌≡◌, ◌∙◌, ℕ, suc, ◌+◌, ◌-◌, ◌≤◌, true, List, ◌⊎◌, Option, Some, None, refl, sym, subst, ap, arith, inl, inr, map}
+use Rattle.std.specs.Prelude.{IsSome, is_some, slice_get}
+use Rattle.std.specs.List.{AllByRecursion}
+use Rattle.std.proofs.lemmas.Bool.{cases_Bool}
+use Rattle.std.proofs.lemmas.Option.{same_Some}
+use Rattle.lagtypes.specs.Choices.{is_selected}
+use Rattle.slowpdu.specs.declared.pdu.Lacpdu.{Lacpdu}
+use Rattle.portmachines.specs.Mux.{selected}
+use Rattle.lagmodel.specs.World.{IsCabling, Side, One, end_at, peer}
+use Rattle.lagsystem.specs.declared.config.PortConfig.{PortConfig}
+use Rattle.lagsystem.specs.declared.system_ports.SystemPort.{SystemPort}
+use Rattle.lagsystem.specs.NothingToSettle.{MuxIsSettled}
+use Rattle.lagsystem.proofs.Rising.{all-get, found_place, ports_rise}
+use Rattle.lagworld.specs.declared.agreement.Agreement.TheVariants.{Same}
+use Rattle.lagworld.specs.Agreement.{agreement_at}
+use Rattle.lagworld.specs.Events.{Algorithms}
+use Rattle.lagworld.specs.ModelWorld.{link_ends, world_setup}
+use Rattle.lagworld.specs.Sound.{IsSound as IsWorldSound}
+use Rattle.lagworld.specs.State.{LinkState, WorldState, change_count_in, half, history_at, port_at, towards}
+use Rattle.lagworld.proofs.Cables.{end_is}
+use Rattle.lagprogress.specs.Bundle.{ActiveSelectedPairsAgree, ActiveSelectedPairsComeUp, AllHeard, BothAreActive, OneIsActive, SelectedPairsAgree, SelectedPairsComeUp}
+use Rattle.lagprogress.specs.ComingUp.{Distributes}
+use Rattle.lagprogress.specs.Rounds.{AtEnd, IsHealthyAt, IsRound, OfPort, Rounds}
+use Rattle.lagprogress.specs.Steady.{IsSteady}
+use Rattle.lagprogress.specs.Timers.{IsTimed}
+use Rattle.lagprogress.proofs.Bundling.{all_by_place, as_before, both_on, both_wake, ends_at, old_port, one_wakes, rounds_alike, rounds_keep, zero_none}
+use Rattle.lagprogress.proofs.Choosing.{Chose}
+use Rattle.lagprogress.proofs.Climbing.{Down, Ripe, Rising, climbed, down_settles, down_takes, down_ticks, rising_along, rising_first, ticks_rising}
+use Rattle.lagprogress.proofs.ComingUp.{Brisk, Up, active_at, agrees_now, at_end, comes_up, end_here, end_with, splits, up_now, zero_on}
+use Rattle.lagprogress.proofs.EachRound.{EachAt, RoundKeeps, round_each, rounds_join, rounds_steady, same_index}
+use Rattle.lagprogress.proofs.EndFacts.{Synced, activity}
+use Rattle.lagprogress.proofs.Frozen.{AllChose, AllFresh, Stands, choice_rounds, on_cable}
+use Rattle.lagprogress.proofs.Hearing.{no}
+use Rattle.lagprogress.proofs.OneActive.{one_meets}
+use Rattle.lagprogress.proofs.OnePort.{AtPort, at_number}
+use Rattle.lagprogress.proofs.OneRound.{Nothing, join, round_holds, ticked}
+use Rattle.lagprogress.proofs.Progressing.{AtIt, Fresh, FreshAt, active_meet, beside, fits_fresh, healthy_cable, knows_peer, said_by, starts, stays_fresh}
+use Rattle.lagprogress.proofs.Stamps.{Stamped, stamped_round}
+
+-- one end climbs
+
+climb_one : (at : Side → ℕ) (w : Side → Lacpdu) → ((s : Side) → (activity (w s) ≡ true) ⊎ (activity (w (peer s)) ≡ true)) → (s : Side)
+    (gives : Algorithms) (mid top : WorldState) → FreshAt at w 1 mid → AtIt at w s (λ p. is_selected p.choice ≡ true) mid
+    → Rounds gives 20 mid top → AtIt at w s (Rising 0) top
+climb_one at w awake s gives mid top g chosen h =
+    subst (λ t. AtIt at w s (Rising t) top) (omega arith) (zero_on gives (λ n j. FreshAt at w 1 j × AtIt at w s (Rising (20 - n)) j) mid
+    (g, subst (λ t. AtIt at w s (Rising t) mid) (omega arith) first) on 20 top h).1
+  where
+    first : AtIt at w s (Rising 20) mid
+    first =
+        let e = end_here at w 1 g.known One Nothing mid g.link s in
+        let steady = g.link.steady in
+        let st = (half s mid).state in
+        let mux = (all-get (MuxIsSettled st.keys st.system_ports) st.system_ports e.index e.port e.there (steady s).0.quiet.0).mux in
+        let timed = all-get (λ (y : SystemPort). IsTimed y.port) st.system_ports e.index e.port e.there (steady s).1 in
+        at_end at w 1 g.known s mid e steady (Rising 20) (rising_first e.port.port mux timed
+        (end_with at w 1 g.known s mid e (λ p. is_selected p.choice ≡ true) chosen))
+
+    on : (n : ℕ) (i j : WorldState) → IsRound gives i j → FreshAt at w 1 i × AtIt at w s (Rising (20 - n)) i
+        → FreshAt at w 1 j × AtIt at w s (Rising (20 - (n + 1))) j
+    on n i j r (f, rising) =
+        let l = knows_peer at w 1 0 0 i f (omega arith) s in (
+          stays_fresh at w awake gives 1 i j (omega arith) r f,
+          subst (λ t. AtIt at w s (Rising t) j) (omega arith)
+              (beside at w 1 (ticked f.known) s (Rising (20 - n - 1)) j
+              (round_holds gives s 1 at w f.known (Rising (20 - n)) (Rising (20 - n - 1)) i j (fits_fresh at w awake 1 i f (omega arith))
+              (rising_along (w s) (w (peer s)) (ticked f.known s) 1 (20 - n - 1) (omega arith) (omega (arith, l)))
+              (λ p q run rest a y. ticks_rising 1 (w s) (w (peer s)) (f.known s) (20 - n) p q (omega (arith, l)) run a y)
+              (λ p y. y) (join 1 at w f.known One s (Rising (20 - n)) i f.link rising) r)),
+        )
+
+-- a SELECTED port whose link is down
+
+down_one : (t n : ℕ) → RoundKeeps (AtPort n (Down t n))
+down_one t n = record {
+  settles = record {
+    mux = λ m ready p q h a e. (down_settles t).mux n ready p q h (a e);
+    periodic = λ m p q h a e. (down_settles t).periodic n p q h (a e);
+    select = λ m choice p none may a e. (down_settles t).select n choice p none may (a e);
+  };
+  sends = λ m p a e. a e;
+  takes = λ m v p q h a e. down_takes t n v p q h (a e);
+}
+
+sinks_one : (gives : Algorithms) (s : Side) (n m : ℕ) (mid top : WorldState) → EachAt (AtPort n (Down 20 n)) s mid → Rounds gives m mid top
+    → EachAt (AtPort n (Down (20 - m) n)) s top
+sinks_one gives s n m mid top a h = zero_on gives (λ k j. EachAt (AtPort n (Down (20 - k) n)) s j) mid
+    (subst (λ t. EachAt (AtPort n (Down t n)) s mid) (omega arith) a)
+    (λ k i j q b. subst (λ t. EachAt (AtPort n (Down t n)) s j) (omega arith)
+    (round_each (AtPort n (Down (20 - k) n)) (AtPort n (Down (20 - k - 1) n)) (down_one (20 - k - 1) n)
+    (λ x p r run c e. down_ticks (20 - k) n p r run (c e)) s gives i j q b)) m top h
+
+module _ (Holds : LinkState → WorldState → Type 0) (first : ℕ) (gives : Algorithms) (old : WorldState) (cabling : IsCabling (world_setup old).cables)
+    (steady : IsSteady old) (heard : AllHeard Holds old)
+    (meets : (i : ℕ) (l : LinkState) (h : IsHealthyAt i l old) → Holds l old → (mid : WorldState) → Rounds gives first old mid
+    → Fresh (λ s. port_at s l) (said_by l old (ends_at i l old h)) mid)
+    (wakes : (i : ℕ) (l : LinkState) (h : IsHealthyAt i l old) → Holds l old → (s : Side)
+    → (activity (said_by l old (ends_at i l old h) s) ≡ true) ⊎ (activity (said_by l old (ends_at i l old h) (peer s)) ≡ true)) where
+  -- of each healthy cable it holds
+  holds : (i : ℕ) (l : LinkState) → IsHealthyAt i l old → Holds l old
+  holds i l h =
+      let e = ends_at i l old h One in
+      let it = heard One e.0 e.1 e.3 e.4 in
+      let joins : port_at One it.link ≡ port_at One l = it.joins ∙ found_place (port_at One l) (half One old).state.system_ports e.0 e.1 e.2 e.3 in
+      let here : end_at (map link_ends old.links) One (suc it.index) ≡ Some (port_at One l) =
+      end_is One old.links it.index it.link it.healthy.there ∙ ap (λ (n : ℕ). Some n) joins in
+      let place : suc it.index ≡ suc i = cabling One (suc it.index) (suc i) (port_at One l) here (end_is One old.links i l h.there) in
+      let same : it.index ≡ i = omega (arith, place) in
+      subst (λ m. Holds m old) (same_Some it.link l (sym it.healthy.there ∙ (ap (slice_get old.links) same ∙ h.there))) it.holds
+
+  pub wake : (i : ℕ) (l : LinkState) (h : IsHealthyAt i l old) → (s : Side)
+      → (activity (said_by l old (ends_at i l old h) s) ≡ true) ⊎ (activity (said_by l old (ends_at i l old h) (peer s)) ≡ true)
+  wake i l h = wakes i l h (holds i l h)
+
+  module _ (mid : WorldState) (h : Rounds gives first old mid) where
+    fresh : AllFresh Holds gives old heard wake mid
+    fresh i l y = meets i l y (holds i l y) mid h
+
+    stands : Stands Holds gives old heard wake mid
+    stands = record {
+      steady = rounds_steady gives first old mid steady h;
+      config = rounds_keep (List PortConfig) (λ t. t.ports) (λ t a b. refl) gives first old mid h;
+      alike = λ t k x e. rounds_alike gives first old mid steady h t k x e;
+    }
+
+    chose : AllChose Holds gives old heard wake mid mid
+    chose t k x e = at_number (λ p. p.choice ≡ x.port.choice) 0 (half t mid).state.system_ports k x
+        (ports_rise (half t mid).state (stands.steady t).0.ports) e refl
+
+    later : (m : ℕ) (j : WorldState) → Rounds gives m mid j
+        → AllFresh Holds gives old heard wake j × Stands Holds gives old heard wake j × AllChose Holds gives old heard wake mid j
+    later m j r = choice_rounds Holds gives old heard wake steady m mid j fresh stands chose r
+
+    -- an end that is SELECTED in the end was so
+    was_chosen : (i : ℕ) (l : LinkState) (y : IsHealthyAt i l old) (m : ℕ) (new : WorldState) → Rounds gives m mid new → (s : Side)
+        → AtEnd (λ p. selected p ≡ true) s l new
+        → AtIt (λ t. port_at t l) (said_by l old (ends_at i l old y)) s (λ p. is_selected p.choice ≡ true) mid
+    was_chosen i l y m new r s sel =
+        let at : Side → ℕ = λ t. port_at t l in
+        let w = said_by l old (ends_at i l old y) in
+        let g = fresh i l y in
+        let d = later m new r in
+        let e = end_here at w 1 g.known One Nothing mid g.link s in
+        let f = end_here at w 1 (d.0 i l y).known One Nothing new (d.0 i l y).link s in
+        let same = all-get (λ (z : SystemPort). Chose e.port.number e.port.port.choice z.number z.port) (half s new).state.system_ports f.index f.port
+        f.there (d.2 s e.index e.port e.there) (f.number ∙ sym e.number) in
+        let now = subst (OfPort (λ p. selected p ≡ true)) f.found sel in
+        at_end at w 1 g.known s mid e g.link.steady (λ p. is_selected p.choice ≡ true) (sym (ap is_selected same) ∙ now)
+
+    -- the SELECTED ports have risen
+    ripe : (top : WorldState) → Rounds gives 20 mid top → (s : Side) → AllByRecursion (λ (y : SystemPort). Ripe 0 y.port) (half s top).state.system_ports
+    ripe top more s = all_by_place (λ y. Ripe 0 y.port) (half s top).state.system_ports each
+      where
+        each : (k : ℕ) (y : SystemPort) → slice_get (half s top).state.system_ports k ≡ Some y → Ripe 0 y.port
+        each k y there =
+            let st = (half s mid).state in
+            let both = as_before gives 20 mid top stands.steady more s in
+            let x = old_port st.system_ports (half s top).state.system_ports k y both.numbers there in
+            let same = all-get (λ (z : SystemPort). Chose x.0.number x.0.port.choice z.number z.port) (half s top).state.system_ports k y there
+            ((later 20 top more).2 s k x.0 x.1) x.2 in
+            λ sel. (let was : is_selected x.0.port.choice ≡ true = sym (ap is_selected same) ∙ sel in
+            elim (cases_Bool x.0.port.enabled) [
+              | inl up ↦ (let o = on_cable Holds gives old heard wake s mid k x.0 steady stands x.1 up in
+                  let at : Side → ℕ = λ t. port_at t o.link in
+                  let w = said_by o.link old (ends_at o.index o.link old o.healthy) in
+                  let chosen = subst (λ n. EachAt (AtPort n (λ p. is_selected p.choice ≡ true)) s mid) (sym o.joins)
+                  (at_number (λ p. is_selected p.choice ≡ true) 0 st.system_ports k x.0 (ports_rise st (stands.steady s).0.ports) x.1 was) in
+                  (all-get (λ (q : SystemPort). AtPort (port_at s o.link) (Rising 0) q.number q.port) (half s top).state.system_ports k y there
+                  (climb_one at w (wake o.index o.link o.healthy) s gives mid top (fresh o.index o.link o.healthy) chosen more)
+                  (x.2 ∙ sym o.joins)).1)
+              | inr gone ↦ (let mux = (all-get (MuxIsSettled st.keys st.system_ports) st.system_ports k x.0 x.1 (stands.steady s).0.quiet.0).mux in
+                  let timed = all-get (λ (z : SystemPort). IsTimed z.port) st.system_ports k x.0 x.1 (stands.steady s).1 in
+                  let starts : Down 20 x.0.number x.0.port = λ e. (
+                    λ agg stand. no (sym (ap is_selected stand) ∙ was),
+                    λ c. (rising_first x.0.port mux timed c).1,
+                  ) in
+                  let sunk = subst (λ t. EachAt (AtPort x.0.number (Down t x.0.number)) s top) (omega arith)
+                  (sinks_one gives s x.0.number 20 mid top
+                  (at_number (Down 20 x.0.number) 0 st.system_ports k x.0 (ports_rise st (stands.steady s).0.ports) x.1 starts) more) in
+                  (all-get (λ (q : SystemPort). AtPort x.0.number (Down 0 x.0.number) q.number q.port) (half s top).state.system_ports k y there
+                  sunk x.2 ((both.alike k x.0 y x.1 there).1 ∙ gone)).1 sel)
+            ])
+
+    ready : (top : WorldState) → Rounds gives 20 mid top → (i : ℕ) (l : LinkState) (y : IsHealthyAt i l old) → (s : Side)
+        → AtIt (λ t. port_at t l) (said_by l old (ends_at i l old y)) s (Rising 0) top
+        → AtIt (λ t. port_at t l) (said_by l old (ends_at i l old y)) s Synced top
+    ready top more i l y s a =
+        let at : Side → ℕ = λ t. port_at t l in
+        let w = said_by l old (ends_at i l old y) in
+        let d = later 20 top more in
+        let g = d.0 i l y in
+        let e = end_here at w 1 g.known One Nothing top g.link s in
+        at_end at w 1 g.known s top e d.1.steady Synced
+        (climbed (half s top).state e.index e.port (d.1.steady s).0 e.there (ripe top more s) (end_with at w 1 g.known s top e (Rising 0) a))
+
+  ups : (i : ℕ) (l : LinkState) (y : IsHealthyAt i l old) (k : Side → ℕ) (c most n : ℕ) (new : WorldState)
+      → Brisk (λ s. port_at s l) (said_by l old (ends_at i l old y)) (wake i l y) k c most
+      → (1 ≤ c → Stamped 0 (λ s. port_at s l) k old) → first + 20 + most ≤ n → Rounds gives n old new
+      → ((s : Side) → AtEnd (λ p. selected p ≡ true) s l new)
+      → Up (λ s. port_at s l) (said_by l old (ends_at i l old y)) (wake i l y) k c most new
+  ups i l y k c most n new brisk st enough h sel =
+      let at : Side → ℕ = λ s. port_at s l in
+      let w = said_by l old (ends_at i l old y) in
+      let m = n - first in
+      let cut = splits gives m first n old new (omega (arith, enough)) h in
+      let up = splits gives (m - 20) 20 m cut.0 new (omega (arith, enough)) cut.2 in
+      comes_up at w (wake i l y) k c most gives (m - 20) cut.0 up.0 new (fresh cut.0 cut.1 i l y)
+      (λ s. was_chosen cut.0 cut.1 i l y m new cut.2 s (sel s)) (ready cut.0 cut.1 up.0 up.1 i l y)
+      (λ j. zero_on gives (λ m j. Stamped 0 at k j) old (st j) (λ m i j q z. stamped_round gives 0 at k i j z q) first cut.0 cut.1)
+      brisk (omega (arith, enough)) up.1 up.2
+
+  none_yet : 1 ≤ 0 → ⊥
+  none_yet l = omega (arith, l)
+
+  pub pairs_distribute : (i : ℕ) (l : LinkState) (y : IsHealthyAt i l old) (most : ℕ)
+      → Brisk (λ s. port_at s l) (said_by l old (ends_at i l old y)) (wake i l y) (λ _. 0) 0 most → (n : ℕ) (new : WorldState) → first + 20 + most ≤ n → Rounds gives n old new
+      → ((s : Side) → AtEnd (λ p. selected p ≡ true) s l new) → (s : Side) → AtEnd Distributes s l new
+  pairs_distribute i l y most brisk n new enough h sel =
+      let up = ups i l y (λ _. 0) 0 most n new brisk (λ c. absurd (none_yet c)) enough h sel in
+      up_now (λ s. port_at s l) (said_by l old (ends_at i l old y)) (wake i l y) (λ _. 0) 0 most up.0 new up.1 up.2
+
+  pub pairs_agree : IsWorldSound old → (i : ℕ) (l : LinkState) (y : IsHealthyAt i l old) (most : ℕ)
+      → ((k : Side → ℕ) → Brisk (λ s. port_at s l) (said_by l old (ends_at i l old y)) (wake i l y) k 1 most) → (n : ℕ) (new : WorldState) → first + 20 + most ≤ n
+      → Rounds gives n old new → ((s : Side) → AtEnd (λ p. selected p ≡ true) s l new) → agreement_at new (suc i) ≡ Some Same
+  pairs_agree sound i l y most brisk n new enough h sel =
+      let at : Side → ℕ = λ s. port_at s l in
+      let w = said_by l old (ends_at i l old y) in
+      let k : Side → ℕ = λ s. change_count_in (history_at (half s old).histories (port_at s l)) in
+      agrees_now at w (wake i l y) k most i new (λ x fl c. same_index i x l fl old new y.there (rounds_join gives n old new h) c)
+      (ups i l y k 1 most n new (brisk k) (λ _. stamped) enough h sel)
+    where
+      some_is : {X : Type 0} (o : Option X) → IsSome o → is_some o ≡ true
+      some_is None h = absurd (let e = h in cc)
+      some_is (Some x) h = refl
+
+      stamped : Stamped 0 (λ s. port_at s l) (λ s. change_count_in (history_at (half s old).histories (port_at s l))) old
+      stamped = record {
+        flying = λ s. towards s l;
+        index = i;
+        links = healthy_cable i l old cabling y;
+        counts = λ s. refl;
+        there = λ s. some_is (history_at (half s old).histories (port_at s l)) (sound.ends s i l y.there);
+        items = λ j. absurd (omega (arith, j));
+      }
+
+one_meet : (gives : Algorithms) (old : WorldState) → IsCabling (world_setup old).cables → IsSteady old → (i : ℕ) (l : LinkState)
+    (h : IsHealthyAt i l old) → OneIsActive l old → (mid : WorldState) → Rounds gives 630 old mid
+    → Fresh (λ s. port_at s l) (said_by l old (ends_at i l old h)) mid
+one_meet gives old cabling steady i l h a mid r = one_meets gives (λ s. port_at s l) (said_by l old (ends_at i l old h)) a.0 630 old mid
+    (active_at l old (ends_at i l old h) a.0 a.1) (omega arith) (starts i l old (ends_at i l old h) steady cabling h) r
+
+both_meet : (gives : Algorithms) (old : WorldState) → IsCabling (world_setup old).cables → IsSteady old → (i : ℕ) (l : LinkState)
+    (h : IsHealthyAt i l old) → BothAreActive l old → (mid : WorldState) → Rounds gives 321 old mid
+    → Fresh (λ s. port_at s l) (said_by l old (ends_at i l old h)) mid
+both_meet gives old cabling steady i l h a mid r = active_meet gives (λ s. port_at s l) (said_by l old (ends_at i l old h)) 321 old mid
+    (λ s. active_at l old (ends_at i l old h) s (a s)) (omega arith) (starts i l old (ends_at i l old h) steady cabling h) r
+
+pub selected_pairs_come_up : (gives : Algorithms) → SelectedPairsComeUp gives
+selected_pairs_come_up gives n i l old new cabling steady heard y enough h sel = pairs_distribute OneIsActive 630 gives old cabling steady heard
+    (one_meet gives old cabling steady) (one_wakes old) i l y 309 (inr (omega arith)) n new (omega (arith, enough)) h sel
+
+pub active_selected_pairs_come_up : (gives : Algorithms) → ActiveSelectedPairsComeUp gives
+active_selected_pairs_come_up gives n i l old new cabling steady heard y enough h sel = pairs_distribute BothAreActive 321 gives old cabling
+    steady heard (both_meet gives old cabling steady) (both_wake old) i l y 11
+    (inl (
+      both_on old i l y (holds BothAreActive 321 gives old cabling steady heard (both_meet gives old cabling steady) (both_wake old) i l y),
+      zero_none,
+      omega arith,
+    )) n new (omega (arith, enough)) h sel
+
+pub selected_pairs_agree : (gives : Algorithms) → SelectedPairsAgree gives
+selected_pairs_agree gives n i l old new sound steady heard y enough h sel = pairs_agree OneIsActive 630 gives old sound.cabling steady heard
+    (one_meet gives old sound.cabling steady) (one_wakes old) sound i l y 309 (λ k. inr (omega arith)) n new (omega (arith, enough)) h sel
+
+pub active_selected_pairs_agree : (gives : Algorithms) → ActiveSelectedPairsAgree gives
+active_selected_pairs_agree gives n i l old new sound steady heard y enough h sel = pairs_agree BothAreActive 321 gives old sound.cabling steady
+    heard (both_meet gives old sound.cabling steady) (both_wake old) sound i l y 309 (λ k. inr (omega arith)) n new (omega (arith, enough)) h sel

@@ -1,0 +1,169 @@
+-- A settling gives no port another value of Selected where what the Selection Logic reads is as it was at rest.
+use Rattle.std.proofs.Common.{◌≡◌, ◌∙◌, ℕ, zero, suc, ◌&&◌, ◌||◌, Bool, true, false, not, cond, List, [], ◌∷◌, Some, None, refl, sym, subst, ap, length, inl, inr}
+use Rattle.std.specs.Prelude.{option_map, slice_get, slice_set, if◌then◌else◌}
+use Rattle.std.specs.List.{list_all}
+use Rattle.std.proofs.lemmas.Option.{none-some, same_Some}
+use Rattle.lagtypes.specs.declared.identifiers.AggId.{AggId}
+use Rattle.lagtypes.specs.declared.identifiers.Key.{Key}
+use Rattle.lagtypes.specs.declared.party.Party.{Party}
+use Rattle.lagtypes.specs.Group.{group_of, individual}
+use Rattle.lagtypes.specs.Same.{same_group}
+use Rattle.slowpdu.specs.Parties.{party_of}
+use Rattle.selection.specs.declared.view.PortView.{PortView}
+use Rattle.selection.specs.Choice.{chosen_if_eligible, has_group_of, has_no_occupant, has_occupant, is_aggregator, lowest, occupants, occupants_share_group}
+use Rattle.selection.specs.Choice.{or_else, ports_that_chose}
+use Rattle.selection.specs.Limits.{is_below}
+use Rattle.selection.specs.Views.{has_chosen, is_eligible, occupies, stands_by}
+use Rattle.selection.proofs.LimitLemmas.{is_next, none_is_next}
+use Rattle.lagsystem.specs.declared.system_ports.SystemPort.{SystemPort}
+use Rattle.lagsystem.specs.NothingToSettle.{MuxIsSettled}
+use Rattle.lagsystem.specs.Settling.{ChoosesIn, PromotesNext, choice_for, choice_in, with_choice}
+use Rattle.lagsystem.specs.Sound.{IsSound}
+use Rattle.lagsystem.specs.State.{SystemState, aggregators_value, port_numbers}
+use Rattle.lagsystem.specs.Views.{selection_view, views}
+use Rattle.lagsystem.proofs.Limiting.{next_stands}
+use Rattle.lagsystem.proofs.NoneLeft.{takes_is}
+use Rattle.lagsystem.proofs.PromotionLemmas.{choices_keep, promotions_keep}
+use Rattle.lagsystem.proofs.Rising.{Rises, all-get, ports_rise}
+use Rattle.lagsystem.proofs.SettlingLemmas.{set_same}
+use Rattle.lagprogress.proofs.Hearing.{no}
+use Rattle.lagprogress.proofs.Selecting.{clash, seen_stands, stands, when_is}
+
+-- the second is read as the first, and is eligible only if that is
+pub record SameView (x y : SystemPort) : Type 0 where
+  pub number : y.number ≡ x.number
+  pub party : y.port.party ≡ x.port.party
+  pub partner : party_of y.port.partner ≡ party_of x.port.partner
+  pub choice : y.port.choice ≡ x.port.choice
+  pub eligible : is_eligible (selection_view y) ≡ true → is_eligible (selection_view x) ≡ true
+
+abbrev pub SameSeen : List SystemPort → List SystemPort → Type 0
+SameSeen [] [] = Unit {0}
+SameSeen (x ∷ xs) (y ∷ ys) = SameView x y × SameSeen xs ys
+SameSeen [] (y ∷ ys) = ⊥
+SameSeen (x ∷ xs) [] = ⊥
+
+pub same_at : (xs ys : List SystemPort) (k : ℕ) (y : SystemPort) → SameSeen xs ys → slice_get ys k ≡ Some y
+    → (x : SystemPort) × (slice_get xs k ≡ Some x) × SameView x y
+same_at [] [] k y h e = absurd (none-some y e)
+same_at [] (z ∷ ys) k y h e = absurd h
+same_at (x ∷ xs) [] k y h e = absurd h
+same_at (x ∷ xs) (z ∷ ys) zero y h e = (x, refl, subst (SameView x) (same_Some z y e) h.0)
+same_at (x ∷ xs) (z ∷ ys) (suc k) y h e = same_at xs ys k y h.1 e
+
+same_numbers : (xs ys : List SystemPort) → SameSeen xs ys → port_numbers ys ≡ port_numbers xs
+same_numbers [] [] h = refl
+same_numbers [] (y ∷ ys) h = absurd h
+same_numbers (x ∷ xs) [] h = absurd h
+same_numbers (x ∷ xs) (y ∷ ys) h = ap (λ n. n ∷ port_numbers ys) h.0.number ∙ ap (λ ns. x.number ∷ ns) (same_numbers xs ys h.1)
+
+same_occupied : (agg : AggId) (xs ys : List SystemPort) → SameSeen xs ys → has_occupant (views ys) agg ≡ has_occupant (views xs) agg
+same_occupied agg [] [] h = refl
+same_occupied agg [] (y ∷ ys) h = absurd h
+same_occupied agg (x ∷ xs) [] h = absurd h
+same_occupied agg (x ∷ xs) (y ∷ ys) h =
+    ap (λ c. occupies agg c || has_occupant (views ys) agg) h.0.choice
+    ∙ ap (λ b. occupies agg x.port.choice || b) (same_occupied agg xs ys h.1)
+
+same_members : (agg : AggId) (xs ys : List SystemPort) → SameSeen xs ys
+    → length (ports_that_chose agg (views ys)) ≡ length (ports_that_chose agg (views xs))
+same_members agg [] [] h = refl
+same_members agg [] (y ∷ ys) h = absurd h
+same_members agg (x ∷ xs) [] h = absurd h
+same_members agg (x ∷ xs) (y ∷ ys) h =
+    ap (λ c. length (cond (has_chosen agg c) (selection_view y ∷ ports_that_chose agg (views ys)) (ports_that_chose agg (views ys)))) h.0.choice
+    ∙ by_test (has_chosen agg x.port.choice) (same_members agg xs ys h.1)
+  where
+    by_test : (b : Bool) → length (ports_that_chose agg (views ys)) ≡ length (ports_that_chose agg (views xs))
+        → length (cond b (selection_view y ∷ ports_that_chose agg (views ys)) (ports_that_chose agg (views ys)))
+        ≡ length (cond b (selection_view x ∷ ports_that_chose agg (views xs)) (ports_that_chose agg (views xs)))
+    by_test true e = ap (λ n. suc n) e
+    by_test false e = e
+
+same_groups : (agg : AggId) (v u : PortView) (xs ys : List SystemPort) → u.party ≡ v.party → u.partner ≡ v.partner → SameSeen xs ys
+    → list_all (has_group_of u) (occupants agg (views ys)) ≡ list_all (has_group_of v) (occupants agg (views xs))
+same_groups agg v u [] [] p q h = refl
+same_groups agg v u [] (y ∷ ys) p q h = absurd h
+same_groups agg v u (x ∷ xs) [] p q h = absurd h
+same_groups agg v u (x ∷ xs) (y ∷ ys) p q h =
+    ap (λ c. list_all (has_group_of u) (cond (occupies agg c) (selection_view y ∷ occupants agg (views ys)) (occupants agg (views ys)))) h.0.choice
+    ∙ by_test (occupies agg x.port.choice) (same_groups agg v u xs ys p q h.1)
+  where
+    group : has_group_of u (selection_view y) ≡ has_group_of v (selection_view x)
+    group =
+        ap (λ (a : Party). same_group (group_of a (party_of y.port.partner)) (group_of u.party u.partner)) h.0.party
+        ∙ (ap (λ (a : Party). same_group (group_of x.port.party a) (group_of u.party u.partner)) h.0.partner
+        ∙ (ap (λ (a : Party). same_group (group_of x.port.party (party_of x.port.partner)) (group_of a u.partner)) p
+        ∙ ap (λ (a : Party). same_group (group_of x.port.party (party_of x.port.partner)) (group_of v.party a)) q))
+
+    by_test : (b : Bool) → list_all (has_group_of u) (occupants agg (views ys)) ≡ list_all (has_group_of v) (occupants agg (views xs))
+        → list_all (has_group_of u) (cond b (selection_view y ∷ occupants agg (views ys)) (occupants agg (views ys)))
+        ≡ list_all (has_group_of v) (cond b (selection_view x ∷ occupants agg (views xs)) (occupants agg (views xs)))
+    by_test true e = ap (λ c. c && list_all (has_group_of u) (occupants agg (views ys))) group
+        ∙ ap (λ c. has_group_of v (selection_view x) && c) e
+    by_test false e = e
+
+same_share : (v u : PortView) (xs ys : List SystemPort) → u.party ≡ v.party → u.partner ≡ v.partner → SameSeen xs ys → (agg : AggId)
+    → occupants_share_group (views ys) u agg ≡ occupants_share_group (views xs) v agg
+same_share v u xs ys p q h agg =
+    ap (λ (a : Party). (not (individual a u.partner) && has_occupant (views ys) agg) && list_all (has_group_of u) (occupants agg (views ys))) p
+    ∙ (ap (λ (a : Party). (not (individual v.party a) && has_occupant (views ys) agg) && list_all (has_group_of u) (occupants agg (views ys))) q
+    ∙ (ap (λ b. (not (individual v.party v.partner) && b) && list_all (has_group_of u) (occupants agg (views ys))) (same_occupied agg xs ys h)
+    ∙ ap (λ b. (not (individual v.party v.partner) && has_occupant (views xs) agg) && b) (same_groups agg v u xs ys p q h)))
+
+same_chosen : (keys : List Key) (v u : PortView) (xs ys : List SystemPort) → u.party ≡ v.party → u.partner ≡ v.partner → SameSeen xs ys
+    → chosen_if_eligible keys (views ys) u ≡ chosen_if_eligible keys (views xs) v
+same_chosen keys v u xs ys p q h =
+    ap (λ (a : Party). or_else (lowest keys a.key (occupants_share_group (views ys) u)) (lowest keys a.key (has_no_occupant (views ys)))) p
+    ∙ (ap (λ (t : AggId → Bool). or_else (lowest keys v.party.key t) (lowest keys v.party.key (has_no_occupant (views ys))))
+    (λ i agg. same_share v u xs ys p q h agg i)
+    ∙ ap (λ (t : AggId → Bool). or_else (lowest keys v.party.key (occupants_share_group (views xs) v)) (lowest keys v.party.key t))
+    (λ i agg. ap not (same_occupied agg xs ys h) i))
+
+-- a port that chose nothing at rest chooses nothing
+none_chooses : (s : SystemState) (ys : List SystemPort) (k : ℕ) (y : SystemPort) → IsSound s → SameSeen s.system_ports ys
+    → slice_get ys k ≡ Some y → choice_for (aggregators_value s) ys y ≡ None
+none_chooses s ys k y h same e =
+    ap (option_map (choice_in (aggregators_value s) (views ys))) (takes_is s.keys ys k y rises e ∙ by_test (is_eligible (selection_view y)) refl)
+  where
+    rises : Rises 0 (port_numbers ys)
+    rises = subst (Rises 0) (sym (same_numbers s.system_ports ys same)) (ports_rise s h.ports)
+
+    none : is_eligible (selection_view y) ≡ true → chosen_if_eligible s.keys (views ys) (selection_view y) ≡ None
+    none able =
+        let x = same_at s.system_ports ys k y same e in
+        let settled = all-get (MuxIsSettled s.keys s.system_ports) s.system_ports k x.0 x.1 h.quiet.0 in
+        same_chosen s.keys (selection_view x.0) (selection_view y) s.system_ports ys x.2.party x.2.partner same
+        ∙ when_is (is_eligible (selection_view x.0)) (chosen_if_eligible s.keys (views s.system_ports) (selection_view x.0)) (x.2.eligible able)
+        (sym (takes_is s.keys s.system_ports k x.0 (ports_rise s h.ports) x.1) ∙ settled.apart)
+
+    by_test : (b : Bool) → is_eligible (selection_view y) ≡ b
+        → (if b then (if b then chosen_if_eligible s.keys (views ys) (selection_view y) else None) else None) ≡ None
+    by_test true able = none able
+    by_test false able = refl
+
+-- and none is promoted
+none_promoted : (s : SystemState) (agg : AggId) (l m : List SystemPort) → IsSound s → SameSeen s.system_ports l
+    → PromotesNext (aggregators_value s) agg l m → ⊥
+none_promoted s agg l m h same p =
+    let n = is_next (aggregators_value s) (views l) agg p.0 p.2 in
+    let x = same_at s.system_ports l p.0 p.1 same p.3 in
+    let stand = next_stands (aggregators_value s) agg l m p in
+    elim (none_is_next (aggregators_value s) (views s.system_ports) agg (h.promoted agg)) [
+      | inl full ↦ no (sym full ∙ (sym (ap (λ c. is_aggregator s.keys agg && is_below s.max_links c) (same_members agg s.system_ports l same))
+          ∙ n.room))
+      | inr none ↦ clash (has_choice x.0) (stands agg x.0.port.choice (sym x.2.choice ∙ stand)) (seen_stands agg s.system_ports p.0 x.0 x.1 none)
+    ]
+  where
+    has_choice : SystemPort → Bool
+    has_choice x = stands_by agg x.port.choice
+
+pub nothing_chosen : (s : SystemState) (one two : List SystemPort) → IsSound s → SameSeen s.system_ports one
+    → ChoosesIn (aggregators_value s) one two → SameSeen s.system_ports two
+nothing_chosen s one two h same c =
+    let aggs = aggregators_value s in
+    let P = SameSeen s.system_ports in
+    subst P (sym c.2) (choices_keep aggs P
+    (λ l i t e p. subst P (sym (ap (λ o. slice_set l i (with_choice t o)) (none_chooses s l i t h p e) ∙ set_same l i t e)) p)
+    (length c.0) c.0
+    (promotions_keep aggs P (λ agg l m x p. absurd (none_promoted s agg l m h p x)) (length aggs.keys) one c.0 c.1 same))

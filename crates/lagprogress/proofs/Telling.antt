@@ -1,0 +1,559 @@
+-- Once an end has heard the other, it is told by an LACPDU when the other is synchronized.
+use Rattle.std.proofs.Common.{◌≡◌, ◌∙◌, ℕ, ◌+◌, ◌≤◌, Bool, true, false, List, [], ◌∷◌, ◌++◌, Option, Some, None}
+use Rattle.std.proofs.Common.{Result, Ok, Err, ◌⊎◌, inl, inr, refl, sym, subst, ap, arith}
+use Rattle.std.specs.Prelude.{slice_get}
+use Rattle.std.specs.List.{AllByRecursion}
+use Rattle.std.proofs.lemmas.Bool.{cases_Bool}
+use Rattle.std.proofs.lemmas.Option.{none-some, same_Some}
+use Rattle.slowpdu.specs.declared.pdu.Lacpdu.{Lacpdu}
+use Rattle.slowpdu.specs.declared.pdu.Pdu.TheVariants as pdu
+use Rattle.distributor.specs.Changes.{marker_due}
+use Rattle.portmachines.specs.declared.receive.ReceiveState.TheVariants.{Current}
+use Rattle.portmachines.specs.Machines.{Machines}
+use Rattle.portmachines.specs.Mux.{mux_rows, partner_synchronized}
+use Rattle.portmachines.specs.Periodic.{periodic_rows}
+use Rattle.portmachines.specs.Receive.{receive_rows}
+use Rattle.portmachines.specs.Rows.{AtRest, RunsToRest}
+use Rattle.portmachines.specs.Transmit.{after_sending, count_down, is_due, pdu_of}
+use Rattle.lagmodel.specs.World.{Side, One, Two, peer}
+use Rattle.lagsystem.specs.declared.drive.Reply.TheVariants as answer
+use Rattle.lagsystem.specs.declared.fault.SystemFault.{SystemFault}
+use Rattle.lagsystem.specs.declared.received.Received.{Received}
+use Rattle.lagsystem.specs.declared.received.Received.TheVariants as received
+use Rattle.lagsystem.specs.declared.system_ports.SystemPort.{SystemPort}
+use Rattle.lagsystem.specs.Calls.{Carries, IsFrame, OnlyPortChangesBy, ProcessesLacpdu, Receive, Step, ThenSettles, Transmit}
+use Rattle.lagsystem.specs.Sending.{IsLacpduOf, SendsMarkerOf, TransmitsAt, TransmitsIf}
+use Rattle.lagsystem.specs.Sound.{CallPromise}
+use Rattle.lagsystem.specs.State.{SystemState, port_index}
+use Rattle.lagsystem.proofs.Rest.{same_slots}
+use Rattle.lagsystem.proofs.Rising.{all-get, found_place, ports_rise}
+use Rattle.lagscript.specs.declared.event.Event.TheVariants as event
+use Rattle.lagworld.specs.declared.reply.Reply.{Reply}
+use Rattle.lagworld.specs.Events.{Algorithms, WorldSteps, side_of}
+use Rattle.lagworld.specs.State.{ItemValue, WorldState, half}
+use Rattle.lagprogress.specs.Hearing.{timeout_time}
+use Rattle.lagprogress.specs.Rounds.{IsRound, NothingInFlight, asks_all}
+use Rattle.lagprogress.specs.Timers.{IsTimed}
+use Rattle.lagprogress.proofs.Claims.{Claims, Owes, Owing, SaysSynced, claim_said, claims_or_not, owes_takes, owes_ticks, owing_settles, takes_claim}
+use Rattle.lagprogress.proofs.Climbing.{PartnerInSync, ticks_partner}
+use Rattle.lagprogress.proofs.Delivering.{deliver_moves}
+use Rattle.lagprogress.proofs.EachPort.{KeptBySettling, OfEach, Tick-each, transmits_each}
+use Rattle.lagprogress.proofs.EndFacts.{CanSound, IsEnd, Learnt, SameActor, Says, nothing_along, short_timeout, takes_each, takes_end, ticks_end, wait_of}
+use Rattle.lagprogress.proofs.Lapsing.{some_wait}
+use Rattle.lagprogress.proofs.Linked.{Arrived, EndIs, Fits, IsGood, Link, arrival, asked_which, beside_link, each_both, each_map, each_side, elsewhere_each}
+use Rattle.lagprogress.proofs.Linked.{emit_link, found, peer_twice, push_other, push_there, put_other, put_there}
+use Rattle.lagprogress.proofs.OneCable.{Arrives, Back, Beside, Went, cable, put, ticks, towards_there}
+use Rattle.lagprogress.proofs.OnePort.{AtPort, at_number}
+use Rattle.lagprogress.proofs.OneRound.{Nothing, Unrolled, all_ask, ask_all, deliver_all, one_of_both, same_ports_then, tick_both, ticked, timed_ends, unroll}
+use Rattle.lagprogress.proofs.Passing.{carries_one, lacpdu_is_sent, marker_carries_none, sends_due, sent_carries}
+use Rattle.lagprogress.proofs.Stamps.{most_is}
+use Rattle.lagprogress.proofs.Timers.{runs_keep}
+
+-- what is on its way
+
+-- the item bears an LACPDU
+abbrev Bears : ItemValue → Type 0
+Bears item = (x : Lacpdu) × IsFrame item.octets (Carries (pdu.Lacpdu x))
+
+-- the item bears no LACPDU but one that says that its actor is synchronized
+abbrev SaysIt : Lacpdu → Lacpdu → ItemValue → Type 0
+SaysIt u v item = (x : Lacpdu) → IsFrame item.octets (Carries (pdu.Lacpdu x)) → SaysSynced u v x
+
+-- each LACPDU among the items says so; and if there is none, H holds
+abbrev pub Tells : Lacpdu → Lacpdu → List ItemValue → Type 0 → Type 0
+Tells u v [] H = H
+Tells u v (item ∷ items) H = Tells u v items (SaysIt u v item × (H ⊎ Bears item))
+
+tells_map : (u v : Lacpdu) (xs : List ItemValue) (A B : Type 0) → (A → B) → Tells u v xs A → Tells u v xs B
+tells_map u v [] A B k h = k h
+tells_map u v (x ∷ xs) A B k h = tells_map u v xs (SaysIt u v x × (A ⊎ Bears x)) (SaysIt u v x × (B ⊎ Bears x))
+    (λ a. (a.0, elim a.1 [ inl y ↦ inl (k y) | inr b ↦ inr b ])) h
+
+tells_push : (u v : Lacpdu) (xs : List ItemValue) (item : ItemValue) (H : Type 0) → SaysIt u v item → Tells u v xs H ⊎ Bears item
+    → Tells u v (xs ++ item ∷ []) H
+tells_push u v [] item H says h = (says, h)
+tells_push u v (x ∷ xs) item H says h = tells_push u v xs item (SaysIt u v x × (H ⊎ Bears x)) says h
+
+-- what a frame bears that an end sends
+
+sent_is : (up due : Bool) (i : ℕ) (z : SystemPort) (old : SystemState) (frame : List ℕ) (new : SystemState)
+    → TransmitsIf up due i z old (Some frame) new → (x : Lacpdu) → IsFrame frame (Carries (pdu.Lacpdu x)) → pdu_of z.port old.max_delay ≡ x
+sent_is false due i z old frame new h x k = absurd (none-some frame (sym h.0))
+sent_is true true i z old frame new h x k =
+    let is : frame ≡ h.0 = same_Some frame h.0 h.2 in
+    let sent = subst (IsLacpduOf old.max_delay z) (sym is) h.1 in
+    carries_one frame x (pdu_of z.port old.max_delay) k
+    (sent_carries frame (pdu.Lacpdu (pdu_of z.port old.max_delay)) (lacpdu_is_sent old.max_delay z frame sent))
+sent_is true false i z old frame new h x k = by_marker (marker_due old.table z.number) h
+  where
+    by_marker : (o : Option ℕ) → SendsMarkerOf o z.number z.mac old (Some frame) new → pdu_of z.port old.max_delay ≡ x
+    by_marker None m = absurd (none-some frame (sym m.0))
+    by_marker (Some id) m = absurd (marker_carries_none frame x _ k (z.mac, m.0, m.1, m.2, same_Some frame _ m.3))
+
+-- what sending keeps of a port
+kept_by_sending : (P : Machines → Type 0) → ((p : Machines) → P p → P (after_sending p)) → (gives : ℕ → ℕ → ℕ → Type 0) (n : ℕ)
+    (a : Result (Option (List ℕ)) SystemFault) (old new : SystemState) → Step gives old (Transmit n) (answer.Transmit a) new
+    → OfEach (AtPort n P) old.system_ports → OfEach (AtPort n P) new.system_ports
+kept_by_sending P k gives n (Err fault) old new h b = subst (OfEach (AtPort n P)) (sym (same_slots old new h.same)) b
+kept_by_sending P k gives n (Ok o) old new h b =
+    transmits_each (AtPort n P) n (port_index n old.system_ports) old o new (λ p told c e. k p (c e)) refl h b
+
+went_other : (s : Side) (a : Result (Option (List ℕ)) SystemFault) (fl now : Side → List ItemValue) → Went s a fl now → now s ≡ fl s
+went_other s (Err fault) fl now h = ap (λ (f : Side → List ItemValue). f s) h
+went_other s (Ok None) fl now h = ap (λ (f : Side → List ItemValue). f s) h
+went_other s (Ok (Some frame)) fl now h = ap (λ (f : Side → List ItemValue). f s) h.2 ∙ push_other s h.0 fl
+
+-- an end that says so is asked
+went_tells : (u v : Lacpdu) (H : Type 0) (s : Side) (a : Result (Option (List ℕ)) SystemFault) (fl now : Side → List ItemValue)
+    → Went s a fl now → ((frame : List ℕ) → a ≡ Ok (Some frame) → (x : Lacpdu) → IsFrame frame (Carries (pdu.Lacpdu x)) → SaysSynced u v x)
+    → Tells u v (fl (peer s)) H → Tells u v (now (peer s)) H
+went_tells u v H s (Err fault) fl now h k m = subst (λ (f : Side → List ItemValue). Tells u v (f (peer s)) H) (sym h) m
+went_tells u v H s (Ok None) fl now h k m = subst (λ (f : Side → List ItemValue). Tells u v (f (peer s)) H) (sym h) m
+went_tells u v H s (Ok (Some frame)) fl now h k m =
+    subst (λ (f : Side → List ItemValue). Tells u v (f (peer s)) H) (sym h.2)
+    (subst (λ xs. Tells u v xs H) (sym (push_there (peer s) h.0 fl))
+    (tells_push u v (fl (peer s)) h.0 H (λ x c. k frame refl x (subst (λ o. IsFrame o (Carries (pdu.Lacpdu x))) h.1 c)) (inl m)))
+
+-- and an LACPDU is due
+due_tells : (u v : Lacpdu) (H : Type 0) (gives : ℕ → ℕ → ℕ → Type 0) (s : Side) (n k : ℕ) (z : SystemPort)
+    (a : Result (Option (List ℕ)) SystemFault) (old new : SystemState) (fl now : Side → List ItemValue)
+    → SaysSynced u v (pdu_of z.port old.max_delay)
+    → port_index n old.system_ports ≡ Some k → slice_get old.system_ports k ≡ Some z → z.port.enabled ≡ true → is_due z.port ≡ true
+    → Step gives old (Transmit n) (answer.Transmit a) new → Went s a fl now → Tells u v (now (peer s)) H
+due_tells u v H gives s n k z (Err fault) old new fl now says place there up due h w = absurd (none-some k (sym h.cause ∙ place))
+due_tells u v H gives s n k z (Ok None) old new fl now says place there up due h w =
+    let sent = sends_due (port_index n old.system_ports) k z old None new place there up due h in absurd (none-some sent.0 sent.2)
+due_tells u v H gives s n k z (Ok (Some frame)) old new fl now says place there up due h w =
+    let sent = sends_due (port_index n old.system_ports) k z old (Some frame) new place there up due h in
+    let is : frame ≡ sent.0 = same_Some frame sent.0 sent.2 in
+    let lacpdu = subst (IsLacpduOf old.max_delay z) (sym (w.1 ∙ is)) sent.1 in
+    let x = pdu_of z.port old.max_delay in
+    let bears : IsFrame w.0.octets (Carries (pdu.Lacpdu x)) =
+    sent_carries w.0.octets (pdu.Lacpdu x) (lacpdu_is_sent old.max_delay z w.0.octets lacpdu) in
+    subst (λ (f : Side → List ItemValue). Tells u v (f (peer s)) H) (sym w.2)
+    (subst (λ xs. Tells u v xs H) (sym (push_there (peer s) w.0 fl))
+    (tells_push u v (fl (peer s)) w.0 H (λ y c. subst (SaysSynced u v) (carries_one w.0.octets y x c bears) says) (inr (x, bears))))
+
+-- what goes back
+
+back_other : (s : Side) (a : Result Received SystemFault) (fl now : Side → List ItemValue) → Back s a fl now → now s ≡ fl s
+back_other s (Err fault) fl now h = ap (λ (f : Side → List ItemValue). f s) h
+back_other s (Ok received.Disabled) fl now h = ap (λ (f : Side → List ItemValue). f s) h
+back_other s (Ok received.Dropped) fl now h = ap (λ (f : Side → List ItemValue). f s) h
+back_other s (Ok (received.Ignored fault)) fl now h = ap (λ (f : Side → List ItemValue). f s) h
+back_other s (Ok received.TookLacpdu) fl now h = ap (λ (f : Side → List ItemValue). f s) h
+back_other s (Ok (received.Respond frame)) fl now h = ap (λ (f : Side → List ItemValue). f s) h.2 ∙ push_other s h.0 fl
+back_other s (Ok (received.Released m)) fl now h = ap (λ (f : Side → List ItemValue). f s) h
+back_other s (Ok (received.Up agg)) fl now h = ap (λ (f : Side → List ItemValue). f s) h
+
+back_tells : (u v : Lacpdu) (H : Type 0) (gives : ℕ → ℕ → ℕ → Type 0) (s : Side) (n : ℕ) (octets : List ℕ) (a : Result Received SystemFault)
+    (old new : SystemState) (fl now : Side → List ItemValue) → CallPromise gives old (Receive n octets) (answer.Receive a) new
+    → Back s a fl now → Tells u v (fl (peer s)) H → Tells u v (now (peer s)) H
+back_tells u v H gives s n octets (Err fault) old new fl now k h m = subst (λ (f : Side → List ItemValue). Tells u v (f (peer s)) H) (sym h) m
+back_tells u v H gives s n octets (Ok received.Disabled) old new fl now k h m =
+    subst (λ (f : Side → List ItemValue). Tells u v (f (peer s)) H) (sym h) m
+back_tells u v H gives s n octets (Ok received.Dropped) old new fl now k h m =
+    subst (λ (f : Side → List ItemValue). Tells u v (f (peer s)) H) (sym h) m
+back_tells u v H gives s n octets (Ok (received.Ignored fault)) old new fl now k h m =
+    subst (λ (f : Side → List ItemValue). Tells u v (f (peer s)) H) (sym h) m
+back_tells u v H gives s n octets (Ok received.TookLacpdu) old new fl now k h m =
+    subst (λ (f : Side → List ItemValue). Tells u v (f (peer s)) H) (sym h) m
+back_tells u v H gives s n octets (Ok (received.Respond frame)) old new fl now k h m =
+    let g = k.moves.3 in
+    subst (λ (f : Side → List ItemValue). Tells u v (f (peer s)) H) (sym h.2)
+    (subst (λ xs. Tells u v xs H) (sym (push_there (peer s) h.0 fl))
+    (tells_push u v (fl (peer s)) h.0 H
+    (λ x c. absurd (marker_carries_none frame x g.0 (subst (λ o. IsFrame o (Carries (pdu.Lacpdu x))) h.1 c) g.1)) (inl m)))
+back_tells u v H gives s n octets (Ok (received.Released g)) old new fl now k h m =
+    subst (λ (f : Side → List ItemValue). Tells u v (f (peer s)) H) (sym h) m
+back_tells u v H gives s n octets (Ok (received.Up agg)) old new fl now k h m =
+    subst (λ (f : Side → List ItemValue). Tells u v (f (peer s)) H) (sym h) m
+
+-- the events of a round
+
+module _ (gives : Algorithms) (d : ℕ) (at : Side → ℕ) (w : Side → Lacpdu) (c : Side → ℕ) (s : Side) (fast : Bool) (X : Machines → Type 0)
+    (there : 1 ≤ d) (fits : Fits d w c) (can : CanSound (w s) (w (peer s)) fast (c s)) (keeps : KeptBySettling (AtPort (at (peer s)) X))
+    (sends : (p : Machines) → X p → X (after_sending p)) (takes : (p : Machines) → partner_synchronized p ≡ true → X p) where
+  abbrev Held : WorldState → Type 0
+  Held j = Link d at w c One Nothing j
+
+  abbrev OwesAt : WorldState → Type 0
+  OwesAt j = OfEach (AtPort (at s) (Owes (w (peer s)))) (half s j).state.system_ports
+
+  abbrev HoldsAt : WorldState → Type 0
+  HoldsAt j = OfEach (AtPort (at (peer s)) X) (half (peer s) j).state.system_ports
+
+  -- the end of s owes an LACPDU, or one that says so is on its way, or X holds of its peer
+  abbrev pub On : WorldState → Type 0
+  On j = (l : Held j) × (OwesAt j ⊎ Tells (w (peer s)) (w s) (l.flying (peer s)) (HoldsAt j))
+
+  -- the port at an end
+  record Here (q : Side) (j : WorldState) (l : Held j) : Type 0 where
+    port : SystemPort
+    found : slice_get (half q j).state.system_ports (l.place q).0 ≡ Some port
+    number : port.number ≡ at q
+    is : IsEnd d (w q) (w (peer q)) (c q) port.port
+
+  here : (q : Side) (j : WorldState) (l : Held j) → Here q j l
+  here q j l =
+      let ports = (half q j).state.system_ports in
+      let place = l.place q in
+      let it = found (at q) place.0 ports place.1 in
+      let numbered = found_place (at q) ports place.0 it.0 place.1 it.1 in
+      record {
+        port = it.0;
+        found = it.1;
+        number = numbered;
+        is = (all-get (λ (y : SystemPort). AtPort (at q) (EndIs d w c One Nothing q) y.number y.port) ports place.0 it.0 it.1
+            (l.ports q) numbered).0;
+      }
+
+  -- so it is with the port at an end
+  at_here : (P : Machines → Type 0) (q : Side) (j : WorldState) (l : Held j) (e : Here q j l) → P e.port.port
+      → OfEach (AtPort (at q) P) (half q j).state.system_ports
+  at_here P q j l e y = subst (λ n. OfEach (AtPort n P) (half q j).state.system_ports) e.number
+      (at_number P 0 (half q j).state.system_ports (l.place q).0 e.port (ports_rise (half q j).state (l.steady q).0.ports) e.found y)
+
+  of_here : (P : Machines → Type 0) (q : Side) (j : WorldState) (l : Held j) (e : Here q j l)
+      → OfEach (AtPort (at q) P) (half q j).state.system_ports → P e.port.port
+  of_here P q j l e a = all-get (λ (y : SystemPort). AtPort (at q) P y.number y.port) (half q j).state.system_ports (l.place q).0 e.port e.found
+      a e.number
+
+  owing : (j : WorldState) → Held j → OwesAt j → OfEach (AtPort (at s) (Owing d (w s) (w (peer s)) (c s))) (half s j).state.system_ports
+  owing j l a = each_map (λ m p. AtPort (at s) (EndIs d w c One Nothing s) m p × AtPort (at s) (Owes (w (peer s))) m p)
+      (AtPort (at s) (Owing d (w s) (w (peer s)) (c s))) (λ m p b e. ((b.0 e).0, b.1 e)) (half s j).state.system_ports
+      (each_both (AtPort (at s) (EndIs d w c One Nothing s)) (AtPort (at s) (Owes (w (peer s)))) (half s j).state.system_ports (l.ports s) a)
+
+  owed : (t : SystemState) → OfEach (AtPort (at s) (Owing d (w s) (w (peer s)) (c s))) t.system_ports
+      → OfEach (AtPort (at s) (Owes (w (peer s)))) t.system_ports
+  owed t a = each_map (AtPort (at s) (Owing d (w s) (w (peer s)) (c s))) (AtPort (at s) (Owes (w (peer s)))) (λ m p b e. (b e).1) t.system_ports a
+
+  -- the end itself is asked
+
+  ask_own : (n : ℕ) (r : Reply) (old new : WorldState) → side_of n ≡ Some s → On old → WorldSteps gives old (event.Emit n (at s)) r new → On new
+  ask_own n r old new named (l, m) h =
+      let e = emit_link gives n s d at w c One Nothing r old new fits named (nothing_along (w One) (w Two) (c One) d) (λ f p y. y) l h in
+      let z = here s old l in
+      let st = (half s old).state in
+      let now = (half s new).state in
+      let u = w (peer s) in
+      let v = w s in
+      let on : HoldsAt old → HoldsAt new = λ y.
+      subst (λ (t : SystemState). OfEach (AtPort (at (peer s)) X) t.system_ports) (sym e.asks.peers) y in (
+        e.link,
+        elim (claims_or_not u z.port.port) [
+          | inr not ↦ inl (each_map (AtPort (at s) (λ p. Claims u p → ⊥)) (AtPort (at s) (Owes u)) (λ q p b f k. absurd (b f k))
+              now.system_ports (kept_by_sending (λ p. Claims u p → ⊥) (λ p b. b) (gives s) (at s) e.asks.a st now e.asks.promise.step
+              (at_here (λ p. Claims u p → ⊥) s old l z not)))
+          | inl claim ↦ elim m [
+            | inl owes ↦ elim (cases_Bool (is_due z.port.port)) [
+              | inl due ↦ inr (subst (λ (f : Side → List ItemValue). Tells u v (f (peer s)) (HoldsAt new)) (sym e.same)
+                  (due_tells u v (HoldsAt new) (gives s) s (at s) (l.place s).0 z.port e.asks.a st now l.flying e.asks.now
+                  (claim_said d v u fast (c s) st.max_delay z.port.port can z.is claim) (l.place s).1 z.found z.is.1.0 due
+                  e.asks.promise.step e.asks.went))
+              | inr not ↦ inl (subst (OfEach (AtPort (at s) (Owes u)))
+                  (sym (same_ports_then (gives s) (at s) (l.place s).0 z.port e.asks.a st now (l.place s).1 z.found not e.asks.promise.step))
+                  owes)
+            ]
+            | inr tells ↦ inr (subst (λ (f : Side → List ItemValue). Tells u v (f (peer s)) (HoldsAt new)) (sym e.same)
+                (went_tells u v (HoldsAt new) s e.asks.a l.flying e.asks.now e.asks.went
+                (λ frame is x carried. says z claim frame x carried
+                (subst (λ b. Step (gives s) st (Transmit (at s)) (answer.Transmit b) now) is e.asks.promise.step))
+                (tells_map u v (l.flying (peer s)) (HoldsAt old) (HoldsAt new) on tells)))
+          ]
+        ],
+      )
+    where
+      says : (z : Here s old l) → Claims (w (peer s)) z.port.port → (frame : List ℕ) (x : Lacpdu) → IsFrame frame (Carries (pdu.Lacpdu x))
+          → Step (gives s) (half s old).state (Transmit (at s)) (answer.Transmit (Ok (Some frame))) (half s new).state
+          → SaysSynced (w (peer s)) (w s) x
+      says z claim frame x carried step =
+          let st = (half s old).state in
+          let t = subst (λ i. TransmitsAt i st (Some frame) (half s new).state) (l.place s).1 step in
+          let same : t.0 ≡ z.port = same_Some t.0 z.port (sym t.1 ∙ z.found) in
+          let is = sent_is t.0.port.enabled (is_due t.0.port) (l.place s).0 t.0 st frame (half s new).state t.2 x carried in
+          subst (SaysSynced (w (peer s)) (w s)) (sym (ap (λ (y : SystemPort). pdu_of y.port st.max_delay) same) ∙ is)
+          (claim_said d (w s) (w (peer s)) fast (c s) st.max_delay z.port.port can z.is claim)
+
+  -- its peer is asked
+  ask_peer : (n : ℕ) (r : Reply) (old new : WorldState) → side_of n ≡ Some (peer s) → On old
+      → WorldSteps gives old (event.Emit n (at (peer s))) r new → On new
+  ask_peer n r old new named (l, m) h =
+      let e = emit_link gives n (peer s) d at w c One Nothing r old new fits named (nothing_along (w One) (w Two) (c One) d) (λ f p y. y) l h in
+      let same : (half s new).state ≡ (half s old).state =
+      subst (λ t. (half t new).state ≡ (half t old).state) (peer_twice s) e.asks.peers in
+      let items : e.link.flying (peer s) ≡ l.flying (peer s) = ap (λ (f : Side → List ItemValue). f (peer s)) e.same
+      ∙ went_other (peer s) e.asks.a l.flying e.asks.now e.asks.went in (
+        e.link,
+        elim m [
+          | inl owes ↦ inl (subst (λ (t : SystemState). OfEach (AtPort (at s) (Owes (w (peer s)))) t.system_ports) (sym same) owes)
+          | inr tells ↦ inr (subst (λ xs. Tells (w (peer s)) (w s) xs (HoldsAt new)) (sym items)
+              (tells_map (w (peer s)) (w s) (l.flying (peer s)) (HoldsAt old) (HoldsAt new)
+              (λ y. kept_by_sending X sends (gives (peer s)) (at (peer s)) e.asks.a (half (peer s) old).state (half (peer s) new).state
+              e.asks.promise.step y) tells))
+        ],
+      )
+
+  -- the event leaves the cable to itself
+  left_alone : (old new : WorldState) (l : Held old) (k : Held new) → Beside gives at l.flying old new → k.flying ≡ l.flying
+      → OwesAt old ⊎ Tells (w (peer s)) (w s) (l.flying (peer s)) (HoldsAt old) → On new
+  left_alone old new l k b same m = (
+    k,
+    elim m [
+      | inl owes ↦ inl (owed (half s new).state (elsewhere_each (Owing d (w s) (w (peer s)) (c s)) (gives s) (at s) (half s old).state
+          (half s new).state (owing_settles d (w s) (w (peer s)) fast (c s) (at s) can) (b.calls s) (owing old l owes)))
+      | inr tells ↦ inr (subst (λ (f : Side → List ItemValue). Tells (w (peer s)) (w s) (f (peer s)) (HoldsAt new)) (sym same)
+          (tells_map (w (peer s)) (w s) (l.flying (peer s)) (HoldsAt old) (HoldsAt new)
+          (λ y. elsewhere_each X (gives (peer s)) (at (peer s)) (half (peer s) old).state (half (peer s) new).state keeps (b.calls (peer s)) y)
+          tells))
+    ],
+  )
+
+  ask_on : (n p : ℕ) (r : Reply) (old new : WorldState) → WorldSteps gives old (event.Emit n p) r new → On old → On new
+  ask_on n p r old new h (l, m) = elim (asked_which gives n p l.index at l.flying r old new l.links h) [
+    | inl (t, named, is) ↦ asked t named (subst (λ q. WorldSteps gives old (event.Emit n q) r new) is h)
+    | inr b ↦ (let k = beside_link gives (event.Emit n p) d at w c One Nothing r old new (nothing_along (w One) (w Two) (c One) d) l h b in
+        left_alone old new l k.link b k.same m)
+  ]
+    where
+      asked : (t : Side) → side_of n ≡ Some t → WorldSteps gives old (event.Emit n (at t)) r new → On new
+      asked t named h = elim (one_of_both s t) [
+        | inl e ↦ ask_own n r old new (subst (λ x. side_of n ≡ Some x) e named) (l, m)
+            (subst (λ x. WorldSteps gives old (event.Emit n (at x)) r new) e h)
+        | inr e ↦ ask_peer n r old new (subst (λ x. side_of n ≡ Some x) e named) (l, m)
+            (subst (λ x. WorldSteps gives old (event.Emit n (at x)) r new) e h)
+      ]
+
+  -- an arrival
+
+  came_to : (q : Side) (old new : WorldState) (l : Held old) (k : Arrives gives q at l.flying old new)
+      → Arrived (l.place q).0 k.item.octets (half q old).state (half q new).state
+  came_to q old new l k = by_answer k.a k.promise
+    where
+      by_answer : (a : Result Received SystemFault)
+          → CallPromise (gives q) (half q old).state (Receive (at q) k.item.octets) (answer.Receive a) (half q new).state
+          → Arrived (l.place q).0 k.item.octets (half q old).state (half q new).state
+      by_answer (Err fault) p = absurd (none-some (l.place q).0 (sym p.step.cause ∙ (l.place q).1))
+      by_answer (Ok o) p = let z = here q old l in
+          arrival (gives q) (at q) (l.place q).0 z.port k.item.octets o (half q old).state (half q new).state (l.place q).1 z.found z.is.1.0 p
+
+  arrive_own : (old new : WorldState) (l : Held old) (k : Arrives gives s at l.flying old new) (i : Held new) → i.flying ≡ k.now
+      → OwesAt old ⊎ Tells (w (peer s)) (w s) (l.flying (peer s)) (HoldsAt old) → On new
+  arrive_own old new l k i same m = (
+    i,
+    elim m [
+      | inl owes ↦ inl (elim (came_to s old new l k) [
+        | inl (x, carries, settles) ↦ takes_own x carries settles owes
+        | inr none ↦ subst (OfEach (AtPort (at s) (Owes (w (peer s))))) (sym none.1) owes
+      ])
+      | inr tells ↦ inr (subst (λ (f : Side → List ItemValue). Tells (w (peer s)) (w s) (f (peer s)) (HoldsAt new)) (sym same)
+          (back_tells (w (peer s)) (w s) (HoldsAt new) (gives s) s (at s) k.item.octets k.a (half s old).state (half s new).state
+          (put s k.rest l.flying) k.now k.promise k.back
+          (subst (λ xs. Tells (w (peer s)) (w s) xs (HoldsAt new)) (sym (put_other s k.rest l.flying))
+          (tells_map (w (peer s)) (w s) (l.flying (peer s)) (HoldsAt old) (HoldsAt new)
+          (λ y. subst (λ (t : SystemState). OfEach (AtPort (at (peer s)) X) t.system_ports) (sym k.peers) y) tells))))
+    ],
+  )
+    where
+      takes_own : (x : Lacpdu) → IsFrame k.item.octets (Carries (pdu.Lacpdu x))
+          → ThenSettles (OnlyPortChangesBy (Some (l.place s).0) (ProcessesLacpdu x)) (half s old).state (half s new).state → OwesAt old → OwesAt new
+      takes_own x carries settles owes =
+          let z = here s old l in
+          let good = subst (AllByRecursion (IsGood d w s)) k.first (l.good s) in
+          let suits = good.0 x carries in
+          let P = Owing d (w s) (w (peer s)) (c s) in
+          let each = takes_each P (half s old).state (half s new).state x (l.place s).0 z.port (l.steady s).0 z.found
+          (λ q awake does. (
+            takes_end (w s) (w (peer s)) x (c s) d z.port.port q suits (fits s).1 (fits s).2 (fits s).0 awake does z.is,
+            owes_takes (w (peer s)) x z.port.port q (suits.0 there) does (of_here (Owes (w (peer s))) s old l z owes),
+          )) (owing_settles d (w s) (w (peer s)) fast (c s) z.port.number can) settles in
+          owed (half s new).state (subst (λ n. OfEach (AtPort n P) (half s new).state.system_ports) z.number each)
+
+  arrive_peer : (old new : WorldState) (l : Held old) (k : Arrives gives (peer s) at l.flying old new) (i : Held new) → i.flying ≡ k.now
+      → OwesAt old ⊎ Tells (w (peer s)) (w s) (l.flying (peer s)) (HoldsAt old) → On new
+  arrive_peer old new l k i same m =
+      let peers : (half s new).state ≡ (half s old).state = subst (λ t. (half t new).state ≡ (half t old).state) (peer_twice s) k.peers in
+      let items : i.flying (peer s) ≡ k.rest = ap (λ (f : Side → List ItemValue). f (peer s)) same
+      ∙ (back_other (peer s) k.a (put (peer s) k.rest l.flying) k.now k.back ∙ put_there (peer s) k.rest l.flying) in (
+        i,
+        elim m [
+          | inl owes ↦ inl (subst (λ (t : SystemState). OfEach (AtPort (at s) (Owes (w (peer s)))) t.system_ports) (sym peers) owes)
+          | inr tells ↦ inr (subst (λ xs. Tells (w (peer s)) (w s) xs (HoldsAt new)) (sym items)
+              (tells_map (w (peer s)) (w s) k.rest (SaysIt (w (peer s)) (w s) k.item × (HoldsAt old ⊎ Bears k.item)) (HoldsAt new)
+              (λ y. comes y.0 y.1) (subst (λ xs. Tells (w (peer s)) (w s) xs (HoldsAt old)) k.first tells)))
+        ],
+      )
+    where
+      comes : SaysIt (w (peer s)) (w s) k.item → HoldsAt old ⊎ Bears k.item → HoldsAt new
+      comes says was = elim (came_to (peer s) old new l k) [
+        | inl (x, carries, settles) ↦ (let z = here (peer s) old l in
+            let good = subst (AllByRecursion (IsGood d w (peer s))) k.first (l.good (peer s)) in
+            let actor = subst (λ t. SameActor x (w t)) (peer_twice s) ((good.0 x carries).0 there) in
+            subst (λ n. OfEach (AtPort n X) (half (peer s) new).state.system_ports) z.number
+            (takes_each X (half (peer s) old).state (half (peer s) new).state x (l.place (peer s)).0 z.port (l.steady (peer s)).0 z.found
+            (λ q awake does. takes q (takes_claim (w (peer s)) (w s) x z.port.port q actor (says x carries) awake does z.is.0 z.is.1.0))
+            (subst (λ n. KeptBySettling (AtPort n X)) (sym z.number) keeps) settles))
+        | inr none ↦ elim was [
+          | inl y ↦ subst (OfEach (AtPort (at (peer s)) X)) (sym none.1) y
+          | inr b ↦ absurd (none.0 b.0 b.1)
+        ]
+      ]
+
+  deliver_on : (cn n : ℕ) (r : Reply) (old new : WorldState) → WorldSteps gives old (event.Deliver cn n) r new → On old → On new
+  deliver_on cn n r old new h (l, m) =
+      let e = deliver_moves gives cn n d at w c One Nothing r old new fits (nothing_along (w One) (w Two) (c One) d) l h in
+      elim e.1 [
+        | inl (q, k, same) ↦ each_side (λ t. (k : Arrives gives t at l.flying old new) → e.0.link.flying ≡ k.now → On new) s
+            (λ k same. arrive_own old new l k e.0.link same m) (λ k same. arrive_peer old new l k e.0.link same m) q k same
+        | inr b ↦ left_alone old new l e.0.link b.0 b.1 m
+      ]
+
+  -- from the ticks of a round to its end
+  pub told_on : (old new : WorldState) (u : Unrolled gives old new) → NothingInFlight new → On u.two → OwesAt new ⊎ HoldsAt new
+  told_on old new u none h =
+      let six = ask_all gives On (λ n p r i j step m. ask_on n p r i j step m) (asks_all old.links) u.asked u.two u.six (all_ask old.links) u.asks h in
+      let last = deliver_all gives On (λ cn n r i j step m. deliver_on cn n r i j step m) u.delivers u.replies u.six new u.arrives u.rest six in
+      elim last.1 [
+        | inl owes ↦ inl owes
+        | inr tells ↦ inr (subst (λ xs. Tells (w (peer s)) (w s) xs (HoldsAt new)) (empty last.0) tells)
+      ]
+    where
+      empty : (l : Held new) → l.flying (peer s) ≡ []
+      empty l = sym (towards_there (peer s) at l.flying) ∙ none (peer s) l.index (cable at l.flying) l.links.there
+
+-- the ticks
+
+tick_side : (P Q : ℕ → Machines → Type 0) → KeptBySettling Q
+    → ((n : ℕ) (p q : Machines) → RunsToRest receive_rows (count_down p) q → P n p → Q n q)
+    → (gives : Algorithms) (s : Side) (old new : WorldState) (u : Unrolled gives old new) → OfEach P (half s old).state.system_ports
+    → OfEach Q (half s u.two).state.system_ports
+tick_side P Q k counts gives s old new u a =
+    let one = ticks gives 1 One u.tick_one.0 old u.one refl u.tick_one.1 in
+    let two = ticks gives 2 Two u.tick_two.0 u.one u.two refl u.tick_two.1 in
+    each_side (λ t. OfEach P (half t old).state.system_ports → OfEach Q (half t u.two).state.system_ports) One
+    (λ b. subst (λ (z : SystemState). OfEach Q z.system_ports) (sym two.peers)
+    (Tick-each P Q k counts (gives One) old.one.state answer.Tick u.one.one.state one.step b))
+    (λ b. Tick-each P Q k counts (gives Two) u.one.two.state answer.Tick u.two.two.state two.step
+    (subst (λ (z : SystemState). OfEach P z.system_ports) (sym one.peers) b)) s a
+
+-- current_while does not start anew
+abbrev Late : ℕ → Machines → Type 0
+Late most p = p.receive ≡ Current → p.current_while + 1 ≤ most
+
+late_ticks : (v : Lacpdu) (p q : Machines) → RunsToRest receive_rows (count_down p) q → Says v p → IsTimed p → Late (wait_of v) q
+late_ticks v p q h says timed = runs_keep (Late (wait_of v)) receive_rows (
+  λ p a e. absurd (let x = e in cc),
+  (
+    λ p a e. absurd (let x = e in cc),
+    (
+      λ p a e. absurd (let x = e in cc),
+      (λ p a e. absurd (let x = e in cc), (λ p a e. absurd (let x = e in cc), tt)),
+    ),
+  ),
+) (count_down p) q h (λ e. (let bound : p.current_while ≤ wait_of v =
+    subst (λ n. p.current_while ≤ n) (most_is p.short p.receive e ∙ ap timeout_time says.2) timed.0 in
+    let some = some_wait (short_timeout v) in omega (arith, bound, some)))
+
+-- the partner is recorded as synchronized, or current_while does not start anew
+abbrev TookOrLate : ℕ → Machines → Type 0
+TookOrLate most p = PartnerInSync p ⊎ Late most p
+
+sync_settles : (n : ℕ) → KeptBySettling (AtPort n PartnerInSync)
+sync_settles n = record {
+  mux = λ m ready p q h a e. runs_keep PartnerInSync (mux_rows ready)
+      (λ p a. a, (λ p a. a, (λ p a. a, (λ p a. a, (λ p a. a, (λ p a. a, tt)))))) p q h (a e);
+  periodic = λ m p q h a e. subst PartnerInSync (sym h.2) (runs_keep PartnerInSync periodic_rows
+      (λ p a. a, (λ p a. a, (λ p a. a, (λ p a. a, (λ p a. a, (λ p a. a, (λ p a. a, tt))))))) p h.0 h.1 (a e));
+  select = λ m choice p none may a e. a e;
+}
+
+late_settles : (n most : ℕ) → KeptBySettling (AtPort n (TookOrLate most))
+late_settles n most = record {
+  mux = λ m ready p q h a e. runs_keep (TookOrLate most) (mux_rows ready)
+      (λ p a. a, (λ p a. a, (λ p a. a, (λ p a. a, (λ p a. a, (λ p a. a, tt)))))) p q h (a e);
+  periodic = λ m p q h a e. subst (TookOrLate most) (sym h.2) (runs_keep (TookOrLate most) periodic_rows
+      (λ p a. a, (λ p a. a, (λ p a. a, (λ p a. a, (λ p a. a, (λ p a. a, (λ p a. a, tt))))))) p h.0 h.1 (a e));
+  select = λ m choice p none may a e. a e;
+}
+
+-- a round
+
+-- the end of s owes an LACPDU, or its peer has recorded that it is synchronized
+abbrev pub Told : (Side → ℕ) → (Side → Lacpdu) → Side → WorldState → Type 0
+Told at w s j = OfEach (AtPort (at s) (Owes (w (peer s)))) (half s j).state.system_ports
+    ⊎ OfEach (AtPort (at (peer s)) PartnerInSync) (half (peer s) j).state.system_ports
+
+module _ (gives : Algorithms) (d : ℕ) (at : Side → ℕ) (w : Side → Lacpdu) (c : Side → ℕ) (s : Side) (fast : Bool) (old new : WorldState)
+    (there : 1 ≤ d) (fits : Fits d w (ticked c)) (can : CanSound (w s) (w (peer s)) fast (ticked c s))
+    (l : Link d at w c One Nothing old) (none : NothingInFlight old) (h : IsRound gives old new) where
+  round : Unrolled gives old new
+  round = unroll gives old new h
+
+  two : Link d at w (ticked c) One Nothing round.two
+  two = tick_both gives d at w c One Nothing Nothing round.tick_one.0 round.tick_two.0 old round.one round.two fits
+      (nothing_along (w One) (w Two) (ticked c One) d) (λ p q run rest a y. y) round.tick_one.1 round.tick_two.1 l
+
+  empty : two.flying (peer s) ≡ []
+  empty =
+      let one = ticks gives 1 One round.tick_one.0 old round.one refl round.tick_one.1 in
+      let next = ticks gives 2 Two round.tick_two.0 round.one round.two refl round.tick_two.1 in
+      sym (towards_there (peer s) at two.flying) ∙ none (peer s) two.index (cable at two.flying)
+      (subst (λ ls. slice_get ls two.index ≡ Some (cable at two.flying)) (next.links ∙ one.links) two.links.there)
+
+  pub told_kept : 2 ≤ c (peer s) → Told at w s old → Told at w s new
+  told_kept known told = told_on gives d at w (ticked c) s fast PartnerInSync there fits can (sync_settles (at (peer s))) (λ p y. y)
+      (λ p y. y) old new round h.empties (
+        two,
+        elim told [
+          | inl owes ↦ inl (each_map (AtPort (at s) (Owing d (w s) (w (peer s)) (ticked c s))) (AtPort (at s) (Owes (w (peer s))))
+              (λ m p b e. (b e).1) (half s round.two).state.system_ports
+              (tick_side (λ m p. AtPort (at s) (EndIs d w c One Nothing s) m p × AtPort (at s) (Owes (w (peer s))) m p)
+              (AtPort (at s) (Owing d (w s) (w (peer s)) (ticked c s))) (owing_settles d (w s) (w (peer s)) fast (ticked c s) (at s) can)
+              (λ m p q run b e. (
+                ticks_end d (w s) (w (peer s)) (c s) p q (fits s).2 run (b.0 e).0,
+                owes_ticks (w (peer s)) p q run (b.1 e),
+              )) gives s old new round
+              (each_both (AtPort (at s) (EndIs d w c One Nothing s)) (AtPort (at s) (Owes (w (peer s)))) (half s old).state.system_ports (l.ports s)
+              owes)))
+          | inr y ↦ inr (subst (λ xs. Tells (w (peer s)) (w s) xs
+              (OfEach (AtPort (at (peer s)) PartnerInSync) (half (peer s) round.two).state.system_ports)) (sym empty)
+              (tick_side (λ m p. AtPort (at (peer s)) (EndIs d w c One Nothing (peer s)) m p × AtPort (at (peer s)) PartnerInSync m p)
+              (AtPort (at (peer s)) PartnerInSync) (sync_settles (at (peer s)))
+              (λ m p q run b e. ticks_partner d (w (peer s)) (w (peer (peer s))) (c (peer s)) p q (omega (arith, known)) run (b.0 e).0 (b.1 e))
+              gives (peer s) old new round
+              (each_both (AtPort (at (peer s)) (EndIs d w c One Nothing (peer s))) (AtPort (at (peer s)) PartnerInSync)
+              (half (peer s) old).state.system_ports (l.ports (peer s)) y)))
+        ],
+      )
+
+  -- the peer has just heard the end of s
+  pub told_heard : OfEach (AtPort (at (peer s)) (Learnt d (w (peer (peer s))) (wait_of (w (peer s))))) (half (peer s) new).state.system_ports
+      → Told at w s new
+  told_heard heard =
+      let t = peer s in
+      let W = wait_of (w t) in
+      let end = told_on gives d at w (ticked c) s fast (TookOrLate W) there fits can (late_settles (at t) W) (λ p y. y) (λ p y. inl y)
+      old new round h.empties (
+        two,
+        inr (subst (λ xs. Tells (w t) (w s) xs
+            (OfEach (AtPort (at t) (TookOrLate W)) (half t round.two).state.system_ports)) (sym empty)
+            (tick_side (λ m p. AtPort (at t) (EndIs d w c One Nothing t) m p × AtRest periodic_rows p × IsTimed p) (AtPort (at t) (TookOrLate W))
+            (late_settles (at t) W) (λ m p q run b e. inr (late_ticks (w t) p q run (b.0 e).0.0 b.2)) gives t old new round
+            (timed_ends (AtPort (at t) (EndIs d w c One Nothing t)) (half t old).state.system_ports (l.steady t).0.quiet.1 (l.steady t).1
+            (l.ports t)))),
+      ) in
+      elim end [
+        | inl owes ↦ inl owes
+        | inr y ↦ inr (each_map (λ m p. AtPort (at t) (TookOrLate W) m p × AtPort (at t) (Learnt d (w (peer t)) W) m p)
+            (AtPort (at t) PartnerInSync) (λ m p b e. in_sync p (b.0 e) (b.1 e)) (half t new).state.system_ports
+            (each_both (AtPort (at t) (TookOrLate W)) (AtPort (at t) (Learnt d (w (peer t)) W)) (half t new).state.system_ports y heard))
+      ]
+    where
+      in_sync : (p : Machines) → TookOrLate (wait_of (w (peer s))) p → Learnt d (w (peer (peer s))) (wait_of (w (peer s))) p → PartnerInSync p
+      in_sync p (inl y) learnt = y
+      in_sync p (inr late) learnt =
+          let some = some_wait (short_timeout (w (peer s))) in
+          let r = learnt.0.1 some in
+          let long = r.1 in
+          let short = late r.0.current in
+          absurd (omega (arith, long, short))

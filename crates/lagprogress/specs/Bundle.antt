@@ -1,0 +1,137 @@
+-- What holds after so many healthy rounds (100 ms each) of a world with any cables, and any ports and aggregators (profile).
+use Rattle.std.specs.Prelude.{◌≡◌, ◌≢◌, ◌≤◌, ℕ, suc, true, List, None, Some, slice_get}
+use Rattle.lagmodel.specs.World.{IsCabling, Side, One, Two}
+use Rattle.portmachines.specs.Mux.{selected}
+use Rattle.lagsystem.specs.declared.system_ports.SystemPort.{SystemPort}
+use Rattle.lagsystem.specs.State.{SystemState}
+use Rattle.lagscript.specs.declared.event.Event.{Event}
+use Rattle.lagscript.specs.declared.config.WorldConfig.{WorldConfig}
+use Rattle.lagscript.specs.Configs.{world_refusal}
+use Rattle.lagworld.specs.declared.reply.Reply.{Reply}
+use Rattle.lagworld.specs.declared.agreement.Agreement.TheVariants.{Same}
+use Rattle.lagworld.specs.Agreement.{agreement_at}
+use Rattle.lagworld.specs.Events.{Algorithms, WorldRuns, most_events}
+use Rattle.lagworld.specs.Making.{AreFirst}
+use Rattle.lagworld.specs.ModelWorld.{world_setup}
+use Rattle.lagworld.specs.Sound.{IsSound, IsStart}
+use Rattle.lagworld.specs.State.{LinkState, WorldState, half, port_at}
+use Rattle.lagprogress.specs.ComingUp.{Distributes}
+use Rattle.lagprogress.specs.Progress.{EndKnows}
+use Rattle.lagprogress.specs.Rounds.{AtEnd, IsHealthyAt, Rounds}
+use Rattle.lagprogress.specs.Selecting.{aggregators_with, ports_with}
+use Rattle.lagprogress.specs.Steady.{IsSteady}
+
+-- one end of the cable is active
+abbrev pub OneIsActive : LinkState → WorldState → Type 0
+OneIsActive l j = (a : Side) × AtEnd (λ p. p.active ≡ true) a l j
+
+-- both ends of the cable are active
+abbrev pub BothAreActive : LinkState → WorldState → Type 0
+BothAreActive l j = (s : Side) → AtEnd (λ p. p.active ≡ true) s l j
+
+-- From 321 healthy rounds on, whatever was before them and whatever the other cables are, each end of a healthy cable knows
+-- the other, if both are active. No port has two cables.
+abbrev pub ActiveEndsOfEachKnow : Algorithms → Type 0
+ActiveEndsOfEachKnow gives = (n i : ℕ) (l : LinkState) (old new : WorldState) → IsCabling (world_setup old).cables → IsSteady old
+    → IsHealthyAt i l old → BothAreActive l old → 321 ≤ n → Rounds gives n old new → (s : Side) → EndKnows s l new
+
+-- From 630 on they do, if one is active.
+abbrev pub EndsOfEachKnow : Algorithms → Type 0
+EndsOfEachKnow gives = (n i : ℕ) (l : LinkState) (old new : WorldState) → IsCabling (world_setup old).cables → IsSteady old
+    → IsHealthyAt i l old → OneIsActive l old → 630 ≤ n → Rounds gives n old new → (s : Side) → EndKnows s l new
+
+-- port `number` of system s ends a healthy cable, of which this holds
+pub record EndsHealthyCable (Holds : LinkState → WorldState → Type 0) (s : Side) (number : ℕ) (j : WorldState) : Type 0 where
+  pub index : ℕ
+  pub link : LinkState
+  pub healthy : IsHealthyAt index link j
+  pub joins : port_at s link ≡ number
+  pub holds : Holds link j
+
+-- each port whose link is up ends a healthy cable, of which this holds
+abbrev pub AllHeard : (LinkState → WorldState → Type 0) → WorldState → Type 0
+AllHeard Holds j = (s : Side) (k : ℕ) (x : SystemPort) → slice_get (half s j).state.system_ports k ≡ Some x → x.port.enabled ≡ true
+    → EndsHealthyCable Holds s x.number j
+
+-- the two systems are not the same
+abbrev pub SystemsDiffer : WorldState → Type 0
+SystemsDiffer j = (half One j).state.system ≢ (half Two j).state.system
+
+-- at least as many aggregators have the key of a port whose link is up as ports have it, whether their links are up or not
+abbrev pub EnoughAggregators : SystemState → Type 0
+EnoughAggregators s = (k : ℕ) (x : SystemPort) → slice_get s.system_ports k ≡ Some x → x.port.enabled ≡ true
+    → ports_with x.port.party.key s ≤ aggregators_with x.port.party.key s
+
+-- if there is a limit of links, no more ports than that have the key of a port
+abbrev pub EnoughLinks : SystemState → Type 0
+EnoughLinks s = (k most : ℕ) (x : SystemPort) → slice_get s.system_ports k ≡ Some x → s.max_links ≡ Some most
+    → ports_with x.port.party.key s ≤ most
+
+-- Both systems are sound, and their timers within their bounds; they differ, and each has enough aggregators and links; no
+-- port has two cables, and each port whose link is up ends a healthy cable, of which this holds. Other cables may be cut,
+-- have a limit, or end at ports whose links are down.
+pub record IsBundle (Holds : LinkState → WorldState → Type 0) (j : WorldState) : Type 0 where
+  pub steady : IsSteady j
+  pub cabling : IsCabling (world_setup j).cables
+  pub differ : SystemsDiffer j
+  pub heard : AllHeard Holds j
+  pub aggregators : (s : Side) → EnoughAggregators (half s j).state
+  pub links : (s : Side) → EnoughLinks (half s j).state
+
+-- From 352 healthy rounds on, whatever was before them, both ends of each healthy cable of a bundle distribute, if both ends
+-- of each are active.
+abbrev pub EachActiveLinkComesUp : Algorithms → Type 0
+EachActiveLinkComesUp gives = (n i : ℕ) (l : LinkState) (old new : WorldState) → IsBundle BothAreActive old → IsHealthyAt i l old
+    → 352 ≤ n → Rounds gives n old new → (s : Side) → AtEnd Distributes s l new
+
+-- From 959 on they do, if one end of each is active.
+abbrev pub EachLinkComesUp : Algorithms → Type 0
+EachLinkComesUp gives = (n i : ℕ) (l : LinkState) (old new : WorldState) → IsBundle OneIsActive old → IsHealthyAt i l old
+    → 959 ≤ n → Rounds gives n old new → (s : Side) → AtEnd Distributes s l new
+
+-- And in a sound world the agreement of each such cable is Same, from 650 on if both ends of each are active, from 959 on if
+-- one is.
+abbrev pub EachActiveLinkAgrees : Algorithms → Type 0
+EachActiveLinkAgrees gives = (n i : ℕ) (l : LinkState) (old new : WorldState) → IsSound old → IsBundle BothAreActive old
+    → IsHealthyAt i l old → 650 ≤ n → Rounds gives n old new → agreement_at new (suc i) ≡ Some Same
+
+abbrev pub EachLinkAgrees : Algorithms → Type 0
+EachLinkAgrees gives = (n i : ℕ) (l : LinkState) (old new : WorldState) → IsSound old → IsBundle OneIsActive old → IsHealthyAt i l old
+    → 959 ≤ n → Rounds gives n old new → agreement_at new (suc i) ≡ Some Same
+
+-- The systems differ of each world that events lead to from one that was made.
+abbrev pub ReachedIsApart : Algorithms → Type 0
+ReachedIsApart gives = (config : WorldConfig) (es : List Event) (rs : List Reply) (start new : WorldState)
+    → world_refusal config ≡ None → AreFirst config.systems start → WorldRuns gives start es rs new → SystemsDiffer new
+
+-- A world that events lead to from one that was made is sound, and a bundle, if each port whose link is up ends a healthy
+-- cable, of which this holds, and each system has enough aggregators and links.
+abbrev pub ReachedIsBundle : (LinkState → WorldState → Type 0) → Algorithms → Type 0
+ReachedIsBundle Holds gives = (config : WorldConfig) (es : List Event) (rs : List Reply) (start new : WorldState)
+    → world_refusal config ≡ None → IsStart start → AreFirst config.systems start → WorldRuns gives start es rs new
+    → new.acted ≤ most_events → AllHeard Holds new → ((s : Side) → EnoughAggregators (half s new).state)
+    → ((s : Side) → EnoughLinks (half s new).state) → IsSound new × IsBundle Holds new
+
+-- However few aggregators and links there are: if each port whose link is up ends a healthy cable with both ends active, and
+-- both ends of a cable are SELECTED after 352 healthy rounds or more, both distribute.
+abbrev pub ActiveSelectedPairsComeUp : Algorithms → Type 0
+ActiveSelectedPairsComeUp gives = (n i : ℕ) (l : LinkState) (old new : WorldState) → IsCabling (world_setup old).cables → IsSteady old
+    → AllHeard BothAreActive old → IsHealthyAt i l old → 352 ≤ n → Rounds gives n old new
+    → ((s : Side) → AtEnd (λ p. selected p ≡ true) s l new) → (s : Side) → AtEnd Distributes s l new
+
+-- So it is after 959, if one end of each is active.
+abbrev pub SelectedPairsComeUp : Algorithms → Type 0
+SelectedPairsComeUp gives = (n i : ℕ) (l : LinkState) (old new : WorldState) → IsCabling (world_setup old).cables → IsSteady old
+    → AllHeard OneIsActive old → IsHealthyAt i l old → 959 ≤ n → Rounds gives n old new
+    → ((s : Side) → AtEnd (λ p. selected p ≡ true) s l new) → (s : Side) → AtEnd Distributes s l new
+
+-- And in a sound world the agreement of that cable is Same, after 650 or 959.
+abbrev pub ActiveSelectedPairsAgree : Algorithms → Type 0
+ActiveSelectedPairsAgree gives = (n i : ℕ) (l : LinkState) (old new : WorldState) → IsSound old → IsSteady old
+    → AllHeard BothAreActive old → IsHealthyAt i l old → 650 ≤ n → Rounds gives n old new
+    → ((s : Side) → AtEnd (λ p. selected p ≡ true) s l new) → agreement_at new (suc i) ≡ Some Same
+
+abbrev pub SelectedPairsAgree : Algorithms → Type 0
+SelectedPairsAgree gives = (n i : ℕ) (l : LinkState) (old new : WorldState) → IsSound old → IsSteady old → AllHeard OneIsActive old
+    → IsHealthyAt i l old → 959 ≤ n → Rounds gives n old new → ((s : Side) → AtEnd (λ p. selected p ≡ true) s l new)
+    → agreement_at new (suc i) ≡ Some Same

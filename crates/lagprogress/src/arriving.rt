@@ -1,0 +1,33 @@
+//! Frames arrive in a bundle.
+
+ghost use Rattle.lagworld.specs.Sound.{both_algorithms};
+ghost use Rattle.lagprogress.specs.Arriving.{DeliverHandsUp, OfferGetsPort};
+
+/// An Offer event gives a frame that a sound system takes a port that distributes in the aggregator: a frame of 14 to 1518
+/// octets, no slow protocols frame, for an aggregator that exists and in which a port distributes, and whose conversation is
+/// not held. And where a data frame is the first item on a cable, a Deliver event hands it up in the aggregator in which the
+/// port there collects, if the link of that port is up (6.2.3, 6.2.4; profile).
+pub fn frames_pass_cables<F: Fn(u16, usize) -> usize>()
+    ensures offered { (one two : F) → OfferGetsPort (both_algorithms (F.post one) (F.post two)) }
+    ensures delivered { (one two : F) → DeliverHandsUp (both_algorithms (F.post one) (F.post two)) }
+{}
+
+ghost use Rattle.lagprogress.specs.Arriving.{EachReachedHasUnsynchronized};
+
+/// The recorded partner of each port in PORT_DISABLED has Synchronization FALSE, in both systems of each world that events
+/// lead to from a start, as `each_frame_arrives` wants it (6.4.12).
+pub fn disabled_ports_have_unsynchronized_partners<F: Fn(u16, usize) -> usize>()
+    ensures { (one two : F) → EachReachedHasUnsynchronized (both_algorithms (F.post one) (F.post two)) }
+{}
+
+ghost use Rattle.lagprogress.specs.Arriving.{EachActiveFrameArrives, EachFrameArrives};
+
+/// A data frame that a bundle as in `each_link_comes_up` is offered after 352 healthy rounds (35.2 s) or more if both ends of each
+/// healthy cable are active, after 959 (95.9 s) if one is, arrives within one healthy round (100 ms), whatever was before them:
+/// it gets a port that distributes in the aggregator, its cable accepts it, and at the other end it is handed up, with the same
+/// octets, in the aggregator in which the port there collects. The system takes the frame as in `frames_pass_cables`
+/// (6.2.3, 6.2.4; profile).
+pub fn each_frame_arrives<F: Fn(u16, usize) -> usize>()
+    ensures both { (one two : F) → EachActiveFrameArrives (both_algorithms (F.post one) (F.post two)) }
+    ensures one { (one two : F) → EachFrameArrives (both_algorithms (F.post one) (F.post two)) }
+{}

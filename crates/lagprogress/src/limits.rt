@@ -1,0 +1,24 @@
+//! Which links of a bundle carry where one system has a limit of links.
+
+ghost use Rattle.lagworld.specs.Sound.{both_algorithms};
+ghost use Rattle.lagprogress.specs.Limited.{EachReachedHasDownUnselected};
+
+/// No port whose link is down is SELECTED or STANDBY in a system with a limit of links, in each world that events lead to from a
+/// start, as `each_limited_link_agrees` wants it (6.4.14; profile).
+pub fn down_ports_are_unselected<F: Fn(u16, usize) -> usize>()
+    ensures { (one two : F) → EachReachedHasDownUnselected (both_algorithms (F.post one) (F.post two)) }
+{}
+
+ghost use Rattle.lagprogress.specs.Limited.{EachActiveLimitedLinkAgrees, EachLimitedLinkAgrees};
+
+/// A bundle one of whose systems has a limit of links carries on as many: after 650 healthy rounds (65 s) or more if both ends
+/// of each healthy cable are active, after 959 (95.9 s) if one is, whatever was before them, the agreement of each healthy cable
+/// is `Same`, or its end at that system is STANDBY in an aggregator that has as many members as the limit, and each of these
+/// ends a cable whose agreement is `Same`. The world is sound; each port whose link is up ends a healthy cable; each system has
+/// as many aggregators of a port's key as ports of that key; the limit of the other system, if it has one, is no less than
+/// the ports of one key; the two systems differ; their timers are within their bounds; and no port of the limited system whose
+/// link is down is SELECTED or STANDBY (6.3.6, 6.4.12 to 6.4.16; profile).
+pub fn each_limited_link_agrees<F: Fn(u16, usize) -> usize>()
+    ensures both { (one two : F) → EachActiveLimitedLinkAgrees (both_algorithms (F.post one) (F.post two)) }
+    ensures one { (one two : F) → EachLimitedLinkAgrees (both_algorithms (F.post one) (F.post two)) }
+{}
