@@ -28,7 +28,7 @@ few_taken p l = omega (arith, length-take-le (prefix_len p l) l (prefix_len-le-l
 pub few_behind : (p q : ℕ → Bool) (l : List ℕ) → length (filter p (take_while q (reverse l))) ≤ length l
 few_behind p q l = omega (arith, few_filtered p (take_while q (reverse l)), few_taken q (reverse l), length-reverse l)
 
-colons_joined : (a b c : List ℕ) → 58 ∷ (a ++ 58 ∷ (b ++ 58 ∷ 32 ∷ c)) ≡ (58 ∷ (a ++ 58 ∷ (b ++ 58 ∷ 32 ∷ []))) ++ c
+pub colons_joined : (a b c : List ℕ) → 58 ∷ (a ++ 58 ∷ (b ++ 58 ∷ 32 ∷ c)) ≡ (58 ∷ (a ++ 58 ∷ (b ++ 58 ∷ 32 ∷ []))) ++ c
 colons_joined a b c = sym (ap (λ t. 58 ∷ t) (append_assoc a (58 ∷ (b ++ 58 ∷ 32 ∷ [])) c
     ∙ ap (λ t. a ++ 58 ∷ t) (append_assoc b (58 ∷ 32 ∷ []) c)))
 

@@ -16,6 +16,8 @@ mod subject_text;
 mod tests;
 mod text_places;
 mod values;
+#[cfg(test)]
+mod wider_tests;
 mod words;
 
 pub use explaining::explain;

@@ -4,6 +4,7 @@ use crate::text_places::{Place, place_of};
 use crate::words::first_wrong;
 use lagscript::{EntryFault, ScriptFault, read_plan};
 use std::alloc::{AllocError, Global};
+use std::process::Abort;
 use std::test::Fail;
 
 /// A script of two systems and a cable, without fault.
@@ -34,8 +35,8 @@ key = 1
 ends = [1, 3]
 ";
 
-/// A typo: a part of the script, what stands there by mistake, the fault and its explanation.
-type Typo = (&'static str, &'static str, &'static str, &'static str);
+/// A typo: a part of a script, what stands there by mistake, the fault and its explanation.
+pub(crate) type Typo = (&'static str, &'static str, &'static str, &'static str);
 
 /// Mistakes in an entry.
 const ENTRIES: [Typo; 30] = [
@@ -419,16 +420,16 @@ const DOCUMENTS: [Typo; 6] = [
     ("ends = [1, 3]", "ends [1, 3]", "not toml", ":24:"),
 ];
 
-/// The script with this part replaced.
-fn mistaken(alloc: Global, old: &str, new: &str) -> Result<String, AllocError> {
-    match SCRIPT.split_once(old) {
+/// A script with this part replaced.
+fn mistaken(alloc: Global, script: &str, old: &str, new: &str) -> Result<String, AllocError> {
+    match script.split_once(old) {
         Some((before, behind)) => format!(in alloc; "{before}{new}{behind}"),
         None => String::from_str(alloc, "the part is not there"),
     }
 }
 
 /// The fault of a text, a line end, and its explanation.
-fn explained(alloc: Global, text: &str) -> Result<String, AllocError> {
+pub(crate) fn explained(alloc: Global, text: &str) -> Result<String, AllocError> {
     match read_plan(alloc, text) {
         Ok(_) => String::from_str(alloc, "no fault"),
         Err(fault) => {
@@ -438,10 +439,15 @@ fn explained(alloc: Global, text: &str) -> Result<String, AllocError> {
     }
 }
 
-/// Checks the explanations of typos.
-fn check(rt: &impl std::process::Abort, alloc: Global, rows: &[Typo]) -> Result<(), Fail> {
+/// Checks the explanations of typos in a script.
+pub(crate) fn check(
+    rt: &(impl Abort + AllocGlobal),
+    script: &str,
+    rows: &[Typo],
+) -> Result<(), Fail> {
+    let alloc = rt.alloc();
     for (old, new, fault, why) in rows {
-        let text = mistaken(alloc, *old, *new)?;
+        let text = mistaken(alloc, script, *old, *new)?;
         let wanted = format!(in alloc; "{fault}\n{why}")?;
         let seen = explained(alloc, text.as_str())?;
         assert_eq!(rt; seen.as_str(), wanted.as_str(), "{new}");
@@ -451,19 +457,19 @@ fn check(rt: &impl std::process::Abort, alloc: Global, rows: &[Typo]) -> Result<
 
 #[test]
 fn mistakes_in_an_entry(rt: HostRuntime) -> Result<(), Fail> {
-    check(&rt, rt.alloc(), &ENTRIES)
+    check(&rt, SCRIPT, &ENTRIES)
 }
 
 #[test]
 fn mistakes_in_a_table(rt: HostRuntime) -> Result<(), Fail> {
-    check(&rt, rt.alloc(), &TABLES)
+    check(&rt, SCRIPT, &TABLES)
 }
 
 #[test]
 fn texts_that_are_no_toml(rt: HostRuntime) -> Result<(), Fail> {
     let alloc = rt.alloc();
     for (old, new, fault, place) in DOCUMENTS {
-        let text = mistaken(alloc, old, new)?;
+        let text = mistaken(alloc, SCRIPT, old, new)?;
         let seen = explained(alloc, text.as_str())?;
         let wanted = format!(in alloc; "{fault}\n{place}")?;
         assert!(rt; seen.as_str().starts_with(wanted.as_str()), "{new}: {seen}");
@@ -502,12 +508,14 @@ fn an_empty_text(rt: HostRuntime) -> Result<(), Fail> {
 
 #[test]
 fn places(rt: HostRuntime) -> Result<(), Fail> {
-    let rows: [(&str, usize, usize); 5] = [
+    let rows: [(&str, usize, usize); 6] = [
         ("", 1, 1),
         ("ab", 1, 3),
         ("ab\n", 2, 1),
         ("ab\n\ncd", 3, 3),
         ("\u{fc}b\u{20ac}", 1, 4),
+        // A carriage return before the line feed ends no line of its own.
+        ("a\r\nb", 2, 2),
     ];
     for (before, line, column) in rows {
         assert_eq!(rt;
